@@ -1,0 +1,6 @@
+-- Laws for proofs about whole numbers, their tests and lists.
+pub mod Linear
+pub mod Bits
+pub mod Product
+pub mod Tests
+pub mod Fits

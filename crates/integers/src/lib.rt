@@ -1,0 +1,65 @@
+// Signed numbers of 64 bits whose sums and products are those of whole numbers; the bounds of a variable.
+ghost use mathlib.Core.Path.{_≡_};
+ghost use Prim.Native.Nat.{_+_, _*_, _<_};
+ghost use lib.IntN.{natAbs};
+ghost use Rattle.integers.specs.Number.{_⊕_, _⊖_, _⊗_, neg, minZ, maxZ, _==_};
+
+// The bounds of a variable.
+#[repr(C)]
+pub struct Bounds {
+    pub lower: i64,
+    pub upper: i64,
+}
+
+// The sum.
+pub fn plus(a: i64, b: i64) -> i64
+    requires { ⌜ natAbs a + natAbs b < 9223372036854775808 ⌝ }
+    ensures { λ r. ⌜ r ≡ a ⊕ b ⌝ }
+{
+    a + b
+}
+
+// The difference.
+pub fn minus(a: i64, b: i64) -> i64
+    requires { ⌜ natAbs a + natAbs b < 9223372036854775808 ⌝ }
+    ensures { λ r. ⌜ r ≡ a ⊖ b ⌝ }
+{
+    a - b
+}
+
+// The product.
+pub fn times(a: i64, b: i64) -> i64
+    requires { ⌜ natAbs a * natAbs b < 9223372036854775808 ⌝ }
+    ensures { λ r. ⌜ r ≡ a ⊗ b ⌝ }
+{
+    a * b
+}
+
+// The opposite.
+pub fn opposite(a: i64) -> i64
+    requires { ⌜ natAbs a < 9223372036854775808 ⌝ }
+    ensures { λ r. ⌜ r ≡ neg a ⌝ }
+{
+    0 - a
+}
+
+// The lesser of two.
+pub fn least(a: i64, b: i64) -> i64
+    ensures { λ r. ⌜ r ≡ minZ a b ⌝ }
+{
+    if a <= b { a } else { b }
+}
+
+// The larger of two.
+pub fn largest(a: i64, b: i64) -> i64
+    ensures { λ r. ⌜ r ≡ maxZ a b ⌝ }
+{
+    if a <= b { b } else { a }
+}
+
+// Whether two are equal.
+pub fn equal(a: i64, b: i64) -> bool
+    ensures { λ r. ⌜ r ≡ (a == b) ⌝ }
+{
+    a == b
+}

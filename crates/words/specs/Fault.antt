@@ -1,0 +1,73 @@
+-- 01, Numbered faults: the numbers, each named once. 0 is no fault.
+use Prim.Native.Nat.{ℕ}
+
+abbrev pub none : ℕ
+none = 0
+
+-- "More than 8,192 model words, or 131,072 row words"
+abbrev pub tooManyWords : ℕ
+tooManyWords = 1
+
+-- "The words end too early"
+abbrev pub wordsEnd : ℕ
+wordsEnd = 2
+
+-- "A word's kind does not belong there."
+abbrev pub wrongKind : ℕ
+wrongKind = 3
+
+-- "An upper bound is below its lower one."
+abbrev pub upperBelowLower : ℕ
+upperBelowLower = 4
+
+-- "A kind 3, C or end word has a payload above 0."
+abbrev pub payloadAboveZero : ℕ
+payloadAboveZero = 5
+
+-- "A 257th variable starts in a model."
+abbrev pub tooManyVariables : ℕ
+tooManyVariables = 6
+
+-- "A 257th constraint starts."
+abbrev pub tooManyConstraints : ℕ
+tooManyConstraints = 7
+
+-- "The code is unknown."
+abbrev pub unknownCode : ℕ
+unknownCode = 8
+
+-- "A list length is outside 0 to 32, or a term number above 66."
+abbrev pub lengthOutside : ℕ
+lengthOutside = 9
+
+-- "A variable number is not declared so far, or in a model has the wrong type."
+abbrev pub notDeclared : ℕ
+notDeclared = 10
+
+-- "A word follows the end word"
+abbrev pub wordAfterEnd : ℕ
+wordAfterEnd = 11
+
+-- "A code 28 needs more than 64 auxiliaries."
+abbrev pub setTooWide : ℕ
+setTooWide = 12
+
+-- "A coefficient, constant or auxiliary bound is outside the range."
+abbrev pub numberOutside : ℕ
+numberOutside = 13
+
+-- "Variables and auxiliaries pass 4,096"
+abbrev pub tooManyInAll : ℕ
+tooManyInAll = 14
+
+-- "The number of values is not that of the variables"
+abbrev pub wrongValueCount : ℕ
+wrongValueCount = 15
+
+-- "The lent output is too short"
+abbrev pub outputTooShort : ℕ
+outputTooShort = 16
+
+-- "A product's result number is not above both factors'"
+abbrev pub resultNotAbove : ℕ
+resultNotAbove = 17

@@ -1,0 +1,10 @@
+-- What the contracts cite: words, the named numbers of document 01, laying words over a list, faults and answers, both judges.
+pub mod Kind
+pub mod Limit
+pub mod Fault
+pub mod Word
+pub mod Variables
+pub mod Overlay
+pub mod Refusal
+pub mod Answer
+pub mod Judge

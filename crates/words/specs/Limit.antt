@@ -1,0 +1,43 @@
+-- The limits of 01, each named once.
+use Prim.Native.Nat.{ℕ}
+use lib.IntN.{ℤ, pos, negsuc}
+
+-- Words: "−134,217,728 to 134,217,727 ("the range")"
+abbrev pub lowest : ℤ
+lowest = negsuc 134217727
+
+abbrev pub highest : ℤ
+highest = pos 134217727
+
+-- Rules: "Codes run from 1 to 28 without a gap."
+abbrev pub codes : ℕ
+codes = 28
+
+-- Numbered faults, 1: "More than 8,192 model words, or 131,072 row words"
+abbrev pub modelWords : ℕ
+modelWords = 8192
+
+abbrev pub rowWords : ℕ
+rowWords = 131072
+
+-- 6: "A 257th variable starts in a model." 7: "A 257th constraint starts."
+abbrev pub variables : ℕ
+variables = 256
+
+abbrev pub constraints : ℕ
+constraints = 256
+
+-- 9: "A list length is outside 0 to 32, or a term number above 66."
+abbrev pub listLength : ℕ
+listLength = 32
+
+abbrev pub terms : ℕ
+terms = 66
+
+-- 12: "A code 28 needs more than 64 auxiliaries."
+abbrev pub setBits : ℕ
+setBits = 64
+
+-- 14: "Variables and auxiliaries pass 4,096"
+abbrev pub inAll : ℕ
+inAll = 4096

@@ -1,0 +1,39 @@
+-- 01, Words: "A word has 32 bits; the top 4 are its kind, the low 28 its payload."
+use mathlib.Core.Bool.{Bool, _&&_}
+use mathlib.Core.List.{List}
+use Prim.Native.Nat.{ℕ, _+_, _-_, _*_, _/_, _%_}
+use lib.Dec.{ltb}
+use lib.IntN.{ℤ, pos, negsuc}
+use lib.Signed.{leZ}
+use lib.ListN.{getD}
+use Rattle.integers.specs.Choice.{_if_else_}
+use Rattle.words.specs.Limit as Limit
+
+unfoldable pub kind : ℕ → ℕ
+kind w = w / 268435456
+
+unfoldable pub payload : ℕ → ℕ
+payload w = w % 268435456
+
+-- "Signed payloads are two's complement": below 2^27 the payload itself, else the payload less 2^28
+unfoldable pub signed : ℕ → ℤ
+signed w = pos (payload w) if ltb (payload w) 134217728 else negsuc (268435455 - payload w)
+
+-- "−134,217,728 to 134,217,727 ("the range")"
+unfoldable pub inRange : ℤ → Bool
+inRange z = leZ Limit.lowest z && leZ z Limit.highest
+
+-- the word of a kind and a payload, and of a kind and a number of the range
+unfoldable pub word : ℕ → ℕ → ℕ
+word k p = k * 268435456 + p % 268435456
+
+unfoldable pub complement : ℤ → ℕ
+complement (pos n) = n % 268435456
+complement (negsuc n) = 268435455 - n % 268435456
+
+unfoldable pub numberWord : ℕ → ℤ → ℕ
+numberWord k z = word k (complement z)
+
+-- the word at place i, 0 past the last one
+unfoldable pub wordAt : List ℕ → ℕ → ℕ
+wordAt ws i = getD ws i 0
