@@ -31,10 +31,13 @@ between a x l u h k = go (dec⊑ (pos 0) a)
   where
     up : (u v w : ℤ) → u ⊑ v → v ⊑ w → (minZ u w ⊑ v) × (v ⊑ maxZ u w)
     up = simp linear (omega arith)
+
     down : (u v w : ℤ) → w ⊑ v → v ⊑ u → (minZ u w ⊑ v) × (v ⊑ maxZ u w)
     down = simp linear (omega arith)
+
     negative : (a : ℤ) → ¬ (pos 0 ⊑ a) → a ⊑ pos 0
     negative = simp linear (omega arith)
+
     go : Dec (pos 0 ⊑ a) → (minZ (a ⊗ l) (a ⊗ u) ⊑ a ⊗ x) × (a ⊗ x ⊑ maxZ (a ⊗ l) (a ⊗ u))
     go (yes p) = up _ _ _ (rising a l x p h) (rising a x u p k)
     go (no p) = down _ _ _ (falling a x u (negative a p) k) (falling a l x (negative a p) h)

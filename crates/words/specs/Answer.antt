@@ -1,4 +1,5 @@
 -- 01, Five calls: what the calls answer. For each enum of the code a definition of its crate gives the answer of each of its cases.
+use mathlib.Core.Bool.{Bool, true, false}
 use Prim.Native.Nat.{ℕ, zero, suc}
 use Rattle.words.specs.declared.Refusal.{Refusal}
 
@@ -31,3 +32,11 @@ refusalNumber (written n) = 0
 refusalNumber holds = 0
 refusalNumber (outOfBounds i) = 0
 refusalNumber (isFalse i) = 0
+
+unfoldable pub isHolds : Answer → Bool
+isHolds (refused n p) = false
+isHolds (counts v c a r w) = false
+isHolds (written n) = false
+isHolds holds = true
+isHolds (outOfBounds i) = false
+isHolds (isFalse i) = false

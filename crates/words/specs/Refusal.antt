@@ -1,6 +1,11 @@
 -- A refusal: the number of a fault and its place; number 0 is no fault. And how a reader finds the first one.
 use mathlib.Core.List.{List, [], _∷_}
 use Prim.Native.Nat.{ℕ, zero, suc, _+_}
+use lib.Dec.{eqb}
+use lib.IntN.{ℤ}
+use lib.ListN.{length}
+use Rattle.integers.specs.Choice.{_if_else_}
+use Rattle.words.specs.Variables.{variables}
 use Rattle.words.specs.Fault as Fault
 use Rattle.words.specs.declared.Refusal.{Refusal}
 
@@ -30,3 +35,7 @@ module _ {S : Type 0} (fault : S → ℕ → List ℕ → ℕ) (next : S → ℕ
   firstFault s p (w ∷ ws) =
       let rest = firstFault (next s w) (p + 1) ws in
       faultOr (fault s w ws) p rest
+
+-- 15: "The number of values is not that of the variables, in rows with the auxiliaries."
+unfoldable pub countFault : List ℕ → List ℤ → Refusal
+countFault ws vs = accepted if eqb (length vs) (length (variables ws)) else Fault.wrongValueCount at-place 0

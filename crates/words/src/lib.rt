@@ -5,6 +5,7 @@ ghost use lib.ListN.{length};
 ghost use Rattle.integers.specs.Terms.{value};
 ghost use Rattle.words.specs.Word.{kind, payload, signed, inRange, word, numberWord, wordAt};
 ghost use Rattle.words.specs.Overlay.{overlay};
+
 pub mod fault;
 pub mod kind;
 pub mod limit;

@@ -1,0 +1,6 @@
+-- What the contracts cite: rows and products, their words, reading a row system, judge-rows.
+pub mod Row
+pub mod RowWords
+pub mod Reading
+pub mod RowSystem
+pub mod JudgeRows

@@ -1,0 +1,9 @@
+-- What the contracts cite: blocks, the rules of the 28 codes, what fill picks, and the answers of check, translate and fill.
+pub mod Block
+pub mod Parts
+pub mod Rule
+pub mod Pick
+pub mod Translation
+pub mod Check
+pub mod Translate
+pub mod Fill
