@@ -1,0 +1,2 @@
+-- Laws for proofs about models.
+pub mod Arguments
