@@ -8,3 +8,4 @@ pub mod Overlay
 pub mod Refusal
 pub mod Answer
 pub mod Judge
+pub mod Verdict

@@ -1,2 +1,36 @@
-// The numbers of faults, by document 01.
+// The numbers of faults, as document 01 lists them.
+pub const NONE: u32 = 0;
+
 pub const TOO_MANY_WORDS: u32 = 1;
+
+pub const WORDS_END: u32 = 2;
+
+pub const WRONG_KIND: u32 = 3;
+
+pub const UPPER_BELOW_LOWER: u32 = 4;
+
+pub const PAYLOAD_ABOVE_ZERO: u32 = 5;
+
+pub const TOO_MANY_VARIABLES: u32 = 6;
+
+pub const TOO_MANY_CONSTRAINTS: u32 = 7;
+
+pub const UNKNOWN_CODE: u32 = 8;
+
+pub const LENGTH_OUTSIDE: u32 = 9;
+
+pub const NOT_DECLARED: u32 = 10;
+
+pub const WORD_AFTER_END: u32 = 11;
+
+pub const SET_TOO_WIDE: u32 = 12;
+
+pub const NUMBER_OUTSIDE: u32 = 13;
+
+pub const TOO_MANY_IN_ALL: u32 = 14;
+
+pub const WRONG_VALUE_COUNT: u32 = 15;
+
+pub const OUTPUT_TOO_SHORT: u32 = 16;
+
+pub const RESULT_NOT_ABOVE: u32 = 17;

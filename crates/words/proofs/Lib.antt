@@ -1,0 +1,3 @@
+-- Laws for proofs about words and laying.
+pub mod Machine
+pub mod Overlay

@@ -1,0 +1,84 @@
+-- The invariant: laying the rest of the words from here gives what laying them all gives.
+use mathlib.Core.Path.{_≡_, refl, sym, ap, _∙_}
+use mathlib.Core.Logic.{⊎-elim}
+use Prim.Native.Nat.{ℕ, _+_, _-_, _≤_}
+use native.Mathlib.Omega.{arith}
+use native.Mathlib.Nat.{add-zero}
+use borrow.Author.Needs.{needs}
+use lib.ListN.{length, getD, drop, set, drop-of-length-le}
+use lib.Seq.{set-out}
+use Rattle.words.specs.Overlay.{overlay}
+use Rattle.words.proofs.Overlay.{length-overlay, overlay-none, overlay-step}
+use Rattle.words.proofs.lay.Statement.{statement}
+use Rattle.words.proofs.lay.Tie as tie
+
+abbrev Inv-loop : tie.InvT-loop
+Inv-loop out₀ at words i₀ out i = (i ≤ length words) × (overlay out (at + i) (drop i words) ≡ overlay out₀ at words)
+
+abbrev μ-loop : tie.MeasureT-loop
+μ-loop out₀ at words i₀ out i = length words - i
+
+-- after the branch the word is laid, if it fits
+written : (c : tie.Joined1 Inv-loop μ-loop) →
+    c .if1 .out
+    ≡ set (c .before .before .loop .out) (c .before .before .before .args .at + c .before .before .loop .i) (getD (c .before .before .before .args .words .now) (c .before .before .loop .i) 0)
+written c = ⊎-elim (λ w. cc) (λ w. w .1 ∙ sym (set-out _ _ _ (w .0 .left))) (c .if1 .came)
+
+ended : (c : tie.After-loop Inv-loop μ-loop) → c .before .loop .out ≡ overlay (c .before .before .args .out .now) (c .before .before .args .at) (c .before .before .args .words .now)
+ended c = sym (overlay-none _ _) ∙ rw (drop-of-length-le (c .before .before .args .words .now) (c .loop-test .left)) at (c .before .loop .inv .1)
+
+loop-holds : tie.Need-loop-holds Inv-loop μ-loop
+loop-holds c = (search needs, rw add-zero)
+
+add-place : tie.Need-add-place Inv-loop μ-loop
+add-place c = search needs
+
+mul-out : tie.Need-mul-out Inv-loop μ-loop
+mul-out c = search needs
+
+shared-slice-read-out : tie.Need-shared-slice-read-out Inv-loop μ-loop
+shared-slice-read-out c = search needs
+
+mul-out-2 : tie.Need-mul-out-2 Inv-loop μ-loop
+mul-out-2 c = search needs
+
+slice-write-out : tie.Need-slice-write-out Inv-loop μ-loop
+slice-write-out c = search needs
+
+add-i : tie.Need-add-i Inv-loop μ-loop
+add-i c = search needs
+
+loop-less : tie.Need-loop-less Inv-loop μ-loop
+loop-less c = search needs
+
+loop-again : tie.Need-loop-again Inv-loop μ-loop
+loop-again c = (
+  omega arith,
+  rw (written c)
+      (sym (overlay-step 0 (c .before .before .loop .out) (c .before .before .before .args .at) (c .before .before .before .args .words .now) (c .before .before .loop .i) (c .before .loop-test .taken))
+      ∙ c .before .before .loop .inv .1),
+)
+
+same-length : tie.Need-same-length Inv-loop μ-loop
+same-length c = ap length (ended c) ∙ simp length-overlay
+
+returns : tie.Need-returns Inv-loop μ-loop
+returns c = ended c
+
+pub lay-spec : {M : Type 1} → statement M
+lay-spec =
+    tie.close
+    (tie.spec
+    Inv-loop
+    μ-loop
+    loop-holds
+    add-place
+    mul-out
+    shared-slice-read-out
+    mul-out-2
+    slice-write-out
+    add-i
+    loop-less
+    loop-again
+    same-length
+    returns)
