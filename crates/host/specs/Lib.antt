@@ -1,0 +1,2 @@
+-- What the contracts cite: check over bytes.
+pub mod Bytes

@@ -1,0 +1,2 @@
+-- Table T of document 01, computed.
+pub mod TableT

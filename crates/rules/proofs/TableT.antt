@@ -1,0 +1,195 @@
+-- 01, Table T: T1 to T12 as one table over the definitions, with one proof: a test that is computed over the whole table.
+-- Where 01 says that values are false, no auxiliary values within their bounds may satisfy the rows with them either; where fill writes values,
+-- judge-rows must say "holds" of them. So each of the four slips that 000 invites makes a line of the table fail (must-fail/).
+use mathlib.Core.Path.{_≡_, refl}
+use mathlib.Core.Bool.{Bool, true, false, not, _&&_}
+use mathlib.Core.List.{List, [], _∷_, _++_, map, flatMap, zipWith}
+use Prim.Native.Nat.{ℕ, zero, suc, _+_}
+use lib.Dec.{eqb}
+use lib.IntN.{ℤ, pos, negsuc}
+use lib.Signed.{leZ, ltZ}
+use lib.ListN.{length}
+use Rattle.integers.specs.Choice.{_if_else_}
+use Rattle.integers.specs.Number.{_⊕_, _⊖_, _⊗_, neg, minZ, maxZ, absZ, _==_, count}
+use Rattle.integers.specs.Lists.{listOf, all, any, howMany}
+use Rattle.integers.specs.Bounds.{within, width, values, boundsIn}
+use Rattle.integers.specs.Terms.{value, sum}
+use Rattle.integers.specs.declared.Bounds.{Bounds}
+use Rattle.words.specs.Word.{kind, payload, signed, inRange, word, complement, numberWord, wordAt}
+use Rattle.words.specs.Variables.{variables, startsPair}
+use Rattle.words.specs.Overlay.{overlay}
+use Rattle.words.specs.Refusal.{_else-refuse_, firstFault, countFault}
+use Rattle.words.specs.Answer.{Answer, refused, counts, written, holds, outOfBounds, isFalse, _else-answer_, isHolds}
+use Rattle.words.specs.Judge.{firstFalse, firstOutOfBounds, judge}
+use Rattle.models.specs.Meaning.{on, off, element, maximum, member, meaning}
+use Rattle.models.specs.Shape.{shapes, argument}
+use Rattle.models.specs.Reading as Model
+use Rattle.models.specs.Reading.{readModel}
+use Rattle.models.specs.Model.{constraintsFrom, constraints, var, num, size, vars, nums, past, terms, pastTerms, builtins, builtin}
+use Rattle.models.specs.JudgeModel as JudgeModel
+use Rattle.models.specs.JudgeModel.{judgeModel}
+use Rattle.rowsystems.specs.Row.{satisfied, renameTerms, rename}
+use Rattle.rowsystems.specs.RowWords.{boundWords, termWords, sumWords, rowWords, boundNumbers, rowNumbers}
+use Rattle.rowsystems.specs.Reading as Rows
+use Rattle.rowsystems.specs.Reading.{readRows}
+use Rattle.rowsystems.specs.RowSystem.{termCount, variableAt, numberAt, termsIn, constantIn, rows}
+use Rattle.rowsystems.specs.JudgeRows as JudgeRows
+use Rattle.rowsystems.specs.JudgeRows.{judgeRows}
+use Rattle.rules.specs.Block.{numbered, blockWords, blockNumbers, outside}
+use Rattle.rules.specs.Parts.{Z, endProducts, extreme, L, U, _─_≤0, _─_=0, sources, each, bits, weighted, oneBit, chosen, products, nth, places, leastFrom, rising, members}
+use Rattle.rules.specs.Rule as Rule
+use Rattle.rules.specs.Rule.{rule}
+use Rattle.rules.specs.Pick.{bitOf, signPick, signedPick, firstBit, gatedPick, pick}
+use Rattle.rules.specs.Translation.{bounds, blockOf, sourceWords, blocksWords, systemWords, auxiliaries, blockRows, picks}
+use Rattle.rules.specs.Check.{tooWide, blockFault, blocksFault, checkFault, check}
+use Rattle.rules.specs.Translate.{roomFault, translateFault, translate, translated}
+use Rattle.rules.specs.Fill.{filledCount, fillFault, fill, filled}
+
+-- What a line of the table says of a model's words.
+pub data Line : Type 0 where
+  -- check refuses them, with this number and place
+  refuses : (model : List ℕ) (number place : ℕ) → Line
+  -- check accepts them, and this word is among those that translate writes
+  accepts : (model : List ℕ) (word : ℕ) → Line
+  -- translate writes these words, and those past the end keep their values
+  translates : (model system : List ℕ) → Line
+  -- this constraint is false of the values
+  denies : (model : List ℕ) (values : List ℤ) (constraint : ℕ) → Line
+  -- fill writes the values and these auxiliaries
+  fills : (model : List ℕ) (values auxiliaries : List ℤ) → Line
+  -- check accepts them, and constraint 0 is false of all values within the bounds
+  never : (model : List ℕ) → Line
+
+-- ---- whether a line is true
+
+sameList : {A : Type 0} → (A → A → Bool) → List A → List A → Bool
+sameList same [] [] = true
+sameList same [] (y ∷ ys) = false
+sameList same (x ∷ xs) [] = false
+sameList same (x ∷ xs) (y ∷ ys) = same x y && sameList same xs ys
+
+sameAnswer : Answer → Answer → Bool
+sameAnswer a b = sameList eqb (said a) (said b)
+  where
+    said : Answer → List ℕ
+    said (refused n p) = 0 ∷ n ∷ p ∷ []
+    said (counts v c a r w) = 1 ∷ v ∷ c ∷ a ∷ r ∷ w ∷ []
+    said (written n) = 2 ∷ n ∷ []
+    said holds = 3 ∷ []
+    said (outOfBounds i) = 4 ∷ i ∷ []
+    said (isFalse i) = 5 ∷ i ∷ []
+
+-- all lists of values within the bounds
+listsWithin : List Bounds → List (List ℤ)
+listsWithin [] = [] ∷ []
+listsWithin (B ∷ Bs) = flatMap (λ x. map (λ xs. x ∷ xs) (listsWithin Bs)) (values B)
+
+isAccepted : List ℕ → Bool
+isAccepted m = eqb (checkFault m .number) 0
+
+-- the constraint is false of the values, and no auxiliaries within their bounds satisfy the rows with them
+isDenied : List ℕ → ℕ → List ℤ → Bool
+isDenied m i vs =
+    sameAnswer (judgeModel m vs) (isFalse i)
+    && not (any (λ xs. isHolds (judgeRows (systemWords m) (vs ++ xs))) (listsWithin (auxiliaries m)))
+
+-- what lent words and values hold before a call
+unusedWords : List ℕ
+unusedWords = 7 ∷ 8 ∷ []
+
+unusedValues : List ℤ
+unusedValues = pos 7 ∷ pos 8 ∷ []
+
+pub isTrue : Line → Bool
+isTrue (refuses m n p) = sameAnswer (check m) (refused n p)
+isTrue (accepts m w) = isAccepted m && any (eqb w) (systemWords m)
+isTrue (translates m ws) =
+    sameAnswer (translate m (length ws + 2)) (written (length ws))
+    && sameList eqb (translated m (ws ++ unusedWords)) (ws ++ unusedWords)
+    && sameList eqb (translated m (map (λ w. 0) ws ++ unusedWords)) (ws ++ unusedWords)
+isTrue (denies m vs i) = isDenied m i vs
+isTrue (fills m vs xs) =
+    sameAnswer (fill m vs (length vs + length xs + 2)) (written (length vs + length xs))
+    && sameList _==_ (filled m vs (map (λ x. pos 0) (vs ++ xs) ++ unusedValues)) (vs ++ xs ++ unusedValues)
+    && isHolds (judgeRows (systemWords m) (vs ++ xs))
+isTrue (never m) = isAccepted m && all (isDenied m 0) (listsWithin (variables m))
+
+-- ---- the table
+
+T3 : List ℕ
+T3 = 0x10000000 ∷ 0x20000003 ∷ 0x10000000 ∷ 0x20000002 ∷ 0x40000004 ∷ 0x50000000 ∷ 0x50000001 ∷ 0x70000000 ∷ []
+
+-- int_abs, x and y in −3..3
+T5 : List ℕ
+T5 = 0x1FFFFFFD ∷ 0x20000003 ∷ 0x1FFFFFFD ∷ 0x20000003 ∷ 0x40000008 ∷ 0x50000000 ∷ 0x50000001 ∷ 0x70000000 ∷ []
+
+-- int_lin_ne 1×x, c=0, x in −5..3
+T6 : List ℕ
+T6 = 0x1FFFFFFB ∷ 0x20000003 ∷ 0x4000000C ∷ 0x60000001 ∷ 0x60000001 ∷ 0x50000000 ∷ 0x60000000 ∷ 0x70000000 ∷ []
+
+-- int_eq_reif, a and b in 0..3
+T7 : List ℕ
+T7 = 0x10000000 ∷ 0x20000003 ∷ 0x10000000 ∷ 0x20000003 ∷ 0x30000000 ∷ 0x4000000E ∷ 0x50000000 ∷ 0x50000001 ∷ 0x50000002 ∷ 0x70000000 ∷ []
+
+-- maximum, m and two others in −4..−2
+T8 : List ℕ
+T8 =
+    0x1FFFFFFC ∷ 0x2FFFFFFE ∷ 0x1FFFFFFC ∷ 0x2FFFFFFE ∷ 0x1FFFFFFC ∷ 0x2FFFFFFE ∷
+    0x4000001A ∷ 0x50000000 ∷ 0x60000002 ∷ 0x50000001 ∷ 0x50000002 ∷ 0x70000000 ∷ []
+
+-- code 5, a in 0..134,217,727, b from the word given to 134,217,727
+T9 : ℕ → List ℕ
+T9 lower = 0x10000000 ∷ 0x27FFFFFF ∷ lower ∷ 0x27FFFFFF ∷ 0x30000000 ∷ 0x40000005 ∷ 0x50000000 ∷ 0x50000001 ∷ 0x50000002 ∷ 0x70000000 ∷ []
+
+-- code 24, n=3, i in 4..5; c in 1..3, the list 1, 2, 3
+T10 : List ℕ
+T10 =
+    0x10000004 ∷ 0x20000005 ∷ 0x10000001 ∷ 0x20000003 ∷
+    0x40000018 ∷ 0x50000000 ∷ 0x60000003 ∷ 0x60000001 ∷ 0x60000002 ∷ 0x60000003 ∷ 0x50000001 ∷ 0x70000000 ∷ []
+
+-- code 28, x from 0 to the word given, the set 3
+T11 : ℕ → List ℕ
+T11 upper = 0x10000000 ∷ upper ∷ 0x30000000 ∷ 0x4000001C ∷ 0x50000000 ∷ 0x60000001 ∷ 0x60000003 ∷ 0x50000001 ∷ 0x70000000 ∷ []
+
+-- code 21, both lists empty
+T12 : List ℕ
+T12 = 0x40000015 ∷ 0x60000000 ∷ 0x60000000 ∷ 0x70000000 ∷ []
+
+pub table : List Line
+table =
+    translates (0x70000000 ∷ []) (0xF0000000 ∷ []) ∷
+    refuses [] 2 0 ∷
+    translates T3
+    (0x10000000 ∷ 0x20000003 ∷ 0x10000000 ∷ 0x20000002 ∷ 0x80000000 ∷ 0x90000001 ∷
+    0xA0000003 ∷ 0x50000000 ∷ 0x60000001 ∷ 0x50000001 ∷ 0x6FFFFFFF ∷ 0x50000002 ∷ 0x6FFFFFFC ∷ 0x60000001 ∷
+    0xA0000003 ∷ 0x50000001 ∷ 0x60000001 ∷ 0x50000000 ∷ 0x6FFFFFFF ∷ 0x50000002 ∷ 0x60000003 ∷ 0x6FFFFFFE ∷ 0xF0000000 ∷ []) ∷
+    denies T3 (pos 2 ∷ pos 2 ∷ []) 0 ∷
+    denies T5 (negsuc 2 ∷ negsuc 2 ∷ []) 0 ∷
+    fills T5 (negsuc 2 ∷ pos 3 ∷ []) (pos 1 ∷ negsuc 2 ∷ []) ∷
+    fills T6 (pos 1 ∷ []) (pos 1 ∷ pos 0 ∷ pos 0 ∷ []) ∷
+    denies T7 (pos 3 ∷ pos 3 ∷ pos 0 ∷ []) 0 ∷
+    fills T8 (negsuc 2 ∷ negsuc 2 ∷ negsuc 2 ∷ []) (pos 1 ∷ pos 0 ∷ negsuc 2 ∷ pos 0 ∷ []) ∷
+    accepts (T9 0x10000000) 0x68000000 ∷
+    refuses (T9 0x1FFFFFFF) 13 5 ∷
+    never T10 ∷
+    accepts (T11 0x2000003F) 0xF0000000 ∷
+    refuses (T11 0x20000040) 12 3 ∷
+    never T12 ∷
+    []
+
+pub table-T : all isTrue table ≡ true
+unfolding sameList sameAnswer listsWithin isAccepted isDenied unusedWords unusedValues isTrue T3 T5 T6 T7 T8 T9 T10 T11 T12 table within width values
+    boundsIn listOf all any howMany _⊕_ _⊖_ _⊗_ neg minZ maxZ absZ _==_ count value sum _else-answer_ isHolds firstFalse firstOutOfBounds judge
+    overlay _else-refuse_ firstFault countFault startsPair variables kind payload signed inRange word complement numberWord wordAt
+    JudgeModel.judgeAccepted JudgeRows.judgeAccepted judgeModel on off element maximum member meaning constraintsFrom constraints var num size vars
+    nums past terms pastTerms builtins builtin Model.faultHead Model.faultStart Model.faultUpper Rows.faultUpper Model.faultNumber Rows.faultNumber
+    Model.faultVariable Rows.faultVariable Model.faultLength Model.faultArgument Model.faultDue Rows.faultDue Model.fault Rows.fault Model.afterHead
+    Model.afterArgument Model.afterDue Rows.afterDue Model.declared Model.started Rows.started Model.after Rows.after Model.faultEnd Rows.faultEnd
+    Model.ended Rows.ended readModel shapes argument judgeRows Rows.faultItem Rows.faultSource Rows.notAbove Rows.faultResult Rows.afterItem readRows
+    satisfied renameTerms rename termCount variableAt numberAt termsIn constantIn rows boundWords termWords sumWords rowWords boundNumbers rowNumbers
+    numbered blockWords blockNumbers outside tooWide blockFault blocksFault checkFault check filledCount fillFault fill filled Z endProducts extreme L
+    U _─_≤0 _─_=0 sources each bits weighted oneBit chosen products nth places leastFrom rising members bitOf signPick signedPick firstBit gatedPick
+    pick Rule.linked Rule.signed Rule.notEqual Rule.lessEqualReified Rule.absolute Rule.larger Rule.linNotEqual Rule.linEqualReified
+    Rule.linLessEqualReified Rule.exclusiveOr Rule.numberElement Rule.variableElement Rule.largest Rule.inSet Rule.inSetReified rule roomFault
+    translateFault translate translated bounds blockOf sourceWords blocksWords systemWords auxiliaries blockRows picks flatMap zipWith
+table-T = refl
