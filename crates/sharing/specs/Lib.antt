@@ -1,0 +1,2 @@
+-- Demand 3, stated.
+pub mod SharedSolutions
