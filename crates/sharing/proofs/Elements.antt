@@ -1,0 +1,142 @@
+-- 24 array_int_element and 25 array_var_int_element: their blocks hold exactly where c is the i-th of the list.
+use mathlib.Core.Path.{_≡_, refl, sym, _∙_}
+use mathlib.Core.Logic.{_↔_}
+use mathlib.Core.Bool.{true}
+use mathlib.Core.List.{List, [], _∷_, _++_, map}
+use native.Mathlib.Omega.{arith}
+use Prim.Native.Nat.{ℕ, zero, suc, _-_, _<_}
+use lib.IntN.{ℤ, pos, negsuc}
+use lib.ListN.{length, length-map, getD}
+use Rattle.integers.specs.Number.{_==_, count, +0, +1}
+use Rattle.integers.specs.Bounds.{_to_, values}
+use Rattle.integers.specs.Terms.{Valuation, value}
+use Rattle.integers.specs.declared.Bounds.{Bounds}
+use Rattle.integers.proofs.Linear.{_⊑_, linear}
+use Rattle.integers.proofs.Tests.{Says, says-le, says-equal, says-and, In, All, Any, Member, false-true}
+use Rattle.models.specs.Builtin.{array-int-element, array-var-int-element}
+use Rattle.models.specs.Meaning.{meaning, element}
+use Rattle.models.proofs.Arguments.{integerArguments}
+use Rattle.rules.specs.Parts.{one, chosen, products, nth, places}
+use Rattle.rules.specs.Rule.{rule, numberElement, variableElement}
+use Rattle.rules.specs.Pick.{pick}
+use Rattle.sharing.proofs.Good.{Good, Sat, see}
+use Rattle.sharing.proofs.Fits.{Fits}
+use Rattle.sharing.proofs.OneHot.{chosen-one, chosen-at, one-hot-sound, one-hot-complete, chosen-value, picked-value, bits-filled}
+use Rattle.sharing.proofs.Members.{all-members, member-passes, values-member, counts}
+use Rattle.sharing.proofs.Gates.{all-append, gates-at, gates-sound, gates-complete, gates-filled}
+
+-- ---- an element by its place
+
+-- i is a place of a list of n elements
+abbrev Place : ℤ → ℕ → Type 0
+Place i n = (+1 ⊑ i) × (i ⊑ pos n)
+
+says-element : (i : ℤ) (xs : List ℤ) (c : ℤ) → Says (element i xs c) (Place i (length xs) × (nth +0 xs i ≡ c))
+unfolding element nth count
+says-element (pos i) xs c = says-and (says-and (says-le +1 (pos i)) (says-le (pos i) (pos (length xs)))) (says-equal (getD xs (i - 1) +0) c)
+says-element (negsuc i) xs c = (λ e. false-true e, λ h. absurd (h .0 .0 .le))
+
+in-places : (B : Bounds) (n : ℕ) (j : ℤ) → In (places B n) j ↔ (Place j n × In B j)
+unfolding places
+in-places B n j = core (B .lower) (B .upper) n j
+  where
+    core : (l u : ℤ) (n : ℕ) (j : ℤ) → In (places (l to u) n) j ↔ (Place j n × ((l ⊑ j) × (j ⊑ u)))
+    core = simp linear (omega arith)
+
+place-below : (n : ℕ) (j : ℤ) → Place j n → count j - 1 < n
+place-below = simp counts (omega arith)
+
+-- what holds of all elements holds of the one at a place
+nth-all : {A : Type 0} (P : A → Type 0) (d : A) (xs : List A) (j : ℤ) → Place j (length xs) → All P xs → P (nth d xs j)
+unfolding nth
+nth-all {A} P d xs j p h = go xs (count j - 1) (place-below (length xs) j p) h
+  where
+    go : (xs : List A) (k : ℕ) → k < length xs → All P xs → P (getD xs k d)
+    go [] k l h = absurd (omega arith)
+    go (x ∷ xs) zero l h = h .0
+    go (x ∷ xs) (suc k) l h = go xs k (omega arith) (h .1)
+
+-- of a list of values, the one at a place is the value of the variable there
+nth-map : (σ : Valuation) (xs : List ℕ) (j : ℤ) → Place j (length xs) → nth +0 (map σ xs) j ≡ σ (nth 0 xs j)
+unfolding nth
+nth-map σ xs j p = go xs (count j - 1) (place-below (length xs) j p)
+  where
+    go : (xs : List ℕ) (k : ℕ) → k < length xs → getD (map σ xs) k +0 ≡ σ (getD xs k 0)
+    go [] k l = absurd (omega arith)
+    go (x ∷ xs) zero l = refl
+    go (x ∷ xs) (suc k) l = go xs k (omega arith)
+
+says-variable-element : (σ : Valuation) (i : ℤ) (xs : List ℕ) (c : ℤ) → Says (element i (map σ xs) c) (Place i (length xs) × (σ (nth 0 xs i) ≡ c))
+says-variable-element σ i xs c =
+    let s = rw (length-map xs σ) at (says-element i (map σ xs) c) in
+    (λ t. let h = s .0 t in (h .0, sym (nth-map σ xs i (h .0)) ∙ h .1), λ h. s .1 (h .0, nth-map σ xs i (h .0) ∙ h .1))
+
+-- ---- the labels of 24 and 25
+
+labels-place : (B : Bounds) (n : ℕ) (j : ℤ) → Member j (values (places B n)) → Place j n
+labels-place B n j m = in-places B n j .0 (values-member (places B n) j .0 m) .0
+
+labels-pass : (B : Bounds) (n : ℕ) (i : ℤ) → Place i n → In B i → Any (λ j. (j == i) ≡ true) (values (places B n))
+labels-pass B n i p h = member-passes i (values (places B n)) (values-member (places B n) i .1 (in-places B n i .1 (p, h)))
+
+-- ---- 24
+
+pub array-int-element-sound : (β : ℕ → Bounds) (σ α : Valuation) (i : ℕ) (ns : List ℤ) (c : ℕ) → Fits β σ (array-int-element i ns c) →
+    Good (rule β (array-int-element i ns c)) σ α → meaning σ (array-int-element i ns c) ≡ true
+unfolding meaning rule numberElement
+array-int-element-sound β σ α i ns c f g =
+    let js = values (places (β i) (length ns)) in
+    let d = chosen-value js σ α i (one-hot-sound js σ α (g .0) (g .1 .0)) (g .1 .1 .0) in
+    says-element (σ i) ns (σ c) .1 (labels-place (β i) (length ns) (σ i) (d .0), chosen-at js σ α (σ i) d (nth +0 ns) c .0 (g .1 .1 .1 .0))
+
+pub array-int-element-complete : (β : ℕ → Bounds) (σ : Valuation) (i : ℕ) (ns : List ℤ) (c : ℕ) → Fits β σ (array-int-element i ns c) →
+    meaning σ (array-int-element i ns c) ≡ true → (rest : List ℤ) →
+    Good (rule β (array-int-element i ns c)) σ (value (pick β σ (array-int-element i ns c) ++ rest))
+unfolding meaning rule numberElement pick integerArguments
+array-int-element-complete β σ i ns c f t rest =
+    let h = says-element (σ i) ns (σ c) .0 t in
+    let js = values (places (β i) (length ns)) in
+    let p = one-hot-complete (λ j. j == σ i) js rest (labels-pass (β i) (length ns) (σ i) (h .0) (f .kept .0)) in
+    let α = value (pick β σ (array-int-element i ns c) ++ rest) in
+    let d = picked-value js α (σ i) (p .1) in
+    let row = chosen-at js σ α (σ i) d in
+    (p .0, (chosen-one js σ α (σ i) d, (row (λ j. j) i .1 refl, (row (nth +0 ns) c .1 (h .1), tt))))
+
+pub array-int-element-filled : (β : ℕ → Bounds) (σ : Valuation) (i : ℕ) (ns : List ℤ) (c : ℕ) →
+    length (pick β σ (array-int-element i ns c)) ≡ length (rule β (array-int-element i ns c) .auxiliaries)
+unfolding rule numberElement pick
+array-int-element-filled β σ i ns c = bits-filled (λ j. j == σ i) _
+
+-- ---- 25
+
+pub array-var-int-element-sound : (β : ℕ → Bounds) (σ α : Valuation) (i : ℕ) (xs : List ℕ) (c : ℕ) → Fits β σ (array-var-int-element i xs c) →
+    Good (rule β (array-var-int-element i xs c)) σ α → meaning σ (array-var-int-element i xs c) ≡ true
+unfolding meaning rule variableElement
+array-var-int-element-sound β σ α i xs c f g =
+    let js = values (places (β i) (length xs)) in
+    let d = chosen-value js σ α i (gates-sound (λ j. β (nth 0 xs j)) js σ α (g .0) (g .1 .0)) (g .1 .1 .0) in
+    let s = all-append (Sat (see σ α)) (products (nth 0 xs) js 0 (length js)) (chosen one js (length js) c ∷ []) .0 (g .1 .1 .1) in
+    says-variable-element σ (σ i) xs (σ c) .1
+    (labels-place (β i) (length xs) (σ i) (d .0), gates-at (nth 0 xs) js (length js) c σ α (σ i) d (s .0) .0 (s .1 .0))
+
+pub array-var-int-element-complete : (β : ℕ → Bounds) (σ : Valuation) (i : ℕ) (xs : List ℕ) (c : ℕ) → Fits β σ (array-var-int-element i xs c) →
+    meaning σ (array-var-int-element i xs c) ≡ true → (rest : List ℤ) →
+    Good (rule β (array-var-int-element i xs c)) σ (value (pick β σ (array-var-int-element i xs c) ++ rest))
+unfolding meaning rule variableElement pick integerArguments
+array-var-int-element-complete β σ i xs c f t rest =
+    let h = says-variable-element σ (σ i) xs (σ c) .0 t in
+    let js = values (places (β i) (length xs)) in
+    let at : (j : ℤ) → Member j js → In (β (nth 0 xs j)) (σ (nth 0 xs j)) =
+    λ j m. nth-all (λ v. In (β v) (σ v)) 0 xs j (labels-place (β i) (length xs) j m) (f .kept .1 .1) in
+    let kept = all-members (λ j. In (β (nth 0 xs j)) (σ (nth 0 xs j))) js .1 at in
+    let p = gates-complete (nth 0 xs) (λ j. j == σ i) js β σ rest kept (labels-pass (β i) (length xs) (σ i) (h .0) (f .kept .0)) in
+    let α = value (pick β σ (array-var-int-element i xs c) ++ rest) in
+    let d = picked-value js α (σ i) (p .2) in
+    let e = gates-at (nth 0 xs) js (length js) c σ α (σ i) d (p .1) .1 (h .1) in
+    let s = all-append (Sat (see σ α)) (products (nth 0 xs) js 0 (length js)) (chosen one js (length js) c ∷ []) in
+    (p .0, (chosen-one js σ α (σ i) d, (chosen-at js σ α (σ i) d (λ j. j) i .1 refl, s .1 (p .1, (e, tt)))))
+
+pub array-var-int-element-filled : (β : ℕ → Bounds) (σ : Valuation) (i : ℕ) (xs : List ℕ) (c : ℕ) →
+    length (pick β σ (array-var-int-element i xs c)) ≡ length (rule β (array-var-int-element i xs c) .auxiliaries)
+unfolding rule variableElement pick
+array-var-int-element-filled β σ i xs c = gates-filled (λ j. σ (nth 0 xs j)) (λ j. j == σ i) (λ j. β (nth 0 xs j)) _

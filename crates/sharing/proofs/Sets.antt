@@ -1,0 +1,129 @@
+-- 27 set_in and 28 set_in_reif: their blocks hold exactly where x is in the set, and where r says whether it is.
+use mathlib.Core.Path.{_≡_, refl, ap}
+use mathlib.Core.Logic.{_↔_}
+use mathlib.Core.Bool.{Bool, true, false, Bool·beq}
+use mathlib.Core.List.{List, [], _∷_, _++_, map}
+use native.Mathlib.Omega.{arith}
+use Prim.Native.Nat.{ℕ, zero, suc}
+use lib.IntN.{ℤ, pos}
+use lib.ListN.{length}
+use Rattle.integers.specs.Choice.{_if_else_}
+use Rattle.integers.specs.Number.{_⊕_, _⊖_, _⊗_, _==_, count, +0, +1, -1}
+use Rattle.integers.specs.Lists.{listOf}
+use Rattle.integers.specs.Bounds.{width, values}
+use Rattle.integers.specs.Terms.{Valuation, Term, _·_, value}
+use Rattle.integers.specs.declared.Bounds.{Bounds}
+use Rattle.integers.proofs.Linear.{linear, arithZ}
+use Rattle.integers.proofs.Bits.{Bit, b0, b1}
+use Rattle.integers.proofs.Tests.{Says, false-true}
+use Rattle.models.specs.Builtin.{set-in, set-in-reif}
+use Rattle.models.specs.Meaning.{meaning, on, member}
+use Rattle.models.proofs.Arguments.{integerArguments, booleanArguments}
+use Rattle.rowsystems.specs.Row.{sum=0}
+use Rattle.rules.specs.Block.{Ref, source, aux}
+use Rattle.rules.specs.Parts.{members}
+use Rattle.rules.specs.Rule.{rule, inSet, inSetReified}
+use Rattle.rules.specs.Pick.{bitOf, pick}
+use Rattle.sharing.proofs.Good.{dot, Good, Sat, see}
+use Rattle.sharing.proofs.Fits.{Fits}
+use Rattle.sharing.proofs.OneHot.{dot-append, bitSum, less-variable, Chooses, chosen-one, chosen-at, one-hot-sound, one-hot-complete, chosen-value, picked-value, bits-filled}
+use Rattle.sharing.proofs.Members.{counts, keep, member-passes, says-member, values-member, members-values, members-member}
+
+-- ---- 27
+
+pub set-in-sound : (β : ℕ → Bounds) (σ α : Valuation) (x : ℕ) (S : List ℤ) → Fits β σ (set-in x S) → Good (rule β (set-in x S)) σ α →
+    meaning σ (set-in x S) ≡ true
+unfolding meaning rule inSet
+set-in-sound β σ α x S f g =
+    let vs = members S (β x) in
+    let c = chosen-value vs σ α x (one-hot-sound vs σ α (g .0) (g .1 .0)) (g .1 .1 .0) in
+    says-member (σ x) S .1 (members-member S (β x) (σ x) .0 (c .0) .1)
+
+pub set-in-complete : (β : ℕ → Bounds) (σ : Valuation) (x : ℕ) (S : List ℤ) → Fits β σ (set-in x S) → meaning σ (set-in x S) ≡ true →
+    (rest : List ℤ) → Good (rule β (set-in x S)) σ (value (pick β σ (set-in x S) ++ rest))
+unfolding meaning rule inSet pick integerArguments
+set-in-complete β σ x S f t rest =
+    let vs = members S (β x) in
+    let m = members-member S (β x) (σ x) .1 (f .kept .0, says-member (σ x) S .0 t) in
+    let p = one-hot-complete (λ v. v == σ x) vs rest (member-passes (σ x) vs m) in
+    let α = value (pick β σ (set-in x S) ++ rest) in
+    let c = picked-value vs α (σ x) (p .1) in
+    (p .0, (chosen-one vs σ α (σ x) c, (chosen-at vs σ α (σ x) c (λ v. v) x .1 refl, tt)))
+
+pub set-in-filled : (β : ℕ → Bounds) (σ : Valuation) (x : ℕ) (S : List ℤ) →
+    length (pick β σ (set-in x S)) ≡ length (rule β (set-in x S) .auxiliaries)
+unfolding rule inSet pick
+set-in-filled β σ x S = bits-filled (λ v. v == σ x) _
+
+-- ---- 28
+
+-- the bits of the labels that pass a test, the label of place k having its bit at the place g
+dot-keep : {A : Type 0} (t : A → Bool) (f : ℕ → A) (n : ℕ) (g : A → ℕ) (σ α γ : Valuation) → ((k : ℕ) → α (g (f k)) ≡ γ k) →
+    dot (see σ α) (map (λ v. +1 · aux (g v)) (keep t (listOf f n))) ≡ bitSum (λ v. bitOf (t v)) (listOf f n) γ
+unfolding listOf bitOf
+dot-keep t f zero g σ α γ h = refl
+dot-keep {A} t f (suc n) g σ α γ h = go (t (f 0)) (dot-keep t (λ k. f (suc k)) n g σ α (λ k. γ (suc k)) (λ k. h (suc k)))
+  where
+    row : List A → List (Term Ref)
+    row vs = map (λ v. +1 · aux (g v)) vs
+
+    K : List A
+    K = keep t (listOf (λ k. f (suc k)) n)
+
+    H : ℤ
+    H = bitSum (λ v. bitOf (t v)) (listOf (λ k. f (suc k)) n) (λ k. γ (suc k))
+
+    without : (s h x : ℤ) → s ≡ h → s ≡ pos 0 ⊗ x ⊕ h
+    without = simp linear (omega arith)
+
+    go : (b : Bool) → dot (see σ α) (row K) ≡ H → dot (see σ α) (row (f 0 ∷ K if b else K)) ≡ bitOf b ⊗ γ 0 ⊕ H
+    go true e = rw (h 0, e)
+    go false e = without _ _ _ e
+
+-- the third row: r is 1 exactly where the chosen value is in the set
+third-row : (B : Bounds) (S : List ℤ) (r : ℕ) (σ α : Valuation) (v : ℤ) → Chooses (values B) α v →
+    Sat (see σ α) (sum=0 (map (λ v. +1 · aux (count (v ⊖ B .lower))) (members S B) ++ (-1 · source r ∷ [])) +0) ↔ (bitOf (member v S) ≡ σ r)
+unfolding values width
+third-row B S r σ α v c =
+    rw (
+      dot-append (see σ α) (map (λ v. +1 · aux (count (v ⊖ B .lower))) (members S B)),
+      members-values S B,
+      dot-keep (λ v. member v S) (λ k. B .lower ⊕ pos k) (count (B .upper ⊖ B .lower ⊕ +1)) (λ v. count (v ⊖ B .lower)) σ α α
+          (λ k. ap α (place (B .lower) k)),
+      c .1 (λ v. bitOf (member v S)),
+    )
+    (less-variable _ _)
+  where
+    place : (l : ℤ) (k : ℕ) → count (l ⊕ pos k ⊖ l) ≡ k
+    place = simp counts (omega arith)
+
+says-bit : (t : Bool) {r : ℤ} → Bit r → Says (Bool·beq (r == +1) t) (bitOf t ≡ r)
+unfolding bitOf _==_
+says-bit true b0 = (λ e. false-true e, λ e. absurd (omega arithZ))
+says-bit true b1 = (λ e. refl, λ e. refl)
+says-bit false b0 = (λ e. refl, λ e. refl)
+says-bit false b1 = (λ e. false-true e, λ e. absurd (omega arithZ))
+
+pub set-in-reif-sound : (β : ℕ → Bounds) (σ α : Valuation) (x : ℕ) (S : List ℤ) (r : ℕ) → Fits β σ (set-in-reif x S r) →
+    Good (rule β (set-in-reif x S r)) σ α → meaning σ (set-in-reif x S r) ≡ true
+unfolding meaning on rule inSetReified booleanArguments
+set-in-reif-sound β σ α x S r f g =
+    let vs = values (β x) in
+    let c = chosen-value vs σ α x (one-hot-sound vs σ α (g .0) (g .1 .0)) (g .1 .1 .0) in
+    says-bit (member (σ x) S) (f .zero-one .0) .1 (third-row (β x) S r σ α (σ x) c .0 (g .1 .1 .1 .0))
+
+pub set-in-reif-complete : (β : ℕ → Bounds) (σ : Valuation) (x : ℕ) (S : List ℤ) (r : ℕ) → Fits β σ (set-in-reif x S r) →
+    meaning σ (set-in-reif x S r) ≡ true → (rest : List ℤ) → Good (rule β (set-in-reif x S r)) σ (value (pick β σ (set-in-reif x S r) ++ rest))
+unfolding meaning on rule inSetReified pick integerArguments booleanArguments
+set-in-reif-complete β σ x S r f t rest =
+    let vs = values (β x) in
+    let p = one-hot-complete (λ v. v == σ x) vs rest (member-passes (σ x) vs (values-member (β x) (σ x) .1 (f .kept .0))) in
+    let α = value (pick β σ (set-in-reif x S r) ++ rest) in
+    let c = picked-value vs α (σ x) (p .1) in
+    let b = says-bit (member (σ x) S) (f .zero-one .0) .0 t in
+    (p .0, (chosen-one vs σ α (σ x) c, (chosen-at vs σ α (σ x) c (λ v. v) x .1 refl, (third-row (β x) S r σ α (σ x) c .1 b, tt))))
+
+pub set-in-reif-filled : (β : ℕ → Bounds) (σ : Valuation) (x : ℕ) (S : List ℤ) (r : ℕ) →
+    length (pick β σ (set-in-reif x S r)) ≡ length (rule β (set-in-reif x S r) .auxiliaries)
+unfolding rule inSetReified pick
+set-in-reif-filled β σ x S r = bits-filled (λ v. v == σ x) _
