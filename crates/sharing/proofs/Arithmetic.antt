@@ -1,0 +1,158 @@
+-- Codes 6 to 9, sum, product, absolute value and maximum; first the auxiliaries b and z of 8 and of 12 to 14, and the bounds of a product.
+use mathlib.Core.Path.{_≡_, refl, _∙_}
+use mathlib.Core.Logic.{_⊎_, inl, inr}
+use mathlib.Core.List.{List, [], _∷_, _++_}
+use Prim.Native.Nat.{ℕ}
+use native.Mathlib.Omega.{arith}
+use lib.IntN.{ℤ}
+use lib.Signed.{ltZ}
+use Rattle.integers.specs.Number.{_⊕_, _⊗_, minZ, maxZ, absZ, +0, +1}
+use Rattle.integers.specs.Bounds.{bit}
+use Rattle.integers.specs.Terms.{Valuation, value}
+use Rattle.integers.specs.declared.Bounds.{Bounds}
+use Rattle.integers.proofs.Linear.{_⊑_, _⊏_, rep, linear, from₁, from₂}
+use Rattle.integers.proofs.Bits.{to-bit, bit-case}
+use Rattle.integers.proofs.Product.{between, ⊗-comm}
+use Rattle.integers.proofs.Tests.{In, says-lt, says-equal, says-not}
+use Rattle.models.specs.Builtin.{int-plus, int-times, int-abs, int-max}
+use Rattle.models.specs.Meaning.{meaning}
+use Rattle.models.proofs.Arguments.{integerArguments}
+use Rattle.rules.specs.Block.{source, aux}
+use Rattle.rules.specs.Parts.{Z, endProducts, _─_≤0}
+use Rattle.rules.specs.Rule.{rule, absolute, larger}
+use Rattle.rules.specs.Pick.{pick, bitOf, signPick}
+use Rattle.sharing.proofs.Good.{Good, Keeps, see}
+use Rattle.sharing.proofs.Basics.{Sound, Complete, Filled, Exact, complete, agree, equal-row, by-test, Decides, decides-sound, decides-complete, not-not}
+
+-- ---- 8, 12 to 14: b is 0 or 1, z := b×x
+
+-- a product with 0 or 1 is 0 or the other factor
+pub bit-product : (b x z : ℤ) → In bit b → z ≡ b ⊗ x → (z ≡ +0) ⊎ (z ≡ x)
+bit-product b x z h e = bit-case (to-bit b (h .0) (h .1)) (λ p. inl (e ∙ rw p (nothing x))) (λ p. inr (e ∙ rw p (whole x)))
+  where
+    nothing : (x : ℤ) → +0 ⊗ x ≡ +0
+    nothing = simp linear (omega arith)
+
+    whole : (x : ℤ) → +1 ⊗ x ≡ x
+    whole = simp linear (omega arith)
+
+-- the z that is picked is x where x is negative, else 0
+pub sign-product : (x : ℤ) → bitOf (ltZ x +0) ⊗ x ≡ minZ +0 x
+sign-product x = by-test (says-lt x +0) (λ b. b ⊗ x ≡ minZ +0 x) (negative x) (other x)
+  where
+    negative : (x : ℤ) → x ⊏ +0 → +1 ⊗ x ≡ minZ +0 x
+    negative = simp linear (omega arith)
+
+    other : (x : ℤ) → ¬ (x ⊏ +0) → +0 ⊗ x ≡ minZ +0 x
+    other = simp linear (omega arith)
+
+-- what is picked for b and z keeps 0..1 and Z(x)
+pub sign-kept : (B : Bounds) (x : ℤ) → In B x → (rest : List ℤ) → Keeps (bit ∷ Z B ∷ []) (value (signPick x ++ rest))
+unfolding Z signPick value
+sign-kept B x h rest = (
+  by-test (says-lt x +0) (λ b. In bit b) (λ n. simp linear (omega arith)) (λ n. simp linear (omega arith)),
+  (from₁ h (rw (sign-product x, rep x, rep (B .lower), rep (B .upper)) (simp linear (omega arith))), tt),
+)
+
+-- ---- 7: a product stays between the end products of its factors' bounds
+
+least-of-four : (w u v p q r s : ℤ) → minZ u v ⊑ w → minZ p q ⊑ u → minZ r s ⊑ v → minZ (minZ p r) (minZ q s) ⊑ w
+least-of-four = simp linear (omega arith)
+
+largest-of-four : (w u v p q r s : ℤ) → w ⊑ maxZ u v → u ⊑ maxZ p q → v ⊑ maxZ r s → w ⊑ maxZ (maxZ p r) (maxZ q s)
+largest-of-four = simp linear (omega arith)
+
+pub product-kept : (A B : Bounds) (a b : ℤ) → In A a → In B b → In (endProducts A B) (a ⊗ b)
+unfolding endProducts
+product-kept A B a b h k =
+    let inner = between a b (B .lower) (B .upper) (k .0) (k .1) in
+    let low = first (B .lower) in
+    let high = first (B .upper) in
+    (least-of-four _ _ _ _ _ _ _ (inner .0) (low .0) (high .0), largest-of-four _ _ _ _ _ _ _ (inner .1) (low .1) (high .1))
+  where
+    -- a × y for an end y of B
+    first : (y : ℤ) → (minZ (A .lower ⊗ y) (A .upper ⊗ y) ⊑ a ⊗ y) × (a ⊗ y ⊑ maxZ (A .lower ⊗ y) (A .upper ⊗ y))
+    first y = rw (⊗-comm (A .lower) y, ⊗-comm (A .upper) y, ⊗-comm a y) (between y a (A .lower) (A .upper) (h .0) (h .1))
+
+module _ (β : ℕ → Bounds) (σ : Valuation) where
+  -- ---- 6 int_plus
+
+  int-plus-exact : (a b c : ℕ) → Exact β σ (int-plus a b c)
+  unfolding rule meaning
+  int-plus-exact a b c α f =
+      agree (says-equal (σ a ⊕ σ b) (σ c)) (rw (rep (σ a), rep (σ b), rep (σ c)) (simp linear (omega arith)))
+
+  pub int-plus-sound : (α : Valuation) (a b c : ℕ) → Sound β σ α (int-plus a b c)
+  int-plus-sound α a b c f = int-plus-exact a b c α f .0
+
+  pub int-plus-complete : (a b c : ℕ) → Complete β σ (int-plus a b c)
+  int-plus-complete a b c = complete (int-plus-exact a b c)
+
+  pub int-plus-filled : (a b c : ℕ) → Filled β σ (int-plus a b c)
+  unfolding rule pick
+  int-plus-filled a b c = refl
+
+  -- ---- 7 int_times
+
+  pub int-times-sound : (α : Valuation) (a b c : ℕ) → Sound β σ α (int-times a b c)
+  unfolding rule meaning
+  int-times-sound α a b c f g =
+      says-equal (σ a ⊗ σ b) (σ c) .1 (rw (g .1 .0) at (equal-row (see σ α) (aux 0) (source c) .0 (g .1 .1 .0)))
+
+  pub int-times-complete : (a b c : ℕ) → Complete β σ (int-times a b c)
+  unfolding rule meaning integerArguments pick value
+  int-times-complete a b c f m rest = (
+    (product-kept (β a) (β b) (σ a) (σ b) (f .kept .0) (f .kept .1 .0), tt),
+    (refl, (equal-row _ (aux 0) (source c) .1 (says-equal (σ a ⊗ σ b) (σ c) .0 m), tt)),
+  )
+
+  pub int-times-filled : (a b c : ℕ) → Filled β σ (int-times a b c)
+  unfolding rule pick
+  int-times-filled a b c = refl
+
+  -- ---- 8 int_abs
+
+  pub int-abs-sound : (α : Valuation) (x y : ℕ) → Sound β σ α (int-abs x y)
+  unfolding rule absolute meaning
+  int-abs-sound α x y f g =
+      says-equal (absZ (σ x)) (σ y) .1
+      (from₂ (bit-product (α 0) (σ x) (α 1) (g .0 .0) (g .1 .0)) (g .1 .1) (rw (rep (σ x), rep (σ y), rep (α 1)) (simp linear (omega arith))))
+
+  pub int-abs-complete : (x y : ℕ) → Complete β σ (int-abs x y)
+  unfolding rule absolute meaning integerArguments pick signPick value
+  int-abs-complete x y f m rest = (
+    sign-kept (β x) (σ x) (f .kept .0) rest,
+    (
+      refl,
+      from₁ (says-equal (absZ (σ x)) (σ y) .0 m) (rw (sign-product (σ x), rep (σ x), rep (σ y)) (simp linear (omega arith))),
+    ),
+  )
+
+  pub int-abs-filled : (x y : ℕ) → Filled β σ (int-abs x y)
+  unfolding rule absolute pick signPick
+  int-abs-filled x y = refl
+
+  -- ---- 9 int_max: r is 0 where a = c
+
+  max-rows : (a b c : ℕ) → In (β a) (σ a) × In (β b) (σ b) × In (β c) (σ c) →
+      Decides (λ r. Good (larger β a b c) σ (value (r ∷ []))) (maxZ (σ a) (σ b) ≡ σ c) (¬ (σ a ≡ σ c))
+  unfolding larger _─_≤0 value
+  max-rows a b c =
+      rw (rep (σ a), rep (σ b), rep (σ c), rep (β a .lower), rep (β a .upper), rep (β b .lower), rep (β b .upper), rep (β c .lower), rep (β c .upper))
+      (simp (linear, not-not) (omega arith))
+
+  pub int-max-sound : (α : Valuation) (a b c : ℕ) → Sound β σ α (int-max a b c)
+  unfolding rule larger _─_≤0 meaning integerArguments value
+  int-max-sound α a b c f g =
+      says-equal (maxZ (σ a) (σ b)) (σ c) .1
+      (decides-sound (λ r. Good (larger β a b c) σ (value (r ∷ []))) (max-rows a b c (f .kept .0, f .kept .1 .0, f .kept .1 .1 .0)) (α 0) (g .0 .0) g)
+
+  pub int-max-complete : (a b c : ℕ) → Complete β σ (int-max a b c)
+  unfolding rule larger _─_≤0 meaning integerArguments pick value
+  int-max-complete a b c f m rest =
+      decides-complete (λ r. Good (larger β a b c) σ (value (r ∷ []))) (max-rows a b c (f .kept .0, f .kept .1 .0, f .kept .1 .1 .0))
+      (says-not (says-equal (σ a) (σ c))) (says-equal (maxZ (σ a) (σ b)) (σ c) .0 m)
+
+  pub int-max-filled : (a b c : ℕ) → Filled β σ (int-max a b c)
+  unfolding rule larger pick
+  int-max-filled a b c = refl

@@ -1,0 +1,194 @@
+-- Codes 21 to 23, the builtins of lists of Boolean variables: a sum of such variables is the number of those that are 1.
+use mathlib.Core.Path.{_≡_, refl}
+use mathlib.Core.Logic.{_⊎_, inl, inr, _↔_}
+use mathlib.Core.Bool.{Bool, true, false, _&&_, _||_}
+use mathlib.Core.List.{List, [], _∷_, _++_, map, append-nil}
+use Prim.Native.Nat.{ℕ, zero, suc, _+_, _≤_, _<_}
+use native.Mathlib.Omega.{arith}
+use lib.IntN.{ℤ, pos}
+use lib.ListN.{length}
+use borrow.Author.Tests.{eqb-true, eq-eqb}
+use Rattle.integers.specs.Choice.{_if_else_}
+use Rattle.integers.specs.Number.{_⊕_, _⊖_, _⊗_, _==_, +0, +1, -1}
+use Rattle.integers.specs.Lists.{all, any, howMany}
+use Rattle.integers.specs.Terms.{Valuation, Term, _·_}
+use Rattle.integers.specs.declared.Bounds.{Bounds}
+use Rattle.integers.proofs.Linear.{_⊑_, linear, arithZ, from₁}
+use Rattle.integers.proofs.Bits.{Bit, b0, b1, Reified, reified-0, reified-1, bit-case}
+use Rattle.integers.proofs.Tests.{Says, All, says-or, false-true}
+use Rattle.models.specs.Builtin.{bool-clause, array-bool-and, array-bool-xor}
+use Rattle.models.specs.Meaning.{meaning, on, off}
+use Rattle.models.proofs.Arguments.{booleanArguments}
+use Rattle.rules.specs.Block.{Ref, source}
+use Rattle.rules.specs.Parts.{_─_≤0, each}
+use Rattle.rules.specs.Rule.{rule}
+use Rattle.rules.specs.Pick.{pick}
+use Rattle.sharing.proofs.Good.{Sat, dot, see}
+use Rattle.sharing.proofs.Basics.{Sound, Complete, Filled, Exact, complete, agree, says-as, says-reified, not-above-row, one-row, in-bit, all-append, all-map}
+
+-- ---- how many elements pass a test
+
+module _ {A : Type 0} (t : A → Bool) where
+  how-many-bound : (xs : List A) → howMany t xs ≤ length xs
+  unfolding howMany
+  how-many-bound [] = omega arith
+  how-many-bound (x ∷ xs) = more (t x) _ _ (how-many-bound xs)
+    where
+      more : (b : Bool) (k n : ℕ) → k ≤ n → (1 if b else 0) + k ≤ suc n
+      more true k n h = omega arith
+      more false k n h = omega arith
+
+  pub says-some : (xs : List A) → Says (any t xs) (1 ≤ howMany t xs)
+  unfolding any howMany
+  says-some [] = (λ e. false-true e, λ h. absurd (omega arith))
+  says-some (x ∷ xs) = more (t x) _ _ (says-some xs)
+    where
+      more : (b u : Bool) (k : ℕ) → Says u (1 ≤ k) → Says (b || u) (1 ≤ (1 if b else 0) + k)
+      more true u k s = (λ e. omega arith, λ h. refl)
+      more false u k s = says-as s (omega arith)
+
+  pub says-every : (xs : List A) → Says (all t xs) (length xs ≤ howMany t xs)
+  unfolding all howMany
+  says-every [] = (λ e. omega arith, λ h. refl)
+  says-every (x ∷ xs) = more (t x) _ _ _ (says-every xs) (how-many-bound xs)
+    where
+      more : (b u : Bool) (k n : ℕ) → Says u (n ≤ k) → k ≤ n → Says (b && u) (suc n ≤ (1 if b else 0) + k)
+      more true u k n s h = says-as s (omega arith)
+      more false u k n s h = (λ e. false-true e, λ l. absurd (omega arith))
+
+-- ---- Boolean variables
+
+module _ (σ : Valuation) where
+  -- how many of the variables are 1
+  abbrev ones : List ℕ → ℕ
+  ones vs = howMany (on σ) vs
+
+  abbrev ZeroOne : List ℕ → Type 0
+  ZeroOne vs = All (λ v. Bit (σ v)) vs
+
+  -- c × each of them, and more terms
+  dot-each : (α : Valuation) (c : ℤ) (vs : List ℕ) → ZeroOne vs → (more : List (Term Ref)) →
+      dot (see σ α) (each c vs ++ more) ≡ c ⊗ pos (ones vs) ⊕ dot (see σ α) more
+  unfolding each howMany on _==_
+  dot-each α c [] h more = none c _
+    where
+      none : (c m : ℤ) → m ≡ c ⊗ +0 ⊕ m
+      none = simp linear (omega arith)
+  dot-each α c (v ∷ vs) h more =
+      bit-case (h .0) (λ e. rw (e, dot-each α c vs (h .1) more) (added c 0 _ _)) (λ e. rw (e, dot-each α c vs (h .1) more) (added c 1 _ _))
+    where
+      added : (c : ℤ) (k n : ℕ) (m : ℤ) → c ⊗ pos k ⊕ (c ⊗ pos n ⊕ m) ≡ c ⊗ pos (k + n) ⊕ m
+      added = simp linear (omega arith)
+
+  dot-each-only : (α : Valuation) (c : ℤ) (vs : List ℕ) → ZeroOne vs → dot (see σ α) (each c vs) ≡ c ⊗ pos (ones vs) ⊕ +0
+  dot-each-only α c vs h = rw append-nil at (dot-each α c vs h [])
+
+  -- some variable is 0
+  says-some-off : (vs : List ℕ) → ZeroOne vs → Says (any (off σ) vs) (ones vs < length vs)
+  unfolding any howMany on off _==_
+  says-some-off [] h = (λ e. false-true e, λ k. absurd (omega arith))
+  says-some-off (v ∷ vs) h =
+      bit-case (h .0) (λ e. rw e (λ t. omega (arith, how-many-bound (on σ) vs), λ k. refl))
+      (λ e. rw e (says-as (says-some-off vs (h .1)) (omega arith)))
+
+  -- r is at most each of them: always for 0, and for 1 where all are 1
+  all-from-zero : (vs : List ℕ) → ZeroOne vs → All (λ v. +0 ⊑ σ v) vs
+  all-from-zero [] h = tt
+  all-from-zero (v ∷ vs) h = (in-bit (σ v) (h .0) .0, all-from-zero vs (h .1))
+
+  all-from-one : (vs : List ℕ) → ZeroOne vs → All (λ v. +1 ⊑ σ v) vs ↔ (length vs ≤ ones vs)
+  unfolding howMany on _==_
+  all-from-one [] h = (λ g. omega arith, λ l. tt)
+  all-from-one (v ∷ vs) h =
+      let r = all-from-one vs (h .1) in
+      bit-case (h .0) (λ e. rw e (λ g. absurd (none (g .0)), λ l. absurd (omega (arith, how-many-bound (on σ) vs))))
+      (λ e. rw e (λ g. omega (arith, r .0 (g .1)), λ l. (omega arithZ, r .1 (omega arith))))
+    where
+      none : ¬ (+1 ⊑ +0)
+      none l = omega arithZ
+
+  -- the rows of 22
+  and-rows : {r : ℤ} → Bit r → (vs : List ℕ) → ZeroOne vs →
+      (All (λ v. r ⊑ σ v) vs × (+1 ⊗ pos (ones vs) ⊕ (-1 ⊗ r ⊕ +0) ⊕ (+1 ⊖ pos (length vs)) ⊑ +0)) ↔ Reified r (length vs ≤ ones vs)
+  and-rows b0 vs h = (λ g. reified-0 _ .1 (last _ _ .0 (g .1)), λ m. (all-from-zero vs h, last _ _ .1 (reified-0 _ .0 m)))
+    where
+      last : (k n : ℕ) → (+1 ⊗ pos k ⊕ (-1 ⊗ +0 ⊕ +0) ⊕ (+1 ⊖ pos n) ⊑ +0) ↔ ¬ (n ≤ k)
+      last = simp linear (omega arith)
+  and-rows b1 vs h =
+      let a = all-from-one vs h in
+      (λ g. reified-1 _ .1 (a .0 (g .0)), λ m. (a .1 (reified-1 _ .0 m), last _ _ (how-many-bound (on σ) vs)))
+    where
+      last : (k n : ℕ) → k ≤ n → +1 ⊗ pos k ⊕ (-1 ⊗ +1 ⊕ +0) ⊕ (+1 ⊖ pos n) ⊑ +0
+      last = simp linear (omega arith)
+
+module _ (β : ℕ → Bounds) (σ : Valuation) where
+  -- ---- 21 bool_clause
+
+  bool-clause-exact : (xs ys : List ℕ) → Exact β σ (bool-clause xs ys)
+  unfolding rule meaning booleanArguments
+  bool-clause-exact xs ys α f =
+      let h = all-append (λ v. Bit (σ v)) xs ys .0 (f .zero-one) in
+      agree (says-or (says-some (on σ) xs) (says-some-off σ ys (h .1)))
+      (one-row (rw (dot-each σ α -1 xs (h .0) (each +1 ys), dot-each-only σ α +1 ys (h .1)) (sound _ _ _, holds _ _ _ (how-many-bound (on σ) ys))))
+    where
+      sound : (n k m : ℕ) → -1 ⊗ pos n ⊕ (+1 ⊗ pos k ⊕ +0) ⊕ (+1 ⊖ pos m) ⊑ +0 → (1 ≤ n) ⊎ (k < m)
+      sound zero k m h = inr (from₁ h (simp linear (omega arith)))
+      sound (suc n) k m h = inl (omega arith)
+
+      holds : (n k m : ℕ) → k ≤ m → (1 ≤ n) ⊎ (k < m) → -1 ⊗ pos n ⊕ (+1 ⊗ pos k ⊕ +0) ⊕ (+1 ⊖ pos m) ⊑ +0
+      holds = simp linear (omega arith)
+
+  pub bool-clause-sound : (α : Valuation) (as₁ bs : List ℕ) → Sound β σ α (bool-clause as₁ bs)
+  bool-clause-sound α xs ys f = bool-clause-exact xs ys α f .0
+
+  pub bool-clause-complete : (as₁ bs : List ℕ) → Complete β σ (bool-clause as₁ bs)
+  bool-clause-complete xs ys = complete (bool-clause-exact xs ys)
+
+  pub bool-clause-filled : (as₁ bs : List ℕ) → Filled β σ (bool-clause as₁ bs)
+  unfolding rule pick
+  bool-clause-filled xs ys = refl
+
+  -- ---- 22 array_bool_and
+
+  array-bool-and-exact : (xs : List ℕ) (r : ℕ) → Exact β σ (array-bool-and xs r)
+  unfolding rule meaning booleanArguments
+  array-bool-and-exact xs r α f =
+      let h = f .zero-one .1 in
+      let q = all-append (Sat (see σ α)) (map (λ x. source r ─ source x ≤0) xs) _ in
+      let a = all-map (λ x. source r ─ source x ≤0) (Sat (see σ α)) (λ x. σ r ⊑ σ x) (λ x. not-above-row (see σ α) (source r) (source x)) xs in
+      let l = and-rows σ (f .zero-one .0) xs h in
+      let e = dot-each σ α +1 xs h (-1 · source r ∷ []) in
+      agree (says-reified σ r (says-every (on σ) xs)) (
+        λ g. l .0 (a .0 (q .0 (g .1) .0), rw e at (q .0 (g .1) .1 .0)),
+        λ m. let k = l .1 m in (tt, q .1 (a .1 (k .0), (rw e (k .1), tt))),
+      )
+
+  pub array-bool-and-sound : (α : Valuation) (as₁ : List ℕ) (r : ℕ) → Sound β σ α (array-bool-and as₁ r)
+  array-bool-and-sound α xs r f = array-bool-and-exact xs r α f .0
+
+  pub array-bool-and-complete : (as₁ : List ℕ) (r : ℕ) → Complete β σ (array-bool-and as₁ r)
+  array-bool-and-complete xs r = complete (array-bool-and-exact xs r)
+
+  pub array-bool-and-filled : (as₁ : List ℕ) (r : ℕ) → Filled β σ (array-bool-and as₁ r)
+  unfolding rule pick
+  array-bool-and-filled xs r = refl
+
+  -- ---- 23 array_bool_xor
+
+  array-bool-xor-exact : (xs : List ℕ) → Exact β σ (array-bool-xor xs)
+  unfolding rule meaning booleanArguments
+  array-bool-xor-exact xs α f =
+      agree (eqb-true (ones σ xs) 1, eq-eqb (ones σ xs) 1) (one-row (rw (dot-each-only σ α +1 xs (f .zero-one)) (single (ones σ xs))))
+    where
+      single : (n : ℕ) → (+1 ⊗ pos n ⊕ +0 ⊕ -1 ≡ +0) ↔ (n ≡ 1)
+      single = simp linear (omega arith)
+
+  pub array-bool-xor-sound : (α : Valuation) (as₁ : List ℕ) → Sound β σ α (array-bool-xor as₁)
+  array-bool-xor-sound α xs f = array-bool-xor-exact xs α f .0
+
+  pub array-bool-xor-complete : (as₁ : List ℕ) → Complete β σ (array-bool-xor as₁)
+  array-bool-xor-complete xs = complete (array-bool-xor-exact xs)
+
+  pub array-bool-xor-filled : (as₁ : List ℕ) → Filled β σ (array-bool-xor as₁)
+  unfolding rule pick
+  array-bool-xor-filled xs = refl

@@ -1,0 +1,164 @@
+-- Codes 16 to 20, the builtins of two or three Boolean variables.
+use mathlib.Core.Path.{_≡_, refl}
+use mathlib.Core.Logic.{_⊎_, inl, inr, _↔_}
+use mathlib.Core.Bool.{_&&_, _||_}
+use mathlib.Core.List.{List, [], _∷_}
+use Prim.Native.Nat.{ℕ}
+use native.Mathlib.Omega.{arith}
+use lib.IntN.{ℤ}
+use Rattle.integers.specs.Number.{_⊕_, _⊗_, +0, +1, +2, -1}
+use Rattle.integers.specs.Bounds.{bit}
+use Rattle.integers.specs.Terms.{Valuation, _·_, value}
+use Rattle.integers.specs.declared.Bounds.{Bounds}
+use Rattle.integers.proofs.Linear.{_⊑_, linear}
+use Rattle.integers.proofs.Bits.{Bit, bits, Reified, bit-case}
+use Rattle.integers.proofs.Tests.{Says, In, All, says-equal, says-not, says-and, says-or}
+use Rattle.models.specs.Builtin.{bool2int, bool-not, bool-and, bool-or, bool-xor}
+use Rattle.models.specs.Meaning.{meaning, on}
+use Rattle.models.proofs.Arguments.{booleanArguments}
+use Rattle.rowsystems.specs.Row.{Row, sum=0}
+use Rattle.rules.specs.Parts.{_─_≤0}
+use Rattle.rules.specs.Rule.{rule, exclusiveOr}
+use Rattle.rules.specs.Pick.{pick}
+use Rattle.sharing.proofs.Good.{Good, Sat}
+use Rattle.sharing.proofs.Basics.{Sound, Complete, Filled, Exact, complete, agree, says-as, says-reified, in-bit, not-not}
+use Rattle.sharing.proofs.Comparisons.{equal-block}
+
+module _ (β : ℕ → Bounds) (σ : Valuation) where
+  -- ---- 16 bool2int, the block of 1
+
+  bool2int-exact : (a b : ℕ) → Exact β σ (bool2int a b)
+  unfolding rule meaning
+  bool2int-exact a b α f = equal-block β σ α a b
+
+  pub bool2int-sound : (α : Valuation) (a b : ℕ) → Sound β σ α (bool2int a b)
+  bool2int-sound α a b f = bool2int-exact a b α f .0
+
+  pub bool2int-complete : (a b : ℕ) → Complete β σ (bool2int a b)
+  bool2int-complete a b = complete (bool2int-exact a b)
+
+  pub bool2int-filled : (a b : ℕ) → Filled β σ (bool2int a b)
+  unfolding rule pick
+  bool2int-filled a b = refl
+
+  -- ---- 17 bool_not
+
+  not-row : (x : ℤ) → Bit x → (y : ℤ) → Bit y → Good (rule β (bool-not 0 1)) (value (x ∷ y ∷ [])) (value []) ↔ ¬ (x ≡ y)
+  unfolding rule value
+  not-row = simp bits (simp linear (omega arith))
+
+  bool-not-exact : (a b : ℕ) → Exact β σ (bool-not a b)
+  unfolding rule meaning booleanArguments value
+  bool-not-exact a b α f =
+      agree (says-not (says-equal (σ a) (σ b))) (not-row (σ a) (f .zero-one .0) (σ b) (f .zero-one .1 .0))
+
+  pub bool-not-sound : (α : Valuation) (a b : ℕ) → Sound β σ α (bool-not a b)
+  bool-not-sound α a b f = bool-not-exact a b α f .0
+
+  pub bool-not-complete : (a b : ℕ) → Complete β σ (bool-not a b)
+  bool-not-complete a b = complete (bool-not-exact a b)
+
+  pub bool-not-filled : (a b : ℕ) → Filled β σ (bool-not a b)
+  unfolding rule pick
+  bool-not-filled a b = refl
+
+  -- ---- 18 bool_and: both are 1 where their sum is 2
+
+  says-both : (a b : ℕ) → Bit (σ a) → Bit (σ b) → Says (on σ a && on σ b) (+2 ⊑ σ a ⊕ σ b)
+  unfolding on
+  says-both a b s t = says-as (says-and (says-equal (σ a) +1) (says-equal (σ b) +1)) (both (σ a) s (σ b) t)
+    where
+      both : (x : ℤ) → Bit x → (y : ℤ) → Bit y → ((x ≡ +1) × (y ≡ +1)) ↔ (+2 ⊑ x ⊕ y)
+      both = simp bits (simp linear (omega arith))
+
+  and-rows : (r : ℤ) → Bit r → (x y : ℤ) → In bit x → In bit y →
+      Good (rule β (bool-and 0 1 2)) (value (x ∷ y ∷ r ∷ [])) (value []) ↔ Reified r (+2 ⊑ x ⊕ y)
+  unfolding rule _─_≤0 value
+  and-rows = simp bits (simp linear (omega arith))
+
+  bool-and-exact : (a b r : ℕ) → Exact β σ (bool-and a b r)
+  unfolding rule _─_≤0 meaning booleanArguments value
+  bool-and-exact a b r α f =
+      let s = f .zero-one .0 in
+      let t = f .zero-one .1 .0 in
+      agree (says-reified σ r (says-both a b s t)) (and-rows (σ r) (f .zero-one .1 .1 .0) (σ a) (σ b) (in-bit (σ a) s) (in-bit (σ b) t))
+
+  pub bool-and-sound : (α : Valuation) (a b r : ℕ) → Sound β σ α (bool-and a b r)
+  bool-and-sound α a b r f = bool-and-exact a b r α f .0
+
+  pub bool-and-complete : (a b r : ℕ) → Complete β σ (bool-and a b r)
+  bool-and-complete a b r = complete (bool-and-exact a b r)
+
+  pub bool-and-filled : (a b r : ℕ) → Filled β σ (bool-and a b r)
+  unfolding rule pick
+  bool-and-filled a b r = refl
+
+  -- ---- 19 bool_or: one of them is 1 where their sum is at least 1
+
+  says-either : (a b : ℕ) → Bit (σ a) → Bit (σ b) → Says (on σ a || on σ b) (+1 ⊑ σ a ⊕ σ b)
+  unfolding on
+  says-either a b s t =
+      says-as (says-or (says-equal (σ a) +1) (says-equal (σ b) +1))
+      (enough (σ a) s (σ b) t, λ h. bit-case s (λ e. inr (other (σ a) (σ b) e (in-bit (σ b) t) h)) (λ e. inl e))
+    where
+      enough : (x : ℤ) → Bit x → (y : ℤ) → Bit y → (x ≡ +1) ⊎ (y ≡ +1) → +1 ⊑ x ⊕ y
+      enough = simp bits (simp linear (omega arith))
+
+      other : (x y : ℤ) → x ≡ +0 → In bit y → +1 ⊑ x ⊕ y → y ≡ +1
+      other = simp linear (omega arith)
+
+  or-rows : (r : ℤ) → Bit r → (x y : ℤ) → In bit x → In bit y →
+      Good (rule β (bool-or 0 1 2)) (value (x ∷ y ∷ r ∷ [])) (value []) ↔ Reified r (+1 ⊑ x ⊕ y)
+  unfolding rule value
+  or-rows = simp bits (simp linear (omega arith))
+
+  bool-or-exact : (a b r : ℕ) → Exact β σ (bool-or a b r)
+  unfolding rule meaning booleanArguments value
+  bool-or-exact a b r α f =
+      let s = f .zero-one .0 in
+      let t = f .zero-one .1 .0 in
+      agree (says-reified σ r (says-either a b s t)) (or-rows (σ r) (f .zero-one .1 .1 .0) (σ a) (σ b) (in-bit (σ a) s) (in-bit (σ b) t))
+
+  pub bool-or-sound : (α : Valuation) (a b r : ℕ) → Sound β σ α (bool-or a b r)
+  bool-or-sound α a b r f = bool-or-exact a b r α f .0
+
+  pub bool-or-complete : (a b r : ℕ) → Complete β σ (bool-or a b r)
+  bool-or-complete a b r = complete (bool-or-exact a b r)
+
+  pub bool-or-filled : (a b r : ℕ) → Filled β σ (bool-or a b r)
+  unfolding rule pick
+  bool-or-filled a b r = refl
+
+  -- ---- 20 bool_xor
+
+  pub bool-xor-sound : (α : Valuation) (a b r : ℕ) → Sound β σ α (bool-xor a b r)
+  unfolding rule exclusiveOr meaning booleanArguments value
+  bool-xor-sound α a b r f g =
+      says-reified σ r (says-not (says-equal (σ a) (σ b))) .1
+      (rows (σ a) (f .zero-one .0) (σ b) (f .zero-one .1 .0) (σ r) (f .zero-one .1 .1 .0) (α 0) (α 1) g)
+    where
+      rows : (x : ℤ) → Bit x → (y : ℤ) → Bit y → (r : ℤ) → Bit r → (u v : ℤ) →
+          Good (exclusiveOr β 0 1 2) (value (x ∷ y ∷ r ∷ [])) (value (u ∷ v ∷ [])) → Reified r (¬ (x ≡ y))
+      rows = simp bits (simp linear (omega arith))
+
+  pub bool-xor-complete : (a b r : ℕ) → Complete β σ (bool-xor a b r)
+  unfolding rule exclusiveOr meaning booleanArguments pick value
+  bool-xor-complete a b r f m rest =
+      let s = f .zero-one .0 in
+      let t = f .zero-one .1 .0 in
+      let w = f .zero-one .1 .1 .0 in (
+        (kept (σ a) s (σ r) w, (kept (σ b) t (σ r) w, tt)),
+        (refl, (refl, rows (σ a) s (σ b) t (σ r) w (says-reified σ r (says-not (says-equal (σ a) (σ b))) .0 m))),
+      )
+    where
+      kept : (x : ℤ) → Bit x → (r : ℤ) → Bit r → In bit (r ⊗ x)
+      kept = simp bits (simp linear (omega arith))
+
+      rows : (x : ℤ) → Bit x → (y : ℤ) → Bit y → (r : ℤ) → Bit r → Reified r (¬ (x ≡ y)) →
+          let rows : List (Row ℕ) = sum=0 (+1 · 0 ∷ -1 · 3 ∷ -1 · 1 ∷ +1 · 4 ∷ []) +0 ∷ sum=0 (+1 · 3 ∷ +1 · 4 ∷ -1 · 2 ∷ []) +0 ∷ [] in
+          All (Sat (value (x ∷ y ∷ r ∷ (r ⊗ x) ∷ (r ⊗ y) ∷ []))) rows
+      rows = simp bits (simp (linear, not-not) (omega arith))
+
+  pub bool-xor-filled : (a b r : ℕ) → Filled β σ (bool-xor a b r)
+  unfolding rule exclusiveOr pick
+  bool-xor-filled a b r = refl

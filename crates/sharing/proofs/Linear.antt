@@ -1,0 +1,216 @@
+-- Codes 10 to 15: Σ as×bs compared with a number. 12 to 15 go through x = Σ − c, compared with 0; 14 is 13 with the terms a − b.
+use mathlib.Core.Path.{_≡_, refl}
+use mathlib.Core.Logic.{_⊎_, _↔_}
+use mathlib.Core.Bool.{Bool, true}
+use mathlib.Core.List.{List, [], _∷_, _++_}
+use Prim.Native.Nat.{ℕ}
+use native.Mathlib.Omega.{arith}
+use lib.IntN.{ℤ}
+use lib.Signed.{leZ}
+use Rattle.integers.specs.Number.{_⊖_, neg, minZ, maxZ, absZ, _==_, +0, +1, +2, -1, -2}
+use Rattle.integers.specs.Bounds.{_to_}
+use Rattle.integers.specs.Terms.{Valuation, Term, _·_, sum, value}
+use Rattle.integers.specs.declared.Bounds.{Bounds}
+use Rattle.integers.proofs.Linear.{_⊑_, rep, linear, from₁, from₂}
+use Rattle.integers.proofs.Bits.{Bit, bits, Reified}
+use Rattle.integers.proofs.Tests.{Says, In, All, says-le, says-equal, says-not}
+use Rattle.models.specs.Builtin.{int-lin-eq, int-lin-le, int-lin-ne, int-lin-eq-reif, int-eq-reif, int-lin-le-reif}
+use Rattle.models.specs.Meaning.{meaning, on, _iff_}
+use Rattle.models.proofs.Arguments.{variablesIn, integerArguments, booleanArguments}
+use Rattle.rowsystems.specs.Row.{Row, sum≤0}
+use Rattle.rules.specs.Parts.{L, U}
+use Rattle.rules.specs.Rule.{rule, signed, linNotEqual, linEqualReified, linLessEqualReified}
+use Rattle.rules.specs.Pick.{pick, signPick, signedPick}
+use Rattle.sharing.proofs.Good.{Good, Keeps, Sat}
+use Rattle.sharing.proofs.Basics.{Sound, Complete, Filled, Exact, complete, agree, says-as, says-reified}
+use Rattle.sharing.proofs.Arithmetic.{bit-product, sign-product, sign-kept}
+use Rattle.sharing.proofs.Sums.{dot-sources-only, linked-row, sum-kept}
+
+-- ---- comparisons with c are comparisons of Σ − c with 0
+
+says-zero : (s c : ℤ) → Says (s == c) (s ⊖ c ≡ +0)
+says-zero s c = says-as (says-equal s c) (shifted s c)
+  where
+    shifted : (s c : ℤ) → (s ≡ c) ↔ (s ⊖ c ≡ +0)
+    shifted = simp linear (omega arith)
+
+says-not-above-zero : (s c : ℤ) → Says (leZ s c) (s ⊖ c ⊑ +0)
+says-not-above-zero s c = says-as (says-le s c) (shifted s c)
+  where
+    shifted : (s c : ℤ) → (s ⊑ c) ↔ (s ⊖ c ⊑ +0)
+    shifted = simp linear (omega arith)
+
+-- ---- 12 to 14: x in L..U, b, z in Z(x)
+
+-- what is picked keeps its bounds
+signed-kept : (β : ℕ → Bounds) (σ : Valuation) (ts : List (Term ℕ)) (c : ℤ) → All (λ v. In (β v) (σ v)) (variablesIn ts) →
+    (rest : List ℤ) → Keeps (signed β ts c) (value (signedPick (sum σ ts ⊖ c) ++ rest))
+unfolding signed signedPick value
+signed-kept β σ ts c h rest = let k = sum-kept β σ ts c h in (k, sign-kept (L β ts c to U β ts c) (sum σ ts ⊖ c) k rest)
+
+-- ---- 13, 14
+
+-- the two rows after the product, where W is at least |x|: they give the meaning for both values of b, and it gives them for the b that is picked
+eq-reif-rows : (r : ℤ) → Bit r → (x z W : ℤ) → In (neg W to W) x → (z ≡ +0) ⊎ (z ≡ x) →
+    let rows : List (Row ℕ) = sum≤0 (+1 · 0 ∷ -2 · 1 ∷ W · 2 ∷ []) (neg W) ∷ sum≤0 (-1 · 0 ∷ +2 · 1 ∷ -1 · 2 ∷ []) +1 ∷ [] in
+    let R = All (Sat (value (x ∷ z ∷ r ∷ []))) rows in
+    (R → Reified r (x ≡ +0)) × (z ≡ minZ +0 x → Reified r (x ≡ +0) → R)
+unfolding value
+eq-reif-rows = simp bits (simp linear (omega arith))
+
+-- W = max(|L|,|U|) is at least |x|
+in-widest : (l u x : ℤ) → In (l to u) x → let W = maxZ (absZ l) (absZ u) in In (neg W to W) x
+in-widest = simp linear (omega arith)
+
+-- t is the test of the builtin: Σ = c in 13, a = b in 14
+module _ (β : ℕ → Bounds) (σ : Valuation) (ts : List (Term ℕ)) (c : ℤ) (r : ℕ) (t : Bool) (s : Says t (sum σ ts ⊖ c ≡ +0)) (w : Bit (σ r)) where
+  eq-reified-sound : (α : Valuation) → Good (linEqualReified β ts c r) σ α → (on σ r iff t) ≡ true
+  unfolding linEqualReified signed value
+  eq-reified-sound α g =
+      says-reified σ r s .1
+      (rw (linked-row σ α β ts c .0 (g .1 .0)) at
+      (eq-reif-rows (σ r) w (α 0) (α 2) _ (in-widest _ _ _ (g .0 .0)) (bit-product (α 1) (α 0) (α 2) (g .0 .1 .0) (g .1 .1 .0)) .0 (g .1 .1 .1)))
+
+  eq-reified-complete : All (λ v. In (β v) (σ v)) (variablesIn ts) → (on σ r iff t) ≡ true → (rest : List ℤ) →
+      Good (linEqualReified β ts c r) σ (value (signedPick (sum σ ts ⊖ c) ++ rest))
+  unfolding linEqualReified signed signedPick signPick value
+  eq-reified-complete h m rest =
+      let k = signed-kept β σ ts c h rest in (
+        k,
+        (
+          linked-row σ (value (signedPick (sum σ ts ⊖ c) ++ rest)) β ts c .1 refl,
+          (
+            refl,
+            eq-reif-rows (σ r) w (sum σ ts ⊖ c) _ _ (in-widest _ _ _ (k .0)) (bit-product _ _ _ (k .1 .0) refl) .1
+                (sign-product (sum σ ts ⊖ c)) (says-reified σ r s .0 m),
+          ),
+        ),
+      )
+
+-- ---- 15
+
+-- the two rows after the first
+le-reif-rows : (r : ℤ) → Bit r → (x l u : ℤ) → In (l to u) x →
+    let rows : List (Row ℕ) = sum≤0 (+1 · 0 ∷ u · 1 ∷ []) (neg u) ∷ sum≤0 (-1 · 0 ∷ (l ⊖ +1) · 1 ∷ []) +1 ∷ [] in
+    All (Sat (value (x ∷ r ∷ []))) rows ↔ Reified r (x ⊑ +0)
+unfolding value
+le-reif-rows = simp bits (simp linear (omega arith))
+
+module _ (β : ℕ → Bounds) (σ : Valuation) where
+  -- ---- 10 int_lin_eq, 11 int_lin_le
+
+  int-lin-eq-exact : (ts : List (Term ℕ)) (c : ℤ) → Exact β σ (int-lin-eq ts c)
+  unfolding rule meaning
+  int-lin-eq-exact ts c α f =
+      agree (says-equal (sum σ ts) c) (rw (dot-sources-only σ α ts, rep (sum σ ts), rep c) (simp linear (omega arith)))
+
+  pub int-lin-eq-sound : (α : Valuation) (asbs : List (Term ℕ)) (c : ℤ) → Sound β σ α (int-lin-eq asbs c)
+  int-lin-eq-sound α ts c f = int-lin-eq-exact ts c α f .0
+
+  pub int-lin-eq-complete : (asbs : List (Term ℕ)) (c : ℤ) → Complete β σ (int-lin-eq asbs c)
+  int-lin-eq-complete ts c = complete (int-lin-eq-exact ts c)
+
+  pub int-lin-eq-filled : (asbs : List (Term ℕ)) (c : ℤ) → Filled β σ (int-lin-eq asbs c)
+  unfolding rule pick
+  int-lin-eq-filled ts c = refl
+
+  int-lin-le-exact : (ts : List (Term ℕ)) (c : ℤ) → Exact β σ (int-lin-le ts c)
+  unfolding rule meaning
+  int-lin-le-exact ts c α f =
+      agree (says-le (sum σ ts) c) (rw (dot-sources-only σ α ts, rep (sum σ ts), rep c) (simp linear (omega arith)))
+
+  pub int-lin-le-sound : (α : Valuation) (asbs : List (Term ℕ)) (c : ℤ) → Sound β σ α (int-lin-le asbs c)
+  int-lin-le-sound α ts c f = int-lin-le-exact ts c α f .0
+
+  pub int-lin-le-complete : (asbs : List (Term ℕ)) (c : ℤ) → Complete β σ (int-lin-le asbs c)
+  int-lin-le-complete ts c = complete (int-lin-le-exact ts c)
+
+  pub int-lin-le-filled : (asbs : List (Term ℕ)) (c : ℤ) → Filled β σ (int-lin-le asbs c)
+  unfolding rule pick
+  int-lin-le-filled ts c = refl
+
+  -- ---- 12 int_lin_ne
+
+  pub int-lin-ne-sound : (α : Valuation) (asbs : List (Term ℕ)) (c : ℤ) → Sound β σ α (int-lin-ne asbs c)
+  unfolding rule linNotEqual signed meaning
+  int-lin-ne-sound α ts c f g =
+      let p = bit-product (α 1) (α 0) (α 2) (g .0 .1 .0) (g .1 .1 .0) in
+      let n : ¬ (α 0 ≡ +0) = from₂ p (g .1 .1 .1 .0) (rw (rep (α 0), rep (α 2)) (simp linear (omega arith))) in
+      says-not (says-zero (sum σ ts) c) .1 (rw (linked-row σ α β ts c .0 (g .1 .0)) at n)
+
+  pub int-lin-ne-complete : (asbs : List (Term ℕ)) (c : ℤ) → Complete β σ (int-lin-ne asbs c)
+  unfolding rule linNotEqual meaning integerArguments pick signedPick signPick value
+  int-lin-ne-complete ts c f m rest =
+      let x = sum σ ts ⊖ c in (
+        signed-kept β σ ts c (f .kept) rest,
+        (
+          linked-row σ (value (signedPick x ++ rest)) β ts c .1 refl,
+          (
+            refl,
+            (from₁ (says-not (says-zero (sum σ ts) c) .0 m) (rw (sign-product x, rep x) (simp linear (omega arith))), tt),
+          ),
+        ),
+      )
+
+  pub int-lin-ne-filled : (asbs : List (Term ℕ)) (c : ℤ) → Filled β σ (int-lin-ne asbs c)
+  unfolding rule linNotEqual signed pick signedPick signPick
+  int-lin-ne-filled ts c = refl
+
+  -- ---- 13 int_lin_eq_reif
+
+  pub int-lin-eq-reif-sound : (α : Valuation) (asbs : List (Term ℕ)) (c : ℤ) (r : ℕ) → Sound β σ α (int-lin-eq-reif asbs c r)
+  unfolding rule meaning booleanArguments
+  int-lin-eq-reif-sound α ts c r f = eq-reified-sound β σ ts c r _ (says-zero (sum σ ts) c) (f .zero-one .0) α
+
+  pub int-lin-eq-reif-complete : (asbs : List (Term ℕ)) (c : ℤ) (r : ℕ) → Complete β σ (int-lin-eq-reif asbs c r)
+  unfolding rule meaning integerArguments booleanArguments pick
+  int-lin-eq-reif-complete ts c r f = eq-reified-complete β σ ts c r _ (says-zero (sum σ ts) c) (f .zero-one .0) (f .kept)
+
+  pub int-lin-eq-reif-filled : (asbs : List (Term ℕ)) (c : ℤ) (r : ℕ) → Filled β σ (int-lin-eq-reif asbs c r)
+  unfolding rule linEqualReified signed pick signedPick signPick
+  int-lin-eq-reif-filled ts c r = refl
+
+  -- ---- 14 int_eq_reif
+
+  abbrev difference : ℕ → ℕ → List (Term ℕ)
+  difference a b = +1 · a ∷ -1 · b ∷ []
+
+  says-difference : (a b : ℕ) → Says (σ a == σ b) (sum σ (difference a b) ⊖ +0 ≡ +0)
+  unfolding sum
+  says-difference a b = says-as (says-equal (σ a) (σ b)) (rw (rep (σ a), rep (σ b)) (simp linear (omega arith)))
+
+  pub int-eq-reif-sound : (α : Valuation) (a b r : ℕ) → Sound β σ α (int-eq-reif a b r)
+  unfolding rule meaning booleanArguments
+  int-eq-reif-sound α a b r f = eq-reified-sound β σ (difference a b) +0 r _ (says-difference a b) (f .zero-one .0) α
+
+  pub int-eq-reif-complete : (a b r : ℕ) → Complete β σ (int-eq-reif a b r)
+  unfolding rule meaning integerArguments booleanArguments pick
+  int-eq-reif-complete a b r f = eq-reified-complete β σ (difference a b) +0 r _ (says-difference a b) (f .zero-one .0) (f .kept)
+
+  pub int-eq-reif-filled : (a b r : ℕ) → Filled β σ (int-eq-reif a b r)
+  unfolding rule linEqualReified signed pick signedPick signPick
+  int-eq-reif-filled a b r = refl
+
+  -- ---- 15 int_lin_le_reif
+
+  pub int-lin-le-reif-sound : (α : Valuation) (asbs : List (Term ℕ)) (c : ℤ) (r : ℕ) → Sound β σ α (int-lin-le-reif asbs c r)
+  unfolding rule linLessEqualReified meaning booleanArguments value
+  int-lin-le-reif-sound α ts c r f g =
+      says-reified σ r (says-not-above-zero (sum σ ts) c) .1
+      (rw (linked-row σ α β ts c .0 (g .1 .0)) at (le-reif-rows (σ r) (f .zero-one .0) (α 0) _ _ (g .0 .0) .0 (g .1 .1)))
+
+  pub int-lin-le-reif-complete : (asbs : List (Term ℕ)) (c : ℤ) (r : ℕ) → Complete β σ (int-lin-le-reif asbs c r)
+  unfolding rule linLessEqualReified meaning integerArguments booleanArguments pick value
+  int-lin-le-reif-complete ts c r f m rest =
+      let x = sum σ ts ⊖ c in
+      let k = sum-kept β σ ts c (f .kept) in (
+        (k, tt),
+        (
+          linked-row σ (value (x ∷ rest)) β ts c .1 refl,
+          le-reif-rows (σ r) (f .zero-one .0) x _ _ k .1 (says-reified σ r (says-not-above-zero (sum σ ts) c) .0 m),
+        ),
+      )
+
+  pub int-lin-le-reif-filled : (asbs : List (Term ℕ)) (c : ℤ) (r : ℕ) → Filled β σ (int-lin-le-reif asbs c r)
+  unfolding rule linLessEqualReified pick
+  int-lin-le-reif-filled ts c r = refl
