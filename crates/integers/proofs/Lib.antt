@@ -3,4 +3,5 @@ pub mod Linear
 pub mod Bits
 pub mod Product
 pub mod Tests
+pub mod Lists
 pub mod Fits

@@ -75,17 +75,6 @@ not-above-row ρ x y = rw (rep (ρ x), rep (ρ y)) (simp linear (omega arith))
 pub one-row : {A S : Type 0} → S ↔ A → (Unit {0} × (S × Unit {0})) ↔ A
 one-row l = (λ g. l .0 (g .1 .0), λ a. (tt, (l .1 a, tt)))
 
--- ---- all of a list
-
-pub all-append : {A : Type 0} (P : A → Type 0) (xs ys : List A) → All P (xs ++ ys) ↔ (All P xs × All P ys)
-all-append P [] ys = (λ h. (tt, h), λ h. h .1)
-all-append P (x ∷ xs) ys = let r = all-append P xs ys in (λ h. ((h .0, r .0 (h .1) .0), r .0 (h .1) .1), λ h. (h .0 .0, r .1 (h .0 .1, h .1)))
-
-pub all-map : {A B : Type 0} (f : A → B) (P : B → Type 0) (Q : A → Type 0) → ((x : A) → P (f x) ↔ Q x) → (xs : List A) →
-    All P (map f xs) ↔ All Q xs
-all-map f P Q h [] = (λ a. tt, λ a. tt)
-all-map f P Q h (x ∷ xs) = let r = all-map f P Q h xs in (λ a. (h x .0 (a .0), r .0 (a .1)), λ a. (h x .1 (a .0), r .1 (a .1)))
-
 -- ---- values 0 and 1
 
 pub in-bit : (x : ℤ) → Bit x → In bit x

@@ -15,6 +15,7 @@ use Rattle.integers.specs.Terms.{Valuation, Term, _·_}
 use Rattle.integers.specs.declared.Bounds.{Bounds}
 use Rattle.integers.proofs.Linear.{_⊑_, linear, arithZ, from₁}
 use Rattle.integers.proofs.Bits.{Bit, b0, b1, Reified, reified-0, reified-1, bit-case}
+use Rattle.integers.proofs.Lists.{all-append, all-map}
 use Rattle.integers.proofs.Tests.{Says, All, says-or, false-true}
 use Rattle.models.specs.Builtin.{bool-clause, array-bool-and, array-bool-xor}
 use Rattle.models.specs.Meaning.{meaning, on, off}
@@ -24,7 +25,7 @@ use Rattle.rules.specs.Parts.{_─_≤0, each}
 use Rattle.rules.specs.Rule.{rule}
 use Rattle.rules.specs.Pick.{pick}
 use Rattle.sharing.proofs.Good.{Sat, dot, see}
-use Rattle.sharing.proofs.Basics.{Sound, Complete, Filled, Exact, complete, agree, says-as, says-reified, not-above-row, one-row, in-bit, all-append, all-map}
+use Rattle.sharing.proofs.Basics.{Sound, Complete, Filled, Exact, complete, agree, says-as, says-reified, not-above-row, one-row, in-bit}
 
 -- ---- how many elements pass a test
 

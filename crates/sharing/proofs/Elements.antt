@@ -12,6 +12,7 @@ use Rattle.integers.specs.Bounds.{_to_, values}
 use Rattle.integers.specs.Terms.{Valuation, value}
 use Rattle.integers.specs.declared.Bounds.{Bounds}
 use Rattle.integers.proofs.Linear.{_⊑_, linear}
+use Rattle.integers.proofs.Lists.{all-append, all-members}
 use Rattle.integers.proofs.Tests.{Says, says-le, says-equal, says-and, In, All, Any, Member, false-true}
 use Rattle.models.specs.Builtin.{array-int-element, array-var-int-element}
 use Rattle.models.specs.Meaning.{meaning, element}
@@ -22,8 +23,8 @@ use Rattle.rules.specs.Pick.{pick}
 use Rattle.sharing.proofs.Good.{Good, Sat, see}
 use Rattle.sharing.proofs.Fits.{Fits}
 use Rattle.sharing.proofs.OneHot.{chosen-one, chosen-at, one-hot-sound, one-hot-complete, chosen-value, picked-value, bits-filled}
-use Rattle.sharing.proofs.Members.{all-members, member-passes, values-member, counts}
-use Rattle.sharing.proofs.Gates.{all-append, gates-at, gates-sound, gates-complete, gates-filled}
+use Rattle.sharing.proofs.Members.{member-passes, values-member, counts}
+use Rattle.sharing.proofs.Gates.{gates-at, gates-sound, gates-complete, gates-filled}
 
 -- ---- an element by its place
 

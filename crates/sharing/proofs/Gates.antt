@@ -22,10 +22,6 @@ use Rattle.sharing.proofs.OneHot.{bitSum, From, from-zero, from-head, f
 
 -- ---- lists in two parts
 
-pub all-append : {A : Type 0} (P : A → Type 0) (xs ys : List A) → All P (xs ++ ys) ↔ (All P xs × All P ys)
-all-append P [] ys = (λ h. (tt, h), λ h. h .1)
-all-append P (x ∷ xs) ys = let r = all-append P xs ys in (λ h. ((h .0, r .0 (h .1) .0), r .0 (h .1) .1), λ h. (h .0 .0, r .1 (h .0 .1, h .1)))
-
 pub keeps-append : (Bs Cs : List Bounds) (α γ : Valuation) → From (length Bs) α γ → Keeps (Bs ++ Cs) α ↔ (Keeps Bs α × Keeps Cs γ)
 keeps-append [] Cs α γ h =
     let e : α ≡ γ = fun-ext (λ j. let z : j ≡ 0 + j = omega arith in ap α z ∙ h j) in

@@ -16,3 +16,7 @@ pub mod Maximum
 pub mod Sets
 pub mod Formed
 pub mod Numbering
+pub mod Codes
+pub mod Assembly
+pub mod Satisfied
+pub mod Shared

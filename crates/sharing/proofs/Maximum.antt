@@ -3,16 +3,16 @@ use mathlib.Core.Path.{_≡_, refl, sym, ap, _∙_}
 use mathlib.Core.Logic.{_↔_}
 use mathlib.Core.Bool.{Bool, true, _&&_, _||_}
 use mathlib.Core.List.{List, [], _∷_, _++_, map}
-use native.Mathlib.Omega.{arith}
 use Prim.Native.Nat.{ℕ}
-use lib.IntN.{ℤ, pos, negsuc}
+use lib.IntN.{ℤ}
 use lib.Signed.{leZ}
 use lib.ListN.{length}
-use Rattle.integers.specs.Number.{_⊕_, _⊗_, _==_}
+use Rattle.integers.specs.Number.{_==_}
 use Rattle.integers.specs.Lists.{all, any}
 use Rattle.integers.specs.Terms.{Valuation, value}
 use Rattle.integers.specs.declared.Bounds.{Bounds}
-use Rattle.integers.proofs.Linear.{_⊑_, linear}
+use Rattle.integers.proofs.Linear.{_⊑_}
+use Rattle.integers.proofs.Lists.{all-append, all-map, any-map}
 use Rattle.integers.proofs.Tests.{Says, says-le, says-equal, says-and, says-any, says-all, All, Any}
 use Rattle.models.specs.Builtin.{array-int-maximum}
 use Rattle.models.specs.Meaning.{meaning, maximum}
@@ -24,9 +24,9 @@ use Rattle.rules.specs.Rule.{rule, largest}
 use Rattle.rules.specs.Pick.{pick}
 use Rattle.sharing.proofs.Good.{Good, Sat, see}
 use Rattle.sharing.proofs.Fits.{Fits}
+use Rattle.sharing.proofs.Basics.{not-above-row}
 use Rattle.sharing.proofs.OneHot.{chosen-one}
-use Rattle.sharing.proofs.Members.{any-map, all-map}
-use Rattle.sharing.proofs.Gates.{all-append, gates-at, gates-sound, gates-complete, gates-filled}
+use Rattle.sharing.proofs.Gates.{gates-at, gates-sound, gates-complete, gates-filled}
 
 -- a test of values is a test of variables
 any-values : {A B : Type 0} (t : B → Bool) (f : A → B) (xs : List A) → any t (map f xs) ≡ any (λ x. t (f x)) xs
@@ -52,11 +52,9 @@ below : List ℕ → ℕ → List (Row Ref)
 below xs m = map (λ x. source x ─ source m ≤0) xs
 
 below-law : (xs : List ℕ) (m : ℕ) (σ α : Valuation) → All (Sat (see σ α)) (below xs m) ↔ All (λ x. σ x ⊑ σ m) xs
-unfolding below _─_≤0
-below-law xs m σ α = all-map (Sat (see σ α)) (λ x. σ x ⊑ σ m) (λ x. source x ─ source m ≤0) (λ x. step (σ x) (σ m)) xs
-  where
-    step : (x m : ℤ) → (pos 1 ⊗ x ⊕ (negsuc 0 ⊗ m ⊕ pos 0) ⊕ pos 0 ⊑ pos 0) ↔ (x ⊑ m)
-    step = simp linear (omega arith)
+unfolding below
+below-law xs m σ α =
+    all-map (λ x. source x ─ source m ≤0) (Sat (see σ α)) (λ x. σ x ⊑ σ m) (λ x. not-above-row (see σ α) (source x) (source m)) xs
 
 pub array-int-maximum-sound : (β : ℕ → Bounds) (σ α : Valuation) (m : ℕ) (xs : List ℕ) → Fits β σ (array-int-maximum m xs) →
     Good (rule β (array-int-maximum m xs)) σ α → meaning σ (array-int-maximum m xs) ≡ true

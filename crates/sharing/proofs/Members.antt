@@ -14,6 +14,7 @@ use Rattle.integers.specs.Lists.{listOf, any}
 use Rattle.integers.specs.Bounds.{_to_, width, values}
 use Rattle.integers.specs.declared.Bounds.{Bounds}
 use Rattle.integers.proofs.Linear.{_⊑_, _⊏_, diff, linear, arithZ, diff-pos, diff-negsuc, diff-≡, dec⊑}
+use Rattle.integers.proofs.Lists.{any-map, all-members}
 use Rattle.integers.proofs.Tests.{Says, false-true, says-le, says-lt, says-and, says-equal, says-any, In, All, Any, Member}
 use Rattle.models.specs.Meaning.{member}
 use Rattle.rules.specs.Parts.{leastFrom, rising, members}
@@ -32,20 +33,6 @@ diff-count a b = of-diff a b (diff a b) refl
 pub ruleset counts = (linear, diff-count)
 
 -- ---- lists
-
-pub any-map : {A : Type 0} (P Q : A → Type 0) → ((x : A) → P x → Q x) → (xs : List A) → Any P xs → Any Q xs
-any-map P Q f (x ∷ xs) (inl p) = inl (f x p)
-any-map P Q f (x ∷ xs) (inr m) = inr (any-map P Q f xs m)
-
-pub all-map : {A B : Type 0} (P : B → Type 0) (Q : A → Type 0) (f : A → B) → ((x : A) → P (f x) ↔ Q x) → (xs : List A) → All P (map f xs) ↔ All Q xs
-all-map P Q f h [] = (λ u. u, λ u. u)
-all-map P Q f h (x ∷ xs) = let r = all-map P Q f h xs in (λ k. (h x .0 (k .0), r .0 (k .1)), λ k. (h x .1 (k .0), r .1 (k .1)))
-
-pub all-members : {A : Type 0} (P : A → Type 0) (xs : List A) → All P xs ↔ ((x : A) → Member x xs → P x)
-all-members P [] = (λ h x m. absurd m, λ f. tt)
-all-members P (y ∷ ys) =
-    let r = all-members P ys in
-    (λ h x m. elim m [ inl e ↦ rw e (h .0) | inr n ↦ r .0 (h .1) x n ], λ f. (f y (inl refl), r .1 (λ x m. f x (inr m))))
 
 -- a number of the list passes the test for it
 pub member-passes : (v : ℤ) (xs : List ℤ) → Member v xs → Any (λ x. (x == v) ≡ true) xs

@@ -1,0 +1,37 @@
+-- Laws of `All` and `Any` over lists.
+use mathlib.Core.Path.{_≡_, refl, subst, sym}
+use mathlib.Core.Logic.{_⊎_, inl, inr, _↔_}
+use mathlib.Core.List.{List, [], _∷_, _++_, map}
+use Rattle.integers.proofs.Tests.{All, Any, Member}
+
+pub all-append : {A : Type 0} (P : A → Type 0) (xs ys : List A) → All P (xs ++ ys) ↔ (All P xs × All P ys)
+all-append P [] ys = (λ h. (tt, h), λ h. h .1)
+all-append P (x ∷ xs) ys =
+    let r = all-append P xs ys in
+    (λ h. ((h .0, r .0 (h .1) .0), r .0 (h .1) .1), λ h. (h .0 .0, r .1 (h .0 .1, h .1)))
+
+pub all-map : {A B : Type 0} (f : A → B) (P : B → Type 0) (Q : A → Type 0) → ((x : A) → P (f x) ↔ Q x) → (xs : List A) →
+    All P (map f xs) ↔ All Q xs
+all-map f P Q h [] = (λ a. tt, λ a. tt)
+all-map f P Q h (x ∷ xs) = let r = all-map f P Q h xs in (λ a. (h x .0 (a .0), r .0 (a .1)), λ a. (h x .1 (a .0), r .1 (a .1)))
+
+pub all-implies : {A : Type 0} (P Q : A → Type 0) → ((x : A) → P x → Q x) → (xs : List A) → All P xs → All Q xs
+all-implies P Q f [] h = tt
+all-implies P Q f (x ∷ xs) h = (f x (h .0), all-implies P Q f xs (h .1))
+
+pub all-both : {A : Type 0} (P Q : A → Type 0) (xs : List A) → All P xs → All Q xs → All (λ x. P x × Q x) xs
+all-both P Q [] h k = tt
+all-both P Q (x ∷ xs) h k = ((h .0, k .0), all-both P Q xs (h .1) (k .1))
+
+pub any-map : {A : Type 0} (P Q : A → Type 0) → ((x : A) → P x → Q x) → (xs : List A) → Any P xs → Any Q xs
+any-map P Q f [] h = h
+any-map P Q f (x ∷ xs) (inl p) = inl (f x p)
+any-map P Q f (x ∷ xs) (inr m) = inr (any-map P Q f xs m)
+
+pub all-members : {A : Type 0} (P : A → Type 0) (xs : List A) → All P xs ↔ ((x : A) → Member x xs → P x)
+all-members P [] = (λ h x m. absurd m, λ f. tt)
+all-members {A} P (y ∷ ys) = let r = all-members P ys in (λ h x m. at x h m (r .0 (h .1) x), λ f. (f y (inl refl), r .1 (λ x m. f x (inr m))))
+  where
+    at : (x : A) → P y × All P ys → (x ≡ y) ⊎ Member x ys → (Member x ys → P x) → P x
+    at x h (inl e) k = subst P (sym e) (h .0)
+    at x h (inr m) k = k m

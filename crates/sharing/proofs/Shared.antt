@@ -1,0 +1,112 @@
+-- A list satisfies a model exactly where some auxiliaries make it satisfy rows that are the model's blocks, numbered on; and the picks do.
+use mathlib.Core.Path.{_≡_, refl, sym, ap, ap₂, _∙_, subst}
+use mathlib.Core.Logic.{_↔_}
+use mathlib.Core.Bool.{Bool, true}
+use mathlib.Core.List.{List, [], _∷_, _++_, flatMap, append-nil}
+use Prim.Native.Nat.{ℕ, _+_, _<_}
+use native.Mathlib.Omega.{arith}
+use lib.IntN.{ℤ, pos}
+use lib.ListN.{length, getD, length-append, List·getD-append}
+use Rattle.integers.specs.Bounds.{bit, boundsIn}
+use Rattle.integers.specs.Terms.{Valuation, value}
+use Rattle.integers.specs.declared.Bounds.{Bounds}
+use Rattle.integers.proofs.Bits.{Bit, to-bit}
+use Rattle.integers.proofs.Lists.{all-implies}
+use Rattle.integers.proofs.Tests.{Says, In, All}
+use Rattle.words.specs.Variables.{variables}
+use Rattle.models.specs.Meaning.{meaning}
+use Rattle.models.specs.Model.{Constraint, constraints, builtin}
+use Rattle.models.proofs.Arguments.{integerArguments, booleanArguments}
+use Rattle.rowsystems.specs.Row.{Row, satisfied}
+use Rattle.rowsystems.specs.RowSystem.{rows}
+use Rattle.rules.specs.Translation.{bounds, blockOf, auxiliaries, picks}
+use Rattle.sharing.specs.SharedSolutions.{SatisfiesModel, SatisfiesRows, SharedSolutions}
+use Rattle.sharing.proofs.Good.{Sat, says-satisfied, Keeps}
+use Rattle.sharing.proofs.Fits.{Fits}
+use Rattle.sharing.proofs.Formed.{Formed}
+use Rattle.sharing.proofs.Gates.{keeps-append, from-append}
+use Rattle.sharing.proofs.Numbering.{Agrees}
+use Rattle.sharing.proofs.Assembly.{auxiliariesOf, rowsFrom, picksOf, AllTrue, AllFit, picks-length, rows-sound, rows-complete}
+use Rattle.sharing.proofs.Satisfied.{keeps-bounds, keeps-agree, satisfies}
+
+-- ---- values that keep the bounds fit every builtin
+
+-- the variables of a builtin are declared, the Boolean ones with the bounds 0 and 1
+abbrev pub Typed : List Bounds → Constraint → Type 0
+Typed Vs c =
+    All (λ v. v < length Vs) (integerArguments (builtin c))
+    × All (λ v. (v < length Vs) × (boundsIn Vs v ≡ bit)) (booleanArguments (builtin c))
+
+is-bit : (B : Bounds) (x : ℤ) → B ≡ bit → In B x → Bit x
+is-bit B x e h = let k : In bit x = subst (λ C. In C x) e h in to-bit x (k .0) (k .1)
+
+fits : (Vs : List Bounds) (σ : Valuation) → Keeps Vs σ → (c : Constraint) → Typed Vs c → Fits (boundsIn Vs) σ (builtin c)
+fits Vs σ h c t =
+    let k = keeps-bounds Vs σ .0 h in
+    record {
+      kept = all-implies (λ v. v < length Vs) (λ v. In (boundsIn Vs v) (σ v)) (λ v l. k v l) (integerArguments (builtin c)) (t .0);
+      zero-one = all-implies (λ v. (v < length Vs) × (boundsIn Vs v ≡ bit)) (λ v. Bit (σ v)) (λ v l. is-bit (boundsIn Vs v) (σ v) (l .1) (k v (l .0))) (booleanArguments (builtin c)) (t .1);
+    }
+
+-- ---- the two lists one after the other
+
+agrees : (n : ℕ) (vs xs : List ℤ) → length vs ≡ n → Agrees n n (value (vs ++ xs)) (value vs) (value xs)
+unfolding value
+agrees n vs xs e = record { before = λ v h. List·getD-append vs xs (pos 0) v (subst (λ (m : ℕ). v < m) (sym e) h); after = from-append vs xs n e }
+
+module _ (Vs As : List Bounds) (vs xs : List ℤ) (e : length vs ≡ length Vs) where
+  abbrev A : Agrees (length Vs) (length Vs) (value (vs ++ xs)) (value vs) (value xs)
+  A = agrees (length Vs) vs xs e
+
+  both-kept : Keeps (Vs ++ As) (value (vs ++ xs)) ↔ (Keeps Vs (value vs) × Keeps As (value xs))
+  both-kept =
+      let k = keeps-append Vs As (value (vs ++ xs)) (value xs) (A .after) in (
+        λ h. (keeps-agree Vs (value (vs ++ xs)) (value vs) (A .before) (k .0 h .0), k .0 h .1),
+        λ h. k .1 (keeps-agree Vs (value vs) (value (vs ++ xs)) (λ v l. sym (A .before v l)) (h .0), h .1),
+      )
+
+left-length : (a b m n : ℕ) → a + b ≡ m + n → b ≡ n → a ≡ m
+left-length a b m n e f = omega arith
+
+-- ---- the theorem over the variables and rows of the row system
+
+module _ (model system : List ℕ) (typed : All (Typed (variables model)) (constraints model))
+    (formed : All (λ c. Formed (length (variables model)) (blockOf (boundsIn (variables model)) c)) (constraints model))
+    (same-variables : variables system ≡ variables model ++ auxiliariesOf (boundsIn (variables model)) (constraints model))
+    (same-rows : rows system ≡ rowsFrom (boundsIn (variables model)) (length (variables model)) (constraints model)) where
+  abbrev Vs : List Bounds
+  Vs = variables model
+
+  abbrev cs : List Constraint
+  cs = constraints model
+
+  abbrev As : List Bounds
+  As = auxiliariesOf (boundsIn Vs) cs
+
+  all-fit : (σ : Valuation) → Keeps Vs σ → AllFit (boundsIn Vs) σ cs
+  all-fit σ h = all-implies (Typed Vs) (λ c. Fits (boundsIn Vs) σ (builtin c)) (fits Vs σ h) cs typed
+
+  -- the model, and the system, as propositions
+  of-model : (vs : List ℤ) → SatisfiesModel model vs ↔ ((length vs ≡ length Vs) × Keeps Vs (value vs) × AllTrue (boundsIn Vs) (value vs) cs)
+  of-model vs = satisfies Vs (λ c. meaning (value vs) (builtin c)) (λ c. meaning (value vs) (builtin c) ≡ true) (λ c. (λ e. e, λ e. e)) cs vs
+
+  of-system : (ys : List ℤ) →
+      SatisfiesRows system ys
+      ↔ ((length ys ≡ length (Vs ++ As)) × Keeps (Vs ++ As) (value ys) × All (Sat (value ys)) (rowsFrom (boundsIn Vs) (length Vs) cs))
+  of-system ys = rw (same-variables, same-rows) (satisfies (Vs ++ As) (satisfied (value ys)) (Sat (value ys)) (says-satisfied (value ys)) (rowsFrom (boundsIn Vs) (length Vs) cs) ys)
+
+  pub picks-satisfy : (vs : List ℤ) → SatisfiesModel model vs → SatisfiesRows system (vs ++ picksOf (boundsIn Vs) (value vs) cs)
+  picks-satisfy vs s =
+      let m = of-model vs .0 s in
+      let xs = picksOf (boundsIn Vs) (value vs) cs in
+      let l = picks-length (boundsIn Vs) (value vs) cs in
+      let c = rows-complete (boundsIn Vs) (length Vs) (length Vs) cs formed (value (vs ++ (xs ++ []))) (value vs) [] (agrees (length Vs) vs (xs ++ []) (m .0)) (all-fit (value vs) (m .1)) (m .2) in
+      let d = rw (append-nil xs) at c in
+      of-system (vs ++ xs) .1 (length-append vs xs ∙ ap₂ _+_ (m .0) l ∙ sym (length-append Vs As), both-kept Vs As vs xs (m .0) .1 (m .1, d .0), d .1)
+
+  pub system-sound : (vs xs : List ℤ) → length xs ≡ length As → SatisfiesRows system (vs ++ xs) → SatisfiesModel model vs
+  system-sound vs xs l s =
+      let m = of-system (vs ++ xs) .0 s in
+      let e : length vs ≡ length Vs = left-length (length vs) (length xs) (length Vs) (length As) (sym (length-append vs xs) ∙ m .0 ∙ length-append Vs As) l in
+      let k = both-kept Vs As vs xs e .0 (m .1) in
+      of-model vs .1 (e, k .0, rows-sound (boundsIn Vs) (length Vs) (length Vs) cs formed (value (vs ++ xs)) (value vs) (value xs) (agrees (length Vs) vs xs e) (all-fit (value vs) (k .0)) (k .1) (m .2))
