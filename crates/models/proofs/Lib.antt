@@ -1,2 +1,9 @@
 -- Laws for proofs about models.
 pub mod Arguments
+pub mod Sound
+pub mod Fits
+pub mod Form
+pub mod Codes
+pub mod Typed
+pub mod Contents
+pub mod Accepted

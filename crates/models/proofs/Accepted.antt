@@ -1,0 +1,206 @@
+-- What follows from `readModel ws ≡ accepted`: few words, variables and constraints, ordered bounds in the range, arguments of the right type, known codes, and how the words split.
+-- For the callers that owe limits, and for the theorems about the row system of a model.
+use mathlib.Core.Path.{_≡_, refl, ap, _∙_}
+use mathlib.Core.Bool.{Bool, true, false}
+use mathlib.Core.List.{List, [], _∷_, _++_}
+use Prim.Native.Nat.{ℕ, zero, suc, _+_, _-_, _*_, _%_, _≤_, _<_}
+use native.Mathlib.Omega.{arith}
+use native.Mathlib.Nat.{zero-add, le-trans, mul-le-mul-left}
+use lib.Dec.{leb, ltb}
+use lib.IntN.{ℤ, pos, negsuc}
+use lib.ListN.{length, length-append}
+use borrow.Author.Tests.{ltb-true, ltb-false, le-leb, lt-leb}
+use Rattle.integers.specs.Choice.{_if_else_}
+use Rattle.integers.specs.Bounds.{bit, boundsIn}
+use Rattle.integers.specs.declared.Bounds.{Bounds}
+use Rattle.integers.proofs.Linear.{_⊑_, arithZ}
+use Rattle.integers.proofs.Tests.{All, says-and, says-le}
+use Rattle.words.specs.Word.{kind, payload, signed, inRange}
+use Rattle.words.specs.Limit as Limit
+use Rattle.words.specs.Refusal.{_at-place_, accepted, firstFault}
+use Rattle.words.specs.declared.Refusal.{Refusal}
+use Rattle.words.specs.Variables.{variables}
+use Rattle.models.specs.Builtin.{Builtin}
+use Rattle.models.specs.Shape as Shape
+use Rattle.models.specs.Model.{Constraint, constraintsFrom, constraints, builtin}
+use Rattle.models.specs.Reading.{fault, after, ended, begin, readModel}
+use Rattle.models.proofs.Arguments.{integerArguments, booleanArguments}
+use Rattle.models.proofs.Sound.{sound}
+use Rattle.models.proofs.Fits.{Named}
+use Rattle.models.proofs.Form.{Posed, end, constraint, model}
+use Rattle.models.proofs.Typed.{Typed, typed-at}
+use Rattle.models.proofs.Contents.{argumentWords, constraintWords, Fitting, Contents, contents, Sources, none, integer-source, boolean-source, start-integer, start-boolean, Matches, Parts, parts}
+
+-- ---- lists
+
+all-map : {A : Type 0} {P Q : A → Type 0} → ((x : A) → P x → Q x) → (xs : List A) → All P xs → All Q xs
+all-map f [] h = tt
+all-map f (x ∷ xs) h = (f x (h .0), all-map f xs (h .1))
+
+-- ---- bounds
+
+pub record Ordered (B : Bounds) : Type 0 where
+  pub rising : B .lower ⊑ B .upper
+  pub lower-in : inRange (B .lower) ≡ true
+  pub upper-in : inRange (B .upper) ≡ true
+
+in-range : (z : ℤ) → Limit.lowest ⊑ z → z ⊑ Limit.highest → inRange z ≡ true
+unfolding inRange
+in-range z l h = says-and (says-le Limit.lowest z) (says-le z Limit.highest) .1 (l, h)
+
+pub signed-in : (w : ℕ) → inRange (signed w) ≡ true
+unfolding signed payload
+signed-in w = go (ltb (w % 268435456) 134217728) refl
+  where
+    go : (t : Bool) → ltb (w % 268435456) 134217728 ≡ t → inRange (pos (w % 268435456) if t else negsuc (268435455 - w % 268435456)) ≡ true
+    go true e = let l : w % 268435456 < 134217728 = ltb-true _ _ e in in-range (pos (w % 268435456)) (omega arithZ) (omega arithZ)
+    go false e = let l : 134217728 ≤ w % 268435456 = ltb-false _ _ e in in-range (negsuc (268435455 - w % 268435456)) (omega arithZ) (omega arithZ)
+
+sources-ordered : {src : List ℕ} → Sources src → All Ordered (variables src)
+unfolding variables
+sources-ordered none = tt
+sources-ordered (integer-source {l} {u} {ws} k m o r) = rw (start-integer 0 l u ws k m .1) (record { rising = o; lower-in = signed-in l; upper-in = signed-in u }, sources-ordered r)
+sources-ordered (boolean-source {w} {ws} k z r) = rw (start-boolean 0 w ws k .1) (record { rising = omega arithZ; lower-in = in-range (pos 0) (omega arithZ) (omega arithZ); upper-in = in-range (pos 1) (omega arithZ) (omega arithZ) }, sources-ordered r)
+
+-- ---- types and bounds
+
+matched-length : (ts : List ℕ) (Bs : List Bounds) → Matches ts Bs → length Bs ≡ length ts
+matched-length [] [] h = refl
+matched-length [] (B ∷ Bs) h = absurd h
+matched-length (t ∷ ts) [] h = absurd h
+matched-length (t ∷ ts) (B ∷ Bs) h = ap suc (matched-length ts Bs (h .1))
+
+named-below : (ts : List ℕ) (t v : ℕ) → 1 ≤ t → Named ts t v → v < length ts
+named-below [] t v l e = absurd (omega arith)
+named-below (x ∷ ts) t zero l e = omega arith
+named-below (x ∷ ts) t (suc v) l e = omega (arith, named-below ts t v l e)
+
+named-bit : (ts : List ℕ) (Bs : List Bounds) → Matches ts Bs → (v : ℕ) → Named ts Shape.boolean v → boundsIn Bs v ≡ bit
+unfolding boundsIn
+named-bit [] Bs h v e = absurd (omega arith)
+named-bit (t ∷ ts) [] h v e = absurd h
+named-bit (t ∷ ts) (B ∷ Bs) h zero e = h .0 e
+named-bit (t ∷ ts) (B ∷ Bs) h (suc v) e = named-bit ts Bs (h .1) v e
+
+-- a builtin's variables are among those of the bounds Bs, the Boolean ones with the bounds 0 and 1
+pub record TypedIn (Bs : List Bounds) (b : Builtin) : Type 0 where
+  pub integers : All (λ v. v < length Bs) (integerArguments b)
+  pub booleans : All (λ v. (v < length Bs) × (boundsIn Bs v ≡ bit)) (booleanArguments b)
+
+typed-in : (ts : List ℕ) (Bs : List Bounds) → Matches ts Bs → (b : Builtin) → Typed ts b → TypedIn Bs b
+typed-in ts Bs m b h =
+    let e = matched-length ts Bs m in
+    record {
+      integers = all-map (λ v n. omega (arith, named-below ts 1 v (omega arith) n)) (integerArguments b) (h .0);
+      booleans = all-map (λ v n. (omega (arith, named-below ts 2 v (omega arith) n), named-bit ts Bs m v n)) (booleanArguments b) (h .1);
+    }
+
+fitting-typed : (ts : List ℕ) (c : Constraint) → Fitting ts c → Typed ts (builtin c)
+unfolding builtin
+fitting-typed ts c h = typed-at ts (c .code) (h .low) (h .high) (c .arguments) (h .fits)
+
+-- ---- the words
+
+-- the first word, if there is one, is no variable's
+abbrev pub Late : List ℕ → Type 0
+Late [] = Unit {0}
+Late (w ∷ ws) = leb (kind w) 3 ≡ false
+
+pub record Split (ws : List ℕ) : Type 0 where
+  pub src : List ℕ
+  pub rest : List ℕ
+  pub whole : ws ≡ src ++ rest
+  pub sources : Sources src
+  pub front : All (λ w. leb (kind w) 3 ≡ true) src
+  pub late : Late rest
+  pub same-variables : variables ws ≡ variables src
+  pub same-constraints : constraints ws ≡ constraintsFrom (length src) rest
+  pub counted : length src + constraintWords (constraints ws) + 1 ≡ length ws
+
+sources-front : {src : List ℕ} → Sources src → All (λ w. leb (kind w) 3 ≡ true) src
+sources-front none = tt
+sources-front (integer-source {l} {u} k m o r) = (le-leb (kind l) 3 (omega arith), (le-leb (kind u) 3 (omega arith), sources-front r))
+sources-front (boolean-source {w} k z r) = (le-leb (kind w) 3 (omega arith), sources-front r)
+
+posed-late : {ts : List ℕ} {c : ℕ} {ws : List ℕ} → Posed ts c ws → Late ws
+posed-late (end {c} {w} k) = lt-leb (kind w) 3 (omega arith)
+posed-late (constraint {c} {w} few k lo hi f l p r) = lt-leb (kind w) 3 (omega arith)
+
+-- the words of variables are what a definition finds that takes words from the front as long as their kind is at most 3
+pub longest-front : (f : List ℕ → List ℕ) → f [] ≡ [] → ((w : ℕ) (ws : List ℕ) → f (w ∷ ws) ≡ (w ∷ f ws if leb (kind w) 3 else [])) → {ws : List ℕ} (s : Split ws) → f ws ≡ s .src
+longest-front f none-of more-of {ws} s = ap f (s .whole) ∙ go (s .src) (s .rest) (s .front) (s .late)
+  where
+    go : (src rest : List ℕ) → All (λ w. leb (kind w) 3 ≡ true) src → Late rest → f (src ++ rest) ≡ src
+    go [] [] h l = none-of
+    go [] (w ∷ rest) h l = more-of w rest ∙ rw l
+    go (w ∷ src) rest h l = more-of w (src ++ rest) ∙ rw (h .0) (ap (λ vs. w ∷ vs) (go src rest (h .1) l))
+
+-- ---- sums over constraints
+
+abbrev pub total : (Constraint → ℕ) → List Constraint → ℕ
+total f [] = 0
+total f (c ∷ cs) = f c + total f cs
+
+total-le : (f : Constraint → ℕ) (a : ℕ) (cs : List Constraint) → All (λ c. f c ≤ a * (1 + argumentWords c)) cs → total f cs ≤ a * constraintWords cs
+total-le f a [] h = omega arith
+total-le f a (c ∷ cs) h = omega (arith, h .0, total-le f a cs (h .1))
+
+-- ---- accepted words
+
+module _ (ws : List ℕ) (h : readModel ws ≡ accepted) where
+  read : (length ws ≤ 8192) × (firstFault fault after ended begin 0 ws ≡ accepted)
+  unfolding readModel
+  read = go (ltb 8192 (length ws)) refl h
+    where
+      go : (t : Bool) → ltb 8192 (length ws) ≡ t → ((1 at-place 0) if t else firstFault fault after ended begin 0 ws) ≡ accepted → (length ws ≤ 8192) × (firstFault fault after ended begin 0 ws ≡ accepted)
+      go true e f = absurd (let z : _≡_ {A = ℕ} 1 0 = ap (λ (r : Refusal). r .number) f in omega arith)
+      go false e f = (ltb-false _ _ e, f)
+
+  form : Parts [] 0 ws
+  form = parts (omega arith) (model [] ws (sound ws begin 0 (read .1))) 0
+
+  inside : Contents (form .types) 0 (0 + length (form .src)) (form .rest)
+  inside = contents (omega arith) (form .after) (0 + length (form .src))
+
+  same : constraints ws ≡ constraintsFrom (0 + length (form .src)) (form .rest)
+  unfolding constraints
+  same = form .same-constraints
+
+  pub few-words : length ws ≤ 8192
+  few-words = read .0
+
+  pub few-variables : length (variables ws) ≤ 256
+  few-variables = rw (form .same-variables) (omega (arith, form .few, matched-length (form .types) (variables (form .src)) (form .matches)))
+
+  pub few-constraints : length (constraints ws) ≤ 256
+  few-constraints = rw same (omega (arith, inside .few))
+
+  pub ordered : All Ordered (variables ws)
+  ordered = rw (form .same-variables) (sources-ordered (form .sources))
+
+  -- what holds of a constraint that fits the variables' types holds of all constraints
+  each : (Q : Constraint → Type 0) → ((c : Constraint) → Fitting (form .types) c → Q c) → All Q (constraints ws)
+  each Q f = rw same (all-map f (constraintsFrom (0 + length (form .src)) (form .rest)) (inside .fitting))
+
+  pub typed : All (λ c. TypedIn (variables ws) (builtin c)) (constraints ws)
+  typed = each _ (λ c f. rw (form .same-variables) (typed-in (form .types) (variables (form .src)) (form .matches) (builtin c) (fitting-typed (form .types) c f)))
+
+  pub coded : All (λ c. (1 ≤ c .code) × (c .code ≤ 28)) (constraints ws)
+  coded = each (λ c. (1 ≤ c .code) × (c .code ≤ 28)) (λ c f. (f .low, f .high))
+
+  pub split : Split ws
+  split = record {
+    src = form .src;
+    rest = form .rest;
+    whole = form .whole;
+    sources = form .sources;
+    front = sources-front (form .sources);
+    late = posed-late (form .after);
+    same-variables = form .same-variables;
+    same-constraints = same ∙ rw zero-add;
+    counted = rw same (omega (arith, inside .counted, length-append (form .src) (form .rest), ap length (form .whole)));
+  }
+
+  -- what is at most a for each word of a constraint is in all at most a for each word of the model
+  pub bounded : (f : Constraint → ℕ) (a : ℕ) → All (λ c. f c ≤ a * (1 + argumentWords c)) (constraints ws) → total f (constraints ws) ≤ a * length ws
+  bounded f a b = le-trans (total-le f a (constraints ws) b) (mul-le-mul-left a (omega (arith, split .counted)))
