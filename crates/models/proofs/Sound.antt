@@ -64,26 +64,21 @@ module _ (w : ℕ) where
   unfolding faultNumber
   is-number e = eqb-true _ _ (not-second 0 (eqb (kind w) 6) 2 e .0)
 
+  -- of a kind k, and passing no test t for another fault
+  of-kind : (k n : ℕ) (t : Bool) → (Fault.wrongKind if not (eqb (kind w) k) else suc n if t else Fault.none) ≡ 0 → (kind w ≡ k) × (t ≡ false)
+  of-kind k n t e = let h = not-first 2 (not (eqb (kind w) k)) _ e in (eqb-true _ _ (not-false _ (h .0)), not-first n t 0 (h .1) .0)
+
   pub is-variable : (t type : ℕ) → faultVariable t type w ≡ 0 → (kind w ≡ 5) × (t ≡ type)
   unfolding faultVariable
-  is-variable t type e =
-      let h = not-first 2 (not (eqb (kind w) 5)) _ e in
-      let k = not-first 9 (not (eqb t type)) _ (h .1) in
-      (eqb-true _ _ (not-false _ (h .0)), eqb-true _ _ (not-false _ (k .0)))
+  is-variable t type e = let h = of-kind 5 9 (not (eqb t type)) e in (h .0, eqb-true _ _ (not-false _ (h .1)))
 
   pub is-length : faultLength w ≡ 0 → (kind w ≡ 6) × (payload w ≤ 32)
   unfolding faultLength
-  is-length e =
-      let h = not-first 2 (not (eqb (kind w) 6)) _ e in
-      let k = not-first 8 (ltb 32 (payload w)) _ (h .1) in
-      (eqb-true _ _ (not-false _ (h .0)), ltb-false _ _ (k .0))
+  is-length e = let h = of-kind 6 8 (ltb 32 (payload w)) e in (h .0, ltb-false _ _ (h .1))
 
   pub is-upper : (l : ℕ) → faultUpper l w ≡ 0 → (kind w ≡ 2) × (signed l ⊑ signed w)
   unfolding faultUpper
-  is-upper l e =
-      let h = not-first 2 (not (eqb (kind w) 2)) _ e in
-      let k = not-first 3 (ltZ (signed w) (signed l)) _ (h .1) in
-      (eqb-true _ _ (not-false _ (h .0)), not-below _ _ (k .0))
+  is-upper l e = let h = of-kind 2 3 (ltZ (signed w) (signed l)) e in (h .0, not-below _ _ (h .1))
 
 -- where a constraint or the end may stand, after c constraints
 pub data Head (c w : ℕ) : Type 0 where
@@ -117,12 +112,12 @@ is-start v c w e = elim (either _ (eqb (kind w) 1) _ e) [
   ]
 ]
 
--- ---- the word at a place, where the reader may not stop
+-- ---- the word at a place, where the words may not end yet
 
 abbrev pub reading : Due → List ℕ → ℕ → State
 reading d ts c = record { due = d; types = ts; constraints = c }
 
--- the reader's state after a word that starts neither a variable nor a constraint
+-- a word that starts neither a variable nor a constraint: after it only what is due has changed
 pub record Plain (w : ℕ) : Type 0 where
   pub low : 5 ≤ kind w
   pub high : kind w ≤ 7
