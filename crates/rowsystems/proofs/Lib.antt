@@ -1,0 +1,2 @@
+-- Laws for proofs about row systems.
+pub mod ReadBack

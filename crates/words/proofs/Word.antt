@@ -1,0 +1,55 @@
+-- A word gives back the kind, the payload and the number that it was made of; for proofs that what is written is what is read.
+use mathlib.Core.Path.{_≡_, refl, _∙_}
+use mathlib.Core.Bool.{Bool, true, false}
+use Prim.Native.Nat.{ℕ, _-_, _%_, _≤_, _<_}
+use native.Mathlib.Omega.{arith}
+use lib.Dec.{ltb}
+use lib.IntN.{ℤ, pos, negsuc}
+use borrow.Author.Tests.{ltb-true, ltb-false, lt-ltb, le-ltb}
+use Rattle.integers.specs.Choice.{_if_else_}
+use Rattle.integers.proofs.Linear.{_⊑_, arithZ}
+use Rattle.integers.proofs.Tests.{Says, says-and, says-le}
+use Rattle.words.specs.Word.{kind, payload, signed, inRange, word, complement, numberWord}
+use Rattle.words.specs.Limit as Limit
+
+-- the kind, by which a reader knows what a written word is
+pub kind-word : (k p : ℕ) → kind (word k p) ≡ k
+unfolding kind word
+kind-word k p = omega arith
+
+-- likewise of a word that holds a signed number
+pub kind-number : (k : ℕ) (z : ℤ) → kind (numberWord k z) ≡ k
+unfolding numberWord
+kind-number k z = kind-word k (complement z)
+
+-- the payload: a row's number of terms, or a variable's number
+pub payload-word : (k p : ℕ) → p < 268435456 → payload (word k p) ≡ p
+unfolding payload word
+payload-word k p h = omega arith
+
+-- the test of the range as a proposition, for `omega arithZ`
+pub says-range : (z : ℤ) → Says (inRange z) ((Limit.lowest ⊑ z) × (z ⊑ Limit.highest))
+unfolding inRange
+says-range z = says-and (says-le Limit.lowest z) (says-le z Limit.highest)
+
+-- the signed number: a bound, a coefficient or a constant, which check's 13 leaves in the range
+pub signed-number : (k : ℕ) (z : ℤ) → inRange z ≡ true → signed (numberWord k z) ≡ z
+unfolding signed numberWord complement
+signed-number k (pos n) h =
+    let r : n ≤ 134217727 = omega (arithZ, says-range (pos n) .0 h .1) in
+    let e : payload (word k (n % 268435456)) ≡ n = payload-word k _ (omega arith) ∙ omega arith in
+    rw (e, lt-ltb n 134217728 (omega arith)) refl
+signed-number k (negsuc n) h =
+    let r : n ≤ 134217727 = omega (arithZ, says-range (negsuc n) .0 h .0) in
+    let e : payload (word k (268435455 - n % 268435456)) ≡ 268435455 - n = payload-word k _ (omega arith) ∙ omega arith in
+    let f : 268435455 - (268435455 - n) ≡ n = omega arith in
+    rw (e, le-ltb (268435455 - n) 134217728 (omega arith), f) refl
+
+-- every number read is of the range, so a model's bounds and numbers need no test
+pub signed-range : (w : ℕ) → inRange (signed w) ≡ true
+unfolding signed payload
+signed-range w = by (ltb (w % 268435456) 134217728) refl
+  where
+    by : (t : Bool) → ltb (w % 268435456) 134217728 ≡ t → inRange (pos (w % 268435456) if t else negsuc (268435455 - w % 268435456)) ≡ true
+    by true e = says-range _ .1 (omega arithZ, omega (arithZ, ltb-true))
+    by false e = says-range _ .1 (omega (arithZ, ltb-false), omega arithZ)
