@@ -20,3 +20,5 @@ pub mod Codes
 pub mod Assembly
 pub mod Satisfied
 pub mod Shared
+pub mod Accepts
+pub mod Written
