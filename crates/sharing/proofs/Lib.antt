@@ -14,9 +14,11 @@ pub mod Members
 pub mod Elements
 pub mod Maximum
 pub mod Sets
-pub mod Formed
-pub mod Numbering
 pub mod Codes
+pub mod Lists
+pub mod Formed
+pub mod Sizes
+pub mod Numbering
 pub mod Assembly
 pub mod Satisfied
 pub mod Shared
