@@ -15,7 +15,7 @@ use lib.Dec.{T, ltb, ltb→lt, nltb→le, leb→le, le→leb, lt→ltb, nleb→l
 use lib.IntN.{ℤ, pos, negsuc, negℤ, _+ℤ_, _-ℤ_, _*ℤ_, subℕ, natAbs}
 use lib.Signed.{_≤ℤ_, leZ, _<ℤ_, ltZ, mag, ltZ-no}
 use Rattle.integers.specs.Choice.{_if_else_}
-use Rattle.integers.specs.Number.{_⊕_, _⊖_, _⊗_, neg, minZ, maxZ, absZ}
+use Rattle.integers.specs.Number.{_⊕_, _⊖_, _⊗_, neg, minZ, maxZ, absZ, count}
 
 -- the orders, with a lower fixity than sum and product
 infix 5 _⊑_ _⊏_
@@ -190,6 +190,16 @@ pub diff-abs : (a b : ℕ) → absZ (diff a b) ≡ diff ((a - b) + (b - a)) 0
 unfolding absZ
 diff-abs a b = ap pos (diff-natAbs a b) ∙ diff-pos _
 
+-- ---- a number as a count
+
+of-diff : (a b : ℕ) (z : ℤ) → z ≡ diff a b → count z ≡ a - b
+unfolding count
+of-diff a b (pos n) = simp (diff-pos, diff-≡) (omega arith)
+of-diff a b (negsuc n) = simp (diff-negsuc, diff-≡) (omega arith)
+
+pub diff-count : (a b : ℕ) → count (diff a b) ≡ a - b
+diff-count a b = of-diff a b (diff a b) refl
+
 -- ---- quantifiers (one binder for one: omega enters 32), and a disjunction in front of an arrow
 
 pub record Two : Type 0 where
@@ -203,7 +213,7 @@ pub or-imp : (A B C : Type 0) → (A ⊎ B → C) ↔ ((A → C) × (B → C))
 or-imp A B C = (λ f. (λ a. f (inl a), λ b. f (inr b)), λ h. ⊎-elim (h .0) (h .1))
 
 -- THE SET
-pub ruleset linear = (diff-min, diff-max, diff-abs, diff-natAbs, diff-⊕, diff-⊖, diff-neg, diff-⊗, diff-≤, diff-<, diff-≡, diff-pos, diff-negsuc, for-all, or-imp)
+pub ruleset linear = (diff-min, diff-max, diff-abs, diff-natAbs, diff-count, diff-⊕, diff-⊖, diff-neg, diff-⊗, diff-≤, diff-<, diff-≡, diff-pos, diff-negsuc, for-all, or-imp)
 
 -- ---- what `omega` reads of ℤ where it stands, with no rewriting: orders and equations between atoms
 

@@ -1,7 +1,11 @@
 -- Laws of `All` and `Any` over lists.
-use mathlib.Core.Path.{_≡_, refl, subst, sym}
+use mathlib.Core.Path.{_≡_, refl, subst, sym, ap}
 use mathlib.Core.Logic.{_⊎_, inl, inr, _↔_}
 use mathlib.Core.List.{List, [], _∷_, _++_, map}
+use Prim.Native.Nat.{ℕ, zero, suc, _<_}
+use native.Mathlib.Omega.{arith}
+use lib.ListN.{length, getD}
+use Rattle.integers.specs.Lists.{listOf}
 use Rattle.integers.proofs.Tests.{All, Any, Member}
 
 pub all-append : {A : Type 0} (P : A → Type 0) (xs ys : List A) → All P (xs ++ ys) ↔ (All P xs × All P ys)
@@ -35,3 +39,23 @@ all-members {A} P (y ∷ ys) = let r = all-members P ys in (λ h x m. at x h m (
     at : (x : A) → P y × All P ys → (x ≡ y) ⊎ Member x ys → (Member x ys → P x) → P x
     at x h (inl e) k = subst P (sym e) (h .0)
     at x h (inr m) k = k m
+
+pub all-mapped : {A B : Type 0} (f : A → B) (P : A → Type 0) (Q : B → Type 0) → ((x : A) → P x → Q (f x)) → (xs : List A) → All P xs → All Q (map f xs)
+all-mapped f P Q h [] a = tt
+all-mapped f P Q h (x ∷ xs) a = (h x (a .0), all-mapped f P Q h xs (a .1))
+
+-- what holds of every f x
+pub all-made : {A B : Type 0} (f : A → B) (Q : B → Type 0) → ((x : A) → Q (f x)) → (xs : List A) → All Q (map f xs)
+all-made f Q h [] = tt
+all-made f Q h (x ∷ xs) = (h x, all-made f Q h xs)
+
+-- an element by its place
+pub all-at : {A : Type 0} (P : A → Type 0) (d : A) (xs : List A) (k : ℕ) → k < length xs → All P xs → P (getD xs k d)
+all-at P d [] k l h = absurd (omega arith)
+all-at P d (x ∷ xs) zero l h = h .0
+all-at P d (x ∷ xs) (suc k) l h = all-at P d xs k (omega arith) (h .1)
+
+pub listOf-length : {A : Type 0} (f : ℕ → A) (n : ℕ) → length (listOf f n) ≡ n
+unfolding listOf
+listOf-length f zero = refl
+listOf-length f (suc n) = ap suc (listOf-length (λ k. f (suc k)) n)

@@ -45,6 +45,7 @@ read-zero ws = go (ltb Limit.modelWords (length ws))
   where
     rest : Refusal
     rest = firstFault fault after ended begin 0 ws
+
     go : (t : Bool) → (1 at-place 0 if t else rest) .number ≡ 0 → (1 at-place 0 if t else rest) ≡ accepted
     go true e = absurd (omega (arith, e))
     go false e = read-without fault after ended begin 0 ws e

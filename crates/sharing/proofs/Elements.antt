@@ -12,7 +12,7 @@ use Rattle.integers.specs.Bounds.{_to_, values}
 use Rattle.integers.specs.Terms.{Valuation, value}
 use Rattle.integers.specs.declared.Bounds.{Bounds}
 use Rattle.integers.proofs.Linear.{_⊑_, linear}
-use Rattle.integers.proofs.Lists.{all-append, all-members}
+use Rattle.integers.proofs.Lists.{all-append, all-members, all-at}
 use Rattle.integers.proofs.Tests.{Says, says-le, says-equal, says-and, In, All, Any, Member, false-true}
 use Rattle.models.specs.Builtin.{array-int-element, array-var-int-element}
 use Rattle.models.specs.Meaning.{meaning, element}
@@ -23,7 +23,7 @@ use Rattle.rules.specs.Pick.{pick}
 use Rattle.sharing.proofs.Good.{Good, Sat, see}
 use Rattle.sharing.proofs.Fits.{Fits}
 use Rattle.sharing.proofs.OneHot.{chosen-one, chosen-at, one-hot-sound, one-hot-complete, chosen-value, picked-value, bits-filled}
-use Rattle.sharing.proofs.Members.{member-passes, values-member, counts}
+use Rattle.sharing.proofs.Members.{member-passes, values-member}
 use Rattle.sharing.proofs.Gates.{gates-at, gates-sound, gates-complete, gates-filled}
 
 -- ---- an element by its place
@@ -45,17 +45,12 @@ in-places B n j = core (B .lower) (B .upper) n j
     core = simp linear (omega arith)
 
 place-below : (n : ℕ) (j : ℤ) → Place j n → count j - 1 < n
-place-below = simp counts (omega arith)
+place-below = simp linear (omega arith)
 
 -- what holds of all elements holds of the one at a place
-nth-all : {A : Type 0} (P : A → Type 0) (d : A) (xs : List A) (j : ℤ) → Place j (length xs) → All P xs → P (nth d xs j)
+pub nth-all : {A : Type 0} (P : A → Type 0) (d : A) (xs : List A) (j : ℤ) → Place j (length xs) → All P xs → P (nth d xs j)
 unfolding nth
-nth-all {A} P d xs j p h = go xs (count j - 1) (place-below (length xs) j p) h
-  where
-    go : (xs : List A) (k : ℕ) → k < length xs → All P xs → P (getD xs k d)
-    go [] k l h = absurd (omega arith)
-    go (x ∷ xs) zero l h = h .0
-    go (x ∷ xs) (suc k) l h = go xs k (omega arith) (h .1)
+nth-all P d xs j p h = all-at P d xs (count j - 1) (place-below (length xs) j p) h
 
 -- of a list of values, the one at a place is the value of the variable there
 nth-map : (σ : Valuation) (xs : List ℕ) (j : ℤ) → Place j (length xs) → nth +0 (map σ xs) j ≡ σ (nth 0 xs j)
@@ -74,7 +69,7 @@ says-variable-element σ i xs c =
 
 -- ---- the labels of 24 and 25
 
-labels-place : (B : Bounds) (n : ℕ) (j : ℤ) → Member j (values (places B n)) → Place j n
+pub labels-place : (B : Bounds) (n : ℕ) (j : ℤ) → Member j (values (places B n)) → Place j n
 labels-place B n j m = in-places B n j .0 (values-member (places B n) j .0 m) .0
 
 labels-pass : (B : Bounds) (n : ℕ) (i : ℤ) → Place i n → In B i → Any (λ j. (j == i) ≡ true) (values (places B n))

@@ -16,6 +16,7 @@ use Rattle.integers.specs.Bounds.{_to_, bit, width, values}
 use Rattle.integers.specs.Terms.{Term, _·_}
 use Rattle.integers.specs.declared.Bounds.{Bounds}
 use Rattle.integers.proofs.Linear.{_⊑_, linear, arithZ}
+use Rattle.integers.proofs.Lists.{all-append, all-mapped, all-made, listOf-length}
 use Rattle.integers.proofs.Tests.{In, All}
 use Rattle.words.specs.Limit as Limit
 use Rattle.models.specs.Builtin.{Builtin, int-eq, int-le, int-lt, int-ne, int-le-reif, int-plus, int-times, int-abs, int-max, int-lin-eq, int-lin-le, int-lin-ne, int-lin-eq-reif, int-eq-reif, int-lin-le-reif, bool2int, bool-not, bool-and, bool-or, bool-xor, bool-clause, array-bool-and, array-bool-xor, array-int-element, array-var-int-element, array-int-maximum, set-in, set-in-reif}
@@ -26,7 +27,9 @@ use Rattle.rules.specs.Block.{Ref, source, aux, Block}
 use Rattle.rules.specs.Parts.{Z, endProducts, extreme, L, U, _─_≤0, _─_=0, sources, each, bits, weighted, one, oneBit, chosen, products, nth, places, members}
 use Rattle.rules.specs.Check.{tooWide}
 use Rattle.rules.specs.Rule.{block, rule, linked, signed, notEqual, lessEqualReified, absolute, larger, linNotEqual, linEqualReified, linLessEqualReified, exclusiveOr, numberElement, variableElement, largest, inSet, inSetReified}
-use Rattle.sharing.proofs.Lists.{all-append, all-map, all-made, sources-length, each-length, bits-length, weighted-length, listOf-length, values-length, value-place, places-length, all-nth, members-length, members-in}
+use Rattle.sharing.proofs.OneHot.{bits-length}
+use Rattle.sharing.proofs.Members.{members-length}
+use Rattle.sharing.proofs.Lengths.{sources-length, each-length, weighted-length, values-length, value-place, places-length, all-nth, members-in}
 
 -- ---- what well formed means, over n variables of the model and m auxiliaries of the block
 
@@ -152,7 +155,7 @@ module _ (n m : ℕ) where
 
   each-in : (c : ℤ) (vs : List ℕ) → All (λ v. v < n) vs → All (TermIn n m) (each c vs)
   unfolding each
-  each-in c vs h = all-map (λ v. c · source v) (λ v. v < n) (TermIn n m) (λ v l. l) vs h
+  each-in c vs h = all-mapped (λ v. c · source v) (λ v. v < n) (TermIn n m) (λ v l. l) vs h
 
   -- one more source variable
   less-in : (ts : List (Term Ref)) (x : ℕ) → length ts < Limit.terms → x < n → All (TermIn n m) ts → TermsIn n m (ts ++ (-1 · source x ∷ []))
@@ -226,7 +229,7 @@ formed n β (bool-clause xs ys) h k s =
 formed n β (array-bool-and xs r) h k s = (
   tt,
   all-append (RowIn n 0) (map (λ x. source r ─ source x ≤0) xs) _ .1 (
-    all-map (λ x. source r ─ source x ≤0) (λ v. v < n) (RowIn n 0) (λ v l. omega arith) xs (k .1),
+    all-mapped (λ x. source r ─ source x ≤0) (λ v. v < n) (RowIn n 0) (λ v l. omega arith) xs (k .1),
     (less-in n 0 (each +1 xs) r (simp each-length (omega arith)) (k .0) (each-in n 0 +1 xs (k .1)), tt),
   ),
 )
@@ -259,7 +262,7 @@ formed n β (array-int-maximum x xs) h k s =
           products-in n m (λ x. x) xs 0 (length xs) (omega arith) (omega arith) (h .1),
           (
             chosen-in n m one xs (length xs) x (omega arith) (omega arith) (h .0),
-            all-map (λ v. source v ─ source x ≤0) (λ v. v < n) (RowIn n m) (λ v l. omega arith) xs (h .1),
+            all-mapped (λ v. source v ─ source x ≤0) (λ v. v < n) (RowIn n m) (λ v l. omega arith) xs (h .1),
           ),
         ),
       ),
@@ -277,7 +280,7 @@ formed n β (set-in-reif x S r) h k s =
       bits-ordered vs,
       rw bits-length (choice-in n (length vs) vs x (omega arith) (omega arith) (h .0) (
         less-in n (length vs) (map place ms) r (simp length-map (omega arith)) (k .0)
-            (all-map place (In (β x)) (TermIn n (length vs)) (λ v i. rw e (value-place (β x) v i)) ms (members-in S (β x))),
+            (all-mapped place (In (β x)) (TermIn n (length vs)) (λ v i. rw e (value-place (β x) v i)) ms (members-in S (β x))),
         tt,
       )),
     )

@@ -19,19 +19,6 @@ use Rattle.integers.proofs.Tests.{Says, false-true, says-le, says-lt, says-and,
 use Rattle.models.specs.Meaning.{member}
 use Rattle.rules.specs.Parts.{leastFrom, rising, members}
 
--- ---- a number as a count
-
-of-diff : (a b : ℕ) (z : ℤ) → z ≡ diff a b → count z ≡ a - b
-unfolding count
-of-diff a b (pos n) = simp (diff-pos, diff-≡) (omega arith)
-of-diff a b (negsuc n) = simp (diff-negsuc, diff-≡) (omega arith)
-
-pub diff-count : (a b : ℕ) → count (diff a b) ≡ a - b
-diff-count a b = of-diff a b (diff a b) refl
-
--- linear statements with counts
-pub ruleset counts = (linear, diff-count)
-
 -- ---- lists
 
 -- a number of the list passes the test for it
@@ -125,10 +112,10 @@ values-member B v =
     (λ h. let r = m .0 h in i (r .0) (r .1 .0) (r .1 .1), λ h. m .1 (count (v ⊖ B .lower), placed (B .lower) (B .upper) v h))
   where
     inside : (l u v : ℤ) (k : ℕ) → k < count (u ⊖ l ⊕ +1) → v ≡ l ⊕ pos k → (l ⊑ v) × (v ⊑ u)
-    inside = simp counts (omega arith)
+    inside = simp linear (omega arith)
 
     placed : (l u v : ℤ) → (l ⊑ v) × (v ⊑ u) → (count (v ⊖ l) < count (u ⊖ l ⊕ +1)) × (v ≡ l ⊕ pos (count (v ⊖ l)))
-    placed = simp counts (omega arith)
+    placed = simp linear (omega arith)
 
 -- those below v, v, and those above it
 values-split : (l u v : ℤ) → l ⊑ v → v ⊑ u → values (l to u) ≡ values (l to v ⊖ +1) ++ v ∷ values (v ⊕ +1 to u)
@@ -140,10 +127,10 @@ values-split l u v h k =
     ∙ ap₂ (λ x f. listOf (λ j. l ⊕ pos j) below ++ x ∷ listOf f above) (first v) (fun-ext (next v))
   where
     sizes : (l u v : ℤ) → l ⊑ v → v ⊑ u → count (u ⊖ l ⊕ +1) ≡ count (v ⊖ +1 ⊖ l ⊕ +1) + suc (count (u ⊖ (v ⊕ +1) ⊕ +1))
-    sizes = simp counts (omega arith)
+    sizes = simp linear (omega arith)
 
     place : (l v : ℤ) (j : ℕ) → l ⊑ v → l ⊕ pos (count (v ⊖ +1 ⊖ l ⊕ +1) + j) ≡ v ⊕ pos j
-    place = simp counts (omega arith)
+    place = simp linear (omega arith)
 
     first : (v : ℤ) → v ⊕ pos 0 ≡ v
     first = simp linear (omega arith)

@@ -27,7 +27,7 @@ use Rattle.rules.specs.Pick.{bitOf, pick}
 use Rattle.sharing.proofs.Good.{dot, Good, Sat, see}
 use Rattle.sharing.proofs.Fits.{Fits}
 use Rattle.sharing.proofs.OneHot.{dot-append, bitSum, less-variable, Chooses, chosen-one, chosen-at, one-hot-sound, one-hot-complete, chosen-value, picked-value, bits-filled}
-use Rattle.sharing.proofs.Members.{counts, keep, member-passes, says-member, values-member, members-values, members-member}
+use Rattle.sharing.proofs.Members.{keep, member-passes, says-member, values-member, members-values, members-member}
 
 -- ---- 27
 
@@ -95,7 +95,7 @@ third-row B S r σ α v c =
     (less-variable _ _)
   where
     place : (l : ℤ) (k : ℕ) → count (l ⊕ pos k ⊖ l) ≡ k
-    place = simp counts (omega arith)
+    place = simp linear (omega arith)
 
 says-bit : (t : Bool) {r : ℤ} → Bit r → Says (Bool·beq (r == +1) t) (bitOf t ≡ r)
 unfolding bitOf _==_

@@ -58,13 +58,13 @@ items β n first (c ∷ cs) l h f =
     let B = blockOf β c in
     rw append-assoc
     (block (numbered first) (B .auxiliaries) (B .rows) (f .2) (in-range β c (f .1)) (h .0 .0)
-      (all-implies (RowIn n (length (B .auxiliaries))) (Declared (numbered first) (first + length (B .auxiliaries))) (declared n first l (length (B .auxiliaries))) (B .rows) (h .0 .1))
-      (items β n (first + length (B .auxiliaries)) cs (omega arith) (h .1) (f .3)))
+    (all-implies (RowIn n (length (B .auxiliaries))) (Declared (numbered first) (first + length (B .auxiliaries))) (declared n first l (length (B .auxiliaries))) (B .rows) (h .0 .1))
+    (items β n (first + length (B .auxiliaries)) cs (omega arith) (h .1) (f .3)))
 
 -- ---- the sources
 
 pub sources : {src : List ℕ} → Contents.Sources src → Sources src (variables src)
 unfolding variables startsPair wordAt
 sources Contents.none = none
-sources (Contents.integer-source {l = l} k m o s) = rw (k) (integer k m o (rw (m) at (sources s)))
-sources (Contents.boolean-source k p s) = rw (k) (boolean k p (sources s))
+sources (Contents.integer-source {l = l} {u = u} {ws = ws} k m o s) = rw (k, m) (integer k m o (sources s))
+sources (Contents.boolean-source k p s) = rw k (boolean k p (sources s))
