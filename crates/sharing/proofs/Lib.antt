@@ -24,3 +24,5 @@ pub mod Satisfied
 pub mod Shared
 pub mod Accepts
 pub mod Written
+pub mod Few
+pub mod Theorem

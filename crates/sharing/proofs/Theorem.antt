@@ -1,0 +1,143 @@
+-- THE THEOREM: a model that passes the check and the words that translate writes for it share their solutions (specs/SharedSolutions.antt); fill's
+-- picks are such auxiliaries; judge-rows accepts the words, and says "holds" of what fill writes exactly where judge-model says it of the values.
+use mathlib.Core.Path.{_≡_, refl, sym, ap, ap₂, _∙_, subst}
+use mathlib.Core.Logic.{_↔_}
+use mathlib.Core.Bool.{Bool, true}
+use mathlib.Core.List.{List, [], _∷_, _++_, flatMap}
+use Prim.Native.Nat.{ℕ, _+_, _*_, _≤_, _<_}
+use native.Mathlib.Omega.{arith}
+use lib.IntN.{ℤ}
+use lib.ListN.{length, length-append}
+use Rattle.integers.specs.Bounds.{bit, boundsIn}
+use Rattle.integers.specs.Terms.{Valuation, value}
+use Rattle.integers.specs.declared.Bounds.{Bounds}
+use Rattle.integers.proofs.Lists.{all-implies}
+use Rattle.integers.proofs.Tests.{All}
+use Rattle.words.specs.Word.{word}
+use Rattle.words.specs.Kind as Kind
+use Rattle.words.specs.Limit as Limit
+use Rattle.words.specs.Variables.{variables}
+use Rattle.words.specs.Refusal.{accepted}
+use Rattle.models.specs.Model.{Constraint, constraints, builtin}
+use Rattle.models.proofs.Arguments.{integerArguments, booleanArguments}
+use Rattle.models.proofs.Accepted as Accepted
+use Rattle.rowsystems.specs.Reading.{readRows}
+use Rattle.rowsystems.specs.RowSystem.{rows}
+use Rattle.rowsystems.proofs.ReadBack.{Sources, System, read-back}
+use Rattle.rules.specs.Translation.{bounds, blockOf, sourceWords, blocksWords, systemWords, auxiliaries, picks}
+use Rattle.rules.specs.Pick.{pick}
+use Rattle.sharing.specs.SharedSolutions.{Passes, SatisfiesModel, SatisfiesRows, SharedSolutions}
+use Rattle.sharing.proofs.Formed.{Formed, formed, sized}
+use Rattle.sharing.proofs.Assembly.{auxiliariesOf, rowsFrom, picksOf, picks-length}
+use Rattle.sharing.proofs.Shared.{Typed, picks-satisfy, system-sound}
+use Rattle.sharing.proofs.Accepts.{Fine, passes-read, passes-fine}
+use Rattle.sharing.proofs.Written.{items, sources}
+use Rattle.sharing.proofs.Few.{few-words, fine-count}
+
+-- ---- the lists of all blocks, as the definitions name them
+
+auxiliaries-are : (β : ℕ → Bounds) (cs : List Constraint) → flatMap (λ c. blockOf β c .auxiliaries) cs ≡ auxiliariesOf β cs
+unfolding flatMap
+auxiliaries-are β [] = refl
+auxiliaries-are β (c ∷ cs) = ap (λ l. blockOf β c .auxiliaries ++ l) (auxiliaries-are β cs)
+
+picks-are : (β : ℕ → Bounds) (σ : Valuation) (cs : List Constraint) → flatMap (λ c. pick β σ (builtin c)) cs ≡ picksOf β σ cs
+unfolding flatMap
+picks-are β σ [] = refl
+picks-are β σ (c ∷ cs) = ap (λ l. pick β σ (builtin c) ++ l) (picks-are β σ cs)
+
+fine-formed : (Vs : List Bounds) (first : ℕ) (cs : List Constraint) → All (Typed Vs) cs → Fine (boundsIn Vs) first cs → All (λ c. Formed (length Vs) (blockOf (boundsIn Vs) c)) cs
+unfolding blockOf
+fine-formed Vs first [] t f = tt
+fine-formed Vs first (c ∷ cs) t f = (
+  formed (length Vs) (boundsIn Vs) (builtin c) (t .0 .0) (all-implies (λ v. (v < length Vs) × (boundsIn Vs v ≡ bit)) (λ v. v < length Vs) (λ v h. h .0) (booleanArguments (builtin c)) (t .0 .1)) (sized (boundsIn Vs) c (f .0)),
+  fine-formed Vs (first + length (blockOf (boundsIn Vs) c .auxiliaries)) cs (t .1) (f .3),
+)
+
+-- ---- a model that passes the check
+
+module _ (ws : List ℕ) (passes : Passes ws) where
+  abbrev Vs : List Bounds
+  Vs = variables ws
+
+  abbrev As : List Bounds
+  As = auxiliariesOf (boundsIn Vs) (constraints ws)
+
+  typed : All (Typed Vs) (constraints ws)
+  typed = all-implies (λ c. Accepted.TypedIn Vs (builtin c)) (Typed Vs) (λ c t. (t .integers, t .booleans)) (constraints ws) (Accepted.typed ws (passes-read ws passes))
+
+  fine : Fine (boundsIn Vs) (length Vs) (constraints ws)
+  unfolding bounds
+  fine = passes-fine ws passes
+
+  few : length Vs + length As ≤ Limit.inAll
+  few = fine-count (boundsIn Vs) (length Vs) (constraints ws) fine (omega (arith, Accepted.few-variables ws (passes-read ws passes)))
+
+  well-formed : All (λ c. Formed (length Vs) (blockOf (boundsIn Vs) c)) (constraints ws)
+  well-formed = fine-formed Vs (length Vs) (constraints ws) typed fine
+
+  parts : Accepted.Split ws
+  parts = Accepted.split ws (passes-read ws passes)
+
+  sources-are : sourceWords ws ≡ parts .src
+  unfolding sourceWords
+  sources-are = Accepted.longest-front sourceWords refl (λ w vs. refl) parts
+
+  after-sources : List ℕ
+  after-sources = blocksWords (boundsIn Vs) (length Vs) (constraints ws) ++ (word Kind.rowsEnd 0 ∷ [])
+
+  words-are : systemWords ws ≡ parts .src ++ after-sources
+  unfolding systemWords bounds after-sources
+  words-are = ap (λ l. l ++ (blocksWords (boundsIn Vs) (length Vs) (constraints ws) ++ (word Kind.rowsEnd 0 ∷ []))) sources-are
+
+  -- "the words never pass 131,072"
+  pub never-too-many : length (systemWords ws) ≤ Limit.rowWords
+  unfolding after-sources
+  never-too-many =
+      let r = passes-read ws passes in
+      rw words-are
+      (omega (
+        arith,
+        length-append (parts .src) after-sources,
+        length-append (blocksWords (boundsIn Vs) (length Vs) (constraints ws)) (word Kind.rowsEnd 0 ∷ []),
+        few-words ws r (boundsIn Vs) (length Vs) few,
+        Accepted.few-words ws r,
+        ap length (parts .whole),
+        length-append (parts .src) (parts .rest),
+      ))
+
+  system : System (systemWords ws) (Vs ++ As) (rowsFrom (boundsIn Vs) (length Vs) (constraints ws))
+  unfolding after-sources
+  system =
+      let e : variables (parts .src) ≡ Vs = sym (parts .same-variables) in
+      let few-sources : length Vs ≤ Limit.inAll = omega (arith, few) in
+      let s : Sources (parts .src) Vs = subst (Sources (parts .src)) e (sources (parts .sources)) in
+      rw words-are
+      (read-back s few-sources
+      (items (boundsIn Vs) (length Vs) (length Vs) (constraints ws) (omega arith) well-formed fine)
+      (rw words-are at never-too-many))
+
+  -- judge-rows refuses nothing that translate writes
+  pub written-read : readRows (systemWords ws) ≡ accepted
+  written-read = system .read
+
+  auxiliaries-count : length (auxiliaries ws) ≡ length As
+  unfolding auxiliaries bounds
+  auxiliaries-count = ap length (auxiliaries-are (boundsIn Vs) (constraints ws))
+
+  picks-count : (vs : List ℤ) → picks ws vs ≡ picksOf (boundsIn Vs) (value vs) (constraints ws)
+  unfolding picks bounds
+  picks-count vs = picks-are (boundsIn Vs) (value vs) (constraints ws)
+
+  -- fill's picks are one value for each auxiliary, and satisfy the row system with the values
+  pub fill-counts : (vs : List ℤ) → length (picks ws vs) ≡ length (auxiliaries ws)
+  fill-counts vs = ap length (picks-count vs) ∙ picks-length (boundsIn Vs) (value vs) (constraints ws) ∙ sym auxiliaries-count
+
+  pub fill-satisfies : (vs : List ℤ) → SatisfiesModel ws vs → SatisfiesRows (systemWords ws) (vs ++ picks ws vs)
+  fill-satisfies vs s = rw (picks-count vs) (picks-satisfy ws (systemWords ws) typed well-formed (system .the-bounds) (system .the-rows) vs s)
+
+  pub shared-solutions : SharedSolutions ws (systemWords ws)
+  shared-solutions vs = (
+    λ s. (picks ws vs, (fill-counts vs, fill-satisfies vs s)),
+    λ x. system-sound ws (systemWords ws) typed well-formed (system .the-bounds) (system .the-rows) vs (x .0) (x .1 .0 ∙ auxiliaries-count) (x .1 .1),
+  )
