@@ -26,3 +26,5 @@ pub mod Accepts
 pub mod Written
 pub mod Few
 pub mod Theorem
+pub mod Judged
+pub mod Ranges

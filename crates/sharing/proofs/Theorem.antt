@@ -66,7 +66,7 @@ module _ (ws : List ℕ) (passes : Passes ws) where
   typed : All (Typed Vs) (constraints ws)
   typed = all-implies (λ c. Accepted.TypedIn Vs (builtin c)) (Typed Vs) (λ c t. (t .integers, t .booleans)) (constraints ws) (Accepted.typed ws (passes-read ws passes))
 
-  fine : Fine (boundsIn Vs) (length Vs) (constraints ws)
+  pub fine : Fine (boundsIn Vs) (length Vs) (constraints ws)
   unfolding bounds
   fine = passes-fine ws passes
 
@@ -120,6 +120,10 @@ module _ (ws : List ℕ) (passes : Passes ws) where
   -- judge-rows refuses nothing that translate writes
   pub written-read : readRows (systemWords ws) ≡ accepted
   written-read = system .read
+
+  -- its variables are the sources and all auxiliaries
+  pub same-bounds : variables (systemWords ws) ≡ variables ws ++ auxiliariesOf (boundsIn (variables ws)) (constraints ws)
+  same-bounds = system .the-bounds
 
   auxiliaries-count : length (auxiliaries ws) ≡ length As
   unfolding auxiliaries bounds

@@ -46,7 +46,7 @@ module _ (n first : ℕ) (later : n ≤ first) where
 
 -- ---- block after block
 
-in-range : (β : ℕ → Bounds) (c : Constraint) → outside (blockOf β c) ≡ false → Ranged (blockNumbers (blockOf β c))
+pub in-range : (β : ℕ → Bounds) (c : Constraint) → outside (blockOf β c) ≡ false → Ranged (blockNumbers (blockOf β c))
 unfolding outside
 in-range β c h = says-all inRange (λ z. inRange z ≡ true) (λ z. (λ e. e, λ e. e)) (blockNumbers (blockOf β c)) .0 (not-false _ h)
 

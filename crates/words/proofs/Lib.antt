@@ -1,4 +1,5 @@
--- Laws for proofs about words and laying.
+-- Laws for proofs about words, laying and judging.
 pub mod Word
 pub mod Machine
 pub mod Overlay
+pub mod Judge
