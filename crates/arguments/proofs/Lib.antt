@@ -1,0 +1,3 @@
+-- Laws for proofs about arguments.
+pub mod Walk
+pub mod Size

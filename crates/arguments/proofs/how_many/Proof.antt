@@ -1,0 +1,81 @@
+-- The loop's invariant: what is found is the count over the places passed.
+use mathlib.Core.Path.{_≡_, refl, _∙_}
+use Prim.Native.Nat.{_+_, _-_, _≤_}
+use native.Mathlib.Omega.{arith}
+use mir.Syntax.{w64}
+use mir.Val.{toZ}
+use mir.Facts.{toZ-ofZ}
+use borrow.Author.Needs.{needs}
+use Rattle.integers.proofs.Fits.{back}
+use Rattle.integers.specs.Number.{_==_}
+use Rattle.integers.specs.Lists.{listOf, howMany}
+use Rattle.integers.specs.Terms.{value}
+use Rattle.models.specs.Model.{var, vars}
+use Rattle.arguments.proofs.Size.{size-le}
+use Rattle.arguments.proofs.Walk.{howMany-more, bit-le}
+use Rattle.arguments.proofs.how_many.Statement.{statement}
+use Rattle.arguments.proofs.how_many.Tie as tie
+
+abbrev Inv-loop : tie.InvT-loop
+Inv-loop args i v values n k₀ found₀ k found = (k ≤ n) × (n ≤ 32) × (found ≤ k) × (found ≡ howMany (λ x. value values x == toZ w64 v) (listOf (λ j. var args (i + 1 + j)) k))
+
+abbrev μ-loop : tie.MeasureT-loop
+μ-loop args i v values n k₀ found₀ k found = n - k
+
+size-at-requires : tie.Need-size-at-requires Inv-loop μ-loop
+size-at-requires c κs = search needs
+
+loop-holds : tie.Need-loop-holds Inv-loop μ-loop
+unfolding listOf howMany
+loop-holds c = (search needs, omega (arith, size-le (c .before .before .args .args .now) (c .before .before .args .i)), search needs, refl)
+
+add-value-of : tie.Need-add-value-of Inv-loop μ-loop
+add-value-of c = search needs
+
+add-value-of-2 : tie.Need-add-value-of-2 Inv-loop μ-loop
+add-value-of-2 c = search needs
+
+value-of-requires : tie.Need-value-of-requires Inv-loop μ-loop
+value-of-requires c κs = search needs
+
+equal-requires : tie.Need-equal-requires Inv-loop μ-loop
+equal-requires c κs = search needs
+
+one-if-requires : tie.Need-one-if-requires Inv-loop μ-loop
+one-if-requires c κs = search needs
+
+add-found : tie.Need-add-found Inv-loop μ-loop
+add-found c = omega (arith, bit-le (c .before .equal .result))
+
+add-k : tie.Need-add-k Inv-loop μ-loop
+add-k c = search needs
+
+loop-less : tie.Need-loop-less Inv-loop μ-loop
+loop-less c = search needs
+
+loop-again : tie.Need-loop-again Inv-loop μ-loop
+loop-again c =
+    (search needs, search needs, omega (arith, bit-le (c .before .equal .result)), rw (howMany-more, c .before .before .before .before .loop .inv .3, c .one-if .ensures, c .before .equal .ensures, back (c .before .before .value-of .result) (c .before .before .value-of .ok), c .before .before .value-of .ensures))
+
+returns : tie.Need-returns Inv-loop μ-loop
+unfolding vars
+returns c = let e : c .before .loop .k ≡ c .before .before .size-at .result = omega arith in c .before .loop .inv .3 ∙ rw (e, c .before .before .size-at .ensures, toZ-ofZ (c .before .before .before .before .fits .v))
+
+pub how-many-spec : {M : Type 1} → statement M
+how-many-spec =
+    tie.close
+    (tie.spec
+    Inv-loop
+    μ-loop
+    size-at-requires
+    loop-holds
+    add-value-of
+    add-value-of-2
+    value-of-requires
+    equal-requires
+    one-if-requires
+    add-found
+    add-k
+    loop-less
+    loop-again
+    returns)

@@ -1,0 +1,76 @@
+-- The loop's invariant: the test so far is that over the places passed.
+use mathlib.Core.Path.{_≡_, refl, _∙_}
+use Prim.Native.Nat.{_+_, _-_, _≤_}
+use native.Mathlib.Omega.{arith}
+use mir.Syntax.{w64}
+use mir.Val.{toZ}
+use mir.Facts.{toZ-ofZ}
+use borrow.Author.Needs.{needs}
+use Rattle.integers.proofs.Fits.{back}
+use Rattle.integers.specs.Number.{_==_}
+use Rattle.integers.specs.Lists.{listOf, any}
+use Rattle.models.specs.Model.{num, nums}
+use Rattle.models.specs.Meaning.{member}
+use Rattle.arguments.proofs.Size.{size-le}
+use Rattle.arguments.proofs.Walk.{any-more}
+use Rattle.arguments.proofs.is_member.Statement.{statement}
+use Rattle.arguments.proofs.is_member.Tie as tie
+
+abbrev Inv-loop : tie.InvT-loop
+Inv-loop args i x n k₀ so-far₀ k so-far = (k ≤ n) × (n ≤ 32) × (so-far ≡ any (λ v. toZ w64 x == v) (listOf (λ j. num args (i + 1 + j)) k))
+
+abbrev μ-loop : tie.MeasureT-loop
+μ-loop args i x n k₀ so-far₀ k so-far = n - k
+
+size-at-requires : tie.Need-size-at-requires Inv-loop μ-loop
+size-at-requires c κs = search needs
+
+loop-holds : tie.Need-loop-holds Inv-loop μ-loop
+unfolding listOf any
+loop-holds c = (search needs, omega (arith, size-le (c .before .before .args .args .now) (c .before .before .args .i)), refl)
+
+add-num-at : tie.Need-add-num-at Inv-loop μ-loop
+add-num-at c = search needs
+
+add-num-at-2 : tie.Need-add-num-at-2 Inv-loop μ-loop
+add-num-at-2 c = search needs
+
+num-at-requires : tie.Need-num-at-requires Inv-loop μ-loop
+num-at-requires c κs = search needs
+
+equal-requires : tie.Need-equal-requires Inv-loop μ-loop
+equal-requires c κs = search needs
+
+either-requires : tie.Need-either-requires Inv-loop μ-loop
+either-requires c κs = search needs
+
+add-k : tie.Need-add-k Inv-loop μ-loop
+add-k c = search needs
+
+loop-less : tie.Need-loop-less Inv-loop μ-loop
+loop-less c = search needs
+
+loop-again : tie.Need-loop-again Inv-loop μ-loop
+loop-again c = (search needs, search needs, c .either .ensures ∙ rw (any-more, c .before .before .before .before .loop .inv .2, c .before .equal .ensures, back (c .before .before .num-at .result) (c .before .before .num-at .ok), c .before .before .num-at .ensures))
+
+returns : tie.Need-returns Inv-loop μ-loop
+unfolding nums member
+returns c = let e : c .before .loop .k ≡ c .before .before .size-at .result = omega arith in c .before .loop .inv .2 ∙ rw (e, c .before .before .size-at .ensures, toZ-ofZ (c .before .before .before .before .fits .x))
+
+pub is-member-spec : {M : Type 1} → statement M
+is-member-spec =
+    tie.close
+    (tie.spec
+    Inv-loop
+    μ-loop
+    size-at-requires
+    loop-holds
+    add-num-at
+    add-num-at-2
+    num-at-requires
+    equal-requires
+    either-requires
+    add-k
+    loop-less
+    loop-again
+    returns)

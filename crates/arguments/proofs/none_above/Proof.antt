@@ -1,0 +1,76 @@
+-- The loop's invariant: the test so far is that over the places passed.
+use mathlib.Core.Path.{_≡_, refl, _∙_}
+use Prim.Native.Nat.{_+_, _-_, _≤_}
+use native.Mathlib.Omega.{arith}
+use lib.Signed.{leZ}
+use mir.Syntax.{w64}
+use mir.Val.{toZ}
+use mir.Facts.{toZ-ofZ}
+use borrow.Author.Needs.{needs}
+use Rattle.integers.proofs.Fits.{back}
+use Rattle.integers.specs.Lists.{listOf, all}
+use Rattle.integers.specs.Terms.{value}
+use Rattle.models.specs.Model.{var, vars}
+use Rattle.arguments.proofs.Size.{size-le}
+use Rattle.arguments.proofs.Walk.{all-more}
+use Rattle.arguments.proofs.none_above.Statement.{statement}
+use Rattle.arguments.proofs.none_above.Tie as tie
+
+abbrev Inv-loop : tie.InvT-loop
+Inv-loop args i m values n k₀ so-far₀ k so-far = (k ≤ n) × (n ≤ 32) × (so-far ≡ all (λ x. leZ (value values x) (toZ w64 m)) (listOf (λ j. var args (i + 1 + j)) k))
+
+abbrev μ-loop : tie.MeasureT-loop
+μ-loop args i m values n k₀ so-far₀ k so-far = n - k
+
+size-at-requires : tie.Need-size-at-requires Inv-loop μ-loop
+size-at-requires c κs = search needs
+
+loop-holds : tie.Need-loop-holds Inv-loop μ-loop
+unfolding listOf all
+loop-holds c = (search needs, omega (arith, size-le (c .before .before .args .args .now) (c .before .before .args .i)), refl)
+
+add-value-of : tie.Need-add-value-of Inv-loop μ-loop
+add-value-of c = search needs
+
+add-value-of-2 : tie.Need-add-value-of-2 Inv-loop μ-loop
+add-value-of-2 c = search needs
+
+value-of-requires : tie.Need-value-of-requires Inv-loop μ-loop
+value-of-requires c κs = search needs
+
+at-most-requires : tie.Need-at-most-requires Inv-loop μ-loop
+at-most-requires c κs = search needs
+
+both-requires : tie.Need-both-requires Inv-loop μ-loop
+both-requires c κs = search needs
+
+add-k : tie.Need-add-k Inv-loop μ-loop
+add-k c = search needs
+
+loop-less : tie.Need-loop-less Inv-loop μ-loop
+loop-less c = search needs
+
+loop-again : tie.Need-loop-again Inv-loop μ-loop
+loop-again c = (search needs, search needs, c .both .ensures ∙ rw (all-more, c .before .before .before .before .loop .inv .2, c .before .at-most .ensures, back (c .before .before .value-of .result) (c .before .before .value-of .ok), c .before .before .value-of .ensures))
+
+returns : tie.Need-returns Inv-loop μ-loop
+unfolding vars
+returns c = let e : c .before .loop .k ≡ c .before .before .size-at .result = omega arith in c .before .loop .inv .2 ∙ rw (e, c .before .before .size-at .ensures, toZ-ofZ (c .before .before .before .before .fits .m))
+
+pub none-above-spec : {M : Type 1} → statement M
+none-above-spec =
+    tie.close
+    (tie.spec
+    Inv-loop
+    μ-loop
+    size-at-requires
+    loop-holds
+    add-value-of
+    add-value-of-2
+    value-of-requires
+    at-most-requires
+    both-requires
+    add-k
+    loop-less
+    loop-again
+    returns)

@@ -1,0 +1,99 @@
+-- The loop's invariant: the total is the sum over the places passed, and at most 2^54 for each.
+use mathlib.Core.Path.{_≡_, refl, ap, _∙_}
+use Prim.Native.Nat.{_+_, _*_, _-_, _≤_}
+use native.Mathlib.Omega.{arith}
+use lib.IntN.{natAbs}
+use mir.Syntax.{w64}
+use mir.Val.{toZ, ofZ}
+use borrow.Author.Needs.{needs}
+use Rattle.integers.specs.Number.{_⊕_, _⊗_}
+use Rattle.integers.specs.Lists.{listOf}
+use Rattle.integers.specs.Terms.{_·_, value, sum}
+use Rattle.integers.proofs.Fits.{back, plus-size}
+use Rattle.models.specs.Model.{var, num, past, terms}
+use Rattle.arguments.proofs.Walk.{sum-more}
+use Rattle.arguments.proofs.Size.{size-le, product-size}
+use Rattle.arguments.proofs.sum_of.Statement.{statement}
+use Rattle.arguments.proofs.sum_of.Tie as tie
+
+abbrev Inv-loop : tie.InvT-loop
+Inv-loop args i values n variables k₀ total₀ k total =
+    (k ≤ n) × (n ≤ 32) × (variables ≤ i + 33) × (natAbs (toZ w64 total) ≤ k * 18014398509481984)
+    × (toZ w64 total ≡ sum (value values) (listOf (λ j. num args (i + 1 + j) · var args (variables + j)) k))
+
+abbrev μ-loop : tie.MeasureT-loop
+μ-loop args i values n variables k₀ total₀ k total = n - k
+
+term : (c : tie.After-product-at Inv-loop μ-loop) → let a = c .before .before .before .before .before .before .args in toZ w64 (ofZ w64 (c .product-at .result)) ≡ num (a .args .now) (a .i + 1 + c .before .before .loop .k) ⊗ value (a .values .now) (var (a .args .now) (c .before .before .before .past-at .result + c .before .before .loop .k))
+term c = back (c .product-at .result) (c .product-at .ok) ∙ c .product-at .ensures
+
+term-size : (c : tie.After-product-at Inv-loop μ-loop) → natAbs (toZ w64 (ofZ w64 (c .product-at .result))) ≤ 18014398509481984
+term-size c =
+    let a = c .before .before .before .before .before .before .args in
+    rw (term c) (product-size (a .args .now) (a .values .now) (c .before .before .before .before .before .before .pre .1) (a .i + 1 + c .before .before .loop .k) (c .before .before .before .past-at .result + c .before .before .loop .k))
+
+next : (c : tie.After-plus Inv-loop μ-loop) → toZ w64 (ofZ w64 (c .plus .result)) ≡ toZ w64 (c .before .before .before .loop .total) ⊕ toZ w64 (ofZ w64 (c .before .product-at .result))
+next c = back (c .plus .result) (c .plus .ok) ∙ c .plus .ensures
+
+size-at-requires : tie.Need-size-at-requires Inv-loop μ-loop
+size-at-requires c κs = search needs
+
+past-at-requires : tie.Need-past-at-requires Inv-loop μ-loop
+past-at-requires c κs = search needs
+
+loop-holds : tie.Need-loop-holds Inv-loop μ-loop
+unfolding listOf sum past
+loop-holds c = let h = size-le (c .before .before .before .args .args .now) (c .before .before .before .args .i) in (search needs, omega arith, omega arith, search needs, refl)
+
+add-product-at : tie.Need-add-product-at Inv-loop μ-loop
+add-product-at c = search needs
+
+add-product-at-2 : tie.Need-add-product-at-2 Inv-loop μ-loop
+add-product-at-2 c = search needs
+
+add-product-at-3 : tie.Need-add-product-at-3 Inv-loop μ-loop
+add-product-at-3 c = search needs
+
+product-at-requires : tie.Need-product-at-requires Inv-loop μ-loop
+product-at-requires c κs = search needs
+
+plus-requires : tie.Need-plus-requires Inv-loop μ-loop
+plus-requires c κs = omega (arith, term-size c)
+
+add-k : tie.Need-add-k Inv-loop μ-loop
+add-k c = search needs
+
+loop-less : tie.Need-loop-less Inv-loop μ-loop
+loop-less c = search needs
+
+loop-again : tie.Need-loop-again Inv-loop μ-loop
+loop-again c = (
+  search needs,
+  search needs,
+  search needs,
+  omega (arith, ap natAbs (next c), plus-size (toZ w64 (c .before .before .before .loop .total)) (toZ w64 (ofZ w64 (c .before .product-at .result))), term-size (c .before)),
+  next c ∙ rw (term (c .before), c .before .before .before .loop .inv .4, sum-more),
+)
+
+returns : tie.Need-returns Inv-loop μ-loop
+unfolding terms
+returns c = let e : c .before .loop .k ≡ c .before .before .before .size-at .result = omega arith in c .before .loop .inv .4 ∙ rw (e, c .before .before .before .size-at .ensures, c .before .before .past-at .ensures)
+
+pub sum-of-spec : {M : Type 1} → statement M
+sum-of-spec =
+    tie.close
+    (tie.spec
+    Inv-loop
+    μ-loop
+    size-at-requires
+    past-at-requires
+    loop-holds
+    add-product-at
+    add-product-at-2
+    add-product-at-3
+    product-at-requires
+    plus-requires
+    add-k
+    loop-less
+    loop-again
+    returns)
