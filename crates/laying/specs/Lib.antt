@@ -1,0 +1,3 @@
+-- What the contracts of the block writers cite: the parts of a block, and what laying them does. No public promise speaks of them.
+pub mod Part
+pub mod Went

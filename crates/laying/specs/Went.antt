@@ -1,0 +1,29 @@
+-- What laying parts over a list does: the state `Laid` before and after, the list before and after.
+use mathlib.Core.Path.{_≡_}
+use mathlib.Core.Bool.{Bool, false, not, _||_}
+use mathlib.Core.List.{List}
+use Prim.Native.Nat.{ℕ, _+_, _≤_}
+use lib.ListN.{length}
+use Rattle.integers.specs.Lists.{all}
+use Rattle.words.specs.Word.{inRange}
+use Rattle.words.specs.Overlay.{overlay}
+use Rattle.laying.specs.Part.{Part, wordsIn, numbersIn, auxiliariesIn, rowsIn}
+use Rattle.laying.specs.declared.Laid.{Laid}
+
+-- the parts went over the list after those of s
+pub record Went (s r : Laid) (out out′ : List ℕ) (ps : List Part) : Type 0 where
+  pub words : r .words ≡ s .words + length (wordsIn ps)
+  pub auxiliaries : r .auxiliaries ≡ s .auxiliaries + auxiliariesIn ps
+  pub rows : r .rows ≡ s .rows + rowsIn ps
+  pub outside : r .outside ≡ (s .outside || not (all inRange (numbersIn ps)))
+  pub over : out′ ≡ overlay out (s .words) (wordsIn ps)
+
+abbrev pub nothing : Laid
+nothing = record { words = 0; auxiliaries = 0; rows = 0; outside = false }
+
+abbrev pub total : Laid → ℕ
+total s = s .words + s .auxiliaries + s .rows
+
+-- the counts grow by at most n, so that none wraps
+abbrev pub Near : ℕ → Laid → Laid → Type 0
+Near n s r = total r ≤ total s + n
