@@ -1,5 +1,6 @@
--- Laws for proofs about words, laying and judging.
+-- Laws for proofs about words, laying, reading and judging.
 pub mod Word
 pub mod Machine
 pub mod Overlay
+pub mod Reading
 pub mod Judge

@@ -1,0 +1,35 @@
+-- The table is the definition's lists, filled up: antt computes this once, for the whole table. Past its ends no code has an argument.
+use mathlib.Core.Path.{_≡_, refl, sym, ap, _∙_}
+use Rattle.models.specs.Shape.{argument, shapes}
+use Rattle.modelreading.proofs.Table.{rule}
+use Rattle.modelreading.proofs.Places.{past-codes, past-arguments}
+use borrow.Author.Needs.{needs}
+use Rattle.modelreading.proofs.shapes.argument_of.Statement.{statement}
+use Rattle.modelreading.proofs.shapes.argument_of.Tie as tie
+
+mul-result : tie.Need-mul-result
+mul-result c = search needs
+
+mul-result-2 : tie.Need-mul-result-2
+mul-result-2 c = search needs
+
+index-1-result : tie.Need-index-1-result
+index-1-result c = search needs
+
+index-2-result : tie.Need-index-2-result
+index-2-result c = search needs
+
+returns : tie.Need-returns
+unfolding argument shapes
+returns c = rule 3 shapes (c .before .before .before .args .code) (c .before .before .before .args .k) (c .before .if2 .taken)
+
+returns-2 : tie.Need-returns-2
+returns-2 c = past-arguments (c .before .before .args .code) (c .before .before .args .k) (c .if2 .left)
+
+returns-3 : tie.Need-returns-3
+returns-3 c = past-codes (c .before .args .code) (c .before .args .k) (c .if1 .left)
+
+pub argument-of-spec : {M : Type 1} → statement M
+argument-of-spec =
+    tie.close
+    (tie.spec mul-result mul-result-2 index-1-result index-2-result returns returns-2 returns-3)

@@ -1,0 +1,72 @@
+// The reader of a model: the first faulty word, by faults 1 to 11.
+ghost use mathlib.Core.Path.{_≡_};
+ghost use Prim.Native.Nat.{_≤_};
+ghost use lib.ListN.{getD, take};
+ghost use Rattle.words.specs.Refusal.{faultOr, accepted};
+ghost use Rattle.models.specs.Reading.{faultEnd, readModel};
+
+pub mod faults;
+pub mod shapes;
+pub mod steps;
+
+use models::Due;
+use words::Refusal;
+
+// The type of a variable among the first v, none for any other number.
+fn type_at(types: &[u32; 256], v: usize, x: usize) -> u32
+    requires { ⌜ v ≤ 256 ⌝ }
+    ensures { λ r. ⌜ r ≡ getD (take v (now (types .entry))) x 0 ⌝ }
+{
+    if x < v {
+        return types[x];
+    }
+    shapes::NONE
+}
+
+// The refusal where the words end.
+fn refusal_at_end(due: Due, at: usize) -> Refusal
+    ensures { λ r. ⌜ r ≡ faultOr (faultEnd due) at accepted ⌝ }
+{
+    let number = faults::of_end(due);
+    if number == words::fault::NONE {
+        return Refusal {
+            number: words::fault::NONE,
+            place: 0,
+        };
+    }
+    Refusal { number, place: at }
+}
+
+// The first fault of a model and its place.
+pub fn read_model(ws: &[u32]) -> Refusal
+    ensures { λ r. ⌜ r ≡ readModel (now (ws .entry)) ⌝ }
+{
+    if words::limit::MODEL_WORDS < ws.len() {
+        return Refusal {
+            number: words::fault::TOO_MANY_WORDS,
+            place: 0,
+        };
+    }
+    let mut types = [shapes::NONE; 256];
+    let mut v = 0;
+    let mut c = 0;
+    let mut at = 0;
+    let mut due = Due::Start;
+    while at < ws.len() {
+        let w = ws[at];
+        let t = type_at(&types, v, words::payload_of(w));
+        let number = faults::of_due(due, v, t, c, w);
+        if number != words::fault::NONE {
+            return Refusal { number, place: at };
+        }
+        due = steps::after_due(due, w);
+        c += steps::started_by(w);
+        let declared = steps::declared_by(w);
+        if declared != shapes::NONE {
+            types[v] = declared;
+            v += 1;
+        }
+        at += 1;
+    }
+    refusal_at_end(due, at)
+}

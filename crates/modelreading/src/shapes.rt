@@ -1,0 +1,68 @@
+// The arguments of each code, as a table.
+ghost use mathlib.Core.Path.{_≡_};
+ghost use Rattle.models.specs.Shape.{argument};
+
+// one argument, and the type of a variable: none, an integer variable, a Boolean one, a number
+pub const NONE: u32 = 0;
+
+pub const INTEGER: u32 = 1;
+
+pub const BOOLEAN: u32 = 2;
+
+pub const NUMBER: u32 = 3;
+// a list of numbers, of integer variables, of Boolean ones; parallel lists
+pub const NUMBERS: u32 = 4;
+
+pub const INTEGERS: u32 = 5;
+
+pub const BOOLEANS: u32 = 6;
+
+pub const PARALLEL: u32 = 7;
+
+// the most arguments of a code
+const MOST: usize = 3;
+
+// The arguments of each code, from 0, which is no code.
+const SHAPES: [[u32; MOST]; 29] = [
+    [NONE, NONE, NONE],
+    [INTEGER, INTEGER, NONE],
+    [INTEGER, INTEGER, NONE],
+    [INTEGER, INTEGER, NONE],
+    [INTEGER, INTEGER, NONE],
+    [INTEGER, INTEGER, BOOLEAN],
+    [INTEGER, INTEGER, INTEGER],
+    [INTEGER, INTEGER, INTEGER],
+    [INTEGER, INTEGER, NONE],
+    [INTEGER, INTEGER, INTEGER],
+    [PARALLEL, NUMBER, NONE],
+    [PARALLEL, NUMBER, NONE],
+    [PARALLEL, NUMBER, NONE],
+    [PARALLEL, NUMBER, BOOLEAN],
+    [INTEGER, INTEGER, BOOLEAN],
+    [PARALLEL, NUMBER, BOOLEAN],
+    [BOOLEAN, INTEGER, NONE],
+    [BOOLEAN, BOOLEAN, NONE],
+    [BOOLEAN, BOOLEAN, BOOLEAN],
+    [BOOLEAN, BOOLEAN, BOOLEAN],
+    [BOOLEAN, BOOLEAN, BOOLEAN],
+    [BOOLEANS, BOOLEANS, NONE],
+    [BOOLEANS, BOOLEAN, NONE],
+    [BOOLEANS, NONE, NONE],
+    [INTEGER, NUMBERS, INTEGER],
+    [INTEGER, INTEGERS, INTEGER],
+    [INTEGER, INTEGERS, NONE],
+    [INTEGER, NUMBERS, NONE],
+    [INTEGER, NUMBERS, BOOLEAN],
+];
+
+// The k-th argument of a code, counted from 0.
+pub fn argument_of(code: usize, k: usize) -> u32
+    ensures { λ r. ⌜ r ≡ argument code k ⌝ }
+{
+    if code <= words::limit::CODES {
+        if k < MOST {
+            return SHAPES[code][k];
+        }
+    }
+    NONE
+}
