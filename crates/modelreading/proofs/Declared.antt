@@ -79,6 +79,7 @@ room due v t c w h f = go (eqb (kind w) 1) (eqb (kind w) 3) refl refl f
   where
     other : (κ : ℕ) → Other κ → kind w ≡ κ → 0 ≡ faultStart v c w
     other κ o e = at-start o due v t c w e h
+
     go : (a b : Bool) → eqb (kind w) 1 ≡ a → eqb (kind w) 3 ≡ b → (getD (oneOf a b) 0 0 ≡ 0 → ⊥) → v < 256
     go true b e g f =
         let k = eqb-true (kind w) 1 e in

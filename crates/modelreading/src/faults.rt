@@ -1,5 +1,10 @@
 // The fault of a word, 0 for none. Where two hold, the lower number comes first.
 ghost use mathlib.Core.Path.{_≡_};
+ghost use lib.Dec.{eqb, ltb, leb};
+ghost use Rattle.integers.specs.Choice.{_if_else_};
+ghost use Rattle.words.specs.Word.{payload};
+ghost use Rattle.words.specs.Fault as Fault;
+ghost use Rattle.words.specs.Limit as Limit;
 ghost use Rattle.models.specs.Reading.{faultHead, faultStart, faultUpper, faultNumber, faultVariable, faultLength, faultArgument, faultDue, faultEnd};
 use crate::shapes;
 use models::Due;
@@ -7,16 +12,46 @@ use words::fault;
 use words::kind;
 use words::limit;
 
+// The first of two faults, in the order of their numbers.
+fn first_of(first: u32, second: u32) -> u32
+    ensures { λ r. ⌜ r ≡ (second if eqb first Fault.none else first) ⌝ }
+{
+    if first == fault::NONE {
+        return second;
+    }
+    first
+}
+
+// Of a word whose payload is to be 0.
+fn of_payload(w: u32) -> u32
+    ensures { λ r. ⌜ r ≡ (Fault.payloadAboveZero if ltb 0 (payload w) else Fault.none) ⌝ }
+{
+    if 0 < words::payload_of(w) {
+        return fault::PAYLOAD_ABOVE_ZERO;
+    }
+    fault::NONE
+}
+
+// Of a word that starts a variable, after v variables.
+fn of_room(v: usize) -> u32
+    ensures { λ r. ⌜ r ≡ (Fault.tooManyVariables if leb Limit.variables v else Fault.none) ⌝ }
+{
+    if limit::VARIABLES <= v {
+        return fault::TOO_MANY_VARIABLES;
+    }
+    fault::NONE
+}
+
 // Where a constraint or the end may stand, after c constraints.
 fn of_head(c: usize, w: u32) -> u32
     ensures { λ r. ⌜ r ≡ faultHead c w ⌝ }
 {
     let k = words::kind_of(w);
-    let p = words::payload_of(w);
     if k == kind::CONSTRAINT {
         if limit::CONSTRAINTS <= c {
             return fault::TOO_MANY_CONSTRAINTS;
         }
+        let p = words::payload_of(w);
         if p == 0 {
             return fault::UNKNOWN_CODE;
         }
@@ -26,10 +61,7 @@ fn of_head(c: usize, w: u32) -> u32
         return fault::NONE;
     }
     if k == kind::MODEL_END {
-        if 0 < p {
-            return fault::PAYLOAD_ABOVE_ZERO;
-        }
-        return fault::NONE;
+        return of_payload(w);
     }
     fault::WRONG_KIND
 }
@@ -39,21 +71,13 @@ fn of_start(v: usize, c: usize, w: u32) -> u32
     ensures { λ r. ⌜ r ≡ faultStart v c w ⌝ }
 {
     let k = words::kind_of(w);
-    let p = words::payload_of(w);
     if k == kind::LOWER {
-        if limit::VARIABLES <= v {
-            return fault::TOO_MANY_VARIABLES;
-        }
-        return fault::NONE;
+        return of_room(v);
     }
     if k == kind::BOOLEAN {
-        if 0 < p {
-            return fault::PAYLOAD_ABOVE_ZERO;
-        }
-        if limit::VARIABLES <= v {
-            return fault::TOO_MANY_VARIABLES;
-        }
-        return fault::NONE;
+        let payload = of_payload(w);
+        let room = of_room(v);
+        return first_of(payload, room);
     }
     of_head(c, w)
 }

@@ -1,100 +1,103 @@
+-- The loop's invariant: reading the rest from here gives what reading the whole gives.
+use mathlib.Core.Path.{_≡_, sym, _∙_}
+use mathlib.Core.Logic.{⊎-elim}
+use Prim.Native.Nat.{_-_}
+use native.Mathlib.Omega.{arith}
+use lib.ListN.{length, getD}
+use borrow.Author.Tests.{lt-ltb, le-ltb}
+use borrow.Author.Needs.{needs}
+use Rattle.models.specs.Reading.{readModel}
+use Rattle.modelreading.proofs.Declared.{started-small}
+use Rattle.modelreading.proofs.Loop.{Left, Turn, whole, stop, again, again-one, room-here, done}
 use Rattle.modelreading.proofs.read_model.Statement.{statement}
 use Rattle.modelreading.proofs.read_model.Tie as tie
-use Rattle.modelreading.proofs.read_model.Reads as reads
-use Rattle.modelreading.proofs.read_model.Lts as lts
-use Rattle.modelreading.proofs.faults.of_due.Reads as of-due-reads
-use Rattle.modelreading.proofs.refusal_at_end.Reads as refusal-at-end-reads
-use Rattle.modelreading.proofs.steps.after_due.Reads as after-due-reads
-use Rattle.modelreading.proofs.steps.declared_by.Reads as declared-by-reads
-use Rattle.modelreading.proofs.steps.started_by.Reads as started-by-reads
-use Rattle.modelreading.proofs.type_at.Reads as type-at-reads
-use Rattle.words.proofs.payload_of.Reads as payload-of-reads
 
 abbrev Inv-loop : tie.InvT-loop
-Inv-loop ws types₀ v₀ c₀ at₀ due₀ types v c at due = ?
+Inv-loop ws types₀ v₀ c₀ at₀ due₀ types v c at due = Left ws types v c at due
 
 abbrev μ-loop : tie.MeasureT-loop
-μ-loop ws types₀ v₀ c₀ at₀ due₀ types v c at due = ?
+μ-loop ws types₀ v₀ c₀ at₀ due₀ types v c at due = length ws - at
 
--- src/lib.rt:45:9
+-- past fault 1
+rest : (c : tie.Else1 Inv-loop μ-loop) → whole (c .before .before .args .ws .now) ≡ readModel (c .before .before .args .ws .now)
+unfolding readModel
+rest c = rw (le-ltb _ _ (c .if1 .left))
+
+-- what a turn knows when the fault is found
+turn : (c : tie.After-of-due Inv-loop μ-loop) →
+    let p = c .before .before .before .before .before .before .loop in
+    Turn (c .before .before .before .before .before .before .before .before .before .args .ws .now) (p .types) (p .v) (p .c) (p .at) (p .due) (c .before .type-at .result) (c .of-due .result)
+turn c = record {
+  here = c .before .before .before .before .before .loop-test .taken;
+  left = c .before .before .before .before .before .before .loop .inv;
+  type = rw (c .before .before .payload-of .ensures) at (c .before .type-at .ensures);
+  found = c .of-due .ensures;
+}
+
 returns : tie.Need-returns Inv-loop μ-loop
-returns c = ?
+unfolding readModel
+returns c = rw (lt-ltb _ _ (c .if1 .taken))
 
--- src/lib.rt:55:5
 loop-holds : tie.Need-loop-holds Inv-loop μ-loop
-loop-holds c = ?
+loop-holds c = search needs
 
--- src/lib.rt:56:17
 mul-w : tie.Need-mul-w Inv-loop μ-loop
-mul-w c = ?
+mul-w c = search needs
 
--- src/lib.rt:56:17
 shared-slice-read-w : tie.Need-shared-slice-read-w Inv-loop μ-loop
-shared-slice-read-w c = ?
+shared-slice-read-w c = search needs
 
--- src/lib.rt:57:36
 payload-of-requires : tie.Need-payload-of-requires Inv-loop μ-loop
-payload-of-requires c κs = ?
+payload-of-requires c κs = search needs
 
--- src/lib.rt:57:13
 type-at-requires : tie.Need-type-at-requires Inv-loop μ-loop
-type-at-requires c κs = ?
+type-at-requires c κs = search needs
 
--- src/lib.rt:58:13
 of-due-requires : tie.Need-of-due-requires Inv-loop μ-loop
-of-due-requires c κs = ?
+of-due-requires c κs = search needs
 
--- src/lib.rt:60:13
 returns-2 : tie.Need-returns-2 Inv-loop μ-loop
-returns-2 c = ?
+returns-2 c = stop (turn (c .before)) (c .if2 .taken) ∙ rest (c .before .before .before .before .before .before .before .before)
 
--- src/lib.rt:62:9
 after-due-requires : tie.Need-after-due-requires Inv-loop μ-loop
-after-due-requires c κs = ?
+after-due-requires c κs = search needs
 
--- src/lib.rt:63:14
 started-by-requires : tie.Need-started-by-requires Inv-loop μ-loop
-started-by-requires c κs = ?
+started-by-requires c κs = search needs
 
--- src/lib.rt:63:9
 add-c : tie.Need-add-c Inv-loop μ-loop
-add-c c = ?
+add-c c = record { fits = omega (arith, c .started-by .ensures, started-small (getD (c .before .before .before .before .before .before .before .before .before .before .before .before .args .ws .now) (c .before .before .before .before .before .before .before .before .before .loop .at) 0), c .before .before .before .before .before .before .before .before .before .loop .inv .counted) }
 
--- src/lib.rt:64:13
 declared-by-requires : tie.Need-declared-by-requires Inv-loop μ-loop
-declared-by-requires c κs = ?
+declared-by-requires c κs = search needs
 
--- src/lib.rt:66:13
 mul-types : tie.Need-mul-types Inv-loop μ-loop
-mul-types c = ?
+mul-types c = search needs
 
--- src/lib.rt:66:13
 array-write-types : tie.Need-array-write-types Inv-loop μ-loop
-array-write-types c = ?
+array-write-types c = room-here (turn (c .before .before .before .before .before)) (c .before .before .before .before .if2 .left) (c .before .declared-by .result) (c .before .declared-by .ensures) (c .if3 .taken)
 
--- src/lib.rt:67:13
 add-v : tie.Need-add-v Inv-loop μ-loop
-add-v c = ?
+add-v c = search needs
 
--- src/lib.rt:69:9
 add-at : tie.Need-add-at Inv-loop μ-loop
-add-at c = ?
+add-at c = search needs
 
--- src/lib.rt:55:5
 loop-less : tie.Need-loop-less Inv-loop μ-loop
-loop-less c = ?
+loop-less c = search needs
 
--- src/lib.rt:55:5
 loop-again : tie.Need-loop-again Inv-loop μ-loop
-loop-again c = ?
+loop-again c =
+    ⊎-elim
+    (λ w. rw (w .1, w .2, c .before .before .started-by .ensures, c .before .before .before .after-due .ensures) (again-one (turn (c .before .before .before .before .before)) (c .before .before .before .before .if2 .left) (c .before .declared-by .result) (c .before .declared-by .ensures) (w .0 .taken)))
+    (λ w. rw (w .1, w .2, c .before .before .started-by .ensures, c .before .before .before .after-due .ensures) (again (turn (c .before .before .before .before .before)) (c .before .before .before .before .if2 .left) (sym (w .0 .left) ∙ c .before .declared-by .ensures)))
+    (c .if3 .came)
 
--- src/lib.rt:71:5
 refusal-at-end-requires : tie.Need-refusal-at-end-requires Inv-loop μ-loop
-refusal-at-end-requires c κs = ?
+refusal-at-end-requires c κs = search needs
 
--- src/lib.rt:41:1
 returns-3 : tie.Need-returns-3 Inv-loop μ-loop
-returns-3 c = ?
+returns-3 c = c .refusal-at-end .ensures ∙ done (c .before .loop-test .left) (c .before .before .loop .inv) ∙ rest (c .before .before .before)
 
 pub read-model-spec : {M : Type 1} → statement M
 read-model-spec =

@@ -1,26 +1,21 @@
-use mathlib.Core.Path.{_≡_, refl, sym, ap, _∙_}
+-- Among the first v the array's entry, past them none.
+use mathlib.Core.Path.{sym}
 use native.Mathlib.Omega.{arith}
 use lib.ListN.{take, length-take, List·getD-eq-default}
 use lib.Seq.{getD-take}
 use borrow.Author.Needs.{needs}
 use Rattle.modelreading.proofs.type_at.Statement.{statement}
 use Rattle.modelreading.proofs.type_at.Tie as tie
-use Rattle.modelreading.proofs.type_at.Reads as reads
-use Rattle.modelreading.proofs.type_at.Lts as lts
 
--- src/lib.rt:21:16
 mul-result : tie.Need-mul-result
 mul-result c = search needs
 
--- src/lib.rt:21:16
 element-copy-out-result : tie.Need-element-copy-out-result
 element-copy-out-result c = search needs
 
--- src/lib.rt:21:9
 returns : tie.Need-returns
 returns c = sym (getD-take (c .before .before .args .v) (c .before .before .args .types .now) (c .before .before .args .x) 0 (c .before .if1 .taken))
 
--- src/lib.rt:16:1
 returns-2 : tie.Need-returns-2
 returns-2 c = sym (List·getD-eq-default (take (c .before .args .v) (c .before .args .types .now)) 0 (simp length-take (omega arith)))
 

@@ -1,86 +1,60 @@
-use mathlib.Core.Path.{_≡_, refl, sym, ap, _∙_}
-use native.Mathlib.Omega.{arith}
-use borrow.Author.Needs.{needs}
+-- Each case of what is due calls the function of that case.
 use borrow.Author.Tests.{le-ltb, lt-ltb}
-use Rattle.models.specs.Reading.{faultDue}
 use borrow.Author.Needs.{needs}
+use Rattle.models.specs.Reading.{faultDue}
 use Rattle.modelreading.proofs.faults.of_due.Statement.{statement}
 use Rattle.modelreading.proofs.faults.of_due.Tie as tie
-use Rattle.modelreading.proofs.faults.of_due.Reads as reads
-use Rattle.modelreading.proofs.faults.of_due.Lts as lts
-use Rattle.modelreading.proofs.faults.of_argument.Reads as of-argument-reads
-use Rattle.modelreading.proofs.faults.of_number.Reads as of-number-reads
-use Rattle.modelreading.proofs.faults.of_start.Reads as of-start-reads
-use Rattle.modelreading.proofs.faults.of_upper.Reads as of-upper-reads
-use Rattle.modelreading.proofs.faults.of_variable.Reads as of-variable-reads
-use Rattle.modelreading.proofs.shapes.argument_of.Reads as argument-of-reads
 
--- src/faults.rt:131:23
 enum-told : tie.Need-enum-told
 enum-told c = search needs
 
--- src/faults.rt:131:23
 of-start-requires : tie.Need-of-start-requires
 of-start-requires c κs = search needs
 
--- src/faults.rt:132:20
 enum-known-due : tie.Need-enum-known-due
 enum-known-due c = search needs
 
--- src/faults.rt:132:30
 of-upper-requires : tie.Need-of-upper-requires
 of-upper-requires c κs = search needs
 
--- src/faults.rt:134:13
 enum-known-due-2 : tie.Need-enum-known-due-2
 enum-known-due-2 c = search needs
 
--- src/faults.rt:141:17
 of-number-requires : tie.Need-of-number-requires
 of-number-requires c κs = search needs
 
--- src/faults.rt:141:17
 returns : tie.Need-returns
 unfolding faultDue
 returns c = rw (c .before .before .before .due2 .given .1, lt-ltb _ _ (c .before .if1 .taken)) (c .of-number .ensures)
 
--- src/faults.rt:144:17
 of-variable-requires : tie.Need-of-variable-requires
 of-variable-requires c κs = search needs
 
--- src/faults.rt:144:17
 returns-2 : tie.Need-returns-2
 unfolding faultDue
 returns-2 c = rw (c .before .before .before .before .due2 .given .1, le-ltb _ _ (c .before .before .if1 .left), lt-ltb _ _ (c .before .if2 .taken)) (c .of-variable .ensures)
 
--- src/faults.rt:146:31
 argument-of-requires : tie.Need-argument-of-requires
 argument-of-requires c κs = search needs
 
--- src/faults.rt:146:13
 of-argument-requires : tie.Need-of-argument-requires
 of-argument-requires c κs = search needs
 
--- src/faults.rt:148:23
 enum-told-2 : tie.Need-enum-told-2
 enum-told-2 c = search needs
 
--- src/faults.rt:127:1
 returns-3 : tie.Need-returns-3
 unfolding faultDue
 returns-3 c = rw (c .before .enum-told .given .1) (c .of-start .ensures)
 
--- src/faults.rt:127:1
 returns-4 : tie.Need-returns-4
 unfolding faultDue
 returns-4 c = rw (c .before .before .due .given .1) (c .of-upper .ensures)
 
--- src/faults.rt:127:1
 returns-5 : tie.Need-returns-5
 unfolding faultDue
 returns-5 c = rw (c .before .before .before .before .before .due2 .given .1, le-ltb _ _ (c .before .before .before .if1 .left), le-ltb _ _ (c .before .before .if2 .left), ← c .before .argument-of .ensures) (c .of-argument .ensures)
 
--- src/faults.rt:127:1
 returns-6 : tie.Need-returns-6
 unfolding faultDue
 returns-6 c = rw (c .enum-told2 .given .1)

@@ -1,45 +1,33 @@
-use mathlib.Core.Path.{_≡_, refl, sym, ap, _∙_}
-use native.Mathlib.Omega.{arith}
+-- Each case of what is due has the definition's answer.
 use borrow.Author.Needs.{needs}
 use Rattle.models.specs.Reading.{faultEnd}
-use borrow.Author.Needs.{needs}
 use Rattle.modelreading.proofs.faults.of_end.Statement.{statement}
 use Rattle.modelreading.proofs.faults.of_end.Tie as tie
-use Rattle.modelreading.proofs.faults.of_end.Reads as reads
-use Rattle.modelreading.proofs.faults.of_end.Lts as lts
 
--- src/faults.rt:157:23
 enum-told : tie.Need-enum-told
 enum-told c = search needs
 
--- src/faults.rt:158:26
 enum-told-2 : tie.Need-enum-told-2
 enum-told-2 c = search needs
 
--- src/faults.rt:165:14
 enum-told-3 : tie.Need-enum-told-3
 enum-told-3 c = search needs
 
--- src/faults.rt:166:23
 enum-told-4 : tie.Need-enum-told-4
 enum-told-4 c = search needs
 
--- src/faults.rt:153:1
 returns : tie.Need-returns
 unfolding faultEnd
 returns c = rw (c .enum-told .given .1)
 
--- src/faults.rt:153:1
 returns-2 : tie.Need-returns-2
 unfolding faultEnd
 returns-2 c = rw (c .enum-told2 .given .1)
 
--- src/faults.rt:153:1
 returns-3 : tie.Need-returns-3
 unfolding faultEnd
 returns-3 c = rw (c .enum-told3 .given .1)
 
--- src/faults.rt:153:1
 returns-4 : tie.Need-returns-4
 unfolding faultEnd
 returns-4 c = rw (c .enum-told4 .given .1)

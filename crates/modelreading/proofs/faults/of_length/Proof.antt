@@ -1,35 +1,24 @@
-use mathlib.Core.Path.{_≡_, refl, sym, ap, _∙_}
-use native.Mathlib.Omega.{arith}
-use borrow.Author.Needs.{needs}
+-- The code tests the word as the definition does.
 use borrow.Author.Tests.{eq-eqb, le-ltb, lt-ltb, ne-eqb}
-use Rattle.models.specs.Reading.{faultLength}
 use borrow.Author.Needs.{needs}
+use Rattle.models.specs.Reading.{faultLength}
 use Rattle.modelreading.proofs.faults.of_length.Statement.{statement}
 use Rattle.modelreading.proofs.faults.of_length.Tie as tie
-use Rattle.modelreading.proofs.faults.of_length.Reads as reads
-use Rattle.modelreading.proofs.faults.of_length.Lts as lts
-use Rattle.words.proofs.kind_of.Reads as kind-of-reads
-use Rattle.words.proofs.payload_of.Reads as payload-of-reads
 
--- src/faults.rt:101:8
 kind-of-requires : tie.Need-kind-of-requires
 kind-of-requires c κs = search needs
 
--- src/faults.rt:102:9
 returns : tie.Need-returns
 unfolding faultLength
 returns c = rw (← c .before .kind-of .ensures, ne-eqb _ _ (c .if1 .taken))
 
--- src/faults.rt:104:29
 payload-of-requires : tie.Need-payload-of-requires
 payload-of-requires c κs = search needs
 
--- src/faults.rt:105:9
 returns-2 : tie.Need-returns-2
 unfolding faultLength
 returns-2 c = rw (← c .before .before .before .kind-of .ensures, eq-eqb _ _ (c .before .before .if1 .left), ← c .before .payload-of .ensures, lt-ltb _ _ (c .if2 .taken))
 
--- src/faults.rt:98:1
 returns-3 : tie.Need-returns-3
 unfolding faultLength
 returns-3 c = rw (← c .before .before .before .kind-of .ensures, eq-eqb _ _ (c .before .before .if1 .left), ← c .before .payload-of .ensures, le-ltb _ _ (c .if2 .left))

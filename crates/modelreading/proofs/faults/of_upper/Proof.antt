@@ -1,34 +1,24 @@
-use mathlib.Core.Path.{_≡_, refl, sym, ap, _∙_}
+-- The code compares the signed payloads, which fit 64 bits.
 use mir.Facts.{toZ-ofZ}
-use borrow.Author.Needs.{needs}
 use borrow.Author.Tests.{eq-eqb, ne-eqb}
-use Rattle.models.specs.Reading.{faultUpper}
 use borrow.Author.Needs.{needs}
+use Rattle.models.specs.Reading.{faultUpper}
 use Rattle.modelreading.proofs.faults.of_upper.Statement.{statement}
 use Rattle.modelreading.proofs.faults.of_upper.Tie as tie
-use Rattle.modelreading.proofs.faults.of_upper.Reads as reads
-use Rattle.modelreading.proofs.faults.of_upper.Lts as lts
-use Rattle.words.proofs.kind_of.Reads as kind-of-reads
-use Rattle.words.proofs.signed_of.Reads as signed-of-reads
 
--- src/faults.rt:65:8
 kind-of-requires : tie.Need-kind-of-requires
 kind-of-requires c κs = search needs
 
--- src/faults.rt:66:9
 returns : tie.Need-returns
 unfolding faultUpper
 returns c = rw (← c .before .kind-of .ensures, ne-eqb _ _ (c .if1 .taken))
 
--- src/faults.rt:68:8
 signed-of-requires : tie.Need-signed-of-requires
 signed-of-requires c κs = search needs
 
--- src/faults.rt:68:30
 signed-of-requires-2 : tie.Need-signed-of-requires-2
 signed-of-requires-2 c κs = search needs
 
--- src/faults.rt:69:9
 returns-2 : tie.Need-returns-2
 unfolding faultUpper
 returns-2 c =
@@ -36,7 +26,6 @@ returns-2 c =
     let b = c .before in
     rw (← a .before .before .kind-of .ensures, eq-eqb _ _ (a .before .if1 .left), rw (toZ-ofZ (record { sfits = a .signed-of .ok }), toZ-ofZ (record { sfits = b .signed-of2 .ok }), a .signed-of .ensures, b .signed-of2 .ensures) at (c .if2 .taken))
 
--- src/faults.rt:62:1
 returns-3 : tie.Need-returns-3
 unfolding faultUpper
 returns-3 c =

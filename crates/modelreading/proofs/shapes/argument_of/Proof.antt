@@ -1,9 +1,8 @@
 -- The table is the definition's lists, filled up: antt computes this once, for the whole table. Past its ends no code has an argument.
-use mathlib.Core.Path.{_≡_, refl, sym, ap, _∙_}
+use borrow.Author.Needs.{needs}
 use Rattle.models.specs.Shape.{argument, shapes}
 use Rattle.modelreading.proofs.Table.{rule}
 use Rattle.modelreading.proofs.Places.{past-codes, past-arguments}
-use borrow.Author.Needs.{needs}
 use Rattle.modelreading.proofs.shapes.argument_of.Statement.{statement}
 use Rattle.modelreading.proofs.shapes.argument_of.Tie as tie
 

@@ -1,61 +1,44 @@
-use mathlib.Core.Path.{_≡_, refl, sym, ap, _∙_}
-use native.Mathlib.Omega.{arith}
-use borrow.Author.Needs.{needs}
+-- The code tests the argument as the definition does.
 use borrow.Author.Tests.{eq-eqb, le-leb, lt-leb, ne-eqb}
-use Rattle.models.specs.Reading.{afterArgument}
 use borrow.Author.Needs.{needs}
+use Rattle.models.specs.Reading.{afterArgument}
 use Rattle.modelreading.proofs.steps.after_argument.Statement.{statement}
 use Rattle.modelreading.proofs.steps.after_argument.Tie as tie
-use Rattle.modelreading.proofs.steps.after_argument.Reads as reads
-use Rattle.modelreading.proofs.steps.after_argument.Lts as lts
-use Rattle.modelreading.proofs.steps.arguments.Reads as arguments-reads
-use Rattle.words.proofs.payload_of.Reads as payload-of-reads
 
--- src/steps.rt:50:9
 payload-of-requires : tie.Need-payload-of-requires
 payload-of-requires c κs = search needs
 
--- src/steps.rt:52:9
 arguments-requires : tie.Need-arguments-requires
 arguments-requires c κs = search needs
 
--- src/steps.rt:52:9
 returns : tie.Need-returns
 unfolding afterArgument
 returns c = rw (← c .before .before .payload-of .ensures, le-leb _ _ (c .before .if1 .taken)) (c .arguments .ensures)
 
--- src/steps.rt:55:9
 arguments-requires-2 : tie.Need-arguments-requires-2
 arguments-requires-2 c κs = search needs
 
--- src/steps.rt:55:9
 returns-2 : tie.Need-returns-2
 unfolding afterArgument
 returns-2 c = rw (← c .before .before .before .payload-of .ensures, lt-leb _ _ (c .before .before .if1 .left), eq-eqb _ _ (c .before .if2 .taken)) (c .arguments2 .ensures)
 
--- src/steps.rt:58:9
 arguments-requires-3 : tie.Need-arguments-requires-3
 arguments-requires-3 c κs = search needs
 
--- src/steps.rt:58:9
 returns-3 : tie.Need-returns-3
 unfolding afterArgument
 returns-3 c = rw (← c .before .before .before .before .payload-of .ensures, lt-leb _ _ (c .before .before .before .if1 .left), ne-eqb _ _ (c .before .before .if2 .left), eq-eqb _ _ (c .before .if3 .taken)) (c .arguments3 .ensures)
 
--- src/steps.rt:61:9
 arguments-requires-4 : tie.Need-arguments-requires-4
 arguments-requires-4 c κs = search needs
 
--- src/steps.rt:61:9
 returns-4 : tie.Need-returns-4
 unfolding afterArgument
 returns-4 c = rw (← c .before .before .before .before .before .payload-of .ensures, lt-leb _ _ (c .before .before .before .before .if1 .left), ne-eqb _ _ (c .before .before .before .if2 .left), ne-eqb _ _ (c .before .before .if3 .left), eq-eqb _ _ (c .before .if4 .taken)) (c .arguments4 .ensures)
 
--- src/steps.rt:63:5
 arguments-requires-5 : tie.Need-arguments-requires-5
 arguments-requires-5 c κs = search needs
 
--- src/steps.rt:47:1
 returns-5 : tie.Need-returns-5
 unfolding afterArgument
 returns-5 c = rw (← c .before .before .before .before .before .payload-of .ensures, lt-leb _ _ (c .before .before .before .before .if1 .left), ne-eqb _ _ (c .before .before .before .if2 .left), ne-eqb _ _ (c .before .before .if3 .left), ne-eqb _ _ (c .before .if4 .left)) (c .arguments5 .ensures)

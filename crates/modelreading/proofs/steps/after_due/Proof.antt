@@ -1,105 +1,78 @@
-use Rattle.modelreading.proofs.Places.{argument-place}
-use mathlib.Core.Path.{_≡_, refl, sym, ap, _∙_}
+-- Each case of what is due as in the definition; the place of an argument is below 3, so the next one fits.
+use mathlib.Core.Path.{sym, _∙_}
 use native.Mathlib.Omega.{arith}
-use borrow.Author.Needs.{needs}
 use borrow.Author.Tests.{eq-eqb, le-ltb, lt-ltb, ne-eqb}
-use Rattle.models.specs.Reading.{afterDue}
 use borrow.Author.Needs.{needs}
+use Rattle.models.specs.Reading.{afterDue}
+use Rattle.modelreading.proofs.Places.{argument-place}
 use Rattle.modelreading.proofs.steps.after_due.Statement.{statement}
 use Rattle.modelreading.proofs.steps.after_due.Tie as tie
-use Rattle.modelreading.proofs.steps.after_due.Reads as reads
-use Rattle.modelreading.proofs.steps.after_due.Lts as lts
-use Rattle.modelreading.proofs.shapes.argument_of.Reads as argument-of-reads
-use Rattle.modelreading.proofs.steps.after_argument.Reads as after-argument-reads
-use Rattle.modelreading.proofs.steps.after_head.Reads as after-head-reads
-use Rattle.modelreading.proofs.steps.after_start.Reads as after-start-reads
-use Rattle.modelreading.proofs.steps.arguments.Reads as arguments-reads
 
--- src/steps.rt:71:23
 enum-told : tie.Need-enum-told
 enum-told c = search needs
 
--- src/steps.rt:71:23
 after-start-requires : tie.Need-after-start-requires
 after-start-requires c κs = search needs
 
--- src/steps.rt:72:26
 enum-told-2 : tie.Need-enum-told-2
 enum-told-2 c = search needs
 
--- src/steps.rt:74:13
 enum-known-due : tie.Need-enum-known-due
 enum-known-due c = search needs
 
--- src/steps.rt:81:34
 sub-arguments : tie.Need-sub-arguments
 sub-arguments c = search needs
 
--- src/steps.rt:81:17
 arguments-requires : tie.Need-arguments-requires
 arguments-requires c κs = search needs
 
--- src/steps.rt:81:17
 returns : tie.Need-returns
 unfolding afterDue
 returns c = rw (c .before .before .before .due .given .1, lt-ltb _ _ (c .before .if1 .taken)) (c .arguments .ensures)
 
--- src/steps.rt:84:37
 sub-arguments-2 : tie.Need-sub-arguments-2
 sub-arguments-2 c = search needs
 
--- src/steps.rt:84:17
 arguments-requires-2 : tie.Need-arguments-requires-2
 arguments-requires-2 c κs = search needs
 
--- src/steps.rt:84:17
 returns-2 : tie.Need-returns-2
 unfolding afterDue
 returns-2 c = rw (c .before .before .before .before .due .given .1, le-ltb _ _ (c .before .before .if1 .left), lt-ltb _ _ (c .before .if2 .taken)) (c .arguments2 .ensures)
 
--- src/steps.rt:86:17
 argument-of-requires : tie.Need-argument-of-requires
 argument-of-requires c κs = search needs
 
--- src/steps.rt:88:17
 after-head-requires : tie.Need-after-head-requires
 after-head-requires c κs = search needs
 
--- src/steps.rt:88:17
 returns-3 : tie.Need-returns-3
 unfolding afterDue
 returns-3 c = rw (c .before .before .before .before .before .before .due .given .1, le-ltb _ _ (c .before .before .before .before .if1 .left), le-ltb _ _ (c .before .before .before .if2 .left), ← c .before .before .argument-of .ensures, eq-eqb _ _ (c .before .if3 .taken)) (c .after-head .ensures)
 
--- src/steps.rt:90:44
 add-after-argument : tie.Need-add-after-argument
 add-after-argument c =
     let d = c .before .before .before .before .before .due .given .0 .1 .1 .1 in
     record { fits = omega (arith, argument-place (d .0) (d .1 .0) (λ e. c .if3 .left (c .before .argument-of .ensures ∙ sym e))) }
 
--- src/steps.rt:90:13
 after-argument-requires : tie.Need-after-argument-requires
 after-argument-requires c κs = search needs
 
--- src/steps.rt:92:23
 enum-told-3 : tie.Need-enum-told-3
 enum-told-3 c = search needs
 
--- src/steps.rt:67:1
 returns-4 : tie.Need-returns-4
 unfolding afterDue
 returns-4 c = rw (c .before .enum-told .given .1) (c .after-start .ensures)
 
--- src/steps.rt:67:1
 returns-5 : tie.Need-returns-5
 unfolding afterDue
 returns-5 c = rw (c .enum-told2 .given .1)
 
--- src/steps.rt:67:1
 returns-6 : tie.Need-returns-6
 unfolding afterDue
 returns-6 c = rw (c .before .before .before .before .before .before .due .given .1, le-ltb _ _ (c .before .before .before .before .if1 .left), le-ltb _ _ (c .before .before .before .if2 .left), ← c .before .before .argument-of .ensures, ne-eqb _ _ (c .before .if3 .left)) (c .after-argument .ensures)
 
--- src/steps.rt:67:1
 returns-7 : tie.Need-returns-7
 unfolding afterDue
 returns-7 c = rw (c .enum-told3 .given .1)

@@ -1,35 +1,24 @@
-use mathlib.Core.Path.{_≡_, refl, sym, ap, _∙_}
-use native.Mathlib.Omega.{arith}
-use borrow.Author.Needs.{needs}
+-- The code tests the word as the definition does.
 use borrow.Author.Tests.{eq-eqb, ne-eqb}
-use Rattle.models.specs.Reading.{afterDue}
 use borrow.Author.Needs.{needs}
+use Rattle.models.specs.Reading.{afterDue}
 use Rattle.modelreading.proofs.steps.after_start.Statement.{statement}
 use Rattle.modelreading.proofs.steps.after_start.Tie as tie
-use Rattle.modelreading.proofs.steps.after_start.Reads as reads
-use Rattle.modelreading.proofs.steps.after_start.Lts as lts
-use Rattle.modelreading.proofs.steps.after_head.Reads as after-head-reads
-use Rattle.words.proofs.kind_of.Reads as kind-of-reads
 
--- src/steps.rt:36:9
 kind-of-requires : tie.Need-kind-of-requires
 kind-of-requires c κs = search needs
 
--- src/steps.rt:38:9
 returns : tie.Need-returns
 unfolding afterDue
 returns c = rw (← c .before .kind-of .ensures, eq-eqb _ _ (c .if1 .taken))
 
--- src/steps.rt:41:9
 returns-2 : tie.Need-returns-2
 unfolding afterDue
 returns-2 c = rw (← c .before .before .kind-of .ensures, ne-eqb _ _ (c .before .if1 .left), eq-eqb _ _ (c .if2 .taken))
 
--- src/steps.rt:43:5
 after-head-requires : tie.Need-after-head-requires
 after-head-requires c κs = search needs
 
--- src/steps.rt:33:1
 returns-3 : tie.Need-returns-3
 unfolding afterDue
 returns-3 c = rw (← c .before .before .before .kind-of .ensures, ne-eqb _ _ (c .before .before .if1 .left), ne-eqb _ _ (c .before .if2 .left)) (c .after-head .ensures)

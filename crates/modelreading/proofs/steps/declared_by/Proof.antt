@@ -1,30 +1,21 @@
-use mathlib.Core.Path.{_≡_, refl, sym, ap, _∙_}
-use native.Mathlib.Omega.{arith}
-use borrow.Author.Needs.{needs}
+-- The code tests the word as the definition does.
 use borrow.Author.Tests.{eq-eqb, ne-eqb}
-use Rattle.models.specs.Reading.{declared}
 use borrow.Author.Needs.{needs}
+use Rattle.models.specs.Reading.{declared}
 use Rattle.modelreading.proofs.steps.declared_by.Statement.{statement}
 use Rattle.modelreading.proofs.steps.declared_by.Tie as tie
-use Rattle.modelreading.proofs.steps.declared_by.Reads as reads
-use Rattle.modelreading.proofs.steps.declared_by.Lts as lts
-use Rattle.words.proofs.kind_of.Reads as kind-of-reads
 
--- src/steps.rt:100:9
 kind-of-requires : tie.Need-kind-of-requires
 kind-of-requires c κs = search needs
 
--- src/steps.rt:102:9
 returns : tie.Need-returns
 unfolding declared
 returns c = rw (← c .before .kind-of .ensures, eq-eqb _ _ (c .if1 .taken))
 
--- src/steps.rt:105:9
 returns-2 : tie.Need-returns-2
 unfolding declared
 returns-2 c = rw (← c .before .before .kind-of .ensures, ne-eqb _ _ (c .before .if1 .left), eq-eqb _ _ (c .if2 .taken))
 
--- src/steps.rt:97:1
 returns-3 : tie.Need-returns-3
 unfolding declared
 returns-3 c = rw (← c .before .before .kind-of .ensures, ne-eqb _ _ (c .before .if1 .left), ne-eqb _ _ (c .if2 .left))
