@@ -1,0 +1,3 @@
+-- Laws for proofs about the variables of words.
+pub mod Walk
+pub mod Small

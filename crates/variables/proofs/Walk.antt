@@ -1,0 +1,103 @@
+-- The walks over the variables: what is left from a place on, and one law for each way a turn ends.
+use mathlib.Core.Path.{_≡_, refl, ap, sym, _∙_}
+use mathlib.Core.Bool.{Bool, true, false, _||_}
+use mathlib.Core.List.{List, [], _∷_}
+use Prim.Native.Nat.{ℕ, _+_, _<_, _≤_}
+use native.Mathlib.Omega.{arith}
+use lib.Dec.{eqb}
+use lib.IntN.{ℤ}
+use lib.ListN.{length, getD, drop, drop-of-length-le}
+use lib.Seq.{getD-drop}
+use Rattle.integers.specs.Choice.{_if_else_}
+use Rattle.integers.specs.Bounds.{_to_, bit, within}
+use Rattle.integers.specs.Terms.{value}
+use Rattle.integers.specs.declared.Bounds.{Bounds}
+use Rattle.integers.proofs.Tests.{false-true}
+use Rattle.words.specs.Answer.{Answer, holds, outOfBounds}
+use Rattle.words.specs.Judge.{firstOutOfBounds}
+use Rattle.words.specs.Variables.{startsPair, variables}
+use Rattle.words.specs.Word.{kind, signed, wordAt}
+use Rattle.words.proofs.Reading.{word-then}
+use Rattle.variables.specs.Start.{starts, boundsOf}
+
+-- the variables of a list that begins with a word
+first-none : (w : ℕ) (ws : List ℕ) → starts w ≡ false → variables (w ∷ ws) ≡ variables ws
+unfolding starts variables
+first-none w ws = go (startsPair w) (eqb (kind w) 3)
+  where
+    go : (a b : Bool) → (a || b) ≡ false → ((signed w to signed (wordAt ws 0)) ∷ variables ws if a else bit ∷ variables ws if b else variables ws) ≡ variables ws
+    go true b e = false-true (sym e)
+    go false true e = false-true (sym e)
+    go false false e = refl
+
+first-one : (w : ℕ) (ws : List ℕ) → starts w ≡ true → variables (w ∷ ws) ≡ boundsOf w (wordAt ws 0) ∷ variables ws
+unfolding starts variables boundsOf
+first-one w ws = go (startsPair w) (eqb (kind w) 3)
+  where
+    B : Bounds
+    B = signed w to signed (wordAt ws 0)
+
+    go : (a b : Bool) → (a || b) ≡ true → (B ∷ variables ws if a else bit ∷ variables ws if b else variables ws) ≡ (B if a else bit) ∷ variables ws
+    go true b e = refl
+    go false true e = refl
+    go false false e = false-true e
+
+-- and from a place on
+at-none : (ws : List ℕ) (at : ℕ) → at < length ws → starts (getD ws at 0) ≡ false → variables (drop at ws) ≡ variables (drop (at + 1) ws)
+at-none ws at h e = ap variables (word-then ws at h) ∙ first-none (getD ws at 0) (drop (at + 1) ws) e
+
+at-one : (ws : List ℕ) (at : ℕ) → at < length ws → starts (getD ws at 0) ≡ true →
+    variables (drop at ws) ≡ boundsOf (getD ws at 0) (wordAt ws (at + 1)) ∷ variables (drop (at + 1) ws)
+unfolding wordAt
+at-one ws at h e =
+    let z : at + 1 + 0 ≡ at + 1 = omega arith in
+    let n : wordAt (drop (at + 1) ws) 0 ≡ wordAt ws (at + 1) = getD-drop (at + 1) ws 0 0 ∙ ap (λ (i : ℕ). getD ws i 0) z in
+    ap variables (word-then ws at h)
+    ∙ first-one (getD ws at 0) (drop (at + 1) ws) e
+    ∙ ap (λ (u : ℕ). boundsOf (getD ws at 0) u ∷ variables (drop (at + 1) ws)) n
+
+at-last : (ws : List ℕ) (at : ℕ) → length ws ≤ at → variables (drop at ws) ≡ []
+unfolding variables
+at-last ws at h = rw (drop-of-length-le ws h)
+
+-- ---- counting: n variables stand before the place
+pub record Counted (ws : List ℕ) (n at : ℕ) : Type 0 where
+  pub few : n ≤ at
+  pub number : n + length (variables (drop at ws)) ≡ length (variables ws)
+
+module _ {ws : List ℕ} {n at : ℕ} (k : Counted ws n at) where
+  pub count-none : at < length ws → starts (getD ws at 0) ≡ false → Counted ws n (at + 1)
+  count-none h e = record { few = omega (arith, k .few); number = rw (at-none ws at h e) at (k .number) }
+
+  pub count-one : at < length ws → starts (getD ws at 0) ≡ true → Counted ws (n + 1) (at + 1)
+  count-one h e = record { few = omega (arith, k .few); number = omega (arith, rw (at-one ws at h e) at (k .number)) }
+
+  pub counted : length ws ≤ at → n ≡ length (variables ws)
+  counted h = omega (arith, rw (at-last ws at h) at (k .number))
+
+-- ---- judging: x variables stand before the place, and their values keep their bounds
+abbrev outFrom : List ℤ → ℕ → List ℕ → Answer
+outFrom vs x ws = firstOutOfBounds (value vs) x (variables ws) holds
+
+pub record Kept (ws : List ℕ) (vs : List ℤ) (x at : ℕ) : Type 0 where
+  pub few : x ≤ at
+  pub rest : outFrom vs x (drop at ws) ≡ outFrom vs 0 ws
+
+module _ {ws : List ℕ} {vs : List ℤ} {x at : ℕ} (k : Kept ws vs x at) where
+  abbrev kept : Bool
+  kept = within (boundsOf (getD ws at 0) (wordAt ws (at + 1))) (value vs x)
+
+  pub keep-none : at < length ws → starts (getD ws at 0) ≡ false → Kept ws vs x (at + 1)
+  keep-none h e = record { few = omega (arith, k .few); rest = rw (at-none ws at h e) at (k .rest) }
+
+  pub keep-one : at < length ws → starts (getD ws at 0) ≡ true → kept ≡ true → Kept ws vs (x + 1) (at + 1)
+  unfolding firstOutOfBounds
+  keep-one h e t = record { few = omega (arith, k .few); rest = rw (at-one ws at h e, t) at (k .rest) }
+
+  pub break-one : at < length ws → starts (getD ws at 0) ≡ true → kept ≡ false → outOfBounds x ≡ outFrom vs 0 ws
+  unfolding firstOutOfBounds
+  break-one h e t = rw (at-one ws at h e, t) at (k .rest)
+
+  pub keep-all : length ws ≤ at → holds ≡ outFrom vs 0 ws
+  unfolding firstOutOfBounds
+  keep-all h = rw (at-last ws at h) at (k .rest)

@@ -1,0 +1,97 @@
+-- The loop's invariant: judging the rest from here gives what judging the whole gives.
+use mathlib.Core.Path.{_≡_, sym, _∙_}
+use Prim.Native.Nat.{_-_, _+_}
+use lib.ListN.{length, getD}
+use mir.Facts.{toZ-ofZ}
+use borrow.Author.Tests.{not-true, not-false}
+use borrow.Author.Needs.{needs}
+use Rattle.integers.specs.Bounds.{within}
+use Rattle.integers.specs.Terms.{value}
+use Rattle.words.specs.Verdict.{verdict}
+use Rattle.words.specs.Word.{wordAt}
+use Rattle.variables.specs.Start.{boundsOf}
+use Rattle.variables.proofs.Walk.{Kept, keep-none, keep-one, break-one, keep-all}
+use Rattle.variables.proofs.first_out_of_bounds.Statement.{statement}
+use Rattle.variables.proofs.first_out_of_bounds.Tie as tie
+
+abbrev Inv-loop : tie.InvT-loop
+Inv-loop ws values at₀ x₀ at x = Kept ws values x at
+
+abbrev μ-loop : tie.MeasureT-loop
+μ-loop ws values at₀ x₀ at x = length ws - at
+
+-- what keeps says of the variable
+said : (c : tie.After-keeps Inv-loop μ-loop) →
+    let a = c .before .before .before .before .before .before .before .before .before .args in
+    let p = c .before .before .before .before .before .before .before .loop in
+    within (boundsOf (getD (a .ws .now) (p .at) 0) (wordAt (a .ws .now) (p .at + 1))) (value (a .values .now) (p .x)) ≡ c .keeps .result
+said c = sym (c .keeps .ensures ∙ rw (toZ-ofZ (record { sfits = c .before .value-at .ok }), c .before .value-at .ensures, c .before .before .word-at .ensures))
+
+loop-holds : tie.Need-loop-holds Inv-loop μ-loop
+loop-holds c = search needs
+
+mul-w : tie.Need-mul-w Inv-loop μ-loop
+mul-w c = search needs
+
+shared-slice-read-w : tie.Need-shared-slice-read-w Inv-loop μ-loop
+shared-slice-read-w c = search needs
+
+add-at : tie.Need-add-at Inv-loop μ-loop
+add-at c = search needs
+
+starts-variable-requires : tie.Need-starts-variable-requires Inv-loop μ-loop
+starts-variable-requires c κs = search needs
+
+word-at-requires : tie.Need-word-at-requires Inv-loop μ-loop
+word-at-requires c κs = search needs
+
+value-at-requires : tie.Need-value-at-requires Inv-loop μ-loop
+value-at-requires c κs = search needs
+
+keeps-requires : tie.Need-keeps-requires Inv-loop μ-loop
+keeps-requires c κs = search needs
+
+returns : tie.Need-returns Inv-loop μ-loop
+unfolding verdict
+returns c = break-one (c .before .before .before .before .before .before .before .before .loop .inv) (c .before .before .before .before .before .before .before .loop-test .taken) (sym (c .before .before .before .before .before .starts-variable .ensures) ∙ c .before .before .before .before .if1 .taken) (said (c .before) ∙ not-true _ (c .if2 .taken))
+
+add-x : tie.Need-add-x Inv-loop μ-loop
+add-x c = search needs
+
+loop-less : tie.Need-loop-less Inv-loop μ-loop
+loop-less c = search needs
+
+loop-again : tie.Need-loop-again Inv-loop μ-loop
+loop-again c = keep-one (c .before .before .before .before .before .before .before .before .loop .inv) (c .before .before .before .before .before .before .before .loop-test .taken) (sym (c .before .before .before .before .before .starts-variable .ensures) ∙ c .before .before .before .before .if1 .taken) (said (c .before) ∙ not-false _ (c .if2 .left))
+
+loop-less-2 : tie.Need-loop-less-2 Inv-loop μ-loop
+loop-less-2 c = search needs
+
+loop-again-2 : tie.Need-loop-again-2 Inv-loop μ-loop
+loop-again-2 c = keep-none (c .before .before .before .before .loop .inv) (c .before .before .before .loop-test .taken) (sym (c .before .starts-variable .ensures) ∙ c .if1 .left)
+
+returns-2 : tie.Need-returns-2 Inv-loop μ-loop
+unfolding verdict
+returns-2 c = keep-all (c .before .loop .inv) (c .loop-test .left)
+
+pub first-out-of-bounds-spec : {M : Type 1} → statement M
+first-out-of-bounds-spec =
+    tie.close
+    (tie.spec
+    Inv-loop
+    μ-loop
+    loop-holds
+    mul-w
+    shared-slice-read-w
+    add-at
+    starts-variable-requires
+    word-at-requires
+    value-at-requires
+    keeps-requires
+    returns
+    add-x
+    loop-less
+    loop-again
+    loop-less-2
+    loop-again-2
+    returns-2)
