@@ -1,17 +1,19 @@
--- How large the arguments of a constraint are.
+-- How large the arguments of a constraint are, and what is read back of them.
 use mathlib.Core.Path.{_≡_, refl, sym, _∙_}
 use mathlib.Core.Bool.{Bool, true, false, not}
 use mathlib.Core.List.{List}
-use Prim.Native.Nat.{ℕ, _≤_}
+use Prim.Native.Nat.{ℕ, _<_, _≤_}
 use native.Mathlib.Omega.{arith}
 use lib.Dec.{T, ltb, ltb→lt, nltb→le, leb, leb→le, leb·zero}
 use lib.IntN.{ℤ, pos, negsuc, natAbs}
 use lib.Signed.{leZ, mag}
+use mir.Syntax.{w64}
+use mir.Val.{toZ, ofZ}
 use Rattle.integers.specs.Choice.{_if_else_}
 use Rattle.integers.specs.Number.{_⊗_, count}
 use Rattle.integers.specs.Terms.{value}
 use Rattle.integers.proofs.Tests.{false-true}
-use Rattle.integers.proofs.Fits.{times-size, mul-le}
+use Rattle.integers.proofs.Fits.{times-size, mul-le, back}
 use Rattle.words.specs.Word.{signed, payload, wordAt}
 use Rattle.models.specs.Model.{var, num, size}
 use Rattle.arguments.specs.Small.{Small}
@@ -47,3 +49,7 @@ pub count-below : (z : ℤ) → leZ (pos 0) z ≡ false → count z ≡ 0
 unfolding count
 count-below (pos n) t = false-true (sym t ∙ leb·zero n)
 count-below (negsuc n) t = refl
+
+-- what a call gave, read back: `read (c .f .ok) (c .f .ensures)`
+pub read : {z y : ℤ} → mag z < 9223372036854775808 → z ≡ y → toZ w64 (ofZ w64 z) ≡ y
+read {z} h e = back z h ∙ e

@@ -6,12 +6,11 @@ use mir.Syntax.{w64}
 use mir.Val.{toZ}
 use mir.Facts.{toZ-ofZ}
 use borrow.Author.Needs.{needs}
-use Rattle.integers.proofs.Fits.{back}
 use Rattle.integers.specs.Number.{_==_}
 use Rattle.integers.specs.Lists.{listOf, howMany}
 use Rattle.integers.specs.Terms.{value}
 use Rattle.models.specs.Model.{var, vars}
-use Rattle.arguments.proofs.Size.{size-le}
+use Rattle.arguments.proofs.Size.{size-le, read}
 use Rattle.arguments.proofs.Walk.{howMany-more, bit-le}
 use Rattle.arguments.proofs.how_many.Statement.{statement}
 use Rattle.arguments.proofs.how_many.Tie as tie
@@ -55,7 +54,7 @@ loop-less c = search needs
 
 loop-again : tie.Need-loop-again Inv-loop μ-loop
 loop-again c =
-    (search needs, search needs, omega (arith, bit-le (c .before .equal .result)), rw (howMany-more, c .before .before .before .before .loop .inv .3, c .one-if .ensures, c .before .equal .ensures, back (c .before .before .value-of .result) (c .before .before .value-of .ok), c .before .before .value-of .ensures))
+    (search needs, search needs, omega (arith, bit-le (c .before .equal .result)), rw (howMany-more, c .before .before .before .before .loop .inv .3, c .one-if .ensures, c .before .equal .ensures, read (c .before .before .value-of .ok) (c .before .before .value-of .ensures)))
 
 returns : tie.Need-returns Inv-loop μ-loop
 unfolding vars

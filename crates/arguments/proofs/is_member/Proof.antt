@@ -6,12 +6,11 @@ use mir.Syntax.{w64}
 use mir.Val.{toZ}
 use mir.Facts.{toZ-ofZ}
 use borrow.Author.Needs.{needs}
-use Rattle.integers.proofs.Fits.{back}
 use Rattle.integers.specs.Number.{_==_}
 use Rattle.integers.specs.Lists.{listOf, any}
 use Rattle.models.specs.Model.{num, nums}
 use Rattle.models.specs.Meaning.{member}
-use Rattle.arguments.proofs.Size.{size-le}
+use Rattle.arguments.proofs.Size.{size-le, read}
 use Rattle.arguments.proofs.Walk.{any-more}
 use Rattle.arguments.proofs.is_member.Statement.{statement}
 use Rattle.arguments.proofs.is_member.Tie as tie
@@ -51,7 +50,7 @@ loop-less : tie.Need-loop-less Inv-loop μ-loop
 loop-less c = search needs
 
 loop-again : tie.Need-loop-again Inv-loop μ-loop
-loop-again c = (search needs, search needs, c .either .ensures ∙ rw (any-more, c .before .before .before .before .loop .inv .2, c .before .equal .ensures, back (c .before .before .num-at .result) (c .before .before .num-at .ok), c .before .before .num-at .ensures))
+loop-again c = (search needs, search needs, c .either .ensures ∙ rw (any-more, c .before .before .before .before .loop .inv .2, c .before .equal .ensures, read (c .before .before .num-at .ok) (c .before .before .num-at .ensures)))
 
 returns : tie.Need-returns Inv-loop μ-loop
 unfolding nums member

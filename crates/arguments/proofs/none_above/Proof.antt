@@ -7,11 +7,10 @@ use mir.Syntax.{w64}
 use mir.Val.{toZ}
 use mir.Facts.{toZ-ofZ}
 use borrow.Author.Needs.{needs}
-use Rattle.integers.proofs.Fits.{back}
 use Rattle.integers.specs.Lists.{listOf, all}
 use Rattle.integers.specs.Terms.{value}
 use Rattle.models.specs.Model.{var, vars}
-use Rattle.arguments.proofs.Size.{size-le}
+use Rattle.arguments.proofs.Size.{size-le, read}
 use Rattle.arguments.proofs.Walk.{all-more}
 use Rattle.arguments.proofs.none_above.Statement.{statement}
 use Rattle.arguments.proofs.none_above.Tie as tie
@@ -51,7 +50,7 @@ loop-less : tie.Need-loop-less Inv-loop μ-loop
 loop-less c = search needs
 
 loop-again : tie.Need-loop-again Inv-loop μ-loop
-loop-again c = (search needs, search needs, c .both .ensures ∙ rw (all-more, c .before .before .before .before .loop .inv .2, c .before .at-most .ensures, back (c .before .before .value-of .result) (c .before .before .value-of .ok), c .before .before .value-of .ensures))
+loop-again c = (search needs, search needs, c .both .ensures ∙ rw (all-more, c .before .before .before .before .loop .inv .2, c .before .at-most .ensures, read (c .before .before .value-of .ok) (c .before .before .value-of .ensures)))
 
 returns : tie.Need-returns Inv-loop μ-loop
 unfolding vars

@@ -7,14 +7,14 @@ use mir.Val.{toZ, ofZ}
 use borrow.Author.Needs.{needs}
 use Rattle.integers.specs.Number.{_⊗_}
 use Rattle.integers.specs.Terms.{value}
-use Rattle.integers.proofs.Fits.{back, times-size}
+use Rattle.integers.proofs.Fits.{times-size}
 use Rattle.models.specs.Model.{num, var}
-use Rattle.arguments.proofs.Size.{product-size}
+use Rattle.arguments.proofs.Size.{product-size, read}
 use Rattle.arguments.proofs.product_at.Statement.{statement}
 use Rattle.arguments.proofs.product_at.Tie as tie
 
 whole : (c : tie.After-value-of) → toZ w64 (ofZ w64 (c .before .num-at .result)) ⊗ toZ w64 (ofZ w64 (c .value-of .result)) ≡ num (c .before .before .before .args .args .now) (c .before .before .before .args .a) ⊗ value (c .before .before .before .args .values .now) (var (c .before .before .before .args .args .now) (c .before .before .before .args .x))
-whole c = rw (back (c .before .num-at .result) (c .before .num-at .ok), back (c .value-of .result) (c .value-of .ok), c .before .num-at .ensures, c .value-of .ensures)
+whole c = rw (read (c .before .num-at .ok) (c .before .num-at .ensures), read (c .value-of .ok) (c .value-of .ensures))
 
 num-at-requires : tie.Need-num-at-requires
 num-at-requires c κs = search needs
@@ -26,7 +26,7 @@ times-requires : tie.Need-times-requires
 times-requires c κs = omega (arith, times-size (toZ w64 (ofZ w64 (c .before .num-at .result))) (toZ w64 (ofZ w64 (c .value-of .result))), ap natAbs (whole c), product-size (c .before .before .before .args .args .now) (c .before .before .before .args .values .now) (c .before .before .before .pre) (c .before .before .before .args .a) (c .before .before .before .args .x))
 
 returns : tie.Need-returns
-returns c = back (c .times .result) (c .times .ok) ∙ c .times .ensures ∙ whole (c .before)
+returns c = read (c .times .ok) (c .times .ensures) ∙ whole (c .before)
 
 pub product-at-spec : {M : Type 1} → statement M
 product-at-spec = tie.close (tie.spec num-at-requires value-of-requires times-requires returns)

@@ -9,10 +9,10 @@ use borrow.Author.Needs.{needs}
 use Rattle.integers.specs.Number.{_⊕_, _⊗_}
 use Rattle.integers.specs.Lists.{listOf}
 use Rattle.integers.specs.Terms.{_·_, value, sum}
-use Rattle.integers.proofs.Fits.{back, plus-size}
+use Rattle.integers.proofs.Fits.{plus-size}
 use Rattle.models.specs.Model.{var, num, past, terms}
 use Rattle.arguments.proofs.Walk.{sum-more}
-use Rattle.arguments.proofs.Size.{size-le, product-size}
+use Rattle.arguments.proofs.Size.{size-le, product-size, read}
 use Rattle.arguments.proofs.sum_of.Statement.{statement}
 use Rattle.arguments.proofs.sum_of.Tie as tie
 
@@ -25,7 +25,7 @@ abbrev μ-loop : tie.MeasureT-loop
 μ-loop args i values n variables k₀ total₀ k total = n - k
 
 term : (c : tie.After-product-at Inv-loop μ-loop) → let a = c .before .before .before .before .before .before .args in toZ w64 (ofZ w64 (c .product-at .result)) ≡ num (a .args .now) (a .i + 1 + c .before .before .loop .k) ⊗ value (a .values .now) (var (a .args .now) (c .before .before .before .past-at .result + c .before .before .loop .k))
-term c = back (c .product-at .result) (c .product-at .ok) ∙ c .product-at .ensures
+term c = read (c .product-at .ok) (c .product-at .ensures)
 
 term-size : (c : tie.After-product-at Inv-loop μ-loop) → natAbs (toZ w64 (ofZ w64 (c .product-at .result))) ≤ 18014398509481984
 term-size c =
@@ -33,7 +33,7 @@ term-size c =
     rw (term c) (product-size (a .args .now) (a .values .now) (c .before .before .before .before .before .before .pre .1) (a .i + 1 + c .before .before .loop .k) (c .before .before .before .past-at .result + c .before .before .loop .k))
 
 next : (c : tie.After-plus Inv-loop μ-loop) → toZ w64 (ofZ w64 (c .plus .result)) ≡ toZ w64 (c .before .before .before .loop .total) ⊕ toZ w64 (ofZ w64 (c .before .product-at .result))
-next c = back (c .plus .result) (c .plus .ok) ∙ c .plus .ensures
+next c = read (c .plus .ok) (c .plus .ensures)
 
 size-at-requires : tie.Need-size-at-requires Inv-loop μ-loop
 size-at-requires c κs = search needs

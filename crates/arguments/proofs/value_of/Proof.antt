@@ -1,7 +1,7 @@
 -- The value of the variable that is read.
 use mathlib.Core.Path.{_∙_}
 use borrow.Author.Needs.{needs}
-use Rattle.integers.proofs.Fits.{back}
+use Rattle.arguments.proofs.Size.{read}
 use Rattle.arguments.proofs.value_of.Statement.{statement}
 use Rattle.arguments.proofs.value_of.Tie as tie
 
@@ -12,7 +12,7 @@ value-at-requires : tie.Need-value-at-requires
 value-at-requires c κs = search needs
 
 returns : tie.Need-returns
-returns c = back (c .value-at .result) (c .value-at .ok) ∙ c .value-at .ensures ∙ rw (c .before .var-at .ensures)
+returns c = read (c .value-at .ok) (c .value-at .ensures) ∙ rw (c .before .var-at .ensures)
 
 pub value-of-spec : {M : Type 1} → statement M
 value-of-spec = tie.close (tie.spec var-at-requires value-at-requires returns)

@@ -1,0 +1,3 @@
+-- Laws for proofs about builtins.
+pub mod Element
+pub mod Coded

@@ -1,0 +1,28 @@
+-- The test of the sum and the number after the terms.
+use mathlib.Core.Path.{_∙_}
+use borrow.Author.Needs.{needs}
+use Rattle.models.specs.Meaning.{meaning}
+use Rattle.arguments.proofs.Size.{read}
+use Rattle.builtins.proofs.linear.int_lin_le.Statement.{statement}
+use Rattle.builtins.proofs.linear.int_lin_le.Tie as tie
+
+sum-of-requires : tie.Need-sum-of-requires
+sum-of-requires c κs = search needs
+
+past-terms-at-requires : tie.Need-past-terms-at-requires
+past-terms-at-requires c κs = search needs
+
+num-at-requires : tie.Need-num-at-requires
+num-at-requires c κs = search needs
+
+at-most-requires : tie.Need-at-most-requires
+at-most-requires c κs = search needs
+
+returns : tie.Need-returns
+unfolding meaning
+returns c = c .at-most .ensures ∙ rw (read (c .before .before .before .sum-of .ok) (c .before .before .before .sum-of .ensures), read (c .before .num-at .ok) (c .before .num-at .ensures), c .before .before .past-terms-at .ensures)
+
+pub int-lin-le-spec : {M : Type 1} → statement M
+int-lin-le-spec =
+    tie.close
+    (tie.spec sum-of-requires past-terms-at-requires num-at-requires at-most-requires returns)

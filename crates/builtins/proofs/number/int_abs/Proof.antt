@@ -1,0 +1,40 @@
+-- The absolute value is the larger of a number and its opposite.
+use mathlib.Core.Path.{_∙_}
+use native.Mathlib.Omega.{arith}
+use borrow.Author.Needs.{needs}
+use Rattle.models.specs.Meaning.{meaning}
+use Rattle.models.specs.Model.{var}
+use Rattle.arguments.proofs.Size.{read}
+use Rattle.builtins.proofs.Coded.{abs-max}
+use Rattle.builtins.proofs.number.int_abs.Statement.{statement}
+use Rattle.builtins.proofs.number.int_abs.Tie as tie
+
+value-of-requires : tie.Need-value-of-requires
+value-of-requires c κs = search needs
+
+opposite-requires : tie.Need-opposite-requires
+opposite-requires c κs = rw (read (c .value-of .ok) (c .value-of .ensures)) (omega (arith, c .before .before .pre (var (c .before .before .args .args .now) 0)))
+
+largest-requires : tie.Need-largest-requires
+largest-requires c κs = search needs
+
+value-of-requires-2 : tie.Need-value-of-requires-2
+value-of-requires-2 c κs = search needs
+
+equal-requires : tie.Need-equal-requires
+equal-requires c κs = search needs
+
+returns : tie.Need-returns
+unfolding meaning
+returns c = c .equal .ensures ∙ rw (read (c .before .before .largest .ok) (c .before .before .largest .ensures), read (c .before .before .before .opposite .ok) (c .before .before .before .opposite .ensures), read (c .before .before .before .before .value-of .ok) (c .before .before .before .before .value-of .ensures), read (c .before .value-of2 .ok) (c .before .value-of2 .ensures), abs-max)
+
+pub int-abs-spec : {M : Type 1} → statement M
+int-abs-spec =
+    tie.close
+    (tie.spec
+    value-of-requires
+    opposite-requires
+    largest-requires
+    value-of-requires-2
+    equal-requires
+    returns)

@@ -1,0 +1,39 @@
+-- The sum of two small values fits.
+use mathlib.Core.Path.{_∙_}
+use native.Mathlib.Omega.{arith}
+use borrow.Author.Needs.{needs}
+use Rattle.models.specs.Meaning.{meaning}
+use Rattle.models.specs.Model.{var}
+use Rattle.arguments.proofs.Size.{read}
+use Rattle.builtins.proofs.number.int_plus.Statement.{statement}
+use Rattle.builtins.proofs.number.int_plus.Tie as tie
+
+value-of-requires : tie.Need-value-of-requires
+value-of-requires c κs = search needs
+
+value-of-requires-2 : tie.Need-value-of-requires-2
+value-of-requires-2 c κs = search needs
+
+plus-requires : tie.Need-plus-requires
+plus-requires c κs = rw (read (c .before .value-of .ok) (c .before .value-of .ensures), read (c .value-of2 .ok) (c .value-of2 .ensures)) (omega (arith, c .before .before .before .pre (var (c .before .before .before .args .args .now) 0), c .before .before .before .pre (var (c .before .before .before .args .args .now) 1)))
+
+value-of-requires-3 : tie.Need-value-of-requires-3
+value-of-requires-3 c κs = search needs
+
+equal-requires : tie.Need-equal-requires
+equal-requires c κs = search needs
+
+returns : tie.Need-returns
+unfolding meaning
+returns c = c .equal .ensures ∙ rw (read (c .before .before .plus .ok) (c .before .before .plus .ensures), read (c .before .before .before .before .value-of .ok) (c .before .before .before .before .value-of .ensures), read (c .before .before .before .value-of2 .ok) (c .before .before .before .value-of2 .ensures), read (c .before .value-of3 .ok) (c .before .value-of3 .ensures))
+
+pub int-plus-spec : {M : Type 1} → statement M
+int-plus-spec =
+    tie.close
+    (tie.spec
+    value-of-requires
+    value-of-requires-2
+    plus-requires
+    value-of-requires-3
+    equal-requires
+    returns)

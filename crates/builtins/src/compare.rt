@@ -1,0 +1,62 @@
+// Codes 1 to 5: comparisons of two variables; and those that mean the same, 14, 16 and 17.
+ghost use mathlib.Core.Path.{_≡_};
+ghost use Prim.Native.Nat.{ℕ, _≤_, _<_};
+ghost use Rattle.integers.specs.Terms.{value};
+ghost use Rattle.models.specs.Builtin.{int-eq, int-le, int-lt, int-ne, int-le-reif, int-eq-reif};
+ghost use Rattle.models.specs.Meaning.{meaning};
+ghost use Rattle.builtins.specs.Coded.{builtinOf, two, three};
+use arguments::agree;
+use arguments::at_most;
+use arguments::below;
+use arguments::is_on;
+use arguments::value_of;
+use integers::equal;
+
+// Whether int_eq is true.
+pub fn int_eq(args: &[u32], values: &[i32]) -> bool
+    ensures { λ r. ⌜ r ≡ meaning (value (now (values .entry))) (two int-eq (now (args .entry))) ⌝ }
+{
+    equal(value_of(args, 0, values), value_of(args, 1, values))
+}
+
+// Whether int_le is true.
+pub fn int_le(args: &[u32], values: &[i32]) -> bool
+    ensures { λ r. ⌜ r ≡ meaning (value (now (values .entry))) (two int-le (now (args .entry))) ⌝ }
+{
+    at_most(value_of(args, 0, values), value_of(args, 1, values))
+}
+
+// Whether int_lt is true.
+pub fn int_lt(args: &[u32], values: &[i32]) -> bool
+    ensures { λ r. ⌜ r ≡ meaning (value (now (values .entry))) (two int-lt (now (args .entry))) ⌝ }
+{
+    below(value_of(args, 0, values), value_of(args, 1, values))
+}
+
+// Whether int_le_reif is true.
+pub fn int_le_reif(args: &[u32], values: &[i32]) -> bool
+    ensures { λ r. ⌜ r ≡ meaning (value (now (values .entry))) (three int-le-reif (now (args .entry))) ⌝ }
+{
+    agree(is_on(args, 2, values), int_le(args, values))
+}
+
+// Whether int_eq_reif is true.
+pub fn int_eq_reif(args: &[u32], values: &[i32]) -> bool
+    ensures { λ r. ⌜ r ≡ meaning (value (now (values .entry))) (three int-eq-reif (now (args .entry))) ⌝ }
+{
+    agree(is_on(args, 2, values), int_eq(args, values))
+}
+
+// Whether a builtin of a code from 1 to 5 is true.
+pub fn holds(code: usize, args: &[u32], values: &[i32]) -> bool
+    requires { ⌜ (1 ≤ code) × (code < 6) ⌝ }
+    ensures { λ r. ⌜ r ≡ meaning (value (now (values .entry))) (builtinOf code (now (args .entry))) ⌝ }
+{
+    match code {
+        1 => int_eq(args, values),
+        2 => int_le(args, values),
+        3 => int_lt(args, values),
+        4 => !int_eq(args, values),
+        _ => int_le_reif(args, values),
+    }
+}
