@@ -1,15 +1,17 @@
 // The arguments of a constraint, read from the words after its head: variables, numbers, lists, and sums and tests over them.
 ghost use mathlib.Core.Path.{_≡_};
-ghost use mathlib.Core.Bool.{_&&_, _||_, Bool·beq};
-ghost use Prim.Native.Nat.{ℕ, _<_};
-ghost use lib.Signed.{leZ, ltZ};
-ghost use Rattle.integers.specs.Choice.{_if_else_};
+ghost use Prim.Native.Nat.{_<_};
+ghost use lib.Signed.{leZ};
 ghost use Rattle.integers.specs.Number.{_⊗_, _==_, count};
 ghost use Rattle.integers.specs.Lists.{all, any, howMany};
 ghost use Rattle.integers.specs.Terms.{value, sum};
 ghost use Rattle.models.specs.Model.{var, num, size, past, pastTerms, vars, nums, terms};
 ghost use Rattle.models.specs.Meaning.{on, member};
 ghost use Rattle.arguments.specs.Small.{Small};
+use crate::test::at_most;
+use crate::test::both;
+use crate::test::either;
+use crate::test::one_if;
 use integers::equal;
 use integers::plus;
 use integers::times;
@@ -18,6 +20,8 @@ use words::payload_of;
 use words::signed_of;
 use words::value_at;
 use words::word_at;
+
+pub mod test;
 
 // The variable at place i.
 pub fn var_at(args: &[u32], i: usize) -> usize
@@ -74,20 +78,6 @@ pub fn is_on(args: &[u32], i: usize, values: &[i32]) -> bool
     equal(value_of(args, i, values), 1)
 }
 
-// Whether a is not above b.
-pub fn at_most(a: i64, b: i64) -> bool
-    ensures { λ r. ⌜ r ≡ leZ a b ⌝ }
-{
-    a <= b
-}
-
-// Whether a is below b.
-pub fn below(a: i64, b: i64) -> bool
-    ensures { λ r. ⌜ r ≡ ltZ a b ⌝ }
-{
-    a < b
-}
-
 // A number that is not negative, as a count; 0 for a negative one.
 pub fn count_of(v: i64) -> usize
     ensures { λ r. ⌜ r ≡ count v ⌝ }
@@ -96,52 +86,6 @@ pub fn count_of(v: i64) -> usize
         return v as usize;
     }
     0
-}
-
-// 1 where the test is true, else 0.
-pub fn one_if(test: bool) -> usize
-    ensures { λ r. ⌜ r ≡ (1 if test else 0) ⌝ }
-{
-    if test {
-        return 1;
-    }
-    0
-}
-
-// Whether both are true.
-pub fn both(a: bool, b: bool) -> bool
-    ensures { λ r. ⌜ r ≡ (a && b) ⌝ }
-{
-    if a {
-        return b;
-    }
-    false
-}
-
-// Whether one of two is true.
-pub fn either(a: bool, b: bool) -> bool
-    ensures { λ r. ⌜ r ≡ (a || b) ⌝ }
-{
-    if a {
-        return true;
-    }
-    b
-}
-
-// Whether two tests agree.
-pub fn agree(a: bool, b: bool) -> bool
-    ensures { λ r. ⌜ r ≡ Bool·beq a b ⌝ }
-{
-    if a {
-        if b {
-            return true;
-        }
-        return false;
-    }
-    if b {
-        return false;
-    }
-    true
 }
 
 // How many variables of the list at place i have the value v.

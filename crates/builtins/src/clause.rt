@@ -1,18 +1,18 @@
 // Codes 21 to 23: lists of Boolean variables.
 ghost use mathlib.Core.Path.{_≡_};
-ghost use Prim.Native.Nat.{ℕ, _≤_, _<_};
+ghost use Prim.Native.Nat.{_≤_, _<_};
 ghost use Rattle.integers.specs.Terms.{value};
 ghost use Rattle.models.specs.Builtin.{bool-clause, array-bool-and, array-bool-xor};
 ghost use Rattle.models.specs.Model.{var, vars, past};
 ghost use Rattle.models.specs.Meaning.{meaning};
 ghost use Rattle.builtins.specs.Coded.{builtinOf};
-use arguments::agree;
 use arguments::all_on;
 use arguments::any_equal;
-use arguments::either;
 use arguments::how_many;
 use arguments::is_on;
 use arguments::past_at;
+use arguments::test::agree;
+use arguments::test::either;
 
 // Whether bool_clause is true.
 fn bool_clause(args: &[u32], values: &[i32]) -> bool

@@ -1,14 +1,14 @@
-// Codes 1 to 5: comparisons of two variables; and those that mean the same, 14, 16 and 17.
+// Codes 1 to 5, and 14: comparisons of two variables.
 ghost use mathlib.Core.Path.{_≡_};
-ghost use Prim.Native.Nat.{ℕ, _≤_, _<_};
+ghost use Prim.Native.Nat.{_≤_, _<_};
 ghost use Rattle.integers.specs.Terms.{value};
-ghost use Rattle.models.specs.Builtin.{int-eq, int-le, int-lt, int-ne, int-le-reif, int-eq-reif};
+ghost use Rattle.models.specs.Builtin.{int-eq, int-le, int-lt, int-le-reif, int-eq-reif};
 ghost use Rattle.models.specs.Meaning.{meaning};
 ghost use Rattle.builtins.specs.Coded.{builtinOf, two, three};
-use arguments::agree;
-use arguments::at_most;
-use arguments::below;
 use arguments::is_on;
+use arguments::test::agree;
+use arguments::test::at_most;
+use arguments::test::below;
 use arguments::value_of;
 use integers::equal;
 
@@ -47,7 +47,7 @@ pub fn int_eq_reif(args: &[u32], values: &[i32]) -> bool
     agree(is_on(args, 2, values), int_eq(args, values))
 }
 
-// Whether a builtin of a code from 1 to 5 is true.
+// Whether a builtin of a code from 1 to 5 is true; int_ne is true where int_eq is not.
 pub fn holds(code: usize, args: &[u32], values: &[i32]) -> bool
     requires { ⌜ (1 ≤ code) × (code < 6) ⌝ }
     ensures { λ r. ⌜ r ≡ meaning (value (now (values .entry))) (builtinOf code (now (args .entry))) ⌝ }

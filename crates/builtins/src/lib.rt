@@ -1,6 +1,6 @@
 // Whether a builtin is true of values: by its code and the words of its arguments.
 ghost use mathlib.Core.Path.{_≡_};
-ghost use Prim.Native.Nat.{ℕ, _≤_, _<_};
+ghost use Prim.Native.Nat.{_<_};
 ghost use Rattle.integers.specs.Terms.{value};
 ghost use Rattle.models.specs.Meaning.{meaning};
 ghost use Rattle.arguments.specs.Small.{Small};

@@ -1,18 +1,18 @@
 // Codes 10 to 15: sums of terms compared with a number, and int_eq_reif.
 ghost use mathlib.Core.Path.{_≡_};
-ghost use Prim.Native.Nat.{ℕ, _≤_, _<_};
+ghost use Prim.Native.Nat.{_≤_, _<_};
 ghost use Rattle.integers.specs.Terms.{value};
 ghost use Rattle.models.specs.Builtin.{int-lin-eq, int-lin-le, int-lin-eq-reif, int-lin-le-reif};
 ghost use Rattle.models.specs.Meaning.{meaning};
 ghost use Rattle.arguments.specs.Small.{Small};
 ghost use Rattle.builtins.specs.Coded.{builtinOf, linear, linearReified};
 use crate::compare;
-use arguments::agree;
-use arguments::at_most;
 use arguments::is_on;
 use arguments::num_at;
 use arguments::past_terms_at;
 use arguments::sum_of;
+use arguments::test::agree;
+use arguments::test::at_most;
 use integers::equal;
 
 // Whether int_lin_eq is true.
@@ -59,7 +59,7 @@ fn int_lin_le_reif(args: &[u32], values: &[i32]) -> bool
     )
 }
 
-// Whether a builtin of a code from 10 to 15 is true.
+// Whether a builtin of a code from 10 to 15 is true; int_lin_ne is true where int_lin_eq is not.
 pub fn holds(code: usize, args: &[u32], values: &[i32]) -> bool
     requires { ⌜ (10 ≤ code) × (code < 16) × Small (now values) ⌝ }
     ensures { λ r. ⌜ r ≡ meaning (value (now (values .entry))) (builtinOf code (now (args .entry))) ⌝ }

@@ -1,14 +1,12 @@
 // Codes 24 to 28: elements and maximum of a list, membership.
 ghost use mathlib.Core.Path.{_≡_};
-ghost use Prim.Native.Nat.{ℕ, _≤_, _<_};
+ghost use Prim.Native.Nat.{_≤_, _<_};
 ghost use Rattle.integers.specs.Terms.{value};
 ghost use Rattle.models.specs.Builtin.{array-int-element, array-var-int-element, array-int-maximum, set-in, set-in-reif};
 ghost use Rattle.models.specs.Model.{var, vars, nums, past, size};
 ghost use Rattle.models.specs.Meaning.{meaning};
 ghost use Rattle.builtins.specs.Coded.{builtinOf, indexIn};
-use arguments::agree;
 use arguments::any_equal;
-use arguments::both;
 use arguments::count_of;
 use arguments::is_member;
 use arguments::is_on;
@@ -16,6 +14,8 @@ use arguments::none_above;
 use arguments::num_at;
 use arguments::past_at;
 use arguments::size_at;
+use arguments::test::agree;
+use arguments::test::both;
 use arguments::value_of;
 use integers::equal;
 

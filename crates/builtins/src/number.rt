@@ -1,6 +1,6 @@
 // Codes 6 to 9: arithmetic of variables.
 ghost use mathlib.Core.Path.{_≡_};
-ghost use Prim.Native.Nat.{ℕ, _≤_, _<_};
+ghost use Prim.Native.Nat.{_≤_, _<_};
 ghost use Rattle.integers.specs.Terms.{value};
 ghost use Rattle.models.specs.Builtin.{int-plus, int-times, int-abs, int-max};
 ghost use Rattle.models.specs.Meaning.{meaning};
