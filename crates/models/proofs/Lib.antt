@@ -7,3 +7,4 @@ pub mod Codes
 pub mod Typed
 pub mod Contents
 pub mod Accepted
+pub mod Constraints

@@ -1,3 +1,4 @@
 -- Laws for proofs about the variables of words.
 pub mod Walk
 pub mod Small
+pub mod After

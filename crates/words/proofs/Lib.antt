@@ -4,3 +4,4 @@ pub mod Machine
 pub mod Overlay
 pub mod Reading
 pub mod Judge
+pub mod Answers

@@ -1,11 +1,11 @@
 -- Laws of reading words for the first fault, over any fault of a word: a word refused, a word accepted, the end.
 use mathlib.Core.Path.{_≡_, refl}
 use mathlib.Core.List.{List, [], _∷_}
-use Prim.Native.Nat.{ℕ, zero, suc, _+_, _<_, _≤_}
+use Prim.Native.Nat.{ℕ, zero, suc, _+_, _-_, _<_, _≤_}
 use native.Mathlib.Omega.{arith}
 use native.Mathlib.Numerals.{add-one}
-use lib.ListN.{length, getD, drop, drop-of-length-le}
-use lib.Seq.{drop-cons}
+use lib.ListN.{length, getD, take, drop, length-drop, drop-of-length-le}
+use lib.Seq.{drop-cons, take-all}
 use Rattle.words.specs.declared.Refusal.{Refusal}
 use Rattle.words.specs.Refusal.{_at-place_, faultOr, accepted, firstFault}
 
@@ -20,6 +20,10 @@ no-fault n p after e = rw e
 -- the word at a place, and the words after it
 pub word-then : (ws : List ℕ) (at : ℕ) → at < length ws → drop at ws ≡ getD ws at 0 ∷ drop (at + 1) ws
 word-then ws at h = rw add-one (drop-cons ws at 0 h)
+
+-- the words lent from a place to their end
+pub tail-is : (ws : List ℕ) (at : ℕ) → take (length ws - at) (drop at ws) ≡ drop at ws
+tail-is ws at = take-all (length ws - at) (drop at ws) (omega (arith, length-drop at ws))
 
 -- reading from a place on, in a state; n is the fault of the word there
 module _ {S : Type 0} (fault : S → ℕ → List ℕ → ℕ) (next : S → ℕ → S) (ended : S → ℕ) (s : S) (ws : List ℕ) (at : ℕ) where

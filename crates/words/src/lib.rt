@@ -5,6 +5,8 @@ ghost use lib.ListN.{length};
 ghost use Rattle.integers.specs.Terms.{value};
 ghost use Rattle.words.specs.Word.{kind, payload, signed, inRange, word, complement, numberWord, wordAt};
 ghost use Rattle.words.specs.Overlay.{overlay};
+ghost use Rattle.words.specs.Answer.{isHolds};
+ghost use Rattle.words.specs.Verdict.{verdict};
 
 pub mod fault;
 pub mod kind;
@@ -27,6 +29,18 @@ pub enum Verdict {
     OutOfBounds(usize),
     // the first false constraint or row, counted from 0
     False(usize),
+}
+
+// Whether a judge answers "holds".
+pub fn is_holds(answer: Verdict) -> bool
+    ensures { λ r. ⌜ r ≡ isHolds (verdict answer) ⌝ }
+{
+    match answer {
+        Verdict::Refused(_) => false,
+        Verdict::Holds => true,
+        Verdict::OutOfBounds(_) => false,
+        Verdict::False(_) => false,
+    }
 }
 
 // The kind of a word.
