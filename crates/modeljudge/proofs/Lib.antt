@@ -1,0 +1,2 @@
+-- Laws for the proofs of judge-model.
+pub mod Walk

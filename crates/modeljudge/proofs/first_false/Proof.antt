@@ -1,0 +1,108 @@
+-- The loop's invariant: judging the rest from here gives what judging the whole gives.
+use mathlib.Core.Path.{_≡_, sym, _∙_}
+use Prim.Native.Nat.{_-_, _+_}
+use lib.ListN.{length}
+use borrow.Author.Tests.{not-true, not-false}
+use borrow.Author.Needs.{needs}
+use Rattle.integers.specs.Terms.{value}
+use Rattle.words.specs.Verdict.{verdict}
+use Rattle.words.proofs.Reading.{tail-is}
+use Rattle.models.specs.Meaning.{meaning}
+use Rattle.models.specs.Model.{builtin}
+use Rattle.models.proofs.Constraints.{headed}
+use Rattle.modeljudge.proofs.Walk.{True, all-left, true-none, true-one, false-one, true-all}
+use Rattle.modeljudge.proofs.first_false.Statement.{statement}
+use Rattle.modeljudge.proofs.first_false.Tie as tie
+
+abbrev Inv-loop : tie.InvT-loop
+Inv-loop ws values at₀ k₀ at k = True (λ c. meaning (value values) (builtin c)) ws k at
+
+abbrev μ-loop : tie.MeasureT-loop
+μ-loop ws values at₀ k₀ at k = length ws - at
+
+-- what holds says of the constraint
+said : (c : tie.After-holds Inv-loop μ-loop) →
+    meaning (value (c .before .before .before .before .before .before .before .before .before .args .values .now)) (builtin (headed (c .before .before .before .before .before .before .before .before .before .args .ws .now) (c .before .before .before .before .before .before .before .loop .at))) ≡ c .holds .result
+unfolding builtin
+said c = sym (c .holds .ensures ∙ rw (c .before .before .payload-of .ensures, tail-is (c .before .before .before .before .before .before .before .before .before .args .ws .now) (c .before .before .before .before .before .before .before .loop .at + 1)))
+
+loop-holds : tie.Need-loop-holds Inv-loop μ-loop
+loop-holds c = all-left _ (c .before .args .ws .now)
+
+mul-w : tie.Need-mul-w Inv-loop μ-loop
+mul-w c = search needs
+
+shared-slice-read-w : tie.Need-shared-slice-read-w Inv-loop μ-loop
+shared-slice-read-w c = search needs
+
+add-at : tie.Need-add-at Inv-loop μ-loop
+add-at c = search needs
+
+kind-of-requires : tie.Need-kind-of-requires Inv-loop μ-loop
+kind-of-requires c κs = search needs
+
+payload-of-requires : tie.Need-payload-of-requires Inv-loop μ-loop
+payload-of-requires c κs = search needs
+
+mul-holds : tie.Need-mul-holds Inv-loop μ-loop
+mul-holds c = search needs
+
+sub-holds : tie.Need-sub-holds Inv-loop μ-loop
+sub-holds c = search needs
+
+part-holds-start : tie.Need-part-holds-start Inv-loop μ-loop
+part-holds-start c = search needs
+
+part-holds-end : tie.Need-part-holds-end Inv-loop μ-loop
+part-holds-end c = search needs
+
+holds-requires : tie.Need-holds-requires Inv-loop μ-loop
+holds-requires c κs = search needs
+
+returns : tie.Need-returns Inv-loop μ-loop
+unfolding verdict
+returns c = false-one (c .before .before .before .before .before .before .before .before .loop .inv) (c .before .before .before .before .before .before .before .loop-test .taken) (sym (c .before .before .before .before .before .kind-of .ensures) ∙ c .before .before .before .before .if1 .taken) (said (c .before) ∙ not-true _ (c .if2 .taken))
+
+add-k : tie.Need-add-k Inv-loop μ-loop
+add-k c = search needs
+
+loop-less : tie.Need-loop-less Inv-loop μ-loop
+loop-less c = search needs
+
+loop-again : tie.Need-loop-again Inv-loop μ-loop
+loop-again c = true-one (c .before .before .before .before .before .before .before .before .loop .inv) (c .before .before .before .before .before .before .before .loop-test .taken) (sym (c .before .before .before .before .before .kind-of .ensures) ∙ c .before .before .before .before .if1 .taken) (said (c .before) ∙ not-false _ (c .if2 .left))
+
+loop-less-2 : tie.Need-loop-less-2 Inv-loop μ-loop
+loop-less-2 c = search needs
+
+loop-again-2 : tie.Need-loop-again-2 Inv-loop μ-loop
+loop-again-2 c = true-none (c .before .before .before .before .loop .inv) (c .before .before .before .loop-test .taken) (λ e. c .if1 .left (c .before .kind-of .ensures ∙ e))
+
+returns-2 : tie.Need-returns-2 Inv-loop μ-loop
+unfolding verdict
+returns-2 c = true-all (c .before .loop .inv) (c .loop-test .left)
+
+pub first-false-spec : {M : Type 1} → statement M
+first-false-spec =
+    tie.close
+    (tie.spec
+    Inv-loop
+    μ-loop
+    loop-holds
+    mul-w
+    shared-slice-read-w
+    add-at
+    kind-of-requires
+    payload-of-requires
+    mul-holds
+    sub-holds
+    part-holds-start
+    part-holds-end
+    holds-requires
+    returns
+    add-k
+    loop-less
+    loop-again
+    loop-less-2
+    loop-again-2
+    returns-2)
