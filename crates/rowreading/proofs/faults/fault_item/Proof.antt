@@ -1,0 +1,69 @@
+-- The code tests as the definition does.
+use borrow.Author.Needs.{needs}
+use borrow.Author.Tests.{eq-eqb, ne-eqb}
+use Rattle.rowsystems.specs.Reading.{faultItem}
+use Rattle.rowreading.proofs.faults.fault_item.Statement.{statement}
+use Rattle.rowreading.proofs.faults.fault_item.Tie as tie
+
+kind-of-requires : tie.Need-kind-of-requires
+kind-of-requires c κs = search needs
+
+payload-of-requires : tie.Need-payload-of-requires
+payload-of-requires c κs = search needs
+
+fault-if-requires : tie.Need-fault-if-requires
+fault-if-requires c κs = search needs
+
+returns : tie.Need-returns
+unfolding faultItem
+returns c = rw (← c .before .before .before .kind-of .ensures, ← c .before .before .payload-of .ensures, eq-eqb _ _ (c .before .if1 .taken)) (c .fault-if .ensures)
+
+fault-if-requires-2 : tie.Need-fault-if-requires-2
+fault-if-requires-2 c κs = search needs
+
+returns-2 : tie.Need-returns-2
+unfolding faultItem
+returns-2 c = rw (← c .before .before .before .before .kind-of .ensures, ← c .before .before .before .payload-of .ensures, ne-eqb _ _ (c .before .before .if1 .left), eq-eqb _ _ (c .before .if2 .taken)) (c .fault-if2 .ensures)
+
+fault-if-requires-3 : tie.Need-fault-if-requires-3
+fault-if-requires-3 c κs = search needs
+
+returns-3 : tie.Need-returns-3
+unfolding faultItem
+returns-3 c = rw (← c .before .before .before .before .before .kind-of .ensures, ← c .before .before .before .before .payload-of .ensures, ne-eqb _ _ (c .before .before .before .if1 .left), ne-eqb _ _ (c .before .before .if2 .left), eq-eqb _ _ (c .before .if3 .taken)) (c .fault-if3 .ensures)
+
+fault-if-requires-4 : tie.Need-fault-if-requires-4
+fault-if-requires-4 c κs = search needs
+
+returns-4 : tie.Need-returns-4
+unfolding faultItem
+returns-4 c = rw (← c .before .before .before .before .before .before .kind-of .ensures, ← c .before .before .before .before .before .payload-of .ensures, ne-eqb _ _ (c .before .before .before .before .if1 .left), ne-eqb _ _ (c .before .before .before .if2 .left), ne-eqb _ _ (c .before .before .if3 .left), eq-eqb _ _ (c .before .if4 .taken)) (c .fault-if4 .ensures)
+
+fault-if-requires-5 : tie.Need-fault-if-requires-5
+fault-if-requires-5 c κs = search needs
+
+returns-5 : tie.Need-returns-5
+unfolding faultItem
+returns-5 c = rw (← c .before .before .before .before .before .before .before .kind-of .ensures, ← c .before .before .before .before .before .before .payload-of .ensures, ne-eqb _ _ (c .before .before .before .before .before .if1 .left), ne-eqb _ _ (c .before .before .before .before .if2 .left), ne-eqb _ _ (c .before .before .before .if3 .left), ne-eqb _ _ (c .before .before .if4 .left), eq-eqb _ _ (c .before .if5 .taken)) (c .fault-if5 .ensures)
+
+returns-6 : tie.Need-returns-6
+unfolding faultItem
+returns-6 c = rw (← c .before .before .before .before .before .before .kind-of .ensures, ← c .before .before .before .before .before .payload-of .ensures, ne-eqb _ _ (c .before .before .before .before .if1 .left), ne-eqb _ _ (c .before .before .before .if2 .left), ne-eqb _ _ (c .before .before .if3 .left), ne-eqb _ _ (c .before .if4 .left), ne-eqb _ _ (c .if5 .left))
+
+pub fault-item-spec : {M : Type 1} → statement M
+fault-item-spec =
+    tie.close
+    (tie.spec
+    kind-of-requires
+    payload-of-requires
+    fault-if-requires
+    returns
+    fault-if-requires-2
+    returns-2
+    fault-if-requires-3
+    returns-3
+    fault-if-requires-4
+    returns-4
+    fault-if-requires-5
+    returns-5
+    returns-6)

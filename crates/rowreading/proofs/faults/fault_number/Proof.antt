@@ -1,0 +1,20 @@
+-- The code tests as the definition does.
+use borrow.Author.Needs.{needs}
+use borrow.Author.Tests.{eq-eqb, ne-eqb}
+use Rattle.rowsystems.specs.Reading.{faultNumber}
+use Rattle.rowreading.proofs.faults.fault_number.Statement.{statement}
+use Rattle.rowreading.proofs.faults.fault_number.Tie as tie
+
+kind-of-requires : tie.Need-kind-of-requires
+kind-of-requires c κs = search needs
+
+returns : tie.Need-returns
+unfolding faultNumber
+returns c = rw (← c .before .kind-of .ensures, eq-eqb _ _ (c .if1 .taken))
+
+returns-2 : tie.Need-returns-2
+unfolding faultNumber
+returns-2 c = rw (← c .before .kind-of .ensures, ne-eqb _ _ (c .if1 .left))
+
+pub fault-number-spec : {M : Type 1} → statement M
+fault-number-spec = tie.close (tie.spec kind-of-requires returns returns-2)

@@ -1,0 +1,42 @@
+-- The code tests as the definition does.
+use borrow.Author.Needs.{needs}
+use borrow.Author.Tests.{eq-eqb, le-leb, lt-leb, ne-eqb}
+use Rattle.rowsystems.specs.Reading.{faultResult}
+use Rattle.rowreading.proofs.faults.fault_result.Statement.{statement}
+use Rattle.rowreading.proofs.faults.fault_result.Tie as tie
+
+kind-of-requires : tie.Need-kind-of-requires
+kind-of-requires c κs = search needs
+
+returns : tie.Need-returns
+unfolding faultResult
+returns c = rw (← c .before .kind-of .ensures, ne-eqb _ _ (c .if1 .taken))
+
+payload-of-requires : tie.Need-payload-of-requires
+payload-of-requires c κs = search needs
+
+returns-2 : tie.Need-returns-2
+unfolding faultResult
+returns-2 c = rw (← c .before .before .before .kind-of .ensures, eq-eqb _ _ (c .before .before .if1 .left), ← c .before .payload-of .ensures, le-leb _ _ (c .if2 .taken))
+
+not-above-requires : tie.Need-not-above-requires
+not-above-requires c κs = search needs
+
+fault-if-requires : tie.Need-fault-if-requires
+fault-if-requires c κs = search needs
+
+returns-3 : tie.Need-returns-3
+unfolding faultResult
+returns-3 c = rw (← c .before .before .before .before .before .kind-of .ensures, eq-eqb _ _ (c .before .before .before .before .if1 .left), ← c .before .before .before .payload-of .ensures, lt-leb _ _ (c .before .before .if2 .left), ← c .before .not-above .ensures) (c .fault-if .ensures)
+
+pub fault-result-spec : {M : Type 1} → statement M
+fault-result-spec =
+    tie.close
+    (tie.spec
+    kind-of-requires
+    returns
+    payload-of-requires
+    returns-2
+    not-above-requires
+    fault-if-requires
+    returns-3)

@@ -1,0 +1,45 @@
+-- The code tests as the definition does.
+use mathlib.Core.Path.{_≡_, sym, _∙_}
+use borrow.Author.Needs.{needs}
+use borrow.Author.Tests.{eq-eqb, ne-eqb}
+use lib.Signed.{ltZ}
+use mir.Syntax.{w64}
+use mir.Val.{toZ, ofZ}
+use Rattle.integers.proofs.Fits.{back}
+use Rattle.words.specs.Word.{signed}
+use Rattle.rowsystems.specs.Reading.{faultUpper}
+use Rattle.rowreading.proofs.faults.fault_upper.Statement.{statement}
+use Rattle.rowreading.proofs.faults.fault_upper.Tie as tie
+
+-- what the two bounds are
+compared : (c : tie.After-signed-of2) →
+    ltZ (toZ w64 (ofZ w64 (c .before .signed-of .result))) (toZ w64 (ofZ w64 (c .signed-of2 .result)))
+    ≡ ltZ (signed (c .before .before .before .before .args .w)) (signed (c .before .before .before .before .args .lower))
+compared c =
+    rw (back (c .before .signed-of .result) (c .before .signed-of .ok), back (c .signed-of2 .result) (c .signed-of2 .ok), c .before .signed-of .ensures, c .signed-of2 .ensures)
+
+kind-of-requires : tie.Need-kind-of-requires
+kind-of-requires c κs = search needs
+
+returns : tie.Need-returns
+unfolding faultUpper
+returns c = rw (← c .before .kind-of .ensures, ne-eqb _ _ (c .if1 .taken))
+
+signed-of-requires : tie.Need-signed-of-requires
+signed-of-requires c κs = search needs
+
+signed-of-requires-2 : tie.Need-signed-of-requires-2
+signed-of-requires-2 c κs = search needs
+
+returns-2 : tie.Need-returns-2
+unfolding faultUpper
+returns-2 c = rw (← c .before .before .before .before .kind-of .ensures, eq-eqb _ _ (c .before .before .before .if1 .left), sym (compared (c .before)) ∙ c .if2 .taken)
+
+returns-3 : tie.Need-returns-3
+unfolding faultUpper
+returns-3 c = rw (← c .before .before .before .before .kind-of .ensures, eq-eqb _ _ (c .before .before .before .if1 .left), sym (compared (c .before)) ∙ c .if2 .left)
+
+pub fault-upper-spec : {M : Type 1} → statement M
+fault-upper-spec =
+    tie.close
+    (tie.spec kind-of-requires returns signed-of-requires signed-of-requires-2 returns-2 returns-3)

@@ -1,0 +1,27 @@
+-- The code tests as the definition does.
+use borrow.Author.Needs.{needs}
+use borrow.Author.Tests.{eq-eqb, ne-eqb}
+use Rattle.rowsystems.specs.Reading.{faultVariable}
+use Rattle.rowreading.proofs.faults.fault_variable.Statement.{statement}
+use Rattle.rowreading.proofs.faults.fault_variable.Tie as tie
+
+kind-of-requires : tie.Need-kind-of-requires
+kind-of-requires c κs = search needs
+
+returns : tie.Need-returns
+unfolding faultVariable
+returns c = rw (← c .before .kind-of .ensures, ne-eqb _ _ (c .if1 .taken))
+
+payload-of-requires : tie.Need-payload-of-requires
+payload-of-requires c κs = search needs
+
+fault-if-requires : tie.Need-fault-if-requires
+fault-if-requires c κs = search needs
+
+returns-2 : tie.Need-returns-2
+unfolding faultVariable
+returns-2 c = rw (← c .before .before .before .kind-of .ensures, eq-eqb _ _ (c .before .before .if1 .left), ← c .before .payload-of .ensures) (c .fault-if .ensures)
+
+pub fault-variable-spec : {M : Type 1} → statement M
+fault-variable-spec =
+    tie.close (tie.spec kind-of-requires returns payload-of-requires fault-if-requires returns-2)

@@ -1,0 +1,51 @@
+-- The code tests as the definition does.
+use borrow.Author.Needs.{needs}
+use borrow.Author.Tests.{eq-eqb, le-leb, lt-leb, ne-eqb}
+use Rattle.rowsystems.specs.Reading.{notAbove}
+use Rattle.rowreading.proofs.faults.not_above.Statement.{statement}
+use Rattle.rowreading.proofs.faults.not_above.Tie as tie
+
+kind-of-requires : tie.Need-kind-of-requires
+kind-of-requires c κs = search needs
+
+returns : tie.Need-returns
+unfolding notAbove
+returns c = rw (← c .before .kind-of .ensures, ne-eqb _ _ (c .if1 .taken))
+
+kind-of-requires-2 : tie.Need-kind-of-requires-2
+kind-of-requires-2 c κs = search needs
+
+returns-2 : tie.Need-returns-2
+unfolding notAbove
+returns-2 c = rw (← c .before .before .before .kind-of .ensures, eq-eqb _ _ (c .before .before .if1 .left), ← c .before .kind-of2 .ensures, ne-eqb _ _ (c .if2 .taken))
+
+payload-of-requires : tie.Need-payload-of-requires
+payload-of-requires c κs = search needs
+
+payload-of-requires-2 : tie.Need-payload-of-requires-2
+payload-of-requires-2 c κs = search needs
+
+returns-3 : tie.Need-returns-3
+unfolding notAbove
+returns-3 c = rw (← c .before .before .before .before .before .before .kind-of .ensures, eq-eqb _ _ (c .before .before .before .before .before .if1 .left), ← c .before .before .before .before .kind-of2 .ensures, eq-eqb _ _ (c .before .before .before .if2 .left), ← c .before .before .payload-of .ensures, ← c .before .payload-of2 .ensures, le-leb _ _ (c .if3 .taken))
+
+payload-of-requires-3 : tie.Need-payload-of-requires-3
+payload-of-requires-3 c κs = search needs
+
+returns-4 : tie.Need-returns-4
+unfolding notAbove
+returns-4 c = rw (← c .before .before .before .before .before .before .before .kind-of .ensures, eq-eqb _ _ (c .before .before .before .before .before .before .if1 .left), ← c .before .before .before .before .before .kind-of2 .ensures, eq-eqb _ _ (c .before .before .before .before .if2 .left), ← c .before .before .before .payload-of .ensures, ← c .before .before .payload-of2 .ensures, lt-leb _ _ (c .before .if3 .left), ← c .payload-of3 .ensures)
+
+pub not-above-spec : {M : Type 1} → statement M
+not-above-spec =
+    tie.close
+    (tie.spec
+    kind-of-requires
+    returns
+    kind-of-requires-2
+    returns-2
+    payload-of-requires
+    payload-of-requires-2
+    returns-3
+    payload-of-requires-3
+    returns-4)

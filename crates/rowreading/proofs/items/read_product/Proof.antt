@@ -1,0 +1,72 @@
+-- The result, then the first factor, then the second, up to the first fault.
+use native.Mathlib.Omega.{arith}
+use borrow.Author.Needs.{needs}
+use Rattle.rowsystems.specs.declared.Due.the-variants.{Result, FirstFactor, SecondFactor}
+use Rattle.rowreading.specs.Onward.{Went}
+use Rattle.rowreading.proofs.Steps.{and-then, or-halted}
+use Rattle.rowreading.proofs.Inner.{product-result, first-factor, second-factor}
+use Rattle.rowreading.proofs.items.read_product.Statement.{statement}
+use Rattle.rowreading.proofs.items.read_product.Tie as tie
+
+-- helpers
+-- the result read, and the first factor after it
+result : (c : tie.After-step-over) → Went (c .before .before .before .before .before .before .args .ws .now) (c .before .before .before .before .before .before .args .n) Result (c .before .before .before .before .before .before .args .at) FirstFactor (c .step-over .result)
+result c = rw (c .step-over .ensures, c .before .fault-result .ensures, c .before .before .before .before .word-at .ensures, c .before .before .before .word-at2 .ensures, c .before .before .word-at3 .ensures) (product-result (c .before .before .before .before .before .before .args .ws .now) (c .before .before .before .before .before .before .args .n) (c .before .before .before .before .before .before .args .at) (c .before .before .before .before .before .before .pre .within))
+
+first : (c : tie.After-variable-at) → Went (c .before .before .before .before .before .before .before .before .before .args .ws .now) (c .before .before .before .before .before .before .before .before .before .args .n) Result (c .before .before .before .before .before .before .before .before .before .args .at) SecondFactor (c .variable-at .result)
+first c = and-then (result (c .before .before .before)) (c .before .if1 .left) (rw (c .variable-at .ensures) (first-factor (c .before .before .before .before .before .before .before .before .before .args .ws .now) (c .before .before .before .before .before .before .before .before .before .args .n) (c .before .before .before .step-over .result .at) (result (c .before .before .before) .inside)))
+
+-- end
+
+word-at-requires : tie.Need-word-at-requires
+word-at-requires c κs = search needs
+
+add-word-at : tie.Need-add-word-at
+add-word-at c = search needs
+
+word-at-requires-2 : tie.Need-word-at-requires-2
+word-at-requires-2 c κs = search needs
+
+add-word-at-2 : tie.Need-add-word-at-2
+add-word-at-2 c = search needs
+
+word-at-requires-3 : tie.Need-word-at-requires-3
+word-at-requires-3 c κs = search needs
+
+fault-result-requires : tie.Need-fault-result-requires
+fault-result-requires c κs = search needs
+
+step-over-requires : tie.Need-step-over-requires
+step-over-requires c κs = search needs
+
+returns : tie.Need-returns
+returns c = or-halted (result (c .before .before)) (c .if1 .taken)
+
+variable-at-requires : tie.Need-variable-at-requires
+variable-at-requires c κs = omega (arith, result (c .before .before) .inside, c .before .before .before .before .before .before .before .before .pre .few)
+
+returns-2 : tie.Need-returns-2
+returns-2 c = or-halted (first (c .before .before)) (c .if2 .taken)
+
+variable-at-requires-2 : tie.Need-variable-at-requires-2
+variable-at-requires-2 c κs = omega (arith, first (c .before .before) .inside, c .before .before .before .before .before .before .before .before .before .before .before .pre .few)
+
+returns-3 : tie.Need-returns-3
+returns-3 c = and-then (first (c .before .before .before)) (c .before .if2 .left) (rw (c .variable-at2 .ensures) (second-factor (c .before .before .before .before .before .before .before .before .before .before .before .before .args .ws .now) (c .before .before .before .before .before .before .before .before .before .before .before .before .args .n) (c .before .before .before .variable-at .result .at) (first (c .before .before .before) .inside)))
+
+pub read-product-spec : {M : Type 1} → statement M
+read-product-spec =
+    tie.close
+    (tie.spec
+    word-at-requires
+    add-word-at
+    word-at-requires-2
+    add-word-at-2
+    word-at-requires-3
+    fault-result-requires
+    step-over-requires
+    returns
+    variable-at-requires
+    returns-2
+    variable-at-requires-2
+    returns-3)

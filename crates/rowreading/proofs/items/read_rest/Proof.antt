@@ -1,0 +1,85 @@
+-- Each case is the law of its word.
+use borrow.Author.Needs.{needs}
+use Rattle.rowreading.specs.Item.{startDue, dueWith, moreSources}
+use Rattle.rowreading.proofs.Inner.{source-upper, auxiliary-upper, row-constant, no-word, after-end}
+use Rattle.rowreading.proofs.items.read_rest.Statement.{statement}
+use Rattle.rowreading.proofs.items.read_rest.Tie as tie
+
+enum-known-item : tie.Need-enum-known-item
+enum-known-item c = search needs
+
+upper-at-requires : tie.Need-upper-at-requires
+upper-at-requires c κs = search needs
+
+enum-told : tie.Need-enum-told
+enum-told c = search needs
+
+enum-known-item-2 : tie.Need-enum-known-item-2
+enum-known-item-2 c = search needs
+
+upper-at-requires-2 : tie.Need-upper-at-requires-2
+upper-at-requires-2 c κs = search needs
+
+enum-told-2 : tie.Need-enum-told-2
+enum-told-2 c = search needs
+
+number-at-requires : tie.Need-number-at-requires
+number-at-requires c κs = search needs
+
+enum-told-3 : tie.Need-enum-told-3
+enum-told-3 c = search needs
+
+read-product-requires : tie.Need-read-product-requires
+read-product-requires c κs = search needs
+
+enum-told-4 : tie.Need-enum-told-4
+enum-told-4 c = search needs
+
+step-over-requires : tie.Need-step-over-requires
+step-over-requires c κs = search needs
+
+returns : tie.Need-returns
+unfolding startDue dueWith moreSources
+returns c = rw (c .before .before .item .given .1, c .upper-at .ensures) (source-upper (c .before .before .before .before .before .args .ws .now) (c .before .before .before .before .before .args .n) (c .before .before .before .before .before .args .at) (c .before .before .before .before .before .pre .within) _)
+
+returns-2 : tie.Need-returns-2
+unfolding startDue dueWith moreSources
+returns-2 c = rw (c .enum-told .given .1) (no-word (c .before .before .before .args .ws .now) (c .before .before .before .args .n) (c .before .before .before .args .at) (c .before .before .before .pre .within))
+
+returns-3 : tie.Need-returns-3
+unfolding startDue dueWith moreSources
+returns-3 c = rw (c .before .before .item2 .given .1, c .upper-at2 .ensures) (auxiliary-upper (c .before .before .before .before .before .args .ws .now) (c .before .before .before .before .before .args .n) (c .before .before .before .before .before .args .at) (c .before .before .before .before .before .pre .within) _)
+
+returns-4 : tie.Need-returns-4
+unfolding startDue dueWith moreSources
+returns-4 c = rw (c .before .enum-told2 .given .1, c .number-at .ensures) (row-constant (c .before .before .before .before .args .ws .now) (c .before .before .before .before .args .n) (c .before .before .before .before .args .at) (c .before .before .before .before .pre .within))
+
+returns-5 : tie.Need-returns-5
+unfolding startDue dueWith moreSources
+returns-5 c = rw (c .before .enum-told3 .given .1) (c .read-product .ensures)
+
+returns-6 : tie.Need-returns-6
+unfolding startDue dueWith moreSources
+returns-6 c = rw (c .before .enum-told4 .given .1, c .step-over .ensures) (after-end (c .before .before .before .before .args .ws .now) (c .before .before .before .before .args .n) (c .before .before .before .before .args .at) (c .before .before .before .before .pre .within))
+
+pub read-rest-spec : {M : Type 1} → statement M
+read-rest-spec =
+    tie.close
+    (tie.spec
+    enum-known-item
+    upper-at-requires
+    enum-told
+    enum-known-item-2
+    upper-at-requires-2
+    enum-told-2
+    number-at-requires
+    enum-told-3
+    read-product-requires
+    enum-told-4
+    step-over-requires
+    returns
+    returns-2
+    returns-3
+    returns-4
+    returns-5
+    returns-6)

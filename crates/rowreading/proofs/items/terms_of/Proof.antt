@@ -1,0 +1,64 @@
+-- Case by case as the definition.
+use borrow.Author.Needs.{needs}
+use Rattle.rowreading.specs.Item.{termCount}
+use Rattle.rowreading.proofs.items.terms_of.Statement.{statement}
+use Rattle.rowreading.proofs.items.terms_of.Tie as tie
+
+enum-told : tie.Need-enum-told
+enum-told c = search needs
+
+enum-told-2 : tie.Need-enum-told-2
+enum-told-2 c = search needs
+
+enum-told-3 : tie.Need-enum-told-3
+enum-told-3 c = search needs
+
+enum-known-item : tie.Need-enum-known-item
+enum-known-item c = search needs
+
+enum-told-4 : tie.Need-enum-told-4
+enum-told-4 c = search needs
+
+enum-told-5 : tie.Need-enum-told-5
+enum-told-5 c = search needs
+
+returns : tie.Need-returns
+unfolding termCount
+returns c = rw (c .enum-told .given .1)
+
+returns-2 : tie.Need-returns-2
+unfolding termCount
+returns-2 c = rw (c .enum-told2 .given .1)
+
+returns-3 : tie.Need-returns-3
+unfolding termCount
+returns-3 c = rw (c .enum-told3 .given .1)
+
+returns-4 : tie.Need-returns-4
+unfolding termCount
+returns-4 c = rw (c .before .item .given .1)
+
+returns-5 : tie.Need-returns-5
+unfolding termCount
+returns-5 c = rw (c .enum-told4 .given .1)
+
+returns-6 : tie.Need-returns-6
+unfolding termCount
+returns-6 c = rw (c .enum-told5 .given .1)
+
+pub terms-of-spec : {M : Type 1} → statement M
+terms-of-spec =
+    tie.close
+    (tie.spec
+    enum-told
+    enum-told-2
+    enum-told-3
+    enum-known-item
+    enum-told-4
+    enum-told-5
+    returns
+    returns-2
+    returns-3
+    returns-4
+    returns-5
+    returns-6)

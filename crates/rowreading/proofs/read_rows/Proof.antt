@@ -1,0 +1,156 @@
+-- The invariant: reading on from here finds what reading all the words finds; in a row, with so many terms left.
+use mathlib.Core.Path.{_≡_, refl, sym, _∙_}
+use mathlib.Core.Logic.{⊎-elim}
+use Prim.Native.Nat.{_-_, _≤_}
+use native.Mathlib.Omega.{arith}
+use borrow.Author.Needs.{needs}
+use borrow.Author.Tests.{lt-ltb, le-ltb}
+use lib.ListN.{length}
+use Rattle.words.specs.Word.{wordAt}
+use Rattle.rowsystems.specs.Reading.{readRows}
+use Rattle.rowsystems.specs.declared.Due.the-variants.{Source}
+use Rattle.rowreading.specs.Item.{faultHead, startDue, dueWith, termCount, dueAfter}
+use Rattle.rowreading.specs.Onward.{onward, stopped, Placed}
+use Rattle.rowreading.proofs.Heads.{started-few, head-here, head-halted, head-gone, term-gone}
+use Rattle.rowreading.proofs.Steps.{gone, halted}
+use Rattle.rowreading.proofs.read_rows.Statement.{statement}
+use Rattle.rowreading.proofs.read_rows.Tie as tie
+
+abbrev Inv-loop : tie.InvT-loop
+Inv-loop ws sources n at₀ number₀ head item left₀ at number left = (at₀ ≤ at) × Placed ws at × (left ≤ termCount item) × (onward (dueWith item left) n at ws ≡ onward Source 0 0 ws)
+
+abbrev μ-loop : tie.MeasureT-loop
+μ-loop ws sources n at₀ number₀ head item left₀ at number left = left
+
+abbrev Inv-items : tie.InvT-items
+Inv-items ws sources₀ n₀ at₀ sources n at = (n ≤ at) × Placed ws at × (onward (startDue sources) n at ws ≡ onward Source 0 0 ws)
+
+abbrev μ-items : tie.MeasureT-items
+μ-items ws sources₀ n₀ at₀ sources n at = length ws - at
+
+-- helpers
+-- what the head's fault is, and its item
+head : (c : tie.After-fault-head Inv-loop μ-loop Inv-items μ-items) → c .fault-head .result ≡ faultHead (c .before .before .items .sources) (c .before .before .items .n) (wordAt (c .before .before .before .before .before .args .ws .now) (c .before .before .items .at))
+head c = c .fault-head .ensures ∙ rw (c .before .word-at .ensures)
+
+-- reading stops with a fault: at the head, in a term, after the terms
+out : (c : tie.Joined2 Inv-loop μ-loop Inv-items μ-items) → stopped (c .before .before .before .before .before .before .args .ws .now) (c .if2 .number) (c .if2 .at) ≡ onward Source 0 0 (c .before .before .before .before .before .before .args .ws .now)
+out c =
+    let ws = c .before .before .before .before .before .before .args .ws .now in
+    ⊎-elim
+    (λ w. rw (w .2, w .3) (sym (head-halted ws (c .before .before .before .items .sources) (c .before .before .before .items .n) (c .before .before .before .items .at) (c .before .fault-head .result) (head (c .before)) (w .0 .taken)) ∙ c .before .before .before .items .inv .2))
+    (⊎-elim
+    (λ w. rw (w .9, w .10) (sym (halted (term-gone (w .2 .result) (w .4 .left) (w .5 .taken) (w .4 .inv .2) (w .6 .ensures)) (w .7 .taken)) ∙ w .4 .inv .3))
+    (λ w. rw (w .9, w .10) (let z : w .4 .left ≡ 0 = omega (arith, w .5 .left) in sym (halted (w .6 .ensures) (w .7 .taken)) ∙ rw z at (w .4 .inv .3))))
+    (c .if2 .came)
+
+-- end
+
+returns : tie.Need-returns Inv-loop μ-loop Inv-items μ-items
+unfolding readRows
+returns c = rw (lt-ltb _ _ (c .if1 .taken))
+
+items-holds : tie.Need-items-holds Inv-loop μ-loop Inv-items μ-items
+unfolding startDue
+items-holds c = (omega arith, record { within = omega arith; few = omega arith }, refl)
+
+word-at-requires : tie.Need-word-at-requires Inv-loop μ-loop Inv-items μ-items
+word-at-requires c κs = search needs
+
+fault-head-requires : tie.Need-fault-head-requires Inv-loop μ-loop Inv-items μ-items
+fault-head-requires c κs = search needs
+
+started-of-requires : tie.Need-started-of-requires Inv-loop μ-loop Inv-items μ-items
+started-of-requires c κs = search needs
+
+add-n : tie.Need-add-n Inv-loop μ-loop Inv-items μ-items
+add-n c = record { fits = omega (arith, c .started-of .ensures, started-few (c .before .before .before .word-at .result), c .before .before .before .before .items .inv .0, c .before .before .before .before .items .inv .1 .within, c .before .before .before .before .items .inv .1 .few) }
+
+add-at : tie.Need-add-at Inv-loop μ-loop Inv-items μ-items
+add-at c = search needs
+
+item-of-requires : tie.Need-item-of-requires Inv-loop μ-loop Inv-items μ-items
+item-of-requires c κs = search needs
+
+terms-of-requires : tie.Need-terms-of-requires Inv-loop μ-loop Inv-items μ-items
+terms-of-requires c κs = search needs
+
+loop-holds : tie.Need-loop-holds Inv-loop μ-loop Inv-items μ-items
+unfolding dueAfter
+loop-holds c = (
+  omega arith,
+  record { within = omega (arith, head-here (c .before .before .before .before .before .before .before .before .before .args .ws .now) (c .before .before .before .before .before .before .items .sources) (c .before .before .before .before .before .before .items .n) (c .before .before .before .before .before .before .items .at) (c .before .before .before .before .fault-head .result) (head (c .before .before .before .before)) (c .before .before .before .if2 .left)); few = c .before .before .before .before .before .before .items .inv .1 .few },
+  omega (arith, c .terms-of .ensures),
+  rw (c .terms-of .ensures, c .before .before .started-of .ensures, c .before .before .before .before .before .word-at .ensures)
+      (sym (head-gone (c .before .before .before .before .before .before .before .before .before .args .ws .now) (c .before .before .before .before .before .before .items .sources) (c .before .before .before .before .before .before .items .n) (c .before .before .before .before .before .before .items .at) (c .before .before .before .before .fault-head .result) (head (c .before .before .before .before)) (c .before .item-of .result) (c .before .before .before .if2 .left) (c .before .item-of .ensures ∙ rw (c .before .before .before .before .before .word-at .ensures)))
+      ∙ c .before .before .before .before .before .before .items .inv .2),
+)
+
+read-term-requires : tie.Need-read-term-requires Inv-loop μ-loop Inv-items μ-items
+read-term-requires c κs = search needs
+
+sub-left : tie.Need-sub-left Inv-loop μ-loop Inv-items μ-items
+sub-left c = search needs
+
+loop-less : tie.Need-loop-less Inv-loop μ-loop Inv-items μ-items
+loop-less c = search needs
+
+loop-again : tie.Need-loop-again Inv-loop μ-loop Inv-items μ-items
+loop-again c = (
+  omega (arith, c .before .before .before .loop .inv .0, c .before .read-term .ensures 0 .on),
+  record { within = c .before .read-term .ensures 0 .inside; few = c .before .before .before .loop .inv .1 .few },
+  omega (arith, c .before .before .before .loop .inv .2),
+  sym (gone (term-gone (c .before .before .before .before .before .item-of .result) (c .before .before .before .loop .left) (c .before .before .loop-test .taken) (c .before .before .before .loop .inv .2) (c .before .read-term .ensures)) (c .if3 .left)) ∙ c .before .before .before .loop .inv .3,
+)
+
+read-rest-requires : tie.Need-read-rest-requires Inv-loop μ-loop Inv-items μ-items
+read-rest-requires c κs = search needs
+
+sources-after-requires : tie.Need-sources-after-requires Inv-loop μ-loop Inv-items μ-items
+sources-after-requires c κs = search needs
+
+items-less : tie.Need-items-less Inv-loop μ-loop Inv-items μ-items
+items-less c = search needs
+
+items-again : tie.Need-items-again Inv-loop μ-loop Inv-items μ-items
+items-again c = (
+  omega (arith, c .before .before .before .before .before .before .before .started-of .ensures, started-few (c .before .before .before .before .before .before .before .before .before .before .word-at .result), c .before .before .before .before .before .before .before .before .before .before .before .items .inv .0, c .before .before .before .before .loop .inv .0, c .before .before .read-rest .ensures .on),
+  record { within = c .before .before .read-rest .ensures .inside; few = c .before .before .before .before .loop .inv .1 .few },
+  rw (c .sources-after .ensures) (let z : c .before .before .before .before .loop .left ≡ 0 = omega (arith, c .before .before .before .loop-test .left) in sym (gone (c .before .before .read-rest .ensures) (c .before .if4 .left)) ∙ rw z at (c .before .before .before .before .loop .inv .3)),
+)
+
+refusal-at-requires : tie.Need-refusal-at-requires Inv-loop μ-loop Inv-items μ-items
+refusal-at-requires c κs = search needs
+
+returns-2 : tie.Need-returns-2 Inv-loop μ-loop Inv-items μ-items
+unfolding readRows onward
+returns-2 c = c .refusal-at .ensures ∙ out (c .before) ∙ rw (le-ltb _ _ (c .before .before .before .before .before .if1 .left))
+
+pub read-rows-spec : {M : Type 1} → statement M
+read-rows-spec =
+    tie.close
+    (tie.spec
+    Inv-loop
+    μ-loop
+    Inv-items
+    μ-items
+    returns
+    items-holds
+    word-at-requires
+    fault-head-requires
+    started-of-requires
+    add-n
+    add-at
+    item-of-requires
+    terms-of-requires
+    loop-holds
+    read-term-requires
+    sub-left
+    loop-less
+    loop-again
+    read-rest-requires
+    sources-after-requires
+    items-less
+    items-again
+    refusal-at-requires
+    returns-2)

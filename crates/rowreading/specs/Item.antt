@@ -1,0 +1,48 @@
+-- The items of a row system: the fault of a head word, and what is due after it.
+use mathlib.Core.Bool.{Bool, true, false}
+use Prim.Native.Nat.{ℕ}
+use Rattle.integers.specs.Choice.{_if_else_}
+use Rattle.rowsystems.specs.Reading.{faultItem, faultSource}
+use Rattle.rowsystems.specs.declared.Due.{Due}
+use Rattle.rowsystems.specs.declared.Due.the-variants as due
+use Rattle.rowreading.specs.declared.items.Item.{Item}
+use Rattle.rowreading.specs.declared.items.Item.the-variants.{Variable, Boolean, Auxiliary, Row, Product, End}
+
+-- what is due at a head, where sources may still stand and where not
+unfoldable pub startDue : Bool → Due
+startDue sources = due.Source if sources else due.Item
+
+-- the fault of the word that starts an item
+unfoldable pub faultHead : Bool → ℕ → ℕ → ℕ
+faultHead sources n w = faultSource n w if sources else faultItem n w
+
+-- what is due in an item with so many terms left
+unfoldable pub dueWith : Item → ℕ → Due
+dueWith (Variable lower) left = due.SourceUpper lower
+dueWith Boolean left = due.Source
+dueWith (Auxiliary lower) left = due.AuxiliaryUpper lower
+dueWith (Row terms) left = due.Terms left
+dueWith Product left = due.Result
+dueWith End left = due.Ended
+
+-- how many terms there are
+unfoldable pub termCount : Item → ℕ
+termCount (Variable lower) = 0
+termCount Boolean = 0
+termCount (Auxiliary lower) = 0
+termCount (Row terms) = terms
+termCount Product = 0
+termCount End = 0
+
+-- what is due after the head
+unfoldable pub dueAfter : Item → Due
+dueAfter item = dueWith item (termCount item)
+
+-- whether a source variable may follow
+unfoldable pub moreSources : Item → Bool
+moreSources (Variable lower) = true
+moreSources Boolean = true
+moreSources (Auxiliary lower) = false
+moreSources (Row terms) = false
+moreSources Product = false
+moreSources End = false

@@ -1,0 +1,44 @@
+-- Reading on from a place.
+use mathlib.Core.Path.{_≡_}
+use mathlib.Core.List.{List}
+use Prim.Native.Nat.{ℕ, _+_, _≤_}
+use lib.Dec.{ltb, eqb}
+use lib.ListN.{length, drop}
+use Rattle.integers.specs.Choice.{_if_else_}
+use Rattle.words.specs.Fault as Fault
+use Rattle.words.specs.Limit as Limit
+use Rattle.words.specs.Refusal.{_at-place_, accepted, firstFault}
+use Rattle.words.specs.declared.Refusal.{Refusal}
+use Rattle.rowsystems.specs.Reading.{fault, after, ended}
+use Rattle.rowsystems.specs.declared.Due.{Due}
+use Rattle.rowreading.specs.declared.items.Step.{Step}
+
+-- what reading the words from place `at` on finds, with so many variables before it
+unfoldable pub onward : Due → ℕ → ℕ → List ℕ → Refusal
+onward due n at ws = firstFault fault after ended (record { due = due; variables = n }) at (drop at ws)
+
+-- what a reading that stops with fault f at place p finds; f is the fault that a word 0 has there where the words have ended
+unfoldable pub stopped : List ℕ → ℕ → ℕ → Refusal
+stopped ws f p =
+    f at-place p if ltb p (length ws)
+    else accepted if eqb f Fault.wordAfterEnd
+    else Fault.wordsEnd at-place p
+
+-- what a reading finds after a step
+unfoldable pub resumed : Due → ℕ → List ℕ → Step → Refusal
+resumed due n ws r = onward due n (r .at) ws if eqb (r .number) Fault.none else stopped ws (r .number) (r .at)
+
+-- the step r leads from what is due at a place to what is due at a later one, or to the first fault
+pub record Went (ws : List ℕ) (n : ℕ) (from : Due) (at : ℕ) (to : Due) (r : Step) : Type 0 where
+  pub reads : onward from n at ws ≡ resumed to n ws r
+  pub on : at ≤ r .at
+  pub inside : r .at ≤ length ws
+
+-- past a word with the fault f, if it is none
+unfoldable pub stepOver : ℕ → ℕ → Step
+stepOver f at = record { number = f; at = at + 1 } if eqb f Fault.none else record { number = f; at = at }
+
+-- a place of words that are not too many
+pub record Placed (ws : List ℕ) (at : ℕ) : Type 0 where
+  pub within : at ≤ length ws
+  pub few : length ws ≤ Limit.rowWords
