@@ -16,7 +16,7 @@ use Rattle.rowsystems.specs.declared.Due.the-variants as due
 use Rattle.rowreading.specs.declared.items.Item.{Item}
 use Rattle.rowreading.specs.declared.items.Item.the-variants.{Variable, Boolean, Auxiliary, Row, Product, End}
 use Rattle.rowreading.specs.declared.items.Step.{Step}
-use Rattle.rowreading.specs.Item.{startDue, faultHead, dueWith, termCount, dueAfter}
+use Rattle.rowreading.specs.Item.{startDue, faultHead, dueWith, itemTerms, dueAfter}
 use Rattle.rowreading.specs.Onward.{onward, stopped, Went}
 use Rattle.rowreading.proofs.Onward.{faultAt, here, go-on, stop-at}
 
@@ -73,9 +73,9 @@ started-few w = go (startsPair w || eqb (kind w) Kind.boolean)
 -- ---- the terms that are left
 
 -- an item with terms left is a row, and a term read leaves one less
-pub term-gone : {ws : List ℕ} {n at : ℕ} {r : Step} (item : Item) (left : ℕ) → 0 < left → left ≤ termCount item →
+pub term-gone : {ws : List ℕ} {n at : ℕ} {r : Step} (item : Item) (left : ℕ) → 0 < left → left ≤ itemTerms item →
     ((k : ℕ) → Went ws n (due.Terms (suc k)) at (due.Terms k) r) → Went ws n (dueWith item left) at (dueWith item (left - 1)) r
-unfolding dueWith termCount
+unfolding dueWith itemTerms
 term-gone (Variable lower) left h k g = absurd (omega arith)
 term-gone Boolean left h k g = absurd (omega arith)
 term-gone (Auxiliary lower) left h k g = absurd (omega arith)

@@ -1,11 +1,10 @@
 -- Each word inside an item, from what is due there to what is due after it.
-use mathlib.Core.Path.{_≡_, refl, ap, _∙_}
+use mathlib.Core.Path.{_≡_, refl, ap}
 use mathlib.Core.List.{List}
 use Prim.Native.Nat.{ℕ, suc, _+_, _-_, _≤_}
 use native.Mathlib.Omega.{arith}
 use borrow.Author.Tests.{lt-ltb}
-use lib.ListN.{length, getD, drop}
-use lib.Seq.{getD-drop}
+use lib.ListN.{length}
 use Rattle.words.specs.Fault as Fault
 use Rattle.words.specs.Kind as Kind
 use Rattle.words.specs.Word.{wordAt}
@@ -13,6 +12,7 @@ use Rattle.rowsystems.specs.Reading.{faultUpper, faultVariable, faultNumber, fa
 use Rattle.rowsystems.specs.declared.Due.{Due}
 use Rattle.rowsystems.specs.declared.Due.the-variants.{Source, SourceUpper, Item, AuxiliaryUpper, Terms, Coefficient, Result, FirstFactor, SecondFactor, Ended}
 use Rattle.rowreading.specs.Onward.{resumed, Went, stepOver}
+use Rattle.rowreading.proofs.Onward.{word-ahead}
 use Rattle.rowreading.proofs.Steps.{step, or-halted}
 
 module _ (ws : List ℕ) (n at : ℕ) (h : at ≤ length ws) where
@@ -44,13 +44,9 @@ module _ (ws : List ℕ) (n at : ℕ) (h : at ≤ length ws) where
   row-constant = step tt h refl refl
 
   -- of a product
-  ahead : (i k : ℕ) → at + 1 + i ≡ k → wordAt (drop (at + 1) ws) i ≡ wordAt ws k
-  unfolding wordAt
-  ahead i k e = getD-drop (at + 1) ws i 0 ∙ ap (λ (j : ℕ). getD ws j 0) e
-
   pub product-result : Went ws n Result at FirstFactor (stepOver (faultResult n w (wordAt ws (at + 1)) (wordAt ws (at + 2))) at)
   unfolding faultDue afterDue
-  product-result = step tt h (rw (ahead 0 (at + 1) (omega arith), ahead 1 (at + 2) (omega arith))) refl
+  product-result = step tt h (rw (word-ahead ws at 0 (at + 1) (omega arith), word-ahead ws at 1 (at + 2) (omega arith))) refl
 
   pub first-factor : Went ws n FirstFactor at SecondFactor (stepOver (faultVariable n w) at)
   unfolding faultDue afterDue

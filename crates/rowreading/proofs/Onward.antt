@@ -7,8 +7,8 @@ use native.Mathlib.Omega.{arith}
 use native.Mathlib.Numerals.{add-one}
 use borrow.Author.Tests.{ltb-true, ltb-false}
 use lib.Dec.{ltb, eqb}
-use lib.ListN.{length, drop, drop-of-length-le, List·getD-eq-default}
-use lib.Seq.{drop-cons}
+use lib.ListN.{length, getD, drop, drop-of-length-le, List·getD-eq-default}
+use lib.Seq.{drop-cons, getD-drop}
 use Rattle.integers.specs.Choice.{_if_else_}
 use Rattle.words.specs.Fault as Fault
 use Rattle.words.specs.Word.{kind, wordAt}
@@ -80,6 +80,11 @@ past-stopped Ended p = refl
 pub cons-at : (ws : List ℕ) (at : ℕ) → at < length ws → drop at ws ≡ wordAt ws at ∷ drop (at + 1) ws
 unfolding wordAt
 cons-at ws at h = rw add-one (drop-cons ws at 0 h)
+
+-- a word after that one
+pub word-ahead : (ws : List ℕ) (at i k : ℕ) → at + 1 + i ≡ k → wordAt (drop (at + 1) ws) i ≡ wordAt ws k
+unfolding wordAt
+word-ahead ws at i k e = getD-drop (at + 1) ws i 0 ∙ ap (λ (j : ℕ). getD ws j 0) e
 
 module _ (ws : List ℕ) (due : Due) (n at : ℕ) where
   abbrev pub faultAt : ℕ

@@ -26,17 +26,17 @@ dueWith Product left = due.Result
 dueWith End left = due.Ended
 
 -- how many terms there are
-unfoldable pub termCount : Item → ℕ
-termCount (Variable lower) = 0
-termCount Boolean = 0
-termCount (Auxiliary lower) = 0
-termCount (Row terms) = terms
-termCount Product = 0
-termCount End = 0
+unfoldable pub itemTerms : Item → ℕ
+itemTerms (Variable lower) = 0
+itemTerms Boolean = 0
+itemTerms (Auxiliary lower) = 0
+itemTerms (Row terms) = terms
+itemTerms Product = 0
+itemTerms End = 0
 
 -- what is due after the head
 unfoldable pub dueAfter : Item → Due
-dueAfter item = dueWith item (termCount item)
+dueAfter item = dueWith item (itemTerms item)
 
 -- whether a source variable may follow
 unfoldable pub moreSources : Item → Bool

@@ -4,7 +4,7 @@ ghost use Prim.Native.Nat.{ℕ, suc, _≤_};
 ghost use Rattle.words.specs.Limit as Limit;
 ghost use Rattle.words.specs.Word.{wordAt};
 ghost use Rattle.rowsystems.specs.Reading.{faultUpper, faultVariable, faultNumber, afterDue};
-ghost use Rattle.rowreading.specs.Item.{dueAfter, termCount, dueWith, moreSources, startDue};
+ghost use Rattle.rowreading.specs.Item.{dueAfter, itemTerms, dueWith, moreSources, startDue};
 ghost use Rattle.rowreading.specs.Onward.{Placed, Went, stepOver};
 use crate::faults::fault_number;
 use crate::faults::fault_result;
@@ -62,7 +62,7 @@ pub fn item_of(head: u32) -> Item
 
 // The number of terms of an item.
 pub fn terms_of(item: Item) -> usize
-    ensures { λ r. ⌜ r ≡ termCount item ⌝ }
+    ensures { λ r. ⌜ r ≡ itemTerms item ⌝ }
 {
     match item {
         Item::Variable(_) => 0,

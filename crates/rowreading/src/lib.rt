@@ -19,7 +19,7 @@ pub mod faults;
 pub mod items;
 
 // How many variables start at a word: one at a word of kind 1, 3 or 8.
-fn started_of(w: u32) -> usize
+pub fn started_of(w: u32) -> usize
     ensures { λ r. ⌜ r ≡ started w ⌝ }
 {
     let k = kind_of(w);

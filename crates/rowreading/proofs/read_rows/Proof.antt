@@ -9,7 +9,7 @@ use lib.ListN.{length}
 use Rattle.words.specs.Word.{wordAt}
 use Rattle.rowsystems.specs.Reading.{readRows}
 use Rattle.rowsystems.specs.declared.Due.the-variants.{Source}
-use Rattle.rowreading.specs.Item.{faultHead, startDue, dueWith, termCount, dueAfter}
+use Rattle.rowreading.specs.Item.{faultHead, startDue, dueWith, itemTerms, dueAfter}
 use Rattle.rowreading.specs.Onward.{onward, stopped, Placed}
 use Rattle.rowreading.proofs.Heads.{started-few, head-here, head-halted, head-gone, term-gone}
 use Rattle.rowreading.proofs.Steps.{gone, halted}
@@ -17,7 +17,7 @@ use Rattle.rowreading.proofs.read_rows.Statement.{statement}
 use Rattle.rowreading.proofs.read_rows.Tie as tie
 
 abbrev Inv-loop : tie.InvT-loop
-Inv-loop ws sources n at₀ number₀ head item left₀ at number left = (at₀ ≤ at) × Placed ws at × (left ≤ termCount item) × (onward (dueWith item left) n at ws ≡ onward Source 0 0 ws)
+Inv-loop ws sources n at₀ number₀ head item left₀ at number left = (at₀ ≤ at) × Placed ws at × (left ≤ itemTerms item) × (onward (dueWith item left) n at ws ≡ onward Source 0 0 ws)
 
 abbrev μ-loop : tie.MeasureT-loop
 μ-loop ws sources n at₀ number₀ head item left₀ at number left = left

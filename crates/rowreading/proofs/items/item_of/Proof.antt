@@ -2,7 +2,7 @@
 use borrow.Author.Needs.{needs}
 use borrow.Author.Tests.{eq-eqb, ne-eqb}
 use Rattle.rowsystems.specs.Reading.{afterDue, afterItem}
-use Rattle.rowreading.specs.Item.{dueAfter, dueWith, termCount}
+use Rattle.rowreading.specs.Item.{dueAfter, dueWith, itemTerms}
 use Rattle.rowreading.proofs.items.item_of.Statement.{statement}
 use Rattle.rowreading.proofs.items.item_of.Tie as tie
 
@@ -10,30 +10,30 @@ kind-of-requires : tie.Need-kind-of-requires
 kind-of-requires c κs = search needs
 
 returns : tie.Need-returns
-unfolding dueAfter dueWith termCount afterDue afterItem
+unfolding dueAfter dueWith itemTerms afterDue afterItem
 returns c = rw (← c .before .kind-of .ensures, eq-eqb _ _ (c .if1 .taken))
 
 returns-2 : tie.Need-returns-2
-unfolding dueAfter dueWith termCount afterDue afterItem
+unfolding dueAfter dueWith itemTerms afterDue afterItem
 returns-2 c = rw (← c .before .before .kind-of .ensures, ne-eqb _ _ (c .before .if1 .left), eq-eqb _ _ (c .if2 .taken))
 
 returns-3 : tie.Need-returns-3
-unfolding dueAfter dueWith termCount afterDue afterItem
+unfolding dueAfter dueWith itemTerms afterDue afterItem
 returns-3 c = rw (← c .before .before .before .kind-of .ensures, ne-eqb _ _ (c .before .before .if1 .left), ne-eqb _ _ (c .before .if2 .left), eq-eqb _ _ (c .if3 .taken))
 
 returns-4 : tie.Need-returns-4
-unfolding dueAfter dueWith termCount afterDue afterItem
+unfolding dueAfter dueWith itemTerms afterDue afterItem
 returns-4 c = rw (← c .before .before .before .before .kind-of .ensures, ne-eqb _ _ (c .before .before .before .if1 .left), ne-eqb _ _ (c .before .before .if2 .left), ne-eqb _ _ (c .before .if3 .left), eq-eqb _ _ (c .if4 .taken))
 
 returns-5 : tie.Need-returns-5
-unfolding dueAfter dueWith termCount afterDue afterItem
+unfolding dueAfter dueWith itemTerms afterDue afterItem
 returns-5 c = rw (← c .before .before .before .before .before .kind-of .ensures, ne-eqb _ _ (c .before .before .before .before .if1 .left), ne-eqb _ _ (c .before .before .before .if2 .left), ne-eqb _ _ (c .before .before .if3 .left), ne-eqb _ _ (c .before .if4 .left), eq-eqb _ _ (c .if5 .taken))
 
 payload-of-requires : tie.Need-payload-of-requires
 payload-of-requires c κs = search needs
 
 returns-6 : tie.Need-returns-6
-unfolding dueAfter dueWith termCount afterDue afterItem
+unfolding dueAfter dueWith itemTerms afterDue afterItem
 returns-6 c = rw (← c .before .before .before .before .before .before .kind-of .ensures, ne-eqb _ _ (c .before .before .before .before .before .if1 .left), ne-eqb _ _ (c .before .before .before .before .if2 .left), ne-eqb _ _ (c .before .before .before .if3 .left), ne-eqb _ _ (c .before .before .if4 .left), ne-eqb _ _ (c .before .if5 .left), ← c .payload-of .ensures)
 
 pub item-of-spec : {M : Type 1} → statement M

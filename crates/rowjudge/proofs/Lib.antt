@@ -1,0 +1,6 @@
+-- Laws for the proofs of judge-rows.
+pub mod Sizes
+pub mod Sums
+pub mod Walk
+pub mod Kept
+pub mod Answers

@@ -1,0 +1,41 @@
+-- The product of two small values fits.
+use mathlib.Core.Path.{_∙_}
+use native.Mathlib.Omega.{arith}
+use borrow.Author.Needs.{needs}
+use Rattle.integers.specs.Terms.{value}
+use Rattle.integers.proofs.Fits.{back}
+use Rattle.rowsystems.specs.RowSystem.{variableAt}
+use Rattle.rowsystems.specs.Row.{satisfied}
+use Rattle.rowjudge.proofs.Sizes.{factors-fit}
+use Rattle.rowjudge.proofs.rows.is_product.Statement.{statement}
+use Rattle.rowjudge.proofs.rows.is_product.Tie as tie
+
+variable-value-requires : tie.Need-variable-value-requires
+variable-value-requires c κs = search needs
+
+variable-value-requires-2 : tie.Need-variable-value-requires-2
+variable-value-requires-2 c κs = search needs
+
+variable-value-requires-3 : tie.Need-variable-value-requires-3
+variable-value-requires-3 c κs = search needs
+
+times-requires : tie.Need-times-requires
+times-requires c κs = rw (back (c .before .variable-value2 .result) (c .before .variable-value2 .ok), back (c .variable-value3 .result) (c .variable-value3 .ok), c .before .variable-value2 .ensures, c .variable-value3 .ensures) (let σ = value (c .before .before .before .before .args .values .now) in let f = variableAt (c .before .before .before .before .args .ws .now) 1 in let g = variableAt (c .before .before .before .before .args .ws .now) 2 in omega (arith, factors-fit (σ f) (σ g) (c .before .before .before .before .pre f) (c .before .before .before .before .pre g)))
+
+equal-requires : tie.Need-equal-requires
+equal-requires c κs = search needs
+
+returns : tie.Need-returns
+unfolding satisfied
+returns c = c .equal .ensures ∙ rw (back (c .before .before .before .before .variable-value .result) (c .before .before .before .before .variable-value .ok), back (c .before .times .result) (c .before .times .ok), c .before .times .ensures, back (c .before .before .before .variable-value2 .result) (c .before .before .before .variable-value2 .ok), back (c .before .before .variable-value3 .result) (c .before .before .variable-value3 .ok), c .before .before .before .before .variable-value .ensures, c .before .before .before .variable-value2 .ensures, c .before .before .variable-value3 .ensures)
+
+pub is-product-spec : {M : Type 1} → statement M
+is-product-spec =
+    tie.close
+    (tie.spec
+    variable-value-requires
+    variable-value-requires-2
+    variable-value-requires-3
+    times-requires
+    equal-requires
+    returns)

@@ -1,0 +1,67 @@
+-- The invariant: the total is the sum of the first k terms, and so fits.
+use mathlib.Core.Path.{_≡_, sym, _∙_}
+use Prim.Native.Nat.{_+_, _*_, _-_, _≤_}
+use native.Mathlib.Omega.{arith}
+use borrow.Author.Needs.{needs}
+use mir.Syntax.{w64}
+use mir.Val.{toZ, ofZ}
+use Rattle.integers.specs.Number.{_⊗_}
+use Rattle.integers.specs.Terms.{value, sum}
+use Rattle.integers.proofs.Fits.{back}
+use Rattle.rowsystems.specs.RowSystem.{numberAt, variableAt, termsIn}
+use Rattle.rowjudge.proofs.Sizes.{number-size, product-size}
+use Rattle.rowjudge.proofs.Sums.{no-terms, one-more, sum-size}
+use Rattle.rowjudge.proofs.rows.sum_of.Statement.{statement}
+use Rattle.rowjudge.proofs.rows.sum_of.Tie as tie
+
+abbrev Inv-loop : tie.InvT-loop
+Inv-loop ws n values total₀ k₀ total k = (k ≤ n) × (toZ w64 total ≡ sum (value values) (termsIn ws k))
+
+abbrev μ-loop : tie.MeasureT-loop
+μ-loop ws n values total₀ k₀ total k = n - k
+
+-- helpers
+-- the term read
+term : (c : tie.After-term-at Inv-loop μ-loop) → toZ w64 (ofZ w64 (c .term-at .result)) ≡ numberAt (c .before .before .before .before .args .ws .now) (2 * c .before .before .loop .k + 1) ⊗ value (c .before .before .before .before .args .values .now) (variableAt (c .before .before .before .before .args .ws .now) (2 * c .before .before .loop .k))
+term c = back (c .term-at .result) (c .term-at .ok) ∙ c .term-at .ensures
+
+-- end
+
+loop-holds : tie.Need-loop-holds Inv-loop μ-loop
+loop-holds c = (omega arith, sym (no-terms (c .before .args .ws .now) (c .before .args .values .now)))
+
+mul-term-at : tie.Need-mul-term-at Inv-loop μ-loop
+mul-term-at c = search needs
+
+term-at-requires : tie.Need-term-at-requires Inv-loop μ-loop
+term-at-requires c κs = search needs
+
+plus-requires : tie.Need-plus-requires Inv-loop μ-loop
+plus-requires c κs = rw (c .before .before .loop .inv .1, term (c)) (let ws = c .before .before .before .before .args .ws .now in let k = c .before .before .loop .k in let x = variableAt ws (2 * k) in omega (arith, sum-size ws (c .before .before .before .before .args .values .now) (c .before .before .before .before .pre .1) k, product-size (numberAt ws (2 * k + 1)) (value (c .before .before .before .before .args .values .now) x) (number-size ws (2 * k + 1)) (c .before .before .before .before .pre .1 x)))
+
+add-k : tie.Need-add-k Inv-loop μ-loop
+add-k c = search needs
+
+loop-less : tie.Need-loop-less Inv-loop μ-loop
+loop-less c = search needs
+
+loop-again : tie.Need-loop-again Inv-loop μ-loop
+loop-again c = (omega arith, back (c .plus .result) (c .plus .ok) ∙ c .plus .ensures ∙ rw (c .before .before .before .loop .inv .1, term (c .before)) (sym (one-more (c .before .before .before .before .before .args .ws .now) (c .before .before .before .before .before .args .values .now) (c .before .before .before .loop .k))))
+
+returns : tie.Need-returns Inv-loop μ-loop
+returns c = let e : c .before .loop .k ≡ c .before .before .before .args .n = omega arith in c .before .loop .inv .1 ∙ rw e
+
+pub sum-of-spec : {M : Type 1} → statement M
+sum-of-spec =
+    tie.close
+    (tie.spec
+    Inv-loop
+    μ-loop
+    loop-holds
+    mul-term-at
+    term-at-requires
+    plus-requires
+    add-k
+    loop-less
+    loop-again
+    returns)

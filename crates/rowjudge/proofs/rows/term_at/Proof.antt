@@ -1,0 +1,31 @@
+-- The product of a number of a word and a small value fits.
+use mathlib.Core.Path.{_∙_}
+use Prim.Native.Nat.{_+_}
+use native.Mathlib.Omega.{arith}
+use borrow.Author.Needs.{needs}
+use Rattle.integers.specs.Terms.{value}
+use Rattle.integers.proofs.Fits.{back}
+use Rattle.rowsystems.specs.RowSystem.{numberAt, variableAt}
+use Rattle.rowjudge.proofs.Sizes.{number-size, factors-fit}
+use Rattle.rowjudge.proofs.rows.term_at.Statement.{statement}
+use Rattle.rowjudge.proofs.rows.term_at.Tie as tie
+
+add-number-at : tie.Need-add-number-at
+add-number-at c = search needs
+
+number-at-requires : tie.Need-number-at-requires
+number-at-requires c κs = search needs
+
+variable-value-requires : tie.Need-variable-value-requires
+variable-value-requires c κs = search needs
+
+times-requires : tie.Need-times-requires
+times-requires c κs = rw (back (c .before .number-at .result) (c .before .number-at .ok), back (c .variable-value .result) (c .variable-value .ok), c .before .number-at .ensures, c .variable-value .ensures) (let ws = c .before .before .before .args .ws .now in let x = variableAt ws (c .before .before .before .args .i) in omega (arith, factors-fit (numberAt ws (c .before .before .before .args .i + 1)) (value (c .before .before .before .args .values .now) x) (number-size ws (c .before .before .before .args .i + 1)) (c .before .before .before .pre .1 x)))
+
+returns : tie.Need-returns
+returns c = back (c .times .result) (c .times .ok) ∙ c .times .ensures ∙ rw (back (c .before .before .number-at .result) (c .before .before .number-at .ok), back (c .before .variable-value .result) (c .before .variable-value .ok), c .before .before .number-at .ensures, c .before .variable-value .ensures)
+
+pub term-at-spec : {M : Type 1} → statement M
+term-at-spec =
+    tie.close
+    (tie.spec add-number-at number-at-requires variable-value-requires times-requires returns)

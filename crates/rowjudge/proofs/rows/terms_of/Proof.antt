@@ -1,0 +1,20 @@
+-- The code tests as the definition does.
+use borrow.Author.Needs.{needs}
+use borrow.Author.Tests.{le-leb, lt-leb}
+use Rattle.rowsystems.specs.RowSystem.{termCount}
+use Rattle.rowjudge.proofs.rows.terms_of.Statement.{statement}
+use Rattle.rowjudge.proofs.rows.terms_of.Tie as tie
+
+payload-of-requires : tie.Need-payload-of-requires
+payload-of-requires c κs = search needs
+
+returns : tie.Need-returns
+unfolding termCount
+returns c = rw (← c .before .payload-of .ensures, le-leb _ _ (c .if1 .taken))
+
+returns-2 : tie.Need-returns-2
+unfolding termCount
+returns-2 c = rw (← c .before .payload-of .ensures, lt-leb _ _ (c .if1 .left))
+
+pub terms-of-spec : {M : Type 1} → statement M
+terms-of-spec = tie.close (tie.spec payload-of-requires returns returns-2)

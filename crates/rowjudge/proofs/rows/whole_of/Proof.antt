@@ -1,0 +1,31 @@
+-- A sum of at most 66 terms and a constant fits.
+use mathlib.Core.Path.{_∙_}
+use Prim.Native.Nat.{_*_}
+use native.Mathlib.Omega.{arith}
+use borrow.Author.Needs.{needs}
+use Rattle.integers.proofs.Fits.{back}
+use Rattle.rowsystems.specs.RowSystem.{constantIn}
+use Rattle.rowjudge.proofs.Sizes.{number-size}
+use Rattle.rowjudge.proofs.Sums.{sum-size}
+use Rattle.rowjudge.proofs.rows.whole_of.Statement.{statement}
+use Rattle.rowjudge.proofs.rows.whole_of.Tie as tie
+
+sum-of-requires : tie.Need-sum-of-requires
+sum-of-requires c κs = search needs
+
+mul-number-at : tie.Need-mul-number-at
+mul-number-at c = search needs
+
+number-at-requires : tie.Need-number-at-requires
+number-at-requires c κs = search needs
+
+plus-requires : tie.Need-plus-requires
+plus-requires c κs = rw (back (c .before .sum-of .result) (c .before .sum-of .ok), back (c .number-at .result) (c .number-at .ok), c .before .sum-of .ensures, c .number-at .ensures) (let ws = c .before .before .before .args .ws .now in omega (arith, sum-size ws (c .before .before .before .args .values .now) (c .before .before .before .pre .1) (c .before .before .before .args .n), number-size ws (2 * c .before .before .before .args .n), c .before .before .before .pre .0))
+
+returns : tie.Need-returns
+unfolding constantIn
+returns c = back (c .plus .result) (c .plus .ok) ∙ c .plus .ensures ∙ rw (back (c .before .before .sum-of .result) (c .before .before .sum-of .ok), back (c .before .number-at .result) (c .before .number-at .ok), c .before .before .sum-of .ensures, c .before .number-at .ensures)
+
+pub whole-of-spec : {M : Type 1} → statement M
+whole-of-spec =
+    tie.close (tie.spec sum-of-requires mul-number-at number-at-requires plus-requires returns)
