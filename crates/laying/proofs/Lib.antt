@@ -1,0 +1,3 @@
+-- Laws for proofs about laying blocks.
+pub mod Parts
+pub mod Blocks

@@ -1,0 +1,50 @@
+-- What the loops lay, turn by turn; rows of given variables and coefficients.
+use mathlib.Core.List.{List, [], _∷_, _++_}
+use Prim.Native.Nat.{ℕ, zero, suc, _+_}
+use lib.IntN.{ℤ, pos}
+use lib.ListN.{length, getD}
+use Rattle.integers.specs.Number.{_⊕_, +0, +1, -1}
+use Rattle.words.specs.Kind as Kind
+use Rattle.models.specs.Model.{var, num}
+use Rattle.laying.specs.Part.{Part, bound, head, term, constant, times}
+
+-- f 0, f 1, .. : n lists one after the other
+unfoldable pub many : (ℕ → List Part) → ℕ → List Part
+many f zero = []
+many f (suc n) = f 0 ++ many (λ k. f (suc k)) n
+
+-- a row of given variables and coefficients
+abbrev pub termAt : List ℕ → List ℤ → ℕ → List Part
+termAt xs cs k = term (getD cs k +0) (getD xs k 0) ∷ []
+
+unfoldable pub rowOf : ℕ → List ℕ → List ℤ → ℤ → List Part
+rowOf kind xs cs c = head kind (length xs) ∷ (many (termAt xs cs) (length xs) ++ (constant c ∷ []))
+
+-- number × variable, the numbers from place a on, the variables from place x on; c × variable
+abbrev pub sumAt : List ℕ → ℕ → ℕ → ℕ → List Part
+sumAt args a x k = term (num args (a + k)) (var args (x + k)) ∷ []
+
+abbrev pub eachAt : List ℕ → ℤ → ℕ → ℕ → List Part
+eachAt args c x k = term c (var args (x + k)) ∷ []
+
+-- over consecutive variables: coefficient 1; consecutive coefficients
+abbrev pub oneAt : ℕ → ℕ → List Part
+oneAt v k = term +1 (v + k) ∷ []
+
+abbrev pub labelAt : ℤ → ℕ → ℕ → List Part
+labelAt from v k = term (from ⊕ pos k) (v + k) ∷ []
+
+-- a bit
+abbrev pub bitAt : ℕ → List Part
+bitAt k = bound +0 +1 ∷ []
+
+-- z := x × b, the variables x from a place on
+abbrev pub productAt : List ℕ → ℕ → ℕ → ℕ → ℕ → List Part
+productAt args x z b k = times (z + k) (var args (x + k)) (b + k) ∷ []
+
+-- x − m ≤ 0; r − x ≤ 0
+abbrev pub belowAt : List ℕ → ℕ → ℕ → ℕ → List Part
+belowAt args x m k = rowOf Kind.atMost (var args (x + k) ∷ m ∷ []) (+1 ∷ -1 ∷ []) +0
+
+abbrev pub aboveAt : List ℕ → ℕ → ℕ → ℕ → List Part
+aboveAt args r x k = rowOf Kind.atMost (r ∷ var args (x + k) ∷ []) (+1 ∷ -1 ∷ []) +0
