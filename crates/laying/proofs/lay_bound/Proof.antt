@@ -1,0 +1,57 @@
+-- What `lay_part` laid is the part's words.
+use mathlib.Core.Path.{ap}
+use mathlib.Core.Bool.{_&&_}
+use native.Mathlib.Omega.{arith}
+use mir.Facts.{toZ-ofZ}
+use borrow.Author.Needs.{needs}
+use Rattle.integers.specs.Lists.{all}
+use Rattle.words.specs.Word.{inRange}
+use Rattle.laying.specs.Part.{bound, partWords, partNumbers, partAuxiliaries, partRows}
+use Rattle.laying.proofs.Parts.{and-true, went-one}
+use Rattle.laying.proofs.lay_bound.Statement.{statement}
+use Rattle.laying.proofs.lay_bound.Tie as tie
+
+number-word-requires : tie.Need-number-word-requires
+number-word-requires c κs = search needs
+
+number-word-requires-2 : tie.Need-number-word-requires-2
+number-word-requires-2 c κs = search needs
+
+in-range-requires : tie.Need-in-range-requires
+in-range-requires c κs = search needs
+
+in-range-requires-2 : tie.Need-in-range-requires-2
+in-range-requires-2 c κs = search needs
+
+both-requires : tie.Need-both-requires
+both-requires c κs = search needs
+
+slice-aggregate-lay-part : tie.Need-slice-aggregate-lay-part
+slice-aggregate-lay-part c = search needs
+
+lay-part-requires : tie.Need-lay-part-requires
+lay-part-requires c κs = search needs
+
+same-length : tie.Need-same-length
+same-length c = search needs
+
+returns : tie.Need-returns
+unfolding partWords partNumbers partAuxiliaries partRows all
+returns c =
+    let a = c .before .before .before .before .before .before .before .before .before .before .before in
+    let w = simp (c .before .before .before .before .before .before .before .before .before .number-word .ensures, c .before .before .before .before .before .before .before .before .number-word2 .ensures, c .before .before .before .before .before .both .ensures, c .before .before .before .before .before .before .before .in-range .ensures, c .before .before .before .before .before .before .in-range2 .ensures, toZ-ofZ (a .fits .lower), toZ-ofZ (a .fits .upper)) at (c .before .before .lay-part .ensures) in
+    (went-one (bound (a .args .lower) (a .args .upper)) w (ap (λ b. inRange (a .args .lower) && b) (and-true _)), omega (arith, w .words, w .auxiliaries, w .rows))
+
+pub lay-bound-spec : {M : Type 1} → statement M
+lay-bound-spec =
+    tie.close
+    (tie.spec
+    number-word-requires
+    number-word-requires-2
+    in-range-requires
+    in-range-requires-2
+    both-requires
+    slice-aggregate-lay-part
+    lay-part-requires
+    same-length
+    returns)

@@ -1,0 +1,50 @@
+-- What `lay_part` laid is the part's words.
+use mathlib.Core.Path.{refl}
+use native.Mathlib.Omega.{arith}
+use borrow.Author.Needs.{needs}
+use Rattle.integers.specs.Lists.{all}
+use Rattle.laying.specs.Part.{times, partWords, partNumbers, partAuxiliaries, partRows}
+use Rattle.laying.proofs.Parts.{went-one}
+use Rattle.laying.proofs.lay_times.Statement.{statement}
+use Rattle.laying.proofs.lay_times.Tie as tie
+
+word-of-requires : tie.Need-word-of-requires
+word-of-requires c κs = search needs
+
+word-of-requires-2 : tie.Need-word-of-requires-2
+word-of-requires-2 c κs = search needs
+
+word-of-requires-3 : tie.Need-word-of-requires-3
+word-of-requires-3 c κs = search needs
+
+word-of-requires-4 : tie.Need-word-of-requires-4
+word-of-requires-4 c κs = search needs
+
+slice-aggregate-lay-part : tie.Need-slice-aggregate-lay-part
+slice-aggregate-lay-part c = search needs
+
+lay-part-requires : tie.Need-lay-part-requires
+lay-part-requires c κs = search needs
+
+same-length : tie.Need-same-length
+same-length c = search needs
+
+returns : tie.Need-returns
+unfolding partWords partNumbers partAuxiliaries partRows all
+returns c =
+    let a = c .before .before .before .before .before .before .before .before .before .before in
+    let w = simp (c .before .before .before .before .before .before .before .before .word-of .ensures, c .before .before .before .before .before .before .before .word-of2 .ensures, c .before .before .before .before .before .before .word-of3 .ensures, c .before .before .before .before .before .word-of4 .ensures) at (c .before .before .lay-part .ensures) in
+    (went-one (times (a .args .r) (a .args .f) (a .args .g)) w refl, omega (arith, w .words, w .auxiliaries, w .rows))
+
+pub lay-times-spec : {M : Type 1} → statement M
+lay-times-spec =
+    tie.close
+    (tie.spec
+    word-of-requires
+    word-of-requires-2
+    word-of-requires-3
+    word-of-requires-4
+    slice-aggregate-lay-part
+    lay-part-requires
+    same-length
+    returns)
