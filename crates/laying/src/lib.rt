@@ -2,6 +2,7 @@
 ghost use mathlib.Core.Path.{_≡_};
 ghost use mathlib.Core.List.{[], _∷_};
 ghost use Prim.Native.Nat.{_+_, _<_, _≤_};
+ghost use lib.IntN.{natAbs};
 ghost use lib.ListN.{length};
 ghost use Rattle.models.specs.Model.{size, past};
 ghost use Rattle.laying.specs.Part.{Part, bound, head, term, constant, times};
@@ -117,4 +118,155 @@ pub fn lay_times(out: &mut [u32], s: Laid, r: usize, f: usize, g: usize) -> Laid
         word_of(kind::VARIABLE, g),
     ];
     lay_part(out, s, &row, 0, 1, true)
+}
+
+// The terms of given variables and coefficients.
+fn lay_given(out: &mut [u32], s: Laid, xs: &[usize], cs: &[i64]) -> Laid
+    requires { ⌜ (total s < 900000000000) × (length (now xs) ≤ 66) × (length (now cs) ≡ length (now xs)) ⌝ }
+    ensures { λ r. ⌜ Went s r (now (out .entry)) (now (out .exit)) (many (termAt (now (xs .entry)) (now (cs .entry))) (length (now (xs .entry)))) × Near 1000 s r ⌝ }
+{
+    let mut t = s;
+    let mut k = 0;
+    while k < xs.len() {
+        t = lay_term(out, t, cs[k], xs[k]);
+        k += 1;
+    }
+    t
+}
+
+// A row of a kind, of given variables and coefficients.
+pub fn lay_row(out: &mut [u32], s: Laid, kind: u32, xs: &[usize], cs: &[i64], c: i64) -> Laid
+    requires { ⌜ (total s < 800000000000) × (kind < 16) × (length (now xs) ≤ 66) × (length (now cs) ≡ length (now xs)) ⌝ }
+    ensures { λ r. ⌜ Went s r (now (out .entry)) (now (out .exit)) (rowOf kind (now (xs .entry)) (now (cs .entry)) c) × Near 2000 s r ⌝ }
+{
+    let begun = lay_head(out, s, kind, xs.len());
+    let t = lay_given(out, begun, xs, cs);
+    lay_constant(out, t, c)
+}
+
+// The terms of the parallel lists whose length word is at place i.
+pub fn lay_terms(out: &mut [u32], s: Laid, args: &[u32], i: usize) -> Laid
+    requires { ⌜ (total s < 900000000000) × (i < 1000000000000) ⌝ }
+    ensures { λ r. ⌜ Went s r (now (out .entry)) (now (out .exit)) (many (sumAt (now (args .entry)) (i + 1) (past (now (args .entry)) i)) (size (now (args .entry)) i)) × Near 1000 s r ⌝ }
+{
+    let n = size_at(args, i);
+    let variables = past_at(args, i);
+    let mut t = s;
+    let mut k = 0;
+    while k < n {
+        t = lay_term(out, t, num_at(args, i + 1 + k), var_at(args, variables + k));
+        k += 1;
+    }
+    t
+}
+
+// c × each variable of the list whose length word is at place i.
+pub fn lay_each(out: &mut [u32], s: Laid, args: &[u32], i: usize, c: i64) -> Laid
+    requires { ⌜ (total s < 900000000000) × (i < 1000000000000) ⌝ }
+    ensures { λ r. ⌜ Went s r (now (out .entry)) (now (out .exit)) (many (eachAt (now (args .entry)) c (i + 1)) (size (now (args .entry)) i)) × Near 1000 s r ⌝ }
+{
+    let n = size_at(args, i);
+    let mut t = s;
+    let mut k = 0;
+    while k < n {
+        t = lay_term(out, t, c, var_at(args, i + 1 + k));
+        k += 1;
+    }
+    t
+}
+
+// The bounds of n bits.
+pub fn lay_bits(out: &mut [u32], s: Laid, n: usize) -> Laid
+    requires { ⌜ (total s < 900000000000) × (n ≤ 66) ⌝ }
+    ensures { λ r. ⌜ Went s r (now (out .entry)) (now (out .exit)) (many bitAt n) × Near 1000 s r ⌝ }
+{
+    let mut t = s;
+    let mut k = 0;
+    while k < n {
+        t = lay_bound(out, t, 0, 1);
+        k += 1;
+    }
+    t
+}
+
+// Σ of n consecutive variables from v on.
+pub fn lay_ones(out: &mut [u32], s: Laid, v: usize, n: usize) -> Laid
+    requires { ⌜ (total s < 900000000000) × (n ≤ 66) × (v < 1000000000000) ⌝ }
+    ensures { λ r. ⌜ Went s r (now (out .entry)) (now (out .exit)) (many (oneAt v) n) × Near 1000 s r ⌝ }
+{
+    let mut t = s;
+    let mut k = 0;
+    while k < n {
+        t = lay_term(out, t, 1, v + k);
+        k += 1;
+    }
+    t
+}
+
+// Consecutive numbers × consecutive variables, n of them.
+pub fn lay_labels(out: &mut [u32], s: Laid, from: i64, v: usize, n: usize) -> Laid
+    requires { ⌜ (total s < 900000000000) × (n ≤ 66) × (v < 1000000000000) × (natAbs from < 1000000000000) ⌝ }
+    ensures { λ r. ⌜ Went s r (now (out .entry)) (now (out .exit)) (many (labelAt from v) n) × Near 1000 s r ⌝ }
+{
+    let mut t = s;
+    let mut k = 0;
+    while k < n {
+        t = lay_term(out, t, plus(from, k as i64), v + k);
+        k += 1;
+    }
+    t
+}
+
+// n products: from z on, of the variables from place base on and those from b on.
+pub fn lay_products(
+    out: &mut [u32],
+    s: Laid,
+    args: &[u32],
+    base: usize,
+    z: usize,
+    b: usize,
+    n: usize,
+) -> Laid
+    requires { ⌜ (total s < 900000000000) × (n ≤ 66) × (base < 1000000000000) × (z < 1000000000000) × (b < 1000000000000) ⌝ }
+    ensures { λ r. ⌜ Went s r (now (out .entry)) (now (out .exit)) (many (productAt (now (args .entry)) base z b) n) × Near 1000 s r ⌝ }
+{
+    let mut t = s;
+    let mut k = 0;
+    while k < n {
+        t = lay_times(out, t, z + k, var_at(args, base + k), b + k);
+        k += 1;
+    }
+    t
+}
+
+// n rows x − m ≤ 0, x the variables from place base on.
+pub fn lay_below(out: &mut [u32], s: Laid, args: &[u32], base: usize, m: usize, n: usize) -> Laid
+    requires { ⌜ (total s < 700000000000) × (n ≤ 66) × (base < 1000000000000) ⌝ }
+    ensures { λ r. ⌜ Went s r (now (out .entry)) (now (out .exit)) (many (belowAt (now (args .entry)) base m) n) × Near 200000 s r ⌝ }
+{
+    let mut t = s;
+    let mut k = 0;
+    while k < n {
+        let xs = [var_at(args, base + k), m];
+        let cs = [1, -1];
+        t = lay_row(out, t, kind::AT_MOST, &xs, &cs, 0);
+        k += 1;
+    }
+    t
+}
+
+// n rows r − x ≤ 0, x the variables from place base on.
+pub fn lay_above(out: &mut [u32], s: Laid, args: &[u32], r: usize, base: usize, n: usize) -> Laid
+    requires { ⌜ (total s < 700000000000) × (n ≤ 66) × (base < 1000000000000) ⌝ }
+    ensures { λ t. ⌜ Went s t (now (out .entry)) (now (out .exit)) (many (aboveAt (now (args .entry)) r base) n) × Near 200000 s t ⌝ }
+{
+    let mut t = s;
+    let mut k = 0;
+    while k < n {
+        let xs = [r, var_at(args, base + k)];
+        let cs = [1, -1];
+        t = lay_row(out, t, kind::AT_MOST, &xs, &cs, 0);
+        k += 1;
+    }
+    t
 }

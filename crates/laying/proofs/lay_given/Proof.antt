@@ -1,0 +1,68 @@
+-- The loop lays one list of parts in each turn: the k-th term.
+use Prim.Native.Nat.{_-_}
+use native.Mathlib.Omega.{arith}
+use lib.IntN.{pos}
+use lib.ListN.{length, getD}
+use borrow.Author.Needs.{needs}
+use Rattle.integers.proofs.Fits.{back}
+use Rattle.laying.specs.Lists.{termAt}
+use Rattle.laying.proofs.Parts.{Laying, begun, more, done, went-length}
+use Rattle.laying.proofs.lay_given.Statement.{statement}
+use Rattle.laying.proofs.lay_given.Tie as tie
+
+abbrev Inv-loop : tie.InvT-loop
+Inv-loop out₀ xs cs t₀ k₀ out t k = Laying 10 (termAt xs cs) (length xs) t₀ t out₀ out k
+
+abbrev μ-loop : tie.MeasureT-loop
+μ-loop out₀ xs cs t₀ k₀ out t k = length xs - k
+
+loop-holds : tie.Need-loop-holds Inv-loop μ-loop
+loop-holds c = begun 10 _ _ _ _
+
+mul-lay-term : tie.Need-mul-lay-term Inv-loop μ-loop
+mul-lay-term c = search needs
+
+shared-slice-copy-out-lay-term : tie.Need-shared-slice-copy-out-lay-term Inv-loop μ-loop
+shared-slice-copy-out-lay-term c = search needs
+
+mul-lay-term-2 : tie.Need-mul-lay-term-2 Inv-loop μ-loop
+mul-lay-term-2 c = search needs
+
+shared-slice-read-lay-term : tie.Need-shared-slice-read-lay-term Inv-loop μ-loop
+shared-slice-read-lay-term c = search needs
+
+lay-term-requires : tie.Need-lay-term-requires Inv-loop μ-loop
+lay-term-requires c κs = search needs
+
+add-k : tie.Need-add-k Inv-loop μ-loop
+add-k c = search needs
+
+loop-less : tie.Need-loop-less Inv-loop μ-loop
+loop-less c = search needs
+
+loop-again : tie.Need-loop-again Inv-loop μ-loop
+loop-again c = more (c .before .before .before .before .before .before .loop-test .taken) (c .before .before .before .before .before .before .before .loop .inv) (rw (back (getD (c .before .before .before .before .before .before .before .before .before .before .args .cs .now) (c .before .before .before .before .before .before .before .loop .k) (pos 0)) (c .before .before .before .before .lay-term-arg2 .given)) at (c .before .before .lay-term .ensures))
+
+same-length : tie.Need-same-length Inv-loop μ-loop
+same-length c = went-length (c .before .loop .inv .went)
+
+returns : tie.Need-returns Inv-loop μ-loop
+returns c = done 1000 (omega arith) (c .loop-test .left) (c .before .loop .inv)
+
+pub lay-given-spec : {M : Type 1} → statement M
+lay-given-spec =
+    tie.close
+    (tie.spec
+    Inv-loop
+    μ-loop
+    loop-holds
+    mul-lay-term
+    shared-slice-copy-out-lay-term
+    mul-lay-term-2
+    shared-slice-read-lay-term
+    lay-term-requires
+    add-k
+    loop-less
+    loop-again
+    same-length
+    returns)

@@ -1,0 +1,65 @@
+-- The loop lays one list of parts in each turn: a product.
+use Prim.Native.Nat.{_-_}
+use native.Mathlib.Omega.{arith}
+use borrow.Author.Needs.{needs}
+use Rattle.laying.specs.Lists.{productAt}
+use Rattle.laying.proofs.Parts.{Laying, begun, more, done, went-length}
+use Rattle.laying.proofs.lay_products.Statement.{statement}
+use Rattle.laying.proofs.lay_products.Tie as tie
+
+abbrev Inv-loop : tie.InvT-loop
+Inv-loop out₀ args base z b n t₀ k₀ out t k = Laying 10 (productAt args base z b) n t₀ t out₀ out k
+
+abbrev μ-loop : tie.MeasureT-loop
+μ-loop out₀ args base z b n t₀ k₀ out t k = n - k
+
+loop-holds : tie.Need-loop-holds Inv-loop μ-loop
+loop-holds c = begun 10 _ _ _ _
+
+add-lay-times : tie.Need-add-lay-times Inv-loop μ-loop
+add-lay-times c = search needs
+
+add-var-at : tie.Need-add-var-at Inv-loop μ-loop
+add-var-at c = search needs
+
+var-at-requires : tie.Need-var-at-requires Inv-loop μ-loop
+var-at-requires c κs = search needs
+
+add-lay-times-2 : tie.Need-add-lay-times-2 Inv-loop μ-loop
+add-lay-times-2 c = search needs
+
+lay-times-requires : tie.Need-lay-times-requires Inv-loop μ-loop
+lay-times-requires c κs = search needs
+
+add-k : tie.Need-add-k Inv-loop μ-loop
+add-k c = search needs
+
+loop-less : tie.Need-loop-less Inv-loop μ-loop
+loop-less c = search needs
+
+loop-again : tie.Need-loop-again Inv-loop μ-loop
+loop-again c = more (c .before .before .before .before .before .loop-test .taken) (c .before .before .before .before .before .before .loop .inv) (simp (c .before .before .before .var-at .ensures) at (c .before .before .lay-times .ensures))
+
+same-length : tie.Need-same-length Inv-loop μ-loop
+same-length c = went-length (c .before .loop .inv .went)
+
+returns : tie.Need-returns Inv-loop μ-loop
+returns c = done 1000 (omega arith) (c .loop-test .left) (c .before .loop .inv)
+
+pub lay-products-spec : {M : Type 1} → statement M
+lay-products-spec =
+    tie.close
+    (tie.spec
+    Inv-loop
+    μ-loop
+    loop-holds
+    add-lay-times
+    add-var-at
+    var-at-requires
+    add-lay-times-2
+    lay-times-requires
+    add-k
+    loop-less
+    loop-again
+    same-length
+    returns)

@@ -1,0 +1,31 @@
+-- A head, terms and a constant, one after the other.
+use native.Mathlib.Omega.{arith}
+use mir.Facts.{toZ-ofZ}
+use borrow.Author.Needs.{needs}
+use Rattle.laying.specs.Lists.{rowOf}
+use Rattle.laying.proofs.Parts.{went-then}
+use Rattle.laying.proofs.lay_row.Statement.{statement}
+use Rattle.laying.proofs.lay_row.Tie as tie
+
+lay-head-requires : tie.Need-lay-head-requires
+lay-head-requires c κs = search needs
+
+lay-given-requires : tie.Need-lay-given-requires
+lay-given-requires c κs = search needs
+
+lay-constant-requires : tie.Need-lay-constant-requires
+lay-constant-requires c κs = search needs
+
+same-length : tie.Need-same-length
+same-length c = search needs
+
+returns : tie.Need-returns
+unfolding rowOf
+returns c =
+    let w = rw (toZ-ofZ (c .before .before .before .before .before .before .before .before .before .before .before .before .before .before .fits .c)) at (c .before .before .lay-constant .ensures) in
+    (went-then (c .before .before .before .before .before .before .before .before .before .before .lay-head .ensures .0) (went-then (c .before .before .before .before .before .before .lay-given .ensures .0) (w .0)), omega (arith, c .before .before .before .before .before .before .before .before .before .before .lay-head .ensures .1, c .before .before .before .before .before .before .lay-given .ensures .1, w .1))
+
+pub lay-row-spec : {M : Type 1} → statement M
+lay-row-spec =
+    tie.close
+    (tie.spec lay-head-requires lay-given-requires lay-constant-requires same-length returns)
