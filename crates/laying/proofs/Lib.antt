@@ -1,3 +1,4 @@
 -- Laws for proofs about laying blocks.
 pub mod Parts
 pub mod Blocks
+pub mod Lists

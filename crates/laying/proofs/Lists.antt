@@ -1,0 +1,173 @@
+-- The lists of the definitions as the loops lay them, and rows of given terms.
+use mathlib.Core.Path.{_≡_, refl, sym, ap, ap₂, _∙_}
+use mathlib.Core.List.{List, [], _∷_, _++_, map, map-append, flatMap}
+use Prim.Native.Nat.{ℕ, zero, suc, _+_}
+use native.Mathlib.Omega.{arith}
+use lib.IntN.{ℤ}
+use lib.ListN.{length}
+use Rattle.integers.specs.Number.{+0, +1, -1}
+use Rattle.integers.specs.Lists.{listOf}
+use Rattle.integers.specs.Bounds.{width, values}
+use Rattle.integers.specs.Terms.{Term, _·_}
+use Rattle.integers.specs.declared.Bounds.{Bounds}
+use Rattle.integers.proofs.Lists.{listOf-length}
+use Rattle.words.specs.Kind as Kind
+use Rattle.models.specs.Model.{size, past, vars, nums, terms}
+use Rattle.rowsystems.specs.Row.{Row, sum≤0, sum=0, product, renameTerms}
+use Rattle.rules.specs.Block.{Ref, source, aux, numbered}
+use Rattle.rules.specs.Parts.{_─_≤0, sources, each, bits, weighted, one, products}
+use Rattle.laying.specs.Part.{Part, bound, head, term, constant, times, boundParts, termParts, rowParts}
+use Rattle.laying.specs.Lists.{many, termAt, rowOf, sumAt, eachAt, oneAt, labelAt, bitAt, productAt, belowAt, aboveAt}
+use Rattle.laying.proofs.Parts.{many-same}
+
+-- ---- how long they are
+
+module _ (args : List ℕ) (i : ℕ) where
+  pub length-vars : length (vars args i) ≡ size args i
+  unfolding vars
+  length-vars = listOf-length _ (size args i)
+
+  pub length-nums : length (nums args i) ≡ size args i
+  unfolding nums
+  length-nums = listOf-length _ (size args i)
+
+  pub length-terms : length (terms args i) ≡ size args i
+  unfolding terms
+  length-terms = listOf-length _ (size args i)
+
+pub length-values : (B : Bounds) → length (values B) ≡ width B
+unfolding values
+length-values B = listOf-length _ (width B)
+
+pub length-sources : (ts : List (Term ℕ)) → length (sources ts) ≡ length ts
+unfolding sources renameTerms
+length-sources [] = refl
+length-sources (t ∷ ts) = ap suc (length-sources ts)
+
+pub length-each : (c : ℤ) (vs : List ℕ) → length (each c vs) ≡ length vs
+unfolding each
+length-each c [] = refl
+length-each c (v ∷ vs) = ap suc (length-each c vs)
+
+pub length-weighted : {A : Type 0} (w : A → ℤ) (ls : List A) (k : ℕ) → length (weighted w ls k) ≡ length ls
+unfolding weighted
+length-weighted w [] k = refl
+length-weighted w (l ∷ ls) k = ap suc (length-weighted w ls (suc k))
+
+-- ---- bounds
+
+pub bounds-append : (As Bs : List Bounds) → boundParts (As ++ Bs) ≡ boundParts As ++ boundParts Bs
+unfolding boundParts
+bounds-append As Bs = map-append _ As Bs
+
+pub bits-parts : {A : Type 0} (ls : List A) → boundParts (bits ls) ≡ many bitAt (length ls)
+unfolding boundParts bits many
+bits-parts [] = refl
+bits-parts (l ∷ ls) = ap (λ ps. bound +0 +1 ∷ ps) (bits-parts ls)
+
+-- one auxiliary further on
+further : (first k j : ℕ) → first + suc k + j ≡ first + k + suc j
+further first k j = omega arith
+
+here : (first k : ℕ) → first + k ≡ first + k + 0
+here first k = omega arith
+
+module _ (first : ℕ) where
+  -- ---- terms
+
+  pub terms-append : (ts us : List (Term Ref)) → termParts first (ts ++ us) ≡ termParts first ts ++ termParts first us
+  unfolding termParts
+  terms-append ts us = map-append _ ts us
+
+  pub sources-many : (f : ℕ → Term ℕ) (n : ℕ) → termParts first (sources (listOf f n)) ≡ many (λ k. term (f k .coefficient) (f k .variable) ∷ []) n
+  unfolding termParts sources renameTerms numbered listOf many
+  sources-many f zero = refl
+  sources-many f (suc n) = ap (λ ps. term (f 0 .coefficient) (f 0 .variable) ∷ ps) (sources-many (λ k. f (suc k)) n)
+
+  pub terms-parts : (args : List ℕ) (i : ℕ) → termParts first (sources (terms args i)) ≡ many (sumAt args (i + 1) (past args i)) (size args i)
+  unfolding terms
+  terms-parts args i = sources-many _ (size args i)
+
+  pub each-many : (c : ℤ) (f : ℕ → ℕ) (n : ℕ) → termParts first (each c (listOf f n)) ≡ many (λ k. term c (f k) ∷ []) n
+  unfolding termParts each numbered listOf many
+  each-many c f zero = refl
+  each-many c f (suc n) = ap (λ ps. term c (f 0) ∷ ps) (each-many c (λ k. f (suc k)) n)
+
+  pub each-parts : (c : ℤ) (args : List ℕ) (i : ℕ) → termParts first (each c (vars args i)) ≡ many (eachAt args c (i + 1)) (size args i)
+  unfolding vars
+  each-parts c args i = each-many c _ (size args i)
+
+  pub weighted-many : {A : Type 0} (w : A → ℤ) (f : ℕ → A) (n k : ℕ) → termParts first (weighted w (listOf f n) k) ≡ many (λ j. term (w (f j)) (first + k + j) ∷ []) n
+  unfolding termParts weighted numbered listOf many
+  weighted-many w f zero k = refl
+  weighted-many w f (suc n) k =
+      ap₂ (λ (v : ℕ) ps. term (w (f 0)) v ∷ ps) (here first k)
+      (weighted-many w (λ j. f (suc j)) n (suc k)
+      ∙ many-same _ _ (λ j. ap (λ (v : ℕ). term (w (f (suc j))) v ∷ []) (further first k j)) n)
+
+  pub labels-parts : (B : Bounds) (k : ℕ) → termParts first (weighted (λ j. j) (values B) k) ≡ many (labelAt (B .lower) (first + k)) (width B)
+  unfolding values
+  labels-parts B k = weighted-many (λ j. j) _ (width B) k
+
+  pub ones-parts : {A : Type 0} (ls : List A) (k : ℕ) → termParts first (weighted one ls k) ≡ many (oneAt (first + k)) (length ls)
+  unfolding termParts weighted numbered many
+  ones-parts [] k = refl
+  ones-parts (l ∷ ls) k =
+      ap₂ (λ (v : ℕ) ps. term +1 v ∷ ps) (here first k)
+      (ones-parts ls (suc k) ∙ many-same _ _ (λ j. ap (λ (v : ℕ). term +1 v ∷ []) (further first k j)) (length ls))
+
+  -- ---- products
+
+  pub products-many : {A : Type 0} (x : A → ℕ) (f : ℕ → A) (n k m : ℕ) →
+      flatMap (rowParts first) (products x (listOf f n) k m) ≡ many (λ j. times (first + m + j) (x (f j)) (first + k + j) ∷ []) n
+  unfolding flatMap rowParts products numbered listOf many
+  products-many x f zero k m = refl
+  products-many x f (suc n) k m =
+      ap₂ (λ (z b : ℕ). times z (x (f 0)) b ∷ flatMap (rowParts first) (products x (listOf (λ j. f (suc j)) n) (suc k) (suc m))) (here first m) (here first k)
+      ∙ ap (λ ps. times (first + m + 0) (x (f 0)) (first + k + 0) ∷ ps)
+      (products-many x (λ j. f (suc j)) n (suc k) (suc m)
+      ∙ many-same _ _ (λ j. ap₂ (λ (z b : ℕ). times z (x (f (suc j))) b ∷ []) (further first m j) (further first k j)) n)
+
+  pub products-parts : (args : List ℕ) (i k m : ℕ) →
+      flatMap (rowParts first) (products (λ x. x) (vars args i) k m) ≡ many (productAt args (i + 1) (first + m) (first + k)) (size args i)
+  unfolding vars
+  products-parts args i k m = products-many (λ x. x) _ (size args i) k m
+
+  -- ---- rows
+
+  -- a row of given terms; for a literal list of terms both lists compute
+  given : (ts : List (Term Ref)) →
+      termParts first ts ≡ many (termAt (map (λ t. numbered first (t .variable)) ts) (map (λ t. t .coefficient) ts)) (length (map (λ t. numbered first (t .variable)) ts))
+  unfolding termParts many
+  given [] = refl
+  given (t ∷ ts) = ap (λ ps. term (t .coefficient) (numbered first (t .variable)) ∷ ps) (given ts)
+
+  count : (ts : List (Term Ref)) → length ts ≡ length (map (λ t. numbered first (t .variable)) ts)
+  count [] = refl
+  count (t ∷ ts) = ap suc (count ts)
+
+  pub row-atMost : (ts : List (Term Ref)) (c : ℤ) →
+      rowParts first (sum≤0 ts c) ≡ rowOf Kind.atMost (map (λ t. numbered first (t .variable)) ts) (map (λ t. t .coefficient) ts) c
+  unfolding rowParts rowOf
+  row-atMost ts c = ap₂ (λ (n : ℕ) ps. head Kind.atMost n ∷ (ps ++ (constant c ∷ []))) (count ts) (given ts)
+
+  pub row-equal : (ts : List (Term Ref)) (c : ℤ) →
+      rowParts first (sum=0 ts c) ≡ rowOf Kind.equal (map (λ t. numbered first (t .variable)) ts) (map (λ t. t .coefficient) ts) c
+  unfolding rowParts rowOf
+  row-equal ts c = ap₂ (λ (n : ℕ) ps. head Kind.equal n ∷ (ps ++ (constant c ∷ []))) (count ts) (given ts)
+
+  -- a row for each of a list by places
+  pub rows-many : {A : Type 0} (q : A → Row Ref) (f : ℕ → A) (n : ℕ) → flatMap (rowParts first) (map q (listOf f n)) ≡ many (λ k. rowParts first (q (f k))) n
+  unfolding flatMap listOf many
+  rows-many q f zero = refl
+  rows-many q f (suc n) = ap (λ ps. rowParts first (q (f 0)) ++ ps) (rows-many q (λ k. f (suc k)) n)
+
+  pub below-parts : (args : List ℕ) (i m : ℕ) →
+      flatMap (rowParts first) (map (λ x. source x ─ source m ≤0) (vars args i)) ≡ many (belowAt args (i + 1) m) (size args i)
+  unfolding vars _─_≤0 rowParts rowOf termParts numbered many
+  below-parts args i m = rows-many (λ x. source x ─ source m ≤0) _ (size args i)
+
+  pub above-parts : (args : List ℕ) (r i : ℕ) →
+      flatMap (rowParts first) (map (λ x. source r ─ source x ≤0) (vars args i)) ≡ many (aboveAt args r (i + 1)) (size args i)
+  unfolding vars _─_≤0 rowParts rowOf termParts numbered many
+  above-parts args r i = rows-many (λ x. source r ─ source x ≤0) _ (size args i)
