@@ -38,7 +38,9 @@ loop-less : tie.Need-loop-less Inv-loop μ-loop
 loop-less c = search needs
 
 loop-again : tie.Need-loop-again Inv-loop μ-loop
-loop-again c = more (c .before .before .before .before .before .before .before .loop-test .taken) (c .before .before .before .before .before .before .before .before .loop .inv) (rw (c .before .before .before .before .before .before .var-at .ensures) at (c .before .before .lay-row .ensures))
+loop-again c =
+    let l = c .before .before .before .before .before .before .before in
+    more (l .loop-test .taken) (l .before .loop .inv) (rw (c .before .before .before .before .before .before .var-at .ensures) at (c .before .before .lay-row .ensures))
 
 same-length : tie.Need-same-length Inv-loop μ-loop
 same-length c = went-length (c .before .loop .inv .went)

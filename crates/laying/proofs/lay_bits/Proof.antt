@@ -26,7 +26,9 @@ loop-less : tie.Need-loop-less Inv-loop μ-loop
 loop-less c = search needs
 
 loop-again : tie.Need-loop-again Inv-loop μ-loop
-loop-again c = more (c .before .before .before .before .loop-test .taken) (c .before .before .before .before .before .loop .inv) (c .before .before .lay-bound .ensures)
+loop-again c =
+    let l = c .before .before .before .before in
+    more (l .loop-test .taken) (l .before .loop .inv) (c .before .before .lay-bound .ensures)
 
 same-length : tie.Need-same-length Inv-loop μ-loop
 same-length c = went-length (c .before .loop .inv .went)

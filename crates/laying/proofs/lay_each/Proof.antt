@@ -42,7 +42,9 @@ loop-less : tie.Need-loop-less Inv-loop μ-loop
 loop-less c = search needs
 
 loop-again : tie.Need-loop-again Inv-loop μ-loop
-loop-again c = (c .before .before .before .before .before .before .loop .inv .0, more (c .before .before .before .before .before .loop-test .taken) (c .before .before .before .before .before .before .loop .inv .1) (simp (c .before .before .before .var-at .ensures) at (c .before .before .lay-term .ensures)))
+loop-again c =
+    let l = c .before .before .before .before .before in
+    (l .before .loop .inv .0, more (l .loop-test .taken) (l .before .loop .inv .1) (simp (c .before .before .before .var-at .ensures) at (c .before .before .lay-term .ensures)))
 
 same-length : tie.Need-same-length Inv-loop μ-loop
 same-length c = went-length (c .before .loop .inv .1 .went)

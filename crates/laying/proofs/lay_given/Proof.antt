@@ -41,7 +41,9 @@ loop-less : tie.Need-loop-less Inv-loop μ-loop
 loop-less c = search needs
 
 loop-again : tie.Need-loop-again Inv-loop μ-loop
-loop-again c = more (c .before .before .before .before .before .before .loop-test .taken) (c .before .before .before .before .before .before .before .loop .inv) (rw (back (getD (c .before .before .before .before .before .before .before .before .before .before .args .cs .now) (c .before .before .before .before .before .before .before .loop .k) (pos 0)) (c .before .before .before .before .lay-term-arg2 .given)) at (c .before .before .lay-term .ensures))
+loop-again c =
+    let l = c .before .before .before .before .before .before in
+    more (l .loop-test .taken) (l .before .loop .inv) (rw (back (getD (l .before .before .before .before .args .cs .now) (l .before .loop .k) (pos 0)) (c .before .before .before .before .lay-term-arg2 .given)) at (c .before .before .lay-term .ensures))
 
 same-length : tie.Need-same-length Inv-loop μ-loop
 same-length c = went-length (c .before .loop .inv .went)

@@ -40,7 +40,9 @@ loop-less : tie.Need-loop-less Inv-loop μ-loop
 loop-less c = search needs
 
 loop-again : tie.Need-loop-again Inv-loop μ-loop
-loop-again c = more (c .before .before .before .before .before .loop-test .taken) (c .before .before .before .before .before .before .loop .inv) (rw (back (c .before .before .before .plus .result) (c .before .before .before .plus .ok), c .before .before .before .plus .ensures, toZ-pos w64 {n = c .before .before .before .before .before .before .loop .k} (omega arith)) at (c .before .before .lay-term .ensures))
+loop-again c =
+    let l = c .before .before .before .before .before in
+    more (l .loop-test .taken) (l .before .loop .inv) (rw (back (c .before .before .before .plus .result) (c .before .before .before .plus .ok), c .before .before .before .plus .ensures, toZ-pos w64 {n = l .before .loop .k} (omega arith)) at (c .before .before .lay-term .ensures))
 
 same-length : tie.Need-same-length Inv-loop μ-loop
 same-length c = went-length (c .before .loop .inv .went)

@@ -54,7 +54,11 @@ loop-less : tie.Need-loop-less Inv-loop μ-loop
 loop-less c = search needs
 
 loop-again : tie.Need-loop-again Inv-loop μ-loop
-loop-again c = (c .before .before .before .before .before .before .before .loop .inv .0, c .before .before .before .before .before .before .before .loop .inv .1, more (c .before .before .before .before .before .before .loop-test .taken) (c .before .before .before .before .before .before .before .loop .inv .2) (rw (back (c .before .before .before .before .num-at .result) (c .before .before .before .before .num-at .ok), c .before .before .before .before .num-at .ensures, c .before .before .before .var-at .ensures) at (c .before .before .lay-term .ensures)))
+loop-again c =
+    let n = c .before .before .before .before in
+    let l = n .before .before in
+    let i = l .before .loop .inv in
+    (i .0, i .1, more (l .loop-test .taken) (i .2) (rw (back (n .num-at .result) (n .num-at .ok), n .num-at .ensures, c .before .before .before .var-at .ensures) at (c .before .before .lay-term .ensures)))
 
 same-length : tie.Need-same-length Inv-loop μ-loop
 same-length c = went-length (c .before .loop .inv .2 .went)
