@@ -1,0 +1,89 @@
+#!/usr/bin/env python3
+"""Writes the recorded cases of the program `suite`, crates/suite/stdin and stdout, from tests/vectors and a few cases at the limits.
+
+    tests/cases.py           write both files
+    tests/cases.py --check   only say whether they are up to date
+
+stdin: one case after the other, all numbers 32 bits, lowest byte first: the call (1 check, 2 translate, 3 judge_model, 4 judge_rows, 5 fill),
+the room, the number of words, the number of values, the words, the values (signed). stdout: the answer of each case, a line each."""
+import glob, os, struct, sys
+
+HERE = os.path.dirname(os.path.abspath(__file__))
+SUITE = os.path.join(os.path.dirname(HERE), 'crates', 'suite')
+CALLS = {'check': 1, 'translate': 2, 'judge_model': 3, 'judge_rows': 4, 'fill': 5}
+KNOWN = ['judge_model', 'judge_rows']  # the calls that suite knows
+
+
+def recorded():
+    for path in sorted(glob.glob(os.path.join(HERE, 'vectors', '*.txt'))):
+        for line in open(path):
+            call, words, values, room, answer = (part.strip() for part in line.rstrip('\n').split('|'))
+            yield (call, [int(w, 16) for w in words.split()], [] if values == '-' else [int(v) for v in values.split()],
+                   0 if room == '-' else int(room), answer)
+
+
+def long_model(words):
+    """A model of so many words, 16 Boolean variables and clauses over them, true of all ones."""
+    model = [0x30000000] * 16
+    while len(model) < words - 1:
+        left = words - 1 - len(model)
+        # a clause of n and m variables has n + m + 3 words
+        n = min(left - 3, 64) if left - 3 <= 64 or left - 3 - 64 >= 4 else left - 3 - 4
+        first, second = (n + 1) // 2, n // 2
+        model += [0x40000015, 0x60000000 + first] + [0x50000000 + i % 16 for i in range(first)]
+        model += [0x60000000 + second] + [0x50000000 + i % 16 for i in range(second)]
+    return model + [0x70000000]
+
+
+def long_system(words, last):
+    """A row system of so many words: 16 variables, rows of one to 62 terms that are 0 of all zeros, the last one with this constant."""
+    system = [0x30000000] * 16
+    while len(system) < words - 1:
+        left = words - 1 - len(system)
+        # a row of n terms has 2 × n + 2 words; an odd number of words is made even by a pair of bounds fewer
+        n = min((left - 2) // 2, 62) if left - 2 <= 124 or left - 126 >= 2 else (left - 4) // 2
+        constant = last if left == 2 * n + 2 else 0
+        system += [0xB0000000 + n]
+        for k in range(n):
+            system += [0x50000000 + k % 16, 0x60000001]
+        system += [0x60000000 + constant]
+    return system + [0xF0000000]
+
+
+def limits():
+    """Cases at the limits of length; their answers follow from document 01 at sight."""
+    yield 'judge_model', long_model(8192), [1] * 16, 0, 'holds'
+    yield 'judge_model', long_model(8192), [1] * 15 + [2], 0, 'bound 15'
+    yield 'judge_model', long_model(8193), [1] * 16, 0, 'refused 1 0'
+    whole = [0x30000000] + long_system(131071, 1)
+    rows = sum(w >> 28 == 0xB for w in whole)
+    yield 'judge_rows', whole, [0] * 17, 0, f'false {rows - 1}'
+    yield 'judge_rows', [0x30000000] + whole, [0] * 18, 0, 'refused 1 0'
+
+
+def files():
+    stdin, stdout = b'', ''
+    for call, words, values, room, answer in list(recorded()) + list(limits()):
+        if call not in KNOWN:
+            continue
+        stdin += struct.pack('<4I', CALLS[call], room, len(words), len(values))
+        stdin += struct.pack('<%dI' % len(words), *words) + struct.pack('<%di' % len(values), *values)
+        stdout += answer + '\n'
+    return {'stdin': stdin, 'stdout': stdout.encode()}
+
+
+def main():
+    stale = [name for name, data in files().items()
+             if not os.path.exists(os.path.join(SUITE, name)) or open(os.path.join(SUITE, name), 'rb').read() != data]
+    if sys.argv[1:] == ['--check']:
+        if stale:
+            print('not what tests/cases.py makes: ' + ', '.join('crates/suite/' + name for name in stale))
+        return 1 if stale else 0
+    for name, data in files().items():
+        with open(os.path.join(SUITE, name), 'wb') as out:
+            out.write(data)
+    return 0
+
+
+if __name__ == '__main__':
+    sys.exit(main())
