@@ -21,7 +21,7 @@ module _ {A B : Type 0} (F : List A → B) (op : B → B → B) (g : A → B)
     (cons : (x : A) (xs : List A) → F (x ∷ xs) ≡ op (g x) (F xs))
     (assoc : (a b c : B) → op (op a b) c ≡ op a (op b c))
     (unit : (a : B) → op a (F []) ≡ op (F []) a) where
-  one-more : (f : ℕ → A) (k : ℕ) → F (listOf f (suc k)) ≡ op (F (listOf f k)) (g (f k))
+  pub one-more : (f : ℕ → A) (k : ℕ) → F (listOf f (suc k)) ≡ op (F (listOf f k)) (g (f k))
   unfolding listOf
   one-more f zero = cons (f 0) [] ∙ unit (g (f 0))
   one-more f (suc k) =
@@ -47,10 +47,10 @@ or-false : (a : Bool) → (a || false) ≡ a
 or-false true = refl
 or-false false = refl
 
-⊕-assoc : (a b c : ℤ) → (a ⊕ b) ⊕ c ≡ a ⊕ (b ⊕ c)
+pub ⊕-assoc : (a b c : ℤ) → (a ⊕ b) ⊕ c ≡ a ⊕ (b ⊕ c)
 ⊕-assoc = simp linear (omega arith)
 
-⊕-zero : (a : ℤ) → a ⊕ +0 ≡ +0 ⊕ a
+pub ⊕-zero : (a : ℤ) → a ⊕ +0 ≡ +0 ⊕ a
 ⊕-zero = simp linear (omega arith)
 
 module _ {A : Type 0} (t : A → Bool) (f : ℕ → A) (k : ℕ) where

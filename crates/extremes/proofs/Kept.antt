@@ -1,0 +1,133 @@
+-- The bounds of the variables, word by word, and what the lists of kept bounds give.
+use mathlib.Core.Path.{_≡_, refl, ap, sym, _∙_}
+use mathlib.Core.Bool.{Bool, true, false, _||_}
+use mathlib.Core.List.{List, [], _∷_, map}
+use Prim.Native.Nat.{ℕ, zero, suc, _+_, _<_, _≤_}
+use native.Mathlib.Omega.{arith}
+use native.Mathlib.Nat.{add-zero}
+use native.Mathlib.Numerals.{add-one}
+use lib.Dec.{eqb}
+use lib.IntN.{ℤ}
+use lib.ListN.{length, getD, set, drop, length-set, drop-of-length-le, replicate, length-replicate}
+use lib.Seq.{drop-cons, getD-drop, getD-set-same, getD-set-other}
+use Rattle.integers.specs.Choice.{_if_else_}
+use Rattle.integers.specs.Number.{+0, +1}
+use Rattle.integers.specs.Bounds.{_to_, bit, boundsIn}
+use Rattle.integers.specs.declared.Bounds.{Bounds}
+use Rattle.words.specs.Word.{kind, signed, wordAt}
+use Rattle.words.specs.Kind as Kind
+use Rattle.words.specs.Variables.{variables, startsPair}
+use Rattle.words.specs.Overlay.{overlay}
+use Rattle.extremes.specs.Kept.{startsVariable, lowerOf, upperOf}
+
+-- ---- one word more
+
+first-word : (w : ℕ) (ws : List ℕ) → variables (w ∷ ws) ≡ ((lowerOf w to upperOf w (wordAt ws 0)) ∷ variables ws if startsVariable w else variables ws)
+unfolding variables startsVariable lowerOf upperOf
+first-word w ws = go (startsPair w) (eqb (kind w) Kind.boolean)
+  where
+    go : (p b : Bool) → ((signed w to signed (wordAt ws 0)) ∷ variables ws if p else bit ∷ variables ws if b else variables ws)
+        ≡ (((signed w if p else +0) to (signed (wordAt ws 0) if p else +1)) ∷ variables ws if p || b else variables ws)
+    go true b = refl
+    go false true = refl
+    go false false = refl
+
+at-word : (ws : List ℕ) (i : ℕ) → i < length ws →
+    variables (drop i ws) ≡ ((lowerOf (wordAt ws i) to upperOf (wordAt ws i) (wordAt ws (i + 1))) ∷ variables (drop (i + 1) ws) if startsVariable (wordAt ws i) else variables (drop (i + 1) ws))
+unfolding wordAt
+at-word ws i h =
+    let e : suc i + 0 ≡ suc i = omega arith in
+    rw (add-one, drop-cons ws i 0 h) (first-word (getD ws i 0) (drop (suc i) ws) ∙ rw (getD-drop, e))
+
+-- the bounds of the words before the i-th stand in two lists, n of them
+pub record Keeping (ws : List ℕ) (ls₀ us₀ ls us : List ℤ) (i n : ℕ) : Type 0 where
+  pub many : n + length (variables (drop i ws)) ≡ length (variables ws)
+  pub lowers : overlay ls n (map (λ B. B .lower) (variables (drop i ws))) ≡ overlay ls₀ 0 (map (λ B. B .lower) (variables ws))
+  pub uppers : overlay us n (map (λ B. B .upper) (variables (drop i ws))) ≡ overlay us₀ 0 (map (λ B. B .upper) (variables ws))
+  pub few : n ≤ i
+  pub in-words : i ≤ length ws
+  pub same-lowers : length ls ≡ length ls₀
+  pub same-uppers : length us ≡ length us₀
+
+pub begun : (ws : List ℕ) (ls us : List ℤ) → Keeping ws ls us ls us 0 0
+begun ws ls us = record { many = omega arith; lowers = refl; uppers = refl; few = omega arith; in-words = omega arith; same-lowers = refl; same-uppers = refl }
+
+module _ {ws : List ℕ} {ls₀ us₀ ls us : List ℤ} {i n : ℕ} (k : Keeping ws ls₀ us₀ ls us i n) where
+  pub kept : i < length ws → startsVariable (wordAt ws i) ≡ true →
+      Keeping ws ls₀ us₀ (set ls n (lowerOf (wordAt ws i))) (set us n (upperOf (wordAt ws i) (wordAt ws (i + 1)))) (i + 1) (n + 1)
+  unfolding overlay
+  kept h t =
+      let e = rw t at (at-word ws i h) in
+      record {
+        many = omega (arith, rw e at (k .many));
+        lowers = rw (add-one n) (rw e at (k .lowers));
+        uppers = rw (add-one n) (rw e at (k .uppers));
+        few = omega (arith, k .few);
+        in-words = omega arith;
+        same-lowers = length-set ls n (lowerOf (wordAt ws i)) ∙ k .same-lowers;
+        same-uppers = length-set us n (upperOf (wordAt ws i) (wordAt ws (i + 1))) ∙ k .same-uppers;
+      }
+
+  pub passed : i < length ws → startsVariable (wordAt ws i) ≡ false → Keeping ws ls₀ us₀ ls us (i + 1) n
+  passed h t =
+      let e = rw t at (at-word ws i h) in
+      record {
+        many = rw e at (k .many);
+        lowers = rw e at (k .lowers);
+        uppers = rw e at (k .uppers);
+        few = omega (arith, k .few);
+        in-words = omega arith;
+        same-lowers = k .same-lowers;
+        same-uppers = k .same-uppers;
+      }
+
+  pub ended : length ws ≤ i →
+      (n ≡ length (variables ws))
+      × (ls ≡ overlay ls₀ 0 (map (λ B. B .lower) (variables ws)))
+      × (us ≡ overlay us₀ 0 (map (λ B. B .upper) (variables ws)))
+  unfolding overlay variables
+  ended h =
+      let e = drop-of-length-le ws h in
+      (omega (arith, rw e at (k .many)), rw e at (k .lowers), rw e at (k .uppers))
+
+-- ---- what the lists give, where they had zeros before and are long enough
+
+-- a list laid over zeros reads as the list does
+module _ {A : Type 0} (d : A) where
+  before : (xs out : List A) (at v : ℕ) → v < at → getD (overlay out at xs) v d ≡ getD out v d
+  unfolding overlay
+  before [] out at v h = refl
+  before (x ∷ xs) out at v h = before xs (set out at x) (suc at) v (omega arith) ∙ getD-set-other out at v x d (λ e. omega arith)
+
+  laid : (xs out : List A) (at : ℕ) → at + length xs ≤ length out → ((v : ℕ) → at ≤ v → getD out v d ≡ d) → (v : ℕ) → getD (overlay out at xs) (at + v) d ≡ getD xs v d
+  unfolding overlay
+  laid [] out at h z v = z (at + v) (omega arith)
+  laid (x ∷ xs) out at h z zero = let e : at + 0 ≡ at = omega arith in rw e (before xs (set out at x) (suc at) at (omega arith) ∙ getD-set-same out at x d (omega arith))
+  laid (x ∷ xs) out at h z (suc v) =
+      let e : at + suc v ≡ suc at + v = omega arith in
+      let n = length-set out at x in
+      rw e (laid xs (set out at x) (suc at) (omega arith) (λ w l. getD-set-other out at w x d (λ e. omega arith) ∙ z w (omega arith)) v)
+
+mapped : (f : Bounds → ℤ) → f (+0 to +0) ≡ +0 → (Bs : List Bounds) (v : ℕ) → getD (map f Bs) v +0 ≡ f (boundsIn Bs v)
+unfolding boundsIn
+mapped f z [] v = sym z
+mapped f z (B ∷ Bs) zero = refl
+mapped f z (B ∷ Bs) (suc v) = mapped f z Bs v
+
+length-map : (f : Bounds → ℤ) (Bs : List Bounds) → length (map f Bs) ≡ length Bs
+length-map f [] = refl
+length-map f (B ∷ Bs) = ap suc (length-map f Bs)
+
+-- no list of at most n variables is cut
+module _ (f : Bounds → ℤ) (z : f (+0 to +0) ≡ +0) (Bs : List Bounds) (n : ℕ) (few : length Bs ≤ n) where
+  kept-at : (v : ℕ) → getD (overlay (replicate n +0) 0 (map f Bs)) v +0 ≡ f (boundsIn Bs v)
+  kept-at v =
+      let e : v ≡ 0 + v = omega arith in
+      ap (λ (w : ℕ). getD (overlay (replicate n +0) 0 (map f Bs)) w +0) e
+      ∙ laid +0 (map f Bs) (replicate n +0) 0 (omega (arith, length-map f Bs, length-replicate n +0)) (λ w l. zeros n w) v
+      ∙ mapped f z Bs v
+    where
+      zeros : (n w : ℕ) → getD (replicate n +0) w +0 ≡ +0
+      zeros zero w = refl
+      zeros (suc n) zero = refl
+      zeros (suc n) (suc w) = zeros n w

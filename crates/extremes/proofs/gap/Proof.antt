@@ -1,0 +1,22 @@
+-- Bounds are near 0, so their difference fits.
+use mathlib.Core.Path.{_∙_}
+use native.Mathlib.Omega.{arith}
+use borrow.Author.Needs.{needs}
+use Rattle.integers.proofs.Fits.{back}
+use Rattle.extremes.proofs.gap.Statement.{statement}
+use Rattle.extremes.proofs.gap.Tie as tie
+
+bound-at-requires : tie.Need-bound-at-requires
+bound-at-requires c κs = search needs
+
+bound-at-requires-2 : tie.Need-bound-at-requires-2
+bound-at-requires-2 c κs = search needs
+
+minus-requires : tie.Need-minus-requires
+minus-requires c κs = rw (back (c .before .bound-at .result) (c .before .bound-at .ok), c .before .bound-at .ensures, back (c .bound-at2 .result) (c .bound-at2 .ok), c .bound-at2 .ensures) (omega (arith, c .before .before .pre .1 (c .before .before .args .a), c .before .before .pre .0 (c .before .before .args .b)))
+
+returns : tie.Need-returns
+returns c = back (c .minus .result) (c .minus .ok) ∙ c .minus .ensures ∙ rw (back (c .before .before .bound-at .result) (c .before .before .bound-at .ok), c .before .before .bound-at .ensures, back (c .before .bound-at2 .result) (c .before .bound-at2 .ok), c .before .bound-at2 .ensures)
+
+pub gap-spec : {M : Type 1} → statement M
+gap-spec = tie.close (tie.spec bound-at-requires bound-at-requires-2 minus-requires returns)

@@ -1,0 +1,95 @@
+-- The loop's invariant is `Keeping`: laying the bounds of the words left gives what laying them all gives.
+use mathlib.Core.Path.{_≡_, sym, _∙_}
+use mathlib.Core.Logic.{⊎-elim}
+use Prim.Native.Nat.{_+_, _-_}
+use native.Mathlib.Omega.{arith}
+use lib.ListN.{length, set}
+use borrow.Author.Needs.{needs}
+use Rattle.integers.proofs.Fits.{back}
+use Rattle.words.specs.Word.{wordAt}
+use Rattle.extremes.specs.Kept.{lowerOf, upperOf}
+use Rattle.extremes.proofs.Kept.{Keeping, begun, kept, passed, ended}
+use Rattle.extremes.proofs.keep_bounds.Statement.{statement}
+use Rattle.extremes.proofs.keep_bounds.Tie as tie
+
+abbrev Inv-loop : tie.InvT-loop
+Inv-loop ws lowers₀ uppers₀ i₀ n₀ lowers uppers i n = Keeping ws lowers₀ uppers₀ lowers uppers i n
+
+abbrev μ-loop : tie.MeasureT-loop
+μ-loop ws lowers₀ uppers₀ i₀ n₀ lowers uppers i n = length ws - i
+
+loop-holds : tie.Need-loop-holds Inv-loop μ-loop
+loop-holds c = begun _ _ _
+
+word-at-requires : tie.Need-word-at-requires Inv-loop μ-loop
+word-at-requires c κs = search needs
+
+starts-variable-requires : tie.Need-starts-variable-requires Inv-loop μ-loop
+starts-variable-requires c κs = search needs
+
+lower-of-requires : tie.Need-lower-of-requires Inv-loop μ-loop
+lower-of-requires c κs = search needs
+
+put-requires : tie.Need-put-requires Inv-loop μ-loop
+put-requires c κs = search needs
+
+add-word-at : tie.Need-add-word-at Inv-loop μ-loop
+add-word-at c = search needs
+
+word-at-requires-2 : tie.Need-word-at-requires-2 Inv-loop μ-loop
+word-at-requires-2 c κs = search needs
+
+upper-of-requires : tie.Need-upper-of-requires Inv-loop μ-loop
+upper-of-requires c κs = search needs
+
+put-requires-2 : tie.Need-put-requires-2 Inv-loop μ-loop
+put-requires-2 c κs = search needs
+
+add-n : tie.Need-add-n Inv-loop μ-loop
+add-n c = omega (arith, c .before .before .before .before .before .before .before .before .before .before .before .before .before .loop .inv .few)
+
+add-i : tie.Need-add-i Inv-loop μ-loop
+add-i c = search needs
+
+loop-less : tie.Need-loop-less Inv-loop μ-loop
+loop-less c = search needs
+
+loop-again : tie.Need-loop-again Inv-loop μ-loop
+loop-again c =
+    ⊎-elim (λ w.
+    let l : c .if1 .lowers ≡ set (c .before .before .before .before .loop .lowers) (c .before .before .before .before .loop .n) (lowerOf (wordAt (c .before .before .before .before .before .before .args .ws .now) (c .before .before .before .before .loop .i))) = w .10 ∙ w .3 .ensures ∙ rw (back (w .2 .result) (w .2 .ok), w .2 .ensures, c .before .before .word-at .ensures) in
+    let u : c .if1 .uppers ≡ set (c .before .before .before .before .loop .uppers) (c .before .before .before .before .loop .n) (upperOf (wordAt (c .before .before .before .before .before .before .args .ws .now) (c .before .before .before .before .loop .i)) (wordAt (c .before .before .before .before .before .before .args .ws .now) (c .before .before .before .before .loop .i + 1))) = w .11 ∙ w .8 .ensures ∙ rw (back (w .7 .result) (w .7 .ok), w .7 .ensures, w .6 .ensures, c .before .before .word-at .ensures) in
+    rw (l, u, w .12) (kept (c .before .before .before .before .loop .inv) (c .before .before .before .loop-test .taken) (rw (c .before .before .word-at .ensures) at (sym (c .before .starts-variable .ensures) ∙ w .0 .taken))))
+    (λ w. rw (w .1, w .2, w .3) (passed (c .before .before .before .before .loop .inv) (c .before .before .before .loop-test .taken) (rw (c .before .before .word-at .ensures) at (sym (c .before .starts-variable .ensures) ∙ w .0 .left)))) (c .if1 .came)
+
+same-length : tie.Need-same-length Inv-loop μ-loop
+same-length c = c .before .loop .inv .same-lowers
+
+same-length-2 : tie.Need-same-length-2 Inv-loop μ-loop
+same-length-2 c = c .before .loop .inv .same-uppers
+
+returns : tie.Need-returns Inv-loop μ-loop
+returns c = ended (c .before .loop .inv) (c .loop-test .left)
+
+pub keep-bounds-spec : {M : Type 1} → statement M
+keep-bounds-spec =
+    tie.close
+    (tie.spec
+    Inv-loop
+    μ-loop
+    loop-holds
+    word-at-requires
+    starts-variable-requires
+    lower-of-requires
+    put-requires
+    add-word-at
+    word-at-requires-2
+    upper-of-requires
+    put-requires-2
+    add-n
+    add-i
+    loop-less
+    loop-again
+    same-length
+    same-length-2
+    returns)

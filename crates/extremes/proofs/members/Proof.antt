@@ -1,0 +1,98 @@
+-- The loop's invariant is `Rising`: the members found stand in the list, and the rest follows.
+use mathlib.Core.Path.{_≡_, sym, _∙_}
+use Prim.Native.Nat.{_≤_}
+use native.Mathlib.Omega.{arith}
+use lib.IntN.{natAbs}
+use mir.Syntax.{w64}
+use mir.Val.{toZ, ofZ}
+use mir.Facts.{toZ-ofZ}
+use borrow.Author.Needs.{needs}
+use Rattle.integers.specs.Number.{_⊕_, +1}
+use Rattle.integers.specs.Bounds.{_to_}
+use Rattle.integers.proofs.Fits.{back}
+use Rattle.models.specs.Model.{nums}
+use Rattle.rules.specs.Parts.{leastFrom, members}
+use Rattle.extremes.proofs.Rising.{Rising, begun, found, none-left, all-found, set-size}
+use Rattle.extremes.proofs.members.Statement.{statement}
+use Rattle.extremes.proofs.members.Tie as tie
+
+abbrev Inv-loop : tie.InvT-loop
+Inv-loop args i lower upper out₀ above left₀ k₀ from₀ out left k from = Rising (nums args i) (toZ w64 upper) (members (nums args i) (toZ w64 lower to toZ w64 upper)) out₀ out k left (toZ w64 from)
+
+abbrev μ-loop : tie.MeasureT-loop
+μ-loop args i lower upper out₀ above left₀ k₀ from₀ out left k from = left
+
+least : (c : tie.After-least-from Inv-loop μ-loop) → c .least-from .result ≡ leastFrom (nums (c .before .before .before .before .before .before .args .args .now) (c .before .before .before .before .before .before .args .i)) (toZ w64 (c .before .before .loop .from)) (toZ w64 (ofZ w64 (c .before .before .before .before .before .before .args .upper)) ⊕ +1)
+least c = c .least-from .ensures ∙ rw (back (c .before .before .before .before .plus .result) (c .before .before .before .before .plus .ok), c .before .before .before .before .plus .ensures)
+
+small : (c : tie.After-least-from Inv-loop μ-loop) → natAbs (c .least-from .result) ≤ 134217729
+small c = rw (least c) (set-size (c .before .before .before .before .before .before .args .args .now) (c .before .before .before .before .before .before .args .i) (toZ w64 (c .before .before .loop .from)) _ (rw (toZ-ofZ (c .before .before .before .before .before .before .fits .upper)) (c .before .before .before .before .before .before .pre .1)))
+
+plus-requires : tie.Need-plus-requires Inv-loop μ-loop
+plus-requires c κs = rw (toZ-ofZ (c .before .fits .upper)) (omega (arith, c .before .pre .1))
+
+size-at-requires : tie.Need-size-at-requires Inv-loop μ-loop
+size-at-requires c κs = search needs
+
+loop-holds : tie.Need-loop-holds Inv-loop μ-loop
+loop-holds c = rw (c .size-at .ensures) (begun (c .before .before .before .args .args .now) (c .before .before .before .args .i) _ _ _)
+
+least-from-requires : tie.Need-least-from-requires Inv-loop μ-loop
+least-from-requires c κs = search needs
+
+below-requires : tie.Need-below-requires Inv-loop μ-loop
+below-requires c κs = search needs
+
+same-length : tie.Need-same-length Inv-loop μ-loop
+same-length c = c .before .before .before .before .loop .inv .same
+
+returns : tie.Need-returns Inv-loop μ-loop
+returns c = rw (toZ-ofZ (c .before .before .before .before .before .before .before .before .fits .upper), toZ-ofZ (c .before .before .before .before .before .before .before .before .fits .lower)) at (none-left (c .before .before .before .before .loop .left) (c .before .before .least-from .result) (c .before .before .before .loop-test .taken) (least (c .before .before)) (rw (back (c .before .before .least-from .result) (c .before .before .least-from .ok)) at (sym (c .before .below .ensures) ∙ c .if1 .taken)) (c .before .before .before .before .loop .inv))
+
+put-requires : tie.Need-put-requires Inv-loop μ-loop
+put-requires c κs = search needs
+
+plus-requires-2 : tie.Need-plus-requires-2 Inv-loop μ-loop
+plus-requires-2 c κs = rw (back (c .before .before .before .before .before .least-from .result) (c .before .before .before .before .before .least-from .ok)) (omega (arith, small (c .before .before .before .before .before)))
+
+add-k : tie.Need-add-k Inv-loop μ-loop
+add-k c = omega (arith, c .before .before .before .before .before .before .before .before .loop .inv .fuel)
+
+sub-left : tie.Need-sub-left Inv-loop μ-loop
+sub-left c = search needs
+
+loop-less : tie.Need-loop-less Inv-loop μ-loop
+loop-less c = search needs
+
+loop-again : tie.Need-loop-again Inv-loop μ-loop
+loop-again c =
+    rw (c .before .before .put .ensures, back (c .plus2 .result) (c .plus2 .ok), c .plus2 .ensures, back (c .before .before .before .before .before .before .least-from .result) (c .before .before .before .before .before .before .least-from .ok))
+    (found (c .before .before .before .before .before .before .before .before .loop .left) (c .before .before .before .before .before .before .least-from .result) (c .before .before .before .before .before .before .before .loop-test .taken) (least (c .before .before .before .before .before .before)) (rw (back (c .before .before .before .before .before .before .least-from .result) (c .before .before .before .before .before .before .least-from .ok)) at (sym (c .before .before .before .before .before .below .ensures) ∙ c .before .before .before .before .if1 .left)) (c .before .before .before .before .before .before .before .before .loop .inv))
+
+same-length-2 : tie.Need-same-length-2 Inv-loop μ-loop
+same-length-2 c = c .before .loop .inv .same
+
+returns-2 : tie.Need-returns-2 Inv-loop μ-loop
+returns-2 c = rw (toZ-ofZ (c .before .before .before .before .before .fits .upper), toZ-ofZ (c .before .before .before .before .before .fits .lower)) at (all-found _ (c .loop-test .left) (c .before .loop .inv))
+
+pub members-spec : {M : Type 1} → statement M
+members-spec =
+    tie.close
+    (tie.spec
+    Inv-loop
+    μ-loop
+    plus-requires
+    size-at-requires
+    loop-holds
+    least-from-requires
+    below-requires
+    same-length
+    returns
+    put-requires
+    plus-requires-2
+    add-k
+    sub-left
+    loop-less
+    loop-again
+    same-length-2
+    returns-2)

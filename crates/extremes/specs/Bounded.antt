@@ -1,0 +1,18 @@
+-- The bounds of the variables as two lists, of lower and of upper ones; 0 past the end of a list.
+use mathlib.Core.List.{List}
+use Prim.Native.Nat.{ℕ, _≤_}
+use lib.IntN.{ℤ, natAbs}
+use lib.ListN.{getD}
+use Rattle.integers.specs.Number.{+0}
+use Rattle.integers.specs.Bounds.{_to_}
+use Rattle.integers.specs.declared.Bounds.{Bounds}
+
+abbrev pub boundsOf : List ℤ → List ℤ → ℕ → Bounds
+boundsOf ls us v = getD ls v +0 to getD us v +0
+
+-- every number of a list is as near to 0 as those of signed payloads are
+abbrev pub Near : ℤ → Type 0
+Near z = natAbs z ≤ 134217728
+
+abbrev pub Bounded : List ℤ → Type 0
+Bounded ls = (v : ℕ) → Near (getD ls v +0)

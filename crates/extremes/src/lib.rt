@@ -1,0 +1,284 @@
+// Numbers from the bounds of the variables, which stand in two lists: the least and largest of sums and products, and the members of a set.
+ghost use mathlib.Core.Path.{_≡_};
+ghost use mathlib.Core.Bool.{_&&_};
+ghost use mathlib.Core.List.{map};
+ghost use Prim.Native.Nat.{_<_};
+ghost use lib.IntN.{pos};
+ghost use lib.Signed.{leZ, ltZ};
+ghost use lib.ListN.{length, getD, set};
+ghost use Rattle.integers.specs.Choice.{_if_else_};
+ghost use Rattle.integers.specs.Number.{_⊕_, _⊖_, _⊗_, minZ, maxZ, +0, +1};
+ghost use Rattle.integers.specs.Bounds.{_to_, width};
+ghost use Rattle.extremes.specs.Bounded.{boundsOf, Near, Bounded};
+ghost use Rattle.extremes.specs.Kept.{startsVariable, lowerOf, upperOf};
+ghost use Rattle.words.specs.Variables.{variables, startsPair};
+ghost use Rattle.words.specs.Overlay.{overlay};
+ghost use Rattle.models.specs.Model.{var, num, nums, terms};
+ghost use Rattle.rules.specs.Parts.{extreme, L, U, endProducts, leastFrom, members};
+use arguments::at_most;
+use arguments::below;
+use arguments::both;
+use arguments::count_of;
+use arguments::either;
+use arguments::num_at;
+use arguments::past_at;
+use arguments::size_at;
+use arguments::var_at;
+use integers::largest;
+use integers::least;
+use integers::minus;
+use integers::plus;
+use integers::times;
+use words::kind;
+use words::kind_of;
+use words::signed_of;
+use words::word_at;
+
+// A variable's bound in a list of lower or of upper ones, 0 past the last one.
+pub fn bound_at(bounds: &[i64], v: usize) -> i64
+    ensures { λ r. ⌜ r ≡ getD (now (bounds .entry)) v +0 ⌝ }
+{
+    if v < bounds.len() {
+        return bounds[v];
+    }
+    0
+}
+
+// The lesser or the larger of two.
+pub fn pick(a: i64, b: i64, up: bool) -> i64
+    ensures { λ r. ⌜ r ≡ (maxZ if up else minZ) a b ⌝ }
+{
+    if up {
+        return largest(a, b);
+    }
+    least(a, b)
+}
+
+// The lesser or the larger product of a number and two bounds.
+pub fn times_ends(a: i64, lower: i64, upper: i64, up: bool) -> i64
+    requires { ⌜ Near a × Near lower × Near upper ⌝ }
+    ensures { λ r. ⌜ r ≡ (maxZ if up else minZ) (a ⊗ lower) (a ⊗ upper) ⌝ }
+{
+    pick(times(a, lower), times(a, upper), up)
+}
+
+// The least or the largest of one term: the number at place a, the variable at place x.
+pub fn term_extreme(args: &[u32], a: usize, x: usize, ls: &[i64], us: &[i64], up: bool) -> i64
+    requires { ⌜ Bounded (now ls) × Bounded (now us) ⌝ }
+    ensures { λ r. ⌜ r ≡ (maxZ if up else minZ) (num (now (args .entry)) a ⊗ getD (now (ls .entry)) (var (now (args .entry)) x) +0) (num (now (args .entry)) a ⊗ getD (now (us .entry)) (var (now (args .entry)) x) +0) ⌝ }
+{
+    let v = var_at(args, x);
+    times_ends(num_at(args, a), bound_at(ls, v), bound_at(us, v), up)
+}
+
+// The least or the largest of the sum whose length word is at place i.
+pub fn sum_extreme(args: &[u32], i: usize, ls: &[i64], us: &[i64], up: bool) -> i64
+    requires { ⌜ (i < 1099511627776) × Bounded (now ls) × Bounded (now us) ⌝ }
+    ensures { λ r. ⌜ r ≡ extreme (maxZ if up else minZ) (boundsOf (now (ls .entry)) (now (us .entry))) (terms (now (args .entry)) i) ⌝ }
+{
+    let n = size_at(args, i);
+    let variables = past_at(args, i);
+    let mut k = 0;
+    let mut total: i64 = 0;
+    while k < n {
+        total = plus(
+            total,
+            term_extreme(args, i + 1 + k, variables + k, ls, us, up),
+        );
+        k += 1;
+    }
+    total
+}
+
+// The least of the sum less c.
+pub fn sum_lower(args: &[u32], i: usize, c: i64, ls: &[i64], us: &[i64]) -> i64
+    requires { ⌜ (i < 1099511627776) × Near c × Bounded (now ls) × Bounded (now us) ⌝ }
+    ensures { λ r. ⌜ r ≡ L (boundsOf (now (ls .entry)) (now (us .entry))) (terms (now (args .entry)) i) c ⌝ }
+{
+    minus(sum_extreme(args, i, ls, us, false), c)
+}
+
+// The largest of the sum less c.
+pub fn sum_upper(args: &[u32], i: usize, c: i64, ls: &[i64], us: &[i64]) -> i64
+    requires { ⌜ (i < 1099511627776) × Near c × Bounded (now ls) × Bounded (now us) ⌝ }
+    ensures { λ r. ⌜ r ≡ U (boundsOf (now (ls .entry)) (now (us .entry))) (terms (now (args .entry)) i) c ⌝ }
+{
+    minus(sum_extreme(args, i, ls, us, true), c)
+}
+
+// The lower bound of Z: the lesser of 0 and a lower bound.
+pub fn zero_lower(lower: i64) -> i64
+    ensures { λ r. ⌜ r ≡ minZ +0 lower ⌝ }
+{
+    least(0, lower)
+}
+
+// Its upper bound: the larger of 0 and an upper bound.
+pub fn zero_upper(upper: i64) -> i64
+    ensures { λ r. ⌜ r ≡ maxZ +0 upper ⌝ }
+{
+    largest(0, upper)
+}
+
+// The least or the largest of the four end products of two variables.
+pub fn end_product(ls: &[i64], us: &[i64], a: usize, b: usize, up: bool) -> i64
+    requires { ⌜ Bounded (now ls) × Bounded (now us) ⌝ }
+    ensures { λ r. ⌜ r ≡ (endProducts (boundsOf (now (ls .entry)) (now (us .entry)) a) (boundsOf (now (ls .entry)) (now (us .entry)) b) .upper if up else endProducts (boundsOf (now (ls .entry)) (now (us .entry)) a) (boundsOf (now (ls .entry)) (now (us .entry)) b) .lower) ⌝ }
+{
+    let lower = bound_at(ls, b);
+    let upper = bound_at(us, b);
+    pick(
+        times_ends(bound_at(ls, a), lower, upper, up),
+        times_ends(bound_at(us, a), lower, upper, up),
+        up,
+    )
+}
+
+// hi a − lo b
+pub fn gap(ls: &[i64], us: &[i64], a: usize, b: usize) -> i64
+    requires { ⌜ Bounded (now ls) × Bounded (now us) ⌝ }
+    ensures { λ r. ⌜ r ≡ getD (now (us .entry)) a +0 ⊖ getD (now (ls .entry)) b +0 ⌝ }
+{
+    minus(bound_at(us, a), bound_at(ls, b))
+}
+
+// hi a − lo b + 1
+pub fn gap_plus_one(ls: &[i64], us: &[i64], a: usize, b: usize) -> i64
+    requires { ⌜ Bounded (now ls) × Bounded (now us) ⌝ }
+    ensures { λ r. ⌜ r ≡ getD (now (us .entry)) a +0 ⊖ getD (now (ls .entry)) b +0 ⊕ +1 ⌝ }
+{
+    plus(gap(ls, us, a, b), 1)
+}
+
+// How many values two bounds leave.
+pub fn width_of(lower: i64, upper: i64) -> usize
+    requires { ⌜ Near lower × Near upper ⌝ }
+    ensures { λ r. ⌜ r ≡ width (lower to upper) ⌝ }
+{
+    count_of(plus(minus(upper, lower), 1))
+}
+
+// The first place of a list that an index with this lower bound can have.
+pub fn first_place(lower: i64) -> i64
+    ensures { λ r. ⌜ r ≡ maxZ +1 lower ⌝ }
+{
+    largest(1, lower)
+}
+
+// The last place of a list of n elements that an index with this upper bound can have.
+pub fn last_place(n: usize, upper: i64) -> i64
+    requires { ⌜ n < 1099511627776 ⌝ }
+    ensures { λ r. ⌜ r ≡ minZ (pos n) upper ⌝ }
+{
+    least(n as i64, upper)
+}
+
+// Puts a number into a list, if the place is one of its places.
+pub fn put(out: &mut [i64], at: usize, v: i64)
+    ensures { λ r. ⌜ now (out .exit) ≡ set (now (out .entry)) at v ⌝ }
+{
+    if at < out.len() {
+        out[at] = v;
+    }
+}
+
+// v if it is not below `from` and is below `above`, else `above`.
+pub fn nearer(from: i64, v: i64, above: i64) -> i64
+    ensures { λ r. ⌜ r ≡ (v if leZ from v && ltZ v above else above) ⌝ }
+{
+    if both(at_most(from, v), below(v, above)) {
+        return v;
+    }
+    above
+}
+
+// The least number not below `from` in the list at place i, and `above` if that is not above it.
+pub fn least_from(args: &[u32], i: usize, from: i64, above: i64) -> i64
+    requires { ⌜ i < 1099511627776 ⌝ }
+    ensures { λ r. ⌜ r ≡ leastFrom (nums (now (args .entry)) i) from above ⌝ }
+{
+    let n = size_at(args, i);
+    let mut k = 0;
+    let mut least_yet = above;
+    while k < n {
+        least_yet = nearer(from, num_at(args, i + 1 + k), least_yet);
+        k += 1;
+    }
+    least_yet
+}
+
+// Puts the numbers of the list at place i that the bounds leave to the front of a list, rising and each once; how many there are.
+pub fn members(args: &[u32], i: usize, lower: i64, upper: i64, out: &mut [i64]) -> usize
+    requires { ⌜ (i < 1099511627776) × Near upper ⌝ }
+    ensures { λ r. ⌜ (r ≡ length (members (nums (now (args .entry)) i) (lower to upper))) × (now (out .exit) ≡ overlay (now (out .entry)) 0 (members (nums (now (args .entry)) i) (lower to upper))) ⌝ }
+{
+    let above = plus(upper, 1);
+    let mut left = size_at(args, i);
+    let mut k = 0;
+    let mut from = lower;
+    while 0 < left {
+        let v = least_from(args, i, from, above);
+        if below(upper, v) {
+            return k;
+        }
+        put(out, k, v);
+        from = plus(v, 1);
+        k += 1;
+        left -= 1;
+    }
+    k
+}
+
+// Whether a word is the lower bound of a variable.
+pub fn starts_pair(w: u32) -> bool
+    ensures { λ r. ⌜ r ≡ startsPair w ⌝ }
+{
+    let k = kind_of(w);
+    either(k == kind::LOWER, k == kind::AUXILIARY_LOWER)
+}
+
+// Whether a word starts a variable.
+pub fn starts_variable(w: u32) -> bool
+    ensures { λ r. ⌜ r ≡ startsVariable w ⌝ }
+{
+    either(starts_pair(w), kind_of(w) == kind::BOOLEAN)
+}
+
+// The lower bound of the variable that a word starts.
+pub fn lower_of(w: u32) -> i64
+    ensures { λ r. ⌜ r ≡ lowerOf w ⌝ }
+{
+    if starts_pair(w) {
+        return signed_of(w);
+    }
+    0
+}
+
+// Its upper bound, by the word that follows.
+pub fn upper_of(w: u32, next: u32) -> i64
+    ensures { λ r. ⌜ r ≡ upperOf w next ⌝ }
+{
+    if starts_pair(w) {
+        return signed_of(next);
+    }
+    1
+}
+
+// Puts the bounds of the variables to the front of two lists; how many variables there are.
+pub fn keep_bounds(ws: &[u32], lowers: &mut [i64], uppers: &mut [i64]) -> usize
+    requires { ⌜ length (now ws) < 1099511627776 ⌝ }
+    ensures { λ r. ⌜ (r ≡ length (variables (now (ws .entry)))) × (now (lowers .exit) ≡ overlay (now (lowers .entry)) 0 (map (λ B. B .lower) (variables (now (ws .entry))))) × (now (uppers .exit) ≡ overlay (now (uppers .entry)) 0 (map (λ B. B .upper) (variables (now (ws .entry))))) ⌝ }
+{
+    let mut i = 0;
+    let mut n = 0;
+    while i < ws.len() {
+        let w = word_at(ws, i);
+        if starts_variable(w) {
+            put(lowers, n, lower_of(w));
+            put(uppers, n, upper_of(w, word_at(ws, i + 1)));
+            n += 1;
+        }
+        i += 1;
+    }
+    n
+}
