@@ -1,14 +1,13 @@
 -- The bounds of the variables, word by word, and what the lists of kept bounds give.
-use mathlib.Core.Path.{_≡_, refl, ap, sym, _∙_}
+use mathlib.Core.Path.{_≡_, refl, ap, ap₂, sym, _∙_, fun-ext}
 use mathlib.Core.Bool.{Bool, true, false, _||_}
 use mathlib.Core.List.{List, [], _∷_, map}
 use Prim.Native.Nat.{ℕ, zero, suc, _+_, _<_, _≤_}
 use native.Mathlib.Omega.{arith}
-use native.Mathlib.Nat.{add-zero}
 use native.Mathlib.Numerals.{add-one}
 use lib.Dec.{eqb}
 use lib.IntN.{ℤ}
-use lib.ListN.{length, getD, set, drop, length-set, drop-of-length-le, replicate, length-replicate}
+use lib.ListN.{length, getD, set, drop, length-set, length-map, drop-of-length-le, replicate, length-replicate}
 use lib.Seq.{drop-cons, getD-drop, getD-set-same, getD-set-other}
 use Rattle.integers.specs.Choice.{_if_else_}
 use Rattle.integers.specs.Number.{+0, +1}
@@ -18,6 +17,9 @@ use Rattle.words.specs.Word.{kind, signed, wordAt}
 use Rattle.words.specs.Kind as Kind
 use Rattle.words.specs.Variables.{variables, startsPair}
 use Rattle.words.specs.Overlay.{overlay}
+use Rattle.models.specs.Model.{num}
+use Rattle.arguments.proofs.Size.{num-size}
+use Rattle.extremes.specs.Bounded.{boundsOf, Near, Bounded}
 use Rattle.extremes.specs.Kept.{startsVariable, lowerOf, upperOf}
 
 -- ---- one word more
@@ -114,20 +116,58 @@ mapped f z [] v = sym z
 mapped f z (B ∷ Bs) zero = refl
 mapped f z (B ∷ Bs) (suc v) = mapped f z Bs v
 
-length-map : (f : Bounds → ℤ) (Bs : List Bounds) → length (map f Bs) ≡ length Bs
-length-map f [] = refl
-length-map f (B ∷ Bs) = ap suc (length-map f Bs)
-
 -- no list of at most n variables is cut
 module _ (f : Bounds → ℤ) (z : f (+0 to +0) ≡ +0) (Bs : List Bounds) (n : ℕ) (few : length Bs ≤ n) where
   kept-at : (v : ℕ) → getD (overlay (replicate n +0) 0 (map f Bs)) v +0 ≡ f (boundsIn Bs v)
   kept-at v =
       let e : v ≡ 0 + v = omega arith in
       ap (λ (w : ℕ). getD (overlay (replicate n +0) 0 (map f Bs)) w +0) e
-      ∙ laid +0 (map f Bs) (replicate n +0) 0 (omega (arith, length-map f Bs, length-replicate n +0)) (λ w l. zeros n w) v
+      ∙ laid +0 (map f Bs) (replicate n +0) 0 (omega (arith, length-map Bs f, length-replicate n +0)) (λ w l. zeros n w) v
       ∙ mapped f z Bs v
     where
       zeros : (n w : ℕ) → getD (replicate n +0) w +0 ≡ +0
       zeros zero w = refl
       zeros (suc n) zero = refl
       zeros (suc n) (suc w) = zeros n w
+
+-- the bounds that words declare are as near to 0 as signed payloads are
+signed-near : (w : ℕ) → Near (signed w)
+unfolding num wordAt
+signed-near w = num-size (w ∷ []) 0
+
+bounds-near : (ws : List ℕ) (v : ℕ) → Near (boundsIn (variables ws) v .lower) × Near (boundsIn (variables ws) v .upper)
+unfolding boundsIn variables
+bounds-near [] v = (omega arith, omega arith)
+bounds-near (w ∷ ws) v = go (startsPair w) (eqb (kind w) Kind.boolean) (bounds-near ws) v
+  where
+    go : (p b : Bool) → ((v : ℕ) → Near (boundsIn (variables ws) v .lower) × Near (boundsIn (variables ws) v .upper)) → (v : ℕ) →
+        let Bs = ((signed w to signed (wordAt ws 0)) ∷ variables ws if p else bit ∷ variables ws if b else variables ws) in
+        Near (boundsIn Bs v .lower) × Near (boundsIn Bs v .upper)
+    go true b rest zero = (signed-near w, signed-near (wordAt ws 0))
+    go true b rest (suc v) = rest v
+    go false true rest zero = (omega arith, omega arith)
+    go false true rest (suc v) = rest v
+    go false false rest v = rest v
+
+-- THE LAWS, of what `keep_bounds` leaves in two lists of n zeros
+abbrev pub lowersKept : List ℕ → ℕ → List ℤ
+lowersKept ws n = overlay (replicate n +0) 0 (map (λ B. B .lower) (variables ws))
+
+abbrev pub uppersKept : List ℕ → ℕ → List ℤ
+uppersKept ws n = overlay (replicate n +0) 0 (map (λ B. B .upper) (variables ws))
+
+module _ (ws : List ℕ) (n : ℕ) (few : length (variables ws) ≤ n) where
+  lower-kept : (v : ℕ) → getD (lowersKept ws n) v +0 ≡ boundsIn (variables ws) v .lower
+  lower-kept v = kept-at (λ B. B .lower) refl (variables ws) n few v
+
+  upper-kept : (v : ℕ) → getD (uppersKept ws n) v +0 ≡ boundsIn (variables ws) v .upper
+  upper-kept v = kept-at (λ B. B .upper) refl (variables ws) n few v
+
+  pub kept-bounds : boundsOf (lowersKept ws n) (uppersKept ws n) ≡ boundsIn (variables ws)
+  kept-bounds = fun-ext (λ v. ap₂ (λ l u. l to u) (lower-kept v) (upper-kept v))
+
+  pub lowers-bounded : Bounded (lowersKept ws n)
+  lowers-bounded v = rw (lower-kept v) (bounds-near ws v .0)
+
+  pub uppers-bounded : Bounded (uppersKept ws n)
+  uppers-bounded v = rw (upper-kept v) (bounds-near ws v .1)

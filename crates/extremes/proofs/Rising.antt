@@ -1,5 +1,5 @@
 -- The members of a set, as loops find them: the least one place by place, and one after another.
-use mathlib.Core.Path.{_≡_, refl, ap, sym, _∙_}
+use mathlib.Core.Path.{_≡_, refl, _∙_}
 use mathlib.Core.Bool.{Bool, true, false, _&&_}
 use mathlib.Core.List.{List, [], _∷_}
 use Prim.Native.Nat.{ℕ, zero, suc, _+_, _-_, _<_, _≤_}
@@ -12,6 +12,7 @@ use Rattle.integers.specs.Choice.{_if_else_}
 use Rattle.integers.specs.Number.{_⊕_, +1}
 use Rattle.integers.specs.Lists.{listOf}
 use Rattle.integers.specs.Bounds.{_to_}
+use Rattle.integers.specs.declared.Bounds.{Bounds}
 use Rattle.integers.proofs.Fits.{plus-size}
 use Rattle.words.specs.Overlay.{overlay}
 use Rattle.models.specs.Model.{num, nums, size}
@@ -43,6 +44,20 @@ unfolding nums
 set-size ws i from upper h =
     least-size 134217729 (λ j. num ws (i + 1 + j)) (size ws i) from (upper ⊕ +1) (λ j. omega (arith, num-size ws (i + 1 + j)))
     (omega (arith, plus-size upper +1))
+
+-- there are at most 32 members
+rising-length : (S : List ℤ) (upper : ℤ) (k : ℕ) (from : ℤ) → length (rising S upper k from) ≤ k
+unfolding rising
+rising-length S upper zero from = omega arith
+rising-length S upper (suc k) from = let v = leastFrom S from (upper ⊕ +1) in by (ltZ upper v) v (rising S upper k (v ⊕ +1)) (rising-length S upper k (v ⊕ +1))
+  where
+    by : (t : Bool) (v : ℤ) (rest : List ℤ) → length rest ≤ k → length ([] if t else v ∷ rest) ≤ suc k
+    by true v rest h = omega arith
+    by false v rest h = omega arith
+
+pub members-length : (ws : List ℕ) (i : ℕ) (B : Bounds) → length (members (nums ws i) B) ≤ 32
+unfolding members nums
+members-length ws i B = let n = length-listOf (λ k. num ws (i + 1 + k)) (size ws i) in omega (arith, rising-length (nums ws i) (B .upper) (length (nums ws i)) (B .lower), size-le ws i)
 
 -- k members stand in a list, and `left` more may follow from `from` on
 pub record Rising (S : List ℤ) (upper : ℤ) (all : List ℤ) (out₀ out : List ℤ) (k left : ℕ) (from : ℤ) : Type 0 where

@@ -5,20 +5,21 @@ use mathlib.Core.Path.{_≡_, refl}
 use Prim.Native.Nat.{ℕ, zero, suc, _+_, _*_, _≤_}
 use native.Mathlib.Omega.{arith}
 use native.Mathlib.Numerals.{add-one}
-use lib.IntN.{ℤ, natAbs}
+use lib.IntN.{ℤ, pos, negsuc, natAbs}
 use lib.ListN.{getD}
 use lib.Signed.{leZ}
 use Rattle.integers.specs.Choice.{_if_else_}
-use Rattle.integers.specs.Number.{_⊕_, _⊖_, _⊗_, minZ, maxZ, +0, +1}
-use Rattle.integers.specs.Bounds.{_to_}
+use Rattle.integers.specs.Number.{_⊕_, _⊖_, _⊗_, minZ, maxZ, count, +0, +1}
+use Rattle.integers.specs.Bounds.{_to_, width}
 use Rattle.integers.specs.Lists.{listOf}
 use Rattle.integers.specs.Terms.{Term, _·_}
 use Rattle.integers.specs.declared.Bounds.{Bounds}
 use Rattle.integers.proofs.Fits.{plus-size, minus-size, times-size, mul-le}
+use Rattle.integers.proofs.Linear.{linear, rep}
 use Rattle.models.specs.Model.{size, var, num, past, terms}
 use Rattle.arguments.proofs.Size.{size-le, num-size}
 use Rattle.arguments.proofs.Walk.{one-more, ⊕-assoc, ⊕-zero}
-use Rattle.rules.specs.Parts.{extreme, L, U}
+use Rattle.rules.specs.Parts.{extreme, L, U, places}
 use Rattle.extremes.specs.Bounded.{boundsOf, Near, Bounded}
 
 -- one of two
@@ -33,6 +34,24 @@ pick-size false a b h k = chosen-size (leZ a b) a b h k
 
 pub product-size : (a b : ℤ) → Near a → Near b → natAbs (a ⊗ b) ≤ 18014398509481984
 product-size a b h k = omega (arith, times-size a b, mul-le h k)
+
+-- how many values two bounds leave, and the places of a list of n elements
+count-le : (z : ℤ) → count z ≤ natAbs z
+unfolding count
+count-le (pos n) = omega arith
+count-le (negsuc n) = omega arith
+
+pub width-size : (l u : ℤ) → Near l → Near u → width (l to u) ≤ 268435457
+unfolding width
+width-size l u h k = omega (arith, count-le (u ⊖ l ⊕ +1), plus-size (u ⊖ l) +1, minus-size u l)
+
+pub places-near : (I : Bounds) (n : ℕ) → n ≤ 32 → Near (I .lower) → Near (I .upper) → Near (places I n .lower) × Near (places I n .upper)
+unfolding places
+places-near I n h l u = (pick-size true +1 (I .lower) (omega arith) l, pick-size false (pos n) (I .upper) (omega arith) u)
+
+pub places-width : (I : Bounds) (n : ℕ) → width (places I n) ≤ n
+unfolding places width
+places-width I n = rw (rep (I .lower), rep (I .upper)) (simp linear (omega arith))
 
 -- sums, term by term
 pub extreme-more : (pick : ℤ → ℤ → ℤ) (β : ℕ → Bounds) (f : ℕ → Term ℕ) (k : ℕ) →

@@ -10,7 +10,7 @@ use Rattle.integers.specs.declared.Bounds.{Bounds}
 abbrev pub boundsOf : List ℤ → List ℤ → ℕ → Bounds
 boundsOf ls us v = getD ls v +0 to getD us v +0
 
--- every number of a list is as near to 0 as those of signed payloads are
+-- as near to 0 as signed payloads are: one number, and all of a list
 abbrev pub Near : ℤ → Type 0
 Near z = natAbs z ≤ 134217728
 
