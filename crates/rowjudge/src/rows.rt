@@ -140,7 +140,7 @@ pub fn judge_each_row(ws: &[u32], values: &[i32]) -> Verdict
     ensures { λ r. ⌜ verdict r ≡ firstFalse (satisfied (value (now (values .entry)))) 0 (rows (now (ws .entry))) ⌝ }
 {
     let mut at = 0;
-    let mut k = 0;
+    let mut k: usize = 0;
     while at < ws.len() {
         let w = ws[at];
         at += 1;

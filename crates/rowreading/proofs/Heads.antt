@@ -4,10 +4,11 @@ use mathlib.Core.Bool.{Bool, true, false, _||_}
 use mathlib.Core.List.{List}
 use Prim.Native.Nat.{ℕ, zero, suc, _+_, _-_, _<_, _≤_}
 use native.Mathlib.Omega.{arith}
-use borrow.Author.Tests.{eqb-true}
+use borrow.Author.Tests.{ne-eqb}
 use lib.Dec.{eqb}
 use lib.ListN.{length}
 use Rattle.integers.specs.Choice.{_if_else_}
+use Rattle.words.specs.Fault as Fault
 use Rattle.words.specs.Kind as Kind
 use Rattle.words.specs.Word.{kind, wordAt}
 use Rattle.words.specs.Variables.{startsPair}
@@ -28,17 +29,12 @@ head-fault true n w l = refl
 head-fault false n w l = refl
 
 -- a source variable has a fault where only items may stand
+not-kind : (k n w : ℕ) → (kind w ≡ k → faultItem n w ≡ Fault.wrongKind) → 0 ≡ faultItem n w → eqb (kind w) k ≡ false
+not-kind k n w f e = ne-eqb (kind w) k (λ q. omega (arith, f q, e))
+
 not-source : (n w : ℕ) → 0 ≡ faultItem n w → (eqb (kind w) Kind.lower ≡ false) × (eqb (kind w) Kind.boolean ≡ false)
 unfolding faultItem
-not-source n w e = (go (eqb (kind w) Kind.lower) refl, go′ (eqb (kind w) Kind.boolean) refl)
-  where
-    go : (b : Bool) → eqb (kind w) Kind.lower ≡ b → b ≡ false
-    go false t = refl
-    go true t = absurd (let z : _≡_ {A = ℕ} 0 3 = rw (eqb-true (kind w) Kind.lower t) at e in omega arith)
-
-    go′ : (b : Bool) → eqb (kind w) Kind.boolean ≡ b → b ≡ false
-    go′ false t = refl
-    go′ true t = absurd (let z : _≡_ {A = ℕ} 0 3 = rw (eqb-true (kind w) Kind.boolean t) at e in omega arith)
+not-source n w e = (not-kind Kind.lower n w (λ q. rw q) e, not-kind Kind.boolean n w (λ q. rw q) e)
 
 after-head : (s : Bool) (n w : ℕ) → 0 ≡ faultHead s n w → afterDue (startDue s) w ≡ afterDue due.Source w
 unfolding faultHead startDue afterDue

@@ -29,7 +29,6 @@ Inv-loop ws values at₀ x₀ at x = (x ≤ at) × Kept ws values at x × (first
 abbrev μ-loop : tie.MeasureT-loop
 μ-loop ws values at₀ x₀ at x = length ws - at
 
--- helpers
 -- the variable that starts at this place, and what is said of its value
 variable : (c : tie.Then1 Inv-loop μ-loop) → variables (drop (c .before .before .before .before .loop .at) (c .before .before .before .before .before .before .args .ws .now)) ≡ boundsOf (wordAt (c .before .before .before .before .before .before .args .ws .now) (c .before .before .before .before .loop .at)) (wordAt (c .before .before .before .before .before .before .args .ws .now) (c .before .before .before .before .loop .at + 1)) ∷ variables (drop (c .before .before .before .before .loop .at + 1) (c .before .before .before .before .before .before .args .ws .now))
 unfolding wordAt
@@ -38,8 +37,6 @@ variable c = one-variable (c .before .before .before .before .before .before .ar
 said : (c : tie.After-keeps-bounds Inv-loop μ-loop) → within (boundsOf (wordAt (c .before .before .before .before .before .before .before .before .before .args .ws .now) (c .before .before .before .before .before .before .before .loop .at)) (wordAt (c .before .before .before .before .before .before .before .before .before .args .ws .now) (c .before .before .before .before .before .before .before .loop .at + 1))) (value (c .before .before .before .before .before .before .before .before .before .args .values .now) (c .before .before .before .before .before .before .before .loop .x)) ≡ c .keeps-bounds .result
 unfolding wordAt
 said c = sym (c .keeps-bounds .ensures ∙ rw (back (c .before .value-at .result) (c .before .value-at .ok), c .before .value-at .ensures, c .before .before .word-at .ensures))
-
--- end
 
 loop-holds : tie.Need-loop-holds Inv-loop μ-loop
 unfolding judgeAccepted judge

@@ -28,8 +28,7 @@ Inv-items ws sources₀ n₀ at₀ sources n at = (n ≤ at) × Placed ws at × 
 abbrev μ-items : tie.MeasureT-items
 μ-items ws sources₀ n₀ at₀ sources n at = length ws - at
 
--- helpers
--- what the head's fault is, and its item
+-- what the head's fault is
 head : (c : tie.After-fault-head Inv-loop μ-loop Inv-items μ-items) → c .fault-head .result ≡ faultHead (c .before .before .items .sources) (c .before .before .items .n) (wordAt (c .before .before .before .before .before .args .ws .now) (c .before .before .items .at))
 head c = c .fault-head .ensures ∙ rw (c .before .word-at .ensures)
 
@@ -43,8 +42,6 @@ out c =
     (λ w. rw (w .9, w .10) (sym (halted (term-gone (w .2 .result) (w .4 .left) (w .5 .taken) (w .4 .inv .2) (w .6 .ensures)) (w .7 .taken)) ∙ w .4 .inv .3))
     (λ w. rw (w .9, w .10) (let z : w .4 .left ≡ 0 = omega (arith, w .5 .left) in sym (halted (w .6 .ensures) (w .7 .taken)) ∙ rw z at (w .4 .inv .3))))
     (c .if2 .came)
-
--- end
 
 returns : tie.Need-returns Inv-loop μ-loop Inv-items μ-items
 unfolding readRows

@@ -22,13 +22,10 @@ Inv-loop ws values at₀ k₀ at k = (k ≤ at) × (firstFalse (satisfied (value
 abbrev μ-loop : tie.MeasureT-loop
 μ-loop ws values at₀ k₀ at k = length ws - at
 
--- helpers
 -- what is said of the row at this place
 said : (c : tie.After-row-holds Inv-loop μ-loop) → satisfied (value (c .before .before .before .before .before .before .before .before .args .values .now)) (rowOf (wordAt (c .before .before .before .before .before .before .before .before .args .ws .now) (c .before .before .before .before .before .before .loop .at)) (drop (c .before .before .before .before .before .before .loop .at + 1) (c .before .before .before .before .before .before .before .before .args .ws .now))) ≡ c .row-holds .result
 unfolding wordAt
 said c = sym (c .row-holds .ensures ∙ rw (tail-is (c .before .before .before .before .before .before .before .before .args .ws .now) (c .before .before .before .before .before .before .loop .at + 1)))
-
--- end
 
 loop-holds : tie.Need-loop-holds Inv-loop μ-loop
 loop-holds c = (omega arith, refl)

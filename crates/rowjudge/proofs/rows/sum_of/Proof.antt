@@ -20,12 +20,9 @@ Inv-loop ws n values total₀ k₀ total k = (k ≤ n) × (toZ w64 total ≡ sum
 abbrev μ-loop : tie.MeasureT-loop
 μ-loop ws n values total₀ k₀ total k = n - k
 
--- helpers
 -- the term read
 term : (c : tie.After-term-at Inv-loop μ-loop) → toZ w64 (ofZ w64 (c .term-at .result)) ≡ numberAt (c .before .before .before .before .args .ws .now) (2 * c .before .before .loop .k + 1) ⊗ value (c .before .before .before .before .args .values .now) (variableAt (c .before .before .before .before .args .ws .now) (2 * c .before .before .loop .k))
 term c = back (c .term-at .result) (c .term-at .ok) ∙ c .term-at .ensures
-
--- end
 
 loop-holds : tie.Need-loop-holds Inv-loop μ-loop
 loop-holds c = (omega arith, sym (no-terms (c .before .args .ws .now) (c .before .args .values .now)))

@@ -8,15 +8,12 @@ use Rattle.rowreading.proofs.Inner.{product-result, first-factor, secon
 use Rattle.rowreading.proofs.items.read_product.Statement.{statement}
 use Rattle.rowreading.proofs.items.read_product.Tie as tie
 
--- helpers
 -- the result read, and the first factor after it
 result : (c : tie.After-step-over) → Went (c .before .before .before .before .before .before .args .ws .now) (c .before .before .before .before .before .before .args .n) Result (c .before .before .before .before .before .before .args .at) FirstFactor (c .step-over .result)
 result c = rw (c .step-over .ensures, c .before .fault-result .ensures, c .before .before .before .before .word-at .ensures, c .before .before .before .word-at2 .ensures, c .before .before .word-at3 .ensures) (product-result (c .before .before .before .before .before .before .args .ws .now) (c .before .before .before .before .before .before .args .n) (c .before .before .before .before .before .before .args .at) (c .before .before .before .before .before .before .pre .within))
 
 first : (c : tie.After-variable-at) → Went (c .before .before .before .before .before .before .before .before .before .args .ws .now) (c .before .before .before .before .before .before .before .before .before .args .n) Result (c .before .before .before .before .before .before .before .before .before .args .at) SecondFactor (c .variable-at .result)
 first c = and-then (result (c .before .before .before)) (c .before .if1 .left) (rw (c .variable-at .ensures) (first-factor (c .before .before .before .before .before .before .before .before .before .args .ws .now) (c .before .before .before .before .before .before .before .before .before .args .n) (c .before .before .before .step-over .result .at) (result (c .before .before .before) .inside)))
-
--- end
 
 word-at-requires : tie.Need-word-at-requires
 word-at-requires c κs = search needs

@@ -9,12 +9,9 @@ use Rattle.rowreading.proofs.Inner.{term-variable, term-coefficient}
 use Rattle.rowreading.proofs.items.read_term.Statement.{statement}
 use Rattle.rowreading.proofs.items.read_term.Tie as tie
 
--- helpers
 -- the variable read
 variable : (c : tie.After-variable-at) (left : ℕ) → Went (c .before .before .args .ws .now) (c .before .before .args .n) (Terms (suc left)) (c .before .before .args .at) (Coefficient left) (c .variable-at .result)
 variable c left = rw (c .variable-at .ensures) (term-variable (c .before .before .args .ws .now) (c .before .before .args .n) (c .before .before .args .at) (c .before .before .pre .within) left)
-
--- end
 
 variable-at-requires : tie.Need-variable-at-requires
 variable-at-requires c κs = search needs
