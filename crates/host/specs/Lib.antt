@@ -1,2 +1,3 @@
--- What the contracts cite: check over bytes.
+-- What the contracts cite: check over bytes, and what a judge answers a host.
 pub mod Bytes
+pub mod Judgement

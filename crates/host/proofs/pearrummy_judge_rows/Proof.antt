@@ -1,0 +1,17 @@
+-- The judge's answer, as a host gets it.
+use mathlib.Core.Path.{_∙_}
+use borrow.Author.Needs.{needs}
+use Rattle.host.proofs.pearrummy_judge_rows.Statement.{statement}
+use Rattle.host.proofs.pearrummy_judge_rows.Tie as tie
+
+judge-rows-requires : tie.Need-judge-rows-requires
+judge-rows-requires c κs = search needs
+
+judgement-of-requires : tie.Need-judgement-of-requires
+judgement-of-requires c κs = search needs
+
+returns : tie.Need-returns
+returns c = c .judgement-of .ensures ∙ c .before .judge-rows .ensures
+
+pub pearrummy-judge-rows-spec : {M : Type 1} → statement M
+pearrummy-judge-rows-spec = tie.close (tie.spec judge-rows-requires judgement-of-requires returns)
