@@ -1,0 +1,7 @@
+-- Laws for proofs about what fill writes.
+pub mod Writing
+pub mod Only
+pub mod Labels
+pub mod Sizes
+pub mod Codes
+pub mod Members

@@ -1,0 +1,64 @@
+-- Laws of writing numbers over a list: the list's length, one list after another, one number at a time; numbers of the range.
+use mathlib.Core.Path.{_≡_, refl, sym, ap, _∙_}
+use mathlib.Core.Bool.{Bool, true}
+use mathlib.Core.Logic.{_⊎_, inl, inr}
+use mathlib.Core.List.{List, [], _∷_, _++_}
+use Prim.Native.Nat.{ℕ, zero, suc, _+_, _<_}
+use native.Mathlib.Omega.{arith}
+use native.Mathlib.Nat.{add-zero}
+use lib.IntN.{ℤ, pos, negsuc}
+use lib.ListN.{length, getD, drop, length-append, List·getD-append}
+use lib.Seq.{getD-append-add}
+use mir.Syntax.{w32}
+use mir.Val.{SFits}
+use Rattle.integers.specs.Number.{+0}
+use Rattle.integers.proofs.Linear.{arithZ}
+use Rattle.integers.proofs.Tests.{All}
+use Rattle.words.specs.Word.{inRange}
+use Rattle.words.specs.Overlay.{overlay}
+use Rattle.words.proofs.Word.{says-range}
+use Rattle.words.proofs.Overlay.{length-overlay, overlay-append, overlay-step}
+use Rattle.picking.specs.Picked.{Picked, Ranged}
+
+module _ {at r : ℕ} {out out′ ps : List ℤ} (w : Picked at r out out′ ps) where
+  pub picked-length : length out′ ≡ length out
+  picked-length = ap length (w .over) ∙ simp length-overlay
+
+  pub picked-then : {r′ : ℕ} {out″ qs : List ℤ} → Picked r r′ out′ out″ qs → Picked at r′ out out″ (ps ++ qs)
+  picked-then {r′} {out″} {qs} v = record {
+    next = omega (arith, w .next, v .next, length-append ps qs);
+    over = v .over ∙ rw (w .over, w .next) (overlay-append out at ps qs);
+  }
+
+pub picked-none : (at : ℕ) (out : List ℤ) → Picked at at out out []
+unfolding overlay
+picked-none at out = record { next = sym (add-zero at); over = refl }
+
+-- the k-th number of a list that is written from `at` on: what is left to write
+pub picked-step : (at k : ℕ) (ps : List ℤ) {r : ℕ} {out out′ whole : List ℤ} → Picked (at + k) r out out′ (getD ps k +0 ∷ []) → k < length ps →
+    overlay out (at + k) (drop k ps) ≡ whole → overlay out′ (at + (k + 1)) (drop (k + 1) ps) ≡ whole
+unfolding overlay
+picked-step at k ps {out} w l h =
+    ap (λ o. overlay o (at + (k + 1)) (drop (k + 1) ps)) (w .over) ∙ sym (overlay-step +0 out at ps k l) ∙ h
+
+-- ---- numbers of the range
+
+pub fits32 : (z : ℤ) → inRange z ≡ true → SFits w32 z
+fits32 (pos n) e = record { sfits = omega (arithZ, says-range (pos n) .0 e .1) }
+fits32 (negsuc n) e = record { sfits = omega (arithZ, says-range (negsuc n) .0 e .0) }
+
+zero-ranged : inRange +0 ≡ true
+unfolding inRange
+zero-ranged = refl
+
+pub all-ranged : (ps : List ℤ) → All (λ z. inRange z ≡ true) ps → Ranged ps
+all-ranged [] h k = zero-ranged
+all-ranged (p ∷ ps) h zero = h .0
+all-ranged (p ∷ ps) h (suc k) = all-ranged ps (h .1) k
+
+pub ranged-tail : (p : ℤ) (ps : List ℤ) → Ranged (p ∷ ps) → Ranged ps
+ranged-tail p ps h k = h (suc k)
+
+pub ranged-right : (ps qs : List ℤ) → Ranged (ps ++ qs) → Ranged qs
+ranged-right [] qs h = h
+ranged-right (p ∷ ps) qs h = ranged-right ps qs (ranged-tail p (ps ++ qs) h)

@@ -1,0 +1,89 @@
+-- The loop's invariant: no variable before place k has the value.
+use mathlib.Core.Path.{_≡_, sym, _∙_}
+use mathlib.Core.Bool.{false}
+use Prim.Native.Nat.{ℕ, _+_, _-_, _<_, _≤_}
+use native.Mathlib.Omega.{arith}
+use mir.Syntax.{w64}
+use mir.Val.{toZ, ofZ}
+use mir.Facts.{toZ-ofZ}
+use borrow.Author.Needs.{needs}
+use Rattle.integers.specs.Number.{_==_}
+use Rattle.integers.specs.Terms.{value}
+use Rattle.integers.proofs.Fits.{back}
+use Rattle.models.specs.Model.{var}
+use Rattle.arguments.proofs.Size.{size-le}
+use Rattle.picking.proofs.Only.{none-more}
+use Rattle.picking.proofs.first_equal.Statement.{statement}
+use Rattle.picking.proofs.first_equal.Tie as tie
+
+abbrev Inv-loop : tie.InvT-loop
+Inv-loop args i v values n k₀ k = (k ≤ n) × (n ≤ 32) × ((j : ℕ) → j < k → (value values (var args (i + 1 + j)) == toZ w64 v) ≡ false)
+
+abbrev μ-loop : tie.MeasureT-loop
+μ-loop args i v values n k₀ k = n - k
+
+tested : (c : tie.After-equal Inv-loop μ-loop) → c .equal .result ≡ (value (c .before .before .before .before .before .before .args .values .now) (var (c .before .before .before .before .before .before .args .args .now) (c .before .before .before .before .before .before .args .i + 1 + c .before .before .before .loop .k)) == toZ w64 (ofZ w64 (c .before .before .before .before .before .before .args .v)))
+tested c = c .equal .ensures ∙ rw (back (c .before .value-of .result) (c .before .value-of .ok), c .before .value-of .ensures)
+
+size-at-requires : tie.Need-size-at-requires Inv-loop μ-loop
+size-at-requires c κs = search needs
+
+loop-holds : tie.Need-loop-holds Inv-loop μ-loop
+loop-holds c = (search needs, omega (arith, size-le (c .before .before .args .args .now) (c .before .before .args .i)), λ j l. absurd (omega arith))
+
+add-value-of : tie.Need-add-value-of Inv-loop μ-loop
+add-value-of c = search needs
+
+add-value-of-2 : tie.Need-add-value-of-2 Inv-loop μ-loop
+add-value-of-2 c = search needs
+
+value-of-requires : tie.Need-value-of-requires Inv-loop μ-loop
+value-of-requires c κs = search needs
+
+equal-requires : tie.Need-equal-requires Inv-loop μ-loop
+equal-requires c κs = search needs
+
+returns : tie.Need-returns Inv-loop μ-loop
+returns c = (
+  omega arith,
+  record {
+    before = λ j l m. rw (← toZ-ofZ (c .before .before .before .before .before .before .before .fits .v)) (c .before .before .before .before .loop .inv .2 j m);
+    here = λ l. rw (← toZ-ofZ (c .before .before .before .before .before .before .before .fits .v)) (sym (tested (c .before)) ∙ c .if1 .taken);
+  },
+)
+
+add-k : tie.Need-add-k Inv-loop μ-loop
+add-k c = search needs
+
+loop-less : tie.Need-loop-less Inv-loop μ-loop
+loop-less c = search needs
+
+loop-again : tie.Need-loop-again Inv-loop μ-loop
+loop-again c = (search needs, search needs, none-more (λ j. value (c .before .before .before .before .before .before .before .args .values .now) (var (c .before .before .before .before .before .before .before .args .args .now) (c .before .before .before .before .before .before .before .args .i + 1 + j)) == toZ w64 (ofZ w64 (c .before .before .before .before .before .before .before .args .v))) (c .before .before .before .before .loop .k) (c .before .before .before .before .loop .inv .2) (sym (tested (c .before)) ∙ c .if1 .left))
+
+returns-2 : tie.Need-returns-2 Inv-loop μ-loop
+returns-2 c = (
+  omega arith,
+  record {
+    before = λ j l m. rw (← toZ-ofZ (c .before .before .before .before .fits .v)) (c .before .loop .inv .2 j (omega arith));
+    here = λ l. absurd (omega (arith, c .before .before .size-at .ensures));
+  },
+)
+
+pub first-equal-spec : {M : Type 1} → statement M
+first-equal-spec =
+    tie.close
+    (tie.spec
+    Inv-loop
+    μ-loop
+    size-at-requires
+    loop-holds
+    add-value-of
+    add-value-of-2
+    value-of-requires
+    equal-requires
+    returns
+    add-k
+    loop-less
+    loop-again
+    returns-2)

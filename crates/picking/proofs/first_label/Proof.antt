@@ -1,0 +1,22 @@
+-- The larger of 1 and the lower bound that is read.
+use mathlib.Core.Path.{_∙_}
+use borrow.Author.Needs.{needs}
+use Rattle.integers.proofs.Fits.{back}
+use Rattle.picking.proofs.first_label.Statement.{statement}
+use Rattle.picking.proofs.first_label.Tie as tie
+
+var-at-requires : tie.Need-var-at-requires
+var-at-requires c κs = search needs
+
+bound-at-requires : tie.Need-bound-at-requires
+bound-at-requires c κs = search needs
+
+first-place-requires : tie.Need-first-place-requires
+first-place-requires c κs = search needs
+
+returns : tie.Need-returns
+returns c = back (c .first-place .result) (c .first-place .ok) ∙ c .first-place .ensures ∙ rw (back (c .before .bound-at .result) (c .before .bound-at .ok), c .before .bound-at .ensures, c .before .before .var-at .ensures)
+
+pub first-label-spec : {M : Type 1} → statement M
+first-label-spec =
+    tie.close (tie.spec var-at-requires bound-at-requires first-place-requires returns)

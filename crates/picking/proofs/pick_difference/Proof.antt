@@ -1,0 +1,45 @@
+-- The sum of 1 × a and −1 × b is a less b.
+use mathlib.Core.Path.{_≡_, _∙_}
+use native.Mathlib.Omega.{arith}
+use mir.Syntax.{w64}
+use mir.Val.{toZ, ofZ}
+use borrow.Author.Needs.{needs}
+use Rattle.integers.proofs.Fits.{back}
+use Rattle.integers.specs.Terms.{value}
+use Rattle.integers.specs.Number.{_⊖_}
+use Rattle.models.specs.Model.{var}
+use Rattle.picking.proofs.Codes.{difference}
+use Rattle.picking.proofs.pick_difference.Statement.{statement}
+use Rattle.picking.proofs.pick_difference.Tie as tie
+
+whole : (c : tie.After-minus) → toZ w64 (ofZ w64 (c .minus .result)) ≡ value (c .before .before .before .before .before .args .values .now) (var (c .before .before .before .before .before .args .args .now) 0) ⊖ value (c .before .before .before .before .before .args .values .now) (var (c .before .before .before .before .before .args .args .now) 1)
+whole c = back (c .minus .result) (c .minus .ok) ∙ c .minus .ensures ∙ rw (back (c .before .before .value-of .result) (c .before .before .value-of .ok), c .before .before .value-of .ensures, back (c .before .value-of2 .result) (c .before .value-of2 .ok), c .before .value-of2 .ensures)
+
+value-of-requires : tie.Need-value-of-requires
+value-of-requires c κs = search needs
+
+value-of-requires-2 : tie.Need-value-of-requires-2
+value-of-requires-2 c κs = search needs
+
+minus-requires : tie.Need-minus-requires
+minus-requires c κs = rw (back (c .before .value-of .result) (c .before .value-of .ok), c .before .value-of .ensures, back (c .value-of2 .result) (c .value-of2 .ok), c .value-of2 .ensures) (omega (arith, (c .before .before .before .before .pre .1 (var (c .before .before .before .before .args .args .now) 0)), (c .before .before .before .before .pre .1 (var (c .before .before .before .before .args .args .now) 1))))
+
+put-signed-requires : tie.Need-put-signed-requires
+put-signed-requires c κs = (search needs, rw (whole (c)) (rw difference at (c .before .before .before .before .before .pre .2)))
+
+same-length : tie.Need-same-length
+same-length c = search needs
+
+returns : tie.Need-returns
+returns c = rw difference (rw (whole (c .before .before)) at (c .before .put-signed .ensures))
+
+pub pick-difference-spec : {M : Type 1} → statement M
+pick-difference-spec =
+    tie.close
+    (tie.spec
+    value-of-requires
+    value-of-requires-2
+    minus-requires
+    put-signed-requires
+    same-length
+    returns)

@@ -1,0 +1,59 @@
+-- The place of the first element that is m.
+use mathlib.Core.Path.{_≡_}
+use mathlib.Core.List.{_++_, []}
+use Prim.Native.Nat.{_+_}
+use native.Mathlib.Omega.{arith}
+use borrow.Author.Needs.{needs}
+use Rattle.integers.specs.Number.{_==_, +1}
+use Rattle.integers.specs.Terms.{value}
+use Rattle.integers.proofs.Fits.{back}
+use Rattle.models.specs.Model.{var, size, vars}
+use Rattle.arguments.proofs.Size.{size-le}
+use Rattle.rules.specs.Pick.{gatedPick}
+use Rattle.picking.specs.Only.{onlyAt}
+use Rattle.picking.proofs.Codes.{maximum-picks}
+use Rattle.picking.proofs.pick_maximum.Statement.{statement}
+use Rattle.picking.proofs.pick_maximum.Tie as tie
+
+picks : (c : tie.After-first-equal) → let a = c .before .before .before .args in let σ = value (a .values .now) in let ws = a .args .now in
+    gatedPick σ (λ x. σ x == σ (var ws 0)) (vars ws 1) ≡ onlyAt (size ws 1) (c .first-equal .result) +1 ++ onlyAt (size ws 1) (c .first-equal .result) (σ (var ws (2 + c .first-equal .result)))
+picks c =
+    let a = c .before .before .before .args in
+    maximum-picks [] [] (a .values .now) (a .args .now) (c .first-equal .result) (rw (back (c .before .value-of .result) (c .before .value-of .ok), c .before .value-of .ensures) at (c .first-equal .ensures .1))
+
+value-of-requires : tie.Need-value-of-requires
+value-of-requires c κs = search needs
+
+first-equal-requires : tie.Need-first-equal-requires
+first-equal-requires c κs = search needs
+
+size-at-requires : tie.Need-size-at-requires
+size-at-requires c κs = search needs
+
+add-value-of : tie.Need-add-value-of
+add-value-of c = search needs
+
+value-of-requires-2 : tie.Need-value-of-requires-2
+value-of-requires-2 c κs = search needs
+
+put-gated-requires : tie.Need-put-gated-requires
+put-gated-requires c κs = (search needs, omega (arith, c .before .size-at .ensures, size-le (c .before .before .before .before .before .before .args .args .now) 1), rw (back (c .value-of2 .result) (c .value-of2 .ok), c .value-of2 .ensures, c .before .size-at .ensures) (rw (picks (c .before .before .before)) at (c .before .before .before .before .before .before .pre .1)))
+
+same-length : tie.Need-same-length
+same-length c = search needs
+
+returns : tie.Need-returns
+returns c = rw (picks (c .before .before .before .before .before)) (rw (back (c .before .before .value-of2 .result) (c .before .before .value-of2 .ok), c .before .before .value-of2 .ensures, c .before .before .before .size-at .ensures) at (c .before .put-gated .ensures))
+
+pub pick-maximum-spec : {M : Type 1} → statement M
+pick-maximum-spec =
+    tie.close
+    (tie.spec
+    value-of-requires
+    first-equal-requires
+    size-at-requires
+    add-value-of
+    value-of-requires-2
+    put-gated-requires
+    same-length
+    returns)

@@ -1,0 +1,77 @@
+-- The place of x among the members that stand at the front of the array.
+use mathlib.Core.Path.{_≡_, refl, _∙_}
+use native.Mathlib.Omega.{arith}
+use lib.ListN.{length, getD}
+use borrow.Author.Needs.{needs}
+use Rattle.integers.specs.Number.{+0, +1}
+use Rattle.integers.specs.Bounds.{_to_}
+use Rattle.integers.proofs.Fits.{back}
+use Rattle.models.specs.Model.{nums, var}
+use Rattle.rules.specs.Parts.{members}
+use Rattle.extremes.proofs.Rising.{members-length}
+use Rattle.picking.specs.Only.{onlyAt}
+use Rattle.picking.specs.Picked.{picksOf}
+use Rattle.picking.proofs.Only.{bits-ranged}
+use Rattle.picking.proofs.Members.{member-picks}
+use Rattle.picking.proofs.pick_member.Statement.{statement}
+use Rattle.picking.proofs.pick_member.Tie as tie
+
+many : (c : tie.After-members) → let a = c .before .before .before .before .before .before .args in c .members .result ≡ length (members (nums (a .args .now) 1) (getD (a .ls .now) (var (a .args .now) 0) +0 to getD (a .us .now) (var (a .args .now) 0) +0))
+many c = c .members .ensures .0 ∙ rw (back (c .before .before .before .bound-at .result) (c .before .before .before .bound-at .ok), c .before .before .before .bound-at .ensures, back (c .before .before .bound-at2 .result) (c .before .before .bound-at2 .ok), c .before .before .bound-at2 .ensures, c .before .before .before .before .var-at .ensures)
+
+picks : (c : tie.After-first-number) → let a = c .before .before .before .before .before .before .before .before .before .before .args in picksOf (a .ls .now) (a .us .now) (a .values .now) 27 (a .args .now) ≡ onlyAt (c .before .before .before .before .members .result) (c .first-number .result) +1
+picks c =
+    let a = c .before .before .before .before .before .before .before .before .before .before .args in
+    rw (many (c .before .before .before .before))
+    (member-picks (a .ls .now) (a .us .now) (a .values .now) (a .args .now) _ (c .before .before .before .before .members .last .1 .1 .1 .1 .0) (c .first-number .result) refl
+    (rw (back (c .before .before .before .before .before .before .before .bound-at .result) (c .before .before .before .before .before .before .before .bound-at .ok), c .before .before .before .before .before .before .before .bound-at .ensures, back (c .before .before .before .before .before .before .bound-at2 .result) (c .before .before .before .before .before .before .bound-at2 .ok), c .before .before .before .before .before .before .bound-at2 .ensures, c .before .before .before .before .before .before .before .before .var-at .ensures) at (c .before .before .before .before .members .ensures .1))
+    (rw (back (c .before .value-of .result) (c .before .value-of .ok), c .before .value-of .ensures, many (c .before .before .before .before)) at (c .first-number .ensures)))
+
+var-at-requires : tie.Need-var-at-requires
+var-at-requires c κs = search needs
+
+bound-at-requires : tie.Need-bound-at-requires
+bound-at-requires c κs = search needs
+
+bound-at-requires-2 : tie.Need-bound-at-requires-2
+bound-at-requires-2 c κs = search needs
+
+slice-aggregate-members : tie.Need-slice-aggregate-members
+slice-aggregate-members c = search needs
+
+members-requires : tie.Need-members-requires
+members-requires c κs = (search needs, rw (back (c .before .bound-at2 .result) (c .before .bound-at2 .ok), c .before .bound-at2 .ensures) (c .before .before .before .before .before .pre .1 (c .before .before .before .var-at .result)))
+
+slice-aggregate-first-number : tie.Need-slice-aggregate-first-number
+slice-aggregate-first-number c = search needs
+
+value-of-requires : tie.Need-value-of-requires
+value-of-requires c κs = search needs
+
+first-number-requires : tie.Need-first-number-requires
+first-number-requires c κs = search needs
+
+put-only-requires : tie.Need-put-only-requires
+put-only-requires c κs = (omega (arith, many (c .before .before .before .before .before), let a = c .before .before .before .before .before .before .before .before .before .before .before .args in members-length (a .args .now) 1 (getD (a .ls .now) (var (a .args .now) 0) +0 to getD (a .us .now) (var (a .args .now) 0) +0)), bits-ranged (c .before .before .before .before .before .members .result) (c .before .first-number .result))
+
+same-length : tie.Need-same-length
+same-length c = search needs
+
+returns : tie.Need-returns
+returns c = rw (picks (c .before .before .before)) (c .before .put-only .ensures)
+
+pub pick-member-spec : {M : Type 1} → statement M
+pick-member-spec =
+    tie.close
+    (tie.spec
+    var-at-requires
+    bound-at-requires
+    bound-at-requires-2
+    slice-aggregate-members
+    members-requires
+    slice-aggregate-first-number
+    value-of-requires
+    first-number-requires
+    put-only-requires
+    same-length
+    returns)

@@ -1,0 +1,36 @@
+-- One product, then the other.
+use native.Mathlib.Omega.{arith}
+use borrow.Author.Needs.{needs}
+use Rattle.integers.proofs.Fits.{back}
+use Rattle.picking.proofs.Writing.{picked-then}
+use Rattle.picking.proofs.pick_xor.Statement.{statement}
+use Rattle.picking.proofs.pick_xor.Tie as tie
+
+values-product-requires : tie.Need-values-product-requires
+values-product-requires c κs = search needs
+
+put-requires : tie.Need-put-requires
+put-requires c κs = (search needs, rw (back (c .values-product .result) (c .values-product .ok), c .values-product .ensures) (c .before .before .before .pre .2 0))
+
+values-product-requires-2 : tie.Need-values-product-requires-2
+values-product-requires-2 c κs = search needs
+
+put-requires-2 : tie.Need-put-requires-2
+put-requires-2 c κs = (omega (arith, c .before .before .before .put .ensures .next), rw (back (c .values-product2 .result) (c .values-product2 .ok), c .values-product2 .ensures) (c .before .before .before .before .before .before .before .pre .2 1))
+
+same-length : tie.Need-same-length
+same-length c = search needs
+
+returns : tie.Need-returns
+returns c = rw (back (c .before .before .before .before .before .before .values-product .result) (c .before .before .before .before .before .before .values-product .ok), c .before .before .before .before .before .before .values-product .ensures, back (c .before .before .values-product2 .result) (c .before .before .values-product2 .ok), c .before .before .values-product2 .ensures) at (picked-then (c .before .before .before .before .before .put .ensures) (c .before .put2 .ensures))
+
+pub pick-xor-spec : {M : Type 1} → statement M
+pick-xor-spec =
+    tie.close
+    (tie.spec
+    values-product-requires
+    put-requires
+    values-product-requires-2
+    put-requires-2
+    same-length
+    returns)

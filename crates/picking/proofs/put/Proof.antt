@@ -1,0 +1,36 @@
+-- Inside the list the number is written; past its end nothing changes.
+use mathlib.Core.Path.{_≡_, sym, ap, _∙_}
+use mathlib.Core.Logic.{⊎-elim}
+use lib.ListN.{length, length-set, set}
+use lib.Seq.{set-out}
+use mir.Facts.{toZ-ofZ}
+use borrow.Author.Needs.{needs}
+use Rattle.words.specs.Overlay.{overlay}
+use Rattle.picking.proofs.Writing.{fits32}
+use Rattle.picking.proofs.put.Statement.{statement}
+use Rattle.picking.proofs.put.Tie as tie
+
+written : (c : tie.Joined1) → c .if1 .out ≡ set (c .before .args .out .now) (c .before .args .at) (c .before .args .v)
+written c = ⊎-elim (λ w. w .1 ∙ rw (toZ-ofZ (c .before .fits .v), toZ-ofZ (fits32 (c .before .args .v) (c .before .pre .1)))) (λ w. w .1 ∙ sym (set-out _ _ _ (w .0 .left))) (c .if1 .came)
+
+cast-out : tie.Need-cast-out
+cast-out c = rw (toZ-ofZ (c .before .fits .v)) (fits32 (c .before .args .v) (c .before .pre .1))
+
+mul-t7 : tie.Need-mul-t7
+mul-t7 c = search needs
+
+slice-set-from-out : tie.Need-slice-set-from-out
+slice-set-from-out c = search needs
+
+add-result : tie.Need-add-result
+add-result c = search needs
+
+same-length : tie.Need-same-length
+same-length c = ap length (written c) ∙ simp length-set
+
+returns : tie.Need-returns
+unfolding overlay
+returns c = record { next = search needs; over = written c }
+
+pub put-spec : {M : Type 1} → statement M
+put-spec = tie.close (tie.spec cast-out mul-t7 slice-set-from-out add-result same-length returns)

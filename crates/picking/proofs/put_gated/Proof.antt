@@ -1,0 +1,25 @@
+-- The bits, then the products.
+use native.Mathlib.Omega.{arith}
+use mir.Facts.{toZ-ofZ}
+use borrow.Author.Needs.{needs}
+use Rattle.integers.specs.Number.{+1}
+use Rattle.picking.specs.Only.{onlyAt}
+use Rattle.picking.proofs.Writing.{picked-then, ranged-right}
+use Rattle.picking.proofs.Only.{bits-ranged, only-length}
+use Rattle.picking.proofs.put_gated.Statement.{statement}
+use Rattle.picking.proofs.put_gated.Tie as tie
+
+put-only-requires : tie.Need-put-only-requires
+put-only-requires c κs = (search needs, bits-ranged (c .before .args .n) (c .before .args .h))
+
+put-only-requires-2 : tie.Need-put-only-requires-2
+put-only-requires-2 c κs = (omega (arith, c .before .before .put-only .ensures .next, only-length (c .before .before .before .before .args .n) (c .before .before .before .before .args .h) +1), rw (toZ-ofZ (c .before .before .before .before .fits .x)) (ranged-right (onlyAt (c .before .before .before .before .args .n) (c .before .before .before .before .args .h) +1) (onlyAt (c .before .before .before .before .args .n) (c .before .before .before .before .args .h) (c .before .before .before .before .args .x)) (c .before .before .before .before .pre .2)))
+
+same-length : tie.Need-same-length
+same-length c = search needs
+
+returns : tie.Need-returns
+returns c = rw (toZ-ofZ (c .before .before .before .before .before .before .fits .x)) at (picked-then (c .before .before .before .before .put-only .ensures) (c .before .put-only2 .ensures))
+
+pub put-gated-spec : {M : Type 1} → statement M
+put-gated-spec = tie.close (tie.spec put-only-requires put-only-requires-2 same-length returns)

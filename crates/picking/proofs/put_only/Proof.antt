@@ -1,0 +1,78 @@
+-- The loop's invariant: writing the rest of the numbers from here gives what writing them all gives.
+use mathlib.Core.Path.{_≡_, sym, ap, _∙_}
+use Prim.Native.Nat.{_+_, _-_, _≤_}
+use native.Mathlib.Omega.{arith}
+use native.Mathlib.Nat.{add-zero}
+use lib.IntN.{pos}
+use lib.ListN.{getD, length, drop, drop-of-length-le}
+use lib.Dec.{eqb}
+use mir.Syntax.{w64}
+use mir.Val.{toZ, ofZ}
+use mir.Facts.{toZ-ofZ}
+use borrow.Author.Needs.{needs}
+use Rattle.integers.specs.Choice.{_if_else_}
+use Rattle.words.specs.Overlay.{overlay}
+use Rattle.words.proofs.Overlay.{length-overlay, overlay-none}
+use Rattle.picking.specs.Only.{onlyAt}
+use Rattle.picking.proofs.Writing.{picked-step}
+use Rattle.picking.proofs.Only.{only-length, only-at}
+use Rattle.picking.proofs.put_only.Statement.{statement}
+use Rattle.picking.proofs.put_only.Tie as tie
+
+abbrev Inv-loop : tie.InvT-loop
+Inv-loop out₀ at n h v k₀ out k = (k ≤ n) × (overlay out (at + k) (drop k (onlyAt n h (toZ w64 v))) ≡ overlay out₀ at (onlyAt n h (toZ w64 v)))
+
+abbrev μ-loop : tie.MeasureT-loop
+μ-loop out₀ at n h v k₀ out k = n - k
+
+kept : (c : tie.After-put-if-arg Inv-loop μ-loop) → getD (onlyAt (c .before .before .before .args .n) (c .before .before .before .args .h) (c .before .before .before .args .v)) (c .before .before .loop .k) (pos 0) ≡ (toZ w64 (ofZ w64 (c .before .before .before .args .v)) if eqb (c .before .before .loop .k) (c .before .before .before .args .h) else pos 0)
+kept c = only-at (c .before .before .before .args .n) (c .before .before .before .args .h) (c .before .before .before .args .v) (c .before .before .loop .k) (c .before .loop-test .taken) ∙ rw (toZ-ofZ (c .before .before .before .fits .v))
+
+ended : (c : tie.After-loop Inv-loop μ-loop) → c .before .loop .out ≡ overlay (c .before .before .args .out .now) (c .before .before .args .at) (onlyAt (c .before .before .args .n) (c .before .before .args .h) (c .before .before .args .v))
+ended c =
+    let ps = onlyAt (c .before .before .args .n) (c .before .before .args .h) (c .before .before .args .v) in
+    let l : length ps ≤ c .before .loop .k = omega (arith, only-length (c .before .before .args .n) (c .before .before .args .h) (c .before .before .args .v), c .loop-test .left) in
+    sym (overlay-none _ _) ∙ rw (drop-of-length-le ps l) at (rw (toZ-ofZ (c .before .before .fits .v)) at (c .before .loop .inv .1))
+
+loop-holds : tie.Need-loop-holds Inv-loop μ-loop
+loop-holds c = (search needs, rw add-zero)
+
+add-put-if : tie.Need-add-put-if Inv-loop μ-loop
+add-put-if c = search needs
+
+put-if-requires : tie.Need-put-if-requires Inv-loop μ-loop
+put-if-requires c κs = (search needs, rw (← kept c) (c .before .before .before .pre .1 (c .before .before .loop .k)))
+
+add-k : tie.Need-add-k Inv-loop μ-loop
+add-k c = search needs
+
+loop-less : tie.Need-loop-less Inv-loop μ-loop
+loop-less c = search needs
+
+loop-again : tie.Need-loop-again Inv-loop μ-loop
+loop-again c = (search needs, rw (toZ-ofZ (c .before .before .before .before .before .fits .v)) (picked-step (c .before .before .before .before .before .args .at) (c .before .before .before .before .loop .k) (onlyAt (c .before .before .before .before .before .args .n) (c .before .before .before .before .before .args .h) (c .before .before .before .before .before .args .v)) (rw (← kept (c .before .before)) at (c .before .put-if .ensures)) (omega (arith, only-length (c .before .before .before .before .before .args .n) (c .before .before .before .before .before .args .h) (c .before .before .before .before .before .args .v), c .before .before .before .loop-test .taken)) (rw (toZ-ofZ (c .before .before .before .before .before .fits .v)) at (c .before .before .before .before .loop .inv .1))))
+
+add-result : tie.Need-add-result Inv-loop μ-loop
+add-result c = search needs
+
+same-length : tie.Need-same-length Inv-loop μ-loop
+same-length c = ap length (ended c) ∙ simp length-overlay
+
+returns : tie.Need-returns Inv-loop μ-loop
+returns c = record { next = rw (only-length (c .before .before .args .n) (c .before .before .args .h) (c .before .before .args .v)); over = ended c }
+
+pub put-only-spec : {M : Type 1} → statement M
+put-only-spec =
+    tie.close
+    (tie.spec
+    Inv-loop
+    μ-loop
+    loop-holds
+    add-put-if
+    put-if-requires
+    add-k
+    loop-less
+    loop-again
+    add-result
+    same-length
+    returns)

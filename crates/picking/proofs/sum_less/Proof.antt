@@ -1,0 +1,29 @@
+-- The sum is at most 2^59.
+use mathlib.Core.Path.{_∙_}
+use native.Mathlib.Omega.{arith}
+use borrow.Author.Needs.{needs}
+use Rattle.integers.proofs.Fits.{back}
+use Rattle.arguments.proofs.Size.{num-size}
+use Rattle.picking.proofs.Sizes.{sum-size}
+use Rattle.picking.proofs.sum_less.Statement.{statement}
+use Rattle.picking.proofs.sum_less.Tie as tie
+
+sum-of-requires : tie.Need-sum-of-requires
+sum-of-requires c κs = search needs
+
+past-terms-at-requires : tie.Need-past-terms-at-requires
+past-terms-at-requires c κs = search needs
+
+num-at-requires : tie.Need-num-at-requires
+num-at-requires c κs = search needs
+
+minus-requires : tie.Need-minus-requires
+minus-requires c κs = rw (back (c .before .before .sum-of .result) (c .before .before .sum-of .ok), c .before .before .sum-of .ensures, back (c .num-at .result) (c .num-at .ok), c .num-at .ensures) (omega (arith, sum-size (c .before .before .before .before .args .args .now) (c .before .before .before .before .args .values .now) 0 (c .before .before .before .before .pre), num-size (c .before .before .before .before .args .args .now) (c .before .past-terms-at .result)))
+
+returns : tie.Need-returns
+returns c = back (c .minus .result) (c .minus .ok) ∙ c .minus .ensures ∙ rw (back (c .before .before .before .sum-of .result) (c .before .before .before .sum-of .ok), c .before .before .before .sum-of .ensures, back (c .before .num-at .result) (c .before .num-at .ok), c .before .num-at .ensures, c .before .before .past-terms-at .ensures)
+
+pub sum-less-spec : {M : Type 1} → statement M
+sum-less-spec =
+    tie.close
+    (tie.spec sum-of-requires past-terms-at-requires num-at-requires minus-requires returns)

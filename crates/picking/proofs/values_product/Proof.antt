@@ -1,0 +1,24 @@
+-- Small values have a product of at most 2^54.
+use mathlib.Core.Path.{_∙_}
+use native.Mathlib.Omega.{arith}
+use borrow.Author.Needs.{needs}
+use Rattle.integers.proofs.Fits.{back, mul-le}
+use Rattle.models.specs.Model.{var}
+use Rattle.picking.proofs.values_product.Statement.{statement}
+use Rattle.picking.proofs.values_product.Tie as tie
+
+value-of-requires : tie.Need-value-of-requires
+value-of-requires c κs = search needs
+
+value-of-requires-2 : tie.Need-value-of-requires-2
+value-of-requires-2 c κs = search needs
+
+times-requires : tie.Need-times-requires
+times-requires c κs = rw (back (c .before .value-of .result) (c .before .value-of .ok), c .before .value-of .ensures, back (c .value-of2 .result) (c .value-of2 .ok), c .value-of2 .ensures) (omega (arith, mul-le (c .before .before .before .pre (var (c .before .before .before .args .args .now) (c .before .before .before .args .i))) (c .before .before .before .pre (var (c .before .before .before .args .args .now) (c .before .before .before .args .j)))))
+
+returns : tie.Need-returns
+returns c = back (c .times .result) (c .times .ok) ∙ c .times .ensures ∙ rw (back (c .before .before .value-of .result) (c .before .before .value-of .ok), c .before .before .value-of .ensures, back (c .before .value-of2 .result) (c .before .value-of2 .ok), c .before .value-of2 .ensures)
+
+pub values-product-spec : {M : Type 1} → statement M
+values-product-spec =
+    tie.close (tie.spec value-of-requires value-of-requires-2 times-requires returns)

@@ -1,0 +1,27 @@
+-- Writing numbers over a list from a place on, and the numbers that fill writes for one constraint.
+use mathlib.Core.Path.{_≡_}
+use mathlib.Core.Bool.{true}
+use mathlib.Core.List.{List}
+use Prim.Native.Nat.{ℕ, _+_}
+use lib.IntN.{ℤ}
+use lib.ListN.{length, getD}
+use Rattle.integers.specs.Number.{+0}
+use Rattle.integers.specs.Terms.{value}
+use Rattle.words.specs.Word.{inRange}
+use Rattle.words.specs.Overlay.{overlay}
+use Rattle.models.specs.Model.{builtin}
+use Rattle.rules.specs.Pick.{pick}
+use Rattle.extremes.specs.Bounded.{boundsOf}
+
+-- the numbers went over the list, and r is the place after them
+pub record Picked (at r : ℕ) (out out′ ps : List ℤ) : Type 0 where
+  pub next : r ≡ at + length ps
+  pub over : out′ ≡ overlay out at ps
+
+-- every number is in the range, and so fits 32 bits
+abbrev pub Ranged : List ℤ → Type 0
+Ranged ps = (k : ℕ) → inRange (getD ps k +0) ≡ true
+
+-- for the constraint of a code with these words after its head; its place plays no part
+abbrev pub picksOf : List ℤ → List ℤ → List ℤ → ℕ → List ℕ → List ℤ
+picksOf ls us vs code args = pick (boundsOf ls us) (value vs) (builtin (record { place = 0; code = code; arguments = args }))
