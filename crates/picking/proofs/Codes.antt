@@ -1,8 +1,8 @@
 -- What codes 14 and 24 to 28 pick, by the places of the arguments as the code reads them.
-use mathlib.Core.Path.{_≡_, refl, sym, ap, _∙_}
+use mathlib.Core.Path.{_≡_, refl, ap, _∙_}
 use mathlib.Core.Bool.{Bool, true, false}
 use mathlib.Core.List.{List, [], _∷_, _++_}
-use Prim.Native.Nat.{ℕ, _+_, _-_, _<_, _≤_}
+use Prim.Native.Nat.{ℕ, _+_, _-_, _<_}
 use native.Mathlib.Omega.{arith}
 use lib.Dec.{ltb}
 use lib.IntN.{ℤ, pos}
@@ -10,7 +10,6 @@ use lib.ListN.{length, getD}
 use borrow.Author.Tests.{ltb-true, ltb-false}
 use Rattle.integers.specs.Number.{_⊕_, _⊖_, _==_, minZ, maxZ, count, +0, +1, -1}
 use Rattle.integers.specs.Bounds.{_to_, width, values}
-use Rattle.integers.specs.Lists.{listOf}
 use Rattle.integers.specs.Terms.{_·_, value, sum}
 use Rattle.integers.proofs.Linear.{_⊑_, linear, rep}
 use Rattle.integers.proofs.Tests.{says-equal}

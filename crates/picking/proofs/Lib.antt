@@ -5,3 +5,5 @@ pub mod Labels
 pub mod Sizes
 pub mod Codes
 pub mod Members
+pub mod Bare
+pub mod Picks

@@ -1,7 +1,7 @@
 -- Laws of one number among zeros: its elements, one-hot bits, and products with one-hot bits.
-use mathlib.Core.Path.{_≡_, refl, sym, ap, _∙_}
+use mathlib.Core.Path.{_≡_, refl, ap, _∙_}
 use mathlib.Core.Bool.{Bool, true, false}
-use mathlib.Core.List.{List, [], _∷_, _++_, map, zipWith}
+use mathlib.Core.List.{[], _∷_, _++_, map, zipWith}
 use Prim.Native.Nat.{ℕ, zero, suc, _+_, _<_, _≤_, compare·suc-suc}
 use native.Mathlib.Omega.{arith}
 use lib.Dec.{eqb, ltb}

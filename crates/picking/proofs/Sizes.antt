@@ -4,11 +4,11 @@ use Prim.Native.Nat.{ℕ, zero, suc, _+_, _*_, _≤_}
 use native.Mathlib.Omega.{arith}
 use lib.IntN.{ℤ, pos, negsuc, natAbs}
 use lib.ListN.{getD}
-use Rattle.integers.specs.Number.{_⊕_, _⊗_, minZ, maxZ, count, +0, +1}
+use Rattle.integers.specs.Number.{_⊗_, minZ, maxZ, count, +0, +1}
 use Rattle.integers.specs.Lists.{listOf}
 use Rattle.integers.specs.Terms.{Term, value, sum}
 use Rattle.integers.proofs.Fits.{plus-size}
-use Rattle.models.specs.Model.{var, num, size, past, terms}
+use Rattle.models.specs.Model.{var, size, past, terms}
 use Rattle.arguments.specs.Small.{Small}
 use Rattle.arguments.proofs.Size.{size-le, product-size}
 use Rattle.rules.specs.Parts.{places}

@@ -1,29 +1,24 @@
 -- Laws of writing numbers over a list: the list's length, one list after another, one number at a time; numbers of the range.
 use mathlib.Core.Path.{_≡_, refl, sym, ap, _∙_}
-use mathlib.Core.Bool.{Bool, true}
-use mathlib.Core.Logic.{_⊎_, inl, inr}
+use mathlib.Core.Bool.{true}
 use mathlib.Core.List.{List, [], _∷_, _++_}
 use Prim.Native.Nat.{ℕ, zero, suc, _+_, _<_}
 use native.Mathlib.Omega.{arith}
 use native.Mathlib.Nat.{add-zero}
 use lib.IntN.{ℤ, pos, negsuc}
-use lib.ListN.{length, getD, drop, length-append, List·getD-append}
-use lib.Seq.{getD-append-add}
+use lib.ListN.{length, getD, drop, length-append}
 use mir.Syntax.{w32}
 use mir.Val.{SFits}
 use Rattle.integers.specs.Number.{+0}
+use Rattle.integers.specs.Terms.{value}
 use Rattle.integers.proofs.Linear.{arithZ}
-use Rattle.integers.proofs.Tests.{All}
 use Rattle.words.specs.Word.{inRange}
 use Rattle.words.specs.Overlay.{overlay}
 use Rattle.words.proofs.Word.{says-range}
-use Rattle.words.proofs.Overlay.{length-overlay, overlay-append, overlay-step}
+use Rattle.words.proofs.Overlay.{overlay-append, overlay-step}
 use Rattle.picking.specs.Picked.{Picked, Ranged}
 
 module _ {at r : ℕ} {out out′ ps : List ℤ} (w : Picked at r out out′ ps) where
-  pub picked-length : length out′ ≡ length out
-  picked-length = ap length (w .over) ∙ simp length-overlay
-
   pub picked-then : {r′ : ℕ} {out″ qs : List ℤ} → Picked r r′ out′ out″ qs → Picked at r′ out out″ (ps ++ qs)
   picked-then {r′} {out″} {qs} v = record {
     next = omega (arith, w .next, v .next, length-append ps qs);
@@ -51,13 +46,19 @@ zero-ranged : inRange +0 ≡ true
 unfolding inRange
 zero-ranged = refl
 
-pub all-ranged : (ps : List ℤ) → All (λ z. inRange z ≡ true) ps → Ranged ps
-all-ranged [] h k = zero-ranged
-all-ranged (p ∷ ps) h zero = h .0
-all-ranged (p ∷ ps) h (suc k) = all-ranged ps (h .1) k
+pub value-ranged : (ps : List ℤ) → ((x : ℕ) → x < length ps → inRange (value ps x) ≡ true) → Ranged ps
+unfolding value
+value-ranged [] h k = zero-ranged
+value-ranged (p ∷ ps) h zero = h 0 (omega arith)
+value-ranged (p ∷ ps) h (suc k) = value-ranged ps (λ x l. h (suc x) (omega arith)) k
 
-pub ranged-tail : (p : ℤ) (ps : List ℤ) → Ranged (p ∷ ps) → Ranged ps
+ranged-tail : (p : ℤ) (ps : List ℤ) → Ranged (p ∷ ps) → Ranged ps
 ranged-tail p ps h k = h (suc k)
+
+pub ranged-left : (ps qs : List ℤ) → Ranged (ps ++ qs) → Ranged ps
+ranged-left [] qs h k = zero-ranged
+ranged-left (p ∷ ps) qs h zero = h 0
+ranged-left (p ∷ ps) qs h (suc k) = ranged-left ps qs (ranged-tail p (ps ++ qs) h) k
 
 pub ranged-right : (ps qs : List ℤ) → Ranged (ps ++ qs) → Ranged qs
 ranged-right [] qs h = h

@@ -1,22 +1,21 @@
 // What fill writes for the auxiliaries of one constraint.
 ghost use mathlib.Core.Path.{_≡_};
-ghost use mathlib.Core.Bool.{Bool, true, not};
-ghost use mathlib.Core.List.{List, [], _∷_, _++_};
-ghost use Prim.Native.Nat.{ℕ, _+_, _<_, _≤_};
+ghost use mathlib.Core.Bool.{true, not};
+ghost use mathlib.Core.List.{[], _∷_, _++_};
+ghost use Prim.Native.Nat.{_+_, _<_, _≤_};
 ghost use lib.IntN.{pos};
 ghost use lib.Signed.{ltZ};
-ghost use lib.ListN.{length, getD};
+ghost use lib.ListN.{getD};
 ghost use Rattle.integers.specs.Choice.{_if_else_};
 ghost use Rattle.integers.specs.Number.{_⊕_, _⊖_, _⊗_, _==_, minZ, maxZ, +0, +1, -1};
-ghost use Rattle.integers.specs.Bounds.{_to_, width, values};
+ghost use Rattle.integers.specs.Bounds.{_to_, values};
 ghost use Rattle.integers.specs.Terms.{value, sum, _·_};
 ghost use Rattle.words.specs.Word.{inRange};
-ghost use Rattle.models.specs.Model.{var, num, size, vars, nums, terms, pastTerms};
+ghost use Rattle.models.specs.Model.{var, num, size, vars, terms, pastTerms};
 ghost use Rattle.arguments.specs.Small.{Small};
-ghost use Rattle.rules.specs.Parts.{nth, places};
 ghost use Rattle.rules.specs.Pick.{bitOf, signPick, signedPick, firstBit, gatedPick};
-ghost use Rattle.extremes.specs.Bounded.{boundsOf, Near, Bounded};
-ghost use Rattle.picking.specs.Picked.{Picked, Ranged, picksOf};
+ghost use Rattle.extremes.specs.Bounded.{Near, Bounded};
+ghost use Rattle.picking.specs.Picked.{Picked, Ranged, Ready, picksOf};
 ghost use Rattle.picking.specs.Only.{onlyAt, FirstAt};
 use arguments::below;
 use arguments::count_of;
@@ -47,7 +46,7 @@ pub fn put(out: &mut [i32], at: usize, v: i64) -> usize
 }
 
 // Writes a number where the test is true, else 0.
-pub fn put_if(out: &mut [i32], at: usize, test: bool, v: i64) -> usize
+fn put_if(out: &mut [i32], at: usize, test: bool, v: i64) -> usize
     requires { ⌜ (at < 4398046511104) × (inRange (v if test else +0) ≡ true) ⌝ }
     ensures { λ r. ⌜ Picked at r (now (out .entry)) (now (out .exit)) ((v if test else +0) ∷ []) ⌝ }
 {
@@ -58,7 +57,7 @@ pub fn put_if(out: &mut [i32], at: usize, test: bool, v: i64) -> usize
 }
 
 // Writes n numbers: v at the h-th, counted from 0, and 0 at all others.
-pub fn put_only(out: &mut [i32], at: usize, n: usize, h: usize, v: i64) -> usize
+fn put_only(out: &mut [i32], at: usize, n: usize, h: usize, v: i64) -> usize
     requires { ⌜ (at + n < 4398046511104) × Ranged (onlyAt n h v) ⌝ }
     ensures { λ r. ⌜ Picked at r (now (out .entry)) (now (out .exit)) (onlyAt n h v) ⌝ }
 {
@@ -71,7 +70,7 @@ pub fn put_only(out: &mut [i32], at: usize, n: usize, h: usize, v: i64) -> usize
 }
 
 // Writes 1 and x for a negative x, else 0 and 0.
-pub fn put_sign(out: &mut [i32], at: usize, x: i64) -> usize
+fn put_sign(out: &mut [i32], at: usize, x: i64) -> usize
     requires { ⌜ (at < 2199023255552) × Ranged (signPick x) ⌝ }
     ensures { λ r. ⌜ Picked at r (now (out .entry)) (now (out .exit)) (signPick x) ⌝ }
 {
@@ -81,7 +80,7 @@ pub fn put_sign(out: &mut [i32], at: usize, x: i64) -> usize
 }
 
 // Writes x, then its sign.
-pub fn put_signed(out: &mut [i32], at: usize, x: i64) -> usize
+fn put_signed(out: &mut [i32], at: usize, x: i64) -> usize
     requires { ⌜ (at < 1099511628800) × Ranged (signedPick x) ⌝ }
     ensures { λ r. ⌜ Picked at r (now (out .entry)) (now (out .exit)) (signedPick x) ⌝ }
 {
@@ -90,7 +89,7 @@ pub fn put_signed(out: &mut [i32], at: usize, x: i64) -> usize
 }
 
 // The place of v among n numbers that rise from the first one by 1; n for a v below them.
-pub fn place_of(v: i64, first: i64, n: usize) -> usize
+fn place_of(v: i64, first: i64, n: usize) -> usize
     requires { ⌜ Near v × Near first ⌝ }
     ensures { λ r. ⌜ FirstAt (λ k. first ⊕ pos k == v) n r ⌝ }
 {
@@ -101,7 +100,7 @@ pub fn place_of(v: i64, first: i64, n: usize) -> usize
 }
 
 // Writes a bit for each value of the bounds: 1 for v.
-pub fn put_labels(out: &mut [i32], at: usize, lower: i64, upper: i64, v: i64) -> usize
+fn put_labels(out: &mut [i32], at: usize, lower: i64, upper: i64, v: i64) -> usize
     requires { ⌜ (at < 2199023255552) × Near lower × Near upper × Near v ⌝ }
     ensures { λ r. ⌜ Picked at r (now (out .entry)) (now (out .exit)) (firstBit (λ j. j == v) (values (lower to upper))) ⌝ }
 {
@@ -111,7 +110,7 @@ pub fn put_labels(out: &mut [i32], at: usize, lower: i64, upper: i64, v: i64) ->
 }
 
 // Writes n bits, 1 at the h-th, then the products of the bits and numbers of which the h-th is x.
-pub fn put_gated(out: &mut [i32], at: usize, n: usize, h: usize, x: i64) -> usize
+fn put_gated(out: &mut [i32], at: usize, n: usize, h: usize, x: i64) -> usize
     requires { ⌜ (at < 2199023255552) × (n < 1099511627776) × Ranged (onlyAt n h +1 ++ onlyAt n h x) ⌝ }
     ensures { λ r. ⌜ Picked at r (now (out .entry)) (now (out .exit)) (onlyAt n h +1 ++ onlyAt n h x) ⌝ }
 {
@@ -120,7 +119,7 @@ pub fn put_gated(out: &mut [i32], at: usize, n: usize, h: usize, x: i64) -> usiz
 }
 
 // The place of the first variable in the list at place i that has the value v; the list's length if none has.
-pub fn first_equal(args: &[u32], i: usize, v: i64, values: &[i32]) -> usize
+fn first_equal(args: &[u32], i: usize, v: i64, values: &[i32]) -> usize
     requires { ⌜ i < 1099511627776 ⌝ }
     ensures { λ r. ⌜ (r ≤ 32) × FirstAt (λ k. value (now (values .entry)) (var (now (args .entry)) (i + 1 + k)) == v) (size (now (args .entry)) i) r ⌝ }
 {
@@ -136,7 +135,7 @@ pub fn first_equal(args: &[u32], i: usize, v: i64, values: &[i32]) -> usize
 }
 
 // The sum less the constant of a linear constraint.
-pub fn sum_less(args: &[u32], values: &[i32]) -> i64
+fn sum_less(args: &[u32], values: &[i32]) -> i64
     requires { ⌜ Small (now values) ⌝ }
     ensures { λ r. ⌜ r ≡ sum (value (now (values .entry))) (terms (now (args .entry)) 0) ⊖ num (now (args .entry)) (pastTerms (now (args .entry)) 0) ⌝ }
 {
@@ -147,7 +146,7 @@ pub fn sum_less(args: &[u32], values: &[i32]) -> i64
 }
 
 // The product of the values of the variables at places i and j.
-pub fn values_product(args: &[u32], i: usize, j: usize, values: &[i32]) -> i64
+fn values_product(args: &[u32], i: usize, j: usize, values: &[i32]) -> i64
     requires { ⌜ Small (now values) ⌝ }
     ensures { λ r. ⌜ r ≡ value (now (values .entry)) (var (now (args .entry)) i) ⊗ value (now (values .entry)) (var (now (args .entry)) j) ⌝ }
 {
@@ -155,7 +154,7 @@ pub fn values_product(args: &[u32], i: usize, j: usize, values: &[i32]) -> i64
 }
 
 // 4: whether a is above b.
-pub fn pick_ne(out: &mut [i32], at: usize, args: &[u32], values: &[i32]) -> usize
+fn pick_ne(out: &mut [i32], at: usize, args: &[u32], values: &[i32]) -> usize
     requires { ⌜ at < 1099511627776 ⌝ }
     ensures { λ r. ⌜ Picked at r (now (out .entry)) (now (out .exit)) (bitOf (ltZ (value (now (values .entry)) (var (now (args .entry)) 1)) (value (now (values .entry)) (var (now (args .entry)) 0))) ∷ []) ⌝ }
 {
@@ -164,7 +163,7 @@ pub fn pick_ne(out: &mut [i32], at: usize, args: &[u32], values: &[i32]) -> usiz
 }
 
 // 7: the product of a and b.
-pub fn pick_times(out: &mut [i32], at: usize, args: &[u32], values: &[i32]) -> usize
+fn pick_times(out: &mut [i32], at: usize, args: &[u32], values: &[i32]) -> usize
     requires { ⌜ (at < 1099511627776) × Small (now values) × Ranged ((value (now values) (var (now args) 0) ⊗ value (now values) (var (now args) 1)) ∷ []) ⌝ }
     ensures { λ r. ⌜ Picked at r (now (out .entry)) (now (out .exit)) ((value (now (values .entry)) (var (now (args .entry)) 0) ⊗ value (now (values .entry)) (var (now (args .entry)) 1)) ∷ []) ⌝ }
 {
@@ -172,7 +171,7 @@ pub fn pick_times(out: &mut [i32], at: usize, args: &[u32], values: &[i32]) -> u
 }
 
 // 8: the sign of x.
-pub fn pick_abs(out: &mut [i32], at: usize, args: &[u32], values: &[i32]) -> usize
+fn pick_abs(out: &mut [i32], at: usize, args: &[u32], values: &[i32]) -> usize
     requires { ⌜ (at < 1099511627776) × Ranged (signPick (value (now values) (var (now args) 0))) ⌝ }
     ensures { λ r. ⌜ Picked at r (now (out .entry)) (now (out .exit)) (signPick (value (now (values .entry)) (var (now (args .entry)) 0))) ⌝ }
 {
@@ -180,7 +179,7 @@ pub fn pick_abs(out: &mut [i32], at: usize, args: &[u32], values: &[i32]) -> usi
 }
 
 // 9: whether a is not c.
-pub fn pick_max(out: &mut [i32], at: usize, args: &[u32], values: &[i32]) -> usize
+fn pick_max(out: &mut [i32], at: usize, args: &[u32], values: &[i32]) -> usize
     requires { ⌜ at < 1099511627776 ⌝ }
     ensures { λ r. ⌜ Picked at r (now (out .entry)) (now (out .exit)) (bitOf (not (value (now (values .entry)) (var (now (args .entry)) 0) == value (now (values .entry)) (var (now (args .entry)) 2))) ∷ []) ⌝ }
 {
@@ -189,7 +188,7 @@ pub fn pick_max(out: &mut [i32], at: usize, args: &[u32], values: &[i32]) -> usi
 }
 
 // 12, 13: the sum less the constant, and its sign.
-pub fn pick_linear(out: &mut [i32], at: usize, args: &[u32], values: &[i32]) -> usize
+fn pick_linear(out: &mut [i32], at: usize, args: &[u32], values: &[i32]) -> usize
     requires { ⌜ (at < 1099511627776) × Small (now values) × Ranged (signedPick (sum (value (now values)) (terms (now args) 0) ⊖ num (now args) (pastTerms (now args) 0))) ⌝ }
     ensures { λ r. ⌜ Picked at r (now (out .entry)) (now (out .exit)) (signedPick (sum (value (now (values .entry))) (terms (now (args .entry)) 0) ⊖ num (now (args .entry)) (pastTerms (now (args .entry)) 0))) ⌝ }
 {
@@ -197,7 +196,7 @@ pub fn pick_linear(out: &mut [i32], at: usize, args: &[u32], values: &[i32]) -> 
 }
 
 // 14: a less b, and its sign.
-pub fn pick_difference(out: &mut [i32], at: usize, args: &[u32], values: &[i32]) -> usize
+fn pick_difference(out: &mut [i32], at: usize, args: &[u32], values: &[i32]) -> usize
     requires { ⌜ (at < 1099511627776) × Small (now values) × Ranged (signedPick (sum (value (now values)) (+1 · var (now args) 0 ∷ -1 · var (now args) 1 ∷ []) ⊖ +0)) ⌝ }
     ensures { λ r. ⌜ Picked at r (now (out .entry)) (now (out .exit)) (signedPick (sum (value (now (values .entry))) (+1 · var (now (args .entry)) 0 ∷ -1 · var (now (args .entry)) 1 ∷ []) ⊖ +0)) ⌝ }
 {
@@ -209,7 +208,7 @@ pub fn pick_difference(out: &mut [i32], at: usize, args: &[u32], values: &[i32])
 }
 
 // 15: the sum less the constant.
-pub fn pick_sum(out: &mut [i32], at: usize, args: &[u32], values: &[i32]) -> usize
+fn pick_sum(out: &mut [i32], at: usize, args: &[u32], values: &[i32]) -> usize
     requires { ⌜ (at < 1099511627776) × Small (now values) × Ranged ((sum (value (now values)) (terms (now args) 0) ⊖ num (now args) (pastTerms (now args) 0)) ∷ []) ⌝ }
     ensures { λ r. ⌜ Picked at r (now (out .entry)) (now (out .exit)) ((sum (value (now (values .entry))) (terms (now (args .entry)) 0) ⊖ num (now (args .entry)) (pastTerms (now (args .entry)) 0)) ∷ []) ⌝ }
 {
@@ -217,7 +216,7 @@ pub fn pick_sum(out: &mut [i32], at: usize, args: &[u32], values: &[i32]) -> usi
 }
 
 // 20: the products of r with a and with b.
-pub fn pick_xor(out: &mut [i32], at: usize, args: &[u32], values: &[i32]) -> usize
+fn pick_xor(out: &mut [i32], at: usize, args: &[u32], values: &[i32]) -> usize
     requires { ⌜ (at < 1099511627776) × Small (now values) × Ranged ((value (now values) (var (now args) 2) ⊗ value (now values) (var (now args) 0)) ∷ (value (now values) (var (now args) 2) ⊗ value (now values) (var (now args) 1)) ∷ []) ⌝ }
     ensures { λ r. ⌜ Picked at r (now (out .entry)) (now (out .exit)) ((value (now (values .entry)) (var (now (args .entry)) 2) ⊗ value (now (values .entry)) (var (now (args .entry)) 0)) ∷ (value (now (values .entry)) (var (now (args .entry)) 2) ⊗ value (now (values .entry)) (var (now (args .entry)) 1)) ∷ []) ⌝ }
 {
@@ -226,21 +225,21 @@ pub fn pick_xor(out: &mut [i32], at: usize, args: &[u32], values: &[i32]) -> usi
 }
 
 // 24, 25: the first label.
-pub fn first_label(args: &[u32], ls: &[i64]) -> i64
+fn first_label(args: &[u32], ls: &[i64]) -> i64
     ensures { λ r. ⌜ r ≡ maxZ +1 (getD (now (ls .entry)) (var (now (args .entry)) 0) +0) ⌝ }
 {
     first_place(bound_at(ls, var_at(args, 0)))
 }
 
 // 24, 25: the last label.
-pub fn last_label(args: &[u32], us: &[i64]) -> i64
+fn last_label(args: &[u32], us: &[i64]) -> i64
     ensures { λ r. ⌜ r ≡ minZ (pos (size (now (args .entry)) 1)) (getD (now (us .entry)) (var (now (args .entry)) 0) +0) ⌝ }
 {
     last_place(size_at(args, 1), bound_at(us, var_at(args, 0)))
 }
 
 // 24: a bit for each label, 1 for i.
-pub fn pick_element(
+fn pick_element(
     out: &mut [i32],
     at: usize,
     args: &[u32],
@@ -261,7 +260,7 @@ pub fn pick_element(
 }
 
 // 25: a bit for each label, 1 for i; the products of the bits and the elements.
-pub fn pick_var_element(
+fn pick_var_element(
     out: &mut [i32],
     at: usize,
     args: &[u32],
@@ -280,7 +279,7 @@ pub fn pick_var_element(
 }
 
 // 26: a bit for each element, 1 for the first that is m; the products of the bits and the elements.
-pub fn pick_maximum(out: &mut [i32], at: usize, args: &[u32], values: &[i32]) -> usize
+fn pick_maximum(out: &mut [i32], at: usize, args: &[u32], values: &[i32]) -> usize
     requires { ⌜ (at < 1099511627776) × Ranged (gatedPick (value (now values)) (λ x. value (now values) x == value (now values) (var (now args) 0)) (vars (now args) 1)) ⌝ }
     ensures { λ r. ⌜ Picked at r (now (out .entry)) (now (out .exit)) (gatedPick (value (now (values .entry))) (λ x. value (now (values .entry)) x == value (now (values .entry)) (var (now (args .entry)) 0)) (vars (now (args .entry)) 1)) ⌝ }
 {
@@ -288,8 +287,41 @@ pub fn pick_maximum(out: &mut [i32], at: usize, args: &[u32], values: &[i32]) ->
     put_gated(out, at, size_at(args, 1), h, value_of(args, 2 + h, values))
 }
 
+// The place of the first of the n numbers at the front of a list that is v; n if none is.
+fn first_number(numbers: &[i64], n: usize, v: i64) -> usize
+    ensures { λ r. ⌜ FirstAt (λ k. getD (now (numbers .entry)) k +0 == v) n r ⌝ }
+{
+    let mut k = 0;
+    while k < n {
+        if equal(bound_at(numbers, k), v) {
+            return k;
+        }
+        k += 1;
+    }
+    n
+}
+
+// 27: a bit for each member of the set inside x's bounds, 1 for x.
+fn pick_member(
+    out: &mut [i32],
+    at: usize,
+    args: &[u32],
+    ls: &[i64],
+    us: &[i64],
+    values: &[i32],
+) -> usize
+    requires { ⌜ (at < 1099511627776) × Bounded (now us) ⌝ }
+    ensures { λ r. ⌜ Picked at r (now (out .entry)) (now (out .exit)) (picksOf (now (ls .entry)) (now (us .entry)) (now (values .entry)) 27 (now (args .entry))) ⌝ }
+{
+    let x = var_at(args, 0);
+    let mut inside = [0i64; 32];
+    let n = members(args, 1, bound_at(ls, x), bound_at(us, x), &mut inside);
+    let h = first_number(&inside, n, value_of(args, 0, values));
+    put_only(out, at, n, h, 1)
+}
+
 // 28: a bit for each value of x's bounds, 1 for x.
-pub fn pick_set_reif(
+fn pick_set_reif(
     out: &mut [i32],
     at: usize,
     args: &[u32],
@@ -310,35 +342,114 @@ pub fn pick_set_reif(
     )
 }
 
-// The place of the first of the n numbers at the front of a list that is v; n if none is.
-pub fn first_number(numbers: &[i64], n: usize, v: i64) -> usize
-    ensures { λ r. ⌜ FirstAt (λ k. getD (now (numbers .entry)) k +0 == v) n r ⌝ }
-{
-    let mut k = 0;
-    while k < n {
-        if equal(bound_at(numbers, k), v) {
-            return k;
-        }
-        k += 1;
-    }
-    n
-}
-
-// 27: a bit for each member of the set inside x's bounds, 1 for x.
-pub fn pick_member(
+// Codes below 10.
+fn pick_arithmetic(
     out: &mut [i32],
     at: usize,
+    code: usize,
     args: &[u32],
     ls: &[i64],
     us: &[i64],
     values: &[i32],
 ) -> usize
-    requires { ⌜ (at < 1099511627776) × Bounded (now us) ⌝ }
-    ensures { λ r. ⌜ Picked at r (now (out .entry)) (now (out .exit)) (picksOf (now (ls .entry)) (now (us .entry)) (now (values .entry)) 27 (now (args .entry))) ⌝ }
+    requires { ⌜ (code < 10) × Ready at (now ls) (now us) (now values) (picksOf (now ls) (now us) (now values) code (now args)) ⌝ }
+    ensures { λ r. ⌜ Picked at r (now (out .entry)) (now (out .exit)) (picksOf (now (ls .entry)) (now (us .entry)) (now (values .entry)) code (now (args .entry))) ⌝ }
 {
-    let x = var_at(args, 0);
-    let mut inside = [0i64; 32];
-    let n = members(args, 1, bound_at(ls, x), bound_at(us, x), &mut inside);
-    let h = first_number(&inside, n, value_of(args, 0, values));
-    put_only(out, at, n, h, 1)
+    if code == 4 {
+        return pick_ne(out, at, args, values);
+    }
+    if code == 7 {
+        return pick_times(out, at, args, values);
+    }
+    if code == 8 {
+        return pick_abs(out, at, args, values);
+    }
+    if code == 9 {
+        return pick_max(out, at, args, values);
+    }
+    at
+}
+
+// Codes from 10 to 23.
+fn pick_sums(
+    out: &mut [i32],
+    at: usize,
+    code: usize,
+    args: &[u32],
+    ls: &[i64],
+    us: &[i64],
+    values: &[i32],
+) -> usize
+    requires { ⌜ (10 ≤ code) × (code < 24) × Ready at (now ls) (now us) (now values) (picksOf (now ls) (now us) (now values) code (now args)) ⌝ }
+    ensures { λ r. ⌜ Picked at r (now (out .entry)) (now (out .exit)) (picksOf (now (ls .entry)) (now (us .entry)) (now (values .entry)) code (now (args .entry))) ⌝ }
+{
+    if code == 12 {
+        return pick_linear(out, at, args, values);
+    }
+    if code == 13 {
+        return pick_linear(out, at, args, values);
+    }
+    if code == 14 {
+        return pick_difference(out, at, args, values);
+    }
+    if code == 15 {
+        return pick_sum(out, at, args, values);
+    }
+    if code == 20 {
+        return pick_xor(out, at, args, values);
+    }
+    at
+}
+
+// Codes from 24 on.
+fn pick_lists(
+    out: &mut [i32],
+    at: usize,
+    code: usize,
+    args: &[u32],
+    ls: &[i64],
+    us: &[i64],
+    values: &[i32],
+) -> usize
+    requires { ⌜ (24 ≤ code) × Ready at (now ls) (now us) (now values) (picksOf (now ls) (now us) (now values) code (now args)) ⌝ }
+    ensures { λ r. ⌜ Picked at r (now (out .entry)) (now (out .exit)) (picksOf (now (ls .entry)) (now (us .entry)) (now (values .entry)) code (now (args .entry))) ⌝ }
+{
+    if code == 24 {
+        return pick_element(out, at, args, ls, us, values);
+    }
+    if code == 25 {
+        return pick_var_element(out, at, args, ls, us, values);
+    }
+    if code == 26 {
+        return pick_maximum(out, at, args, values);
+    }
+    if code == 27 {
+        return pick_member(out, at, args, ls, us, values);
+    }
+    if code == 28 {
+        return pick_set_reif(out, at, args, ls, us, values);
+    }
+    at
+}
+
+// What fill writes for the auxiliaries of a constraint of a code; the place after it.
+pub fn pick_block(
+    out: &mut [i32],
+    at: usize,
+    code: usize,
+    args: &[u32],
+    ls: &[i64],
+    us: &[i64],
+    values: &[i32],
+) -> usize
+    requires { ⌜ Ready at (now ls) (now us) (now values) (picksOf (now ls) (now us) (now values) code (now args)) ⌝ }
+    ensures { λ r. ⌜ Picked at r (now (out .entry)) (now (out .exit)) (picksOf (now (ls .entry)) (now (us .entry)) (now (values .entry)) code (now (args .entry))) ⌝ }
+{
+    if code < 10 {
+        return pick_arithmetic(out, at, code, args, ls, us, values);
+    }
+    if code < 24 {
+        return pick_sums(out, at, code, args, ls, us, values);
+    }
+    pick_lists(out, at, code, args, ls, us, values)
 }
