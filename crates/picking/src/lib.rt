@@ -17,12 +17,12 @@ ghost use Rattle.rules.specs.Pick.{bitOf, signPick, signedPick, firstBit, gated
 ghost use Rattle.extremes.specs.Bounded.{Near, Bounded};
 ghost use Rattle.picking.specs.Picked.{Picked, Ranged, Ready, picksOf};
 ghost use Rattle.picking.specs.Only.{onlyAt, FirstAt};
-use arguments::below;
 use arguments::count_of;
 use arguments::num_at;
 use arguments::past_terms_at;
 use arguments::size_at;
 use arguments::sum_of;
+use arguments::test::below;
 use arguments::value_of;
 use arguments::var_at;
 use extremes::bound_at;
