@@ -1,0 +1,3 @@
+-- Laws for proofs about the blocks of builtins without lists.
+pub mod Laid
+pub mod Codes

@@ -1,0 +1,66 @@
+-- Two bits, two products and two rows, one after the other.
+use mathlib.Core.Path.{_∙_}
+use mathlib.Core.List.{flatMap}
+use native.Mathlib.Nat.{add-zero}
+use native.Mathlib.Omega.{arith}
+use borrow.Author.Needs.{needs}
+use Rattle.rules.specs.Block.{numbered}
+use Rattle.rules.specs.Rule.{rule, exclusiveOr}
+use Rattle.laying.specs.Part.{boundParts, termParts, rowParts, blockParts}
+use Rattle.laying.specs.Lists.{many, rowOf}
+use Rattle.laying.proofs.Parts.{went-length}
+use Rattle.fixedblocks.proofs.Laid.{then}
+use Rattle.fixedblocks.proofs.boolean.bool_xor.Statement.{statement}
+use Rattle.fixedblocks.proofs.boolean.bool_xor.Tie as tie
+
+add-y : tie.Need-add-y
+add-y c = search needs
+
+lay-bound-requires : tie.Need-lay-bound-requires
+lay-bound-requires c κs = search needs
+
+lay-bound-requires-2 : tie.Need-lay-bound-requires-2
+lay-bound-requires-2 c κs = search needs
+
+lay-times-requires : tie.Need-lay-times-requires
+lay-times-requires c κs = search needs
+
+lay-times-requires-2 : tie.Need-lay-times-requires-2
+lay-times-requires-2 c κs = search needs
+
+slice-aggregate-lay-row : tie.Need-slice-aggregate-lay-row
+slice-aggregate-lay-row c = search needs
+
+slice-aggregate-lay-row-2 : tie.Need-slice-aggregate-lay-row-2
+slice-aggregate-lay-row-2 c = search needs
+
+lay-row-requires : tie.Need-lay-row-requires
+lay-row-requires c κs = (omega (arith, c .before .before .before .before .before .before .before .before .before .before .before .before .before .before .before .before .before .before .before .before .pre .0, c .before .before .before .before .before .before .before .before .before .before .before .before .before .before .before .before .before .lay-bound .ensures .1, c .before .before .before .before .before .before .before .before .before .before .before .before .before .lay-bound2 .ensures .1, c .before .before .before .before .before .before .before .before .before .lay-times .ensures .1, c .before .before .before .before .before .lay-times2 .ensures .1), omega arith, omega arith, omega arith)
+
+three-terms-requires : tie.Need-three-terms-requires
+three-terms-requires c κs = (omega (arith, c .before .before .before .before .before .before .before .before .before .before .before .before .before .before .before .before .before .before .before .before .before .before .before .before .pre .0, c .before .before .before .before .before .before .before .before .before .before .before .before .before .before .before .before .before .before .before .before .before .lay-bound .ensures .1, c .before .before .before .before .before .before .before .before .before .before .before .before .before .before .before .before .before .lay-bound2 .ensures .1, c .before .before .before .before .before .before .before .before .before .before .before .before .before .lay-times .ensures .1, c .before .before .before .before .before .before .before .before .before .lay-times2 .ensures .1, c .before .before .before .lay-row .ensures .1), omega arith)
+
+same-length : tie.Need-same-length
+same-length c = went-length (c .before .before .three-terms .ensures .0) ∙ went-length (c .before .before .before .before .before .before .lay-row .ensures .0) ∙ went-length (c .before .before .before .before .before .before .before .before .before .before .before .before .lay-times2 .ensures .0) ∙ went-length (c .before .before .before .before .before .before .before .before .before .before .before .before .before .before .before .before .lay-times .ensures .0) ∙ went-length (c .before .before .before .before .before .before .before .before .before .before .before .before .before .before .before .before .before .before .before .before .lay-bound2 .ensures .0) ∙ went-length (c .before .before .before .before .before .before .before .before .before .before .before .before .before .before .before .before .before .before .before .before .before .before .before .before .lay-bound .ensures .0)
+
+returns : tie.Need-returns
+unfolding rule exclusiveOr blockParts boundParts flatMap rowParts termParts numbered rowOf many
+returns c =
+    let w = then 10 4030 (c .before .before .before .before .before .before .before .before .before .before .before .before .before .before .before .before .before .before .before .before .before .before .before .before .lay-bound .ensures) (then 10 4020 (c .before .before .before .before .before .before .before .before .before .before .before .before .before .before .before .before .before .before .before .before .lay-bound2 .ensures) (then 10 4010 (c .before .before .before .before .before .before .before .before .before .before .before .before .before .before .before .before .lay-times .ensures) (then 10 4000 (c .before .before .before .before .before .before .before .before .before .before .before .before .lay-times2 .ensures) (then 2000 2000 (c .before .before .before .before .before .before .lay-row .ensures) (c .before .before .three-terms .ensures))))) in
+    rw (add-zero (c .before .before .before .before .before .before .before .before .before .before .before .before .before .before .before .before .before .before .before .before .before .before .before .before .before .before .before .args .first)) ((λ β. w .0), omega (arith, w .1))
+
+pub bool-xor-spec : {M : Type 1} → statement M
+bool-xor-spec =
+    tie.close
+    (tie.spec
+    add-y
+    lay-bound-requires
+    lay-bound-requires-2
+    lay-times-requires
+    lay-times-requires-2
+    slice-aggregate-lay-row
+    slice-aggregate-lay-row-2
+    lay-row-requires
+    three-terms-requires
+    same-length
+    returns)

@@ -1,0 +1,35 @@
+-- A bit and two rows, one after the other.
+use mathlib.Core.List.{flatMap}
+use native.Mathlib.Nat.{add-zero}
+use native.Mathlib.Omega.{arith}
+use borrow.Author.Needs.{needs}
+use Rattle.rules.specs.Block.{numbered}
+use Rattle.rules.specs.Rule.{rule, notEqual}
+use Rattle.laying.specs.Part.{boundParts, termParts, rowParts, blockParts}
+use Rattle.laying.specs.Lists.{many, rowOf}
+use Rattle.fixedblocks.proofs.Laid.{then}
+use Rattle.fixedblocks.proofs.compare.int_ne.Statement.{statement}
+use Rattle.fixedblocks.proofs.compare.int_ne.Tie as tie
+
+lay-bound-requires : tie.Need-lay-bound-requires
+lay-bound-requires c κs = search needs
+
+below-unless-requires : tie.Need-below-unless-requires
+below-unless-requires c κs = search needs
+
+below-if-requires : tie.Need-below-if-requires
+below-if-requires c κs = search needs
+
+same-length : tie.Need-same-length
+same-length c = search needs
+
+returns : tie.Need-returns
+unfolding rule notEqual blockParts boundParts flatMap rowParts termParts numbered rowOf many
+returns c =
+    let w = then 10 4000 (c .before .before .before .before .before .before .before .before .before .before .lay-bound .ensures) (then 2000 2000 (c .before .before .before .before .before .before .below-unless .ensures) (c .before .before .below-if .ensures)) in
+    rw (add-zero (c .before .before .before .before .before .before .before .before .before .before .before .before .before .args .first)) (w .0, omega (arith, w .1))
+
+pub int-ne-spec : {M : Type 1} → statement M
+int-ne-spec =
+    tie.close
+    (tie.spec lay-bound-requires below-unless-requires below-if-requires same-length returns)

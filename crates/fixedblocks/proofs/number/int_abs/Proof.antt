@@ -1,0 +1,63 @@
+-- A bit, the bounds Z(x), a product and two rows, one after the other.
+use mathlib.Core.Path.{_∙_}
+use mathlib.Core.List.{flatMap}
+use native.Mathlib.Nat.{add-zero}
+use native.Mathlib.Omega.{arith}
+use borrow.Author.Needs.{needs}
+use Rattle.rules.specs.Block.{numbered}
+use Rattle.rules.specs.Parts.{Z}
+use Rattle.rules.specs.Rule.{rule, absolute}
+use Rattle.laying.specs.Part.{boundParts, termParts, rowParts, blockParts}
+use Rattle.laying.specs.Lists.{many, rowOf}
+use Rattle.laying.proofs.Parts.{went-length}
+use Rattle.fixedblocks.proofs.Laid.{then}
+use Rattle.fixedblocks.proofs.number.int_abs.Statement.{statement}
+use Rattle.fixedblocks.proofs.number.int_abs.Tie as tie
+
+lay-bound-requires : tie.Need-lay-bound-requires
+lay-bound-requires c κs = search needs
+
+lay-zero-bound-requires : tie.Need-lay-zero-bound-requires
+lay-zero-bound-requires c κs = search needs
+
+add-z : tie.Need-add-z
+add-z c = search needs
+
+lay-times-requires : tie.Need-lay-times-requires
+lay-times-requires c κs = search needs
+
+three-terms-requires : tie.Need-three-terms-requires
+three-terms-requires c κs = search needs
+
+slice-aggregate-lay-row : tie.Need-slice-aggregate-lay-row
+slice-aggregate-lay-row c = search needs
+
+slice-aggregate-lay-row-2 : tie.Need-slice-aggregate-lay-row-2
+slice-aggregate-lay-row-2 c = search needs
+
+lay-row-requires : tie.Need-lay-row-requires
+lay-row-requires c κs = (omega (arith, c .before .before .before .before .before .before .before .before .before .before .before .before .before .before .before .before .before .before .before .before .pre .0, c .before .before .before .before .before .before .before .before .before .before .before .before .before .before .before .before .before .lay-bound .ensures .1, c .before .before .before .before .before .before .before .before .before .before .before .before .before .lay-zero-bound .ensures .1, c .before .before .before .before .before .before .before .before .before .lay-times .ensures .1, c .before .before .before .before .before .three-terms .ensures .1), omega arith, omega arith, omega arith)
+
+same-length : tie.Need-same-length
+same-length c = went-length (c .before .before .lay-row .ensures .0) ∙ went-length (c .before .before .before .before .before .before .before .before .three-terms .ensures .0) ∙ went-length (c .before .before .before .before .before .before .before .before .before .before .before .before .lay-times .ensures .0) ∙ went-length (c .before .before .before .before .before .before .before .before .before .before .before .before .before .before .before .before .lay-zero-bound .ensures .0) ∙ went-length (c .before .before .before .before .before .before .before .before .before .before .before .before .before .before .before .before .before .before .before .before .lay-bound .ensures .0)
+
+returns : tie.Need-returns
+unfolding rule absolute Z blockParts boundParts flatMap rowParts termParts numbered rowOf many
+returns c =
+    let w = then 10 4020 (c .before .before .before .before .before .before .before .before .before .before .before .before .before .before .before .before .before .before .before .before .lay-bound .ensures) (then 10 4010 (c .before .before .before .before .before .before .before .before .before .before .before .before .before .before .before .before .lay-zero-bound .ensures) (then 10 4000 (c .before .before .before .before .before .before .before .before .before .before .before .before .lay-times .ensures) (then 2000 2000 (c .before .before .before .before .before .before .before .before .three-terms .ensures) (c .before .before .lay-row .ensures)))) in
+    rw (add-zero (c .before .before .before .before .before .before .before .before .before .before .before .before .before .before .before .before .before .before .before .before .before .before .before .args .first)) (w .0, omega (arith, w .1))
+
+pub int-abs-spec : {M : Type 1} → statement M
+int-abs-spec =
+    tie.close
+    (tie.spec
+    lay-bound-requires
+    lay-zero-bound-requires
+    add-z
+    lay-times-requires
+    three-terms-requires
+    slice-aggregate-lay-row
+    slice-aggregate-lay-row-2
+    lay-row-requires
+    same-length
+    returns)

@@ -1,0 +1,51 @@
+-- A bit and four rows, one after the other.
+use mathlib.Core.Path.{_∙_}
+use mathlib.Core.List.{flatMap}
+use native.Mathlib.Nat.{add-zero}
+use native.Mathlib.Omega.{arith}
+use borrow.Author.Needs.{needs}
+use Rattle.rules.specs.Block.{numbered}
+use Rattle.rules.specs.Parts.{_─_≤0}
+use Rattle.rules.specs.Rule.{rule, larger}
+use Rattle.laying.specs.Part.{boundParts, termParts, rowParts, blockParts}
+use Rattle.laying.specs.Lists.{many, rowOf}
+use Rattle.laying.proofs.Parts.{went-length}
+use Rattle.fixedblocks.proofs.Laid.{then}
+use Rattle.fixedblocks.proofs.number.int_max.Statement.{statement}
+use Rattle.fixedblocks.proofs.number.int_max.Tie as tie
+
+lay-bound-requires : tie.Need-lay-bound-requires
+lay-bound-requires c κs = search needs
+
+two-terms-requires : tie.Need-two-terms-requires
+two-terms-requires c κs = search needs
+
+two-terms-requires-2 : tie.Need-two-terms-requires-2
+two-terms-requires-2 c κs = search needs
+
+at-most-unless-requires : tie.Need-at-most-unless-requires
+at-most-unless-requires c κs = search needs
+
+at-most-if-requires : tie.Need-at-most-if-requires
+at-most-if-requires c κs = (omega (arith, c .before .before .before .before .before .before .before .before .before .before .before .before .before .before .before .before .before .before .pre .0, c .before .before .before .before .before .before .before .before .before .before .before .before .before .before .before .lay-bound .ensures .1, c .before .before .before .before .before .before .before .before .before .before .before .two-terms .ensures .1, c .before .before .before .before .before .before .before .two-terms2 .ensures .1, c .before .before .before .at-most-unless .ensures .1), c .before .before .before .before .before .before .before .before .before .before .before .before .before .before .before .before .before .before .pre .1, c .before .before .before .before .before .before .before .before .before .before .before .before .before .before .before .before .before .before .pre .2)
+
+same-length : tie.Need-same-length
+same-length c = went-length (c .before .before .at-most-if .ensures .0) ∙ went-length (c .before .before .before .before .before .before .at-most-unless .ensures .0) ∙ went-length (c .before .before .before .before .before .before .before .before .before .before .two-terms2 .ensures .0) ∙ went-length (c .before .before .before .before .before .before .before .before .before .before .before .before .before .before .two-terms .ensures .0) ∙ went-length (c .before .before .before .before .before .before .before .before .before .before .before .before .before .before .before .before .before .before .lay-bound .ensures .0)
+
+returns : tie.Need-returns
+unfolding rule larger _─_≤0 blockParts boundParts flatMap rowParts termParts numbered rowOf many
+returns c =
+    let w = then 10 8000 (c .before .before .before .before .before .before .before .before .before .before .before .before .before .before .before .before .before .before .lay-bound .ensures) (then 2000 6000 (c .before .before .before .before .before .before .before .before .before .before .before .before .before .before .two-terms .ensures) (then 2000 4000 (c .before .before .before .before .before .before .before .before .before .before .two-terms2 .ensures) (then 2000 2000 (c .before .before .before .before .before .before .at-most-unless .ensures) (c .before .before .at-most-if .ensures)))) in
+    rw (add-zero (c .before .before .before .before .before .before .before .before .before .before .before .before .before .before .before .before .before .before .before .before .before .args .first)) (w .0, omega (arith, w .1))
+
+pub int-max-spec : {M : Type 1} → statement M
+int-max-spec =
+    tie.close
+    (tie.spec
+    lay-bound-requires
+    two-terms-requires
+    two-terms-requires-2
+    at-most-unless-requires
+    at-most-if-requires
+    same-length
+    returns)

@@ -1,0 +1,26 @@
+-- The gap is small, so its opposite fits; the row is that of three terms.
+use native.Mathlib.Omega.{arith}
+use borrow.Author.Needs.{needs}
+use Rattle.integers.proofs.Fits.{back}
+use Rattle.extremes.proofs.Size.{gap-size}
+use Rattle.fixedblocks.proofs.rows.at_most_unless.Statement.{statement}
+use Rattle.fixedblocks.proofs.rows.at_most_unless.Tie as tie
+
+gap-requires : tie.Need-gap-requires
+gap-requires c κs = search needs
+
+opposite-requires : tie.Need-opposite-requires
+opposite-requires c κs = rw (back (c .before .gap .result) (c .before .gap .ok), c .before .gap .ensures) (omega (arith, gap-size (c .before .before .before .args .ls .now) (c .before .before .before .args .us .now) (c .before .before .before .pre .1) (c .before .before .before .pre .2) (c .before .before .before .args .x) (c .before .before .before .args .y)))
+
+three-terms-requires : tie.Need-three-terms-requires
+three-terms-requires c κs = search needs
+
+same-length : tie.Need-same-length
+same-length c = search needs
+
+returns : tie.Need-returns
+returns c = rw (back (c .before .before .before .opposite .result) (c .before .before .before .opposite .ok), c .before .before .before .opposite .ensures, back (c .before .before .before .before .before .gap .result) (c .before .before .before .before .before .gap .ok), c .before .before .before .before .before .gap .ensures) at (c .before .before .three-terms .ensures)
+
+pub at-most-unless-spec : {M : Type 1} → statement M
+at-most-unless-spec =
+    tie.close (tie.spec gap-requires opposite-requires three-terms-requires same-length returns)

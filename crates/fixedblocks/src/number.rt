@@ -1,0 +1,124 @@
+// Blocks of codes 6 to 9: sums, products, absolute values and maxima.
+ghost use mathlib.Core.List.{[], _∷_};
+ghost use Prim.Native.Nat.{_<_, _≤_};
+ghost use lib.ListN.{getD};
+ghost use Rattle.integers.specs.Number.{minZ, maxZ, +0};
+ghost use Rattle.models.specs.Builtin.{int-times, int-abs, int-max};
+ghost use Rattle.rules.specs.Rule.{rule};
+ghost use Rattle.builtins.specs.Coded.{builtinOf};
+ghost use Rattle.laying.specs.Part.{bound, blockParts};
+ghost use Rattle.laying.specs.Went.{Went, Near, total};
+ghost use Rattle.extremes.specs.Bounded.{boundsOf, Bounded};
+use crate::rows::at_most_if;
+use crate::rows::at_most_unless;
+use crate::rows::three_terms;
+use crate::rows::two_terms;
+use arguments::var_at;
+use extremes::bound_at;
+use extremes::end_product;
+use extremes::zero_lower;
+use extremes::zero_upper;
+use laying::Laid;
+use laying::lay_bound;
+use laying::lay_row;
+use laying::lay_times;
+use words::kind;
+
+// 7 int_times: the auxiliary is a×b, and c.
+fn int_times(
+    out: &mut [u32],
+    s: Laid,
+    a: usize,
+    b: usize,
+    c: usize,
+    ls: &[i64],
+    us: &[i64],
+    first: usize,
+) -> Laid
+    requires { ⌜ (total s < 1000000000) × Bounded (now ls) × Bounded (now us) ⌝ }
+    ensures { λ r. ⌜ Went s r (now (out .entry)) (now (out .exit)) (blockParts first (rule (boundsOf (now (ls .entry)) (now (us .entry))) (int-times a b c))) × Near 10000 s r ⌝ }
+{
+    let lower = end_product(ls, us, a, b, false);
+    let upper = end_product(ls, us, a, b, true);
+    let t = lay_bound(out, s, lower, upper);
+    let u = lay_times(out, t, first, a, b);
+    two_terms(out, u, kind::EQUAL, first, -1, c, 0)
+}
+
+// The bounds Z(x).
+fn lay_zero_bound(out: &mut [u32], s: Laid, x: usize, ls: &[i64], us: &[i64]) -> Laid
+    requires { ⌜ total s < 1000000000000 ⌝ }
+    ensures { λ r. ⌜ Went s r (now (out .entry)) (now (out .exit)) (bound (minZ +0 (getD (now (ls .entry)) x +0)) (maxZ +0 (getD (now (us .entry)) x +0)) ∷ []) × Near 10 s r ⌝ }
+{
+    let lower = zero_lower(bound_at(ls, x));
+    let upper = zero_upper(bound_at(us, x));
+    lay_bound(out, s, lower, upper)
+}
+
+// 8 int_abs: y is x where the bit is 0 and −x where it is 1, and not negative.
+fn int_abs(
+    out: &mut [u32],
+    s: Laid,
+    x: usize,
+    y: usize,
+    ls: &[i64],
+    us: &[i64],
+    first: usize,
+) -> Laid
+    requires { ⌜ (total s < 1000000000) × (first < 10000) ⌝ }
+    ensures { λ r. ⌜ Went s r (now (out .entry)) (now (out .exit)) (blockParts first (rule (boundsOf (now (ls .entry)) (now (us .entry))) (int-abs x y))) × Near 10000 s r ⌝ }
+{
+    let t = lay_bound(out, s, 0, 1);
+    let u = lay_zero_bound(out, t, x, ls, us);
+    let z = first + 1;
+    let v = lay_times(out, u, z, first, x);
+    let w = three_terms(out, v, kind::EQUAL, y, -1, x, 2, z, 0);
+    let xs = [y];
+    let cs = [-1];
+    lay_row(out, w, kind::AT_MOST, &xs, &cs, 0)
+}
+
+// 9 int_max: a and b are at most c; c is at most a where the auxiliary is 0, at most b where it is 1.
+fn int_max(
+    out: &mut [u32],
+    s: Laid,
+    a: usize,
+    b: usize,
+    c: usize,
+    ls: &[i64],
+    us: &[i64],
+    first: usize,
+) -> Laid
+    requires { ⌜ (total s < 1000000000) × Bounded (now ls) × Bounded (now us) ⌝ }
+    ensures { λ r. ⌜ Went s r (now (out .entry)) (now (out .exit)) (blockParts first (rule (boundsOf (now (ls .entry)) (now (us .entry))) (int-max a b c))) × Near 10000 s r ⌝ }
+{
+    let t = lay_bound(out, s, 0, 1);
+    let u = two_terms(out, t, kind::AT_MOST, a, -1, c, 0);
+    let v = two_terms(out, u, kind::AT_MOST, b, -1, c, 0);
+    let w = at_most_unless(out, v, first, c, a, ls, us);
+    at_most_if(out, w, first, c, b, ls, us)
+}
+
+// The block of a code from 6 to 9.
+pub fn block(
+    out: &mut [u32],
+    s: Laid,
+    code: usize,
+    args: &[u32],
+    ls: &[i64],
+    us: &[i64],
+    first: usize,
+) -> Laid
+    requires { ⌜ (total s < 1000000000) × (first < 10000) × Bounded (now ls) × Bounded (now us) × (6 ≤ code) × (code < 10) ⌝ }
+    ensures { λ r. ⌜ Went s r (now (out .entry)) (now (out .exit)) (blockParts first (rule (boundsOf (now (ls .entry)) (now (us .entry))) (builtinOf code (now (args .entry))))) × Near 10000 s r ⌝ }
+{
+    let a = var_at(args, 0);
+    let b = var_at(args, 1);
+    let c = var_at(args, 2);
+    match code {
+        6 => three_terms(out, s, kind::EQUAL, a, 1, b, -1, c, 0),
+        7 => int_times(out, s, a, b, c, ls, us, first),
+        8 => int_abs(out, s, a, b, ls, us, first),
+        _ => int_max(out, s, a, b, c, ls, us, first),
+    }
+}
