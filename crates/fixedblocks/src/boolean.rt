@@ -6,6 +6,7 @@ ghost use Rattle.rules.specs.Rule.{rule};
 ghost use Rattle.builtins.specs.Coded.{builtinOf};
 ghost use Rattle.laying.specs.Part.{blockParts};
 ghost use Rattle.laying.specs.Went.{Went, Near, total};
+use crate::compare::int_eq;
 use crate::rows::three_terms;
 use crate::rows::two_terms;
 use arguments::var_at;
@@ -51,7 +52,7 @@ fn bool_xor(out: &mut [u32], s: Laid, a: usize, b: usize, r: usize, first: usize
     three_terms(out, z, kind::EQUAL, x, 1, y, -1, r, 0)
 }
 
-// The block of a code from 16 to 20.
+// The block of a code from 16 to 20; that of bool2int is that of int_eq.
 pub fn block(out: &mut [u32], s: Laid, code: usize, args: &[u32], first: usize) -> Laid
     requires { ⌜ (total s < 1000000000) × (first < 10000) × (16 ≤ code) × (code < 21) ⌝ }
     ensures { λ r. ⌜ ((β : ℕ → Bounds) → Went s r (now (out .entry)) (now (out .exit)) (blockParts first (rule β (builtinOf code (now (args .entry)))))) × Near 10000 s r ⌝ }
@@ -60,7 +61,7 @@ pub fn block(out: &mut [u32], s: Laid, code: usize, args: &[u32], first: usize) 
     let b = var_at(args, 1);
     let r = var_at(args, 2);
     match code {
-        16 => two_terms(out, s, kind::EQUAL, a, -1, b, 0),
+        16 => int_eq(out, s, a, b),
         17 => two_terms(out, s, kind::EQUAL, a, 1, b, -1),
         18 => bool_and(out, s, a, b, r),
         19 => bool_or(out, s, a, b, r),

@@ -1,6 +1,7 @@
 // Blocks of codes 1 to 5: comparisons of two variables.
-ghost use Prim.Native.Nat.{_<_};
-ghost use Rattle.models.specs.Builtin.{int-eq, int-le, int-lt, int-ne, int-le-reif};
+ghost use Prim.Native.Nat.{ℕ, _<_};
+ghost use Rattle.integers.specs.declared.Bounds.{Bounds};
+ghost use Rattle.models.specs.Builtin.{int-eq, int-ne, int-le-reif};
 ghost use Rattle.rules.specs.Rule.{rule};
 ghost use Rattle.builtins.specs.Coded.{builtinOf};
 ghost use Rattle.laying.specs.Part.{blockParts};
@@ -14,6 +15,14 @@ use arguments::var_at;
 use laying::Laid;
 use laying::lay_bound;
 use words::kind;
+
+// 1 int_eq: a − b is 0.
+pub fn int_eq(out: &mut [u32], s: Laid, a: usize, b: usize) -> Laid
+    requires { ⌜ total s < 1000000000 ⌝ }
+    ensures { λ r. ⌜ ((β : ℕ → Bounds) (first : ℕ) → Went s r (now (out .entry)) (now (out .exit)) (blockParts first (rule β (int-eq a b)))) × Near 10000 s r ⌝ }
+{
+    two_terms(out, s, kind::EQUAL, a, -1, b, 0)
+}
 
 // 4 int_ne: a < b where the auxiliary is 0, b < a where it is 1.
 fn int_ne(
@@ -67,8 +76,8 @@ pub fn block(
     let a = var_at(args, 0);
     let b = var_at(args, 1);
     match code {
-        0 => two_terms(out, s, kind::EQUAL, 0, -1, 0, 0),
-        1 => two_terms(out, s, kind::EQUAL, a, -1, b, 0),
+        0 => int_eq(out, s, 0, 0),
+        1 => int_eq(out, s, a, b),
         2 => two_terms(out, s, kind::AT_MOST, a, -1, b, 0),
         3 => two_terms(out, s, kind::AT_MOST, a, -1, b, 1),
         4 => int_ne(out, s, a, b, ls, us, first),

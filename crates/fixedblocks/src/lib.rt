@@ -8,7 +8,6 @@ ghost use Rattle.laying.specs.Part.{blockParts};
 ghost use Rattle.laying.specs.Went.{Went, Near, total};
 ghost use Rattle.extremes.specs.Bounded.{boundsOf, Bounded};
 use laying::Laid;
-use words::kind;
 
 mod boolean;
 mod compare;
@@ -47,5 +46,5 @@ pub fn other_block(out: &mut [u32], s: Laid) -> Laid
     requires { ⌜ total s < 1000000000 ⌝ }
     ensures { λ r. ⌜ ((β : ℕ → Bounds) (first code : ℕ) (args : List ℕ) → 29 ≤ code → Went s r (now (out .entry)) (now (out .exit)) (blockParts first (rule β (builtinOf code args)))) × Near 10000 s r ⌝ }
 {
-    rows::two_terms(out, s, kind::EQUAL, 0, -1, 0, 0)
+    compare::int_eq(out, s, 0, 0)
 }

@@ -5,7 +5,6 @@ use native.Mathlib.Omega.{arith}
 use borrow.Author.Needs.{needs}
 use Rattle.models.specs.Model.{builtin, builtins}
 use Rattle.rules.specs.Block.{numbered}
-use Rattle.rules.specs.Parts.{_─_=0}
 use Rattle.rules.specs.Rule.{rule}
 use Rattle.laying.specs.Part.{boundParts, termParts, rowParts, blockParts}
 use Rattle.laying.specs.Lists.{many, rowOf}
@@ -21,11 +20,11 @@ var-at-requires-2 c κs = search needs
 var-at-requires-3 : tie.Need-var-at-requires-3
 var-at-requires-3 c κs = search needs
 
+int-eq-requires : tie.Need-int-eq-requires
+int-eq-requires c κs = search needs
+
 two-terms-requires : tie.Need-two-terms-requires
 two-terms-requires c κs = search needs
-
-two-terms-requires-2 : tie.Need-two-terms-requires-2
-two-terms-requires-2 c κs = search needs
 
 bool-and-requires : tie.Need-bool-and-requires
 bool-and-requires c κs = search needs
@@ -40,11 +39,8 @@ same-length : tie.Need-same-length
 same-length c = search needs
 
 returns : tie.Need-returns
-unfolding builtin builtins rule _─_=0 blockParts boundParts flatMap rowParts termParts numbered rowOf many
-returns c =
-    let e : c .before .before .before .before .before .before .before .before .before .before .args .code ≡ 16 = c .before .before .before .before .match .keys1 in
-    let w = rw (c .before .before .before .before .before .before .before .var-at .ensures, c .before .before .before .before .before .before .var-at2 .ensures) at (c .before .before .two-terms .ensures) in
-    rw e ((λ β. w .0), omega (arith, w .1))
+unfolding builtin builtins rule
+returns c = let e : c .before .before .before .before .before .before .before .before .before .before .args .code ≡ 16 = c .before .before .before .before .match .keys1 in let w = rw (c .before .before .before .before .before .before .before .var-at .ensures, c .before .before .before .before .before .before .var-at2 .ensures) at (c .before .before .int-eq .ensures) in rw e ((λ β. w .0 β (c .before .before .before .before .before .before .before .before .before .before .args .first)), w .1)
 
 same-length-2 : tie.Need-same-length-2
 same-length-2 c = search needs
@@ -53,7 +49,7 @@ returns-2 : tie.Need-returns-2
 unfolding builtin builtins rule blockParts boundParts flatMap rowParts termParts numbered rowOf many
 returns-2 c =
     let e : c .before .before .before .before .before .before .before .before .before .before .args .code ≡ 17 = c .before .before .before .before .match .keys2 in
-    let w = rw (c .before .before .before .before .before .before .before .var-at .ensures, c .before .before .before .before .before .before .var-at2 .ensures) at (c .before .before .two-terms2 .ensures) in
+    let w = rw (c .before .before .before .before .before .before .before .var-at .ensures, c .before .before .before .before .before .before .var-at2 .ensures) at (c .before .before .two-terms .ensures) in
     rw e ((λ β. w .0), omega (arith, w .1))
 
 same-length-3 : tie.Need-same-length-3
@@ -84,8 +80,8 @@ block-spec =
     var-at-requires
     var-at-requires-2
     var-at-requires-3
+    int-eq-requires
     two-terms-requires
-    two-terms-requires-2
     bool-and-requires
     bool-or-requires
     bool-xor-requires

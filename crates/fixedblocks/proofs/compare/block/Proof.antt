@@ -5,7 +5,7 @@ use native.Mathlib.Omega.{arith}
 use borrow.Author.Needs.{needs}
 use Rattle.models.specs.Model.{builtin, builtins}
 use Rattle.rules.specs.Block.{numbered}
-use Rattle.rules.specs.Parts.{_─_≤0, _─_=0}
+use Rattle.rules.specs.Parts.{_─_≤0}
 use Rattle.rules.specs.Rule.{rule}
 use Rattle.laying.specs.Part.{boundParts, termParts, rowParts, blockParts}
 use Rattle.laying.specs.Lists.{many, rowOf}
@@ -18,17 +18,17 @@ var-at-requires c κs = search needs
 var-at-requires-2 : tie.Need-var-at-requires-2
 var-at-requires-2 c κs = search needs
 
+int-eq-requires : tie.Need-int-eq-requires
+int-eq-requires c κs = search needs
+
+int-eq-requires-2 : tie.Need-int-eq-requires-2
+int-eq-requires-2 c κs = search needs
+
 two-terms-requires : tie.Need-two-terms-requires
 two-terms-requires c κs = search needs
 
 two-terms-requires-2 : tie.Need-two-terms-requires-2
 two-terms-requires-2 c κs = search needs
-
-two-terms-requires-3 : tie.Need-two-terms-requires-3
-two-terms-requires-3 c κs = search needs
-
-two-terms-requires-4 : tie.Need-two-terms-requires-4
-two-terms-requires-4 c κs = search needs
 
 int-ne-requires : tie.Need-int-ne-requires
 int-ne-requires c κs = search needs
@@ -43,21 +43,15 @@ same-length : tie.Need-same-length
 same-length c = search needs
 
 returns : tie.Need-returns
-unfolding builtin builtins rule _─_=0 blockParts boundParts flatMap rowParts termParts numbered rowOf many
-returns c =
-    let e : c .before .before .before .before .before .before .before .before .before .args .code ≡ 0 = c .before .before .before .before .match .keys1 in
-    let w = c .before .before .two-terms .ensures in
-    rw e (w .0, omega (arith, w .1))
+unfolding builtin builtins
+returns c = let e : c .before .before .before .before .before .before .before .before .before .args .code ≡ 0 = c .before .before .before .before .match .keys1 in let w = c .before .before .int-eq .ensures in rw e (w .0 _ (c .before .before .before .before .before .before .before .before .before .args .first), w .1)
 
 same-length-2 : tie.Need-same-length-2
 same-length-2 c = search needs
 
 returns-2 : tie.Need-returns-2
-unfolding builtin builtins rule _─_=0 blockParts boundParts flatMap rowParts termParts numbered rowOf many
-returns-2 c =
-    let e : c .before .before .before .before .before .before .before .before .before .args .code ≡ 1 = c .before .before .before .before .match .keys2 in
-    let w = rw (c .before .before .before .before .before .before .var-at .ensures, c .before .before .before .before .before .var-at2 .ensures) at (c .before .before .two-terms2 .ensures) in
-    rw e (w .0, omega (arith, w .1))
+unfolding builtin builtins
+returns-2 c = let e : c .before .before .before .before .before .before .before .before .before .args .code ≡ 1 = c .before .before .before .before .match .keys2 in let w = rw (c .before .before .before .before .before .before .var-at .ensures, c .before .before .before .before .before .var-at2 .ensures) at (c .before .before .int-eq2 .ensures) in rw e (w .0 _ (c .before .before .before .before .before .before .before .before .before .args .first), w .1)
 
 same-length-3 : tie.Need-same-length-3
 same-length-3 c = search needs
@@ -66,7 +60,7 @@ returns-3 : tie.Need-returns-3
 unfolding builtin builtins rule _─_≤0 blockParts boundParts flatMap rowParts termParts numbered rowOf many
 returns-3 c =
     let e : c .before .before .before .before .before .before .before .before .before .args .code ≡ 2 = c .before .before .before .before .match .keys3 in
-    let w = rw (c .before .before .before .before .before .before .var-at .ensures, c .before .before .before .before .before .var-at2 .ensures) at (c .before .before .two-terms3 .ensures) in
+    let w = rw (c .before .before .before .before .before .before .var-at .ensures, c .before .before .before .before .before .var-at2 .ensures) at (c .before .before .two-terms .ensures) in
     rw e (w .0, omega (arith, w .1))
 
 same-length-4 : tie.Need-same-length-4
@@ -76,7 +70,7 @@ returns-4 : tie.Need-returns-4
 unfolding builtin builtins rule blockParts boundParts flatMap rowParts termParts numbered rowOf many
 returns-4 c =
     let e : c .before .before .before .before .before .before .before .before .before .args .code ≡ 3 = c .before .before .before .before .match .keys4 in
-    let w = rw (c .before .before .before .before .before .before .var-at .ensures, c .before .before .before .before .before .var-at2 .ensures) at (c .before .before .two-terms4 .ensures) in
+    let w = rw (c .before .before .before .before .before .before .var-at .ensures, c .before .before .before .before .before .var-at2 .ensures) at (c .before .before .two-terms2 .ensures) in
     rw e (w .0, omega (arith, w .1))
 
 same-length-5 : tie.Need-same-length-5
@@ -99,10 +93,10 @@ block-spec =
     (tie.spec
     var-at-requires
     var-at-requires-2
+    int-eq-requires
+    int-eq-requires-2
     two-terms-requires
     two-terms-requires-2
-    two-terms-requires-3
-    two-terms-requires-4
     int-ne-requires
     var-at-requires-3
     int-le-reif-requires
