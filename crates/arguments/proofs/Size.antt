@@ -1,39 +1,32 @@
 -- How large the arguments of a constraint are, and what is read back of them.
 use mathlib.Core.Path.{_≡_, refl, sym, _∙_}
-use mathlib.Core.Bool.{Bool, true, false, not}
+use mathlib.Core.Bool.{true, false}
 use mathlib.Core.List.{List}
 use Prim.Native.Nat.{ℕ, _<_, _≤_}
 use native.Mathlib.Omega.{arith}
-use lib.Dec.{T, ltb, ltb→lt, nltb→le, leb, leb→le, leb·zero}
+use lib.Dec.{leb·zero}
 use lib.IntN.{ℤ, pos, negsuc, natAbs}
 use lib.Signed.{leZ, mag}
 use mir.Syntax.{w64}
 use mir.Val.{toZ, ofZ}
-use Rattle.integers.specs.Choice.{_if_else_}
 use Rattle.integers.specs.Number.{_⊗_, count}
 use Rattle.integers.specs.Terms.{value}
-use Rattle.integers.proofs.Tests.{false-true}
+use Rattle.integers.proofs.Tests.{false-true, capped}
 use Rattle.integers.proofs.Fits.{times-size, mul-le, back}
-use Rattle.words.specs.Word.{signed, payload, wordAt}
+use Rattle.words.specs.Word.{wordAt}
+use Rattle.words.proofs.Word.{signed-near}
 use Rattle.models.specs.Model.{var, num, size}
 use Rattle.arguments.specs.Small.{Small}
-
-by-test : {A : Type 0} (P : A → Type 0) (b : Bool) {x y : A} → (T b → P x) → (T (not b) → P y) → P (x if b else y)
-by-test P true f g = f tt
-by-test P false f g = g tt
 
 -- a list has at most 32 elements
 pub size-le : (ws : List ℕ) (i : ℕ) → size ws i ≤ 32
 unfolding size
-size-le ws i = by-test (λ n. n ≤ 32) (leb (var ws i) 32) (leb→le (var ws i) 32) (λ t. omega arith)
+size-le ws i = capped (var ws i) 32
 
 -- a number is at most 2^27, its product with a small value at most 2^54
 pub num-size : (ws : List ℕ) (i : ℕ) → natAbs (num ws i) ≤ 134217728
-unfolding num signed payload
-num-size ws i =
-    by-test (λ z. natAbs z ≤ 134217728) (ltb (payload (wordAt ws i)) 134217728)
-    (λ t. omega (arith, ltb→lt (payload (wordAt ws i)) 134217728 t))
-    (λ t. omega (arith, nltb→le (payload (wordAt ws i)) 134217728 t))
+unfolding num
+num-size ws i = signed-near (wordAt ws i)
 
 pub product-size : (ws : List ℕ) (vs : List ℤ) → Small vs → (a x : ℕ) → natAbs (num ws a ⊗ value vs (var ws x)) ≤ 18014398509481984
 product-size ws vs small a x =

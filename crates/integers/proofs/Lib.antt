@@ -4,4 +4,5 @@ pub mod Bits
 pub mod Product
 pub mod Tests
 pub mod Lists
+pub mod Places
 pub mod Fits

@@ -1,14 +1,15 @@
 -- What a test says: `Says t A`, the test t is true exactly where A holds.
-use mathlib.Core.Path.{_≡_, refl, sym, ap, _∙_, subst}
+use mathlib.Core.Path.{_≡_, refl, sym, ap, subst}
 use mathlib.Core.Logic.{_⊎_, inl, inr, _↔_}
 use mathlib.Core.Bool.{Bool, true, false, not, _&&_, _||_, Bool·beq}
 use mathlib.Core.List.{List, [], _∷_}
-use Prim.Native.Nat.{ℕ}
+use Prim.Native.Nat.{ℕ, _≤_}
 use native.Mathlib.Omega.{arith}
-use lib.Dec.{T, eqb}
+use lib.Dec.{T, leb}
 use lib.IntN.{ℤ, pos, negsuc}
 use lib.Signed.{leZ, ltZ}
-use borrow.Author.Tests.{eqb-true, eq-eqb}
+use borrow.Author.Tests.{eqb-true, eq-eqb, leb-true}
+use Rattle.integers.specs.Choice.{_if_else_}
 use Rattle.integers.specs.Number.{_==_}
 use Rattle.integers.specs.Lists.{all, any}
 use Rattle.integers.specs.Bounds.{within}
@@ -22,6 +23,14 @@ pub false-true : {G : Type 0} → false ≡ true → G
 false-true e = absurd (subst (λ b. elim b as (λ x. Type 0) [ true ↦ ⊥ | false ↦ Unit {0} ]) e tt)
 
 -- ---- numbers
+
+-- the lesser of two counts, as `size` and `termCount` take it
+pub capped : (n most : ℕ) → (n if leb n most else most) ≤ most
+capped n most = go (leb n most) refl
+  where
+    go : (b : Bool) → leb n most ≡ b → (n if b else most) ≤ most
+    go true e = leb-true n most e
+    go false e = omega arith
 
 pub says-le : (a b : ℤ) → Says (leZ a b) (a ⊑ b)
 says-le a b = by-le a b (λ t. (t ≡ true) ↔ (a ⊑ b)) (λ h. (λ e. h, λ k. refl)) (λ n. (λ e. false-true e, λ k. absurd (n k)))

@@ -1,9 +1,9 @@
 -- What it is that a judge says "holds": every value is within its bounds, and everything passes the test.
-use mathlib.Core.Path.{_≡_, refl, sym, ap, _∙_, subst}
+use mathlib.Core.Path.{_≡_, refl, sym, ap, _∙_}
 use mathlib.Core.Logic.{_↔_}
 use mathlib.Core.Bool.{Bool, true, false, _&&_}
 use mathlib.Core.List.{List, [], _∷_}
-use Prim.Native.Nat.{ℕ, zero, suc, _+_, _<_}
+use Prim.Native.Nat.{ℕ, zero, suc, _+_, _<_, _≤_}
 use native.Mathlib.Omega.{arith}
 use native.Mathlib.Nat.{le-of-suc-le-suc, not-suc-le-zero}
 use lib.ListN.{length}
@@ -52,7 +52,7 @@ shift σ k B Bs = (there, λ f. (first f, λ v l. later f v l))
     later : WithinFrom σ k (B ∷ Bs) → WithinFrom σ (k + 1) Bs
     later f v l = let e : k + suc v ≡ k + 1 + v = omega arith in rw e at (f (suc v) (omega arith))
 
-first-outside : (σ : Valuation) (k : ℕ) (Bs : List Bounds) (after : Answer) → (firstOutOfBounds σ k Bs after ≡ holds) ↔ (WithinFrom σ k Bs × (after ≡ holds))
+pub first-outside : (σ : Valuation) (k : ℕ) (Bs : List Bounds) (after : Answer) → (firstOutOfBounds σ k Bs after ≡ holds) ↔ (WithinFrom σ k Bs × (after ≡ holds))
 unfolding firstOutOfBounds
 first-outside σ k [] after = (λ e. ((λ v l. absurd (not-suc-le-zero l)), e), λ h. h .1)
 first-outside σ k (B ∷ Bs) after = go (within B (σ k)) refl (first-outside σ (k + 1) Bs after)
@@ -70,3 +70,27 @@ judge-holds σ Bs t xs =
     let f = first-false t 0 xs in
     let z : (v : ℕ) → 0 + v ≡ v = λ v. omega arith in
     (λ e. ((λ v l. rw (z v) at (o .0 e .0 v l)), f .0 (o .0 e .1)), λ h. o .1 ((λ v l. rw (z v) (h .0 v l)), f .1 (h .1)))
+
+-- ---- a walk from place to place: k things stand before the place and pass the test, those left are to be judged
+pub record Passed {A : Type 0} (t : A → Bool) (whole : List A) (k at : ℕ) (left : List A) : Type 0 where
+  pub few : k ≤ at
+  pub rest : firstFalse t k left ≡ firstFalse t 0 whole
+
+pub none-passed : {A : Type 0} (t : A → Bool) (whole : List A) → Passed t whole 0 0 whole
+none-passed t whole = record { few = omega arith; rest = refl }
+
+module _ {A : Type 0} {t : A → Bool} {whole left : List A} {k at : ℕ} (p : Passed t whole k at left) where
+  pub pass-none : {xs : List A} → left ≡ xs → Passed t whole k (at + 1) xs
+  pass-none e = record { few = omega (arith, p .few); rest = rw e at (p .rest) }
+
+  pub pass-one : {x : A} {xs : List A} → left ≡ x ∷ xs → t x ≡ true → Passed t whole (k + 1) (at + 1) xs
+  unfolding firstFalse
+  pass-one e b = record { few = omega (arith, p .few); rest = rw (e, b) at (p .rest) }
+
+  pub fail-one : {x : A} {xs : List A} → left ≡ x ∷ xs → t x ≡ false → isFalse k ≡ firstFalse t 0 whole
+  unfolding firstFalse
+  fail-one e b = rw (e, b) at (p .rest)
+
+  pub pass-all : left ≡ [] → holds ≡ firstFalse t 0 whole
+  unfolding firstFalse
+  pass-all e = rw e at (p .rest)

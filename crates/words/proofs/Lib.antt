@@ -1,5 +1,6 @@
 -- Laws for proofs about words, laying, reading and judging.
 pub mod Word
+pub mod Sources
 pub mod Machine
 pub mod Overlay
 pub mod Reading

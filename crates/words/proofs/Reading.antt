@@ -1,11 +1,12 @@
 -- Laws of reading words for the first fault, over any fault of a word: a word refused, a word accepted, the end.
-use mathlib.Core.Path.{_≡_, refl}
-use mathlib.Core.List.{List, [], _∷_}
+use mathlib.Core.Path.{_≡_, refl, ap, _∙_}
+use mathlib.Core.List.{List, _∷_}
 use Prim.Native.Nat.{ℕ, zero, suc, _+_, _-_, _<_, _≤_}
 use native.Mathlib.Omega.{arith}
 use native.Mathlib.Numerals.{add-one}
 use lib.ListN.{length, getD, take, drop, length-drop, drop-of-length-le}
-use lib.Seq.{drop-cons, take-all}
+use lib.Seq.{drop-cons, getD-drop, take-all}
+use Rattle.words.specs.Word.{wordAt}
 use Rattle.words.specs.declared.Refusal.{Refusal}
 use Rattle.words.specs.Refusal.{_at-place_, faultOr, accepted, firstFault}
 
@@ -20,6 +21,11 @@ no-fault n p after e = rw e
 -- the word at a place, and the words after it
 pub word-then : (ws : List ℕ) (at : ℕ) → at < length ws → drop at ws ≡ getD ws at 0 ∷ drop (at + 1) ws
 word-then ws at h = rw add-one (drop-cons ws at 0 h)
+
+-- a word after that one
+pub word-ahead : (ws : List ℕ) (at i k : ℕ) → at + 1 + i ≡ k → wordAt (drop (at + 1) ws) i ≡ wordAt ws k
+unfolding wordAt
+word-ahead ws at i k e = getD-drop (at + 1) ws i 0 ∙ ap (λ (j : ℕ). getD ws j 0) e
 
 -- the words lent from a place to their end
 pub tail-is : (ws : List ℕ) (at : ℕ) → take (length ws - at) (drop at ws) ≡ drop at ws

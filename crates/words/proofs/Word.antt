@@ -7,10 +7,11 @@ use lib.Dec.{ltb}
 use lib.IntN.{ℤ, pos, negsuc}
 use borrow.Author.Tests.{ltb-true, ltb-false, lt-ltb, le-ltb}
 use Rattle.integers.specs.Choice.{_if_else_}
-use Rattle.integers.proofs.Linear.{_⊑_, arithZ}
+use Rattle.integers.proofs.Linear.{_⊑_, linear, arithZ}
 use Rattle.integers.proofs.Tests.{Says, says-and, says-le}
 use Rattle.words.specs.Word.{kind, payload, signed, inRange, word, complement, numberWord}
 use Rattle.words.specs.Limit as Limit
+use Rattle.words.specs.Small.{Near}
 
 -- the kind, by which a reader knows what a written word is
 pub kind-word : (k p : ℕ) → kind (word k p) ≡ k
@@ -53,3 +54,10 @@ signed-range w = by (ltb (w % 268435456) 134217728) refl
     by : (t : Bool) → ltb (w % 268435456) 134217728 ≡ t → inRange (pos (w % 268435456) if t else negsuc (268435455 - w % 268435456)) ≡ true
     by true e = says-range _ .1 (omega arithZ, omega (arithZ, ltb-true))
     by false e = says-range _ .1 (omega (arithZ, ltb-false), omega arithZ)
+
+-- and near to 0, as is what lies between two such numbers
+pub between-near : (l x u : ℤ) → l ⊑ x → x ⊑ u → Near l → Near u → Near x
+between-near = simp linear (omega arith)
+
+pub signed-near : (w : ℕ) → Near (signed w)
+signed-near w = let k = says-range (signed w) .0 (signed-range w) in between-near Limit.lowest (signed w) Limit.highest (k .0) (k .1) (omega arith) (omega arith)

@@ -3,6 +3,7 @@ pub mod Kind
 pub mod Limit
 pub mod Fault
 pub mod Word
+pub mod Small
 pub mod Variables
 pub mod Overlay
 pub mod Refusal

@@ -1,2 +1,0 @@
--- Laws for the proofs of judge-model.
-pub mod Walk

@@ -1,0 +1,11 @@
+-- Numbers no farther from 0 than signed payloads are: one number, and all values of a list.
+use mathlib.Core.List.{List}
+use Prim.Native.Nat.{ℕ, _≤_}
+use lib.IntN.{ℤ, natAbs}
+use Rattle.integers.specs.Terms.{value}
+
+abbrev pub Near : ℤ → Type 0
+Near z = natAbs z ≤ 134217728
+
+abbrev pub Small : List ℤ → Type 0
+Small vs = (x : ℕ) → Near (value vs x)
