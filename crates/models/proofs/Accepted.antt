@@ -3,23 +3,25 @@
 use mathlib.Core.Path.{_≡_, refl, ap, _∙_}
 use mathlib.Core.Bool.{Bool, true, false}
 use mathlib.Core.List.{List, [], _∷_, _++_}
-use Prim.Native.Nat.{ℕ, zero, suc, _+_, _-_, _*_, _%_, _≤_, _<_}
+use Prim.Native.Nat.{ℕ, zero, suc, _+_, _*_, _≤_, _<_}
 use native.Mathlib.Omega.{arith}
 use native.Mathlib.Nat.{zero-add, le-trans, mul-le-mul-left}
 use lib.Dec.{leb, ltb}
-use lib.IntN.{ℤ, pos, negsuc}
+use lib.IntN.{pos}
 use lib.ListN.{length, length-append}
-use borrow.Author.Tests.{ltb-true, ltb-false, le-leb, lt-leb}
+use borrow.Author.Tests.{ltb-false, le-leb, lt-leb}
 use Rattle.integers.specs.Choice.{_if_else_}
 use Rattle.integers.specs.Bounds.{bit, boundsIn}
 use Rattle.integers.specs.declared.Bounds.{Bounds}
 use Rattle.integers.proofs.Linear.{_⊑_, arithZ}
-use Rattle.integers.proofs.Tests.{All, says-and, says-le}
-use Rattle.words.specs.Word.{kind, payload, signed, inRange}
-use Rattle.words.specs.Limit as Limit
+use Rattle.integers.proofs.Lists.{all-implies}
+use Rattle.integers.proofs.Tests.{All}
+use Rattle.words.specs.Word.{kind, inRange}
 use Rattle.words.specs.Refusal.{_at-place_, accepted, firstFault}
 use Rattle.words.specs.declared.Refusal.{Refusal}
 use Rattle.words.specs.Variables.{variables}
+use Rattle.words.proofs.Sources.{Sources, none, integer, boolean}
+use Rattle.words.proofs.Word.{signed-range, says-range}
 use Rattle.models.specs.Builtin.{Builtin}
 use Rattle.models.specs.Shape as Shape
 use Rattle.models.specs.Model.{Constraint, constraintsFrom, constraints, builtin}
@@ -29,13 +31,7 @@ use Rattle.models.proofs.Sound.{sound}
 use Rattle.models.proofs.Fits.{Named}
 use Rattle.models.proofs.Form.{Posed, end, constraint, model}
 use Rattle.models.proofs.Typed.{Typed, typed-at}
-use Rattle.models.proofs.Contents.{argumentWords, constraintWords, Fitting, Contents, contents, Sources, none, integer-source, boolean-source, start-integer, start-boolean, Matches, Parts, parts}
-
--- ---- lists
-
-all-map : {A : Type 0} {P Q : A → Type 0} → ((x : A) → P x → Q x) → (xs : List A) → All P xs → All Q xs
-all-map f [] h = tt
-all-map f (x ∷ xs) h = (f x (h .0), all-map f xs (h .1))
+use Rattle.models.proofs.Contents.{argumentWords, constraintWords, Fitting, Contents, contents, Matches, Parts, parts}
 
 -- ---- bounds
 
@@ -44,23 +40,10 @@ pub record Ordered (B : Bounds) : Type 0 where
   pub lower-in : inRange (B .lower) ≡ true
   pub upper-in : inRange (B .upper) ≡ true
 
-in-range : (z : ℤ) → Limit.lowest ⊑ z → z ⊑ Limit.highest → inRange z ≡ true
-unfolding inRange
-in-range z l h = says-and (says-le Limit.lowest z) (says-le z Limit.highest) .1 (l, h)
-
-pub signed-in : (w : ℕ) → inRange (signed w) ≡ true
-unfolding signed payload
-signed-in w = go (ltb (w % 268435456) 134217728) refl
-  where
-    go : (t : Bool) → ltb (w % 268435456) 134217728 ≡ t → inRange (pos (w % 268435456) if t else negsuc (268435455 - w % 268435456)) ≡ true
-    go true e = let l : w % 268435456 < 134217728 = ltb-true _ _ e in in-range (pos (w % 268435456)) (omega arithZ) (omega arithZ)
-    go false e = let l : 134217728 ≤ w % 268435456 = ltb-false _ _ e in in-range (negsuc (268435455 - w % 268435456)) (omega arithZ) (omega arithZ)
-
-sources-ordered : {src : List ℕ} → Sources src → All Ordered (variables src)
-unfolding variables
+sources-ordered : {src : List ℕ} {Bs : List Bounds} → Sources src Bs → All Ordered Bs
 sources-ordered none = tt
-sources-ordered (integer-source {l} {u} {ws} k m o r) = rw (start-integer 0 l u ws k m .1) (record { rising = o; lower-in = signed-in l; upper-in = signed-in u }, sources-ordered r)
-sources-ordered (boolean-source {w} {ws} k z r) = rw (start-boolean 0 w ws k .1) (record { rising = omega arithZ; lower-in = in-range (pos 0) (omega arithZ) (omega arithZ); upper-in = in-range (pos 1) (omega arithZ) (omega arithZ) }, sources-ordered r)
+sources-ordered (integer {l} {u} k m o r) = (record { rising = o; lower-in = signed-range l; upper-in = signed-range u }, sources-ordered r)
+sources-ordered (boolean k z r) = (record { rising = omega arithZ; lower-in = says-range (pos 0) .1 (omega arithZ, omega arithZ); upper-in = says-range (pos 1) .1 (omega arithZ, omega arithZ) }, sources-ordered r)
 
 -- ---- types and bounds
 
@@ -91,8 +74,8 @@ typed-in : (ts : List ℕ) (Bs : List Bounds) → Matches ts Bs → (b : Builtin
 typed-in ts Bs m b h =
     let e = matched-length ts Bs m in
     record {
-      integers = all-map (λ v n. omega (arith, named-below ts 1 v (omega arith) n)) (integerArguments b) (h .0);
-      booleans = all-map (λ v n. (omega (arith, named-below ts 2 v (omega arith) n), named-bit ts Bs m v n)) (booleanArguments b) (h .1);
+      integers = all-implies _ _ (λ v n. omega (arith, named-below ts 1 v (omega arith) n)) (integerArguments b) (h .0);
+      booleans = all-implies _ _ (λ v n. (omega (arith, named-below ts 2 v (omega arith) n), named-bit ts Bs m v n)) (booleanArguments b) (h .1);
     }
 
 fitting-typed : (ts : List ℕ) (c : Constraint) → Fitting ts c → Typed ts (builtin c)
@@ -110,17 +93,16 @@ pub record Split (ws : List ℕ) : Type 0 where
   pub src : List ℕ
   pub rest : List ℕ
   pub whole : ws ≡ src ++ rest
-  pub sources : Sources src
+  pub sources : Sources src (variables ws)
   pub front : All (λ w. leb (kind w) 3 ≡ true) src
   pub late : Late rest
-  pub same-variables : variables ws ≡ variables src
   pub same-constraints : constraints ws ≡ constraintsFrom (length src) rest
   pub counted : length src + constraintWords (constraints ws) + 1 ≡ length ws
 
-sources-front : {src : List ℕ} → Sources src → All (λ w. leb (kind w) 3 ≡ true) src
+sources-front : {src : List ℕ} {Bs : List Bounds} → Sources src Bs → All (λ w. leb (kind w) 3 ≡ true) src
 sources-front none = tt
-sources-front (integer-source {l} {u} k m o r) = (le-leb (kind l) 3 (omega arith), (le-leb (kind u) 3 (omega arith), sources-front r))
-sources-front (boolean-source {w} k z r) = (le-leb (kind w) 3 (omega arith), sources-front r)
+sources-front (integer {l} {u} k m o r) = (le-leb (kind l) 3 (omega arith), (le-leb (kind u) 3 (omega arith), sources-front r))
+sources-front (boolean {w} k z r) = (le-leb (kind w) 3 (omega arith), sources-front r)
 
 posed-late : {ts : List ℕ} {c : ℕ} {ws : List ℕ} → Posed ts c ws → Late ws
 posed-late (end {c} {w} k) = lt-leb (kind w) 3 (omega arith)
@@ -170,20 +152,20 @@ module _ (ws : List ℕ) (h : readModel ws ≡ accepted) where
   few-words = read .0
 
   pub few-variables : length (variables ws) ≤ 256
-  few-variables = rw (form .same-variables) (omega (arith, form .few, matched-length (form .types) (variables (form .src)) (form .matches)))
+  few-variables = omega (arith, form .few, matched-length (form .types) (variables ws) (form .matches))
 
   pub few-constraints : length (constraints ws) ≤ 256
   few-constraints = rw same (omega (arith, inside .few))
 
   pub ordered : All Ordered (variables ws)
-  ordered = rw (form .same-variables) (sources-ordered (form .sources))
+  ordered = sources-ordered (form .sources)
 
   -- what holds of a constraint that fits the variables' types holds of all constraints
   each : (Q : Constraint → Type 0) → ((c : Constraint) → Fitting (form .types) c → Q c) → All Q (constraints ws)
-  each Q f = rw same (all-map f (constraintsFrom (0 + length (form .src)) (form .rest)) (inside .fitting))
+  each Q f = rw same (all-implies (Fitting (form .types)) Q f (constraintsFrom (0 + length (form .src)) (form .rest)) (inside .fitting))
 
   pub typed : All (λ c. TypedIn (variables ws) (builtin c)) (constraints ws)
-  typed = each _ (λ c f. rw (form .same-variables) (typed-in (form .types) (variables (form .src)) (form .matches) (builtin c) (fitting-typed (form .types) c f)))
+  typed = each _ (λ c f. typed-in (form .types) (variables ws) (form .matches) (builtin c) (fitting-typed (form .types) c f))
 
   pub coded : All (λ c. (1 ≤ c .code) × (c .code ≤ 28)) (constraints ws)
   coded = each (λ c. (1 ≤ c .code) × (c .code ≤ 28)) (λ c f. (f .low, f .high))
@@ -196,7 +178,6 @@ module _ (ws : List ℕ) (h : readModel ws ≡ accepted) where
     sources = form .sources;
     front = sources-front (form .sources);
     late = posed-late (form .after);
-    same-variables = form .same-variables;
     same-constraints = same ∙ rw zero-add;
     counted = rw same (omega (arith, inside .counted, length-append (form .src) (form .rest), ap length (form .whole)));
   }

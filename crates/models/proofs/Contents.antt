@@ -9,18 +9,17 @@ use lib.Seq.{append-snoc}
 use borrow.Author.Tests.{ne-eqb}
 use Rattle.integers.specs.Bounds.{_to_, bit}
 use Rattle.integers.specs.declared.Bounds.{Bounds}
-use Rattle.integers.proofs.Linear.{_⊑_}
-use Rattle.integers.proofs.Linear.{_⊑_}
 use Rattle.integers.proofs.Tests.{All}
 use Rattle.words.specs.Word.{kind, payload, signed, wordAt}
 use Rattle.words.specs.Variables.{startsPair, variables}
-use Rattle.models.specs.Shape as Shape
+use Rattle.words.proofs.Sources.{Sources, none, integer, boolean}
 use Rattle.models.specs.Shape as Shape
 use Rattle.models.specs.Shape.{shapes}
 use Rattle.models.specs.Model.{Constraint, constraintsFrom}
 use Rattle.models.proofs.Sound.{Plain}
 use Rattle.models.proofs.Fits.{FitAll}
-use Rattle.models.proofs.Form.{taken, Posed, end, constraint, Model, integer, boolean, posed}
+use Rattle.models.proofs.Form as Form
+use Rattle.models.proofs.Form.{taken, Posed, end, constraint, Model, posed}
 
 -- words that start neither a variable nor a constraint
 record Skipped (p q : ℕ) (ws vs : List ℕ) : Type 0 where
@@ -53,11 +52,11 @@ start-constraint : (p w : ℕ) (ws : List ℕ) → kind w ≡ 4 → (constraints
 unfolding constraintsFrom variables startsPair
 start-constraint p w ws k = (rw k, rw k)
 
-pub start-integer : (p l u : ℕ) (ws : List ℕ) → kind l ≡ 1 → kind u ≡ 2 → (constraintsFrom p (l ∷ u ∷ ws) ≡ constraintsFrom (p + 2) ws) × (variables (l ∷ u ∷ ws) ≡ (signed l to signed u) ∷ variables ws)
+start-integer : (p l u : ℕ) (ws : List ℕ) → kind l ≡ 1 → kind u ≡ 2 → (constraintsFrom p (l ∷ u ∷ ws) ≡ constraintsFrom (p + 2) ws) × (variables (l ∷ u ∷ ws) ≡ (signed l to signed u) ∷ variables ws)
 unfolding constraintsFrom variables startsPair wordAt
 start-integer p l u ws k m = let e : p + 1 + 1 ≡ p + 2 = omega arith in (rw (k, m, e), rw (k, m))
 
-pub start-boolean : (p w : ℕ) (ws : List ℕ) → kind w ≡ 3 → (constraintsFrom p (w ∷ ws) ≡ constraintsFrom (p + 1) ws) × (variables (w ∷ ws) ≡ bit ∷ variables ws)
+start-boolean : (p w : ℕ) (ws : List ℕ) → kind w ≡ 3 → (constraintsFrom p (w ∷ ws) ≡ constraintsFrom (p + 1) ws) × (variables (w ∷ ws) ≡ bit ∷ variables ws)
 unfolding constraintsFrom variables startsPair
 start-boolean p w ws k = (rw k, rw k)
 
@@ -112,12 +111,6 @@ contents l (constraint {c} {w} {ws} few k lo hi fits m plain r) p =
 
 -- ---- variables
 
--- the words of variables
-pub data Sources : List ℕ → Type 0 where
-  none : Sources []
-  integer-source : {l u : ℕ} {ws : List ℕ} → kind l ≡ 1 → kind u ≡ 2 → signed l ⊑ signed u → Sources ws → Sources (l ∷ u ∷ ws)
-  boolean-source : {w : ℕ} {ws : List ℕ} → kind w ≡ 3 → payload w ≡ 0 → Sources ws → Sources (w ∷ ws)
-
 -- bounds of variables of the types ts
 abbrev pub Matches : List ℕ → List Bounds → Type 0
 Matches [] [] = Unit {0}
@@ -125,60 +118,49 @@ Matches [] (B ∷ Bs) = ⊥
 Matches (t ∷ ts) [] = ⊥
 Matches (t ∷ ts) (B ∷ Bs) = (t ≡ Shape.boolean → B ≡ bit) × Matches ts Bs
 
-no-sources : variables [] ≡ []
-unfolding variables
-no-sources = refl
-
-no-bounds : Matches [] (variables [])
-unfolding variables
-no-bounds = tt
-
 -- after variables of the types ts, the words counted from p
 pub record Parts (ts : List ℕ) (p : ℕ) (ws : List ℕ) : Type 0 where
   pub src : List ℕ
   pub rest : List ℕ
   pub types : List ℕ
   pub whole : ws ≡ src ++ rest
-  pub sources : Sources src
-  pub matches : Matches types (variables src)
+  pub sources : Sources src (variables ws)
+  pub matches : Matches types (variables ws)
   pub few : length ts + length types ≤ 256
   pub after : Posed (ts ++ types) 0 rest
-  pub same-variables : variables ws ≡ variables src
   pub same-constraints : constraintsFrom p ws ≡ constraintsFrom (p + length src) rest
 
 -- one more variable in front: its words, its type t and its bounds B
 module _ (front : List ℕ) (t : ℕ) (B : Bounds)
     (start : (p : ℕ) (ws : List ℕ) → (constraintsFrom p (front ++ ws) ≡ constraintsFrom (p + length front) ws) × (variables (front ++ ws) ≡ B ∷ variables ws)) where
-  in-front : {ts ws : List ℕ} {p : ℕ} → ((vs : List ℕ) → Sources vs → Sources (front ++ vs)) → (t ≡ Shape.boolean → B ≡ bit) → Parts (ts ++ (t ∷ [])) (p + length front) ws → Parts ts p (front ++ ws)
+  in-front : {ts ws : List ℕ} {p : ℕ} → ((vs : List ℕ) (Bs : List Bounds) → Sources vs Bs → Sources (front ++ vs) (B ∷ Bs)) → (t ≡ Shape.boolean → B ≡ bit) → Parts (ts ++ (t ∷ [])) (p + length front) ws → Parts ts p (front ++ ws)
   in-front {ts} {ws} {p} source b i = record {
     src = front ++ i .src;
     rest = i .rest;
     types = t ∷ i .types;
     whole = ap (λ vs. front ++ vs) (i .whole) ∙ sym (append-assoc front (i .src) (i .rest));
-    sources = source (i .src) (i .sources);
-    matches = rw (start p (i .src) .1) (b, i .matches);
+    sources = rw (start p ws .1) (source (i .src) (variables ws) (i .sources));
+    matches = rw (start p ws .1) (b, i .matches);
     few = omega (arith, i .few, length-append ts (t ∷ []));
     after = rw append-snoc at (i .after);
-    same-variables = start p ws .1 ∙ ap (λ Bs. B ∷ Bs) (i .same-variables) ∙ sym (start p (i .src) .1);
     same-constraints = start p ws .0 ∙ i .same-constraints ∙ rw (length-append, add-assoc);
   }
 
 pub parts : {ts ws : List ℕ} → length ts ≤ 256 → Model ts ws → (p : ℕ) → Parts ts p ws
-parts l (integer {ts} {l = x} {u} {ws} few k m o r) p =
-    in-front (x ∷ u ∷ []) Shape.integer (signed x to signed u) (λ q vs. start-integer q x u vs k m) (λ vs. integer-source k m o) (λ e. absurd (omega arith))
+parts l (Form.integer {ts} {l = x} {u} {ws} few k m o r) p =
+    in-front (x ∷ u ∷ []) Shape.integer (signed x to signed u) (λ q vs. start-integer q x u vs k m) (λ vs Bs. integer k m o) (λ e. absurd (omega arith))
     (parts (omega (arith, length-append ts (Shape.integer ∷ []))) r (p + 2))
-parts l (boolean {ts} {w} {ws} few k z r) p =
-    in-front (w ∷ []) Shape.boolean bit (λ q vs. start-boolean q w vs k) (λ vs. boolean-source k z) (λ e. refl)
+parts l (Form.boolean {ts} {w} {ws} few k z r) p =
+    in-front (w ∷ []) Shape.boolean bit (λ q vs. start-boolean q w vs k) (λ vs Bs. boolean k z) (λ e. refl)
     (parts (omega (arith, length-append ts (Shape.boolean ∷ []))) r (p + 1))
 parts l (posed {ts} {ws} r) p = record {
   src = [];
   rest = ws;
   types = [];
   whole = refl;
-  sources = none;
-  matches = no-bounds;
+  sources = rw (contents (omega arith) r p .no-variables) none;
+  matches = rw (contents (omega arith) r p .no-variables) tt;
   few = omega arith;
   after = rw append-nil r;
-  same-variables = contents (omega arith) r p .no-variables ∙ sym no-sources;
   same-constraints = rw add-zero;
 }

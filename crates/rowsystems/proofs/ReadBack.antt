@@ -12,7 +12,6 @@ use lib.Signed.{ltZ}
 use lib.ListN.{length, length-map}
 use borrow.Author.Tests.{lt-leb, le-leb, le-ltb, lt-ltb, not-true}
 use Rattle.integers.specs.Lists.{listOf}
-use Rattle.integers.specs.Bounds.{_to_, bit}
 use Rattle.integers.specs.Terms.{Term, _·_}
 use Rattle.integers.specs.declared.Bounds.{Bounds}
 use Rattle.integers.proofs.Linear.{_⊑_, arithZ}
@@ -22,6 +21,7 @@ use Rattle.words.specs.Kind as Kind
 use Rattle.words.specs.Limit as Limit
 use Rattle.words.specs.Variables.{startsPair, variables}
 use Rattle.words.specs.Refusal.{accepted, firstFault}
+use Rattle.words.proofs.Sources.{Sources, none, integer, boolean}
 use Rattle.words.proofs.Word.{kind-word, kind-number, payload-word, signed-number}
 use Rattle.rowsystems.specs.declared.Due.{Due}
 use Rattle.rowsystems.specs.declared.Due.the-variants.{Source, Item, Terms}
@@ -204,14 +204,6 @@ pub block : {X : Type 0} {n : ℕ} {ws : List ℕ} {Bs : List Bounds} {Rs : List
 block f As qs room h o d r =
     let k = split (flatMap boundNumbers As) (flatMap rowNumbers qs) h in
     rw append-assoc (auxiliaries As room (k .0) o (rows-read f room qs (k .1) d r))
-
--- words of kinds 1, 2 and 3 that declare source variables, and the bounds that they declare
-pub data Sources : List ℕ → List Bounds → Type 0 where
-  none : Sources [] []
-  integer : {l u : ℕ} {ws : List ℕ} {Bs : List Bounds} → kind l ≡ Kind.lower → kind u ≡ Kind.upper → signed l ⊑ signed u →
-      Sources ws Bs → Sources (l ∷ u ∷ ws) ((signed l to signed u) ∷ Bs)
-  boolean : {w : ℕ} {ws : List ℕ} {Bs : List Bounds} → kind w ≡ Kind.boolean → payload w ≡ 0 →
-      Sources ws Bs → Sources (w ∷ ws) (bit ∷ Bs)
 
 sources : {n : ℕ} {src ws : List ℕ} {Bs Cs : List Bounds} {Rs : List (Row ℕ)} → Sources src Bs → n + length Bs ≤ Limit.inAll →
     Items (n + length Bs) ws Cs Rs → Reads (state Source n) (src ++ ws) (Bs ++ Cs) Rs

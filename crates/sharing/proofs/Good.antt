@@ -1,16 +1,13 @@
 -- Blocks as propositions: what it is that the values σ of the sources and α of a block's own auxiliaries make a block good.
 -- The tests of specs/ say these propositions (`says-satisfied`).
 use mathlib.Core.Path.{_≡_, refl}
-use mathlib.Core.Logic.{_↔_}
-use mathlib.Core.List.{List, [], _∷_, _++_, map}
-use mathlib.Core.Bool.{Bool, true, false}
-use Prim.Native.Nat.{ℕ, zero, suc}
+use mathlib.Core.List.{List, [], _∷_}
+use Prim.Native.Nat.{zero, suc}
 use lib.IntN.{ℤ, pos}
 use Rattle.integers.specs.Number.{_⊕_, _⊗_}
-use Rattle.integers.specs.Terms.{Valuation, Term, _·_, sum, value}
+use Rattle.integers.specs.Terms.{Valuation, Term, sum}
 use Rattle.integers.specs.declared.Bounds.{Bounds}
 use Rattle.integers.proofs.Linear.{_⊑_}
-use Rattle.integers.proofs.Bits.{Bit}
 use Rattle.integers.proofs.Tests.{Says, says-le, says-equal, In, All}
 use Rattle.rowsystems.specs.Row.{Row, sum≤0, sum=0, product, satisfied}
 use Rattle.rules.specs.Block.{Ref, source, aux, Block}

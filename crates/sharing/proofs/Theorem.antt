@@ -1,10 +1,8 @@
 -- THE THEOREM: a model that passes the check and the words that translate writes for it share their solutions (specs/SharedSolutions.antt); fill's
 -- picks are such auxiliaries; judge-rows accepts the words, and says "holds" of what fill writes exactly where judge-model says it of the values.
-use mathlib.Core.Path.{_≡_, refl, sym, ap, ap₂, _∙_, subst}
-use mathlib.Core.Logic.{_↔_}
-use mathlib.Core.Bool.{Bool, true}
+use mathlib.Core.Path.{_≡_, refl, sym, ap, _∙_}
 use mathlib.Core.List.{List, [], _∷_, _++_, flatMap}
-use Prim.Native.Nat.{ℕ, _+_, _*_, _≤_, _<_}
+use Prim.Native.Nat.{ℕ, _+_, _≤_, _<_}
 use native.Mathlib.Omega.{arith}
 use lib.IntN.{ℤ}
 use lib.ListN.{length, length-append}
@@ -19,11 +17,10 @@ use Rattle.words.specs.Limit as Limit
 use Rattle.words.specs.Variables.{variables}
 use Rattle.words.specs.Refusal.{accepted}
 use Rattle.models.specs.Model.{Constraint, constraints, builtin}
-use Rattle.models.proofs.Arguments.{integerArguments, booleanArguments}
+use Rattle.models.proofs.Arguments.{booleanArguments}
 use Rattle.models.proofs.Accepted as Accepted
 use Rattle.rowsystems.specs.Reading.{readRows}
-use Rattle.rowsystems.specs.RowSystem.{rows}
-use Rattle.rowsystems.proofs.ReadBack.{Sources, System, read-back}
+use Rattle.rowsystems.proofs.ReadBack.{System, read-back}
 use Rattle.rules.specs.Translation.{bounds, blockOf, sourceWords, blocksWords, systemWords, auxiliaries, picks}
 use Rattle.rules.specs.Pick.{pick}
 use Rattle.sharing.specs.SharedSolutions.{Passes, SatisfiesModel, SatisfiesRows, SharedSolutions}
@@ -31,7 +28,7 @@ use Rattle.sharing.proofs.Formed.{Formed, formed, sized}
 use Rattle.sharing.proofs.Assembly.{auxiliariesOf, rowsFrom, picksOf, picks-length}
 use Rattle.sharing.proofs.Shared.{Typed, picks-satisfy, system-sound}
 use Rattle.sharing.proofs.Accepts.{Fine, passes-read, passes-fine}
-use Rattle.sharing.proofs.Written.{items, sources}
+use Rattle.sharing.proofs.Written.{items}
 use Rattle.sharing.proofs.Few.{few-words, fine-count}
 
 -- ---- the lists of all blocks, as the definitions name them
@@ -109,11 +106,9 @@ module _ (ws : List ℕ) (passes : Passes ws) where
   system : System (systemWords ws) (Vs ++ As) (rowsFrom (boundsIn Vs) (length Vs) (constraints ws))
   unfolding after-sources
   system =
-      let e : variables (parts .src) ≡ Vs = sym (parts .same-variables) in
       let few-sources : length Vs ≤ Limit.inAll = omega (arith, few) in
-      let s : Sources (parts .src) Vs = subst (Sources (parts .src)) e (sources (parts .sources)) in
       rw words-are
-      (read-back s few-sources
+      (read-back (parts .sources) few-sources
       (items (boundsIn Vs) (length Vs) (length Vs) (constraints ws) (omega arith) well-formed fine)
       (rw words-are at never-too-many))
 

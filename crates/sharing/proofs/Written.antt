@@ -1,25 +1,21 @@
 -- The words that translate writes for a model that passes the check are read back, by judge-rows' own reader, as the model's variables, all
 -- auxiliaries and all rows.
-use mathlib.Core.Path.{_≡_, refl, sym, ap, _∙_, subst}
-use mathlib.Core.Bool.{Bool, true, false, not}
-use mathlib.Core.List.{List, [], _∷_, _++_, map, flatMap, append-assoc}
+use mathlib.Core.Path.{_≡_}
+use mathlib.Core.Bool.{true, false}
+use mathlib.Core.List.{List, [], _∷_, _++_, append-assoc}
 use Prim.Native.Nat.{ℕ, _+_, _≤_, _<_}
 use native.Mathlib.Omega.{arith}
-use lib.ListN.{length, length-append}
-use borrow.Author.Tests.{eq-eqb, not-false}
-use Rattle.integers.specs.Lists.{all}
+use lib.ListN.{length}
+use borrow.Author.Tests.{not-false}
 use Rattle.integers.specs.Terms.{Term}
 use Rattle.integers.specs.declared.Bounds.{Bounds}
 use Rattle.integers.proofs.Lists.{all-implies}
-use Rattle.integers.proofs.Tests.{Says, says-all, All}
-use Rattle.words.specs.Word.{kind, word, wordAt, inRange}
+use Rattle.integers.proofs.Tests.{says-all, All}
+use Rattle.words.specs.Word.{word, inRange}
 use Rattle.words.specs.Kind as Kind
-use Rattle.words.specs.Limit as Limit
-use Rattle.words.specs.Variables.{variables, startsPair}
-use Rattle.models.specs.Model.{Constraint, constraints}
-use Rattle.models.proofs.Contents as Contents
-use Rattle.rowsystems.specs.Row.{Row, sum≤0, sum=0, product, rename}
-use Rattle.rowsystems.proofs.ReadBack.{Items, Declared, Ranged, end, block, Sources, none, integer, boolean}
+use Rattle.models.specs.Model.{Constraint}
+use Rattle.rowsystems.specs.Row.{Row, sum≤0, sum=0, product}
+use Rattle.rowsystems.proofs.ReadBack.{Items, Declared, Ranged, end, block}
 use Rattle.rules.specs.Block.{Ref, source, aux, numbered, blockWords, blockNumbers, outside}
 use Rattle.rules.specs.Translation.{blockOf, blocksWords}
 use Rattle.sharing.proofs.Formed.{RefIn, RowIn, Formed}
@@ -60,11 +56,3 @@ items β n first (c ∷ cs) l h f =
     (block (numbered first) (B .auxiliaries) (B .rows) (f .2) (in-range β c (f .1)) (h .0 .0)
     (all-implies (RowIn n (length (B .auxiliaries))) (Declared (numbered first) (first + length (B .auxiliaries))) (declared n first l (length (B .auxiliaries))) (B .rows) (h .0 .1))
     (items β n (first + length (B .auxiliaries)) cs (omega arith) (h .1) (f .3)))
-
--- ---- the sources
-
-pub sources : {src : List ℕ} → Contents.Sources src → Sources src (variables src)
-unfolding variables startsPair wordAt
-sources Contents.none = none
-sources (Contents.integer-source {l = l} {u = u} {ws = ws} k m o s) = rw (k, m) (integer k m o (sources s))
-sources (Contents.boolean-source k p s) = rw k (boolean k p (sources s))
