@@ -1,17 +1,13 @@
 // Judge-model: whether values keep the bounds of a model, and its constraints are true of them.
 ghost use mathlib.Core.Path.{_≡_};
-ghost use lib.ListN.{length};
 ghost use Rattle.integers.specs.Terms.{value};
 ghost use Rattle.words.specs.Judge.{firstFalse};
-ghost use Rattle.words.specs.Variables.{variables};
 ghost use Rattle.words.specs.Verdict.{verdict};
-ghost use Rattle.models.specs.JudgeModel.{judgeAccepted, judgeModel};
+ghost use Rattle.models.specs.JudgeModel.{judgeModel};
 ghost use Rattle.models.specs.Meaning.{meaning};
 ghost use Rattle.models.specs.Model.{builtin, constraints};
 ghost use Rattle.arguments.specs.Small.{Small};
-use words::Refusal;
 use words::Verdict;
-use words::fault;
 use words::kind;
 
 // The first false constraint, else "holds".
@@ -34,31 +30,13 @@ fn first_false(ws: &[u32], values: &[i32]) -> Verdict
     Verdict::Holds
 }
 
-// Of accepted words and as many values as variables.
-fn judge_accepted(ws: &[u32], values: &[i32]) -> Verdict
-    requires { ⌜ length (now values) ≡ length (variables (now ws)) ⌝ }
-    ensures { λ r. ⌜ verdict r ≡ judgeAccepted (now (ws .entry)) (now (values .entry)) ⌝ }
-{
-    let bounds = variables::first_out_of_bounds(ws, values);
-    if words::is_holds(bounds) {
-        return first_false(ws, values);
-    }
-    bounds
-}
-
 // "Holds", else the first variable out of bounds, else the first false constraint; a refusal comes first.
 pub fn judge_model(ws: &[u32], values: &[i32]) -> Verdict
     ensures { λ r. ⌜ verdict r ≡ judgeModel (now (ws .entry)) (now (values .entry)) ⌝ }
 {
-    let read = modelreading::read_model(ws);
-    if read.number != fault::NONE {
-        return Verdict::Refused(read);
+    let bounds = variables::judge_values(modelreading::read_model(ws), ws, values);
+    if words::is_holds(bounds) {
+        return first_false(ws, values);
     }
-    if values.len() != variables::count_variables(ws) {
-        return Verdict::Refused(Refusal {
-            number: fault::WRONG_VALUE_COUNT,
-            place: 0,
-        });
-    }
-    judge_accepted(ws, values)
+    bounds
 }

@@ -2,5 +2,3 @@
 pub mod Sizes
 pub mod Sums
 pub mod Walk
-pub mod Kept
-pub mod Answers

@@ -1,3 +1,2 @@
--- What the contracts cite: the bounds and the row of one word, small values.
+-- What the contracts cite: the row of one word.
 pub mod OneWord
-pub mod Small

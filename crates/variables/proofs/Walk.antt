@@ -7,7 +7,6 @@ use native.Mathlib.Omega.{arith}
 use lib.Dec.{eqb}
 use lib.IntN.{ℤ}
 use lib.ListN.{length, getD, drop, drop-of-length-le}
-use lib.Seq.{getD-drop}
 use Rattle.integers.specs.Choice.{_if_else_}
 use Rattle.integers.specs.Bounds.{_to_, bit, within}
 use Rattle.integers.specs.Terms.{value}
@@ -17,7 +16,7 @@ use Rattle.words.specs.Answer.{Answer, holds, outOfBounds}
 use Rattle.words.specs.Judge.{firstOutOfBounds}
 use Rattle.words.specs.Variables.{startsPair, variables}
 use Rattle.words.specs.Word.{kind, signed, wordAt}
-use Rattle.words.proofs.Reading.{word-then}
+use Rattle.words.proofs.Reading.{word-then, word-ahead}
 use Rattle.variables.specs.Start.{starts, boundsOf}
 
 -- the variables of a list that begins with a word
@@ -43,22 +42,17 @@ first-one w ws = go (startsPair w) (eqb (kind w) 3)
     go false false e = false-true e
 
 -- and from a place on
-at-none : (ws : List ℕ) (at : ℕ) → at < length ws → starts (getD ws at 0) ≡ false → variables (drop at ws) ≡ variables (drop (at + 1) ws)
-at-none ws at h e = ap variables (word-then ws at h) ∙ first-none (getD ws at 0) (drop (at + 1) ws) e
+module _ (ws : List ℕ) (at : ℕ) where
+  pub at-none : at < length ws → starts (getD ws at 0) ≡ false → variables (drop at ws) ≡ variables (drop (at + 1) ws)
+  at-none h e = ap variables (word-then ws at h) ∙ first-none (getD ws at 0) (drop (at + 1) ws) e
 
-at-one : (ws : List ℕ) (at : ℕ) → at < length ws → starts (getD ws at 0) ≡ true →
-    variables (drop at ws) ≡ boundsOf (getD ws at 0) (wordAt ws (at + 1)) ∷ variables (drop (at + 1) ws)
-unfolding wordAt
-at-one ws at h e =
-    let z : at + 1 + 0 ≡ at + 1 = omega arith in
-    let n : wordAt (drop (at + 1) ws) 0 ≡ wordAt ws (at + 1) = getD-drop (at + 1) ws 0 0 ∙ ap (λ (i : ℕ). getD ws i 0) z in
-    ap variables (word-then ws at h)
-    ∙ first-one (getD ws at 0) (drop (at + 1) ws) e
-    ∙ ap (λ (u : ℕ). boundsOf (getD ws at 0) u ∷ variables (drop (at + 1) ws)) n
+  pub at-one : at < length ws → starts (getD ws at 0) ≡ true →
+      variables (drop at ws) ≡ boundsOf (getD ws at 0) (wordAt ws (at + 1)) ∷ variables (drop (at + 1) ws)
+  at-one h e = ap variables (word-then ws at h) ∙ first-one (getD ws at 0) (drop (at + 1) ws) e ∙ rw (word-ahead ws at 0 (at + 1) (omega arith))
 
-at-last : (ws : List ℕ) (at : ℕ) → length ws ≤ at → variables (drop at ws) ≡ []
-unfolding variables
-at-last ws at h = rw (drop-of-length-le ws h)
+  pub at-last : length ws ≤ at → variables (drop at ws) ≡ []
+  unfolding variables
+  at-last h = rw (drop-of-length-le ws h)
 
 -- ---- counting: n variables stand before the place
 pub record Counted (ws : List ℕ) (n at : ℕ) : Type 0 where

@@ -8,11 +8,14 @@ ghost use Rattle.words.specs.Judge.{firstOutOfBounds};
 ghost use Rattle.words.specs.Variables.{startsPair, variables};
 ghost use Rattle.words.specs.Verdict.{verdict};
 ghost use Rattle.variables.specs.Start.{starts, boundsOf};
+ghost use Rattle.variables.specs.Judged.{judgedThen};
+use words::Refusal;
 use words::Verdict;
+use words::fault;
 use words::kind;
 
 // Whether a word is the lower bound of a variable.
-fn starts_pair(w: u32) -> bool
+pub fn starts_pair(w: u32) -> bool
     ensures { λ r. ⌜ r ≡ startsPair w ⌝ }
 {
     let k = words::kind_of(w);
@@ -23,7 +26,7 @@ fn starts_pair(w: u32) -> bool
 }
 
 // Whether a word starts a variable.
-fn starts_variable(w: u32) -> bool
+pub fn starts_variable(w: u32) -> bool
     ensures { λ r. ⌜ r ≡ starts w ⌝ }
 {
     if starts_pair(w) {
@@ -84,4 +87,20 @@ pub fn first_out_of_bounds(ws: &[u32], values: &[i32]) -> Verdict
         }
     }
     Verdict::Holds
+}
+
+// What both judges answer first: the refusal of the words, else of the number of values, else the first variable out of bounds, else "holds".
+pub fn judge_values(read: Refusal, ws: &[u32], values: &[i32]) -> Verdict
+    ensures { λ r. ⌜ verdict r ≡ judgedThen read (now (ws .entry)) (now (values .entry)) holds ⌝ }
+{
+    if read.number != fault::NONE {
+        return Verdict::Refused(read);
+    }
+    if values.len() != count_variables(ws) {
+        return Verdict::Refused(Refusal {
+            number: fault::WRONG_VALUE_COUNT,
+            place: 0,
+        });
+    }
+    first_out_of_bounds(ws, values)
 }

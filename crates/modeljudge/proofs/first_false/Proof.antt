@@ -1,21 +1,21 @@
 -- The loop's invariant: judging the rest from here gives what judging the whole gives.
 use mathlib.Core.Path.{_≡_, sym, _∙_}
 use Prim.Native.Nat.{_-_, _+_}
-use lib.ListN.{length}
+use lib.ListN.{length, drop}
 use borrow.Author.Tests.{not-true, not-false}
 use borrow.Author.Needs.{needs}
 use Rattle.integers.specs.Terms.{value}
 use Rattle.words.specs.Verdict.{verdict}
+use Rattle.words.proofs.Judge.{Passed, none-passed, pass-none, pass-one, fail-one, pass-all}
 use Rattle.words.proofs.Reading.{tail-is}
 use Rattle.models.specs.Meaning.{meaning}
-use Rattle.models.specs.Model.{builtin}
-use Rattle.models.proofs.Constraints.{headed}
-use Rattle.modeljudge.proofs.Walk.{True, all-left, true-none, true-one, false-one, true-all}
+use Rattle.models.specs.Model.{builtin, constraints, constraintsFrom}
+use Rattle.models.proofs.Constraints.{headed, starts-none, starts-one, none-left}
 use Rattle.modeljudge.proofs.first_false.Statement.{statement}
 use Rattle.modeljudge.proofs.first_false.Tie as tie
 
 abbrev Inv-loop : tie.InvT-loop
-Inv-loop ws values at₀ k₀ at k = True (λ c. meaning (value values) (builtin c)) ws k at
+Inv-loop ws values at₀ k₀ at k = Passed (λ c. meaning (value values) (builtin c)) (constraints ws) k at (constraintsFrom at (drop at ws))
 
 abbrev μ-loop : tie.MeasureT-loop
 μ-loop ws values at₀ k₀ at k = length ws - at
@@ -27,7 +27,8 @@ unfolding builtin
 said c = sym (c .holds .ensures ∙ rw (c .before .before .payload-of .ensures, tail-is (c .before .before .before .before .before .before .before .before .before .args .ws .now) (c .before .before .before .before .before .before .before .loop .at + 1)))
 
 loop-holds : tie.Need-loop-holds Inv-loop μ-loop
-loop-holds c = all-left _ (c .before .args .ws .now)
+unfolding constraints
+loop-holds c = none-passed _ _
 
 mul-w : tie.Need-mul-w Inv-loop μ-loop
 mul-w c = search needs
@@ -61,7 +62,7 @@ holds-requires c κs = search needs
 
 returns : tie.Need-returns Inv-loop μ-loop
 unfolding verdict
-returns c = false-one (c .before .before .before .before .before .before .before .before .loop .inv) (c .before .before .before .before .before .before .before .loop-test .taken) (sym (c .before .before .before .before .before .kind-of .ensures) ∙ c .before .before .before .before .if1 .taken) (said (c .before) ∙ not-true _ (c .if2 .taken))
+returns c = fail-one (c .before .before .before .before .before .before .before .before .loop .inv) (starts-one (c .before .before .before .before .before .before .before .before .before .before .args .ws .now) (c .before .before .before .before .before .before .before .before .loop .at) (c .before .before .before .before .before .before .before .loop-test .taken) (sym (c .before .before .before .before .before .kind-of .ensures) ∙ c .before .before .before .before .if1 .taken)) (said (c .before) ∙ not-true _ (c .if2 .taken))
 
 add-k : tie.Need-add-k Inv-loop μ-loop
 add-k c = search needs
@@ -70,17 +71,17 @@ loop-less : tie.Need-loop-less Inv-loop μ-loop
 loop-less c = search needs
 
 loop-again : tie.Need-loop-again Inv-loop μ-loop
-loop-again c = true-one (c .before .before .before .before .before .before .before .before .loop .inv) (c .before .before .before .before .before .before .before .loop-test .taken) (sym (c .before .before .before .before .before .kind-of .ensures) ∙ c .before .before .before .before .if1 .taken) (said (c .before) ∙ not-false _ (c .if2 .left))
+loop-again c = pass-one (c .before .before .before .before .before .before .before .before .loop .inv) (starts-one (c .before .before .before .before .before .before .before .before .before .before .args .ws .now) (c .before .before .before .before .before .before .before .before .loop .at) (c .before .before .before .before .before .before .before .loop-test .taken) (sym (c .before .before .before .before .before .kind-of .ensures) ∙ c .before .before .before .before .if1 .taken)) (said (c .before) ∙ not-false _ (c .if2 .left))
 
 loop-less-2 : tie.Need-loop-less-2 Inv-loop μ-loop
 loop-less-2 c = search needs
 
 loop-again-2 : tie.Need-loop-again-2 Inv-loop μ-loop
-loop-again-2 c = true-none (c .before .before .before .before .loop .inv) (c .before .before .before .loop-test .taken) (λ e. c .if1 .left (c .before .kind-of .ensures ∙ e))
+loop-again-2 c = pass-none (c .before .before .before .before .loop .inv) (starts-none (c .before .before .before .before .before .before .args .ws .now) (c .before .before .before .before .loop .at) (c .before .before .before .loop-test .taken) (λ e. c .if1 .left (c .before .kind-of .ensures ∙ e)))
 
 returns-2 : tie.Need-returns-2 Inv-loop μ-loop
 unfolding verdict
-returns-2 c = true-all (c .before .loop .inv) (c .loop-test .left)
+returns-2 c = pass-all (c .before .loop .inv) (none-left (c .before .before .before .args .ws .now) (c .before .loop .at) (c .loop-test .left))
 
 pub first-false-spec : {M : Type 1} → statement M
 first-false-spec =

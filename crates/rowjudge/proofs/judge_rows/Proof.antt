@@ -1,40 +1,45 @@
--- The refusal of the words, then of the number of values, then what judging says.
-use mathlib.Core.Path.{sym, _∙_}
+-- What is judged of the values comes first, then the rows and products, as in the definition.
+use mathlib.Core.Path.{_≡_, sym, ap, _∙_}
 use borrow.Author.Needs.{needs}
-use Rattle.words.specs.Verdict.{verdict}
-use Rattle.rowsystems.specs.JudgeRows.{judgeRows}
-use Rattle.rowjudge.proofs.Answers.{refused-first, accepted-first, as-many, not-as-many}
+use Rattle.words.specs.Answer.{holds, isHolds}
+use Rattle.words.specs.Judge.{judge}
+use Rattle.variables.specs.Judged.{judgedThen}
+use Rattle.variables.proofs.After.{go-on, stop}
+use Rattle.rowsystems.specs.JudgeRows.{judgeAccepted, judgeRows}
 use Rattle.rowjudge.proofs.judge_rows.Statement.{statement}
 use Rattle.rowjudge.proofs.judge_rows.Tie as tie
+
+-- what `is_holds` says of the values
+said : (c : tie.After-is-holds) → let a = c .before .before .before .before .args in isHolds (judgedThen (c .before .before .read-rows .result) (a .ws .now) (a .values .now) holds) ≡ c .is-holds .result
+said c = sym (c .is-holds .ensures ∙ ap isHolds (c .before .judge-values .ensures))
 
 read-rows-requires : tie.Need-read-rows-requires
 read-rows-requires c κs = search needs
 
-returns : tie.Need-returns
-unfolding verdict judgeRows
-returns c = rw (← c .before .before .read-rows .ensures) (sym (refused-first (c .before .before .read-rows .result) _ _ (c .if1 .taken)))
+judge-values-requires : tie.Need-judge-values-requires
+judge-values-requires c κs = search needs
 
-variable-count-requires : tie.Need-variable-count-requires
-variable-count-requires c κs = search needs
+is-holds-requires : tie.Need-is-holds-requires
+is-holds-requires c κs = search needs
+
+judge-each-row-requires : tie.Need-judge-each-row-requires
+judge-each-row-requires c κs = go-on _ _ _ (said (c .before) ∙ c .if1 .taken) .0
+
+returns : tie.Need-returns
+unfolding judge judgeAccepted judgeRows
+returns c = rw (← c .before .before .before .before .read-rows .ensures) (c .judge-each-row .ensures ∙ go-on _ _ _ (said (c .before .before) ∙ c .before .if1 .taken) .1 _)
 
 returns-2 : tie.Need-returns-2
-unfolding verdict judgeRows
-returns-2 c = rw (← c .before .before .before .before .read-rows .ensures) (sym (accepted-first (c .before .before .before .before .read-rows .result) _ _ (c .before .before .if1 .left) ∙ not-as-many (c .before .before .before .before .before .before .args .ws .now) (c .before .before .before .before .before .before .args .values .now) _ (λ e. c .if2 .taken (e ∙ sym (c .before .variable-count .ensures)))))
-
-judge-accepted-requires : tie.Need-judge-accepted-requires
-judge-accepted-requires c κs = search needs
-
-returns-3 : tie.Need-returns-3
-unfolding judgeRows
-returns-3 c = c .judge-accepted .ensures ∙ rw (← c .before .before .before .before .before .read-rows .ensures) (sym (accepted-first (c .before .before .before .before .before .read-rows .result) _ _ (c .before .before .before .if1 .left) ∙ as-many (c .before .before .before .before .before .before .before .args .ws .now) (c .before .before .before .before .before .before .before .args .values .now) _ (c .before .if2 .left ∙ c .before .before .variable-count .ensures)))
+unfolding judge judgeAccepted judgeRows
+returns-2 c = rw (← c .before .before .before .read-rows .ensures) (c .before .before .judge-values .ensures ∙ stop _ _ _ (said (c .before) ∙ c .if1 .left) _)
 
 pub judge-rows-spec : {M : Type 1} → statement M
 judge-rows-spec =
     tie.close
     (tie.spec
     read-rows-requires
+    judge-values-requires
+    is-holds-requires
+    judge-each-row-requires
     returns
-    variable-count-requires
-    returns-2
-    judge-accepted-requires
-    returns-3)
+    returns-2)
