@@ -1,45 +1,41 @@
 -- The bounds of the variables, word by word, and what the lists of kept bounds give.
 use mathlib.Core.Path.{_≡_, refl, ap, ap₂, sym, _∙_, fun-ext}
-use mathlib.Core.Bool.{Bool, true, false, _||_}
+use mathlib.Core.Bool.{Bool, true, false}
 use mathlib.Core.List.{List, [], _∷_, map}
 use Prim.Native.Nat.{ℕ, zero, suc, _+_, _<_, _≤_}
 use native.Mathlib.Omega.{arith}
 use native.Mathlib.Numerals.{add-one}
-use lib.Dec.{eqb}
 use lib.IntN.{ℤ}
 use lib.ListN.{length, getD, set, drop, length-set, length-map, drop-of-length-le, replicate, length-replicate}
-use lib.Seq.{drop-cons, getD-drop, getD-set-same, getD-set-other}
+use lib.Seq.{getD-set-same, getD-set-other}
 use Rattle.integers.specs.Choice.{_if_else_}
 use Rattle.integers.specs.Number.{+0, +1}
 use Rattle.integers.specs.Bounds.{_to_, bit, boundsIn}
 use Rattle.integers.specs.declared.Bounds.{Bounds}
-use Rattle.words.specs.Word.{kind, signed, wordAt}
-use Rattle.words.specs.Kind as Kind
+use Rattle.words.specs.Word.{signed, wordAt}
 use Rattle.words.specs.Variables.{variables, startsPair}
 use Rattle.words.specs.Overlay.{overlay}
-use Rattle.models.specs.Model.{num}
-use Rattle.arguments.proofs.Size.{num-size}
-use Rattle.extremes.specs.Bounded.{boundsOf, Near, Bounded}
-use Rattle.extremes.specs.Kept.{startsVariable, lowerOf, upperOf}
+use Rattle.variables.specs.Start as Start
+use Rattle.variables.specs.Start.{starts}
+use Rattle.variables.proofs.Walk.{at-none, at-one}
+use Rattle.variables.proofs.Small.{bounds-near}
+use Rattle.extremes.specs.Bounded.{boundsOf, Bounded}
+use Rattle.extremes.specs.Kept.{lowerOf, upperOf}
 
 -- ---- one word more
 
-first-word : (w : ℕ) (ws : List ℕ) → variables (w ∷ ws) ≡ ((lowerOf w to upperOf w (wordAt ws 0)) ∷ variables ws if startsVariable w else variables ws)
-unfolding variables startsVariable lowerOf upperOf
-first-word w ws = go (startsPair w) (eqb (kind w) Kind.boolean)
-  where
-    go : (p b : Bool) → ((signed w to signed (wordAt ws 0)) ∷ variables ws if p else bit ∷ variables ws if b else variables ws)
-        ≡ (((signed w if p else +0) to (signed (wordAt ws 0) if p else +1)) ∷ variables ws if p || b else variables ws)
-    go true b = refl
-    go false true = refl
-    go false false = refl
+module _ (ws : List ℕ) (i : ℕ) (h : i < length ws) where
+  no-word : starts (wordAt ws i) ≡ false → variables (drop i ws) ≡ variables (drop (i + 1) ws)
+  unfolding wordAt
+  no-word = at-none ws i h
 
-at-word : (ws : List ℕ) (i : ℕ) → i < length ws →
-    variables (drop i ws) ≡ ((lowerOf (wordAt ws i) to upperOf (wordAt ws i) (wordAt ws (i + 1))) ∷ variables (drop (i + 1) ws) if startsVariable (wordAt ws i) else variables (drop (i + 1) ws))
-unfolding wordAt
-at-word ws i h =
-    let e : suc i + 0 ≡ suc i = omega arith in
-    rw (add-one, drop-cons ws i 0 h) (first-word (getD ws i 0) (drop (suc i) ws) ∙ rw (getD-drop, e))
+  one-word : starts (wordAt ws i) ≡ true → variables (drop i ws) ≡ (lowerOf (wordAt ws i) to upperOf (wordAt ws i) (wordAt ws (i + 1))) ∷ variables (drop (i + 1) ws)
+  unfolding wordAt lowerOf upperOf Start.boundsOf
+  one-word t = at-one ws i h t ∙ ap (λ B. B ∷ variables (drop (i + 1) ws)) (go (startsPair (wordAt ws i)) (signed (wordAt ws i)) (signed (wordAt ws (i + 1))))
+    where
+      go : (p : Bool) (l u : ℤ) → ((l to u) if p else bit) ≡ ((l if p else +0) to (u if p else +1))
+      go true l u = refl
+      go false l u = refl
 
 -- the bounds of the words before the i-th stand in two lists, n of them
 pub record Keeping (ws : List ℕ) (ls₀ us₀ ls us : List ℤ) (i n : ℕ) : Type 0 where
@@ -55,11 +51,11 @@ pub begun : (ws : List ℕ) (ls us : List ℤ) → Keeping ws ls us ls us 0 0
 begun ws ls us = record { many = omega arith; lowers = refl; uppers = refl; few = omega arith; in-words = omega arith; same-lowers = refl; same-uppers = refl }
 
 module _ {ws : List ℕ} {ls₀ us₀ ls us : List ℤ} {i n : ℕ} (k : Keeping ws ls₀ us₀ ls us i n) where
-  pub kept : i < length ws → startsVariable (wordAt ws i) ≡ true →
+  pub kept : i < length ws → starts (wordAt ws i) ≡ true →
       Keeping ws ls₀ us₀ (set ls n (lowerOf (wordAt ws i))) (set us n (upperOf (wordAt ws i) (wordAt ws (i + 1)))) (i + 1) (n + 1)
   unfolding overlay
   kept h t =
-      let e = rw t at (at-word ws i h) in
+      let e = one-word ws i h t in
       record {
         many = omega (arith, rw e at (k .many));
         lowers = rw (add-one n) (rw e at (k .lowers));
@@ -70,9 +66,9 @@ module _ {ws : List ℕ} {ls₀ us₀ ls us : List ℤ} {i n : ℕ} (k : Keeping
         same-uppers = length-set us n (upperOf (wordAt ws i) (wordAt ws (i + 1))) ∙ k .same-uppers;
       }
 
-  pub passed : i < length ws → startsVariable (wordAt ws i) ≡ false → Keeping ws ls₀ us₀ ls us (i + 1) n
+  pub passed : i < length ws → starts (wordAt ws i) ≡ false → Keeping ws ls₀ us₀ ls us (i + 1) n
   passed h t =
-      let e = rw t at (at-word ws i h) in
+      let e = no-word ws i h t in
       record {
         many = rw e at (k .many);
         lowers = rw e at (k .lowers);
@@ -129,25 +125,6 @@ module _ (f : Bounds → ℤ) (z : f (+0 to +0) ≡ +0) (Bs : List Bounds) (n : 
       zeros zero w = refl
       zeros (suc n) zero = refl
       zeros (suc n) (suc w) = zeros n w
-
--- the bounds that words declare are as near to 0 as signed payloads are
-signed-near : (w : ℕ) → Near (signed w)
-unfolding num wordAt
-signed-near w = num-size (w ∷ []) 0
-
-bounds-near : (ws : List ℕ) (v : ℕ) → Near (boundsIn (variables ws) v .lower) × Near (boundsIn (variables ws) v .upper)
-unfolding boundsIn variables
-bounds-near [] v = (omega arith, omega arith)
-bounds-near (w ∷ ws) v = go (startsPair w) (eqb (kind w) Kind.boolean) (bounds-near ws) v
-  where
-    go : (p b : Bool) → ((v : ℕ) → Near (boundsIn (variables ws) v .lower) × Near (boundsIn (variables ws) v .upper)) → (v : ℕ) →
-        let Bs = ((signed w to signed (wordAt ws 0)) ∷ variables ws if p else bit ∷ variables ws if b else variables ws) in
-        Near (boundsIn Bs v .lower) × Near (boundsIn Bs v .upper)
-    go true b rest zero = (signed-near w, signed-near (wordAt ws 0))
-    go true b rest (suc v) = rest v
-    go false true rest zero = (omega arith, omega arith)
-    go false true rest (suc v) = rest v
-    go false false rest v = rest v
 
 -- THE LAWS, of what `keep_bounds` leaves in two lists of n zeros
 abbrev pub lowersKept : List ℕ → ℕ → List ℤ

@@ -1,16 +1,10 @@
 -- The bounds of the variable that a word starts, by that word and the next one.
-use mathlib.Core.Bool.{Bool, _||_}
 use Prim.Native.Nat.{ℕ}
-use lib.Dec.{eqb}
 use lib.IntN.{ℤ}
 use Rattle.integers.specs.Choice.{_if_else_}
 use Rattle.integers.specs.Number.{+0, +1}
-use Rattle.words.specs.Word.{kind, signed}
-use Rattle.words.specs.Kind as Kind
+use Rattle.words.specs.Word.{signed}
 use Rattle.words.specs.Variables.{startsPair}
-
-unfoldable pub startsVariable : ℕ → Bool
-startsVariable w = startsPair w || eqb (kind w) Kind.boolean
 
 unfoldable pub lowerOf : ℕ → ℤ
 lowerOf w = signed w if startsPair w else +0

@@ -10,8 +10,8 @@ ghost use Rattle.integers.specs.Choice.{_if_else_};
 ghost use Rattle.integers.specs.Number.{_⊕_, _⊖_, _⊗_, minZ, maxZ, +0, +1};
 ghost use Rattle.integers.specs.Bounds.{_to_, width};
 ghost use Rattle.extremes.specs.Bounded.{boundsOf, Near, Bounded};
-ghost use Rattle.extremes.specs.Kept.{startsVariable, lowerOf, upperOf};
-ghost use Rattle.words.specs.Variables.{variables, startsPair};
+ghost use Rattle.extremes.specs.Kept.{lowerOf, upperOf};
+ghost use Rattle.words.specs.Variables.{variables};
 ghost use Rattle.words.specs.Overlay.{overlay};
 ghost use Rattle.models.specs.Model.{var, num, nums, terms};
 ghost use Rattle.rules.specs.Parts.{extreme, L, U, endProducts, leastFrom, members};
@@ -22,15 +22,16 @@ use arguments::size_at;
 use arguments::test::at_most;
 use arguments::test::below;
 use arguments::test::both;
+<<<<<<< HEAD
 use arguments::test::either;
+=======
+>>>>>>> 8ddb5ea (Bounds are kept by the tests of variables' words that variables has)
 use arguments::var_at;
 use integers::largest;
 use integers::least;
 use integers::minus;
 use integers::plus;
 use integers::times;
-use words::kind;
-use words::kind_of;
 use words::signed_of;
 use words::word_at;
 
@@ -229,26 +230,11 @@ pub fn members(args: &[u32], i: usize, lower: i64, upper: i64, out: &mut [i64]) 
     k
 }
 
-// Whether a word is the lower bound of a variable.
-pub fn starts_pair(w: u32) -> bool
-    ensures { λ r. ⌜ r ≡ startsPair w ⌝ }
-{
-    let k = kind_of(w);
-    either(k == kind::LOWER, k == kind::AUXILIARY_LOWER)
-}
-
-// Whether a word starts a variable.
-pub fn starts_variable(w: u32) -> bool
-    ensures { λ r. ⌜ r ≡ startsVariable w ⌝ }
-{
-    either(starts_pair(w), kind_of(w) == kind::BOOLEAN)
-}
-
 // The lower bound of the variable that a word starts.
 pub fn lower_of(w: u32) -> i64
     ensures { λ r. ⌜ r ≡ lowerOf w ⌝ }
 {
-    if starts_pair(w) {
+    if variables::starts_pair(w) {
         return signed_of(w);
     }
     0
@@ -258,7 +244,7 @@ pub fn lower_of(w: u32) -> i64
 pub fn upper_of(w: u32, next: u32) -> i64
     ensures { λ r. ⌜ r ≡ upperOf w next ⌝ }
 {
-    if starts_pair(w) {
+    if variables::starts_pair(w) {
         return signed_of(next);
     }
     1
@@ -273,7 +259,7 @@ pub fn keep_bounds(ws: &[u32], lowers: &mut [i64], uppers: &mut [i64]) -> usize
     let mut n = 0;
     while i < ws.len() {
         let w = word_at(ws, i);
-        if starts_variable(w) {
+        if variables::starts_variable(w) {
             put(lowers, n, lower_of(w));
             put(uppers, n, upper_of(w, word_at(ws, i + 1)));
             n += 1;
