@@ -8,11 +8,11 @@ use lib.ListN.{length}
 use Rattle.words.specs.Fault as Fault
 use Rattle.words.specs.Kind as Kind
 use Rattle.words.specs.Word.{wordAt}
+use Rattle.words.proofs.Reading.{word-ahead}
 use Rattle.rowsystems.specs.Reading.{faultUpper, faultVariable, faultNumber, faultResult, faultDue, afterDue}
 use Rattle.rowsystems.specs.declared.Due.{Due}
 use Rattle.rowsystems.specs.declared.Due.the-variants.{Source, SourceUpper, Item, AuxiliaryUpper, Terms, Coefficient, Result, FirstFactor, SecondFactor, Ended}
 use Rattle.rowreading.specs.Onward.{resumed, Went, stepOver}
-use Rattle.rowreading.proofs.Onward.{word-ahead}
 use Rattle.rowreading.proofs.Steps.{step, or-halted}
 
 module _ (ws : List ℕ) (n at : ℕ) (h : at ≤ length ws) where

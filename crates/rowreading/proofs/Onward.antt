@@ -5,19 +5,19 @@ use mathlib.Core.Bool.{Bool, true, false}
 use mathlib.Core.List.{List, _∷_}
 use Prim.Native.Nat.{ℕ, zero, suc, _+_, _<_, _≤_}
 use native.Mathlib.Omega.{arith}
-use native.Mathlib.Numerals.{add-one}
 use borrow.Author.Tests.{ltb-true, ltb-false}
 use lib.Dec.{ltb, eqb}
-use lib.ListN.{length, getD, drop, drop-of-length-le, List·getD-eq-default}
-use lib.Seq.{drop-cons, getD-drop}
+use lib.ListN.{length, drop, List·getD-eq-default}
 use Rattle.integers.specs.Choice.{_if_else_}
 use Rattle.words.specs.Fault as Fault
 use Rattle.words.specs.Word.{kind, wordAt}
-use Rattle.words.specs.Refusal.{accepted, firstFault, _at-place_}
-use Rattle.rowsystems.specs.Reading.{faultItem, faultSource, faultUpper, faultVariable, faultNumber, faultResult, faultDue, faultEnd, fault, afterDue, started, after, ended}
+use Rattle.words.specs.Refusal.{accepted, _at-place_}
+use Rattle.words.proofs.Reading.{onward, refused, at-end}
+use Rattle.rowsystems.specs.Reading.{faultItem, faultSource, faultUpper, faultVariable, faultNumber, faultResult, faultDue, faultEnd, fault, afterDue, started, after, ended, State}
 use Rattle.rowsystems.specs.declared.Due.{Due}
 use Rattle.rowsystems.specs.declared.Due.the-variants.{Source, SourceUpper, Item, AuxiliaryUpper, Terms, Coefficient, Result, FirstFactor, SecondFactor, Ended}
-use Rattle.rowreading.specs.Onward.{onward, stopped}
+use Rattle.rowreading.specs.Onward as Onward
+use Rattle.rowreading.specs.Onward.{stopped}
 
 -- ---- past the end of the words, where a word reads 0
 
@@ -43,15 +43,6 @@ past Ended n l = inr (refl, refl)
 
 -- ---- one word
 
-pub cons-at : (ws : List ℕ) (at : ℕ) → at < length ws → drop at ws ≡ wordAt ws at ∷ drop (at + 1) ws
-unfolding wordAt
-cons-at ws at h = rw add-one (drop-cons ws at 0 h)
-
--- a word after that one
-pub word-ahead : (ws : List ℕ) (at i k : ℕ) → at + 1 + i ≡ k → wordAt (drop (at + 1) ws) i ≡ wordAt ws k
-unfolding wordAt
-word-ahead ws at i k e = getD-drop (at + 1) ws i 0 ∙ ap (λ (j : ℕ). getD ws j 0) e
-
 module _ (ws : List ℕ) (due : Due) (n at : ℕ) where
   abbrev pub faultAt : ℕ
   faultAt = faultDue due n (wordAt ws at) (drop (at + 1) ws)
@@ -70,23 +61,22 @@ module _ (ws : List ℕ) (due : Due) (n at : ℕ) where
           let z = past-here (ltb-false at (length ws) t) in
           ⊎-elim (λ k. absurd (omega (arith, k .0, z, e))) (λ k. absurd (omega (arith, k .0, z, e))) (past due n (drop (at + 1) ws))
 
-  pub go-on : 0 ≡ faultAt → onward due n at ws ≡ onward (afterDue due (wordAt ws at)) (n + started (wordAt ws at)) (at + 1) ws
-  unfolding onward firstFault fault after
-  go-on e =
-      ap (firstFault fault after ended (record { due = due; variables = n }) at) (cons-at ws at (here e))
-      ∙ rw (← e)
+  abbrev here-state : State
+  here-state = record { due = due; variables = n }
 
-  pub stop-at : (f : ℕ) → f ≡ faultAt → (f ≡ 0 → ⊥) → onward due n at ws ≡ stopped ws f at
-  unfolding onward firstFault fault ended stopped
-  stop-at zero e z = absurd (z refl)
-  stop-at (suc f) e z = go (ltb at (length ws)) refl
+  pub go-on : 0 ≡ faultAt → Onward.onward due n at ws ≡ Onward.onward (afterDue due (wordAt ws at)) (n + started (wordAt ws at)) (at + 1) ws
+  unfolding Onward.onward fault after wordAt
+  go-on e = sym (onward fault after ended here-state ws at 0 (here e) e refl)
+
+  pub stop-at : (f : ℕ) → f ≡ faultAt → (f ≡ 0 → ⊥) → Onward.onward due n at ws ≡ stopped ws f at
+  unfolding Onward.onward fault ended stopped wordAt
+  stop-at f e z = go (ltb at (length ws)) refl
     where
       go : (b : Bool) → ltb at (length ws) ≡ b →
-          onward due n at ws ≡ (suc f at-place at if b else accepted if eqb (suc f) Fault.wordAfterEnd else Fault.wordsEnd at-place at)
-      go true t =
-          ap (firstFault fault after ended (record { due = due; variables = n }) at) (cons-at ws at (ltb-true at (length ws) t))
-          ∙ rw (← e)
+          Onward.onward due n at ws ≡ (f at-place at if b else accepted if eqb f Fault.wordAfterEnd else Fault.wordsEnd at-place at)
+      go true t = sym (refused fault after ended here-state ws at f (ltb-true at (length ws) t) e z)
       go false t =
           let h = ltb-false at (length ws) t in
           let s = e ∙ sym (past-here h) in
-          rw (drop-of-length-le ws h) (⊎-elim (λ k. rw (s ∙ k .0, k .1)) (λ k. rw (s ∙ k .0, k .1)) (past due n (drop (at + 1) ws)))
+          sym (at-end fault after ended here-state ws at h)
+          ∙ ⊎-elim (λ k. rw (s ∙ k .0, k .1)) (λ k. rw (s ∙ k .0, k .1)) (past due n (drop (at + 1) ws))

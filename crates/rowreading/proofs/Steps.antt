@@ -121,3 +121,7 @@ module _ {ws : List ℕ} {n : ℕ} {a b : Due} {at : ℕ} {r : Step} (g : Went w
   pub or-halted : {c : Due} → (r .number ≡ 0 → ⊥) → Went ws n a at c r
   unfolding resumed
   or-halted z = record { reads = halted z ∙ rw (ne-eqb (r .number) 0 z); on = g .on; inside = g .inside }
+
+-- ---- the word at a place, its fault, the step over it: one call after another
+pub word-step : (F : ℕ → ℕ) (at : ℕ) {w v f : ℕ} {r : Step} → w ≡ v → f ≡ F w → r ≡ stepOver f at → r ≡ stepOver (F v) at
+word-step F at e g h = rw (← e, ← g) h

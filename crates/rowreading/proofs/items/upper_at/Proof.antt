@@ -1,5 +1,7 @@
 -- One call after another.
 use borrow.Author.Needs.{needs}
+use Rattle.rowsystems.specs.Reading.{faultUpper}
+use Rattle.rowreading.proofs.Steps.{word-step}
 use Rattle.rowreading.proofs.items.upper_at.Statement.{statement}
 use Rattle.rowreading.proofs.items.upper_at.Tie as tie
 
@@ -13,7 +15,7 @@ step-over-requires : tie.Need-step-over-requires
 step-over-requires c κs = search needs
 
 returns : tie.Need-returns
-returns c = rw (← c .before .before .word-at .ensures, ← c .before .fault-upper .ensures) (c .step-over .ensures)
+returns c = word-step (faultUpper (c .before .before .before .before .args .k) (c .before .before .before .before .args .lower)) _ (c .before .before .word-at .ensures) (c .before .fault-upper .ensures) (c .step-over .ensures)
 
 pub upper-at-spec : {M : Type 1} → statement M
 upper-at-spec =
