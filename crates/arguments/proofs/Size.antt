@@ -2,8 +2,8 @@
 use mathlib.Core.Path.{_≡_, refl, sym, _∙_}
 use mathlib.Core.Bool.{true, false}
 use mathlib.Core.List.{List}
-use Prim.Native.Nat.{ℕ, _<_, _≤_}
 use native.Mathlib.Omega.{arith}
+use Prim.Native.Nat.{ℕ, _<_, _≤_}
 use lib.Dec.{leb·zero}
 use lib.IntN.{ℤ, pos, negsuc, natAbs}
 use lib.Signed.{leZ, mag}
@@ -12,16 +12,16 @@ use mir.Val.{toZ, ofZ}
 use Rattle.integers.specs.Number.{_⊗_, count}
 use Rattle.integers.specs.Terms.{value}
 use Rattle.integers.proofs.Tests.{false-true, capped}
-use Rattle.integers.proofs.Fits.{times-size, mul-le, back}
+use Rattle.integers.proofs.Fits.{back}
 use Rattle.words.specs.Word.{wordAt}
-use Rattle.words.proofs.Word.{signed-near}
+use Rattle.words.proofs.Word.{signed-near, product-size as near-product}
 use Rattle.models.specs.Model.{var, num, size}
 use Rattle.arguments.specs.Small.{Small}
 
 -- a list has at most 32 elements
 pub size-le : (ws : List ℕ) (i : ℕ) → size ws i ≤ 32
 unfolding size
-size-le ws i = capped (var ws i) 32
+size-le ws i = capped (var ws i) 32 32 (omega arith)
 
 -- a number is at most 2^27, its product with a small value at most 2^54
 pub num-size : (ws : List ℕ) (i : ℕ) → natAbs (num ws i) ≤ 134217728
@@ -29,8 +29,7 @@ unfolding num
 num-size ws i = signed-near (wordAt ws i)
 
 pub product-size : (ws : List ℕ) (vs : List ℤ) → Small vs → (a x : ℕ) → natAbs (num ws a ⊗ value vs (var ws x)) ≤ 18014398509481984
-product-size ws vs small a x =
-    omega (arith, times-size (num ws a) (value vs (var ws x)), mul-le (num-size ws a) (small (var ws x)))
+product-size ws vs small a x = near-product (num ws a) (value vs (var ws x)) (num-size ws a) (small (var ws x))
 
 -- a number as a count
 pub count-from : (z : ℤ) → leZ (pos 0) z ≡ true → count z ≡ mag z

@@ -11,17 +11,14 @@ use borrow.Author.Tests.{leb-true, le-leb, lt-leb}
 use Rattle.integers.specs.Choice.{_if_else_}
 use Rattle.integers.specs.Number.{_==_, count, +0}
 use Rattle.integers.specs.Lists.{listOf}
+use Rattle.integers.proofs.Tests.{capped}
 use Rattle.models.specs.Meaning.{element}
 use Rattle.arguments.proofs.Walk.{length-listOf, getD-listOf}
 use Rattle.builtins.specs.Coded.{indexIn}
 
 pub index-le : (n : ℕ) (z : ℤ) → indexIn n z ≤ n
 unfolding indexIn
-index-le n z = go (leb (count z) n) refl
-  where
-    go : (b : Bool) → leb (count z) n ≡ b → (count z if b else 0) ≤ n
-    go true e = leb-true (count z) n e
-    go false e = omega arith
+index-le n z = capped (count z) n 0 (omega arith)
 
 module _ (g : ℕ → ℤ) (n : ℕ) (c z : ℤ) (r : ℕ) (at : r ≡ indexIn n z) where
   abbrev list : List ℤ

@@ -14,8 +14,9 @@ use Rattle.integers.specs.Bounds.{_to_, width}
 use Rattle.integers.specs.Lists.{listOf}
 use Rattle.integers.specs.Terms.{Term, _·_}
 use Rattle.integers.specs.declared.Bounds.{Bounds}
-use Rattle.integers.proofs.Fits.{plus-size, minus-size, times-size, mul-le}
+use Rattle.integers.proofs.Fits.{plus-size, minus-size}
 use Rattle.integers.proofs.Linear.{linear, rep}
+pub use Rattle.words.proofs.Word.{product-size}
 use Rattle.models.specs.Model.{size, var, num, past, terms}
 use Rattle.arguments.proofs.Size.{size-le, num-size}
 use Rattle.arguments.proofs.Walk.{one-more, ⊕-assoc, ⊕-zero}
@@ -31,9 +32,6 @@ pub pick-size : (up : Bool) (a b : ℤ) {m : ℕ} → natAbs a ≤ m → natAbs 
 unfolding maxZ minZ
 pick-size true a b h k = chosen-size (leZ a b) b a k h
 pick-size false a b h k = chosen-size (leZ a b) a b h k
-
-pub product-size : (a b : ℤ) → Near a → Near b → natAbs (a ⊗ b) ≤ 18014398509481984
-product-size a b h k = omega (arith, times-size a b, mul-le h k)
 
 -- how many values two bounds leave, and the places of a list of n elements
 count-le : (z : ℤ) → count z ≤ natAbs z

@@ -1,7 +1,7 @@
 -- Values that are 0 or 1: `simp bits (simp linear (omega arith))` proves a linear statement over them, `(r : ℤ) → Bit r → ..`.
 use mathlib.Core.Path.{_≡_, refl}
 use mathlib.Core.Logic.{_↔_}
-use Prim.Native.Nat.{ℕ, zero, suc}
+use Prim.Native.Nat.{zero, suc}
 use lib.IntN.{ℤ, pos, negsuc}
 use Rattle.integers.proofs.Linear.{_⊑_, arithZ}
 

@@ -1,5 +1,5 @@
 -- A product between the products of the ends of bounds.
-use mathlib.Core.Path.{_≡_, refl, ap}
+use mathlib.Core.Path.{_≡_}
 use Prim.Native.Nat.{ℕ, _+_, _*_, _-_, _≤_}
 use native.Mathlib.Omega.{arith}
 use lib.IntN.{ℤ, pos, *ℤ-comm}

@@ -4,7 +4,6 @@ use mathlib.Core.Logic.{_⊎_, inl, inr, _↔_}
 use mathlib.Core.Bool.{Bool, true, false, not, _&&_, _||_, Bool·beq}
 use mathlib.Core.List.{List, [], _∷_}
 use Prim.Native.Nat.{ℕ, _≤_}
-use native.Mathlib.Omega.{arith}
 use lib.Dec.{T, leb}
 use lib.IntN.{ℤ, pos, negsuc}
 use lib.Signed.{leZ, ltZ}
@@ -24,13 +23,13 @@ false-true e = absurd (subst (λ b. elim b as (λ x. Type 0) [ true ↦ ⊥ | fa
 
 -- ---- numbers
 
--- the lesser of two counts, as `size` and `termCount` take it
-pub capped : (n most : ℕ) → (n if leb n most else most) ≤ most
-capped n most = go (leb n most) refl
+-- a count that is kept where it is at most a limit
+pub capped : (n most other : ℕ) → other ≤ most → (n if leb n most else other) ≤ most
+capped n most other h = go (leb n most) refl
   where
-    go : (b : Bool) → leb n most ≡ b → (n if b else most) ≤ most
+    go : (b : Bool) → leb n most ≡ b → (n if b else other) ≤ most
     go true e = leb-true n most e
-    go false e = omega arith
+    go false e = h
 
 pub says-le : (a b : ℤ) → Says (leZ a b) (a ⊑ b)
 says-le a b = by-le a b (λ t. (t ≡ true) ↔ (a ⊑ b)) (λ h. (λ e. h, λ k. refl)) (λ n. (λ e. false-true e, λ k. absurd (n k)))

@@ -1,5 +1,5 @@
 -- What an accepted word declares: no variable, or one, for which there is room.
-use mathlib.Core.Path.{_≡_, refl, ap, sym, _∙_}
+use mathlib.Core.Path.{_≡_, refl}
 use mathlib.Core.Bool.{Bool, true, false}
 use mathlib.Core.List.{List, [], _∷_}
 use Prim.Native.Nat.{ℕ, _<_, _≤_}
@@ -8,6 +8,7 @@ use lib.Dec.{ltb, leb, eqb}
 use lib.ListN.{getD}
 use borrow.Author.Tests.{leb-false, eqb-true}
 use Rattle.integers.specs.Choice.{_if_else_}
+use Rattle.integers.proofs.Places.{bit-le}
 use Rattle.words.specs.Word.{kind, payload}
 use Rattle.models.specs.Reading.{faultHead, faultStart, faultUpper, faultNumber, faultVariable, faultLength, faultArgument, faultDue, declared, started}
 use Rattle.models.specs.declared.Due.{Due}
@@ -15,11 +16,7 @@ use Rattle.models.specs.declared.Due.the-variants.{Start, Upper, Arguments, End
 
 pub started-small : (w : ℕ) → started w ≤ 1
 unfolding started
-started-small w = go (eqb (kind w) 4)
-  where
-    go : (b : Bool) → (1 if b else 0) ≤ 1
-    go true = omega arith
-    go false = omega arith
+started-small w = bit-le (eqb (kind w) 4)
 
 -- ---- the list of one type or none
 abbrev oneOf : Bool → Bool → List ℕ

@@ -11,15 +11,20 @@ use Rattle.integers.proofs.Fits.{plus-size}
 use Rattle.integers.proofs.Places.{sum-more}
 use Rattle.integers.proofs.Tests.{capped}
 use Rattle.words.specs.Limit as Limit
-use Rattle.words.specs.Small.{Small}
-use Rattle.words.specs.Word.{payload}
+use Rattle.words.specs.Small.{Near, Small}
+use Rattle.words.specs.Word.{payload, wordAt}
+use Rattle.words.proofs.Word.{signed-near, product-size}
 use Rattle.rowsystems.specs.RowSystem.{termCount, numberAt, variableAt, termsIn}
-use Rattle.rowjudge.proofs.Sizes.{number-size, product-size}
 
 -- no row counts more terms than the limit
 pub count-few : (w : ℕ) → termCount w ≤ Limit.terms
 unfolding termCount
-count-few w = capped (payload w) Limit.terms
+count-few w = capped (payload w) Limit.terms Limit.terms (omega arith)
+
+-- the numbers of words are near 0
+pub number-size : (ws : List ℕ) (i : ℕ) → Near (numberAt ws i)
+unfolding numberAt
+number-size ws i = signed-near (wordAt ws i)
 
 module _ (ws : List ℕ) (vs : List ℤ) where
   pub no-terms : sum (value vs) (termsIn ws 0) ≡ +0

@@ -7,7 +7,7 @@ use native.Mathlib.Omega.{arith}
 use borrow.Author.Tests.{ne-eqb}
 use lib.Dec.{eqb}
 use lib.ListN.{length}
-use Rattle.integers.specs.Choice.{_if_else_}
+use Rattle.integers.proofs.Places.{bit-le}
 use Rattle.words.specs.Fault as Fault
 use Rattle.words.specs.Kind as Kind
 use Rattle.words.specs.Word.{kind, wordAt}
@@ -60,11 +60,7 @@ module _ (ws : List ℕ) (s : Bool) (n at f : ℕ) (e : f ≡ faultHead s n (wor
 -- a word starts at most one variable
 pub started-few : (w : ℕ) → started w ≤ 1
 unfolding started
-started-few w = go (startsPair w || eqb (kind w) Kind.boolean)
-  where
-    go : (b : Bool) → (1 if b else 0) ≤ 1
-    go true = omega arith
-    go false = omega arith
+started-few w = bit-le (startsPair w || eqb (kind w) Kind.boolean)
 
 -- ---- the terms that are left
 

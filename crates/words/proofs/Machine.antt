@@ -1,6 +1,6 @@
 -- What the machine's signed numbers are for payloads: for the proofs of the functions on words.
 use mathlib.Core.Path.{_≡_, refl, ap, sym, _∙_}
-use mathlib.Core.Bool.{Bool, true, false}
+use mathlib.Core.Bool.{true, false}
 use Prim.Native.Nat.{ℕ, suc, _-_, _%_, _<_}
 use native.Mathlib.Omega.{arith}
 use lib.Dec.{leb·zero}

@@ -1,12 +1,14 @@
 -- A word gives back the kind, the payload and the number that it was made of; for proofs that what is written is what is read.
 use mathlib.Core.Path.{_≡_, refl, _∙_}
 use mathlib.Core.Bool.{Bool, true, false}
-use Prim.Native.Nat.{ℕ, _-_, _%_, _≤_, _<_}
+use Prim.Native.Nat.{ℕ, _-_, _*_, _%_, _≤_, _<_}
 use native.Mathlib.Omega.{arith}
 use lib.Dec.{ltb}
-use lib.IntN.{ℤ, pos, negsuc}
+use lib.IntN.{ℤ, pos, negsuc, natAbs}
 use borrow.Author.Tests.{ltb-true, ltb-false, lt-ltb, le-ltb}
 use Rattle.integers.specs.Choice.{_if_else_}
+use Rattle.integers.specs.Number.{_⊗_}
+use Rattle.integers.proofs.Fits.{times-size, mul-le}
 use Rattle.integers.proofs.Linear.{_⊑_, linear, arithZ}
 use Rattle.integers.proofs.Tests.{Says, says-and, says-le}
 use Rattle.words.specs.Word.{kind, payload, signed, inRange, word, complement, numberWord}
@@ -61,3 +63,10 @@ between-near = simp linear (omega arith)
 
 pub signed-near : (w : ℕ) → Near (signed w)
 signed-near w = let k = says-range (signed w) .0 (signed-range w) in between-near Limit.lowest (signed w) Limit.highest (k .0) (k .1) (omega arith) (omega arith)
+
+-- products of such numbers
+pub factors-fit : (a b : ℤ) → Near a → Near b → natAbs a * natAbs b ≤ 18014398509481984
+factors-fit a b h k = omega (arith, mul-le h k)
+
+pub product-size : (a b : ℤ) → Near a → Near b → natAbs (a ⊗ b) ≤ 18014398509481984
+product-size a b h k = omega (arith, times-size a b, factors-fit a b h k)

@@ -4,9 +4,9 @@ use native.Mathlib.Omega.{arith}
 use borrow.Author.Needs.{needs}
 use Rattle.integers.specs.Terms.{value}
 use Rattle.integers.proofs.Fits.{back}
+use Rattle.words.proofs.Word.{factors-fit}
 use Rattle.rowsystems.specs.RowSystem.{variableAt}
 use Rattle.rowsystems.specs.Row.{satisfied}
-use Rattle.rowjudge.proofs.Sizes.{factors-fit}
 use Rattle.rowjudge.proofs.rows.is_product.Statement.{statement}
 use Rattle.rowjudge.proofs.rows.is_product.Tie as tie
 

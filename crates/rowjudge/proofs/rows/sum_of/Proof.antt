@@ -8,9 +8,9 @@ use mir.Val.{toZ, ofZ}
 use Rattle.integers.specs.Number.{_⊗_}
 use Rattle.integers.specs.Terms.{value, sum}
 use Rattle.integers.proofs.Fits.{back}
+use Rattle.words.proofs.Word.{product-size}
 use Rattle.rowsystems.specs.RowSystem.{numberAt, variableAt, termsIn}
-use Rattle.rowjudge.proofs.Sizes.{number-size, product-size}
-use Rattle.rowjudge.proofs.Sums.{no-terms, one-more, sum-size}
+use Rattle.rowjudge.proofs.Sums.{number-size, no-terms, one-more, sum-size}
 use Rattle.rowjudge.proofs.rows.sum_of.Statement.{statement}
 use Rattle.rowjudge.proofs.rows.sum_of.Tie as tie
 

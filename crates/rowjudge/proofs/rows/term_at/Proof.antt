@@ -5,8 +5,9 @@ use native.Mathlib.Omega.{arith}
 use borrow.Author.Needs.{needs}
 use Rattle.integers.specs.Terms.{value}
 use Rattle.integers.proofs.Fits.{back}
+use Rattle.words.proofs.Word.{factors-fit}
 use Rattle.rowsystems.specs.RowSystem.{numberAt, variableAt}
-use Rattle.rowjudge.proofs.Sizes.{number-size, factors-fit}
+use Rattle.rowjudge.proofs.Sums.{number-size}
 use Rattle.rowjudge.proofs.rows.term_at.Statement.{statement}
 use Rattle.rowjudge.proofs.rows.term_at.Tie as tie
 

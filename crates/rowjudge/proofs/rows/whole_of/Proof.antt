@@ -5,8 +5,7 @@ use native.Mathlib.Omega.{arith}
 use borrow.Author.Needs.{needs}
 use Rattle.integers.proofs.Fits.{back}
 use Rattle.rowsystems.specs.RowSystem.{constantIn}
-use Rattle.rowjudge.proofs.Sizes.{number-size}
-use Rattle.rowjudge.proofs.Sums.{sum-size}
+use Rattle.rowjudge.proofs.Sums.{number-size, sum-size}
 use Rattle.rowjudge.proofs.rows.whole_of.Statement.{statement}
 use Rattle.rowjudge.proofs.rows.whole_of.Tie as tie
 
