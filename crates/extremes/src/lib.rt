@@ -22,10 +22,6 @@ use arguments::size_at;
 use arguments::test::at_most;
 use arguments::test::below;
 use arguments::test::both;
-<<<<<<< HEAD
-use arguments::test::either;
-=======
->>>>>>> 8ddb5ea (Bounds are kept by the tests of variables' words that variables has)
 use arguments::var_at;
 use integers::largest;
 use integers::least;
