@@ -1,0 +1,2 @@
+-- Laws for proofs about the linear block writers.
+pub mod Rows

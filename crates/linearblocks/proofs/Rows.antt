@@ -1,0 +1,49 @@
+-- A row laid as a head, terms and a constant; rows after those of a block; int_eq_reif as int_lin_eq_reif.
+use mathlib.Core.Path.{_≡_, refl, sym, ap, ap₂, _∙_}
+use mathlib.Core.List.{List, [], _∷_, _++_, append-assoc, append-nil, flatMap}
+use Prim.Native.Nat.{ℕ}
+use lib.IntN.{ℤ}
+use lib.ListN.{length, getD}
+use Rattle.integers.specs.Lists.{listOf}
+use Rattle.integers.specs.Terms.{Term}
+use Rattle.integers.specs.declared.Bounds.{Bounds}
+use Rattle.words.specs.Word.{payload, signed, wordAt}
+use Rattle.models.specs.Builtin.{int-lin-eq-reif, int-eq-reif}
+use Rattle.models.specs.Model.{var, num, size, past, terms, pastTerms}
+use Rattle.builtins.specs.Coded.{linearReified}
+use Rattle.rowsystems.specs.Row.{Row}
+use Rattle.rules.specs.Block.{Ref, Block, numbered}
+use Rattle.rules.specs.Rule.{block, rule}
+use Rattle.laying.specs.Part.{Part, head, term, constant, boundParts, termParts, rowParts, blockParts}
+use Rattle.laying.specs.Went.{Went}
+use Rattle.laying.specs.declared.Laid.{Laid}
+use Rattle.laying.proofs.Parts.{flatMap-append, went-then}
+use Rattle.laying.proofs.Lists.{terms-append}
+
+module _ (first : ℕ) where
+  -- the parts of a row of terms, laid one after the other
+  pub row-went : {s a b r : Laid} {o p q o′ : List ℕ} {k n : ℕ} {ps : List Part} {c : ℤ} (ts : List (Term Ref)) → length ts ≡ n → termParts first ts ≡ ps →
+      Went s a o p (head k n ∷ []) → Went a b p q ps → Went b r q o′ (constant c ∷ []) → Went s r o o′ (head k (length ts) ∷ (termParts first ts ++ (constant c ∷ [])))
+  row-went {k} {c} ts e f u v w = rw (e, f) (went-then u (went-then v w))
+
+  -- a block of one row; more rows after those of a block
+  pub one-row : (q : Row Ref) → rowParts first q ≡ blockParts first (block [] (q ∷ []))
+  unfolding blockParts boundParts flatMap
+  one-row q = sym (append-nil (rowParts first q))
+
+  pub rows-then : {s a r : Laid} {o p q : List ℕ} (B : Block) (rs : List (Row Ref)) →
+      Went s a o p (blockParts first B) → Went a r p q (flatMap (rowParts first) rs) → Went s r o q (blockParts first (block (B .auxiliaries) (B .rows ++ rs)))
+  unfolding blockParts
+  rows-then B rs v w = rw (flatMap-append (rowParts first) (B .rows) rs, ← append-assoc) (went-then v w)
+
+  -- one term more
+  pub last-term : (ts : List (Term Ref)) (t : Term Ref) {ps : List Part} → termParts first ts ≡ ps →
+      termParts first (ts ++ (t ∷ [])) ≡ ps ++ (term (t .coefficient) (numbered first (t .variable)) ∷ [])
+  unfolding termParts
+  last-term ts t e = terms-append first ts (t ∷ []) ∙ rw e
+
+-- the words that `int_eq_reif` lends for its three variables
+pub two-terms : (β : ℕ → Bounds) (a b r : ℕ) →
+    rule β (linearReified int-lin-eq-reif (2 ∷ 1 ∷ 268435455 ∷ a ∷ b ∷ 0 ∷ r ∷ [])) ≡ rule β (int-eq-reif (payload a) (payload b) (payload r))
+unfolding rule terms num var size past pastTerms payload signed wordAt listOf
+two-terms β a b r = refl

@@ -1,0 +1,61 @@
+-- The rows r−x≤0, then the last row.
+use mathlib.Core.Path.{sym}
+use mathlib.Core.List.{[], _∷_, _++_, map, append-nil, flatMap}
+use native.Mathlib.Omega.{arith}
+use lib.IntN.{pos}
+use lib.ListN.{length}
+use borrow.Author.Needs.{needs}
+use Rattle.integers.specs.Number.{_⊖_, +1, -1}
+use Rattle.integers.specs.Terms.{_·_}
+use Rattle.models.specs.Model.{var, vars, past}
+use Rattle.arguments.proofs.Size.{size-le}
+use Rattle.rowsystems.specs.Row.{sum≤0}
+use Rattle.rules.specs.Block.{source}
+use Rattle.rules.specs.Parts.{_─_≤0, each}
+use Rattle.rules.specs.Rule.{block, rule}
+use Rattle.laying.specs.Part.{boundParts, blockParts}
+use Rattle.laying.proofs.Parts.{went-as}
+use Rattle.laying.proofs.Lists.{above-parts}
+use Rattle.linearblocks.proofs.Rows.{rows-then}
+use Rattle.linearblocks.proofs.clause.array_bool_and.Statement.{statement}
+use Rattle.linearblocks.proofs.clause.array_bool_and.Tie as tie
+
+past-at-requires : tie.Need-past-at-requires
+past-at-requires c κs = search needs
+
+var-at-requires : tie.Need-var-at-requires
+var-at-requires c κs = search needs
+
+size-at-requires : tie.Need-size-at-requires
+size-at-requires c κs = search needs
+
+lay-above-requires : tie.Need-lay-above-requires
+lay-above-requires c κs = (omega (arith, c .before .before .before .before .before .before .pre), rw (c .size-at .ensures) (omega (arith, size-le (c .before .before .before .before .before .before .args .args .now) 0)), omega arith)
+
+lay-all-requires : tie.Need-lay-all-requires
+lay-all-requires c κs = search needs
+
+same-length : tie.Need-same-length
+same-length c = search needs
+
+returns : tie.Need-returns
+unfolding rule blockParts boundParts flatMap
+returns c =
+    let ws = c .before .before .before .before .before .before .before .before .before .before .before .before .before .args .args .now in
+    let r = var ws (past ws 0) in
+    let q = sum≤0 (each +1 (vars ws 0) ++ (-1 · source r ∷ [])) (+1 ⊖ pos (length (vars ws 0))) in
+    let t = rw (c .before .before .before .before .before .before .before .size-at .ensures, c .before .before .before .before .before .before .before .before .before .var-at .ensures, c .before .before .before .before .before .before .before .before .before .before .past-at .ensures) at (c .before .before .before .before .before .before .lay-above .ensures) in
+    let u = rw (c .before .before .before .before .before .before .before .before .before .var-at .ensures, c .before .before .before .before .before .before .before .before .before .before .past-at .ensures) at (c .before .before .lay-all .ensures) in
+    (λ first β. rows-then first (block [] (map (λ x. source r ─ source x ≤0) (vars ws 0))) (q ∷ []) (went-as (sym (above-parts first ws r 0)) (t .0)) (rw append-nil (u .0 first)), omega (arith, t .1, u .1))
+
+pub array-bool-and-spec : {M : Type 1} → statement M
+array-bool-and-spec =
+    tie.close
+    (tie.spec
+    past-at-requires
+    var-at-requires
+    size-at-requires
+    lay-above-requires
+    lay-all-requires
+    same-length
+    returns)

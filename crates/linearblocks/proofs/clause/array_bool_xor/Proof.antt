@@ -1,0 +1,48 @@
+-- A head, the terms and the constant are the one row of the block.
+use mathlib.Core.Path.{_∙_}
+use native.Mathlib.Omega.{arith}
+use borrow.Author.Needs.{needs}
+use Rattle.integers.specs.Number.{+1, -1}
+use Rattle.models.specs.Model.{vars}
+use Rattle.rowsystems.specs.Row.{sum=0}
+use Rattle.rules.specs.Parts.{each}
+use Rattle.rules.specs.Rule.{rule}
+use Rattle.laying.specs.Part.{rowParts}
+use Rattle.laying.proofs.Parts.{went-as}
+use Rattle.laying.proofs.Lists.{length-each, length-vars, each-parts}
+use Rattle.linearblocks.proofs.Rows.{row-went, one-row}
+use Rattle.linearblocks.proofs.clause.array_bool_xor.Statement.{statement}
+use Rattle.linearblocks.proofs.clause.array_bool_xor.Tie as tie
+
+size-at-requires : tie.Need-size-at-requires
+size-at-requires c κs = search needs
+
+lay-head-requires : tie.Need-lay-head-requires
+lay-head-requires c κs = search needs
+
+lay-each-requires : tie.Need-lay-each-requires
+lay-each-requires c κs = search needs
+
+lay-constant-requires : tie.Need-lay-constant-requires
+lay-constant-requires c κs = search needs
+
+same-length : tie.Need-same-length
+same-length c = search needs
+
+returns : tie.Need-returns
+unfolding rule rowParts
+returns c =
+    let ws = c .before .before .before .before .before .before .before .before .before .before .before .before .before .before .before .args .args .now in
+    let ts = each +1 (vars ws 0) in
+    (λ first β. went-as (one-row first (sum=0 ts -1)) (row-went first ts (length-each +1 (vars ws 0) ∙ length-vars ws 0) (each-parts first +1 ws 0) (rw (c .before .before .before .before .before .before .before .before .before .before .before .size-at .ensures) at (c .before .before .before .before .before .before .before .before .before .before .lay-head .ensures .0)) (c .before .before .before .before .before .before .lay-each .ensures .0) (c .before .before .lay-constant .ensures .0)), omega (arith, c .before .before .before .before .before .before .before .before .before .before .lay-head .ensures .1, c .before .before .before .before .before .before .lay-each .ensures .1, c .before .before .lay-constant .ensures .1))
+
+pub array-bool-xor-spec : {M : Type 1} → statement M
+array-bool-xor-spec =
+    tie.close
+    (tie.spec
+    size-at-requires
+    lay-head-requires
+    lay-each-requires
+    lay-constant-requires
+    same-length
+    returns)

@@ -1,0 +1,77 @@
+-- A head, the terms of both lists and the constant are the one row of the block.
+use mathlib.Core.Path.{_∙_}
+use mathlib.Core.List.{_++_}
+use native.Mathlib.Omega.{arith}
+use lib.ListN.{length-append, length}
+use lib.IntN.{pos}
+use borrow.Author.Needs.{needs}
+use Rattle.integers.specs.Number.{_⊖_, +1, -1}
+use Rattle.models.specs.Model.{vars, past}
+use Rattle.arguments.proofs.Size.{read, size-le}
+use Rattle.rowsystems.specs.Row.{sum≤0}
+use Rattle.rules.specs.Parts.{each}
+use Rattle.rules.specs.Rule.{rule}
+use Rattle.laying.specs.Part.{rowParts}
+use Rattle.laying.proofs.Parts.{went-then, went-as}
+use Rattle.laying.proofs.Lists.{length-each, length-vars, terms-append, each-parts}
+use Rattle.linearblocks.proofs.Rows.{row-went, one-row}
+use Rattle.linearblocks.proofs.clause.bool_clause.Statement.{statement}
+use Rattle.linearblocks.proofs.clause.bool_clause.Tie as tie
+
+past-at-requires : tie.Need-past-at-requires
+past-at-requires c κs = search needs
+
+size-at-requires : tie.Need-size-at-requires
+size-at-requires c κs = search needs
+
+size-at-requires-2 : tie.Need-size-at-requires-2
+size-at-requires-2 c κs = search needs
+
+add-lay-head : tie.Need-add-lay-head
+add-lay-head c = rw (c .before .before .size-at .ensures, c .size-at2 .ensures) (omega (arith, size-le (c .before .before .before .before .before .before .args .args .now) (c .before .before .before .past-at .result), size-le (c .before .before .before .before .before .before .args .args .now) 0))
+
+lay-head-requires : tie.Need-lay-head-requires
+lay-head-requires c κs = search needs
+
+lay-each-requires : tie.Need-lay-each-requires
+lay-each-requires c κs = search needs
+
+lay-each-requires-2 : tie.Need-lay-each-requires-2
+unfolding past
+lay-each-requires-2 c κs = (omega (arith, c .before .before .before .before .before .before .before .before .before .before .before .before .before .before .pre, c .before .before .before .before .before .before .before .lay-head .ensures .1, c .before .before .before .lay-each .ensures .1), omega (arith, c .before .before .before .before .before .before .before .before .before .before .before .past-at .ensures, size-le (c .before .before .before .before .before .before .before .before .before .before .before .before .before .before .args .args .now) 0))
+
+one-less-requires : tie.Need-one-less-requires
+one-less-requires c κs = rw (c .before .before .before .before .before .before .before .before .before .before .before .before .before .before .size-at .ensures) (omega (arith, size-le (c .before .before .before .before .before .before .before .before .before .before .before .before .before .before .before .before .before .before .args .args .now) (c .before .before .before .before .before .before .before .before .before .before .before .before .before .before .before .past-at .result)))
+
+lay-constant-requires : tie.Need-lay-constant-requires
+lay-constant-requires c κs = omega (arith, c .before .before .before .before .before .before .before .before .before .before .before .before .before .before .before .before .before .before .before .pre, c .before .before .before .before .before .before .before .before .before .before .before .before .lay-head .ensures .1, c .before .before .before .before .before .before .before .before .lay-each .ensures .1, c .before .before .before .before .lay-each2 .ensures .1)
+
+same-length : tie.Need-same-length
+same-length c = search needs
+
+returns : tie.Need-returns
+unfolding rule rowParts
+returns c =
+    let ws = c .before .before .before .before .before .before .before .before .before .before .before .before .before .before .before .before .before .before .before .before .before .before .args .args .now in
+    let xs = each -1 (vars ws 0) in
+    let ys = each +1 (vars ws (past ws 0)) in
+    let h = rw (c .before .before .before .before .before .before .before .before .before .before .before .before .before .before .before .before .before .before .size-at .ensures, c .before .before .before .before .before .before .before .before .before .before .before .before .before .before .before .before .size-at2 .ensures, c .before .before .before .before .before .before .before .before .before .before .before .before .before .before .before .before .before .before .before .past-at .ensures) at (c .before .before .before .before .before .before .before .before .before .before .before .before .before .before .before .lay-head .ensures) in
+    let u = rw (c .before .before .before .before .before .before .before .before .before .before .before .before .before .before .before .before .before .before .before .past-at .ensures) at (c .before .before .before .before .before .before .before .lay-each2 .ensures) in
+    let k = rw (read (c .before .before .before .one-less .ok) (c .before .before .before .one-less .ensures), c .before .before .before .before .before .before .before .before .before .before .before .before .before .before .before .before .before .before .size-at .ensures, c .before .before .before .before .before .before .before .before .before .before .before .before .before .before .before .before .before .before .before .past-at .ensures, ← length-vars ws (past ws 0)) at (c .before .before .lay-constant .ensures) in
+    (λ first β. went-as (one-row first (sum≤0 (xs ++ ys) (+1 ⊖ pos (length (vars ws (past ws 0)))))) (row-went first (xs ++ ys) (simp (length-append, length-each, length-vars)) (terms-append first xs ys ∙ rw (each-parts first -1 ws 0, each-parts first +1 ws (past ws 0))) (h .0) (went-then (c .before .before .before .before .before .before .before .before .before .before .before .lay-each .ensures .0) (u .0)) (k .0)), omega (arith, h .1, c .before .before .before .before .before .before .before .before .before .before .before .lay-each .ensures .1, u .1, k .1))
+
+pub bool-clause-spec : {M : Type 1} → statement M
+bool-clause-spec =
+    tie.close
+    (tie.spec
+    past-at-requires
+    size-at-requires
+    size-at-requires-2
+    add-lay-head
+    lay-head-requires
+    lay-each-requires
+    lay-each-requires-2
+    one-less-requires
+    lay-constant-requires
+    same-length
+    returns)

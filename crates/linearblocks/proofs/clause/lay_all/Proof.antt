@@ -1,0 +1,64 @@
+-- A head, the terms, r and the constant are the parts of the row.
+use mathlib.Core.List.{[], _∷_, _++_}
+use native.Mathlib.Omega.{arith}
+use lib.ListN.{length-append}
+use borrow.Author.Needs.{needs}
+use Rattle.integers.specs.Number.{+1, -1}
+use Rattle.integers.specs.Terms.{_·_}
+use Rattle.models.specs.Model.{vars}
+use Rattle.arguments.proofs.Size.{read, size-le}
+use Rattle.rules.specs.Block.{source, numbered}
+use Rattle.rules.specs.Parts.{each}
+use Rattle.laying.specs.Part.{rowParts}
+use Rattle.laying.proofs.Parts.{went-then}
+use Rattle.laying.proofs.Lists.{length-each, length-vars, each-parts}
+use Rattle.linearblocks.proofs.Rows.{row-went, last-term}
+use Rattle.linearblocks.proofs.clause.lay_all.Statement.{statement}
+use Rattle.linearblocks.proofs.clause.lay_all.Tie as tie
+
+size-at-requires : tie.Need-size-at-requires
+size-at-requires c κs = search needs
+
+add-lay-head : tie.Need-add-lay-head
+add-lay-head c = rw (c .before .size-at .ensures) (omega (arith, size-le (c .before .before .before .before .args .args .now) 0))
+
+lay-head-requires : tie.Need-lay-head-requires
+lay-head-requires c κs = search needs
+
+lay-each-requires : tie.Need-lay-each-requires
+lay-each-requires c κs = search needs
+
+lay-term-requires : tie.Need-lay-term-requires
+lay-term-requires c κs = search needs
+
+one-less-requires : tie.Need-one-less-requires
+one-less-requires c κs = rw (c .before .before .before .before .before .before .before .before .before .before .before .before .before .size-at .ensures) (omega (arith, size-le (c .before .before .before .before .before .before .before .before .before .before .before .before .before .before .before .before .args .args .now) 0))
+
+lay-constant-requires : tie.Need-lay-constant-requires
+lay-constant-requires c κs = search needs
+
+same-length : tie.Need-same-length
+same-length c = search needs
+
+returns : tie.Need-returns
+unfolding rowParts numbered
+returns c =
+    let ws = c .before .before .before .before .before .before .before .before .before .before .before .before .before .before .before .before .before .before .before .before .args .args .now in
+    let ts = each +1 (vars ws 0) in
+    let t = -1 · source (c .before .before .before .before .before .before .before .before .before .before .before .before .before .before .before .before .before .before .before .before .args .r) in
+    let k = rw (read (c .before .before .before .one-less .ok) (c .before .before .before .one-less .ensures), c .before .before .before .before .before .before .before .before .before .before .before .before .before .before .before .before .before .size-at .ensures, ← length-vars ws 0) at (c .before .before .lay-constant .ensures) in
+    (λ first. row-went first (ts ++ (t ∷ [])) (simp (length-append, length-each, length-vars)) (last-term first ts t (each-parts first +1 ws 0)) (rw (c .before .before .before .before .before .before .before .before .before .before .before .before .before .before .before .before .before .size-at .ensures) at (c .before .before .before .before .before .before .before .before .before .before .before .before .before .before .before .lay-head .ensures .0)) (went-then (c .before .before .before .before .before .before .before .before .before .before .before .lay-each .ensures .0) (c .before .before .before .before .before .before .before .lay-term .ensures .0)) (k .0), omega (arith, c .before .before .before .before .before .before .before .before .before .before .before .before .before .before .before .lay-head .ensures .1, c .before .before .before .before .before .before .before .before .before .before .before .lay-each .ensures .1, c .before .before .before .before .before .before .before .lay-term .ensures .1, k .1))
+
+pub lay-all-spec : {M : Type 1} → statement M
+lay-all-spec =
+    tie.close
+    (tie.spec
+    size-at-requires
+    add-lay-head
+    lay-head-requires
+    lay-each-requires
+    lay-term-requires
+    one-less-requires
+    lay-constant-requires
+    same-length
+    returns)

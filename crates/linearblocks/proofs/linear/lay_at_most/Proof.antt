@@ -1,0 +1,63 @@
+-- Two rows of given terms.
+use mathlib.Core.List.{flatMap}
+use native.Mathlib.Omega.{arith}
+use native.Mathlib.Nat.{add-zero}
+use mir.Facts.{toZ-ofZ}
+use borrow.Author.Needs.{needs}
+use Rattle.arguments.proofs.Size.{read}
+use Rattle.rules.specs.Block.{numbered}
+use Rattle.laying.specs.Part.{termParts, rowParts}
+use Rattle.laying.specs.Lists.{many, rowOf}
+use Rattle.laying.proofs.Parts.{went-then}
+use Rattle.linearblocks.specs.Rows.{atMostRows}
+use Rattle.linearblocks.proofs.linear.lay_at_most.Statement.{statement}
+use Rattle.linearblocks.proofs.linear.lay_at_most.Tie as tie
+
+slice-aggregate-lay-row : tie.Need-slice-aggregate-lay-row
+slice-aggregate-lay-row c = search needs
+
+slice-aggregate-lay-row-2 : tie.Need-slice-aggregate-lay-row-2
+slice-aggregate-lay-row-2 c = search needs
+
+opposite-requires : tie.Need-opposite-requires
+opposite-requires c κs = rw (toZ-ofZ (c .before .before .before .before .fits .upper)) (omega (arith, c .before .before .before .before .pre .3))
+
+lay-row-requires : tie.Need-lay-row-requires
+lay-row-requires c κs = search needs
+
+minus-requires : tie.Need-minus-requires
+minus-requires c κs = rw (toZ-ofZ (c .before .before .before .before .before .before .before .before .fits .lower)) (omega (arith, c .before .before .before .before .before .before .before .before .pre .2))
+
+slice-aggregate-lay-row-3 : tie.Need-slice-aggregate-lay-row-3
+slice-aggregate-lay-row-3 c = search needs
+
+slice-aggregate-lay-row-4 : tie.Need-slice-aggregate-lay-row-4
+slice-aggregate-lay-row-4 c = search needs
+
+lay-row-requires-2 : tie.Need-lay-row-requires-2
+lay-row-requires-2 c κs = search needs
+
+same-length : tie.Need-same-length
+same-length c = search needs
+
+returns : tie.Need-returns
+unfolding atMostRows flatMap rowParts termParts numbered rowOf many
+returns c =
+    let d = rw (read (c .before .before .before .before .before .before .before .before .before .before .opposite .ok) (c .before .before .before .before .before .before .before .before .before .before .opposite .ensures), toZ-ofZ (c .before .before .before .before .before .before .before .before .before .before .before .before .before .before .before .fits .upper)) at (c .before .before .before .before .before .before .before .before .before .lay-row .ensures) in
+    let e = rw (read (c .before .before .before .before .before .before .minus .ok) (c .before .before .before .before .before .before .minus .ensures), toZ-ofZ (c .before .before .before .before .before .before .before .before .before .before .before .before .before .before .before .fits .lower)) at (c .before .before .lay-row2 .ensures) in
+    (rw (add-zero (c .before .before .before .before .before .before .before .before .before .before .before .before .before .before .before .args .first)) (went-then (d .0) (e .0)), omega (arith, d .1, e .1))
+
+pub lay-at-most-spec : {M : Type 1} → statement M
+lay-at-most-spec =
+    tie.close
+    (tie.spec
+    slice-aggregate-lay-row
+    slice-aggregate-lay-row-2
+    opposite-requires
+    lay-row-requires
+    minus-requires
+    slice-aggregate-lay-row-3
+    slice-aggregate-lay-row-4
+    lay-row-requires-2
+    same-length
+    returns)

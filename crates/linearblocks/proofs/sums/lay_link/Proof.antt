@@ -1,0 +1,60 @@
+-- A head, the terms, x and the constant are the parts of the row.
+use mathlib.Core.List.{[], _∷_, _++_}
+use native.Mathlib.Omega.{arith}
+use native.Mathlib.Nat.{add-zero}
+use lib.ListN.{length-append}
+use borrow.Author.Needs.{needs}
+use Rattle.integers.specs.Number.{ -1}
+use Rattle.integers.specs.Terms.{_·_}
+use Rattle.models.specs.Model.{terms}
+use Rattle.arguments.proofs.Size.{size-le}
+use Rattle.rules.specs.Block.{aux, numbered}
+use Rattle.rules.specs.Parts.{sources}
+use Rattle.laying.specs.Part.{rowParts}
+use Rattle.laying.proofs.Parts.{went-then}
+use Rattle.laying.proofs.Lists.{length-sources, length-terms, terms-parts}
+use Rattle.linearblocks.specs.Rows.{link}
+use Rattle.linearblocks.proofs.Rows.{row-went, last-term}
+use Rattle.linearblocks.proofs.sums.lay_link.Statement.{statement}
+use Rattle.linearblocks.proofs.sums.lay_link.Tie as tie
+
+size-at-requires : tie.Need-size-at-requires
+size-at-requires c κs = search needs
+
+add-lay-head : tie.Need-add-lay-head
+add-lay-head c = rw (c .size-at .ensures) (omega (arith, size-le (c .before .before .before .before .args .args .now) 0))
+
+lay-head-requires : tie.Need-lay-head-requires
+lay-head-requires c κs = search needs
+
+lay-terms-requires : tie.Need-lay-terms-requires
+lay-terms-requires c κs = search needs
+
+lay-term-requires : tie.Need-lay-term-requires
+lay-term-requires c κs = search needs
+
+lay-minus-constant-requires : tie.Need-lay-minus-constant-requires
+lay-minus-constant-requires c κs = search needs
+
+same-length : tie.Need-same-length
+same-length c = search needs
+
+returns : tie.Need-returns
+unfolding rowParts link numbered
+returns c =
+    let ws = c .before .before .before .before .before .before .before .before .before .before .before .before .before .before .before .before .before .before .before .args .args .now in
+    let first = c .before .before .before .before .before .before .before .before .before .before .before .before .before .before .before .before .before .before .before .args .first in
+    (row-went first (sources (terms ws 0) ++ (-1 · aux 0 ∷ [])) (simp (length-append, length-sources, length-terms)) (last-term first (sources (terms ws 0)) (-1 · aux 0) (terms-parts first ws 0)) (rw (c .before .before .before .before .before .before .before .before .before .before .before .before .before .before .before .size-at .ensures) at (c .before .before .before .before .before .before .before .before .before .before .before .before .before .before .lay-head .ensures .0)) (went-then (c .before .before .before .before .before .before .before .before .before .before .lay-terms .ensures .0) (rw (add-zero first) (c .before .before .before .before .before .before .lay-term .ensures .0))) (c .before .before .lay-minus-constant .ensures .0), omega (arith, c .before .before .before .before .before .before .before .before .before .before .before .before .before .before .lay-head .ensures .1, c .before .before .before .before .before .before .before .before .before .before .lay-terms .ensures .1, c .before .before .before .before .before .before .lay-term .ensures .1, c .before .before .lay-minus-constant .ensures .1))
+
+pub lay-link-spec : {M : Type 1} → statement M
+lay-link-spec =
+    tie.close
+    (tie.spec
+    size-at-requires
+    add-lay-head
+    lay-head-requires
+    lay-terms-requires
+    lay-term-requires
+    lay-minus-constant-requires
+    same-length
+    returns)

@@ -1,0 +1,27 @@
+-- The constant is a signed payload, so its opposite fits.
+use native.Mathlib.Omega.{arith}
+use borrow.Author.Needs.{needs}
+use Rattle.models.specs.Model.{pastTerms}
+use Rattle.arguments.proofs.Size.{read, num-size}
+use Rattle.linearblocks.proofs.sums.lay_minus_constant.Statement.{statement}
+use Rattle.linearblocks.proofs.sums.lay_minus_constant.Tie as tie
+
+constant-of-requires : tie.Need-constant-of-requires
+constant-of-requires c κs = search needs
+
+opposite-requires : tie.Need-opposite-requires
+opposite-requires c κs = rw (read (c .constant-of .ok) (c .constant-of .ensures)) (omega (arith, num-size (c .before .before .before .before .args .args .now) (pastTerms (c .before .before .before .before .args .args .now) 0)))
+
+lay-constant-requires : tie.Need-lay-constant-requires
+lay-constant-requires c κs = search needs
+
+same-length : tie.Need-same-length
+same-length c = search needs
+
+returns : tie.Need-returns
+returns c = rw (read (c .before .before .before .opposite .ok) (c .before .before .before .opposite .ensures), read (c .before .before .before .before .constant-of .ok) (c .before .before .before .before .constant-of .ensures)) at (c .before .before .lay-constant .ensures)
+
+pub lay-minus-constant-spec : {M : Type 1} → statement M
+lay-minus-constant-spec =
+    tie.close
+    (tie.spec constant-of-requires opposite-requires lay-constant-requires same-length returns)

@@ -1,0 +1,28 @@
+-- The bounds of x, then the row.
+use mathlib.Core.List.{append-nil, flatMap}
+use native.Mathlib.Omega.{arith}
+use mir.Facts.{toZ-ofZ}
+use borrow.Author.Needs.{needs}
+use Rattle.laying.specs.Part.{boundParts, rowParts, blockParts}
+use Rattle.laying.proofs.Parts.{went-then}
+use Rattle.linearblocks.specs.Rows.{link, slack}
+use Rattle.linearblocks.proofs.sums.lay_slack.Statement.{statement}
+use Rattle.linearblocks.proofs.sums.lay_slack.Tie as tie
+
+lay-bound-requires : tie.Need-lay-bound-requires
+lay-bound-requires c κs = search needs
+
+lay-link-requires : tie.Need-lay-link-requires
+lay-link-requires c κs = search needs
+
+same-length : tie.Need-same-length
+same-length c = search needs
+
+returns : tie.Need-returns
+unfolding blockParts boundParts flatMap slack
+returns c =
+    let d = rw (toZ-ofZ (c .before .before .before .before .before .before .before .before .before .before .fits .lower), toZ-ofZ (c .before .before .before .before .before .before .before .before .before .before .fits .upper)) at (c .before .before .before .before .before .before .lay-bound .ensures) in
+    (rw (append-nil (rowParts (c .before .before .before .before .before .before .before .before .before .before .args .first) (link (c .before .before .before .before .before .before .before .before .before .before .args .args .now)))) (went-then (d .0) (c .before .before .lay-link .ensures .0)), omega (arith, d .1, c .before .before .lay-link .ensures .1))
+
+pub lay-slack-spec : {M : Type 1} → statement M
+lay-slack-spec = tie.close (tie.spec lay-bound-requires lay-link-requires same-length returns)

@@ -1,0 +1,70 @@
+-- Three bounds, a row and a product, one after the other.
+use mathlib.Core.Path.{_∙_}
+use mathlib.Core.List.{flatMap}
+use native.Mathlib.Omega.{arith}
+use native.Mathlib.Nat.{add-zero}
+use mir.Facts.{toZ-ofZ}
+use borrow.Author.Needs.{needs}
+use Rattle.arguments.proofs.Size.{read}
+use Rattle.rules.specs.Block.{numbered}
+use Rattle.rules.specs.Parts.{Z}
+use Rattle.laying.specs.Part.{boundParts, rowParts, blockParts}
+use Rattle.laying.proofs.Parts.{went-then, went-length}
+use Rattle.linearblocks.specs.Rows.{split}
+use Rattle.linearblocks.proofs.sums.lay_split.Statement.{statement}
+use Rattle.linearblocks.proofs.sums.lay_split.Tie as tie
+
+lay-bound-requires : tie.Need-lay-bound-requires
+lay-bound-requires c κs = search needs
+
+lay-bound-requires-2 : tie.Need-lay-bound-requires-2
+lay-bound-requires-2 c κs = search needs
+
+zero-lower-requires : tie.Need-zero-lower-requires
+zero-lower-requires c κs = search needs
+
+zero-upper-requires : tie.Need-zero-upper-requires
+zero-upper-requires c κs = search needs
+
+lay-bound-requires-3 : tie.Need-lay-bound-requires-3
+lay-bound-requires-3 c κs = search needs
+
+lay-link-requires : tie.Need-lay-link-requires
+lay-link-requires c κs = search needs
+
+add-lay-times : tie.Need-add-lay-times
+add-lay-times c = omega (arith, c .before .before .before .before .before .before .before .before .before .before .before .before .before .before .before .before .before .before .before .before .before .pre .1)
+
+add-lay-times-2 : tie.Need-add-lay-times-2
+add-lay-times-2 c = omega (arith, c .before .before .before .before .before .before .before .before .before .before .before .before .before .before .before .before .before .before .before .before .before .pre .1)
+
+lay-times-requires : tie.Need-lay-times-requires
+lay-times-requires c κs = omega (arith, c .before .before .before .before .before .before .before .before .before .before .before .before .before .before .before .before .before .before .before .before .before .pre .0, c .before .before .before .before .before .before .before .before .before .before .before .before .before .before .before .before .before .lay-bound .ensures .1, c .before .before .before .before .before .before .before .before .before .before .before .before .before .lay-bound2 .ensures .1, c .before .before .before .before .before .before .before .lay-bound3 .ensures .1, c .before .before .before .lay-link .ensures .1)
+
+same-length : tie.Need-same-length
+same-length c = went-length (c .before .before .lay-times .ensures .0) ∙ went-length (c .before .before .before .before .before .before .lay-link .ensures .0) ∙ went-length (c .before .before .before .before .before .before .before .before .before .before .lay-bound3 .ensures .0) ∙ went-length (c .before .before .before .before .before .before .before .before .before .before .before .before .before .before .before .before .lay-bound2 .ensures .0) ∙ went-length (c .before .before .before .before .before .before .before .before .before .before .before .before .before .before .before .before .before .before .before .before .lay-bound .ensures .0)
+
+returns : tie.Need-returns
+unfolding blockParts boundParts flatMap split Z rowParts numbered
+returns c =
+    let l = toZ-ofZ (c .before .before .before .before .before .before .before .before .before .before .before .before .before .before .before .before .before .before .before .before .before .before .before .before .fits .lower) in
+    let u = toZ-ofZ (c .before .before .before .before .before .before .before .before .before .before .before .before .before .before .before .before .before .before .before .before .before .before .before .before .fits .upper) in
+    let x = rw (l, u) at (c .before .before .before .before .before .before .before .before .before .before .before .before .before .before .before .before .before .before .before .before .lay-bound .ensures) in
+    let z = rw (read (c .before .before .before .before .before .before .before .before .before .before .before .before .zero-lower .ok) (c .before .before .before .before .before .before .before .before .before .before .before .before .zero-lower .ensures), read (c .before .before .before .before .before .before .before .before .before .before .before .zero-upper .ok) (c .before .before .before .before .before .before .before .before .before .before .before .zero-upper .ensures), l, u) at (c .before .before .before .before .before .before .before .before .before .before .lay-bound3 .ensures) in
+    (rw (add-zero (c .before .before .before .before .before .before .before .before .before .before .before .before .before .before .before .before .before .before .before .before .before .before .before .before .args .first)) (went-then (x .0) (went-then (c .before .before .before .before .before .before .before .before .before .before .before .before .before .before .before .before .lay-bound2 .ensures .0) (went-then (z .0) (went-then (c .before .before .before .before .before .before .lay-link .ensures .0) (c .before .before .lay-times .ensures .0))))), omega (arith, x .1, c .before .before .before .before .before .before .before .before .before .before .before .before .before .before .before .before .lay-bound2 .ensures .1, z .1, c .before .before .before .before .before .before .lay-link .ensures .1, c .before .before .lay-times .ensures .1))
+
+pub lay-split-spec : {M : Type 1} → statement M
+lay-split-spec =
+    tie.close
+    (tie.spec
+    lay-bound-requires
+    lay-bound-requires-2
+    zero-lower-requires
+    zero-upper-requires
+    lay-bound-requires-3
+    lay-link-requires
+    add-lay-times
+    add-lay-times-2
+    lay-times-requires
+    same-length
+    returns)

@@ -1,0 +1,41 @@
+-- A head, the terms and the constant are the parts of the row.
+use mathlib.Core.Path.{_∙_}
+use native.Mathlib.Omega.{arith}
+use borrow.Author.Needs.{needs}
+use Rattle.models.specs.Model.{terms}
+use Rattle.rules.specs.Parts.{sources}
+use Rattle.laying.proofs.Lists.{length-sources, length-terms, terms-parts}
+use Rattle.linearblocks.proofs.Rows.{row-went}
+use Rattle.linearblocks.proofs.sums.lay_sum.Statement.{statement}
+use Rattle.linearblocks.proofs.sums.lay_sum.Tie as tie
+
+size-at-requires : tie.Need-size-at-requires
+size-at-requires c κs = search needs
+
+lay-head-requires : tie.Need-lay-head-requires
+lay-head-requires c κs = search needs
+
+lay-terms-requires : tie.Need-lay-terms-requires
+lay-terms-requires c κs = search needs
+
+lay-minus-constant-requires : tie.Need-lay-minus-constant-requires
+lay-minus-constant-requires c κs = search needs
+
+same-length : tie.Need-same-length
+same-length c = search needs
+
+returns : tie.Need-returns
+returns c =
+    let ws = c .before .before .before .before .before .before .before .before .before .before .before .before .before .before .before .args .args .now in
+    (λ first. row-went first (sources (terms ws 0)) (length-sources (terms ws 0) ∙ length-terms ws 0) (terms-parts first ws 0) (rw (c .before .before .before .before .before .before .before .before .before .before .before .size-at .ensures) at (c .before .before .before .before .before .before .before .before .before .before .lay-head .ensures .0)) (c .before .before .before .before .before .before .lay-terms .ensures .0) (c .before .before .lay-minus-constant .ensures .0), omega (arith, c .before .before .before .before .before .before .before .before .before .before .lay-head .ensures .1, c .before .before .before .before .before .before .lay-terms .ensures .1, c .before .before .lay-minus-constant .ensures .1))
+
+pub lay-sum-spec : {M : Type 1} → statement M
+lay-sum-spec =
+    tie.close
+    (tie.spec
+    size-at-requires
+    lay-head-requires
+    lay-terms-requires
+    lay-minus-constant-requires
+    same-length
+    returns)

@@ -1,0 +1,20 @@
+-- The larger of a number and its opposite.
+use mathlib.Core.Path.{_∙_}
+use mir.Facts.{toZ-ofZ}
+use borrow.Author.Needs.{needs}
+use Rattle.arguments.proofs.Size.{read}
+use Rattle.builtins.proofs.Coded.{abs-max}
+use Rattle.linearblocks.proofs.sums.size_of.Statement.{statement}
+use Rattle.linearblocks.proofs.sums.size_of.Tie as tie
+
+opposite-requires : tie.Need-opposite-requires
+opposite-requires c κs = search needs
+
+largest-requires : tie.Need-largest-requires
+largest-requires c κs = search needs
+
+returns : tie.Need-returns
+returns c = read (c .largest .ok) (c .largest .ensures) ∙ rw (read (c .before .opposite .ok) (c .before .opposite .ensures), toZ-ofZ (c .before .before .fits .v)) (abs-max (c .before .before .args .v))
+
+pub size-of-spec : {M : Type 1} → statement M
+size-of-spec = tie.close (tie.spec opposite-requires largest-requires returns)

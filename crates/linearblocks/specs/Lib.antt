@@ -1,0 +1,2 @@
+-- What the contracts of the linear block writers cite. No public promise speaks of it.
+pub mod Rows

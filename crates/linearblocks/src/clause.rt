@@ -1,0 +1,81 @@
+// Codes 21 to 23: the blocks of lists of Boolean variables.
+ghost use mathlib.Core.Path.{_≡_};
+ghost use mathlib.Core.List.{[], _∷_, _++_};
+ghost use Prim.Native.Nat.{ℕ, _<_, _≤_};
+ghost use lib.IntN.{pos};
+ghost use lib.ListN.{length};
+ghost use Rattle.integers.specs.Number.{_⊖_, +1, -1};
+ghost use Rattle.integers.specs.Terms.{_·_};
+ghost use Rattle.integers.specs.declared.Bounds.{Bounds};
+ghost use Rattle.models.specs.Builtin.{bool-clause, array-bool-and, array-bool-xor};
+ghost use Rattle.models.specs.Model.{var, vars, past};
+ghost use Rattle.rules.specs.Rule.{rule};
+ghost use Rattle.rowsystems.specs.Row.{sum≤0};
+ghost use Rattle.rules.specs.Block.{source};
+ghost use Rattle.rules.specs.Parts.{each};
+ghost use Rattle.laying.specs.Part.{rowParts, blockParts};
+ghost use Rattle.laying.specs.Went.{Went, Near, total};
+use arguments::past_at;
+use arguments::size_at;
+use arguments::var_at;
+use integers::minus;
+use laying::Laid;
+use laying::lay_above;
+use laying::lay_constant;
+use laying::lay_each;
+use laying::lay_head;
+use laying::lay_term;
+use words::kind;
+
+// 1 − n
+fn one_less(n: usize) -> i64
+    requires { ⌜ n ≤ 66 ⌝ }
+    ensures { λ r. ⌜ r ≡ +1 ⊖ pos n ⌝ }
+{
+    minus(1, n as i64)
+}
+
+// bool_clause: −Σas+Σbs+1−m≤0, m the second list's length.
+pub fn bool_clause(out: &mut [u32], s: Laid, args: &[u32]) -> Laid
+    requires { ⌜ total s < 1000000000 ⌝ }
+    ensures { λ r. ⌜ ((first : ℕ) (β : ℕ → Bounds) → Went s r (now (out .entry)) (now (out .exit)) (blockParts first (rule β (bool-clause (vars (now (args .entry)) 0) (vars (now (args .entry)) (past (now (args .entry)) 0)))))) × Near 1000000 s r ⌝ }
+{
+    let second = past_at(args, 0);
+    let m = size_at(args, second);
+    let begun = lay_head(out, s, kind::AT_MOST, size_at(args, 0) + m);
+    let t = lay_each(out, begun, args, 0, -1);
+    let u = lay_each(out, t, args, second, 1);
+    lay_constant(out, u, one_less(m))
+}
+
+// Σas−r−n+1≤0
+fn lay_all(out: &mut [u32], s: Laid, args: &[u32], r: usize) -> Laid
+    requires { ⌜ total s < 2000000000 ⌝ }
+    ensures { λ t. ⌜ ((first : ℕ) → Went s t (now (out .entry)) (now (out .exit)) (rowParts first (sum≤0 (each +1 (vars (now (args .entry)) 0) ++ (-1 · source r ∷ [])) (+1 ⊖ pos (length (vars (now (args .entry)) 0)))))) × Near 2000 s t ⌝ }
+{
+    let n = size_at(args, 0);
+    let begun = lay_head(out, s, kind::AT_MOST, n + 1);
+    let t = lay_each(out, begun, args, 0, 1);
+    let u = lay_term(out, t, -1, r);
+    lay_constant(out, u, one_less(n))
+}
+
+// array_bool_and: each r−as_i≤0; Σas−r−n+1≤0.
+pub fn array_bool_and(out: &mut [u32], s: Laid, args: &[u32]) -> Laid
+    requires { ⌜ total s < 1000000000 ⌝ }
+    ensures { λ r. ⌜ ((first : ℕ) (β : ℕ → Bounds) → Went s r (now (out .entry)) (now (out .exit)) (blockParts first (rule β (array-bool-and (vars (now (args .entry)) 0) (var (now (args .entry)) (past (now (args .entry)) 0)))))) × Near 1000000 s r ⌝ }
+{
+    let r = var_at(args, past_at(args, 0));
+    let t = lay_above(out, s, args, r, 1, size_at(args, 0));
+    lay_all(out, t, args, r)
+}
+
+// array_bool_xor: Σ−1=0.
+pub fn array_bool_xor(out: &mut [u32], s: Laid, args: &[u32]) -> Laid
+    requires { ⌜ total s < 1000000000 ⌝ }
+    ensures { λ r. ⌜ ((first : ℕ) (β : ℕ → Bounds) → Went s r (now (out .entry)) (now (out .exit)) (blockParts first (rule β (array-bool-xor (vars (now (args .entry)) 0))))) × Near 1000000 s r ⌝ }
+{
+    let begun = lay_head(out, s, kind::EQUAL, size_at(args, 0));
+    let t = lay_each(out, begun, args, 0, 1);
+    lay_constant(out, t, -1)
+}

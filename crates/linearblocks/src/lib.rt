@@ -1,0 +1,48 @@
+// The blocks of codes 10 to 15 and 21 to 23: sums of terms, and lists of Boolean variables.
+ghost use Prim.Native.Nat.{ℕ, _≤_, _<_};
+ghost use Rattle.integers.specs.declared.Bounds.{Bounds};
+ghost use Rattle.builtins.specs.Coded.{builtinOf};
+ghost use Rattle.extremes.specs.Bounded.{boundsOf, Bounded};
+ghost use Rattle.laying.specs.Part.{blockParts};
+ghost use Rattle.laying.specs.Went.{Went, Near, total};
+ghost use Rattle.rules.specs.Rule.{rule};
+use laying::Laid;
+
+mod clause;
+mod linear;
+mod sums;
+
+// The block of a code from 10 to 15.
+pub fn linear_block(
+    out: &mut [u32],
+    s: Laid,
+    code: usize,
+    args: &[u32],
+    ls: &[i64],
+    us: &[i64],
+    first: usize,
+) -> Laid
+    requires { ⌜ (total s < 1000000000) × (10 ≤ code) × (code < 16) × (first < 10000) × Bounded (now ls) × Bounded (now us) ⌝ }
+    ensures { λ r. ⌜ Went s r (now (out .entry)) (now (out .exit)) (blockParts first (rule (boundsOf (now (ls .entry)) (now (us .entry))) (builtinOf code (now (args .entry))))) × Near 1000000 s r ⌝ }
+{
+    match code {
+        10 => linear::int_lin_eq(out, s, args),
+        11 => linear::int_lin_le(out, s, args),
+        12 => linear::int_lin_ne(out, s, args, ls, us, first),
+        13 => linear::int_lin_eq_reif(out, s, args, ls, us, first),
+        14 => linear::int_eq_reif(out, s, args, ls, us, first),
+        _ => linear::int_lin_le_reif(out, s, args, ls, us, first),
+    }
+}
+
+// The block of a code from 21 to 23.
+pub fn clause_block(out: &mut [u32], s: Laid, code: usize, args: &[u32]) -> Laid
+    requires { ⌜ (total s < 1000000000) × (21 ≤ code) × (code < 24) ⌝ }
+    ensures { λ r. ⌜ ((first : ℕ) (β : ℕ → Bounds) → Went s r (now (out .entry)) (now (out .exit)) (blockParts first (rule β (builtinOf code (now (args .entry)))))) × Near 1000000 s r ⌝ }
+{
+    match code {
+        21 => clause::bool_clause(out, s, args),
+        22 => clause::array_bool_and(out, s, args),
+        _ => clause::array_bool_xor(out, s, args),
+    }
+}

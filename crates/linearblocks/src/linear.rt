@@ -1,0 +1,145 @@
+// Codes 10 to 15: the blocks of sums of terms, and of int_eq_reif.
+ghost use mathlib.Core.List.{flatMap};
+ghost use Prim.Native.Nat.{ℕ, _<_, _≤_};
+ghost use lib.IntN.{natAbs};
+ghost use Rattle.integers.specs.declared.Bounds.{Bounds};
+ghost use Rattle.models.specs.Builtin.{int-lin-eq, int-lin-le, int-lin-ne, int-lin-eq-reif, int-eq-reif, int-lin-le-reif};
+ghost use Rattle.builtins.specs.Coded.{three, linear, linearReified};
+ghost use Rattle.rules.specs.Rule.{rule, block};
+ghost use Rattle.extremes.specs.Bounded.{boundsOf, Bounded};
+ghost use Rattle.laying.specs.Part.{rowParts, blockParts};
+ghost use Rattle.laying.specs.Went.{Went, Near, total};
+ghost use Rattle.linearblocks.specs.Rows.{zeroRows, atMostRows};
+use crate::sums::larger_size;
+use crate::sums::lay_slack;
+use crate::sums::lay_split;
+use crate::sums::lay_sum;
+use crate::sums::lower_of;
+use crate::sums::upper_of;
+use arguments::past_terms_at;
+use arguments::var_at;
+use integers::minus;
+use integers::opposite;
+use laying::Laid;
+use laying::lay_row;
+use words::kind;
+use words::word_at;
+
+// int_lin_eq: Σ−c=0.
+pub fn int_lin_eq(out: &mut [u32], s: Laid, args: &[u32]) -> Laid
+    requires { ⌜ total s < 1000000000 ⌝ }
+    ensures { λ r. ⌜ ((first : ℕ) (β : ℕ → Bounds) → Went s r (now (out .entry)) (now (out .exit)) (blockParts first (rule β (linear int-lin-eq (now (args .entry)))))) × Near 1000000 s r ⌝ }
+{
+    lay_sum(out, s, kind::EQUAL, args)
+}
+
+// int_lin_le: Σ−c≤0.
+pub fn int_lin_le(out: &mut [u32], s: Laid, args: &[u32]) -> Laid
+    requires { ⌜ total s < 1000000000 ⌝ }
+    ensures { λ r. ⌜ ((first : ℕ) (β : ℕ → Bounds) → Went s r (now (out .entry)) (now (out .exit)) (blockParts first (rule β (linear int-lin-le (now (args .entry)))))) × Near 1000000 s r ⌝ }
+{
+    lay_sum(out, s, kind::AT_MOST, args)
+}
+
+// int_lin_ne: x in L..U, b, z in Z(x): Σ−x−c=0; z:=b×x; −x+2×z+1≤0.
+pub fn int_lin_ne(
+    out: &mut [u32],
+    s: Laid,
+    args: &[u32],
+    ls: &[i64],
+    us: &[i64],
+    first: usize,
+) -> Laid
+    requires { ⌜ (total s < 1000000000) × (first < 10000) × Bounded (now ls) × Bounded (now us) ⌝ }
+    ensures { λ r. ⌜ Went s r (now (out .entry)) (now (out .exit)) (blockParts first (rule (boundsOf (now (ls .entry)) (now (us .entry))) (linear int-lin-ne (now (args .entry))))) × Near 1000000 s r ⌝ }
+{
+    let lower = lower_of(args, ls, us);
+    let upper = upper_of(args, ls, us);
+    let t = lay_split(out, s, args, lower, upper, first);
+    let xs = [first, first + 2];
+    let cs = [-1, 2];
+    lay_row(out, t, kind::AT_MOST, &xs, &cs, 1)
+}
+
+// x−2×z+W×r−W≤0; −x+2×z−r+1≤0, x and z from `first` on.
+fn lay_zero(out: &mut [u32], s: Laid, w: i64, r: usize, first: usize) -> Laid
+    requires { ⌜ (total s < 2000000000) × (first < 10000) × (natAbs w ≤ 1152921504606846976) ⌝ }
+    ensures { λ t. ⌜ Went s t (now (out .entry)) (now (out .exit)) (flatMap (rowParts first) (zeroRows w r)) × Near 10000 s t ⌝ }
+{
+    let xs = [first, first + 2, r];
+    let cs = [1, -2, w];
+    let t = lay_row(out, s, kind::AT_MOST, &xs, &cs, opposite(w));
+    let ds = [-1, 2, -1];
+    lay_row(out, t, kind::AT_MOST, &xs, &ds, 1)
+}
+
+// int_lin_eq_reif: the auxiliaries and the first two rows of int_lin_ne; x−2×z+W×r−W≤0; −x+2×z−r+1≤0; W=max(|L|,|U|).
+pub fn int_lin_eq_reif(
+    out: &mut [u32],
+    s: Laid,
+    args: &[u32],
+    ls: &[i64],
+    us: &[i64],
+    first: usize,
+) -> Laid
+    requires { ⌜ (total s < 1000000000) × (first < 10000) × Bounded (now ls) × Bounded (now us) ⌝ }
+    ensures { λ r. ⌜ Went s r (now (out .entry)) (now (out .exit)) (blockParts first (rule (boundsOf (now (ls .entry)) (now (us .entry))) (linearReified int-lin-eq-reif (now (args .entry))))) × Near 1000000 s r ⌝ }
+{
+    let lower = lower_of(args, ls, us);
+    let upper = upper_of(args, ls, us);
+    let w = larger_size(lower, upper);
+    let r = var_at(args, past_terms_at(args, 0) + 1);
+    let t = lay_split(out, s, args, lower, upper, first);
+    lay_zero(out, t, w, r, first)
+}
+
+// int_eq_reif: int_lin_eq_reif of the two terms 1×a and −1×b, with the constant 0.
+pub fn int_eq_reif(
+    out: &mut [u32],
+    s: Laid,
+    args: &[u32],
+    ls: &[i64],
+    us: &[i64],
+    first: usize,
+) -> Laid
+    requires { ⌜ (total s < 1000000000) × (first < 10000) × Bounded (now ls) × Bounded (now us) ⌝ }
+    ensures { λ r. ⌜ Went s r (now (out .entry)) (now (out .exit)) (blockParts first (rule (boundsOf (now (ls .entry)) (now (us .entry))) (three int-eq-reif (now (args .entry))))) × Near 1000000 s r ⌝ }
+{
+    let a = word_at(args, 0);
+    let b = word_at(args, 1);
+    let r = word_at(args, 2);
+    // the length 2, the numbers 1 and −1, the variables, the number 0, the variable r
+    let sum = [2, 1, 268435455, a, b, 0, r];
+    int_lin_eq_reif(out, s, &sum, ls, us, first)
+}
+
+// x+U×r−U≤0; −x+(L−1)×r+1≤0, x the variable `first`.
+fn lay_at_most(out: &mut [u32], s: Laid, lower: i64, upper: i64, r: usize, first: usize) -> Laid
+    requires { ⌜ (total s < 2000000000) × (first < 10000) × (natAbs lower ≤ 1152921504606846976) × (natAbs upper ≤ 1152921504606846976) ⌝ }
+    ensures { λ t. ⌜ Went s t (now (out .entry)) (now (out .exit)) (flatMap (rowParts first) (atMostRows lower upper r)) × Near 10000 s t ⌝ }
+{
+    let xs = [first, r];
+    let cs = [1, upper];
+    let t = lay_row(out, s, kind::AT_MOST, &xs, &cs, opposite(upper));
+    let ds = [-1, minus(lower, 1)];
+    lay_row(out, t, kind::AT_MOST, &xs, &ds, 1)
+}
+
+// int_lin_le_reif: x in L..U: Σ−x−c=0; x+U×r−U≤0; −x+(L−1)×r+1≤0.
+pub fn int_lin_le_reif(
+    out: &mut [u32],
+    s: Laid,
+    args: &[u32],
+    ls: &[i64],
+    us: &[i64],
+    first: usize,
+) -> Laid
+    requires { ⌜ (total s < 1000000000) × (first < 10000) × Bounded (now ls) × Bounded (now us) ⌝ }
+    ensures { λ r. ⌜ Went s r (now (out .entry)) (now (out .exit)) (blockParts first (rule (boundsOf (now (ls .entry)) (now (us .entry))) (linearReified int-lin-le-reif (now (args .entry))))) × Near 1000000 s r ⌝ }
+{
+    let lower = lower_of(args, ls, us);
+    let upper = upper_of(args, ls, us);
+    let r = var_at(args, past_terms_at(args, 0) + 1);
+    let t = lay_slack(out, s, args, lower, upper, first);
+    lay_at_most(out, t, lower, upper, r, first)
+}

@@ -1,0 +1,133 @@
+// What several linear blocks share: the numbers c, L and U, and rows that begin with the sum.
+ghost use mathlib.Core.Path.{_≡_};
+ghost use mathlib.Core.List.{[], _∷_, _++_};
+ghost use Prim.Native.Nat.{ℕ, _<_, _≤_};
+ghost use lib.IntN.{natAbs};
+ghost use lib.ListN.{length};
+ghost use Rattle.integers.specs.Number.{neg, maxZ, absZ};
+ghost use Rattle.models.specs.Model.{num, terms, pastTerms};
+ghost use Rattle.rules.specs.Parts.{sources, L, U};
+ghost use Rattle.extremes.specs.Bounded.{boundsOf, Bounded};
+ghost use Rattle.laying.specs.Part.{Part, head, constant, termParts, rowParts, blockParts};
+ghost use Rattle.laying.specs.Went.{Went, Near, total};
+ghost use Rattle.linearblocks.specs.Rows.{link, split, slack};
+use arguments::num_at;
+use arguments::past_terms_at;
+use arguments::size_at;
+use extremes::sum_lower;
+use extremes::sum_upper;
+use extremes::zero_lower;
+use extremes::zero_upper;
+use integers::largest;
+use integers::opposite;
+use laying::Laid;
+use laying::lay_bound;
+use laying::lay_constant;
+use laying::lay_head;
+use laying::lay_term;
+use laying::lay_terms;
+use laying::lay_times;
+use words::kind;
+
+// The absolute value.
+fn size_of(v: i64) -> i64
+    requires { ⌜ natAbs v < 9223372036854775808 ⌝ }
+    ensures { λ r. ⌜ r ≡ absZ v ⌝ }
+{
+    largest(v, opposite(v))
+}
+
+// The larger of two absolute values.
+pub fn larger_size(a: i64, b: i64) -> i64
+    requires { ⌜ (natAbs a ≤ 1152921504606846976) × (natAbs b ≤ 1152921504606846976) ⌝ }
+    ensures { λ r. ⌜ (r ≡ maxZ (absZ a) (absZ b)) × (natAbs r ≤ 1152921504606846976) ⌝ }
+{
+    largest(size_of(a), size_of(b))
+}
+
+// The constant after the terms.
+fn constant_of(args: &[u32]) -> i64
+    ensures { λ r. ⌜ r ≡ num (now (args .entry)) (pastTerms (now (args .entry)) 0) ⌝ }
+{
+    num_at(args, past_terms_at(args, 0))
+}
+
+// L: the least of the sum less the constant.
+pub fn lower_of(args: &[u32], ls: &[i64], us: &[i64]) -> i64
+    requires { ⌜ Bounded (now ls) × Bounded (now us) ⌝ }
+    ensures { λ r. ⌜ (r ≡ L (boundsOf (now (ls .entry)) (now (us .entry))) (terms (now (args .entry)) 0) (num (now (args .entry)) (pastTerms (now (args .entry)) 0))) × (natAbs r ≤ 1152921504606846976) ⌝ }
+{
+    sum_lower(args, 0, constant_of(args), ls, us)
+}
+
+// U: the largest.
+pub fn upper_of(args: &[u32], ls: &[i64], us: &[i64]) -> i64
+    requires { ⌜ Bounded (now ls) × Bounded (now us) ⌝ }
+    ensures { λ r. ⌜ (r ≡ U (boundsOf (now (ls .entry)) (now (us .entry))) (terms (now (args .entry)) 0) (num (now (args .entry)) (pastTerms (now (args .entry)) 0))) × (natAbs r ≤ 1152921504606846976) ⌝ }
+{
+    sum_upper(args, 0, constant_of(args), ls, us)
+}
+
+// The constant of a row, the opposite of the constant after the terms.
+fn lay_minus_constant(out: &mut [u32], s: Laid, args: &[u32]) -> Laid
+    requires { ⌜ total s < 10000000000 ⌝ }
+    ensures { λ r. ⌜ Went s r (now (out .entry)) (now (out .exit)) (constant (neg (num (now (args .entry)) (pastTerms (now (args .entry)) 0))) ∷ []) × Near 10 s r ⌝ }
+{
+    lay_constant(out, s, opposite(constant_of(args)))
+}
+
+// A row of a kind: Σ−c.
+pub fn lay_sum(out: &mut [u32], s: Laid, kind: u32, args: &[u32]) -> Laid
+    requires { ⌜ (total s < 2000000000) × (kind < 16) ⌝ }
+    ensures { λ r. ⌜ ((first : ℕ) → Went s r (now (out .entry)) (now (out .exit)) (head kind (length (sources (terms (now (args .entry)) 0))) ∷ (termParts first (sources (terms (now (args .entry)) 0)) ++ (constant (neg (num (now (args .entry)) (pastTerms (now (args .entry)) 0))) ∷ [])))) × Near 2000 s r ⌝ }
+{
+    let begun = lay_head(out, s, kind, size_at(args, 0));
+    let t = lay_terms(out, begun, args, 0);
+    lay_minus_constant(out, t, args)
+}
+
+// Σ−x−c=0
+pub fn lay_link(out: &mut [u32], s: Laid, args: &[u32], first: usize) -> Laid
+    requires { ⌜ total s < 2000000000 ⌝ }
+    ensures { λ r. ⌜ Went s r (now (out .entry)) (now (out .exit)) (rowParts first (link (now (args .entry)))) × Near 2000 s r ⌝ }
+{
+    let begun = lay_head(out, s, kind::EQUAL, size_at(args, 0) + 1);
+    let t = lay_terms(out, begun, args, 0);
+    let u = lay_term(out, t, -1, first);
+    lay_minus_constant(out, u, args)
+}
+
+// x in given bounds: Σ−x−c=0.
+pub fn lay_slack(
+    out: &mut [u32],
+    s: Laid,
+    args: &[u32],
+    lower: i64,
+    upper: i64,
+    first: usize,
+) -> Laid
+    requires { ⌜ total s < 1000000000 ⌝ }
+    ensures { λ r. ⌜ Went s r (now (out .entry)) (now (out .exit)) (blockParts first (slack (now (args .entry)) lower upper)) × Near 10000 s r ⌝ }
+{
+    let t = lay_bound(out, s, lower, upper);
+    lay_link(out, t, args, first)
+}
+
+// x in given bounds, b, z in Z(x): Σ−x−c=0; z:=b×x.
+pub fn lay_split(
+    out: &mut [u32],
+    s: Laid,
+    args: &[u32],
+    lower: i64,
+    upper: i64,
+    first: usize,
+) -> Laid
+    requires { ⌜ (total s < 1000000000) × (first < 10000) ⌝ }
+    ensures { λ r. ⌜ Went s r (now (out .entry)) (now (out .exit)) (blockParts first (split (now (args .entry)) lower upper)) × Near 10000 s r ⌝ }
+{
+    let x = lay_bound(out, s, lower, upper);
+    let b = lay_bound(out, x, 0, 1);
+    let z = lay_bound(out, b, zero_lower(lower), zero_upper(upper));
+    let t = lay_link(out, z, args, first);
+    lay_times(out, t, first + 2, first + 1, first)
+}
