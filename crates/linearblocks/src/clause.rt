@@ -29,7 +29,7 @@ use words::kind;
 
 // 1 − n
 fn one_less(n: usize) -> i64
-    requires { ⌜ n ≤ 66 ⌝ }
+    requires { ⌜ n ≤ 32 ⌝ }
     ensures { λ r. ⌜ r ≡ +1 ⊖ pos n ⌝ }
 {
     minus(1, n as i64)

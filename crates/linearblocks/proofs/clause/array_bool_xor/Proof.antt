@@ -2,9 +2,8 @@
 use mathlib.Core.Path.{_∙_}
 use native.Mathlib.Omega.{arith}
 use borrow.Author.Needs.{needs}
-use Rattle.integers.specs.Number.{+1, -1}
+use Rattle.integers.specs.Number.{+1}
 use Rattle.models.specs.Model.{vars}
-use Rattle.rowsystems.specs.Row.{sum=0}
 use Rattle.rules.specs.Parts.{each}
 use Rattle.rules.specs.Rule.{rule}
 use Rattle.laying.specs.Part.{rowParts}
@@ -34,7 +33,7 @@ unfolding rule rowParts
 returns c =
     let ws = c .before .before .before .before .before .before .before .before .before .before .before .before .before .before .before .args .args .now in
     let ts = each +1 (vars ws 0) in
-    (λ first β. went-as (one-row first (sum=0 ts -1)) (row-went first ts (length-each +1 (vars ws 0) ∙ length-vars ws 0) (each-parts first +1 ws 0) (rw (c .before .before .before .before .before .before .before .before .before .before .before .size-at .ensures) at (c .before .before .before .before .before .before .before .before .before .before .lay-head .ensures .0)) (c .before .before .before .before .before .before .lay-each .ensures .0) (c .before .before .lay-constant .ensures .0)), omega (arith, c .before .before .before .before .before .before .before .before .before .before .lay-head .ensures .1, c .before .before .before .before .before .before .lay-each .ensures .1, c .before .before .lay-constant .ensures .1))
+    (λ first β. went-as (one-row first _) (row-went first ts (length-each +1 (vars ws 0) ∙ length-vars ws 0) (each-parts first +1 ws 0) (rw (c .before .before .before .before .before .before .before .before .before .before .before .size-at .ensures) at (c .before .before .before .before .before .before .before .before .before .before .lay-head .ensures .0)) (c .before .before .before .before .before .before .lay-each .ensures .0) (c .before .before .lay-constant .ensures .0)), omega (arith, c .before .before .before .before .before .before .before .before .before .before .lay-head .ensures .1, c .before .before .before .before .before .before .lay-each .ensures .1, c .before .before .lay-constant .ensures .1))
 
 pub array-bool-xor-spec : {M : Type 1} → statement M
 array-bool-xor-spec =

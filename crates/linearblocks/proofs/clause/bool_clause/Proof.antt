@@ -1,14 +1,12 @@
 -- A head, the terms of both lists and the constant are the one row of the block.
-use mathlib.Core.Path.{_∙_}
+use mathlib.Core.Path.{_≡_, ap, _∙_}
 use mathlib.Core.List.{_++_}
 use native.Mathlib.Omega.{arith}
-use lib.ListN.{length-append, length}
-use lib.IntN.{pos}
+use lib.ListN.{length-append}
 use borrow.Author.Needs.{needs}
-use Rattle.integers.specs.Number.{_⊖_, +1, -1}
-use Rattle.models.specs.Model.{vars, past}
+use Rattle.integers.specs.Number.{+1, -1}
+use Rattle.models.specs.Model.{size, vars, past}
 use Rattle.arguments.proofs.Size.{read, size-le}
-use Rattle.rowsystems.specs.Row.{sum≤0}
 use Rattle.rules.specs.Parts.{each}
 use Rattle.rules.specs.Rule.{rule}
 use Rattle.laying.specs.Part.{rowParts}
@@ -41,7 +39,7 @@ unfolding past
 lay-each-requires-2 c κs = (omega (arith, c .before .before .before .before .before .before .before .before .before .before .before .before .before .before .pre, c .before .before .before .before .before .before .before .lay-head .ensures .1, c .before .before .before .lay-each .ensures .1), omega (arith, c .before .before .before .before .before .before .before .before .before .before .before .past-at .ensures, size-le (c .before .before .before .before .before .before .before .before .before .before .before .before .before .before .args .args .now) 0))
 
 one-less-requires : tie.Need-one-less-requires
-one-less-requires c κs = rw (c .before .before .before .before .before .before .before .before .before .before .before .before .before .before .size-at .ensures) (omega (arith, size-le (c .before .before .before .before .before .before .before .before .before .before .before .before .before .before .before .before .before .before .args .args .now) (c .before .before .before .before .before .before .before .before .before .before .before .before .before .before .before .past-at .result)))
+one-less-requires c κs = rw (c .before .before .before .before .before .before .before .before .before .before .before .before .before .before .size-at .ensures) (size-le _ _)
 
 lay-constant-requires : tie.Need-lay-constant-requires
 lay-constant-requires c κs = omega (arith, c .before .before .before .before .before .before .before .before .before .before .before .before .before .before .before .before .before .before .before .pre, c .before .before .before .before .before .before .before .before .before .before .before .before .lay-head .ensures .1, c .before .before .before .before .before .before .before .before .lay-each .ensures .1, c .before .before .before .before .lay-each2 .ensures .1)
@@ -55,10 +53,11 @@ returns c =
     let ws = c .before .before .before .before .before .before .before .before .before .before .before .before .before .before .before .before .before .before .before .before .before .before .args .args .now in
     let xs = each -1 (vars ws 0) in
     let ys = each +1 (vars ws (past ws 0)) in
-    let h = rw (c .before .before .before .before .before .before .before .before .before .before .before .before .before .before .before .before .before .before .size-at .ensures, c .before .before .before .before .before .before .before .before .before .before .before .before .before .before .before .before .size-at2 .ensures, c .before .before .before .before .before .before .before .before .before .before .before .before .before .before .before .before .before .before .before .past-at .ensures) at (c .before .before .before .before .before .before .before .before .before .before .before .before .before .before .before .lay-head .ensures) in
+    let m : c .before .before .before .before .before .before .before .before .before .before .before .before .before .before .before .before .before .before .size-at .result ≡ size ws (past ws 0) = c .before .before .before .before .before .before .before .before .before .before .before .before .before .before .before .before .before .before .size-at .ensures ∙ ap (size ws) (c .before .before .before .before .before .before .before .before .before .before .before .before .before .before .before .before .before .before .before .past-at .ensures) in
+    let h = rw (m, c .before .before .before .before .before .before .before .before .before .before .before .before .before .before .before .before .size-at2 .ensures) at (c .before .before .before .before .before .before .before .before .before .before .before .before .before .before .before .lay-head .ensures) in
     let u = rw (c .before .before .before .before .before .before .before .before .before .before .before .before .before .before .before .before .before .before .before .past-at .ensures) at (c .before .before .before .before .before .before .before .lay-each2 .ensures) in
-    let k = rw (read (c .before .before .before .one-less .ok) (c .before .before .before .one-less .ensures), c .before .before .before .before .before .before .before .before .before .before .before .before .before .before .before .before .before .before .size-at .ensures, c .before .before .before .before .before .before .before .before .before .before .before .before .before .before .before .before .before .before .before .past-at .ensures, ← length-vars ws (past ws 0)) at (c .before .before .lay-constant .ensures) in
-    (λ first β. went-as (one-row first (sum≤0 (xs ++ ys) (+1 ⊖ pos (length (vars ws (past ws 0)))))) (row-went first (xs ++ ys) (simp (length-append, length-each, length-vars)) (terms-append first xs ys ∙ rw (each-parts first -1 ws 0, each-parts first +1 ws (past ws 0))) (h .0) (went-then (c .before .before .before .before .before .before .before .before .before .before .before .lay-each .ensures .0) (u .0)) (k .0)), omega (arith, h .1, c .before .before .before .before .before .before .before .before .before .before .before .lay-each .ensures .1, u .1, k .1))
+    let k = rw (read (c .before .before .before .one-less .ok) (c .before .before .before .one-less .ensures), m, ← length-vars ws (past ws 0)) at (c .before .before .lay-constant .ensures) in
+    (λ first β. went-as (one-row first _) (row-went first (xs ++ ys) (simp (length-append, length-each, length-vars)) (terms-append first xs ys ∙ rw (each-parts first -1 ws 0, each-parts first +1 ws (past ws 0))) (h .0) (went-then (c .before .before .before .before .before .before .before .before .before .before .before .lay-each .ensures .0) (u .0)) (k .0)), omega (arith, h .1, c .before .before .before .before .before .before .before .before .before .before .before .lay-each .ensures .1, u .1, k .1))
 
 pub bool-clause-spec : {M : Type 1} → statement M
 bool-clause-spec =

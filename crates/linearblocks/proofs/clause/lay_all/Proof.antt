@@ -32,7 +32,7 @@ lay-term-requires : tie.Need-lay-term-requires
 lay-term-requires c κs = search needs
 
 one-less-requires : tie.Need-one-less-requires
-one-less-requires c κs = rw (c .before .before .before .before .before .before .before .before .before .before .before .before .before .size-at .ensures) (omega (arith, size-le (c .before .before .before .before .before .before .before .before .before .before .before .before .before .before .before .before .args .args .now) 0))
+one-less-requires c κs = rw (c .before .before .before .before .before .before .before .before .before .before .before .before .before .size-at .ensures) (size-le _ _)
 
 lay-constant-requires : tie.Need-lay-constant-requires
 lay-constant-requires c κs = search needs
