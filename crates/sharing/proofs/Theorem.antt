@@ -124,6 +124,10 @@ module _ (ws : List ℕ) (passes : Passes ws) where
   unfolding auxiliaries bounds
   auxiliaries-count = ap length (auxiliaries-are (boundsIn Vs) (constraints ws))
 
+  -- variables and auxiliaries together
+  pub few-in-all : length (variables ws) + length (auxiliaries ws) ≤ Limit.inAll
+  few-in-all = rw auxiliaries-count few
+
   picks-count : (vs : List ℤ) → picks ws vs ≡ picksOf (boundsIn Vs) (value vs) (constraints ws)
   unfolding picks bounds
   picks-count vs = picks-are (boundsIn Vs) (value vs) (constraints ws)

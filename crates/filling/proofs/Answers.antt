@@ -1,0 +1,53 @@
+-- The answers of fill of a model that passes the check, and what each leaves in the lent list.
+use mathlib.Core.Path.{_≡_, refl, sym, ap, _∙_}
+use mathlib.Core.Bool.{Bool, true, false}
+use mathlib.Core.List.{List, _++_}
+use Prim.Native.Nat.{ℕ, _+_, _<_, _≤_}
+use lib.Dec.{ltb, eqb}
+use lib.IntN.{ℤ}
+use lib.ListN.{length}
+use borrow.Author.Tests.{eq-eqb, ne-eqb, lt-ltb, le-ltb}
+use Rattle.integers.specs.Choice.{_if_else_}
+use Rattle.words.specs.Variables.{variables}
+use Rattle.words.specs.Overlay.{overlay}
+use Rattle.words.specs.Refusal.{_at-place_, accepted, _else-refuse_, countFault}
+use Rattle.words.specs.Answer.{Answer, refused, written, holds, isHolds, _else-answer_}
+use Rattle.words.specs.declared.Refusal.{Refusal}
+use Rattle.models.specs.JudgeModel.{judgeModel, judgeAccepted}
+use Rattle.rules.specs.Translation.{picks, auxiliaries}
+use Rattle.rules.specs.Translate.{roomFault}
+use Rattle.rules.specs.Fill.{filledCount, fillFault, fill, filled}
+use Rattle.sharing.specs.SharedSolutions.{Passes}
+use Rattle.sharing.proofs.Accepts.{passes-read}
+
+-- an answer of fill, and the list afterwards
+abbrev pub Gives : List ℕ → List ℤ → List ℤ → Answer → List ℤ → Type 0
+Gives ws vs out answer out′ = (answer ≡ fill ws vs (length out)) × (out′ ≡ filled ws vs out)
+
+module _ (ws : List ℕ) (passes : Passes ws) (vs : List ℤ) (out : List ℤ) where
+  pub wrong-count : (length vs ≡ length (variables ws) → ⊥) → Gives ws vs out (refused 15 0) out
+  unfolding fill filled fillFault countFault _else-refuse_ _else-answer_
+  wrong-count f = (rw (passes, ne-eqb (length vs) (length (variables ws)) f), rw (passes, ne-eqb (length vs) (length (variables ws)) f))
+
+  module _ (counted : length vs ≡ length (variables ws)) where
+    pub too-short : length out < length (variables ws) + length (auxiliaries ws) → Gives ws vs out (refused 16 0) out
+    unfolding fill filled fillFault filledCount countFault roomFault _else-refuse_ _else-answer_
+    too-short l = (rw (passes, eq-eqb (length vs) (length (variables ws)) counted, lt-ltb (length out) (length (variables ws) + length (auxiliaries ws)) l), rw (passes, eq-eqb (length vs) (length (variables ws)) counted, lt-ltb (length out) (length (variables ws) + length (auxiliaries ws)) l))
+
+    module _ (room : length (variables ws) + length (auxiliaries ws) ≤ length out) where
+      no-fault : fillFault ws vs (length out) ≡ accepted
+      unfolding fillFault filledCount countFault roomFault _else-refuse_
+      no-fault = rw (passes, eq-eqb (length vs) (length (variables ws)) counted, le-ltb (length out) (length (variables ws) + length (auxiliaries ws)) room)
+
+      -- judge-model says of the values what it says of accepted words
+      judged : judgeModel ws vs ≡ judgeAccepted ws vs
+      unfolding judgeModel countFault _else-refuse_ _else-answer_
+      judged = rw (passes-read ws passes, eq-eqb (length vs) (length (variables ws)) counted)
+
+      pub held : judgeModel ws vs ≡ holds → Gives ws vs out (written (length (variables ws) + length (auxiliaries ws))) (overlay out 0 (vs ++ picks ws vs))
+      unfolding fill filled filledCount isHolds _else-answer_
+      held h = (rw (no-fault, sym judged ∙ h), rw (no-fault, sym judged ∙ h))
+
+      pub not-held : (answer : Answer) → answer ≡ judgeModel ws vs → isHolds answer ≡ false → Gives ws vs out answer out
+      unfolding fill filled _else-answer_
+      not-held answer h n = (rw (no-fault, sym judged ∙ sym h, n), rw (no-fault, sym judged ∙ sym h, n))

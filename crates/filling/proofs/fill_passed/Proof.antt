@@ -1,0 +1,85 @@
+-- The number of values, the room, then judge-model's answer, as in the definition.
+use mathlib.Core.Path.{_≡_, refl, sym, ap, _∙_}
+use native.Mathlib.Omega.{arith}
+use borrow.Author.Needs.{needs}
+use Rattle.words.specs.Answer.{refused, isHolds}
+use Rattle.words.specs.Verdict.{verdict}
+use Rattle.sharing.proofs.Accepts.{passes-read}
+use Rattle.sharing.proofs.Theorem.{few-in-all}
+use Rattle.sharing.proofs.Judged.{judge-model-says}
+use Rattle.filling.specs.Filled.{handed}
+use Rattle.filling.proofs.Answers.{wrong-count, too-short, held, not-held}
+use Rattle.filling.proofs.fill_passed.Statement.{statement}
+use Rattle.filling.proofs.fill_passed.Tie as tie
+
+returns : tie.Need-returns
+unfolding handed
+returns c = wrong-count (c .before .before .args .ws .now) (c .before .before .pre .0) (c .before .before .args .values .now) (c .before .before .args .out .now) (λ e. c .if1 .taken (e ∙ sym (c .before .before .pre .1)))
+
+add-if2 : tie.Need-add-if2
+add-if2 c = record { fits = omega (arith, c .before .before .pre .1, c .before .before .pre .2, few-in-all (c .before .before .args .ws .now) (c .before .before .pre .0)) }
+
+returns-2 : tie.Need-returns-2
+unfolding handed
+returns-2 c = too-short (c .before .before .before .args .ws .now) (c .before .before .before .pre .0) (c .before .before .before .args .values .now) (c .before .before .before .args .out .now) (c .before .if1 .left ∙ c .before .before .before .pre .1) (rw (c .before .before .before .pre .1, c .before .before .before .pre .2) at (c .if2 .taken))
+
+judge-model-requires : tie.Need-judge-model-requires
+judge-model-requires c κs = search needs
+
+enum-known-refusal : tie.Need-enum-known-refusal
+enum-known-refusal c = search needs
+
+enum-told : tie.Need-enum-told
+enum-told c = search needs
+
+write-filled-requires : tie.Need-write-filled-requires
+unfolding verdict
+write-filled-requires c κs = (c .before .before .before .before .before .before .before .pre .0, judge-model-says (c .before .before .before .before .before .before .before .args .ws .now) (passes-read (c .before .before .before .before .before .before .before .args .ws .now) (c .before .before .before .before .before .before .before .pre .0)) (c .before .before .before .before .before .before .before .args .values .now) .0 (sym (c .before .before .before .judge-model .ensures) ∙ rw (c .before .enum-told .given .1)))
+
+add-t19 : tie.Need-add-t19
+add-t19 c = search needs
+
+enum-known-i : tie.Need-enum-known-i
+enum-known-i c = search needs
+
+enum-known-i-2 : tie.Need-enum-known-i-2
+enum-known-i-2 c = search needs
+
+returns-3 : tie.Need-returns-3
+unfolding handed verdict isHolds
+returns-3 c = not-held (c .before .before .before .before .before .before .before .args .ws .now) (c .before .before .before .before .before .before .before .pre .0) (c .before .before .before .before .before .before .before .args .values .now) (c .before .before .before .before .before .before .before .args .out .now) (c .before .before .before .before .before .if1 .left ∙ c .before .before .before .before .before .before .before .pre .1) (rw (c .before .before .before .before .before .before .before .pre .1, c .before .before .before .before .before .before .before .pre .2) at (c .before .before .before .before .if2 .left)) _ (rw (c .before .refusal .given .1) at (c .before .before .before .judge-model .ensures)) refl
+
+same-length : tie.Need-same-length
+same-length c = search needs
+
+returns-4 : tie.Need-returns-4
+unfolding handed verdict
+returns-4 c = rw (c .before .before .before .before .before .before .before .before .before .pre .1, c .before .before .before .before .before .before .before .before .before .pre .2, c .before .write-filled .ensures) (held (c .before .before .before .before .before .before .before .before .before .args .ws .now) (c .before .before .before .before .before .before .before .before .before .pre .0) (c .before .before .before .before .before .before .before .before .before .args .values .now) (c .before .before .before .before .before .before .before .before .before .args .out .now) (c .before .before .before .before .before .before .before .if1 .left ∙ c .before .before .before .before .before .before .before .before .before .pre .1) (rw (c .before .before .before .before .before .before .before .before .before .pre .1, c .before .before .before .before .before .before .before .before .before .pre .2) at (c .before .before .before .before .before .before .if2 .left)) (sym (c .before .before .before .before .before .judge-model .ensures) ∙ rw (c .before .before .before .enum-told .given .1)))
+
+returns-5 : tie.Need-returns-5
+unfolding handed verdict isHolds
+returns-5 c = not-held (c .before .before .before .before .before .before .before .args .ws .now) (c .before .before .before .before .before .before .before .pre .0) (c .before .before .before .before .before .before .before .args .values .now) (c .before .before .before .before .before .before .before .args .out .now) (c .before .before .before .before .before .if1 .left ∙ c .before .before .before .before .before .before .before .pre .1) (rw (c .before .before .before .before .before .before .before .pre .1, c .before .before .before .before .before .before .before .pre .2) at (c .before .before .before .before .if2 .left)) _ (rw (c .before .i .given .1) at (c .before .before .before .judge-model .ensures)) refl
+
+returns-6 : tie.Need-returns-6
+unfolding handed verdict isHolds
+returns-6 c = not-held (c .before .before .before .before .before .before .before .args .ws .now) (c .before .before .before .before .before .before .before .pre .0) (c .before .before .before .before .before .before .before .args .values .now) (c .before .before .before .before .before .before .before .args .out .now) (c .before .before .before .before .before .if1 .left ∙ c .before .before .before .before .before .before .before .pre .1) (rw (c .before .before .before .before .before .before .before .pre .1, c .before .before .before .before .before .before .before .pre .2) at (c .before .before .before .before .if2 .left)) _ (rw (c .before .i2 .given .1) at (c .before .before .before .judge-model .ensures)) refl
+
+pub fill-passed-spec : {M : Type 1} → statement M
+fill-passed-spec =
+    tie.close
+    (tie.spec
+    returns
+    add-if2
+    returns-2
+    judge-model-requires
+    enum-known-refusal
+    enum-told
+    write-filled-requires
+    add-t19
+    enum-known-i
+    enum-known-i-2
+    returns-3
+    same-length
+    returns-4
+    returns-5
+    returns-6)

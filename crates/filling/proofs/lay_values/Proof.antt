@@ -1,0 +1,83 @@
+-- The invariant: laying the rest of the values from here gives what laying them all gives.
+use mathlib.Core.Path.{_≡_, refl, sym, ap, _∙_}
+use mathlib.Core.Logic.{⊎-elim}
+use Prim.Native.Nat.{ℕ, _+_, _-_, _≤_}
+use native.Mathlib.Omega.{arith}
+use native.Mathlib.Nat.{add-zero, zero-add}
+use mir.Syntax.{w32}
+use mir.Val.{SFits}
+use mir.Facts.{toZ-ofZ}
+use borrow.Author.Needs.{needs}
+use lib.ListN.{length, getD, drop, set, drop-of-length-le}
+use lib.Seq.{set-out}
+use Rattle.integers.specs.Number.{+0}
+use Rattle.words.specs.Overlay.{overlay}
+use Rattle.words.proofs.Overlay.{length-overlay, overlay-none, overlay-step}
+use Rattle.filling.proofs.lay_values.Statement.{statement}
+use Rattle.filling.proofs.lay_values.Tie as tie
+
+abbrev Inv-loop : tie.InvT-loop
+Inv-loop out₀ values i₀ out i = (i ≤ length values) × (overlay out (0 + i) (drop i values) ≡ overlay out₀ 0 values)
+
+abbrev μ-loop : tie.MeasureT-loop
+μ-loop out₀ values i₀ out i = length values - i
+
+-- after the branch the value is laid, if it fits
+written : (c : tie.Joined1 Inv-loop μ-loop) →
+    c .if1 .out ≡ set (c .before .before .loop .out) (0 + c .before .before .loop .i) (getD (c .before .before .before .args .values .now) (c .before .before .loop .i) +0)
+written c = rw zero-add (⊎-elim (λ w. let f : SFits w32 (getD (c .before .before .before .args .values .now) (c .before .before .loop .i) +0) = record { sfits = w .1 .given } in w .2 ∙ ap (set (c .before .before .loop .out) (c .before .before .loop .i)) (toZ-ofZ f)) (λ w. w .1 ∙ sym (set-out _ _ _ (w .0 .left))) (c .if1 .came))
+
+ended : (c : tie.After-loop Inv-loop μ-loop) → c .before .loop .out ≡ overlay (c .before .before .args .out .now) 0 (c .before .before .args .values .now)
+ended c = sym (overlay-none _ _) ∙ rw (drop-of-length-le (c .before .before .args .values .now) (c .loop-test .left)) at (c .before .loop .inv .1)
+
+loop-holds : tie.Need-loop-holds Inv-loop μ-loop
+loop-holds c = (search needs, rw add-zero)
+
+mul-out : tie.Need-mul-out Inv-loop μ-loop
+mul-out c = search needs
+
+shared-slice-copy-out-out : tie.Need-shared-slice-copy-out-out Inv-loop μ-loop
+shared-slice-copy-out-out c = search needs
+
+mul-t9 : tie.Need-mul-t9 Inv-loop μ-loop
+mul-t9 c = search needs
+
+slice-set-from-out : tie.Need-slice-set-from-out Inv-loop μ-loop
+slice-set-from-out c = search needs
+
+add-i : tie.Need-add-i Inv-loop μ-loop
+add-i c = search needs
+
+loop-less : tie.Need-loop-less Inv-loop μ-loop
+loop-less c = search needs
+
+loop-again : tie.Need-loop-again Inv-loop μ-loop
+loop-again c = (
+  omega arith,
+  rw (written c)
+      (sym (overlay-step +0 (c .before .before .loop .out) 0 (c .before .before .before .args .values .now) (c .before .before .loop .i) (c .before .loop-test .taken))
+      ∙ c .before .before .loop .inv .1),
+)
+
+same-length : tie.Need-same-length Inv-loop μ-loop
+same-length c = ap length (ended c) ∙ simp length-overlay
+
+returns : tie.Need-returns Inv-loop μ-loop
+returns c = ended c
+
+pub lay-values-spec : {M : Type 1} → statement M
+lay-values-spec =
+    tie.close
+    (tie.spec
+    Inv-loop
+    μ-loop
+    loop-holds
+    mul-out
+    shared-slice-copy-out-out
+    mul-t9
+    slice-set-from-out
+    add-i
+    loop-less
+    loop-again
+    same-length
+    returns)

@@ -1,0 +1,120 @@
+-- The invariant: writing the picks of the constraints that are left gives what writing those of all gives.
+use mathlib.Core.Path.{_≡_, sym, ap, _∙_}
+use Prim.Native.Nat.{_+_, _-_}
+use native.Mathlib.Omega.{arith}
+use lib.ListN.{length}
+use borrow.Author.Needs.{needs}
+use borrow.Author.Tests.{eq-eqb, ne-eqb}
+use Rattle.words.specs.Word.{wordAt}
+use Rattle.words.proofs.Overlay.{length-overlay}
+use Rattle.words.proofs.Reading.{tail-is}
+use Rattle.picking.proofs.Picks.{Filling, begun, passed, here-ranged, picked, place-le, ended}
+use Rattle.filling.proofs.write_picks.Statement.{statement}
+use Rattle.filling.proofs.write_picks.Tie as tie
+
+abbrev Inv-loop : tie.InvT-loop
+Inv-loop ws ls us values out₀ start p₀ at₀ out p at = Filling ls us values ws start out₀ out p at
+
+abbrev μ-loop : tie.MeasureT-loop
+μ-loop ws ls us values out₀ start p₀ at₀ out p at = length ws - p
+
+-- src/lib.rt:55:5
+loop-holds : tie.Need-loop-holds Inv-loop μ-loop
+loop-holds c = begun _ _ _ _ _ _ (c .before .pre .3)
+
+-- src/lib.rt:56:17
+mul-w : tie.Need-mul-w Inv-loop μ-loop
+mul-w c = search needs
+
+-- src/lib.rt:56:17
+shared-slice-read-w : tie.Need-shared-slice-read-w Inv-loop μ-loop
+shared-slice-read-w c = search needs
+
+-- src/lib.rt:57:9
+add-p : tie.Need-add-p Inv-loop μ-loop
+add-p c = search needs
+
+-- src/lib.rt:58:12
+kind-of-requires : tie.Need-kind-of-requires Inv-loop μ-loop
+kind-of-requires c κs = search needs
+
+-- src/lib.rt:59:38
+payload-of-requires : tie.Need-payload-of-requires Inv-loop μ-loop
+payload-of-requires c κs = search needs
+
+-- src/lib.rt:59:53
+mul-pick-block : tie.Need-mul-pick-block Inv-loop μ-loop
+mul-pick-block c = search needs
+
+-- src/lib.rt:59:53
+sub-pick-block : tie.Need-sub-pick-block Inv-loop μ-loop
+sub-pick-block c = search needs
+
+-- src/lib.rt:59:53
+part-pick-block-start : tie.Need-part-pick-block-start Inv-loop μ-loop
+part-pick-block-start c = search needs
+
+-- src/lib.rt:59:53
+part-pick-block-end : tie.Need-part-pick-block-end Inv-loop μ-loop
+part-pick-block-end c = search needs
+
+-- src/lib.rt:59:13
+pick-block-requires : tie.Need-pick-block-requires Inv-loop μ-loop
+unfolding wordAt
+pick-block-requires c κs = record {
+  place = omega (arith, place-le (c .before .before .before .before .before .before .before .loop .inv), c .before .before .before .before .before .before .before .before .before .pre .4);
+  lowers = c .before .before .before .before .before .before .before .before .before .pre .0;
+  uppers = c .before .before .before .before .before .before .before .before .before .pre .1;
+  small = c .before .before .before .before .before .before .before .before .before .pre .2;
+  ranged = rw (c .before .payload-of .ensures, tail-is (c .before .before .before .before .before .before .before .before .before .args .ws .now) (c .before .before .before .before .before .before .before .loop .p + 1)) (here-ranged (c .before .before .before .before .before .before .before .loop .inv) (c .before .before .before .before .before .before .loop-test .taken) (eq-eqb _ _ (sym (c .before .before .before .before .kind-of .ensures) ∙ c .before .before .before .if1 .taken)));
+}
+
+-- src/lib.rt:55:5
+loop-less : tie.Need-loop-less Inv-loop μ-loop
+loop-less c = search needs
+
+-- src/lib.rt:55:5
+loop-again : tie.Need-loop-again Inv-loop μ-loop
+unfolding wordAt
+loop-again c = picked (c .before .before .before .before .before .before .before .before .before .loop .inv) (c .before .before .before .before .before .before .before .before .loop-test .taken) (eq-eqb _ _ (sym (c .before .before .before .before .before .before .kind-of .ensures) ∙ c .before .before .before .before .before .if1 .taken)) (rw (c .before .before .before .payload-of .ensures, tail-is (c .before .before .before .before .before .before .before .before .before .before .before .args .ws .now) (c .before .before .before .before .before .before .before .before .before .loop .p + 1)) at (c .before .pick-block .ensures))
+
+-- src/lib.rt:55:5
+loop-less-2 : tie.Need-loop-less-2 Inv-loop μ-loop
+loop-less-2 c = search needs
+
+-- src/lib.rt:55:5
+loop-again-2 : tie.Need-loop-again-2 Inv-loop μ-loop
+unfolding wordAt
+loop-again-2 c = passed (c .before .before .before .before .loop .inv) (c .before .before .before .loop-test .taken) (ne-eqb _ _ (λ e. c .if1 .left (c .before .kind-of .ensures ∙ e)))
+
+-- src/lib.rt:49:1
+same-length : tie.Need-same-length Inv-loop μ-loop
+same-length c = ap length (ended (c .before .loop .inv) (c .loop-test .left) .1) ∙ simp length-overlay
+
+-- src/lib.rt:49:1
+returns : tie.Need-returns Inv-loop μ-loop
+returns c = ended (c .before .loop .inv) (c .loop-test .left) .1
+
+pub write-picks-spec : {M : Type 1} → statement M
+write-picks-spec =
+    tie.close
+    (tie.spec
+    Inv-loop
+    μ-loop
+    loop-holds
+    mul-w
+    shared-slice-read-w
+    add-p
+    kind-of-requires
+    payload-of-requires
+    mul-pick-block
+    sub-pick-block
+    part-pick-block-start
+    part-pick-block-end
+    pick-block-requires
+    loop-less
+    loop-again
+    loop-less-2
+    loop-again-2
+    same-length
+    returns)

@@ -1,0 +1,2 @@
+-- What the contracts cite: the answer of fill.
+pub mod Filled
