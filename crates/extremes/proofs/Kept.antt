@@ -97,7 +97,7 @@ module _ {A : Type 0} (d : A) where
   before [] out at v h = refl
   before (x ∷ xs) out at v h = before xs (set out at x) (suc at) v (omega arith) ∙ getD-set-other out at v x d (λ e. omega arith)
 
-  laid : (xs out : List A) (at : ℕ) → at + length xs ≤ length out → ((v : ℕ) → at ≤ v → getD out v d ≡ d) → (v : ℕ) → getD (overlay out at xs) (at + v) d ≡ getD xs v d
+  pub laid : (xs out : List A) (at : ℕ) → at + length xs ≤ length out → ((v : ℕ) → at ≤ v → getD out v d ≡ d) → (v : ℕ) → getD (overlay out at xs) (at + v) d ≡ getD xs v d
   unfolding overlay
   laid [] out at h z v = z (at + v) (omega arith)
   laid (x ∷ xs) out at h z zero = let e : at + 0 ≡ at = omega arith in rw e (before xs (set out at x) (suc at) at (omega arith) ∙ getD-set-same out at x d (omega arith))

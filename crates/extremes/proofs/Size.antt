@@ -34,7 +34,7 @@ pick-size true a b h k = chosen-size (leZ a b) b a k h
 pick-size false a b h k = chosen-size (leZ a b) a b h k
 
 -- how many values two bounds leave, and the places of a list of n elements
-count-le : (z : ℤ) → count z ≤ natAbs z
+pub count-le : (z : ℤ) → count z ≤ natAbs z
 unfolding count
 count-le (pos n) = omega arith
 count-le (negsuc n) = omega arith

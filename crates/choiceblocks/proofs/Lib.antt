@@ -1,0 +1,1 @@
+-- Laws for proofs about the blocks of elements, maximum and membership.

@@ -1,0 +1,28 @@
+-- Two rows, one after the other.
+use native.Mathlib.Omega.{arith}
+use mir.Facts.{toZ-ofZ}
+use borrow.Author.Needs.{needs}
+use Rattle.laying.proofs.Parts.{went-then}
+use Rattle.choiceblocks.specs.Rows.{choiceRows}
+use Rattle.choiceblocks.proofs.rows.lay_choice.Statement.{statement}
+use Rattle.choiceblocks.proofs.rows.lay_choice.Tie as tie
+
+lay-one-bit-requires : tie.Need-lay-one-bit-requires
+lay-one-bit-requires c κs = search needs
+
+lay-label-row-requires : tie.Need-lay-label-row-requires
+lay-label-row-requires c κs = search needs
+
+same-length : tie.Need-same-length
+same-length c = search needs
+
+returns : tie.Need-returns
+unfolding choiceRows
+returns c =
+    let a = c .before .before .before .before .before .before .lay-one-bit .ensures in
+    let b = rw (toZ-ofZ (c .before .before .before .before .before .before .before .before .before .fits .from)) at (c .before .before .lay-label-row .ensures) in
+    (went-then (a .0) (b .0), omega (arith, a .1, b .1))
+
+pub lay-choice-spec : {M : Type 1} → statement M
+lay-choice-spec =
+    tie.close (tie.spec lay-one-bit-requires lay-label-row-requires same-length returns)

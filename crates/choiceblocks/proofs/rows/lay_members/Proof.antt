@@ -1,0 +1,75 @@
+-- The loop lays one list of parts in each turn: a term of coefficient 1. Its variable is near the first one.
+use Prim.Native.Nat.{_-_}
+use native.Mathlib.Omega.{arith}
+use lib.ListN.{getD}
+use mir.Facts.{toZ-ofZ}
+use mir.Syntax.{w64}
+use mir.Val.{toZ}
+use borrow.Author.Needs.{needs}
+use Rattle.integers.proofs.Fits.{minus-size}
+use Rattle.integers.specs.Number.{_⊖_, +0}
+use Rattle.arguments.proofs.Size.{read}
+use Rattle.laying.proofs.Parts.{Laying, begun, more, done, went-length}
+use Rattle.extremes.proofs.Size.{count-le}
+use Rattle.choiceblocks.specs.Rows.{memberAt}
+use Rattle.choiceblocks.proofs.rows.lay_members.Statement.{statement}
+use Rattle.choiceblocks.proofs.rows.lay_members.Tie as tie
+
+abbrev Inv-loop : tie.InvT-loop
+Inv-loop out₀ vs from v n t₀ k₀ out t k = Laying 10 (memberAt vs (toZ w64 from) v) n t₀ t out₀ out k
+
+abbrev μ-loop : tie.MeasureT-loop
+μ-loop out₀ vs from v n t₀ k₀ out t k = n - k
+
+loop-holds : tie.Need-loop-holds Inv-loop μ-loop
+loop-holds c = begun 10 _ _ _ _
+
+bound-at-requires : tie.Need-bound-at-requires Inv-loop μ-loop
+bound-at-requires c κs = search needs
+
+minus-requires : tie.Need-minus-requires Inv-loop μ-loop
+minus-requires c κs = rw (read (c .bound-at .ok) (c .bound-at .ensures), toZ-ofZ (c .before .before .before .before .before .fits .from)) (omega (arith, c .before .before .before .before .before .pre .4 (c .before .before .before .loop .k)))
+
+count-of-requires : tie.Need-count-of-requires Inv-loop μ-loop
+count-of-requires c κs = search needs
+
+add-lay-term : tie.Need-add-lay-term Inv-loop μ-loop
+add-lay-term c =
+    let m = rw (read (c .before .minus .ok) (c .before .minus .ensures), read (c .before .before .bound-at .ok) (c .before .before .bound-at .ensures), toZ-ofZ (c .before .before .before .before .before .before .before .fits .from)) at (c .count-of .ensures) in
+    omega (arith, m, count-le ((getD (c .before .before .before .before .before .before .before .args .vs .now) (c .before .before .before .before .before .loop .k) +0) ⊖ c .before .before .before .before .before .before .before .args .from), minus-size (getD (c .before .before .before .before .before .before .before .args .vs .now) (c .before .before .before .before .before .loop .k) +0) (c .before .before .before .before .before .before .before .args .from), c .before .before .before .before .before .before .before .pre .4 (c .before .before .before .before .before .loop .k))
+
+lay-term-requires : tie.Need-lay-term-requires Inv-loop μ-loop
+lay-term-requires c κs = search needs
+
+add-k : tie.Need-add-k Inv-loop μ-loop
+add-k c = search needs
+
+loop-less : tie.Need-loop-less Inv-loop μ-loop
+loop-less c = search needs
+
+loop-again : tie.Need-loop-again Inv-loop μ-loop
+loop-again c = more (c .before .before .before .before .before .before .before .loop-test .taken) (c .before .before .before .before .before .before .before .before .loop .inv) (rw (c .before .before .before .count-of .ensures, read (c .before .before .before .before .minus .ok) (c .before .before .before .before .minus .ensures), read (c .before .before .before .before .before .bound-at .ok) (c .before .before .before .before .before .bound-at .ensures)) at (c .before .before .lay-term .ensures))
+
+same-length : tie.Need-same-length Inv-loop μ-loop
+same-length c = went-length (c .before .loop .inv .went)
+
+returns : tie.Need-returns Inv-loop μ-loop
+returns c = done 1000 (omega arith) (c .loop-test .left) (rw (toZ-ofZ (c .before .before .before .fits .from)) at (c .before .loop .inv))
+
+pub lay-members-spec : {M : Type 1} → statement M
+lay-members-spec =
+    tie.close
+    (tie.spec
+    Inv-loop
+    μ-loop
+    loop-holds
+    bound-at-requires
+    minus-requires
+    count-of-requires
+    add-lay-term
+    lay-term-requires
+    add-k
+    loop-less
+    loop-again
+    same-length
+    returns)

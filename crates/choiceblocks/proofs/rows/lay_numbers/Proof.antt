@@ -1,0 +1,62 @@
+-- The loop lays one list of parts in each turn: a term whose coefficient is the number at a place.
+use Prim.Native.Nat.{_-_}
+use native.Mathlib.Omega.{arith}
+use borrow.Author.Needs.{needs}
+use Rattle.arguments.proofs.Size.{read}
+use Rattle.laying.proofs.Parts.{Laying, begun, more, done, went-length}
+use Rattle.choiceblocks.specs.Rows.{numberAt}
+use Rattle.choiceblocks.proofs.rows.lay_numbers.Statement.{statement}
+use Rattle.choiceblocks.proofs.rows.lay_numbers.Tie as tie
+
+abbrev Inv-loop : tie.InvT-loop
+Inv-loop out₀ args base v n t₀ k₀ out t k = Laying 10 (numberAt args base v) n t₀ t out₀ out k
+
+abbrev μ-loop : tie.MeasureT-loop
+μ-loop out₀ args base v n t₀ k₀ out t k = n - k
+
+loop-holds : tie.Need-loop-holds Inv-loop μ-loop
+loop-holds c = begun 10 _ _ _ _
+
+add-num-at : tie.Need-add-num-at Inv-loop μ-loop
+add-num-at c = search needs
+
+num-at-requires : tie.Need-num-at-requires Inv-loop μ-loop
+num-at-requires c κs = search needs
+
+add-lay-term : tie.Need-add-lay-term Inv-loop μ-loop
+add-lay-term c = search needs
+
+lay-term-requires : tie.Need-lay-term-requires Inv-loop μ-loop
+lay-term-requires c κs = search needs
+
+add-k : tie.Need-add-k Inv-loop μ-loop
+add-k c = search needs
+
+loop-less : tie.Need-loop-less Inv-loop μ-loop
+loop-less c = search needs
+
+loop-again : tie.Need-loop-again Inv-loop μ-loop
+loop-again c = more (c .before .before .before .before .before .loop-test .taken) (c .before .before .before .before .before .before .loop .inv) (rw (read (c .before .before .before .num-at .ok) (c .before .before .before .num-at .ensures)) at (c .before .before .lay-term .ensures))
+
+same-length : tie.Need-same-length Inv-loop μ-loop
+same-length c = went-length (c .before .loop .inv .went)
+
+returns : tie.Need-returns Inv-loop μ-loop
+returns c = done 1000 (omega arith) (c .loop-test .left) (c .before .loop .inv)
+
+pub lay-numbers-spec : {M : Type 1} → statement M
+lay-numbers-spec =
+    tie.close
+    (tie.spec
+    Inv-loop
+    μ-loop
+    loop-holds
+    add-num-at
+    num-at-requires
+    add-lay-term
+    lay-term-requires
+    add-k
+    loop-less
+    loop-again
+    same-length
+    returns)

@@ -1,0 +1,32 @@
+-- A head, terms and a constant, one after the other.
+use native.Mathlib.Omega.{arith}
+use borrow.Author.Needs.{needs}
+use Rattle.laying.proofs.Parts.{went-then}
+use Rattle.choiceblocks.specs.Rows.{oneRow}
+use Rattle.choiceblocks.proofs.rows.lay_one_bit.Statement.{statement}
+use Rattle.choiceblocks.proofs.rows.lay_one_bit.Tie as tie
+
+lay-head-requires : tie.Need-lay-head-requires
+lay-head-requires c κs = search needs
+
+lay-ones-requires : tie.Need-lay-ones-requires
+lay-ones-requires c κs = search needs
+
+lay-constant-requires : tie.Need-lay-constant-requires
+lay-constant-requires c κs = search needs
+
+same-length : tie.Need-same-length
+same-length c = search needs
+
+returns : tie.Need-returns
+unfolding oneRow
+returns c =
+    let a = c .before .before .before .before .before .before .before .before .before .before .lay-head .ensures in
+    let b = c .before .before .before .before .before .before .lay-ones .ensures in
+    let d = c .before .before .lay-constant .ensures in
+    (went-then (a .0) (went-then (b .0) (d .0)), omega (arith, a .1, b .1, d .1))
+
+pub lay-one-bit-spec : {M : Type 1} → statement M
+lay-one-bit-spec =
+    tie.close
+    (tie.spec lay-head-requires lay-ones-requires lay-constant-requires same-length returns)

@@ -1,0 +1,74 @@
+-- The loop lays one list of parts in each turn: the bounds Z of a variable.
+use Prim.Native.Nat.{_-_}
+use native.Mathlib.Omega.{arith}
+use borrow.Author.Needs.{needs}
+use Rattle.arguments.proofs.Size.{read}
+use Rattle.laying.proofs.Parts.{Laying, begun, more, done, went-length}
+use Rattle.choiceblocks.specs.Rows.{zeroAt}
+use Rattle.choiceblocks.proofs.rows.lay_zeros.Statement.{statement}
+use Rattle.choiceblocks.proofs.rows.lay_zeros.Tie as tie
+
+abbrev Inv-loop : tie.InvT-loop
+Inv-loop out₀ args base n ls us t₀ k₀ out t k = Laying 10 (zeroAt ls us args base) n t₀ t out₀ out k
+
+abbrev μ-loop : tie.MeasureT-loop
+μ-loop out₀ args base n ls us t₀ k₀ out t k = n - k
+
+loop-holds : tie.Need-loop-holds Inv-loop μ-loop
+loop-holds c = begun 10 _ _ _ _
+
+add-var-at : tie.Need-add-var-at Inv-loop μ-loop
+add-var-at c = search needs
+
+var-at-requires : tie.Need-var-at-requires Inv-loop μ-loop
+var-at-requires c κs = search needs
+
+bound-at-requires : tie.Need-bound-at-requires Inv-loop μ-loop
+bound-at-requires c κs = search needs
+
+zero-lower-requires : tie.Need-zero-lower-requires Inv-loop μ-loop
+zero-lower-requires c κs = search needs
+
+bound-at-requires-2 : tie.Need-bound-at-requires-2 Inv-loop μ-loop
+bound-at-requires-2 c κs = search needs
+
+zero-upper-requires : tie.Need-zero-upper-requires Inv-loop μ-loop
+zero-upper-requires c κs = search needs
+
+lay-bound-requires : tie.Need-lay-bound-requires Inv-loop μ-loop
+lay-bound-requires c κs = search needs
+
+add-k : tie.Need-add-k Inv-loop μ-loop
+add-k c = search needs
+
+loop-less : tie.Need-loop-less Inv-loop μ-loop
+loop-less c = search needs
+
+loop-again : tie.Need-loop-again Inv-loop μ-loop
+loop-again c = more (c .before .before .before .before .before .before .before .before .before .loop-test .taken) (c .before .before .before .before .before .before .before .before .before .before .loop .inv) (rw (read (c .before .before .before .before .before .zero-lower .ok) (c .before .before .before .before .before .zero-lower .ensures), read (c .before .before .before .zero-upper .ok) (c .before .before .before .zero-upper .ensures), read (c .before .before .before .before .before .before .bound-at .ok) (c .before .before .before .before .before .before .bound-at .ensures), read (c .before .before .before .before .bound-at2 .ok) (c .before .before .before .before .bound-at2 .ensures), c .before .before .before .before .before .before .before .before .var-at .ensures) at (c .before .before .lay-bound .ensures))
+
+same-length : tie.Need-same-length Inv-loop μ-loop
+same-length c = went-length (c .before .loop .inv .went)
+
+returns : tie.Need-returns Inv-loop μ-loop
+returns c = done 1000 (omega arith) (c .loop-test .left) (c .before .loop .inv)
+
+pub lay-zeros-spec : {M : Type 1} → statement M
+lay-zeros-spec =
+    tie.close
+    (tie.spec
+    Inv-loop
+    μ-loop
+    loop-holds
+    add-var-at
+    var-at-requires
+    bound-at-requires
+    zero-lower-requires
+    bound-at-requires-2
+    zero-upper-requires
+    lay-bound-requires
+    add-k
+    loop-less
+    loop-again
+    same-length
+    returns)

@@ -1,0 +1,43 @@
+-- What the loops lay, turn by turn, and the rows over one-hot bits.
+use mathlib.Core.List.{List, [], _∷_, _++_}
+use Prim.Native.Nat.{ℕ, _+_}
+use lib.IntN.{ℤ}
+use lib.ListN.{getD}
+use Rattle.integers.specs.Number.{_⊖_, minZ, maxZ, count, +0, +1, -1}
+use Rattle.words.specs.Kind as Kind
+use Rattle.models.specs.Model.{var, num}
+use Rattle.laying.specs.Part.{Part, bound, head, term, constant}
+use Rattle.laying.specs.Lists.{many, oneAt, labelAt, bitAt, productAt}
+
+-- Z(x), the variables x from a place on
+abbrev pub zeroAt : List ℤ → List ℤ → List ℕ → ℕ → ℕ → List Part
+zeroAt ls us args base k = bound (minZ +0 (getD ls (var args (base + k)) +0)) (maxZ +0 (getD us (var args (base + k)) +0)) ∷ []
+
+-- over consecutive variables: the numbers from a place on, the numbers of a list
+abbrev pub numberAt : List ℕ → ℕ → ℕ → ℕ → List Part
+numberAt args base v k = term (num args (base + k)) (v + k) ∷ []
+
+abbrev pub valueAt : List ℤ → ℕ → ℕ → List Part
+valueAt vs v k = term (getD vs k +0) (v + k) ∷ []
+
+-- coefficient 1, over the variables that the numbers of a list label, v of the label `from`
+abbrev pub memberAt : List ℤ → ℤ → ℕ → ℕ → List Part
+memberAt vs from v k = term +1 (v + count (getD vs k +0 ⊖ from)) ∷ []
+
+-- Σ − 1 = 0 over n consecutive variables; Σ − x = 0 over n terms
+unfoldable pub oneRow : ℕ → ℕ → List Part
+oneRow v n = head Kind.equal n ∷ (many (oneAt v) n ++ (constant -1 ∷ []))
+
+unfoldable pub sumRow : (ℕ → List Part) → ℕ → ℕ → List Part
+sumRow f n x = head Kind.equal (n + 1) ∷ (many f n ++ (term -1 x ∷ constant +0 ∷ []))
+
+-- n consecutive bits of which one is 1, their labels rise by 1: x is the label of that bit
+unfoldable pub choiceRows : ℤ → ℕ → ℕ → ℕ → List Part
+choiceRows from v n x = oneRow v n ++ sumRow (labelAt from v) n x
+
+-- n bits, and Z of the variables from a place on; z := x × b for each, and Σz − m = 0
+unfoldable pub gates : List ℤ → List ℤ → List ℕ → ℕ → ℕ → List Part
+gates ls us args base n = many bitAt n ++ many (zeroAt ls us args base) n
+
+unfoldable pub gatedRows : List ℕ → ℕ → ℕ → ℕ → ℕ → List Part
+gatedRows args base v n m = many (productAt args base (v + n) v) n ++ sumRow (oneAt (v + n)) n m

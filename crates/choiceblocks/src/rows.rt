@@ -1,0 +1,226 @@
+// The rows over one-hot bits, and the lists that they are made of.
+ghost use mathlib.Core.Path.{_≡_};
+ghost use mathlib.Core.List.{[], _∷_};
+ghost use Prim.Native.Nat.{ℕ, _+_, _<_, _≤_};
+ghost use lib.IntN.{natAbs};
+ghost use lib.ListN.{length, getD};
+ghost use Rattle.integers.specs.Number.{+0, -1};
+ghost use Rattle.laying.specs.Part.{Part, term, constant};
+ghost use Rattle.laying.specs.Lists.{many, oneAt, labelAt};
+ghost use Rattle.laying.specs.Went.{Went, Near, total};
+ghost use Rattle.choiceblocks.specs.Rows.{zeroAt, numberAt, valueAt, memberAt, oneRow, sumRow, choiceRows, gates, gatedRows};
+use arguments::count_of;
+use arguments::num_at;
+use arguments::var_at;
+use extremes::bound_at;
+use extremes::zero_lower;
+use extremes::zero_upper;
+use integers::minus;
+use laying::Laid;
+use laying::lay_bits;
+use laying::lay_bound;
+use laying::lay_constant;
+use laying::lay_head;
+use laying::lay_labels;
+use laying::lay_ones;
+use laying::lay_products;
+use laying::lay_term;
+use words::kind;
+
+// Z of n variables, from place base on.
+fn lay_zeros(
+    out: &mut [u32],
+    s: Laid,
+    args: &[u32],
+    base: usize,
+    n: usize,
+    ls: &[i64],
+    us: &[i64],
+) -> Laid
+    requires { ⌜ (total s < 900000000000) × (n ≤ 66) × (base < 1000000000000) ⌝ }
+    ensures { λ r. ⌜ Went s r (now (out .entry)) (now (out .exit)) (many (zeroAt (now (ls .entry)) (now (us .entry)) (now (args .entry)) base) n) × Near 1000 s r ⌝ }
+{
+    let mut t = s;
+    let mut k = 0;
+    while k < n {
+        let v = var_at(args, base + k);
+        t = lay_bound(
+            out,
+            t,
+            zero_lower(bound_at(ls, v)),
+            zero_upper(bound_at(us, v)),
+        );
+        k += 1;
+    }
+    t
+}
+
+// The numbers from place base on × n consecutive variables.
+fn lay_numbers(out: &mut [u32], s: Laid, args: &[u32], base: usize, v: usize, n: usize) -> Laid
+    requires { ⌜ (total s < 900000000000) × (n ≤ 66) × (base < 1000000000000) × (v < 1000000000000) ⌝ }
+    ensures { λ r. ⌜ Went s r (now (out .entry)) (now (out .exit)) (many (numberAt (now (args .entry)) base v) n) × Near 1000 s r ⌝ }
+{
+    let mut t = s;
+    let mut k = 0;
+    while k < n {
+        t = lay_term(out, t, num_at(args, base + k), v + k);
+        k += 1;
+    }
+    t
+}
+
+// The first n numbers of a list × n consecutive variables.
+fn lay_values(out: &mut [u32], s: Laid, vs: &[i64], v: usize, n: usize) -> Laid
+    requires { ⌜ (total s < 900000000000) × (n ≤ 66) × (v < 1000000000000) ⌝ }
+    ensures { λ r. ⌜ Went s r (now (out .entry)) (now (out .exit)) (many (valueAt (now (vs .entry)) v) n) × Near 1000 s r ⌝ }
+{
+    let mut t = s;
+    let mut k = 0;
+    while k < n {
+        t = lay_term(out, t, bound_at(vs, k), v + k);
+        k += 1;
+    }
+    t
+}
+
+// Σ of the variables that the first n numbers of a list label; v has the label `from`.
+fn lay_members(out: &mut [u32], s: Laid, vs: &[i64], from: i64, v: usize, n: usize) -> Laid
+    requires { ⌜ (total s < 900000000000) × (n ≤ 66) × (v < 1000000000000) × (natAbs from < 1000000000) × ((k : ℕ) → natAbs (getD (now vs) k +0) < 1000000000) ⌝ }
+    ensures { λ r. ⌜ Went s r (now (out .entry)) (now (out .exit)) (many (memberAt (now (vs .entry)) from v) n) × Near 1000 s r ⌝ }
+{
+    let mut t = s;
+    let mut k = 0;
+    while k < n {
+        t = lay_term(out, t, 1, v + count_of(minus(bound_at(vs, k), from)));
+        k += 1;
+    }
+    t
+}
+
+// The last words of a row: − x = 0.
+fn lay_last(out: &mut [u32], s: Laid, x: usize) -> Laid
+    requires { ⌜ total s < 900000000000 ⌝ }
+    ensures { λ r. ⌜ Went s r (now (out .entry)) (now (out .exit)) (term -1 x ∷ constant +0 ∷ []) × Near 20 s r ⌝ }
+{
+    let t = lay_term(out, s, -1, x);
+    lay_constant(out, t, 0)
+}
+
+// Σb − 1 = 0 over n consecutive variables.
+pub fn lay_one_bit(out: &mut [u32], s: Laid, v: usize, n: usize) -> Laid
+    requires { ⌜ (total s < 800000000000) × (n ≤ 66) × (v < 1000000000) ⌝ }
+    ensures { λ r. ⌜ Went s r (now (out .entry)) (now (out .exit)) (oneRow v n) × Near 2000 s r ⌝ }
+{
+    let t = lay_head(out, s, kind::EQUAL, n);
+    let u = lay_ones(out, t, v, n);
+    lay_constant(out, u, -1)
+}
+
+// Σz − m = 0 over n consecutive variables.
+fn lay_one_row(out: &mut [u32], s: Laid, v: usize, n: usize, m: usize) -> Laid
+    requires { ⌜ (total s < 800000000000) × (n ≤ 66) × (v < 1000000000) ⌝ }
+    ensures { λ r. ⌜ Went s r (now (out .entry)) (now (out .exit)) (sumRow (oneAt v) n m) × Near 2000 s r ⌝ }
+{
+    let t = lay_head(out, s, kind::EQUAL, n + 1);
+    let u = lay_ones(out, t, v, n);
+    lay_last(out, u, m)
+}
+
+// Σj×b − x = 0 over n consecutive labels from `from` on.
+fn lay_label_row(out: &mut [u32], s: Laid, from: i64, v: usize, n: usize, x: usize) -> Laid
+    requires { ⌜ (total s < 800000000000) × (n ≤ 66) × (v < 1000000000) × (natAbs from < 1000000000) ⌝ }
+    ensures { λ r. ⌜ Went s r (now (out .entry)) (now (out .exit)) (sumRow (labelAt from v) n x) × Near 2000 s r ⌝ }
+{
+    let t = lay_head(out, s, kind::EQUAL, n + 1);
+    let u = lay_labels(out, t, from, v, n);
+    lay_last(out, u, x)
+}
+
+// Σa×b − c = 0 over n numbers, from place base on.
+pub fn lay_number_row(
+    out: &mut [u32],
+    s: Laid,
+    args: &[u32],
+    base: usize,
+    v: usize,
+    n: usize,
+    c: usize,
+) -> Laid
+    requires { ⌜ (total s < 800000000000) × (n ≤ 66) × (base < 1000000000) × (v < 1000000000) ⌝ }
+    ensures { λ r. ⌜ Went s r (now (out .entry)) (now (out .exit)) (sumRow (numberAt (now (args .entry)) base v) n c) × Near 2000 s r ⌝ }
+{
+    let t = lay_head(out, s, kind::EQUAL, n + 1);
+    let u = lay_numbers(out, t, args, base, v, n);
+    lay_last(out, u, c)
+}
+
+// Σv×b − x = 0 over the first n numbers of a list.
+pub fn lay_value_row(out: &mut [u32], s: Laid, vs: &[i64], v: usize, n: usize, x: usize) -> Laid
+    requires { ⌜ (total s < 800000000000) × (n ≤ 66) × (v < 1000000000) ⌝ }
+    ensures { λ r. ⌜ Went s r (now (out .entry)) (now (out .exit)) (sumRow (valueAt (now (vs .entry)) v) n x) × Near 2000 s r ⌝ }
+{
+    let t = lay_head(out, s, kind::EQUAL, n + 1);
+    let u = lay_values(out, t, vs, v, n);
+    lay_last(out, u, x)
+}
+
+// Σb − r = 0 over the bits that the first n numbers of a list label; v has the label `from`.
+pub fn lay_member_row(
+    out: &mut [u32],
+    s: Laid,
+    vs: &[i64],
+    from: i64,
+    v: usize,
+    n: usize,
+    r: usize,
+) -> Laid
+    requires { ⌜ (total s < 800000000000) × (n ≤ 66) × (v < 1000000000) × (natAbs from < 1000000000) × ((k : ℕ) → natAbs (getD (now vs) k +0) < 1000000000) ⌝ }
+    ensures { λ t. ⌜ Went s t (now (out .entry)) (now (out .exit)) (sumRow (memberAt (now (vs .entry)) from v) n r) × Near 2000 s t ⌝ }
+{
+    let t = lay_head(out, s, kind::EQUAL, n + 1);
+    let u = lay_members(out, t, vs, from, v, n);
+    lay_last(out, u, r)
+}
+
+// One of n consecutive bits is 1; their labels rise from `from` on, and x is the label of that bit.
+pub fn lay_choice(out: &mut [u32], s: Laid, from: i64, v: usize, n: usize, x: usize) -> Laid
+    requires { ⌜ (total s < 700000000000) × (n ≤ 66) × (v < 1000000000) × (natAbs from < 1000000000) ⌝ }
+    ensures { λ r. ⌜ Went s r (now (out .entry)) (now (out .exit)) (choiceRows from v n x) × Near 4000 s r ⌝ }
+{
+    let t = lay_one_bit(out, s, v, n);
+    lay_label_row(out, t, from, v, n, x)
+}
+
+// The bounds of n bits, and Z of n variables from place base on.
+pub fn lay_gates(
+    out: &mut [u32],
+    s: Laid,
+    args: &[u32],
+    base: usize,
+    n: usize,
+    ls: &[i64],
+    us: &[i64],
+) -> Laid
+    requires { ⌜ (total s < 800000000000) × (n ≤ 66) × (base < 1000000000000) ⌝ }
+    ensures { λ r. ⌜ Went s r (now (out .entry)) (now (out .exit)) (gates (now (ls .entry)) (now (us .entry)) (now (args .entry)) base n) × Near 2000 s r ⌝ }
+{
+    let t = lay_bits(out, s, n);
+    lay_zeros(out, t, args, base, n, ls, us)
+}
+
+// z := x × b for n variables from place base on, the bits from v on, each z n after its bit; Σz − m = 0.
+pub fn lay_gated(
+    out: &mut [u32],
+    s: Laid,
+    args: &[u32],
+    base: usize,
+    v: usize,
+    n: usize,
+    m: usize,
+) -> Laid
+    requires { ⌜ (total s < 700000000000) × (n ≤ 66) × (base < 1000000000) × (v < 100000000) ⌝ }
+    ensures { λ r. ⌜ Went s r (now (out .entry)) (now (out .exit)) (gatedRows (now (args .entry)) base v n m) × Near 4000 s r ⌝ }
+{
+    let t = lay_products(out, s, args, base, v + n, v, n);
+    lay_one_row(out, t, v + n, n, m)
+}
