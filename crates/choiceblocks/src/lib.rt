@@ -1,2 +1,186 @@
 // The blocks of codes 24 to 28: elements and maximum of a list, membership.
+ghost use mathlib.Core.Path.{_≡_};
+ghost use Prim.Native.Nat.{_+_, _<_, _≤_};
+ghost use lib.IntN.{natAbs};
+ghost use lib.ListN.{getD, replicate};
+ghost use Rattle.integers.specs.Number.{maxZ, count, +0, +1};
+ghost use Rattle.integers.specs.Bounds.{width};
+ghost use Rattle.models.specs.Builtin.{array-int-element, array-var-int-element, array-int-maximum, set-in, set-in-reif};
+ghost use Rattle.models.specs.Model.{var, vars, nums, size, past};
+ghost use Rattle.builtins.specs.Coded.{builtinOf};
+ghost use Rattle.rules.specs.Parts.{places, members};
+ghost use Rattle.rules.specs.Rule.{rule};
+ghost use Rattle.laying.specs.Part.{blockParts};
+ghost use Rattle.laying.specs.Went.{Went, Near, total};
+ghost use Rattle.extremes.specs.Bounded.{boundsOf, Bounded};
+ghost use Rattle.choiceblocks.specs.Listed.{Listed};
+use crate::rows::lay_choice;
+use crate::rows::lay_gated;
+use crate::rows::lay_gates;
+use crate::rows::lay_member_row;
+use crate::rows::lay_number_row;
+use crate::rows::lay_one_bit;
+use crate::rows::lay_value_row;
+use arguments::count_of;
+use arguments::past_at;
+use arguments::size_at;
+use arguments::var_at;
+use extremes::bound_at;
+use extremes::first_place;
+use extremes::last_place;
+use extremes::members;
+use extremes::width_of;
+use laying::Laid;
+use laying::lay_below;
+use laying::lay_bits;
+
 mod rows;
+
+// The first place of the list at place 1 that the index at place 0 can have.
+fn first_label(args: &[u32], ls: &[i64]) -> i64
+    requires { ⌜ Bounded (now ls) ⌝ }
+    ensures { λ r. ⌜ (r ≡ maxZ +1 (getD (now (ls .entry)) (var (now (args .entry)) 0) +0)) × (natAbs r ≤ 134217728) ⌝ }
+{
+    first_place(bound_at(ls, var_at(args, 0)))
+}
+
+// How many places of that list it can have.
+fn labels(args: &[u32], ls: &[i64], us: &[i64]) -> usize
+    requires { ⌜ Bounded (now ls) × Bounded (now us) ⌝ }
+    ensures { λ r. ⌜ (r ≡ width (places (boundsOf (now (ls .entry)) (now (us .entry)) (var (now (args .entry)) 0)) (size (now (args .entry)) 1))) × (r ≤ 32) ⌝ }
+{
+    let last = last_place(size_at(args, 1), bound_at(us, var_at(args, 0)));
+    width_of(first_label(args, ls), last)
+}
+
+// Where the element at the first of these places stands.
+fn first_element(args: &[u32], ls: &[i64]) -> usize
+    requires { ⌜ Bounded (now ls) ⌝ }
+    ensures { λ r. ⌜ (r ≡ 1 + count (maxZ +1 (getD (now (ls .entry)) (var (now (args .entry)) 0) +0))) × (r < 1000000000) ⌝ }
+{
+    1 + count_of(first_label(args, ls))
+}
+
+// Puts the members of the set at place 1 that the bounds of the variable at place 0 leave into a list of zeros; how many there are.
+fn members_of(args: &[u32], ls: &[i64], us: &[i64], vs: &mut [i64]) -> usize
+    requires { ⌜ Bounded (now us) × (now vs ≡ replicate 32 +0) ⌝ }
+    ensures { λ r. ⌜ Listed (members (nums (now (args .entry)) 1) (boundsOf (now (ls .entry)) (now (us .entry)) (var (now (args .entry)) 0))) r (now (vs .exit)) ⌝ }
+{
+    let x = var_at(args, 0);
+    members(args, 1, bound_at(ls, x), bound_at(us, x), vs)
+}
+
+// The block of array_int_element.
+pub fn array_int_element(
+    out: &mut [u32],
+    s: Laid,
+    args: &[u32],
+    ls: &[i64],
+    us: &[i64],
+    first: usize,
+) -> Laid
+    requires { ⌜ (total s < 1000000000) × (first < 10000) × Bounded (now ls) × Bounded (now us) ⌝ }
+    ensures { λ r. ⌜ Went s r (now (out .entry)) (now (out .exit)) (blockParts first (rule (boundsOf (now (ls .entry)) (now (us .entry))) (array-int-element (var (now (args .entry)) 0) (nums (now (args .entry)) 1) (var (now (args .entry)) (past (now (args .entry)) 1))))) × Near 1000000 s r ⌝ }
+{
+    let n = labels(args, ls, us);
+    let base = first_element(args, ls);
+    let t = lay_bits(out, s, n);
+    let u = lay_choice(out, t, first_label(args, ls), first, n, var_at(args, 0));
+    lay_number_row(out, u, args, base, first, n, var_at(args, past_at(args, 1)))
+}
+
+// The block of array_var_int_element.
+pub fn array_var_int_element(
+    out: &mut [u32],
+    s: Laid,
+    args: &[u32],
+    ls: &[i64],
+    us: &[i64],
+    first: usize,
+) -> Laid
+    requires { ⌜ (total s < 1000000000) × (first < 10000) × Bounded (now ls) × Bounded (now us) ⌝ }
+    ensures { λ r. ⌜ Went s r (now (out .entry)) (now (out .exit)) (blockParts first (rule (boundsOf (now (ls .entry)) (now (us .entry))) (array-var-int-element (var (now (args .entry)) 0) (vars (now (args .entry)) 1) (var (now (args .entry)) (past (now (args .entry)) 1))))) × Near 1000000 s r ⌝ }
+{
+    let n = labels(args, ls, us);
+    let base = first_element(args, ls);
+    let t = lay_gates(out, s, args, base, n, ls, us);
+    let u = lay_choice(out, t, first_label(args, ls), first, n, var_at(args, 0));
+    lay_gated(out, u, args, base, first, n, var_at(args, past_at(args, 1)))
+}
+
+// The block of array_int_maximum.
+pub fn array_int_maximum(
+    out: &mut [u32],
+    s: Laid,
+    args: &[u32],
+    ls: &[i64],
+    us: &[i64],
+    first: usize,
+) -> Laid
+    requires { ⌜ (total s < 1000000000) × (first < 10000) × Bounded (now ls) × Bounded (now us) ⌝ }
+    ensures { λ r. ⌜ Went s r (now (out .entry)) (now (out .exit)) (blockParts first (rule (boundsOf (now (ls .entry)) (now (us .entry))) (array-int-maximum (var (now (args .entry)) 0) (vars (now (args .entry)) 1)))) × Near 1000000 s r ⌝ }
+{
+    let m = var_at(args, 0);
+    let n = size_at(args, 1);
+    let t = lay_gates(out, s, args, 2, n, ls, us);
+    let u = lay_one_bit(out, t, first, n);
+    let w = lay_gated(out, u, args, 2, first, n, m);
+    lay_below(out, w, args, 2, m, n)
+}
+
+// The block of set_in.
+pub fn set_in(out: &mut [u32], s: Laid, args: &[u32], ls: &[i64], us: &[i64], first: usize) -> Laid
+    requires { ⌜ (total s < 1000000000) × (first < 10000) × Bounded (now ls) × Bounded (now us) ⌝ }
+    ensures { λ r. ⌜ Went s r (now (out .entry)) (now (out .exit)) (blockParts first (rule (boundsOf (now (ls .entry)) (now (us .entry))) (set-in (var (now (args .entry)) 0) (nums (now (args .entry)) 1)))) × Near 1000000 s r ⌝ }
+{
+    let x = var_at(args, 0);
+    let mut vs = [0i64; 32];
+    let n = members_of(args, ls, us, &mut vs);
+    let t = lay_bits(out, s, n);
+    let u = lay_one_bit(out, t, first, n);
+    lay_value_row(out, u, &vs, first, n, x)
+}
+
+// The block of set_in_reif.
+pub fn set_in_reif(
+    out: &mut [u32],
+    s: Laid,
+    args: &[u32],
+    ls: &[i64],
+    us: &[i64],
+    first: usize,
+) -> Laid
+    requires { ⌜ (total s < 1000000000) × (first < 10000) × Bounded (now ls) × Bounded (now us) × (width (boundsOf (now ls) (now us) (var (now args) 0)) ≤ 64) ⌝ }
+    ensures { λ r. ⌜ Went s r (now (out .entry)) (now (out .exit)) (blockParts first (rule (boundsOf (now (ls .entry)) (now (us .entry))) (set-in-reif (var (now (args .entry)) 0) (nums (now (args .entry)) 1) (var (now (args .entry)) (past (now (args .entry)) 1))))) × Near 1000000 s r ⌝ }
+{
+    let x = var_at(args, 0);
+    let lower = bound_at(ls, x);
+    let mut vs = [0i64; 32];
+    let n = members_of(args, ls, us, &mut vs);
+    let width = width_of(lower, bound_at(us, x));
+    let t = lay_bits(out, s, width);
+    let u = lay_choice(out, t, lower, first, width, x);
+    lay_member_row(out, u, &vs, lower, first, n, var_at(args, past_at(args, 1)))
+}
+
+// The block of a code from 24 to 28.
+pub fn choice_block(
+    out: &mut [u32],
+    s: Laid,
+    code: usize,
+    args: &[u32],
+    ls: &[i64],
+    us: &[i64],
+    first: usize,
+) -> Laid
+    requires { ⌜ (24 ≤ code) × (code ≤ 28) × (total s < 1000000000) × (first < 10000) × Bounded (now ls) × Bounded (now us) × (code ≡ 28 → width (boundsOf (now ls) (now us) (var (now args) 0)) ≤ 64) ⌝ }
+    ensures { λ r. ⌜ Went s r (now (out .entry)) (now (out .exit)) (blockParts first (rule (boundsOf (now (ls .entry)) (now (us .entry))) (builtinOf code (now (args .entry))))) × Near 1000000 s r ⌝ }
+{
+    match code {
+        24 => array_int_element(out, s, args, ls, us, first),
+        25 => array_var_int_element(out, s, args, ls, us, first),
+        26 => array_int_maximum(out, s, args, ls, us, first),
+        27 => set_in(out, s, args, ls, us, first),
+        _ => set_in_reif(out, s, args, ls, us, first),
+    }
+}

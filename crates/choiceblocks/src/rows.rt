@@ -44,12 +44,11 @@ fn lay_zeros(
     let mut k = 0;
     while k < n {
         let v = var_at(args, base + k);
-        t = lay_bound(
-            out,
-            t,
-            zero_lower(bound_at(ls, v)),
-            zero_upper(bound_at(us, v)),
-        );
+        let lower = bound_at(ls, v);
+        let upper = bound_at(us, v);
+        let from = zero_lower(lower);
+        let to = zero_upper(upper);
+        t = lay_bound(out, t, from, to);
         k += 1;
     }
     t

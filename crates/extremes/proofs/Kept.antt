@@ -97,7 +97,7 @@ module _ {A : Type 0} (d : A) where
   before [] out at v h = refl
   before (x ∷ xs) out at v h = before xs (set out at x) (suc at) v (omega arith) ∙ getD-set-other out at v x d (λ e. omega arith)
 
-  pub laid : (xs out : List A) (at : ℕ) → at + length xs ≤ length out → ((v : ℕ) → at ≤ v → getD out v d ≡ d) → (v : ℕ) → getD (overlay out at xs) (at + v) d ≡ getD xs v d
+  laid : (xs out : List A) (at : ℕ) → at + length xs ≤ length out → ((v : ℕ) → at ≤ v → getD out v d ≡ d) → (v : ℕ) → getD (overlay out at xs) (at + v) d ≡ getD xs v d
   unfolding overlay
   laid [] out at h z v = z (at + v) (omega arith)
   laid (x ∷ xs) out at h z zero = let e : at + 0 ≡ at = omega arith in rw e (before xs (set out at x) (suc at) at (omega arith) ∙ getD-set-same out at x d (omega arith))
@@ -105,6 +105,17 @@ module _ {A : Type 0} (d : A) where
       let e : at + suc v ≡ suc at + v = omega arith in
       let n = length-set out at x in
       rw e (laid xs (set out at x) (suc at) (omega arith) (λ w l. getD-set-other out at w x d (λ e. omega arith) ∙ z w (omega arith)) v)
+
+-- over zeros
+pub over-zeros : (n : ℕ) (xs : List ℤ) → length xs ≤ n → (v : ℕ) → getD (overlay (replicate n +0) 0 xs) v +0 ≡ getD xs v +0
+over-zeros n xs few v =
+    let e : v ≡ 0 + v = omega arith in
+    ap (λ (w : ℕ). getD (overlay (replicate n +0) 0 xs) w +0) e ∙ laid +0 xs (replicate n +0) 0 (omega (arith, length-replicate n +0)) (λ w l. zeros n w) v
+  where
+    zeros : (n w : ℕ) → getD (replicate n +0) w +0 ≡ +0
+    zeros zero w = refl
+    zeros (suc n) zero = refl
+    zeros (suc n) (suc w) = zeros n w
 
 mapped : (f : Bounds → ℤ) → f (+0 to +0) ≡ +0 → (Bs : List Bounds) (v : ℕ) → getD (map f Bs) v +0 ≡ f (boundsIn Bs v)
 unfolding boundsIn
@@ -115,16 +126,7 @@ mapped f z (B ∷ Bs) (suc v) = mapped f z Bs v
 -- no list of at most n variables is cut
 module _ (f : Bounds → ℤ) (z : f (+0 to +0) ≡ +0) (Bs : List Bounds) (n : ℕ) (few : length Bs ≤ n) where
   kept-at : (v : ℕ) → getD (overlay (replicate n +0) 0 (map f Bs)) v +0 ≡ f (boundsIn Bs v)
-  kept-at v =
-      let e : v ≡ 0 + v = omega arith in
-      ap (λ (w : ℕ). getD (overlay (replicate n +0) 0 (map f Bs)) w +0) e
-      ∙ laid +0 (map f Bs) (replicate n +0) 0 (omega (arith, length-map Bs f, length-replicate n +0)) (λ w l. zeros n w) v
-      ∙ mapped f z Bs v
-    where
-      zeros : (n w : ℕ) → getD (replicate n +0) w +0 ≡ +0
-      zeros zero w = refl
-      zeros (suc n) zero = refl
-      zeros (suc n) (suc w) = zeros n w
+  kept-at v = over-zeros n (map f Bs) (omega (arith, length-map Bs f)) v ∙ mapped f z Bs v
 
 -- THE LAWS, of what `keep_bounds` leaves in two lists of n zeros
 abbrev pub lowersKept : List ℕ → ℕ → List ℤ

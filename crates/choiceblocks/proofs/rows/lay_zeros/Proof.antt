@@ -26,11 +26,11 @@ var-at-requires c κs = search needs
 bound-at-requires : tie.Need-bound-at-requires Inv-loop μ-loop
 bound-at-requires c κs = search needs
 
-zero-lower-requires : tie.Need-zero-lower-requires Inv-loop μ-loop
-zero-lower-requires c κs = search needs
-
 bound-at-requires-2 : tie.Need-bound-at-requires-2 Inv-loop μ-loop
 bound-at-requires-2 c κs = search needs
+
+zero-lower-requires : tie.Need-zero-lower-requires Inv-loop μ-loop
+zero-lower-requires c κs = search needs
 
 zero-upper-requires : tie.Need-zero-upper-requires Inv-loop μ-loop
 zero-upper-requires c κs = search needs
@@ -45,7 +45,7 @@ loop-less : tie.Need-loop-less Inv-loop μ-loop
 loop-less c = search needs
 
 loop-again : tie.Need-loop-again Inv-loop μ-loop
-loop-again c = more (c .before .before .before .before .before .before .before .before .before .loop-test .taken) (c .before .before .before .before .before .before .before .before .before .before .loop .inv) (rw (read (c .before .before .before .before .before .zero-lower .ok) (c .before .before .before .before .before .zero-lower .ensures), read (c .before .before .before .zero-upper .ok) (c .before .before .before .zero-upper .ensures), read (c .before .before .before .before .before .before .bound-at .ok) (c .before .before .before .before .before .before .bound-at .ensures), read (c .before .before .before .before .bound-at2 .ok) (c .before .before .before .before .bound-at2 .ensures), c .before .before .before .before .before .before .before .before .var-at .ensures) at (c .before .before .lay-bound .ensures))
+loop-again c = more (c .before .before .before .before .before .before .before .before .before .loop-test .taken) (c .before .before .before .before .before .before .before .before .before .before .loop .inv) (rw (read (c .before .before .before .before .before .zero-lower .ok) (c .before .before .before .before .before .zero-lower .ensures), read (c .before .before .before .before .zero-upper .ok) (c .before .before .before .before .zero-upper .ensures), read (c .before .before .before .before .before .before .before .bound-at .ok) (c .before .before .before .before .before .before .before .bound-at .ensures), read (c .before .before .before .before .before .before .bound-at2 .ok) (c .before .before .before .before .before .before .bound-at2 .ensures), c .before .before .before .before .before .before .before .before .var-at .ensures) at (c .before .before .lay-bound .ensures))
 
 same-length : tie.Need-same-length Inv-loop μ-loop
 same-length c = went-length (c .before .loop .inv .went)
@@ -63,8 +63,8 @@ lay-zeros-spec =
     add-var-at
     var-at-requires
     bound-at-requires
-    zero-lower-requires
     bound-at-requires-2
+    zero-lower-requires
     zero-upper-requires
     lay-bound-requires
     add-k

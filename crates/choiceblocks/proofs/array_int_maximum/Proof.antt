@@ -1,0 +1,59 @@
+-- Bounds, the row of the bits, products and their row, the rows below the maximum. A list has at most 32 elements.
+use mathlib.Core.Path.{sym}
+use Prim.Native.Nat.{_≤_}
+use native.Mathlib.Omega.{arith}
+use borrow.Author.Needs.{needs}
+use Rattle.models.specs.Model.{var}
+use Rattle.arguments.proofs.Size.{size-le}
+use Rattle.laying.proofs.Parts.{went-then, went-as}
+use Rattle.choiceblocks.proofs.Blocks.{maximum}
+use Rattle.choiceblocks.proofs.array_int_maximum.Statement.{statement}
+use Rattle.choiceblocks.proofs.array_int_maximum.Tie as tie
+
+few : (c : tie.After-size-at) → c .size-at .result ≤ 32
+few c = omega (arith, c .size-at .ensures, size-le (c .before .before .before .before .args .args .now) 1)
+
+var-at-requires : tie.Need-var-at-requires
+var-at-requires c κs = search needs
+
+size-at-requires : tie.Need-size-at-requires
+size-at-requires c κs = search needs
+
+lay-gates-requires : tie.Need-lay-gates-requires
+lay-gates-requires c κs = (omega arith, omega (arith, few (c .before)), omega arith)
+
+lay-one-bit-requires : tie.Need-lay-one-bit-requires
+lay-one-bit-requires c κs = (omega (arith, c .before .before .before .before .before .before .before .before .before .pre .0, c .before .before .before .lay-gates .ensures .1), omega (arith, few (c .before .before .before .before .before)), omega arith)
+
+lay-gated-requires : tie.Need-lay-gated-requires
+lay-gated-requires c κs = (omega (arith, c .before .before .before .before .before .before .before .before .before .before .before .before .before .pre .0, c .before .before .before .before .before .before .before .lay-gates .ensures .1, c .before .before .before .lay-one-bit .ensures .1), omega (arith, few (c .before .before .before .before .before .before .before .before .before)), omega arith, omega (arith, c .before .before .before .before .before .before .before .before .before .before .before .before .before .pre .1))
+
+lay-below-requires : tie.Need-lay-below-requires
+lay-below-requires c κs = (omega (arith, c .before .before .before .before .before .before .before .before .before .before .before .before .before .before .before .before .before .pre .0, c .before .before .before .before .before .before .before .before .before .before .before .lay-gates .ensures .1, c .before .before .before .before .before .before .before .lay-one-bit .ensures .1, c .before .before .before .lay-gated .ensures .1), omega (arith, few (c .before .before .before .before .before .before .before .before .before .before .before .before .before)), omega arith)
+
+same-length : tie.Need-same-length
+same-length c = search needs
+
+returns : tie.Need-returns
+returns c =
+    let i = c .before .before .before .before .before .before .before .before .before .before .before .before .before .before .before .before .before .before .before .before .args in
+    let n = c .before .before .before .before .before .before .before .before .before .before .before .before .before .before .before .before .size-at .ensures in
+    let m = c .before .before .before .before .before .before .before .before .before .before .before .before .before .before .before .before .before .var-at .ensures in
+    let a = rw n at (c .before .before .before .before .before .before .before .before .before .before .before .before .before .before .lay-gates .ensures) in
+    let b = rw n at (c .before .before .before .before .before .before .before .before .before .before .lay-one-bit .ensures) in
+    let d = rw (n, m) at (c .before .before .before .before .before .before .lay-gated .ensures) in
+    let e = rw (n, m) at (c .before .before .lay-below .ensures) in
+    (went-as (sym (maximum (i .first) (i .ls .now) (i .us .now) (i .args .now) (var (i .args .now) 0))) (went-then (a .0) (went-then (b .0) (went-then (d .0) (e .0)))), omega (arith, a .1, b .1, d .1, e .1))
+
+pub array-int-maximum-spec : {M : Type 1} → statement M
+array-int-maximum-spec =
+    tie.close
+    (tie.spec
+    var-at-requires
+    size-at-requires
+    lay-gates-requires
+    lay-one-bit-requires
+    lay-gated-requires
+    lay-below-requires
+    same-length
+    returns)

@@ -1,0 +1,53 @@
+-- The width of the places of a list of at most 32 elements.
+use mathlib.Core.Bool.{false}
+use native.Mathlib.Omega.{arith}
+use lib.IntN.{pos}
+use lib.ListN.{getD}
+use borrow.Author.Needs.{needs}
+use Rattle.integers.proofs.Fits.{back}
+use Rattle.integers.specs.Number.{+0}
+use Rattle.models.specs.Model.{var, size}
+use Rattle.arguments.proofs.Size.{read, size-le}
+use Rattle.rules.specs.Parts.{places}
+use Rattle.extremes.proofs.Size.{pick-size, places-width}
+use Rattle.extremes.specs.Bounded.{boundsOf}
+use Rattle.choiceblocks.proofs.labels.Statement.{statement}
+use Rattle.choiceblocks.proofs.labels.Tie as tie
+
+size-at-requires : tie.Need-size-at-requires
+size-at-requires c κs = search needs
+
+var-at-requires : tie.Need-var-at-requires
+var-at-requires c κs = search needs
+
+bound-at-requires : tie.Need-bound-at-requires
+bound-at-requires c κs = search needs
+
+last-place-requires : tie.Need-last-place-requires
+last-place-requires c κs = omega (arith, c .before .before .size-at .ensures, size-le (c .before .before .before .before .args .args .now) 1)
+
+first-label-requires : tie.Need-first-label-requires
+first-label-requires c κs = search needs
+
+width-of-requires : tie.Need-width-of-requires
+width-of-requires c κs = (rw (back (c .first-label .result) (c .first-label .ok)) (c .first-label .ensures .1), rw (read (c .before .last-place .ok) (c .before .last-place .ensures), read (c .before .before .bound-at .ok) (c .before .before .bound-at .ensures)) (pick-size false (pos (c .before .before .before .before .size-at .result)) (getD (c .before .before .before .before .before .before .args .us .now) (c .before .before .before .var-at .result) +0) (omega (arith, c .before .before .before .before .size-at .ensures, size-le (c .before .before .before .before .before .before .args .args .now) 1)) (c .before .before .before .before .before .before .pre .1 (c .before .before .before .var-at .result))))
+
+returns : tie.Need-returns
+unfolding places
+returns c =
+    let a = c .before .before .before .before .before .before .before .args in
+    let ws = a .args .now in
+    let e = rw (read (c .before .first-label .ok) (c .before .first-label .ensures .0), read (c .before .before .last-place .ok) (c .before .before .last-place .ensures), read (c .before .before .before .bound-at .ok) (c .before .before .before .bound-at .ensures), c .before .before .before .before .var-at .ensures, c .before .before .before .before .before .size-at .ensures) at (c .width-of .ensures) in
+    (e, omega (arith, e, places-width (boundsOf (a .ls .now) (a .us .now) (var ws 0)) (size ws 1), size-le ws 1))
+
+pub labels-spec : {M : Type 1} → statement M
+labels-spec =
+    tie.close
+    (tie.spec
+    size-at-requires
+    var-at-requires
+    bound-at-requires
+    last-place-requires
+    first-label-requires
+    width-of-requires
+    returns)

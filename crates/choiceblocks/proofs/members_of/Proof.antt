@@ -1,0 +1,53 @@
+-- The members over zeros, and how many and how large they are.
+use native.Mathlib.Omega.{arith}
+use borrow.Author.Needs.{needs}
+use Rattle.models.specs.Model.{var, nums}
+use Rattle.arguments.proofs.Size.{read}
+use Rattle.rules.specs.Parts.{members}
+use Rattle.extremes.proofs.Kept.{over-zeros}
+use Rattle.extremes.proofs.Rising.{members-length}
+use Rattle.extremes.specs.Bounded.{boundsOf}
+use Rattle.choiceblocks.proofs.Members.{members-size}
+use Rattle.choiceblocks.proofs.members_of.Statement.{statement}
+use Rattle.choiceblocks.proofs.members_of.Tie as tie
+
+var-at-requires : tie.Need-var-at-requires
+var-at-requires c κs = search needs
+
+bound-at-requires : tie.Need-bound-at-requires
+bound-at-requires c κs = search needs
+
+bound-at-requires-2 : tie.Need-bound-at-requires-2
+bound-at-requires-2 c κs = search needs
+
+members-requires : tie.Need-members-requires
+members-requires c κs = (omega arith, rw (read (c .before .bound-at2 .ok) (c .before .bound-at2 .ensures)) (c .before .before .before .before .before .pre .0 (c .before .before .before .var-at .result)))
+
+same-length : tie.Need-same-length
+same-length c = search needs
+
+returns : tie.Need-returns
+returns c =
+    let a = c .before .before .before .before .before .before .before .args in
+    let ws = a .args .now in
+    let B = boundsOf (a .ls .now) (a .us .now) (var ws 0) in
+    let e = rw (read (c .before .before .before .before .bound-at .ok) (c .before .before .before .before .bound-at .ensures), read (c .before .before .before .bound-at2 .ok) (c .before .before .before .bound-at2 .ensures), c .before .before .before .before .before .var-at .ensures, c .before .before .before .before .before .before .before .pre .1) at (c .before .members .ensures) in
+    let l = members-length ws 1 B in
+    let same = over-zeros 32 (members (nums ws 1) B) l in
+    record {
+      many = e .0;
+      few = omega (arith, e .0, l);
+      same = λ k. rw (e .1) (same k);
+      near = λ k. rw (e .1, same k) (omega (arith, members-size ws 1 B (c .before .before .before .before .before .before .before .pre .0 (var ws 0)) k));
+    }
+
+pub members-of-spec : {M : Type 1} → statement M
+members-of-spec =
+    tie.close
+    (tie.spec
+    var-at-requires
+    bound-at-requires
+    bound-at-requires-2
+    members-requires
+    same-length
+    returns)
