@@ -1,5 +1,5 @@
 -- The blocks of codes 24 to 28 as the code lays them.
-use mathlib.Core.Path.{_≡_, refl, sym, ap, ap₂, _∙_}
+use mathlib.Core.Path.{_≡_, refl, ap, ap₂, _∙_}
 use mathlib.Core.List.{List, [], _∷_, _++_, append-nil, map, flatMap}
 use Prim.Native.Nat.{ℕ, _+_, _-_, _<_}
 use native.Mathlib.Nat.{add-zero}
@@ -20,7 +20,7 @@ use Rattle.rowsystems.specs.Row.{Row, sum=0}
 use Rattle.rules.specs.Block.{Ref, source, aux}
 use Rattle.rules.specs.Parts.{_─_≤0, bits, oneBit, chosen, products, one, nth, places, members}
 use Rattle.rules.specs.Rule.{block, rule, numberElement, variableElement, largest, inSet, inSetReified}
-use Rattle.laying.specs.Part.{Part, blockParts, rowParts}
+use Rattle.laying.specs.Part.{blockParts, rowParts}
 use Rattle.laying.specs.Lists.{many, bitAt, belowAt}
 use Rattle.laying.proofs.Lists.{length-vars, length-nums, length-values, bits-parts, weighted-many, below-parts}
 use Rattle.extremes.specs.Bounded.{boundsOf}

@@ -1,12 +1,12 @@
 -- The rows and bounds of the definitions as the code lays them: over lists of labels by places.
 use mathlib.Core.Path.{_≡_, refl, sym, ap, ap₂, _∙_}
-use mathlib.Core.List.{List, [], _∷_, _++_, append-assoc, append-nil, map, flatMap}
+use mathlib.Core.List.{List, [], _∷_, _++_, append-assoc, map, flatMap}
 use Prim.Native.Nat.{ℕ, zero, suc, _+_, _<_}
 use native.Mathlib.Nat.{add-zero}
 use native.Mathlib.Omega.{arith}
 use lib.IntN.{ℤ}
 use lib.ListN.{length, length-append}
-use Rattle.integers.specs.Number.{+0, +1, -1}
+use Rattle.integers.specs.Number.{+0, -1}
 use Rattle.integers.specs.Lists.{listOf}
 use Rattle.integers.specs.Bounds.{width, values}
 use Rattle.integers.specs.Terms.{Term, _·_}
@@ -17,10 +17,10 @@ use Rattle.models.specs.Model.{var}
 use Rattle.rowsystems.specs.Row.{Row, sum=0}
 use Rattle.rules.specs.Block.{Ref, source, numbered}
 use Rattle.rules.specs.Parts.{Z, bits, weighted, one, oneBit, chosen, products}
-use Rattle.laying.specs.Part.{Part, bound, head, term, constant, times, boundParts, termParts, rowParts}
+use Rattle.laying.specs.Part.{Part, bound, head, term, constant, boundParts, termParts, rowParts}
 use Rattle.laying.specs.Lists.{many, oneAt, labelAt, bitAt, productAt}
 use Rattle.laying.proofs.Parts.{flatMap-append}
-use Rattle.laying.proofs.Lists.{length-values, length-weighted, bounds-append, bits-parts, terms-append, weighted-many, labels-parts, ones-parts, products-many}
+use Rattle.laying.proofs.Lists.{length-values, length-weighted, bounds-append, bits-parts, terms-append, labels-parts, ones-parts, products-many}
 use Rattle.extremes.specs.Bounded.{boundsOf}
 use Rattle.choiceblocks.specs.Rows.{zeroAt, oneRow, sumRow, choiceRows, gates, gatedRows}
 

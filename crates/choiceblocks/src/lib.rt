@@ -36,12 +36,29 @@ use laying::lay_bits;
 
 mod rows;
 
-// The first place of the list at place 1 that the index at place 0 can have.
+// The lower bound of the variable at place 0.
+fn lower_label(args: &[u32], ls: &[i64]) -> i64
+    requires { ⌜ Bounded (now ls) ⌝ }
+    ensures { λ r. ⌜ (r ≡ getD (now (ls .entry)) (var (now (args .entry)) 0) +0) × (natAbs r ≤ 134217728) ⌝ }
+{
+    bound_at(ls, var_at(args, 0))
+}
+
+// How many values its bounds leave.
+fn width_at(args: &[u32], ls: &[i64], us: &[i64]) -> usize
+    requires { ⌜ Bounded (now ls) × Bounded (now us) ⌝ }
+    ensures { λ r. ⌜ r ≡ width (boundsOf (now (ls .entry)) (now (us .entry)) (var (now (args .entry)) 0)) ⌝ }
+{
+    let upper = bound_at(us, var_at(args, 0));
+    width_of(lower_label(args, ls), upper)
+}
+
+// The first place of the list at place 1 that it can have as an index.
 fn first_label(args: &[u32], ls: &[i64]) -> i64
     requires { ⌜ Bounded (now ls) ⌝ }
     ensures { λ r. ⌜ (r ≡ maxZ +1 (getD (now (ls .entry)) (var (now (args .entry)) 0) +0)) × (natAbs r ≤ 134217728) ⌝ }
 {
-    first_place(bound_at(ls, var_at(args, 0)))
+    first_place(lower_label(args, ls))
 }
 
 // How many places of that list it can have.
@@ -153,13 +170,12 @@ pub fn set_in_reif(
     requires { ⌜ (total s < 1000000000) × (first < 10000) × Bounded (now ls) × Bounded (now us) × (width (boundsOf (now ls) (now us) (var (now args) 0)) ≤ 64) ⌝ }
     ensures { λ r. ⌜ Went s r (now (out .entry)) (now (out .exit)) (blockParts first (rule (boundsOf (now (ls .entry)) (now (us .entry))) (set-in-reif (var (now (args .entry)) 0) (nums (now (args .entry)) 1) (var (now (args .entry)) (past (now (args .entry)) 1))))) × Near 1000000 s r ⌝ }
 {
-    let x = var_at(args, 0);
-    let lower = bound_at(ls, x);
+    let lower = lower_label(args, ls);
     let mut vs = [0i64; 32];
     let n = members_of(args, ls, us, &mut vs);
-    let width = width_of(lower, bound_at(us, x));
+    let width = width_at(args, ls, us);
     let t = lay_bits(out, s, width);
-    let u = lay_choice(out, t, lower, first, width, x);
+    let u = lay_choice(out, t, lower, first, width, var_at(args, 0));
     lay_member_row(out, u, &vs, lower, first, n, var_at(args, past_at(args, 1)))
 }
 

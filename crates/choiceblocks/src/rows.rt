@@ -1,11 +1,10 @@
 // The rows over one-hot bits, and the lists that they are made of.
-ghost use mathlib.Core.Path.{_≡_};
 ghost use mathlib.Core.List.{[], _∷_};
 ghost use Prim.Native.Nat.{ℕ, _+_, _<_, _≤_};
 ghost use lib.IntN.{natAbs};
-ghost use lib.ListN.{length, getD};
+ghost use lib.ListN.{getD};
 ghost use Rattle.integers.specs.Number.{+0, -1};
-ghost use Rattle.laying.specs.Part.{Part, term, constant};
+ghost use Rattle.laying.specs.Part.{term, constant};
 ghost use Rattle.laying.specs.Lists.{many, oneAt, labelAt};
 ghost use Rattle.laying.specs.Went.{Went, Near, total};
 ghost use Rattle.choiceblocks.specs.Rows.{zeroAt, numberAt, valueAt, memberAt, oneRow, sumRow, choiceRows, gates, gatedRows};

@@ -45,11 +45,19 @@ same-length c = search needs
 returns : tie.Need-returns
 unfolding places
 returns c =
-    let i = c .before .before .before .before .before .before .before .before .before .before .before .before .before .before .before .before .before .before .before .before .args in
-    let n = c .before .before .before .before .before .before .before .before .before .before .before .before .before .before .before .before .before .labels .ensures .0 in
-    let a = rw n at (c .before .before .before .before .before .before .before .before .before .before .before .before .before .before .lay-bits .ensures) in
-    let b = rw (n, read (c .before .before .before .before .before .before .before .before .before .before .first-label .ok) (c .before .before .before .before .before .before .before .before .before .before .first-label .ensures .0), c .before .before .before .before .before .before .before .before .before .var-at .ensures) at (c .before .before .before .before .before .before .before .before .lay-choice .ensures) in
-    let d = rw (n, c .before .before .before .before .before .before .before .before .before .before .before .before .before .before .before .before .first-element .ensures .0, c .before .before .before .var-at2 .ensures, c .before .before .before .before .past-at .ensures) at (c .before .before .lay-number-row .ensures) in
+    let at-past-at = c .before .before .before .before in
+    let at-lay-choice = at-past-at .before .before .before .before in
+    let at-var-at = at-lay-choice .before in
+    let at-first-label = at-var-at .before in
+    let at-lay-bits = at-first-label .before .before .before .before in
+    let at-first-element = at-lay-bits .before .before in
+    let at-labels = at-first-element .before in
+    let start = at-labels .before .before .before in
+    let i = start .args in
+    let n = at-labels .labels .ensures .0 in
+    let a = rw n at (at-lay-bits .lay-bits .ensures) in
+    let b = rw (n, read (at-first-label .first-label .ok) (at-first-label .first-label .ensures .0), at-var-at .var-at .ensures) at (at-lay-choice .lay-choice .ensures) in
+    let d = rw (n, at-first-element .first-element .ensures .0, c .before .before .before .var-at2 .ensures, at-past-at .past-at .ensures) at (c .before .before .lay-number-row .ensures) in
     (went-as (sym (number-element (i .first) (boundsOf (i .ls .now) (i .us .now)) (i .args .now) (var (i .args .now) 0) (var (i .args .now) (past (i .args .now) 1)))) (went-then (a .0) (went-then (b .0) (d .0))), omega (arith, a .1, b .1, d .1))
 
 pub array-int-element-spec : {M : Type 1} → statement M

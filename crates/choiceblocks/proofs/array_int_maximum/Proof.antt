@@ -26,22 +26,35 @@ lay-one-bit-requires : tie.Need-lay-one-bit-requires
 lay-one-bit-requires c κs = (omega (arith, c .before .before .before .before .before .before .before .before .before .pre .0, c .before .before .before .lay-gates .ensures .1), omega (arith, few (c .before .before .before .before .before)), omega arith)
 
 lay-gated-requires : tie.Need-lay-gated-requires
-lay-gated-requires c κs = (omega (arith, c .before .before .before .before .before .before .before .before .before .before .before .before .before .pre .0, c .before .before .before .before .before .before .before .lay-gates .ensures .1, c .before .before .before .lay-one-bit .ensures .1), omega (arith, few (c .before .before .before .before .before .before .before .before .before)), omega arith, omega (arith, c .before .before .before .before .before .before .before .before .before .before .before .before .before .pre .1))
+lay-gated-requires c κs =
+    let at-lay-gates = c .before .before .before .before .before .before .before in
+    let start = at-lay-gates .before .before .before .before .before .before in
+    (omega (arith, start .pre .0, at-lay-gates .lay-gates .ensures .1, c .before .before .before .lay-one-bit .ensures .1), omega (arith, few (c .before .before .before .before .before .before .before .before .before)), omega arith, omega (arith, start .pre .1))
 
 lay-below-requires : tie.Need-lay-below-requires
-lay-below-requires c κs = (omega (arith, c .before .before .before .before .before .before .before .before .before .before .before .before .before .before .before .before .before .pre .0, c .before .before .before .before .before .before .before .before .before .before .before .lay-gates .ensures .1, c .before .before .before .before .before .before .before .lay-one-bit .ensures .1, c .before .before .before .lay-gated .ensures .1), omega (arith, few (c .before .before .before .before .before .before .before .before .before .before .before .before .before)), omega arith)
+lay-below-requires c κs =
+    let at-lay-one-bit = c .before .before .before .before .before .before .before in
+    let at-lay-gates = at-lay-one-bit .before .before .before .before in
+    let start = at-lay-gates .before .before .before .before .before .before in
+    (omega (arith, start .pre .0, at-lay-gates .lay-gates .ensures .1, at-lay-one-bit .lay-one-bit .ensures .1, c .before .before .before .lay-gated .ensures .1), omega (arith, few (c .before .before .before .before .before .before .before .before .before .before .before .before .before)), omega arith)
 
 same-length : tie.Need-same-length
 same-length c = search needs
 
 returns : tie.Need-returns
 returns c =
-    let i = c .before .before .before .before .before .before .before .before .before .before .before .before .before .before .before .before .before .before .before .before .args in
-    let n = c .before .before .before .before .before .before .before .before .before .before .before .before .before .before .before .before .size-at .ensures in
-    let m = c .before .before .before .before .before .before .before .before .before .before .before .before .before .before .before .before .before .var-at .ensures in
-    let a = rw n at (c .before .before .before .before .before .before .before .before .before .before .before .before .before .before .lay-gates .ensures) in
-    let b = rw n at (c .before .before .before .before .before .before .before .before .before .before .lay-one-bit .ensures) in
-    let d = rw (n, m) at (c .before .before .before .before .before .before .lay-gated .ensures) in
+    let at-lay-gated = c .before .before .before .before .before .before in
+    let at-lay-one-bit = at-lay-gated .before .before .before .before in
+    let at-lay-gates = at-lay-one-bit .before .before .before .before in
+    let at-size-at = at-lay-gates .before .before in
+    let at-var-at = at-size-at .before in
+    let start = at-var-at .before .before .before in
+    let i = start .args in
+    let n = at-size-at .size-at .ensures in
+    let m = at-var-at .var-at .ensures in
+    let a = rw n at (at-lay-gates .lay-gates .ensures) in
+    let b = rw n at (at-lay-one-bit .lay-one-bit .ensures) in
+    let d = rw (n, m) at (at-lay-gated .lay-gated .ensures) in
     let e = rw (n, m) at (c .before .before .lay-below .ensures) in
     (went-as (sym (maximum (i .first) (i .ls .now) (i .us .now) (i .args .now) (var (i .args .now) 0))) (went-then (a .0) (went-then (b .0) (went-then (d .0) (e .0)))), omega (arith, a .1, b .1, d .1, e .1))
 

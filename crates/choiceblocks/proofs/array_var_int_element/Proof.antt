@@ -36,7 +36,13 @@ var-at-requires-2 : tie.Need-var-at-requires-2
 var-at-requires-2 c κs = search needs
 
 lay-gated-requires : tie.Need-lay-gated-requires
-lay-gated-requires c κs = (omega (arith, c .before .before .before .before .before .before .before .before .before .before .before .before .before .before .before .before .before .pre .0, c .before .before .before .before .before .before .before .before .before .before .before .lay-gates .ensures .1, c .before .before .before .before .before .lay-choice .ensures .1), omega (arith, c .before .before .before .before .before .before .before .before .before .before .before .before .before .before .labels .ensures .1), omega (arith, c .before .before .before .before .before .before .before .before .before .before .before .before .before .first-element .ensures .1), omega (arith, c .before .before .before .before .before .before .before .before .before .before .before .before .before .before .before .before .before .pre .1))
+lay-gated-requires c κs =
+    let at-lay-choice = c .before .before .before .before .before in
+    let at-lay-gates = at-lay-choice .before .before .before .before .before .before in
+    let at-first-element = at-lay-gates .before .before in
+    let at-labels = at-first-element .before in
+    let start = at-labels .before .before .before in
+    (omega (arith, start .pre .0, at-lay-gates .lay-gates .ensures .1, at-lay-choice .lay-choice .ensures .1), omega (arith, at-labels .labels .ensures .1), omega (arith, at-first-element .first-element .ensures .1), omega (arith, start .pre .1))
 
 same-length : tie.Need-same-length
 same-length c = search needs
@@ -44,12 +50,20 @@ same-length c = search needs
 returns : tie.Need-returns
 unfolding places
 returns c =
-    let i = c .before .before .before .before .before .before .before .before .before .before .before .before .before .before .before .before .before .before .before .before .args in
-    let n = c .before .before .before .before .before .before .before .before .before .before .before .before .before .before .before .before .before .labels .ensures .0 in
-    let base = c .before .before .before .before .before .before .before .before .before .before .before .before .before .before .before .before .first-element .ensures .0 in
-    let a = rw (n, base) at (c .before .before .before .before .before .before .before .before .before .before .before .before .before .before .lay-gates .ensures) in
-    let b = rw (n, read (c .before .before .before .before .before .before .before .before .before .before .first-label .ok) (c .before .before .before .before .before .before .before .before .before .before .first-label .ensures .0), c .before .before .before .before .before .before .before .before .before .var-at .ensures) at (c .before .before .before .before .before .before .before .before .lay-choice .ensures) in
-    let d = rw (n, base, c .before .before .before .var-at2 .ensures, c .before .before .before .before .past-at .ensures) at (c .before .before .lay-gated .ensures) in
+    let at-past-at = c .before .before .before .before in
+    let at-lay-choice = at-past-at .before .before .before .before in
+    let at-var-at = at-lay-choice .before in
+    let at-first-label = at-var-at .before in
+    let at-lay-gates = at-first-label .before .before .before .before in
+    let at-first-element = at-lay-gates .before .before in
+    let at-labels = at-first-element .before in
+    let start = at-labels .before .before .before in
+    let i = start .args in
+    let n = at-labels .labels .ensures .0 in
+    let base = at-first-element .first-element .ensures .0 in
+    let a = rw (n, base) at (at-lay-gates .lay-gates .ensures) in
+    let b = rw (n, read (at-first-label .first-label .ok) (at-first-label .first-label .ensures .0), at-var-at .var-at .ensures) at (at-lay-choice .lay-choice .ensures) in
+    let d = rw (n, base, c .before .before .before .var-at2 .ensures, at-past-at .past-at .ensures) at (c .before .before .lay-gated .ensures) in
     (went-as (sym (variable-element (i .first) (i .ls .now) (i .us .now) (i .args .now) (var (i .args .now) 0) (var (i .args .now) (past (i .args .now) 1)))) (went-then (a .0) (went-then (b .0) (d .0))), omega (arith, a .1, b .1, d .1))
 
 pub array-var-int-element-spec : {M : Type 1} → statement M

@@ -19,35 +19,49 @@ set-in-requires : tie.Need-set-in-requires
 set-in-requires c κs = search needs
 
 set-in-reif-requires : tie.Need-set-in-reif-requires
-set-in-reif-requires c κs = (c .before .before .before .before .pre .2, c .before .before .before .before .pre .3, c .before .before .before .before .pre .4, c .before .before .before .before .pre .5, c .before .before .before .before .pre .6 (omega arith))
+set-in-reif-requires c κs =
+    let start = c .before .before .before .before in
+    (start .pre .2, start .pre .3, start .pre .4, start .pre .5, start .pre .6 (omega arith))
 
 same-length : tie.Need-same-length
 same-length c = search needs
 
 returns : tie.Need-returns
 unfolding builtin builtins
-returns c = let e : c .before .before .before .before .before .before .before .args .code ≡ 24 = c .before .before .before .before .match .keys1 in rw e (c .before .before .array-int-element .ensures)
+returns c =
+    let at-match = c .before .before .before .before in
+    let start = at-match .before .before .before in
+    let e : start .args .code ≡ 24 = at-match .match .keys1 in rw e (c .before .before .array-int-element .ensures)
 
 same-length-2 : tie.Need-same-length-2
 same-length-2 c = search needs
 
 returns-2 : tie.Need-returns-2
 unfolding builtin builtins
-returns-2 c = let e : c .before .before .before .before .before .before .before .args .code ≡ 25 = c .before .before .before .before .match .keys2 in rw e (c .before .before .array-var-int-element .ensures)
+returns-2 c =
+    let at-match = c .before .before .before .before in
+    let start = at-match .before .before .before in
+    let e : start .args .code ≡ 25 = at-match .match .keys2 in rw e (c .before .before .array-var-int-element .ensures)
 
 same-length-3 : tie.Need-same-length-3
 same-length-3 c = search needs
 
 returns-3 : tie.Need-returns-3
 unfolding builtin builtins
-returns-3 c = let e : c .before .before .before .before .before .before .before .args .code ≡ 26 = c .before .before .before .before .match .keys3 in rw e (c .before .before .array-int-maximum .ensures)
+returns-3 c =
+    let at-match = c .before .before .before .before in
+    let start = at-match .before .before .before in
+    let e : start .args .code ≡ 26 = at-match .match .keys3 in rw e (c .before .before .array-int-maximum .ensures)
 
 same-length-4 : tie.Need-same-length-4
 same-length-4 c = search needs
 
 returns-4 : tie.Need-returns-4
 unfolding builtin builtins
-returns-4 c = let e : c .before .before .before .before .before .before .before .args .code ≡ 27 = c .before .before .before .before .match .keys4 in rw e (c .before .before .set-in .ensures)
+returns-4 c =
+    let at-match = c .before .before .before .before in
+    let start = at-match .before .before .before in
+    let e : start .args .code ≡ 27 = at-match .match .keys4 in rw e (c .before .before .set-in .ensures)
 
 same-length-5 : tie.Need-same-length-5
 same-length-5 c = search needs

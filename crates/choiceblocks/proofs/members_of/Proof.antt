@@ -28,17 +28,20 @@ same-length c = search needs
 
 returns : tie.Need-returns
 returns c =
-    let a = c .before .before .before .before .before .before .before .args in
+    let at-bound-at = c .before .before .before .before in
+    let at-var-at = at-bound-at .before in
+    let start = at-var-at .before .before in
+    let a = start .args in
     let ws = a .args .now in
     let B = boundsOf (a .ls .now) (a .us .now) (var ws 0) in
-    let e = rw (read (c .before .before .before .before .bound-at .ok) (c .before .before .before .before .bound-at .ensures), read (c .before .before .before .bound-at2 .ok) (c .before .before .before .bound-at2 .ensures), c .before .before .before .before .before .var-at .ensures, c .before .before .before .before .before .before .before .pre .1) at (c .before .members .ensures) in
+    let e = rw (read (at-bound-at .bound-at .ok) (at-bound-at .bound-at .ensures), read (c .before .before .before .bound-at2 .ok) (c .before .before .before .bound-at2 .ensures), at-var-at .var-at .ensures, start .pre .1) at (c .before .members .ensures) in
     let l = members-length ws 1 B in
     let same = over-zeros 32 (members (nums ws 1) B) l in
     record {
       many = e .0;
       few = omega (arith, e .0, l);
       same = λ k. rw (e .1) (same k);
-      near = λ k. rw (e .1, same k) (omega (arith, members-size ws 1 B (c .before .before .before .before .before .before .before .pre .0 (var ws 0)) k));
+      near = λ k. rw (e .1, same k) (omega (arith, members-size ws 1 B (start .pre .0 (var ws 0)) k));
     }
 
 pub members-of-spec : {M : Type 1} → statement M

@@ -19,8 +19,10 @@ same-length c = search needs
 returns : tie.Need-returns
 unfolding choiceRows
 returns c =
-    let a = c .before .before .before .before .before .before .lay-one-bit .ensures in
-    let b = rw (toZ-ofZ (c .before .before .before .before .before .before .before .before .before .fits .from)) at (c .before .before .lay-label-row .ensures) in
+    let at-lay-one-bit = c .before .before .before .before .before .before in
+    let start = at-lay-one-bit .before .before .before in
+    let a = at-lay-one-bit .lay-one-bit .ensures in
+    let b = rw (toZ-ofZ (start .fits .from)) at (c .before .before .lay-label-row .ensures) in
     (went-then (a .0) (b .0), omega (arith, a .1, b .1))
 
 pub lay-choice-spec : {M : Type 1} → statement M

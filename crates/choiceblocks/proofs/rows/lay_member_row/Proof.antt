@@ -25,8 +25,11 @@ same-length c = search needs
 returns : tie.Need-returns
 unfolding sumRow
 returns c =
-    let a = c .before .before .before .before .before .before .before .before .before .before .lay-head .ensures in
-    let b = rw (toZ-ofZ (c .before .before .before .before .before .before .before .before .before .before .before .before .before .fits .from)) at (c .before .before .before .before .before .before .lay-members .ensures) in
+    let at-lay-members = c .before .before .before .before .before .before in
+    let at-lay-head = at-lay-members .before .before .before .before in
+    let start = at-lay-head .before .before .before in
+    let a = at-lay-head .lay-head .ensures in
+    let b = rw (toZ-ofZ (start .fits .from)) at (at-lay-members .lay-members .ensures) in
     let d = c .before .before .lay-last .ensures in
     (went-then (a .0) (went-then (b .0) (d .0)), omega (arith, a .1, b .1, d .1))
 

@@ -28,15 +28,19 @@ bound-at-requires : tie.Need-bound-at-requires Inv-loop μ-loop
 bound-at-requires c κs = search needs
 
 minus-requires : tie.Need-minus-requires Inv-loop μ-loop
-minus-requires c κs = rw (read (c .bound-at .ok) (c .bound-at .ensures), toZ-ofZ (c .before .before .before .before .before .fits .from)) (omega (arith, c .before .before .before .before .before .pre .4 (c .before .before .before .loop .k)))
+minus-requires c κs =
+    let start = c .before .before .before .before .before in
+    rw (read (c .bound-at .ok) (c .bound-at .ensures), toZ-ofZ (start .fits .from)) (omega (arith, start .pre .4 (c .before .before .before .loop .k)))
 
 count-of-requires : tie.Need-count-of-requires Inv-loop μ-loop
 count-of-requires c κs = search needs
 
 add-lay-term : tie.Need-add-lay-term Inv-loop μ-loop
 add-lay-term c =
-    let m = rw (read (c .before .minus .ok) (c .before .minus .ensures), read (c .before .before .bound-at .ok) (c .before .before .bound-at .ensures), toZ-ofZ (c .before .before .before .before .before .before .before .fits .from)) at (c .count-of .ensures) in
-    omega (arith, m, count-le ((getD (c .before .before .before .before .before .before .before .args .vs .now) (c .before .before .before .before .before .loop .k) +0) ⊖ c .before .before .before .before .before .before .before .args .from), minus-size (getD (c .before .before .before .before .before .before .before .args .vs .now) (c .before .before .before .before .before .loop .k) +0) (c .before .before .before .before .before .before .before .args .from), c .before .before .before .before .before .before .before .pre .4 (c .before .before .before .before .before .loop .k))
+    let at-loop = c .before .before .before .before .before in
+    let start = at-loop .before .before in
+    let m = rw (read (c .before .minus .ok) (c .before .minus .ensures), read (c .before .before .bound-at .ok) (c .before .before .bound-at .ensures), toZ-ofZ (start .fits .from)) at (c .count-of .ensures) in
+    omega (arith, m, count-le ((getD (start .args .vs .now) (at-loop .loop .k) +0) ⊖ start .args .from), minus-size (getD (start .args .vs .now) (at-loop .loop .k) +0) (start .args .from), start .pre .4 (at-loop .loop .k))
 
 lay-term-requires : tie.Need-lay-term-requires Inv-loop μ-loop
 lay-term-requires c κs = search needs
@@ -48,7 +52,12 @@ loop-less : tie.Need-loop-less Inv-loop μ-loop
 loop-less c = search needs
 
 loop-again : tie.Need-loop-again Inv-loop μ-loop
-loop-again c = more (c .before .before .before .before .before .before .before .loop-test .taken) (c .before .before .before .before .before .before .before .before .loop .inv) (rw (c .before .before .before .count-of .ensures, read (c .before .before .before .before .minus .ok) (c .before .before .before .before .minus .ensures), read (c .before .before .before .before .before .bound-at .ok) (c .before .before .before .before .before .bound-at .ensures)) at (c .before .before .lay-term .ensures))
+loop-again c =
+    let at-minus = c .before .before .before .before in
+    let at-bound-at = at-minus .before in
+    let at-loop-test = at-bound-at .before .before in
+    let at-loop = at-loop-test .before in
+    more (at-loop-test .loop-test .taken) (at-loop .loop .inv) (rw (c .before .before .before .count-of .ensures, read (at-minus .minus .ok) (at-minus .minus .ensures), read (at-bound-at .bound-at .ok) (at-bound-at .bound-at .ensures)) at (c .before .before .lay-term .ensures))
 
 same-length : tie.Need-same-length Inv-loop μ-loop
 same-length c = went-length (c .before .loop .inv .went)

@@ -24,8 +24,10 @@ same-length c = search needs
 returns : tie.Need-returns
 unfolding sumRow
 returns c =
-    let a = c .before .before .before .before .before .before .before .before .before .before .lay-head .ensures in
-    let b = c .before .before .before .before .before .before .lay-numbers .ensures in
+    let at-lay-numbers = c .before .before .before .before .before .before in
+    let at-lay-head = at-lay-numbers .before .before .before .before in
+    let a = at-lay-head .lay-head .ensures in
+    let b = at-lay-numbers .lay-numbers .ensures in
     let d = c .before .before .lay-last .ensures in
     (went-then (a .0) (went-then (b .0) (d .0)), omega (arith, a .1, b .1, d .1))
 

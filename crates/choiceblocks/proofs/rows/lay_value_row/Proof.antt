@@ -24,8 +24,10 @@ same-length c = search needs
 returns : tie.Need-returns
 unfolding sumRow
 returns c =
-    let a = c .before .before .before .before .before .before .before .before .before .before .lay-head .ensures in
-    let b = c .before .before .before .before .before .before .lay-values .ensures in
+    let at-lay-values = c .before .before .before .before .before .before in
+    let at-lay-head = at-lay-values .before .before .before .before in
+    let a = at-lay-head .lay-head .ensures in
+    let b = at-lay-values .lay-values .ensures in
     let d = c .before .before .lay-last .ensures in
     (went-then (a .0) (went-then (b .0) (d .0)), omega (arith, a .1, b .1, d .1))
 

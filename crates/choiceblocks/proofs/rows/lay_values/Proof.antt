@@ -33,7 +33,10 @@ loop-less : tie.Need-loop-less Inv-loop μ-loop
 loop-less c = search needs
 
 loop-again : tie.Need-loop-again Inv-loop μ-loop
-loop-again c = more (c .before .before .before .before .before .loop-test .taken) (c .before .before .before .before .before .before .loop .inv) (rw (read (c .before .before .before .bound-at .ok) (c .before .before .before .bound-at .ensures)) at (c .before .before .lay-term .ensures))
+loop-again c =
+    let at-loop-test = c .before .before .before .before .before in
+    let at-loop = at-loop-test .before in
+    more (at-loop-test .loop-test .taken) (at-loop .loop .inv) (rw (read (c .before .before .before .bound-at .ok) (c .before .before .before .bound-at .ensures)) at (c .before .before .lay-term .ensures))
 
 same-length : tie.Need-same-length Inv-loop μ-loop
 same-length c = went-length (c .before .loop .inv .went)

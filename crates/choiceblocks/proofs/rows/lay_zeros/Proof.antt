@@ -45,7 +45,12 @@ loop-less : tie.Need-loop-less Inv-loop μ-loop
 loop-less c = search needs
 
 loop-again : tie.Need-loop-again Inv-loop μ-loop
-loop-again c = more (c .before .before .before .before .before .before .before .before .before .loop-test .taken) (c .before .before .before .before .before .before .before .before .before .before .loop .inv) (rw (read (c .before .before .before .before .before .zero-lower .ok) (c .before .before .before .before .before .zero-lower .ensures), read (c .before .before .before .before .zero-upper .ok) (c .before .before .before .before .zero-upper .ensures), read (c .before .before .before .before .before .before .before .bound-at .ok) (c .before .before .before .before .before .before .before .bound-at .ensures), read (c .before .before .before .before .before .before .bound-at2 .ok) (c .before .before .before .before .before .before .bound-at2 .ensures), c .before .before .before .before .before .before .before .before .var-at .ensures) at (c .before .before .lay-bound .ensures))
+loop-again c =
+    let l = c .before .before .before .before .before .before .before .before .before in
+    let z = c .before .before .before .before in
+    let b = z .before .before in
+    more (l .loop-test .taken) (l .before .loop .inv)
+    (simp (read (z .zero-upper .ok) (z .zero-upper .ensures), read (z .before .zero-lower .ok) (z .before .zero-lower .ensures), read (b .bound-at2 .ok) (b .bound-at2 .ensures), read (b .before .bound-at .ok) (b .before .bound-at .ensures), b .before .before .var-at .ensures) at (c .before .before .lay-bound .ensures))
 
 same-length : tie.Need-same-length Inv-loop μ-loop
 same-length c = went-length (c .before .loop .inv .went)

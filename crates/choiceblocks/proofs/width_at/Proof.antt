@@ -1,0 +1,26 @@
+-- The width of two bounds.
+use borrow.Author.Needs.{needs}
+use Rattle.integers.proofs.Fits.{back}
+use Rattle.arguments.proofs.Size.{read}
+use Rattle.choiceblocks.proofs.width_at.Statement.{statement}
+use Rattle.choiceblocks.proofs.width_at.Tie as tie
+
+var-at-requires : tie.Need-var-at-requires
+var-at-requires c κs = search needs
+
+bound-at-requires : tie.Need-bound-at-requires
+bound-at-requires c κs = search needs
+
+lower-label-requires : tie.Need-lower-label-requires
+lower-label-requires c κs = search needs
+
+width-of-requires : tie.Need-width-of-requires
+width-of-requires c κs = (rw (back (c .lower-label .result) (c .lower-label .ok)) (c .lower-label .ensures .1), rw (read (c .before .bound-at .ok) (c .before .bound-at .ensures)) (c .before .before .before .before .pre .1 (c .before .before .var-at .result)))
+
+returns : tie.Need-returns
+returns c = rw (read (c .before .lower-label .ok) (c .before .lower-label .ensures .0), read (c .before .before .bound-at .ok) (c .before .before .bound-at .ensures), c .before .before .before .var-at .ensures) at (c .width-of .ensures)
+
+pub width-at-spec : {M : Type 1} → statement M
+width-at-spec =
+    tie.close
+    (tie.spec var-at-requires bound-at-requires lower-label-requires width-of-requires returns)
