@@ -5,7 +5,8 @@ use mathlib.Core.List.{List, _++_}
 use Prim.Native.Nat.{ℕ, _+_, _<_, _≤_}
 use lib.Dec.{ltb, eqb}
 use lib.IntN.{ℤ}
-use lib.ListN.{length}
+use native.Mathlib.Omega.{arith}
+use lib.ListN.{length, length-append, take}
 use borrow.Author.Tests.{eq-eqb, ne-eqb, lt-ltb, le-ltb}
 use Rattle.integers.specs.Choice.{_if_else_}
 use Rattle.words.specs.Variables.{variables}
@@ -17,22 +18,45 @@ use Rattle.models.specs.JudgeModel.{judgeModel, judgeAccepted}
 use Rattle.rules.specs.Translation.{picks, auxiliaries}
 use Rattle.rules.specs.Translate.{roomFault}
 use Rattle.rules.specs.Fill.{filledCount, fillFault, fill, filled}
-use Rattle.sharing.specs.SharedSolutions.{Passes}
+use Rattle.sharing.specs.SharedSolutions.{Passes, SatisfiesModel}
 use Rattle.sharing.proofs.Accepts.{passes-read}
+use Rattle.sharing.proofs.Theorem.{fill-counts, fill-satisfies}
+use Rattle.sharing.proofs.Judged.{judge-model-says}
+use Rattle.translation.proofs.Over.{front-over}
+use Rattle.filling.specs.Satisfied.{Satisfied}
 
--- an answer of fill, and the list afterwards
+-- an answer of fill, the list afterwards, and that what was handed over satisfies the row system
 abbrev pub Gives : List ℕ → List ℤ → List ℤ → Answer → List ℤ → Type 0
-Gives ws vs out answer out′ = (answer ≡ fill ws vs (length out)) × (out′ ≡ filled ws vs out)
+Gives ws vs out answer out′ = (answer ≡ fill ws vs (length out)) × ((out′ ≡ filled ws vs out) × Satisfied ws answer out′)
+
+pub clash : {A : Type 0} → _≡_ {A = ℕ} 0 1 → A
+clash e = absurd (omega arith)
+
+-- a refusal hands over nothing
+pub none-handed : (ws : List ℕ) {n p : ℕ} (out : List ℤ) → Satisfied ws (refused n p) out
+none-handed ws out m e = clash (cc)
+
+-- what was written satisfies the row system
+handed-over : (ws : List ℕ) → Passes ws → (vs : List ℤ) → SatisfiesModel ws vs → (out : List ℤ) → length (variables ws) + length (auxiliaries ws) ≤ length out →
+    Satisfied ws (written (length (variables ws) + length (auxiliaries ws))) (overlay out 0 (vs ++ picks ws vs))
+handed-over ws passes vs s out l m e =
+    let n : length (vs ++ picks ws vs) ≡ length (variables ws) + length (auxiliaries ws) = omega (arith, length-append vs (picks ws vs), s .one-each, fill-counts ws passes vs) in
+    let j : m ≡ length (variables ws) + length (auxiliaries ws) = cc in
+    let i : m ≡ length (vs ++ picks ws vs) = j ∙ sym n in
+    rw (i, front-over out (vs ++ picks ws vs) (omega (arith, n))) (fill-satisfies ws passes vs s)
 
 module _ (ws : List ℕ) (passes : Passes ws) (vs : List ℤ) (out : List ℤ) where
   pub wrong-count : (length vs ≡ length (variables ws) → ⊥) → Gives ws vs out (refused 15 0) out
   unfolding fill filled fillFault countFault _else-refuse_ _else-answer_
-  wrong-count f = (rw (passes, ne-eqb (length vs) (length (variables ws)) f), rw (passes, ne-eqb (length vs) (length (variables ws)) f))
+  wrong-count f = let e = ne-eqb (length vs) (length (variables ws)) f in (rw (passes, e), (rw (passes, e), none-handed ws out))
 
   module _ (counted : length vs ≡ length (variables ws)) where
     pub too-short : length out < length (variables ws) + length (auxiliaries ws) → Gives ws vs out (refused 16 0) out
     unfolding fill filled fillFault filledCount countFault roomFault _else-refuse_ _else-answer_
-    too-short l = (rw (passes, eq-eqb (length vs) (length (variables ws)) counted, lt-ltb (length out) (length (variables ws) + length (auxiliaries ws)) l), rw (passes, eq-eqb (length vs) (length (variables ws)) counted, lt-ltb (length out) (length (variables ws) + length (auxiliaries ws)) l))
+    too-short l =
+        let e = eq-eqb (length vs) (length (variables ws)) counted in
+        let s = lt-ltb (length out) (length (variables ws) + length (auxiliaries ws)) l in
+        (rw (passes, e, s), (rw (passes, e, s), none-handed ws out))
 
     module _ (room : length (variables ws) + length (auxiliaries ws) ≤ length out) where
       no-fault : fillFault ws vs (length out) ≡ accepted
@@ -46,8 +70,10 @@ module _ (ws : List ℕ) (passes : Passes ws) (vs : List ℤ) (out : List ℤ) w
 
       pub held : judgeModel ws vs ≡ holds → Gives ws vs out (written (length (variables ws) + length (auxiliaries ws))) (overlay out 0 (vs ++ picks ws vs))
       unfolding fill filled filledCount isHolds _else-answer_
-      held h = (rw (no-fault, sym judged ∙ h), rw (no-fault, sym judged ∙ h))
+      held h =
+          let s = judge-model-says ws (passes-read ws passes) vs .0 h in
+          (rw (no-fault, sym judged ∙ h), (rw (no-fault, sym judged ∙ h), handed-over ws passes vs s out room))
 
-      pub not-held : (answer : Answer) → answer ≡ judgeModel ws vs → isHolds answer ≡ false → Gives ws vs out answer out
+      pub not-held : (answer : Answer) → answer ≡ judgeModel ws vs → isHolds answer ≡ false → ((n : ℕ) → answer ≡ written n → ⊥) → Gives ws vs out answer out
       unfolding fill filled _else-answer_
-      not-held answer h n = (rw (no-fault, sym judged ∙ sym h, n), rw (no-fault, sym judged ∙ sym h, n))
+      not-held answer h n f = (rw (no-fault, sym judged ∙ sym h, n), (rw (no-fault, sym judged ∙ sym h, n), λ m e. absurd (f m e)))

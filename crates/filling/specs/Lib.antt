@@ -1,2 +1,3 @@
--- What the contracts cite: the answer of fill.
+-- What the contracts cite: the answer of fill, and what it hands over.
 pub mod Filled
+pub mod Satisfied

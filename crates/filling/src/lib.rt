@@ -13,9 +13,12 @@ ghost use Rattle.extremes.specs.Bounded.{Bounded};
 ghost use Rattle.picking.specs.Picked.{Ranged};
 ghost use Rattle.picking.proofs.Picks.{picksFrom};
 ghost use Rattle.filling.specs.Filled.{handed};
+ghost use Rattle.filling.specs.Satisfied.{Satisfied};
 use extremes::keep_bounds;
 use modeljudge::judge_model;
 use picking::pick_block;
+use translation::Checked;
+use translation::check;
 use words::Refusal;
 use words::Verdict;
 use words::fault;
@@ -74,16 +77,11 @@ fn write_filled(ws: &[u32], values: &[i32], out: &mut [i32])
 }
 
 // Of a model that passes the check, with these numbers of variables and auxiliaries.
-pub fn fill_passed(
-    ws: &[u32],
-    values: &[i32],
-    out: &mut [i32],
-    sources: usize,
-    added: usize,
-) -> Filled
+fn fill_passed(ws: &[u32], values: &[i32], out: &mut [i32], sources: usize, added: usize) -> Filled
     requires { ⌜ Passes (now ws) × (sources ≡ length (variables (now ws))) × (added ≡ length (auxiliaries (now ws))) ⌝ }
     ensures answer { λ r. ⌜ handed r ≡ fillAnswer (now (ws .entry)) (now (values .entry)) (length (now (out .entry))) ⌝ }
     ensures output { λ r. ⌜ now (out .exit) ≡ filled (now (ws .entry)) (now (values .entry)) (now (out .entry)) ⌝ }
+    ensures satisfied { λ r. ⌜ Satisfied (now (ws .entry)) (handed r) (now (out .exit)) ⌝ }
 {
     if values.len() != sources {
         return Filled::Refused(Refusal {
@@ -105,5 +103,23 @@ pub fn fill_passed(
         }
         Verdict::OutOfBounds(i) => Filled::OutOfBounds(i),
         Verdict::False(i) => Filled::False(i),
+    }
+}
+
+// Where judge-model says "holds", the values and the auxiliaries go to the front of the output; else nothing changes.
+pub fn fill(ws: &[u32], values: &[i32], out: &mut [i32]) -> Filled
+    ensures answer { λ r. ⌜ handed r ≡ fillAnswer (now (ws .entry)) (now (values .entry)) (length (now (out .entry))) ⌝ }
+    ensures output { λ r. ⌜ now (out .exit) ≡ filled (now (ws .entry)) (now (values .entry)) (now (out .entry)) ⌝ }
+    ensures satisfied { λ r. ⌜ Satisfied (now (ws .entry)) (handed r) (now (out .exit)) ⌝ }
+{
+    match check(ws) {
+        Checked::Refused(refusal) => Filled::Refused(refusal),
+        Checked::Counts {
+            variables,
+            constraints: _,
+            auxiliaries,
+            rows: _,
+            words: _,
+        } => fill_passed(ws, values, out, variables, auxiliaries),
     }
 }

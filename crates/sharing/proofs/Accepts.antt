@@ -22,7 +22,7 @@ use Rattle.rules.specs.Check.{tooWide, blockFault, blocksFault, checkFault}
 use Rattle.sharing.specs.SharedSolutions.{Passes}
 
 -- a fault makes a refusal, whose number is not 0
-no-fault : (n p : ℕ) (after : Refusal) → faultOr n p after .number ≡ 0 → (n ≡ 0) × (after .number ≡ 0)
+pub no-fault : (n p : ℕ) (after : Refusal) → faultOr n p after .number ≡ 0 → (n ≡ 0) × (after .number ≡ 0)
 no-fault zero p after e = (refl, e)
 no-fault (suc n) p after e = absurd (omega (arith, e))
 
@@ -39,7 +39,7 @@ module _ {S : Type 0} (fault : S → ℕ → List ℕ → ℕ) (next : S → ℕ
       let f = no-fault (fault s w ws) p (firstFault fault next ended (next s w) (p + 1) ws) e in
       then-after (fault s w ws) p (firstFault fault next ended (next s w) (p + 1) ws) (f .0) ∙ read-without (next s w) (p + 1) ws (f .1)
 
-read-zero : (ws : List ℕ) → readModel ws .number ≡ 0 → readModel ws ≡ accepted
+pub read-zero : (ws : List ℕ) → readModel ws .number ≡ 0 → readModel ws ≡ accepted
 unfolding readModel
 read-zero ws = go (ltb Limit.modelWords (length ws))
   where
@@ -61,7 +61,7 @@ Fine β first (c ∷ cs) =
     × (first + length (blockOf β c .auxiliaries) ≤ Limit.inAll)
     × Fine β (first + length (blockOf β c .auxiliaries)) cs
 
-one-fine : (β : ℕ → Bounds) (first : ℕ) (c : Constraint) → blockFault β first c ≡ 0 →
+pub one-fine : (β : ℕ → Bounds) (first : ℕ) (c : Constraint) → blockFault β first c ≡ 0 →
     (tooWide β c ≡ false) × (outside (blockOf β c) ≡ false) × (first + length (blockOf β c .auxiliaries) ≤ Limit.inAll)
 unfolding blockFault
 one-fine β first c = go (tooWide β c) (outside (blockOf β c)) (ltb Limit.inAll (first + length (blockOf β c .auxiliaries))) refl
@@ -74,7 +74,7 @@ one-fine β first c = go (tooWide β c) (outside (blockOf β c)) (ltb Limit.inAl
     go false false true e f = absurd (omega (arith, f))
     go false false false e f = (refl, refl, ltb-false _ _ e)
 
-all-fine : (β : ℕ → Bounds) (first : ℕ) (cs : List Constraint) → blocksFault β first cs .number ≡ 0 → Fine β first cs
+pub all-fine : (β : ℕ → Bounds) (first : ℕ) (cs : List Constraint) → blocksFault β first cs .number ≡ 0 → Fine β first cs
 unfolding blocksFault
 all-fine β first [] e = tt
 all-fine β first (c ∷ cs) e =

@@ -8,7 +8,7 @@ use Rattle.sharing.proofs.Accepts.{passes-read}
 use Rattle.sharing.proofs.Theorem.{few-in-all}
 use Rattle.sharing.proofs.Judged.{judge-model-says}
 use Rattle.filling.specs.Filled.{handed}
-use Rattle.filling.proofs.Answers.{wrong-count, too-short, held, not-held}
+use Rattle.filling.proofs.Answers.{clash, wrong-count, too-short, held, not-held}
 use Rattle.filling.proofs.fill_passed.Statement.{statement}
 use Rattle.filling.proofs.fill_passed.Tie as tie
 
@@ -47,7 +47,7 @@ enum-known-i-2 c = search needs
 
 returns-3 : tie.Need-returns-3
 unfolding handed verdict isHolds
-returns-3 c = not-held (c .before .before .before .before .before .before .before .args .ws .now) (c .before .before .before .before .before .before .before .pre .0) (c .before .before .before .before .before .before .before .args .values .now) (c .before .before .before .before .before .before .before .args .out .now) (c .before .before .before .before .before .if1 .left ∙ c .before .before .before .before .before .before .before .pre .1) (rw (c .before .before .before .before .before .before .before .pre .1, c .before .before .before .before .before .before .before .pre .2) at (c .before .before .before .before .if2 .left)) _ (rw (c .before .refusal .given .1) at (c .before .before .before .judge-model .ensures)) refl
+returns-3 c = not-held (c .before .before .before .before .before .before .before .args .ws .now) (c .before .before .before .before .before .before .before .pre .0) (c .before .before .before .before .before .before .before .args .values .now) (c .before .before .before .before .before .before .before .args .out .now) (c .before .before .before .before .before .if1 .left ∙ c .before .before .before .before .before .before .before .pre .1) (rw (c .before .before .before .before .before .before .before .pre .1, c .before .before .before .before .before .before .before .pre .2) at (c .before .before .before .before .if2 .left)) _ (rw (c .before .refusal .given .1) at (c .before .before .before .judge-model .ensures)) refl (λ n e. clash (cc))
 
 same-length : tie.Need-same-length
 same-length c = search needs
@@ -58,11 +58,11 @@ returns-4 c = rw (c .before .before .before .before .before .before .before .bef
 
 returns-5 : tie.Need-returns-5
 unfolding handed verdict isHolds
-returns-5 c = not-held (c .before .before .before .before .before .before .before .args .ws .now) (c .before .before .before .before .before .before .before .pre .0) (c .before .before .before .before .before .before .before .args .values .now) (c .before .before .before .before .before .before .before .args .out .now) (c .before .before .before .before .before .if1 .left ∙ c .before .before .before .before .before .before .before .pre .1) (rw (c .before .before .before .before .before .before .before .pre .1, c .before .before .before .before .before .before .before .pre .2) at (c .before .before .before .before .if2 .left)) _ (rw (c .before .i .given .1) at (c .before .before .before .judge-model .ensures)) refl
+returns-5 c = not-held (c .before .before .before .before .before .before .before .args .ws .now) (c .before .before .before .before .before .before .before .pre .0) (c .before .before .before .before .before .before .before .args .values .now) (c .before .before .before .before .before .before .before .args .out .now) (c .before .before .before .before .before .if1 .left ∙ c .before .before .before .before .before .before .before .pre .1) (rw (c .before .before .before .before .before .before .before .pre .1, c .before .before .before .before .before .before .before .pre .2) at (c .before .before .before .before .if2 .left)) _ (rw (c .before .i .given .1) at (c .before .before .before .judge-model .ensures)) refl (λ n e. clash (cc))
 
 returns-6 : tie.Need-returns-6
 unfolding handed verdict isHolds
-returns-6 c = not-held (c .before .before .before .before .before .before .before .args .ws .now) (c .before .before .before .before .before .before .before .pre .0) (c .before .before .before .before .before .before .before .args .values .now) (c .before .before .before .before .before .before .before .args .out .now) (c .before .before .before .before .before .if1 .left ∙ c .before .before .before .before .before .before .before .pre .1) (rw (c .before .before .before .before .before .before .before .pre .1, c .before .before .before .before .before .before .before .pre .2) at (c .before .before .before .before .if2 .left)) _ (rw (c .before .i2 .given .1) at (c .before .before .before .judge-model .ensures)) refl
+returns-6 c = not-held (c .before .before .before .before .before .before .before .args .ws .now) (c .before .before .before .before .before .before .before .pre .0) (c .before .before .before .before .before .before .before .args .values .now) (c .before .before .before .before .before .before .before .args .out .now) (c .before .before .before .before .before .if1 .left ∙ c .before .before .before .before .before .before .before .pre .1) (rw (c .before .before .before .before .before .before .before .pre .1, c .before .before .before .before .before .before .before .pre .2) at (c .before .before .before .before .if2 .left)) _ (rw (c .before .i2 .given .1) at (c .before .before .before .judge-model .ensures)) refl (λ n e. clash (cc))
 
 pub fill-passed-spec : {M : Type 1} → statement M
 fill-passed-spec =

@@ -1,0 +1,42 @@
+-- Check's refusal stands; else what comes after the check.
+use Rattle.translation.specs.Checked.{checked}
+use Rattle.filling.specs.Filled.{handed}
+use Rattle.filling.proofs.Promise.{counted, stands}
+use borrow.Author.Needs.{needs}
+use Rattle.filling.proofs.fill.Statement.{statement}
+use Rattle.filling.proofs.fill.Tie as tie
+
+check-requires : tie.Need-check-requires
+check-requires c κs = search needs
+
+enum-known-refusal : tie.Need-enum-known-refusal
+enum-known-refusal c = search needs
+
+enum-known-variables : tie.Need-enum-known-variables
+enum-known-variables c = search needs
+
+fill-passed-requires : tie.Need-fill-passed-requires
+unfolding checked
+fill-passed-requires c κs = counted (c .before .before .before .before .before .before .args .ws .now) (rw (c .before .before .variables .given .1) at (c .before .before .before .before .check .ensures))
+
+returns : tie.Need-returns
+unfolding handed checked
+returns c = stands (c .before .before .before .before .before .args .ws .now) (c .before .before .before .before .before .args .values .now) (c .before .before .before .before .before .args .out .now) (rw (c .before .refusal .given .1) at (c .before .before .before .check .ensures))
+
+same-length : tie.Need-same-length
+same-length c = search needs
+
+returns-2 : tie.Need-returns-2
+returns-2 c = c .before .fill-passed .ensures
+
+pub fill-spec : {M : Type 1} → statement M
+fill-spec =
+    tie.close
+    (tie.spec
+    check-requires
+    enum-known-refusal
+    enum-known-variables
+    fill-passed-requires
+    returns
+    same-length
+    returns-2)

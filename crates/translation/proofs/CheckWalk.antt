@@ -1,0 +1,108 @@
+-- Check's walk over the constraints: what is left from a place on gives what the whole gives; and that this is check's answer.
+use mathlib.Core.Path.{_≡_, refl, ap, sym, _∙_}
+use mathlib.Core.List.{List, [], _∷_, _++_, flatMap}
+use Prim.Native.Nat.{ℕ, zero, suc, _+_, _*_, _<_, _≤_}
+use native.Mathlib.Omega.{arith}
+use lib.ListN.{length, getD, drop, length-append}
+use Rattle.integers.specs.declared.Bounds.{Bounds}
+use Rattle.words.specs.Word.{kind, word}
+use Rattle.words.specs.Kind as Kind
+use Rattle.words.specs.Variables.{variables}
+use Rattle.words.specs.Refusal.{faultOr, accepted, _else-refuse_}
+use Rattle.words.specs.Answer.{Answer, refused, counts, _else-answer_}
+use Rattle.words.specs.declared.Refusal.{Refusal}
+use Rattle.models.specs.Model.{Constraint, constraints, constraintsFrom}
+use Rattle.models.specs.Reading.{readModel}
+use Rattle.models.proofs.Constraints.{headed, starts-none, starts-one, none-left}
+use Rattle.rules.specs.Block.{blockWords}
+use Rattle.rules.specs.Translation.{bounds, blockOf, sourceWords, blocksWords, systemWords, auxiliaries, blockRows}
+use Rattle.rules.specs.Check.{blockFault, blocksFault, checkFault, check}
+use Rattle.sharing.proofs.Accepts.{one-fine}
+use Rattle.translation.specs.Walk.{countsFrom, Costs}
+use Rattle.translation.specs.declared.Cost.{Cost}
+
+-- ---- one constraint more, a fault, the end
+
+same-counts : {v k l a b r s w x : ℕ} → k ≡ l → a ≡ b → r ≡ s → w ≡ x → counts v k a r w ≡ counts v l b s x
+same-counts p q s t = cc
+
+fault-first : (n p : ℕ) (after : Refusal) (answer : Answer) → (n ≡ 0 → ⊥) → refused n p ≡ (faultOr n p after else-answer answer)
+unfolding _else-answer_
+fault-first zero p after answer f = absurd (f refl)
+fault-first (suc n) p after answer f = refl
+
+module _ (β : ℕ → Bounds) (v k a r w : ℕ) where
+  one-more : (c : Constraint) (cs : List Constraint) → blockFault β (v + a) c ≡ 0 →
+      countsFrom β v k a r w (c ∷ cs)
+      ≡ countsFrom β v (k + 1) (a + length (blockOf β c .auxiliaries)) (r + length (blockOf β c .rows)) (w + length (blockWords (v + a) (blockOf β c))) cs
+  unfolding countsFrom blocksFault blocksWords flatMap
+  one-more c cs f =
+      let n = length (blockOf β c .auxiliaries) in
+      let e : v + a + n ≡ v + (a + n) = omega arith in
+      rw (f, e)
+      (ap (λ answer. blocksFault β (v + (a + n)) cs else-answer answer)
+      (same-counts (omega arith)
+      (omega (arith, length-append (blockOf β c .auxiliaries) (flatMap (λ d. blockOf β d .auxiliaries) cs)))
+      (omega (arith, length-append (blockOf β c .rows) (flatMap (λ d. blockOf β d .rows) cs)))
+      (omega (arith, length-append (blockWords (v + a) (blockOf β c)) (blocksWords β (v + (a + n)) cs)))))
+
+  fault-here : (c : Constraint) (cs : List Constraint) → (blockFault β (v + a) c ≡ 0 → ⊥) →
+      refused (blockFault β (v + a) c) (c .place) ≡ countsFrom β v k a r w (c ∷ cs)
+  unfolding countsFrom blocksFault
+  fault-here c cs f = fault-first (blockFault β (v + a) c) (c .place) _ _ f
+
+  all-counted : counts v k a r w ≡ countsFrom β v k a r w []
+  unfolding countsFrom blocksFault blocksWords flatMap _else-answer_
+  all-counted = same-counts (omega arith) (omega arith) (omega arith) (omega arith)
+
+-- ---- the walk
+
+-- k constraints stand before the place, without a fault, and need a auxiliaries, r rows and w words
+pub record Checking (β : ℕ → Bounds) (v : ℕ) (ws : List ℕ) (start at k a r w : ℕ) : Type 0 where
+  pub room : v + a ≤ 4096
+  pub few : k ≤ at
+  pub small : a + r + w ≤ start + 1000000 * at
+  pub left : countsFrom β v k a r w (constraintsFrom at (drop at ws)) ≡ countsFrom β v 0 0 0 start (constraints ws)
+
+pub begun : (β : ℕ → Bounds) (v : ℕ) (ws : List ℕ) (start : ℕ) → v ≤ 256 → Checking β v ws start 0 0 0 0 start
+unfolding constraints
+begun β v ws start h = record { room = omega arith; few = omega arith; small = omega arith; left = refl }
+
+module _ {β : ℕ → Bounds} {v : ℕ} {ws : List ℕ} {start at k a r w : ℕ} (l : Checking β v ws start at k a r w) where
+  pub skip : at < length ws → (kind (getD ws at 0) ≡ 4 → ⊥) → Checking β v ws start (at + 1) k a r w
+  skip h f = record { room = l .room; few = omega (arith, l .few); small = omega (arith, l .small); left = rw (starts-none ws at h f) at (l .left) }
+
+  module _ {b : Cost} (h : at < length ws) (e : kind (getD ws at 0) ≡ 4) (x : Costs β (v + a) (headed ws at) b) where
+    pub more : b .fault ≡ 0 → Checking β v ws start (at + 1) (k + 1) (a + b .auxiliaries) (r + b .rows) (w + b .words)
+    more z =
+        let n = x .counted z in
+        let f : blockFault β (v + a) (headed ws at) ≡ 0 = sym (x .fault) ∙ z in
+        record {
+          room = omega (arith, one-fine β (v + a) (headed ws at) f .2, n .auxiliaries);
+          few = omega (arith, l .few);
+          small = omega (arith, l .small, x .small);
+          left = rw (n .words, n .auxiliaries, n .rows)
+              (sym (one-more β v k a r w (headed ws at) (constraintsFrom (at + 1) (drop (at + 1) ws)) f) ∙ rw (starts-one ws at h e) at (l .left));
+        }
+
+    pub stop : (b .fault ≡ 0 → ⊥) → refused (b .fault) at ≡ countsFrom β v 0 0 0 start (constraints ws)
+    stop z =
+        rw (x .fault)
+        (fault-here β v k a r w (headed ws at) (constraintsFrom (at + 1) (drop (at + 1) ws)) (λ f. z (x .fault ∙ f))
+        ∙ rw (starts-one ws at h e) at (l .left))
+
+  pub done : length ws ≤ at → counts v k a r w ≡ countsFrom β v 0 0 0 start (constraints ws)
+  done h = all-counted β v k a r w ∙ rw (none-left ws at h) at (l .left)
+
+-- ---- the whole
+
+pub checks : (ws : List ℕ) → readModel ws ≡ accepted → countsFrom (bounds ws) (length (variables ws)) 0 0 0 (length (sourceWords ws) + 1) (constraints ws) ≡ check ws
+unfolding countsFrom check checkFault systemWords auxiliaries blockRows _else-refuse_
+checks ws h =
+    let n = length (variables ws) in
+    let e : n + 0 ≡ n = omega arith in
+    let B = blocksWords (bounds ws) n (constraints ws) in
+    rw (h, e)
+    (ap (λ answer. blocksFault (bounds ws) n (constraints ws) else-answer answer)
+    (same-counts (omega arith) (omega arith) (omega arith)
+    (omega (arith, length-append (sourceWords ws) (B ++ (word Kind.rowsEnd 0 ∷ [])), length-append B (word Kind.rowsEnd 0 ∷ [])))))

@@ -1,0 +1,9 @@
+-- Laws for proofs about check and translate.
+pub mod Sources
+pub mod OneBlock
+pub mod Kept
+pub mod CheckWalk
+pub mod Tail
+pub mod WriteWalk
+pub mod Over
+pub mod Refusals

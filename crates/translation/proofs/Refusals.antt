@@ -1,0 +1,113 @@
+-- What check's answer says of translate's: a refusal that stands, fault 16, or the words of the row system, which share the model's solutions.
+use mathlib.Core.Path.{_≡_, refl, ap, sym, _∙_}
+use mathlib.Core.List.{List, [], _∷_, _++_}
+use Prim.Native.Nat.{ℕ, zero, suc, _+_, _≤_, _<_}
+use native.Mathlib.Omega.{arith}
+use lib.ListN.{length, length-append}
+use borrow.Author.Tests.{lt-ltb, le-ltb, ne-eqb}
+use Rattle.integers.specs.declared.Bounds.{Bounds}
+use Rattle.words.specs.Word.{word}
+use Rattle.words.specs.Kind as Kind
+use Rattle.words.specs.Overlay.{overlay}
+use Rattle.words.specs.Variables.{variables}
+use Rattle.words.specs.Refusal.{_at-place_, accepted, _else-refuse_}
+use Rattle.words.specs.Answer.{Answer, refused, counts, written, refusedOr, _else-answer_}
+use Rattle.words.specs.declared.Refusal.{Refusal}
+use Rattle.words.proofs.Reading as Reading
+use Rattle.models.specs.Model.{Constraint, constraints}
+use Rattle.models.specs.Reading.{readModel}
+use Rattle.rules.specs.Translation.{bounds, blockOf, sourceWords, blocksWords, systemWords}
+use Rattle.rules.specs.Check.{blockFault, blocksFault, checkFault, check}
+use Rattle.rules.specs.Translate.{roomFault, translateFault, translate, translated}
+use Rattle.sharing.specs.SharedSolutions.{Passes}
+use Rattle.sharing.proofs.Accepts.{no-fault}
+use Rattle.sharing.proofs.Theorem.{shared-solutions}
+use Rattle.translation.specs.Shares.{Shares}
+use Rattle.translation.proofs.Over.{three-over, front-over}
+
+-- ---- a refusal whose number is 0 is `accepted`
+
+blocks-zero : (β : ℕ → Bounds) (first : ℕ) (cs : List Constraint) → blocksFault β first cs .number ≡ 0 → blocksFault β first cs ≡ accepted
+unfolding blocksFault
+blocks-zero β first [] e = refl
+blocks-zero β first (c ∷ cs) e =
+    let h = no-fault (blockFault β first c) (c .place) _ e in
+    sym (Reading.no-fault (blockFault β first c) (c .place) _ (h .0)) ∙ blocks-zero β (first + length (blockOf β c .auxiliaries)) cs (h .1)
+
+check-zero : (ws : List ℕ) → checkFault ws .number ≡ 0 → Passes ws
+unfolding checkFault _else-refuse_
+check-zero ws e =
+    let h = no-fault (readModel ws .number) (readModel ws .place) _ e in
+    sym (Reading.no-fault (readModel ws .number) (readModel ws .place) _ (h .0)) ∙ blocks-zero (bounds ws) (length (variables ws)) (constraints ws) (h .1)
+
+-- ---- a model that passes the check: its blocks have no fault, and how its words are made up
+
+pub blocks-pass : (ws : List ℕ) → Passes ws → blocksFault (bounds ws) (length (variables ws)) (constraints ws) .number ≡ 0
+unfolding checkFault _else-refuse_
+blocks-pass ws h = no-fault (readModel ws .number) (readModel ws .place) _ (ap (λ (r : Refusal). r .number) h) .1
+
+module _ (ws : List ℕ) where
+  abbrev Blocks : List ℕ
+  Blocks = blocksWords (bounds ws) (length (variables ws)) (constraints ws)
+
+  abbrev End : List ℕ
+  End = word Kind.rowsEnd 0 ∷ []
+
+  pub system-length : length (systemWords ws) ≡ length (sourceWords ws) + length Blocks + 1
+  unfolding systemWords
+  system-length = omega (arith, length-append (sourceWords ws) (Blocks ++ End), length-append Blocks End)
+
+  pub system-over : (out : List ℕ) → overlay (overlay (overlay out 0 (sourceWords ws)) (length (sourceWords ws)) Blocks) (length (sourceWords ws) + length Blocks) End ≡ overlay out 0 (systemWords ws)
+  unfolding systemWords
+  system-over out = three-over out (sourceWords ws) Blocks End
+
+-- ---- check's answer
+
+clash : {A : Type 0} → _≡_ {A = ℕ} 0 1 → A
+clash e = absurd (omega arith)
+
+no-refusal : {v c a r w : ℕ} (n p : ℕ) (after : Answer) → counts v c a r w ≡ refusedOr n p after → (n ≡ 0) × (counts v c a r w ≡ after)
+no-refusal zero p after e = (refl, e)
+no-refusal (suc n) p after e = clash (cc)
+
+some-refusal : {n p : ℕ} (v c a r w m q : ℕ) → refused n p ≡ refusedOr m q (counts v c a r w) → (n ≡ m) × (p ≡ q) × (m ≡ 0 → ⊥)
+some-refusal v c a r w zero q e = clash (cc)
+some-refusal v c a r w (suc m) q e = (cc, cc, λ z. omega arith)
+
+-- counts: no fault, and the words that are needed
+pub counted : (ws : List ℕ) {v c a r w : ℕ} → counts v c a r w ≡ check ws → Passes ws × (w ≡ length (systemWords ws))
+unfolding check _else-answer_
+counted ws e = let h = no-refusal (checkFault ws .number) (checkFault ws .place) _ e in (check-zero ws (h .0), let g = h .1 in cc)
+
+-- ---- translate's promise, by what is refused
+
+abbrev pub Promise : List ℕ → List ℕ → Answer → List ℕ → Type 0
+Promise ws out answer out′ = (answer ≡ translate ws (length out)) × ((out′ ≡ translated ws out) × Shares ws answer out′)
+
+module _ (ws out : List ℕ) where
+  refuses : {n p : ℕ} → (n ≡ 0 → ⊥) → translateFault ws (length out) ≡ (n at-place p) → Promise ws out (refused n p) out
+  unfolding translate translated _else-answer_
+  refuses {n} {p} f e = (rw e (answers n f), (rw (e, ne-eqb n 0 f), λ m g. clash (cc)))
+    where
+      answers : (n : ℕ) → (n ≡ 0 → ⊥) → refused n p ≡ refusedOr n p (written (length (systemWords ws)))
+      answers zero f = absurd (f refl)
+      answers (suc n) f = refl
+
+  -- check's refusal stands
+  pub stands : {n p : ℕ} → refused n p ≡ check ws → Promise ws out (refused n p) out
+  unfolding check translateFault _else-answer_ _else-refuse_
+  stands {n} {p} e =
+      let h = some-refusal _ _ _ _ _ (checkFault ws .number) (checkFault ws .place) e in
+      refuses (λ z. h .2 (sym (h .0) ∙ z)) (rw (h .0, h .1) (sym (Reading.some-fault (checkFault ws .number) (checkFault ws .place) _ (h .2))))
+
+  -- 16
+  pub too-short : Passes ws → length out < length (systemWords ws) → Promise ws out (refused 16 0) out
+  unfolding translateFault roomFault _else-refuse_
+  too-short h l = refuses (λ z. omega arith) (rw (h, lt-ltb (length out) (length (systemWords ws)) l))
+
+  -- the words are written
+  pub writes : Passes ws → length (systemWords ws) ≤ length out → Promise ws out (written (length (systemWords ws))) (overlay out 0 (systemWords ws))
+  unfolding translate translated translateFault roomFault _else-refuse_ _else-answer_
+  writes h l =
+      let f = le-ltb (length out) (length (systemWords ws)) l in
+      (rw (h, f), (rw (h, f), λ m g. let e : m ≡ length (systemWords ws) = cc in rw (e, front-over out (systemWords ws) l) (shared-solutions ws h)))

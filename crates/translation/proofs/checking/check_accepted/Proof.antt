@@ -1,0 +1,58 @@
+-- The bounds that are kept are the model's, and what the walk over the constraints gives is check's answer.
+use mathlib.Core.Path.{_∙_}
+use native.Mathlib.Omega.{arith}
+use borrow.Author.Needs.{needs}
+use Rattle.models.proofs.Accepted.{few-words}
+use Rattle.translation.proofs.Sources.{sources-front}
+use Rattle.translation.proofs.Kept.{Kept, kept}
+use Rattle.translation.proofs.CheckWalk.{checks}
+use Rattle.translation.proofs.checking.check_accepted.Statement.{statement}
+use Rattle.translation.proofs.checking.check_accepted.Tie as tie
+
+bounds-kept : (c : tie.After-keep-bounds) → Kept (c .before .before .before .before .args .ws .now) (c .keep-bounds .result) (c .keep-bounds .last .1 .0) (c .keep-bounds .last .1 .1 .0)
+bounds-kept c = kept (c .before .before .before .before .pre) (c .keep-bounds .ensures)
+
+slice-aggregate-keep-bounds : tie.Need-slice-aggregate-keep-bounds
+slice-aggregate-keep-bounds c = search needs
+
+slice-aggregate-keep-bounds-2 : tie.Need-slice-aggregate-keep-bounds-2
+slice-aggregate-keep-bounds-2 c = search needs
+
+keep-bounds-requires : tie.Need-keep-bounds-requires
+keep-bounds-requires c κs = omega (arith, few-words (c .before .before .before .args .ws .now) (c .before .before .before .pre))
+
+slice-aggregate-check-blocks : tie.Need-slice-aggregate-check-blocks
+slice-aggregate-check-blocks c = search needs
+
+slice-aggregate-check-blocks-2 : tie.Need-slice-aggregate-check-blocks-2
+slice-aggregate-check-blocks-2 c = search needs
+
+count-sources-requires : tie.Need-count-sources-requires
+count-sources-requires c κs = search needs
+
+check-blocks-requires : tie.Need-check-blocks-requires
+check-blocks-requires c κs =
+    let ws = c .before .before .before .before .before .before .before .before .before .args .ws .now in
+    let k = bounds-kept (c .before .before .before .before .before) in
+    let n = few-words ws (c .before .before .before .before .before .before .before .before .before .pre) in
+    (n, k .few, omega (arith, c .count-sources .ensures, sources-front ws .0), k .lowers, k .uppers)
+
+returns : tie.Need-returns
+returns c =
+    let ws = c .before .before .before .before .before .before .before .before .before .before .args .ws .now in
+    let k = bounds-kept (c .before .before .before .before .before .before) in
+    c .check-blocks .ensures
+    ∙ rw (k .same, k .many, c .before .count-sources .ensures) (checks ws (c .before .before .before .before .before .before .before .before .before .before .pre))
+
+pub check-accepted-spec : {M : Type 1} → statement M
+check-accepted-spec =
+    tie.close
+    (tie.spec
+    slice-aggregate-keep-bounds
+    slice-aggregate-keep-bounds-2
+    keep-bounds-requires
+    slice-aggregate-check-blocks
+    slice-aggregate-check-blocks-2
+    count-sources-requires
+    check-blocks-requires
+    returns)

@@ -1,0 +1,139 @@
+-- The loop's invariant is `Checking`: what is left from here gives what the whole gives.
+use mathlib.Core.Path.{sym, _∙_}
+use Prim.Native.Nat.{_+_, _-_}
+use native.Mathlib.Omega.{arith}
+use lib.ListN.{length}
+use borrow.Author.Needs.{needs}
+use Rattle.words.proofs.Reading.{tail-is}
+use Rattle.models.proofs.Constraints.{headed}
+use Rattle.extremes.specs.Bounded.{boundsOf}
+use Rattle.translation.specs.Checked.{checked}
+use Rattle.translation.specs.Walk.{Costs}
+use Rattle.translation.proofs.OneBlock.{placed}
+use Rattle.translation.proofs.CheckWalk.{Checking, begun, skip, more, stop, done}
+use Rattle.translation.proofs.checking.check_blocks.Statement.{statement}
+use Rattle.translation.proofs.checking.check_blocks.Tie as tie
+
+abbrev Inv-loop : tie.InvT-loop
+Inv-loop ws ls us variables sources at₀ constraints₀ auxiliaries₀ rows₀ words₀ at constraints auxiliaries rows words = Checking (boundsOf ls us) variables ws (sources + 1) at constraints auxiliaries rows words
+
+abbrev μ-loop : tie.MeasureT-loop
+μ-loop ws ls us variables sources at₀ constraints₀ auxiliaries₀ rows₀ words₀ at constraints auxiliaries rows words = length ws - at
+
+-- what the constraint at the place costs
+costs : (c : tie.After-cost-of Inv-loop μ-loop) →
+    let l = c .before .before .before .before .before .before .before .loop in
+    let a = c .before .before .before .before .before .before .before .before .before .args in
+    Costs (boundsOf (a .ls .now) (a .us .now)) (a .variables + l .auxiliaries) (headed (a .ws .now) (l .at)) (c .cost-of .result)
+costs c = placed (rw (c .before .before .payload-of .ensures, tail-is (c .before .before .before .before .before .before .before .before .before .args .ws .now) (c .before .before .before .before .before .before .before .loop .at + 1)) at (c .cost-of .ensures))
+
+add-words : tie.Need-add-words Inv-loop μ-loop
+add-words c = search needs
+
+loop-holds : tie.Need-loop-holds Inv-loop μ-loop
+loop-holds c = begun _ _ _ _ (c .before .pre .1)
+
+mul-w : tie.Need-mul-w Inv-loop μ-loop
+mul-w c = search needs
+
+shared-slice-read-w : tie.Need-shared-slice-read-w Inv-loop μ-loop
+shared-slice-read-w c = search needs
+
+add-at : tie.Need-add-at Inv-loop μ-loop
+add-at c = search needs
+
+kind-of-requires : tie.Need-kind-of-requires Inv-loop μ-loop
+kind-of-requires c κs = search needs
+
+payload-of-requires : tie.Need-payload-of-requires Inv-loop μ-loop
+payload-of-requires c κs = search needs
+
+mul-cost-of : tie.Need-mul-cost-of Inv-loop μ-loop
+mul-cost-of c = search needs
+
+sub-cost-of : tie.Need-sub-cost-of Inv-loop μ-loop
+sub-cost-of c = search needs
+
+part-cost-of-start : tie.Need-part-cost-of-start Inv-loop μ-loop
+part-cost-of-start c = search needs
+
+part-cost-of-end : tie.Need-part-cost-of-end Inv-loop μ-loop
+part-cost-of-end c = search needs
+
+add-cost-of : tie.Need-add-cost-of Inv-loop μ-loop
+add-cost-of c = omega (arith, c .before .before .before .before .before .before .loop .inv .room)
+
+cost-of-requires : tie.Need-cost-of-requires Inv-loop μ-loop
+cost-of-requires c κs =
+    let s = c .before .before .before .before .before .before .before .before in
+    (omega (arith, c .before .before .before .before .before .before .loop .inv .room), s .pre .3, s .pre .4)
+
+returns : tie.Need-returns Inv-loop μ-loop
+unfolding checked
+returns c =
+    stop (c .before .before .before .before .before .before .before .before .before .loop .inv) (c .before .before .before .before .before .before .before .before .loop-test .taken) (sym (c .before .before .before .before .before .before .kind-of .ensures) ∙ c .before .before .before .before .before .if1 .taken) (costs (c .before .before)) (c .if2 .taken)
+
+add-constraints : tie.Need-add-constraints Inv-loop μ-loop
+add-constraints c = omega (arith, c .before .before .before .before .before .before .before .before .before .loop .inv .few, c .before .before .before .before .before .before .before .before .loop-test .taken, c .before .before .before .before .before .before .before .before .before .before .before .pre .0)
+
+add-auxiliaries : tie.Need-add-auxiliaries Inv-loop μ-loop
+add-auxiliaries c =
+    let s = c .before .before .before .before .before .before .before .before .before .before .before .before in
+    omega (arith, c .before .before .before .before .before .before .before .before .before .before .loop .inv .small, c .before .before .before .before .before .before .before .before .before .loop-test .taken, s .pre .0, s .pre .2, c .before .before .before .cost-of .ensures .small)
+
+add-rows : tie.Need-add-rows Inv-loop μ-loop
+add-rows c =
+    let s = c .before .before .before .before .before .before .before .before .before .before .before .before .before in
+    omega (arith, c .before .before .before .before .before .before .before .before .before .before .before .loop .inv .small, c .before .before .before .before .before .before .before .before .before .before .loop-test .taken, s .pre .0, s .pre .2, c .before .before .before .before .cost-of .ensures .small)
+
+add-words-2 : tie.Need-add-words-2 Inv-loop μ-loop
+add-words-2 c =
+    let s = c .before .before .before .before .before .before .before .before .before .before .before .before .before .before in
+    omega (arith, c .before .before .before .before .before .before .before .before .before .before .before .before .loop .inv .small, c .before .before .before .before .before .before .before .before .before .before .before .loop-test .taken, s .pre .0, s .pre .2, c .before .before .before .before .before .cost-of .ensures .small)
+
+loop-less : tie.Need-loop-less Inv-loop μ-loop
+loop-less c = search needs
+
+loop-again : tie.Need-loop-again Inv-loop μ-loop
+loop-again c =
+    more (c .before .before .before .before .before .before .before .before .before .before .before .before .loop .inv) (c .before .before .before .before .before .before .before .before .before .before .before .loop-test .taken) (sym (c .before .before .before .before .before .before .before .before .before .kind-of .ensures) ∙ c .before .before .before .before .before .before .before .before .if1 .taken) (costs (c .before .before .before .before .before)) (c .before .before .before .if2 .left)
+
+loop-less-2 : tie.Need-loop-less-2 Inv-loop μ-loop
+loop-less-2 c = search needs
+
+loop-again-2 : tie.Need-loop-again-2 Inv-loop μ-loop
+loop-again-2 c = skip (c .before .before .before .before .loop .inv) (c .before .before .before .loop-test .taken) (λ e. c .if1 .left (c .before .kind-of .ensures ∙ e))
+
+returns-2 : tie.Need-returns-2 Inv-loop μ-loop
+unfolding checked
+returns-2 c = done (c .before .loop .inv) (c .loop-test .left)
+
+pub check-blocks-spec : {M : Type 1} → statement M
+check-blocks-spec =
+    tie.close
+    (tie.spec
+    Inv-loop
+    μ-loop
+    add-words
+    loop-holds
+    mul-w
+    shared-slice-read-w
+    add-at
+    kind-of-requires
+    payload-of-requires
+    mul-cost-of
+    sub-cost-of
+    part-cost-of-start
+    part-cost-of-end
+    add-cost-of
+    cost-of-requires
+    returns
+    add-constraints
+    add-auxiliaries
+    add-rows
+    add-words-2
+    loop-less
+    loop-again
+    loop-less-2
+    loop-again-2
+    returns-2)

@@ -1,0 +1,37 @@
+-- Fault 12 before the block is laid, then 13 and 14 by what the block counts.
+use mathlib.Core.Path.{sym, _∙_}
+use borrow.Author.Needs.{needs}
+use Rattle.extremes.specs.Bounded.{boundsOf}
+use Rattle.translation.specs.Walk.{constraintOf}
+use Rattle.translation.proofs.OneBlock.{narrow, told, placed-block, wide-costs, laid-costs}
+use Rattle.translation.proofs.checking.cost_of.Statement.{statement}
+use Rattle.translation.proofs.checking.cost_of.Tie as tie
+
+too-wide-requires : tie.Need-too-wide-requires
+too-wide-requires c κs = search needs
+
+returns : tie.Need-returns
+returns c = wide-costs (sym (c .before .too-wide .ensures) ∙ c .if1 .taken)
+
+slice-aggregate-block : tie.Need-slice-aggregate-block
+slice-aggregate-block c = search needs
+
+block-requires : tie.Need-block-requires
+block-requires c κs = (c .before .before .before .before .pre .0, c .before .before .before .before .pre .1, c .before .before .before .before .pre .2, narrow _ (constraintOf (c .before .before .before .before .args .code) (c .before .before .before .before .args .args .now)) (sym (c .before .before .too-wide .ensures) ∙ c .before .if1 .left))
+
+fault-of-requires : tie.Need-fault-of-requires
+fault-of-requires c κs = search needs
+
+returns-2 : tie.Need-returns-2
+returns-2 c = laid-costs (sym (c .before .before .before .before .before .too-wide .ensures) ∙ c .before .before .before .before .if1 .left) (told (placed-block (boundsOf (c .before .before .before .before .before .before .before .args .ls .now) (c .before .before .before .before .before .before .before .args .us .now)) (c .before .before .before .before .before .before .before .args .first) (constraintOf (c .before .before .before .before .before .before .before .args .code) (c .before .before .before .before .before .before .before .args .args .now)) (c .before .before .block .ensures .0))) (c .before .before .block .ensures .1) (c .fault-of .ensures)
+
+pub cost-of-spec : {M : Type 1} → statement M
+cost-of-spec =
+    tie.close
+    (tie.spec
+    too-wide-requires
+    returns
+    slice-aggregate-block
+    block-requires
+    fault-of-requires
+    returns-2)

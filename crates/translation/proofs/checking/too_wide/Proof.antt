@@ -1,0 +1,38 @@
+-- The width of the first argument's bounds, for code 28 alone.
+use borrow.Author.Tests.{eq-eqb, ne-eqb}
+use borrow.Author.Needs.{needs}
+use Rattle.integers.proofs.Fits.{back}
+use Rattle.rules.specs.Check.{tooWide}
+use Rattle.translation.proofs.checking.too_wide.Statement.{statement}
+use Rattle.translation.proofs.checking.too_wide.Tie as tie
+
+var-at-requires : tie.Need-var-at-requires
+var-at-requires c κs = search needs
+
+bound-at-requires : tie.Need-bound-at-requires
+bound-at-requires c κs = search needs
+
+bound-at-requires-2 : tie.Need-bound-at-requires-2
+bound-at-requires-2 c κs = search needs
+
+width-of-requires : tie.Need-width-of-requires
+width-of-requires c κs = rw (back (c .before .bound-at .result) (c .before .bound-at .ok), c .before .bound-at .ensures, back (c .bound-at2 .result) (c .bound-at2 .ok), c .bound-at2 .ensures) (c .before .before .before .before .before .pre .0 _, c .before .before .before .before .before .pre .1 _)
+
+returns : tie.Need-returns
+unfolding tooWide
+returns c = rw (eq-eqb _ _ (c .before .before .before .before .if1 .taken), c .width-of .ensures, back (c .before .before .bound-at .result) (c .before .before .bound-at .ok), c .before .before .bound-at .ensures, back (c .before .bound-at2 .result) (c .before .bound-at2 .ok), c .before .bound-at2 .ensures, c .before .before .before .var-at .ensures)
+
+returns-2 : tie.Need-returns-2
+unfolding tooWide
+returns-2 c = rw (ne-eqb _ _ (c .if1 .left))
+
+pub too-wide-spec : {M : Type 1} → statement M
+too-wide-spec =
+    tie.close
+    (tie.spec
+    var-at-requires
+    bound-at-requires
+    bound-at-requires-2
+    width-of-requires
+    returns
+    returns-2)

@@ -1,0 +1,98 @@
+-- Three lists laid one after the other: the words of the variables, the blocks, the end word.
+use mathlib.Core.Path.{_≡_, refl, ap, _∙_}
+use native.Mathlib.Omega.{arith}
+use lib.ListN.{length}
+use borrow.Author.Needs.{needs}
+use Rattle.words.specs.Refusal.{accepted}
+use Rattle.words.proofs.Overlay.{length-overlay}
+use Rattle.models.specs.Reading.{readModel}
+use Rattle.models.proofs.Accepted.{few-words}
+use Rattle.sharing.proofs.Theorem.{never-too-many}
+use Rattle.sharing.proofs.Accepts.{passes-read}
+use Rattle.translation.proofs.Refusals.{blocks-pass, system-length, system-over}
+use Rattle.translation.proofs.Sources.{sources-front}
+use Rattle.translation.proofs.Kept.{Kept, kept}
+use Rattle.translation.proofs.writing.write_system.Statement.{statement}
+use Rattle.translation.proofs.writing.write_system.Tie as tie
+
+read : (c : tie.Start) → readModel (c .args .ws .now) ≡ accepted
+read c = passes-read (c .args .ws .now) (c .pre .0)
+
+bounds-kept : (c : tie.After-keep-bounds) → Kept (c .before .before .before .before .before .args .ws .now) (c .keep-bounds .result) (c .keep-bounds .last .1 .0) (c .keep-bounds .last .1 .1 .0)
+bounds-kept c = kept (read (c .before .before .before .before .before)) (c .keep-bounds .ensures)
+
+same-room : (c : tie.After-lay) → length (c .lay .last .0) ≡ length (c .before .before .before .before .before .before .before .before .before .before .before .args .out .now)
+same-room c = ap length (c .lay .ensures) ∙ length-overlay _ _ _
+
+slice-aggregate-keep-bounds : tie.Need-slice-aggregate-keep-bounds
+slice-aggregate-keep-bounds c = search needs
+
+slice-aggregate-keep-bounds-2 : tie.Need-slice-aggregate-keep-bounds-2
+slice-aggregate-keep-bounds-2 c = search needs
+
+keep-bounds-requires : tie.Need-keep-bounds-requires
+keep-bounds-requires c κs = omega (arith, few-words (c .before .before .before .before .args .ws .now) (read (c .before .before .before .before)))
+
+count-sources-requires : tie.Need-count-sources-requires
+count-sources-requires c κs = search needs
+
+slice-aggregate-lay : tie.Need-slice-aggregate-lay
+slice-aggregate-lay c = rw (c .before .before .count-sources .ensures, sources-front (c .before .before .before .before .before .before .before .before .before .before .args .ws .now) .1) refl
+
+lay-requires : tie.Need-lay-requires
+lay-requires c κs =
+    let ws = c .before .before .before .before .before .before .before .before .before .before .args .ws .now in
+    rw (c .before .before .count-sources .ensures, sources-front ws .1) (omega (arith, sources-front ws .0, few-words ws (read (c .before .before .before .before .before .before .before .before .before .before))))
+
+slice-aggregate-write-blocks : tie.Need-slice-aggregate-write-blocks
+slice-aggregate-write-blocks c = search needs
+
+slice-aggregate-write-blocks-2 : tie.Need-slice-aggregate-write-blocks-2
+slice-aggregate-write-blocks-2 c = search needs
+
+write-blocks-requires : tie.Need-write-blocks-requires
+write-blocks-requires c κs =
+    let ws = c .before .before .before .before .before .before .before .before .before .before .before .before .before .before .before .before .args .ws .now in
+    let k = bounds-kept (c .before .before .before .before .before .before .before .before .before .before .before) in
+    (k .few, k .lowers, k .uppers, rw (k .same, k .many) (blocks-pass ws (c .before .before .before .before .before .before .before .before .before .before .before .before .before .before .before .before .pre .0)), rw (k .same, k .many, c .before .before .before .before .before .before .before .before .count-sources .ensures, same-room (c .before .before .before .before .before)) (omega (arith, system-length ws, c .before .before .before .before .before .before .before .before .before .before .before .before .before .before .before .before .pre .1)))
+
+word-of-requires : tie.Need-word-of-requires
+word-of-requires c κs = search needs
+
+slice-aggregate-lay-2 : tie.Need-slice-aggregate-lay-2
+slice-aggregate-lay-2 c = search needs
+
+lay-requires-2 : tie.Need-lay-requires-2
+lay-requires-2 c κs =
+    let ws = c .before .before .before .before .before .before .before .before .before .before .before .before .before .before .before .before .before .before .before .before .before .before .args .ws .now in
+    let k = bounds-kept (c .before .before .before .before .before .before .before .before .before .before .before .before .before .before .before .before .before) in
+    omega (arith, rw (k .same, k .many, c .before .before .before .before .before .before .before .before .before .before .before .before .before .before .count-sources .ensures) at (c .before .before .before .before .before .write-blocks .ensures .0), system-length ws, never-too-many ws (c .before .before .before .before .before .before .before .before .before .before .before .before .before .before .before .before .before .before .before .before .before .before .pre .0))
+
+same-length : tie.Need-same-length
+same-length c = search needs
+
+returns : tie.Need-returns
+returns c =
+    let ws = c .before .before .before .before .before .before .before .before .before .before .before .before .before .before .before .before .before .before .before .before .before .before .before .before .before .args .ws .now in
+    let k = bounds-kept (c .before .before .before .before .before .before .before .before .before .before .before .before .before .before .before .before .before .before .before .before) in
+    c .before .before .lay2 .ensures
+    ∙ rw (c .before .before .before .before .before .before .before .before .write-blocks .ensures .1, c .before .before .before .before .before .before .before .before .write-blocks .ensures .0, c .before .before .before .before .before .before .before .before .before .before .before .before .before .before .lay .ensures, c .before .before .before .before .before .word-of .ensures, k .same, k .many, c .before .before .before .before .before .before .before .before .before .before .before .before .before .before .before .before .before .count-sources .ensures, sources-front ws .1) (system-over ws (c .before .before .before .before .before .before .before .before .before .before .before .before .before .before .before .before .before .before .before .before .before .before .before .before .before .args .out .now))
+
+pub write-system-spec : {M : Type 1} → statement M
+write-system-spec =
+    tie.close
+    (tie.spec
+    slice-aggregate-keep-bounds
+    slice-aggregate-keep-bounds-2
+    keep-bounds-requires
+    count-sources-requires
+    slice-aggregate-lay
+    lay-requires
+    slice-aggregate-write-blocks
+    slice-aggregate-write-blocks-2
+    write-blocks-requires
+    word-of-requires
+    slice-aggregate-lay-2
+    lay-requires-2
+    same-length
+    returns)

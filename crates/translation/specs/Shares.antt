@@ -1,0 +1,10 @@
+-- Demand 3 of the words that translate wrote: where its answer is that it wrote n words, the first n of the output share the model's solutions.
+use mathlib.Core.Path.{_≡_}
+use mathlib.Core.List.{List}
+use Prim.Native.Nat.{ℕ}
+use lib.ListN.{take}
+use Rattle.words.specs.Answer.{Answer, written}
+use Rattle.sharing.specs.SharedSolutions.{SharedSolutions}
+
+abbrev pub Shares : List ℕ → Answer → List ℕ → Type 0
+Shares model answer out = (n : ℕ) → answer ≡ written n → SharedSolutions model (take n out)

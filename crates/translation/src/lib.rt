@@ -1,0 +1,82 @@
+// Check and translate: what a model's row system needs, and its words.
+ghost use mathlib.Core.Path.{_≡_};
+ghost use lib.ListN.{length};
+ghost use Rattle.rules.specs.Check.{check as checkAnswer};
+ghost use Rattle.rules.specs.Translate.{translate as translateAnswer, translated};
+ghost use Rattle.translation.specs.Checked.{checked};
+ghost use Rattle.translation.specs.Written.{wrote};
+ghost use Rattle.translation.specs.Shares.{Shares};
+use checking::check_accepted;
+use words::Refusal;
+use words::fault;
+use writing::write_system;
+
+mod blocks;
+mod checking;
+mod writing;
+
+// What check answers.
+pub enum Checked {
+    Refused(Refusal),
+    // products count as rows; the words that translate needs
+    Counts {
+        variables: usize,
+        constraints: usize,
+        auxiliaries: usize,
+        rows: usize,
+        words: usize,
+    },
+}
+
+// What translate answers.
+pub enum Written {
+    Refused(Refusal),
+    // how many words it wrote
+    Words(usize),
+}
+
+// What one constraint costs: its fault, 0 for none, and what its block counts.
+pub struct Cost {
+    pub fault: u32,
+    pub auxiliaries: usize,
+    pub rows: usize,
+    pub words: usize,
+}
+
+// What the model needs, or its first fault of 1 to 14.
+pub fn check(ws: &[u32]) -> Checked
+    ensures { λ r. ⌜ checked r ≡ checkAnswer (now (ws .entry)) ⌝ }
+{
+    let read = modelreading::read_model(ws);
+    if read.number != fault::NONE {
+        return Checked::Refused(read);
+    }
+    check_accepted(ws)
+}
+
+// Writes the words of the row system to the front of the output; a refusal changes nothing.
+pub fn translate(ws: &[u32], out: &mut [u32]) -> Written
+    ensures answer { λ r. ⌜ wrote r ≡ translateAnswer (now (ws .entry)) (length (now (out .entry))) ⌝ }
+    ensures output { λ r. ⌜ now (out .exit) ≡ translated (now (ws .entry)) (now (out .entry)) ⌝ }
+    ensures shared { λ r. ⌜ Shares (now (ws .entry)) (wrote r) (now (out .exit)) ⌝ }
+{
+    match check(ws) {
+        Checked::Refused(refusal) => Written::Refused(refusal),
+        Checked::Counts {
+            variables: _,
+            constraints: _,
+            auxiliaries: _,
+            rows: _,
+            words,
+        } => {
+            if out.len() < words {
+                return Written::Refused(Refusal {
+                    number: fault::OUTPUT_TOO_SHORT,
+                    place: 0,
+                });
+            }
+            write_system(ws, out);
+            Written::Words(words)
+        }
+    }
+}
