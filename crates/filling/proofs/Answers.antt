@@ -23,14 +23,12 @@ use Rattle.sharing.proofs.Accepts.{passes-read}
 use Rattle.sharing.proofs.Theorem.{fill-counts, fill-satisfies}
 use Rattle.sharing.proofs.Judged.{judge-model-says}
 use Rattle.translation.proofs.Over.{front-over}
+use Rattle.translation.proofs.Refusals.{clash}
 use Rattle.filling.specs.Satisfied.{Satisfied}
 
 -- an answer of fill, the list afterwards, and that what was handed over satisfies the row system
 abbrev pub Gives : List ℕ → List ℤ → List ℤ → Answer → List ℤ → Type 0
 Gives ws vs out answer out′ = (answer ≡ fill ws vs (length out)) × ((out′ ≡ filled ws vs out) × Satisfied ws answer out′)
-
-pub clash : {A : Type 0} → _≡_ {A = ℕ} 0 1 → A
-clash e = absurd (omega arith)
 
 -- a refusal hands over nothing
 pub none-handed : (ws : List ℕ) {n p : ℕ} (out : List ℤ) → Satisfied ws (refused n p) out

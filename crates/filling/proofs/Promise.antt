@@ -1,27 +1,21 @@
 -- What check's answer says of fill's: a refusal that stands, or a model that passes.
 use mathlib.Core.Path.{_≡_, refl, sym, ap, _∙_}
-use mathlib.Core.Bool.{Bool, true, false}
-use mathlib.Core.List.{List, _++_}
-use Prim.Native.Nat.{ℕ, zero, suc, _+_, _≤_}
-use native.Mathlib.Omega.{arith}
-use lib.Dec.{eqb}
+use mathlib.Core.List.{List}
+use Prim.Native.Nat.{ℕ, zero, suc}
 use lib.IntN.{ℤ}
-use lib.ListN.{length, length-append, take}
+use lib.ListN.{length}
 use borrow.Author.Tests.{ne-eqb}
-use Rattle.words.specs.Overlay.{overlay}
 use Rattle.words.specs.Variables.{variables}
-use Rattle.words.specs.Refusal.{_at-place_, accepted, _else-refuse_}
+use Rattle.words.specs.Refusal.{_at-place_, _else-refuse_}
 use Rattle.words.specs.Answer.{Answer, refused, counts, written, refusedOr, _else-answer_}
 use Rattle.words.proofs.Reading as Reading
-use Rattle.rules.specs.Translation.{picks, auxiliaries, systemWords}
+use Rattle.rules.specs.Translation.{auxiliaries}
 use Rattle.rules.specs.Check.{checkFault, check}
 use Rattle.rules.specs.Fill.{fillFault, fill, filled}
-use Rattle.sharing.specs.SharedSolutions.{Passes, SatisfiesModel, SatisfiesRows}
-use Rattle.sharing.proofs.Theorem.{fill-counts, fill-satisfies}
-use Rattle.translation.proofs.Over.{front-over}
+use Rattle.sharing.specs.SharedSolutions.{Passes}
 use Rattle.translation.proofs.Refusals as Refusals
-use Rattle.filling.specs.Satisfied.{Satisfied}
-use Rattle.filling.proofs.Answers.{Gives, clash, none-handed}
+use Rattle.translation.proofs.Refusals.{some-refusal}
+use Rattle.filling.proofs.Answers.{Gives, none-handed}
 
 -- check's counts: the model passes, and how many variables and auxiliaries there are
 pub counted : (ws : List ℕ) {v c a r w : ℕ} → counts v c a r w ≡ check ws → Passes ws × (v ≡ length (variables ws)) × (a ≡ length (auxiliaries ws))
@@ -29,10 +23,6 @@ unfolding check _else-answer_
 counted ws e = let p = Refusals.counted ws e .0 in let g = rw p at e in (p, cc, cc)
 
 -- check's refusal stands
-some-refusal : {n p : ℕ} (v c a r w m q : ℕ) → refused n p ≡ refusedOr m q (counts v c a r w) → (n ≡ m) × (p ≡ q) × (m ≡ 0 → ⊥)
-some-refusal v c a r w zero q e = clash (cc)
-some-refusal v c a r w (suc m) q e = (cc, cc, λ z. omega arith)
-
 module _ (ws : List ℕ) (vs out : List ℤ) where
   refuses : {n p : ℕ} → (n ≡ 0 → ⊥) → fillFault ws vs (length out) ≡ (n at-place p) → Gives ws vs out (refused n p) out
   unfolding fill filled _else-answer_

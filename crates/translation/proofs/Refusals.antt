@@ -63,14 +63,14 @@ module _ (ws : List ℕ) where
 
 -- ---- check's answer
 
-clash : {A : Type 0} → _≡_ {A = ℕ} 0 1 → A
+pub clash : {A : Type 0} → _≡_ {A = ℕ} 0 1 → A
 clash e = absurd (omega arith)
 
 no-refusal : {v c a r w : ℕ} (n p : ℕ) (after : Answer) → counts v c a r w ≡ refusedOr n p after → (n ≡ 0) × (counts v c a r w ≡ after)
 no-refusal zero p after e = (refl, e)
 no-refusal (suc n) p after e = clash (cc)
 
-some-refusal : {n p : ℕ} (v c a r w m q : ℕ) → refused n p ≡ refusedOr m q (counts v c a r w) → (n ≡ m) × (p ≡ q) × (m ≡ 0 → ⊥)
+pub some-refusal : {n p : ℕ} (v c a r w m q : ℕ) → refused n p ≡ refusedOr m q (counts v c a r w) → (n ≡ m) × (p ≡ q) × (m ≡ 0 → ⊥)
 some-refusal v c a r w zero q e = clash (cc)
 some-refusal v c a r w (suc m) q e = (cc, cc, λ z. omega arith)
 
