@@ -22,7 +22,8 @@ use Rattle.rules.specs.Parts.{_─_≤0, bits, oneBit, chosen, products, one, n
 use Rattle.rules.specs.Rule.{block, rule, numberElement, variableElement, largest, inSet, inSetReified}
 use Rattle.laying.specs.Part.{blockParts, rowParts}
 use Rattle.laying.specs.Lists.{many, bitAt, belowAt}
-use Rattle.laying.proofs.Lists.{length-vars, length-nums, length-values, bits-parts, weighted-many, below-parts}
+use Rattle.rules.proofs.Lengths.{values-length}
+use Rattle.laying.proofs.Lists.{length-vars, length-nums, bits-parts, weighted-many, below-parts}
 use Rattle.extremes.specs.Bounded.{boundsOf}
 use Rattle.choiceblocks.specs.Rows.{numberAt, valueAt, memberAt, oneRow, sumRow, choiceRows, gates, gatedRows}
 use Rattle.choiceblocks.proofs.OneHot.{many-below, one-row, sum-row, chosen-row, choice-rows, gates-parts, gated-rows}
@@ -42,14 +43,14 @@ module _ (first : ℕ) where
   -- bits of the values that bounds leave: 24 and 28
   choice-block : (B : Bounds) (x : ℕ) (q : Row Ref) → blockParts first (block (bits (values B)) (oneBit (values B) ∷ chosen (λ j. j) (values B) 0 x ∷ q ∷ [])) ≡ many bitAt (width B) ++ (choiceRows (B .lower) first (width B) x ++ rowParts first q)
   unfolding blockParts flatMap
-  choice-block B x q = ap₂ (λ a b. a ++ b) (bits-parts (values B) ∙ ap (many bitAt) (length-values B)) (choice-rows first B x (q ∷ []) ∙ ap (λ ps. choiceRows (B .lower) first (width B) x ++ ps) (append-nil (rowParts first q)))
+  choice-block B x q = ap₂ (λ a b. a ++ b) (bits-parts (values B) ∙ ap (many bitAt) (values-length B)) (choice-rows first B x (q ∷ []) ∙ ap (λ ps. choiceRows (B .lower) first (width B) x ++ ps) (append-nil (rowParts first q)))
 
   number-row : (args : List ℕ) (I : Bounds) (c : ℕ) → let B = places I (size args 1) in
       rowParts first (chosen (nth +0 (nums args 1)) (values B) 0 c) ≡ sumRow (numberAt args (1 + count (B .lower)) first) (width B) c
   unfolding nums values
   number-row args I c =
       let B = places I (size args 1) in
-      chosen-row first (numberAt args (1 + count (B .lower)) first) (nth +0 (nums args 1)) (values B) 0 c (length-values B)
+      chosen-row first (numberAt args (1 + count (B .lower)) first) (nth +0 (nums args 1)) (values B) 0 c (values-length B)
       (weighted-many first (nth +0 (nums args 1)) (λ k. B .lower ⊕ pos k) (width B) 0
       ∙ many-below _ (numberAt args (1 + count (B .lower)) first) (width B) (λ k h. rw (element +0 (num args) I (size args 1) k h, add-zero first)))
 

@@ -20,7 +20,8 @@ use Rattle.rules.specs.Parts.{Z, bits, weighted, one, oneBit, chosen, products}
 use Rattle.laying.specs.Part.{Part, bound, head, term, constant, boundParts, termParts, rowParts}
 use Rattle.laying.specs.Lists.{many, oneAt, labelAt, bitAt, productAt}
 use Rattle.laying.proofs.Parts.{flatMap-append}
-use Rattle.laying.proofs.Lists.{length-values, length-weighted, bounds-append, bits-parts, terms-append, labels-parts, ones-parts, products-many}
+use Rattle.rules.proofs.Lengths.{values-length, weighted-length}
+use Rattle.laying.proofs.Lists.{bounds-append, bits-parts, terms-append, labels-parts, ones-parts, products-many}
 use Rattle.extremes.specs.Bounded.{boundsOf}
 use Rattle.choiceblocks.specs.Rows.{zeroAt, oneRow, sumRow, choiceRows, gates, gatedRows}
 
@@ -46,7 +47,7 @@ module _ (first : ℕ) where
   pub one-row : {A : Type 0} (ls : List A) → rowParts first (oneBit ls) ≡ oneRow first (length ls)
   unfolding oneBit rowParts oneRow
   one-row ls =
-      ap₂ (λ (n : ℕ) ps. head Kind.equal n ∷ (ps ++ (constant -1 ∷ []))) (length-weighted one ls 0) (rw (add-zero first) at (ones-parts first ls 0))
+      ap₂ (λ (n : ℕ) ps. head Kind.equal n ∷ (ps ++ (constant -1 ∷ []))) (weighted-length one ls 0) (rw (add-zero first) at (ones-parts first ls 0))
 
   pub sum-row : (f : ℕ → List Part) (ts : List (Term Ref)) (x : ℕ) {n : ℕ} → length ts ≡ n → termParts first ts ≡ many f n →
       rowParts first (sum=0 (ts ++ (-1 · source x ∷ [])) +0) ≡ sumRow f n x
@@ -59,14 +60,14 @@ module _ (first : ℕ) where
   pub chosen-row : {A : Type 0} (f : ℕ → List Part) (w : A → ℤ) (ls : List A) (k x : ℕ) {n : ℕ} → length ls ≡ n → termParts first (weighted w ls k) ≡ many f n →
       rowParts first (chosen w ls k x) ≡ sumRow f n x
   unfolding chosen
-  chosen-row f w ls k x l e = sum-row f (weighted w ls k) x (length-weighted w ls k ∙ l) e
+  chosen-row f w ls k x l e = sum-row f (weighted w ls k) x (weighted-length w ls k ∙ l) e
 
   -- bits of the values that bounds leave, and rows after those of the choice
   pub choice-rows : (B : Bounds) (x : ℕ) (qs : List (Row Ref)) →
       flatMap (rowParts first) (oneBit (values B) ∷ chosen (λ j. j) (values B) 0 x ∷ qs) ≡ choiceRows (B .lower) first (width B) x ++ flatMap (rowParts first) qs
   unfolding flatMap choiceRows
   choice-rows B x qs =
-      rw (one-row (values B), chosen-row (labelAt (B .lower) first) (λ j. j) (values B) 0 x (length-values B) (rw (add-zero first) at (labels-parts first B 0)), length-values B)
+      rw (one-row (values B), chosen-row (labelAt (B .lower) first) (λ j. j) (values B) 0 x (values-length B) (rw (add-zero first) at (labels-parts first B 0)), values-length B)
       (sym (append-assoc (oneRow first (width B)) (sumRow (labelAt (B .lower) first) (width B) x) (flatMap (rowParts first) qs)))
 
   -- labels by places, each with a variable; these stand from a place on

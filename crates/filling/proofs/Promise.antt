@@ -1,20 +1,20 @@
 -- What check's answer says of fill's: a refusal that stands, or a model that passes.
-use mathlib.Core.Path.{_≡_, refl, sym, ap, _∙_}
+use mathlib.Core.Path.{_≡_, sym, _∙_}
 use mathlib.Core.List.{List}
-use Prim.Native.Nat.{ℕ, zero, suc}
+use Prim.Native.Nat.{ℕ}
 use lib.IntN.{ℤ}
 use lib.ListN.{length}
 use borrow.Author.Tests.{ne-eqb}
 use Rattle.words.specs.Variables.{variables}
 use Rattle.words.specs.Refusal.{_at-place_, _else-refuse_}
-use Rattle.words.specs.Answer.{Answer, refused, counts, written, refusedOr, _else-answer_}
+use Rattle.words.specs.Answer.{refused, counts, _else-answer_}
 use Rattle.words.proofs.Reading as Reading
 use Rattle.rules.specs.Translation.{auxiliaries}
 use Rattle.rules.specs.Check.{checkFault, check}
 use Rattle.rules.specs.Fill.{fillFault, fill, filled}
 use Rattle.sharing.specs.SharedSolutions.{Passes}
 use Rattle.translation.proofs.Refusals as Refusals
-use Rattle.translation.proofs.Refusals.{some-refusal}
+use Rattle.translation.proofs.Refusals.{refused-first, some-refusal}
 use Rattle.filling.proofs.Answers.{Gives, none-handed}
 
 -- check's counts: the model passes, and how many variables and auxiliaries there are
@@ -26,11 +26,7 @@ counted ws e = let p = Refusals.counted ws e .0 in let g = rw p at e in (p, cc, 
 module _ (ws : List ℕ) (vs out : List ℤ) where
   refuses : {n p : ℕ} → (n ≡ 0 → ⊥) → fillFault ws vs (length out) ≡ (n at-place p) → Gives ws vs out (refused n p) out
   unfolding fill filled _else-answer_
-  refuses {n} {p} f e = (rw e (answers n f _), (rw (e, ne-eqb n 0 f), none-handed ws out))
-    where
-      answers : (n : ℕ) → (n ≡ 0 → ⊥) → (after : Answer) → refused n p ≡ refusedOr n p after
-      answers zero f after = absurd (f refl)
-      answers (suc n) f after = refl
+  refuses {n} {p} f e = (rw e (refused-first n p _ f), (rw (e, ne-eqb n 0 f), none-handed ws out))
 
   pub stands : {n p : ℕ} → refused n p ≡ check ws → Gives ws vs out (refused n p) out
   unfolding check fillFault _else-answer_ _else-refuse_

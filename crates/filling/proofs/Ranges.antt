@@ -19,9 +19,9 @@ use Rattle.sharing.proofs.Accepts.{passes-read}
 use Rattle.sharing.proofs.Theorem.{few-in-all, fill-counts}
 use Rattle.sharing.proofs.Ranges.{fill-in-range}
 use Rattle.extremes.proofs.Kept.{lowersKept, uppersKept, kept-bounds}
-use Rattle.picking.specs.Picked.{Ranged}
+use Rattle.picking.specs.Picked.{Ranged, picksFrom}
 use Rattle.picking.proofs.Writing.{value-ranged, ranged-left, ranged-right}
-use Rattle.picking.proofs.Picks.{picksFrom, picks-from}
+use Rattle.picking.proofs.Picks.{picks-from}
 
 near : (z : ℤ) → inRange z ≡ true → natAbs z ≤ 134217728
 near (pos n) e = omega (arithZ, says-range (pos n) .0 e .1)

@@ -35,25 +35,6 @@ module _ (args : List ℕ) (i : ℕ) where
   unfolding terms
   length-terms = listOf-length _ (size args i)
 
-pub length-values : (B : Bounds) → length (values B) ≡ width B
-unfolding values
-length-values B = listOf-length _ (width B)
-
-pub length-sources : (ts : List (Term ℕ)) → length (sources ts) ≡ length ts
-unfolding sources renameTerms
-length-sources [] = refl
-length-sources (t ∷ ts) = ap suc (length-sources ts)
-
-pub length-each : (c : ℤ) (vs : List ℕ) → length (each c vs) ≡ length vs
-unfolding each
-length-each c [] = refl
-length-each c (v ∷ vs) = ap suc (length-each c vs)
-
-pub length-weighted : {A : Type 0} (w : A → ℤ) (ls : List A) (k : ℕ) → length (weighted w ls k) ≡ length ls
-unfolding weighted
-length-weighted w [] k = refl
-length-weighted w (l ∷ ls) k = ap suc (length-weighted w ls (suc k))
-
 -- ---- bounds
 
 pub bounds-append : (As Bs : List Bounds) → boundParts (As ++ Bs) ≡ boundParts As ++ boundParts Bs

@@ -21,25 +21,21 @@ use Rattle.models.specs.Model.{constraints, constraintsFrom, builtin}
 use Rattle.rules.specs.Pick.{pick}
 use Rattle.rules.specs.Translation.{bounds, picks}
 use Rattle.extremes.specs.Bounded.{boundsOf}
-use Rattle.picking.specs.Picked.{Picked, Ranged, picksOf}
+use Rattle.picking.specs.Picked.{Picked, Ranged, picksOf, picksFrom}
 use Rattle.picking.proofs.Writing.{ranged-left, ranged-right}
 
 module _ (ls us vs : List ℤ) where
-  -- for the constraints among words that start at place p
-  unfoldable pub picksFrom : ℕ → List ℕ → List ℤ
-  picksFrom p ws = flatMap (λ c. pick (boundsOf ls us) (value vs) (builtin c)) (constraintsFrom p ws)
-
   -- of all words, where the lists hold the bounds of the variables
-  pub picks-from : (ws : List ℕ) → boundsOf ls us ≡ boundsIn (variables ws) → picks ws vs ≡ picksFrom 0 ws
+  pub picks-from : (ws : List ℕ) → boundsOf ls us ≡ boundsIn (variables ws) → picks ws vs ≡ picksFrom ls us vs 0 ws
   unfolding picksFrom picks constraints bounds
   picks-from ws e = ap (λ β. flatMap (λ c. pick β (value vs) (builtin c)) (constraintsFrom 0 ws)) (sym e)
 
   -- the word at a place: a constraint, or none
-  head-picks : (p w : ℕ) (ws : List ℕ) → eqb (kind w) Kind.constraint ≡ true → picksFrom p (w ∷ ws) ≡ picksOf ls us vs (payload w) ws ++ picksFrom (p + 1) ws
+  head-picks : (p w : ℕ) (ws : List ℕ) → eqb (kind w) Kind.constraint ≡ true → picksFrom ls us vs p (w ∷ ws) ≡ picksOf ls us vs (payload w) ws ++ picksFrom ls us vs (p + 1) ws
   unfolding picksFrom constraintsFrom flatMap builtin
   head-picks p w ws e = rw e
 
-  head-none : (p w : ℕ) (ws : List ℕ) → eqb (kind w) Kind.constraint ≡ false → picksFrom p (w ∷ ws) ≡ picksFrom (p + 1) ws
+  head-none : (p w : ℕ) (ws : List ℕ) → eqb (kind w) Kind.constraint ≡ false → picksFrom ls us vs p (w ∷ ws) ≡ picksFrom ls us vs (p + 1) ws
   unfolding picksFrom constraintsFrom flatMap
   head-none p w ws e = rw e
 
@@ -49,13 +45,13 @@ module _ (ls us vs : List ℤ) where
     split l = rw add-one (drop-cons ws p 0 l)
 
     pub picks-here : p < length ws → eqb (kind (wordAt ws p)) Kind.constraint ≡ true →
-        picksFrom p (drop p ws) ≡ picksOf ls us vs (payload (wordAt ws p)) (drop (p + 1) ws) ++ picksFrom (p + 1) (drop (p + 1) ws)
-    picks-here l e = ap (picksFrom p) (split l) ∙ head-picks p (wordAt ws p) (drop (p + 1) ws) e
+        picksFrom ls us vs p (drop p ws) ≡ picksOf ls us vs (payload (wordAt ws p)) (drop (p + 1) ws) ++ picksFrom ls us vs (p + 1) (drop (p + 1) ws)
+    picks-here l e = ap (picksFrom ls us vs p) (split l) ∙ head-picks p (wordAt ws p) (drop (p + 1) ws) e
 
-    pub picks-later : p < length ws → eqb (kind (wordAt ws p)) Kind.constraint ≡ false → picksFrom p (drop p ws) ≡ picksFrom (p + 1) (drop (p + 1) ws)
-    picks-later l e = ap (picksFrom p) (split l) ∙ head-none p (wordAt ws p) (drop (p + 1) ws) e
+    pub picks-later : p < length ws → eqb (kind (wordAt ws p)) Kind.constraint ≡ false → picksFrom ls us vs p (drop p ws) ≡ picksFrom ls us vs (p + 1) (drop (p + 1) ws)
+    picks-later l e = ap (picksFrom ls us vs p) (split l) ∙ head-none p (wordAt ws p) (drop (p + 1) ws) e
 
-    pub picks-end : length ws ≤ p → picksFrom p (drop p ws) ≡ []
+    pub picks-end : length ws ≤ p → picksFrom ls us vs p (drop p ws) ≡ []
     unfolding picksFrom constraintsFrom flatMap
     picks-end l = rw (drop-of-length-le ws l)
 

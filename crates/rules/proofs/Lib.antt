@@ -1,2 +1,3 @@
--- Table T of document 01, computed.
+-- Table T of document 01, computed; the lengths of a rule's parts.
 pub mod TableT
+pub mod Lengths

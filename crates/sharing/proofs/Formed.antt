@@ -29,7 +29,8 @@ use Rattle.rules.specs.Check.{tooWide}
 use Rattle.rules.specs.Rule.{block, rule, linked, signed, notEqual, lessEqualReified, absolute, larger, linNotEqual, linEqualReified, linLessEqualReified, exclusiveOr, numberElement, variableElement, largest, inSet, inSetReified}
 use Rattle.sharing.proofs.OneHot.{bits-length}
 use Rattle.sharing.proofs.Members.{members-length}
-use Rattle.sharing.proofs.Lengths.{sources-length, each-length, weighted-length, values-length, value-place, places-length, all-nth, members-in}
+use Rattle.rules.proofs.Lengths.{sources-length, each-length, weighted-length, values-length}
+use Rattle.sharing.proofs.Places.{value-place, places-length, all-nth, members-in}
 
 -- ---- what well formed means, over n variables of the model and m auxiliaries of the block
 

@@ -15,7 +15,7 @@ pub mod Elements
 pub mod Maximum
 pub mod Sets
 pub mod Codes
-pub mod Lengths
+pub mod Places
 pub mod Formed
 pub mod Sizes
 pub mod Numbering

@@ -16,7 +16,8 @@ use Rattle.rules.specs.Parts.{_─_≤0, _─_=0, oneBit, chosen, products}
 use Rattle.rules.specs.Rule.{rule, linked, signed, notEqual, lessEqualReified, absolute, larger, linNotEqual, linEqualReified, linLessEqualReified, exclusiveOr, numberElement, variableElement, largest, inSet, inSetReified}
 use Rattle.sharing.proofs.OneHot.{bits-length}
 use Rattle.sharing.proofs.Members.{members-length}
-use Rattle.sharing.proofs.Lengths.{sources-length, each-length, weighted-length, places-length}
+use Rattle.rules.proofs.Lengths.{sources-length, each-length, weighted-length}
+use Rattle.sharing.proofs.Places.{places-length}
 
 -- the number of argument words of a constraint
 unfoldable pub builtinWords : Builtin → ℕ

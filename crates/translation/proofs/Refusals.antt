@@ -70,6 +70,11 @@ no-refusal : {v c a r w : ℕ} (n p : ℕ) (after : Answer) → counts v c a r w
 no-refusal zero p after e = (refl, e)
 no-refusal (suc n) p after e = clash (cc)
 
+-- a fault is answered before all else
+pub refused-first : (n p : ℕ) (after : Answer) → (n ≡ 0 → ⊥) → refused n p ≡ refusedOr n p after
+refused-first zero p after f = absurd (f refl)
+refused-first (suc n) p after f = refl
+
 pub some-refusal : {n p : ℕ} (v c a r w m q : ℕ) → refused n p ≡ refusedOr m q (counts v c a r w) → (n ≡ m) × (p ≡ q) × (m ≡ 0 → ⊥)
 some-refusal v c a r w zero q e = clash (cc)
 some-refusal v c a r w (suc m) q e = (cc, cc, λ z. omega arith)
@@ -87,11 +92,7 @@ Promise ws out answer out′ = (answer ≡ translate ws (length out)) × ((out�
 module _ (ws out : List ℕ) where
   refuses : {n p : ℕ} → (n ≡ 0 → ⊥) → translateFault ws (length out) ≡ (n at-place p) → Promise ws out (refused n p) out
   unfolding translate translated _else-answer_
-  refuses {n} {p} f e = (rw e (answers n f), (rw (e, ne-eqb n 0 f), λ m g. clash (cc)))
-    where
-      answers : (n : ℕ) → (n ≡ 0 → ⊥) → refused n p ≡ refusedOr n p (written (length (systemWords ws)))
-      answers zero f = absurd (f refl)
-      answers (suc n) f = refl
+  refuses {n} {p} f e = (rw e (refused-first n p _ f), (rw (e, ne-eqb n 0 f), λ m g. clash (cc)))
 
   -- check's refusal stands
   pub stands : {n p : ℕ} → refused n p ≡ check ws → Promise ws out (refused n p) out

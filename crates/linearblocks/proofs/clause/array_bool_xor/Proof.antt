@@ -8,7 +8,8 @@ use Rattle.rules.specs.Parts.{each}
 use Rattle.rules.specs.Rule.{rule}
 use Rattle.laying.specs.Part.{rowParts}
 use Rattle.laying.proofs.Parts.{went-as}
-use Rattle.laying.proofs.Lists.{length-each, length-vars, each-parts}
+use Rattle.rules.proofs.Lengths.{each-length}
+use Rattle.laying.proofs.Lists.{length-vars, each-parts}
 use Rattle.linearblocks.proofs.Rows.{row-went, one-row}
 use Rattle.linearblocks.proofs.clause.array_bool_xor.Statement.{statement}
 use Rattle.linearblocks.proofs.clause.array_bool_xor.Tie as tie
@@ -33,7 +34,7 @@ unfolding rule rowParts
 returns c =
     let ws = c .before .before .before .before .before .before .before .before .before .before .before .before .before .before .before .args .args .now in
     let ts = each +1 (vars ws 0) in
-    (λ first β. went-as (one-row first _) (row-went first ts (length-each +1 (vars ws 0) ∙ length-vars ws 0) (each-parts first +1 ws 0) (rw (c .before .before .before .before .before .before .before .before .before .before .before .size-at .ensures) at (c .before .before .before .before .before .before .before .before .before .before .lay-head .ensures .0)) (c .before .before .before .before .before .before .lay-each .ensures .0) (c .before .before .lay-constant .ensures .0)), omega (arith, c .before .before .before .before .before .before .before .before .before .before .lay-head .ensures .1, c .before .before .before .before .before .before .lay-each .ensures .1, c .before .before .lay-constant .ensures .1))
+    (λ first β. went-as (one-row first _) (row-went first ts (each-length +1 (vars ws 0) ∙ length-vars ws 0) (each-parts first +1 ws 0) (rw (c .before .before .before .before .before .before .before .before .before .before .before .size-at .ensures) at (c .before .before .before .before .before .before .before .before .before .before .lay-head .ensures .0)) (c .before .before .before .before .before .before .lay-each .ensures .0) (c .before .before .lay-constant .ensures .0)), omega (arith, c .before .before .before .before .before .before .before .before .before .before .lay-head .ensures .1, c .before .before .before .before .before .before .lay-each .ensures .1, c .before .before .lay-constant .ensures .1))
 
 pub array-bool-xor-spec : {M : Type 1} → statement M
 array-bool-xor-spec =

@@ -11,7 +11,8 @@ use Rattle.rules.specs.Parts.{each}
 use Rattle.rules.specs.Rule.{rule}
 use Rattle.laying.specs.Part.{rowParts}
 use Rattle.laying.proofs.Parts.{went-then, went-as}
-use Rattle.laying.proofs.Lists.{length-each, length-vars, terms-append, each-parts}
+use Rattle.rules.proofs.Lengths.{each-length}
+use Rattle.laying.proofs.Lists.{length-vars, terms-append, each-parts}
 use Rattle.linearblocks.proofs.Rows.{row-went, one-row}
 use Rattle.linearblocks.proofs.clause.bool_clause.Statement.{statement}
 use Rattle.linearblocks.proofs.clause.bool_clause.Tie as tie
@@ -57,7 +58,7 @@ returns c =
     let h = rw (m, c .before .before .before .before .before .before .before .before .before .before .before .before .before .before .before .before .size-at2 .ensures) at (c .before .before .before .before .before .before .before .before .before .before .before .before .before .before .before .lay-head .ensures) in
     let u = rw (c .before .before .before .before .before .before .before .before .before .before .before .before .before .before .before .before .before .before .before .past-at .ensures) at (c .before .before .before .before .before .before .before .lay-each2 .ensures) in
     let k = rw (read (c .before .before .before .one-less .ok) (c .before .before .before .one-less .ensures), m, ← length-vars ws (past ws 0)) at (c .before .before .lay-constant .ensures) in
-    (λ first β. went-as (one-row first _) (row-went first (xs ++ ys) (simp (length-append, length-each, length-vars)) (terms-append first xs ys ∙ rw (each-parts first -1 ws 0, each-parts first +1 ws (past ws 0))) (h .0) (went-then (c .before .before .before .before .before .before .before .before .before .before .before .lay-each .ensures .0) (u .0)) (k .0)), omega (arith, h .1, c .before .before .before .before .before .before .before .before .before .before .before .lay-each .ensures .1, u .1, k .1))
+    (λ first β. went-as (one-row first _) (row-went first (xs ++ ys) (simp (length-append, each-length, length-vars)) (terms-append first xs ys ∙ rw (each-parts first -1 ws 0, each-parts first +1 ws (past ws 0))) (h .0) (went-then (c .before .before .before .before .before .before .before .before .before .before .before .lay-each .ensures .0) (u .0)) (k .0)), omega (arith, h .1, c .before .before .before .before .before .before .before .before .before .before .before .lay-each .ensures .1, u .1, k .1))
 
 pub bool-clause-spec : {M : Type 1} → statement M
 bool-clause-spec =

@@ -11,7 +11,8 @@ use Rattle.rules.specs.Block.{source, numbered}
 use Rattle.rules.specs.Parts.{each}
 use Rattle.laying.specs.Part.{rowParts}
 use Rattle.laying.proofs.Parts.{went-then}
-use Rattle.laying.proofs.Lists.{length-each, length-vars, each-parts}
+use Rattle.rules.proofs.Lengths.{each-length}
+use Rattle.laying.proofs.Lists.{length-vars, each-parts}
 use Rattle.linearblocks.proofs.Rows.{row-went, last-term}
 use Rattle.linearblocks.proofs.clause.lay_all.Statement.{statement}
 use Rattle.linearblocks.proofs.clause.lay_all.Tie as tie
@@ -47,7 +48,7 @@ returns c =
     let ts = each +1 (vars ws 0) in
     let t = -1 · source (c .before .before .before .before .before .before .before .before .before .before .before .before .before .before .before .before .before .before .before .before .args .r) in
     let k = rw (read (c .before .before .before .one-less .ok) (c .before .before .before .one-less .ensures), c .before .before .before .before .before .before .before .before .before .before .before .before .before .before .before .before .before .size-at .ensures, ← length-vars ws 0) at (c .before .before .lay-constant .ensures) in
-    (λ first. row-went first (ts ++ (t ∷ [])) (simp (length-append, length-each, length-vars)) (last-term first ts t (each-parts first +1 ws 0)) (rw (c .before .before .before .before .before .before .before .before .before .before .before .before .before .before .before .before .before .size-at .ensures) at (c .before .before .before .before .before .before .before .before .before .before .before .before .before .before .before .lay-head .ensures .0)) (went-then (c .before .before .before .before .before .before .before .before .before .before .before .lay-each .ensures .0) (c .before .before .before .before .before .before .before .lay-term .ensures .0)) (k .0), omega (arith, c .before .before .before .before .before .before .before .before .before .before .before .before .before .before .before .lay-head .ensures .1, c .before .before .before .before .before .before .before .before .before .before .before .lay-each .ensures .1, c .before .before .before .before .before .before .before .lay-term .ensures .1, k .1))
+    (λ first. row-went first (ts ++ (t ∷ [])) (simp (length-append, each-length, length-vars)) (last-term first ts t (each-parts first +1 ws 0)) (rw (c .before .before .before .before .before .before .before .before .before .before .before .before .before .before .before .before .before .size-at .ensures) at (c .before .before .before .before .before .before .before .before .before .before .before .before .before .before .before .lay-head .ensures .0)) (went-then (c .before .before .before .before .before .before .before .before .before .before .before .lay-each .ensures .0) (c .before .before .before .before .before .before .before .lay-term .ensures .0)) (k .0), omega (arith, c .before .before .before .before .before .before .before .before .before .before .before .before .before .before .before .lay-head .ensures .1, c .before .before .before .before .before .before .before .before .before .before .before .lay-each .ensures .1, c .before .before .before .before .before .before .before .lay-term .ensures .1, k .1))
 
 pub lay-all-spec : {M : Type 1} → statement M
 lay-all-spec =

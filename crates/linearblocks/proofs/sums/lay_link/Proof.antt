@@ -12,7 +12,8 @@ use Rattle.rules.specs.Block.{aux, numbered}
 use Rattle.rules.specs.Parts.{sources}
 use Rattle.laying.specs.Part.{rowParts}
 use Rattle.laying.proofs.Parts.{went-then}
-use Rattle.laying.proofs.Lists.{length-sources, length-terms, terms-parts}
+use Rattle.rules.proofs.Lengths.{sources-length}
+use Rattle.laying.proofs.Lists.{length-terms, terms-parts}
 use Rattle.linearblocks.specs.Rows.{link}
 use Rattle.linearblocks.proofs.Rows.{row-went, last-term}
 use Rattle.linearblocks.proofs.sums.lay_link.Statement.{statement}
@@ -44,7 +45,7 @@ unfolding rowParts link numbered
 returns c =
     let ws = c .before .before .before .before .before .before .before .before .before .before .before .before .before .before .before .before .before .before .before .args .args .now in
     let first = c .before .before .before .before .before .before .before .before .before .before .before .before .before .before .before .before .before .before .before .args .first in
-    (row-went first (sources (terms ws 0) ++ (-1 · aux 0 ∷ [])) (simp (length-append, length-sources, length-terms)) (last-term first (sources (terms ws 0)) (-1 · aux 0) (terms-parts first ws 0)) (rw (c .before .before .before .before .before .before .before .before .before .before .before .before .before .before .before .size-at .ensures) at (c .before .before .before .before .before .before .before .before .before .before .before .before .before .before .lay-head .ensures .0)) (went-then (c .before .before .before .before .before .before .before .before .before .before .lay-terms .ensures .0) (rw (add-zero first) (c .before .before .before .before .before .before .lay-term .ensures .0))) (c .before .before .lay-minus-constant .ensures .0), omega (arith, c .before .before .before .before .before .before .before .before .before .before .before .before .before .before .lay-head .ensures .1, c .before .before .before .before .before .before .before .before .before .before .lay-terms .ensures .1, c .before .before .before .before .before .before .lay-term .ensures .1, c .before .before .lay-minus-constant .ensures .1))
+    (row-went first (sources (terms ws 0) ++ (-1 · aux 0 ∷ [])) (simp (length-append, sources-length, length-terms)) (last-term first (sources (terms ws 0)) (-1 · aux 0) (terms-parts first ws 0)) (rw (c .before .before .before .before .before .before .before .before .before .before .before .before .before .before .before .size-at .ensures) at (c .before .before .before .before .before .before .before .before .before .before .before .before .before .before .lay-head .ensures .0)) (went-then (c .before .before .before .before .before .before .before .before .before .before .lay-terms .ensures .0) (rw (add-zero first) (c .before .before .before .before .before .before .lay-term .ensures .0))) (c .before .before .lay-minus-constant .ensures .0), omega (arith, c .before .before .before .before .before .before .before .before .before .before .before .before .before .before .lay-head .ensures .1, c .before .before .before .before .before .before .before .before .before .before .lay-terms .ensures .1, c .before .before .before .before .before .before .lay-term .ensures .1, c .before .before .lay-minus-constant .ensures .1))
 
 pub lay-link-spec : {M : Type 1} → statement M
 lay-link-spec =

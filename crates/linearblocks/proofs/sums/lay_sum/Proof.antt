@@ -4,7 +4,8 @@ use native.Mathlib.Omega.{arith}
 use borrow.Author.Needs.{needs}
 use Rattle.models.specs.Model.{terms}
 use Rattle.rules.specs.Parts.{sources}
-use Rattle.laying.proofs.Lists.{length-sources, length-terms, terms-parts}
+use Rattle.rules.proofs.Lengths.{sources-length}
+use Rattle.laying.proofs.Lists.{length-terms, terms-parts}
 use Rattle.linearblocks.proofs.Rows.{row-went}
 use Rattle.linearblocks.proofs.sums.lay_sum.Statement.{statement}
 use Rattle.linearblocks.proofs.sums.lay_sum.Tie as tie
@@ -27,7 +28,7 @@ same-length c = search needs
 returns : tie.Need-returns
 returns c =
     let ws = c .before .before .before .before .before .before .before .before .before .before .before .before .before .before .before .args .args .now in
-    (λ first. row-went first (sources (terms ws 0)) (length-sources (terms ws 0) ∙ length-terms ws 0) (terms-parts first ws 0) (rw (c .before .before .before .before .before .before .before .before .before .before .before .size-at .ensures) at (c .before .before .before .before .before .before .before .before .before .before .lay-head .ensures .0)) (c .before .before .before .before .before .before .lay-terms .ensures .0) (c .before .before .lay-minus-constant .ensures .0), omega (arith, c .before .before .before .before .before .before .before .before .before .before .lay-head .ensures .1, c .before .before .before .before .before .before .lay-terms .ensures .1, c .before .before .lay-minus-constant .ensures .1))
+    (λ first. row-went first (sources (terms ws 0)) (sources-length (terms ws 0) ∙ length-terms ws 0) (terms-parts first ws 0) (rw (c .before .before .before .before .before .before .before .before .before .before .before .size-at .ensures) at (c .before .before .before .before .before .before .before .before .before .before .lay-head .ensures .0)) (c .before .before .before .before .before .before .lay-terms .ensures .0) (c .before .before .lay-minus-constant .ensures .0), omega (arith, c .before .before .before .before .before .before .before .before .before .before .lay-head .ensures .1, c .before .before .before .before .before .before .lay-terms .ensures .1, c .before .before .lay-minus-constant .ensures .1))
 
 pub lay-sum-spec : {M : Type 1} → statement M
 lay-sum-spec =

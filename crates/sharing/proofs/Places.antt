@@ -1,38 +1,20 @@
--- The lengths of a rule's parts; what holds at the places of a list, and the place of a value among those of its bounds.
-use mathlib.Core.Path.{_≡_, refl, ap}
-use mathlib.Core.List.{List, [], _∷_, map}
-use Prim.Native.Nat.{ℕ, suc, _≤_, _<_}
+-- The places of a list inside bounds: how many there are, what holds at them, and the place of a value among those of its bounds.
+use mathlib.Core.Path.{_≡_}
+use mathlib.Core.List.{List}
+use Prim.Native.Nat.{ℕ, _≤_, _<_}
 use native.Mathlib.Omega.{arith}
 use lib.IntN.{ℤ}
-use lib.ListN.{length, length-map}
+use lib.ListN.{length}
 use Rattle.integers.specs.Number.{_⊖_, _⊕_, count, +1}
 use Rattle.integers.specs.Bounds.{_to_, width, values}
-use Rattle.integers.specs.Terms.{Term}
 use Rattle.integers.specs.declared.Bounds.{Bounds}
 use Rattle.integers.proofs.Linear.{_⊑_, linear}
-use Rattle.integers.proofs.Lists.{all-members, listOf-length}
+use Rattle.integers.proofs.Lists.{all-members}
 use Rattle.integers.proofs.Tests.{In, All}
-use Rattle.rowsystems.specs.Row.{renameTerms}
-use Rattle.rules.specs.Parts.{sources, each, weighted, nth, places, members}
+use Rattle.rules.specs.Parts.{nth, places, members}
+use Rattle.rules.proofs.Lengths.{values-length}
 use Rattle.sharing.proofs.Members.{members-member}
 use Rattle.sharing.proofs.Elements.{nth-all, labels-place}
-
-pub sources-length : (ts : List (Term ℕ)) → length (sources ts) ≡ length ts
-unfolding sources renameTerms
-sources-length ts = length-map ts _
-
-pub each-length : (c : ℤ) (vs : List ℕ) → length (each c vs) ≡ length vs
-unfolding each
-each-length c vs = length-map vs _
-
-pub weighted-length : {A : Type 0} (w : A → ℤ) (ls : List A) (k : ℕ) → length (weighted w ls k) ≡ length ls
-unfolding weighted
-weighted-length w [] k = refl
-weighted-length w (l ∷ ls) k = ap suc (weighted-length w ls (suc k))
-
-pub values-length : (B : Bounds) → length (values B) ≡ width B
-unfolding values
-values-length B = listOf-length _ (width B)
 
 pub places-length : (I : Bounds) (n : ℕ) → length (values (places I n)) ≤ n
 unfolding width places
