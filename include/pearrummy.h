@@ -8,24 +8,56 @@
 #include <stddef.h>
 #include <stdint.h>
 
-/* What a judge says. */
+/* What a judge or fill says. */
 enum {
-    PEARRUMMY_REFUSED = 0,       /* the words or the number of values have a fault: its number in `fault`, its place in `at` */
+    PEARRUMMY_REFUSED = 0,       /* the words, the number of values or the lent list have a fault: its number in `fault`, its place in `at` */
     PEARRUMMY_HOLDS = 1,         /* the values keep every bound, and every constraint or row is true of them */
     PEARRUMMY_OUT_OF_BOUNDS = 2, /* the first variable out of bounds, counted from 0, in `at` */
     PEARRUMMY_FALSE = 3          /* the first false constraint or row, counted from 0, in `at` */
 };
 
+/* `fault` is 0 where nothing is refused. */
 struct pearrummy_judgement {
     uint32_t said;
     uint32_t fault;
     size_t at;
 };
 
+/* What check answers: `fault` 0 and the counts, or a fault, its place, and counts of 0. Products count as rows; `words` is what translate writes. */
+struct pearrummy_counts {
+    uint32_t fault;
+    size_t place;
+    size_t variables;
+    size_t constraints;
+    size_t auxiliaries;
+    size_t rows;
+    size_t words;
+};
+
+/* What translate answers: `fault` 0 and how many words it wrote, or a fault, its place, and 0 words. */
+struct pearrummy_written {
+    uint32_t fault;
+    size_t place;
+    size_t words;
+};
+
+/* Check over bytes, four to a word, lowest first, 1 to 3 spare bytes left off: the number of the refusal, 0 if accepted. */
+uint32_t pearrummy_check_bytes(const uint8_t *bytes, size_t bytes_count);
+
+/* Checks a model; faults 1 to 14. */
+struct pearrummy_counts pearrummy_check(const uint32_t *words, size_t words_count);
+
+/* Writes the row system of a model to the front of `out`; faults 1 to 14 and 16. Words past the end keep their values; a refusal changes nothing. */
+struct pearrummy_written pearrummy_translate(const uint32_t *words, size_t words_count, uint32_t *out, size_t out_count);
+
 /* Judges values of a model's variables; faults 1 to 11 and 15. */
 struct pearrummy_judgement pearrummy_judge_model(const uint32_t *words, size_t words_count, const int32_t *values, size_t values_count);
 
 /* Judges values of a row system's variables and auxiliaries; faults 1 to 5, 9 to 11, 14, 15 and 17. */
 struct pearrummy_judgement pearrummy_judge_rows(const uint32_t *words, size_t words_count, const int32_t *values, size_t values_count);
+
+/* Judges values of a model's variables and, where they hold, writes them and the auxiliaries to the front of `out` and puts into `at` how many
+ * there are; faults 1 to 16. Values past the end keep theirs; any other answer changes nothing. */
+struct pearrummy_judgement pearrummy_fill(const uint32_t *words, size_t words_count, const int32_t *values, size_t values_count, int32_t *out, size_t out_count);
 
 #endif

@@ -1,3 +1,3 @@
--- What the contracts cite: check over bytes, and what a judge answers a host.
+-- What the contracts cite: check over bytes, and the structs that the calls hand a host.
 pub mod Bytes
-pub mod Judgement
+pub mod Structs

@@ -1,13 +1,34 @@
-// Calls for a host written in C: words of bytes, and the judges over lists of words and values.
+// Calls for a host written in C: the five calls over lists of words and values, and check over bytes.
 ghost use mathlib.Core.Path.{_≡_};
+ghost use Prim.Native.Nat.{_<_};
+ghost use lib.ListN.{length, getD};
+ghost use Rattle.words.specs.Answer.{refusalNumber};
+ghost use Rattle.words.specs.Overlay.{overlay};
 ghost use Rattle.words.specs.Verdict.{verdict};
 ghost use Rattle.models.specs.JudgeModel.{judgeModel};
 ghost use Rattle.rowsystems.specs.JudgeRows.{judgeRows};
-ghost use Rattle.host.specs.Bytes.{bytesWord};
-ghost use Rattle.host.specs.Judgement.{judgement};
+ghost use Rattle.rules.specs.Check.{check as checkAnswer};
+ghost use Rattle.rules.specs.Translate.{translate as translateAnswer, translated};
+ghost use Rattle.rules.specs.Fill.{fill as fillAnswer, filled};
+ghost use Rattle.translation.specs.Checked.{checked};
+ghost use Rattle.translation.specs.Shares.{Shares};
+ghost use Rattle.translation.specs.Written.{wrote};
+ghost use Rattle.filling.specs.Filled.{handed};
+ghost use Rattle.filling.specs.Satisfied.{Satisfied};
+ghost use Rattle.host.specs.Bytes.{bytesWord, bytesWords, checkBytes};
+ghost use Rattle.host.specs.Structs.{countsOf, judgementOf, writtenOf};
+use filling::Filled;
+use filling::fill;
+use modeljudge::judge_model;
+use rowjudge::judge_rows;
+use translation::Checked;
+use translation::check;
+use translation::translate;
 use words::Verdict;
+use words::fault;
+use words::limit;
 
-// What a judge answers a host: 0 refused, with the fault and its place; 1 holds; 2 the variable out of bounds; 3 the false constraint or row.
+// What a judge or fill answers a host, by what it said: 0 refused, with the fault and its place; 1 holds, in fill with how many values it wrote; 2 the variable out of bounds; 3 the false constraint or row.
 #[repr(C)]
 pub struct Judgement {
     pub said: u32,
@@ -15,16 +36,29 @@ pub struct Judgement {
     pub at: usize,
 }
 
-// The word of four bytes, the lowest first.
-pub fn word_of_bytes(a: u8, b: u8, c: u8, d: u8) -> u32
-    ensures { λ r. ⌜ r ≡ bytesWord a b c d ⌝ }
-{
-    a as u32 + 256 * b as u32 + 65536 * c as u32 + 16777216 * d as u32
+// What check answers a host: the counts, or a fault and its place.
+#[repr(C)]
+pub struct Counts {
+    pub fault: u32,
+    pub place: usize,
+    pub variables: usize,
+    pub constraints: usize,
+    pub auxiliaries: usize,
+    pub rows: usize,
+    pub words: usize,
+}
+
+// What translate answers a host: how many words it wrote, or a fault and its place.
+#[repr(C)]
+pub struct Written {
+    pub fault: u32,
+    pub place: usize,
+    pub words: usize,
 }
 
 // A judge's answer for a host.
-pub fn judgement_of(v: Verdict) -> Judgement
-    ensures { λ r. ⌜ judgement r ≡ verdict v ⌝ }
+fn judgement_of(v: Verdict) -> Judgement
+    ensures { λ r. ⌜ r ≡ judgementOf (verdict v) ⌝ }
 {
     match v {
         Verdict::Refused(r) => Judgement {
@@ -50,18 +84,183 @@ pub fn judgement_of(v: Verdict) -> Judgement
     }
 }
 
+// Fill's answer for a host.
+fn filled_of(f: Filled) -> Judgement
+    ensures { λ r. ⌜ r ≡ judgementOf (handed f) ⌝ }
+{
+    match f {
+        Filled::Refused(r) => Judgement {
+            said: 0,
+            fault: r.number,
+            at: r.place,
+        },
+        Filled::Values(n) => Judgement {
+            said: 1,
+            fault: 0,
+            at: n,
+        },
+        Filled::OutOfBounds(i) => Judgement {
+            said: 2,
+            fault: 0,
+            at: i,
+        },
+        Filled::False(i) => Judgement {
+            said: 3,
+            fault: 0,
+            at: i,
+        },
+    }
+}
+
+// Check's answer for a host.
+fn counts_of(c: Checked) -> Counts
+    ensures { λ r. ⌜ r ≡ countsOf (checked c) ⌝ }
+{
+    match c {
+        Checked::Refused(r) => Counts {
+            fault: r.number,
+            place: r.place,
+            variables: 0,
+            constraints: 0,
+            auxiliaries: 0,
+            rows: 0,
+            words: 0,
+        },
+        Checked::Counts {
+            variables,
+            constraints,
+            auxiliaries,
+            rows,
+            words,
+        } => Counts {
+            fault: 0,
+            place: 0,
+            variables: variables,
+            constraints: constraints,
+            auxiliaries: auxiliaries,
+            rows: rows,
+            words: words,
+        },
+    }
+}
+
+// The number of check's refusal, 0 if it accepts.
+fn number_of(c: Checked) -> u32
+    ensures { λ r. ⌜ r ≡ refusalNumber (checked c) ⌝ }
+{
+    match c {
+        Checked::Refused(r) => r.number,
+        Checked::Counts {
+            variables: _,
+            constraints: _,
+            auxiliaries: _,
+            rows: _,
+            words: _,
+        } => fault::NONE,
+    }
+}
+
+// Translate's answer for a host.
+fn written_of(w: translation::Written) -> Written
+    ensures { λ r. ⌜ r ≡ writtenOf (wrote w) ⌝ }
+{
+    match w {
+        translation::Written::Refused(r) => Written {
+            fault: r.number,
+            place: r.place,
+            words: 0,
+        },
+        translation::Written::Words(n) => Written {
+            fault: 0,
+            place: 0,
+            words: n,
+        },
+    }
+}
+
+// The word of four bytes, the lowest first.
+fn word_of_bytes(a: u8, b: u8, c: u8, d: u8) -> u32
+    ensures { λ r. ⌜ r ≡ bytesWord a b c d ⌝ }
+{
+    a as u32 + 256 * b as u32 + 65536 * c as u32 + 16777216 * d as u32
+}
+
+// The i-th word of bytes.
+fn word_in(bytes: &[u8], i: usize) -> u32
+    requires { ⌜ i < length (bytesWords (now bytes)) ⌝ }
+    ensures { λ r. ⌜ r ≡ getD (bytesWords (now (bytes .entry))) i 0 ⌝ }
+{
+    let p = 4 * i;
+    word_of_bytes(bytes[p], bytes[p + 1], bytes[p + 2], bytes[p + 3])
+}
+
+// Puts the words of bytes to the front of a list, those that fit.
+fn put_words(bytes: &[u8], out: &mut [u32])
+    ensures { λ r. ⌜ now (out .exit) ≡ overlay (now (out .entry)) 0 (bytesWords (now (bytes .entry))) ⌝ }
+{
+    let mut i = 0;
+    while i < bytes.len() / 4 {
+        if i < out.len() {
+            out[i] = word_in(bytes, i);
+        }
+        i += 1;
+    }
+}
+
+// Check over bytes, four to a word, the lowest first, 1 to 3 spare bytes left off: the number of the refusal, 0 if accepted.
+#[no_mangle]
+pub extern "C" fn pearrummy_check_bytes(bytes: &[u8]) -> u32
+    ensures { λ r. ⌜ r ≡ checkBytes (now (bytes .entry)) ⌝ }
+{
+    let n = bytes.len() / 4;
+    if limit::MODEL_WORDS < n {
+        return fault::TOO_MANY_WORDS;
+    }
+    let mut words = [0u32; 8192];
+    put_words(bytes, &mut words);
+    number_of(check(&words[..n]))
+}
+
+// Check.
+#[no_mangle]
+pub extern "C" fn pearrummy_check(words: &[u32]) -> Counts
+    ensures { λ r. ⌜ r ≡ countsOf (checkAnswer (now (words .entry))) ⌝ }
+{
+    counts_of(check(words))
+}
+
+// Translate; the words of the row system go to the front of the output.
+#[no_mangle]
+pub extern "C" fn pearrummy_translate(words: &[u32], out: &mut [u32]) -> Written
+    ensures answer { λ r. ⌜ r ≡ writtenOf (translateAnswer (now (words .entry)) (length (now (out .entry)))) ⌝ }
+    ensures output { λ r. ⌜ now (out .exit) ≡ translated (now (words .entry)) (now (out .entry)) ⌝ }
+    ensures shared { λ r. ⌜ Shares (now (words .entry)) (translateAnswer (now (words .entry)) (length (now (out .entry)))) (now (out .exit)) ⌝ }
+{
+    written_of(translate(words, out))
+}
+
 // Judge-model.
 #[no_mangle]
 pub extern "C" fn pearrummy_judge_model(words: &[u32], values: &[i32]) -> Judgement
-    ensures { λ r. ⌜ judgement r ≡ judgeModel (now (words .entry)) (now (values .entry)) ⌝ }
+    ensures { λ r. ⌜ r ≡ judgementOf (judgeModel (now (words .entry)) (now (values .entry))) ⌝ }
 {
-    judgement_of(modeljudge::judge_model(words, values))
+    judgement_of(judge_model(words, values))
 }
 
 // Judge-rows.
 #[no_mangle]
 pub extern "C" fn pearrummy_judge_rows(words: &[u32], values: &[i32]) -> Judgement
-    ensures { λ r. ⌜ judgement r ≡ judgeRows (now (words .entry)) (now (values .entry)) ⌝ }
+    ensures { λ r. ⌜ r ≡ judgementOf (judgeRows (now (words .entry)) (now (values .entry))) ⌝ }
 {
-    judgement_of(rowjudge::judge_rows(words, values))
+    judgement_of(judge_rows(words, values))
+}
+
+// Fill; where the values hold, they and the auxiliaries go to the front of the output.
+#[no_mangle]
+pub extern "C" fn pearrummy_fill(words: &[u32], values: &[i32], out: &mut [i32]) -> Judgement
+    ensures answer { λ r. ⌜ r ≡ judgementOf (fillAnswer (now (words .entry)) (now (values .entry)) (length (now (out .entry)))) ⌝ }
+    ensures output { λ r. ⌜ now (out .exit) ≡ filled (now (words .entry)) (now (values .entry)) (now (out .entry)) ⌝ }
+    ensures satisfied { λ r. ⌜ Satisfied (now (words .entry)) (fillAnswer (now (words .entry)) (now (values .entry)) (length (now (out .entry)))) (now (out .exit)) ⌝ }
+{
+    filled_of(fill(words, values, out))
 }

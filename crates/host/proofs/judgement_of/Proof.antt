@@ -1,8 +1,7 @@
 -- Case by case.
 use borrow.Author.Needs.{needs}
-use Rattle.host.specs.Judgement.{judgement}
 use Rattle.words.specs.Verdict.{verdict}
-use borrow.Author.Needs.{needs}
+use Rattle.host.specs.Structs.{judgementOf}
 use Rattle.host.proofs.judgement_of.Statement.{statement}
 use Rattle.host.proofs.judgement_of.Tie as tie
 
@@ -19,19 +18,19 @@ enum-known-v-3 : tie.Need-enum-known-v-3
 enum-known-v-3 c = search needs
 
 returns : tie.Need-returns
-unfolding judgement verdict
+unfolding judgementOf verdict
 returns c = rw (c .before .v .given .1)
 
 returns-2 : tie.Need-returns-2
-unfolding judgement verdict
+unfolding judgementOf verdict
 returns-2 c = rw (c .enum-told .given .1)
 
 returns-3 : tie.Need-returns-3
-unfolding judgement verdict
+unfolding judgementOf verdict
 returns-3 c = rw (c .before .v2 .given .1)
 
 returns-4 : tie.Need-returns-4
-unfolding judgement verdict
+unfolding judgementOf verdict
 returns-4 c = rw (c .before .v3 .given .1)
 
 pub judgement-of-spec : {M : Type 1} → statement M

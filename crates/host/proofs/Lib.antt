@@ -1,0 +1,2 @@
+-- Laws of bytes taken as words.
+pub mod Words

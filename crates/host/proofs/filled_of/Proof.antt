@@ -1,0 +1,47 @@
+-- Case by case.
+use borrow.Author.Needs.{needs}
+use Rattle.filling.specs.Filled.{handed}
+use Rattle.host.specs.Structs.{judgementOf}
+use Rattle.host.proofs.filled_of.Statement.{statement}
+use Rattle.host.proofs.filled_of.Tie as tie
+
+enum-known-f : tie.Need-enum-known-f
+enum-known-f c = search needs
+
+enum-known-f-2 : tie.Need-enum-known-f-2
+enum-known-f-2 c = search needs
+
+enum-known-f-3 : tie.Need-enum-known-f-3
+enum-known-f-3 c = search needs
+
+enum-known-f-4 : tie.Need-enum-known-f-4
+enum-known-f-4 c = search needs
+
+returns : tie.Need-returns
+unfolding judgementOf handed
+returns c = rw (c .before .f .given .1)
+
+returns-2 : tie.Need-returns-2
+unfolding judgementOf handed
+returns-2 c = rw (c .before .f2 .given .1)
+
+returns-3 : tie.Need-returns-3
+unfolding judgementOf handed
+returns-3 c = rw (c .before .f3 .given .1)
+
+returns-4 : tie.Need-returns-4
+unfolding judgementOf handed
+returns-4 c = rw (c .before .f4 .given .1)
+
+pub filled-of-spec : {M : Type 1} → statement M
+filled-of-spec =
+    tie.close
+    (tie.spec
+    enum-known-f
+    enum-known-f-2
+    enum-known-f-3
+    enum-known-f-4
+    returns
+    returns-2
+    returns-3
+    returns-4)

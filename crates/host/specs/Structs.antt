@@ -1,0 +1,39 @@
+-- The struct that a call hands a host for each answer of 01. Fields without a use are 0, and so are all of an answer that the call never gives.
+use Prim.Native.Nat.{ℕ}
+use Rattle.words.specs.Answer.{Answer, refused, counts, written, holds, outOfBounds, isFalse}
+use Rattle.host.specs.declared.Counts.{Counts}
+use Rattle.host.specs.declared.Judgement.{Judgement}
+use Rattle.host.specs.declared.Written.{Written}
+
+-- Of the judges and of fill, by what is said: 0 refused, 1 holds (in fill, `at` is how many values it wrote), 2 out of bounds, 3 false.
+unfoldable pub judgementOf : Answer → Judgement
+judgementOf (refused n p) = record { said = 0; fault = n; at = p }
+judgementOf holds = record { said = 1; fault = 0; at = 0 }
+judgementOf (written n) = record { said = 1; fault = 0; at = n }
+judgementOf (outOfBounds i) = record { said = 2; fault = 0; at = i }
+judgementOf (isFalse i) = record { said = 3; fault = 0; at = i }
+judgementOf (counts v c a r w) = record { said = 0; fault = 0; at = 0 }
+
+-- Of check.
+abbrev pub noCounts : ℕ → ℕ → Counts
+noCounts n p = record { fault = n; place = p; variables = 0; constraints = 0; auxiliaries = 0; rows = 0; words = 0 }
+
+unfoldable pub countsOf : Answer → Counts
+countsOf (refused n p) = noCounts n p
+countsOf (counts v c a r w) = record { fault = 0; place = 0; variables = v; constraints = c; auxiliaries = a; rows = r; words = w }
+countsOf (written n) = noCounts 0 0
+countsOf holds = noCounts 0 0
+countsOf (outOfBounds i) = noCounts 0 0
+countsOf (isFalse i) = noCounts 0 0
+
+-- Of translate.
+abbrev pub noWords : ℕ → ℕ → Written
+noWords n p = record { fault = n; place = p; words = 0 }
+
+unfoldable pub writtenOf : Answer → Written
+writtenOf (refused n p) = noWords n p
+writtenOf (written n) = record { fault = 0; place = 0; words = n }
+writtenOf (counts v c a r w) = noWords 0 0
+writtenOf holds = noWords 0 0
+writtenOf (outOfBounds i) = noWords 0 0
+writtenOf (isFalse i) = noWords 0 0
