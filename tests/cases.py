@@ -1,5 +1,6 @@
 #!/usr/bin/env python3
-"""Writes the recorded cases of the program `suite`, crates/suite/stdin and stdout, from tests/vectors and a few cases at the limits.
+"""Writes the recorded cases of the program `suite`, crates/suite/stdin and stdout, from tests/vectors: every vector,
+the calls that write with other rooms, and a few cases at the limits.
 
     tests/cases.py           write both files
     tests/cases.py --check   only say whether they are up to date
@@ -11,7 +12,7 @@ import glob, os, struct, sys
 HERE = os.path.dirname(os.path.abspath(__file__))
 SUITE = os.path.join(os.path.dirname(HERE), 'crates', 'suite')
 CALLS = {'check': 1, 'translate': 2, 'judge_model': 3, 'judge_rows': 4, 'fill': 5}
-KNOWN = ['judge_model', 'judge_rows']  # the calls that suite knows
+MORE = 3  # how much longer than wanted a list is lent, so that what stands past the end is seen
 
 
 def recorded():
@@ -20,6 +21,16 @@ def recorded():
             call, words, values, room, answer = (part.strip() for part in line.rstrip('\n').split('|'))
             yield (call, [int(w, 16) for w in words.split()], [] if values == '-' else [int(v) for v in values.split()],
                    0 if room == '-' else int(room), answer)
+
+
+def rooms(call, words, values, room, answer):
+    """The same call with a list one too short, of the wanted length and longer; what is wanted is what the recorded answer writes."""
+    kind, *written = answer.split()
+    if kind not in ('words', 'filled'):
+        return
+    for other in (len(written) - 1, len(written), len(written) + MORE):
+        if other >= 0 and other != room:
+            yield call, words, values, other, answer if other >= len(written) else 'refused 16 0'
 
 
 def long_model(words):
@@ -33,6 +44,29 @@ def long_model(words):
         model += [0x40000015, 0x60000000 + first] + [0x50000000 + i % 16 for i in range(first)]
         model += [0x60000000 + second] + [0x50000000 + i % 16 for i in range(second)]
     return model + [0x70000000]
+
+
+def clauses(model):
+    """The clauses of such a model: the variables of each one's two lists."""
+    at = 16
+    while model[at] == 0x40000015:
+        n = model[at + 1] - 0x60000000
+        m = model[at + n + 2] - 0x60000000
+        yield model[at + 2:at + n + 2], model[at + n + 3:at + n + m + 3]
+        at += n + m + 3
+
+
+def long_rows(model):
+    """Its row system by the rule of code 21: −Σas + Σbs + 1 − m ≤ 0."""
+    system = model[:16]
+    for first, second in clauses(model):
+        system += [0xA0000000 + len(first) + len(second)]
+        for x in first:
+            system += [x, 0x6FFFFFFF]
+        for x in second:
+            system += [x, 0x60000001]
+        system += [0x60000000 + (1 - len(second)) % 2 ** 28]
+    return system + [0xF0000000]
 
 
 def long_system(words, last):
@@ -55,17 +89,32 @@ def limits():
     yield 'judge_model', long_model(8192), [1] * 16, 0, 'holds'
     yield 'judge_model', long_model(8192), [1] * 15 + [2], 0, 'bound 15'
     yield 'judge_model', long_model(8193), [1] * 16, 0, 'refused 1 0'
+    model, above = long_model(8192), long_model(8193)
+    rows, count = long_rows(model), len(list(clauses(model)))
+    yield 'check', model, [], 0, f'counts 16 {count} 0 {count} {len(rows)}'
+    yield 'check', above, [], 0, 'refused 1 0'
+    written = 'words ' + ' '.join('%08X' % w for w in rows)
+    for room, answer in (len(rows), written), (len(rows) - 1, 'refused 16 0'):
+        yield 'translate', model, [], room, answer
+    yield 'translate', above, [], 131072, 'refused 1 0'
+    yield 'fill', model, [1] * 16, 16, 'filled' + ' 1' * 16
+    yield 'fill', above, [1] * 16, 16, 'refused 1 0'
     whole = [0x30000000] + long_system(131071, 1)
     rows = sum(w >> 28 == 0xB for w in whole)
     yield 'judge_rows', whole, [0] * 17, 0, f'false {rows - 1}'
     yield 'judge_rows', [0x30000000] + whole, [0] * 18, 0, 'refused 1 0'
 
 
+def cases():
+    yield from recorded()
+    for case in recorded():
+        yield from rooms(*case)
+    yield from limits()
+
+
 def files():
     stdin, stdout = b'', ''
-    for call, words, values, room, answer in list(recorded()) + list(limits()):
-        if call not in KNOWN:
-            continue
+    for call, words, values, room, answer in cases():
         stdin += struct.pack('<4I', CALLS[call], room, len(words), len(values))
         stdin += struct.pack('<%dI' % len(words), *words) + struct.pack('<%di' % len(values), *values)
         stdout += answer + '\n'

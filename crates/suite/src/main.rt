@@ -1,59 +1,37 @@
-// Runs recorded cases of the calls, one after the other, from standard input, and prints the answer of each on a line.
+// Runs recorded cases of the five calls, one after the other, from standard input, and prints the answer of each on a line.
 // A case is numbers of 32 bits, the lowest byte first: the call, the room, how many words, how many values, the words, the values.
-ghost use Prim.Native.Nat.{_≤_, _<_};
-ghost use lib.ListN.{length};
+// A call that writes is lent the front of a longer list, as long as the room; what it may not write is looked at afterwards.
+ghost use Prim.Native.Nat.{_≤_};
+use filling::fill;
+use input::Head;
+use input::next_head;
+use input::read_values;
+use input::read_words;
+use lent::mark_values;
+use lent::mark_words;
 use modeljudge::judge_model;
+use output::print_checked;
+use output::print_filled;
+use output::print_verdict;
+use output::print_written;
 use rowjudge::judge_rows;
-use words::Refusal;
-use words::Verdict;
+use translation::check;
+use translation::translate;
+
+mod input;
+mod lent;
+mod output;
 
 // The calls, as a case numbers them.
+const CHECK: u32 = 1;
+
+const TRANSLATE: u32 = 2;
+
 const JUDGE_MODEL: u32 = 3;
 
 const JUDGE_ROWS: u32 = 4;
 
-// A number that was read, if one was there.
-struct Got {
-    there: bool,
-    number: u32,
-}
-
-// The head of a case: the call, how many words, how many values.
-struct Head {
-    there: bool,
-    call: u32,
-    words: usize,
-    values: usize,
-}
-
-// The number of four bytes, the lowest first.
-fn joined(a: u8, b: u8, c: u8, d: u8) -> u32 {
-    a as u32 + 256 * b as u32 + 65536 * c as u32 + 16777216 * d as u32
-}
-
-// The next number of the input.
-fn next() -> Got {
-    let mut b = [0u8; 4];
-    let n = io::read_full(0, &mut b);
-    Got {
-        there: n == 4,
-        number: joined(b[0], b[1], b[2], b[3]),
-    }
-}
-
-// The head of the next case; the room is read and not used yet.
-fn next_head() -> Head {
-    let call = next();
-    let _room = next();
-    let words = next();
-    let values = next();
-    Head {
-        there: values.there,
-        call: call.number,
-        words: words.number as usize,
-        values: values.number as usize,
-    }
-}
+const FILL: u32 = 5;
 
 // The lesser of two counts.
 fn at_most(n: usize, most: usize) -> usize
@@ -62,110 +40,86 @@ fn at_most(n: usize, most: usize) -> usize
     if n < most { n } else { most }
 }
 
-// Puts a word to a place of a list, if it has that place.
-fn put_word(out: &mut [u32], i: usize, w: u32) {
-    if i < out.len() {
-        out[i] = w;
-    }
-}
-
-// Reads n words to the front of a list; those that do not fit are dropped.
-fn read_words(out: &mut [u32], n: usize) {
-    let mut i = 0;
-    while i < n {
-        let got = next();
-        put_word(out, i, got.number);
-        i += 1;
-    }
-}
-
-// A number of 32 bits as a signed one.
-fn as_signed(w: u32) -> i32 {
-    if w < 2147483648 {
-        w as i32
-    } else {
-        -1 - (4294967295 - w) as i32
-    }
-}
-
-// Puts a value to a place of a list, if it has that place.
-fn put_value(out: &mut [i32], i: usize, v: i32) {
-    if i < out.len() {
-        out[i] = v;
-    }
-}
-
-// Reads n signed values to the front of a list; those that do not fit are dropped.
-fn read_values(out: &mut [i32], n: usize) {
-    let mut i = 0;
-    while i < n {
-        let got = next();
-        put_value(out, i, as_signed(got.number));
-        i += 1;
-    }
-}
-
-// A line of a word and a number.
-fn print_one(name: &[u8], n: usize) {
-    io::write_all(1, name);
-    io::print_decimal(1, n as u64);
-    io::write_all(1, b"\n");
-}
-
-// A refusal.
-fn print_refusal(r: Refusal) {
-    io::write_all(1, b"refused ");
-    io::print_decimal(1, r.number as u64);
-    print_one(b" ", r.place);
-}
-
-// A judge's answer.
-fn print_verdict(v: Verdict) {
-    match v {
-        Verdict::Refused(r) => print_refusal(r),
-        Verdict::Holds => {
-            io::write_all(1, b"holds\n");
-        }
-        Verdict::OutOfBounds(i) => print_one(b"bound ", i),
-        Verdict::False(i) => print_one(b"false ", i),
-    }
-}
-
-// The answer of a case of n words and m values, which stand at the front of two lists.
-fn answer_front(call: u32, words: &[u32], n: usize, values: &[i32], m: usize) {
-    let k = at_most(n, words.len());
+// Judge-rows on the fronts of two lists.
+fn answer_rows(rows: &[u32], n: usize, values: &[i32], m: usize) {
+    let k = at_most(n, rows.len());
     let l = at_most(m, values.len());
-    answer(call, &words[..k], &values[..l]);
+    print_verdict(judge_rows(&rows[..k], &values[..l]));
 }
 
-// The answer of one case.
-fn answer(call: u32, words: &[u32], values: &[i32]) {
+// Translate into the front of a list.
+fn answer_translate(words: &[u32], out: &mut [u32], room: usize) {
+    mark_words(out);
+    let k = at_most(room, out.len());
+    let answer = translate(words, &mut out[..k]);
+    print_written(answer, out);
+}
+
+// Fill into the front of a list.
+fn answer_fill(words: &[u32], values: &[i32], out: &mut [i32], room: usize) {
+    mark_values(out);
+    let k = at_most(room, out.len());
+    let answer = fill(words, values, &mut out[..k]);
+    print_filled(answer, out);
+}
+
+// The answer of a call on a model.
+fn answer_call(head: Head, words: &[u32], values: &[i32], rows: &mut [u32], filled: &mut [i32]) {
+    let call = head.call;
+    if call == CHECK {
+        print_checked(check(words));
+        return;
+    }
+    if call == TRANSLATE {
+        answer_translate(words, rows, head.room);
+        return;
+    }
     if call == JUDGE_MODEL {
         print_verdict(judge_model(words, values));
         return;
     }
-    if call == JUDGE_ROWS {
-        print_verdict(judge_rows(words, values));
+    if call == FILL {
+        answer_fill(words, values, filled, head.room);
         return;
     }
     io::write_all(1, b"unknown\n");
 }
 
+// The same, the words and values at the fronts of two lists.
+fn answer_model(head: Head, model: &[u32], values: &[i32], rows: &mut [u32], filled: &mut [i32]) {
+    let k = at_most(head.words, model.len());
+    let l = at_most(head.values, values.len());
+    answer_call(head, &model[..k], &values[..l], rows, filled);
+}
+
+// Reads the rest of a case and answers it. The list of row words is read to or written to, as the call asks.
+fn answer(head: Head, model: &mut [u32], rows: &mut [u32], values: &mut [i32], filled: &mut [i32]) {
+    let n = head.words;
+    let m = head.values;
+    if head.call == JUDGE_ROWS {
+        read_words(rows, n);
+        read_values(values, m);
+        answer_rows(rows, n, values, m);
+        return;
+    }
+    read_words(model, n);
+    read_values(values, m);
+    answer_model(head, model, values, rows, filled);
+}
+
 // At most a million cases.
 fn main() {
-    let mut words = [0u32; 131200];
+    let mut model = [0u32; 8200];
+    let mut rows = [0u32; 131200];
     let mut values = [0i32; 4200];
+    let mut filled = [0i32; 4200];
     let mut left: usize = 1000000;
     while 0 < left {
         let head = next_head();
         if !head.there {
             return;
         }
-        let n = head.words;
-        let m = head.values;
-        read_words(&mut words, n);
-        read_values(&mut values, m);
-        answer_front(head.call, &words, n, &values, m);
+        answer(head, &mut model, &mut rows, &mut values, &mut filled);
         left -= 1;
     }
 }

@@ -1,16 +1,17 @@
 use native.Mathlib.Omega.{arith}
 use borrow.Author.Needs.{needs}
--- The invariant: both lists keep their lengths. The measure: how many cases may come.
+-- The invariant: the lists keep their lengths. The measure: how many cases may come.
 use mathlib.Core.Path.{_≡_}
 use lib.ListN.{length}
 use Rattle.suite.proofs.main.Statement.{statement}
 use Rattle.suite.proofs.main.Tie as tie
 
 abbrev Inv-loop : tie.InvT-loop
-Inv-loop words₀ values₀ left₀ words values left = (length words ≡ 131200) × (length values ≡ 4200)
+Inv-loop model₀ rows₀ values₀ filled₀ left₀ model rows values filled left =
+    (length model ≡ 8200) × (length rows ≡ 131200) × (length values ≡ 4200) × (length filled ≡ 4200)
 
 abbrev μ-loop : tie.MeasureT-loop
-μ-loop words₀ values₀ left₀ words values left = left
+μ-loop model₀ rows₀ values₀ filled₀ left₀ model rows values filled left = left
 
 loop-holds : tie.Need-loop-holds Inv-loop μ-loop
 loop-holds c = search needs
@@ -21,26 +22,20 @@ next-head-requires c κs = search needs
 returns : tie.Need-returns Inv-loop μ-loop
 returns c = search needs
 
-slice-aggregate-read-words : tie.Need-slice-aggregate-read-words Inv-loop μ-loop
-slice-aggregate-read-words c = search needs
+slice-aggregate-answer : tie.Need-slice-aggregate-answer Inv-loop μ-loop
+slice-aggregate-answer c = search needs
 
-read-words-requires : tie.Need-read-words-requires Inv-loop μ-loop
-read-words-requires c κs = search needs
+slice-aggregate-answer-2 : tie.Need-slice-aggregate-answer-2 Inv-loop μ-loop
+slice-aggregate-answer-2 c = search needs
 
-slice-aggregate-read-values : tie.Need-slice-aggregate-read-values Inv-loop μ-loop
-slice-aggregate-read-values c = search needs
+slice-aggregate-answer-3 : tie.Need-slice-aggregate-answer-3 Inv-loop μ-loop
+slice-aggregate-answer-3 c = search needs
 
-read-values-requires : tie.Need-read-values-requires Inv-loop μ-loop
-read-values-requires c κs = search needs
+slice-aggregate-answer-4 : tie.Need-slice-aggregate-answer-4 Inv-loop μ-loop
+slice-aggregate-answer-4 c = search needs
 
-slice-aggregate-answer-front : tie.Need-slice-aggregate-answer-front Inv-loop μ-loop
-slice-aggregate-answer-front c = search needs
-
-slice-aggregate-answer-front-2 : tie.Need-slice-aggregate-answer-front-2 Inv-loop μ-loop
-slice-aggregate-answer-front-2 c = search needs
-
-answer-front-requires : tie.Need-answer-front-requires Inv-loop μ-loop
-answer-front-requires c κs = search needs
+answer-requires : tie.Need-answer-requires Inv-loop μ-loop
+answer-requires c κs = search needs
 
 sub-left : tie.Need-sub-left Inv-loop μ-loop
 sub-left c = search needs
@@ -63,13 +58,11 @@ main-spec =
     loop-holds
     next-head-requires
     returns
-    slice-aggregate-read-words
-    read-words-requires
-    slice-aggregate-read-values
-    read-values-requires
-    slice-aggregate-answer-front
-    slice-aggregate-answer-front-2
-    answer-front-requires
+    slice-aggregate-answer
+    slice-aggregate-answer-2
+    slice-aggregate-answer-3
+    slice-aggregate-answer-4
+    answer-requires
     sub-left
     loop-less
     loop-again

@@ -4,8 +4,8 @@ use borrow.Author.Needs.{needs}
 use mathlib.Core.Path.{_≡_}
 use Prim.Native.Nat.{_-_}
 use lib.ListN.{length}
-use Rattle.suite.proofs.read_words.Statement.{statement}
-use Rattle.suite.proofs.read_words.Tie as tie
+use Rattle.suite.proofs.input.read_values.Statement.{statement}
+use Rattle.suite.proofs.input.read_values.Tie as tie
 
 abbrev Inv-loop : tie.InvT-loop
 Inv-loop out₀ n i₀ out i = length out ≡ length out₀
@@ -19,8 +19,11 @@ loop-holds c = search needs
 next-requires : tie.Need-next-requires Inv-loop μ-loop
 next-requires c κs = search needs
 
-put-word-requires : tie.Need-put-word-requires Inv-loop μ-loop
-put-word-requires c κs = search needs
+as-signed-requires : tie.Need-as-signed-requires Inv-loop μ-loop
+as-signed-requires c κs = search needs
+
+put-value-requires : tie.Need-put-value-requires Inv-loop μ-loop
+put-value-requires c κs = search needs
 
 add-i : tie.Need-add-i Inv-loop μ-loop
 add-i c = search needs
@@ -37,15 +40,16 @@ same-length c = search needs
 returns : tie.Need-returns Inv-loop μ-loop
 returns c = search needs
 
-pub read-words-spec : {M : Type 1} → statement M
-read-words-spec =
+pub read-values-spec : {M : Type 1} → statement M
+read-values-spec =
     tie.close
     (tie.spec
     Inv-loop
     μ-loop
     loop-holds
     next-requires
-    put-word-requires
+    as-signed-requires
+    put-value-requires
     add-i
     loop-less
     loop-again

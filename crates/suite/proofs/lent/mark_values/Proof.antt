@@ -1,29 +1,26 @@
 use native.Mathlib.Omega.{arith}
 use borrow.Author.Needs.{needs}
--- The invariant: the list keeps its length. The measure: what is left to read.
+-- The invariant: the list keeps its length. The measure: what is left of it.
 use mathlib.Core.Path.{_≡_}
 use Prim.Native.Nat.{_-_}
 use lib.ListN.{length}
-use Rattle.suite.proofs.read_values.Statement.{statement}
-use Rattle.suite.proofs.read_values.Tie as tie
+use Rattle.suite.proofs.lent.mark_values.Statement.{statement}
+use Rattle.suite.proofs.lent.mark_values.Tie as tie
 
 abbrev Inv-loop : tie.InvT-loop
-Inv-loop out₀ n i₀ out i = length out ≡ length out₀
+Inv-loop out₀ i₀ out i = length out ≡ length out₀
 
 abbrev μ-loop : tie.MeasureT-loop
-μ-loop out₀ n i₀ out i = n - i
+μ-loop out₀ i₀ out i = length out₀ - i
 
 loop-holds : tie.Need-loop-holds Inv-loop μ-loop
 loop-holds c = search needs
 
-next-requires : tie.Need-next-requires Inv-loop μ-loop
-next-requires c κs = search needs
+mul-out : tie.Need-mul-out Inv-loop μ-loop
+mul-out c = search needs
 
-as-signed-requires : tie.Need-as-signed-requires Inv-loop μ-loop
-as-signed-requires c κs = search needs
-
-put-value-requires : tie.Need-put-value-requires Inv-loop μ-loop
-put-value-requires c κs = search needs
+slice-set-of-out : tie.Need-slice-set-of-out Inv-loop μ-loop
+slice-set-of-out c = search needs
 
 add-i : tie.Need-add-i Inv-loop μ-loop
 add-i c = search needs
@@ -40,16 +37,15 @@ same-length c = search needs
 returns : tie.Need-returns Inv-loop μ-loop
 returns c = search needs
 
-pub read-values-spec : {M : Type 1} → statement M
-read-values-spec =
+pub mark-values-spec : {M : Type 1} → statement M
+mark-values-spec =
     tie.close
     (tie.spec
     Inv-loop
     μ-loop
     loop-holds
-    next-requires
-    as-signed-requires
-    put-value-requires
+    mul-out
+    slice-set-of-out
     add-i
     loop-less
     loop-again

@@ -7,8 +7,8 @@ use lib.Signed.{mag}
 use mir.Syntax.{w32}
 use mir.Facts.{toZ-pos}
 use borrow.Author.Needs.{needs}
-use Rattle.suite.proofs.as_signed.Statement.{statement}
-use Rattle.suite.proofs.as_signed.Tie as tie
+use Rattle.suite.proofs.input.as_signed.Statement.{statement}
+use Rattle.suite.proofs.input.as_signed.Tie as tie
 
 below : (n : ℕ) → mag (negsuc 0 -ℤ pos n) ≡ n
 below zero = refl

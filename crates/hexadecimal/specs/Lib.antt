@@ -1,0 +1,2 @@
+-- What the contracts cite: a word as text.
+pub mod Digits

@@ -1,0 +1,48 @@
+// The lists that are lent to calls that write: what they hold before, and whether it still stands after.
+
+// What an element holds before the call.
+const WORD_MARK: u32 = 3735928559;
+
+const VALUE_MARK: i32 = -559038737;
+
+// Puts that to every place of a list of words.
+pub fn mark_words(out: &mut [u32]) {
+    let mut i = 0;
+    while i < out.len() {
+        out[i] = WORD_MARK;
+        i += 1;
+    }
+}
+
+// Puts that to every place of a list of values.
+pub fn mark_values(out: &mut [i32]) {
+    let mut i = 0;
+    while i < out.len() {
+        out[i] = VALUE_MARK;
+        i += 1;
+    }
+}
+
+// Whether every word from a place on is as it was before the call.
+pub fn marked_words(out: &[u32], from: usize) -> bool {
+    let mut i = from;
+    while i < out.len() {
+        if out[i] != WORD_MARK {
+            return false;
+        }
+        i += 1;
+    }
+    true
+}
+
+// Whether every value from a place on is as it was before the call.
+pub fn marked_values(out: &[i32], from: usize) -> bool {
+    let mut i = from;
+    while i < out.len() {
+        if out[i] != VALUE_MARK {
+            return false;
+        }
+        i += 1;
+    }
+    true
+}

@@ -1,0 +1,138 @@
+// Prints answers, each on a line; a line ends in " changed" where a call wrote what it may not write.
+use crate::lent::marked_values;
+use crate::lent::marked_words;
+use filling::Filled;
+use hexadecimal::digits_of;
+use translation::Checked;
+use translation::Written;
+use words::Refusal;
+use words::Verdict;
+use words::word_at;
+
+// A word and a number.
+fn print_one(name: &[u8], n: usize) {
+    io::write_all(1, name);
+    io::print_decimal(1, n as u64);
+}
+
+// A refusal.
+fn print_refusal(r: Refusal) {
+    print_one(b"refused ", r.number as usize);
+    print_one(b" ", r.place);
+}
+
+// The end of a line, after a call that wrote nothing else than it may.
+fn print_end(kept: bool) {
+    if !kept {
+        io::write_all(1, b" changed");
+    }
+    io::write_all(1, b"\n");
+}
+
+// A word, a blank before it.
+fn print_word(w: u32) {
+    io::write_all(1, b" ");
+    io::write_all(1, &digits_of(w));
+}
+
+// The first n words of a list, a blank before each.
+fn print_words(words: &[u32], n: usize) {
+    let mut i = 0;
+    while i < n {
+        print_word(word_at(words, i));
+        i += 1;
+    }
+}
+
+// A value, a blank before it.
+fn print_value(v: i32) {
+    if 0 <= v {
+        print_one(b" ", v as usize);
+        return;
+    }
+    let below = -1 - v;
+    print_one(b" -", below as usize + 1);
+}
+
+// The first n values of a list, a blank before each.
+fn print_values(values: &[i32], n: usize) {
+    let mut i = 0;
+    while i < n {
+        if i < values.len() {
+            print_value(values[i]);
+        }
+        i += 1;
+    }
+}
+
+// A judge's answer.
+pub fn print_verdict(v: Verdict) {
+    match v {
+        Verdict::Refused(r) => print_refusal(r),
+        Verdict::Holds => {
+            io::write_all(1, b"holds");
+        }
+        Verdict::OutOfBounds(i) => print_one(b"bound ", i),
+        Verdict::False(i) => print_one(b"false ", i),
+    }
+    io::write_all(1, b"\n");
+}
+
+// Check's answer.
+pub fn print_checked(answer: Checked) {
+    match answer {
+        Checked::Refused(r) => print_refusal(r),
+        Checked::Counts {
+            variables,
+            constraints,
+            auxiliaries,
+            rows,
+            words,
+        } => {
+            print_one(b"counts ", variables);
+            print_one(b" ", constraints);
+            print_one(b" ", auxiliaries);
+            print_one(b" ", rows);
+            print_one(b" ", words);
+        }
+    }
+    io::write_all(1, b"\n");
+}
+
+// Translate's answer; the list whose front was lent.
+pub fn print_written(answer: Written, out: &[u32]) {
+    match answer {
+        Written::Refused(r) => {
+            print_refusal(r);
+            print_end(marked_words(out, 0));
+        }
+        Written::Words(n) => {
+            io::write_all(1, b"words");
+            print_words(out, n);
+            print_end(marked_words(out, n));
+        }
+    }
+}
+
+// Fill's answer; the list whose front was lent.
+pub fn print_filled(answer: Filled, out: &[i32]) {
+    match answer {
+        Filled::Refused(r) => {
+            print_refusal(r);
+            print_end(marked_values(out, 0));
+        }
+        Filled::Values(n) => {
+            io::write_all(1, b"filled");
+            print_values(out, n);
+            print_end(marked_values(out, n));
+        }
+        Filled::OutOfBounds(i) => {
+            print_one(b"bound ", i);
+            print_end(marked_values(out, 0));
+        }
+        Filled::False(i) => {
+            print_one(b"false ", i);
+            print_end(marked_values(out, 0));
+        }
+    }
+}
