@@ -4,3 +4,4 @@ pub mod Places
 pub mod Order
 pub mod Declared
 pub mod Loop
+pub mod Listed

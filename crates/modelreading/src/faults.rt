@@ -96,7 +96,7 @@ fn of_upper(lower: u32, w: u32) -> u32
 }
 
 // Of a number.
-fn of_number(w: u32) -> u32
+pub fn of_number(w: u32) -> u32
     ensures { λ r. ⌜ r ≡ faultNumber w ⌝ }
 {
     if words::kind_of(w) == kind::NUMBER {
@@ -106,7 +106,7 @@ fn of_number(w: u32) -> u32
 }
 
 // Of a variable that is to have a type, and has the type t.
-fn of_variable(t: u32, wanted: u32, w: u32) -> u32
+pub fn of_variable(t: u32, wanted: u32, w: u32) -> u32
     ensures { λ r. ⌜ r ≡ faultVariable t wanted w ⌝ }
 {
     if words::kind_of(w) != kind::VARIABLE {

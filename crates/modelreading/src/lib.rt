@@ -1,9 +1,11 @@
 // The reader of a model: the first faulty word, by faults 1 to 11.
 ghost use mathlib.Core.Path.{_≡_};
 ghost use Prim.Native.Nat.{_≤_};
-ghost use lib.ListN.{getD, take};
+ghost use lib.ListN.{length, getD, take};
+ghost use Rattle.words.specs.Word.{payload};
 ghost use Rattle.words.specs.Refusal.{faultOr, accepted};
-ghost use Rattle.models.specs.Reading.{faultEnd, readModel};
+ghost use Rattle.models.specs.Reading.{faultNumber, faultVariable, faultEnd, readModel};
+ghost use Rattle.modelreading.specs.Listed.{Faultless, Listed};
 
 pub mod faults;
 pub mod shapes;
@@ -37,6 +39,62 @@ fn refusal_at_end(due: Due, at: usize) -> Refusal
     Refusal { number, place: at }
 }
 
+// How many words from a place on are numbers, at most n.
+fn numbers_at(ws: &[u32], at: usize, n: usize) -> usize
+    requires { ⌜ at ≤ length (now ws) ⌝ }
+    ensures { λ r. ⌜ (r ≤ n) × Faultless faultNumber (now (ws .entry)) at r ⌝ }
+{
+    let mut k = 0;
+    while k < n {
+        if faults::of_number(words::word_at(ws, at + k)) != words::fault::NONE {
+            return k;
+        }
+        k += 1;
+    }
+    k
+}
+
+// How many words from a place on name variables of a type, at most n.
+fn variables_at(ws: &[u32], at: usize, n: usize, kind: u32, types: &[u32; 256], v: usize) -> usize
+    requires { ⌜ (at ≤ length (now ws)) × (v ≤ 256) ⌝ }
+    ensures { λ r. ⌜ (r ≤ n) × Faultless (λ w. faultVariable (getD (take v (now (types .entry))) (payload w) 0) kind w) (now (ws .entry)) at r ⌝ }
+{
+    let mut k = 0;
+    while k < n {
+        let w = words::word_at(ws, at + k);
+        let t = type_at(types, v, words::payload_of(w));
+        if faults::of_variable(t, kind, w) != words::fault::NONE {
+            return k;
+        }
+        k += 1;
+    }
+    k
+}
+
+// How many words from a place on belong to the list that is due, before the first faulty one.
+fn listed_at(ws: &[u32], at: usize, due: Due, types: &[u32; 256], v: usize) -> usize
+    requires { ⌜ (at ≤ length (now ws)) × (v ≤ 256) ⌝ }
+    ensures { λ r. ⌜ Listed (now (ws .entry)) (take v (now (types .entry))) at due r ⌝ }
+{
+    match due {
+        Due::Start => 0,
+        Due::Upper(_) => 0,
+        Due::Arguments {
+            numbers,
+            variables,
+            kind,
+            code: _,
+            k: _,
+        } => {
+            if 0 < numbers {
+                return numbers_at(ws, at, numbers);
+            }
+            variables_at(ws, at, variables, kind, types, v)
+        }
+        Due::Ended => 0,
+    }
+}
+
 // The first fault of a model and its place.
 pub fn read_model(ws: &[u32]) -> Refusal
     ensures { λ r. ⌜ r ≡ readModel (now (ws .entry)) ⌝ }
@@ -67,6 +125,9 @@ pub fn read_model(ws: &[u32]) -> Refusal
             v += 1;
         }
         at += 1;
+        let listed = listed_at(ws, at, due, &types, v);
+        at += listed;
+        due = steps::past(due, listed);
     }
     refusal_at_end(due, at)
 }

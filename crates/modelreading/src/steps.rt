@@ -1,7 +1,9 @@
 // What is due after a word without a fault, and what the word adds.
 ghost use mathlib.Core.Path.{_≡_};
+ghost use Prim.Native.Nat.{_≤_};
 ghost use lib.ListN.{getD};
 ghost use Rattle.models.specs.Reading.{afterHead, afterArgument, afterDue, declared, started};
+ghost use Rattle.modelreading.specs.Listed.{listLength, past};
 use crate::shapes;
 use models::Due;
 use words::kind;
@@ -88,6 +90,30 @@ pub fn after_due(due: Due, w: u32) -> Due
                 return after_head(w);
             }
             after_argument(argument, code, k + 1, w)
+        }
+        Due::Ended => Due::Ended,
+    }
+}
+
+// After n words of the list that is due.
+pub fn past(due: Due, n: usize) -> Due
+    requires { ⌜ n ≤ listLength due ⌝ }
+    ensures { λ r. ⌜ r ≡ past due n ⌝ }
+{
+    match due {
+        Due::Start => Due::Start,
+        Due::Upper(lower) => Due::Upper(lower),
+        Due::Arguments {
+            numbers,
+            variables,
+            kind,
+            code,
+            k,
+        } => {
+            if 0 < numbers {
+                return arguments(numbers - n, variables, kind, code, k);
+            }
+            arguments(0, variables - n, kind, code, k)
         }
         Due::Ended => Due::Ended,
     }

@@ -1,7 +1,7 @@
 -- The loop's invariant: reading the rest from here gives what reading the whole gives.
 use mathlib.Core.Path.{_≡_, sym, _∙_}
 use mathlib.Core.Logic.{⊎-elim}
-use Prim.Native.Nat.{_-_}
+use Prim.Native.Nat.{_+_, _-_}
 use native.Mathlib.Omega.{arith}
 use lib.ListN.{length, getD}
 use borrow.Author.Tests.{lt-ltb, le-ltb}
@@ -9,6 +9,7 @@ use borrow.Author.Needs.{needs}
 use Rattle.models.specs.Reading.{readModel}
 use Rattle.modelreading.proofs.Declared.{started-small}
 use Rattle.modelreading.proofs.Loop.{Left, Turn, whole, stop, again, again-one, room-here, done}
+use Rattle.modelreading.proofs.Listed.{onward}
 use Rattle.modelreading.proofs.read_model.Statement.{statement}
 use Rattle.modelreading.proofs.read_model.Tie as tie
 
@@ -83,15 +84,30 @@ add-v c = search needs
 add-at : tie.Need-add-at Inv-loop μ-loop
 add-at c = search needs
 
-loop-less : tie.Need-loop-less Inv-loop μ-loop
-loop-less c = search needs
-
-loop-again : tie.Need-loop-again Inv-loop μ-loop
-loop-again c =
+-- what is left after the word
+passed : (c : tie.Joined3 Inv-loop μ-loop) →
+    let p = c .before .before .before .before .before .before .before .before .before .before .before in
+    Left (p .before .before .before .args .ws .now) (c .if3 .types) (c .if3 .v) (p .loop .c + c .before .before .started-by .result) (p .loop .at + 1) (c .before .before .before .after-due .result)
+passed c =
     ⊎-elim
     (λ w. rw (w .1, w .2, c .before .before .started-by .ensures, c .before .before .before .after-due .ensures) (again-one (turn (c .before .before .before .before .before)) (c .before .before .before .before .if2 .left) (c .before .declared-by .result) (c .before .declared-by .ensures) (w .0 .taken)))
     (λ w. rw (w .1, w .2, c .before .before .started-by .ensures, c .before .before .before .after-due .ensures) (again (turn (c .before .before .before .before .before)) (c .before .before .before .before .if2 .left) (sym (w .0 .left) ∙ c .before .declared-by .ensures)))
     (c .if3 .came)
+
+listed-at-requires : tie.Need-listed-at-requires Inv-loop μ-loop
+listed-at-requires c κs = (search needs, passed (c .before) .few)
+
+add-at-2 : tie.Need-add-at-2 Inv-loop μ-loop
+add-at-2 c = record { fits = omega (arith, c .listed-at .ensures .1 .inside) }
+
+past-requires : tie.Need-past-requires Inv-loop μ-loop
+past-requires c κs = c .listed-at .ensures .0
+
+loop-less : tie.Need-loop-less Inv-loop μ-loop
+loop-less c = search needs
+
+loop-again : tie.Need-loop-again Inv-loop μ-loop
+loop-again c = rw (c .past .ensures) (onward _ _ _ (c .before .listed-at .ensures) (passed (c .before .before .before)))
 
 refusal-at-end-requires : tie.Need-refusal-at-end-requires Inv-loop μ-loop
 refusal-at-end-requires c κs = search needs
@@ -121,6 +137,9 @@ read-model-spec =
     array-write-types
     add-v
     add-at
+    listed-at-requires
+    add-at-2
+    past-requires
     loop-less
     loop-again
     refusal-at-end-requires

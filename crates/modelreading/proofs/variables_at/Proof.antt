@@ -1,0 +1,72 @@
+-- The loop's invariant: the words passed name variables of the type.
+use mathlib.Core.Path.{sym, _∙_}
+use Prim.Native.Nat.{_-_, _≤_}
+use native.Mathlib.Omega.{arith}
+use lib.ListN.{getD, take}
+use borrow.Author.Needs.{needs}
+use Rattle.words.specs.Word.{payload}
+use Rattle.models.specs.Reading.{faultVariable}
+use Rattle.modelreading.specs.Listed.{Faultless}
+use Rattle.modelreading.proofs.Listed.{none-yet, one-more, variable-end}
+use Rattle.modelreading.proofs.variables_at.Statement.{statement}
+use Rattle.modelreading.proofs.variables_at.Tie as tie
+
+abbrev Inv-loop : tie.InvT-loop
+Inv-loop ws at n kind types v k₀ k = (k ≤ n) × Faultless (λ w. faultVariable (getD (take v types) (payload w) 0) kind w) ws at k
+
+abbrev μ-loop : tie.MeasureT-loop
+μ-loop ws at n kind types v k₀ k = n - k
+
+loop-holds : tie.Need-loop-holds Inv-loop μ-loop
+loop-holds c = (search needs, none-yet _ (c .before .pre .0))
+
+add-word-at : tie.Need-add-word-at Inv-loop μ-loop
+add-word-at c = search needs
+
+word-at-requires : tie.Need-word-at-requires Inv-loop μ-loop
+word-at-requires c κs = search needs
+
+payload-of-requires : tie.Need-payload-of-requires Inv-loop μ-loop
+payload-of-requires c κs = search needs
+
+type-at-requires : tie.Need-type-at-requires Inv-loop μ-loop
+type-at-requires c κs = search needs
+
+of-variable-requires : tie.Need-of-variable-requires Inv-loop μ-loop
+of-variable-requires c κs = search needs
+
+returns : tie.Need-returns Inv-loop μ-loop
+returns c = c .before .before .before .before .before .before .loop .inv
+
+add-k : tie.Need-add-k Inv-loop μ-loop
+add-k c = search needs
+
+loop-less : tie.Need-loop-less Inv-loop μ-loop
+loop-less c = search needs
+
+loop-again : tie.Need-loop-again Inv-loop μ-loop
+loop-again c =
+    let h = c .before .before .before .before .before .before .loop .inv in
+    let a = c .before .before .before .before .before .before .before .before .args in
+    (omega (arith, c .before .before .before .before .before .loop-test .taken), one-more (h .1) (rw (c .before .before .type-at .ensures, c .before .before .before .payload-of .ensures, c .before .before .before .before .word-at .ensures) at (sym (c .before .of-variable .ensures) ∙ c .if1 .left)) (variable-end (take (a .v) (a .types .now)) (a .kind)))
+
+returns-2 : tie.Need-returns-2 Inv-loop μ-loop
+returns-2 c = c .before .loop .inv
+
+pub variables-at-spec : {M : Type 1} → statement M
+variables-at-spec =
+    tie.close
+    (tie.spec
+    Inv-loop
+    μ-loop
+    loop-holds
+    add-word-at
+    word-at-requires
+    payload-of-requires
+    type-at-requires
+    of-variable-requires
+    returns
+    add-k
+    loop-less
+    loop-again
+    returns-2)
