@@ -1,0 +1,380 @@
+//! Calls the library and the twin on the same input and compares all that can be seen afterwards.
+
+use crate::answers::{Counts, Judgement, FALSE, HOLDS, OUT_OF_BOUNDS, REFUSED};
+use crate::inputs::{self, Input, Random};
+use crate::library::Library;
+use crate::twin::{self, kind, payload, CONSTRAINT};
+use std::collections::BTreeMap;
+use std::fmt::{Debug, LowerHex};
+use std::process::exit;
+
+#[derive(Clone, Copy, PartialEq)]
+pub enum Call {
+    CheckBytes,
+    Check,
+    Translate,
+    JudgeModel,
+    JudgeRows,
+    Fill,
+}
+
+const CALLS: [Call; 6] = [Call::CheckBytes, Call::Check, Call::Translate, Call::JudgeModel, Call::JudgeRows, Call::Fill];
+
+impl Call {
+    fn name(self) -> &'static str {
+        ["check-bytes", "check", "translate", "judge-model", "judge-rows", "fill"][self as usize]
+    }
+
+    /// The faults that the call meets (01, below the numbered faults).
+    fn meets(self, fault: usize) -> bool {
+        match self {
+            Call::CheckBytes | Call::Check => fault <= 14,
+            Call::Translate => fault <= 14 || fault == 16,
+            Call::JudgeModel => fault <= 11 || fault == 15,
+            Call::JudgeRows => matches!(fault, 1..=5 | 9..=11 | 14 | 15 | 17),
+            Call::Fill => fault <= 16,
+        }
+    }
+
+    /// Whether the call gives an answer: the judges and fill all of them, the others only refusals and acceptance.
+    fn says(self, answer: u32) -> bool {
+        answer <= HOLDS || matches!(self, Call::JudgeModel | Call::JudgeRows | Call::Fill)
+    }
+}
+
+/// A list lent inside a larger one whose other elements guard it.
+struct Guarded<T> {
+    all: Vec<T>,
+    before: usize,
+    count: usize,
+}
+
+const GUARD: usize = 16;
+
+/// The pattern of guard elements and of outputs before a call.
+trait Pattern: Copy + PartialEq + Debug {
+    fn pattern(at: usize) -> Self;
+}
+
+impl Pattern for u32 {
+    fn pattern(at: usize) -> u32 {
+        0xA5C3_96F0 ^ (at as u32).wrapping_mul(0x9E37_79B9)
+    }
+}
+
+impl Pattern for i32 {
+    fn pattern(at: usize) -> i32 {
+        u32::pattern(at) as i32
+    }
+}
+
+impl Pattern for u8 {
+    fn pattern(at: usize) -> u8 {
+        u32::pattern(at) as u8
+    }
+}
+
+impl<T: Pattern> Guarded<T> {
+    fn new() -> Self {
+        Guarded { all: vec![], before: 0, count: 0 }
+    }
+
+    /// An output of so many elements, the whole of it pattern.
+    fn room(&mut self, count: usize) -> &mut [T] {
+        self.all.clear();
+        self.all.extend((0..count + 2 * GUARD).map(T::pattern));
+        (self.before, self.count) = (GUARD, count);
+        &mut self.all[GUARD..GUARD + count]
+    }
+
+    /// A list to read, with `shift` more elements before it.
+    fn lend(&mut self, list: &[T], shift: usize) {
+        (self.before, self.count) = (GUARD + shift, list.len());
+        self.all.clear();
+        self.all.extend((0..self.before).map(T::pattern));
+        self.all.extend_from_slice(list);
+        self.all.extend((self.all.len()..self.all.len() + GUARD).map(T::pattern));
+    }
+
+    fn list(&self) -> &[T] {
+        &self.all[self.before..self.before + self.count]
+    }
+
+    /// Whether the list is still the one lent, the guards included.
+    fn unchanged(&self, list: &[T]) -> bool {
+        let guards = (0..self.before).chain(self.before + self.count..self.all.len());
+        self.list() == list && guards.into_iter().all(|at| self.all[at] == T::pattern(at))
+    }
+}
+
+/// Compares both sides and counts what they answered.
+pub struct Comparer {
+    library: Library,
+    seed: u64,
+    index: u64,
+    family: &'static str,
+    words: Guarded<u32>,
+    bytes: Guarded<u8>,
+    values: Guarded<i32>,
+    out_words: [Guarded<u32>; 2],
+    out_values: [Guarded<i32>; 2],
+    calls: u64,
+    families: BTreeMap<&'static str, u64>,
+    faults: [[u64; 18]; 6],
+    answers: [[u64; 4]; 6],
+    /// For each code: its constraints in accepted models, in models that hold, and those named as false.
+    codes: [[u64; 3]; 29],
+}
+
+impl Comparer {
+    pub fn new(seed: u64) -> Comparer {
+        Comparer {
+            library: Library { null: false },
+            seed,
+            index: 0,
+            family: "",
+            words: Guarded::new(),
+            bytes: Guarded::new(),
+            values: Guarded::new(),
+            out_words: [Guarded::new(), Guarded::new()],
+            out_values: [Guarded::new(), Guarded::new()],
+            calls: 0,
+            families: BTreeMap::new(),
+            faults: [[0; 18]; 6],
+            answers: [[0; 4]; 6],
+            codes: [[0; 3]; 29],
+        }
+    }
+
+    /// Runs the input of an index through every call that takes it.
+    pub fn run(&mut self, index: u64) {
+        let mut random = Random::new(self.seed, index);
+        let input = inputs::input(&mut random);
+        self.index = index;
+        self.family = input.family;
+        self.library.null = index % 2 == 1;
+        *self.families.entry(input.family).or_default() += 1;
+        // Some words go to the calls of the other form as well.
+        let both = random.one_in(16);
+        if !input.rows || both {
+            self.model(&mut random, &input);
+        }
+        if input.rows || both {
+            self.rows(&mut random, &input.words, &input.values);
+        }
+    }
+
+    fn model(&mut self, random: &mut Random, input: &Input) {
+        let words = &input.words;
+        self.words.lend(words, 0);
+        self.check_bytes(random, words);
+        let counts = self.check(words);
+        let accepted = counts.fault == 0;
+        if accepted {
+            self.count_codes(words, 0);
+        }
+        let all = counts.variables + counts.auxiliaries;
+        let room = room(random, counts.words, accepted);
+        let short = if random.one_in(2) { counts.words.saturating_sub(1) } else { random.below(counts.words + 1) };
+        for room in [short, room] {
+            self.translate(words, room);
+        }
+        let mut lists = inputs::value_lists(random, words, &input.values);
+        if words.len() < 200 && random.one_in(4) {
+            lists.extend(inputs::solution(random, words, 10));
+        }
+        let mut filled = None;
+        for values in &lists {
+            let judged = self.judge_model(words, values);
+            let room = if random.one_in(4) { random.pick(&[0, all / 2, all.saturating_sub(1)]) } else { self::room(random, all, accepted) };
+            let answer = self.fill(words, values, room);
+            if answer.said == HOLDS {
+                self.count_codes(words, 1);
+                filled = Some(self.out_values[0].list()[..answer.at].to_vec());
+            }
+            if judged.said == FALSE {
+                let code = words.iter().filter(|&&word| kind(word) == CONSTRAINT).nth(judged.at).map_or(0, |&word| payload(word));
+                self.codes[code as usize][2] += 1;
+            }
+        }
+        // The last output was lent with room for all words.
+        if accepted && (counts.words < 5_000 || random.one_in(8)) {
+            self.translate(words, counts.words);
+            let rows = self.out_words[0].list().to_vec();
+            if let Some(filled) = &filled {
+                if self.judge_rows(&rows, filled, true).said != HOLDS {
+                    self.differ(Call::JudgeRows, &rows, filled, None, "fill's values must satisfy translate's rows".into());
+                }
+            }
+            self.rows(random, &rows, filled.as_deref().unwrap_or(&input.values));
+        }
+    }
+
+    fn rows(&mut self, random: &mut Random, words: &[u32], values: &[i32]) {
+        let lists = inputs::value_lists(random, words, values);
+        for (at, values) in lists.iter().enumerate() {
+            self.judge_rows(words, values, at == 0);
+        }
+    }
+
+    fn check_bytes(&mut self, random: &mut Random, words: &[u32]) {
+        let mut bytes: Vec<u8> = words.iter().flat_map(|word| word.to_le_bytes()).collect();
+        for _ in 0..random.below(4) {
+            bytes.push(random.next() as u8);
+        }
+        if random.one_in(8) {
+            bytes.truncate(random.below(bytes.len() + 1));
+        }
+        self.bytes.lend(&bytes, random.below(4));
+        let library = self.library.check_bytes(self.bytes.list());
+        let twin = twin::check_bytes(&bytes);
+        let unchanged = self.bytes.unchanged(&bytes);
+        if library != twin || !unchanged {
+            println!("bytes: {bytes:02x?}");
+            self.differ(Call::CheckBytes, words, &[], None, format!("library {library}, twin {twin}, bytes unchanged: {unchanged}"));
+        }
+        self.count(Call::CheckBytes, twin, u32::from(twin == 0));
+    }
+
+    fn check(&mut self, words: &[u32]) -> Counts {
+        let library = self.library.check(self.words.list());
+        let twin = twin::check(words);
+        if library != twin || !self.words.unchanged(words) {
+            self.differ(Call::Check, words, &[], None, self.told(&library, &twin, words, &[]));
+        }
+        self.count(Call::Check, twin.fault, u32::from(twin.fault == 0));
+        twin
+    }
+
+    fn translate(&mut self, words: &[u32], room: usize) {
+        let [ours, theirs] = &mut self.out_words;
+        let library = self.library.translate(self.words.list(), ours.room(room));
+        let twin = twin::translate(words, theirs.room(room));
+        if library != twin || ours.all != theirs.all || !self.words.unchanged(words) {
+            let outputs = first_difference(&ours.all, &theirs.all);
+            self.differ(Call::Translate, words, &[], Some(room), self.told(&library, &twin, words, &[]) + &outputs);
+        }
+        self.count(Call::Translate, twin.fault, u32::from(twin.fault == 0));
+    }
+
+    fn judge_model(&mut self, words: &[u32], values: &[i32]) -> Judgement {
+        self.values.lend(values, 0);
+        let library = self.library.judge_model(self.words.list(), self.values.list());
+        let twin = twin::judge_model(words, values);
+        if library != twin || !self.words.unchanged(words) || !self.values.unchanged(values) {
+            self.differ(Call::JudgeModel, words, values, None, self.told(&library, &twin, words, values));
+        }
+        self.count(Call::JudgeModel, twin.fault, twin.said);
+        twin
+    }
+
+    /// `fresh`: the words are not lent yet.
+    fn judge_rows(&mut self, words: &[u32], values: &[i32], fresh: bool) -> Judgement {
+        if fresh {
+            self.words.lend(words, 0);
+        }
+        self.values.lend(values, 0);
+        let library = self.library.judge_rows(self.words.list(), self.values.list());
+        let twin = twin::judge_rows(words, values);
+        if library != twin || !self.words.unchanged(words) || !self.values.unchanged(values) {
+            self.differ(Call::JudgeRows, words, values, None, self.told(&library, &twin, words, values));
+        }
+        self.count(Call::JudgeRows, twin.fault, twin.said);
+        twin
+    }
+
+    fn fill(&mut self, words: &[u32], values: &[i32], room: usize) -> Judgement {
+        self.values.lend(values, 0);
+        let [ours, theirs] = &mut self.out_values;
+        let library = self.library.fill(self.words.list(), self.values.list(), ours.room(room));
+        let twin = twin::fill(words, values, theirs.room(room));
+        if library != twin || ours.all != theirs.all || !self.words.unchanged(words) || !self.values.unchanged(values) {
+            let outputs = first_difference(&ours.all, &theirs.all);
+            self.differ(Call::Fill, words, values, Some(room), self.told(&library, &twin, words, values) + &outputs);
+        }
+        self.count(Call::Fill, twin.fault, twin.said);
+        twin
+    }
+
+    fn told(&self, library: &impl Debug, twin: &impl Debug, words: &[u32], values: &[i32]) -> String {
+        let kept = self.words.unchanged(words) && (values.is_empty() || self.values.unchanged(values));
+        format!("library {library:?}\ntwin    {twin:?}\nread lists unchanged: {kept}")
+    }
+
+    /// Reports a difference and ends the run.
+    fn differ(&self, call: Call, words: &[u32], values: &[i32], room: Option<usize>, told: String) -> ! {
+        println!("twin: a difference, seed {}, index {} ({}), call {}", self.seed, self.index, self.family, call.name());
+        println!("words: {}", words.iter().map(|word| format!("{word:08X}")).collect::<Vec<_>>().join(" "));
+        println!("values: {values:?}");
+        if let Some(room) = room {
+            println!("room: {room}");
+        }
+        println!("{told}");
+        exit(1)
+    }
+
+    fn count(&mut self, call: Call, fault: u32, answer: u32) {
+        self.calls += 1;
+        self.answers[call as usize][answer as usize] += 1;
+        if answer == REFUSED {
+            self.faults[call as usize][fault as usize] += 1;
+        }
+    }
+
+    /// In accepted models only the head words have kind 4.
+    fn count_codes(&mut self, words: &[u32], column: usize) {
+        for &word in words.iter().filter(|&&word| kind(word) == CONSTRAINT) {
+            self.codes[payload(word) as usize][column] += 1;
+        }
+    }
+
+    /// Prints what occurred; answers whether everything that can occur did.
+    pub fn report(&self) -> bool {
+        let mut complete = true;
+        println!("inputs by family:");
+        for (family, count) in &self.families {
+            println!("  {count:8}  {family}");
+        }
+        println!("calls of each side: {}", self.calls);
+        println!("faults, a line each, by call (- where the call never meets it):");
+        print!("{:>15}", "");
+        CALLS.iter().for_each(|call| print!("{:>13}", call.name()));
+        println!();
+        for fault in 1..=17 {
+            print!("{fault:>15}");
+            for call in CALLS {
+                let count = self.faults[call as usize][fault];
+                if call.meets(fault) { print!("{count:>13}") } else { print!("{:>13}", if count == 0 { "-" } else { "WRONG" }) }
+                complete &= (count > 0) == call.meets(fault);
+            }
+            println!();
+        }
+        for (answer, name) in [(HOLDS, "accepted, holds"), (OUT_OF_BOUNDS, "out of bounds"), (FALSE, "false")] {
+            print!("{name:>15}");
+            for call in CALLS {
+                let count = self.answers[call as usize][answer as usize];
+                if call.says(answer) { print!("{count:>13}") } else { print!("{:>13}", "-") }
+                complete &= (count > 0) == call.says(answer);
+            }
+            println!();
+        }
+        println!("constraints by code: in accepted models, in filled models, named as false:");
+        for (code, counts) in self.codes.iter().enumerate().skip(1) {
+            print!("  {code:2}: {:7} {:7} {:6}{}", counts[0], counts[1], counts[2], if code % 4 == 0 { "\n" } else { "" });
+            complete &= counts.iter().all(|&count| count > 0);
+        }
+        complete
+    }
+}
+
+/// An output long enough: exact, or longer.
+fn room(random: &mut Random, exact: usize, accepted: bool) -> usize {
+    if !accepted || random.one_in(2) { exact + random.below(40) } else { exact }
+}
+
+fn first_difference<T: PartialEq + Debug + LowerHex>(ours: &[T], theirs: &[T]) -> String {
+    match ours.iter().zip(theirs).position(|(one, other)| one != other) {
+        None => "\noutputs alike".into(),
+        Some(at) => format!("\noutputs differ at {} (below 0 or past the room: a guard): library {:x}, twin {:x}", at as i64 - GUARD as i64, ours[at], theirs[at]),
+    }
+}

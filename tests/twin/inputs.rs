@@ -1,0 +1,1011 @@
+//! Random, damaged and limit inputs. Every input follows from a seed and an index.
+
+use crate::answers::HOLDS;
+use crate::twin::{self, kind, payload, signed, word};
+use crate::twin::{
+    ALL_VARIABLES, AT_MOST, AUX_LOWER, AUX_UPPER, BOOLEAN, CONSTRAINT, EQUAL, LARGEST, LEAST, LIST_LENGTH, LOWER, MODEL_CONSTRAINTS, MODEL_END,
+    MODEL_VARIABLES, MODEL_WORDS, NUMBER, PRODUCT, ROWS_END, ROW_TERMS, ROW_WORDS, UPPER, VARIABLE,
+};
+
+/// A xorshift generator.
+pub struct Random(u64);
+
+impl Random {
+    /// The generator of one input.
+    pub fn new(seed: u64, index: u64) -> Random {
+        // Two rounds of mixing (splitmix64), so that neighbouring seeds and indices share nothing; a state of 0 would stay 0.
+        let mut state = seed.wrapping_mul(0x9E37_79B9_7F4A_7C15).wrapping_add(index);
+        for _ in 0..2 {
+            state = state.wrapping_add(0x9E37_79B9_7F4A_7C15);
+            state = (state ^ state >> 30).wrapping_mul(0xBF58_476D_1CE4_E5B9);
+            state = (state ^ state >> 27).wrapping_mul(0x94D0_49BB_1331_11EB);
+            state ^= state >> 31;
+        }
+        Random(state | 1)
+    }
+
+    pub fn next(&mut self) -> u64 {
+        self.0 ^= self.0 >> 12;
+        self.0 ^= self.0 << 25;
+        self.0 ^= self.0 >> 27;
+        self.0.wrapping_mul(0x2545_F491_4F6C_DD1D) >> 8
+    }
+
+    /// A number below `count`, which is not 0.
+    pub fn below(&mut self, count: usize) -> usize {
+        (self.next() % count as u64) as usize
+    }
+
+    pub fn between(&mut self, least: i64, largest: i64) -> i64 {
+        least + (self.next() % (largest - least + 1) as u64) as i64
+    }
+
+    pub fn one_in(&mut self, count: usize) -> bool {
+        self.below(count) == 0
+    }
+
+    pub fn pick<T: Copy>(&mut self, list: &[T]) -> T {
+        list[self.below(list.len())]
+    }
+
+    fn shuffle<T>(&mut self, list: &mut [T]) {
+        for at in (1..list.len()).rev() {
+            list.swap(at, self.below(at + 1));
+        }
+    }
+}
+
+/// Words, a model's or a row system's, and values made for them (damage may come between).
+pub struct Input {
+    pub family: &'static str,
+    pub rows: bool,
+    pub words: Vec<u32>,
+    pub values: Vec<i32>,
+}
+
+/// The input of a seed and an index.
+pub fn input(random: &mut Random) -> Input {
+    let (family, rows, (words, values)) = match random.below(1_000) {
+        0..=389 => ("model", false, small_model(random)),
+        390..=469 => ("model near the range", false, range_model(random)),
+        470..=479 => ("model near 256 variables", false, many_variables(random)),
+        480..=487 => ("model near 256 constraints", false, many_constraints(random)),
+        488..=495 => ("model near 4,096 auxiliaries", false, many_auxiliaries(random)),
+        496..=499 => ("model near 8,192 words", false, near_model_words(random)),
+        500..=699 => ("damaged model", false, damaged(random, small_model)),
+        700..=719 => ("damaged model near the range", false, damaged(random, range_model)),
+        720..=724 => ("damaged model near a limit", false, damaged(random, limit_model)),
+        725..=769 => ("random words", false, random_words(random)),
+        770..=859 => ("rows", true, small_rows(random)),
+        860..=864 => ("rows near 66 terms", true, many_terms(random)),
+        865..=868 => ("rows near 4,096 variables", true, many_row_variables(random)),
+        869 => ("rows near 131,072 words", true, near_row_words(random)),
+        870..=935 => ("damaged rows", true, damaged(random, small_rows)),
+        936..=939 => ("damaged rows near a limit", true, damaged(random, limit_rows)),
+        940..=979 => ("damaged rows of a model", true, damaged(random, model_rows)),
+        _ => ("random words as rows", true, random_words(random)),
+    };
+    Input { family, rows, words, values }
+}
+
+type Pair = (Vec<u32>, Vec<i32>);
+
+// --------------------------------------------------------------------------------------------------------------------------------- numbers
+
+const HALF: i64 = 1 << 26;
+
+/// Numbers whose differences and doubles lie at the ends of the range.
+const ENDS: [i64; 20] = [
+    LEAST, LEAST + 1, LEAST + 2, -HALF - 1, -HALF, -HALF + 1, -2, -1, 0, 1, 2, HALF - 1, HALF, HALF + 1, LARGEST - 2, LARGEST - 1, LARGEST, 0, -1, 1,
+];
+
+/// Numbers whose products lie at the ends of the range.
+const FACTORS: [i64; 14] = [-16_384, -16_383, -11_586, -11_585, -8_193, -8_192, -1, 0, 1, 8_191, 8_192, 11_585, 11_586, 16_384];
+
+/// How the bounds of an integer variable are chosen.
+#[derive(Clone, Copy)]
+enum Bounds {
+    Tiny,
+    Index,
+    Bit,
+    Medium,
+    Width64,
+    Factors,
+    Ends,
+    Full,
+}
+
+const SMALL_BOUNDS: [Bounds; 6] = [Bounds::Tiny, Bounds::Tiny, Bounds::Index, Bounds::Index, Bounds::Bit, Bounds::Medium];
+const WIDE_BOUNDS: [Bounds; 5] = [Bounds::Factors, Bounds::Ends, Bounds::Ends, Bounds::Full, Bounds::Width64];
+
+impl Bounds {
+    fn choose(self, random: &mut Random) -> (i64, i64) {
+        let (one, other) = match self {
+            Bounds::Tiny => (random.between(-3, 3), random.between(-3, 3)),
+            Bounds::Index => {
+                let lower = random.between(-2, 4);
+                (lower, lower + random.between(0, 8))
+            }
+            Bounds::Bit => (0, 1),
+            Bounds::Medium => {
+                let lower = random.between(-2_000, 2_000);
+                (lower, lower + random.between(0, 100))
+            }
+            Bounds::Width64 => {
+                let lower = random.pick(&[LEAST, -64, -1, 0, 1, 1_000_000, LARGEST - 64]);
+                (lower, lower + random.between(62, 64))
+            }
+            Bounds::Factors => (random.pick(&FACTORS), random.pick(&FACTORS)),
+            Bounds::Ends => (random.pick(&ENDS), random.pick(&ENDS)),
+            Bounds::Full => (random.between(LEAST, LARGEST), random.between(LEAST, LARGEST)),
+        };
+        (one.min(other), one.max(other))
+    }
+}
+
+/// A number of an argument or a row: small mostly.
+fn any_number(random: &mut Random) -> i64 {
+    match random.below(16) {
+        0 => random.pick(&ENDS),
+        1 => random.pick(&FACTORS),
+        2 => random.between(LEAST, LARGEST),
+        _ => random.between(-5, 5),
+    }
+}
+
+fn in_range(number: i64) -> bool {
+    (LEAST..=LARGEST).contains(&number)
+}
+
+// ---------------------------------------------------------------------------------------------------------------------------------- models
+
+/// Builds a model around values that its constraints are to be true of.
+struct Builder<'a> {
+    random: &'a mut Random,
+    variables: Vec<u32>,
+    bounds: Vec<(i64, i64)>,
+    values: Vec<i32>,
+    integers: Vec<usize>,
+    booleans: Vec<usize>,
+    constraints: Vec<Vec<u32>>,
+    /// Whether Σ as×bs − c is led to the ends of the range.
+    near_range: bool,
+    /// Whether all numbers are small, so that check accepts every constraint.
+    modest: bool,
+}
+
+impl Builder<'_> {
+    fn new(random: &mut Random) -> Builder<'_> {
+        Builder {
+            random,
+            variables: vec![],
+            bounds: vec![],
+            values: vec![],
+            integers: vec![],
+            booleans: vec![],
+            constraints: vec![],
+            near_range: false,
+            modest: false,
+        }
+    }
+
+    fn declare_integer(&mut self, lower: i64, upper: i64, value: i64) {
+        self.variables.extend([word(LOWER, lower), word(UPPER, upper)]);
+        self.integers.push(self.bounds.len());
+        self.bounds.push((lower, upper));
+        self.values.push(value as i32);
+    }
+
+    fn integer(&mut self, bounds: Bounds) {
+        let (lower, upper) = bounds.choose(self.random);
+        let value = match self.random.below(4) {
+            0 => lower,
+            1 => upper,
+            _ => self.random.between(lower, upper),
+        };
+        self.declare_integer(lower, upper, value);
+    }
+
+    /// An integer variable whose value is the sum, product, absolute value or maximum of earlier ones.
+    fn derived_integer(&mut self) {
+        let [one, other] = [0; 2].map(|_| i64::from(self.values[self.random.pick(&self.integers)]));
+        let value = match self.random.below(4) {
+            0 => one + other,
+            1 => one * other,
+            2 => one.abs(),
+            _ => one.max(other),
+        };
+        if in_range(value) {
+            let (below, above) = match self.random.below(4) {
+                0 => (0, 0),
+                1 if !self.modest => (LARGEST, LARGEST),
+                _ => (self.random.between(0, 3), self.random.between(0, 3)),
+            };
+            self.declare_integer((value - below).max(LEAST), (value + above).min(LARGEST), value);
+        }
+    }
+
+    fn boolean(&mut self) {
+        self.variables.push(word(BOOLEAN, 0));
+        self.booleans.push(self.bounds.len());
+        self.bounds.push((0, 1));
+        self.values.push(self.random.below(2) as i32);
+    }
+
+    /// Variables of both types, in any order.
+    fn some_variables(&mut self, integers: usize, booleans: usize, bounds: &[Bounds]) {
+        let main = self.random.pick(bounds);
+        let (mut integers, mut booleans) = (integers, booleans);
+        while integers + booleans > 0 {
+            if self.random.below(integers + booleans) < integers {
+                integers -= 1;
+                if !self.integers.is_empty() && self.random.one_in(3) {
+                    self.derived_integer();
+                } else {
+                    let chosen = if self.random.one_in(3) { self.random.pick(bounds) } else { main };
+                    self.integer(chosen);
+                }
+            } else {
+                booleans -= 1;
+                self.boolean();
+            }
+        }
+    }
+
+    fn value(&self, variable: usize) -> i64 {
+        i64::from(self.values[variable])
+    }
+
+    fn number(&mut self) -> i64 {
+        if self.modest { self.random.between(-5, 5) } else { any_number(self.random) }
+    }
+
+    /// A list length: short mostly.
+    fn length(&mut self) -> usize {
+        match self.random.below(16) {
+            0 => 0,
+            1 => LIST_LENGTH as usize,
+            2 => self.random.below(LIST_LENGTH as usize + 1),
+            _ => 1 + self.random.below(4),
+        }
+    }
+
+    fn list(&mut self, from: &[usize], length: usize) -> Vec<usize> {
+        let length = if from.is_empty() { 0 } else { length };
+        (0..length).map(|_| self.random.pick(from)).collect()
+    }
+
+    /// The words of a constraint, or none where a variable of some type is missing. `aimed`: its numbers are chosen to make it true.
+    fn constraint(&mut self, code: u32, length: usize, aimed: bool) -> Option<Vec<u32>> {
+        let (integers, booleans) = (self.integers.clone(), self.booleans.clone());
+        let wants_integer = matches!(code, 1..=9 | 14 | 16 | 24..=28);
+        let wants_boolean = matches!(code, 5 | 13..=20 | 22 | 28);
+        if wants_integer && integers.is_empty() || wants_boolean && booleans.is_empty() {
+            return None;
+        }
+        let mut words = vec![word(CONSTRAINT, i64::from(code))];
+        let (int, bool) = (|random: &mut Random| random.pick(&integers), |random: &mut Random| random.pick(&booleans));
+        match code {
+            1..=4 | 8 => push_variables(&mut words, &[int(self.random), int(self.random)]),
+            5 | 14 => push_variables(&mut words, &[int(self.random), int(self.random), bool(self.random)]),
+            6 | 7 | 9 => push_variables(&mut words, &[int(self.random), int(self.random), int(self.random)]),
+            10..=13 | 15 => self.linear(code, length, aimed, &mut words),
+            16 => push_variables(&mut words, &[bool(self.random), int(self.random)]),
+            17 => push_variables(&mut words, &[bool(self.random), bool(self.random)]),
+            18..=20 => push_variables(&mut words, &[bool(self.random), bool(self.random), bool(self.random)]),
+            21 => {
+                let second_length = if self.random.one_in(2) { length } else { self.length() };
+                for length in [length, second_length] {
+                    let list = self.list(&booleans, length);
+                    push_list(&mut words, &list);
+                }
+            }
+            22 => {
+                let r = bool(self.random);
+                let ones: Vec<usize> = booleans.iter().copied().filter(|&variable| self.values[variable] == 1).collect();
+                let list = self.list(if aimed && self.values[r] == 1 { &ones } else { &booleans }, length);
+                push_list(&mut words, &list);
+                push_variables(&mut words, &[r]);
+            }
+            23 => {
+                let (ones, zeros): (Vec<usize>, Vec<usize>) = booleans.iter().partition(|&&variable| self.values[variable] == 1);
+                let mut list = self.list(if aimed && !zeros.is_empty() { &zeros } else { &booleans }, length);
+                if aimed && !ones.is_empty() && !list.is_empty() {
+                    let at = self.random.below(list.len());
+                    list[at] = self.random.pick(&ones);
+                }
+                push_list(&mut words, &list);
+            }
+            24 => {
+                let (i, c) = (int(self.random), int(self.random));
+                let mut numbers: Vec<i64> = (0..length).map(|_| self.number()).collect();
+                let index = self.value(i);
+                if aimed && (1..=length as i64).contains(&index) {
+                    numbers[index as usize - 1] = self.value(c);
+                }
+                push_variables(&mut words, &[i]);
+                push_numbers(&mut words, &numbers);
+                push_variables(&mut words, &[c]);
+            }
+            25 => {
+                let (i, c) = (int(self.random), int(self.random));
+                let mut list = self.list(&integers, length);
+                let index = self.value(i);
+                if aimed && self.random.one_in(2) && (1..=length as i64).contains(&index) {
+                    list[index as usize - 1] = c;
+                }
+                push_variables(&mut words, &[i]);
+                push_list(&mut words, &list);
+                push_variables(&mut words, &[c]);
+            }
+            26 => {
+                let mut list = self.list(&integers, length);
+                let largest = list.iter().copied().max_by_key(|&variable| self.values[variable]);
+                let m = match largest {
+                    Some(largest) if aimed && self.random.one_in(2) => largest,
+                    _ => int(self.random),
+                };
+                if aimed && length > 0 && self.random.one_in(2) {
+                    let at = self.random.below(length);
+                    list[at] = m;
+                }
+                push_variables(&mut words, &[m]);
+                push_list(&mut words, &list);
+            }
+            _ => {
+                let x = int(self.random);
+                let (lower, upper) = self.bounds[x];
+                let mut numbers: Vec<i64> = (0..length).map(|_| self.number()).collect();
+                for number in &mut numbers {
+                    match self.random.below(6) {
+                        0..=2 => *number = self.random.between(lower, upper),
+                        3 => *number = self.random.pick(&[lower, upper, (lower - 1).max(LEAST), (upper + 1).min(LARGEST)]),
+                        _ => (),
+                    }
+                }
+                if length > 0 && self.random.one_in(2) {
+                    let (from, to) = (self.random.below(length), self.random.below(length));
+                    numbers[to] = numbers[from];
+                }
+                if aimed && length > 0 && self.random.one_in(2) {
+                    let at = self.random.below(length);
+                    numbers[at] = self.value(x);
+                }
+                push_variables(&mut words, &[x]);
+                push_numbers(&mut words, &numbers);
+                if code == 28 {
+                    push_variables(&mut words, &[bool(self.random)]);
+                }
+            }
+        }
+        Some(words)
+    }
+
+    /// The arguments of int_lin_eq, le, ne, eq_reif and le_reif.
+    fn linear(&mut self, code: u32, length: usize, aimed: bool, words: &mut Vec<u32>) {
+        let integers = self.integers.clone();
+        let list = self.list(&integers, length);
+        let small = self.random.below(4) > 0;
+        let numbers: Vec<i64> = list.iter().map(|_| if small { self.random.between(-3, 3) } else { self.number() }).collect();
+        let r = if self.booleans.is_empty() { None } else { Some(self.random.pick(&self.booleans)) };
+        let sum: i64 = numbers.iter().zip(&list).map(|(number, &variable)| number * self.value(variable)).sum();
+        let mut constant = self.number();
+        if aimed {
+            let one = r.is_some_and(|r| self.value(r) == 1);
+            let apart = self.random.between(1, 3);
+            constant = match code {
+                10 => sum,
+                11 => sum + apart - 1,
+                12 => sum + self.random.pick(&[apart, -apart]),
+                13 if one => sum,
+                13 => sum + self.random.pick(&[apart, -apart]),
+                _ if one => sum + apart - 1,
+                _ => sum - apart,
+            };
+        }
+        if self.near_range && self.random.one_in(2) {
+            let ends = numbers.iter().zip(&list).map(|(number, &variable)| (number * self.bounds[variable].0, number * self.bounds[variable].1));
+            let (least, largest) = ends.fold((0, 0), |(least, largest), (one, other)| (least + one.min(other), largest + one.max(other)));
+            let end = self.random.pick(&[least, largest]);
+            constant = end - self.random.pick(&[LEAST, LARGEST, LEAST, LARGEST, -LEAST]) - self.random.between(-2, 2);
+        }
+        constant = constant.clamp(LEAST, LARGEST);
+        words.push(word(NUMBER, length.min(list.len()) as i64));
+        words.extend(numbers.iter().map(|&number| word(NUMBER, number)));
+        push_variables(words, &list);
+        words.push(word(NUMBER, constant));
+        if let (13 | 15, Some(r)) = (code, r) {
+            push_variables(words, &[r]);
+        }
+    }
+
+    /// Whether a constraint is true of the values.
+    fn is_true(&self, constraint: &[u32]) -> bool {
+        let mut words = self.variables.clone();
+        words.extend_from_slice(constraint);
+        words.push(word(MODEL_END, 0));
+        twin::judge_model(&words, &self.values).said == HOLDS
+    }
+
+    /// Adds a constraint of a code; where a true one is wanted, several are tried. Answers whether one was added.
+    fn add(&mut self, code: u32, length: Option<usize>, wanted_true: bool) -> bool {
+        for _ in 0..if wanted_true { 16 } else { 1 } {
+            let length = length.unwrap_or_else(|| self.length());
+            let Some(constraint) = self.constraint(code, length, wanted_true) else { return false };
+            if !wanted_true || self.is_true(&constraint) {
+                self.constraints.push(constraint);
+                return true;
+            }
+        }
+        false
+    }
+
+    fn size(&self) -> usize {
+        self.variables.len() + self.constraints.iter().map(Vec::len).sum::<usize>() + 1
+    }
+
+    fn finish(self) -> Pair {
+        let mut words = self.variables;
+        words.extend(self.constraints.into_iter().flatten());
+        words.push(word(MODEL_END, 0));
+        (words, self.values)
+    }
+}
+
+fn push_variables(words: &mut Vec<u32>, variables: &[usize]) {
+    words.extend(variables.iter().map(|&variable| word(VARIABLE, variable as i64)));
+}
+
+fn push_list(words: &mut Vec<u32>, variables: &[usize]) {
+    words.push(word(NUMBER, variables.len() as i64));
+    push_variables(words, variables);
+}
+
+fn push_numbers(words: &mut Vec<u32>, numbers: &[i64]) {
+    words.push(word(NUMBER, numbers.len() as i64));
+    words.extend(numbers.iter().map(|&number| word(NUMBER, number)));
+}
+
+fn code(random: &mut Random) -> u32 {
+    1 + random.below(28) as u32
+}
+
+/// Some constraints over the variables that are there.
+fn some_constraints(builder: &mut Builder) {
+    let count = match builder.random.below(20) {
+        0 => 0,
+        1..=9 => 1,
+        10..=17 => 2 + builder.random.below(4),
+        _ => 5 + builder.random.below(25),
+    };
+    let wanted_true = builder.random.below(10);
+    for _ in 0..count {
+        let code = code(builder.random);
+        let wanted_true = wanted_true < 7 || wanted_true < 9 && builder.random.one_in(2);
+        builder.add(code, None, wanted_true);
+    }
+}
+
+fn small_model(random: &mut Random) -> Pair {
+    let (integers, booleans) = (random.below(7), random.below(5));
+    let mut builder = Builder::new(random);
+    builder.some_variables(integers, booleans, &SMALL_BOUNDS);
+    some_constraints(&mut builder);
+    builder.finish()
+}
+
+fn range_model(random: &mut Random) -> Pair {
+    let (integers, booleans) = (1 + random.below(4), random.below(3));
+    let mut builder = Builder::new(random);
+    builder.near_range = true;
+    builder.some_variables(integers, booleans, &WIDE_BOUNDS);
+    if builder.random.one_in(3) {
+        builder.some_variables(2, 1, &SMALL_BOUNDS);
+    }
+    let count = 1 + builder.random.below(3);
+    for _ in 0..count {
+        let code = code(builder.random);
+        let wanted_true = builder.random.one_in(2);
+        builder.add(code, None, wanted_true);
+    }
+    builder.finish()
+}
+
+fn many_variables(random: &mut Random) -> Pair {
+    let count = MODEL_VARIABLES - 1 + random.below(4);
+    let integers = random.below(count + 1);
+    let mut builder = Builder::new(random);
+    builder.some_variables(integers, count - integers, &SMALL_BOUNDS);
+    some_constraints(&mut builder);
+    builder.finish()
+}
+
+fn many_constraints(random: &mut Random) -> Pair {
+    let count = MODEL_CONSTRAINTS - 1 + random.below(4);
+    let mut builder = Builder::new(random);
+    builder.some_variables(4, 3, &SMALL_BOUNDS);
+    let wanted_true = builder.random.one_in(2);
+    while builder.constraints.len() < count {
+        let (code, length) = (code(builder.random), builder.random.below(5));
+        if !builder.add(code, Some(length), wanted_true) {
+            builder.add(code, Some(length), false);
+        }
+    }
+    builder.finish()
+}
+
+/// Blocks of code 28 with 64 auxiliaries and of code 26 with up to 64, then of code 4 with one, in any order.
+fn many_auxiliaries(random: &mut Random) -> Pair {
+    let mut builder = Builder::new(random);
+    builder.some_variables(3, 2, &[Bounds::Tiny, Bounds::Index]);
+    builder.declare_integer(-20, 43, 7);
+    builder.declare_integer(1, 32, 9);
+    let wanted = ALL_VARIABLES - 1 + builder.random.below(4);
+    let wide = builder.bounds.len() as i64 - 2;
+    let mut count = builder.bounds.len();
+    while count < wanted {
+        let left = wanted - count;
+        let added = if left >= 64 && builder.random.one_in(2) {
+            // set_in_reif over the variable of width 64; r is the first Boolean.
+            let r = builder.booleans[0] as i64;
+            let length = builder.random.below(6) as i64;
+            let numbers: Vec<u32> = (0..length).map(|_| word(NUMBER, builder.random.between(-22, 45))).collect();
+            let mut words = vec![word(CONSTRAINT, 28), word(VARIABLE, wide), word(NUMBER, length)];
+            words.extend(numbers);
+            words.push(word(VARIABLE, r));
+            builder.constraints.push(words);
+            64
+        } else if left >= 2 && builder.constraints.len() < 200 {
+            let length = if left >= 64 { 32 } else { left / 2 };
+            builder.add(26, Some(length), false);
+            2 * length
+        } else {
+            builder.add(4, None, false);
+            1
+        };
+        count += added;
+    }
+    // Blocks without auxiliaries, and blocks that may have a fault of their own, stand among them.
+    for _ in 0..builder.random.below(4) {
+        let code = builder.random.pick(&[1, 2, 3, 5, 6, 10, 11, 16, 17, 18, 19, 21, 22, 23]);
+        builder.add(code, None, false);
+    }
+    builder.random.shuffle(&mut builder.constraints);
+    builder.finish()
+}
+
+/// A model of exactly so many words, at least 40, whose constraints are true of its values. Its builtins are mixed; lists are as long as the
+/// number of constraints left demands.
+pub fn sized_model(random: &mut Random, size: usize) -> Pair {
+    let mut builder = Builder::new(random);
+    builder.modest = true;
+    let many = size > 500;
+    let (integers, booleans) = if many { (24, 15) } else { (5, 3) };
+    builder.some_variables(integers, booleans, &[Bounds::Index]);
+    while builder.integers.len() < integers / 2 + 1 {
+        builder.integer(Bounds::Index);
+    }
+    let mut codes: Vec<u32> = vec![];
+    // The last words are left to short constraints.
+    while size - builder.size() > 12 + 67 {
+        if codes.is_empty() {
+            codes.extend(1..=28);
+            builder.random.shuffle(&mut codes);
+        }
+        let code = codes.pop().unwrap_or(1);
+        let average = (size - builder.size()) / MODEL_CONSTRAINTS.saturating_sub(8 + builder.constraints.len()).max(1);
+        let length = if average >= 12 { LIST_LENGTH as usize - builder.random.below(4) } else { 1 + builder.random.below(6) };
+        let is_list = matches!(code, 10..=13 | 15 | 21..=28);
+        if average >= 12 && !is_list && (average >= 36 || builder.random.below(4) > 0) {
+            continue;
+        }
+        builder.add(code, Some(length), true);
+    }
+    close(&mut builder, size);
+    builder.finish()
+}
+
+/// Adds true constraints up to exactly so many words; fewer than 3 words are never left.
+fn close(builder: &mut Builder, size: usize) {
+    let x = builder.integers[0];
+    loop {
+        let left = size - builder.size();
+        match left {
+            0 => return,
+            3 | 6 => builder.constraints.push(vec![word(CONSTRAINT, 1), word(VARIABLE, x as i64), word(VARIABLE, x as i64)]),
+            4 | 5 | 7..=11 => {
+                if left % 2 == 1 {
+                    // int_lin_le with coefficients 0: 3 words and 2 for each term.
+                    let terms = (left - 3) / 2;
+                    let mut words = vec![word(CONSTRAINT, 11), word(NUMBER, terms as i64)];
+                    words.extend((0..terms).map(|_| word(NUMBER, 0)));
+                    words.extend((0..terms).map(|_| word(VARIABLE, x as i64)));
+                    words.push(word(NUMBER, 0));
+                    builder.constraints.push(words);
+                } else {
+                    // set_in with one member, the value of x: 4 words.
+                    let value = builder.value(x);
+                    builder.constraints.push(vec![word(CONSTRAINT, 27), word(VARIABLE, x as i64), word(NUMBER, 1), word(NUMBER, value)]);
+                }
+            }
+            _ => {
+                let code = code(builder.random);
+                let length = builder.random.below(4);
+                let before = builder.constraints.len();
+                builder.add(code, Some(length), true);
+                let gap = size as i64 - builder.size() as i64;
+                if gap < 3 && gap != 0 {
+                    builder.constraints.truncate(before);
+                }
+            }
+        }
+    }
+}
+
+fn near_model_words(random: &mut Random) -> Pair {
+    let size = MODEL_WORDS - 1 + random.below(3);
+    sized_model(random, size)
+}
+
+fn limit_model(random: &mut Random) -> Pair {
+    match random.below(4) {
+        0 => many_variables(random),
+        1 => many_constraints(random),
+        2 => many_auxiliaries(random),
+        _ => near_model_words(random),
+    }
+}
+
+// ------------------------------------------------------------------------------------------------------------------------------ row systems
+
+/// Builds a row system around values that its rows are to be satisfied by.
+struct Rows<'a> {
+    random: &'a mut Random,
+    words: Vec<u32>,
+    values: Vec<i32>,
+}
+
+impl Rows<'_> {
+    fn declare(&mut self, lower_kind: u32, lower: i64, upper: i64, value: i64) {
+        self.words.extend([word(lower_kind, lower), word(if lower_kind == LOWER { UPPER } else { AUX_UPPER }, upper)]);
+        self.values.push(value as i32);
+    }
+
+    fn variable(&mut self, lower_kind: u32) {
+        let bounds = if self.random.one_in(5) { self.random.pick(&WIDE_BOUNDS) } else { self.random.pick(&SMALL_BOUNDS) };
+        let (lower, upper) = bounds.choose(self.random);
+        let value = self.random.between(lower, upper);
+        self.declare(lower_kind, lower, upper, value);
+    }
+
+    fn boolean(&mut self) {
+        self.words.push(word(BOOLEAN, 0));
+        self.values.push(self.random.below(2) as i32);
+    }
+
+    /// A row; `aimed`: its constant is chosen to satisfy it, or to miss that by one.
+    fn row(&mut self, terms: usize, aimed: bool) {
+        let terms = if self.values.is_empty() { 0 } else { terms };
+        let form = self.random.pick(&[AT_MOST, EQUAL]);
+        self.words.push(word(form, terms as i64));
+        let mut sum = 0;
+        for _ in 0..terms {
+            let variable = self.random.below(self.values.len());
+            let coefficient = any_number(self.random);
+            sum += coefficient * i64::from(self.values[variable]);
+            self.words.extend([word(VARIABLE, variable as i64), word(NUMBER, coefficient)]);
+        }
+        let miss = self.random.below(12) == 0;
+        let constant = if aimed { i64::from(miss) - sum } else { any_number(self.random) };
+        self.words.push(word(NUMBER, constant.clamp(LEAST, LARGEST)));
+    }
+
+    /// An auxiliary that is a product, and the product; or a product of any three.
+    fn product(&mut self, aimed: bool) {
+        let count = self.values.len();
+        if count == 0 {
+            return;
+        }
+        let (first, second) = (self.random.below(count), self.random.below(count));
+        let mut result = self.random.below(count);
+        let value = i64::from(self.values[first]) * i64::from(self.values[second]);
+        if aimed && in_range(value) {
+            let wrong = i64::from(self.random.one_in(12));
+            self.declare(AUX_LOWER, (value - 2).max(LEAST), (value + 2).min(LARGEST), (value + wrong).min(LARGEST));
+            result = count;
+        }
+        self.words.push(word(PRODUCT, 0));
+        push_variables(&mut self.words, &[result, first, second]);
+    }
+
+    fn finish(mut self) -> Pair {
+        self.words.push(word(ROWS_END, 0));
+        (self.words, self.values)
+    }
+}
+
+fn small_rows(random: &mut Random) -> Pair {
+    if random.one_in(3) {
+        return model_rows(random);
+    }
+    let mut rows = Rows { random, words: vec![], values: vec![] };
+    for _ in 0..rows.random.below(6) {
+        if rows.random.one_in(3) { rows.boolean() } else { rows.variable(LOWER) }
+    }
+    let aimed = rows.random.below(8) > 0;
+    for _ in 0..rows.random.below(8) {
+        match rows.random.below(4) {
+            0 => rows.variable(AUX_LOWER),
+            1 => rows.product(aimed || rows.values.is_empty()),
+            _ => {
+                let terms = rows.random.below(5);
+                rows.row(terms, aimed);
+            }
+        }
+    }
+    rows.finish()
+}
+
+/// What translate writes for a model, and what fill writes for its values.
+fn model_rows(random: &mut Random) -> Pair {
+    let (model, values) = if random.one_in(4) { range_model(random) } else { small_model(random) };
+    let counts = twin::check(&model);
+    let mut words = vec![0; counts.words];
+    let mut all = vec![0; counts.variables + counts.auxiliaries];
+    twin::translate(&model, &mut words);
+    if twin::fill(&model, &values, &mut all).said != HOLDS {
+        let sources = values.len().min(all.len());
+        all[..sources].copy_from_slice(&values[..sources]);
+    }
+    (words, all)
+}
+
+fn many_terms(random: &mut Random) -> Pair {
+    let mut rows = Rows { random, words: vec![], values: vec![] };
+    for _ in 0..1 + rows.random.below(6) {
+        rows.variable(LOWER);
+    }
+    for _ in 0..1 + rows.random.below(4) {
+        let terms = ROW_TERMS as usize - 1 + rows.random.below(2) + usize::from(rows.random.one_in(4));
+        rows.row(terms, true);
+    }
+    rows.finish()
+}
+
+fn many_row_variables(random: &mut Random) -> Pair {
+    let count = ALL_VARIABLES - 1 + random.below(4);
+    let sources = random.pick(&[0, 1, count / 2, count - 1, count]);
+    let mut rows = Rows { random, words: vec![], values: vec![] };
+    while rows.values.len() < sources {
+        if rows.random.one_in(2) { rows.boolean() } else { rows.variable(LOWER) }
+    }
+    while rows.values.len() < count {
+        if rows.random.one_in(40) {
+            rows.row(3, true);
+        }
+        rows.variable(AUX_LOWER);
+    }
+    rows.row(5, true);
+    rows.finish()
+}
+
+fn limit_rows(random: &mut Random) -> Pair {
+    if random.one_in(2) { many_terms(random) } else { many_row_variables(random) }
+}
+
+fn near_row_words(random: &mut Random) -> Pair {
+    let size = ROW_WORDS - 1 + random.below(3);
+    sized_rows(random, size)
+}
+
+/// A row system of exactly so many words, at least 16, with rows of up to 66 terms that its values satisfy.
+fn sized_rows(random: &mut Random, size: usize) -> Pair {
+    let mut rows = Rows { random, words: vec![], values: vec![] };
+    for _ in 0..4 {
+        let (lower, upper) = Bounds::Index.choose(rows.random);
+        let value = rows.random.between(lower, upper);
+        rows.declare(LOWER, lower, upper, value);
+    }
+    // A Boolean has one word, all else an even number; so has the end.
+    if size % 2 == 0 {
+        rows.boolean();
+    }
+    while rows.words.len() + 1 < size {
+        let most = ((size - 1 - rows.words.len()) / 2 - 1).min(ROW_TERMS as usize);
+        let terms = if most == ROW_TERMS as usize && rows.random.below(8) > 0 { most } else { rows.random.below(most + 1) };
+        small_satisfied_row(&mut rows, terms);
+    }
+    rows.finish()
+}
+
+/// A row with small coefficients that the values satisfy.
+fn small_satisfied_row(rows: &mut Rows, terms: usize) {
+    let form = rows.random.pick(&[AT_MOST, EQUAL]);
+    rows.words.push(word(form, terms as i64));
+    let mut sum = 0;
+    for _ in 0..terms {
+        let variable = rows.random.below(rows.values.len());
+        let coefficient = rows.random.between(-9, 9);
+        sum += coefficient * i64::from(rows.values[variable]);
+        rows.words.extend([word(VARIABLE, variable as i64), word(NUMBER, coefficient)]);
+    }
+    rows.words.push(word(NUMBER, -sum));
+}
+
+/// The front of a row system and of its values, closed after exactly so many words; none where their number cannot be reached.
+pub fn cut_rows(words: &[u32], values: &[i32], size: usize) -> Option<Pair> {
+    let mut at = 0;
+    let mut declared = 0;
+    loop {
+        let &head = words.get(at)?;
+        let length = match kind(head) {
+            LOWER | AUX_LOWER => 2,
+            BOOLEAN => 1,
+            PRODUCT => 4,
+            ROWS_END => break,
+            _ => 2 + 2 * payload(head) as usize,
+        };
+        if at + length >= size {
+            break;
+        }
+        declared += usize::from(matches!(kind(head), LOWER | AUX_LOWER | BOOLEAN));
+        at += length;
+    }
+    let mut cut = words[..at].to_vec();
+    while cut.len() + 2 < size {
+        cut.extend([word(AT_MOST, 0), word(NUMBER, 0)]);
+    }
+    cut.push(word(ROWS_END, 0));
+    (cut.len() == size).then(|| (cut, values[..declared].to_vec()))
+}
+
+// ---------------------------------------------------------------------------------------------------------------------------------- damage
+
+/// A word of any kind with a likely payload.
+fn likely_word(random: &mut Random) -> u32 {
+    let kind = random.pick(&[1, 1, 2, 2, 3, 3, 4, 4, 5, 5, 5, 5, 6, 6, 6, 6, 7, 8, 9, 10, 11, 12, 15, 0, 13, 14]);
+    let payload = match random.below(8) {
+        0 => 0,
+        1 => random.pick(&ENDS),
+        2 => random.between(LEAST, LARGEST),
+        3 => random.pick(&[28, 29, 32, 33, 66, 67, 255, 256, 257, -1]),
+        _ => random.between(0, 8),
+    };
+    word(kind, payload)
+}
+
+fn random_words(random: &mut Random) -> Pair {
+    let count = match random.below(8) {
+        0 => 0,
+        1 => random.below(3),
+        2 => 8_190 + random.below(5),
+        _ => random.below(40),
+    };
+    let mut words: Vec<u32> = (0..count).map(|_| if random.one_in(8) { random.next() as u32 } else { likely_word(random) }).collect();
+    // Declarations in front let the reading go on a little.
+    if random.below(4) > 0 {
+        let front = [word(BOOLEAN, 0), word(LOWER, -2), word(UPPER, 3), word(LOWER, 0), word(UPPER, 9), word(BOOLEAN, 0)];
+        words.splice(0..0, front);
+    }
+    let values = declared(&words).iter().map(|&(lower, upper)| random.between(i64::from(lower), i64::from(upper).max(i64::from(lower))) as i32).collect();
+    (words, values)
+}
+
+fn damaged(random: &mut Random, build: fn(&mut Random) -> Pair) -> Pair {
+    let (mut words, values) = build(random);
+    for _ in 0..if random.one_in(4) { 1 + random.below(3) } else { 1 } {
+        damage(random, &mut words);
+    }
+    (words, values)
+}
+
+fn damage(random: &mut Random, words: &mut Vec<u32>) {
+    if words.is_empty() {
+        return;
+    }
+    let at = random.below(words.len());
+    let old = words[at];
+    match random.below(15) {
+        14 => {
+            // A length or number of terms, if one is met: the limits of both.
+            let numbers = [word(NUMBER, 33), word(NUMBER, 32), word(NUMBER, -1), word(AT_MOST, 66), word(AT_MOST, 67), word(EQUAL, 67)];
+            let counted = words.iter().rposition(|&word| matches!(kind(word), CONSTRAINT | AT_MOST | EQUAL));
+            let at = counted.map_or(at, |head| (head + random.below(3)).min(words.len() - 1));
+            words[at] = random.pick(&numbers);
+        }
+        0 => words[at] = random.next() as u32,
+        1 => words[at] = likely_word(random),
+        2 => words[at] = word(kind(likely_word(random)), i64::from(signed(old))),
+        3 => words[at] = word(kind(old), i64::from(signed(likely_word(random)))),
+        4 => words[at] = word(kind(old), i64::from(signed(old)) + 1),
+        5 => words[at] = word(kind(old), i64::from(signed(old)) - 1),
+        6 => words[at] = old ^ 1 << random.below(32),
+        7 => {
+            words.remove(at);
+        }
+        8 => {
+            let inserted = likely_word(random);
+            words.insert(at, inserted);
+        }
+        9 => words.insert(at, old),
+        10 => words.truncate(at),
+        11 => {
+            for _ in 0..1 + random.below(3) {
+                let added = random.pick(&[word(MODEL_END, 0), word(ROWS_END, 0), 0, random.0 as u32]);
+                words.push(added);
+            }
+        }
+        12 => {
+            let other = random.below(words.len());
+            words.swap(at, other);
+        }
+        _ => {
+            let next = (at + 1) % words.len();
+            words.swap(at, next);
+        }
+    }
+}
+
+// ---------------------------------------------------------------------------------------------------------------------------------- values
+
+/// The bounds that the words of kinds 1, 3 and 8 declare, with no judgement of the words.
+pub fn declared(words: &[u32]) -> Vec<(i32, i32)> {
+    let mut bounds = vec![];
+    for (at, &word) in words.iter().enumerate() {
+        match kind(word) {
+            LOWER | AUX_LOWER => bounds.push((signed(word), words.get(at + 1).map_or(0, |&upper| signed(upper)))),
+            BOOLEAN => bounds.push((0, 1)),
+            _ => (),
+        }
+    }
+    bounds
+}
+
+/// Value lists for words: those made for them, random ones, some out of bounds, some of a wrong length.
+pub fn value_lists(random: &mut Random, words: &[u32], values: &[i32]) -> Vec<Vec<i32>> {
+    let bounds = declared(words);
+    let inside = |random: &mut Random, variable: usize| {
+        let (lower, upper) = bounds[variable];
+        random.between(i64::from(lower), i64::from(upper.max(lower))) as i32
+    };
+    let mut lists = vec![values.to_vec()];
+    let mut other: Vec<i32> = (0..bounds.len()).map(|variable| inside(random, variable)).collect();
+    lists.push(other.clone());
+    if !bounds.is_empty() && values.len() == bounds.len() {
+        // One value changed: to another inside, to one next to a bound, to an extreme.
+        let at = random.below(bounds.len());
+        let (lower, upper) = bounds[at];
+        other = values.to_vec();
+        other[at] = match random.below(8) {
+            0 => lower.wrapping_sub(1),
+            1 => upper.wrapping_add(1),
+            2 => i32::MIN,
+            3 => i32::MAX,
+            4 => lower,
+            5 => upper,
+            _ => inside(random, at),
+        };
+        lists.push(other);
+    }
+    match random.below(8) {
+        0 => lists.push(vec![]),
+        1 => lists.push(values[..values.len().saturating_sub(1)].to_vec()),
+        2 => lists.push([values, &[0]].concat()),
+        3 => lists.push((0..bounds.len()).map(|_| random.pick(&[i32::MIN, i32::MAX, 0, 1, -1, -134_217_728, 134_217_727])).collect()),
+        4 => {
+            let length = random.below(bounds.len() + 4);
+            lists.push((0..length).map(|_| random.next() as i32).collect());
+        }
+        _ => (),
+    }
+    lists
+}
+
+/// Values inside the bounds that a model holds of, found by trying.
+pub fn solution(random: &mut Random, words: &[u32], tries: usize) -> Option<Vec<i32>> {
+    let bounds = declared(words);
+    (0..tries).find_map(|_| {
+        let values: Vec<i32> = bounds.iter().map(|&(lower, upper)| random.between(i64::from(lower), i64::from(upper.max(lower))) as i32).collect();
+        (twin::judge_model(words, &values).said == HOLDS).then_some(values)
+    })
+}

@@ -1,0 +1,1134 @@
+//! Document 01 in plain Rust: check over words and over bytes, translate, judge-model, judge-rows and fill.
+//!
+//! It is written from the document alone and shares nothing with the proved code, so that the two can be compared. Nothing here panics: every
+//! index is tested by the reading that comes first, and numbers that may leave 32 bits are 64 bits wide (the largest is 33 × 2^54).
+
+use crate::answers::{Counts, Judgement, Refusal, Written, FALSE, HOLDS, OUT_OF_BOUNDS};
+
+// The limits (01, Numbered faults).
+pub const MODEL_WORDS: usize = 8_192;
+pub const ROW_WORDS: usize = 131_072;
+pub const MODEL_VARIABLES: usize = 256;
+pub const MODEL_CONSTRAINTS: usize = 256;
+pub const LIST_LENGTH: i32 = 32;
+pub const ROW_TERMS: u32 = 66;
+pub const ALL_VARIABLES: usize = 4_096;
+pub const REIFIED_SET_WIDTH: i64 = 64;
+
+// The kinds (01, Words).
+pub const LOWER: u32 = 0x1;
+pub const UPPER: u32 = 0x2;
+pub const BOOLEAN: u32 = 0x3;
+pub const CONSTRAINT: u32 = 0x4;
+pub const VARIABLE: u32 = 0x5;
+pub const NUMBER: u32 = 0x6;
+pub const MODEL_END: u32 = 0x7;
+pub const AUX_LOWER: u32 = 0x8;
+pub const AUX_UPPER: u32 = 0x9;
+pub const AT_MOST: u32 = 0xA;
+pub const EQUAL: u32 = 0xB;
+pub const PRODUCT: u32 = 0xC;
+pub const ROWS_END: u32 = 0xF;
+
+/// "The range" of signed payloads.
+pub const LEAST: i64 = -134_217_728;
+pub const LARGEST: i64 = 134_217_727;
+
+/// The top 4 bits of a word.
+pub fn kind(word: u32) -> u32 {
+    word >> 28
+}
+
+/// The low 28 bits of a word.
+pub fn payload(word: u32) -> u32 {
+    word & 0x0FFF_FFFF
+}
+
+/// The low 28 bits of a word in two's complement.
+pub fn signed(word: u32) -> i32 {
+    (word << 4) as i32 >> 4
+}
+
+/// The variable number of a word of kind 5.
+fn number(word: u32) -> usize {
+    payload(word) as usize
+}
+
+/// The word of a kind and a payload inside the range.
+pub fn word(kind: u32, payload: i64) -> u32 {
+    kind << 28 | (payload as u32 & 0x0FFF_FFFF)
+}
+
+fn refusal<T>(fault: u32, place: usize) -> Result<T, Refusal> {
+    Err(Refusal { fault, place })
+}
+
+/// The word at a place, which must have one kind: fault 2, then 3.
+fn expect(words: &[u32], at: usize, wanted: u32) -> Result<u32, Refusal> {
+    match words.get(at) {
+        None => refusal(2, words.len()),
+        Some(&word) if kind(word) != wanted => refusal(3, at),
+        Some(&word) => Ok(word),
+    }
+}
+
+/// The bound pair that starts at a place; its upper word must have one kind: fault 2, 3, then 4.
+fn bound_pair(words: &[u32], at: usize, upper_kind: u32) -> Result<(i32, i32), Refusal> {
+    let lower = signed(words[at]);
+    let upper = signed(expect(words, at + 1, upper_kind)?);
+    if upper < lower {
+        return refusal(4, at + 1);
+    }
+    Ok((lower, upper))
+}
+
+/// The end word at a place: fault 5 at it, then 11 at the word after it.
+fn end(words: &[u32], at: usize) -> Result<(), Refusal> {
+    if payload(words[at]) > 0 {
+        return refusal(5, at);
+    }
+    if at + 1 < words.len() {
+        return refusal(11, at + 1);
+    }
+    Ok(())
+}
+
+// ---------------------------------------------------------------------------------------------------------------------------------- models
+
+/// A declared variable of a model.
+#[derive(Clone, Copy)]
+struct Variable {
+    lower: i32,
+    upper: i32,
+    boolean: bool,
+}
+
+/// The variables of a model, and the place of the first word behind them.
+struct Variables {
+    all: [Variable; MODEL_VARIABLES],
+    count: usize,
+    end: usize,
+}
+
+impl Variables {
+    fn list(&self) -> &[Variable] {
+        &self.all[..self.count]
+    }
+}
+
+/// An argument of a constraint.
+#[derive(Clone, Copy, PartialEq)]
+enum Argument {
+    Integer,
+    Boolean,
+    Number,
+    /// One length, the numbers, then the integer variables.
+    Parallel,
+    Numbers,
+    Integers,
+    Booleans,
+}
+
+/// The arguments of codes 1 to 28 (01, Rules of the 28 codes, and the sentence on types below them).
+const SHAPES: [&[Argument]; 28] = {
+    use Argument::{Boolean as B, Booleans as LB, Integer as I, Integers as LI, Number as N, Numbers as LN, Parallel as P};
+    [
+        &[I, I],     // 1 int_eq
+        &[I, I],     // 2 int_le
+        &[I, I],     // 3 int_lt
+        &[I, I],     // 4 int_ne
+        &[I, I, B],  // 5 int_le_reif
+        &[I, I, I],  // 6 int_plus
+        &[I, I, I],  // 7 int_times
+        &[I, I],     // 8 int_abs
+        &[I, I, I],  // 9 int_max
+        &[P, N],     // 10 int_lin_eq
+        &[P, N],     // 11 int_lin_le
+        &[P, N],     // 12 int_lin_ne
+        &[P, N, B],  // 13 int_lin_eq_reif
+        &[I, I, B],  // 14 int_eq_reif
+        &[P, N, B],  // 15 int_lin_le_reif
+        &[B, I],     // 16 bool2int
+        &[B, B],     // 17 bool_not
+        &[B, B, B],  // 18 bool_and
+        &[B, B, B],  // 19 bool_or
+        &[B, B, B],  // 20 bool_xor
+        &[LB, LB],   // 21 bool_clause
+        &[LB, B],    // 22 array_bool_and
+        &[LB],       // 23 array_bool_xor
+        &[I, LN, I], // 24 array_int_element
+        &[I, LI, I], // 25 array_var_int_element
+        &[I, LI],    // 26 array_int_maximum
+        &[I, LN],    // 27 set_in
+        &[I, LN, B], // 28 set_in_reif
+    ]
+};
+
+/// A constraint whose words passed the reading. Absent arguments are 0 or empty.
+#[derive(Clone, Copy)]
+struct Constraint<'a> {
+    code: u32,
+    /// Its single variables, in order.
+    single: [usize; 3],
+    /// The words of its number list.
+    numbers: &'a [u32],
+    /// The words of its variable list.
+    list: &'a [u32],
+    /// The words of the second list of bool_clause.
+    second: &'a [u32],
+    /// Its single number.
+    constant: i64,
+}
+
+impl Constraint<'_> {
+    /// The terms of Σ as×bs: number and variable.
+    fn terms(&self) -> impl Iterator<Item = (i64, usize)> + '_ {
+        self.numbers.iter().zip(self.list).map(|(&a, &b)| (i64::from(signed(a)), number(b)))
+    }
+
+    /// Σ as×bs − c.
+    fn sum(&self, values: &[i32]) -> i64 {
+        self.terms().map(|(a, b)| a * i64::from(values[b])).sum::<i64>() - self.constant
+    }
+
+    /// L and U (000, 3.1.12): the least and largest of Σ as×bs − c over the bounds, each term taken by itself.
+    fn least_and_largest(&self, variables: &[Variable]) -> (i64, i64) {
+        let mut least = -self.constant;
+        let mut largest = -self.constant;
+        for (a, b) in self.terms() {
+            let (at_lower, at_upper) = (a * i64::from(variables[b].lower), a * i64::from(variables[b].upper));
+            least += at_lower.min(at_upper);
+            largest += at_lower.max(at_upper);
+        }
+        (least, largest)
+    }
+}
+
+/// Reads the variables of a model, up to the first constraint or the end word: faults 2 to 6.
+fn read_variables(words: &[u32]) -> Result<Variables, Refusal> {
+    let mut variables = Variables { all: [Variable { lower: 0, upper: 0, boolean: false }; MODEL_VARIABLES], count: 0, end: 0 };
+    let mut at = 0;
+    loop {
+        let Some(&word) = words.get(at) else { return refusal(2, at) };
+        let full = variables.count == MODEL_VARIABLES;
+        let (variable, size) = match kind(word) {
+            LOWER if full => return refusal(6, at),
+            LOWER => {
+                let (lower, upper) = bound_pair(words, at, UPPER)?;
+                (Variable { lower, upper, boolean: false }, 2)
+            }
+            BOOLEAN if payload(word) > 0 => return refusal(5, at),
+            BOOLEAN if full => return refusal(6, at),
+            BOOLEAN => (Variable { lower: 0, upper: 1, boolean: true }, 1),
+            CONSTRAINT | MODEL_END => {
+                variables.end = at;
+                return Ok(variables);
+            }
+            _ => return refusal(3, at),
+        };
+        variables.all[variables.count] = variable;
+        variables.count += 1;
+        at += size;
+    }
+}
+
+/// Reads the constraints of a model and the end word: faults 2, 3, 5 and 7 to 11. Gives each whole constraint and the place of its head word to
+/// `visit`; answers their number.
+fn read_constraints<'a>(words: &'a [u32], variables: &Variables, mut visit: impl FnMut(usize, &Constraint<'a>)) -> Result<usize, Refusal> {
+    let mut at = variables.end;
+    let mut count = 0;
+    loop {
+        let Some(&word) = words.get(at) else { return refusal(2, at) };
+        match kind(word) {
+            CONSTRAINT if count == MODEL_CONSTRAINTS => return refusal(7, at),
+            CONSTRAINT => {
+                let next = check_arguments(words, at, variables.list())?;
+                visit(at, &arguments(words, at).0);
+                at = next;
+                count += 1;
+            }
+            MODEL_END => {
+                end(words, at)?;
+                return Ok(count);
+            }
+            _ => return refusal(3, at),
+        }
+    }
+}
+
+/// Checks a head word's code and its arguments: faults 2, 3, 8, 9 and 10. Answers the place behind them.
+fn check_arguments(words: &[u32], head: usize, variables: &[Variable]) -> Result<usize, Refusal> {
+    let Some(shape) = SHAPES.get((payload(words[head]) as usize).wrapping_sub(1)) else { return refusal(8, head) };
+    let mut at = head + 1;
+    for argument in *shape {
+        at = match argument {
+            Argument::Integer => check_variables(words, at, 1, variables, false)?,
+            Argument::Boolean => check_variables(words, at, 1, variables, true)?,
+            Argument::Number => check_numbers(words, at, 1)?,
+            Argument::Parallel => {
+                let length = list_length(words, at)?;
+                let behind = check_numbers(words, at + 1, length)?;
+                check_variables(words, behind, length, variables, false)?
+            }
+            Argument::Numbers => check_numbers(words, at + 1, list_length(words, at)?)?,
+            Argument::Integers => check_variables(words, at + 1, list_length(words, at)?, variables, false)?,
+            Argument::Booleans => check_variables(words, at + 1, list_length(words, at)?, variables, true)?,
+        };
+    }
+    Ok(at)
+}
+
+/// The list length at a place: fault 2, 3, then 9.
+fn list_length(words: &[u32], at: usize) -> Result<usize, Refusal> {
+    let length = signed(expect(words, at, NUMBER)?);
+    if (0..=LIST_LENGTH).contains(&length) {
+        Ok(length as usize)
+    } else {
+        refusal(9, at)
+    }
+}
+
+/// Checks a count of variable arguments of one type: fault 2, 3, then 10. Answers the place behind them.
+fn check_variables(words: &[u32], at: usize, count: usize, variables: &[Variable], boolean: bool) -> Result<usize, Refusal> {
+    let behind = at + count;
+    for (place, &word) in words.iter().enumerate().take(behind).skip(at) {
+        if kind(word) != VARIABLE {
+            return refusal(3, place);
+        }
+        match variables.get(number(word)) {
+            Some(variable) if variable.boolean == boolean => (),
+            _ => return refusal(10, place),
+        }
+    }
+    if behind <= words.len() { Ok(behind) } else { refusal(2, words.len()) }
+}
+
+/// Checks a count of number arguments: fault 2, then 3. Answers the place behind them.
+fn check_numbers(words: &[u32], at: usize, count: usize) -> Result<usize, Refusal> {
+    let behind = at + count;
+    for (place, &word) in words.iter().enumerate().take(behind).skip(at) {
+        if kind(word) != NUMBER {
+            return refusal(3, place);
+        }
+    }
+    if behind <= words.len() { Ok(behind) } else { refusal(2, words.len()) }
+}
+
+/// Takes apart a constraint whose words passed `check_arguments`. Answers also the place behind it.
+fn arguments(words: &[u32], head: usize) -> (Constraint<'_>, usize) {
+    let code = payload(words[head]);
+    let mut constraint = Constraint { code, single: [0; 3], numbers: &[], list: &[], second: &[], constant: 0 };
+    let mut at = head + 1;
+    let mut singles = 0;
+    let mut lists = 0;
+    for argument in SHAPES[code as usize - 1] {
+        let first = words[at];
+        at += 1;
+        match argument {
+            Argument::Integer | Argument::Boolean => {
+                constraint.single[singles] = number(first);
+                singles += 1;
+            }
+            Argument::Number => constraint.constant = i64::from(signed(first)),
+            Argument::Parallel => {
+                let length = number(first);
+                constraint.numbers = &words[at..at + length];
+                constraint.list = &words[at + length..at + 2 * length];
+                at += 2 * length;
+            }
+            Argument::Numbers => {
+                constraint.numbers = &words[at..at + number(first)];
+                at += number(first);
+            }
+            Argument::Integers | Argument::Booleans => {
+                let words = &words[at..at + number(first)];
+                if lists == 0 {
+                    constraint.list = words;
+                } else {
+                    constraint.second = words;
+                }
+                lists += 1;
+                at += words.len();
+            }
+        }
+    }
+    (constraint, at)
+}
+
+// --------------------------------------------------------------------------------------------------------------------------------- meaning
+
+/// Whether a builtin is true of values inside the bounds (000, section 3; for codes 23 to 26 the sentences of 01).
+fn is_true(constraint: &Constraint, values: &[i32]) -> bool {
+    let [a, b, c] = constraint.single.map(|variable| values.get(variable).map_or(0, |&value| i64::from(value)));
+    let value = |word: &u32| i64::from(values[number(*word)]);
+    let member = || constraint.numbers.iter().any(|&word| i64::from(signed(word)) == a);
+    match constraint.code {
+        1 | 16 => a == b,
+        2 => a <= b,
+        3 => a < b,
+        4 | 17 => a != b,
+        5 => (a <= b) == (c == 1),
+        6 => a + b == c,
+        7 => a * b == c,
+        8 => a.abs() == b,
+        9 => a.max(b) == c,
+        10 => constraint.sum(values) == 0,
+        11 => constraint.sum(values) <= 0,
+        12 => constraint.sum(values) != 0,
+        13 => (constraint.sum(values) == 0) == (a == 1),
+        14 => (a == b) == (c == 1),
+        15 => (constraint.sum(values) <= 0) == (a == 1),
+        18 => (a == 1 && b == 1) == (c == 1),
+        19 => (a == 1 || b == 1) == (c == 1),
+        20 => (a != b) == (c == 1),
+        21 => constraint.list.iter().any(|word| value(word) == 1) || constraint.second.iter().any(|word| value(word) == 0),
+        22 => constraint.list.iter().all(|word| value(word) == 1) == (a == 1),
+        23 => constraint.list.iter().filter(|word| value(word) == 1).count() == 1,
+        24 => element(constraint.numbers, a).is_some_and(|&word| i64::from(signed(word)) == b),
+        25 => element(constraint.list, a).is_some_and(|word| value(word) == b),
+        26 => constraint.list.iter().map(value).max() == Some(a),
+        27 => member(),
+        28 => member() == (b == 1),
+        _ => false,
+    }
+}
+
+/// The element of a list whose index, from 1, is given.
+fn element(list: &[u32], index: i64) -> Option<&u32> {
+    usize::try_from(index.checked_sub(1)?).ok().and_then(|index| list.get(index))
+}
+
+// ------------------------------------------------------------------------------------------------------------------------------ row blocks
+
+/// What takes the parts of a block in order: `Measure` counts them, `Writer` writes them.
+trait Sink {
+    fn auxiliary(&mut self, lower: i64, upper: i64);
+    fn row(&mut self, kind: u32, terms: usize);
+    fn term(&mut self, variable: usize, coefficient: i64);
+    fn constant(&mut self, constant: i64);
+    fn product(&mut self, result: usize, first: usize, second: usize);
+
+    /// A row of few terms.
+    fn whole_row<const N: usize>(&mut self, kind: u32, terms: [(usize, i64); N], constant: i64) {
+        self.row(kind, N);
+        for (variable, coefficient) in terms {
+            self.term(variable, coefficient);
+        }
+        self.constant(constant);
+    }
+
+    /// An auxiliary in 0..1.
+    fn bit(&mut self) {
+        self.auxiliary(0, 1);
+    }
+
+    /// An auxiliary in Z(v), v having the bounds given.
+    fn with_zero(&mut self, lower: i64, upper: i64) {
+        self.auxiliary(lower.min(0), upper.max(0));
+    }
+}
+
+/// The block of a constraint (01, Rules of the 28 codes); `n` is the number of its first auxiliary.
+fn block(constraint: &Constraint, variables: &[Variable], n: usize, sink: &mut impl Sink) {
+    let [a, b, c] = constraint.single;
+    let bound = |variable: usize, upper: bool| variables.get(variable).map_or(0, |v| i64::from(if upper { v.upper } else { v.lower }));
+    let lo = |variable| bound(variable, false);
+    let hi = |variable| bound(variable, true);
+    match constraint.code {
+        1 | 16 => sink.whole_row(EQUAL, [(a, 1), (b, -1)], 0),
+        2 => sink.whole_row(AT_MOST, [(a, 1), (b, -1)], 0),
+        3 => sink.whole_row(AT_MOST, [(a, 1), (b, -1)], 1),
+        4 => {
+            let (p, q, r) = (hi(a) - lo(b) + 1, hi(b) - lo(a) + 1, n);
+            sink.bit();
+            sink.whole_row(AT_MOST, [(a, 1), (b, -1), (r, -p)], 1);
+            sink.whole_row(AT_MOST, [(b, 1), (a, -1), (r, q)], 1 - q);
+        }
+        5 => {
+            let (p, q, r) = (hi(a) - lo(b), hi(b) - lo(a) + 1, c);
+            sink.whole_row(AT_MOST, [(a, 1), (b, -1), (r, p)], -p);
+            sink.whole_row(AT_MOST, [(b, 1), (a, -1), (r, -q)], 1);
+        }
+        6 => sink.whole_row(EQUAL, [(a, 1), (b, 1), (c, -1)], 0),
+        7 => {
+            let ends = [lo(a) * lo(b), lo(a) * hi(b), hi(a) * lo(b), hi(a) * hi(b)];
+            let least = ends.into_iter().fold(i64::MAX, i64::min);
+            let largest = ends.into_iter().fold(i64::MIN, i64::max);
+            sink.auxiliary(least, largest);
+            sink.product(n, a, b);
+            sink.whole_row(EQUAL, [(n, 1), (c, -1)], 0);
+        }
+        8 => {
+            let (x, y, bit, z) = (a, b, n, n + 1);
+            sink.bit();
+            sink.with_zero(lo(x), hi(x));
+            sink.product(z, bit, x);
+            sink.whole_row(EQUAL, [(y, 1), (x, -1), (z, 2)], 0);
+            sink.whole_row(AT_MOST, [(y, -1)], 0);
+        }
+        9 => {
+            let (p, q, r) = (hi(c) - lo(a), hi(c) - lo(b), n);
+            sink.bit();
+            sink.whole_row(AT_MOST, [(a, 1), (c, -1)], 0);
+            sink.whole_row(AT_MOST, [(b, 1), (c, -1)], 0);
+            sink.whole_row(AT_MOST, [(c, 1), (a, -1), (r, -p)], 0);
+            sink.whole_row(AT_MOST, [(c, 1), (b, -1), (r, q)], -q);
+        }
+        10 => sum_row(constraint, EQUAL, None, sink),
+        11 => sum_row(constraint, AT_MOST, None, sink),
+        12 => {
+            let (x, bit, z) = (n, n + 1, n + 2);
+            let (least, largest) = constraint.least_and_largest(variables);
+            absolute_auxiliaries(least, largest, sink);
+            sum_row(constraint, EQUAL, Some(x), sink);
+            sink.product(z, bit, x);
+            sink.whole_row(AT_MOST, [(x, -1), (z, 2)], 1);
+        }
+        13 => {
+            let (least, largest) = constraint.least_and_largest(variables);
+            absolute_auxiliaries(least, largest, sink);
+            sum_row(constraint, EQUAL, Some(n), sink);
+            reified_zero_rows(least, largest, n, a, sink);
+        }
+        14 => {
+            let (least, largest) = (lo(a) - hi(b), hi(a) - lo(b));
+            absolute_auxiliaries(least, largest, sink);
+            sink.whole_row(EQUAL, [(a, 1), (b, -1), (n, -1)], 0);
+            reified_zero_rows(least, largest, n, c, sink);
+        }
+        15 => {
+            let (x, r) = (n, a);
+            let (least, largest) = constraint.least_and_largest(variables);
+            sink.auxiliary(least, largest);
+            sum_row(constraint, EQUAL, Some(x), sink);
+            sink.whole_row(AT_MOST, [(x, 1), (r, largest)], -largest);
+            sink.whole_row(AT_MOST, [(x, -1), (r, least - 1)], 1);
+        }
+        17 => sink.whole_row(EQUAL, [(a, 1), (b, 1)], -1),
+        18 => {
+            let r = c;
+            sink.whole_row(AT_MOST, [(r, 1), (a, -1)], 0);
+            sink.whole_row(AT_MOST, [(r, 1), (b, -1)], 0);
+            sink.whole_row(AT_MOST, [(a, 1), (b, 1), (r, -1)], -1);
+        }
+        19 => {
+            let r = c;
+            sink.whole_row(AT_MOST, [(r, 1), (a, -1), (b, -1)], 0);
+            sink.whole_row(AT_MOST, [(a, 1), (b, 1), (r, -2)], 0);
+        }
+        20 => {
+            let (r, x, y) = (c, n, n + 1);
+            sink.bit();
+            sink.bit();
+            sink.product(x, r, a);
+            sink.product(y, r, b);
+            sink.whole_row(EQUAL, [(a, 1), (x, -1), (b, -1), (y, 1)], 0);
+            sink.whole_row(EQUAL, [(x, 1), (y, 1), (r, -1)], 0);
+        }
+        21 => {
+            let (first, second) = (constraint.list, constraint.second);
+            sink.row(AT_MOST, first.len() + second.len());
+            first.iter().for_each(|&word| sink.term(number(word), -1));
+            second.iter().for_each(|&word| sink.term(number(word), 1));
+            sink.constant(1 - second.len() as i64);
+        }
+        22 => {
+            let (list, r) = (constraint.list, a);
+            for &word in list {
+                sink.whole_row(AT_MOST, [(r, 1), (number(word), -1)], 0);
+            }
+            sink.row(AT_MOST, list.len() + 1);
+            list.iter().for_each(|&word| sink.term(number(word), 1));
+            sink.term(r, -1);
+            sink.constant(1 - list.len() as i64);
+        }
+        23 => {
+            sink.row(EQUAL, constraint.list.len());
+            constraint.list.iter().for_each(|&word| sink.term(number(word), 1));
+            sink.constant(-1);
+        }
+        24 => {
+            let (i, result) = (a, b);
+            let (start, chosen) = inside(constraint.numbers, lo(i), hi(i));
+            chosen.iter().for_each(|_| sink.bit());
+            one_of_rows(n, (start..).take(chosen.len()), i, sink);
+            sink.row(EQUAL, chosen.len() + 1);
+            chosen.iter().zip(n..).for_each(|(&word, bit)| sink.term(bit, i64::from(signed(word))));
+            sink.term(result, -1);
+            sink.constant(0);
+        }
+        25 => {
+            let (i, result) = (a, b);
+            let (start, chosen) = inside(constraint.list, lo(i), hi(i));
+            chosen.iter().for_each(|_| sink.bit());
+            chosen.iter().for_each(|&word| sink.with_zero(lo(number(word)), hi(number(word))));
+            one_of_rows(n, (start..).take(chosen.len()), i, sink);
+            chosen_value_rows(n, chosen, result, sink);
+        }
+        26 => {
+            let (list, m) = (constraint.list, a);
+            list.iter().for_each(|_| sink.bit());
+            list.iter().for_each(|&word| sink.with_zero(lo(number(word)), hi(number(word))));
+            sum_of_bits_row(n, list.len(), sink);
+            chosen_value_rows(n, list, m, sink);
+            for &word in list {
+                sink.whole_row(AT_MOST, [(number(word), 1), (m, -1)], 0);
+            }
+        }
+        27 => {
+            let (members, count) = members(constraint.numbers, lo(a), hi(a));
+            let members = &members[..count];
+            members.iter().for_each(|_| sink.bit());
+            one_of_rows(n, members.iter().copied(), a, sink);
+        }
+        28 => {
+            let (x, r) = (a, b);
+            let (members, count) = members(constraint.numbers, lo(x), hi(x));
+            (lo(x)..=hi(x)).for_each(|_| sink.bit());
+            one_of_rows(n, lo(x)..hi(x) + 1, x, sink);
+            sink.row(EQUAL, count + 1);
+            members[..count].iter().for_each(|member| sink.term(n + (member - lo(x)) as usize, 1));
+            sink.term(r, -1);
+            sink.constant(0);
+        }
+        _ => (),
+    }
+}
+
+/// The row of Σ − c, or of Σ − x − c.
+fn sum_row(constraint: &Constraint, kind: u32, x: Option<usize>, sink: &mut impl Sink) {
+    sink.row(kind, constraint.list.len() + usize::from(x.is_some()));
+    constraint.terms().for_each(|(coefficient, variable)| sink.term(variable, coefficient));
+    x.into_iter().for_each(|x| sink.term(x, -1));
+    sink.constant(-constraint.constant);
+}
+
+/// The auxiliaries of codes 12 to 14: x in L..U, b, z in Z(x).
+fn absolute_auxiliaries(least: i64, largest: i64, sink: &mut impl Sink) {
+    sink.auxiliary(least, largest);
+    sink.bit();
+    sink.with_zero(least, largest);
+}
+
+/// The rows of codes 13 and 14 behind the first: z:=b×x; x−2×z+W×r−W≤0; −x+2×z−r+1≤0.
+fn reified_zero_rows(least: i64, largest: i64, x: usize, r: usize, sink: &mut impl Sink) {
+    let (bit, z, w) = (x + 1, x + 2, least.abs().max(largest.abs()));
+    sink.product(z, bit, x);
+    sink.whole_row(AT_MOST, [(x, 1), (z, -2), (r, w)], -w);
+    sink.whole_row(AT_MOST, [(x, -1), (z, 2), (r, -1)], 1);
+}
+
+/// Σb−1=0 over consecutive auxiliaries.
+fn sum_of_bits_row(first: usize, count: usize, sink: &mut impl Sink) {
+    sink.row(EQUAL, count);
+    (first..first + count).for_each(|bit| sink.term(bit, 1));
+    sink.constant(-1);
+}
+
+/// Σb−1=0; Σj×b_j−i=0 over consecutive auxiliaries, one for each number j.
+fn one_of_rows(first: usize, numbers: impl Iterator<Item = i64> + Clone, variable: usize, sink: &mut impl Sink) {
+    let count = numbers.clone().count();
+    sum_of_bits_row(first, count, sink);
+    sink.row(EQUAL, count + 1);
+    numbers.zip(first..).for_each(|(number, bit)| sink.term(bit, number));
+    sink.term(variable, -1);
+    sink.constant(0);
+}
+
+/// z_j:=v_j×b_j for each variable of the list; Σz−result=0. The bits stand before the z.
+fn chosen_value_rows(first: usize, list: &[u32], result: usize, sink: &mut impl Sink) {
+    let z = first + list.len();
+    for (j, &word) in list.iter().enumerate() {
+        sink.product(z + j, number(word), first + j);
+    }
+    sink.row(EQUAL, list.len() + 1);
+    (z..z + list.len()).for_each(|z| sink.term(z, 1));
+    sink.term(result, -1);
+    sink.constant(0);
+}
+
+/// The elements whose index, from 1, is inside the bounds, and the first such index (01, code 24).
+fn inside(list: &[u32], lower: i64, upper: i64) -> (i64, &[u32]) {
+    let start = lower.max(1);
+    let last = upper.min(list.len() as i64);
+    if start > last {
+        return (start, &[]);
+    }
+    (start, &list[start as usize - 1..last as usize])
+}
+
+/// The members of a set inside the bounds, rising, repeats counted once, and their number.
+fn members(numbers: &[u32], lower: i64, upper: i64) -> ([i64; LIST_LENGTH as usize], usize) {
+    let mut members = [0; LIST_LENGTH as usize];
+    let mut count = 0;
+    for &word in numbers {
+        let member = i64::from(signed(word));
+        if (lower..=upper).contains(&member) {
+            members[count] = member;
+            count += 1;
+        }
+    }
+    members[..count].sort_unstable();
+    let mut kept = 0;
+    for at in 0..count {
+        if kept == 0 || members[kept - 1] != members[at] {
+            members[kept] = members[at];
+            kept += 1;
+        }
+    }
+    (members, kept)
+}
+
+/// Counts what a block writes, and sees whether all its numbers are inside the range.
+#[derive(Default)]
+struct Measure {
+    auxiliaries: usize,
+    rows: usize,
+    words: usize,
+    outside: bool,
+}
+
+impl Measure {
+    fn number(&mut self, number: i64) {
+        self.outside |= !(LEAST..=LARGEST).contains(&number);
+    }
+}
+
+impl Sink for Measure {
+    fn auxiliary(&mut self, lower: i64, upper: i64) {
+        self.auxiliaries += 1;
+        self.words += 2;
+        self.number(lower);
+        self.number(upper);
+    }
+
+    fn row(&mut self, _kind: u32, terms: usize) {
+        self.rows += 1;
+        self.words += 2 + 2 * terms;
+    }
+
+    fn term(&mut self, _variable: usize, coefficient: i64) {
+        self.number(coefficient);
+    }
+
+    fn constant(&mut self, constant: i64) {
+        self.number(constant);
+    }
+
+    fn product(&mut self, _result: usize, _first: usize, _second: usize) {
+        self.rows += 1;
+        self.words += 4;
+    }
+}
+
+/// Writes a measured block to the front of what is left of the output.
+struct Writer<'a> {
+    rest: &'a mut [u32],
+    auxiliaries: usize,
+}
+
+impl Writer<'_> {
+    fn write<const N: usize>(&mut self, words: [u32; N]) {
+        let rest = std::mem::take(&mut self.rest);
+        if let Some((front, rest)) = rest.split_first_chunk_mut() {
+            *front = words;
+            self.rest = rest;
+        }
+    }
+}
+
+impl Sink for Writer<'_> {
+    fn auxiliary(&mut self, lower: i64, upper: i64) {
+        self.auxiliaries += 1;
+        self.write([word(AUX_LOWER, lower), word(AUX_UPPER, upper)]);
+    }
+
+    fn row(&mut self, kind: u32, terms: usize) {
+        self.write([word(kind, terms as i64)]);
+    }
+
+    fn term(&mut self, variable: usize, coefficient: i64) {
+        self.write([word(VARIABLE, variable as i64), word(NUMBER, coefficient)]);
+    }
+
+    fn constant(&mut self, constant: i64) {
+        self.write([word(NUMBER, constant)]);
+    }
+
+    fn product(&mut self, result: usize, first: usize, second: usize) {
+        self.write([word(PRODUCT, 0), word(VARIABLE, result as i64), word(VARIABLE, first as i64), word(VARIABLE, second as i64)]);
+    }
+}
+
+// ----------------------------------------------------------------------------------------------------------------------------------- calls
+
+/// Fault 1 and the reading of the variables.
+fn start(words: &[u32]) -> Result<Variables, Refusal> {
+    if words.len() > MODEL_WORDS {
+        return refusal(1, 0);
+    }
+    read_variables(words)
+}
+
+/// Reads a model and measures its blocks: faults 1 to 11, then the first constraint's fault of 12 to 14. Gives each constraint to `visit`.
+fn measure<'a>(words: &'a [u32], mut visit: impl FnMut(&Variables, &Constraint<'a>)) -> Result<(Variables, Counts), Refusal> {
+    let variables = start(words)?;
+    let mut total = Measure::default();
+    let mut fault = None;
+    let constraints = read_constraints(words, &variables, |head, constraint| {
+        visit(&variables, constraint);
+        if fault.is_none() {
+            fault = measure_block(constraint, &variables, &mut total).map(|fault| Refusal { fault, place: head });
+        }
+    })?;
+    if let Some(refusal) = fault {
+        return Err(refusal);
+    }
+    let counts = Counts {
+        variables: variables.count,
+        constraints,
+        auxiliaries: total.auxiliaries,
+        rows: total.rows,
+        words: variables.end + total.words + 1,
+        ..Counts::default()
+    };
+    Ok((variables, counts))
+}
+
+/// Adds a constraint's block to the measure: its fault of 12 to 14.
+fn measure_block(constraint: &Constraint, variables: &Variables, total: &mut Measure) -> Option<u32> {
+    if constraint.code == 28 {
+        let x = variables.list()[constraint.single[0]];
+        if i64::from(x.upper) - i64::from(x.lower) + 1 > REIFIED_SET_WIDTH {
+            return Some(12);
+        }
+    }
+    block(constraint, variables.list(), variables.count + total.auxiliaries, total);
+    if total.outside {
+        return Some(13);
+    }
+    (variables.count + total.auxiliaries > ALL_VARIABLES).then_some(14)
+}
+
+/// Check: the counts of a model, or its fault.
+pub fn check(words: &[u32]) -> Counts {
+    match measure(words, |_, _| ()) {
+        Ok((_, counts)) => counts,
+        Err(refusal) => refusal.into(),
+    }
+}
+
+/// Check over bytes, four to a word, lowest first: the refusal number, 0 if accepted; 1 to 3 spare bytes are left off.
+pub fn check_bytes(bytes: &[u8]) -> u32 {
+    if bytes.len() / 4 > MODEL_WORDS {
+        return 1;
+    }
+    let words: Vec<u32> = bytes.chunks_exact(4).map(|four| u32::from_le_bytes([four[0], four[1], four[2], four[3]])).collect();
+    check(&words).fault
+}
+
+/// Translate: writes a model's row system to the front of the output.
+pub fn translate(words: &[u32], out: &mut [u32]) -> Written {
+    let (variables, counts) = match measure(words, |_, _| ()) {
+        Ok(measured) => measured,
+        Err(refusal) => return refusal.into(),
+    };
+    let Some(out) = out.get_mut(..counts.words) else { return Refusal { fault: 16, place: 0 }.into() };
+    let (sources, rest) = out.split_at_mut(variables.end);
+    // The variables of a model and those of its row system have the same words.
+    sources.copy_from_slice(&words[..variables.end]);
+    let mut writer = Writer { rest, auxiliaries: 0 };
+    let mut at = variables.end;
+    for _ in 0..counts.constraints {
+        let (constraint, next) = arguments(words, at);
+        let first = variables.count + writer.auxiliaries;
+        block(&constraint, variables.list(), first, &mut writer);
+        at = next;
+    }
+    writer.write([word(ROWS_END, 0)]);
+    Written { fault: 0, place: 0, words: counts.words }
+}
+
+/// The first variable whose value is out of its bounds.
+fn first_out_of_bounds(variables: &[Variable], values: &[i32]) -> Option<usize> {
+    variables.iter().zip(values).position(|(variable, &value)| value < variable.lower || value > variable.upper)
+}
+
+fn judgement(out_of_bounds: Option<usize>, first_false: Option<usize>) -> Judgement {
+    match (out_of_bounds, first_false) {
+        (Some(variable), _) => Judgement { said: OUT_OF_BOUNDS, fault: 0, at: variable },
+        (None, Some(constraint)) => Judgement { said: FALSE, fault: 0, at: constraint },
+        (None, None) => Judgement { said: HOLDS, fault: 0, at: 0 },
+    }
+}
+
+/// Judges a model's constraints in order; the values have the right number and are inside the bounds.
+struct Judge<'a> {
+    values: &'a [i32],
+    seen: usize,
+    first_false: Option<usize>,
+}
+
+impl Judge<'_> {
+    fn constraint(&mut self, constraint: &Constraint) {
+        if self.first_false.is_none() && !is_true(constraint, self.values) {
+            self.first_false = Some(self.seen);
+        }
+        self.seen += 1;
+    }
+}
+
+/// Judge-model: whether the values keep the bounds and make every builtin true.
+pub fn judge_model(words: &[u32], values: &[i32]) -> Judgement {
+    try_judge_model(words, values).unwrap_or_else(Judgement::from)
+}
+
+fn try_judge_model(words: &[u32], values: &[i32]) -> Result<Judgement, Refusal> {
+    let variables = start(words)?;
+    let out_of_bounds = first_out_of_bounds(variables.list(), values);
+    let judging = values.len() == variables.count && out_of_bounds.is_none();
+    let mut judge = Judge { values, seen: 0, first_false: None };
+    read_constraints(words, &variables, |_, constraint| {
+        if judging {
+            judge.constraint(constraint);
+        }
+    })?;
+    if values.len() != variables.count {
+        return refusal(15, 0);
+    }
+    Ok(judgement(out_of_bounds, judge.first_false))
+}
+
+/// Fill: the values and the auxiliaries that belong to them, where judge-model says "holds".
+pub fn fill(words: &[u32], values: &[i32], out: &mut [i32]) -> Judgement {
+    try_fill(words, values, out).unwrap_or_else(Judgement::from)
+}
+
+fn try_fill(words: &[u32], values: &[i32], out: &mut [i32]) -> Result<Judgement, Refusal> {
+    let mut judge = Judge { values, seen: 0, first_false: None };
+    let mut judging = None;
+    let (variables, counts) = measure(words, |variables, constraint| {
+        if *judging.get_or_insert_with(|| values.len() == variables.count && first_out_of_bounds(variables.list(), values).is_none()) {
+            judge.constraint(constraint);
+        }
+    })?;
+    if values.len() != variables.count {
+        return refusal(15, 0);
+    }
+    let count = counts.variables + counts.auxiliaries;
+    let Some(out) = out.get_mut(..count) else { return refusal(16, 0) };
+    let judged = judgement(first_out_of_bounds(variables.list(), values), judge.first_false);
+    if judged.said != HOLDS {
+        return Ok(judged);
+    }
+    let (sources, rest) = out.split_at_mut(counts.variables);
+    sources.copy_from_slice(values);
+    let mut auxiliaries = Auxiliaries { rest, used: 0 };
+    let mut at = variables.end;
+    for _ in 0..counts.constraints {
+        let (constraint, next) = arguments(words, at);
+        fill_block(&constraint, variables.list(), values, &mut auxiliaries);
+        at = next;
+    }
+    Ok(Judgement { said: HOLDS, fault: 0, at: count })
+}
+
+/// The places of the auxiliaries in fill's output.
+struct Auxiliaries<'a> {
+    rest: &'a mut [i32],
+    used: usize,
+}
+
+impl Auxiliaries<'_> {
+    fn push(&mut self, value: i64) {
+        self.rest[self.used] = value as i32;
+        self.used += 1;
+    }
+
+    /// The bit b, 1 only for a negative x, then z = b×x.
+    fn sign(&mut self, x: i64) {
+        self.push(i64::from(x < 0));
+        self.push(x.min(0));
+    }
+
+    /// A bit for each element of a list, 1 at one place.
+    fn one_of(&mut self, count: usize, place: usize) {
+        (0..count).for_each(|at| self.push(i64::from(at == place)));
+    }
+
+    /// The value of one element at its place, 0 at all others.
+    fn value_at(&mut self, count: usize, place: usize, value: i64) {
+        (0..count).for_each(|at| self.push(if at == place { value } else { 0 }));
+    }
+}
+
+/// The auxiliaries of a constraint that is true of the values (01, Five calls).
+fn fill_block(constraint: &Constraint, variables: &[Variable], values: &[i32], out: &mut Auxiliaries) {
+    let [a, b, c] = constraint.single.map(|variable| values.get(variable).map_or(0, |&value| i64::from(value)));
+    let bounds = || {
+        let first = variables[constraint.single[0]];
+        (i64::from(first.lower), i64::from(first.upper))
+    };
+    match constraint.code {
+        4 => out.push(i64::from(a > b)),
+        7 => out.push(a * b),
+        8 => out.sign(a),
+        9 => out.push(i64::from(a != c)),
+        12 | 13 => {
+            let x = constraint.sum(values);
+            out.push(x);
+            out.sign(x);
+        }
+        14 => {
+            out.push(a - b);
+            out.sign(a - b);
+        }
+        15 => out.push(constraint.sum(values)),
+        20 => {
+            out.push(c * a);
+            out.push(c * b);
+        }
+        24 => {
+            let (lower, upper) = bounds();
+            let (start, chosen) = inside(constraint.numbers, lower, upper);
+            out.one_of(chosen.len(), (a - start) as usize);
+        }
+        25 => {
+            let (lower, upper) = bounds();
+            let (start, chosen) = inside(constraint.list, lower, upper);
+            out.one_of(chosen.len(), (a - start) as usize);
+            out.value_at(chosen.len(), (a - start) as usize, b);
+        }
+        26 => {
+            let list = constraint.list;
+            let first = list.iter().position(|&word| i64::from(values[number(word)]) == a).unwrap_or(0);
+            out.one_of(list.len(), first);
+            out.value_at(list.len(), first, a);
+        }
+        27 => {
+            let (lower, upper) = bounds();
+            let (members, count) = members(constraint.numbers, lower, upper);
+            members[..count].iter().for_each(|&member| out.push(i64::from(member == a)));
+        }
+        28 => {
+            let (lower, upper) = bounds();
+            out.one_of((upper - lower + 1) as usize, (a - lower) as usize);
+        }
+        _ => (),
+    }
+}
+
+// ------------------------------------------------------------------------------------------------------------------------------ row systems
+
+/// Judge-rows: whether the values keep the bounds and satisfy every row and product.
+pub fn judge_rows(words: &[u32], values: &[i32]) -> Judgement {
+    try_judge_rows(words, values).unwrap_or_else(Judgement::from)
+}
+
+/// Reads and judges in one pass: a number that is not lent counts as 0, since fault 15 follows.
+fn try_judge_rows(words: &[u32], values: &[i32]) -> Result<Judgement, Refusal> {
+    if words.len() > ROW_WORDS {
+        return refusal(1, 0);
+    }
+    let mut at = 0;
+    let mut declared = 0;
+    let mut rows = 0;
+    let mut sources = true;
+    let mut out_of_bounds = None;
+    let mut first_false = None;
+    loop {
+        let Some(&word) = words.get(at) else { return refusal(2, at) };
+        match kind(word) {
+            first @ (LOWER | BOOLEAN | AUX_LOWER) if sources || first == AUX_LOWER => {
+                if first == BOOLEAN && payload(word) > 0 {
+                    return refusal(5, at);
+                }
+                if declared == ALL_VARIABLES {
+                    return refusal(14, at);
+                }
+                let (lower, upper) = match first {
+                    LOWER => bound_pair(words, at, UPPER)?,
+                    AUX_LOWER => bound_pair(words, at, AUX_UPPER)?,
+                    _ => (0, 1),
+                };
+                let value = value_of(values, declared);
+                if out_of_bounds.is_none() && !(i64::from(lower)..=i64::from(upper)).contains(&value) {
+                    out_of_bounds = Some(declared);
+                }
+                sources &= first != AUX_LOWER;
+                declared += 1;
+                at += if first == BOOLEAN { 1 } else { 2 };
+            }
+            form @ (AT_MOST | EQUAL | PRODUCT) => {
+                let (satisfied, next) = if form == PRODUCT { product(words, at, declared, values)? } else { row(words, at, declared, values)? };
+                if first_false.is_none() && !satisfied {
+                    first_false = Some(rows);
+                }
+                sources = false;
+                rows += 1;
+                at = next;
+            }
+            ROWS_END => {
+                end(words, at)?;
+                break;
+            }
+            _ => return refusal(3, at),
+        }
+    }
+    if values.len() != declared {
+        return refusal(15, 0);
+    }
+    Ok(judgement(out_of_bounds, first_false))
+}
+
+/// The value of a variable, 0 where none is lent.
+fn value_of(values: &[i32], variable: usize) -> i64 {
+    values.get(variable).map_or(0, |&value| i64::from(value))
+}
+
+/// Whether the row at a place is satisfied, and the place behind it: faults 2, 3, 9 and 10.
+fn row(words: &[u32], head: usize, declared: usize, values: &[i32]) -> Result<(bool, usize), Refusal> {
+    let terms = payload(words[head]);
+    if terms > ROW_TERMS {
+        return refusal(9, head);
+    }
+    let mut at = head + 1;
+    let mut sum = 0i64;
+    for _ in 0..terms {
+        let variable = number(expect(words, at, VARIABLE)?);
+        if variable >= declared {
+            return refusal(10, at);
+        }
+        let coefficient = i64::from(signed(expect(words, at + 1, NUMBER)?));
+        // It wraps only where a value is far out of its bounds; then no row is named.
+        sum = sum.wrapping_add(coefficient * value_of(values, variable));
+        at += 2;
+    }
+    sum = sum.wrapping_add(i64::from(signed(expect(words, at, NUMBER)?)));
+    Ok((if kind(words[head]) == EQUAL { sum == 0 } else { sum <= 0 }, at + 1))
+}
+
+/// Whether the product at a place is satisfied, and the place behind it: faults 2, 3, 5, 10 and 17.
+fn product(words: &[u32], head: usize, declared: usize, values: &[i32]) -> Result<(bool, usize), Refusal> {
+    if payload(words[head]) > 0 {
+        return refusal(5, head);
+    }
+    let result = number(expect(words, head + 1, VARIABLE)?);
+    if result >= declared {
+        return refusal(10, head + 1);
+    }
+    if let Some(&[first, second]) = words.get(head + 2..head + 4) {
+        if kind(first) == VARIABLE && kind(second) == VARIABLE && result <= number(first).max(number(second)) {
+            return refusal(17, head + 1);
+        }
+    }
+    let mut factors = [0i64; 2];
+    for (at, factor) in (head + 2..).zip(&mut factors) {
+        let variable = number(expect(words, at, VARIABLE)?);
+        if variable >= declared {
+            return refusal(10, at);
+        }
+        *factor = value_of(values, variable);
+    }
+    Ok((value_of(values, result) == factors[0] * factors[1], head + 4))
+}
