@@ -1,13 +1,17 @@
-# make run    proves every crate and runs the programs there are
-# make test   runs the gate
-# make bench  measures the judges on long inputs
-.PHONY: run test bench
+# make run      proves every crate and runs the programs there are
+# make test     runs the gate
+# make example  builds the example in C with the proved library and runs it
+# make bench    measures the judges on long inputs
+.PHONY: run test example bench
 
 run:
 	rt check
 
 test:
 	bash .ci/run
+
+example:
+	bash tests/example.sh
 
 bench:
 	rt staticlib host
