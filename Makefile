@@ -1,7 +1,7 @@
 # make run      proves every crate and runs the programs there are
 # make test     runs the gate
 # make example  builds the example in C with the proved library and runs it
-# make bench    measures the judges on long inputs
+# make bench    measures the calls
 .PHONY: run test example bench
 
 run:
@@ -15,5 +15,5 @@ example:
 
 bench:
 	rt staticlib host
-	gcc -O2 -o target/judges bench/judges.c target/staticlib/libhost.a
-	target/judges
+	gcc -O2 -Wall -Wextra -Werror -o target/calls bench/calls.c target/staticlib/libhost.a
+	target/calls

@@ -1,0 +1,206 @@
+/* How long the calls take, as a table: `make bench`. Every answer is "accepted" or "holds", so that every word is worked on; the program exits with 1 if one is not. */
+#include "../include/pearrummy.h"
+#include <stdio.h>
+#include <stdlib.h>
+#include <time.h>
+
+enum { MODEL = 8192, ROWS = 131072, IN_ALL = 4096, ROUNDS = 9 };
+
+static uint32_t words[MODEL + 68], rows[ROWS]; /* a constraint that does not fit is put and taken back */
+static uint8_t bytes[4 * MODEL];
+static int32_t filled[IN_ALL];
+static size_t length, row_words, row_values;
+
+/* ---- A model over nine variables: I an index, A, B, their sum, product and maximum, the absolute value of A, true and false. */
+
+enum { I, A, B, SUM, PRODUCT, ABS, MAX, T, F, VARIABLES };
+static const int32_t lowest[] = {1, -5, -5, -10, -25, 0, -5}, highest[] = {32, 5, 5, 10, 25, 5, 5};
+static const int32_t values[] = {1, 3, 2, 5, 6, 3, 3, 1, 0};
+
+static void put(uint32_t kind, int32_t payload) { words[length++] = kind << 28 | ((uint32_t)payload & 0xFFFFFFF); }
+static void number(int32_t v) { put(6, v); }
+static void variable(int x) { put(5, x); }
+static void two(int x, int y) {
+    variable(x);
+    variable(y);
+}
+static void three(int x, int y, int z) {
+    two(x, y);
+    variable(z);
+}
+
+/* A sum of n terms over the integer variables, and its constant: what it is of the values, and `more`. */
+static void terms(int n, int more) {
+    int sum = 0;
+    number(n);
+    for (int k = 0; k < n; k++) number(k % 5 - 2);
+    for (int k = 0; k < n; k++) variable(k % T);
+    for (int k = 0; k < n; k++) sum += (k % 5 - 2) * values[k % T];
+    number(sum + more);
+}
+
+/* A list of variables: the first, and then two others in turn. */
+static void list(int n, int first, int second, int third) {
+    number(n);
+    for (int k = 0; k < n; k++) variable(k == 0 ? first : k % 2 ? second : third);
+}
+
+/* A list of numbers that falls. */
+static void numbers(int n, int first) {
+    number(n);
+    for (int k = 0; k < n; k++) number(first - k);
+}
+
+/* A constraint that is true of the values; its lists have n elements. */
+static void constraint(int code, int n) {
+    put(4, code);
+    switch (code) {
+    case 1: two(A, A); break;
+    case 2: case 3: two(B, A); break;
+    case 4: two(A, B); break;
+    case 5: case 14: three(A, B, F); break;
+    case 6: three(A, B, SUM); break;
+    case 7: three(A, B, PRODUCT); break;
+    case 8: two(A, ABS); break;
+    case 9: three(A, B, MAX); break;
+    case 10: terms(n, 0); break;
+    case 11: terms(n, 1); break;
+    case 12: terms(n, -1); break;
+    case 13: terms(n, 0); variable(T); break;
+    case 15: terms(n, -1); variable(F); break;
+    case 16: two(T, I); break;
+    case 17: two(T, F); break;
+    case 18: three(T, F, F); break;
+    case 19: case 20: three(T, F, T); break;
+    case 21: list(n, T, F, T); list(n, T, F, T); break;
+    case 22: list(n, T, F, T); variable(F); break;
+    case 23: list(n, T, F, F); break;
+    case 24: variable(I); numbers(n, values[SUM]); variable(SUM); break;
+    case 25: variable(I); list(n, SUM, A, B); variable(SUM); break;
+    case 26: variable(MAX); list(n, A, B, A); break;
+    case 27: variable(A); numbers(n, values[A]); break;
+    case 28: variable(A); numbers(n, values[A]); variable(T); break;
+    }
+}
+
+/* Puts a constraint if it fits and leaves no words, or the four that the shortest true clause needs. */
+static void put_if(int code, int n, size_t total) {
+    size_t before = length;
+    constraint(code, n);
+    if (length + 1 != total && length + 5 > total) length = before;
+}
+
+/* A model of `total` words. Its constraints go round the 28 builtins, in every second round only round those with lists, which have n elements.
+ * What does not fit is left out; words that are left at the end are a clause. */
+static void make_model(size_t total, int n) {
+    static const int round[] = {4, 12, 7, 26, 8, 28, 5, 13, 9, 24, 14, 10, 20, 15, 1, 11, 2, 22, 3, 23, 6, 25, 16, 27, 17, 21, 18, 19};
+    length = 0;
+    for (int x = I; x < T; x++) {
+        put(1, lowest[x]);
+        put(2, highest[x]);
+    }
+    put(3, 0);
+    put(3, 0);
+    for (int k = 0; length + 1 + 67 < total || k < 28; k++) {
+        int code = round[k % 28], with_list = code >= 10 && code != 14 && !(code >= 16 && code <= 20);
+        if (with_list || k / 28 % 2 == 0) put_if(code, n, total);
+    }
+    if (length + 1 < total) {
+        int left = total - length - 4;
+        put(4, 21);
+        list((left + 1) / 2, T, F, T);
+        list(left / 2, F, T, T);
+    }
+    put(7, 0);
+    for (size_t k = 0; k < 4 * total; k++) bytes[k] = words[k / 4] >> 8 * (k % 4);
+}
+
+/* A row system of `total` words: 17 Boolean variables, and rows of up to 62 terms that are 0 of all zeros. */
+static void make_rows(size_t total) {
+    size_t at = 0;
+    while (at < 17) rows[at++] = 0x30000000;
+    while (at < total - 1) {
+        size_t left = total - 1 - at, n = left <= 126 ? (left - 2) / 2 : left >= 128 ? 62 : (left - 4) / 2;
+        rows[at++] = 0xB0000000 + n;
+        for (size_t k = 0; k < n; k++) {
+            rows[at++] = 0x50000000 + k % 16;
+            rows[at++] = 0x60000001;
+        }
+        rows[at++] = 0x60000000;
+    }
+    rows[at] = 0xF0000000;
+    row_words = total;
+    row_values = 17;
+    for (size_t k = 0; k < 17; k++) filled[k] = 0;
+}
+
+/* ---- The calls; each says whether it accepts. */
+
+static int check_bytes(void) { return pearrummy_check_bytes(bytes, 4 * length) == 0; }
+static int check(void) { return pearrummy_check(words, length).fault == 0; }
+static int translate(void) { return pearrummy_translate(words, length, rows, ROWS).fault == 0; }
+static int judge_model(void) { return pearrummy_judge_model(words, length, values, VARIABLES).said == PEARRUMMY_HOLDS; }
+static int fill(void) { return pearrummy_fill(words, length, values, VARIABLES, filled, IN_ALL).said == PEARRUMMY_HOLDS; }
+static int judge_rows(void) { return pearrummy_judge_rows(rows, row_words, filled, row_values).said == PEARRUMMY_HOLDS; }
+
+static double now(void) {
+    struct timespec t;
+    clock_gettime(CLOCK_PROCESS_CPUTIME_ID, &t);
+    return t.tv_sec + t.tv_nsec * 1e-9;
+}
+
+/* Processor time of one call: the best of rounds that last about a hundredth of a second each. */
+static void measure(const char *name, int (*call)(void), size_t n) {
+    double best = 0;
+    int repeats = 1, round = 0;
+    while (round < ROUNDS) {
+        double begun = now();
+        for (int k = 0; k < repeats; k++)
+            if (!call()) {
+                printf("%s of %zu words does not accept\n", name, n);
+                exit(1);
+            }
+        double each = (now() - begun) / repeats;
+        if (each * repeats < 0.01) {
+            repeats *= 2;
+            continue;
+        }
+        if (round == 0 || each < best) best = each;
+        round++;
+    }
+    printf("| %s | %zu | %.1f µs | %.1f |\n", name, n, best * 1e6, best * 1e9 / n);
+}
+
+/* Makes a model, and says how many values and words its row system has. */
+static struct pearrummy_counts begin_model(size_t total, int n) {
+    make_model(total, n);
+    struct pearrummy_counts c = pearrummy_check(words, length);
+    row_words = c.words;
+    row_values = c.variables + c.auxiliaries;
+    return c;
+}
+
+int main(void) {
+    static const struct { size_t words; int elements; } models[] = {{64, 2}, {1024, 32}, {8192, 32}};
+    static const size_t systems[] = {16384, 65536, 131072};
+    printf("| Words | Constraints | Auxiliaries | Rows | Row words |\n|---|---|---|---|---|\n");
+    for (int k = 0; k < 3; k++) {
+        struct pearrummy_counts c = begin_model(models[k].words, models[k].elements);
+        printf("| %zu | %zu | %zu | %zu | %zu |\n", length, c.constraints, c.auxiliaries, c.rows, c.words);
+    }
+    printf("\n| Call | Words | Time | Nanoseconds a word |\n|---|---|---|---|\n");
+    for (int k = 0; k < 3; k++) {
+        begin_model(models[k].words, models[k].elements);
+        measure("check", check, length);
+        measure("check over bytes", check_bytes, length);
+        measure("translate", translate, length);
+        measure("judge-model", judge_model, length);
+        measure("fill", fill, length);
+        measure("judge-rows, of what translate and fill wrote", judge_rows, row_words);
+    }
+    for (int k = 0; k < 3; k++) {
+        make_rows(systems[k]);
+        measure("judge-rows", judge_rows, row_words);
+    }
+    return 0;
+}
