@@ -41,7 +41,8 @@ struct pearrummy_written {
     size_t words;
 };
 
-/* Check over bytes, four to a word, lowest first, 1 to 3 spare bytes left off: the number of the refusal, 0 if accepted. */
+/* Check over bytes, four to a word, lowest first, 1 to 3 spare bytes left off: the number of the refusal, 0 if accepted.
+ * It takes 32 KiB of the stack for the words. */
 uint32_t pearrummy_check_bytes(const uint8_t *bytes, size_t bytes_count);
 
 /* Checks a model; faults 1 to 14. */
