@@ -4,6 +4,7 @@ ghost use mathlib.Core.List.{_++_};
 ghost use Prim.Native.Nat.{_+_, _<_};
 ghost use lib.ListN.{length};
 ghost use Rattle.words.specs.Overlay.{overlay};
+ghost use Rattle.words.specs.Refusal.{accepted};
 ghost use Rattle.words.specs.Variables.{variables};
 ghost use Rattle.arguments.specs.Small.{Small};
 ghost use Rattle.rules.specs.Translation.{auxiliaries, picks};
@@ -14,7 +15,7 @@ ghost use Rattle.picking.specs.Picked.{Ranged, picksFrom};
 ghost use Rattle.filling.specs.Filled.{handed};
 ghost use Rattle.filling.specs.Satisfied.{Satisfied};
 use extremes::keep_bounds;
-use modeljudge::judge_model;
+use modeljudge::judge_read;
 use picking::pick_block;
 use translation::Checked;
 use translation::check;
@@ -75,6 +76,16 @@ fn write_filled(ws: &[u32], values: &[i32], out: &mut [i32])
     write_picks(ws, &lowers, &uppers, values, out, values.len());
 }
 
+// What reading answers of a model that passes the check.
+fn accepted() -> Refusal
+    ensures { λ r. ⌜ r ≡ accepted ⌝ }
+{
+    Refusal {
+        number: fault::NONE,
+        place: 0,
+    }
+}
+
 // Of a model that passes the check, with these numbers of variables and auxiliaries.
 fn fill_passed(ws: &[u32], values: &[i32], out: &mut [i32], sources: usize, added: usize) -> Filled
     requires { ⌜ Passes (now ws) × (sources ≡ length (variables (now ws))) × (added ≡ length (auxiliaries (now ws))) ⌝ }
@@ -94,7 +105,7 @@ fn fill_passed(ws: &[u32], values: &[i32], out: &mut [i32], sources: usize, adde
             place: 0,
         });
     }
-    match judge_model(ws, values) {
+    match judge_read(accepted(), ws, values) {
         Verdict::Refused(refusal) => Filled::Refused(refusal),
         Verdict::Holds => {
             write_filled(ws, values, out);

@@ -15,17 +15,24 @@ use Rattle.filling.proofs.fill_passed.Tie as tie
 
 returns : tie.Need-returns
 unfolding handed
-returns c = wrong-count (c .before .before .args .ws .now) (c .before .before .pre .0) (c .before .before .args .values .now) (c .before .before .args .out .now) (λ e. c .if1 .taken (e ∙ sym (c .before .before .pre .1)))
+returns c =
+    let s = c .before .before in
+    wrong-count (s .args .ws .now) (s .pre .0) (s .args .values .now) (s .args .out .now) (λ e. c .if1 .taken (e ∙ sym (s .pre .1)))
 
 add-if2 : tie.Need-add-if2
 add-if2 c = record { fits = omega (arith, c .before .before .pre .1, c .before .before .pre .2, few-in-all (c .before .before .args .ws .now) (c .before .before .pre .0)) }
 
 returns-2 : tie.Need-returns-2
 unfolding handed
-returns-2 c = too-short (c .before .before .before .args .ws .now) (c .before .before .before .pre .0) (c .before .before .before .args .values .now) (c .before .before .before .args .out .now) (c .before .if1 .left ∙ c .before .before .before .pre .1) (rw (c .before .before .before .pre .1, c .before .before .before .pre .2) at (c .if2 .taken))
+returns-2 c =
+    let s = c .before .before .before in
+    too-short (s .args .ws .now) (s .pre .0) (s .args .values .now) (s .args .out .now) (c .before .if1 .left ∙ s .pre .1) (rw (s .pre .1, s .pre .2) at (c .if2 .taken))
 
-judge-model-requires : tie.Need-judge-model-requires
-judge-model-requires c κs = search needs
+accepted-requires : tie.Need-accepted-requires
+accepted-requires c κs = search needs
+
+judge-read-requires : tie.Need-judge-read-requires
+judge-read-requires c κs = c .accepted .ensures ∙ sym (passes-read (c .before .before .before .before .args .ws .now) (c .before .before .before .before .pre .0))
 
 enum-known-refusal : tie.Need-enum-known-refusal
 enum-known-refusal c = search needs
@@ -35,10 +42,12 @@ enum-told c = search needs
 
 write-filled-requires : tie.Need-write-filled-requires
 unfolding verdict
-write-filled-requires c κs = (c .before .before .before .before .before .before .before .pre .0, judge-model-says (c .before .before .before .before .before .before .before .args .ws .now) (passes-read (c .before .before .before .before .before .before .before .args .ws .now) (c .before .before .before .before .before .before .before .pre .0)) (c .before .before .before .before .before .before .before .args .values .now) .0 (sym (c .before .before .before .judge-model .ensures) ∙ rw (c .before .enum-told .given .1)))
+write-filled-requires c κs =
+    let s = c .before .before .before .before .before .before .before .before in
+    (s .pre .0, judge-model-says (s .args .ws .now) (passes-read (s .args .ws .now) (s .pre .0)) (s .args .values .now) .0 (sym (c .before .before .before .judge-read .ensures) ∙ rw (c .before .enum-told .given .1)))
 
-add-t19 : tie.Need-add-t19
-add-t19 c = search needs
+add-t20 : tie.Need-add-t20
+add-t20 c = search needs
 
 enum-known-i : tie.Need-enum-known-i
 enum-known-i c = search needs
@@ -48,22 +57,30 @@ enum-known-i-2 c = search needs
 
 returns-3 : tie.Need-returns-3
 unfolding handed verdict isHolds
-returns-3 c = not-held (c .before .before .before .before .before .before .before .args .ws .now) (c .before .before .before .before .before .before .before .pre .0) (c .before .before .before .before .before .before .before .args .values .now) (c .before .before .before .before .before .before .before .args .out .now) (c .before .before .before .before .before .if1 .left ∙ c .before .before .before .before .before .before .before .pre .1) (rw (c .before .before .before .before .before .before .before .pre .1, c .before .before .before .before .before .before .before .pre .2) at (c .before .before .before .before .if2 .left)) _ (rw (c .before .refusal .given .1) at (c .before .before .before .judge-model .ensures)) refl (λ n e. clash (cc))
+returns-3 c =
+    let s = c .before .before .before .before .before .before .before .before in
+    not-held (s .args .ws .now) (s .pre .0) (s .args .values .now) (s .args .out .now) (c .before .before .before .before .before .before .if1 .left ∙ s .pre .1) (rw (s .pre .1, s .pre .2) at (c .before .before .before .before .before .if2 .left)) _ (rw (c .before .refusal .given .1) at (c .before .before .before .judge-read .ensures)) refl (λ n e. clash (cc))
 
 same-length : tie.Need-same-length
 same-length c = search needs
 
 returns-4 : tie.Need-returns-4
 unfolding handed verdict
-returns-4 c = rw (c .before .before .before .before .before .before .before .before .before .pre .1, c .before .before .before .before .before .before .before .before .before .pre .2, c .before .write-filled .ensures) (held (c .before .before .before .before .before .before .before .before .before .args .ws .now) (c .before .before .before .before .before .before .before .before .before .pre .0) (c .before .before .before .before .before .before .before .before .before .args .values .now) (c .before .before .before .before .before .before .before .before .before .args .out .now) (c .before .before .before .before .before .before .before .if1 .left ∙ c .before .before .before .before .before .before .before .before .before .pre .1) (rw (c .before .before .before .before .before .before .before .before .before .pre .1, c .before .before .before .before .before .before .before .before .before .pre .2) at (c .before .before .before .before .before .before .if2 .left)) (sym (c .before .before .before .before .before .judge-model .ensures) ∙ rw (c .before .before .before .enum-told .given .1)))
+returns-4 c =
+    let s = c .before .before .before .before .before .before .before .before .before .before in
+    rw (s .pre .1, s .pre .2, c .before .write-filled .ensures) (held (s .args .ws .now) (s .pre .0) (s .args .values .now) (s .args .out .now) (c .before .before .before .before .before .before .before .before .if1 .left ∙ s .pre .1) (rw (s .pre .1, s .pre .2) at (c .before .before .before .before .before .before .before .if2 .left)) (sym (c .before .before .before .before .before .judge-read .ensures) ∙ rw (c .before .before .before .enum-told .given .1)))
 
 returns-5 : tie.Need-returns-5
 unfolding handed verdict isHolds
-returns-5 c = not-held (c .before .before .before .before .before .before .before .args .ws .now) (c .before .before .before .before .before .before .before .pre .0) (c .before .before .before .before .before .before .before .args .values .now) (c .before .before .before .before .before .before .before .args .out .now) (c .before .before .before .before .before .if1 .left ∙ c .before .before .before .before .before .before .before .pre .1) (rw (c .before .before .before .before .before .before .before .pre .1, c .before .before .before .before .before .before .before .pre .2) at (c .before .before .before .before .if2 .left)) _ (rw (c .before .i .given .1) at (c .before .before .before .judge-model .ensures)) refl (λ n e. clash (cc))
+returns-5 c =
+    let s = c .before .before .before .before .before .before .before .before in
+    not-held (s .args .ws .now) (s .pre .0) (s .args .values .now) (s .args .out .now) (c .before .before .before .before .before .before .if1 .left ∙ s .pre .1) (rw (s .pre .1, s .pre .2) at (c .before .before .before .before .before .if2 .left)) _ (rw (c .before .i .given .1) at (c .before .before .before .judge-read .ensures)) refl (λ n e. clash (cc))
 
 returns-6 : tie.Need-returns-6
 unfolding handed verdict isHolds
-returns-6 c = not-held (c .before .before .before .before .before .before .before .args .ws .now) (c .before .before .before .before .before .before .before .pre .0) (c .before .before .before .before .before .before .before .args .values .now) (c .before .before .before .before .before .before .before .args .out .now) (c .before .before .before .before .before .if1 .left ∙ c .before .before .before .before .before .before .before .pre .1) (rw (c .before .before .before .before .before .before .before .pre .1, c .before .before .before .before .before .before .before .pre .2) at (c .before .before .before .before .if2 .left)) _ (rw (c .before .i2 .given .1) at (c .before .before .before .judge-model .ensures)) refl (λ n e. clash (cc))
+returns-6 c =
+    let s = c .before .before .before .before .before .before .before .before in
+    not-held (s .args .ws .now) (s .pre .0) (s .args .values .now) (s .args .out .now) (c .before .before .before .before .before .before .if1 .left ∙ s .pre .1) (rw (s .pre .1, s .pre .2) at (c .before .before .before .before .before .if2 .left)) _ (rw (c .before .i2 .given .1) at (c .before .before .before .judge-read .ensures)) refl (λ n e. clash (cc))
 
 pub fill-passed-spec : {M : Type 1} → statement M
 fill-passed-spec =
@@ -72,11 +89,12 @@ fill-passed-spec =
     returns
     add-if2
     returns-2
-    judge-model-requires
+    accepted-requires
+    judge-read-requires
     enum-known-refusal
     enum-told
     write-filled-requires
-    add-t19
+    add-t20
     enum-known-i
     enum-known-i-2
     returns-3

@@ -6,15 +6,12 @@ use Rattle.words.specs.Judge.{judge}
 use Rattle.variables.specs.Judged.{judgedThen}
 use Rattle.variables.proofs.After.{go-on, stop}
 use Rattle.models.specs.JudgeModel.{judgeAccepted, judgeModel}
-use Rattle.modeljudge.proofs.judge_model.Statement.{statement}
-use Rattle.modeljudge.proofs.judge_model.Tie as tie
+use Rattle.modeljudge.proofs.judge_read.Statement.{statement}
+use Rattle.modeljudge.proofs.judge_read.Tie as tie
 
 -- what `is_holds` says of the values
-said : (c : tie.After-is-holds) → let a = c .before .before .before .before .args in isHolds (judgedThen (c .before .before .read-model .result) (a .ws .now) (a .values .now) holds) ≡ c .is-holds .result
+said : (c : tie.After-is-holds) → let a = c .before .before .before .args in isHolds (judgedThen (a .read) (a .ws .now) (a .values .now) holds) ≡ c .is-holds .result
 said c = sym (c .is-holds .ensures ∙ ap isHolds (c .before .judge-values .ensures))
-
-read-model-requires : tie.Need-read-model-requires
-read-model-requires c κs = search needs
 
 judge-values-requires : tie.Need-judge-values-requires
 judge-values-requires c κs = search needs
@@ -27,17 +24,16 @@ first-false-requires c κs = go-on _ _ _ (said (c .before) ∙ c .if1 .taken) .0
 
 returns : tie.Need-returns
 unfolding judge judgeAccepted judgeModel
-returns c = rw (← c .before .before .before .before .read-model .ensures) (c .first-false .ensures ∙ go-on _ _ _ (said (c .before .before) ∙ c .before .if1 .taken) .1 _)
+returns c = rw (← c .before .before .before .before .before .pre) (c .first-false .ensures ∙ go-on _ _ _ (said (c .before .before) ∙ c .before .if1 .taken) .1 _)
 
 returns-2 : tie.Need-returns-2
 unfolding judge judgeAccepted judgeModel
-returns-2 c = rw (← c .before .before .before .read-model .ensures) (c .before .before .judge-values .ensures ∙ stop _ _ _ (said (c .before) ∙ c .if1 .left) _)
+returns-2 c = rw (← c .before .before .before .before .pre) (c .before .before .judge-values .ensures ∙ stop _ _ _ (said (c .before) ∙ c .if1 .left) _)
 
-pub judge-model-spec : {M : Type 1} → statement M
-judge-model-spec =
+pub judge-read-spec : {M : Type 1} → statement M
+judge-read-spec =
     tie.close
     (tie.spec
-    read-model-requires
     judge-values-requires
     is-holds-requires
     first-false-requires
