@@ -1,6 +1,6 @@
+-- The invariant: the lists keep their lengths. The measure: how many cases may come.
 use native.Mathlib.Omega.{arith}
 use borrow.Author.Needs.{needs}
--- The invariant: the lists keep their lengths. The measure: how many cases may come.
 use mathlib.Core.Path.{_≡_}
 use lib.ListN.{length}
 use Rattle.suite.proofs.main.Statement.{statement}

@@ -1,6 +1,6 @@
+-- The invariant: the list keeps its length. The measure: what is left of it.
 use native.Mathlib.Omega.{arith}
 use borrow.Author.Needs.{needs}
--- The invariant: the list keeps its length. The measure: what is left of it.
 use mathlib.Core.Path.{_≡_}
 use Prim.Native.Nat.{_-_}
 use lib.ListN.{length}

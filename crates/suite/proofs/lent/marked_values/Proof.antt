@@ -1,6 +1,6 @@
+-- No invariant is wanted. The measure: what is left of the list.
 use native.Mathlib.Omega.{arith}
 use borrow.Author.Needs.{needs}
--- No invariant is wanted. The measure: what is left of the list.
 use Prim.Native.Nat.{_-_}
 use lib.ListN.{length}
 use Rattle.suite.proofs.lent.marked_values.Statement.{statement}

@@ -1,6 +1,6 @@
+-- No invariant is wanted. The measure: what is left to print.
 use native.Mathlib.Omega.{arith}
 use borrow.Author.Needs.{needs}
--- No invariant is wanted. The measure: what is left to print.
 use Prim.Native.Nat.{_-_}
 use Rattle.suite.proofs.output.print_words.Statement.{statement}
 use Rattle.suite.proofs.output.print_words.Tie as tie
