@@ -1,0 +1,2 @@
+-- What the contracts cite: the words of bytes.
+pub mod Bytes

@@ -1,0 +1,40 @@
+// Reads the bytes of a model's words from standard input and prints the words of its row system, one a line, or the refusal.
+ghost use mathlib.Core.Path.{_≡_};
+ghost use Prim.Native.Nat.{min};
+ghost use lib.ListN.{length};
+ghost use Rattle.rules.specs.Translate.{translate as translateAnswer, translated};
+ghost use Rattle.translation.specs.Written.{wrote};
+ghost use Rattle.rows.specs.Bytes.{bytesWords};
+use input::words_of_bytes;
+use output::print_answer;
+use translation::Written;
+use translation::translate;
+
+mod input;
+mod output;
+
+// The lesser of two counts.
+fn at_most(n: usize, most: usize) -> usize
+    ensures { λ r. ⌜ r ≡ min n most ⌝ }
+{
+    if n < most { n } else { most }
+}
+
+// Translate over bytes. The first 8,193 words tell all: a model of more than 8,192 words is refused.
+fn translate_bytes(bytes: &[u8], out: &mut [u32]) -> Written
+    ensures answer { λ r. ⌜ wrote r ≡ translateAnswer (bytesWords (now (bytes .entry))) (length (now (out .entry))) ⌝ }
+    ensures output { λ r. ⌜ now (out .exit) ≡ translated (bytesWords (now (bytes .entry))) (now (out .entry)) ⌝ }
+{
+    let mut words = [0u32; 8193];
+    let n = at_most(words_of_bytes(bytes, &mut words), 8193);
+    translate(&words[..n], out)
+}
+
+// The bytes of 8,193 words are read at most. A row system of more than 16,384 words does not fit, and translate refuses it.
+fn main() {
+    let mut bytes = [0u8; 32772];
+    let n = io::read_full(0, &mut bytes);
+    let mut out = [0u32; 16384];
+    let answer = translate_bytes(&bytes[..n], &mut out);
+    print_answer(answer, &out);
+}
