@@ -20,6 +20,19 @@ use Rattle.rowreading.specs.declared.items.Step.{Step}
 use Rattle.rowreading.specs.Onward.{onward, stopped, resumed, Went, stepOver}
 use Rattle.rowreading.proofs.Onward.{faultAt, here, go-on, stop-at}
 
+-- ---- a step over a word without a fault leads to the next place
+
+pub stepped : (f at : ℕ) → stepOver f at .number ≡ 0 → stepOver f at .at ≡ at + 1
+unfolding stepOver
+stepped f at = go (eqb f Fault.none) refl
+  where
+    over : Bool → Step
+    over b = record { number = f; at = at + 1 } if b else record { number = f; at = at }
+
+    go : (b : Bool) → eqb f Fault.none ≡ b → over b .number ≡ 0 → over b .at ≡ at + 1
+    go true q e = refl
+    go false q e = absurd (eqb-false f Fault.none q e)
+
 -- ---- a word inside an item starts no variable
 
 -- whether what is due stands inside an item, after its head

@@ -1,6 +1,6 @@
 // The items of a row system: variables, auxiliaries, rows, products, the end. Each function reads some words of an item.
 ghost use mathlib.Core.Path.{_≡_};
-ghost use Prim.Native.Nat.{ℕ, suc, _≤_};
+ghost use Prim.Native.Nat.{ℕ, suc, _+_, _≤_};
 ghost use Rattle.words.specs.Limit as Limit;
 ghost use Rattle.words.specs.Word.{wordAt};
 ghost use Rattle.rowsystems.specs.Reading.{faultUpper, faultVariable, faultNumber, afterDue};
@@ -126,13 +126,13 @@ fn upper_at(ws: &[u32], k: u32, lower: u32, at: usize) -> Step
 // A term: its variable and its coefficient.
 pub fn read_term(ws: &[u32], n: usize, at: usize) -> Step
     requires { ⌜ Placed (now ws) at ⌝ }
-    ensures { λ r. ⌜ ((left : ℕ) → Went (now (ws .entry)) n (Due.Terms (suc left)) at (Due.Terms left) r) ⌝ }
+    ensures { λ r. ⌜ ((left : ℕ) → Went (now (ws .entry)) n (Due.Terms (suc left)) at (Due.Terms left) r) × (r .number ≡ 0 → r .at ≡ at + 2) ⌝ }
 {
     let variable = variable_at(ws, n, at);
     if variable.number != fault::NONE {
         return variable;
     }
-    number_at(ws, variable.at)
+    number_at(ws, at + 1)
 }
 
 // A product's result and its two factors.

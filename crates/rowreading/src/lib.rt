@@ -81,10 +81,11 @@ pub fn read_rows(ws: &[u32]) -> Refusal
         while 0 < left {
             let term = read_term(ws, n, at);
             number = term.number;
-            at = term.at;
             if number != fault::NONE {
+                at = term.at;
                 break 'items;
             }
+            at += 2;
             left -= 1;
         }
         let rest = read_rest(ws, item, n, at);

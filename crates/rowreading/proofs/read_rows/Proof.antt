@@ -1,7 +1,7 @@
 -- The invariant: reading on from here finds what reading all the words finds; in a row, with so many terms left.
 use mathlib.Core.Path.{_≡_, refl, sym, _∙_}
 use mathlib.Core.Logic.{⊎-elim}
-use Prim.Native.Nat.{_-_, _≤_}
+use Prim.Native.Nat.{_+_, _-_, _≤_}
 use native.Mathlib.Omega.{arith}
 use borrow.Author.Needs.{needs}
 use borrow.Author.Tests.{lt-ltb, le-ltb}
@@ -39,7 +39,7 @@ out c =
     ⊎-elim
     (λ w. rw (w .2, w .3) (sym (head-halted ws (c .before .before .before .items .sources) (c .before .before .before .items .n) (c .before .before .before .items .at) (c .before .fault-head .result) (head (c .before)) (w .0 .taken)) ∙ c .before .before .before .items .inv .2))
     (⊎-elim
-    (λ w. rw (w .9, w .10) (sym (halted (term-gone (w .2 .result) (w .4 .left) (w .5 .taken) (w .4 .inv .2) (w .6 .ensures)) (w .7 .taken)) ∙ w .4 .inv .3))
+    (λ w. rw (w .9, w .10) (sym (halted (term-gone (w .2 .result) (w .4 .left) (w .5 .taken) (w .4 .inv .2) (w .6 .ensures .0)) (w .7 .taken)) ∙ w .4 .inv .3))
     (λ w. rw (w .9, w .10) (let z : w .4 .left ≡ 0 = omega (arith, w .5 .left) in sym (halted (w .6 .ensures) (w .7 .taken)) ∙ rw z at (w .4 .inv .3))))
     (c .if2 .came)
 
@@ -86,6 +86,13 @@ loop-holds c = (
 read-term-requires : tie.Need-read-term-requires Inv-loop μ-loop Inv-items μ-items
 read-term-requires c κs = search needs
 
+-- past a term without a fault
+past-term : (c : tie.Else3 Inv-loop μ-loop Inv-items μ-items) → c .before .read-term .result .at ≡ c .before .before .before .loop .at + 2
+past-term c = c .before .read-term .ensures .1 (c .if3 .left)
+
+add-at-2 : tie.Need-add-at-2 Inv-loop μ-loop Inv-items μ-items
+add-at-2 c = record { fits = omega (arith, past-term c, c .before .read-term .ensures .0 0 .inside, c .before .before .before .loop .inv .1 .few) }
+
 sub-left : tie.Need-sub-left Inv-loop μ-loop Inv-items μ-items
 sub-left c = search needs
 
@@ -93,12 +100,15 @@ loop-less : tie.Need-loop-less Inv-loop μ-loop Inv-items μ-items
 loop-less c = search needs
 
 loop-again : tie.Need-loop-again Inv-loop μ-loop Inv-items μ-items
-loop-again c = (
-  omega (arith, c .before .before .before .loop .inv .0, c .before .read-term .ensures 0 .on),
-  record { within = c .before .read-term .ensures 0 .inside; few = c .before .before .before .loop .inv .1 .few },
-  omega (arith, c .before .before .before .loop .inv .2),
-  sym (gone (term-gone (c .before .before .before .before .before .item-of .result) (c .before .before .before .loop .left) (c .before .before .loop-test .taken) (c .before .before .before .loop .inv .2) (c .before .read-term .ensures)) (c .if3 .left)) ∙ c .before .before .before .loop .inv .3,
-)
+loop-again c =
+    let l = c .before .before .before .loop in
+    let t = c .before .read-term .ensures .0 in
+    rw (← past-term c) (
+      omega (arith, l .inv .0, t 0 .on),
+      record { within = t 0 .inside; few = l .inv .1 .few },
+      omega (arith, l .inv .2),
+      sym (gone (term-gone (c .before .before .before .before .before .item-of .result) (l .left) (c .before .before .loop-test .taken) (l .inv .2) t) (c .if3 .left)) ∙ l .inv .3,
+    )
 
 read-rest-requires : tie.Need-read-rest-requires Inv-loop μ-loop Inv-items μ-items
 read-rest-requires c κs = search needs
@@ -142,6 +152,7 @@ read-rows-spec =
     terms-of-requires
     loop-holds
     read-term-requires
+    add-at-2
     sub-left
     loop-less
     loop-again

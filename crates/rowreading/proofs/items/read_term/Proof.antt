@@ -1,10 +1,12 @@
 -- The variable, and if it has no fault the coefficient.
-use Prim.Native.Nat.{ℕ, suc}
+use mathlib.Core.Path.{_≡_, sym, ap, _∙_}
+use Prim.Native.Nat.{ℕ, suc, _+_}
 use native.Mathlib.Omega.{arith}
 use borrow.Author.Needs.{needs}
 use Rattle.rowsystems.specs.declared.Due.the-variants.{Terms, Coefficient}
 use Rattle.rowreading.specs.Onward.{Went}
-use Rattle.rowreading.proofs.Steps.{and-then, or-halted}
+use Rattle.rowreading.specs.declared.items.Step.{Step}
+use Rattle.rowreading.proofs.Steps.{and-then, or-halted, stepped}
 use Rattle.rowreading.proofs.Inner.{term-variable, term-coefficient}
 use Rattle.rowreading.proofs.items.read_term.Statement.{statement}
 use Rattle.rowreading.proofs.items.read_term.Tie as tie
@@ -16,14 +18,27 @@ variable c left = rw (c .variable-at .ensures) (term-variable (c .before .before
 variable-at-requires : tie.Need-variable-at-requires
 variable-at-requires c κs = search needs
 
+-- without a fault it ends at the next place
+next : (c : tie.After-variable-at) → c .variable-at .result .number ≡ 0 → c .variable-at .result .at ≡ c .before .before .args .at + 1
+next c e = ap (λ (r : Step). r .at) (c .variable-at .ensures) ∙ stepped _ _ (ap (λ (r : Step). r .number) (sym (c .variable-at .ensures)) ∙ e)
+
 returns : tie.Need-returns
-returns c = λ left. or-halted (variable (c .before .before) left) (c .if1 .taken)
+returns c = (λ left. or-halted (variable (c .before .before) left) (c .if1 .taken), λ e. absurd (c .if1 .taken e))
+
+add-number-at : tie.Need-add-number-at
+add-number-at c = search needs
 
 number-at-requires : tie.Need-number-at-requires
-number-at-requires c κs = omega (arith, variable (c .before .before) 0 .inside, c .before .before .before .before .pre .few)
+number-at-requires c κs = omega (arith, variable (c .before .before) 0 .inside, next (c .before .before) (c .if1 .left), c .before .before .before .before .pre .few)
 
 returns-2 : tie.Need-returns-2
-returns-2 c = λ left. and-then (variable (c .before .before .before) left) (c .before .if1 .left) (rw (c .number-at .ensures) (term-coefficient (c .before .before .before .before .before .args .ws .now) (c .before .before .before .before .before .args .n) (c .before .before .before .variable-at .result .at) (variable (c .before .before .before) 0 .inside) left))
+returns-2 c =
+    let v = c .before .before .before in
+    let a = v .before .before .args in
+    let l = variable v 0 .inside in (
+      λ left. and-then (variable v left) (c .before .if1 .left) (rw (next v (c .before .if1 .left), c .number-at .ensures) (term-coefficient (a .ws .now) (a .n) (a .at + 1) (rw (next v (c .before .if1 .left)) at l) left)),
+      λ e. ap (λ (r : Step). r .at) (c .number-at .ensures) ∙ stepped _ _ (ap (λ (r : Step). r .number) (sym (c .number-at .ensures)) ∙ e) ∙ omega arith,
+    )
 
 pub read-term-spec : {M : Type 1} → statement M
-read-term-spec = tie.close (tie.spec variable-at-requires returns number-at-requires returns-2)
+read-term-spec = tie.close (tie.spec variable-at-requires returns add-number-at number-at-requires returns-2)
