@@ -259,37 +259,44 @@ def constraint_text(code, arguments):
     return f'constraint {name}({", ".join(texts)});'
 
 
-def shown(names):
-    """The values that a solution prints."""
-    return [f'array [1..{len(names)}] of var int: values :: output_array([1..{len(names)}]) = {listed(names)};'] if names else []
+def text_of(declarations, names, constraints):
+    """A FlatZinc text; a solution prints the values of the names, and they are searched in their order."""
+    array = f'array [1..{len(names)}] of var int: values :: output_array([1..{len(names)}]) = {listed(names)};'
+    search = ':: int_search(values, input_order, indomain_min, complete) '
+    lines = declarations + [array if names else ''] + constraints + [f'solve {search if names else ""}satisfy;']
+    return '\n'.join(filter(None, lines)) + '\n'
 
 
 def model_text(variables, constraints):
     """A model as FlatZinc; a Boolean variable x3 has the value n3."""
-    lines = [f'var {v[0]}..{v[1]}: x{i};' if v else f'var bool: x{i}; var 0..1: n{i};' for i, v in enumerate(variables)]
-    lines += shown([f'x{i}' if v else f'n{i}' for i, v in enumerate(variables)])
-    lines += [f'constraint bool2int(x{i}, n{i});' for i, v in enumerate(variables) if not v]
-    return '\n'.join(lines + [constraint_text(*c) for c in constraints] + ['solve satisfy;']) + '\n'
+    return text_of([f'var {v[0]}..{v[1]}: x{i};' if v else f'var bool: x{i}; var 0..1: n{i};' for i, v in enumerate(variables)],
+                   [f'x{i}' if v else f'n{i}' for i, v in enumerate(variables)],
+                   [f'constraint bool2int(x{i}, n{i});' for i, v in enumerate(variables) if not v] + [constraint_text(*c) for c in constraints])
+
+
+def row_text(kind, terms, constant):
+    """A row, or a product, as FlatZinc."""
+    if kind == 0xC:
+        return 'constraint int_times(x{1}, x{2}, x{0});'.format(*terms)
+    name = 'int_lin_le' if kind == 0xA else 'int_lin_eq'
+    return f'constraint {name}({listed(c for _, c in terms)}, {listed(f"x{v}" for v, _ in terms)}, {-constant});'
 
 
 def rows_text(all_bounds, rows):
     """A row system as FlatZinc, every variable an integer one."""
-    lines = [f'var {low}..{high}: x{i};' for i, (low, high) in enumerate(all_bounds)] + shown([f'x{i}' for i in range(len(all_bounds))])
-    for kind, terms, constant in rows:
-        if kind == 0xC:
-            lines.append('constraint int_times(x{1}, x{2}, x{0});'.format(*terms))
-        else:
-            name = 'int_lin_le' if kind == 0xA else 'int_lin_eq'
-            lines.append(f'constraint {name}({listed(c for _, c in terms)}, {listed(f"x{v}" for v, _ in terms)}, {-constant});')
-    return '\n'.join(lines + ['solve satisfy;']) + '\n'
+    return text_of([f'var {low}..{high}: x{i};' for i, (low, high) in enumerate(all_bounds)], [f'x{i}' for i in range(len(all_bounds))],
+                   [row_text(*row) for row in rows])
 
 
 def solutions(text):
     """All solutions of a FlatZinc text, by Gecode."""
-    run = subprocess.run(['fzn-gecode', '-a', '-'], input=text, capture_output=True, text=True, timeout=600)
+    try:
+        run = subprocess.run(['fzn-gecode', '-a', '-'], input=text, capture_output=True, text=True, timeout=100)
+    except subprocess.TimeoutExpired:
+        raise Difference(f'Gecode does not solve this in 100 seconds:\n{text}') from None
     *blocks, end = run.stdout.split('----------\n')
     if run.returncode or end.strip() not in ('==========', '=====UNSATISFIABLE====='):
-        raise Difference(f'Gecode does not solve this: {run.stderr.strip() or end.strip()}\n{text}')
+        raise Difference(f'Gecode does not solve this, it says {run.stderr.strip() or end.strip()}:\n{text}')
     return {tuple(map(int, block[block.index('[') + 1:block.index(']')].split(','))) if block else () for block in blocks}
 
 
