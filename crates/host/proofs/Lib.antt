@@ -1,2 +1,2 @@
--- Laws of bytes taken as words.
-pub mod Words
+-- What the proof of check over bytes needs: that too many words are refused.
+pub mod Refused

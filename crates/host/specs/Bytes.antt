@@ -1,18 +1,9 @@
 -- 01, Five calls: "runs check over bytes, four to a word, lowest first; it gets the refusal number, 0 if accepted; 1 to 3 spare bytes are left off".
-use mathlib.Core.List.{List, [], _∷_}
-use Prim.Native.Nat.{ℕ, _+_, _*_}
+use mathlib.Core.List.{List}
+use Prim.Native.Nat.{ℕ}
 use Rattle.words.specs.Answer.{refusalNumber}
+use Rattle.encoding.specs.Bytes.{bytesWords}
 use Rattle.rules.specs.Check.{check}
-
-unfoldable pub bytesWord : ℕ → ℕ → ℕ → ℕ → ℕ
-bytesWord a b c d = a + 256 * b + 65536 * c + 16777216 * d
-
-unfoldable pub bytesWords : List ℕ → List ℕ
-bytesWords [] = []
-bytesWords (a ∷ []) = []
-bytesWords (a ∷ b ∷ []) = []
-bytesWords (a ∷ b ∷ c ∷ []) = []
-bytesWords (a ∷ b ∷ c ∷ d ∷ rest) = bytesWord a b c d ∷ bytesWords rest
 
 unfoldable pub checkBytes : List ℕ → ℕ
 checkBytes bytes = refusalNumber (check (bytesWords bytes))

@@ -1,9 +1,7 @@
 // Calls for a host written in C: the five calls over lists of words and values, and check over bytes.
 ghost use mathlib.Core.Path.{_≡_};
-ghost use Prim.Native.Nat.{_<_};
-ghost use lib.ListN.{length, getD};
+ghost use lib.ListN.{length};
 ghost use Rattle.words.specs.Answer.{refusalNumber};
-ghost use Rattle.words.specs.Overlay.{overlay};
 ghost use Rattle.words.specs.Verdict.{verdict};
 ghost use Rattle.models.specs.JudgeModel.{judgeModel};
 ghost use Rattle.rowsystems.specs.JudgeRows.{judgeRows};
@@ -15,8 +13,9 @@ ghost use Rattle.translation.specs.Shares.{Shares};
 ghost use Rattle.translation.specs.Written.{wrote};
 ghost use Rattle.filling.specs.Filled.{handed};
 ghost use Rattle.filling.specs.Satisfied.{Satisfied};
-ghost use Rattle.host.specs.Bytes.{bytesWord, bytesWords, checkBytes};
+ghost use Rattle.host.specs.Bytes.{checkBytes};
 ghost use Rattle.host.specs.Structs.{countsOf, judgementOf, writtenOf};
+use encoding::words_of_bytes;
 use filling::Filled;
 use filling::fill;
 use modeljudge::judge_model;
@@ -178,46 +177,16 @@ fn written_of(w: translation::Written) -> Written
     }
 }
 
-// The word of four bytes, the lowest first.
-fn word_of_bytes(a: u8, b: u8, c: u8, d: u8) -> u32
-    ensures { λ r. ⌜ r ≡ bytesWord a b c d ⌝ }
-{
-    a as u32 + 256 * b as u32 + 65536 * c as u32 + 16777216 * d as u32
-}
-
-// The i-th word of bytes.
-fn word_in(bytes: &[u8], i: usize) -> u32
-    requires { ⌜ i < length (bytesWords (now bytes)) ⌝ }
-    ensures { λ r. ⌜ r ≡ getD (bytesWords (now (bytes .entry))) i 0 ⌝ }
-{
-    let p = 4 * i;
-    word_of_bytes(bytes[p], bytes[p + 1], bytes[p + 2], bytes[p + 3])
-}
-
-// Puts the words of bytes to the front of a list, those that fit.
-fn put_words(bytes: &[u8], out: &mut [u32])
-    ensures { λ r. ⌜ now (out .exit) ≡ overlay (now (out .entry)) 0 (bytesWords (now (bytes .entry))) ⌝ }
-{
-    let mut i = 0;
-    while i < bytes.len() / 4 {
-        if i < out.len() {
-            out[i] = word_in(bytes, i);
-        }
-        i += 1;
-    }
-}
-
 // Check over bytes, four to a word, the lowest first, 1 to 3 spare bytes left off: the number of the refusal, 0 if accepted.
 #[no_mangle]
 pub extern "C" fn pearrummy_check_bytes(bytes: &[u8]) -> u32
     ensures { λ r. ⌜ r ≡ checkBytes (now (bytes .entry)) ⌝ }
 {
-    let n = bytes.len() / 4;
-    if limit::MODEL_WORDS < n {
+    if limit::MODEL_WORDS < bytes.len() / 4 {
         return fault::TOO_MANY_WORDS;
     }
     let mut words = [0u32; 8192];
-    put_words(bytes, &mut words);
+    let n = words_of_bytes(bytes, &mut words);
     number_of(check(&words[..n]))
 }
 

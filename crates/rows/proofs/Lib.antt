@@ -1,3 +1,2 @@
--- What the proofs of the program need: the words of bytes one after another; that a model of too many words is refused, whatever they are.
-pub mod Words
+-- What the proof of translate over bytes needs: that a model of too many words is refused, whatever they are.
 pub mod Refused

@@ -2,15 +2,14 @@
 ghost use mathlib.Core.Path.{_≡_};
 ghost use Prim.Native.Nat.{min};
 ghost use lib.ListN.{length};
+ghost use Rattle.encoding.specs.Bytes.{bytesWords};
 ghost use Rattle.rules.specs.Translate.{translate as translateAnswer, translated};
 ghost use Rattle.translation.specs.Written.{wrote};
-ghost use Rattle.rows.specs.Bytes.{bytesWords};
-use input::words_of_bytes;
+use encoding::words_of_bytes;
 use output::print_answer;
 use translation::Written;
 use translation::translate;
 
-mod input;
 mod output;
 
 // The lesser of two counts.

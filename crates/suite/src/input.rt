@@ -1,4 +1,5 @@
 // Reads cases from standard input.
+use encoding::word_of_bytes;
 
 // A number that was read, if one was there.
 struct Got {
@@ -15,18 +16,13 @@ pub struct Head {
     pub values: usize,
 }
 
-// The number of four bytes, the lowest first.
-fn joined(a: u8, b: u8, c: u8, d: u8) -> u32 {
-    a as u32 + 256 * b as u32 + 65536 * c as u32 + 16777216 * d as u32
-}
-
 // The next number of the input.
 fn next() -> Got {
     let mut b = [0u8; 4];
     let n = io::read_full(0, &mut b);
     Got {
         there: n == 4,
-        number: joined(b[0], b[1], b[2], b[3]),
+        number: word_of_bytes(b[0], b[1], b[2], b[3]),
     }
 }
 

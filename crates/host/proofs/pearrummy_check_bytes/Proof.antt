@@ -1,37 +1,41 @@
 -- Too many words are refused; else the words of the bytes are the front of the list that is lent to check.
 use mathlib.Core.Path.{_≡_, sym, ap, _∙_}
-use Prim.Native.Nat.{_/_}
+use Prim.Native.Nat.{_≤_}
 use native.Mathlib.Omega.{arith}
 use lib.ListN.{take, length}
 use borrow.Author.Needs.{needs}
 use Rattle.words.specs.Answer.{refusalNumber}
+use Rattle.encoding.specs.Bytes.{bytesWords}
+use Rattle.encoding.proofs.Words.{quarter}
 use Rattle.rules.specs.Check.{check}
 use Rattle.translation.proofs.Over.{front-over}
-use Rattle.host.specs.Bytes.{bytesWords, checkBytes}
-use Rattle.host.proofs.Words.{quarter, too-many}
+use Rattle.host.specs.Bytes.{checkBytes}
+use Rattle.host.proofs.Refused.{too-many}
 use Rattle.host.proofs.pearrummy_check_bytes.Statement.{statement}
 use Rattle.host.proofs.pearrummy_check_bytes.Tie as tie
 
+-- the words fit
+fit : (c : tie.After-words-of-bytes) → length (bytesWords (c .before .before .before .before .args .bytes .now)) ≤ 8192
+fit c = omega (arith, quarter (c .before .before .before .before .args .bytes .now), c .before .before .if1 .left)
+
 -- the words lent to check are those of the bytes
-front : (c : tie.After-put-words) → take (length (c .before .before .before .before .args .bytes .now) / 4) (c .put-words .last .1 .0) ≡ bytesWords (c .before .before .before .before .args .bytes .now)
-front c =
-    let bs = c .before .before .before .before .args .bytes .now in
-    rw (quarter bs, c .put-words .ensures) (front-over _ (bytesWords bs) (omega (arith, quarter bs, c .before .before .if1 .left)))
+front : (c : tie.After-words-of-bytes) → take (c .words-of-bytes .result) (c .words-of-bytes .last .1 .0) ≡ bytesWords (c .before .before .before .before .args .bytes .now)
+front c = rw (c .words-of-bytes .ensures .0, c .words-of-bytes .ensures .1) (front-over _ (bytesWords (c .before .before .before .before .args .bytes .now)) (fit c))
 
 returns : tie.Need-returns
 returns c = too-many (c .before .before .args .bytes .now) (rw (quarter (c .before .before .args .bytes .now)) at (c .if1 .taken))
 
-slice-aggregate-put-words : tie.Need-slice-aggregate-put-words
-slice-aggregate-put-words c = search needs
+slice-aggregate-words-of-bytes : tie.Need-slice-aggregate-words-of-bytes
+slice-aggregate-words-of-bytes c = search needs
 
-put-words-requires : tie.Need-put-words-requires
-put-words-requires c κs = search needs
+words-of-bytes-requires : tie.Need-words-of-bytes-requires
+words-of-bytes-requires c κs = search needs
 
 array-share-prefix-words : tie.Need-array-share-prefix-words
-array-share-prefix-words c = search needs
+array-share-prefix-words c = omega (arith, fit (c .before), c .before .words-of-bytes .ensures .0)
 
 slice-aggregate-check : tie.Need-slice-aggregate-check
-slice-aggregate-check c = quarter (c .before .before .before .before .before .before .args .bytes .now) ∙ sym (ap length (front (c .before .before)))
+slice-aggregate-check c = c .before .before .words-of-bytes .ensures .0 ∙ sym (ap length (front (c .before .before)))
 
 check-requires : tie.Need-check-requires
 check-requires c κs = search needs
@@ -48,8 +52,8 @@ pearrummy-check-bytes-spec =
     tie.close
     (tie.spec
     returns
-    slice-aggregate-put-words
-    put-words-requires
+    slice-aggregate-words-of-bytes
+    words-of-bytes-requires
     array-share-prefix-words
     slice-aggregate-check
     check-requires

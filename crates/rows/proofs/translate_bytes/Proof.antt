@@ -1,6 +1,6 @@
 -- What translate answers of the first 8,193 words, it answers of all.
 use mathlib.Core.Path.{refl, _∙_}
-use Rattle.rows.specs.Bytes.{bytesWords}
+use Rattle.encoding.specs.Bytes.{bytesWords}
 use Rattle.rows.proofs.Refused.{same, counted}
 use borrow.Author.Needs.{needs}
 use Rattle.rows.proofs.translate_bytes.Statement.{statement}

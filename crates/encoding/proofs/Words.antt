@@ -1,12 +1,21 @@
--- The words of bytes, one after another: for the loop that lays them over a list.
+-- The words of bytes: how many they are; one after another, for the loop that lays them over a list.
 use mathlib.Core.Path.{_≡_, refl, ap, sym, _∙_}
 use mathlib.Core.List.{List, [], _∷_}
-use Prim.Native.Nat.{ℕ, suc, _+_, _-_, _≤_, _<_}
+use Prim.Native.Nat.{ℕ, suc, _+_, _-_, _/_, _≤_, _<_}
 use native.Mathlib.Omega.{arith}
 use lib.ListN.{length, drop, getD, set, length-drop}
 use lib.Seq.{drop-cons}
 use Rattle.words.specs.Overlay.{overlay}
-use Rattle.rows.specs.Bytes.{bytesWord, bytesWords}
+use Rattle.encoding.specs.Bytes.{bytesWord, bytesWords}
+
+-- a quarter of the bytes, the spare ones left off
+pub quarter : (bytes : List ℕ) → length bytes / 4 ≡ length (bytesWords bytes)
+unfolding bytesWords
+quarter [] = omega arith
+quarter (a ∷ []) = omega arith
+quarter (a ∷ b ∷ []) = omega arith
+quarter (a ∷ b ∷ c ∷ []) = omega arith
+quarter (a ∷ b ∷ c ∷ d ∷ rest) = omega (arith, quarter rest)
 
 -- fewer than four bytes have no word
 few : (bytes : List ℕ) → length bytes < 4 → bytesWords bytes ≡ []

@@ -5,9 +5,9 @@ use mathlib.Core.Path.{ap, _∙_}
 use Prim.Native.Nat.{_-_}
 use lib.ListN.{length}
 use Rattle.words.proofs.Overlay.{length-overlay}
-use Rattle.rows.proofs.Words.{Laying, begun, more, done}
-use Rattle.rows.proofs.input.words_of_bytes.Statement.{statement}
-use Rattle.rows.proofs.input.words_of_bytes.Tie as tie
+use Rattle.encoding.proofs.Words.{Laying, begun, more, done}
+use Rattle.encoding.proofs.words_of_bytes.Statement.{statement}
+use Rattle.encoding.proofs.words_of_bytes.Tie as tie
 
 abbrev Inv-loop : tie.InvT-loop
 Inv-loop bytes out₀ i₀ at₀ out i at = Laying bytes out₀ out i at

@@ -2,10 +2,10 @@
 ghost use mathlib.Core.Path.{_≡_};
 ghost use lib.ListN.{length, set};
 ghost use Rattle.words.specs.Overlay.{overlay};
-ghost use Rattle.rows.specs.Bytes.{bytesWord, bytesWords};
+ghost use Rattle.encoding.specs.Bytes.{bytesWord, bytesWords};
 
 // The word of four bytes.
-fn word_of_bytes(a: u8, b: u8, c: u8, d: u8) -> u32
+pub fn word_of_bytes(a: u8, b: u8, c: u8, d: u8) -> u32
     ensures { λ r. ⌜ r ≡ bytesWord a b c d ⌝ }
 {
     a as u32 + 256 * b as u32 + 65536 * c as u32 + 16777216 * d as u32

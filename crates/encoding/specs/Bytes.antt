@@ -2,9 +2,11 @@
 use mathlib.Core.List.{List, [], _∷_}
 use Prim.Native.Nat.{ℕ, _+_, _*_}
 
+-- the word of four bytes
 unfoldable pub bytesWord : ℕ → ℕ → ℕ → ℕ → ℕ
 bytesWord a b c d = a + 256 * b + 65536 * c + 16777216 * d
 
+-- the words of a list of bytes
 unfoldable pub bytesWords : List ℕ → List ℕ
 bytesWords [] = []
 bytesWords (a ∷ []) = []

@@ -2,8 +2,8 @@
 use mathlib.Core.Path.{sym}
 use lib.Seq.{set-out}
 use borrow.Author.Needs.{needs}
-use Rattle.rows.proofs.input.put_word.Statement.{statement}
-use Rattle.rows.proofs.input.put_word.Tie as tie
+use Rattle.encoding.proofs.put_word.Statement.{statement}
+use Rattle.encoding.proofs.put_word.Tie as tie
 
 mul-out : tie.Need-mul-out
 mul-out c = search needs

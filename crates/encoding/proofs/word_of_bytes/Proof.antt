@@ -1,9 +1,9 @@
 -- The code computes as the definition does.
 use mathlib.Core.Path.{refl}
 use borrow.Author.Needs.{needs}
-use Rattle.host.specs.Bytes.{bytesWord}
-use Rattle.host.proofs.word_of_bytes.Statement.{statement}
-use Rattle.host.proofs.word_of_bytes.Tie as tie
+use Rattle.encoding.specs.Bytes.{bytesWord}
+use Rattle.encoding.proofs.word_of_bytes.Statement.{statement}
+use Rattle.encoding.proofs.word_of_bytes.Tie as tie
 
 mul-result : tie.Need-mul-result
 mul-result c = search needs

@@ -1,0 +1,2 @@
+-- Laws of the words of bytes.
+pub mod Words
