@@ -54,11 +54,16 @@ loop-less c = search needs
 
 loop-again : tie.Need-loop-again Inv-loop μ-loop
 loop-again c =
-    (search needs, search needs, omega (arith, bit-le (c .before .equal .result)), rw (howMany-more, c .before .before .before .before .loop .inv .3, c .one-if .ensures, c .before .equal .ensures, read (c .before .before .value-of .ok) (c .before .before .value-of .ensures)))
+    let loop = c .before .before .before .before .loop in
+    let value-of = c .before .before .value-of in
+    (search needs, search needs, omega (arith, bit-le (c .before .equal .result)), rw (howMany-more, loop .inv .3, c .one-if .ensures, c .before .equal .ensures, read (value-of .ok) (value-of .ensures)))
 
 returns : tie.Need-returns Inv-loop μ-loop
 unfolding vars
-returns c = let e : c .before .loop .k ≡ c .before .before .size-at .result = omega arith in c .before .loop .inv .3 ∙ rw (e, c .before .before .size-at .ensures, toZ-ofZ (c .before .before .before .before .fits .v))
+returns c =
+    let s = c .before .before .before .before in
+    let size-at = c .before .before .size-at in
+    let e : c .before .loop .k ≡ size-at .result = omega arith in c .before .loop .inv .3 ∙ rw (e, size-at .ensures, toZ-ofZ (s .fits .v))
 
 pub how-many-spec : {M : Type 1} → statement M
 how-many-spec =

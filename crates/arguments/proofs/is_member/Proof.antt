@@ -50,11 +50,17 @@ loop-less : tie.Need-loop-less Inv-loop μ-loop
 loop-less c = search needs
 
 loop-again : tie.Need-loop-again Inv-loop μ-loop
-loop-again c = (search needs, search needs, c .either .ensures ∙ rw (any-more, c .before .before .before .before .loop .inv .2, c .before .equal .ensures, read (c .before .before .num-at .ok) (c .before .before .num-at .ensures)))
+loop-again c =
+    let loop = c .before .before .before .before .loop in
+    let num-at = c .before .before .num-at in
+    (search needs, search needs, c .either .ensures ∙ rw (any-more, loop .inv .2, c .before .equal .ensures, read (num-at .ok) (num-at .ensures)))
 
 returns : tie.Need-returns Inv-loop μ-loop
 unfolding nums member
-returns c = let e : c .before .loop .k ≡ c .before .before .size-at .result = omega arith in c .before .loop .inv .2 ∙ rw (e, c .before .before .size-at .ensures, toZ-ofZ (c .before .before .before .before .fits .x))
+returns c =
+    let s = c .before .before .before .before in
+    let size-at = c .before .before .size-at in
+    let e : c .before .loop .k ≡ size-at .result = omega arith in c .before .loop .inv .2 ∙ rw (e, size-at .ensures, toZ-ofZ (s .fits .x))
 
 pub is-member-spec : {M : Type 1} → statement M
 is-member-spec =

@@ -50,11 +50,17 @@ loop-less : tie.Need-loop-less Inv-loop μ-loop
 loop-less c = search needs
 
 loop-again : tie.Need-loop-again Inv-loop μ-loop
-loop-again c = (search needs, search needs, c .both .ensures ∙ rw (all-more, c .before .before .before .before .loop .inv .2, c .before .at-most .ensures, read (c .before .before .value-of .ok) (c .before .before .value-of .ensures)))
+loop-again c =
+    let loop = c .before .before .before .before .loop in
+    let value-of = c .before .before .value-of in
+    (search needs, search needs, c .both .ensures ∙ rw (all-more, loop .inv .2, c .before .at-most .ensures, read (value-of .ok) (value-of .ensures)))
 
 returns : tie.Need-returns Inv-loop μ-loop
 unfolding vars
-returns c = let e : c .before .loop .k ≡ c .before .before .size-at .result = omega arith in c .before .loop .inv .2 ∙ rw (e, c .before .before .size-at .ensures, toZ-ofZ (c .before .before .before .before .fits .m))
+returns c =
+    let s = c .before .before .before .before in
+    let size-at = c .before .before .size-at in
+    let e : c .before .loop .k ≡ size-at .result = omega arith in c .before .loop .inv .2 ∙ rw (e, size-at .ensures, toZ-ofZ (s .fits .m))
 
 pub none-above-spec : {M : Type 1} → statement M
 none-above-spec =

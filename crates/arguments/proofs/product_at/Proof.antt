@@ -23,7 +23,9 @@ value-of-requires : tie.Need-value-of-requires
 value-of-requires c κs = search needs
 
 times-requires : tie.Need-times-requires
-times-requires c κs = omega (arith, times-size (toZ w64 (ofZ w64 (c .before .num-at .result))) (toZ w64 (ofZ w64 (c .value-of .result))), ap natAbs (whole c), product-size (c .before .before .before .args .args .now) (c .before .before .before .args .values .now) (c .before .before .before .pre) (c .before .before .before .args .a) (c .before .before .before .args .x))
+times-requires c κs =
+    let s = c .before .before .before in
+    omega (arith, times-size (toZ w64 (ofZ w64 (c .before .num-at .result))) (toZ w64 (ofZ w64 (c .value-of .result))), ap natAbs (whole c), product-size (s .args .args .now) (s .args .values .now) (s .pre) (s .args .a) (s .args .x))
 
 returns : tie.Need-returns
 returns c = read (c .times .ok) (c .times .ensures) ∙ whole (c .before)

@@ -29,8 +29,11 @@ term c = read (c .product-at .ok) (c .product-at .ensures)
 
 term-size : (c : tie.After-product-at Inv-loop μ-loop) → natAbs (toZ w64 (ofZ w64 (c .product-at .result))) ≤ 18014398509481984
 term-size c =
-    let a = c .before .before .before .before .before .before .args in
-    rw (term c) (product-size (a .args .now) (a .values .now) (c .before .before .before .before .before .before .pre .1) (a .i + 1 + c .before .before .loop .k) (c .before .before .before .past-at .result + c .before .before .loop .k))
+    let s = c .before .before .before .before .before .before in
+    let past-at = c .before .before .before .past-at in
+    let loop = c .before .before .loop in
+    let a = s .args in
+    rw (term c) (product-size (a .args .now) (a .values .now) (s .pre .1) (a .i + 1 + loop .k) (past-at .result + loop .k))
 
 next : (c : tie.After-plus Inv-loop μ-loop) → toZ w64 (ofZ w64 (c .plus .result)) ≡ toZ w64 (c .before .before .before .loop .total) ⊕ toZ w64 (ofZ w64 (c .before .product-at .result))
 next c = read (c .plus .ok) (c .plus .ensures)
@@ -77,7 +80,10 @@ loop-again c = (
 
 returns : tie.Need-returns Inv-loop μ-loop
 unfolding terms
-returns c = let e : c .before .loop .k ≡ c .before .before .before .size-at .result = omega arith in c .before .loop .inv .4 ∙ rw (e, c .before .before .before .size-at .ensures, c .before .before .past-at .ensures)
+returns c =
+    let size-at = c .before .before .before .size-at in
+    let past-at = c .before .before .past-at in
+    let e : c .before .loop .k ≡ size-at .result = omega arith in c .before .loop .inv .4 ∙ rw (e, size-at .ensures, past-at .ensures)
 
 pub sum-of-spec : {M : Type 1} → statement M
 sum-of-spec =

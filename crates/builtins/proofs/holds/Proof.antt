@@ -47,7 +47,9 @@ returns-7 : tie.Need-returns-7
 returns-7 c = search needs
 
 returns-8 : tie.Need-returns-8
-returns-8 c = sym (no-code (value (c .before .before .before .before .before .before .before .before .args .values .now)) (c .before .before .before .before .before .before .before .before .args .code) (c .before .before .before .before .before .before .before .before .args .args .now) (omega arith))
+returns-8 c =
+    let s = c .before .before .before .before .before .before .before .before in
+    sym (no-code (value (s .args .values .now)) (s .args .code) (s .args .args .now) (omega arith))
 
 pub holds-spec : {M : Type 1} → statement M
 holds-spec =

@@ -45,7 +45,10 @@ same-length c = search needs
 returns : tie.Need-returns
 unfolding places
 returns c =
-    let at-past-at = c .before .before .before .before in
+    let p = c .before .before .before .before in
+    let var-at2 = c .before .before .before .var-at2 in
+    let lay-number-row = c .before .before .lay-number-row in
+    let at-past-at = p in
     let at-lay-choice = at-past-at .before .before .before .before in
     let at-var-at = at-lay-choice .before in
     let at-first-label = at-var-at .before in
@@ -57,7 +60,7 @@ returns c =
     let n = at-labels .labels .ensures .0 in
     let a = rw n at (at-lay-bits .lay-bits .ensures) in
     let b = rw (n, read (at-first-label .first-label .ok) (at-first-label .first-label .ensures .0), at-var-at .var-at .ensures) at (at-lay-choice .lay-choice .ensures) in
-    let d = rw (n, at-first-element .first-element .ensures .0, c .before .before .before .var-at2 .ensures, at-past-at .past-at .ensures) at (c .before .before .lay-number-row .ensures) in
+    let d = rw (n, at-first-element .first-element .ensures .0, var-at2 .ensures, at-past-at .past-at .ensures) at (lay-number-row .ensures) in
     (went-as (sym (number-element (i .first) (boundsOf (i .ls .now) (i .us .now)) (i .args .now) (var (i .args .now) 0) (var (i .args .now) (past (i .args .now) 1)))) (went-then (a .0) (went-then (b .0) (d .0))), omega (arith, a .1, b .1, d .1))
 
 pub array-int-element-spec : {M : Type 1} → statement M

@@ -23,27 +23,35 @@ lay-gates-requires : tie.Need-lay-gates-requires
 lay-gates-requires c κs = (omega arith, omega (arith, few (c .before)), omega arith)
 
 lay-one-bit-requires : tie.Need-lay-one-bit-requires
-lay-one-bit-requires c κs = (omega (arith, c .before .before .before .before .before .before .before .before .before .pre .0, c .before .before .before .lay-gates .ensures .1), omega (arith, few (c .before .before .before .before .before)), omega arith)
+lay-one-bit-requires c κs =
+    let s = c .before .before .before .before .before .before .before .before .before in
+    let p = c .before .before .before .before .before in
+    let lay-gates = c .before .before .before .lay-gates in
+    (omega (arith, s .pre .0, lay-gates .ensures .1), omega (arith, few p), omega arith)
 
 lay-gated-requires : tie.Need-lay-gated-requires
 lay-gated-requires c κs =
+    let lay-one-bit = c .before .before .before .lay-one-bit in
     let at-lay-gates = c .before .before .before .before .before .before .before in
     let start = at-lay-gates .before .before .before .before .before .before in
-    (omega (arith, start .pre .0, at-lay-gates .lay-gates .ensures .1, c .before .before .before .lay-one-bit .ensures .1), omega (arith, few (c .before .before .before .before .before .before .before .before .before)), omega arith, omega (arith, start .pre .1))
+    (omega (arith, start .pre .0, at-lay-gates .lay-gates .ensures .1, lay-one-bit .ensures .1), omega (arith, few (c .before .before .before .before .before .before .before .before .before)), omega arith, omega (arith, start .pre .1))
 
 lay-below-requires : tie.Need-lay-below-requires
 lay-below-requires c κs =
+    let lay-gated = c .before .before .before .lay-gated in
     let at-lay-one-bit = c .before .before .before .before .before .before .before in
     let at-lay-gates = at-lay-one-bit .before .before .before .before in
     let start = at-lay-gates .before .before .before .before .before .before in
-    (omega (arith, start .pre .0, at-lay-gates .lay-gates .ensures .1, at-lay-one-bit .lay-one-bit .ensures .1, c .before .before .before .lay-gated .ensures .1), omega (arith, few (c .before .before .before .before .before .before .before .before .before .before .before .before .before)), omega arith)
+    (omega (arith, start .pre .0, at-lay-gates .lay-gates .ensures .1, at-lay-one-bit .lay-one-bit .ensures .1, lay-gated .ensures .1), omega (arith, few (c .before .before .before .before .before .before .before .before .before .before .before .before .before)), omega arith)
 
 same-length : tie.Need-same-length
 same-length c = search needs
 
 returns : tie.Need-returns
 returns c =
-    let at-lay-gated = c .before .before .before .before .before .before in
+    let p = c .before .before .before .before .before .before in
+    let lay-below = c .before .before .lay-below in
+    let at-lay-gated = p in
     let at-lay-one-bit = at-lay-gated .before .before .before .before in
     let at-lay-gates = at-lay-one-bit .before .before .before .before in
     let at-size-at = at-lay-gates .before .before in
@@ -55,7 +63,7 @@ returns c =
     let a = rw n at (at-lay-gates .lay-gates .ensures) in
     let b = rw n at (at-lay-one-bit .lay-one-bit .ensures) in
     let d = rw (n, m) at (at-lay-gated .lay-gated .ensures) in
-    let e = rw (n, m) at (c .before .before .lay-below .ensures) in
+    let e = rw (n, m) at (lay-below .ensures) in
     (went-as (sym (maximum (i .first) (i .ls .now) (i .us .now) (i .args .now) (var (i .args .now) 0))) (went-then (a .0) (went-then (b .0) (went-then (d .0) (e .0)))), omega (arith, a .1, b .1, d .1, e .1))
 
 pub array-int-maximum-spec : {M : Type 1} → statement M

@@ -37,7 +37,8 @@ var-at-requires-2 c κs = search needs
 
 lay-gated-requires : tie.Need-lay-gated-requires
 lay-gated-requires c κs =
-    let at-lay-choice = c .before .before .before .before .before in
+    let p = c .before .before .before .before .before in
+    let at-lay-choice = p in
     let at-lay-gates = at-lay-choice .before .before .before .before .before .before in
     let at-first-element = at-lay-gates .before .before in
     let at-labels = at-first-element .before in
@@ -50,7 +51,10 @@ same-length c = search needs
 returns : tie.Need-returns
 unfolding places
 returns c =
-    let at-past-at = c .before .before .before .before in
+    let p = c .before .before .before .before in
+    let var-at2 = c .before .before .before .var-at2 in
+    let lay-gated = c .before .before .lay-gated in
+    let at-past-at = p in
     let at-lay-choice = at-past-at .before .before .before .before in
     let at-var-at = at-lay-choice .before in
     let at-first-label = at-var-at .before in
@@ -63,7 +67,7 @@ returns c =
     let base = at-first-element .first-element .ensures .0 in
     let a = rw (n, base) at (at-lay-gates .lay-gates .ensures) in
     let b = rw (n, read (at-first-label .first-label .ok) (at-first-label .first-label .ensures .0), at-var-at .var-at .ensures) at (at-lay-choice .lay-choice .ensures) in
-    let d = rw (n, base, c .before .before .before .var-at2 .ensures, at-past-at .past-at .ensures) at (c .before .before .lay-gated .ensures) in
+    let d = rw (n, base, var-at2 .ensures, at-past-at .past-at .ensures) at (lay-gated .ensures) in
     (went-as (sym (variable-element (i .first) (i .ls .now) (i .us .now) (i .args .now) (var (i .args .now) 0) (var (i .args .now) (past (i .args .now) 1)))) (went-then (a .0) (went-then (b .0) (d .0))), omega (arith, a .1, b .1, d .1))
 
 pub array-var-int-element-spec : {M : Type 1} → statement M

@@ -31,19 +31,25 @@ first-label-requires c κs = search needs
 
 width-of-requires : tie.Need-width-of-requires
 width-of-requires c κs =
-    let at-size-at = c .before .before .before .before in
+    let p = c .before .before .before .before in
+    let var-at = c .before .before .before .var-at in
+    let bound-at = c .before .before .bound-at in
+    let at-size-at = p in
     let start = at-size-at .before .before in
-    (rw (back (c .first-label .result) (c .first-label .ok)) (c .first-label .ensures .1), rw (read (c .before .last-place .ok) (c .before .last-place .ensures), read (c .before .before .bound-at .ok) (c .before .before .bound-at .ensures)) (pick-size false (pos (at-size-at .size-at .result)) (getD (start .args .us .now) (c .before .before .before .var-at .result) +0) (omega (arith, at-size-at .size-at .ensures, size-le (start .args .args .now) 1)) (start .pre .1 (c .before .before .before .var-at .result))))
+    (rw (back (c .first-label .result) (c .first-label .ok)) (c .first-label .ensures .1), rw (read (c .before .last-place .ok) (c .before .last-place .ensures), read (bound-at .ok) (bound-at .ensures)) (pick-size false (pos (at-size-at .size-at .result)) (getD (start .args .us .now) (var-at .result) +0) (omega (arith, at-size-at .size-at .ensures, size-le (start .args .args .now) 1)) (start .pre .1 (var-at .result))))
 
 returns : tie.Need-returns
 unfolding places
 returns c =
-    let at-var-at = c .before .before .before .before in
+    let p = c .before .before .before .before in
+    let bound-at = c .before .before .before .bound-at in
+    let last-place = c .before .before .last-place in
+    let at-var-at = p in
     let at-size-at = at-var-at .before in
     let start = at-size-at .before .before in
     let a = start .args in
     let ws = a .args .now in
-    let e = rw (read (c .before .first-label .ok) (c .before .first-label .ensures .0), read (c .before .before .last-place .ok) (c .before .before .last-place .ensures), read (c .before .before .before .bound-at .ok) (c .before .before .before .bound-at .ensures), at-var-at .var-at .ensures, at-size-at .size-at .ensures) at (c .width-of .ensures) in
+    let e = rw (read (c .before .first-label .ok) (c .before .first-label .ensures .0), read (last-place .ok) (last-place .ensures), read (bound-at .ok) (bound-at .ensures), at-var-at .var-at .ensures, at-size-at .size-at .ensures) at (c .width-of .ensures) in
     (e, omega (arith, e, places-width (boundsOf (a .ls .now) (a .us .now) (var ws 0)) (size ws 1), size-le ws 1))
 
 pub labels-spec : {M : Type 1} → statement M

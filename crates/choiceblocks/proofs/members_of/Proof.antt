@@ -21,20 +21,25 @@ bound-at-requires-2 : tie.Need-bound-at-requires-2
 bound-at-requires-2 c κs = search needs
 
 members-requires : tie.Need-members-requires
-members-requires c κs = (omega arith, rw (read (c .before .bound-at2 .ok) (c .before .bound-at2 .ensures)) (c .before .before .before .before .before .pre .0 (c .before .before .before .var-at .result)))
+members-requires c κs =
+    let s = c .before .before .before .before .before in
+    let var-at = c .before .before .before .var-at in
+    (omega arith, rw (read (c .before .bound-at2 .ok) (c .before .bound-at2 .ensures)) (s .pre .0 (var-at .result)))
 
 same-length : tie.Need-same-length
 same-length c = search needs
 
 returns : tie.Need-returns
 returns c =
-    let at-bound-at = c .before .before .before .before in
+    let p = c .before .before .before .before in
+    let bound-at2 = c .before .before .before .bound-at2 in
+    let at-bound-at = p in
     let at-var-at = at-bound-at .before in
     let start = at-var-at .before .before in
     let a = start .args in
     let ws = a .args .now in
     let B = boundsOf (a .ls .now) (a .us .now) (var ws 0) in
-    let e = rw (read (at-bound-at .bound-at .ok) (at-bound-at .bound-at .ensures), read (c .before .before .before .bound-at2 .ok) (c .before .before .before .bound-at2 .ensures), at-var-at .var-at .ensures, start .pre .1) at (c .before .members .ensures) in
+    let e = rw (read (at-bound-at .bound-at .ok) (at-bound-at .bound-at .ensures), read (bound-at2 .ok) (bound-at2 .ensures), at-var-at .var-at .ensures, start .pre .1) at (c .before .members .ensures) in
     let l = members-length ws 1 B in
     let same = over-zeros 32 (members (nums ws 1) B) l in
     record {

@@ -35,7 +35,9 @@ same-length c = search needs
 
 returns : tie.Need-returns
 returns c =
-    let at-lay-one-bit = c .before .before .before .before .before .before .before in
+    let p = c .before .before .before .before .before .before .before in
+    let lay-value-row = c .before .before .lay-value-row in
+    let at-lay-one-bit = p in
     let at-lay-bits = at-lay-one-bit .before .before .before .before in
     let at-members-of = at-lay-bits .before .before .before in
     let at-var-at = at-members-of .before .before in
@@ -44,7 +46,7 @@ returns c =
     let m = at-members-of .members-of .ensures in
     let a = rw (m .many) at (at-lay-bits .lay-bits .ensures) in
     let b = rw (m .many) at (at-lay-one-bit .lay-one-bit .ensures) in
-    let d = rw (m .many, at-var-at .var-at .ensures) at (c .before .before .lay-value-row .ensures) in
+    let d = rw (m .many, at-var-at .var-at .ensures) at (lay-value-row .ensures) in
     (went-as (sym (in-set (i .first) (boundsOf (i .ls .now) (i .us .now)) (nums (i .args .now) 1) (at-members-of .members-of .last .1 .1 .1 .0) (var (i .args .now) 0) (m .same))) (went-then (a .0) (went-then (b .0) (d .0))), omega (arith, a .1, b .1, d .1))
 
 pub set-in-spec : {M : Type 1} → statement M

@@ -45,7 +45,8 @@ var-at-requires-2 c κs = search needs
 
 lay-member-row-requires : tie.Need-lay-member-row-requires
 lay-member-row-requires c κs =
-    let at-lay-choice = c .before .before .before .before .before .before in
+    let p = c .before .before .before .before .before .before in
+    let at-lay-choice = p in
     let at-lay-bits = at-lay-choice .before .before .before .before .before in
     let at-members-of = at-lay-bits .before .before .before .before in
     let at-lower-label = at-members-of .before .before in
@@ -57,7 +58,10 @@ same-length c = search needs
 
 returns : tie.Need-returns
 returns c =
-    let at-past-at = c .before .before .before .before in
+    let p = c .before .before .before .before in
+    let var-at2 = c .before .before .before .var-at2 in
+    let lay-member-row = c .before .before .lay-member-row in
+    let at-past-at = p in
     let at-lay-choice = at-past-at .before .before .before .before .before in
     let at-var-at = at-lay-choice .before in
     let at-lay-bits = at-var-at .before .before .before .before in
@@ -71,7 +75,7 @@ returns c =
     let l = read (at-lower-label .lower-label .ok) (at-lower-label .lower-label .ensures .0) in
     let a = rw w at (at-lay-bits .lay-bits .ensures) in
     let b = rw (w, l, at-var-at .var-at .ensures) at (at-lay-choice .lay-choice .ensures) in
-    let d = rw (m .many, l, c .before .before .before .var-at2 .ensures, at-past-at .past-at .ensures) at (c .before .before .lay-member-row .ensures) in
+    let d = rw (m .many, l, var-at2 .ensures, at-past-at .past-at .ensures) at (lay-member-row .ensures) in
     (went-as (sym (in-set-reified (i .first) (boundsOf (i .ls .now) (i .us .now)) (nums (i .args .now) 1) (at-members-of .members-of .last .1 .1 .1 .0) (var (i .args .now) 0) (m .same) (var (i .args .now) (past (i .args .now) 1)))) (went-then (a .0) (went-then (b .0) (d .0))), omega (arith, a .1, b .1, d .1))
 
 pub set-in-reif-spec : {M : Type 1} → statement M

@@ -15,10 +15,16 @@ lower-label-requires : tie.Need-lower-label-requires
 lower-label-requires c κs = search needs
 
 width-of-requires : tie.Need-width-of-requires
-width-of-requires c κs = (rw (back (c .lower-label .result) (c .lower-label .ok)) (c .lower-label .ensures .1), rw (read (c .before .bound-at .ok) (c .before .bound-at .ensures)) (c .before .before .before .before .pre .1 (c .before .before .var-at .result)))
+width-of-requires c κs =
+    let s = c .before .before .before .before in
+    let var-at = c .before .before .var-at in
+    (rw (back (c .lower-label .result) (c .lower-label .ok)) (c .lower-label .ensures .1), rw (read (c .before .bound-at .ok) (c .before .bound-at .ensures)) (s .pre .1 (var-at .result)))
 
 returns : tie.Need-returns
-returns c = rw (read (c .before .lower-label .ok) (c .before .lower-label .ensures .0), read (c .before .before .bound-at .ok) (c .before .before .bound-at .ensures), c .before .before .before .var-at .ensures) at (c .width-of .ensures)
+returns c =
+    let var-at = c .before .before .before .var-at in
+    let bound-at = c .before .before .bound-at in
+    rw (read (c .before .lower-label .ok) (c .before .lower-label .ensures .0), read (bound-at .ok) (bound-at .ensures), var-at .ensures) at (c .width-of .ensures)
 
 pub width-at-spec : {M : Type 1} → statement M
 width-at-spec =

@@ -17,11 +17,18 @@ enum-known-variables c = search needs
 
 fill-passed-requires : tie.Need-fill-passed-requires
 unfolding checked
-fill-passed-requires c κs = counted (c .before .before .before .before .before .before .args .ws .now) (rw (c .before .before .variables .given .1) at (c .before .before .before .before .check .ensures))
+fill-passed-requires c κs =
+    let s = c .before .before .before .before .before .before in
+    let check = c .before .before .before .before .check in
+    let variables = c .before .before .variables in
+    counted (s .args .ws .now) (rw (variables .given .1) at (check .ensures))
 
 returns : tie.Need-returns
 unfolding handed checked
-returns c = stands (c .before .before .before .before .before .args .ws .now) (c .before .before .before .before .before .args .values .now) (c .before .before .before .before .before .args .out .now) (rw (c .before .refusal .given .1) at (c .before .before .before .check .ensures))
+returns c =
+    let s = c .before .before .before .before .before in
+    let check = c .before .before .before .check in
+    stands (s .args .ws .now) (s .args .values .now) (s .args .out .now) (rw (c .before .refusal .given .1) at (check .ensures))
 
 same-length : tie.Need-same-length
 same-length c = search needs

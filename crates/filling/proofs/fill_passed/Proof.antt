@@ -44,7 +44,9 @@ write-filled-requires : tie.Need-write-filled-requires
 unfolding verdict
 write-filled-requires c κs =
     let s = c .before .before .before .before .before .before .before .before in
-    (s .pre .0, judge-model-says (s .args .ws .now) (passes-read (s .args .ws .now) (s .pre .0)) (s .args .values .now) .0 (sym (c .before .before .before .judge-read .ensures) ∙ rw (c .before .enum-told .given .1)))
+    let judge-read = c .before .before .before .judge-read in
+    let s = s in
+    (s .pre .0, judge-model-says (s .args .ws .now) (passes-read (s .args .ws .now) (s .pre .0)) (s .args .values .now) .0 (sym (judge-read .ensures) ∙ rw (c .before .enum-told .given .1)))
 
 add-t20 : tie.Need-add-t20
 add-t20 c = search needs
@@ -59,7 +61,11 @@ returns-3 : tie.Need-returns-3
 unfolding handed verdict isHolds
 returns-3 c =
     let s = c .before .before .before .before .before .before .before .before in
-    not-held (s .args .ws .now) (s .pre .0) (s .args .values .now) (s .args .out .now) (c .before .before .before .before .before .before .if1 .left ∙ s .pre .1) (rw (s .pre .1, s .pre .2) at (c .before .before .before .before .before .if2 .left)) _ (rw (c .before .refusal .given .1) at (c .before .before .before .judge-read .ensures)) refl (λ n e. clash (cc))
+    let if1 = c .before .before .before .before .before .before .if1 in
+    let if2 = c .before .before .before .before .before .if2 in
+    let judge-read = c .before .before .before .judge-read in
+    let s = s in
+    not-held (s .args .ws .now) (s .pre .0) (s .args .values .now) (s .args .out .now) (if1 .left ∙ s .pre .1) (rw (s .pre .1, s .pre .2) at (if2 .left)) _ (rw (c .before .refusal .given .1) at (judge-read .ensures)) refl (λ n e. clash (cc))
 
 same-length : tie.Need-same-length
 same-length c = search needs
@@ -68,19 +74,32 @@ returns-4 : tie.Need-returns-4
 unfolding handed verdict
 returns-4 c =
     let s = c .before .before .before .before .before .before .before .before .before .before in
-    rw (s .pre .1, s .pre .2, c .before .write-filled .ensures) (held (s .args .ws .now) (s .pre .0) (s .args .values .now) (s .args .out .now) (c .before .before .before .before .before .before .before .before .if1 .left ∙ s .pre .1) (rw (s .pre .1, s .pre .2) at (c .before .before .before .before .before .before .before .if2 .left)) (sym (c .before .before .before .before .before .judge-read .ensures) ∙ rw (c .before .before .before .enum-told .given .1)))
+    let if1 = c .before .before .before .before .before .before .before .before .if1 in
+    let if2 = c .before .before .before .before .before .before .before .if2 in
+    let judge-read = c .before .before .before .before .before .judge-read in
+    let enum-told = c .before .before .before .enum-told in
+    let s = s in
+    rw (s .pre .1, s .pre .2, c .before .write-filled .ensures) (held (s .args .ws .now) (s .pre .0) (s .args .values .now) (s .args .out .now) (if1 .left ∙ s .pre .1) (rw (s .pre .1, s .pre .2) at (if2 .left)) (sym (judge-read .ensures) ∙ rw (enum-told .given .1)))
 
 returns-5 : tie.Need-returns-5
 unfolding handed verdict isHolds
 returns-5 c =
     let s = c .before .before .before .before .before .before .before .before in
-    not-held (s .args .ws .now) (s .pre .0) (s .args .values .now) (s .args .out .now) (c .before .before .before .before .before .before .if1 .left ∙ s .pre .1) (rw (s .pre .1, s .pre .2) at (c .before .before .before .before .before .if2 .left)) _ (rw (c .before .i .given .1) at (c .before .before .before .judge-read .ensures)) refl (λ n e. clash (cc))
+    let if1 = c .before .before .before .before .before .before .if1 in
+    let if2 = c .before .before .before .before .before .if2 in
+    let judge-read = c .before .before .before .judge-read in
+    let s = s in
+    not-held (s .args .ws .now) (s .pre .0) (s .args .values .now) (s .args .out .now) (if1 .left ∙ s .pre .1) (rw (s .pre .1, s .pre .2) at (if2 .left)) _ (rw (c .before .i .given .1) at (judge-read .ensures)) refl (λ n e. clash (cc))
 
 returns-6 : tie.Need-returns-6
 unfolding handed verdict isHolds
 returns-6 c =
     let s = c .before .before .before .before .before .before .before .before in
-    not-held (s .args .ws .now) (s .pre .0) (s .args .values .now) (s .args .out .now) (c .before .before .before .before .before .before .if1 .left ∙ s .pre .1) (rw (s .pre .1, s .pre .2) at (c .before .before .before .before .before .if2 .left)) _ (rw (c .before .i2 .given .1) at (c .before .before .before .judge-read .ensures)) refl (λ n e. clash (cc))
+    let if1 = c .before .before .before .before .before .before .if1 in
+    let if2 = c .before .before .before .before .before .if2 in
+    let judge-read = c .before .before .before .judge-read in
+    let s = s in
+    not-held (s .args .ws .now) (s .pre .0) (s .args .values .now) (s .args .out .now) (if1 .left ∙ s .pre .1) (rw (s .pre .1, s .pre .2) at (if2 .left)) _ (rw (c .before .i2 .given .1) at (judge-read .ensures)) refl (λ n e. clash (cc))
 
 pub fill-passed-spec : {M : Type 1} → statement M
 fill-passed-spec =

@@ -25,7 +25,10 @@ abbrev μ-loop : tie.MeasureT-loop
 -- after the branch the value is laid, if it fits
 written : (c : tie.Joined1 Inv-loop μ-loop) →
     c .if1 .out ≡ set (c .before .before .loop .out) (0 + c .before .before .loop .i) (getD (c .before .before .before .args .values .now) (c .before .before .loop .i) +0)
-written c = rw zero-add (⊎-elim (λ w. let f : SFits w32 (getD (c .before .before .before .args .values .now) (c .before .before .loop .i) +0) = record { sfits = w .1 .given } in w .2 ∙ ap (set (c .before .before .loop .out) (c .before .before .loop .i)) (toZ-ofZ f)) (λ w. w .1 ∙ sym (set-out _ _ _ (w .0 .left))) (c .if1 .came))
+written c =
+    let s = c .before .before .before in
+    let loop = c .before .before .loop in
+    rw zero-add (⊎-elim (λ w. let f : SFits w32 (getD (s .args .values .now) (loop .i) +0) = record { sfits = w .1 .given } in w .2 ∙ ap (set (loop .out) (loop .i)) (toZ-ofZ f)) (λ w. w .1 ∙ sym (set-out _ _ _ (w .0 .left))) (c .if1 .came))
 
 ended : (c : tie.After-loop Inv-loop μ-loop) → c .before .loop .out ≡ overlay (c .before .before .args .out .now) 0 (c .before .before .args .values .now)
 ended c = sym (overlay-none _ _) ∙ rw (drop-of-length-le (c .before .before .args .values .now) (c .loop-test .left)) at (c .before .loop .inv .1)

@@ -29,16 +29,21 @@ slice-aggregate-write-picks-2 c = search needs
 
 write-picks-requires : tie.Need-write-picks-requires
 write-picks-requires c κs =
-    rw (c .before .before .before .before .before .before .before .before .keep-bounds .ensures .1, c .before .before .before .before .before .before .before .before .keep-bounds .ensures .2)
-    (lowers-bounded (c .before .before .before .before .before .before .before .before .before .before .before .before .args .ws .now) 256 (few-variables (c .before .before .before .before .before .before .before .before .before .before .before .before .args .ws .now) (c .before .before .before .before .before .before .before .before .before .before .before .before .pre .0)), uppers-bounded (c .before .before .before .before .before .before .before .before .before .before .before .before .args .ws .now) 256 (few-variables (c .before .before .before .before .before .before .before .before .before .before .before .before .args .ws .now) (c .before .before .before .before .before .before .before .before .before .before .before .before .pre .0)), values-small (c .before .before .before .before .before .before .before .before .before .before .before .before .args .ws .now) (c .before .before .before .before .before .before .before .before .before .before .before .before .pre .0) (c .before .before .before .before .before .before .before .before .before .before .before .before .args .values .now) (c .before .before .before .before .before .before .before .before .before .before .before .before .pre .1), picks-ranged (c .before .before .before .before .before .before .before .before .before .before .before .before .args .ws .now) (c .before .before .before .before .before .before .before .before .before .before .before .before .pre .0) (c .before .before .before .before .before .before .before .before .before .before .before .before .args .values .now) (c .before .before .before .before .before .before .before .before .before .before .before .before .pre .1), picks-fit (c .before .before .before .before .before .before .before .before .before .before .before .before .args .ws .now) (c .before .before .before .before .before .before .before .before .before .before .before .before .pre .0) (c .before .before .before .before .before .before .before .before .before .before .before .before .args .values .now) (c .before .before .before .before .before .before .before .before .before .before .before .before .pre .1))
+    let s = c .before .before .before .before .before .before .before .before .before .before .before .before in
+    let keep-bounds = c .before .before .before .before .before .before .before .before .keep-bounds in
+    rw (keep-bounds .ensures .1, keep-bounds .ensures .2)
+    (lowers-bounded (s .args .ws .now) 256 (few-variables (s .args .ws .now) (s .pre .0)), uppers-bounded (s .args .ws .now) 256 (few-variables (s .args .ws .now) (s .pre .0)), values-small (s .args .ws .now) (s .pre .0) (s .args .values .now) (s .pre .1), picks-ranged (s .args .ws .now) (s .pre .0) (s .args .values .now) (s .pre .1), picks-fit (s .args .ws .now) (s .pre .0) (s .args .values .now) (s .pre .1))
 
 same-length : tie.Need-same-length
 same-length c = search needs
 
 returns : tie.Need-returns
 returns c =
-    rw (c .before .before .before .before .before .before .before .before .before .before .keep-bounds .ensures .1, c .before .before .before .before .before .before .before .before .before .before .keep-bounds .ensures .2, c .before .before .before .before .before .before .lay-values .ensures) at (c .before .write-picks .ensures)
-    ∙ values-then (c .before .before .before .before .before .before .before .before .before .before .before .before .before .before .args .out .now) (c .before .before .before .before .before .before .before .before .before .before .before .before .before .before .args .values .now) _ ∙ rw (same-picks (c .before .before .before .before .before .before .before .before .before .before .before .before .before .before .args .ws .now) (c .before .before .before .before .before .before .before .before .before .before .before .before .before .before .pre .0) (c .before .before .before .before .before .before .before .before .before .before .before .before .before .before .args .values .now) (c .before .before .before .before .before .before .before .before .before .before .before .before .before .before .pre .1))
+    let s = c .before .before .before .before .before .before .before .before .before .before .before .before .before .before in
+    let keep-bounds = c .before .before .before .before .before .before .before .before .before .before .keep-bounds in
+    let lay-values = c .before .before .before .before .before .before .lay-values in
+    rw (keep-bounds .ensures .1, keep-bounds .ensures .2, lay-values .ensures) at (c .before .write-picks .ensures)
+    ∙ values-then (s .args .out .now) (s .args .values .now) _ ∙ rw (same-picks (s .args .ws .now) (s .pre .0) (s .args .values .now) (s .pre .1))
 
 pub write-filled-spec : {M : Type 1} → statement M
 write-filled-spec =

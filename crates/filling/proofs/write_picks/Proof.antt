@@ -61,13 +61,18 @@ part-pick-block-end c = search needs
 -- src/lib.rt:59:13
 pick-block-requires : tie.Need-pick-block-requires Inv-loop μ-loop
 unfolding wordAt
-pick-block-requires c κs = record {
-  place = omega (arith, place-le (c .before .before .before .before .before .before .before .loop .inv), c .before .before .before .before .before .before .before .before .before .pre .4);
-  lowers = c .before .before .before .before .before .before .before .before .before .pre .0;
-  uppers = c .before .before .before .before .before .before .before .before .before .pre .1;
-  small = c .before .before .before .before .before .before .before .before .before .pre .2;
-  ranged = rw (c .before .payload-of .ensures, tail-is (c .before .before .before .before .before .before .before .before .before .args .ws .now) (c .before .before .before .before .before .before .before .loop .p + 1)) (here-ranged (c .before .before .before .before .before .before .before .loop .inv) (c .before .before .before .before .before .before .loop-test .taken) (eq-eqb _ _ (sym (c .before .before .before .before .kind-of .ensures) ∙ c .before .before .before .if1 .taken)));
-}
+pick-block-requires c κs =
+    let s = c .before .before .before .before .before .before .before .before .before in
+    let loop = c .before .before .before .before .before .before .before .loop in
+    let kind-of = c .before .before .before .before .kind-of in
+    let if1 = c .before .before .before .if1 in
+    record {
+      place = omega (arith, place-le (loop .inv), s .pre .4);
+      lowers = s .pre .0;
+      uppers = s .pre .1;
+      small = s .pre .2;
+      ranged = rw (c .before .payload-of .ensures, tail-is (s .args .ws .now) (loop .p + 1)) (here-ranged (loop .inv) (c .before .before .before .before .before .before .loop-test .taken) (eq-eqb _ _ (sym (kind-of .ensures) ∙ if1 .taken)));
+    }
 
 -- src/lib.rt:55:5
 loop-less : tie.Need-loop-less Inv-loop μ-loop
@@ -76,7 +81,13 @@ loop-less c = search needs
 -- src/lib.rt:55:5
 loop-again : tie.Need-loop-again Inv-loop μ-loop
 unfolding wordAt
-loop-again c = picked (c .before .before .before .before .before .before .before .before .before .loop .inv) (c .before .before .before .before .before .before .before .before .loop-test .taken) (eq-eqb _ _ (sym (c .before .before .before .before .before .before .kind-of .ensures) ∙ c .before .before .before .before .before .if1 .taken)) (rw (c .before .before .before .payload-of .ensures, tail-is (c .before .before .before .before .before .before .before .before .before .before .before .args .ws .now) (c .before .before .before .before .before .before .before .before .before .loop .p + 1)) at (c .before .pick-block .ensures))
+loop-again c =
+    let s = c .before .before .before .before .before .before .before .before .before .before .before in
+    let loop = c .before .before .before .before .before .before .before .before .before .loop in
+    let kind-of = c .before .before .before .before .before .before .kind-of in
+    let if1 = c .before .before .before .before .before .if1 in
+    let payload-of = c .before .before .before .payload-of in
+    picked (loop .inv) (c .before .before .before .before .before .before .before .before .loop-test .taken) (eq-eqb _ _ (sym (kind-of .ensures) ∙ if1 .taken)) (rw (payload-of .ensures, tail-is (s .args .ws .now) (loop .p + 1)) at (c .before .pick-block .ensures))
 
 -- src/lib.rt:55:5
 loop-less-2 : tie.Need-loop-less-2 Inv-loop μ-loop

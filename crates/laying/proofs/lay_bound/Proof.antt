@@ -38,8 +38,15 @@ same-length c = search needs
 returns : tie.Need-returns
 unfolding partWords partNumbers partAuxiliaries partRows all
 returns c =
-    let a = c .before .before .before .before .before .before .before .before .before .before .before in
-    let w = simp (c .before .before .before .before .before .before .before .before .before .number-word .ensures, c .before .before .before .before .before .before .before .before .number-word2 .ensures, c .before .before .before .before .before .both .ensures, c .before .before .before .before .before .before .before .in-range .ensures, c .before .before .before .before .before .before .in-range2 .ensures, toZ-ofZ (a .fits .lower), toZ-ofZ (a .fits .upper)) at (c .before .before .lay-part .ensures) in
+    let p = c .before .before .before .before .before .before .before .before .before .before .before in
+    let number-word = c .before .before .before .before .before .before .before .before .before .number-word in
+    let number-word2 = c .before .before .before .before .before .before .before .before .number-word2 in
+    let in-range = c .before .before .before .before .before .before .before .in-range in
+    let in-range2 = c .before .before .before .before .before .before .in-range2 in
+    let both = c .before .before .before .before .before .both in
+    let lay-part = c .before .before .lay-part in
+    let a = p in
+    let w = simp (number-word .ensures, number-word2 .ensures, both .ensures, in-range .ensures, in-range2 .ensures, toZ-ofZ (a .fits .lower), toZ-ofZ (a .fits .upper)) at (lay-part .ensures) in
     (went-one (bound (a .args .lower) (a .args .upper)) w (ap (λ b. inRange (a .args .lower) && b) (and-true _)), omega (arith, w .words, w .auxiliaries, w .rows))
 
 pub lay-bound-spec : {M : Type 1} → statement M

@@ -26,8 +26,12 @@ same-length c = search needs
 returns : tie.Need-returns
 unfolding partWords partNumbers partAuxiliaries partRows all
 returns c =
-    let a = c .before .before .before .before .before .before .before .before in
-    let w = simp (c .before .before .before .before .before .before .number-word .ensures, c .before .before .before .in-range .ensures, toZ-ofZ (a .fits .c)) at (c .before .before .lay-part .ensures) in
+    let p = c .before .before .before .before .before .before .before .before in
+    let number-word = c .before .before .before .before .before .before .number-word in
+    let in-range = c .before .before .before .in-range in
+    let lay-part = c .before .before .lay-part in
+    let a = p in
+    let w = simp (number-word .ensures, in-range .ensures, toZ-ofZ (a .fits .c)) at (lay-part .ensures) in
     (went-one (constant (a .args .c)) w (and-true _), omega (arith, w .words, w .auxiliaries, w .rows))
 
 pub lay-constant-spec : {M : Type 1} → statement M

@@ -42,8 +42,11 @@ loop-less c = search needs
 
 loop-again : tie.Need-loop-again Inv-loop μ-loop
 loop-again c =
-    let l = c .before .before .before .before .before .before in
-    more (l .loop-test .taken) (l .before .loop .inv) (rw (back (getD (l .before .before .before .before .args .cs .now) (l .before .loop .k) (pos 0)) (c .before .before .before .before .lay-term-arg2 .given)) at (c .before .before .lay-term .ensures))
+    let p = c .before .before .before .before .before .before in
+    let lay-term-arg2 = c .before .before .before .before .lay-term-arg2 in
+    let lay-term = c .before .before .lay-term in
+    let l = p in
+    more (l .loop-test .taken) (l .before .loop .inv) (rw (back (getD (l .before .before .before .before .args .cs .now) (l .before .loop .k) (pos 0)) (lay-term-arg2 .given)) at (lay-term .ensures))
 
 same-length : tie.Need-same-length Inv-loop μ-loop
 same-length c = went-length (c .before .loop .inv .went)

@@ -41,8 +41,11 @@ loop-less c = search needs
 
 loop-again : tie.Need-loop-again Inv-loop μ-loop
 loop-again c =
-    let l = c .before .before .before .before .before in
-    more (l .loop-test .taken) (l .before .loop .inv) (rw (back (c .before .before .before .plus .result) (c .before .before .before .plus .ok), c .before .before .before .plus .ensures, toZ-pos w64 {n = l .before .loop .k} (omega arith)) at (c .before .before .lay-term .ensures))
+    let p = c .before .before .before .before .before in
+    let plus = c .before .before .before .plus in
+    let lay-term = c .before .before .lay-term in
+    let l = p in
+    more (l .loop-test .taken) (l .before .loop .inv) (rw (back (plus .result) (plus .ok), plus .ensures, toZ-pos w64 {n = l .before .loop .k} (omega arith)) at (lay-term .ensures))
 
 same-length : tie.Need-same-length Inv-loop μ-loop
 same-length c = went-length (c .before .loop .inv .went)

@@ -22,8 +22,12 @@ same-length c = search needs
 returns : tie.Need-returns
 unfolding rowOf
 returns c =
-    let w = rw (toZ-ofZ (c .before .before .before .before .before .before .before .before .before .before .before .before .before .before .fits .c)) at (c .before .before .lay-constant .ensures) in
-    (went-then (c .before .before .before .before .before .before .before .before .before .before .lay-head .ensures .0) (went-then (c .before .before .before .before .before .before .lay-given .ensures .0) (w .0)), omega (arith, c .before .before .before .before .before .before .before .before .before .before .lay-head .ensures .1, c .before .before .before .before .before .before .lay-given .ensures .1, w .1))
+    let s = c .before .before .before .before .before .before .before .before .before .before .before .before .before .before in
+    let lay-head = c .before .before .before .before .before .before .before .before .before .before .lay-head in
+    let lay-given = c .before .before .before .before .before .before .lay-given in
+    let lay-constant = c .before .before .lay-constant in
+    let w = rw (toZ-ofZ (s .fits .c)) at (lay-constant .ensures) in
+    (went-then (lay-head .ensures .0) (went-then (lay-given .ensures .0) (w .0)), omega (arith, lay-head .ensures .1, lay-given .ensures .1, w .1))
 
 pub lay-row-spec : {M : Type 1} → statement M
 lay-row-spec =

@@ -29,8 +29,13 @@ same-length c = search needs
 returns : tie.Need-returns
 unfolding partWords partNumbers partAuxiliaries partRows all
 returns c =
-    let a = c .before .before .before .before .before .before .before .before .before in
-    let w = simp (c .before .before .before .before .before .before .before .word-of .ensures, c .before .before .before .before .before .before .number-word .ensures, c .before .before .before .in-range .ensures, toZ-ofZ (a .fits .coefficient)) at (c .before .before .lay-part .ensures) in
+    let p = c .before .before .before .before .before .before .before .before .before in
+    let word-of = c .before .before .before .before .before .before .before .word-of in
+    let number-word = c .before .before .before .before .before .before .number-word in
+    let in-range = c .before .before .before .in-range in
+    let lay-part = c .before .before .lay-part in
+    let a = p in
+    let w = simp (word-of .ensures, number-word .ensures, in-range .ensures, toZ-ofZ (a .fits .coefficient)) at (lay-part .ensures) in
     (went-one (term (a .args .coefficient) (a .args .v)) w (and-true _), omega (arith, w .words, w .auxiliaries, w .rows))
 
 pub lay-term-spec : {M : Type 1} → statement M

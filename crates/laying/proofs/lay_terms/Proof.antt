@@ -55,10 +55,13 @@ loop-less c = search needs
 
 loop-again : tie.Need-loop-again Inv-loop μ-loop
 loop-again c =
-    let n = c .before .before .before .before in
+    let p = c .before .before .before .before in
+    let var-at = c .before .before .before .var-at in
+    let lay-term = c .before .before .lay-term in
+    let n = p in
     let l = n .before .before in
     let i = l .before .loop .inv in
-    (i .0, i .1, more (l .loop-test .taken) (i .2) (rw (back (n .num-at .result) (n .num-at .ok), n .num-at .ensures, c .before .before .before .var-at .ensures) at (c .before .before .lay-term .ensures)))
+    (i .0, i .1, more (l .loop-test .taken) (i .2) (rw (back (n .num-at .result) (n .num-at .ok), n .num-at .ensures, var-at .ensures) at (lay-term .ensures)))
 
 same-length : tie.Need-same-length Inv-loop μ-loop
 same-length c = went-length (c .before .loop .inv .2 .went)

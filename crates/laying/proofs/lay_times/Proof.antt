@@ -32,8 +32,14 @@ same-length c = search needs
 returns : tie.Need-returns
 unfolding partWords partNumbers partAuxiliaries partRows all
 returns c =
-    let a = c .before .before .before .before .before .before .before .before .before .before in
-    let w = simp (c .before .before .before .before .before .before .before .before .word-of .ensures, c .before .before .before .before .before .before .before .word-of2 .ensures, c .before .before .before .before .before .before .word-of3 .ensures, c .before .before .before .before .before .word-of4 .ensures) at (c .before .before .lay-part .ensures) in
+    let p = c .before .before .before .before .before .before .before .before .before .before in
+    let word-of = c .before .before .before .before .before .before .before .before .word-of in
+    let word-of2 = c .before .before .before .before .before .before .before .word-of2 in
+    let word-of3 = c .before .before .before .before .before .before .word-of3 in
+    let word-of4 = c .before .before .before .before .before .word-of4 in
+    let lay-part = c .before .before .lay-part in
+    let a = p in
+    let w = simp (word-of .ensures, word-of2 .ensures, word-of3 .ensures, word-of4 .ensures) at (lay-part .ensures) in
     (went-one (times (a .args .r) (a .args .f) (a .args .g)) w refl, omega (arith, w .words, w .auxiliaries, w .rows))
 
 pub lay-times-spec : {M : Type 1} → statement M

@@ -24,7 +24,11 @@ abbrev μ-loop : tie.MeasureT-loop
 said : (c : tie.After-holds Inv-loop μ-loop) →
     meaning (value (c .before .before .before .before .before .before .before .before .before .args .values .now)) (builtin (headed (c .before .before .before .before .before .before .before .before .before .args .ws .now) (c .before .before .before .before .before .before .before .loop .at))) ≡ c .holds .result
 unfolding builtin
-said c = sym (c .holds .ensures ∙ rw (c .before .before .payload-of .ensures, tail-is (c .before .before .before .before .before .before .before .before .before .args .ws .now) (c .before .before .before .before .before .before .before .loop .at + 1)))
+said c =
+    let s = c .before .before .before .before .before .before .before .before .before in
+    let loop = c .before .before .before .before .before .before .before .loop in
+    let payload-of = c .before .before .payload-of in
+    sym (c .holds .ensures ∙ rw (payload-of .ensures, tail-is (s .args .ws .now) (loop .at + 1)))
 
 loop-holds : tie.Need-loop-holds Inv-loop μ-loop
 unfolding constraints
@@ -62,7 +66,12 @@ holds-requires c κs = search needs
 
 returns : tie.Need-returns Inv-loop μ-loop
 unfolding verdict
-returns c = fail-one (c .before .before .before .before .before .before .before .before .loop .inv) (starts-one (c .before .before .before .before .before .before .before .before .before .before .args .ws .now) (c .before .before .before .before .before .before .before .before .loop .at) (c .before .before .before .before .before .before .before .loop-test .taken) (sym (c .before .before .before .before .before .kind-of .ensures) ∙ c .before .before .before .before .if1 .taken)) (said (c .before) ∙ not-true _ (c .if2 .taken))
+returns c =
+    let s = c .before .before .before .before .before .before .before .before .before .before in
+    let loop = c .before .before .before .before .before .before .before .before .loop in
+    let kind-of = c .before .before .before .before .before .kind-of in
+    let if1 = c .before .before .before .before .if1 in
+    fail-one (loop .inv) (starts-one (s .args .ws .now) (loop .at) (c .before .before .before .before .before .before .before .loop-test .taken) (sym (kind-of .ensures) ∙ if1 .taken)) (said (c .before) ∙ not-true _ (c .if2 .taken))
 
 add-k : tie.Need-add-k Inv-loop μ-loop
 add-k c = search needs
@@ -71,13 +80,21 @@ loop-less : tie.Need-loop-less Inv-loop μ-loop
 loop-less c = search needs
 
 loop-again : tie.Need-loop-again Inv-loop μ-loop
-loop-again c = pass-one (c .before .before .before .before .before .before .before .before .loop .inv) (starts-one (c .before .before .before .before .before .before .before .before .before .before .args .ws .now) (c .before .before .before .before .before .before .before .before .loop .at) (c .before .before .before .before .before .before .before .loop-test .taken) (sym (c .before .before .before .before .before .kind-of .ensures) ∙ c .before .before .before .before .if1 .taken)) (said (c .before) ∙ not-false _ (c .if2 .left))
+loop-again c =
+    let s = c .before .before .before .before .before .before .before .before .before .before in
+    let loop = c .before .before .before .before .before .before .before .before .loop in
+    let kind-of = c .before .before .before .before .before .kind-of in
+    let if1 = c .before .before .before .before .if1 in
+    pass-one (loop .inv) (starts-one (s .args .ws .now) (loop .at) (c .before .before .before .before .before .before .before .loop-test .taken) (sym (kind-of .ensures) ∙ if1 .taken)) (said (c .before) ∙ not-false _ (c .if2 .left))
 
 loop-less-2 : tie.Need-loop-less-2 Inv-loop μ-loop
 loop-less-2 c = search needs
 
 loop-again-2 : tie.Need-loop-again-2 Inv-loop μ-loop
-loop-again-2 c = pass-none (c .before .before .before .before .loop .inv) (starts-none (c .before .before .before .before .before .before .args .ws .now) (c .before .before .before .before .loop .at) (c .before .before .before .loop-test .taken) (λ e. c .if1 .left (c .before .kind-of .ensures ∙ e)))
+loop-again-2 c =
+    let s = c .before .before .before .before .before .before in
+    let loop = c .before .before .before .before .loop in
+    pass-none (loop .inv) (starts-none (s .args .ws .now) (loop .at) (c .before .before .before .loop-test .taken) (λ e. c .if1 .left (c .before .kind-of .ensures ∙ e)))
 
 returns-2 : tie.Need-returns-2 Inv-loop μ-loop
 unfolding verdict

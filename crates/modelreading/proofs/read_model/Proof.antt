@@ -67,7 +67,10 @@ started-by-requires : tie.Need-started-by-requires Inv-loop μ-loop
 started-by-requires c κs = search needs
 
 add-c : tie.Need-add-c Inv-loop μ-loop
-add-c c = record { fits = omega (arith, c .started-by .ensures, started-small (getD (c .before .before .before .before .before .before .before .before .before .before .before .before .args .ws .now) (c .before .before .before .before .before .before .before .before .before .loop .at) 0), c .before .before .before .before .before .before .before .before .before .loop .inv .counted) }
+add-c c =
+    let s = c .before .before .before .before .before .before .before .before .before .before .before .before in
+    let loop = c .before .before .before .before .before .before .before .before .before .loop in
+    record { fits = omega (arith, c .started-by .ensures, started-small (getD (s .args .ws .now) (loop .at) 0), loop .inv .counted) }
 
 declared-by-requires : tie.Need-declared-by-requires Inv-loop μ-loop
 declared-by-requires c κs = search needs
@@ -76,7 +79,10 @@ mul-types : tie.Need-mul-types Inv-loop μ-loop
 mul-types c = search needs
 
 array-write-types : tie.Need-array-write-types Inv-loop μ-loop
-array-write-types c = room-here (turn (c .before .before .before .before .before)) (c .before .before .before .before .if2 .left) (c .before .declared-by .result) (c .before .declared-by .ensures) (c .if3 .taken)
+array-write-types c =
+    let p = c .before .before .before .before .before in
+    let if2 = c .before .before .before .before .if2 in
+    room-here (turn p) (if2 .left) (c .before .declared-by .result) (c .before .declared-by .ensures) (c .if3 .taken)
 
 add-v : tie.Need-add-v Inv-loop μ-loop
 add-v c = search needs
@@ -89,9 +95,13 @@ passed : (c : tie.Joined3 Inv-loop μ-loop) →
     let p = c .before .before .before .before .before .before .before .before .before .before .before in
     Left (p .before .before .before .args .ws .now) (c .if3 .types) (c .if3 .v) (p .loop .c + c .before .before .started-by .result) (p .loop .at + 1) (c .before .before .before .after-due .result)
 passed c =
+    let p = c .before .before .before .before .before in
+    let if2 = c .before .before .before .before .if2 in
+    let after-due = c .before .before .before .after-due in
+    let started-by = c .before .before .started-by in
     ⊎-elim
-    (λ w. rw (w .1, w .2, c .before .before .started-by .ensures, c .before .before .before .after-due .ensures) (again-one (turn (c .before .before .before .before .before)) (c .before .before .before .before .if2 .left) (c .before .declared-by .result) (c .before .declared-by .ensures) (w .0 .taken)))
-    (λ w. rw (w .1, w .2, c .before .before .started-by .ensures, c .before .before .before .after-due .ensures) (again (turn (c .before .before .before .before .before)) (c .before .before .before .before .if2 .left) (sym (w .0 .left) ∙ c .before .declared-by .ensures)))
+    (λ w. rw (w .1, w .2, started-by .ensures, after-due .ensures) (again-one (turn p) (if2 .left) (c .before .declared-by .result) (c .before .declared-by .ensures) (w .0 .taken)))
+    (λ w. rw (w .1, w .2, started-by .ensures, after-due .ensures) (again (turn p) (if2 .left) (sym (w .0 .left) ∙ c .before .declared-by .ensures)))
     (c .if3 .came)
 
 listed-at-requires : tie.Need-listed-at-requires Inv-loop μ-loop

@@ -46,9 +46,14 @@ loop-less c = search needs
 
 loop-again : tie.Need-loop-again Inv-loop μ-loop
 loop-again c =
-    let h = c .before .before .before .before .before .before .loop .inv in
-    let a = c .before .before .before .before .before .before .before .before .args in
-    (omega (arith, c .before .before .before .before .before .loop-test .taken), one-more (h .1) (rw (c .before .before .type-at .ensures, c .before .before .before .payload-of .ensures, c .before .before .before .before .word-at .ensures) at (sym (c .before .of-variable .ensures) ∙ c .if1 .left)) (variable-end (take (a .v) (a .types .now)) (a .kind)))
+    let s = c .before .before .before .before .before .before .before .before in
+    let loop = c .before .before .before .before .before .before .loop in
+    let word-at = c .before .before .before .before .word-at in
+    let payload-of = c .before .before .before .payload-of in
+    let type-at = c .before .before .type-at in
+    let h = loop .inv in
+    let a = s .args in
+    (omega (arith, c .before .before .before .before .before .loop-test .taken), one-more (h .1) (rw (type-at .ensures, payload-of .ensures, word-at .ensures) at (sym (c .before .of-variable .ensures) ∙ c .if1 .left)) (variable-end (take (a .v) (a .types .now)) (a .kind)))
 
 returns-2 : tie.Need-returns-2 Inv-loop μ-loop
 returns-2 c = c .before .loop .inv

@@ -59,7 +59,10 @@ loop-less : tie.Need-loop-less Inv-loop μ-loop
 loop-less c = search needs
 
 loop-again : tie.Need-loop-again Inv-loop μ-loop
-loop-again c = (search needs, search needs, none-more (λ j. value (c .before .before .before .before .before .before .before .args .values .now) (var (c .before .before .before .before .before .before .before .args .args .now) (c .before .before .before .before .before .before .before .args .i + 1 + j)) == toZ w64 (ofZ w64 (c .before .before .before .before .before .before .before .args .v))) (c .before .before .before .before .loop .k) (c .before .before .before .before .loop .inv .2) (sym (tested (c .before)) ∙ c .if1 .left))
+loop-again c =
+    let s = c .before .before .before .before .before .before .before in
+    let loop = c .before .before .before .before .loop in
+    (search needs, search needs, none-more (λ j. value (s .args .values .now) (var (s .args .args .now) (s .args .i + 1 + j)) == toZ w64 (ofZ w64 (s .args .v))) (loop .k) (loop .inv .2) (sym (tested (c .before)) ∙ c .if1 .left))
 
 returns-2 : tie.Need-returns-2 Inv-loop μ-loop
 returns-2 c = (

@@ -15,7 +15,9 @@ first-place-requires : tie.Need-first-place-requires
 first-place-requires c κs = search needs
 
 returns : tie.Need-returns
-returns c = back (c .first-place .result) (c .first-place .ok) ∙ c .first-place .ensures ∙ rw (back (c .before .bound-at .result) (c .before .bound-at .ok), c .before .bound-at .ensures, c .before .before .var-at .ensures)
+returns c =
+    let var-at = c .before .before .var-at in
+    back (c .first-place .result) (c .first-place .ok) ∙ c .first-place .ensures ∙ rw (back (c .before .bound-at .result) (c .before .bound-at .ok), c .before .bound-at .ensures, var-at .ensures)
 
 pub first-label-spec : {M : Type 1} → statement M
 first-label-spec =

@@ -46,7 +46,10 @@ loop-less : tie.Need-loop-less Inv-loop μ-loop
 loop-less c = search needs
 
 loop-again : tie.Need-loop-again Inv-loop μ-loop
-loop-again c = (search needs, none-more (λ j. getD (c .before .before .before .before .before .args .numbers .now) j +0 == toZ w64 (ofZ w64 (c .before .before .before .before .before .args .v))) (c .before .before .before .before .loop .k) (c .before .before .before .before .loop .inv .1) (sym (tested (c .before)) ∙ c .if1 .left))
+loop-again c =
+    let s = c .before .before .before .before .before in
+    let loop = c .before .before .before .before .loop in
+    (search needs, none-more (λ j. getD (s .args .numbers .now) j +0 == toZ w64 (ofZ w64 (s .args .v))) (loop .k) (loop .inv .1) (sym (tested (c .before)) ∙ c .if1 .left))
 
 returns-2 : tie.Need-returns-2 Inv-loop μ-loop
 returns-2 c =

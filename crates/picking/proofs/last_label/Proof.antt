@@ -20,7 +20,10 @@ last-place-requires : tie.Need-last-place-requires
 last-place-requires c κs = omega (arith, c .before .before .size-at .ensures, size-le (c .before .before .before .before .args .args .now) 1)
 
 returns : tie.Need-returns
-returns c = back (c .last-place .result) (c .last-place .ok) ∙ c .last-place .ensures ∙ rw (back (c .before .bound-at .result) (c .before .bound-at .ok), c .before .bound-at .ensures, c .before .before .var-at .ensures, c .before .before .before .size-at .ensures)
+returns c =
+    let size-at = c .before .before .before .size-at in
+    let var-at = c .before .before .var-at in
+    back (c .last-place .result) (c .last-place .ok) ∙ c .last-place .ensures ∙ rw (back (c .before .bound-at .result) (c .before .bound-at .ok), c .before .bound-at .ensures, var-at .ensures, size-at .ensures)
 
 pub last-label-spec : {M : Type 1} → statement M
 last-label-spec =

@@ -19,7 +19,9 @@ returns c = rw (c .before .before .before .if1 .taken) (c .before .pick-ne .ensu
 
 pick-times-requires : tie.Need-pick-times-requires
 unfolding pick builtin builtins
-pick-times-requires c κs = (c .before .before .before .before .pre .1 .place, c .before .before .before .before .pre .1 .small, rw (c .before .if2 .taken) at (c .before .before .before .before .pre .1 .ranged))
+pick-times-requires c κs =
+    let s = c .before .before .before .before in
+    (s .pre .1 .place, s .pre .1 .small, rw (c .before .if2 .taken) at (s .pre .1 .ranged))
 
 same-length-2 : tie.Need-same-length-2
 same-length-2 c = search needs
@@ -51,8 +53,11 @@ returns-4 c = rw (c .before .before .before .if4 .taken) (c .before .pick-max .e
 
 returns-5 : tie.Need-returns-5
 returns-5 c =
-    let a = c .before .before .before .before .before .args in
-    rw (none-picked (a .ls .now) (a .us .now) (a .values .now) (a .code) (a .args .now) (bare-arithmetic (a .code) (c .before .before .before .before .before .pre .0) (c .before .before .before .if1 .left) (c .before .before .if2 .left) (c .before .if3 .left) (c .if4 .left))) (picked-none (a .at) (a .out .now))
+    let s = c .before .before .before .before .before in
+    let if1 = c .before .before .before .if1 in
+    let if2 = c .before .before .if2 in
+    let a = s .args in
+    rw (none-picked (a .ls .now) (a .us .now) (a .values .now) (a .code) (a .args .now) (bare-arithmetic (a .code) (s .pre .0) (if1 .left) (if2 .left) (c .before .if3 .left) (c .if4 .left))) (picked-none (a .at) (a .out .now))
 
 pub pick-arithmetic-spec : {M : Type 1} → statement M
 pick-arithmetic-spec =

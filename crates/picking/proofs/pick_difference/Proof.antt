@@ -13,7 +13,9 @@ use Rattle.picking.proofs.pick_difference.Statement.{statement}
 use Rattle.picking.proofs.pick_difference.Tie as tie
 
 whole : (c : tie.After-minus) → toZ w64 (ofZ w64 (c .minus .result)) ≡ value (c .before .before .before .before .before .args .values .now) (var (c .before .before .before .before .before .args .args .now) 0) ⊖ value (c .before .before .before .before .before .args .values .now) (var (c .before .before .before .before .before .args .args .now) 1)
-whole c = back (c .minus .result) (c .minus .ok) ∙ c .minus .ensures ∙ rw (back (c .before .before .value-of .result) (c .before .before .value-of .ok), c .before .before .value-of .ensures, back (c .before .value-of2 .result) (c .before .value-of2 .ok), c .before .value-of2 .ensures)
+whole c =
+    let value-of = c .before .before .value-of in
+    back (c .minus .result) (c .minus .ok) ∙ c .minus .ensures ∙ rw (back (value-of .result) (value-of .ok), value-of .ensures, back (c .before .value-of2 .result) (c .before .value-of2 .ok), c .before .value-of2 .ensures)
 
 value-of-requires : tie.Need-value-of-requires
 value-of-requires c κs = search needs
@@ -22,7 +24,9 @@ value-of-requires-2 : tie.Need-value-of-requires-2
 value-of-requires-2 c κs = search needs
 
 minus-requires : tie.Need-minus-requires
-minus-requires c κs = rw (back (c .before .value-of .result) (c .before .value-of .ok), c .before .value-of .ensures, back (c .value-of2 .result) (c .value-of2 .ok), c .value-of2 .ensures) (omega (arith, (c .before .before .before .before .pre .1 (var (c .before .before .before .before .args .args .now) 0)), (c .before .before .before .before .pre .1 (var (c .before .before .before .before .args .args .now) 1))))
+minus-requires c κs =
+    let s = c .before .before .before .before in
+    rw (back (c .before .value-of .result) (c .before .value-of .ok), c .before .value-of .ensures, back (c .value-of2 .result) (c .value-of2 .ok), c .value-of2 .ensures) (omega (arith, (s .pre .1 (var (s .args .args .now) 0)), (s .pre .1 (var (s .args .args .now) 1))))
 
 put-signed-requires : tie.Need-put-signed-requires
 put-signed-requires c κs = (search needs, rw (whole (c)) (rw difference at (c .before .before .before .before .before .pre .2)))

@@ -17,18 +17,25 @@ value-of-requires : tie.Need-value-of-requires
 value-of-requires c κs = search needs
 
 put-labels-requires : tie.Need-put-labels-requires
-put-labels-requires c κs = (
-  search needs,
-  rw (back (c .before .before .first-label .result) (c .before .before .first-label .ok), c .before .before .first-label .ensures) (labels-near (c .before .before .before .before .before .args .ls .now) (c .before .before .before .before .before .args .us .now) (c .before .before .before .before .before .args .args .now) (c .before .before .before .before .before .pre .1) (c .before .before .before .before .before .pre .2) .0),
-  rw (back (c .before .last-label .result) (c .before .last-label .ok), c .before .last-label .ensures) (labels-near (c .before .before .before .before .before .args .ls .now) (c .before .before .before .before .before .args .us .now) (c .before .before .before .before .before .args .args .now) (c .before .before .before .before .before .pre .1) (c .before .before .before .before .before .pre .2) .1),
-  rw (back (c .value-of .result) (c .value-of .ok), c .value-of .ensures) (c .before .before .before .before .before .pre .3 (var (c .before .before .before .before .before .args .args .now) 0)),
-)
+put-labels-requires c κs =
+    let s = c .before .before .before .before .before in
+    let first-label = c .before .before .first-label in (
+      search needs,
+      rw (back (first-label .result) (first-label .ok), first-label .ensures) (labels-near (s .args .ls .now) (s .args .us .now) (s .args .args .now) (s .pre .1) (s .pre .2) .0),
+      rw (back (c .before .last-label .result) (c .before .last-label .ok), c .before .last-label .ensures) (labels-near (s .args .ls .now) (s .args .us .now) (s .args .args .now) (s .pre .1) (s .pre .2) .1),
+      rw (back (c .value-of .result) (c .value-of .ok), c .value-of .ensures) (s .pre .3 (var (s .args .args .now) 0)),
+    )
 
 same-length : tie.Need-same-length
 same-length c = search needs
 
 returns : tie.Need-returns
-returns c = rw (element-picks (c .before .before .before .before .before .before .before .args .ls .now) (c .before .before .before .before .before .before .before .args .us .now) (c .before .before .before .before .before .before .before .args .values .now) (c .before .before .before .before .before .before .before .args .args .now)) (rw (back (c .before .before .before .before .first-label .result) (c .before .before .before .before .first-label .ok), c .before .before .before .before .first-label .ensures, back (c .before .before .before .last-label .result) (c .before .before .before .last-label .ok), c .before .before .before .last-label .ensures, back (c .before .before .value-of .result) (c .before .before .value-of .ok), c .before .before .value-of .ensures) at (c .before .put-labels .ensures))
+returns c =
+    let s = c .before .before .before .before .before .before .before in
+    let first-label = c .before .before .before .before .first-label in
+    let last-label = c .before .before .before .last-label in
+    let value-of = c .before .before .value-of in
+    rw (element-picks (s .args .ls .now) (s .args .us .now) (s .args .values .now) (s .args .args .now)) (rw (back (first-label .result) (first-label .ok), first-label .ensures, back (last-label .result) (last-label .ok), last-label .ensures, back (value-of .result) (value-of .ok), value-of .ensures) at (c .before .put-labels .ensures))
 
 pub pick-element-spec : {M : Type 1} → statement M
 pick-element-spec =

@@ -19,7 +19,9 @@ returns c = rw (c .before .before .before .if1 .taken) (c .before .pick-element 
 
 pick-var-element-requires : tie.Need-pick-var-element-requires
 unfolding pick builtin builtins
-pick-var-element-requires c κs = (c .before .before .before .before .pre .1 .place, c .before .before .before .before .pre .1 .lowers, c .before .before .before .before .pre .1 .uppers, c .before .before .before .before .pre .1 .small, rw (c .before .if2 .taken) at (c .before .before .before .before .pre .1 .ranged))
+pick-var-element-requires c κs =
+    let s = c .before .before .before .before in
+    (s .pre .1 .place, s .pre .1 .lowers, s .pre .1 .uppers, s .pre .1 .small, rw (c .before .if2 .taken) at (s .pre .1 .ranged))
 
 same-length-2 : tie.Need-same-length-2
 same-length-2 c = search needs
@@ -61,8 +63,12 @@ returns-5 c = rw (c .before .before .before .if5 .taken) (c .before .pick-set-re
 
 returns-6 : tie.Need-returns-6
 returns-6 c =
-    let a = c .before .before .before .before .before .before .args in
-    rw (none-picked (a .ls .now) (a .us .now) (a .values .now) (a .code) (a .args .now) (bare-lists (a .code) (c .before .before .before .before .before .before .pre .0) (c .before .before .before .before .if1 .left) (c .before .before .before .if2 .left) (c .before .before .if3 .left) (c .before .if4 .left) (c .if5 .left))) (picked-none (a .at) (a .out .now))
+    let s = c .before .before .before .before .before .before in
+    let if1 = c .before .before .before .before .if1 in
+    let if2 = c .before .before .before .if2 in
+    let if3 = c .before .before .if3 in
+    let a = s .args in
+    rw (none-picked (a .ls .now) (a .us .now) (a .values .now) (a .code) (a .args .now) (bare-lists (a .code) (s .pre .0) (if1 .left) (if2 .left) (if3 .left) (c .before .if4 .left) (c .if5 .left))) (picked-none (a .at) (a .out .now))
 
 pub pick-lists-spec : {M : Type 1} → statement M
 pick-lists-spec =

@@ -24,7 +24,11 @@ same-length c = search needs
 
 returns : tie.Need-returns
 unfolding bitOf
-returns c = rw (c .before .before .before .equal .ensures, back (c .before .before .before .before .before .value-of .result) (c .before .before .before .before .before .value-of .ok), c .before .before .before .before .before .value-of .ensures, back (c .before .before .before .before .value-of2 .result) (c .before .before .before .before .value-of2 .ok), c .before .before .before .before .value-of2 .ensures) at (c .before .put-if .ensures)
+returns c =
+    let value-of = c .before .before .before .before .before .value-of in
+    let value-of2 = c .before .before .before .before .value-of2 in
+    let equal = c .before .before .before .equal in
+    rw (equal .ensures, back (value-of .result) (value-of .ok), value-of .ensures, back (value-of2 .result) (value-of2 .ok), value-of2 .ensures) at (c .before .put-if .ensures)
 
 pub pick-max-spec : {M : Type 1} → statement M
 pick-max-spec =

@@ -18,7 +18,8 @@ use Rattle.picking.proofs.pick_maximum.Tie as tie
 picks : (c : tie.After-first-equal) → let a = c .before .before .before .args in let σ = value (a .values .now) in let ws = a .args .now in
     gatedPick σ (λ x. σ x == σ (var ws 0)) (vars ws 1) ≡ onlyAt (size ws 1) (c .first-equal .result) +1 ++ onlyAt (size ws 1) (c .first-equal .result) (σ (var ws (2 + c .first-equal .result)))
 picks c =
-    let a = c .before .before .before .args in
+    let s = c .before .before .before in
+    let a = s .args in
     maximum-picks [] [] (a .values .now) (a .args .now) (c .first-equal .result) (rw (back (c .before .value-of .result) (c .before .value-of .ok), c .before .value-of .ensures) at (c .first-equal .ensures .1))
 
 value-of-requires : tie.Need-value-of-requires
@@ -37,13 +38,20 @@ value-of-requires-2 : tie.Need-value-of-requires-2
 value-of-requires-2 c κs = search needs
 
 put-gated-requires : tie.Need-put-gated-requires
-put-gated-requires c κs = (search needs, omega (arith, c .before .size-at .ensures, size-le (c .before .before .before .before .before .before .args .args .now) 1), rw (back (c .value-of2 .result) (c .value-of2 .ok), c .value-of2 .ensures, c .before .size-at .ensures) (rw (picks (c .before .before .before)) at (c .before .before .before .before .before .before .pre .1)))
+put-gated-requires c κs =
+    let s = c .before .before .before .before .before .before in
+    let p = c .before .before .before in
+    (search needs, omega (arith, c .before .size-at .ensures, size-le (s .args .args .now) 1), rw (back (c .value-of2 .result) (c .value-of2 .ok), c .value-of2 .ensures, c .before .size-at .ensures) (rw (picks p) at (s .pre .1)))
 
 same-length : tie.Need-same-length
 same-length c = search needs
 
 returns : tie.Need-returns
-returns c = rw (picks (c .before .before .before .before .before)) (rw (back (c .before .before .value-of2 .result) (c .before .before .value-of2 .ok), c .before .before .value-of2 .ensures, c .before .before .before .size-at .ensures) at (c .before .put-gated .ensures))
+returns c =
+    let p = c .before .before .before .before .before in
+    let size-at = c .before .before .before .size-at in
+    let value-of2 = c .before .before .value-of2 in
+    rw (picks p) (rw (back (value-of2 .result) (value-of2 .ok), value-of2 .ensures, size-at .ensures) at (c .before .put-gated .ensures))
 
 pub pick-maximum-spec : {M : Type 1} → statement M
 pick-maximum-spec =

@@ -17,15 +17,25 @@ use Rattle.picking.proofs.pick_member.Statement.{statement}
 use Rattle.picking.proofs.pick_member.Tie as tie
 
 many : (c : tie.After-members) → let a = c .before .before .before .before .before .before .args in c .members .result ≡ length (members (nums (a .args .now) 1) (getD (a .ls .now) (var (a .args .now) 0) +0 to getD (a .us .now) (var (a .args .now) 0) +0))
-many c = c .members .ensures .0 ∙ rw (back (c .before .before .before .bound-at .result) (c .before .before .before .bound-at .ok), c .before .before .before .bound-at .ensures, back (c .before .before .bound-at2 .result) (c .before .before .bound-at2 .ok), c .before .before .bound-at2 .ensures, c .before .before .before .before .var-at .ensures)
+many c =
+    let var-at = c .before .before .before .before .var-at in
+    let bound-at = c .before .before .before .bound-at in
+    let bound-at2 = c .before .before .bound-at2 in
+    c .members .ensures .0 ∙ rw (back (bound-at .result) (bound-at .ok), bound-at .ensures, back (bound-at2 .result) (bound-at2 .ok), bound-at2 .ensures, var-at .ensures)
 
 picks : (c : tie.After-first-number) → let a = c .before .before .before .before .before .before .before .before .before .before .args in picksOf (a .ls .now) (a .us .now) (a .values .now) 27 (a .args .now) ≡ onlyAt (c .before .before .before .before .members .result) (c .first-number .result) +1
 picks c =
-    let a = c .before .before .before .before .before .before .before .before .before .before .args in
-    rw (many (c .before .before .before .before))
-    (member-picks (a .ls .now) (a .us .now) (a .values .now) (a .args .now) _ (c .before .before .before .before .members .last .1 .1 .1 .1 .0) (c .first-number .result) refl
-    (rw (back (c .before .before .before .before .before .before .before .bound-at .result) (c .before .before .before .before .before .before .before .bound-at .ok), c .before .before .before .before .before .before .before .bound-at .ensures, back (c .before .before .before .before .before .before .bound-at2 .result) (c .before .before .before .before .before .before .bound-at2 .ok), c .before .before .before .before .before .before .bound-at2 .ensures, c .before .before .before .before .before .before .before .before .var-at .ensures) at (c .before .before .before .before .members .ensures .1))
-    (rw (back (c .before .value-of .result) (c .before .value-of .ok), c .before .value-of .ensures, many (c .before .before .before .before)) at (c .first-number .ensures)))
+    let s = c .before .before .before .before .before .before .before .before .before .before in
+    let var-at = c .before .before .before .before .before .before .before .before .var-at in
+    let bound-at = c .before .before .before .before .before .before .before .bound-at in
+    let bound-at2 = c .before .before .before .before .before .before .bound-at2 in
+    let members = c .before .before .before .before .members in
+    let p = c .before .before .before .before in
+    let a = s .args in
+    rw (many p)
+    (member-picks (a .ls .now) (a .us .now) (a .values .now) (a .args .now) _ (members .last .1 .1 .1 .1 .0) (c .first-number .result) refl
+    (rw (back (bound-at .result) (bound-at .ok), bound-at .ensures, back (bound-at2 .result) (bound-at2 .ok), bound-at2 .ensures, var-at .ensures) at (members .ensures .1))
+    (rw (back (c .before .value-of .result) (c .before .value-of .ok), c .before .value-of .ensures, many p) at (c .first-number .ensures)))
 
 var-at-requires : tie.Need-var-at-requires
 var-at-requires c κs = search needs
@@ -40,7 +50,10 @@ slice-aggregate-members : tie.Need-slice-aggregate-members
 slice-aggregate-members c = search needs
 
 members-requires : tie.Need-members-requires
-members-requires c κs = (search needs, rw (back (c .before .bound-at2 .result) (c .before .bound-at2 .ok), c .before .bound-at2 .ensures) (c .before .before .before .before .before .pre .1 (c .before .before .before .var-at .result)))
+members-requires c κs =
+    let s = c .before .before .before .before .before in
+    let var-at = c .before .before .before .var-at in
+    (search needs, rw (back (c .before .bound-at2 .result) (c .before .bound-at2 .ok), c .before .bound-at2 .ensures) (s .pre .1 (var-at .result)))
 
 slice-aggregate-first-number : tie.Need-slice-aggregate-first-number
 slice-aggregate-first-number c = search needs
@@ -52,7 +65,11 @@ first-number-requires : tie.Need-first-number-requires
 first-number-requires c κs = search needs
 
 put-only-requires : tie.Need-put-only-requires
-put-only-requires c κs = (omega (arith, many (c .before .before .before .before .before), let a = c .before .before .before .before .before .before .before .before .before .before .before .args in members-length (a .args .now) 1 (getD (a .ls .now) (var (a .args .now) 0) +0 to getD (a .us .now) (var (a .args .now) 0) +0)), bits-ranged (c .before .before .before .before .before .members .result) (c .before .first-number .result))
+put-only-requires c κs =
+    let s = c .before .before .before .before .before .before .before .before .before .before .before in
+    let members = c .before .before .before .before .before .members in
+    let p = c .before .before .before .before .before in
+    (omega (arith, many p, let a = s .args in members-length (a .args .now) 1 (getD (a .ls .now) (var (a .args .now) 0) +0 to getD (a .us .now) (var (a .args .now) 0) +0)), bits-ranged (members .result) (c .before .first-number .result))
 
 same-length : tie.Need-same-length
 same-length c = search needs

@@ -19,18 +19,27 @@ value-of-requires : tie.Need-value-of-requires
 value-of-requires c κs = search needs
 
 put-labels-requires : tie.Need-put-labels-requires
-put-labels-requires c κs = (
-  search needs,
-  rw (back (c .before .before .bound-at .result) (c .before .before .bound-at .ok), c .before .before .bound-at .ensures) (c .before .before .before .before .before .before .pre .1 (c .before .before .before .before .var-at .result)),
-  rw (back (c .before .bound-at2 .result) (c .before .bound-at2 .ok), c .before .bound-at2 .ensures) (c .before .before .before .before .before .before .pre .2 (c .before .before .before .before .var-at .result)),
-  rw (back (c .value-of .result) (c .value-of .ok), c .value-of .ensures) (c .before .before .before .before .before .before .pre .3 (var (c .before .before .before .before .before .before .args .args .now) 0)),
-)
+put-labels-requires c κs =
+    let s = c .before .before .before .before .before .before in
+    let var-at = c .before .before .before .before .var-at in
+    let bound-at = c .before .before .bound-at in (
+      search needs,
+      rw (back (bound-at .result) (bound-at .ok), bound-at .ensures) (s .pre .1 (var-at .result)),
+      rw (back (c .before .bound-at2 .result) (c .before .bound-at2 .ok), c .before .bound-at2 .ensures) (s .pre .2 (var-at .result)),
+      rw (back (c .value-of .result) (c .value-of .ok), c .value-of .ensures) (s .pre .3 (var (s .args .args .now) 0)),
+    )
 
 same-length : tie.Need-same-length
 same-length c = search needs
 
 returns : tie.Need-returns
-returns c = rw (set-picks (c .before .before .before .before .before .before .before .before .args .ls .now) (c .before .before .before .before .before .before .before .before .args .us .now) (c .before .before .before .before .before .before .before .before .args .values .now) (c .before .before .before .before .before .before .before .before .args .args .now)) (rw (back (c .before .before .before .before .bound-at .result) (c .before .before .before .before .bound-at .ok), c .before .before .before .before .bound-at .ensures, back (c .before .before .before .bound-at2 .result) (c .before .before .before .bound-at2 .ok), c .before .before .before .bound-at2 .ensures, c .before .before .before .before .before .before .var-at .ensures, back (c .before .before .value-of .result) (c .before .before .value-of .ok), c .before .before .value-of .ensures) at (c .before .put-labels .ensures))
+returns c =
+    let s = c .before .before .before .before .before .before .before .before in
+    let var-at = c .before .before .before .before .before .before .var-at in
+    let bound-at = c .before .before .before .before .bound-at in
+    let bound-at2 = c .before .before .before .bound-at2 in
+    let value-of = c .before .before .value-of in
+    rw (set-picks (s .args .ls .now) (s .args .us .now) (s .args .values .now) (s .args .args .now)) (rw (back (bound-at .result) (bound-at .ok), bound-at .ensures, back (bound-at2 .result) (bound-at2 .ok), bound-at2 .ensures, var-at .ensures, back (value-of .result) (value-of .ok), value-of .ensures) at (c .before .put-labels .ensures))
 
 pub pick-set-reif-spec : {M : Type 1} → statement M
 pick-set-reif-spec =

@@ -20,7 +20,9 @@ returns c = rw (c .before .before .before .if1 .taken) (c .before .pick-linear .
 
 pick-linear-requires-2 : tie.Need-pick-linear-requires-2
 unfolding pick builtin builtins
-pick-linear-requires-2 c κs = (c .before .before .before .before .pre .2 .place, c .before .before .before .before .pre .2 .small, rw (c .before .if2 .taken) at (c .before .before .before .before .pre .2 .ranged))
+pick-linear-requires-2 c κs =
+    let s = c .before .before .before .before in
+    (s .pre .2 .place, s .pre .2 .small, rw (c .before .if2 .taken) at (s .pre .2 .ranged))
 
 same-length-2 : tie.Need-same-length-2
 same-length-2 c = search needs
@@ -31,7 +33,9 @@ returns-2 c = rw (c .before .before .before .if2 .taken) (c .before .pick-linear
 
 pick-difference-requires : tie.Need-pick-difference-requires
 unfolding pick builtin builtins
-pick-difference-requires c κs = (c .before .before .before .before .before .pre .2 .place, c .before .before .before .before .before .pre .2 .small, rw (c .before .if3 .taken) at (c .before .before .before .before .before .pre .2 .ranged))
+pick-difference-requires c κs =
+    let s = c .before .before .before .before .before in
+    (s .pre .2 .place, s .pre .2 .small, rw (c .before .if3 .taken) at (s .pre .2 .ranged))
 
 same-length-3 : tie.Need-same-length-3
 same-length-3 c = search needs
@@ -42,7 +46,9 @@ returns-3 c = rw (c .before .before .before .if3 .taken) (c .before .pick-differ
 
 pick-sum-requires : tie.Need-pick-sum-requires
 unfolding pick builtin builtins
-pick-sum-requires c κs = (c .before .before .before .before .before .before .pre .2 .place, c .before .before .before .before .before .before .pre .2 .small, rw (c .before .if4 .taken) at (c .before .before .before .before .before .before .pre .2 .ranged))
+pick-sum-requires c κs =
+    let s = c .before .before .before .before .before .before in
+    (s .pre .2 .place, s .pre .2 .small, rw (c .before .if4 .taken) at (s .pre .2 .ranged))
 
 same-length-4 : tie.Need-same-length-4
 same-length-4 c = search needs
@@ -53,7 +59,9 @@ returns-4 c = rw (c .before .before .before .if4 .taken) (c .before .pick-sum .e
 
 pick-xor-requires : tie.Need-pick-xor-requires
 unfolding pick builtin builtins
-pick-xor-requires c κs = (c .before .before .before .before .before .before .before .pre .2 .place, c .before .before .before .before .before .before .before .pre .2 .small, rw (c .before .if5 .taken) at (c .before .before .before .before .before .before .before .pre .2 .ranged))
+pick-xor-requires c κs =
+    let s = c .before .before .before .before .before .before .before in
+    (s .pre .2 .place, s .pre .2 .small, rw (c .before .if5 .taken) at (s .pre .2 .ranged))
 
 same-length-5 : tie.Need-same-length-5
 same-length-5 c = search needs
@@ -64,8 +72,12 @@ returns-5 c = rw (c .before .before .before .if5 .taken) (c .before .pick-xor .e
 
 returns-6 : tie.Need-returns-6
 returns-6 c =
-    let a = c .before .before .before .before .before .before .args in
-    rw (none-picked (a .ls .now) (a .us .now) (a .values .now) (a .code) (a .args .now) (bare-sums (a .code) (c .before .before .before .before .before .before .pre .0) (c .before .before .before .before .before .before .pre .1) (c .before .before .before .before .if1 .left) (c .before .before .before .if2 .left) (c .before .before .if3 .left) (c .before .if4 .left) (c .if5 .left))) (picked-none (a .at) (a .out .now))
+    let s = c .before .before .before .before .before .before in
+    let if1 = c .before .before .before .before .if1 in
+    let if2 = c .before .before .before .if2 in
+    let if3 = c .before .before .if3 in
+    let a = s .args in
+    rw (none-picked (a .ls .now) (a .us .now) (a .values .now) (a .code) (a .args .now) (bare-sums (a .code) (s .pre .0) (s .pre .1) (if1 .left) (if2 .left) (if3 .left) (c .before .if4 .left) (c .if5 .left))) (picked-none (a .at) (a .out .now))
 
 pub pick-sums-spec : {M : Type 1} → statement M
 pick-sums-spec =

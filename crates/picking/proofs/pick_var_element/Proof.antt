@@ -21,22 +21,29 @@ use Rattle.picking.proofs.pick_var_element.Statement.{statement}
 use Rattle.picking.proofs.pick_var_element.Tie as tie
 
 near : (c : tie.After-last-label) → Near (toZ w64 (ofZ w64 (c .before .first-label .result))) × Near (toZ w64 (ofZ w64 (c .last-label .result)))
-near c = (
-  rw (back (c .before .first-label .result) (c .before .first-label .ok), c .before .first-label .ensures) (labels-near (c .before .before .before .args .ls .now) (c .before .before .before .args .us .now) (c .before .before .before .args .args .now) (c .before .before .before .pre .1) (c .before .before .before .pre .2) .0),
-  rw (back (c .last-label .result) (c .last-label .ok), c .last-label .ensures) (labels-near (c .before .before .before .args .ls .now) (c .before .before .before .args .us .now) (c .before .before .before .args .args .now) (c .before .before .before .pre .1) (c .before .before .before .pre .2) .1),
-)
+near c =
+    let s = c .before .before .before in (
+      rw (back (c .before .first-label .result) (c .before .first-label .ok), c .before .first-label .ensures) (labels-near (s .args .ls .now) (s .args .us .now) (s .args .args .now) (s .pre .1) (s .pre .2) .0),
+      rw (back (c .last-label .result) (c .last-label .ok), c .last-label .ensures) (labels-near (s .args .ls .now) (s .args .us .now) (s .args .args .now) (s .pre .1) (s .pre .2) .1),
+    )
 
 wide : (c : tie.After-width-of) → let a = c .before .before .before .before .args in c .width-of .result ≡ width (firstLabel (a .ls .now) (a .us .now) (a .values .now) (a .args .now) to lastLabel (a .ls .now) (a .us .now) (a .values .now) (a .args .now))
-wide c = c .width-of .ensures ∙ rw (back (c .before .before .first-label .result) (c .before .before .first-label .ok), c .before .before .first-label .ensures, back (c .before .last-label .result) (c .before .last-label .ok), c .before .last-label .ensures)
+wide c =
+    let first-label = c .before .before .first-label in
+    c .width-of .ensures ∙ rw (back (first-label .result) (first-label .ok), first-label .ensures, back (c .before .last-label .result) (c .before .last-label .ok), c .before .last-label .ensures)
 
 picks : (c : tie.After-place-of) → let a = c .before .before .before .before .before .before .args in let σ = value (a .values .now) in let ws = a .args .now in
     picksOf (a .ls .now) (a .us .now) (a .values .now) 25 ws ≡ onlyAt (c .before .before .width-of .result) (c .place-of .result) +1 ++ onlyAt (c .before .before .width-of .result) (c .place-of .result) (σ (var ws (1 + count (σ (var ws 0)))))
 picks c =
-    let a = c .before .before .before .before .before .before .args in
-    rw (wide (c .before .before)) (var-element-picks (a .ls .now) (a .us .now) (a .values .now) (a .args .now) (c .place-of .result) (rw (back (c .before .value-of .result) (c .before .value-of .ok), c .before .value-of .ensures, back (c .before .before .before .before .first-label .result) (c .before .before .before .before .first-label .ok), c .before .before .before .before .first-label .ensures, wide (c .before .before)) at (c .place-of .ensures)))
+    let s = c .before .before .before .before .before .before in
+    let first-label = c .before .before .before .before .first-label in
+    let a = s .args in
+    rw (wide (c .before .before)) (var-element-picks (a .ls .now) (a .us .now) (a .values .now) (a .args .now) (c .place-of .result) (rw (back (c .before .value-of .result) (c .before .value-of .ok), c .before .value-of .ensures, back (first-label .result) (first-label .ok), first-label .ensures, wide (c .before .before)) at (c .place-of .ensures)))
 
 counted : (c : tie.After-count-of) → c .count-of .result ≡ count (value (c .before .before .before .before .before .before .before .before .args .values .now) (var (c .before .before .before .before .before .before .before .before .args .args .now) 0))
-counted c = c .count-of .ensures ∙ rw (back (c .before .before .before .value-of .result) (c .before .before .before .value-of .ok), c .before .before .before .value-of .ensures)
+counted c =
+    let value-of = c .before .before .before .value-of in
+    c .count-of .ensures ∙ rw (back (value-of .result) (value-of .ok), value-of .ensures)
 
 first-label-requires : tie.Need-first-label-requires
 first-label-requires c κs = search needs
@@ -60,23 +67,31 @@ count-of-requires : tie.Need-count-of-requires
 count-of-requires c κs = search needs
 
 add-value-of : tie.Need-add-value-of
-add-value-of c = omega (arith, counted c, count-le (value (c .before .before .before .before .before .before .before .before .args .values .now) (var (c .before .before .before .before .before .before .before .before .args .args .now) 0)), c .before .before .before .before .before .before .before .before .pre .3 (var (c .before .before .before .before .before .before .before .before .args .args .now) 0))
+add-value-of c =
+    let s = c .before .before .before .before .before .before .before .before in
+    omega (arith, counted c, count-le (value (s .args .values .now) (var (s .args .args .now) 0)), s .pre .3 (var (s .args .args .now) 0))
 
 value-of-requires-2 : tie.Need-value-of-requires-2
 value-of-requires-2 c κs = search needs
 
 put-gated-requires : tie.Need-put-gated-requires
-put-gated-requires c κs = (
-  search needs,
-  omega (arith, c .before .before .before .before .before .width-of .ensures, width-size (toZ w64 (ofZ w64 (c .before .before .before .before .before .before .before .first-label .result))) (toZ w64 (ofZ w64 (c .before .before .before .before .before .before .last-label .result))) (near (c .before .before .before .before .before .before) .0) (near (c .before .before .before .before .before .before) .1)),
-  rw (back (c .value-of2 .result) (c .value-of2 .ok), c .value-of2 .ensures, counted (c .before)) (rw (picks (c .before .before .before)) at (c .before .before .before .before .before .before .before .before .before .pre .4)),
-)
+put-gated-requires c κs =
+    let s = c .before .before .before .before .before .before .before .before .before in
+    let first-label = c .before .before .before .before .before .before .before .first-label in
+    let last-label = c .before .before .before .before .before .before .last-label in
+    let width-of = c .before .before .before .before .before .width-of in (
+      search needs,
+      omega (arith, width-of .ensures, width-size (toZ w64 (ofZ w64 (first-label .result))) (toZ w64 (ofZ w64 (last-label .result))) (near (c .before .before .before .before .before .before) .0) (near (c .before .before .before .before .before .before) .1)),
+      rw (back (c .value-of2 .result) (c .value-of2 .ok), c .value-of2 .ensures, counted (c .before)) (rw (picks (c .before .before .before)) at (s .pre .4)),
+    )
 
 same-length : tie.Need-same-length
 same-length c = search needs
 
 returns : tie.Need-returns
-returns c = rw (picks (c .before .before .before .before .before)) (rw (back (c .before .before .value-of2 .result) (c .before .before .value-of2 .ok), c .before .before .value-of2 .ensures, counted (c .before .before .before)) at (c .before .put-gated .ensures))
+returns c =
+    let value-of2 = c .before .before .value-of2 in
+    rw (picks (c .before .before .before .before .before)) (rw (back (value-of2 .result) (value-of2 .ok), value-of2 .ensures, counted (c .before .before .before)) at (c .before .put-gated .ensures))
 
 pub pick-var-element-spec : {M : Type 1} → statement M
 pick-var-element-spec =

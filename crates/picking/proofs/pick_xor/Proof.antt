@@ -16,13 +16,20 @@ values-product-requires-2 : tie.Need-values-product-requires-2
 values-product-requires-2 c κs = search needs
 
 put-requires-2 : tie.Need-put-requires-2
-put-requires-2 c κs = (omega (arith, c .before .before .before .put .ensures .next), rw (back (c .values-product2 .result) (c .values-product2 .ok), c .values-product2 .ensures) (c .before .before .before .before .before .before .before .pre .2 1))
+put-requires-2 c κs =
+    let s = c .before .before .before .before .before .before .before in
+    let put = c .before .before .before .put in
+    (omega (arith, put .ensures .next), rw (back (c .values-product2 .result) (c .values-product2 .ok), c .values-product2 .ensures) (s .pre .2 1))
 
 same-length : tie.Need-same-length
 same-length c = search needs
 
 returns : tie.Need-returns
-returns c = rw (back (c .before .before .before .before .before .before .values-product .result) (c .before .before .before .before .before .before .values-product .ok), c .before .before .before .before .before .before .values-product .ensures, back (c .before .before .values-product2 .result) (c .before .before .values-product2 .ok), c .before .before .values-product2 .ensures) at (picked-then (c .before .before .before .before .before .put .ensures) (c .before .put2 .ensures))
+returns c =
+    let values-product = c .before .before .before .before .before .before .values-product in
+    let put = c .before .before .before .before .before .put in
+    let values-product2 = c .before .before .values-product2 in
+    rw (back (values-product .result) (values-product .ok), values-product .ensures, back (values-product2 .result) (values-product2 .ok), values-product2 .ensures) at (picked-then (put .ensures) (c .before .put2 .ensures))
 
 pub pick-xor-spec : {M : Type 1} → statement M
 pick-xor-spec =

@@ -18,7 +18,10 @@ count-of-requires : tie.Need-count-of-requires
 count-of-requires c κs = search needs
 
 returns-2 : tie.Need-returns-2
-returns-2 c = rw (c .count-of .ensures, back (c .before .minus .result) (c .before .minus .ok), c .before .minus .ensures, toZ-ofZ (c .before .before .before .fits .v), toZ-ofZ (c .before .before .before .fits .first)) (label-at (c .before .before .before .args .v) (c .before .before .before .args .first) (c .before .before .before .args .n) (not-below _ _ (rw (toZ-ofZ (c .before .before .before .fits .v), toZ-ofZ (c .before .before .before .fits .first)) at (c .before .before .if1 .left))))
+returns-2 c =
+    let s = c .before .before .before in
+    let if1 = c .before .before .if1 in
+    rw (c .count-of .ensures, back (c .before .minus .result) (c .before .minus .ok), c .before .minus .ensures, toZ-ofZ (s .fits .v), toZ-ofZ (s .fits .first)) (label-at (s .args .v) (s .args .first) (s .args .n) (not-below _ _ (rw (toZ-ofZ (s .fits .v), toZ-ofZ (s .fits .first)) at (if1 .left))))
 
 pub place-of-spec : {M : Type 1} → statement M
 place-of-spec = tie.close (tie.spec returns minus-requires count-of-requires returns-2)

@@ -13,7 +13,10 @@ put-only-requires : tie.Need-put-only-requires
 put-only-requires c κs = (search needs, bits-ranged (c .before .args .n) (c .before .args .h))
 
 put-only-requires-2 : tie.Need-put-only-requires-2
-put-only-requires-2 c κs = (omega (arith, c .before .before .put-only .ensures .next, only-length (c .before .before .before .before .args .n) (c .before .before .before .before .args .h) +1), rw (toZ-ofZ (c .before .before .before .before .fits .x)) (ranged-right (onlyAt (c .before .before .before .before .args .n) (c .before .before .before .before .args .h) +1) (onlyAt (c .before .before .before .before .args .n) (c .before .before .before .before .args .h) (c .before .before .before .before .args .x)) (c .before .before .before .before .pre .2)))
+put-only-requires-2 c κs =
+    let s = c .before .before .before .before in
+    let put-only = c .before .before .put-only in
+    (omega (arith, put-only .ensures .next, only-length (s .args .n) (s .args .h) +1), rw (toZ-ofZ (s .fits .x)) (ranged-right (onlyAt (s .args .n) (s .args .h) +1) (onlyAt (s .args .n) (s .args .h) (s .args .x)) (s .pre .2)))
 
 same-length : tie.Need-same-length
 same-length c = search needs

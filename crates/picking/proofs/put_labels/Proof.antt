@@ -20,15 +20,21 @@ place-of-requires : tie.Need-place-of-requires
 place-of-requires c κs = search needs
 
 put-only-requires : tie.Need-put-only-requires
-put-only-requires c κs = (omega (arith, wide (c .before .before), width-size (c .before .before .before .args .lower) (c .before .before .before .args .upper) (c .before .before .before .pre .1) (c .before .before .before .pre .2)), bits-ranged (c .before .before .width-of .result) (c .before .place-of .result))
+put-only-requires c κs =
+    let s = c .before .before .before in
+    let width-of = c .before .before .width-of in
+    (omega (arith, wide (c .before .before), width-size (s .args .lower) (s .args .upper) (s .pre .1) (s .pre .2)), bits-ranged (width-of .result) (c .before .place-of .result))
 
 same-length : tie.Need-same-length
 same-length c = search needs
 
 returns : tie.Need-returns
 returns c =
-    let f = rw (toZ-ofZ (c .before .before .before .before .before .fits .v), toZ-ofZ (c .before .before .before .before .before .fits .lower), wide (c .before .before .before .before)) at (c .before .before .before .place-of .ensures) in
-    rw (label-bits (c .before .before .before .before .before .args .lower) (c .before .before .before .before .before .args .upper) (c .before .before .before .before .before .args .v) (c .before .before .before .place-of .result) f) (rw (wide (c .before .before .before .before)) at (c .before .put-only .ensures))
+    let s = c .before .before .before .before .before in
+    let p = c .before .before .before .before in
+    let place-of = c .before .before .before .place-of in
+    let f = rw (toZ-ofZ (s .fits .v), toZ-ofZ (s .fits .lower), wide p) at (place-of .ensures) in
+    rw (label-bits (s .args .lower) (s .args .upper) (s .args .v) (place-of .result) f) (rw (wide p) at (c .before .put-only .ensures))
 
 pub put-labels-spec : {M : Type 1} → statement M
 put-labels-spec =

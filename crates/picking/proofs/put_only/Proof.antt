@@ -26,13 +26,17 @@ abbrev μ-loop : tie.MeasureT-loop
 μ-loop out₀ at n h v k₀ out k = n - k
 
 kept : (c : tie.After-put-if-arg Inv-loop μ-loop) → getD (onlyAt (c .before .before .before .args .n) (c .before .before .before .args .h) (c .before .before .before .args .v)) (c .before .before .loop .k) (pos 0) ≡ (toZ w64 (ofZ w64 (c .before .before .before .args .v)) if eqb (c .before .before .loop .k) (c .before .before .before .args .h) else pos 0)
-kept c = only-at (c .before .before .before .args .n) (c .before .before .before .args .h) (c .before .before .before .args .v) (c .before .before .loop .k) (c .before .loop-test .taken) ∙ rw (toZ-ofZ (c .before .before .before .fits .v))
+kept c =
+    let s = c .before .before .before in
+    let loop = c .before .before .loop in
+    only-at (s .args .n) (s .args .h) (s .args .v) (loop .k) (c .before .loop-test .taken) ∙ rw (toZ-ofZ (s .fits .v))
 
 ended : (c : tie.After-loop Inv-loop μ-loop) → c .before .loop .out ≡ overlay (c .before .before .args .out .now) (c .before .before .args .at) (onlyAt (c .before .before .args .n) (c .before .before .args .h) (c .before .before .args .v))
 ended c =
-    let ps = onlyAt (c .before .before .args .n) (c .before .before .args .h) (c .before .before .args .v) in
-    let l : length ps ≤ c .before .loop .k = omega (arith, only-length (c .before .before .args .n) (c .before .before .args .h) (c .before .before .args .v), c .loop-test .left) in
-    sym (overlay-none _ _) ∙ rw (drop-of-length-le ps l) at (rw (toZ-ofZ (c .before .before .fits .v)) at (c .before .loop .inv .1))
+    let s = c .before .before in
+    let ps = onlyAt (s .args .n) (s .args .h) (s .args .v) in
+    let l : length ps ≤ c .before .loop .k = omega (arith, only-length (s .args .n) (s .args .h) (s .args .v), c .loop-test .left) in
+    sym (overlay-none _ _) ∙ rw (drop-of-length-le ps l) at (rw (toZ-ofZ (s .fits .v)) at (c .before .loop .inv .1))
 
 loop-holds : tie.Need-loop-holds Inv-loop μ-loop
 loop-holds c = (search needs, rw add-zero)
@@ -50,7 +54,10 @@ loop-less : tie.Need-loop-less Inv-loop μ-loop
 loop-less c = search needs
 
 loop-again : tie.Need-loop-again Inv-loop μ-loop
-loop-again c = (search needs, rw (toZ-ofZ (c .before .before .before .before .before .fits .v)) (picked-step (c .before .before .before .before .before .args .at) (c .before .before .before .before .loop .k) (onlyAt (c .before .before .before .before .before .args .n) (c .before .before .before .before .before .args .h) (c .before .before .before .before .before .args .v)) (rw (← kept (c .before .before)) at (c .before .put-if .ensures)) (omega (arith, only-length (c .before .before .before .before .before .args .n) (c .before .before .before .before .before .args .h) (c .before .before .before .before .before .args .v), c .before .before .before .loop-test .taken)) (rw (toZ-ofZ (c .before .before .before .before .before .fits .v)) at (c .before .before .before .before .loop .inv .1))))
+loop-again c =
+    let s = c .before .before .before .before .before in
+    let loop = c .before .before .before .before .loop in
+    (search needs, rw (toZ-ofZ (s .fits .v)) (picked-step (s .args .at) (loop .k) (onlyAt (s .args .n) (s .args .h) (s .args .v)) (rw (← kept (c .before .before)) at (c .before .put-if .ensures)) (omega (arith, only-length (s .args .n) (s .args .h) (s .args .v), c .before .before .before .loop-test .taken)) (rw (toZ-ofZ (s .fits .v)) at (loop .inv .1))))
 
 add-result : tie.Need-add-result Inv-loop μ-loop
 add-result c = search needs

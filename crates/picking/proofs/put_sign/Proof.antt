@@ -16,13 +16,21 @@ put-if-requires c κs = (search needs, bit-in (c .before .below .result))
 
 put-if-requires-2 : tie.Need-put-if-requires-2
 unfolding signPick
-put-if-requires-2 c κs = (omega (arith, c .before .before .put-if .ensures .next), rw (toZ-ofZ (c .before .before .before .before .before .fits .x), c .before .before .before .before .below .ensures, toZ-ofZ (c .before .before .before .before .before .fits .x)) (rw bit-times at (c .before .before .before .before .before .pre .1 1)))
+put-if-requires-2 c κs =
+    let s = c .before .before .before .before .before in
+    let below = c .before .before .before .before .below in
+    let put-if = c .before .before .put-if in
+    (omega (arith, put-if .ensures .next), rw (toZ-ofZ (s .fits .x), below .ensures, toZ-ofZ (s .fits .x)) (rw bit-times at (s .pre .1 1)))
 
 same-length : tie.Need-same-length
 same-length c = search needs
 
 returns : tie.Need-returns
-returns c = rw (sign-pick) (rw (c .before .before .before .before .before .before .below .ensures, toZ-ofZ (c .before .before .before .before .before .before .before .fits .x)) at (picked-then (c .before .before .before .before .put-if .ensures) (c .before .put-if2 .ensures)))
+returns c =
+    let s = c .before .before .before .before .before .before .before in
+    let below = c .before .before .before .before .before .before .below in
+    let put-if = c .before .before .before .before .put-if in
+    rw (sign-pick) (rw (below .ensures, toZ-ofZ (s .fits .x)) at (picked-then (put-if .ensures) (c .before .put-if2 .ensures)))
 
 pub put-sign-spec : {M : Type 1} → statement M
 put-sign-spec =

@@ -18,10 +18,16 @@ num-at-requires : tie.Need-num-at-requires
 num-at-requires c κs = search needs
 
 minus-requires : tie.Need-minus-requires
-minus-requires c κs = rw (back (c .before .before .sum-of .result) (c .before .before .sum-of .ok), c .before .before .sum-of .ensures, back (c .num-at .result) (c .num-at .ok), c .num-at .ensures) (omega (arith, sum-size (c .before .before .before .before .args .args .now) (c .before .before .before .before .args .values .now) 0 (c .before .before .before .before .pre), num-size (c .before .before .before .before .args .args .now) (c .before .past-terms-at .result)))
+minus-requires c κs =
+    let s = c .before .before .before .before in
+    let sum-of = c .before .before .sum-of in
+    rw (back (sum-of .result) (sum-of .ok), sum-of .ensures, back (c .num-at .result) (c .num-at .ok), c .num-at .ensures) (omega (arith, sum-size (s .args .args .now) (s .args .values .now) 0 (s .pre), num-size (s .args .args .now) (c .before .past-terms-at .result)))
 
 returns : tie.Need-returns
-returns c = back (c .minus .result) (c .minus .ok) ∙ c .minus .ensures ∙ rw (back (c .before .before .before .sum-of .result) (c .before .before .before .sum-of .ok), c .before .before .before .sum-of .ensures, back (c .before .num-at .result) (c .before .num-at .ok), c .before .num-at .ensures, c .before .before .past-terms-at .ensures)
+returns c =
+    let sum-of = c .before .before .before .sum-of in
+    let past-terms-at = c .before .before .past-terms-at in
+    back (c .minus .result) (c .minus .ok) ∙ c .minus .ensures ∙ rw (back (sum-of .result) (sum-of .ok), sum-of .ensures, back (c .before .num-at .result) (c .before .num-at .ok), c .before .num-at .ensures, past-terms-at .ensures)
 
 pub sum-less-spec : {M : Type 1} → statement M
 sum-less-spec =

@@ -14,10 +14,14 @@ value-of-requires-2 : tie.Need-value-of-requires-2
 value-of-requires-2 c κs = search needs
 
 times-requires : tie.Need-times-requires
-times-requires c κs = rw (back (c .before .value-of .result) (c .before .value-of .ok), c .before .value-of .ensures, back (c .value-of2 .result) (c .value-of2 .ok), c .value-of2 .ensures) (omega (arith, mul-le (c .before .before .before .pre (var (c .before .before .before .args .args .now) (c .before .before .before .args .i))) (c .before .before .before .pre (var (c .before .before .before .args .args .now) (c .before .before .before .args .j)))))
+times-requires c κs =
+    let s = c .before .before .before in
+    rw (back (c .before .value-of .result) (c .before .value-of .ok), c .before .value-of .ensures, back (c .value-of2 .result) (c .value-of2 .ok), c .value-of2 .ensures) (omega (arith, mul-le (s .pre (var (s .args .args .now) (s .args .i))) (s .pre (var (s .args .args .now) (s .args .j)))))
 
 returns : tie.Need-returns
-returns c = back (c .times .result) (c .times .ok) ∙ c .times .ensures ∙ rw (back (c .before .before .value-of .result) (c .before .before .value-of .ok), c .before .before .value-of .ensures, back (c .before .value-of2 .result) (c .before .value-of2 .ok), c .before .value-of2 .ensures)
+returns c =
+    let value-of = c .before .before .value-of in
+    back (c .times .result) (c .times .ok) ∙ c .times .ensures ∙ rw (back (value-of .result) (value-of .ok), value-of .ensures, back (c .before .value-of2 .result) (c .before .value-of2 .ok), c .before .value-of2 .ensures)
 
 pub values-product-spec : {M : Type 1} → statement M
 values-product-spec =

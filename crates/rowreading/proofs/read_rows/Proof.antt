@@ -35,9 +35,11 @@ head c = c .fault-head .ensures ∙ rw (c .before .word-at .ensures)
 -- reading stops with a fault: at the head, in a term, after the terms
 out : (c : tie.Joined2 Inv-loop μ-loop Inv-items μ-items) → stopped (c .before .before .before .before .before .before .args .ws .now) (c .if2 .number) (c .if2 .at) ≡ onward Source 0 0 (c .before .before .before .before .before .before .args .ws .now)
 out c =
-    let ws = c .before .before .before .before .before .before .args .ws .now in
+    let s = c .before .before .before .before .before .before in
+    let items = c .before .before .before .items in
+    let ws = s .args .ws .now in
     ⊎-elim
-    (λ w. rw (w .2, w .3) (sym (head-halted ws (c .before .before .before .items .sources) (c .before .before .before .items .n) (c .before .before .before .items .at) (c .before .fault-head .result) (head (c .before)) (w .0 .taken)) ∙ c .before .before .before .items .inv .2))
+    (λ w. rw (w .2, w .3) (sym (head-halted ws (items .sources) (items .n) (items .at) (c .before .fault-head .result) (head (c .before)) (w .0 .taken)) ∙ items .inv .2))
     (⊎-elim
     (λ w. rw (w .9, w .10) (sym (halted (term-gone (w .2 .result) (w .4 .left) (w .5 .taken) (w .4 .inv .2) (w .6 .ensures .0)) (w .7 .taken)) ∙ w .4 .inv .3))
     (λ w. rw (w .9, w .10) (let z : w .4 .left ≡ 0 = omega (arith, w .5 .left) in sym (halted (w .6 .ensures) (w .7 .taken)) ∙ rw z at (w .4 .inv .3))))
@@ -61,7 +63,10 @@ started-of-requires : tie.Need-started-of-requires Inv-loop μ-loop Inv-items μ
 started-of-requires c κs = search needs
 
 add-n : tie.Need-add-n Inv-loop μ-loop Inv-items μ-items
-add-n c = record { fits = omega (arith, c .started-of .ensures, started-few (c .before .before .before .word-at .result), c .before .before .before .before .items .inv .0, c .before .before .before .before .items .inv .1 .within, c .before .before .before .before .items .inv .1 .few) }
+add-n c =
+    let items = c .before .before .before .before .items in
+    let word-at = c .before .before .before .word-at in
+    record { fits = omega (arith, c .started-of .ensures, started-few (word-at .result), items .inv .0, items .inv .1 .within, items .inv .1 .few) }
 
 add-at : tie.Need-add-at Inv-loop μ-loop Inv-items μ-items
 add-at c = search needs
@@ -74,14 +79,21 @@ terms-of-requires c κs = search needs
 
 loop-holds : tie.Need-loop-holds Inv-loop μ-loop Inv-items μ-items
 unfolding dueAfter
-loop-holds c = (
-  omega arith,
-  record { within = omega (arith, head-here (c .before .before .before .before .before .before .before .before .before .args .ws .now) (c .before .before .before .before .before .before .items .sources) (c .before .before .before .before .before .before .items .n) (c .before .before .before .before .before .before .items .at) (c .before .before .before .before .fault-head .result) (head (c .before .before .before .before)) (c .before .before .before .if2 .left)); few = c .before .before .before .before .before .before .items .inv .1 .few },
-  omega (arith, c .terms-of .ensures),
-  rw (c .terms-of .ensures, c .before .before .started-of .ensures, c .before .before .before .before .before .word-at .ensures)
-      (sym (head-gone (c .before .before .before .before .before .before .before .before .before .args .ws .now) (c .before .before .before .before .before .before .items .sources) (c .before .before .before .before .before .before .items .n) (c .before .before .before .before .before .before .items .at) (c .before .before .before .before .fault-head .result) (head (c .before .before .before .before)) (c .before .item-of .result) (c .before .before .before .if2 .left) (c .before .item-of .ensures ∙ rw (c .before .before .before .before .before .word-at .ensures)))
-      ∙ c .before .before .before .before .before .before .items .inv .2),
-)
+loop-holds c =
+    let s = c .before .before .before .before .before .before .before .before .before in
+    let items = c .before .before .before .before .before .before .items in
+    let word-at = c .before .before .before .before .before .word-at in
+    let fault-head = c .before .before .before .before .fault-head in
+    let p = c .before .before .before .before in
+    let if2 = c .before .before .before .if2 in
+    let started-of = c .before .before .started-of in (
+      omega arith,
+      record { within = omega (arith, head-here (s .args .ws .now) (items .sources) (items .n) (items .at) (fault-head .result) (head p) (if2 .left)); few = items .inv .1 .few },
+      omega (arith, c .terms-of .ensures),
+      rw (c .terms-of .ensures, started-of .ensures, word-at .ensures)
+          (sym (head-gone (s .args .ws .now) (items .sources) (items .n) (items .at) (fault-head .result) (head p) (c .before .item-of .result) (if2 .left) (c .before .item-of .ensures ∙ rw (word-at .ensures)))
+          ∙ items .inv .2),
+    )
 
 read-term-requires : tie.Need-read-term-requires Inv-loop μ-loop Inv-items μ-items
 read-term-requires c κs = search needs
@@ -120,11 +132,16 @@ items-less : tie.Need-items-less Inv-loop μ-loop Inv-items μ-items
 items-less c = search needs
 
 items-again : tie.Need-items-again Inv-loop μ-loop Inv-items μ-items
-items-again c = (
-  omega (arith, c .before .before .before .before .before .before .before .started-of .ensures, started-few (c .before .before .before .before .before .before .before .before .before .before .word-at .result), c .before .before .before .before .before .before .before .before .before .before .before .items .inv .0, c .before .before .before .before .loop .inv .0, c .before .before .read-rest .ensures .on),
-  record { within = c .before .before .read-rest .ensures .inside; few = c .before .before .before .before .loop .inv .1 .few },
-  rw (c .sources-after .ensures) (let z : c .before .before .before .before .loop .left ≡ 0 = omega (arith, c .before .before .before .loop-test .left) in sym (gone (c .before .before .read-rest .ensures) (c .before .if4 .left)) ∙ rw z at (c .before .before .before .before .loop .inv .3)),
-)
+items-again c =
+    let items = c .before .before .before .before .before .before .before .before .before .before .before .items in
+    let word-at = c .before .before .before .before .before .before .before .before .before .before .word-at in
+    let started-of = c .before .before .before .before .before .before .before .started-of in
+    let loop = c .before .before .before .before .loop in
+    let read-rest = c .before .before .read-rest in (
+      omega (arith, started-of .ensures, started-few (word-at .result), items .inv .0, loop .inv .0, read-rest .ensures .on),
+      record { within = read-rest .ensures .inside; few = loop .inv .1 .few },
+      rw (c .sources-after .ensures) (let z : loop .left ≡ 0 = omega (arith, c .before .before .before .loop-test .left) in sym (gone (read-rest .ensures) (c .before .if4 .left)) ∙ rw z at (loop .inv .3)),
+    )
 
 refusal-at-requires : tie.Need-refusal-at-requires Inv-loop μ-loop Inv-items μ-items
 refusal-at-requires c κs = search needs

@@ -53,7 +53,11 @@ keeps-requires c κs = search needs
 
 returns : tie.Need-returns Inv-loop μ-loop
 unfolding verdict
-returns c = break-one (c .before .before .before .before .before .before .before .before .loop .inv) (c .before .before .before .before .before .before .before .loop-test .taken) (sym (c .before .before .before .before .before .starts-variable .ensures) ∙ c .before .before .before .before .if1 .taken) (said (c .before) ∙ not-true _ (c .if2 .taken))
+returns c =
+    let loop = c .before .before .before .before .before .before .before .before .loop in
+    let starts-variable = c .before .before .before .before .before .starts-variable in
+    let if1 = c .before .before .before .before .if1 in
+    break-one (loop .inv) (c .before .before .before .before .before .before .before .loop-test .taken) (sym (starts-variable .ensures) ∙ if1 .taken) (said (c .before) ∙ not-true _ (c .if2 .taken))
 
 add-x : tie.Need-add-x Inv-loop μ-loop
 add-x c = search needs
@@ -62,7 +66,11 @@ loop-less : tie.Need-loop-less Inv-loop μ-loop
 loop-less c = search needs
 
 loop-again : tie.Need-loop-again Inv-loop μ-loop
-loop-again c = keep-one (c .before .before .before .before .before .before .before .before .loop .inv) (c .before .before .before .before .before .before .before .loop-test .taken) (sym (c .before .before .before .before .before .starts-variable .ensures) ∙ c .before .before .before .before .if1 .taken) (said (c .before) ∙ not-false _ (c .if2 .left))
+loop-again c =
+    let loop = c .before .before .before .before .before .before .before .before .loop in
+    let starts-variable = c .before .before .before .before .before .starts-variable in
+    let if1 = c .before .before .before .before .if1 in
+    keep-one (loop .inv) (c .before .before .before .before .before .before .before .loop-test .taken) (sym (starts-variable .ensures) ∙ if1 .taken) (said (c .before) ∙ not-false _ (c .if2 .left))
 
 loop-less-2 : tie.Need-loop-less-2 Inv-loop μ-loop
 loop-less-2 c = search needs

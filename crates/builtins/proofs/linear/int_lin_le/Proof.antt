@@ -20,7 +20,10 @@ at-most-requires c κs = search needs
 
 returns : tie.Need-returns
 unfolding meaning
-returns c = c .at-most .ensures ∙ rw (read (c .before .before .before .sum-of .ok) (c .before .before .before .sum-of .ensures), read (c .before .num-at .ok) (c .before .num-at .ensures), c .before .before .past-terms-at .ensures)
+returns c =
+    let sum-of = c .before .before .before .sum-of in
+    let past-terms-at = c .before .before .past-terms-at in
+    c .at-most .ensures ∙ rw (read (sum-of .ok) (sum-of .ensures), read (c .before .num-at .ok) (c .before .num-at .ensures), past-terms-at .ensures)
 
 pub int-lin-le-spec : {M : Type 1} → statement M
 int-lin-le-spec =

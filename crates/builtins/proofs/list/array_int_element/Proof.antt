@@ -14,7 +14,9 @@ index-of-requires : tie.Need-index-of-requires
 index-of-requires c κs = search needs
 
 add-num-at : tie.Need-add-num-at
-add-num-at c = omega (arith, index-le (size (c .before .before .before .args .args .now) 1) (value (c .before .before .before .args .values .now) (var (c .before .before .before .args .args .now) 0)), size-le (c .before .before .before .args .args .now) 1)
+add-num-at c =
+    let s = c .before .before .before in
+    omega (arith, index-le (size (s .args .args .now) 1) (value (s .args .values .now) (var (s .args .args .now) 0)), size-le (s .args .args .now) 1)
 
 num-at-requires : tie.Need-num-at-requires
 num-at-requires c κs = search needs
@@ -31,8 +33,13 @@ equal-requires c κs = search needs
 returns : tie.Need-returns
 unfolding meaning nums
 returns c =
-    c .equal .ensures ∙ rw (read (c .before .before .before .num-at .ok) (c .before .before .before .num-at .ensures), read (c .before .value-of .ok) (c .before .value-of .ensures), c .before .before .past-at .ensures)
-    (inside (num (c .before .before .before .before .before .before .before .args .args .now)) _ _ _ _ (c .before .before .before .before .before .index-of .ensures) (c .before .before .before .before .if1 .taken))
+    let s = c .before .before .before .before .before .before .before in
+    let index-of = c .before .before .before .before .before .index-of in
+    let if1 = c .before .before .before .before .if1 in
+    let num-at = c .before .before .before .num-at in
+    let past-at = c .before .before .past-at in
+    c .equal .ensures ∙ rw (read (num-at .ok) (num-at .ensures), read (c .before .value-of .ok) (c .before .value-of .ensures), past-at .ensures)
+    (inside (num (s .args .args .now)) _ _ _ _ (index-of .ensures) (if1 .taken))
 
 returns-2 : tie.Need-returns-2
 unfolding meaning nums

@@ -21,7 +21,10 @@ both-requires c κs = search needs
 
 returns : tie.Need-returns
 unfolding meaning maximum
-returns c = c .both .ensures ∙ rw (c .before .before .any-equal .ensures, c .before .none-above .ensures, read (c .before .before .before .value-of .ok) (c .before .before .before .value-of .ensures), any-map, all-map)
+returns c =
+    let value-of = c .before .before .before .value-of in
+    let any-equal = c .before .before .any-equal in
+    c .both .ensures ∙ rw (any-equal .ensures, c .before .none-above .ensures, read (value-of .ok) (value-of .ensures), any-map, all-map)
 
 pub array-int-maximum-spec : {M : Type 1} → statement M
 array-int-maximum-spec =

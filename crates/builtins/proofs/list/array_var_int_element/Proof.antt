@@ -15,7 +15,9 @@ index-of-requires : tie.Need-index-of-requires
 index-of-requires c κs = search needs
 
 add-value-of : tie.Need-add-value-of
-add-value-of c = omega (arith, index-le (size (c .before .before .before .args .args .now) 1) (value (c .before .before .before .args .values .now) (var (c .before .before .before .args .args .now) 0)), size-le (c .before .before .before .args .args .now) 1)
+add-value-of c =
+    let s = c .before .before .before in
+    omega (arith, index-le (size (s .args .args .now) 1) (value (s .args .values .now) (var (s .args .args .now) 0)), size-le (s .args .args .now) 1)
 
 value-of-requires : tie.Need-value-of-requires
 value-of-requires c κs = search needs
@@ -32,12 +34,19 @@ equal-requires c κs = search needs
 returns : tie.Need-returns
 unfolding meaning vars
 returns c =
-    c .equal .ensures ∙ rw (read (c .before .before .before .value-of .ok) (c .before .before .before .value-of .ensures), read (c .before .value-of2 .ok) (c .before .value-of2 .ensures), c .before .before .past-at .ensures, map-listOf)
-    (inside (λ k. value (c .before .before .before .before .before .before .before .args .values .now) (var (c .before .before .before .before .before .before .before .args .args .now) k)) _ _ _ _ (c .before .before .before .before .before .index-of .ensures) (c .before .before .before .before .if1 .taken))
+    let s = c .before .before .before .before .before .before .before in
+    let index-of = c .before .before .before .before .before .index-of in
+    let if1 = c .before .before .before .before .if1 in
+    let value-of = c .before .before .before .value-of in
+    let past-at = c .before .before .past-at in
+    c .equal .ensures ∙ rw (read (value-of .ok) (value-of .ensures), read (c .before .value-of2 .ok) (c .before .value-of2 .ensures), past-at .ensures, map-listOf)
+    (inside (λ k. value (s .args .values .now) (var (s .args .args .now) k)) _ _ _ _ (index-of .ensures) (if1 .taken))
 
 returns-2 : tie.Need-returns-2
 unfolding meaning vars
-returns-2 c = rw map-listOf (outside (λ k. value (c .before .before .before .args .values .now) (var (c .before .before .before .args .args .now) k)) _ _ _ _ (c .before .index-of .ensures) (c .if1 .left))
+returns-2 c =
+    let s = c .before .before .before in
+    rw map-listOf (outside (λ k. value (s .args .values .now) (var (s .args .args .now) k)) _ _ _ _ (c .before .index-of .ensures) (c .if1 .left))
 
 pub array-var-int-element-spec : {M : Type 1} → statement M
 array-var-int-element-spec =

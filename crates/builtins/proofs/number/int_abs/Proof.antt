@@ -26,7 +26,11 @@ equal-requires c κs = search needs
 
 returns : tie.Need-returns
 unfolding meaning
-returns c = c .equal .ensures ∙ rw (read (c .before .before .largest .ok) (c .before .before .largest .ensures), read (c .before .before .before .opposite .ok) (c .before .before .before .opposite .ensures), read (c .before .before .before .before .value-of .ok) (c .before .before .before .before .value-of .ensures), read (c .before .value-of2 .ok) (c .before .value-of2 .ensures), abs-max)
+returns c =
+    let value-of = c .before .before .before .before .value-of in
+    let opposite = c .before .before .before .opposite in
+    let largest = c .before .before .largest in
+    c .equal .ensures ∙ rw (read (largest .ok) (largest .ensures), read (opposite .ok) (opposite .ensures), read (value-of .ok) (value-of .ensures), read (c .before .value-of2 .ok) (c .before .value-of2 .ensures), abs-max)
 
 pub int-abs-spec : {M : Type 1} → statement M
 int-abs-spec =

@@ -23,7 +23,11 @@ equal-requires c κs = search needs
 
 returns : tie.Need-returns
 unfolding meaning
-returns c = c .equal .ensures ∙ rw (read (c .before .before .largest .ok) (c .before .before .largest .ensures), read (c .before .before .before .before .value-of .ok) (c .before .before .before .before .value-of .ensures), read (c .before .before .before .value-of2 .ok) (c .before .before .before .value-of2 .ensures), read (c .before .value-of3 .ok) (c .before .value-of3 .ensures))
+returns c =
+    let value-of = c .before .before .before .before .value-of in
+    let value-of2 = c .before .before .before .value-of2 in
+    let largest = c .before .before .largest in
+    c .equal .ensures ∙ rw (read (largest .ok) (largest .ensures), read (value-of .ok) (value-of .ensures), read (value-of2 .ok) (value-of2 .ensures), read (c .before .value-of3 .ok) (c .before .value-of3 .ensures))
 
 pub int-max-spec : {M : Type 1} → statement M
 int-max-spec =

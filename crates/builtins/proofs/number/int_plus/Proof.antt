@@ -15,7 +15,9 @@ value-of-requires-2 : tie.Need-value-of-requires-2
 value-of-requires-2 c κs = search needs
 
 plus-requires : tie.Need-plus-requires
-plus-requires c κs = rw (read (c .before .value-of .ok) (c .before .value-of .ensures), read (c .value-of2 .ok) (c .value-of2 .ensures)) (omega (arith, c .before .before .before .pre (var (c .before .before .before .args .args .now) 0), c .before .before .before .pre (var (c .before .before .before .args .args .now) 1)))
+plus-requires c κs =
+    let s = c .before .before .before in
+    rw (read (c .before .value-of .ok) (c .before .value-of .ensures), read (c .value-of2 .ok) (c .value-of2 .ensures)) (omega (arith, s .pre (var (s .args .args .now) 0), s .pre (var (s .args .args .now) 1)))
 
 value-of-requires-3 : tie.Need-value-of-requires-3
 value-of-requires-3 c κs = search needs
@@ -25,7 +27,11 @@ equal-requires c κs = search needs
 
 returns : tie.Need-returns
 unfolding meaning
-returns c = c .equal .ensures ∙ rw (read (c .before .before .plus .ok) (c .before .before .plus .ensures), read (c .before .before .before .before .value-of .ok) (c .before .before .before .before .value-of .ensures), read (c .before .before .before .value-of2 .ok) (c .before .before .before .value-of2 .ensures), read (c .before .value-of3 .ok) (c .before .value-of3 .ensures))
+returns c =
+    let value-of = c .before .before .before .before .value-of in
+    let value-of2 = c .before .before .before .value-of2 in
+    let plus = c .before .before .plus in
+    c .equal .ensures ∙ rw (read (plus .ok) (plus .ensures), read (value-of .ok) (value-of .ensures), read (value-of2 .ok) (value-of2 .ensures), read (c .before .value-of3 .ok) (c .before .value-of3 .ensures))
 
 pub int-plus-spec : {M : Type 1} → statement M
 int-plus-spec =

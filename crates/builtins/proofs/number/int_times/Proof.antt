@@ -16,7 +16,9 @@ value-of-requires-2 : tie.Need-value-of-requires-2
 value-of-requires-2 c κs = search needs
 
 times-requires : tie.Need-times-requires
-times-requires c κs = rw (read (c .before .value-of .ok) (c .before .value-of .ensures), read (c .value-of2 .ok) (c .value-of2 .ensures)) (omega (arith, mul-le (c .before .before .before .pre (var (c .before .before .before .args .args .now) 0)) (c .before .before .before .pre (var (c .before .before .before .args .args .now) 1))))
+times-requires c κs =
+    let s = c .before .before .before in
+    rw (read (c .before .value-of .ok) (c .before .value-of .ensures), read (c .value-of2 .ok) (c .value-of2 .ensures)) (omega (arith, mul-le (s .pre (var (s .args .args .now) 0)) (s .pre (var (s .args .args .now) 1))))
 
 value-of-requires-3 : tie.Need-value-of-requires-3
 value-of-requires-3 c κs = search needs
@@ -26,7 +28,11 @@ equal-requires c κs = search needs
 
 returns : tie.Need-returns
 unfolding meaning
-returns c = c .equal .ensures ∙ rw (read (c .before .before .times .ok) (c .before .before .times .ensures), read (c .before .before .before .before .value-of .ok) (c .before .before .before .before .value-of .ensures), read (c .before .before .before .value-of2 .ok) (c .before .before .before .value-of2 .ensures), read (c .before .value-of3 .ok) (c .before .value-of3 .ensures))
+returns c =
+    let value-of = c .before .before .before .before .value-of in
+    let value-of2 = c .before .before .before .value-of2 in
+    let times = c .before .before .times in
+    c .equal .ensures ∙ rw (read (times .ok) (times .ensures), read (value-of .ok) (value-of .ensures), read (value-of2 .ok) (value-of2 .ensures), read (c .before .value-of3 .ok) (c .before .value-of3 .ensures))
 
 pub int-times-spec : {M : Type 1} → statement M
 int-times-spec =

@@ -37,9 +37,11 @@ count-of-requires c κs = search needs
 
 add-lay-term : tie.Need-add-lay-term Inv-loop μ-loop
 add-lay-term c =
-    let at-loop = c .before .before .before .before .before in
+    let p = c .before .before .before .before .before in
+    let bound-at = c .before .before .bound-at in
+    let at-loop = p in
     let start = at-loop .before .before in
-    let m = rw (read (c .before .minus .ok) (c .before .minus .ensures), read (c .before .before .bound-at .ok) (c .before .before .bound-at .ensures), toZ-ofZ (start .fits .from)) at (c .count-of .ensures) in
+    let m = rw (read (c .before .minus .ok) (c .before .minus .ensures), read (bound-at .ok) (bound-at .ensures), toZ-ofZ (start .fits .from)) at (c .count-of .ensures) in
     omega (arith, m, count-le ((getD (start .args .vs .now) (at-loop .loop .k) +0) ⊖ start .args .from), minus-size (getD (start .args .vs .now) (at-loop .loop .k) +0) (start .args .from), start .pre .4 (at-loop .loop .k))
 
 lay-term-requires : tie.Need-lay-term-requires Inv-loop μ-loop
@@ -53,11 +55,14 @@ loop-less c = search needs
 
 loop-again : tie.Need-loop-again Inv-loop μ-loop
 loop-again c =
-    let at-minus = c .before .before .before .before in
+    let p = c .before .before .before .before in
+    let count-of = c .before .before .before .count-of in
+    let lay-term = c .before .before .lay-term in
+    let at-minus = p in
     let at-bound-at = at-minus .before in
     let at-loop-test = at-bound-at .before .before in
     let at-loop = at-loop-test .before in
-    more (at-loop-test .loop-test .taken) (at-loop .loop .inv) (rw (c .before .before .before .count-of .ensures, read (at-minus .minus .ok) (at-minus .minus .ensures), read (at-bound-at .bound-at .ok) (at-bound-at .bound-at .ensures)) at (c .before .before .lay-term .ensures))
+    more (at-loop-test .loop-test .taken) (at-loop .loop .inv) (rw (count-of .ensures, read (at-minus .minus .ok) (at-minus .minus .ensures), read (at-bound-at .bound-at .ok) (at-bound-at .bound-at .ensures)) at (lay-term .ensures))
 
 same-length : tie.Need-same-length Inv-loop μ-loop
 same-length c = went-length (c .before .loop .inv .went)

@@ -37,9 +37,12 @@ loop-less c = search needs
 
 loop-again : tie.Need-loop-again Inv-loop μ-loop
 loop-again c =
-    let at-loop-test = c .before .before .before .before .before in
+    let p = c .before .before .before .before .before in
+    let num-at = c .before .before .before .num-at in
+    let lay-term = c .before .before .lay-term in
+    let at-loop-test = p in
     let at-loop = at-loop-test .before in
-    more (at-loop-test .loop-test .taken) (at-loop .loop .inv) (rw (read (c .before .before .before .num-at .ok) (c .before .before .before .num-at .ensures)) at (c .before .before .lay-term .ensures))
+    more (at-loop-test .loop-test .taken) (at-loop .loop .inv) (rw (read (num-at .ok) (num-at .ensures)) at (lay-term .ensures))
 
 same-length : tie.Need-same-length Inv-loop μ-loop
 same-length c = went-length (c .before .loop .inv .went)

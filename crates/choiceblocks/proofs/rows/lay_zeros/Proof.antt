@@ -46,11 +46,12 @@ loop-less c = search needs
 
 loop-again : tie.Need-loop-again Inv-loop μ-loop
 loop-again c =
+    let lay-bound = c .before .before .lay-bound in
     let l = c .before .before .before .before .before .before .before .before .before in
     let z = c .before .before .before .before in
     let b = z .before .before in
     more (l .loop-test .taken) (l .before .loop .inv)
-    (simp (read (z .zero-upper .ok) (z .zero-upper .ensures), read (z .before .zero-lower .ok) (z .before .zero-lower .ensures), read (b .bound-at2 .ok) (b .bound-at2 .ensures), read (b .before .bound-at .ok) (b .before .bound-at .ensures), b .before .before .var-at .ensures) at (c .before .before .lay-bound .ensures))
+    (simp (read (z .zero-upper .ok) (z .zero-upper .ensures), read (z .before .zero-lower .ok) (z .before .zero-lower .ensures), read (b .bound-at2 .ok) (b .bound-at2 .ensures), read (b .before .bound-at .ok) (b .before .bound-at .ensures), b .before .before .var-at .ensures) at (lay-bound .ensures))
 
 same-length : tie.Need-same-length Inv-loop μ-loop
 same-length c = went-length (c .before .loop .inv .went)

@@ -44,14 +44,24 @@ same-length c = search needs
 
 returns : tie.Need-returns
 unfolding builtin builtins
-returns c = let e : c .before .before .before .before .before .before .before .before .before .args .code ≡ 0 = c .before .before .before .before .match .keys1 in let w = c .before .before .int-eq .ensures in rw e (w .0 _ (c .before .before .before .before .before .before .before .before .before .args .first), w .1)
+returns c =
+    let s = c .before .before .before .before .before .before .before .before .before in
+    let match = c .before .before .before .before .match in
+    let int-eq = c .before .before .int-eq in
+    let e : s .args .code ≡ 0 = match .keys1 in let w = int-eq .ensures in rw e (w .0 _ (s .args .first), w .1)
 
 same-length-2 : tie.Need-same-length-2
 same-length-2 c = search needs
 
 returns-2 : tie.Need-returns-2
 unfolding builtin builtins
-returns-2 c = let e : c .before .before .before .before .before .before .before .before .before .args .code ≡ 1 = c .before .before .before .before .match .keys2 in let w = rw (c .before .before .before .before .before .before .var-at .ensures, c .before .before .before .before .before .var-at2 .ensures) at (c .before .before .int-eq2 .ensures) in rw e (w .0 _ (c .before .before .before .before .before .before .before .before .before .args .first), w .1)
+returns-2 c =
+    let s = c .before .before .before .before .before .before .before .before .before in
+    let var-at = c .before .before .before .before .before .before .var-at in
+    let var-at2 = c .before .before .before .before .before .var-at2 in
+    let match = c .before .before .before .before .match in
+    let int-eq2 = c .before .before .int-eq2 in
+    let e : s .args .code ≡ 1 = match .keys2 in let w = rw (var-at .ensures, var-at2 .ensures) at (int-eq2 .ensures) in rw e (w .0 _ (s .args .first), w .1)
 
 same-length-3 : tie.Need-same-length-3
 same-length-3 c = search needs
@@ -78,14 +88,27 @@ same-length-5 c = search needs
 
 returns-5 : tie.Need-returns-5
 unfolding builtin builtins
-returns-5 c = let e : c .before .before .before .before .before .before .before .before .before .args .code ≡ 4 = c .before .before .before .before .match .keys5 in rw e (rw (c .before .before .before .before .before .before .var-at .ensures, c .before .before .before .before .before .var-at2 .ensures) at (c .before .before .int-ne .ensures))
+returns-5 c =
+    let s = c .before .before .before .before .before .before .before .before .before in
+    let var-at = c .before .before .before .before .before .before .var-at in
+    let var-at2 = c .before .before .before .before .before .var-at2 in
+    let match = c .before .before .before .before .match in
+    let int-ne = c .before .before .int-ne in
+    let e : s .args .code ≡ 4 = match .keys5 in rw e (rw (var-at .ensures, var-at2 .ensures) at (int-ne .ensures))
 
 same-length-6 : tie.Need-same-length-6
 same-length-6 c = search needs
 
 returns-6 : tie.Need-returns-6
 unfolding builtin builtins
-returns-6 c = let e : c .before .before .before .before .before .before .before .before .before .before .args .code ≡ 5 = omega arith in rw e (rw (c .before .before .before .before .before .before .before .var-at .ensures, c .before .before .before .before .before .before .var-at2 .ensures, c .before .before .before .var-at3 .ensures) at (c .before .before .int-le-reif .ensures))
+returns-6 c =
+    let e : c .before .before .before .before .before .before .before .before .before .before .args .code ≡ 5 = omega arith in
+    let s = c .before .before .before .before .before .before .before .before .before .before in
+    let var-at = c .before .before .before .before .before .before .before .var-at in
+    let var-at2 = c .before .before .before .before .before .before .var-at2 in
+    let var-at3 = c .before .before .before .var-at3 in
+    let int-le-reif = c .before .before .int-le-reif in
+    rw e (rw (var-at .ensures, var-at2 .ensures, var-at3 .ensures) at (int-le-reif .ensures))
 
 pub block-spec : {M : Type 1} → statement M
 block-spec =

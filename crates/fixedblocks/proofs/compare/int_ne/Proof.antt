@@ -26,8 +26,12 @@ same-length c = search needs
 returns : tie.Need-returns
 unfolding rule notEqual blockParts boundParts flatMap rowParts termParts numbered rowOf many
 returns c =
-    let w = then 10 4000 (c .before .before .before .before .before .before .before .before .before .before .lay-bound .ensures) (then 2000 2000 (c .before .before .before .before .before .before .below-unless .ensures) (c .before .before .below-if .ensures)) in
-    rw (add-zero (c .before .before .before .before .before .before .before .before .before .before .before .before .before .args .first)) (w .0, omega (arith, w .1))
+    let s = c .before .before .before .before .before .before .before .before .before .before .before .before .before in
+    let lay-bound = c .before .before .before .before .before .before .before .before .before .before .lay-bound in
+    let below-unless = c .before .before .before .before .before .before .below-unless in
+    let below-if = c .before .before .below-if in
+    let w = then 10 4000 (lay-bound .ensures) (then 2000 2000 (below-unless .ensures) (below-if .ensures)) in
+    rw (add-zero (s .args .first)) (w .0, omega (arith, w .1))
 
 pub int-ne-spec : {M : Type 1} → statement M
 int-ne-spec =

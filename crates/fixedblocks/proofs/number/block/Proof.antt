@@ -38,8 +38,14 @@ same-length c = search needs
 returns : tie.Need-returns
 unfolding builtin builtins rule blockParts boundParts flatMap rowParts termParts numbered rowOf many
 returns c =
-    let e : c .before .before .before .before .before .before .before .before .before .before .args .code ≡ 6 = c .before .before .before .before .match .keys1 in
-    let w = rw (c .before .before .before .before .before .before .before .var-at .ensures, c .before .before .before .before .before .before .var-at2 .ensures, c .before .before .before .before .before .var-at3 .ensures) at (c .before .before .three-terms .ensures) in
+    let s = c .before .before .before .before .before .before .before .before .before .before in
+    let var-at = c .before .before .before .before .before .before .before .var-at in
+    let var-at2 = c .before .before .before .before .before .before .var-at2 in
+    let var-at3 = c .before .before .before .before .before .var-at3 in
+    let match = c .before .before .before .before .match in
+    let three-terms = c .before .before .three-terms in
+    let e : s .args .code ≡ 6 = match .keys1 in
+    let w = rw (var-at .ensures, var-at2 .ensures, var-at3 .ensures) at (three-terms .ensures) in
     rw e (w .0, omega (arith, w .1))
 
 same-length-2 : tie.Need-same-length-2
@@ -47,21 +53,41 @@ same-length-2 c = search needs
 
 returns-2 : tie.Need-returns-2
 unfolding builtin builtins
-returns-2 c = let e : c .before .before .before .before .before .before .before .before .before .before .args .code ≡ 7 = c .before .before .before .before .match .keys2 in rw e (rw (c .before .before .before .before .before .before .before .var-at .ensures, c .before .before .before .before .before .before .var-at2 .ensures, c .before .before .before .before .before .var-at3 .ensures) at (c .before .before .int-times .ensures))
+returns-2 c =
+    let s = c .before .before .before .before .before .before .before .before .before .before in
+    let var-at = c .before .before .before .before .before .before .before .var-at in
+    let var-at2 = c .before .before .before .before .before .before .var-at2 in
+    let var-at3 = c .before .before .before .before .before .var-at3 in
+    let match = c .before .before .before .before .match in
+    let int-times = c .before .before .int-times in
+    let e : s .args .code ≡ 7 = match .keys2 in rw e (rw (var-at .ensures, var-at2 .ensures, var-at3 .ensures) at (int-times .ensures))
 
 same-length-3 : tie.Need-same-length-3
 same-length-3 c = search needs
 
 returns-3 : tie.Need-returns-3
 unfolding builtin builtins
-returns-3 c = let e : c .before .before .before .before .before .before .before .before .before .before .args .code ≡ 8 = c .before .before .before .before .match .keys3 in rw e (rw (c .before .before .before .before .before .before .before .var-at .ensures, c .before .before .before .before .before .before .var-at2 .ensures) at (c .before .before .int-abs .ensures))
+returns-3 c =
+    let s = c .before .before .before .before .before .before .before .before .before .before in
+    let var-at = c .before .before .before .before .before .before .before .var-at in
+    let var-at2 = c .before .before .before .before .before .before .var-at2 in
+    let match = c .before .before .before .before .match in
+    let int-abs = c .before .before .int-abs in
+    let e : s .args .code ≡ 8 = match .keys3 in rw e (rw (var-at .ensures, var-at2 .ensures) at (int-abs .ensures))
 
 same-length-4 : tie.Need-same-length-4
 same-length-4 c = search needs
 
 returns-4 : tie.Need-returns-4
 unfolding builtin builtins
-returns-4 c = let e : c .before .before .before .before .before .before .before .before .before .before .args .code ≡ 9 = omega arith in rw e (rw (c .before .before .before .before .before .before .before .var-at .ensures, c .before .before .before .before .before .before .var-at2 .ensures, c .before .before .before .before .before .var-at3 .ensures) at (c .before .before .int-max .ensures))
+returns-4 c =
+    let e : c .before .before .before .before .before .before .before .before .before .before .args .code ≡ 9 = omega arith in
+    let s = c .before .before .before .before .before .before .before .before .before .before in
+    let var-at = c .before .before .before .before .before .before .before .var-at in
+    let var-at2 = c .before .before .before .before .before .before .var-at2 in
+    let var-at3 = c .before .before .before .before .before .var-at3 in
+    let int-max = c .before .before .int-max in
+    rw e (rw (var-at .ensures, var-at2 .ensures, var-at3 .ensures) at (int-max .ensures))
 
 pub block-spec : {M : Type 1} → statement M
 block-spec =

@@ -27,16 +27,34 @@ at-most-unless-requires : tie.Need-at-most-unless-requires
 at-most-unless-requires c κs = search needs
 
 at-most-if-requires : tie.Need-at-most-if-requires
-at-most-if-requires c κs = (omega (arith, c .before .before .before .before .before .before .before .before .before .before .before .before .before .before .before .before .before .before .pre .0, c .before .before .before .before .before .before .before .before .before .before .before .before .before .before .before .lay-bound .ensures .1, c .before .before .before .before .before .before .before .before .before .before .before .two-terms .ensures .1, c .before .before .before .before .before .before .before .two-terms2 .ensures .1, c .before .before .before .at-most-unless .ensures .1), c .before .before .before .before .before .before .before .before .before .before .before .before .before .before .before .before .before .before .pre .1, c .before .before .before .before .before .before .before .before .before .before .before .before .before .before .before .before .before .before .pre .2)
+at-most-if-requires c κs =
+    let s = c .before .before .before .before .before .before .before .before .before .before .before .before .before .before .before .before .before .before in
+    let lay-bound = c .before .before .before .before .before .before .before .before .before .before .before .before .before .before .before .lay-bound in
+    let two-terms = c .before .before .before .before .before .before .before .before .before .before .before .two-terms in
+    let two-terms2 = c .before .before .before .before .before .before .before .two-terms2 in
+    let at-most-unless = c .before .before .before .at-most-unless in
+    (omega (arith, s .pre .0, lay-bound .ensures .1, two-terms .ensures .1, two-terms2 .ensures .1, at-most-unless .ensures .1), s .pre .1, s .pre .2)
 
 same-length : tie.Need-same-length
-same-length c = went-length (c .before .before .at-most-if .ensures .0) ∙ went-length (c .before .before .before .before .before .before .at-most-unless .ensures .0) ∙ went-length (c .before .before .before .before .before .before .before .before .before .before .two-terms2 .ensures .0) ∙ went-length (c .before .before .before .before .before .before .before .before .before .before .before .before .before .before .two-terms .ensures .0) ∙ went-length (c .before .before .before .before .before .before .before .before .before .before .before .before .before .before .before .before .before .before .lay-bound .ensures .0)
+same-length c =
+    let lay-bound = c .before .before .before .before .before .before .before .before .before .before .before .before .before .before .before .before .before .before .lay-bound in
+    let two-terms = c .before .before .before .before .before .before .before .before .before .before .before .before .before .before .two-terms in
+    let two-terms2 = c .before .before .before .before .before .before .before .before .before .before .two-terms2 in
+    let at-most-unless = c .before .before .before .before .before .before .at-most-unless in
+    let at-most-if = c .before .before .at-most-if in
+    went-length (at-most-if .ensures .0) ∙ went-length (at-most-unless .ensures .0) ∙ went-length (two-terms2 .ensures .0) ∙ went-length (two-terms .ensures .0) ∙ went-length (lay-bound .ensures .0)
 
 returns : tie.Need-returns
 unfolding rule larger _─_≤0 blockParts boundParts flatMap rowParts termParts numbered rowOf many
 returns c =
-    let w = then 10 8000 (c .before .before .before .before .before .before .before .before .before .before .before .before .before .before .before .before .before .before .lay-bound .ensures) (then 2000 6000 (c .before .before .before .before .before .before .before .before .before .before .before .before .before .before .two-terms .ensures) (then 2000 4000 (c .before .before .before .before .before .before .before .before .before .before .two-terms2 .ensures) (then 2000 2000 (c .before .before .before .before .before .before .at-most-unless .ensures) (c .before .before .at-most-if .ensures)))) in
-    rw (add-zero (c .before .before .before .before .before .before .before .before .before .before .before .before .before .before .before .before .before .before .before .before .before .args .first)) (w .0, omega (arith, w .1))
+    let s = c .before .before .before .before .before .before .before .before .before .before .before .before .before .before .before .before .before .before .before .before .before in
+    let lay-bound = c .before .before .before .before .before .before .before .before .before .before .before .before .before .before .before .before .before .before .lay-bound in
+    let two-terms = c .before .before .before .before .before .before .before .before .before .before .before .before .before .before .two-terms in
+    let two-terms2 = c .before .before .before .before .before .before .before .before .before .before .two-terms2 in
+    let at-most-unless = c .before .before .before .before .before .before .at-most-unless in
+    let at-most-if = c .before .before .at-most-if in
+    let w = then 10 8000 (lay-bound .ensures) (then 2000 6000 (two-terms .ensures) (then 2000 4000 (two-terms2 .ensures) (then 2000 2000 (at-most-unless .ensures) (at-most-if .ensures)))) in
+    rw (add-zero (s .args .first)) (w .0, omega (arith, w .1))
 
 pub int-max-spec : {M : Type 1} → statement M
 int-max-spec =

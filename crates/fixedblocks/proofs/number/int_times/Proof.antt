@@ -34,9 +34,15 @@ same-length c = search needs
 returns : tie.Need-returns
 unfolding rule _─_=0 blockParts boundParts flatMap rowParts termParts numbered rowOf many
 returns c =
-    let v = rw (back (c .before .before .before .before .before .before .before .before .before .before .before .before .before .end-product .result) (c .before .before .before .before .before .before .before .before .before .before .before .before .before .end-product .ok), c .before .before .before .before .before .before .before .before .before .before .before .before .before .end-product .ensures, back (c .before .before .before .before .before .before .before .before .before .before .before .before .end-product2 .result) (c .before .before .before .before .before .before .before .before .before .before .before .before .end-product2 .ok), c .before .before .before .before .before .before .before .before .before .before .before .before .end-product2 .ensures) at (c .before .before .before .before .before .before .before .before .before .before .lay-bound .ensures) in
-    let w = then 10 2010 v (then 10 2000 (c .before .before .before .before .before .before .lay-times .ensures) (c .before .before .two-terms .ensures)) in
-    rw (add-zero (c .before .before .before .before .before .before .before .before .before .before .before .before .before .before .before .args .first)) (w .0, omega (arith, w .1))
+    let s = c .before .before .before .before .before .before .before .before .before .before .before .before .before .before .before in
+    let end-product = c .before .before .before .before .before .before .before .before .before .before .before .before .before .end-product in
+    let end-product2 = c .before .before .before .before .before .before .before .before .before .before .before .before .end-product2 in
+    let lay-bound = c .before .before .before .before .before .before .before .before .before .before .lay-bound in
+    let lay-times = c .before .before .before .before .before .before .lay-times in
+    let two-terms = c .before .before .two-terms in
+    let v = rw (back (end-product .result) (end-product .ok), end-product .ensures, back (end-product2 .result) (end-product2 .ok), end-product2 .ensures) at (lay-bound .ensures) in
+    let w = then 10 2010 v (then 10 2000 (lay-times .ensures) (two-terms .ensures)) in
+    rw (add-zero (s .args .first)) (w .0, omega (arith, w .1))
 
 pub int-times-spec : {M : Type 1} → statement M
 int-times-spec =

@@ -23,7 +23,13 @@ same-length : tie.Need-same-length
 same-length c = search needs
 
 returns : tie.Need-returns
-returns c = rw (back (c .before .before .before .before .before .before .zero-lower .result) (c .before .before .before .before .before .before .zero-lower .ok), c .before .before .before .before .before .before .zero-lower .ensures, back (c .before .before .before .before .zero-upper .result) (c .before .before .before .before .zero-upper .ok), c .before .before .before .before .zero-upper .ensures, back (c .before .before .before .before .before .before .before .bound-at .result) (c .before .before .before .before .before .before .before .bound-at .ok), c .before .before .before .before .before .before .before .bound-at .ensures, back (c .before .before .before .before .before .bound-at2 .result) (c .before .before .before .before .before .bound-at2 .ok), c .before .before .before .before .before .bound-at2 .ensures) at (c .before .before .lay-bound .ensures)
+returns c =
+    let bound-at = c .before .before .before .before .before .before .before .bound-at in
+    let zero-lower = c .before .before .before .before .before .before .zero-lower in
+    let bound-at2 = c .before .before .before .before .before .bound-at2 in
+    let zero-upper = c .before .before .before .before .zero-upper in
+    let lay-bound = c .before .before .lay-bound in
+    rw (back (zero-lower .result) (zero-lower .ok), zero-lower .ensures, back (zero-upper .result) (zero-upper .ok), zero-upper .ensures, back (bound-at .result) (bound-at .ok), bound-at .ensures, back (bound-at2 .result) (bound-at2 .ok), bound-at2 .ensures) at (lay-bound .ensures)
 
 pub lay-zero-bound-spec : {M : Type 1} → statement M
 lay-zero-bound-spec =

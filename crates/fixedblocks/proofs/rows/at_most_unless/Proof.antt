@@ -10,7 +10,9 @@ gap-requires : tie.Need-gap-requires
 gap-requires c κs = search needs
 
 opposite-requires : tie.Need-opposite-requires
-opposite-requires c κs = rw (back (c .before .gap .result) (c .before .gap .ok), c .before .gap .ensures) (omega (arith, gap-size (c .before .before .before .args .ls .now) (c .before .before .before .args .us .now) (c .before .before .before .pre .1) (c .before .before .before .pre .2) (c .before .before .before .args .x) (c .before .before .before .args .y)))
+opposite-requires c κs =
+    let s = c .before .before .before in
+    rw (back (c .before .gap .result) (c .before .gap .ok), c .before .gap .ensures) (omega (arith, gap-size (s .args .ls .now) (s .args .us .now) (s .pre .1) (s .pre .2) (s .args .x) (s .args .y)))
 
 three-terms-requires : tie.Need-three-terms-requires
 three-terms-requires c κs = search needs
@@ -19,7 +21,11 @@ same-length : tie.Need-same-length
 same-length c = search needs
 
 returns : tie.Need-returns
-returns c = rw (back (c .before .before .before .opposite .result) (c .before .before .before .opposite .ok), c .before .before .before .opposite .ensures, back (c .before .before .before .before .before .gap .result) (c .before .before .before .before .before .gap .ok), c .before .before .before .before .before .gap .ensures) at (c .before .before .three-terms .ensures)
+returns c =
+    let gap = c .before .before .before .before .before .gap in
+    let opposite = c .before .before .before .opposite in
+    let three-terms = c .before .before .three-terms in
+    rw (back (opposite .result) (opposite .ok), opposite .ensures, back (gap .result) (gap .ok), gap .ensures) at (three-terms .ensures)
 
 pub at-most-unless-spec : {M : Type 1} → statement M
 at-most-unless-spec =

@@ -10,7 +10,9 @@ gap-plus-one-requires : tie.Need-gap-plus-one-requires
 gap-plus-one-requires c κs = search needs
 
 minus-requires : tie.Need-minus-requires
-minus-requires c κs = rw (back (c .before .gap-plus-one .result) (c .before .gap-plus-one .ok), c .before .gap-plus-one .ensures) (omega (arith, gap-plus-one-size (c .before .before .before .args .ls .now) (c .before .before .before .args .us .now) (c .before .before .before .pre .1) (c .before .before .before .pre .2) (c .before .before .before .args .x) (c .before .before .before .args .y)))
+minus-requires c κs =
+    let s = c .before .before .before in
+    rw (back (c .before .gap-plus-one .result) (c .before .gap-plus-one .ok), c .before .gap-plus-one .ensures) (omega (arith, gap-plus-one-size (s .args .ls .now) (s .args .us .now) (s .pre .1) (s .pre .2) (s .args .x) (s .args .y)))
 
 three-terms-requires : tie.Need-three-terms-requires
 three-terms-requires c κs = search needs
@@ -19,7 +21,11 @@ same-length : tie.Need-same-length
 same-length c = search needs
 
 returns : tie.Need-returns
-returns c = rw (back (c .before .before .before .minus .result) (c .before .before .before .minus .ok), c .before .before .before .minus .ensures, back (c .before .before .before .before .before .gap-plus-one .result) (c .before .before .before .before .before .gap-plus-one .ok), c .before .before .before .before .before .gap-plus-one .ensures) at (c .before .before .three-terms .ensures)
+returns c =
+    let gap-plus-one = c .before .before .before .before .before .gap-plus-one in
+    let minus = c .before .before .before .minus in
+    let three-terms = c .before .before .three-terms in
+    rw (back (minus .result) (minus .ok), minus .ensures, back (gap-plus-one .result) (gap-plus-one .ok), gap-plus-one .ensures) at (three-terms .ensures)
 
 pub below-if-spec : {M : Type 1} → statement M
 below-if-spec =

@@ -17,7 +17,10 @@ same-length : tie.Need-same-length
 same-length c = search needs
 
 returns : tie.Need-returns
-returns c = rw (toZ-ofZ (c .before .before .before .before .before .before .before .fits .q), toZ-ofZ (c .before .before .before .before .before .before .before .fits .p), toZ-ofZ (c .before .before .before .before .before .before .before .fits .c)) at (c .before .before .lay-row .ensures)
+returns c =
+    let s = c .before .before .before .before .before .before .before in
+    let lay-row = c .before .before .lay-row in
+    rw (toZ-ofZ (s .fits .q), toZ-ofZ (s .fits .p), toZ-ofZ (s .fits .c)) at (lay-row .ensures)
 
 pub three-terms-spec : {M : Type 1} → statement M
 three-terms-spec =

@@ -53,7 +53,11 @@ returns-4 c = rw (c .before .before .due .given .1) (c .of-upper .ensures)
 
 returns-5 : tie.Need-returns-5
 unfolding faultDue
-returns-5 c = rw (c .before .before .before .before .before .due2 .given .1, le-ltb _ _ (c .before .before .before .if1 .left), le-ltb _ _ (c .before .before .if2 .left), ← c .before .argument-of .ensures) (c .of-argument .ensures)
+returns-5 c =
+    let due2 = c .before .before .before .before .before .due2 in
+    let if1 = c .before .before .before .if1 in
+    let if2 = c .before .before .if2 in
+    rw (due2 .given .1, le-ltb _ _ (if1 .left), le-ltb _ _ (if2 .left), ← c .before .argument-of .ensures) (c .of-argument .ensures)
 
 returns-6 : tie.Need-returns-6
 unfolding faultDue

@@ -17,15 +17,29 @@ payload-of-requires c κs = search needs
 
 returns-2 : tie.Need-returns-2
 unfolding faultHead
-returns-2 c = rw (← c .before .before .before .before .kind-of .ensures, eq-eqb _ _ (c .before .before .before .if1 .taken), lt-leb _ _ (c .before .before .if2 .left), ← c .before .payload-of .ensures, eq-eqb _ _ (c .if3 .taken))
+returns-2 c =
+    let kind-of = c .before .before .before .before .kind-of in
+    let if1 = c .before .before .before .if1 in
+    let if2 = c .before .before .if2 in
+    rw (← kind-of .ensures, eq-eqb _ _ (if1 .taken), lt-leb _ _ (if2 .left), ← c .before .payload-of .ensures, eq-eqb _ _ (c .if3 .taken))
 
 returns-3 : tie.Need-returns-3
 unfolding faultHead
-returns-3 c = rw (← c .before .before .before .before .before .kind-of .ensures, eq-eqb _ _ (c .before .before .before .before .if1 .taken), lt-leb _ _ (c .before .before .before .if2 .left), ← c .before .before .payload-of .ensures, ne-eqb _ _ (c .before .if3 .left), lt-ltb _ _ (c .if4 .taken))
+returns-3 c =
+    let kind-of = c .before .before .before .before .before .kind-of in
+    let if1 = c .before .before .before .before .if1 in
+    let if2 = c .before .before .before .if2 in
+    let payload-of = c .before .before .payload-of in
+    rw (← kind-of .ensures, eq-eqb _ _ (if1 .taken), lt-leb _ _ (if2 .left), ← payload-of .ensures, ne-eqb _ _ (c .before .if3 .left), lt-ltb _ _ (c .if4 .taken))
 
 returns-4 : tie.Need-returns-4
 unfolding faultHead
-returns-4 c = rw (← c .before .before .before .before .before .kind-of .ensures, eq-eqb _ _ (c .before .before .before .before .if1 .taken), lt-leb _ _ (c .before .before .before .if2 .left), ← c .before .before .payload-of .ensures, ne-eqb _ _ (c .before .if3 .left), le-ltb _ _ (c .if4 .left))
+returns-4 c =
+    let kind-of = c .before .before .before .before .before .kind-of in
+    let if1 = c .before .before .before .before .if1 in
+    let if2 = c .before .before .before .if2 in
+    let payload-of = c .before .before .payload-of in
+    rw (← kind-of .ensures, eq-eqb _ _ (if1 .taken), lt-leb _ _ (if2 .left), ← payload-of .ensures, ne-eqb _ _ (c .before .if3 .left), le-ltb _ _ (c .if4 .left))
 
 of-payload-requires : tie.Need-of-payload-requires
 of-payload-requires c κs = search needs

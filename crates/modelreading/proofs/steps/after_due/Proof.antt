@@ -48,7 +48,12 @@ after-head-requires c κs = search needs
 
 returns-3 : tie.Need-returns-3
 unfolding afterDue
-returns-3 c = rw (c .before .before .before .before .before .before .due .given .1, le-ltb _ _ (c .before .before .before .before .if1 .left), le-ltb _ _ (c .before .before .before .if2 .left), ← c .before .before .argument-of .ensures, eq-eqb _ _ (c .before .if3 .taken)) (c .after-head .ensures)
+returns-3 c =
+    let due = c .before .before .before .before .before .before .due in
+    let if1 = c .before .before .before .before .if1 in
+    let if2 = c .before .before .before .if2 in
+    let argument-of = c .before .before .argument-of in
+    rw (due .given .1, le-ltb _ _ (if1 .left), le-ltb _ _ (if2 .left), ← argument-of .ensures, eq-eqb _ _ (c .before .if3 .taken)) (c .after-head .ensures)
 
 add-after-argument : tie.Need-add-after-argument
 add-after-argument c =
@@ -71,7 +76,12 @@ returns-5 c = rw (c .enum-told2 .given .1)
 
 returns-6 : tie.Need-returns-6
 unfolding afterDue
-returns-6 c = rw (c .before .before .before .before .before .before .due .given .1, le-ltb _ _ (c .before .before .before .before .if1 .left), le-ltb _ _ (c .before .before .before .if2 .left), ← c .before .before .argument-of .ensures, ne-eqb _ _ (c .before .if3 .left)) (c .after-argument .ensures)
+returns-6 c =
+    let due = c .before .before .before .before .before .before .due in
+    let if1 = c .before .before .before .before .if1 in
+    let if2 = c .before .before .before .if2 in
+    let argument-of = c .before .before .argument-of in
+    rw (due .given .1, le-ltb _ _ (if1 .left), le-ltb _ _ (if2 .left), ← argument-of .ensures, ne-eqb _ _ (c .before .if3 .left)) (c .after-argument .ensures)
 
 returns-7 : tie.Need-returns-7
 unfolding afterDue

@@ -20,14 +20,20 @@ variable-value-requires-3 : tie.Need-variable-value-requires-3
 variable-value-requires-3 c κs = search needs
 
 times-requires : tie.Need-times-requires
-times-requires c κs = rw (back (c .before .variable-value2 .result) (c .before .variable-value2 .ok), back (c .variable-value3 .result) (c .variable-value3 .ok), c .before .variable-value2 .ensures, c .variable-value3 .ensures) (let σ = value (c .before .before .before .before .args .values .now) in let f = variableAt (c .before .before .before .before .args .ws .now) 1 in let g = variableAt (c .before .before .before .before .args .ws .now) 2 in omega (arith, factors-fit (σ f) (σ g) (c .before .before .before .before .pre f) (c .before .before .before .before .pre g)))
+times-requires c κs =
+    let s = c .before .before .before .before in
+    rw (back (c .before .variable-value2 .result) (c .before .variable-value2 .ok), back (c .variable-value3 .result) (c .variable-value3 .ok), c .before .variable-value2 .ensures, c .variable-value3 .ensures) (let σ = value (s .args .values .now) in let f = variableAt (s .args .ws .now) 1 in let g = variableAt (s .args .ws .now) 2 in omega (arith, factors-fit (σ f) (σ g) (s .pre f) (s .pre g)))
 
 equal-requires : tie.Need-equal-requires
 equal-requires c κs = search needs
 
 returns : tie.Need-returns
 unfolding satisfied
-returns c = c .equal .ensures ∙ rw (back (c .before .before .before .before .variable-value .result) (c .before .before .before .before .variable-value .ok), back (c .before .times .result) (c .before .times .ok), c .before .times .ensures, back (c .before .before .before .variable-value2 .result) (c .before .before .before .variable-value2 .ok), back (c .before .before .variable-value3 .result) (c .before .before .variable-value3 .ok), c .before .before .before .before .variable-value .ensures, c .before .before .before .variable-value2 .ensures, c .before .before .variable-value3 .ensures)
+returns c =
+    let variable-value = c .before .before .before .before .variable-value in
+    let variable-value2 = c .before .before .before .variable-value2 in
+    let variable-value3 = c .before .before .variable-value3 in
+    c .equal .ensures ∙ rw (back (variable-value .result) (variable-value .ok), back (c .before .times .result) (c .before .times .ok), c .before .times .ensures, back (variable-value2 .result) (variable-value2 .ok), back (variable-value3 .result) (variable-value3 .ok), variable-value .ensures, variable-value2 .ensures, variable-value3 .ensures)
 
 pub is-product-spec : {M : Type 1} → statement M
 is-product-spec =

@@ -26,7 +26,10 @@ said : (c : tie.After-row-holds Inv-loop μ-loop) →
     let a = c .before .before .before .before .before .before .before .before .args in
     let at = c .before .before .before .before .before .before .loop .at in
     satisfied (value (a .values .now)) (rowOf (getD (a .ws .now) at 0) (drop (at + 1) (a .ws .now))) ≡ c .row-holds .result
-said c = sym (c .row-holds .ensures ∙ rw (tail-is (c .before .before .before .before .before .before .before .before .args .ws .now) (c .before .before .before .before .before .before .loop .at + 1)))
+said c =
+    let s = c .before .before .before .before .before .before .before .before in
+    let loop = c .before .before .before .before .before .before .loop in
+    sym (c .row-holds .ensures ∙ rw (tail-is (s .args .ws .now) (loop .at + 1)))
 
 loop-holds : tie.Need-loop-holds Inv-loop μ-loop
 loop-holds c = none-passed _ _
@@ -60,7 +63,12 @@ row-holds-requires c κs = search needs
 
 returns : tie.Need-returns Inv-loop μ-loop
 unfolding verdict
-returns c = fail-one (c .before .before .before .before .before .before .before .loop .inv) (starts-one (c .before .before .before .before .before .before .before .before .before .args .ws .now) (c .before .before .before .before .before .before .before .loop .at) (c .before .before .before .before .before .before .loop-test .taken) (sym (c .before .before .before .before .starts-row .ensures) ∙ c .before .before .before .if1 .taken)) (said (c .before) ∙ not-true _ (c .if2 .taken))
+returns c =
+    let s = c .before .before .before .before .before .before .before .before .before in
+    let loop = c .before .before .before .before .before .before .before .loop in
+    let starts-row = c .before .before .before .before .starts-row in
+    let if1 = c .before .before .before .if1 in
+    fail-one (loop .inv) (starts-one (s .args .ws .now) (loop .at) (c .before .before .before .before .before .before .loop-test .taken) (sym (starts-row .ensures) ∙ if1 .taken)) (said (c .before) ∙ not-true _ (c .if2 .taken))
 
 add-k : tie.Need-add-k Inv-loop μ-loop
 add-k c = search needs
@@ -69,13 +77,21 @@ loop-less : tie.Need-loop-less Inv-loop μ-loop
 loop-less c = search needs
 
 loop-again : tie.Need-loop-again Inv-loop μ-loop
-loop-again c = pass-one (c .before .before .before .before .before .before .before .loop .inv) (starts-one (c .before .before .before .before .before .before .before .before .before .args .ws .now) (c .before .before .before .before .before .before .before .loop .at) (c .before .before .before .before .before .before .loop-test .taken) (sym (c .before .before .before .before .starts-row .ensures) ∙ c .before .before .before .if1 .taken)) (said (c .before) ∙ not-false _ (c .if2 .left))
+loop-again c =
+    let s = c .before .before .before .before .before .before .before .before .before in
+    let loop = c .before .before .before .before .before .before .before .loop in
+    let starts-row = c .before .before .before .before .starts-row in
+    let if1 = c .before .before .before .if1 in
+    pass-one (loop .inv) (starts-one (s .args .ws .now) (loop .at) (c .before .before .before .before .before .before .loop-test .taken) (sym (starts-row .ensures) ∙ if1 .taken)) (said (c .before) ∙ not-false _ (c .if2 .left))
 
 loop-less-2 : tie.Need-loop-less-2 Inv-loop μ-loop
 loop-less-2 c = search needs
 
 loop-again-2 : tie.Need-loop-again-2 Inv-loop μ-loop
-loop-again-2 c = pass-none (c .before .before .before .before .loop .inv) (starts-none (c .before .before .before .before .before .before .args .ws .now) (c .before .before .before .before .loop .at) (c .before .before .before .loop-test .taken) (sym (c .before .starts-row .ensures) ∙ c .if1 .left))
+loop-again-2 c =
+    let s = c .before .before .before .before .before .before in
+    let loop = c .before .before .before .before .loop in
+    pass-none (loop .inv) (starts-none (s .args .ws .now) (loop .at) (c .before .before .before .loop-test .taken) (sym (c .before .starts-row .ensures) ∙ c .if1 .left))
 
 returns-2 : tie.Need-returns-2 Inv-loop μ-loop
 unfolding verdict

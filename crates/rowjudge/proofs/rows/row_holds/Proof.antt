@@ -28,7 +28,11 @@ adds-to-zero-requires c κs = (omega (arith, c .terms-of2 .ensures, count-few (c
 
 returns-2 : tie.Need-returns-2
 unfolding rowOf
-returns-2 c = rw (← c .before .before .before .before .kind-of .ensures, ne-eqb _ _ (c .before .before .before .if1 .left), eq-eqb _ _ (c .before .before .if2 .taken), ← c .before .terms-of2 .ensures) (c .adds-to-zero .ensures)
+returns-2 c =
+    let kind-of = c .before .before .before .before .kind-of in
+    let if1 = c .before .before .before .if1 in
+    let if2 = c .before .before .if2 in
+    rw (← kind-of .ensures, ne-eqb _ _ (if1 .left), eq-eqb _ _ (if2 .taken), ← c .before .terms-of2 .ensures) (c .adds-to-zero .ensures)
 
 is-product-requires : tie.Need-is-product-requires
 is-product-requires c κs = search needs

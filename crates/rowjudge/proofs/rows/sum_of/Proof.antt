@@ -34,7 +34,10 @@ term-at-requires : tie.Need-term-at-requires Inv-loop μ-loop
 term-at-requires c κs = search needs
 
 plus-requires : tie.Need-plus-requires Inv-loop μ-loop
-plus-requires c κs = rw (c .before .before .loop .inv .1, term (c)) (let ws = c .before .before .before .before .args .ws .now in let k = c .before .before .loop .k in let x = variableAt ws (2 * k) in omega (arith, sum-size ws (c .before .before .before .before .args .values .now) (c .before .before .before .before .pre .1) k, product-size (numberAt ws (2 * k + 1)) (value (c .before .before .before .before .args .values .now) x) (number-size ws (2 * k + 1)) (c .before .before .before .before .pre .1 x)))
+plus-requires c κs =
+    let s = c .before .before .before .before in
+    let loop = c .before .before .loop in
+    rw (loop .inv .1, term (c)) (let ws = s .args .ws .now in let k = loop .k in let x = variableAt ws (2 * k) in omega (arith, sum-size ws (s .args .values .now) (s .pre .1) k, product-size (numberAt ws (2 * k + 1)) (value (s .args .values .now) x) (number-size ws (2 * k + 1)) (s .pre .1 x)))
 
 add-k : tie.Need-add-k Inv-loop μ-loop
 add-k c = search needs
@@ -43,7 +46,10 @@ loop-less : tie.Need-loop-less Inv-loop μ-loop
 loop-less c = search needs
 
 loop-again : tie.Need-loop-again Inv-loop μ-loop
-loop-again c = (omega arith, back (c .plus .result) (c .plus .ok) ∙ c .plus .ensures ∙ rw (c .before .before .before .loop .inv .1, term (c .before)) (sym (one-more (c .before .before .before .before .before .args .ws .now) (c .before .before .before .before .before .args .values .now) (c .before .before .before .loop .k))))
+loop-again c =
+    let s = c .before .before .before .before .before in
+    let loop = c .before .before .before .loop in
+    (omega arith, back (c .plus .result) (c .plus .ok) ∙ c .plus .ensures ∙ rw (loop .inv .1, term (c .before)) (sym (one-more (s .args .ws .now) (s .args .values .now) (loop .k))))
 
 returns : tie.Need-returns Inv-loop μ-loop
 returns c = let e : c .before .loop .k ≡ c .before .before .before .args .n = omega arith in c .before .loop .inv .1 ∙ rw e

@@ -21,10 +21,14 @@ variable-value-requires : tie.Need-variable-value-requires
 variable-value-requires c κs = search needs
 
 times-requires : tie.Need-times-requires
-times-requires c κs = rw (back (c .before .number-at .result) (c .before .number-at .ok), back (c .variable-value .result) (c .variable-value .ok), c .before .number-at .ensures, c .variable-value .ensures) (let ws = c .before .before .before .args .ws .now in let x = variableAt ws (c .before .before .before .args .i) in omega (arith, factors-fit (numberAt ws (c .before .before .before .args .i + 1)) (value (c .before .before .before .args .values .now) x) (number-size ws (c .before .before .before .args .i + 1)) (c .before .before .before .pre .1 x)))
+times-requires c κs =
+    let s = c .before .before .before in
+    rw (back (c .before .number-at .result) (c .before .number-at .ok), back (c .variable-value .result) (c .variable-value .ok), c .before .number-at .ensures, c .variable-value .ensures) (let ws = s .args .ws .now in let x = variableAt ws (s .args .i) in omega (arith, factors-fit (numberAt ws (s .args .i + 1)) (value (s .args .values .now) x) (number-size ws (s .args .i + 1)) (s .pre .1 x)))
 
 returns : tie.Need-returns
-returns c = back (c .times .result) (c .times .ok) ∙ c .times .ensures ∙ rw (back (c .before .before .number-at .result) (c .before .before .number-at .ok), back (c .before .variable-value .result) (c .before .variable-value .ok), c .before .before .number-at .ensures, c .before .variable-value .ensures)
+returns c =
+    let number-at = c .before .before .number-at in
+    back (c .times .result) (c .times .ok) ∙ c .times .ensures ∙ rw (back (number-at .result) (number-at .ok), back (c .before .variable-value .result) (c .before .variable-value .ok), number-at .ensures, c .before .variable-value .ensures)
 
 pub term-at-spec : {M : Type 1} → statement M
 term-at-spec =

@@ -19,11 +19,15 @@ number-at-requires : tie.Need-number-at-requires
 number-at-requires c κs = search needs
 
 plus-requires : tie.Need-plus-requires
-plus-requires c κs = rw (back (c .before .sum-of .result) (c .before .sum-of .ok), back (c .number-at .result) (c .number-at .ok), c .before .sum-of .ensures, c .number-at .ensures) (let ws = c .before .before .before .args .ws .now in omega (arith, sum-size ws (c .before .before .before .args .values .now) (c .before .before .before .pre .1) (c .before .before .before .args .n), number-size ws (2 * c .before .before .before .args .n), c .before .before .before .pre .0))
+plus-requires c κs =
+    let s = c .before .before .before in
+    rw (back (c .before .sum-of .result) (c .before .sum-of .ok), back (c .number-at .result) (c .number-at .ok), c .before .sum-of .ensures, c .number-at .ensures) (let ws = s .args .ws .now in omega (arith, sum-size ws (s .args .values .now) (s .pre .1) (s .args .n), number-size ws (2 * s .args .n), s .pre .0))
 
 returns : tie.Need-returns
 unfolding constantIn
-returns c = back (c .plus .result) (c .plus .ok) ∙ c .plus .ensures ∙ rw (back (c .before .before .sum-of .result) (c .before .before .sum-of .ok), back (c .before .number-at .result) (c .before .number-at .ok), c .before .before .sum-of .ensures, c .before .number-at .ensures)
+returns c =
+    let sum-of = c .before .before .sum-of in
+    back (c .plus .result) (c .plus .ok) ∙ c .plus .ensures ∙ rw (back (sum-of .result) (sum-of .ok), back (c .before .number-at .result) (c .before .number-at .ok), sum-of .ensures, c .before .number-at .ensures)
 
 pub whole-of-spec : {M : Type 1} → statement M
 whole-of-spec =

@@ -27,7 +27,12 @@ fault-if-requires c κs = search needs
 
 returns-3 : tie.Need-returns-3
 unfolding faultResult
-returns-3 c = rw (← c .before .before .before .before .before .kind-of .ensures, eq-eqb _ _ (c .before .before .before .before .if1 .left), ← c .before .before .before .payload-of .ensures, lt-leb _ _ (c .before .before .if2 .left), ← c .before .not-above .ensures) (c .fault-if .ensures)
+returns-3 c =
+    let kind-of = c .before .before .before .before .before .kind-of in
+    let if1 = c .before .before .before .before .if1 in
+    let payload-of = c .before .before .before .payload-of in
+    let if2 = c .before .before .if2 in
+    rw (← kind-of .ensures, eq-eqb _ _ (if1 .left), ← payload-of .ensures, lt-leb _ _ (if2 .left), ← c .before .not-above .ensures) (c .fault-if .ensures)
 
 pub fault-result-spec : {M : Type 1} → statement M
 fault-result-spec =

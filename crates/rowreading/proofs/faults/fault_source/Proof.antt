@@ -20,14 +20,23 @@ payload-of-requires c κs = search needs
 
 returns-2 : tie.Need-returns-2
 unfolding faultSource
-returns-2 c = rw (← c .before .before .before .before .kind-of .ensures, ne-eqb _ _ (c .before .before .before .if1 .left), eq-eqb _ _ (c .before .before .if2 .taken), ← c .before .payload-of .ensures, lt-ltb _ _ (c .if3 .taken))
+returns-2 c =
+    let kind-of = c .before .before .before .before .kind-of in
+    let if1 = c .before .before .before .if1 in
+    let if2 = c .before .before .if2 in
+    rw (← kind-of .ensures, ne-eqb _ _ (if1 .left), eq-eqb _ _ (if2 .taken), ← c .before .payload-of .ensures, lt-ltb _ _ (c .if3 .taken))
 
 fault-if-requires-2 : tie.Need-fault-if-requires-2
 fault-if-requires-2 c κs = search needs
 
 returns-3 : tie.Need-returns-3
 unfolding faultSource
-returns-3 c = rw (← c .before .before .before .before .before .kind-of .ensures, ne-eqb _ _ (c .before .before .before .before .if1 .left), eq-eqb _ _ (c .before .before .before .if2 .taken), ← c .before .before .payload-of .ensures, le-ltb _ _ (c .before .if3 .left)) (c .fault-if2 .ensures)
+returns-3 c =
+    let kind-of = c .before .before .before .before .before .kind-of in
+    let if1 = c .before .before .before .before .if1 in
+    let if2 = c .before .before .before .if2 in
+    let payload-of = c .before .before .payload-of in
+    rw (← kind-of .ensures, ne-eqb _ _ (if1 .left), eq-eqb _ _ (if2 .taken), ← payload-of .ensures, le-ltb _ _ (c .before .if3 .left)) (c .fault-if2 .ensures)
 
 fault-item-requires : tie.Need-fault-item-requires
 fault-item-requires c κs = search needs

@@ -23,18 +23,33 @@ returns-3 c = rw (← c .before .before .before .kind-of .ensures, ne-eqb _ _ (c
 
 returns-4 : tie.Need-returns-4
 unfolding dueAfter dueWith itemTerms afterDue afterItem
-returns-4 c = rw (← c .before .before .before .before .kind-of .ensures, ne-eqb _ _ (c .before .before .before .if1 .left), ne-eqb _ _ (c .before .before .if2 .left), ne-eqb _ _ (c .before .if3 .left), eq-eqb _ _ (c .if4 .taken))
+returns-4 c =
+    let kind-of = c .before .before .before .before .kind-of in
+    let if1 = c .before .before .before .if1 in
+    let if2 = c .before .before .if2 in
+    rw (← kind-of .ensures, ne-eqb _ _ (if1 .left), ne-eqb _ _ (if2 .left), ne-eqb _ _ (c .before .if3 .left), eq-eqb _ _ (c .if4 .taken))
 
 returns-5 : tie.Need-returns-5
 unfolding dueAfter dueWith itemTerms afterDue afterItem
-returns-5 c = rw (← c .before .before .before .before .before .kind-of .ensures, ne-eqb _ _ (c .before .before .before .before .if1 .left), ne-eqb _ _ (c .before .before .before .if2 .left), ne-eqb _ _ (c .before .before .if3 .left), ne-eqb _ _ (c .before .if4 .left), eq-eqb _ _ (c .if5 .taken))
+returns-5 c =
+    let kind-of = c .before .before .before .before .before .kind-of in
+    let if1 = c .before .before .before .before .if1 in
+    let if2 = c .before .before .before .if2 in
+    let if3 = c .before .before .if3 in
+    rw (← kind-of .ensures, ne-eqb _ _ (if1 .left), ne-eqb _ _ (if2 .left), ne-eqb _ _ (if3 .left), ne-eqb _ _ (c .before .if4 .left), eq-eqb _ _ (c .if5 .taken))
 
 payload-of-requires : tie.Need-payload-of-requires
 payload-of-requires c κs = search needs
 
 returns-6 : tie.Need-returns-6
 unfolding dueAfter dueWith itemTerms afterDue afterItem
-returns-6 c = rw (← c .before .before .before .before .before .before .kind-of .ensures, ne-eqb _ _ (c .before .before .before .before .before .if1 .left), ne-eqb _ _ (c .before .before .before .before .if2 .left), ne-eqb _ _ (c .before .before .before .if3 .left), ne-eqb _ _ (c .before .before .if4 .left), ne-eqb _ _ (c .before .if5 .left), ← c .payload-of .ensures)
+returns-6 c =
+    let kind-of = c .before .before .before .before .before .before .kind-of in
+    let if1 = c .before .before .before .before .before .if1 in
+    let if2 = c .before .before .before .before .if2 in
+    let if3 = c .before .before .before .if3 in
+    let if4 = c .before .before .if4 in
+    rw (← kind-of .ensures, ne-eqb _ _ (if1 .left), ne-eqb _ _ (if2 .left), ne-eqb _ _ (if3 .left), ne-eqb _ _ (if4 .left), ne-eqb _ _ (c .before .if5 .left), ← c .payload-of .ensures)
 
 pub item-of-spec : {M : Type 1} → statement M
 item-of-spec =

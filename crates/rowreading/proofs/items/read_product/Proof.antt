@@ -10,10 +10,19 @@ use Rattle.rowreading.proofs.items.read_product.Tie as tie
 
 -- the result read, and the first factor after it
 result : (c : tie.After-step-over) → Went (c .before .before .before .before .before .before .args .ws .now) (c .before .before .before .before .before .before .args .n) Result (c .before .before .before .before .before .before .args .at) FirstFactor (c .step-over .result)
-result c = rw (c .step-over .ensures, c .before .fault-result .ensures, c .before .before .before .before .word-at .ensures, c .before .before .before .word-at2 .ensures, c .before .before .word-at3 .ensures) (product-result (c .before .before .before .before .before .before .args .ws .now) (c .before .before .before .before .before .before .args .n) (c .before .before .before .before .before .before .args .at) (c .before .before .before .before .before .before .pre .within))
+result c =
+    let s = c .before .before .before .before .before .before in
+    let word-at = c .before .before .before .before .word-at in
+    let word-at2 = c .before .before .before .word-at2 in
+    let word-at3 = c .before .before .word-at3 in
+    rw (c .step-over .ensures, c .before .fault-result .ensures, word-at .ensures, word-at2 .ensures, word-at3 .ensures) (product-result (s .args .ws .now) (s .args .n) (s .args .at) (s .pre .within))
 
 first : (c : tie.After-variable-at) → Went (c .before .before .before .before .before .before .before .before .before .args .ws .now) (c .before .before .before .before .before .before .before .before .before .args .n) Result (c .before .before .before .before .before .before .before .before .before .args .at) SecondFactor (c .variable-at .result)
-first c = and-then (result (c .before .before .before)) (c .before .if1 .left) (rw (c .variable-at .ensures) (first-factor (c .before .before .before .before .before .before .before .before .before .args .ws .now) (c .before .before .before .before .before .before .before .before .before .args .n) (c .before .before .before .step-over .result .at) (result (c .before .before .before) .inside)))
+first c =
+    let s = c .before .before .before .before .before .before .before .before .before in
+    let step-over = c .before .before .before .step-over in
+    let p = c .before .before .before in
+    and-then (result p) (c .before .if1 .left) (rw (c .variable-at .ensures) (first-factor (s .args .ws .now) (s .args .n) (step-over .result .at) (result p .inside)))
 
 word-at-requires : tie.Need-word-at-requires
 word-at-requires c κs = search needs
@@ -49,7 +58,11 @@ variable-at-requires-2 : tie.Need-variable-at-requires-2
 variable-at-requires-2 c κs = omega (arith, first (c .before .before) .inside, c .before .before .before .before .before .before .before .before .before .before .before .pre .few)
 
 returns-3 : tie.Need-returns-3
-returns-3 c = and-then (first (c .before .before .before)) (c .before .if2 .left) (rw (c .variable-at2 .ensures) (second-factor (c .before .before .before .before .before .before .before .before .before .before .before .before .args .ws .now) (c .before .before .before .before .before .before .before .before .before .before .before .before .args .n) (c .before .before .before .variable-at .result .at) (first (c .before .before .before) .inside)))
+returns-3 c =
+    let s = c .before .before .before .before .before .before .before .before .before .before .before .before in
+    let variable-at = c .before .before .before .variable-at in
+    let p = c .before .before .before in
+    and-then (first p) (c .before .if2 .left) (rw (c .variable-at2 .ensures) (second-factor (s .args .ws .now) (s .args .n) (variable-at .result .at) (first p .inside)))
 
 pub read-product-spec : {M : Type 1} → statement M
 read-product-spec =

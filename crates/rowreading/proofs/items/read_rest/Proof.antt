@@ -40,19 +40,29 @@ step-over-requires c κs = search needs
 
 returns : tie.Need-returns
 unfolding startDue dueWith moreSources
-returns c = rw (c .before .before .item .given .1, c .upper-at .ensures) (source-upper (c .before .before .before .before .before .args .ws .now) (c .before .before .before .before .before .args .n) (c .before .before .before .before .before .args .at) (c .before .before .before .before .before .pre .within) _)
+returns c =
+    let s = c .before .before .before .before .before in
+    let item = c .before .before .item in
+    rw (item .given .1, c .upper-at .ensures) (source-upper (s .args .ws .now) (s .args .n) (s .args .at) (s .pre .within) _)
 
 returns-2 : tie.Need-returns-2
 unfolding startDue dueWith moreSources
-returns-2 c = rw (c .enum-told .given .1) (no-word (c .before .before .before .args .ws .now) (c .before .before .before .args .n) (c .before .before .before .args .at) (c .before .before .before .pre .within))
+returns-2 c =
+    let s = c .before .before .before in
+    rw (c .enum-told .given .1) (no-word (s .args .ws .now) (s .args .n) (s .args .at) (s .pre .within))
 
 returns-3 : tie.Need-returns-3
 unfolding startDue dueWith moreSources
-returns-3 c = rw (c .before .before .item2 .given .1, c .upper-at2 .ensures) (auxiliary-upper (c .before .before .before .before .before .args .ws .now) (c .before .before .before .before .before .args .n) (c .before .before .before .before .before .args .at) (c .before .before .before .before .before .pre .within) _)
+returns-3 c =
+    let s = c .before .before .before .before .before in
+    let item2 = c .before .before .item2 in
+    rw (item2 .given .1, c .upper-at2 .ensures) (auxiliary-upper (s .args .ws .now) (s .args .n) (s .args .at) (s .pre .within) _)
 
 returns-4 : tie.Need-returns-4
 unfolding startDue dueWith moreSources
-returns-4 c = rw (c .before .enum-told2 .given .1, c .number-at .ensures) (row-constant (c .before .before .before .before .args .ws .now) (c .before .before .before .before .args .n) (c .before .before .before .before .args .at) (c .before .before .before .before .pre .within))
+returns-4 c =
+    let s = c .before .before .before .before in
+    rw (c .before .enum-told2 .given .1, c .number-at .ensures) (row-constant (s .args .ws .now) (s .args .n) (s .args .at) (s .pre .within))
 
 returns-5 : tie.Need-returns-5
 unfolding startDue dueWith moreSources
@@ -60,7 +70,9 @@ returns-5 c = rw (c .before .enum-told3 .given .1) (c .read-product .ensures)
 
 returns-6 : tie.Need-returns-6
 unfolding startDue dueWith moreSources
-returns-6 c = rw (c .before .enum-told4 .given .1, c .step-over .ensures) (after-end (c .before .before .before .before .args .ws .now) (c .before .before .before .before .args .n) (c .before .before .before .before .args .at) (c .before .before .before .before .pre .within))
+returns-6 c =
+    let s = c .before .before .before .before in
+    rw (c .before .enum-told4 .given .1, c .step-over .ensures) (after-end (s .args .ws .now) (s .args .n) (s .args .at) (s .pre .within))
 
 pub read-rest-spec : {M : Type 1} → statement M
 read-rest-spec =

@@ -13,7 +13,9 @@ use Rattle.rowreading.proofs.items.read_term.Tie as tie
 
 -- the variable read
 variable : (c : tie.After-variable-at) (left : ℕ) → Went (c .before .before .args .ws .now) (c .before .before .args .n) (Terms (suc left)) (c .before .before .args .at) (Coefficient left) (c .variable-at .result)
-variable c left = rw (c .variable-at .ensures) (term-variable (c .before .before .args .ws .now) (c .before .before .args .n) (c .before .before .args .at) (c .before .before .pre .within) left)
+variable c left =
+    let s = c .before .before in
+    rw (c .variable-at .ensures) (term-variable (s .args .ws .now) (s .args .n) (s .args .at) (s .pre .within) left)
 
 variable-at-requires : tie.Need-variable-at-requires
 variable-at-requires c κs = search needs
@@ -33,7 +35,8 @@ number-at-requires c κs = omega (arith, variable (c .before .before) 0 .inside,
 
 returns-2 : tie.Need-returns-2
 returns-2 c =
-    let v = c .before .before .before in
+    let p = c .before .before .before in
+    let v = p in
     let a = v .before .before .args in
     let l = variable v 0 .inside in (
       λ left. and-then (variable v left) (c .before .if1 .left) (rw (next v (c .before .if1 .left), c .number-at .ensures) (term-coefficient (a .ws .now) (a .n) (a .at + 1) (rw (next v (c .before .if1 .left)) at l) left)),

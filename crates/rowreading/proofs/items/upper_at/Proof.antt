@@ -15,7 +15,10 @@ step-over-requires : tie.Need-step-over-requires
 step-over-requires c κs = search needs
 
 returns : tie.Need-returns
-returns c = word-step (faultUpper (c .before .before .before .before .args .k) (c .before .before .before .before .args .lower)) _ (c .before .before .word-at .ensures) (c .before .fault-upper .ensures) (c .step-over .ensures)
+returns c =
+    let s = c .before .before .before .before in
+    let word-at = c .before .before .word-at in
+    word-step (faultUpper (s .args .k) (s .args .lower)) _ (word-at .ensures) (c .before .fault-upper .ensures) (c .step-over .ensures)
 
 pub upper-at-spec : {M : Type 1} → statement M
 upper-at-spec =
