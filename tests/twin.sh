@@ -8,6 +8,7 @@
 # The recorded answers are tried on both sides first.
 set -euo pipefail
 cd "$(dirname "$0")/.."
+command -v rustc >/dev/null || { echo 'twin: rustc is not on the PATH'; exit 1; }
 rt staticlib host
 mkdir -p target/twin
 rustc --edition 2021 -O -D warnings -o target/twin/twin tests/twin/main.rs -C link-arg=target/staticlib/libhost.a

@@ -2,7 +2,7 @@
 
 use crate::answers::HOLDS;
 use crate::inputs::{self, Random};
-use crate::library::Library;
+use crate::library::{self, Lent};
 use crate::twin;
 use std::hint::black_box;
 use std::process::exit;
@@ -10,7 +10,7 @@ use std::process::exit;
 const SIZES: [usize; 3] = [64, 1_024, 8_192];
 /// Different models for each size, one after the other, so that all builtins come into the short ones as well.
 const MODELS: usize = 32;
-const ROUNDS: usize = 201;
+const ROUNDS: usize = 101;
 
 /// A C `struct timespec`.
 #[repr(C)]
@@ -59,8 +59,8 @@ fn case(random: &mut Random, size: usize) -> Case {
     }
 }
 
-/// Runs both sides in turn; prints the medians of nanoseconds a word.
-fn measure(name: &str, size: usize, mut library: impl FnMut(usize), mut twin: impl FnMut(usize)) {
+/// Runs both sides in turn; answers a line with the medians of nanoseconds a word.
+fn measure(name: &str, size: usize, mut library: impl FnMut(usize), mut twin: impl FnMut(usize)) -> String {
     // About a millisecond a side and round for a call of 5 nanoseconds a word.
     let repeats = (200_000 / (size * MODELS)).max(1);
     let time = |call: &mut dyn FnMut(usize)| {
@@ -81,7 +81,7 @@ fn measure(name: &str, size: usize, mut library: impl FnMut(usize), mut twin: im
         }
     }
     let ratios: Vec<f64> = ours.iter().zip(&theirs).map(|(one, other)| one / other).collect();
-    println!("| {name} | {size} | {:.2} | {:.2} | {:.2} |", median(ours), median(theirs), median(ratios));
+    format!("| {name} | {size} | {:.2} | {:.2} | {:.2} |", median(ours), median(theirs), median(ratios))
 }
 
 fn median(mut numbers: Vec<f64>) -> f64 {
@@ -91,55 +91,51 @@ fn median(mut numbers: Vec<f64>) -> f64 {
 
 pub fn run() {
     println!("processor time, medians of {ROUNDS} rounds over {MODELS} models of each size, both sides in turn");
-    println!("| Call | Words | Library, ns a word | Twin, ns a word | Ratio |");
-    println!("|---|---|---|---|---|");
-    let cases = SIZES.map(|size| {
+    let mut lines: [Vec<String>; 5] = Default::default();
+    for size in SIZES {
         let mut random = Random::new(7, size as u64);
-        (0..MODELS).map(|_| case(&mut random, size)).collect::<Vec<_>>()
-    });
-    let mut words = vec![0u32; twin::ROW_WORDS];
-    let mut more_words = words.clone();
-    let mut values = vec![0i32; twin::ALL_VARIABLES];
-    let mut more_values = values.clone();
-    let library = Library { null: false };
-    for (size, cases) in SIZES.into_iter().zip(&cases) {
-        measure(
+        let cases: Vec<Case> = (0..MODELS).map(|_| case(&mut random, size)).collect();
+        let models = || cases.iter().map(|case| case.model.clone()).collect::<Vec<_>>();
+        let values = || cases.iter().map(|case| case.values.clone()).collect::<Vec<_>>();
+        let mut out = vec![0u32; twin::ROW_WORDS];
+        let mut out_values = vec![0i32; twin::ALL_VARIABLES];
+        let (mut other_out, mut other_out_values) = (out.clone(), out_values.clone());
+        let (mut words, mut sources) = (models(), values());
+
+        lines[0].push(measure(
             "check",
             size,
-            |at| _ = black_box(library.check(black_box(&cases[at].model))),
+            |at| _ = black_box(library::check(Lent::new(&mut words[at]))),
             |at| _ = black_box(twin::check(black_box(&cases[at].model))),
-        );
-    }
-    for (size, cases) in SIZES.into_iter().zip(&cases) {
-        measure(
+        ));
+        lines[1].push(measure(
             "translate",
             size,
-            |at| _ = black_box(library.translate(black_box(&cases[at].model), &mut words)),
-            |at| _ = black_box(twin::translate(black_box(&cases[at].model), &mut more_words)),
-        );
-    }
-    for (size, cases) in SIZES.into_iter().zip(&cases) {
-        measure(
+            |at| _ = black_box(library::translate(Lent::new(&mut words[at]), Lent::new(&mut out))),
+            |at| _ = black_box(twin::translate(black_box(&cases[at].model), &mut other_out)),
+        ));
+        lines[2].push(measure(
             "judge-model",
             size,
-            |at| _ = black_box(library.judge_model(black_box(&cases[at].model), &cases[at].values)),
+            |at| _ = black_box(library::judge_model(Lent::new(&mut words[at]), Lent::new(&mut sources[at]))),
             |at| _ = black_box(twin::judge_model(black_box(&cases[at].model), &cases[at].values)),
-        );
-    }
-    for (size, cases) in SIZES.into_iter().zip(&cases) {
-        measure(
-            "judge-rows",
-            size,
-            |at| _ = black_box(library.judge_rows(black_box(&cases[at].rows), &cases[at].row_values)),
-            |at| _ = black_box(twin::judge_rows(black_box(&cases[at].rows), &cases[at].row_values)),
-        );
-    }
-    for (size, cases) in SIZES.into_iter().zip(&cases) {
-        measure(
+        ));
+        lines[4].push(measure(
             "fill",
             size,
-            |at| _ = black_box(library.fill(black_box(&cases[at].model), &cases[at].values, &mut values)),
-            |at| _ = black_box(twin::fill(black_box(&cases[at].model), &cases[at].values, &mut more_values)),
-        );
+            |at| _ = black_box(library::fill(Lent::new(&mut words[at]), Lent::new(&mut sources[at]), Lent::new(&mut out_values))),
+            |at| _ = black_box(twin::fill(black_box(&cases[at].model), &cases[at].values, &mut other_out_values)),
+        ));
+        words = cases.iter().map(|case| case.rows.clone()).collect();
+        sources = cases.iter().map(|case| case.row_values.clone()).collect();
+        lines[3].push(measure(
+            "judge-rows",
+            size,
+            |at| _ = black_box(library::judge_rows(Lent::new(&mut words[at]), Lent::new(&mut sources[at]))),
+            |at| _ = black_box(twin::judge_rows(black_box(&cases[at].rows), &cases[at].row_values)),
+        ));
     }
+    println!("| Call | Words | Library, ns a word | Twin, ns a word | Ratio |");
+    println!("|---|---|---|---|---|");
+    lines.iter().flatten().for_each(|line| println!("{line}"));
 }

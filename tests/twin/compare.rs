@@ -2,7 +2,7 @@
 
 use crate::answers::{Counts, Judgement, FALSE, HOLDS, OUT_OF_BOUNDS, REFUSED};
 use crate::inputs::{self, Input, Random};
-use crate::library::Library;
+use crate::library::{self, Lent};
 use crate::twin::{self, kind, payload, CONSTRAINT};
 use std::collections::BTreeMap;
 use std::fmt::{Debug, LowerHex};
@@ -47,6 +47,8 @@ struct Guarded<T> {
     all: Vec<T>,
     before: usize,
     count: usize,
+    /// Whether it is lent as a null pointer when it is empty.
+    null: bool,
 }
 
 const GUARD: usize = 16;
@@ -76,19 +78,18 @@ impl Pattern for u8 {
 
 impl<T: Pattern> Guarded<T> {
     fn new() -> Self {
-        Guarded { all: vec![], before: 0, count: 0 }
+        Guarded { all: vec![], before: 0, count: 0, null: false }
     }
 
     /// An output of so many elements, the whole of it pattern.
-    fn room(&mut self, count: usize) -> &mut [T] {
+    fn set_room(&mut self, count: usize) {
         self.all.clear();
         self.all.extend((0..count + 2 * GUARD).map(T::pattern));
         (self.before, self.count) = (GUARD, count);
-        &mut self.all[GUARD..GUARD + count]
     }
 
     /// A list to read, with `shift` more elements before it.
-    fn lend(&mut self, list: &[T], shift: usize) {
+    fn set(&mut self, list: &[T], shift: usize) {
         (self.before, self.count) = (GUARD + shift, list.len());
         self.all.clear();
         self.all.extend((0..self.before).map(T::pattern));
@@ -100,6 +101,20 @@ impl<T: Pattern> Guarded<T> {
         &self.all[self.before..self.before + self.count]
     }
 
+    fn list_mut(&mut self) -> &mut [T] {
+        &mut self.all[self.before..self.before + self.count]
+    }
+
+    fn lend(&mut self) -> Lent<'_, T> {
+        let null = self.null;
+        let lent = Lent::new(self.list_mut());
+        if null {
+            lent.or_null()
+        } else {
+            lent
+        }
+    }
+
     /// Whether the list is still the one lent, the guards included.
     fn unchanged(&self, list: &[T]) -> bool {
         let guards = (0..self.before).chain(self.before + self.count..self.all.len());
@@ -109,7 +124,6 @@ impl<T: Pattern> Guarded<T> {
 
 /// Compares both sides and counts what they answered.
 pub struct Comparer {
-    library: Library,
     seed: u64,
     index: u64,
     family: &'static str,
@@ -129,7 +143,6 @@ pub struct Comparer {
 impl Comparer {
     pub fn new(seed: u64) -> Comparer {
         Comparer {
-            library: Library { null: false },
             seed,
             index: 0,
             family: "",
@@ -152,7 +165,9 @@ impl Comparer {
         let input = inputs::input(&mut random);
         self.index = index;
         self.family = input.family;
-        self.library.null = index % 2 == 1;
+        let null = index % 2 == 1;
+        (self.words.null, self.bytes.null, self.values.null) = (null, null, null);
+        (self.out_words[0].null, self.out_values[0].null) = (null, null);
         *self.families.entry(input.family).or_default() += 1;
         // Some words go to the calls of the other form as well.
         let both = random.one_in(16);
@@ -166,7 +181,7 @@ impl Comparer {
 
     fn model(&mut self, random: &mut Random, input: &Input) {
         let words = &input.words;
-        self.words.lend(words, 0);
+        self.words.set(words, 0);
         self.check_bytes(random, words);
         let counts = self.check(words);
         let accepted = counts.fault == 0;
@@ -175,7 +190,8 @@ impl Comparer {
         }
         let all = counts.variables + counts.auxiliaries;
         let room = room(random, counts.words, accepted);
-        let short = if random.one_in(2) { counts.words.saturating_sub(1) } else { random.below(counts.words + 1) };
+        let (one_short, shorter) = (counts.words.saturating_sub(1), random.below(counts.words + 1));
+        let short = random.pick(&[0, one_short, one_short, shorter]);
         for room in [short, room] {
             self.translate(words, room);
         }
@@ -225,8 +241,8 @@ impl Comparer {
         if random.one_in(8) {
             bytes.truncate(random.below(bytes.len() + 1));
         }
-        self.bytes.lend(&bytes, random.below(4));
-        let library = self.library.check_bytes(self.bytes.list());
+        self.bytes.set(&bytes, random.below(4));
+        let library = library::check_bytes(self.bytes.lend());
         let twin = twin::check_bytes(&bytes);
         let unchanged = self.bytes.unchanged(&bytes);
         if library != twin || !unchanged {
@@ -237,7 +253,7 @@ impl Comparer {
     }
 
     fn check(&mut self, words: &[u32]) -> Counts {
-        let library = self.library.check(self.words.list());
+        let library = library::check(self.words.lend());
         let twin = twin::check(words);
         if library != twin || !self.words.unchanged(words) {
             self.differ(Call::Check, words, &[], None, self.told(&library, &twin, words, &[]));
@@ -248,8 +264,10 @@ impl Comparer {
 
     fn translate(&mut self, words: &[u32], room: usize) {
         let [ours, theirs] = &mut self.out_words;
-        let library = self.library.translate(self.words.list(), ours.room(room));
-        let twin = twin::translate(words, theirs.room(room));
+        ours.set_room(room);
+        theirs.set_room(room);
+        let library = library::translate(self.words.lend(), ours.lend());
+        let twin = twin::translate(words, theirs.list_mut());
         if library != twin || ours.all != theirs.all || !self.words.unchanged(words) {
             let outputs = first_difference(&ours.all, &theirs.all);
             self.differ(Call::Translate, words, &[], Some(room), self.told(&library, &twin, words, &[]) + &outputs);
@@ -258,8 +276,8 @@ impl Comparer {
     }
 
     fn judge_model(&mut self, words: &[u32], values: &[i32]) -> Judgement {
-        self.values.lend(values, 0);
-        let library = self.library.judge_model(self.words.list(), self.values.list());
+        self.values.set(values, 0);
+        let library = library::judge_model(self.words.lend(), self.values.lend());
         let twin = twin::judge_model(words, values);
         if library != twin || !self.words.unchanged(words) || !self.values.unchanged(values) {
             self.differ(Call::JudgeModel, words, values, None, self.told(&library, &twin, words, values));
@@ -271,10 +289,10 @@ impl Comparer {
     /// `fresh`: the words are not lent yet.
     fn judge_rows(&mut self, words: &[u32], values: &[i32], fresh: bool) -> Judgement {
         if fresh {
-            self.words.lend(words, 0);
+            self.words.set(words, 0);
         }
-        self.values.lend(values, 0);
-        let library = self.library.judge_rows(self.words.list(), self.values.list());
+        self.values.set(values, 0);
+        let library = library::judge_rows(self.words.lend(), self.values.lend());
         let twin = twin::judge_rows(words, values);
         if library != twin || !self.words.unchanged(words) || !self.values.unchanged(values) {
             self.differ(Call::JudgeRows, words, values, None, self.told(&library, &twin, words, values));
@@ -284,10 +302,12 @@ impl Comparer {
     }
 
     fn fill(&mut self, words: &[u32], values: &[i32], room: usize) -> Judgement {
-        self.values.lend(values, 0);
+        self.values.set(values, 0);
         let [ours, theirs] = &mut self.out_values;
-        let library = self.library.fill(self.words.list(), self.values.list(), ours.room(room));
-        let twin = twin::fill(words, values, theirs.room(room));
+        ours.set_room(room);
+        theirs.set_room(room);
+        let library = library::fill(self.words.lend(), self.values.lend(), ours.lend());
+        let twin = twin::fill(words, values, theirs.list_mut());
         if library != twin || ours.all != theirs.all || !self.words.unchanged(words) || !self.values.unchanged(values) {
             let outputs = first_difference(&ours.all, &theirs.all);
             self.differ(Call::Fill, words, values, Some(room), self.told(&library, &twin, words, values) + &outputs);
@@ -344,7 +364,11 @@ impl Comparer {
             print!("{fault:>15}");
             for call in CALLS {
                 let count = self.faults[call as usize][fault];
-                if call.meets(fault) { print!("{count:>13}") } else { print!("{:>13}", if count == 0 { "-" } else { "WRONG" }) }
+                if call.meets(fault) {
+                    print!("{count:>13}")
+                } else {
+                    print!("{:>13}", if count == 0 { "-" } else { "WRONG" })
+                }
                 complete &= (count > 0) == call.meets(fault);
             }
             println!();
@@ -353,7 +377,11 @@ impl Comparer {
             print!("{name:>15}");
             for call in CALLS {
                 let count = self.answers[call as usize][answer as usize];
-                if call.says(answer) { print!("{count:>13}") } else { print!("{:>13}", "-") }
+                if call.says(answer) {
+                    print!("{count:>13}")
+                } else {
+                    print!("{:>13}", "-")
+                }
                 complete &= (count > 0) == call.says(answer);
             }
             println!();
@@ -369,12 +397,22 @@ impl Comparer {
 
 /// An output long enough: exact, or longer.
 fn room(random: &mut Random, exact: usize, accepted: bool) -> usize {
-    if !accepted || random.one_in(2) { exact + random.below(40) } else { exact }
+    let longer = if random.one_in(64) { 5_000 } else { 40 };
+    if !accepted || random.one_in(2) {
+        exact + random.below(longer)
+    } else {
+        exact
+    }
 }
 
 fn first_difference<T: PartialEq + Debug + LowerHex>(ours: &[T], theirs: &[T]) -> String {
     match ours.iter().zip(theirs).position(|(one, other)| one != other) {
         None => "\noutputs alike".into(),
-        Some(at) => format!("\noutputs differ at {} (below 0 or past the room: a guard): library {:x}, twin {:x}", at as i64 - GUARD as i64, ours[at], theirs[at]),
+        Some(at) => format!(
+            "\noutputs differ at {} (below 0 or past the room: a guard): library {:x}, twin {:x}",
+            at as i64 - GUARD as i64,
+            ours[at],
+            theirs[at]
+        ),
     }
 }

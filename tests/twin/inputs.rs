@@ -66,11 +66,12 @@ pub struct Input {
 /// The input of a seed and an index.
 pub fn input(random: &mut Random) -> Input {
     let (family, rows, (words, values)) = match random.below(1_000) {
-        0..=389 => ("model", false, small_model(random)),
-        390..=469 => ("model near the range", false, range_model(random)),
+        0..=349 => ("model", false, small_model(random)),
+        350..=409 => ("model near the range", false, range_model(random)),
+        410..=469 => ("model at the edge of the range", false, edge_model(random)),
         470..=479 => ("model near 256 variables", false, many_variables(random)),
-        480..=487 => ("model near 256 constraints", false, many_constraints(random)),
-        488..=495 => ("model near 4,096 auxiliaries", false, many_auxiliaries(random)),
+        480..=484 => ("model near 256 constraints", false, many_constraints(random)),
+        485..=495 => ("model near 4,096 auxiliaries", false, many_auxiliaries(random)),
         496..=499 => ("model near 8,192 words", false, near_model_words(random)),
         500..=699 => ("damaged model", false, damaged(random, small_model)),
         700..=719 => ("damaged model near the range", false, damaged(random, range_model)),
@@ -96,7 +97,26 @@ const HALF: i64 = 1 << 26;
 
 /// Numbers whose differences and doubles lie at the ends of the range.
 const ENDS: [i64; 20] = [
-    LEAST, LEAST + 1, LEAST + 2, -HALF - 1, -HALF, -HALF + 1, -2, -1, 0, 1, 2, HALF - 1, HALF, HALF + 1, LARGEST - 2, LARGEST - 1, LARGEST, 0, -1, 1,
+    LEAST,
+    LEAST + 1,
+    LEAST + 2,
+    -HALF - 1,
+    -HALF,
+    -HALF + 1,
+    -2,
+    -1,
+    0,
+    1,
+    2,
+    HALF - 1,
+    HALF,
+    HALF + 1,
+    LARGEST - 2,
+    LARGEST - 1,
+    LARGEST,
+    0,
+    -1,
+    1,
 ];
 
 /// Numbers whose products lie at the ends of the range.
@@ -257,7 +277,11 @@ impl Builder<'_> {
     }
 
     fn number(&mut self) -> i64 {
-        if self.modest { self.random.between(-5, 5) } else { any_number(self.random) }
+        if self.modest {
+            self.random.between(-5, 5)
+        } else {
+            any_number(self.random)
+        }
     }
 
     /// A list length: short mostly.
@@ -419,12 +443,19 @@ impl Builder<'_> {
         }
     }
 
+    /// The model of one constraint.
+    fn alone(&self, constraint: &[u32]) -> Vec<u32> {
+        [&self.variables, constraint, &[word(MODEL_END, 0)]].concat()
+    }
+
     /// Whether a constraint is true of the values.
     fn is_true(&self, constraint: &[u32]) -> bool {
-        let mut words = self.variables.clone();
-        words.extend_from_slice(constraint);
-        words.push(word(MODEL_END, 0));
-        twin::judge_model(&words, &self.values).said == HOLDS
+        twin::judge_model(&self.alone(constraint), &self.values).said == HOLDS
+    }
+
+    /// How many auxiliaries a constraint needs, 0 where it is refused.
+    fn auxiliaries(&self, constraint: &[u32]) -> usize {
+        twin::check(&self.alone(constraint)).auxiliaries
     }
 
     /// Adds a constraint of a code; where a true one is wanted, several are tried. Answers whether one was added.
@@ -511,13 +542,69 @@ fn range_model(random: &mut Random) -> Pair {
     builder.finish()
 }
 
+/// A model of one constraint with a number moved to where check begins, or ceases, to find a number outside the range.
+fn edge_model(random: &mut Random) -> Pair {
+    let mut builder = Builder::new(random);
+    builder.near_range = builder.random.one_in(3);
+    builder.some_variables(3, 1, &WIDE_BOUNDS);
+    if builder.random.one_in(2) {
+        builder.some_variables(1, 1, &SMALL_BOUNDS);
+    }
+    let code = builder.random.pick(&[4, 5, 7, 9, 10, 11, 12, 13, 14, 15]);
+    builder.add(code, None, false);
+    let (mut words, values) = builder.finish();
+    let fault = |words: &[u32]| twin::check(words).fault;
+    for _ in 0..12 {
+        let at = random.below(words.len());
+        let (form, mut near) = (kind(words[at]), i64::from(signed(words[at])));
+        let mut far = if random.one_in(2) { random.pick(&ENDS) } else { random.between(LEAST, LARGEST) };
+        let mut moved = words.clone();
+        moved[at] = word(form, far);
+        let (here, there) = (fault(&words), fault(&moved));
+        if !matches!(form, LOWER | UPPER | NUMBER) || !matches!((here, there), (0, 13) | (13, 0)) {
+            continue;
+        }
+        while (far - near).abs() > 1 {
+            let middle = near + (far - near) / 2;
+            moved[at] = word(form, middle);
+            if fault(&moved) == here {
+                near = middle
+            } else {
+                far = middle
+            }
+        }
+        words[at] = word(form, random.pick(&[near, far]));
+        break;
+    }
+    (words, values)
+}
+
+/// Sometimes changes the word of some kinds that is the first past a limit, so that two faults meet at it.
+fn damage_past_limit(random: &mut Random, words: &mut [u32], kinds: &[u32], limit: usize) {
+    let past = words.iter().enumerate().filter(|(_, &word)| kinds.contains(&kind(word))).map(|(at, _)| at).nth(limit);
+    if let (Some(at), true) = (past, random.one_in(3)) {
+        words[at] = match random.below(4) {
+            0 => likely_word(random),
+            1 => word(kind(words[at]), random.between(1, 40)),
+            2 => word(kind(words[at]), 0),
+            _ => words[at] ^ 1 << random.below(32),
+        };
+    }
+}
+
 fn many_variables(random: &mut Random) -> Pair {
     let count = MODEL_VARIABLES - 1 + random.below(4);
     let integers = random.below(count + 1);
     let mut builder = Builder::new(random);
     builder.some_variables(integers, count - integers, &SMALL_BOUNDS);
+    // Derived integers outside the range are left out; these stand for them.
+    while builder.bounds.len() < count {
+        builder.boolean();
+    }
     some_constraints(&mut builder);
-    builder.finish()
+    let (mut words, values) = builder.finish();
+    damage_past_limit(random, &mut words, &[LOWER, BOOLEAN], MODEL_VARIABLES);
+    (words, values)
 }
 
 fn many_constraints(random: &mut Random) -> Pair {
@@ -531,46 +618,51 @@ fn many_constraints(random: &mut Random) -> Pair {
             builder.add(code, Some(length), false);
         }
     }
-    builder.finish()
+    let (mut words, values) = builder.finish();
+    damage_past_limit(random, &mut words, &[CONSTRAINT], MODEL_CONSTRAINTS);
+    (words, values)
 }
 
-/// Blocks of code 28 with 64 auxiliaries and of code 26 with up to 64, then of code 4 with one, in any order.
+/// Blocks of code 28 with 64 auxiliaries and of code 26 with up to 64, then blocks of any code with few, sometimes in another order.
 fn many_auxiliaries(random: &mut Random) -> Pair {
     let mut builder = Builder::new(random);
     builder.some_variables(3, 2, &[Bounds::Tiny, Bounds::Index]);
+    let wide = builder.bounds.len() as i64;
     builder.declare_integer(-20, 43, 7);
     builder.declare_integer(1, 32, 9);
-    let wanted = ALL_VARIABLES - 1 + builder.random.below(4);
-    let wide = builder.bounds.len() as i64 - 2;
+    builder.declare_integer(3, 5, 4);
+    let wanted = ALL_VARIABLES - 2 + builder.random.below(5);
     let mut count = builder.bounds.len();
-    while count < wanted {
-        let left = wanted - count;
-        let added = if left >= 64 && builder.random.one_in(2) {
+    while count + 90 < wanted {
+        if builder.random.one_in(2) {
             // set_in_reif over the variable of width 64; r is the first Boolean.
-            let r = builder.booleans[0] as i64;
             let length = builder.random.below(6) as i64;
-            let numbers: Vec<u32> = (0..length).map(|_| word(NUMBER, builder.random.between(-22, 45))).collect();
             let mut words = vec![word(CONSTRAINT, 28), word(VARIABLE, wide), word(NUMBER, length)];
-            words.extend(numbers);
-            words.push(word(VARIABLE, r));
+            words.extend((0..length).map(|_| word(NUMBER, builder.random.between(-22, 45))));
+            words.push(word(VARIABLE, builder.booleans[0] as i64));
             builder.constraints.push(words);
-            64
-        } else if left >= 2 && builder.constraints.len() < 200 {
-            let length = if left >= 64 { 32 } else { left / 2 };
-            builder.add(26, Some(length), false);
-            2 * length
+            count += 64;
         } else {
-            builder.add(4, None, false);
-            1
-        };
-        count += added;
+            let length = LIST_LENGTH as usize - builder.random.below(8);
+            builder.add(26, Some(length), false);
+            count += 2 * length;
+        }
     }
-    // Blocks without auxiliaries, and blocks that may have a fault of their own, stand among them.
-    for _ in 0..builder.random.below(4) {
-        let code = builder.random.pick(&[1, 2, 3, 5, 6, 10, 11, 16, 17, 18, 19, 21, 22, 23]);
-        builder.add(code, None, false);
+    // With these some blocks have a number outside the range, or need more than 64 auxiliaries.
+    if builder.random.one_in(3) {
+        builder.declare_integer(LEAST, LARGEST, 2);
+        builder.declare_integer(1, 70, 3);
+        count += 2;
     }
-    builder.random.shuffle(&mut builder.constraints);
+    while count < wanted {
+        let code = builder.random.pick(&[1, 4, 4, 4, 7, 8, 9, 9, 12, 13, 14, 15, 15, 18, 20, 24, 25, 26, 27, 28]);
+        let length = builder.random.below(3);
+        builder.add(code, Some(length), false);
+        count += builder.constraints.last().map_or(0, |constraint| builder.auxiliaries(constraint));
+    }
+    if builder.random.one_in(2) {
+        builder.random.shuffle(&mut builder.constraints);
+    }
     builder.finish()
 }
 
@@ -715,7 +807,13 @@ impl Rows<'_> {
             result = count;
         }
         self.words.push(word(PRODUCT, 0));
-        push_variables(&mut self.words, &[result, first, second]);
+        if self.random.one_in(16) {
+            // Any numbers, declared or not.
+            let numbers = [0; 3].map(|_| self.random.below(count + 4));
+            push_variables(&mut self.words, &numbers);
+        } else {
+            push_variables(&mut self.words, &[result, first, second]);
+        }
     }
 
     fn finish(mut self) -> Pair {
@@ -730,11 +828,23 @@ fn small_rows(random: &mut Random) -> Pair {
     }
     let mut rows = Rows { random, words: vec![], values: vec![] };
     for _ in 0..rows.random.below(6) {
-        if rows.random.one_in(3) { rows.boolean() } else { rows.variable(LOWER) }
+        if rows.random.one_in(3) {
+            rows.boolean()
+        } else {
+            rows.variable(LOWER)
+        }
     }
     let aimed = rows.random.below(8) > 0;
     for _ in 0..rows.random.below(8) {
         match rows.random.below(4) {
+            // A source that comes late, now and then.
+            0 if rows.random.one_in(24) => {
+                if rows.random.one_in(2) {
+                    rows.boolean()
+                } else {
+                    rows.variable(LOWER)
+                }
+            }
             0 => rows.variable(AUX_LOWER),
             1 => rows.product(aimed || rows.values.is_empty()),
             _ => {
@@ -777,7 +887,11 @@ fn many_row_variables(random: &mut Random) -> Pair {
     let sources = random.pick(&[0, 1, count / 2, count - 1, count]);
     let mut rows = Rows { random, words: vec![], values: vec![] };
     while rows.values.len() < sources {
-        if rows.random.one_in(2) { rows.boolean() } else { rows.variable(LOWER) }
+        if rows.random.one_in(2) {
+            rows.boolean()
+        } else {
+            rows.variable(LOWER)
+        }
     }
     while rows.values.len() < count {
         if rows.random.one_in(40) {
@@ -786,11 +900,17 @@ fn many_row_variables(random: &mut Random) -> Pair {
         rows.variable(AUX_LOWER);
     }
     rows.row(5, true);
-    rows.finish()
+    let (mut words, values) = rows.finish();
+    damage_past_limit(random, &mut words, &[LOWER, BOOLEAN, AUX_LOWER], ALL_VARIABLES);
+    (words, values)
 }
 
 fn limit_rows(random: &mut Random) -> Pair {
-    if random.one_in(2) { many_terms(random) } else { many_row_variables(random) }
+    if random.one_in(2) {
+        many_terms(random)
+    } else {
+        many_row_variables(random)
+    }
 }
 
 fn near_row_words(random: &mut Random) -> Pair {
@@ -887,7 +1007,8 @@ fn random_words(random: &mut Random) -> Pair {
         let front = [word(BOOLEAN, 0), word(LOWER, -2), word(UPPER, 3), word(LOWER, 0), word(UPPER, 9), word(BOOLEAN, 0)];
         words.splice(0..0, front);
     }
-    let values = declared(&words).iter().map(|&(lower, upper)| random.between(i64::from(lower), i64::from(upper).max(i64::from(lower))) as i32).collect();
+    let values =
+        declared(&words).iter().map(|&(lower, upper)| random.between(i64::from(lower), i64::from(upper).max(i64::from(lower))) as i32).collect();
     (words, values)
 }
 
@@ -906,13 +1027,6 @@ fn damage(random: &mut Random, words: &mut Vec<u32>) {
     let at = random.below(words.len());
     let old = words[at];
     match random.below(15) {
-        14 => {
-            // A length or number of terms, if one is met: the limits of both.
-            let numbers = [word(NUMBER, 33), word(NUMBER, 32), word(NUMBER, -1), word(AT_MOST, 66), word(AT_MOST, 67), word(EQUAL, 67)];
-            let counted = words.iter().rposition(|&word| matches!(kind(word), CONSTRAINT | AT_MOST | EQUAL));
-            let at = counted.map_or(at, |head| (head + random.below(3)).min(words.len() - 1));
-            words[at] = random.pick(&numbers);
-        }
         0 => words[at] = random.next() as u32,
         1 => words[at] = likely_word(random),
         2 => words[at] = word(kind(likely_word(random)), i64::from(signed(old))),
@@ -938,6 +1052,13 @@ fn damage(random: &mut Random, words: &mut Vec<u32>) {
         12 => {
             let other = random.below(words.len());
             words.swap(at, other);
+        }
+        13 => {
+            // A length or number of terms, if one is met: the limits of both.
+            let numbers = [word(NUMBER, 33), word(NUMBER, 32), word(NUMBER, -1), word(AT_MOST, 66), word(AT_MOST, 67), word(EQUAL, 67)];
+            let counted = words.iter().rposition(|&word| matches!(kind(word), CONSTRAINT | AT_MOST | EQUAL));
+            let at = counted.map_or(at, |head| (head + random.below(3)).min(words.len() - 1));
+            words[at] = random.pick(&numbers);
         }
         _ => {
             let next = (at + 1) % words.len();

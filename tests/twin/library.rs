@@ -1,7 +1,8 @@
 //! The calls of include/pearrummy.h, linked from target/staticlib/libhost.a.
 
 use crate::answers::{Counts, Judgement, Written};
-use std::ptr::{null, null_mut};
+use std::marker::PhantomData;
+use std::ptr::null_mut;
 
 mod raw {
     use super::{Counts, Judgement, Written};
@@ -23,42 +24,47 @@ mod raw {
     }
 }
 
-/// The library; an empty list is lent as a null pointer where `null` says so.
-pub struct Library {
-    pub null: bool,
+/// A list as C lends it. It comes from a list that may be changed also where it is lent for reading: a call that changed it would be seen.
+#[derive(Clone, Copy)]
+pub struct Lent<'a, T> {
+    pointer: *mut T,
+    count: usize,
+    list: PhantomData<&'a mut [T]>,
 }
 
-// Every call below lends a slice by its pointer and its length; the calls keep no pointer and stay inside what is lent.
-impl Library {
-    fn read<T>(&self, list: &[T]) -> *const T {
-        if self.null && list.is_empty() { null() } else { list.as_ptr() }
+impl<'a, T> Lent<'a, T> {
+    pub fn new(list: &'a mut [T]) -> Self {
+        Lent { pointer: list.as_mut_ptr(), count: list.len(), list: PhantomData }
     }
 
-    fn write<T>(&self, list: &mut [T]) -> *mut T {
-        if self.null && list.is_empty() { null_mut() } else { list.as_mut_ptr() }
+    /// The same list; an empty one is lent as a null pointer.
+    pub fn or_null(self) -> Self {
+        Lent { pointer: if self.count == 0 { null_mut() } else { self.pointer }, ..self }
     }
+}
 
-    pub fn check_bytes(&self, bytes: &[u8]) -> u32 {
-        unsafe { raw::pearrummy_check_bytes(self.read(bytes), bytes.len()) }
-    }
+// Each list below is alive and lent to this call alone, so that its pointer is good for its count.
 
-    pub fn check(&self, words: &[u32]) -> Counts {
-        unsafe { raw::pearrummy_check(self.read(words), words.len()) }
-    }
+pub fn check_bytes(bytes: Lent<u8>) -> u32 {
+    unsafe { raw::pearrummy_check_bytes(bytes.pointer, bytes.count) }
+}
 
-    pub fn translate(&self, words: &[u32], out: &mut [u32]) -> Written {
-        unsafe { raw::pearrummy_translate(self.read(words), words.len(), self.write(out), out.len()) }
-    }
+pub fn check(words: Lent<u32>) -> Counts {
+    unsafe { raw::pearrummy_check(words.pointer, words.count) }
+}
 
-    pub fn judge_model(&self, words: &[u32], values: &[i32]) -> Judgement {
-        unsafe { raw::pearrummy_judge_model(self.read(words), words.len(), self.read(values), values.len()) }
-    }
+pub fn translate(words: Lent<u32>, out: Lent<u32>) -> Written {
+    unsafe { raw::pearrummy_translate(words.pointer, words.count, out.pointer, out.count) }
+}
 
-    pub fn judge_rows(&self, words: &[u32], values: &[i32]) -> Judgement {
-        unsafe { raw::pearrummy_judge_rows(self.read(words), words.len(), self.read(values), values.len()) }
-    }
+pub fn judge_model(words: Lent<u32>, values: Lent<i32>) -> Judgement {
+    unsafe { raw::pearrummy_judge_model(words.pointer, words.count, values.pointer, values.count) }
+}
 
-    pub fn fill(&self, words: &[u32], values: &[i32], out: &mut [i32]) -> Judgement {
-        unsafe { raw::pearrummy_fill(self.read(words), words.len(), self.read(values), values.len(), self.write(out), out.len()) }
-    }
+pub fn judge_rows(words: Lent<u32>, values: Lent<i32>) -> Judgement {
+    unsafe { raw::pearrummy_judge_rows(words.pointer, words.count, values.pointer, values.count) }
+}
+
+pub fn fill(words: Lent<u32>, values: Lent<i32>, out: Lent<i32>) -> Judgement {
+    unsafe { raw::pearrummy_fill(words.pointer, words.count, values.pointer, values.count, out.pointer, out.count) }
 }

@@ -111,6 +111,10 @@ struct Variables {
 }
 
 impl Variables {
+    fn new() -> Self {
+        Variables { all: [Variable { lower: 0, upper: 0, boolean: false }; MODEL_VARIABLES], count: 0, end: 0 }
+    }
+
     fn list(&self) -> &[Variable] {
         &self.all[..self.count]
     }
@@ -204,9 +208,11 @@ impl Constraint<'_> {
     }
 }
 
-/// Reads the variables of a model, up to the first constraint or the end word: faults 2 to 6.
-fn read_variables(words: &[u32]) -> Result<Variables, Refusal> {
-    let mut variables = Variables { all: [Variable { lower: 0, upper: 0, boolean: false }; MODEL_VARIABLES], count: 0, end: 0 };
+/// Reads the variables of a model, up to the first constraint or the end word: fault 1, then 2 to 6.
+fn read_variables(words: &[u32], variables: &mut Variables) -> Result<(), Refusal> {
+    if words.len() > MODEL_WORDS {
+        return refusal(1, 0);
+    }
     let mut at = 0;
     loop {
         let Some(&word) = words.get(at) else { return refusal(2, at) };
@@ -222,7 +228,7 @@ fn read_variables(words: &[u32]) -> Result<Variables, Refusal> {
             BOOLEAN => (Variable { lower: 0, upper: 1, boolean: true }, 1),
             CONSTRAINT | MODEL_END => {
                 variables.end = at;
-                return Ok(variables);
+                return Ok(());
             }
             _ => return refusal(3, at),
         };
@@ -291,27 +297,33 @@ fn list_length(words: &[u32], at: usize) -> Result<usize, Refusal> {
 /// Checks a count of variable arguments of one type: fault 2, 3, then 10. Answers the place behind them.
 fn check_variables(words: &[u32], at: usize, count: usize, variables: &[Variable], boolean: bool) -> Result<usize, Refusal> {
     let behind = at + count;
-    for (place, &word) in words.iter().enumerate().take(behind).skip(at) {
+    for (place, &word) in words[at..behind.min(words.len())].iter().enumerate() {
         if kind(word) != VARIABLE {
-            return refusal(3, place);
+            return refusal(3, at + place);
         }
         match variables.get(number(word)) {
             Some(variable) if variable.boolean == boolean => (),
-            _ => return refusal(10, place),
+            _ => return refusal(10, at + place),
         }
     }
-    if behind <= words.len() { Ok(behind) } else { refusal(2, words.len()) }
+    if behind <= words.len() {
+        Ok(behind)
+    } else {
+        refusal(2, words.len())
+    }
 }
 
 /// Checks a count of number arguments: fault 2, then 3. Answers the place behind them.
 fn check_numbers(words: &[u32], at: usize, count: usize) -> Result<usize, Refusal> {
     let behind = at + count;
-    for (place, &word) in words.iter().enumerate().take(behind).skip(at) {
-        if kind(word) != NUMBER {
-            return refusal(3, place);
-        }
+    if let Some(place) = words[at..behind.min(words.len())].iter().position(|&word| kind(word) != NUMBER) {
+        return refusal(3, at + place);
     }
-    if behind <= words.len() { Ok(behind) } else { refusal(2, words.len()) }
+    if behind <= words.len() {
+        Ok(behind)
+    } else {
+        refusal(2, words.len())
+    }
 }
 
 /// Takes apart a constraint whose words passed `check_arguments`. Answers also the place behind it.
@@ -762,37 +774,29 @@ impl Sink for Writer<'_> {
 
 // ----------------------------------------------------------------------------------------------------------------------------------- calls
 
-/// Fault 1 and the reading of the variables.
-fn start(words: &[u32]) -> Result<Variables, Refusal> {
-    if words.len() > MODEL_WORDS {
-        return refusal(1, 0);
-    }
-    read_variables(words)
-}
-
 /// Reads a model and measures its blocks: faults 1 to 11, then the first constraint's fault of 12 to 14. Gives each constraint to `visit`.
-fn measure<'a>(words: &'a [u32], mut visit: impl FnMut(&Variables, &Constraint<'a>)) -> Result<(Variables, Counts), Refusal> {
-    let variables = start(words)?;
+fn measure<'a>(words: &'a [u32], variables: &mut Variables, mut visit: impl FnMut(&Variables, &Constraint<'a>)) -> Result<Counts, Refusal> {
+    read_variables(words, variables)?;
+    let variables = &*variables;
     let mut total = Measure::default();
     let mut fault = None;
-    let constraints = read_constraints(words, &variables, |head, constraint| {
-        visit(&variables, constraint);
+    let constraints = read_constraints(words, variables, |head, constraint| {
+        visit(variables, constraint);
         if fault.is_none() {
-            fault = measure_block(constraint, &variables, &mut total).map(|fault| Refusal { fault, place: head });
+            fault = measure_block(constraint, variables, &mut total).map(|fault| Refusal { fault, place: head });
         }
     })?;
     if let Some(refusal) = fault {
         return Err(refusal);
     }
-    let counts = Counts {
+    Ok(Counts {
         variables: variables.count,
         constraints,
         auxiliaries: total.auxiliaries,
         rows: total.rows,
         words: variables.end + total.words + 1,
         ..Counts::default()
-    };
-    Ok((variables, counts))
+    })
 }
 
 /// Adds a constraint's block to the measure: its fault of 12 to 14.
@@ -812,10 +816,7 @@ fn measure_block(constraint: &Constraint, variables: &Variables, total: &mut Mea
 
 /// Check: the counts of a model, or its fault.
 pub fn check(words: &[u32]) -> Counts {
-    match measure(words, |_, _| ()) {
-        Ok((_, counts)) => counts,
-        Err(refusal) => refusal.into(),
-    }
+    measure(words, &mut Variables::new(), |_, _| ()).unwrap_or_else(Counts::from)
 }
 
 /// Check over bytes, four to a word, lowest first: the refusal number, 0 if accepted; 1 to 3 spare bytes are left off.
@@ -829,8 +830,9 @@ pub fn check_bytes(bytes: &[u8]) -> u32 {
 
 /// Translate: writes a model's row system to the front of the output.
 pub fn translate(words: &[u32], out: &mut [u32]) -> Written {
-    let (variables, counts) = match measure(words, |_, _| ()) {
-        Ok(measured) => measured,
+    let mut variables = Variables::new();
+    let counts = match measure(words, &mut variables, |_, _| ()) {
+        Ok(counts) => counts,
         Err(refusal) => return refusal.into(),
     };
     let Some(out) = out.get_mut(..counts.words) else { return Refusal { fault: 16, place: 0 }.into() };
@@ -884,7 +886,8 @@ pub fn judge_model(words: &[u32], values: &[i32]) -> Judgement {
 }
 
 fn try_judge_model(words: &[u32], values: &[i32]) -> Result<Judgement, Refusal> {
-    let variables = start(words)?;
+    let mut variables = Variables::new();
+    read_variables(words, &mut variables)?;
     let out_of_bounds = first_out_of_bounds(variables.list(), values);
     let judging = values.len() == variables.count && out_of_bounds.is_none();
     let mut judge = Judge { values, seen: 0, first_false: None };
@@ -907,7 +910,8 @@ pub fn fill(words: &[u32], values: &[i32], out: &mut [i32]) -> Judgement {
 fn try_fill(words: &[u32], values: &[i32], out: &mut [i32]) -> Result<Judgement, Refusal> {
     let mut judge = Judge { values, seen: 0, first_false: None };
     let mut judging = None;
-    let (variables, counts) = measure(words, |variables, constraint| {
+    let mut variables = Variables::new();
+    let counts = measure(words, &mut variables, |variables, constraint| {
         if *judging.get_or_insert_with(|| values.len() == variables.count && first_out_of_bounds(variables.list(), values).is_none()) {
             judge.constraint(constraint);
         }

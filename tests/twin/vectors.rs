@@ -1,7 +1,7 @@
 //! Recorded answers, tests/vectors: a line is CALL | words | values or - | room or - | answer.
 
 use crate::answers::{Judgement, FALSE, HOLDS, OUT_OF_BOUNDS};
-use crate::library::Library;
+use crate::library::{self, Lent};
 use crate::twin;
 use std::process::exit;
 
@@ -19,11 +19,10 @@ fn judged(judgement: Judgement) -> String {
 }
 
 /// The answer of a side, in the form of the record. `library`: the library's, else the twin's.
-fn answer(call: &str, words: &[u32], values: &[i32], room: usize, library: bool) -> String {
-    let side = Library { null: false };
+fn answer(call: &str, words: &mut [u32], values: &mut [i32], room: usize, library: bool) -> String {
     match call {
         "check" => {
-            let counts = if library { side.check(words) } else { twin::check(words) };
+            let counts = if library { library::check(Lent::new(words)) } else { twin::check(words) };
             match counts.fault {
                 0 => listed("counts", [counts.variables, counts.constraints, counts.auxiliaries, counts.rows, counts.words]),
                 fault => format!("refused {fault} {}", counts.place),
@@ -31,18 +30,23 @@ fn answer(call: &str, words: &[u32], values: &[i32], room: usize, library: bool)
         }
         "translate" => {
             let mut out = vec![0; room];
-            let written = if library { side.translate(words, &mut out) } else { twin::translate(words, &mut out) };
+            let written = if library { library::translate(Lent::new(words), Lent::new(&mut out)) } else { twin::translate(words, &mut out) };
             match written.fault {
                 0 => listed("words", out[..written.words].iter().map(|word| format!("{word:08X}"))),
                 fault => format!("refused {fault} {}", written.place),
             }
         }
-        "judge_model" => judged(if library { side.judge_model(words, values) } else { twin::judge_model(words, values) }),
-        "judge_rows" => judged(if library { side.judge_rows(words, values) } else { twin::judge_rows(words, values) }),
+        "judge_model" => judged(if library { library::judge_model(Lent::new(words), Lent::new(values)) } else { twin::judge_model(words, values) }),
+        "judge_rows" => judged(if library { library::judge_rows(Lent::new(words), Lent::new(values)) } else { twin::judge_rows(words, values) }),
         _ => {
             let mut out = vec![0; room];
-            let filled = if library { side.fill(words, values, &mut out) } else { twin::fill(words, values, &mut out) };
-            if filled.said == HOLDS { listed("filled", &out[..filled.at]) } else { judged(filled) }
+            let filled =
+                if library { library::fill(Lent::new(words), Lent::new(values), Lent::new(&mut out)) } else { twin::fill(words, values, &mut out) };
+            if filled.said == HOLDS {
+                listed("filled", &out[..filled.at])
+            } else {
+                judged(filled)
+            }
         }
     }
 }
@@ -60,11 +64,11 @@ pub fn run(files: &[String]) {
                 println!("twin: not a vector: {line}");
                 exit(1)
             };
-            let words: Vec<u32> = words.split_whitespace().filter_map(|word| u32::from_str_radix(word, 16).ok()).collect();
-            let values: Vec<i32> = values.split_whitespace().filter_map(|value| value.parse().ok()).collect();
+            let mut words: Vec<u32> = words.split_whitespace().filter_map(|word| u32::from_str_radix(word, 16).ok()).collect();
+            let mut values: Vec<i32> = values.split_whitespace().filter_map(|value| value.parse().ok()).collect();
             let room = room.parse().unwrap_or(0);
             for (side, library) in [("twin", false), ("library", true)] {
-                let answer = answer(call, &words, &values, room, library);
+                let answer = answer(call, &mut words, &mut values, room, library);
                 if answer != recorded {
                     println!("twin: {file}: {line}\n{side}: {answer}");
                     exit(1);
