@@ -1,4 +1,4 @@
-# make run      proves every crate and runs the programs there are
+# make run      proves every crate, runs the programs, and prints the row system of a small model
 # make test     runs the gate
 # make example  builds the example in C with the proved library and runs it
 # make bench    measures the calls
@@ -6,6 +6,7 @@
 
 run:
 	rt check
+	target/bin/rows < crates/rows/stdin
 
 test:
 	bash .ci/run
