@@ -4,9 +4,10 @@ use mathlib.Core.Bool.{Bool, true, false, _||_}
 use mathlib.Core.List.{List, [], _∷_}
 use Prim.Native.Nat.{ℕ, _+_, _<_, _≤_}
 use native.Mathlib.Omega.{arith}
-use lib.Dec.{eqb}
+use lib.Dec.{eqb, ltb}
 use lib.IntN.{ℤ}
 use lib.ListN.{length, getD, drop, drop-of-length-le}
+use borrow.Author.Tests.{ltb-true, ltb-false}
 use Rattle.integers.specs.Choice.{_if_else_}
 use Rattle.integers.specs.Bounds.{_to_, bit, within}
 use Rattle.integers.specs.Terms.{value}
@@ -69,6 +70,22 @@ module _ {ws : List ℕ} {n at : ℕ} (k : Counted ws n at) where
   pub counted : length ws ≤ at → n ≡ length (variables ws)
   counted h = omega (arith, rw (at-last ws at h) at (k .number))
 
+  -- where variables are left, so are words
+  pub words-left : n < length (variables ws) → at < length ws
+  words-left h = go (ltb at (length ws)) refl
+    where
+      go : (b : Bool) → ltb at (length ws) ≡ b → at < length ws
+      go true e = ltb-true _ _ e
+      go false e = absurd (omega (arith, counted (ltb-false _ _ e)))
+
+  -- where all are counted, none is left
+  pub none-left : n ≡ length (variables ws) → variables (drop at ws) ≡ []
+  none-left e = empty (variables (drop at ws)) (omega (arith, k .number))
+    where
+      empty : (Bs : List Bounds) → length Bs ≡ 0 → Bs ≡ []
+      empty [] z = refl
+      empty (B ∷ Bs) z = absurd (omega arith)
+
 -- ---- judging: x variables stand before the place, and their values keep their bounds
 abbrev outFrom : List ℤ → ℕ → List ℕ → Answer
 outFrom vs x ws = firstOutOfBounds (value vs) x (variables ws) holds
@@ -92,6 +109,6 @@ module _ {ws : List ℕ} {vs : List ℤ} {x at : ℕ} (k : Kept ws vs x at) wher
   unfolding firstOutOfBounds
   break-one h e t = rw (at-one ws at h e, t) at (k .rest)
 
-  pub keep-all : length ws ≤ at → holds ≡ outFrom vs 0 ws
+  pub keep-all : variables (drop at ws) ≡ [] → holds ≡ outFrom vs 0 ws
   unfolding firstOutOfBounds
-  keep-all h = rw (at-last ws at h) at (k .rest)
+  keep-all e = rw e at (k .rest)

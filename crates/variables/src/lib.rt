@@ -70,13 +70,14 @@ pub fn count_variables(ws: &[u32]) -> usize
     count
 }
 
-// The first variable whose value is out of its bounds, else "holds".
+// The first variable whose value is out of its bounds, else "holds"; there are as many values as variables.
 pub fn first_out_of_bounds(ws: &[u32], values: &[i32]) -> Verdict
+    requires { ⌜ length (now values) ≡ length (variables (now ws)) ⌝ }
     ensures { λ r. ⌜ verdict r ≡ firstOutOfBounds (value (now (values .entry))) 0 (variables (now (ws .entry))) holds ⌝ }
 {
     let mut at = 0;
     let mut x = 0;
-    while at < ws.len() {
+    while x < values.len() {
         let w = ws[at];
         at += 1;
         if starts_variable(w) {

@@ -24,7 +24,7 @@ returns-2 c =
     ∙ second-answers (a .read .number) (a .read .place) (countFault (a .ws .now) (a .values .now)) _ (c .before .before .if1 .left)
 
 first-out-of-bounds-requires : tie.Need-first-out-of-bounds-requires
-first-out-of-bounds-requires c κs = search needs
+first-out-of-bounds-requires c κs = c .if2 .left ∙ c .before .count-variables .ensures
 
 returns-3 : tie.Need-returns-3
 returns-3 c =
