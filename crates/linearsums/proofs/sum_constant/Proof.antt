@@ -1,0 +1,30 @@
+-- The tests are those of the definition.
+use mathlib.Core.Path.{_∙_}
+use borrow.Author.Tests.{eq-eqb, ne-eqb}
+use borrow.Author.Needs.{needs}
+use Rattle.integers.proofs.Fits.{back}
+use Rattle.linearsums.specs.Places.{sumConstant}
+use Rattle.linearsums.proofs.sum_constant.Statement.{statement}
+use Rattle.linearsums.proofs.sum_constant.Tie as tie
+
+code-before-requires : tie.Need-code-before-requires
+code-before-requires c κs = search needs
+
+returns : tie.Need-returns
+unfolding sumConstant
+returns c = rw (← c .before .code-before .ensures, eq-eqb _ 14 (c .if1 .taken))
+
+past-terms-at-requires : tie.Need-past-terms-at-requires
+past-terms-at-requires c κs = search needs
+
+num-at-requires : tie.Need-num-at-requires
+num-at-requires c κs = search needs
+
+returns-2 : tie.Need-returns-2
+unfolding sumConstant
+returns-2 c = back (c .num-at .result) (c .num-at .ok) ∙ c .num-at .ensures ∙ rw (← c .before .before .before .code-before .ensures, ne-eqb _ 14 (c .before .before .if1 .left), c .before .past-terms-at .ensures)
+
+pub sum-constant-spec : {M : Type 1} → statement M
+sum-constant-spec =
+    tie.close
+    (tie.spec code-before-requires returns past-terms-at-requires num-at-requires returns-2)

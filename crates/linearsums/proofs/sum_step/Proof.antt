@@ -1,0 +1,27 @@
+-- Both fields by what `with_ends` ensures.
+use mathlib.Core.Path.{_∙_, ap₂}
+use borrow.Author.Needs.{needs}
+use Rattle.integers.specs.Bounds.{_to_}
+use Rattle.integers.proofs.Fits.{back}
+use Rattle.arguments.proofs.Size.{read}
+use Rattle.linearsums.specs.Places.{withTerm}
+use Rattle.linearsums.proofs.Size.{number-near}
+use Rattle.linearsums.proofs.sum_step.Statement.{statement}
+use Rattle.linearsums.proofs.sum_step.Tie as tie
+
+sum-number-requires : tie.Need-sum-number-requires
+sum-number-requires c κs = search needs
+
+with-ends-requires : tie.Need-with-ends-requires
+with-ends-requires c κs = rw (read (c .before .before .before .before .sum-number .ok) (c .before .before .before .before .sum-number .ensures), back (c .before .before .before .before .before .before .args .b .lower) (c .before .before .before .struct-told .given .0 .1), back (c .before .before .before .before .before .before .args .b .upper) (c .before .before .struct-told2 .given .1 .0 .1), back (c .before .before .before .before .before .before .args .total .lower) (c .before .struct-told3 .given .0 .1)) (number-near (c .before .before .before .before .before .before .args .ws .now) (c .before .before .before .before .before .before .args .a) (c .before .before .before .before .before .before .args .k), c .before .before .before .before .before .before .pre .2, c .before .before .before .before .before .before .pre .3, c .before .before .before .before .before .before .pre .4)
+
+with-ends-requires-2 : tie.Need-with-ends-requires-2
+with-ends-requires-2 c κs = rw (read (c .before .before .before .before .before .sum-number .ok) (c .before .before .before .before .before .sum-number .ensures), back (c .before .before .before .before .before .before .before .args .b .lower) (c .before .before .before .before .struct-told .given .0 .1), back (c .before .before .before .before .before .before .before .args .b .upper) (c .before .before .before .struct-told2 .given .1 .0 .1), back (c .before .before .before .before .before .before .before .args .total .upper) (c .before .struct-told4 .given .1 .0 .1)) (number-near (c .before .before .before .before .before .before .before .args .ws .now) (c .before .before .before .before .before .before .before .args .a) (c .before .before .before .before .before .before .before .args .k), c .before .before .before .before .before .before .before .pre .2, c .before .before .before .before .before .before .before .pre .3, c .before .before .before .before .before .before .before .pre .5)
+
+returns : tie.Need-returns
+unfolding withTerm
+returns c = ap₂ (λ l u. l to u) (read (c .before .with-ends .ok) (c .before .with-ends .ensures) ∙ rw (read (c .before .before .before .before .before .before .sum-number .ok) (c .before .before .before .before .before .before .sum-number .ensures), back (c .before .before .before .before .before .before .before .before .args .b .lower) (c .before .before .before .before .before .struct-told .given .0 .1), back (c .before .before .before .before .before .before .before .before .args .b .upper) (c .before .before .before .before .struct-told2 .given .1 .0 .1), back (c .before .before .before .before .before .before .before .before .args .total .lower) (c .before .before .before .struct-told3 .given .0 .1))) (read (c .with-ends2 .ok) (c .with-ends2 .ensures) ∙ rw (read (c .before .before .before .before .before .before .sum-number .ok) (c .before .before .before .before .before .before .sum-number .ensures), back (c .before .before .before .before .before .before .before .before .args .b .lower) (c .before .before .before .before .before .struct-told .given .0 .1), back (c .before .before .before .before .before .before .before .before .args .b .upper) (c .before .before .before .before .struct-told2 .given .1 .0 .1), back (c .before .before .before .before .before .before .before .before .args .total .upper) (c .before .before .struct-told4 .given .1 .0 .1)))
+
+pub sum-step-spec : {M : Type 1} → statement M
+sum-step-spec =
+    tie.close (tie.spec sum-number-requires with-ends-requires with-ends-requires-2 returns)

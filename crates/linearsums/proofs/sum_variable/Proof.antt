@@ -1,0 +1,50 @@
+-- The tests are those of the definition.
+use mathlib.Core.Path.{_∙_}
+use native.Mathlib.Omega.{arith}
+use borrow.Author.Tests.{eq-eqb, ne-eqb}
+use borrow.Author.Needs.{needs}
+use Rattle.models.specs.Model.{past}
+use Rattle.arguments.proofs.Size.{size-le}
+use Rattle.linearsums.specs.Places.{sumVariable}
+use Rattle.linearsums.proofs.sum_variable.Statement.{statement}
+use Rattle.linearsums.proofs.sum_variable.Tie as tie
+
+code-before-requires : tie.Need-code-before-requires
+code-before-requires c κs = search needs
+
+add-var-at : tie.Need-add-var-at
+add-var-at c = search needs
+
+var-at-requires : tie.Need-var-at-requires
+var-at-requires c κs = search needs
+
+returns : tie.Need-returns
+unfolding sumVariable
+returns c = c .var-at .ensures ∙ rw (← c .before .before .code-before .ensures, eq-eqb _ 14 (c .before .if1 .taken))
+
+past-at-requires : tie.Need-past-at-requires
+past-at-requires c κs = search needs
+
+add-var-at-2 : tie.Need-add-var-at-2
+unfolding past
+add-var-at-2 c = rw (c .past-at .ensures) (omega (arith, size-le (c .before .before .before .before .args .ws .now) (c .before .before .before .before .args .a), c .before .before .before .before .pre .0, c .before .before .before .before .pre .1))
+
+var-at-requires-2 : tie.Need-var-at-requires-2
+var-at-requires-2 c κs = search needs
+
+returns-2 : tie.Need-returns-2
+unfolding sumVariable
+returns-2 c = c .var-at2 .ensures ∙ rw (← c .before .before .before .code-before .ensures, ne-eqb _ 14 (c .before .before .if1 .left), c .before .past-at .ensures)
+
+pub sum-variable-spec : {M : Type 1} → statement M
+sum-variable-spec =
+    tie.close
+    (tie.spec
+    code-before-requires
+    add-var-at
+    var-at-requires
+    returns
+    past-at-requires
+    add-var-at-2
+    var-at-requires-2
+    returns-2)

@@ -1,0 +1,236 @@
+// L and U of the sums of a model, worked out over a lent list of the bounds of its variables.
+ghost use mathlib.Core.Path.{_≡_};
+ghost use Prim.Native.Nat.{_+_, _*_, _<_, _≤_};
+ghost use lib.IntN.{natAbs};
+ghost use lib.ListN.{length};
+ghost use Rattle.integers.specs.Choice.{_if_else_};
+ghost use Rattle.integers.specs.Number.{_⊕_, _⊖_, _⊗_, minZ, maxZ, +0};
+ghost use Rattle.integers.specs.Bounds.{_to_, boundsIn};
+ghost use Rattle.words.specs.Small.{Near};
+ghost use Rattle.extremes.specs.Bounded.{boundsOf, Bounded};
+ghost use Rattle.linearsums.specs.Places.{codeBefore, sumSize, sumNumber, sumVariable, sumConstant, sumBounds, withTerm, BoundsNear, afterHead, noSums, sumsUpTo};
+use arguments::num_at;
+use arguments::past_at;
+use arguments::past_terms_at;
+use arguments::size_at;
+use arguments::var_at;
+use extremes::bound_at;
+use extremes::times_ends;
+use integers::Bounds;
+use integers::minus;
+use integers::plus;
+use words::kind;
+use words::kind_of;
+use words::limit;
+use words::payload_of;
+use words::word_at;
+
+// The codes whose rules have L and U: from int_lin_ne to int_lin_le_reif.
+const FIRST: usize = 12;
+
+const LAST: usize = 15;
+// The code of int_eq_reif, whose sum has the terms 1×a and −1×b.
+const EQUAL_REIFIED: usize = 14;
+
+// The code of the constraint whose head stands before place a, 0 if none does.
+fn code_before(ws: &[u32], a: usize) -> usize
+    ensures { λ r. ⌜ r ≡ codeBefore (now (ws .entry)) a ⌝ }
+{
+    if a == 0 {
+        return 0;
+    }
+    let w = word_at(ws, a - 1);
+    if kind_of(w) == kind::CONSTRAINT {
+        return payload_of(w);
+    }
+    0
+}
+
+// How many terms the sum has.
+pub fn sum_size(ws: &[u32], a: usize) -> usize
+    ensures { λ r. ⌜ r ≡ sumSize (now (ws .entry)) a ⌝ }
+{
+    let code = code_before(ws, a);
+    if code < FIRST {
+        return 0;
+    }
+    if LAST < code {
+        return 0;
+    }
+    if code == EQUAL_REIFIED {
+        return 2;
+    }
+    size_at(ws, a)
+}
+
+// The number of term k.
+fn sum_number(ws: &[u32], a: usize, k: usize) -> i64
+    requires { ⌜ (a < 1099511627776) × (k ≤ 32) ⌝ }
+    ensures { λ r. ⌜ r ≡ sumNumber (now (ws .entry)) a k ⌝ }
+{
+    if code_before(ws, a) == EQUAL_REIFIED {
+        if k == 0 {
+            return 1;
+        }
+        return -1;
+    }
+    num_at(ws, a + 1 + k)
+}
+
+// Its variable.
+pub fn sum_variable(ws: &[u32], a: usize, k: usize) -> usize
+    requires { ⌜ (a < 1099511627776) × (k ≤ 32) ⌝ }
+    ensures { λ r. ⌜ r ≡ sumVariable (now (ws .entry)) a k ⌝ }
+{
+    if code_before(ws, a) == EQUAL_REIFIED {
+        return var_at(ws, a + k);
+    }
+    var_at(ws, past_at(ws, a) + k)
+}
+
+// The constant that the sum is less.
+fn sum_constant(ws: &[u32], a: usize) -> i64
+    requires { ⌜ a < 1099511627776 ⌝ }
+    ensures { λ r. ⌜ r ≡ sumConstant (now (ws .entry)) a ⌝ }
+{
+    if code_before(ws, a) == EQUAL_REIFIED {
+        return 0;
+    }
+    num_at(ws, past_terms_at(ws, a))
+}
+
+// L and U of no terms.
+pub fn sum_start(ws: &[u32], a: usize) -> Bounds
+    requires { ⌜ a < 1099511627776 ⌝ }
+    ensures { λ r. ⌜ r ≡ (+0 ⊖ sumConstant (now (ws .entry)) a to +0 ⊖ sumConstant (now (ws .entry)) a) ⌝ }
+{
+    let start = minus(0, sum_constant(ws, a));
+    Bounds {
+        lower: start,
+        upper: start,
+    }
+}
+
+// The least or the largest of a sum with one term more: its number n and the bounds of its variable.
+fn with_ends(total: i64, n: i64, lower: i64, upper: i64, up: bool) -> i64
+    requires { ⌜ Near n × Near lower × Near upper × (natAbs total ≤ 1152921504606846976) ⌝ }
+    ensures { λ r. ⌜ r ≡ total ⊕ (maxZ if up else minZ) (n ⊗ lower) (n ⊗ upper) ⌝ }
+{
+    plus(total, times_ends(n, lower, upper, up))
+}
+
+// L and U with term k too, whose variable has these bounds.
+pub fn sum_step(total: Bounds, ws: &[u32], a: usize, k: usize, b: Bounds) -> Bounds
+    requires { ⌜ (a < 1099511627776) × (k ≤ 32) × Near (b .lower) × Near (b .upper) × (natAbs (total .lower) ≤ 1152921504606846976) × (natAbs (total .upper) ≤ 1152921504606846976) ⌝ }
+    ensures { λ r. ⌜ r ≡ withTerm total (sumNumber (now (ws .entry)) a k) b ⌝ }
+{
+    let n = sum_number(ws, a, k);
+    let lower = b.lower;
+    let upper = b.upper;
+    let least = total.lower;
+    let largest = total.upper;
+    Bounds {
+        lower: with_ends(least, n, lower, upper, false),
+        upper: with_ends(largest, n, lower, upper, true),
+    }
+}
+
+// The bounds of a variable in a lent list, 0 and 0 past the last one.
+pub fn bounds_at(bounds: &[Bounds], v: usize) -> Bounds
+    ensures { λ r. ⌜ r ≡ boundsIn (now (bounds .entry)) v ⌝ }
+{
+    if v < bounds.len() {
+        return bounds[v];
+    }
+    Bounds { lower: 0, upper: 0 }
+}
+
+// L and U of the sum of the constraint whose arguments start at place a.
+pub fn sum_bounds(ws: &[u32], a: usize, bounds: &[Bounds]) -> Bounds
+    requires { ⌜ (a < 1099511627776) × BoundsNear (now bounds) ⌝ }
+    ensures { λ r. ⌜ r ≡ sumBounds (now (ws .entry)) a (boundsIn (now (bounds .entry))) ⌝ }
+{
+    let n = sum_size(ws, a);
+    let mut total = sum_start(ws, a);
+    let mut k = 0;
+    while k < n {
+        let b = bounds_at(bounds, sum_variable(ws, a, k));
+        total = sum_step(total, ws, a, k, b);
+        k += 1;
+    }
+    total
+}
+
+// The place after the next head of a constraint, from a place on; the end if there is none.
+pub fn after_head(ws: &[u32], from: usize) -> usize
+    ensures { λ r. ⌜ r ≡ afterHead (now (ws .entry)) from ⌝ }
+{
+    let mut p = from;
+    while p < ws.len() {
+        let w = ws[p];
+        p += 1;
+        if kind_of(w) == kind::CONSTRAINT {
+            return p;
+        }
+    }
+    p
+}
+
+// No sums yet.
+pub fn no_sums() -> [Bounds; 256]
+    ensures { λ r. ⌜ r ≡ noSums ⌝ }
+{
+    let none = Bounds { lower: 0, upper: 0 };
+    [none; 256]
+}
+
+// L and U of the sum of each constraint, in the order of the constraints.
+pub fn constraint_sums(ws: &[u32], bounds: &[Bounds]) -> [Bounds; 256]
+    requires { ⌜ (length (now ws) < 1099511627776) × BoundsNear (now bounds) ⌝ }
+    ensures { λ r. ⌜ r ≡ sumsUpTo (now (ws .entry)) (boundsIn (now (bounds .entry))) 256 ⌝ }
+{
+    let mut sums = no_sums();
+    let mut k = 0;
+    let mut a = 0;
+    while k < limit::CONSTRAINTS {
+        a = after_head(ws, a);
+        sums[k] = sum_bounds(ws, a, bounds);
+        k += 1;
+    }
+    sums
+}
+
+// The same of bounds that are passed by value: they are lent as a list.
+pub fn lend_bounds(ws: &[u32], bounds: [Bounds; 256]) -> [Bounds; 256]
+    requires { ⌜ (length (now ws) < 1099511627776) × BoundsNear bounds ⌝ }
+    ensures { λ r. ⌜ r ≡ sumsUpTo (now (ws .entry)) (boundsIn bounds) 256 ⌝ }
+{
+    constraint_sums(ws, &bounds)
+}
+
+// The bounds of the variables as records, one for each, from the lists of lower and of upper bounds.
+fn records_of(ls: &[i64], us: &[i64]) -> [Bounds; 256]
+    requires { ⌜ (length (now ls) ≤ 256) × (length (now us) ≤ 256) ⌝ }
+    ensures { λ r. ⌜ boundsIn r ≡ boundsOf (now (ls .entry)) (now (us .entry)) ⌝ }
+{
+    let none = Bounds { lower: 0, upper: 0 };
+    let mut records = [none; 256];
+    let mut v = 0;
+    while v < limit::VARIABLES {
+        let record = Bounds {
+            lower: bound_at(ls, v),
+            upper: bound_at(us, v),
+        };
+        records[v] = record;
+        v += 1;
+    }
+    records
+}
+
+// L and U of the sum of each constraint of a model, whose variables have these bounds: the records are made once, and lent.
+pub fn model_sums(ws: &[u32], ls: &[i64], us: &[i64]) -> [Bounds; 256]
+    requires { ⌜ (length (now ws) < 1099511627776) × (length (now ls) ≤ 256) × (length (now us) ≤ 256) × Bounded (now ls) × Bounded (now us) ⌝ }
+    ensures { λ r. ⌜ r ≡ sumsUpTo (now (ws .entry)) (boundsOf (now (ls .entry)) (now (us .entry))) 256 ⌝ }
+{
+    lend_bounds(ws, records_of(ls, us))
+}
