@@ -1,4 +1,4 @@
-// Numbers from the bounds of the variables, which stand in two lists: the least and largest of sums and products, and the members of a set.
+// Numbers from the bounds of the variables, which stand in two lists: the least and largest of products, and the members of a set.
 ghost use mathlib.Core.Path.{_≡_};
 ghost use mathlib.Core.Bool.{_&&_};
 ghost use mathlib.Core.List.{map};
@@ -13,16 +13,14 @@ ghost use Rattle.extremes.specs.Bounded.{boundsOf, Near, Bounded};
 ghost use Rattle.extremes.specs.Kept.{lowerOf, upperOf};
 ghost use Rattle.words.specs.Variables.{variables};
 ghost use Rattle.words.specs.Overlay.{overlay};
-ghost use Rattle.models.specs.Model.{var, num, nums, terms};
-ghost use Rattle.rules.specs.Parts.{extreme, L, U, endProducts, leastFrom, members};
+ghost use Rattle.models.specs.Model.{nums};
+ghost use Rattle.rules.specs.Parts.{endProducts, leastFrom, members};
 use arguments::count_of;
 use arguments::num_at;
-use arguments::past_at;
 use arguments::size_at;
 use arguments::test::at_most;
 use arguments::test::below;
 use arguments::test::both;
-use arguments::var_at;
 use integers::largest;
 use integers::least;
 use integers::minus;
@@ -57,50 +55,6 @@ pub fn times_ends(a: i64, lower: i64, upper: i64, up: bool) -> i64
     ensures { λ r. ⌜ r ≡ (maxZ if up else minZ) (a ⊗ lower) (a ⊗ upper) ⌝ }
 {
     pick(times(a, lower), times(a, upper), up)
-}
-
-// The least or the largest of one term: the number at place a, the variable at place x.
-pub fn term_extreme(args: &[u32], a: usize, x: usize, ls: &[i64], us: &[i64], up: bool) -> i64
-    requires { ⌜ Bounded (now ls) × Bounded (now us) ⌝ }
-    ensures { λ r. ⌜ r ≡ (maxZ if up else minZ) (num (now (args .entry)) a ⊗ getD (now (ls .entry)) (var (now (args .entry)) x) +0) (num (now (args .entry)) a ⊗ getD (now (us .entry)) (var (now (args .entry)) x) +0) ⌝ }
-{
-    let v = var_at(args, x);
-    times_ends(num_at(args, a), bound_at(ls, v), bound_at(us, v), up)
-}
-
-// The least or the largest of the sum whose length word is at place i.
-pub fn sum_extreme(args: &[u32], i: usize, ls: &[i64], us: &[i64], up: bool) -> i64
-    requires { ⌜ (i < 1099511627776) × Bounded (now ls) × Bounded (now us) ⌝ }
-    ensures { λ r. ⌜ r ≡ extreme (maxZ if up else minZ) (boundsOf (now (ls .entry)) (now (us .entry))) (terms (now (args .entry)) i) ⌝ }
-{
-    let n = size_at(args, i);
-    let variables = past_at(args, i);
-    let mut k = 0;
-    let mut total: i64 = 0;
-    while k < n {
-        total = plus(
-            total,
-            term_extreme(args, i + 1 + k, variables + k, ls, us, up),
-        );
-        k += 1;
-    }
-    total
-}
-
-// The least of the sum less c.
-pub fn sum_lower(args: &[u32], i: usize, c: i64, ls: &[i64], us: &[i64]) -> i64
-    requires { ⌜ (i < 1099511627776) × Near c × Bounded (now ls) × Bounded (now us) ⌝ }
-    ensures { λ r. ⌜ r ≡ L (boundsOf (now (ls .entry)) (now (us .entry))) (terms (now (args .entry)) i) c ⌝ }
-{
-    minus(sum_extreme(args, i, ls, us, false), c)
-}
-
-// The largest of the sum less c.
-pub fn sum_upper(args: &[u32], i: usize, c: i64, ls: &[i64], us: &[i64]) -> i64
-    requires { ⌜ (i < 1099511627776) × Near c × Bounded (now ls) × Bounded (now us) ⌝ }
-    ensures { λ r. ⌜ r ≡ U (boundsOf (now (ls .entry)) (now (us .entry))) (terms (now (args .entry)) i) c ⌝ }
-{
-    minus(sum_extreme(args, i, ls, us, true), c)
 }
 
 // The lower bound of Z: the lesser of 0 and a lower bound.

@@ -1,9 +1,9 @@
 -- A row laid as a head, terms and a constant; rows after those of a block; int_eq_reif as int_lin_eq_reif.
-use mathlib.Core.Path.{_≡_, refl, sym, ap, ap₂, _∙_}
+use mathlib.Core.Path.{_≡_, refl, sym, _∙_}
 use mathlib.Core.List.{List, [], _∷_, _++_, append-assoc, append-nil, flatMap}
 use Prim.Native.Nat.{ℕ}
 use lib.IntN.{ℤ}
-use lib.ListN.{length, getD}
+use lib.ListN.{length}
 use Rattle.integers.specs.Lists.{listOf}
 use Rattle.integers.specs.Terms.{Term}
 use Rattle.integers.specs.declared.Bounds.{Bounds}
@@ -14,6 +14,7 @@ use Rattle.builtins.specs.Coded.{linearReified}
 use Rattle.rowsystems.specs.Row.{Row}
 use Rattle.rules.specs.Block.{Ref, Block, numbered}
 use Rattle.rules.specs.Rule.{block, rule}
+use Rattle.linearsums.specs.Sum.{linearSum, equalSum}
 use Rattle.laying.specs.Part.{Part, head, term, constant, boundParts, termParts, rowParts, blockParts}
 use Rattle.laying.specs.Went.{Went}
 use Rattle.laying.specs.declared.Laid.{Laid}
@@ -47,3 +48,7 @@ pub two-terms : (β : ℕ → Bounds) (a b r : ℕ) →
     rule β (linearReified int-lin-eq-reif (2 ∷ 1 ∷ 268435455 ∷ a ∷ b ∷ 0 ∷ r ∷ [])) ≡ rule β (int-eq-reif (payload a) (payload b) (payload r))
 unfolding rule terms num var size past pastTerms payload signed wordAt listOf
 two-terms β a b r = refl
+
+pub two-sum : (β : ℕ → Bounds) (args : List ℕ) (r : ℕ) → equalSum β args ≡ linearSum β (2 ∷ 1 ∷ 268435455 ∷ wordAt args 0 ∷ wordAt args 1 ∷ 0 ∷ r ∷ [])
+unfolding equalSum linearSum terms num var size past pastTerms payload signed wordAt listOf
+two-sum β args r = refl

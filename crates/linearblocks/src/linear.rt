@@ -1,12 +1,12 @@
-// Codes 10 to 15: the blocks of sums of terms, and of int_eq_reif.
+// Codes 10 to 15: the blocks of sums of terms, and of int_eq_reif. From 12 on `sum` is L and U.
+ghost use mathlib.Core.Path.{_≡_};
 ghost use mathlib.Core.List.{flatMap};
 ghost use Prim.Native.Nat.{ℕ, _<_, _≤_};
 ghost use lib.IntN.{natAbs};
-ghost use Rattle.integers.specs.declared.Bounds.{Bounds};
 ghost use Rattle.models.specs.Builtin.{int-lin-eq, int-lin-le, int-lin-ne, int-lin-eq-reif, int-eq-reif, int-lin-le-reif};
 ghost use Rattle.builtins.specs.Coded.{three, linear, linearReified};
 ghost use Rattle.rules.specs.Rule.{rule, block};
-ghost use Rattle.extremes.specs.Bounded.{boundsOf, Bounded};
+ghost use Rattle.linearsums.specs.Sum.{linearSum, equalSum, Fits};
 ghost use Rattle.laying.specs.Part.{rowParts, blockParts};
 ghost use Rattle.laying.specs.Went.{Went, Near, total};
 ghost use Rattle.linearblocks.specs.Rows.{zeroRows, atMostRows};
@@ -14,10 +14,9 @@ use crate::sums::larger_size;
 use crate::sums::lay_slack;
 use crate::sums::lay_split;
 use crate::sums::lay_sum;
-use crate::sums::lower_of;
-use crate::sums::upper_of;
 use arguments::past_terms_at;
 use arguments::var_at;
+use integers::Bounds;
 use integers::minus;
 use integers::opposite;
 use laying::Laid;
@@ -42,19 +41,12 @@ pub fn int_lin_le(out: &mut [u32], s: Laid, args: &[u32]) -> Laid
 }
 
 // int_lin_ne: x in L..U, b, z in Z(x): Σ−x−c=0; z:=b×x; −x+2×z+1≤0.
-pub fn int_lin_ne(
-    out: &mut [u32],
-    s: Laid,
-    args: &[u32],
-    ls: &[i64],
-    us: &[i64],
-    first: usize,
-) -> Laid
-    requires { ⌜ (total s < 1000000000) × (first < 10000) × Bounded (now ls) × Bounded (now us) ⌝ }
-    ensures { λ r. ⌜ Went s r (now (out .entry)) (now (out .exit)) (blockParts first (rule (boundsOf (now (ls .entry)) (now (us .entry))) (linear int-lin-ne (now (args .entry))))) × Near 1000000 s r ⌝ }
+pub fn int_lin_ne(out: &mut [u32], s: Laid, args: &[u32], sum: Bounds, first: usize) -> Laid
+    requires { ⌜ (total s < 1000000000) × (first < 10000) × Fits sum ⌝ }
+    ensures { λ r. ⌜ ((β : ℕ → Bounds) → sum ≡ linearSum β (now (args .entry)) → Went s r (now (out .entry)) (now (out .exit)) (blockParts first (rule β (linear int-lin-ne (now (args .entry)))))) × Near 1000000 s r ⌝ }
 {
-    let lower = lower_of(args, ls, us);
-    let upper = upper_of(args, ls, us);
+    let lower = sum.lower;
+    let upper = sum.upper;
     let t = lay_split(out, s, args, lower, upper, first);
     let xs = [first, first + 2];
     let cs = [-1, 2];
@@ -74,19 +66,12 @@ fn lay_zero(out: &mut [u32], s: Laid, w: i64, r: usize, first: usize) -> Laid
 }
 
 // int_lin_eq_reif: the auxiliaries and the first two rows of int_lin_ne; x−2×z+W×r−W≤0; −x+2×z−r+1≤0; W=max(|L|,|U|).
-pub fn int_lin_eq_reif(
-    out: &mut [u32],
-    s: Laid,
-    args: &[u32],
-    ls: &[i64],
-    us: &[i64],
-    first: usize,
-) -> Laid
-    requires { ⌜ (total s < 1000000000) × (first < 10000) × Bounded (now ls) × Bounded (now us) ⌝ }
-    ensures { λ r. ⌜ Went s r (now (out .entry)) (now (out .exit)) (blockParts first (rule (boundsOf (now (ls .entry)) (now (us .entry))) (linearReified int-lin-eq-reif (now (args .entry))))) × Near 1000000 s r ⌝ }
+pub fn int_lin_eq_reif(out: &mut [u32], s: Laid, args: &[u32], sum: Bounds, first: usize) -> Laid
+    requires { ⌜ (total s < 1000000000) × (first < 10000) × Fits sum ⌝ }
+    ensures { λ r. ⌜ ((β : ℕ → Bounds) → sum ≡ linearSum β (now (args .entry)) → Went s r (now (out .entry)) (now (out .exit)) (blockParts first (rule β (linearReified int-lin-eq-reif (now (args .entry)))))) × Near 1000000 s r ⌝ }
 {
-    let lower = lower_of(args, ls, us);
-    let upper = upper_of(args, ls, us);
+    let lower = sum.lower;
+    let upper = sum.upper;
     let w = larger_size(lower, upper);
     let r = var_at(args, past_terms_at(args, 0) + 1);
     let t = lay_split(out, s, args, lower, upper, first);
@@ -94,23 +79,16 @@ pub fn int_lin_eq_reif(
 }
 
 // int_eq_reif: int_lin_eq_reif of the two terms 1×a and −1×b, with the constant 0.
-pub fn int_eq_reif(
-    out: &mut [u32],
-    s: Laid,
-    args: &[u32],
-    ls: &[i64],
-    us: &[i64],
-    first: usize,
-) -> Laid
-    requires { ⌜ (total s < 1000000000) × (first < 10000) × Bounded (now ls) × Bounded (now us) ⌝ }
-    ensures { λ r. ⌜ Went s r (now (out .entry)) (now (out .exit)) (blockParts first (rule (boundsOf (now (ls .entry)) (now (us .entry))) (three int-eq-reif (now (args .entry))))) × Near 1000000 s r ⌝ }
+pub fn int_eq_reif(out: &mut [u32], s: Laid, args: &[u32], sum: Bounds, first: usize) -> Laid
+    requires { ⌜ (total s < 1000000000) × (first < 10000) × Fits sum ⌝ }
+    ensures { λ r. ⌜ ((β : ℕ → Bounds) → sum ≡ equalSum β (now (args .entry)) → Went s r (now (out .entry)) (now (out .exit)) (blockParts first (rule β (three int-eq-reif (now (args .entry)))))) × Near 1000000 s r ⌝ }
 {
     let a = word_at(args, 0);
     let b = word_at(args, 1);
     let r = word_at(args, 2);
     // the length 2, the numbers 1 and −1, the variables, the number 0, the variable r
-    let sum = [2, 1, 268435455, a, b, 0, r];
-    int_lin_eq_reif(out, s, &sum, ls, us, first)
+    let words = [2, 1, 268435455, a, b, 0, r];
+    int_lin_eq_reif(out, s, &words, sum, first)
 }
 
 // x+U×r−U≤0; −x+(L−1)×r+1≤0, x the variable `first`.
@@ -126,19 +104,12 @@ fn lay_at_most(out: &mut [u32], s: Laid, lower: i64, upper: i64, r: usize, first
 }
 
 // int_lin_le_reif: x in L..U: Σ−x−c=0; x+U×r−U≤0; −x+(L−1)×r+1≤0.
-pub fn int_lin_le_reif(
-    out: &mut [u32],
-    s: Laid,
-    args: &[u32],
-    ls: &[i64],
-    us: &[i64],
-    first: usize,
-) -> Laid
-    requires { ⌜ (total s < 1000000000) × (first < 10000) × Bounded (now ls) × Bounded (now us) ⌝ }
-    ensures { λ r. ⌜ Went s r (now (out .entry)) (now (out .exit)) (blockParts first (rule (boundsOf (now (ls .entry)) (now (us .entry))) (linearReified int-lin-le-reif (now (args .entry))))) × Near 1000000 s r ⌝ }
+pub fn int_lin_le_reif(out: &mut [u32], s: Laid, args: &[u32], sum: Bounds, first: usize) -> Laid
+    requires { ⌜ (total s < 1000000000) × (first < 10000) × Fits sum ⌝ }
+    ensures { λ r. ⌜ ((β : ℕ → Bounds) → sum ≡ linearSum β (now (args .entry)) → Went s r (now (out .entry)) (now (out .exit)) (blockParts first (rule β (linearReified int-lin-le-reif (now (args .entry)))))) × Near 1000000 s r ⌝ }
 {
-    let lower = lower_of(args, ls, us);
-    let upper = upper_of(args, ls, us);
+    let lower = sum.lower;
+    let upper = sum.upper;
     let r = var_at(args, past_terms_at(args, 0) + 1);
     let t = lay_slack(out, s, args, lower, upper, first);
     lay_at_most(out, t, lower, upper, r, first)

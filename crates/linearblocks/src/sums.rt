@@ -1,4 +1,4 @@
-// What several linear blocks share: the numbers c, L and U, and rows that begin with the sum.
+// What several linear blocks share: the constant c, absolute values, and rows that begin with the sum.
 ghost use mathlib.Core.Path.{_≡_};
 ghost use mathlib.Core.List.{[], _∷_, _++_};
 ghost use Prim.Native.Nat.{ℕ, _<_, _≤_};
@@ -6,16 +6,13 @@ ghost use lib.IntN.{natAbs};
 ghost use lib.ListN.{length};
 ghost use Rattle.integers.specs.Number.{neg, maxZ, absZ};
 ghost use Rattle.models.specs.Model.{num, terms, pastTerms};
-ghost use Rattle.rules.specs.Parts.{sources, L, U};
-ghost use Rattle.extremes.specs.Bounded.{boundsOf, Bounded};
+ghost use Rattle.rules.specs.Parts.{sources};
 ghost use Rattle.laying.specs.Part.{Part, head, constant, termParts, rowParts, blockParts};
 ghost use Rattle.laying.specs.Went.{Went, Near, total};
 ghost use Rattle.linearblocks.specs.Rows.{link, split, slack};
 use arguments::num_at;
 use arguments::past_terms_at;
 use arguments::size_at;
-use extremes::sum_lower;
-use extremes::sum_upper;
 use extremes::zero_lower;
 use extremes::zero_upper;
 use integers::largest;
@@ -50,22 +47,6 @@ fn constant_of(args: &[u32]) -> i64
     ensures { λ r. ⌜ r ≡ num (now (args .entry)) (pastTerms (now (args .entry)) 0) ⌝ }
 {
     num_at(args, past_terms_at(args, 0))
-}
-
-// L: the least of the sum less the constant.
-pub fn lower_of(args: &[u32], ls: &[i64], us: &[i64]) -> i64
-    requires { ⌜ Bounded (now ls) × Bounded (now us) ⌝ }
-    ensures { λ r. ⌜ (r ≡ L (boundsOf (now (ls .entry)) (now (us .entry))) (terms (now (args .entry)) 0) (num (now (args .entry)) (pastTerms (now (args .entry)) 0))) × (natAbs r ≤ 1152921504606846976) ⌝ }
-{
-    sum_lower(args, 0, constant_of(args), ls, us)
-}
-
-// U: the largest.
-pub fn upper_of(args: &[u32], ls: &[i64], us: &[i64]) -> i64
-    requires { ⌜ Bounded (now ls) × Bounded (now us) ⌝ }
-    ensures { λ r. ⌜ (r ≡ U (boundsOf (now (ls .entry)) (now (us .entry))) (terms (now (args .entry)) 0) (num (now (args .entry)) (pastTerms (now (args .entry)) 0))) × (natAbs r ≤ 1152921504606846976) ⌝ }
-{
-    sum_upper(args, 0, constant_of(args), ls, us)
 }
 
 // The constant of a row, the opposite of the constant after the terms.

@@ -18,6 +18,7 @@ use Rattle.rules.specs.Block.{blockWords}
 use Rattle.rules.specs.Translation.{bounds, blockOf, sourceWords, blocksWords, systemWords, auxiliaries, blockRows}
 use Rattle.rules.specs.Check.{blockFault, blocksFault, checkFault, check}
 use Rattle.sharing.proofs.Accepts.{one-fine}
+use Rattle.linearsums.proofs.Model.{Passed, passed-none, passed-word, passed-head}
 use Rattle.translation.specs.Walk.{countsFrom, Costs}
 use Rattle.translation.specs.declared.Cost.{Cost}
 
@@ -62,15 +63,16 @@ pub record Checking (β : ℕ → Bounds) (v : ℕ) (ws : List ℕ) (start at k 
   pub room : v + a ≤ 4096
   pub few : k ≤ at
   pub small : a + r + w ≤ start + 1000000 * at
+  pub passed : Passed ws at k
   pub left : countsFrom β v k a r w (constraintsFrom at (drop at ws)) ≡ countsFrom β v 0 0 0 start (constraints ws)
 
 pub begun : (β : ℕ → Bounds) (v : ℕ) (ws : List ℕ) (start : ℕ) → v ≤ 256 → Checking β v ws start 0 0 0 0 start
 unfolding constraints
-begun β v ws start h = record { room = omega arith; few = omega arith; small = omega arith; left = refl }
+begun β v ws start h = record { room = omega arith; few = omega arith; small = omega arith; passed = passed-none ws; left = refl }
 
 module _ {β : ℕ → Bounds} {v : ℕ} {ws : List ℕ} {start at k a r w : ℕ} (l : Checking β v ws start at k a r w) where
   pub skip : at < length ws → (kind (getD ws at 0) ≡ 4 → ⊥) → Checking β v ws start (at + 1) k a r w
-  skip h f = record { room = l .room; few = omega (arith, l .few); small = omega (arith, l .small); left = rw (starts-none ws at h f) at (l .left) }
+  skip h f = record { room = l .room; few = omega (arith, l .few); small = omega (arith, l .small); passed = passed-word (l .passed) h f; left = rw (starts-none ws at h f) at (l .left) }
 
   module _ {b : Cost} (h : at < length ws) (e : kind (getD ws at 0) ≡ 4) (x : Costs β (v + a) (headed ws at) b) where
     pub more : b .fault ≡ 0 → Checking β v ws start (at + 1) (k + 1) (a + b .auxiliaries) (r + b .rows) (w + b .words)
@@ -81,6 +83,7 @@ module _ {β : ℕ → Bounds} {v : ℕ} {ws : List ℕ} {start at k a r w : ℕ
           room = omega (arith, one-fine β (v + a) (headed ws at) f .2, n .auxiliaries);
           few = omega (arith, l .few);
           small = omega (arith, l .small, x .small);
+          passed = passed-head (l .passed) h e;
           left = rw (n .words, n .auxiliaries, n .rows)
               (sym (one-more β v k a r w (headed ws at) (constraintsFrom (at + 1) (drop (at + 1) ws)) f) ∙ rw (starts-one ws at h e) at (l .left));
         }

@@ -11,6 +11,8 @@ ghost use Rattle.models.specs.Model.{constraints};
 ghost use Rattle.rules.specs.Translation.{sourceWords};
 ghost use Rattle.rules.specs.Check.{tooWide, check as checkAnswer};
 ghost use Rattle.extremes.specs.Bounded.{boundsOf, Bounded};
+ghost use Rattle.linearsums.specs.Sum.{Summed};
+ghost use Rattle.linearsums.specs.Places.{sumsUpTo};
 ghost use Rattle.translation.specs.Checked.{checked};
 ghost use Rattle.translation.specs.Walk.{constraintOf, countsFrom, Costs};
 use crate::Checked;
@@ -20,7 +22,9 @@ use arguments::var_at;
 use extremes::bound_at;
 use extremes::keep_bounds;
 use extremes::width_of;
+use integers::Bounds;
 use laying::Laid;
+use linearsums::model_sums;
 use words::Refusal;
 use words::fault;
 use words::kind;
@@ -72,8 +76,8 @@ fn fault_of(block: Laid, first: usize) -> u32
 }
 
 // The fault of one constraint, 0 for none, and what its block counts: it is laid into nothing.
-fn cost_of(code: usize, args: &[u32], ls: &[i64], us: &[i64], first: usize) -> Cost
-    requires { ⌜ (first < 10000) × Bounded (now ls) × Bounded (now us) ⌝ }
+fn cost_of(code: usize, args: &[u32], ls: &[i64], us: &[i64], sum: Bounds, first: usize) -> Cost
+    requires { ⌜ (first < 10000) × Bounded (now ls) × Bounded (now us) × Summed (boundsOf (now ls) (now us)) code (now args) sum ⌝ }
     ensures { λ r. ⌜ Costs (boundsOf (now (ls .entry)) (now (us .entry))) first (constraintOf code (now (args .entry))) r ⌝ }
 {
     if too_wide(code, args, ls, us) {
@@ -85,7 +89,7 @@ fn cost_of(code: usize, args: &[u32], ls: &[i64], us: &[i64], first: usize) -> C
         };
     }
     let mut none = [0u32; 0];
-    let laid = block(&mut none, code, args, ls, us, first);
+    let laid = block(&mut none, code, args, ls, us, sum, first);
     Cost {
         fault: fault_of(laid, first),
         auxiliaries: laid.auxiliaries,
@@ -95,8 +99,15 @@ fn cost_of(code: usize, args: &[u32], ls: &[i64], us: &[i64], first: usize) -> C
 }
 
 // The first fault of the constraints, or what they need; `sources` words stand before their blocks, and the end word after them.
-fn check_blocks(ws: &[u32], ls: &[i64], us: &[i64], variables: usize, sources: usize) -> Checked
-    requires { ⌜ (length (now ws) ≤ 8192) × (variables ≤ 256) × (sources ≤ 8192) × Bounded (now ls) × Bounded (now us) ⌝ }
+fn check_blocks(
+    ws: &[u32],
+    ls: &[i64],
+    us: &[i64],
+    sums: [Bounds; 256],
+    variables: usize,
+    sources: usize,
+) -> Checked
+    requires { ⌜ (length (now ws) ≤ 8192) × (variables ≤ 256) × (sources ≤ 8192) × Bounded (now ls) × Bounded (now us) × (length (constraints (now ws)) ≤ 256) × (sums ≡ sumsUpTo (now ws) (boundsOf (now ls) (now us)) 256) ⌝ }
     ensures { λ r. ⌜ checked r ≡ countsFrom (boundsOf (now (ls .entry)) (now (us .entry))) variables 0 0 0 (sources + 1) (constraints (now (ws .entry))) ⌝ }
 {
     let mut at = 0;
@@ -109,7 +120,15 @@ fn check_blocks(ws: &[u32], ls: &[i64], us: &[i64], variables: usize, sources: u
         let place = at;
         at += 1;
         if kind_of(w) == kind::CONSTRAINT {
-            let cost = cost_of(payload_of(w), &ws[at..], ls, us, variables + auxiliaries);
+            let sum = sums[constraints];
+            let cost = cost_of(
+                payload_of(w),
+                &ws[at..],
+                ls,
+                us,
+                sum,
+                variables + auxiliaries,
+            );
             if cost.fault != fault::NONE {
                 return Checked::Refused(Refusal {
                     number: cost.fault,
@@ -139,5 +158,6 @@ pub fn check_accepted(ws: &[u32]) -> Checked
     let mut lowers = [0i64; 256];
     let mut uppers = [0i64; 256];
     let variables = keep_bounds(ws, &mut lowers, &mut uppers);
-    check_blocks(ws, &lowers, &uppers, variables, count_sources(ws))
+    let sums = model_sums(ws, &lowers, &uppers);
+    check_blocks(ws, &lowers, &uppers, sums, variables, count_sources(ws))
 }

@@ -8,9 +8,12 @@ ghost use Rattle.rules.specs.Translation.{blocksWords, systemWords};
 ghost use Rattle.rules.specs.Check.{blocksFault};
 ghost use Rattle.sharing.specs.SharedSolutions.{Passes};
 ghost use Rattle.extremes.specs.Bounded.{boundsOf, Bounded};
+ghost use Rattle.linearsums.specs.Places.{sumsUpTo};
 use crate::blocks::block;
 use crate::checking::count_sources;
 use extremes::keep_bounds;
+use integers::Bounds;
+use linearsums::model_sums;
 use words::kind;
 use words::kind_of;
 use words::lay;
@@ -22,21 +25,25 @@ fn write_blocks(
     ws: &[u32],
     ls: &[i64],
     us: &[i64],
+    sums: [Bounds; 256],
     variables: usize,
     out: &mut [u32],
     start: usize,
 ) -> usize
-    requires { ⌜ (variables ≤ 256) × Bounded (now ls) × Bounded (now us) × (blocksFault (boundsOf (now ls) (now us)) variables (constraints (now ws)) .number ≡ 0) × (start + length (blocksWords (boundsOf (now ls) (now us)) variables (constraints (now ws))) ≤ length (now out)) ⌝ }
+    requires { ⌜ (variables ≤ 256) × Bounded (now ls) × Bounded (now us) × (blocksFault (boundsOf (now ls) (now us)) variables (constraints (now ws)) .number ≡ 0) × (start + length (blocksWords (boundsOf (now ls) (now us)) variables (constraints (now ws))) ≤ length (now out)) × (length (constraints (now ws)) ≤ 256) × (sums ≡ sumsUpTo (now ws) (boundsOf (now ls) (now us)) 256) ⌝ }
     ensures { λ r. ⌜ (r ≡ start + length (blocksWords (boundsOf (now (ls .entry)) (now (us .entry))) variables (constraints (now (ws .entry))))) × (now (out .exit) ≡ overlay (now (out .entry)) start (blocksWords (boundsOf (now (ls .entry)) (now (us .entry))) variables (constraints (now (ws .entry))))) ⌝ }
 {
     let mut p = 0;
+    let mut constraints = 0;
     let mut first = variables;
     let mut at = start;
     while p < ws.len() {
         let w = ws[p];
         p += 1;
         if kind_of(w) == kind::CONSTRAINT {
-            let laid = block(&mut out[at..], payload_of(w), &ws[p..], ls, us, first);
+            let sum = sums[constraints];
+            let laid = block(&mut out[at..], payload_of(w), &ws[p..], ls, us, sum, first);
+            constraints += 1;
             first += laid.auxiliaries;
             at += laid.words;
         }
@@ -54,7 +61,8 @@ pub fn write_system(ws: &[u32], out: &mut [u32])
     let variables = keep_bounds(ws, &mut lowers, &mut uppers);
     let sources = count_sources(ws);
     lay(out, 0, &ws[..sources]);
-    let at = write_blocks(ws, &lowers, &uppers, variables, out, sources);
+    let sums = model_sums(ws, &lowers, &uppers);
+    let at = write_blocks(ws, &lowers, &uppers, sums, variables, out, sources);
     let end = [word_of(kind::ROWS_END, 0)];
     lay(out, at, &end);
 }

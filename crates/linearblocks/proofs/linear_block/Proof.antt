@@ -3,7 +3,7 @@ use mathlib.Core.Path.{_≡_}
 use native.Mathlib.Omega.{arith}
 use borrow.Author.Needs.{needs}
 use Rattle.models.specs.Model.{builtin, builtins}
-use Rattle.extremes.specs.Bounded.{boundsOf}
+use Rattle.linearsums.specs.Sum.{sumOf}
 use Rattle.linearblocks.proofs.linear_block.Statement.{statement}
 use Rattle.linearblocks.proofs.linear_block.Tie as tie
 
@@ -32,7 +32,7 @@ returns : tie.Need-returns
 unfolding builtin builtins
 returns c =
     let a = c .before .before .before .before .before .before .before .args in
-    let e : a .code ≡ 10 = c .before .before .before .before .match .keys1 in rw e (c .before .before .int-lin-eq .ensures .0 (a .first) (boundsOf (a .ls .now) (a .us .now)), c .before .before .int-lin-eq .ensures .1)
+    let e : a .code ≡ 10 = c .before .before .before .before .match .keys1 in rw e (λ β h. c .before .before .int-lin-eq .ensures .0 (a .first) β, c .before .before .int-lin-eq .ensures .1)
 
 same-length-2 : tie.Need-same-length-2
 same-length-2 c = search needs
@@ -41,35 +41,35 @@ returns-2 : tie.Need-returns-2
 unfolding builtin builtins
 returns-2 c =
     let a = c .before .before .before .before .before .before .before .args in
-    let e : a .code ≡ 11 = c .before .before .before .before .match .keys2 in rw e (c .before .before .int-lin-le .ensures .0 (a .first) (boundsOf (a .ls .now) (a .us .now)), c .before .before .int-lin-le .ensures .1)
+    let e : a .code ≡ 11 = c .before .before .before .before .match .keys2 in rw e (λ β h. c .before .before .int-lin-le .ensures .0 (a .first) β, c .before .before .int-lin-le .ensures .1)
 
 same-length-3 : tie.Need-same-length-3
 same-length-3 c = search needs
 
 returns-3 : tie.Need-returns-3
-unfolding builtin builtins
-returns-3 c = let e : c .before .before .before .before .before .before .before .args .code ≡ 12 = c .before .before .before .before .match .keys3 in rw e (c .before .before .int-lin-ne .ensures)
+unfolding builtin builtins sumOf
+returns-3 c = let e : c .before .before .before .before .before .before .before .args .code ≡ 12 = c .before .before .before .before .match .keys3 in rw e (λ β h. c .before .before .int-lin-ne .ensures .0 β (h (omega arith)), c .before .before .int-lin-ne .ensures .1)
 
 same-length-4 : tie.Need-same-length-4
 same-length-4 c = search needs
 
 returns-4 : tie.Need-returns-4
-unfolding builtin builtins
-returns-4 c = let e : c .before .before .before .before .before .before .before .args .code ≡ 13 = c .before .before .before .before .match .keys4 in rw e (c .before .before .int-lin-eq-reif .ensures)
+unfolding builtin builtins sumOf
+returns-4 c = let e : c .before .before .before .before .before .before .before .args .code ≡ 13 = c .before .before .before .before .match .keys4 in rw e (λ β h. c .before .before .int-lin-eq-reif .ensures .0 β (h (omega arith)), c .before .before .int-lin-eq-reif .ensures .1)
 
 same-length-5 : tie.Need-same-length-5
 same-length-5 c = search needs
 
 returns-5 : tie.Need-returns-5
-unfolding builtin builtins
-returns-5 c = let e : c .before .before .before .before .before .before .before .args .code ≡ 14 = c .before .before .before .before .match .keys5 in rw e (c .before .before .int-eq-reif .ensures)
+unfolding builtin builtins sumOf
+returns-5 c = let e : c .before .before .before .before .before .before .before .args .code ≡ 14 = c .before .before .before .before .match .keys5 in rw e (λ β h. c .before .before .int-eq-reif .ensures .0 β (h (omega arith)), c .before .before .int-eq-reif .ensures .1)
 
 same-length-6 : tie.Need-same-length-6
 same-length-6 c = search needs
 
 returns-6 : tie.Need-returns-6
-unfolding builtin builtins
-returns-6 c = let e : c .before .before .before .before .before .before .before .args .code ≡ 15 = omega arith in rw e (c .before .before .int-lin-le-reif .ensures)
+unfolding builtin builtins sumOf
+returns-6 c = let e : c .before .before .before .before .before .before .before .args .code ≡ 15 = omega arith in rw e (λ β h. c .before .before .int-lin-le-reif .ensures .0 β (h (omega arith)), c .before .before .int-lin-le-reif .ensures .1)
 
 pub linear-block-spec : {M : Type 1} → statement M
 linear-block-spec =

@@ -1,12 +1,11 @@
 -- The words that are lent have the terms 1×a and −1×b and the constant 0.
-use mathlib.Core.Path.{ap}
+use mathlib.Core.Path.{ap, _∙_}
 use borrow.Author.Needs.{needs}
 use Rattle.words.specs.Word.{wordAt}
 use Rattle.models.specs.Model.{var}
 use Rattle.laying.specs.Part.{blockParts}
 use Rattle.laying.proofs.Parts.{went-as}
-use Rattle.extremes.specs.Bounded.{boundsOf}
-use Rattle.linearblocks.proofs.Rows.{two-terms}
+use Rattle.linearblocks.proofs.Rows.{two-terms, two-sum}
 use Rattle.linearblocks.proofs.linear.int_eq_reif.Statement.{statement}
 use Rattle.linearblocks.proofs.linear.int_eq_reif.Tie as tie
 
@@ -31,9 +30,10 @@ same-length c = search needs
 returns : tie.Need-returns
 unfolding var
 returns c =
-    let ws = c .before .before .before .before .before .before .before .before .before .before .args .args .now in
+    let a = c .before .before .before .before .before .before .before .before .before .before .args in
+    let ws = a .args .now in
     let w = rw (c .before .before .before .before .before .before .before .word-at .ensures, c .before .before .before .before .before .before .word-at2 .ensures, c .before .before .before .before .before .word-at3 .ensures) at (c .before .before .int-lin-eq-reif .ensures) in
-    (went-as (ap (blockParts (c .before .before .before .before .before .before .before .before .before .before .args .first)) (two-terms (boundsOf (c .before .before .before .before .before .before .before .before .before .before .args .ls .now) (c .before .before .before .before .before .before .before .before .before .before .args .us .now)) (wordAt ws 0) (wordAt ws 1) (wordAt ws 2))) (w .0), w .1)
+    (λ β e. went-as (ap (blockParts (a .first)) (two-terms β (wordAt ws 0) (wordAt ws 1) (wordAt ws 2))) (w .0 β (e ∙ two-sum β ws (wordAt ws 2))), w .1)
 
 pub int-eq-reif-spec : {M : Type 1} → statement M
 int-eq-reif-spec =

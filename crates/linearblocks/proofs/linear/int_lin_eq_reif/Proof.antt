@@ -1,22 +1,20 @@
 -- Two rows more after the shared part.
+use mathlib.Core.Path.{ap, _∙_}
 use native.Mathlib.Omega.{arith}
 use borrow.Author.Needs.{needs}
+use Rattle.integers.specs.declared.Bounds.{Bounds}
+use Rattle.integers.proofs.Fits.{back}
 use Rattle.models.specs.Model.{past, pastTerms}
 use Rattle.arguments.proofs.Size.{read, size-le}
 use Rattle.rules.specs.Rule.{linked, signed, linEqualReified, rule}
+use Rattle.linearsums.specs.Sum.{linearSum}
 use Rattle.linearblocks.specs.Rows.{link, split, zeroRows}
 use Rattle.linearblocks.proofs.Rows.{rows-then}
 use Rattle.linearblocks.proofs.linear.int_lin_eq_reif.Statement.{statement}
 use Rattle.linearblocks.proofs.linear.int_lin_eq_reif.Tie as tie
 
-lower-of-requires : tie.Need-lower-of-requires
-lower-of-requires c κs = search needs
-
-upper-of-requires : tie.Need-upper-of-requires
-upper-of-requires c κs = search needs
-
 larger-size-requires : tie.Need-larger-size-requires
-larger-size-requires c κs = search needs
+larger-size-requires c κs = let a = c .before .before .before .before .args in rw (back (a .sum .lower) (c .before .struct-told .given .0 .1), back (a .sum .upper) (c .struct-told2 .given .1 .0 .1)) (c .before .before .before .before .pre .2)
 
 past-terms-at-requires : tie.Need-past-terms-at-requires
 past-terms-at-requires c κs = search needs
@@ -38,20 +36,13 @@ same-length : tie.Need-same-length
 same-length c = search needs
 
 returns : tie.Need-returns
-unfolding rule linEqualReified signed linked split link zeroRows
-returns c =
-    let l = read (c .before .before .before .before .before .before .before .before .before .before .before .before .lower-of .ok) (c .before .before .before .before .before .before .before .before .before .before .before .before .lower-of .ensures .0) in
-    let u = read (c .before .before .before .before .before .before .before .before .before .before .before .upper-of .ok) (c .before .before .before .before .before .before .before .before .before .before .before .upper-of .ensures .0) in
-    let d = rw (l, u) at (c .before .before .before .before .before .before .lay-split .ensures) in
-    let e = rw (read (c .before .before .before .before .before .before .before .before .before .before .larger-size .ok) (c .before .before .before .before .before .before .before .before .before .before .larger-size .ensures .0), l, u, c .before .before .before .before .before .before .before .before .var-at .ensures, c .before .before .before .before .before .before .before .before .before .past-terms-at .ensures) at (c .before .before .lay-zero .ensures) in
-    (rows-then (c .before .before .before .before .before .before .before .before .before .before .before .before .before .before .before .args .first) _ _ (d .0) (e .0), omega (arith, d .1, e .1))
+unfolding rule linEqualReified signed linked split link zeroRows linearSum
+returns c = let a = c .before .before .before .before .before .before .before .before .before .before .before .before .before .before .before .args in (λ β e. let l = back (a .sum .lower) (c .before .before .before .before .before .before .before .before .before .before .before .before .struct-told .given .0 .1) ∙ ap (λ (S : Bounds). S .lower) e in let u = back (a .sum .upper) (c .before .before .before .before .before .before .before .before .before .before .before .struct-told2 .given .1 .0 .1) ∙ ap (λ (S : Bounds). S .upper) e in rows-then (a .first) _ _ (rw (l, u) at (c .before .before .before .before .before .before .lay-split .ensures .0)) (rw (read (c .before .before .before .before .before .before .before .before .before .before .larger-size .ok) (c .before .before .before .before .before .before .before .before .before .before .larger-size .ensures .0), l, u, c .before .before .before .before .before .before .before .before .var-at .ensures, c .before .before .before .before .before .before .before .before .before .past-terms-at .ensures) at (c .before .before .lay-zero .ensures .0)), omega (arith, c .before .before .before .before .before .before .lay-split .ensures .1, c .before .before .lay-zero .ensures .1))
 
 pub int-lin-eq-reif-spec : {M : Type 1} → statement M
 int-lin-eq-reif-spec =
     tie.close
     (tie.spec
-    lower-of-requires
-    upper-of-requires
     larger-size-requires
     past-terms-at-requires
     add-var-at

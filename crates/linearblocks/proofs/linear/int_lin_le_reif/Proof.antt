@@ -1,19 +1,17 @@
 -- Two rows more after the shared part.
+use mathlib.Core.Path.{ap, _∙_}
 use native.Mathlib.Omega.{arith}
 use borrow.Author.Needs.{needs}
+use Rattle.integers.specs.declared.Bounds.{Bounds}
+use Rattle.integers.proofs.Fits.{back}
 use Rattle.models.specs.Model.{past, pastTerms}
-use Rattle.arguments.proofs.Size.{read, size-le}
+use Rattle.arguments.proofs.Size.{size-le}
 use Rattle.rules.specs.Rule.{linked, linLessEqualReified, rule}
+use Rattle.linearsums.specs.Sum.{linearSum}
 use Rattle.linearblocks.specs.Rows.{link, slack, atMostRows}
 use Rattle.linearblocks.proofs.Rows.{rows-then}
 use Rattle.linearblocks.proofs.linear.int_lin_le_reif.Statement.{statement}
 use Rattle.linearblocks.proofs.linear.int_lin_le_reif.Tie as tie
-
-lower-of-requires : tie.Need-lower-of-requires
-lower-of-requires c κs = search needs
-
-upper-of-requires : tie.Need-upper-of-requires
-upper-of-requires c κs = search needs
 
 past-terms-at-requires : tie.Need-past-terms-at-requires
 past-terms-at-requires c κs = search needs
@@ -29,26 +27,19 @@ lay-slack-requires : tie.Need-lay-slack-requires
 lay-slack-requires c κs = search needs
 
 lay-at-most-requires : tie.Need-lay-at-most-requires
-lay-at-most-requires c κs = search needs
+lay-at-most-requires c κs = let a = c .before .before .before .before .before .before .before .before .before .before .before .args in rw (back (a .sum .lower) (c .before .before .before .before .before .before .before .before .struct-told .given .0 .1), back (a .sum .upper) (c .before .before .before .before .before .before .before .struct-told2 .given .1 .0 .1)) (omega (arith, c .before .before .before .lay-slack .ensures .1), c .before .before .before .before .before .before .before .before .before .before .before .pre .1, c .before .before .before .before .before .before .before .before .before .before .before .pre .2 .0, c .before .before .before .before .before .before .before .before .before .before .before .pre .2 .1)
 
 same-length : tie.Need-same-length
 same-length c = search needs
 
 returns : tie.Need-returns
-unfolding rule linLessEqualReified linked slack link atMostRows
-returns c =
-    let l = read (c .before .before .before .before .before .before .before .before .before .before .before .lower-of .ok) (c .before .before .before .before .before .before .before .before .before .before .before .lower-of .ensures .0) in
-    let u = read (c .before .before .before .before .before .before .before .before .before .before .upper-of .ok) (c .before .before .before .before .before .before .before .before .before .before .upper-of .ensures .0) in
-    let d = rw (l, u) at (c .before .before .before .before .before .before .lay-slack .ensures) in
-    let e = rw (l, u, c .before .before .before .before .before .before .before .before .var-at .ensures, c .before .before .before .before .before .before .before .before .before .past-terms-at .ensures) at (c .before .before .lay-at-most .ensures) in
-    (rows-then (c .before .before .before .before .before .before .before .before .before .before .before .before .before .before .args .first) _ _ (d .0) (e .0), omega (arith, d .1, e .1))
+unfolding rule linLessEqualReified linked slack link atMostRows linearSum
+returns c = let a = c .before .before .before .before .before .before .before .before .before .before .before .before .before .before .args in (λ β e. let l = back (a .sum .lower) (c .before .before .before .before .before .before .before .before .before .before .before .struct-told .given .0 .1) ∙ ap (λ (S : Bounds). S .lower) e in let u = back (a .sum .upper) (c .before .before .before .before .before .before .before .before .before .before .struct-told2 .given .1 .0 .1) ∙ ap (λ (S : Bounds). S .upper) e in rows-then (a .first) _ _ (rw (l, u) at (c .before .before .before .before .before .before .lay-slack .ensures .0)) (rw (l, u, c .before .before .before .before .before .before .before .before .var-at .ensures, c .before .before .before .before .before .before .before .before .before .past-terms-at .ensures) at (c .before .before .lay-at-most .ensures .0)), omega (arith, c .before .before .before .before .before .before .lay-slack .ensures .1, c .before .before .lay-at-most .ensures .1))
 
 pub int-lin-le-reif-spec : {M : Type 1} → statement M
 int-lin-le-reif-spec =
     tie.close
     (tie.spec
-    lower-of-requires
-    upper-of-requires
     past-terms-at-requires
     add-var-at
     var-at-requires

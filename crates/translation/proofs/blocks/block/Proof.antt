@@ -22,13 +22,16 @@ returns c = let e = rw (c .before .before .before .before .before .none-yet .ens
 linear-block-requires : tie.Need-linear-block-requires
 linear-block-requires c κs =
     let s = c .before .before .before .before .before .before in
-    (rw (c .before .before .before .none-yet .ensures) (omega arith), c .before .before .if1 .left, c .before .if2 .taken, s .pre .0, s .pre .1, s .pre .2)
+    (rw (c .before .before .before .none-yet .ensures) (omega arith), c .before .before .if1 .left, c .before .if2 .taken, s .pre .0, s .pre .4 .fits)
 
 same-length-2 : tie.Need-same-length-2
 same-length-2 c = search needs
 
 returns-2 : tie.Need-returns-2
-returns-2 c = rw (c .before .before .before .before .before .before .none-yet .ensures) at (c .before .before .linear-block .ensures)
+returns-2 c =
+    let s = c .before .before .before .before .before .before .before .before .before in
+    let e = rw (c .before .before .before .before .before .before .none-yet .ensures) at (c .before .before .linear-block .ensures) in
+    (e .0 (boundsOf (s .args .ls .now) (s .args .us .now)) (λ low. s .pre .4 .is low (omega (arith, c .before .before .before .before .if2 .taken))), e .1)
 
 boolean-block-requires : tie.Need-boolean-block-requires
 boolean-block-requires c κs =

@@ -2,7 +2,7 @@
 use mathlib.Core.Path.{_∙_}
 use native.Mathlib.Omega.{arith}
 use borrow.Author.Needs.{needs}
-use Rattle.models.proofs.Accepted.{few-words}
+use Rattle.models.proofs.Accepted.{few-words, few-constraints}
 use Rattle.translation.proofs.Sources.{sources-front}
 use Rattle.translation.proofs.Kept.{Kept, kept}
 use Rattle.translation.proofs.CheckWalk.{checks}
@@ -21,6 +21,15 @@ slice-aggregate-keep-bounds-2 c = search needs
 keep-bounds-requires : tie.Need-keep-bounds-requires
 keep-bounds-requires c κs = omega (arith, few-words (c .before .before .before .args .ws .now) (c .before .before .before .pre))
 
+slice-aggregate-model-sums : tie.Need-slice-aggregate-model-sums
+slice-aggregate-model-sums c = search needs
+
+slice-aggregate-model-sums-2 : tie.Need-slice-aggregate-model-sums-2
+slice-aggregate-model-sums-2 c = search needs
+
+model-sums-requires : tie.Need-model-sums-requires
+model-sums-requires c κs = let k = bounds-kept (c .before .before .before .before) in (omega (arith, few-words (c .before .before .before .before .before .before .before .before .args .ws .now) (c .before .before .before .before .before .before .before .before .pre)), k .short-lowers, k .short-uppers, k .lowers, k .uppers)
+
 slice-aggregate-check-blocks : tie.Need-slice-aggregate-check-blocks
 slice-aggregate-check-blocks c = search needs
 
@@ -31,18 +40,10 @@ count-sources-requires : tie.Need-count-sources-requires
 count-sources-requires c κs = search needs
 
 check-blocks-requires : tie.Need-check-blocks-requires
-check-blocks-requires c κs =
-    let ws = c .before .before .before .before .before .before .before .before .before .args .ws .now in
-    let k = bounds-kept (c .before .before .before .before .before) in
-    let n = few-words ws (c .before .before .before .before .before .before .before .before .before .pre) in
-    (n, k .few, omega (arith, c .count-sources .ensures, sources-front ws .0), k .lowers, k .uppers)
+check-blocks-requires c κs = let ws = c .before .before .before .before .before .before .before .before .before .before .before .before .args .ws .now in let k = bounds-kept (c .before .before .before .before .before .before .before .before) in (few-words ws (c .before .before .before .before .before .before .before .before .before .before .before .before .pre), k .few, omega (arith, few-words ws (c .before .before .before .before .before .before .before .before .before .before .before .before .pre), c .count-sources .ensures, sources-front ws .0), k .lowers, k .uppers, few-constraints ws (c .before .before .before .before .before .before .before .before .before .before .before .before .pre), c .before .before .before .model-sums .ensures)
 
 returns : tie.Need-returns
-returns c =
-    let ws = c .before .before .before .before .before .before .before .before .before .before .args .ws .now in
-    let k = bounds-kept (c .before .before .before .before .before .before) in
-    c .check-blocks .ensures
-    ∙ rw (k .same, k .many, c .before .count-sources .ensures) (checks ws (c .before .before .before .before .before .before .before .before .before .before .pre))
+returns c = let k = bounds-kept (c .before .before .before .before .before .before .before .before .before) in c .check-blocks .ensures ∙ rw (k .same, k .many, c .before .count-sources .ensures) (checks (c .before .before .before .before .before .before .before .before .before .before .before .before .before .args .ws .now) (c .before .before .before .before .before .before .before .before .before .before .before .before .before .pre))
 
 pub check-accepted-spec : {M : Type 1} → statement M
 check-accepted-spec =
@@ -51,6 +52,9 @@ check-accepted-spec =
     slice-aggregate-keep-bounds
     slice-aggregate-keep-bounds-2
     keep-bounds-requires
+    slice-aggregate-model-sums
+    slice-aggregate-model-sums-2
+    model-sums-requires
     slice-aggregate-check-blocks
     slice-aggregate-check-blocks-2
     count-sources-requires

@@ -1,12 +1,13 @@
 -- The loop's invariant is `Checking`: what is left from here gives what the whole gives.
 use mathlib.Core.Path.{sym, _∙_}
-use Prim.Native.Nat.{_+_, _-_}
+use Prim.Native.Nat.{_+_, _-_, _<_}
 use native.Mathlib.Omega.{arith}
 use lib.ListN.{length}
 use borrow.Author.Needs.{needs}
 use Rattle.words.proofs.Reading.{tail-is}
 use Rattle.models.proofs.Constraints.{headed}
 use Rattle.extremes.specs.Bounded.{boundsOf}
+use Rattle.linearsums.proofs.Model.{has-place, summed-here}
 use Rattle.translation.specs.Checked.{checked}
 use Rattle.translation.specs.Walk.{Costs}
 use Rattle.translation.proofs.OneBlock.{placed}
@@ -15,17 +16,21 @@ use Rattle.translation.proofs.checking.check_blocks.Statement.{statemen
 use Rattle.translation.proofs.checking.check_blocks.Tie as tie
 
 abbrev Inv-loop : tie.InvT-loop
-Inv-loop ws ls us variables sources at₀ constraints₀ auxiliaries₀ rows₀ words₀ at constraints auxiliaries rows words = Checking (boundsOf ls us) variables ws (sources + 1) at constraints auxiliaries rows words
+Inv-loop ws ls us variables sources sums at₀ constraints₀ auxiliaries₀ rows₀ words₀ at constraints auxiliaries rows words = Checking (boundsOf ls us) variables ws (sources + 1) at constraints auxiliaries rows words
 
 abbrev μ-loop : tie.MeasureT-loop
-μ-loop ws ls us variables sources at₀ constraints₀ auxiliaries₀ rows₀ words₀ at constraints auxiliaries rows words = length ws - at
+μ-loop ws ls us variables sources sums at₀ constraints₀ auxiliaries₀ rows₀ words₀ at constraints auxiliaries rows words = length ws - at
+
+-- the constraint at the place has a sum
+has : (c : tie.Then1 Inv-loop μ-loop) → c .before .before .before .before .loop .constraints < 256
+has c = has-place (c .before .before .before .before .loop .inv .passed) (c .before .before .before .loop-test .taken) (sym (c .before .kind-of .ensures) ∙ c .if1 .taken) (c .before .before .before .before .before .before .pre .5)
 
 -- what the constraint at the place costs
 costs : (c : tie.After-cost-of Inv-loop μ-loop) →
-    let l = c .before .before .before .before .before .before .before .loop in
-    let a = c .before .before .before .before .before .before .before .before .before .args in
+    let l = c .before .before .before .before .before .before .before .before .loop in
+    let a = c .before .before .before .before .before .before .before .before .before .before .args in
     Costs (boundsOf (a .ls .now) (a .us .now)) (a .variables + l .auxiliaries) (headed (a .ws .now) (l .at)) (c .cost-of .result)
-costs c = placed (rw (c .before .before .payload-of .ensures, tail-is (c .before .before .before .before .before .before .before .before .before .args .ws .now) (c .before .before .before .before .before .before .before .loop .at + 1)) at (c .cost-of .ensures))
+costs c = placed (rw (c .before .before .payload-of .ensures, tail-is (c .before .before .before .before .before .before .before .before .before .before .args .ws .now) (c .before .before .before .before .before .before .before .before .loop .at + 1)) at (c .cost-of .ensures))
 
 add-words : tie.Need-add-words Inv-loop μ-loop
 add-words c = search needs
@@ -45,6 +50,12 @@ add-at c = search needs
 kind-of-requires : tie.Need-kind-of-requires Inv-loop μ-loop
 kind-of-requires c κs = search needs
 
+mul-sum : tie.Need-mul-sum Inv-loop μ-loop
+mul-sum c = omega (arith, has c)
+
+array-copy-out-sum : tie.Need-array-copy-out-sum Inv-loop μ-loop
+array-copy-out-sum c = has c
+
 payload-of-requires : tie.Need-payload-of-requires Inv-loop μ-loop
 payload-of-requires c κs = search needs
 
@@ -61,42 +72,40 @@ part-cost-of-end : tie.Need-part-cost-of-end Inv-loop μ-loop
 part-cost-of-end c = search needs
 
 add-cost-of : tie.Need-add-cost-of Inv-loop μ-loop
-add-cost-of c = omega (arith, c .before .before .before .before .before .before .loop .inv .room)
+add-cost-of c = omega (arith, c .before .before .before .before .before .before .before .loop .inv .room)
 
 cost-of-requires : tie.Need-cost-of-requires Inv-loop μ-loop
 cost-of-requires c κs =
-    let s = c .before .before .before .before .before .before .before .before in
-    (omega (arith, c .before .before .before .before .before .before .loop .inv .room), s .pre .3, s .pre .4)
+    let l = c .before .before .before .before .before .before .before .loop in
+    let s = c .before .before .before .before .before .before .before .before .before in (
+      omega (arith, l .inv .room),
+      s .pre .3,
+      s .pre .4,
+      rw (c .before .payload-of .ensures, tail-is (s .args .ws .now) (l .at + 1), s .pre .6)
+          (summed-here (l .inv .passed) (c .before .before .before .before .before .before .loop-test .taken) (sym (c .before .before .before .before .kind-of .ensures) ∙ c .before .before .before .if1 .taken) _ _ (λ v. (s .pre .3 v, s .pre .4 v)) (s .pre .5)),
+    )
 
 returns : tie.Need-returns Inv-loop μ-loop
 unfolding checked
-returns c =
-    stop (c .before .before .before .before .before .before .before .before .before .loop .inv) (c .before .before .before .before .before .before .before .before .loop-test .taken) (sym (c .before .before .before .before .before .before .kind-of .ensures) ∙ c .before .before .before .before .before .if1 .taken) (costs (c .before .before)) (c .if2 .taken)
+returns c = stop (c .before .before .before .before .before .before .before .before .before .before .loop .inv) (c .before .before .before .before .before .before .before .before .before .loop-test .taken) (sym (c .before .before .before .before .before .before .before .kind-of .ensures) ∙ c .before .before .before .before .before .before .if1 .taken) (costs (c .before .before)) (c .if2 .taken)
 
 add-constraints : tie.Need-add-constraints Inv-loop μ-loop
-add-constraints c = omega (arith, c .before .before .before .before .before .before .before .before .before .loop .inv .few, c .before .before .before .before .before .before .before .before .loop-test .taken, c .before .before .before .before .before .before .before .before .before .before .before .pre .0)
+add-constraints c = omega (arith, c .before .before .before .before .before .before .before .before .before .before .loop .inv .few, c .before .before .before .before .before .before .before .before .before .loop-test .taken, c .before .before .before .before .before .before .before .before .before .before .before .before .pre .0)
 
 add-auxiliaries : tie.Need-add-auxiliaries Inv-loop μ-loop
-add-auxiliaries c =
-    let s = c .before .before .before .before .before .before .before .before .before .before .before .before in
-    omega (arith, c .before .before .before .before .before .before .before .before .before .before .loop .inv .small, c .before .before .before .before .before .before .before .before .before .loop-test .taken, s .pre .0, s .pre .2, c .before .before .before .cost-of .ensures .small)
+add-auxiliaries c = omega (arith, c .before .before .before .before .before .before .before .before .before .before .before .loop .inv .small, c .before .before .before .before .before .before .before .before .before .before .loop-test .taken, c .before .before .before .before .before .before .before .before .before .before .before .before .before .pre .0, c .before .before .before .before .before .before .before .before .before .before .before .before .before .pre .2, c .before .before .before .cost-of .ensures .small)
 
 add-rows : tie.Need-add-rows Inv-loop μ-loop
-add-rows c =
-    let s = c .before .before .before .before .before .before .before .before .before .before .before .before .before in
-    omega (arith, c .before .before .before .before .before .before .before .before .before .before .before .loop .inv .small, c .before .before .before .before .before .before .before .before .before .before .loop-test .taken, s .pre .0, s .pre .2, c .before .before .before .before .cost-of .ensures .small)
+add-rows c = omega (arith, c .before .before .before .before .before .before .before .before .before .before .before .before .loop .inv .small, c .before .before .before .before .before .before .before .before .before .before .before .loop-test .taken, c .before .before .before .before .before .before .before .before .before .before .before .before .before .before .pre .0, c .before .before .before .before .before .before .before .before .before .before .before .before .before .before .pre .2, c .before .before .before .before .cost-of .ensures .small)
 
 add-words-2 : tie.Need-add-words-2 Inv-loop μ-loop
-add-words-2 c =
-    let s = c .before .before .before .before .before .before .before .before .before .before .before .before .before .before in
-    omega (arith, c .before .before .before .before .before .before .before .before .before .before .before .before .loop .inv .small, c .before .before .before .before .before .before .before .before .before .before .before .loop-test .taken, s .pre .0, s .pre .2, c .before .before .before .before .before .cost-of .ensures .small)
+add-words-2 c = omega (arith, c .before .before .before .before .before .before .before .before .before .before .before .before .before .loop .inv .small, c .before .before .before .before .before .before .before .before .before .before .before .before .loop-test .taken, c .before .before .before .before .before .before .before .before .before .before .before .before .before .before .before .pre .0, c .before .before .before .before .before .before .before .before .before .before .before .before .before .before .before .pre .2, c .before .before .before .before .before .cost-of .ensures .small)
 
 loop-less : tie.Need-loop-less Inv-loop μ-loop
 loop-less c = search needs
 
 loop-again : tie.Need-loop-again Inv-loop μ-loop
-loop-again c =
-    more (c .before .before .before .before .before .before .before .before .before .before .before .before .loop .inv) (c .before .before .before .before .before .before .before .before .before .before .before .loop-test .taken) (sym (c .before .before .before .before .before .before .before .before .before .kind-of .ensures) ∙ c .before .before .before .before .before .before .before .before .if1 .taken) (costs (c .before .before .before .before .before)) (c .before .before .before .if2 .left)
+loop-again c = more (c .before .before .before .before .before .before .before .before .before .before .before .before .before .loop .inv) (c .before .before .before .before .before .before .before .before .before .before .before .before .loop-test .taken) (sym (c .before .before .before .before .before .before .before .before .before .before .kind-of .ensures) ∙ c .before .before .before .before .before .before .before .before .before .if1 .taken) (costs (c .before .before .before .before .before)) (c .before .before .before .if2 .left)
 
 loop-less-2 : tie.Need-loop-less-2 Inv-loop μ-loop
 loop-less-2 c = search needs
@@ -120,6 +129,8 @@ check-blocks-spec =
     shared-slice-read-w
     add-at
     kind-of-requires
+    mul-sum
+    array-copy-out-sum
     payload-of-requires
     mul-cost-of
     sub-cost-of

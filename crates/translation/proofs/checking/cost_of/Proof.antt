@@ -17,7 +17,7 @@ slice-aggregate-block : tie.Need-slice-aggregate-block
 slice-aggregate-block c = search needs
 
 block-requires : tie.Need-block-requires
-block-requires c κs = (c .before .before .before .before .pre .0, c .before .before .before .before .pre .1, c .before .before .before .before .pre .2, narrow _ (constraintOf (c .before .before .before .before .args .code) (c .before .before .before .before .args .args .now)) (sym (c .before .before .too-wide .ensures) ∙ c .before .if1 .left))
+block-requires c κs = (c .before .before .before .before .pre .0, c .before .before .before .before .pre .1, c .before .before .before .before .pre .2, narrow _ (constraintOf (c .before .before .before .before .args .code) (c .before .before .before .before .args .args .now)) (sym (c .before .before .too-wide .ensures) ∙ c .before .if1 .left), c .before .before .before .before .pre .3)
 
 fault-of-requires : tie.Need-fault-of-requires
 fault-of-requires c κs = search needs

@@ -6,7 +6,7 @@ use borrow.Author.Needs.{needs}
 use Rattle.words.specs.Refusal.{accepted}
 use Rattle.words.proofs.Overlay.{length-overlay}
 use Rattle.models.specs.Reading.{readModel}
-use Rattle.models.proofs.Accepted.{few-words}
+use Rattle.models.proofs.Accepted.{few-words, few-constraints}
 use Rattle.sharing.proofs.Theorem.{never-too-many}
 use Rattle.sharing.proofs.Accepts.{passes-read}
 use Rattle.translation.proofs.Refusals.{blocks-pass, system-length, system-over}
@@ -40,9 +40,16 @@ slice-aggregate-lay : tie.Need-slice-aggregate-lay
 slice-aggregate-lay c = rw (c .before .before .count-sources .ensures, sources-front (c .before .before .before .before .before .before .before .before .before .before .args .ws .now) .1) refl
 
 lay-requires : tie.Need-lay-requires
-lay-requires c κs =
-    let ws = c .before .before .before .before .before .before .before .before .before .before .args .ws .now in
-    rw (c .before .before .count-sources .ensures, sources-front ws .1) (omega (arith, sources-front ws .0, few-words ws (read (c .before .before .before .before .before .before .before .before .before .before))))
+lay-requires c κs = let ws = c .before .before .before .before .before .before .before .before .before .before .args .ws .now in rw (c .before .before .count-sources .ensures, sources-front ws .1) (omega (arith, sources-front ws .0, few-words ws (read (c .before .before .before .before .before .before .before .before .before .before))))
+
+slice-aggregate-model-sums : tie.Need-slice-aggregate-model-sums
+slice-aggregate-model-sums c = search needs
+
+slice-aggregate-model-sums-2 : tie.Need-slice-aggregate-model-sums-2
+slice-aggregate-model-sums-2 c = search needs
+
+model-sums-requires : tie.Need-model-sums-requires
+model-sums-requires c κs = let k = bounds-kept (c .before .before .before .before .before .before .before .before .before .before) in (omega (arith, few-words (c .before .before .before .before .before .before .before .before .before .before .before .before .before .before .before .args .ws .now) (read (c .before .before .before .before .before .before .before .before .before .before .before .before .before .before .before))), k .short-lowers, k .short-uppers, k .lowers, k .uppers)
 
 slice-aggregate-write-blocks : tie.Need-slice-aggregate-write-blocks
 slice-aggregate-write-blocks c = search needs
@@ -51,10 +58,7 @@ slice-aggregate-write-blocks-2 : tie.Need-slice-aggregate-write-blocks-2
 slice-aggregate-write-blocks-2 c = search needs
 
 write-blocks-requires : tie.Need-write-blocks-requires
-write-blocks-requires c κs =
-    let ws = c .before .before .before .before .before .before .before .before .before .before .before .before .before .before .before .before .args .ws .now in
-    let k = bounds-kept (c .before .before .before .before .before .before .before .before .before .before .before) in
-    (k .few, k .lowers, k .uppers, rw (k .same, k .many) (blocks-pass ws (c .before .before .before .before .before .before .before .before .before .before .before .before .before .before .before .before .pre .0)), rw (k .same, k .many, c .before .before .before .before .before .before .before .before .count-sources .ensures, same-room (c .before .before .before .before .before)) (omega (arith, system-length ws, c .before .before .before .before .before .before .before .before .before .before .before .before .before .before .before .before .pre .1)))
+write-blocks-requires c κs = let s = c .before .before .before .before .before .before .before .before .before .before .before .before .before .before .before .before .before .before .before in let ws = s .args .ws .now in let k = bounds-kept (c .before .before .before .before .before .before .before .before .before .before .before .before .before .before) in (k .few, k .lowers, k .uppers, rw (k .same, k .many) (blocks-pass ws (s .pre .0)), rw (k .same, k .many, c .before .before .before .before .before .before .before .before .before .before .before .count-sources .ensures, same-room (c .before .before .before .before .before .before .before .before)) (omega (arith, system-length ws, s .pre .1)), few-constraints ws (read s), c .before .before .before .model-sums .ensures)
 
 word-of-requires : tie.Need-word-of-requires
 word-of-requires c κs = search needs
@@ -63,20 +67,13 @@ slice-aggregate-lay-2 : tie.Need-slice-aggregate-lay-2
 slice-aggregate-lay-2 c = search needs
 
 lay-requires-2 : tie.Need-lay-requires-2
-lay-requires-2 c κs =
-    let ws = c .before .before .before .before .before .before .before .before .before .before .before .before .before .before .before .before .before .before .before .before .before .before .args .ws .now in
-    let k = bounds-kept (c .before .before .before .before .before .before .before .before .before .before .before .before .before .before .before .before .before) in
-    omega (arith, rw (k .same, k .many, c .before .before .before .before .before .before .before .before .before .before .before .before .before .before .count-sources .ensures) at (c .before .before .before .before .before .write-blocks .ensures .0), system-length ws, never-too-many ws (c .before .before .before .before .before .before .before .before .before .before .before .before .before .before .before .before .before .before .before .before .before .before .pre .0))
+lay-requires-2 c κs = let s = c .before .before .before .before .before .before .before .before .before .before .before .before .before .before .before .before .before .before .before .before .before .before .before .before .before in let ws = s .args .ws .now in let k = bounds-kept (c .before .before .before .before .before .before .before .before .before .before .before .before .before .before .before .before .before .before .before .before) in omega (arith, rw (k .same, k .many, c .before .before .before .before .before .before .before .before .before .before .before .before .before .before .before .before .before .count-sources .ensures) at (c .before .before .before .before .before .write-blocks .ensures .0), system-length ws, never-too-many ws (s .pre .0))
 
 same-length : tie.Need-same-length
 same-length c = search needs
 
 returns : tie.Need-returns
-returns c =
-    let ws = c .before .before .before .before .before .before .before .before .before .before .before .before .before .before .before .before .before .before .before .before .before .before .before .before .before .args .ws .now in
-    let k = bounds-kept (c .before .before .before .before .before .before .before .before .before .before .before .before .before .before .before .before .before .before .before .before) in
-    c .before .before .lay2 .ensures
-    ∙ rw (c .before .before .before .before .before .before .before .before .write-blocks .ensures .1, c .before .before .before .before .before .before .before .before .write-blocks .ensures .0, c .before .before .before .before .before .before .before .before .before .before .before .before .before .before .lay .ensures, c .before .before .before .before .before .word-of .ensures, k .same, k .many, c .before .before .before .before .before .before .before .before .before .before .before .before .before .before .before .before .before .count-sources .ensures, sources-front ws .1) (system-over ws (c .before .before .before .before .before .before .before .before .before .before .before .before .before .before .before .before .before .before .before .before .before .before .before .before .before .args .out .now))
+returns c = let s = c .before .before .before .before .before .before .before .before .before .before .before .before .before .before .before .before .before .before .before .before .before .before .before .before .before .before .before .before in let ws = s .args .ws .now in let k = bounds-kept (c .before .before .before .before .before .before .before .before .before .before .before .before .before .before .before .before .before .before .before .before .before .before .before) in c .before .before .lay2 .ensures ∙ rw (c .before .before .before .before .before .before .before .before .write-blocks .ensures .1, c .before .before .before .before .before .before .before .before .write-blocks .ensures .0, c .before .before .before .before .before .before .before .before .before .before .before .before .before .before .before .before .before .lay .ensures, c .before .before .before .before .before .word-of .ensures, k .same, k .many, c .before .before .before .before .before .before .before .before .before .before .before .before .before .before .before .before .before .before .before .before .count-sources .ensures, sources-front ws .1) (system-over ws (s .args .out .now))
 
 pub write-system-spec : {M : Type 1} → statement M
 write-system-spec =
@@ -88,6 +85,9 @@ write-system-spec =
     count-sources-requires
     slice-aggregate-lay
     lay-requires
+    slice-aggregate-model-sums
+    slice-aggregate-model-sums-2
+    model-sums-requires
     slice-aggregate-write-blocks
     slice-aggregate-write-blocks-2
     write-blocks-requires
