@@ -6,6 +6,7 @@ ghost use Rattle.words.specs.Word.{payload};
 ghost use Rattle.words.specs.Fault as Fault;
 ghost use Rattle.words.specs.Limit as Limit;
 ghost use Rattle.models.specs.Reading.{faultHead, faultStart, faultUpper, faultNumber, faultVariable, faultLength, faultArgument, faultDue, faultEnd};
+ghost use Rattle.modelreading.specs.Argument.{argumentDue};
 use crate::shapes;
 use models::Due;
 use words::fault;
@@ -147,8 +148,9 @@ fn of_argument(t: u32, c: usize, argument: u32, w: u32) -> u32
     of_length(w)
 }
 
-// By what is due: v variables and c constraints stand before, and t is the type of the variable that the word names.
-pub fn of_due(due: Due, v: usize, t: u32, c: usize, w: u32) -> u32
+// By what is due, an argument where no word of a list is left: v variables and c constraints stand before, and t is the type of the variable that the word names.
+pub fn of_due(due: Due, argument: u32, v: usize, t: u32, c: usize, w: u32) -> u32
+    requires { ⌜ argument ≡ argumentDue due ⌝ }
     ensures { λ r. ⌜ r ≡ faultDue due v t c w ⌝ }
 {
     match due {
@@ -158,8 +160,8 @@ pub fn of_due(due: Due, v: usize, t: u32, c: usize, w: u32) -> u32
             numbers,
             variables,
             kind,
-            code,
-            k,
+            code: _,
+            k: _,
         } => {
             if 0 < numbers {
                 return of_number(w);
@@ -167,7 +169,7 @@ pub fn of_due(due: Due, v: usize, t: u32, c: usize, w: u32) -> u32
             if 0 < variables {
                 return of_variable(t, kind, w);
             }
-            of_argument(t, c, shapes::argument_of(code, k), w)
+            of_argument(t, c, argument, w)
         }
         Due::Ended => fault::WORD_AFTER_END,
     }

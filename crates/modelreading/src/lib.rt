@@ -113,11 +113,12 @@ pub fn read_model(ws: &[u32]) -> Refusal
     while at < ws.len() {
         let w = ws[at];
         let t = type_at(&types, v, words::payload_of(w));
-        let number = faults::of_due(due, v, t, c, w);
+        let argument = shapes::argument_due(due);
+        let number = faults::of_due(due, argument, v, t, c, w);
         if number != words::fault::NONE {
             return Refusal { number, place: at };
         }
-        due = steps::after_due(due, w);
+        due = steps::after_due(due, argument, w);
         c += steps::started_by(w);
         let declared = steps::declared_by(w);
         if declared != shapes::NONE {

@@ -1,6 +1,8 @@
 // The arguments of each code, as a table.
 ghost use mathlib.Core.Path.{_≡_};
 ghost use Rattle.models.specs.Shape.{argument};
+ghost use Rattle.modelreading.specs.Argument.{argumentDue};
+use models::Due;
 
 // one argument, and the type of a variable: none, an integer variable, a Boolean one, a number
 pub const NONE: u32 = 0;
@@ -65,4 +67,22 @@ pub fn argument_of(code: usize, k: usize) -> u32
         }
     }
     NONE
+}
+
+// The argument that is due where no word of a list is left.
+pub fn argument_due(due: Due) -> u32
+    ensures { λ r. ⌜ r ≡ argumentDue due ⌝ }
+{
+    match due {
+        Due::Start => NONE,
+        Due::Upper(_) => NONE,
+        Due::Arguments {
+            numbers: _,
+            variables: _,
+            kind: _,
+            code,
+            k,
+        } => argument_of(code, k),
+        Due::Ended => NONE,
+    }
 }

@@ -3,6 +3,7 @@ ghost use mathlib.Core.Path.{_≡_};
 ghost use Prim.Native.Nat.{_≤_};
 ghost use lib.ListN.{getD};
 ghost use Rattle.models.specs.Reading.{afterHead, afterArgument, afterDue, declared, started};
+ghost use Rattle.modelreading.specs.Argument.{argumentDue};
 ghost use Rattle.modelreading.specs.Listed.{listLength, past};
 use crate::shapes;
 use models::Due;
@@ -65,8 +66,9 @@ fn after_argument(argument: u32, code: usize, k: usize, w: u32) -> Due
     arguments(n, n, shapes::INTEGER, code, k)
 }
 
-// After a word, by what was due.
-pub fn after_due(due: Due, w: u32) -> Due
+// After a word, by what was due, an argument where no word of a list is left.
+pub fn after_due(due: Due, argument: u32, w: u32) -> Due
+    requires { ⌜ argument ≡ argumentDue due ⌝ }
     ensures { λ r. ⌜ r ≡ afterDue due w ⌝ }
 {
     match due {
@@ -85,7 +87,6 @@ pub fn after_due(due: Due, w: u32) -> Due
             if 0 < variables {
                 return arguments(0, variables - 1, kind, code, k);
             }
-            let argument = shapes::argument_of(code, k);
             if argument == shapes::NONE {
                 return after_head(w);
             }

@@ -26,12 +26,12 @@ rest c = rw (le-ltb _ _ (c .if1 .left))
 
 -- what a turn knows when the fault is found
 turn : (c : tie.After-of-due Inv-loop μ-loop) →
-    let p = c .before .before .before .before .before .before .loop in
-    Turn (c .before .before .before .before .before .before .before .before .before .args .ws .now) (p .types) (p .v) (p .c) (p .at) (p .due) (c .before .type-at .result) (c .of-due .result)
+    let p = c .before .before .before .before .before .before .before .loop in
+    Turn (c .before .before .before .before .before .before .before .before .before .before .args .ws .now) (p .types) (p .v) (p .c) (p .at) (p .due) (c .before .before .type-at .result) (c .of-due .result)
 turn c = record {
-  here = c .before .before .before .before .before .loop-test .taken;
-  left = c .before .before .before .before .before .before .loop .inv;
-  type = rw (c .before .before .payload-of .ensures) at (c .before .type-at .ensures);
+  here = c .before .before .before .before .before .before .loop-test .taken;
+  left = c .before .before .before .before .before .before .before .loop .inv;
+  type = rw (c .before .before .before .payload-of .ensures) at (c .before .before .type-at .ensures);
   found = c .of-due .ensures;
 }
 
@@ -54,11 +54,14 @@ payload-of-requires c κs = search needs
 type-at-requires : tie.Need-type-at-requires Inv-loop μ-loop
 type-at-requires c κs = search needs
 
+argument-due-requires : tie.Need-argument-due-requires Inv-loop μ-loop
+argument-due-requires c κs = search needs
+
 of-due-requires : tie.Need-of-due-requires Inv-loop μ-loop
 of-due-requires c κs = search needs
 
 returns-2 : tie.Need-returns-2 Inv-loop μ-loop
-returns-2 c = stop (turn (c .before)) (c .if2 .taken) ∙ rest (c .before .before .before .before .before .before .before .before)
+returns-2 c = stop (turn (c .before)) (c .if2 .taken) ∙ rest (c .before .before .before .before .before .before .before .before .before)
 
 after-due-requires : tie.Need-after-due-requires Inv-loop μ-loop
 after-due-requires c κs = search needs
@@ -68,8 +71,8 @@ started-by-requires c κs = search needs
 
 add-c : tie.Need-add-c Inv-loop μ-loop
 add-c c =
-    let s = c .before .before .before .before .before .before .before .before .before .before .before .before in
-    let loop = c .before .before .before .before .before .before .before .before .before .loop in
+    let s = c .before .before .before .before .before .before .before .before .before .before .before .before .before in
+    let loop = c .before .before .before .before .before .before .before .before .before .before .loop in
     record { fits = omega (arith, c .started-by .ensures, started-small (getD (s .args .ws .now) (loop .at) 0), loop .inv .counted) }
 
 declared-by-requires : tie.Need-declared-by-requires Inv-loop μ-loop
@@ -92,7 +95,7 @@ add-at c = search needs
 
 -- what is left after the word
 passed : (c : tie.Joined3 Inv-loop μ-loop) →
-    let p = c .before .before .before .before .before .before .before .before .before .before .before in
+    let p = c .before .before .before .before .before .before .before .before .before .before .before .before in
     Left (p .before .before .before .args .ws .now) (c .if3 .types) (c .if3 .v) (p .loop .c + c .before .before .started-by .result) (p .loop .at + 1) (c .before .before .before .after-due .result)
 passed c =
     let p = c .before .before .before .before .before in
@@ -137,6 +140,7 @@ read-model-spec =
     shared-slice-read-w
     payload-of-requires
     type-at-requires
+    argument-due-requires
     of-due-requires
     returns-2
     after-due-requires

@@ -2,6 +2,7 @@
 use borrow.Author.Tests.{le-ltb, lt-ltb}
 use borrow.Author.Needs.{needs}
 use Rattle.models.specs.Reading.{faultDue}
+use Rattle.modelreading.specs.Argument.{argumentDue}
 use Rattle.modelreading.proofs.faults.of_due.Statement.{statement}
 use Rattle.modelreading.proofs.faults.of_due.Tie as tie
 
@@ -34,9 +35,6 @@ returns-2 : tie.Need-returns-2
 unfolding faultDue
 returns-2 c = rw (c .before .before .before .before .due2 .given .1, le-ltb _ _ (c .before .before .if1 .left), lt-ltb _ _ (c .before .if2 .taken)) (c .of-variable .ensures)
 
-argument-of-requires : tie.Need-argument-of-requires
-argument-of-requires c κs = search needs
-
 of-argument-requires : tie.Need-of-argument-requires
 of-argument-requires c κs = search needs
 
@@ -52,12 +50,12 @@ unfolding faultDue
 returns-4 c = rw (c .before .before .due .given .1) (c .of-upper .ensures)
 
 returns-5 : tie.Need-returns-5
-unfolding faultDue
+unfolding faultDue argumentDue
 returns-5 c =
-    let due2 = c .before .before .before .before .before .due2 in
-    let if1 = c .before .before .before .if1 in
-    let if2 = c .before .before .if2 in
-    rw (due2 .given .1, le-ltb _ _ (if1 .left), le-ltb _ _ (if2 .left), ← c .before .argument-of .ensures) (c .of-argument .ensures)
+    let due2 = c .before .before .before .before .due2 in
+    let if1 = c .before .before .if1 in
+    let e = rw (due2 .given .1) at (c .before .before .before .before .before .before .pre) in
+    rw (due2 .given .1, le-ltb _ _ (if1 .left), le-ltb _ _ (c .before .if2 .left), ← e) (c .of-argument .ensures)
 
 returns-6 : tie.Need-returns-6
 unfolding faultDue
@@ -76,7 +74,6 @@ of-due-spec =
     returns
     of-variable-requires
     returns-2
-    argument-of-requires
     of-argument-requires
     enum-told-2
     returns-3

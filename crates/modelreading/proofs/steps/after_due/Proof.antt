@@ -4,6 +4,7 @@ use native.Mathlib.Omega.{arith}
 use borrow.Author.Tests.{eq-eqb, le-ltb, lt-ltb, ne-eqb}
 use borrow.Author.Needs.{needs}
 use Rattle.models.specs.Reading.{afterDue}
+use Rattle.modelreading.specs.Argument.{argumentDue}
 use Rattle.modelreading.proofs.Places.{argument-place}
 use Rattle.modelreading.proofs.steps.after_due.Statement.{statement}
 use Rattle.modelreading.proofs.steps.after_due.Tie as tie
@@ -40,25 +41,25 @@ returns-2 : tie.Need-returns-2
 unfolding afterDue
 returns-2 c = rw (c .before .before .before .before .due .given .1, le-ltb _ _ (c .before .before .if1 .left), lt-ltb _ _ (c .before .if2 .taken)) (c .arguments2 .ensures)
 
-argument-of-requires : tie.Need-argument-of-requires
-argument-of-requires c κs = search needs
-
 after-head-requires : tie.Need-after-head-requires
 after-head-requires c κs = search needs
 
 returns-3 : tie.Need-returns-3
-unfolding afterDue
+unfolding afterDue argumentDue
 returns-3 c =
-    let due = c .before .before .before .before .before .before .due in
-    let if1 = c .before .before .before .before .if1 in
-    let if2 = c .before .before .before .if2 in
-    let argument-of = c .before .before .argument-of in
-    rw (due .given .1, le-ltb _ _ (if1 .left), le-ltb _ _ (if2 .left), ← argument-of .ensures, eq-eqb _ _ (c .before .if3 .taken)) (c .after-head .ensures)
+    let due = c .before .before .before .before .before .due in
+    let if1 = c .before .before .before .if1 in
+    let if2 = c .before .before .if2 in
+    let e = rw (due .given .1) at (c .before .before .before .before .before .before .before .pre) in
+    rw (due .given .1, le-ltb _ _ (if1 .left), le-ltb _ _ (if2 .left), ← e, eq-eqb _ _ (c .before .if3 .taken)) (c .after-head .ensures)
 
 add-after-argument : tie.Need-add-after-argument
+unfolding argumentDue
 add-after-argument c =
-    let d = c .before .before .before .before .before .due .given .0 .1 .1 .1 in
-    record { fits = omega (arith, argument-place (d .0) (d .1 .0) (λ e. c .if3 .left (c .before .argument-of .ensures ∙ sym e))) }
+    let due = c .before .before .before .before .due in
+    let d = due .given .0 .1 .1 .1 in
+    let e = rw (due .given .1) at (c .before .before .before .before .before .before .pre) in
+    record { fits = omega (arith, argument-place (d .0) (d .1 .0) (λ z. c .if3 .left (e ∙ sym z))) }
 
 after-argument-requires : tie.Need-after-argument-requires
 after-argument-requires c κs = search needs
@@ -75,13 +76,13 @@ unfolding afterDue
 returns-5 c = rw (c .enum-told2 .given .1)
 
 returns-6 : tie.Need-returns-6
-unfolding afterDue
+unfolding afterDue argumentDue
 returns-6 c =
-    let due = c .before .before .before .before .before .before .due in
-    let if1 = c .before .before .before .before .if1 in
-    let if2 = c .before .before .before .if2 in
-    let argument-of = c .before .before .argument-of in
-    rw (due .given .1, le-ltb _ _ (if1 .left), le-ltb _ _ (if2 .left), ← argument-of .ensures, ne-eqb _ _ (c .before .if3 .left)) (c .after-argument .ensures)
+    let due = c .before .before .before .before .before .due in
+    let if1 = c .before .before .before .if1 in
+    let if2 = c .before .before .if2 in
+    let e = rw (due .given .1) at (c .before .before .before .before .before .before .before .pre) in
+    rw (due .given .1, le-ltb _ _ (if1 .left), le-ltb _ _ (if2 .left), ← e, ne-eqb _ _ (c .before .if3 .left)) (c .after-argument .ensures)
 
 returns-7 : tie.Need-returns-7
 unfolding afterDue
@@ -101,7 +102,6 @@ after-due-spec =
     sub-arguments-2
     arguments-requires-2
     returns-2
-    argument-of-requires
     after-head-requires
     returns-3
     add-after-argument
