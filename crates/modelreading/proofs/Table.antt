@@ -5,11 +5,7 @@ use mathlib.Core.List.{List, [], _∷_, map}
 use Prim.Native.Nat.{ℕ, zero, suc, _<_}
 use native.Mathlib.Omega.{arith}
 use lib.ListN.{getD}
-
-abbrev pub filled : ℕ → List ℕ → List ℕ
-filled zero xs = []
-filled (suc n) [] = 0 ∷ filled n []
-filled (suc n) (x ∷ xs) = x ∷ filled n xs
+use Rattle.modelreading.specs.Argument.{filled}
 
 entry : (n : ℕ) (xs : List ℕ) (k : ℕ) → k < n → getD (filled n xs) k 0 ≡ getD xs k 0
 entry zero xs k h = absurd (omega arith)

@@ -105,6 +105,7 @@ pub fn read_model(ws: &[u32]) -> Refusal
             place: 0,
         };
     }
+    let table = shapes::SHAPES;
     let mut types = [shapes::NONE; 256];
     let mut v = 0;
     let mut c = 0;
@@ -113,7 +114,7 @@ pub fn read_model(ws: &[u32]) -> Refusal
     while at < ws.len() {
         let w = ws[at];
         let t = type_at(&types, v, words::payload_of(w));
-        let argument = shapes::argument_due(due);
+        let argument = shapes::argument_due(&table, due);
         let number = faults::of_due(due, argument, v, t, c, w);
         if number != words::fault::NONE {
             return Refusal { number, place: at };

@@ -1,7 +1,7 @@
 // The arguments of each code, as a table.
 ghost use mathlib.Core.Path.{_≡_};
 ghost use Rattle.models.specs.Shape.{argument};
-ghost use Rattle.modelreading.specs.Argument.{argumentDue};
+ghost use Rattle.modelreading.specs.Argument.{table, argumentDue};
 use models::Due;
 
 // one argument, and the type of a variable: none, an integer variable, a Boolean one, a number
@@ -22,10 +22,10 @@ pub const BOOLEANS: u32 = 6;
 pub const PARALLEL: u32 = 7;
 
 // the most arguments of a code
-const MOST: usize = 3;
+pub const MOST: usize = 3;
 
 // The arguments of each code, from 0, which is no code.
-const SHAPES: [[u32; MOST]; 29] = [
+pub const SHAPES: [[u32; MOST]; 29] = [
     [NONE, NONE, NONE],
     [INTEGER, INTEGER, NONE],
     [INTEGER, INTEGER, NONE],
@@ -57,20 +57,22 @@ const SHAPES: [[u32; MOST]; 29] = [
     [INTEGER, NUMBERS, BOOLEAN],
 ];
 
-// The k-th argument of a code, counted from 0.
-pub fn argument_of(code: usize, k: usize) -> u32
+// The k-th argument of a code, counted from 0, in the lent table.
+pub fn argument_of(shapes: &[[u32; MOST]; 29], code: usize, k: usize) -> u32
+    requires { ⌜ now shapes ≡ table ⌝ }
     ensures { λ r. ⌜ r ≡ argument code k ⌝ }
 {
     if code <= words::limit::CODES {
         if k < MOST {
-            return SHAPES[code][k];
+            return shapes[code][k];
         }
     }
     NONE
 }
 
 // The argument that is due where no word of a list is left.
-pub fn argument_due(due: Due) -> u32
+pub fn argument_due(shapes: &[[u32; MOST]; 29], due: Due) -> u32
+    requires { ⌜ now shapes ≡ table ⌝ }
     ensures { λ r. ⌜ r ≡ argumentDue due ⌝ }
 {
     match due {
@@ -82,7 +84,7 @@ pub fn argument_due(due: Due) -> u32
             kind: _,
             code,
             k,
-        } => argument_of(code, k),
+        } => argument_of(shapes, code, k),
         Due::Ended => NONE,
     }
 }

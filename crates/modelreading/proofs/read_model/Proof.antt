@@ -1,5 +1,5 @@
 -- The loop's invariant: reading the rest from here gives what reading the whole gives.
-use mathlib.Core.Path.{_≡_, sym, _∙_}
+use mathlib.Core.Path.{_≡_, refl, sym, _∙_}
 use mathlib.Core.Logic.{⊎-elim}
 use Prim.Native.Nat.{_+_, _-_}
 use native.Mathlib.Omega.{arith}
@@ -7,6 +7,8 @@ use lib.ListN.{length, getD}
 use borrow.Author.Tests.{lt-ltb, le-ltb}
 use borrow.Author.Needs.{needs}
 use Rattle.models.specs.Reading.{readModel}
+use Rattle.models.specs.Shape.{shapes}
+use Rattle.modelreading.specs.Argument.{table}
 use Rattle.modelreading.proofs.Declared.{started-small}
 use Rattle.modelreading.proofs.Loop.{Left, Turn, whole, stop, again, again-one, room-here, done}
 use Rattle.modelreading.proofs.Listed.{onward}
@@ -14,10 +16,10 @@ use Rattle.modelreading.proofs.read_model.Statement.{statement}
 use Rattle.modelreading.proofs.read_model.Tie as tie
 
 abbrev Inv-loop : tie.InvT-loop
-Inv-loop ws types₀ v₀ c₀ at₀ due₀ types v c at due = Left ws types v c at due
+Inv-loop ws table types₀ v₀ c₀ at₀ due₀ types v c at due = Left ws types v c at due
 
 abbrev μ-loop : tie.MeasureT-loop
-μ-loop ws types₀ v₀ c₀ at₀ due₀ types v c at due = length ws - at
+μ-loop ws table types₀ v₀ c₀ at₀ due₀ types v c at due = length ws - at
 
 -- past fault 1
 rest : (c : tie.Else1 Inv-loop μ-loop) → whole (c .before .before .args .ws .now) ≡ readModel (c .before .before .args .ws .now)
@@ -26,12 +28,12 @@ rest c = rw (le-ltb _ _ (c .if1 .left))
 
 -- what a turn knows when the fault is found
 turn : (c : tie.After-of-due Inv-loop μ-loop) →
-    let p = c .before .before .before .before .before .before .before .loop in
-    Turn (c .before .before .before .before .before .before .before .before .before .before .args .ws .now) (p .types) (p .v) (p .c) (p .at) (p .due) (c .before .before .type-at .result) (c .of-due .result)
+    let p = c .before .before .before .before .before .before .before .before .loop in
+    Turn (c .before .before .before .before .before .before .before .before .before .before .before .args .ws .now) (p .types) (p .v) (p .c) (p .at) (p .due) (c .before .before .before .type-at .result) (c .of-due .result)
 turn c = record {
-  here = c .before .before .before .before .before .before .loop-test .taken;
-  left = c .before .before .before .before .before .before .before .loop .inv;
-  type = rw (c .before .before .before .payload-of .ensures) at (c .before .before .type-at .ensures);
+  here = c .before .before .before .before .before .before .before .loop-test .taken;
+  left = c .before .before .before .before .before .before .before .before .loop .inv;
+  type = rw (c .before .before .before .before .payload-of .ensures) at (c .before .before .before .type-at .ensures);
   found = c .of-due .ensures;
 }
 
@@ -54,14 +56,16 @@ payload-of-requires c κs = search needs
 type-at-requires : tie.Need-type-at-requires Inv-loop μ-loop
 type-at-requires c κs = search needs
 
+-- the table is the definition's: antt computes this once, for the whole table
 argument-due-requires : tie.Need-argument-due-requires Inv-loop μ-loop
-argument-due-requires c κs = search needs
+unfolding table shapes
+argument-due-requires c κs = refl
 
 of-due-requires : tie.Need-of-due-requires Inv-loop μ-loop
 of-due-requires c κs = search needs
 
 returns-2 : tie.Need-returns-2 Inv-loop μ-loop
-returns-2 c = stop (turn (c .before)) (c .if2 .taken) ∙ rest (c .before .before .before .before .before .before .before .before .before)
+returns-2 c = stop (turn (c .before)) (c .if2 .taken) ∙ rest (c .before .before .before .before .before .before .before .before .before .before)
 
 after-due-requires : tie.Need-after-due-requires Inv-loop μ-loop
 after-due-requires c κs = search needs
@@ -71,8 +75,8 @@ started-by-requires c κs = search needs
 
 add-c : tie.Need-add-c Inv-loop μ-loop
 add-c c =
-    let s = c .before .before .before .before .before .before .before .before .before .before .before .before .before in
-    let loop = c .before .before .before .before .before .before .before .before .before .before .loop in
+    let s = c .before .before .before .before .before .before .before .before .before .before .before .before .before .before in
+    let loop = c .before .before .before .before .before .before .before .before .before .before .before .loop in
     record { fits = omega (arith, c .started-by .ensures, started-small (getD (s .args .ws .now) (loop .at) 0), loop .inv .counted) }
 
 declared-by-requires : tie.Need-declared-by-requires Inv-loop μ-loop
@@ -95,7 +99,7 @@ add-at c = search needs
 
 -- what is left after the word
 passed : (c : tie.Joined3 Inv-loop μ-loop) →
-    let p = c .before .before .before .before .before .before .before .before .before .before .before .before in
+    let p = c .before .before .before .before .before .before .before .before .before .before .before .before .before in
     Left (p .before .before .before .args .ws .now) (c .if3 .types) (c .if3 .v) (p .loop .c + c .before .before .started-by .result) (p .loop .at + 1) (c .before .before .before .after-due .result)
 passed c =
     let p = c .before .before .before .before .before in

@@ -1,6 +1,7 @@
--- The table is the definition's lists, filled up: antt computes this once, for the whole table. Past its ends no code has an argument.
+-- The table is the definition's lists, filled up. Past its ends no code has an argument.
 use borrow.Author.Needs.{needs}
 use Rattle.models.specs.Shape.{argument, shapes}
+use Rattle.modelreading.specs.Argument.{table}
 use Rattle.modelreading.proofs.Table.{rule}
 use Rattle.modelreading.proofs.Places.{past-codes, past-arguments}
 use Rattle.modelreading.proofs.shapes.argument_of.Statement.{statement}
@@ -19,8 +20,10 @@ index-2-result : tie.Need-index-2-result
 index-2-result c = search needs
 
 returns : tie.Need-returns
-unfolding argument shapes
-returns c = rule 3 shapes (c .before .before .before .args .code) (c .before .before .before .args .k) (c .before .if2 .taken)
+unfolding argument table
+returns c =
+    let s = c .before .before .before in
+    rw (s .pre) (rule 3 shapes (s .args .code) (s .args .k) (c .before .if2 .taken))
 
 returns-2 : tie.Need-returns-2
 returns-2 c = past-arguments (c .before .before .args .code) (c .before .before .args .k) (c .if2 .left)
