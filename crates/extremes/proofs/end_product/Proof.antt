@@ -26,22 +26,35 @@ bound-at-requires-3 : tie.Need-bound-at-requires-3
 bound-at-requires-3 c κs = search needs
 
 times-ends-requires : tie.Need-times-ends-requires
-times-ends-requires c κs = rw (back (c .before .before .bound-at .result) (c .before .before .bound-at .ok), c .before .before .bound-at .ensures, back (c .before .bound-at2 .result) (c .before .bound-at2 .ok), c .before .bound-at2 .ensures, back (c .bound-at3 .result) (c .bound-at3 .ok), c .bound-at3 .ensures) (c .before .before .before .pre .0 (c .before .before .before .args .a), c .before .before .before .pre .0 (c .before .before .before .args .b), c .before .before .before .pre .1 (c .before .before .before .args .b))
+times-ends-requires c κs =
+    let s = c .before .before .before in
+    let bound-at = c .before .before .bound-at in
+    rw (back (bound-at .result) (bound-at .ok), bound-at .ensures, back (c .before .bound-at2 .result) (c .before .bound-at2 .ok), c .before .bound-at2 .ensures, back (c .bound-at3 .result) (c .bound-at3 .ok), c .bound-at3 .ensures) (s .pre .0 (s .args .a), s .pre .0 (s .args .b), s .pre .1 (s .args .b))
 
 bound-at-requires-4 : tie.Need-bound-at-requires-4
 bound-at-requires-4 c κs = search needs
 
 times-ends-requires-2 : tie.Need-times-ends-requires-2
-times-ends-requires-2 c κs = rw (back (c .before .before .before .before .bound-at .result) (c .before .before .before .before .bound-at .ok), c .before .before .before .before .bound-at .ensures, back (c .before .before .before .bound-at2 .result) (c .before .before .before .bound-at2 .ok), c .before .before .before .bound-at2 .ensures, back (c .bound-at4 .result) (c .bound-at4 .ok), c .bound-at4 .ensures) (c .before .before .before .before .before .pre .1 (c .before .before .before .before .before .args .a), c .before .before .before .before .before .pre .0 (c .before .before .before .before .before .args .b), c .before .before .before .before .before .pre .1 (c .before .before .before .before .before .args .b))
+times-ends-requires-2 c κs =
+    let s = c .before .before .before .before .before in
+    let bound-at = c .before .before .before .before .bound-at in
+    let bound-at2 = c .before .before .before .bound-at2 in
+    rw (back (bound-at .result) (bound-at .ok), bound-at .ensures, back (bound-at2 .result) (bound-at2 .ok), bound-at2 .ensures, back (c .bound-at4 .result) (c .bound-at4 .ok), c .bound-at4 .ensures) (s .pre .1 (s .args .a), s .pre .0 (s .args .b), s .pre .1 (s .args .b))
 
 pick-requires : tie.Need-pick-requires
 pick-requires c κs = search needs
 
 returns : tie.Need-returns
 returns c =
+    let s = c .before .before .before .before .before .before .before in
+    let bound-at = c .before .before .before .before .before .before .bound-at in
+    let bound-at2 = c .before .before .before .before .before .bound-at2 in
+    let bound-at3 = c .before .before .before .before .bound-at3 in
+    let times-ends = c .before .before .before .times-ends in
+    let bound-at4 = c .before .before .bound-at4 in
     back (c .pick .result) (c .pick .ok) ∙ c .pick .ensures
-    ∙ rw (back (c .before .before .before .times-ends .result) (c .before .before .before .times-ends .ok), c .before .before .before .times-ends .ensures, back (c .before .times-ends2 .result) (c .before .times-ends2 .ok), c .before .times-ends2 .ensures, back (c .before .before .before .before .before .before .bound-at .result) (c .before .before .before .before .before .before .bound-at .ok), c .before .before .before .before .before .before .bound-at .ensures, back (c .before .before .before .before .before .bound-at2 .result) (c .before .before .before .before .before .bound-at2 .ok), c .before .before .before .before .before .bound-at2 .ensures, back (c .before .before .before .before .bound-at3 .result) (c .before .before .before .before .bound-at3 .ok), c .before .before .before .before .bound-at3 .ensures, back (c .before .before .bound-at4 .result) (c .before .before .bound-at4 .ok), c .before .before .bound-at4 .ensures)
-    (ends (c .before .before .before .before .before .before .before .args .up) (boundsOf (c .before .before .before .before .before .before .before .args .ls .now) (c .before .before .before .before .before .before .before .args .us .now) (c .before .before .before .before .before .before .before .args .a)) (boundsOf (c .before .before .before .before .before .before .before .args .ls .now) (c .before .before .before .before .before .before .before .args .us .now) (c .before .before .before .before .before .before .before .args .b)))
+    ∙ rw (back (times-ends .result) (times-ends .ok), times-ends .ensures, back (c .before .times-ends2 .result) (c .before .times-ends2 .ok), c .before .times-ends2 .ensures, back (bound-at .result) (bound-at .ok), bound-at .ensures, back (bound-at2 .result) (bound-at2 .ok), bound-at2 .ensures, back (bound-at3 .result) (bound-at3 .ok), bound-at3 .ensures, back (bound-at4 .result) (bound-at4 .ok), bound-at4 .ensures)
+    (ends (s .args .up) (boundsOf (s .args .ls .now) (s .args .us .now) (s .args .a)) (boundsOf (s .args .ls .now) (s .args .us .now) (s .args .b)))
 
 pub end-product-spec : {M : Type 1} → statement M
 end-product-spec =

@@ -13,10 +13,14 @@ bound-at-requires-2 : tie.Need-bound-at-requires-2
 bound-at-requires-2 c κs = search needs
 
 minus-requires : tie.Need-minus-requires
-minus-requires c κs = rw (back (c .before .bound-at .result) (c .before .bound-at .ok), c .before .bound-at .ensures, back (c .bound-at2 .result) (c .bound-at2 .ok), c .bound-at2 .ensures) (omega (arith, c .before .before .pre .1 (c .before .before .args .a), c .before .before .pre .0 (c .before .before .args .b)))
+minus-requires c κs =
+    let s = c .before .before in
+    rw (back (c .before .bound-at .result) (c .before .bound-at .ok), c .before .bound-at .ensures, back (c .bound-at2 .result) (c .bound-at2 .ok), c .bound-at2 .ensures) (omega (arith, s .pre .1 (s .args .a), s .pre .0 (s .args .b)))
 
 returns : tie.Need-returns
-returns c = back (c .minus .result) (c .minus .ok) ∙ c .minus .ensures ∙ rw (back (c .before .before .bound-at .result) (c .before .before .bound-at .ok), c .before .before .bound-at .ensures, back (c .before .bound-at2 .result) (c .before .bound-at2 .ok), c .before .bound-at2 .ensures)
+returns c =
+    let bound-at = c .before .before .bound-at in
+    back (c .minus .result) (c .minus .ok) ∙ c .minus .ensures ∙ rw (back (bound-at .result) (bound-at .ok), bound-at .ensures, back (c .before .bound-at2 .result) (c .before .bound-at2 .ok), c .before .bound-at2 .ensures)
 
 pub gap-spec : {M : Type 1} → statement M
 gap-spec = tie.close (tie.spec bound-at-requires bound-at-requires-2 minus-requires returns)

@@ -56,11 +56,14 @@ loop-less c = search needs
 
 loop-again : tie.Need-loop-again Inv-loop μ-loop
 loop-again c =
+    let s = c .before .before .before .before .before .before in
+    let loop = c .before .before .before .before .loop in
+    let word-at = c .before .before .word-at in
     ⊎-elim (λ w.
-    let l : c .if1 .lowers ≡ set (c .before .before .before .before .loop .lowers) (c .before .before .before .before .loop .n) (lowerOf (wordAt (c .before .before .before .before .before .before .args .ws .now) (c .before .before .before .before .loop .i))) = w .10 ∙ w .3 .ensures ∙ rw (back (w .2 .result) (w .2 .ok), w .2 .ensures, c .before .before .word-at .ensures) in
-    let u : c .if1 .uppers ≡ set (c .before .before .before .before .loop .uppers) (c .before .before .before .before .loop .n) (upperOf (wordAt (c .before .before .before .before .before .before .args .ws .now) (c .before .before .before .before .loop .i)) (wordAt (c .before .before .before .before .before .before .args .ws .now) (c .before .before .before .before .loop .i + 1))) = w .11 ∙ w .8 .ensures ∙ rw (back (w .7 .result) (w .7 .ok), w .7 .ensures, w .6 .ensures, c .before .before .word-at .ensures) in
-    rw (l, u, w .12) (kept (c .before .before .before .before .loop .inv) (c .before .before .before .loop-test .taken) (rw (c .before .before .word-at .ensures) at (sym (c .before .starts-variable .ensures) ∙ w .0 .taken))))
-    (λ w. rw (w .1, w .2, w .3) (passed (c .before .before .before .before .loop .inv) (c .before .before .before .loop-test .taken) (rw (c .before .before .word-at .ensures) at (sym (c .before .starts-variable .ensures) ∙ w .0 .left)))) (c .if1 .came)
+    let l : c .if1 .lowers ≡ set (loop .lowers) (loop .n) (lowerOf (wordAt (s .args .ws .now) (loop .i))) = w .10 ∙ w .3 .ensures ∙ rw (back (w .2 .result) (w .2 .ok), w .2 .ensures, word-at .ensures) in
+    let u : c .if1 .uppers ≡ set (loop .uppers) (loop .n) (upperOf (wordAt (s .args .ws .now) (loop .i)) (wordAt (s .args .ws .now) (loop .i + 1))) = w .11 ∙ w .8 .ensures ∙ rw (back (w .7 .result) (w .7 .ok), w .7 .ensures, w .6 .ensures, word-at .ensures) in
+    rw (l, u, w .12) (kept (loop .inv) (c .before .before .before .loop-test .taken) (rw (word-at .ensures) at (sym (c .before .starts-variable .ensures) ∙ w .0 .taken))))
+    (λ w. rw (w .1, w .2, w .3) (passed (loop .inv) (c .before .before .before .loop-test .taken) (rw (word-at .ensures) at (sym (c .before .starts-variable .ensures) ∙ w .0 .left)))) (c .if1 .came)
 
 same-length : tie.Need-same-length Inv-loop μ-loop
 same-length c = c .before .loop .inv .same-lowers

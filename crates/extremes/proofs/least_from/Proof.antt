@@ -47,11 +47,16 @@ loop-less : tie.Need-loop-less Inv-loop μ-loop
 loop-less c = search needs
 
 loop-again : tie.Need-loop-again Inv-loop μ-loop
-loop-again c = (search needs, search needs, back (c .nearer .result) (c .nearer .ok) ∙ c .nearer .ensures ∙ rw (back (c .before .num-at .result) (c .before .num-at .ok), c .before .num-at .ensures, c .before .before .before .loop .inv .2, least-more))
+loop-again c =
+    let loop = c .before .before .before .loop in
+    (search needs, search needs, back (c .nearer .result) (c .nearer .ok) ∙ c .nearer .ensures ∙ rw (back (c .before .num-at .result) (c .before .num-at .ok), c .before .num-at .ensures, loop .inv .2, least-more))
 
 returns : tie.Need-returns Inv-loop μ-loop
 unfolding nums
-returns c = let e : c .before .loop .k ≡ c .before .before .size-at .result = omega arith in c .before .loop .inv .2 ∙ rw (e, c .before .before .size-at .ensures, toZ-ofZ (c .before .before .before .before .fits .from), toZ-ofZ (c .before .before .before .before .fits .above))
+returns c =
+    let s = c .before .before .before .before in
+    let size-at = c .before .before .size-at in
+    let e : c .before .loop .k ≡ size-at .result = omega arith in c .before .loop .inv .2 ∙ rw (e, size-at .ensures, toZ-ofZ (s .fits .from), toZ-ofZ (s .fits .above))
 
 pub least-from-spec : {M : Type 1} → statement M
 least-from-spec =

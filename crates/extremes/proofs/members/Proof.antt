@@ -23,10 +23,15 @@ abbrev μ-loop : tie.MeasureT-loop
 μ-loop args i lower upper out₀ above left₀ k₀ from₀ out left k from = left
 
 least : (c : tie.After-least-from Inv-loop μ-loop) → c .least-from .result ≡ leastFrom (nums (c .before .before .before .before .before .before .args .args .now) (c .before .before .before .before .before .before .args .i)) (toZ w64 (c .before .before .loop .from)) (toZ w64 (ofZ w64 (c .before .before .before .before .before .before .args .upper)) ⊕ +1)
-least c = c .least-from .ensures ∙ rw (back (c .before .before .before .before .plus .result) (c .before .before .before .before .plus .ok), c .before .before .before .before .plus .ensures)
+least c =
+    let plus = c .before .before .before .before .plus in
+    c .least-from .ensures ∙ rw (back (plus .result) (plus .ok), plus .ensures)
 
 small : (c : tie.After-least-from Inv-loop μ-loop) → natAbs (c .least-from .result) ≤ 134217729
-small c = rw (least c) (set-size (c .before .before .before .before .before .before .args .args .now) (c .before .before .before .before .before .before .args .i) (toZ w64 (c .before .before .loop .from)) _ (rw (toZ-ofZ (c .before .before .before .before .before .before .fits .upper)) (c .before .before .before .before .before .before .pre .1)))
+small c =
+    let s = c .before .before .before .before .before .before in
+    let loop = c .before .before .loop in
+    rw (least c) (set-size (s .args .args .now) (s .args .i) (toZ w64 (loop .from)) _ (rw (toZ-ofZ (s .fits .upper)) (s .pre .1)))
 
 plus-requires : tie.Need-plus-requires Inv-loop μ-loop
 plus-requires c κs = rw (toZ-ofZ (c .before .fits .upper)) (omega (arith, c .before .pre .1))
@@ -47,13 +52,20 @@ same-length : tie.Need-same-length Inv-loop μ-loop
 same-length c = c .before .before .before .before .loop .inv .same
 
 returns : tie.Need-returns Inv-loop μ-loop
-returns c = rw (toZ-ofZ (c .before .before .before .before .before .before .before .before .fits .upper), toZ-ofZ (c .before .before .before .before .before .before .before .before .fits .lower)) at (none-left (c .before .before .before .before .loop .left) (c .before .before .least-from .result) (c .before .before .before .loop-test .taken) (least (c .before .before)) (rw (back (c .before .before .least-from .result) (c .before .before .least-from .ok)) at (sym (c .before .below .ensures) ∙ c .if1 .taken)) (c .before .before .before .before .loop .inv))
+returns c =
+    let s = c .before .before .before .before .before .before .before .before in
+    let loop = c .before .before .before .before .loop in
+    let least-from = c .before .before .least-from in
+    rw (toZ-ofZ (s .fits .upper), toZ-ofZ (s .fits .lower)) at (none-left (loop .left) (least-from .result) (c .before .before .before .loop-test .taken) (least (c .before .before)) (rw (back (least-from .result) (least-from .ok)) at (sym (c .before .below .ensures) ∙ c .if1 .taken)) (loop .inv))
 
 put-requires : tie.Need-put-requires Inv-loop μ-loop
 put-requires c κs = search needs
 
 plus-requires-2 : tie.Need-plus-requires-2 Inv-loop μ-loop
-plus-requires-2 c κs = rw (back (c .before .before .before .before .before .least-from .result) (c .before .before .before .before .before .least-from .ok)) (omega (arith, small (c .before .before .before .before .before)))
+plus-requires-2 c κs =
+    let least-from = c .before .before .before .before .before .least-from in
+    let p = c .before .before .before .before .before in
+    rw (back (least-from .result) (least-from .ok)) (omega (arith, small p))
 
 add-k : tie.Need-add-k Inv-loop μ-loop
 add-k c = omega (arith, c .before .before .before .before .before .before .before .before .loop .inv .fuel)
@@ -66,14 +78,22 @@ loop-less c = search needs
 
 loop-again : tie.Need-loop-again Inv-loop μ-loop
 loop-again c =
-    rw (c .before .before .put .ensures, back (c .plus2 .result) (c .plus2 .ok), c .plus2 .ensures, back (c .before .before .before .before .before .before .least-from .result) (c .before .before .before .before .before .before .least-from .ok))
-    (found (c .before .before .before .before .before .before .before .before .loop .left) (c .before .before .before .before .before .before .least-from .result) (c .before .before .before .before .before .before .before .loop-test .taken) (least (c .before .before .before .before .before .before)) (rw (back (c .before .before .before .before .before .before .least-from .result) (c .before .before .before .before .before .before .least-from .ok)) at (sym (c .before .before .before .before .before .below .ensures) ∙ c .before .before .before .before .if1 .left)) (c .before .before .before .before .before .before .before .before .loop .inv))
+    let loop = c .before .before .before .before .before .before .before .before .loop in
+    let least-from = c .before .before .before .before .before .before .least-from in
+    let p = c .before .before .before .before .before .before in
+    let below = c .before .before .before .before .before .below in
+    let if1 = c .before .before .before .before .if1 in
+    let put = c .before .before .put in
+    rw (put .ensures, back (c .plus2 .result) (c .plus2 .ok), c .plus2 .ensures, back (least-from .result) (least-from .ok))
+    (found (loop .left) (least-from .result) (c .before .before .before .before .before .before .before .loop-test .taken) (least p) (rw (back (least-from .result) (least-from .ok)) at (sym (below .ensures) ∙ if1 .left)) (loop .inv))
 
 same-length-2 : tie.Need-same-length-2 Inv-loop μ-loop
 same-length-2 c = c .before .loop .inv .same
 
 returns-2 : tie.Need-returns-2 Inv-loop μ-loop
-returns-2 c = rw (toZ-ofZ (c .before .before .before .before .before .fits .upper), toZ-ofZ (c .before .before .before .before .before .fits .lower)) at (all-found _ (c .loop-test .left) (c .before .loop .inv))
+returns-2 c =
+    let s = c .before .before .before .before .before in
+    rw (toZ-ofZ (s .fits .upper), toZ-ofZ (s .fits .lower)) at (all-found _ (c .loop-test .left) (c .before .loop .inv))
 
 pub members-spec : {M : Type 1} → statement M
 members-spec =

@@ -8,7 +8,10 @@ use Rattle.extremes.proofs.nearer.Statement.{statement}
 use Rattle.extremes.proofs.nearer.Tie as tie
 
 test : (c : tie.After-both) → c .both .result ≡ (leZ (c .before .before .before .args .from) (c .before .before .before .args .v) && ltZ (c .before .before .before .args .v) (c .before .before .before .args .above))
-test c = c .both .ensures ∙ rw (c .before .before .at-most .ensures, c .before .below .ensures, toZ-ofZ (c .before .before .before .fits .from), toZ-ofZ (c .before .before .before .fits .v), toZ-ofZ (c .before .before .before .fits .above))
+test c =
+    let s = c .before .before .before in
+    let at-most = c .before .before .at-most in
+    c .both .ensures ∙ rw (at-most .ensures, c .before .below .ensures, toZ-ofZ (s .fits .from), toZ-ofZ (s .fits .v), toZ-ofZ (s .fits .above))
 
 at-most-requires : tie.Need-at-most-requires
 at-most-requires c κs = search needs

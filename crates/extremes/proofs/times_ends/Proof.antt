@@ -19,8 +19,10 @@ pick-requires c κs = search needs
 returns : tie.Need-returns
 returns c =
     let s = c .before .before .before in
+    let times = c .before .before .times in
+    let s = s in
     back (c .pick .result) (c .pick .ok) ∙ c .pick .ensures
-    ∙ rw (back (c .before .before .times .result) (c .before .before .times .ok), c .before .before .times .ensures, back (c .before .times2 .result) (c .before .times2 .ok), c .before .times2 .ensures, toZ-ofZ (s .fits .a), toZ-ofZ (s .fits .lower), toZ-ofZ (s .fits .upper))
+    ∙ rw (back (times .result) (times .ok), times .ensures, back (c .before .times2 .result) (c .before .times2 .ok), c .before .times2 .ensures, toZ-ofZ (s .fits .a), toZ-ofZ (s .fits .lower), toZ-ofZ (s .fits .upper))
 
 pub times-ends-spec : {M : Type 1} → statement M
 times-ends-spec = tie.close (tie.spec times-requires times-requires-2 pick-requires returns)

@@ -19,7 +19,10 @@ count-of-requires c κs = search needs
 
 returns : tie.Need-returns
 unfolding width
-returns c = c .count-of .ensures ∙ rw (back (c .before .plus .result) (c .before .plus .ok), c .before .plus .ensures, back (c .before .before .minus .result) (c .before .before .minus .ok), c .before .before .minus .ensures, toZ-ofZ (c .before .before .before .fits .upper), toZ-ofZ (c .before .before .before .fits .lower))
+returns c =
+    let s = c .before .before .before in
+    let minus = c .before .before .minus in
+    c .count-of .ensures ∙ rw (back (c .before .plus .result) (c .before .plus .ok), c .before .plus .ensures, back (minus .result) (minus .ok), minus .ensures, toZ-ofZ (s .fits .upper), toZ-ofZ (s .fits .lower))
 
 pub width-of-spec : {M : Type 1} → statement M
 width-of-spec = tie.close (tie.spec minus-requires plus-requires count-of-requires returns)

@@ -48,28 +48,43 @@ same-length-3 c = search needs
 
 returns-3 : tie.Need-returns-3
 unfolding builtin builtins sumOf
-returns-3 c = let e : c .before .before .before .before .before .before .before .args .code ≡ 12 = c .before .before .before .before .match .keys3 in rw e (λ β h. c .before .before .int-lin-ne .ensures .0 β (h (omega arith)), c .before .before .int-lin-ne .ensures .1)
+returns-3 c =
+    let s = c .before .before .before .before .before .before .before in
+    let match = c .before .before .before .before .match in
+    let int-lin-ne = c .before .before .int-lin-ne in
+    let e : s .args .code ≡ 12 = match .keys3 in rw e (λ β h. int-lin-ne .ensures .0 β (h (omega arith)), int-lin-ne .ensures .1)
 
 same-length-4 : tie.Need-same-length-4
 same-length-4 c = search needs
 
 returns-4 : tie.Need-returns-4
 unfolding builtin builtins sumOf
-returns-4 c = let e : c .before .before .before .before .before .before .before .args .code ≡ 13 = c .before .before .before .before .match .keys4 in rw e (λ β h. c .before .before .int-lin-eq-reif .ensures .0 β (h (omega arith)), c .before .before .int-lin-eq-reif .ensures .1)
+returns-4 c =
+    let s = c .before .before .before .before .before .before .before in
+    let match = c .before .before .before .before .match in
+    let int-lin-eq-reif = c .before .before .int-lin-eq-reif in
+    let e : s .args .code ≡ 13 = match .keys4 in rw e (λ β h. int-lin-eq-reif .ensures .0 β (h (omega arith)), int-lin-eq-reif .ensures .1)
 
 same-length-5 : tie.Need-same-length-5
 same-length-5 c = search needs
 
 returns-5 : tie.Need-returns-5
 unfolding builtin builtins sumOf
-returns-5 c = let e : c .before .before .before .before .before .before .before .args .code ≡ 14 = c .before .before .before .before .match .keys5 in rw e (λ β h. c .before .before .int-eq-reif .ensures .0 β (h (omega arith)), c .before .before .int-eq-reif .ensures .1)
+returns-5 c =
+    let s = c .before .before .before .before .before .before .before in
+    let match = c .before .before .before .before .match in
+    let int-eq-reif = c .before .before .int-eq-reif in
+    let e : s .args .code ≡ 14 = match .keys5 in rw e (λ β h. int-eq-reif .ensures .0 β (h (omega arith)), int-eq-reif .ensures .1)
 
 same-length-6 : tie.Need-same-length-6
 same-length-6 c = search needs
 
 returns-6 : tie.Need-returns-6
 unfolding builtin builtins sumOf
-returns-6 c = let e : c .before .before .before .before .before .before .before .args .code ≡ 15 = omega arith in rw e (λ β h. c .before .before .int-lin-le-reif .ensures .0 β (h (omega arith)), c .before .before .int-lin-le-reif .ensures .1)
+returns-6 c =
+    let e : c .before .before .before .before .before .before .before .args .code ≡ 15 = omega arith in
+    let int-lin-le-reif = c .before .before .int-lin-le-reif in
+    rw e (λ β h. int-lin-le-reif .ensures .0 β (h (omega arith)), int-lin-le-reif .ensures .1)
 
 pub linear-block-spec : {M : Type 1} → statement M
 linear-block-spec =

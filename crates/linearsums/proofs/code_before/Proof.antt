@@ -24,7 +24,11 @@ payload-of-requires c κs = search needs
 
 returns-2 : tie.Need-returns-2
 unfolding codeBefore
-returns-2 c = c .payload-of .ensures ∙ rw (ne-eqb _ 0 (c .before .before .before .before .if1 .left), ← c .before .before .before .word-at .ensures, eq-eqb _ 4 (sym (c .before .before .kind-of .ensures) ∙ c .before .if2 .taken))
+returns-2 c =
+    let if1 = c .before .before .before .before .if1 in
+    let word-at = c .before .before .before .word-at in
+    let kind-of = c .before .before .kind-of in
+    c .payload-of .ensures ∙ rw (ne-eqb _ 0 (if1 .left), ← word-at .ensures, eq-eqb _ 4 (sym (kind-of .ensures) ∙ c .before .if2 .taken))
 
 returns-3 : tie.Need-returns-3
 unfolding codeBefore

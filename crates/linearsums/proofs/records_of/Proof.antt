@@ -34,7 +34,9 @@ loop-less : tie.Need-loop-less Inv-loop μ-loop
 loop-less c = search needs
 
 loop-again : tie.Need-loop-again Inv-loop μ-loop
-loop-again c = rw (read (c .before .bound-at .ok) (c .before .bound-at .ensures), read (c .bound-at2 .ok) (c .bound-at2 .ensures)) (more (c .before .before .before .loop .inv) (c .before .before .loop-test .taken))
+loop-again c =
+    let loop = c .before .before .before .loop in
+    rw (read (c .before .bound-at .ok) (c .before .bound-at .ensures), read (c .bound-at2 .ok) (c .bound-at2 .ensures)) (more (loop .inv) (c .before .before .loop-test .taken))
 
 returns : tie.Need-returns Inv-loop μ-loop
 returns c = done (c .before .loop .inv) (c .loop-test .left) (c .before .before .pre .0) (c .before .before .pre .1)

@@ -22,7 +22,10 @@ num-at-requires c κs = search needs
 
 returns-2 : tie.Need-returns-2
 unfolding sumConstant
-returns-2 c = back (c .num-at .result) (c .num-at .ok) ∙ c .num-at .ensures ∙ rw (← c .before .before .before .code-before .ensures, ne-eqb _ 14 (c .before .before .if1 .left), c .before .past-terms-at .ensures)
+returns-2 c =
+    let code-before = c .before .before .before .code-before in
+    let if1 = c .before .before .if1 in
+    back (c .num-at .result) (c .num-at .ok) ∙ c .num-at .ensures ∙ rw (← code-before .ensures, ne-eqb _ 14 (if1 .left), c .before .past-terms-at .ensures)
 
 pub sum-constant-spec : {M : Type 1} → statement M
 sum-constant-spec =

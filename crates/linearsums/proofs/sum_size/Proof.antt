@@ -26,7 +26,11 @@ size-at-requires c κs = search needs
 
 returns-4 : tie.Need-returns-4
 unfolding sumSize
-returns-4 c = c .size-at .ensures ∙ rw (← c .before .before .before .before .code-before .ensures, le-ltb _ 12 (c .before .before .before .if1 .left), le-ltb 15 _ (c .before .before .if2 .left), ne-eqb _ 14 (c .before .if3 .left))
+returns-4 c =
+    let code-before = c .before .before .before .before .code-before in
+    let if1 = c .before .before .before .if1 in
+    let if2 = c .before .before .if2 in
+    c .size-at .ensures ∙ rw (← code-before .ensures, le-ltb _ 12 (if1 .left), le-ltb 15 _ (if2 .left), ne-eqb _ 14 (c .before .if3 .left))
 
 pub sum-size-spec : {M : Type 1} → statement M
 sum-size-spec =

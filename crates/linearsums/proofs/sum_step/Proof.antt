@@ -13,14 +13,31 @@ sum-number-requires : tie.Need-sum-number-requires
 sum-number-requires c κs = search needs
 
 with-ends-requires : tie.Need-with-ends-requires
-with-ends-requires c κs = rw (read (c .before .before .before .before .sum-number .ok) (c .before .before .before .before .sum-number .ensures), back (c .before .before .before .before .before .before .args .b .lower) (c .before .before .before .struct-told .given .0 .1), back (c .before .before .before .before .before .before .args .b .upper) (c .before .before .struct-told2 .given .1 .0 .1), back (c .before .before .before .before .before .before .args .total .lower) (c .before .struct-told3 .given .0 .1)) (number-near (c .before .before .before .before .before .before .args .ws .now) (c .before .before .before .before .before .before .args .a) (c .before .before .before .before .before .before .args .k), c .before .before .before .before .before .before .pre .2, c .before .before .before .before .before .before .pre .3, c .before .before .before .before .before .before .pre .4)
+with-ends-requires c κs =
+    let s = c .before .before .before .before .before .before in
+    let sum-number = c .before .before .before .before .sum-number in
+    let struct-told = c .before .before .before .struct-told in
+    let struct-told2 = c .before .before .struct-told2 in
+    rw (read (sum-number .ok) (sum-number .ensures), back (s .args .b .lower) (struct-told .given .0 .1), back (s .args .b .upper) (struct-told2 .given .1 .0 .1), back (s .args .total .lower) (c .before .struct-told3 .given .0 .1)) (number-near (s .args .ws .now) (s .args .a) (s .args .k), s .pre .2, s .pre .3, s .pre .4)
 
 with-ends-requires-2 : tie.Need-with-ends-requires-2
-with-ends-requires-2 c κs = rw (read (c .before .before .before .before .before .sum-number .ok) (c .before .before .before .before .before .sum-number .ensures), back (c .before .before .before .before .before .before .before .args .b .lower) (c .before .before .before .before .struct-told .given .0 .1), back (c .before .before .before .before .before .before .before .args .b .upper) (c .before .before .before .struct-told2 .given .1 .0 .1), back (c .before .before .before .before .before .before .before .args .total .upper) (c .before .struct-told4 .given .1 .0 .1)) (number-near (c .before .before .before .before .before .before .before .args .ws .now) (c .before .before .before .before .before .before .before .args .a) (c .before .before .before .before .before .before .before .args .k), c .before .before .before .before .before .before .before .pre .2, c .before .before .before .before .before .before .before .pre .3, c .before .before .before .before .before .before .before .pre .5)
+with-ends-requires-2 c κs =
+    let s = c .before .before .before .before .before .before .before in
+    let sum-number = c .before .before .before .before .before .sum-number in
+    let struct-told = c .before .before .before .before .struct-told in
+    let struct-told2 = c .before .before .before .struct-told2 in
+    rw (read (sum-number .ok) (sum-number .ensures), back (s .args .b .lower) (struct-told .given .0 .1), back (s .args .b .upper) (struct-told2 .given .1 .0 .1), back (s .args .total .upper) (c .before .struct-told4 .given .1 .0 .1)) (number-near (s .args .ws .now) (s .args .a) (s .args .k), s .pre .2, s .pre .3, s .pre .5)
 
 returns : tie.Need-returns
 unfolding withTerm
-returns c = ap₂ (λ l u. l to u) (read (c .before .with-ends .ok) (c .before .with-ends .ensures) ∙ rw (read (c .before .before .before .before .before .before .sum-number .ok) (c .before .before .before .before .before .before .sum-number .ensures), back (c .before .before .before .before .before .before .before .before .args .b .lower) (c .before .before .before .before .before .struct-told .given .0 .1), back (c .before .before .before .before .before .before .before .before .args .b .upper) (c .before .before .before .before .struct-told2 .given .1 .0 .1), back (c .before .before .before .before .before .before .before .before .args .total .lower) (c .before .before .before .struct-told3 .given .0 .1))) (read (c .with-ends2 .ok) (c .with-ends2 .ensures) ∙ rw (read (c .before .before .before .before .before .before .sum-number .ok) (c .before .before .before .before .before .before .sum-number .ensures), back (c .before .before .before .before .before .before .before .before .args .b .lower) (c .before .before .before .before .before .struct-told .given .0 .1), back (c .before .before .before .before .before .before .before .before .args .b .upper) (c .before .before .before .before .struct-told2 .given .1 .0 .1), back (c .before .before .before .before .before .before .before .before .args .total .upper) (c .before .before .struct-told4 .given .1 .0 .1)))
+returns c =
+    let s = c .before .before .before .before .before .before .before .before in
+    let sum-number = c .before .before .before .before .before .before .sum-number in
+    let struct-told = c .before .before .before .before .before .struct-told in
+    let struct-told2 = c .before .before .before .before .struct-told2 in
+    let struct-told3 = c .before .before .before .struct-told3 in
+    let struct-told4 = c .before .before .struct-told4 in
+    ap₂ (λ l u. l to u) (read (c .before .with-ends .ok) (c .before .with-ends .ensures) ∙ rw (read (sum-number .ok) (sum-number .ensures), back (s .args .b .lower) (struct-told .given .0 .1), back (s .args .b .upper) (struct-told2 .given .1 .0 .1), back (s .args .total .lower) (struct-told3 .given .0 .1))) (read (c .with-ends2 .ok) (c .with-ends2 .ensures) ∙ rw (read (sum-number .ok) (sum-number .ensures), back (s .args .b .lower) (struct-told .given .0 .1), back (s .args .b .upper) (struct-told2 .given .1 .0 .1), back (s .args .total .upper) (struct-told4 .given .1 .0 .1)))
 
 pub sum-step-spec : {M : Type 1} → statement M
 sum-step-spec =

@@ -27,7 +27,9 @@ past-at-requires c κs = search needs
 
 add-var-at-2 : tie.Need-add-var-at-2
 unfolding past
-add-var-at-2 c = rw (c .past-at .ensures) (omega (arith, size-le (c .before .before .before .before .args .ws .now) (c .before .before .before .before .args .a), c .before .before .before .before .pre .0, c .before .before .before .before .pre .1))
+add-var-at-2 c =
+    let s = c .before .before .before .before in
+    rw (c .past-at .ensures) (omega (arith, size-le (s .args .ws .now) (s .args .a), s .pre .0, s .pre .1))
 
 var-at-requires-2 : tie.Need-var-at-requires-2
 var-at-requires-2 c κs = search needs

@@ -20,8 +20,10 @@ array-share-prefix-words c = search needs
 
 slice-aggregate-translate : tie.Need-slice-aggregate-translate
 slice-aggregate-translate c =
-    counted (bytesWords (c .before .before .before .before .before .before .before .args .bytes .now)) _ (c .before .before .before .words-of-bytes .last .1 .0) (c .before .before .before .words-of-bytes .result) (c .before .at-most .result) refl
-    (c .before .before .before .words-of-bytes .ensures .1) (c .before .before .before .words-of-bytes .ensures .0) (c .before .at-most .ensures)
+    let s = c .before .before .before .before .before .before .before in
+    let words-of-bytes = c .before .before .before .words-of-bytes in
+    counted (bytesWords (s .args .bytes .now)) _ (words-of-bytes .last .1 .0) (words-of-bytes .result) (c .before .at-most .result) refl
+    (words-of-bytes .ensures .1) (words-of-bytes .ensures .0) (c .before .at-most .ensures)
 
 translate-requires : tie.Need-translate-requires
 translate-requires c κs = search needs
@@ -31,8 +33,12 @@ same-length c = search needs
 
 returns : tie.Need-returns
 returns c =
-    let f = rw (c .before .before .before .before .before .at-most .ensures, c .before .before .before .before .before .before .before .words-of-bytes .ensures .0, c .before .before .before .before .before .before .before .words-of-bytes .ensures .1) at (c .before .before .translate .ensures) in
-    let s = same (bytesWords (c .before .before .before .before .before .before .before .before .before .before .before .args .bytes .now)) _ refl (c .before .before .before .before .before .before .before .before .before .before .before .args .out .now) in
+    let s = c .before .before .before .before .before .before .before .before .before .before .before in
+    let words-of-bytes = c .before .before .before .before .before .before .before .words-of-bytes in
+    let at-most = c .before .before .before .before .before .at-most in
+    let translate = c .before .before .translate in
+    let f = rw (at-most .ensures, words-of-bytes .ensures .0, words-of-bytes .ensures .1) at (translate .ensures) in
+    let s = same (bytesWords (s .args .bytes .now)) _ refl (s .args .out .now) in
     (f .0 ∙ s .0, f .1 .0 ∙ s .1)
 
 pub translate-bytes-spec : {M : Type 1} → statement M

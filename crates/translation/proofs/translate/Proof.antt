@@ -14,7 +14,10 @@ use Rattle.translation.proofs.translate.Tie as tie
 -- check found no fault, and how many words are needed
 passed : (c : tie.After-words) → Passes (c .before .before .before .before .before .args .ws .now) × (c .words .given .0 .1 .1 .1 .1 .0 ≡ length (systemWords (c .before .before .before .before .before .args .ws .now)))
 unfolding checked
-passed c = counted (c .before .before .before .before .before .args .ws .now) (rw (c .words .given .1) at (c .before .before .check .ensures))
+passed c =
+    let s = c .before .before .before .before .before in
+    let check = c .before .before .check in
+    counted (s .args .ws .now) (rw (c .words .given .1) at (check .ensures))
 
 check-requires : tie.Need-check-requires
 check-requires c κs = search needs

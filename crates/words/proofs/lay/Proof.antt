@@ -52,12 +52,14 @@ loop-less : tie.Need-loop-less Inv-loop μ-loop
 loop-less c = search needs
 
 loop-again : tie.Need-loop-again Inv-loop μ-loop
-loop-again c = (
-  omega arith,
-  rw (written c)
-      (sym (overlay-step 0 (c .before .before .loop .out) (c .before .before .before .args .at) (c .before .before .before .args .words .now) (c .before .before .loop .i) (c .before .loop-test .taken))
-      ∙ c .before .before .loop .inv .1),
-)
+loop-again c =
+    let s = c .before .before .before in
+    let loop = c .before .before .loop in (
+      omega arith,
+      rw (written c)
+          (sym (overlay-step 0 (loop .out) (s .args .at) (s .args .words .now) (loop .i) (c .before .loop-test .taken))
+          ∙ loop .inv .1),
+    )
 
 same-length : tie.Need-same-length Inv-loop μ-loop
 same-length c = ap length (ended c) ∙ simp length-overlay

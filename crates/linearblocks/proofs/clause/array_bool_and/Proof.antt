@@ -30,7 +30,9 @@ size-at-requires : tie.Need-size-at-requires
 size-at-requires c κs = search needs
 
 lay-above-requires : tie.Need-lay-above-requires
-lay-above-requires c κs = (omega (arith, c .before .before .before .before .before .before .pre), rw (c .size-at .ensures) (omega (arith, size-le (c .before .before .before .before .before .before .args .args .now) 0)), omega arith)
+lay-above-requires c κs =
+    let s = c .before .before .before .before .before .before in
+    (omega (arith, s .pre), rw (c .size-at .ensures) (omega (arith, size-le (s .args .args .now) 0)), omega arith)
 
 lay-all-requires : tie.Need-lay-all-requires
 lay-all-requires c κs = search needs
@@ -41,11 +43,17 @@ same-length c = search needs
 returns : tie.Need-returns
 unfolding rule blockParts boundParts flatMap
 returns c =
-    let ws = c .before .before .before .before .before .before .before .before .before .before .before .before .before .args .args .now in
+    let s = c .before .before .before .before .before .before .before .before .before .before .before .before .before in
+    let past-at = c .before .before .before .before .before .before .before .before .before .before .past-at in
+    let var-at = c .before .before .before .before .before .before .before .before .before .var-at in
+    let size-at = c .before .before .before .before .before .before .before .size-at in
+    let lay-above = c .before .before .before .before .before .before .lay-above in
+    let lay-all = c .before .before .lay-all in
+    let ws = s .args .args .now in
     let r = var ws (past ws 0) in
     let q = sum≤0 (each +1 (vars ws 0) ++ (-1 · source r ∷ [])) (+1 ⊖ pos (length (vars ws 0))) in
-    let t = rw (c .before .before .before .before .before .before .before .size-at .ensures, c .before .before .before .before .before .before .before .before .before .var-at .ensures, c .before .before .before .before .before .before .before .before .before .before .past-at .ensures) at (c .before .before .before .before .before .before .lay-above .ensures) in
-    let u = rw (c .before .before .before .before .before .before .before .before .before .var-at .ensures, c .before .before .before .before .before .before .before .before .before .before .past-at .ensures) at (c .before .before .lay-all .ensures) in
+    let t = rw (size-at .ensures, var-at .ensures, past-at .ensures) at (lay-above .ensures) in
+    let u = rw (var-at .ensures, past-at .ensures) at (lay-all .ensures) in
     (λ first β. rows-then first (block [] (map (λ x. source r ─ source x ≤0) (vars ws 0))) (q ∷ []) (went-as (sym (above-parts first ws r 0)) (t .0)) (rw append-nil (u .0 first)), omega (arith, t .1, u .1))
 
 pub array-bool-and-spec : {M : Type 1} → statement M

@@ -32,9 +32,14 @@ same-length c = search needs
 returns : tie.Need-returns
 unfolding rule rowParts
 returns c =
-    let ws = c .before .before .before .before .before .before .before .before .before .before .before .before .before .before .before .args .args .now in
+    let s = c .before .before .before .before .before .before .before .before .before .before .before .before .before .before .before in
+    let size-at = c .before .before .before .before .before .before .before .before .before .before .before .size-at in
+    let lay-head = c .before .before .before .before .before .before .before .before .before .before .lay-head in
+    let lay-each = c .before .before .before .before .before .before .lay-each in
+    let lay-constant = c .before .before .lay-constant in
+    let ws = s .args .args .now in
     let ts = each +1 (vars ws 0) in
-    (λ first β. went-as (one-row first _) (row-went first ts (each-length +1 (vars ws 0) ∙ length-vars ws 0) (each-parts first +1 ws 0) (rw (c .before .before .before .before .before .before .before .before .before .before .before .size-at .ensures) at (c .before .before .before .before .before .before .before .before .before .before .lay-head .ensures .0)) (c .before .before .before .before .before .before .lay-each .ensures .0) (c .before .before .lay-constant .ensures .0)), omega (arith, c .before .before .before .before .before .before .before .before .before .before .lay-head .ensures .1, c .before .before .before .before .before .before .lay-each .ensures .1, c .before .before .lay-constant .ensures .1))
+    (λ first β. went-as (one-row first _) (row-went first ts (each-length +1 (vars ws 0) ∙ length-vars ws 0) (each-parts first +1 ws 0) (rw (size-at .ensures) at (lay-head .ensures .0)) (lay-each .ensures .0) (lay-constant .ensures .0)), omega (arith, lay-head .ensures .1, lay-each .ensures .1, lay-constant .ensures .1))
 
 pub array-bool-xor-spec : {M : Type 1} → statement M
 array-bool-xor-spec =

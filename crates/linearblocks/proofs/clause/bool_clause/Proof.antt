@@ -27,7 +27,11 @@ size-at-requires-2 : tie.Need-size-at-requires-2
 size-at-requires-2 c κs = search needs
 
 add-lay-head : tie.Need-add-lay-head
-add-lay-head c = rw (c .before .before .size-at .ensures, c .size-at2 .ensures) (omega (arith, size-le (c .before .before .before .before .before .before .args .args .now) (c .before .before .before .past-at .result), size-le (c .before .before .before .before .before .before .args .args .now) 0))
+add-lay-head c =
+    let s = c .before .before .before .before .before .before in
+    let past-at = c .before .before .before .past-at in
+    let size-at = c .before .before .size-at in
+    rw (size-at .ensures, c .size-at2 .ensures) (omega (arith, size-le (s .args .args .now) (past-at .result), size-le (s .args .args .now) 0))
 
 lay-head-requires : tie.Need-lay-head-requires
 lay-head-requires c κs = search needs
@@ -37,13 +41,23 @@ lay-each-requires c κs = search needs
 
 lay-each-requires-2 : tie.Need-lay-each-requires-2
 unfolding past
-lay-each-requires-2 c κs = (omega (arith, c .before .before .before .before .before .before .before .before .before .before .before .before .before .before .pre, c .before .before .before .before .before .before .before .lay-head .ensures .1, c .before .before .before .lay-each .ensures .1), omega (arith, c .before .before .before .before .before .before .before .before .before .before .before .past-at .ensures, size-le (c .before .before .before .before .before .before .before .before .before .before .before .before .before .before .args .args .now) 0))
+lay-each-requires-2 c κs =
+    let s = c .before .before .before .before .before .before .before .before .before .before .before .before .before .before in
+    let past-at = c .before .before .before .before .before .before .before .before .before .before .before .past-at in
+    let lay-head = c .before .before .before .before .before .before .before .lay-head in
+    let lay-each = c .before .before .before .lay-each in
+    (omega (arith, s .pre, lay-head .ensures .1, lay-each .ensures .1), omega (arith, past-at .ensures, size-le (s .args .args .now) 0))
 
 one-less-requires : tie.Need-one-less-requires
 one-less-requires c κs = rw (c .before .before .before .before .before .before .before .before .before .before .before .before .before .before .size-at .ensures) (size-le _ _)
 
 lay-constant-requires : tie.Need-lay-constant-requires
-lay-constant-requires c κs = omega (arith, c .before .before .before .before .before .before .before .before .before .before .before .before .before .before .before .before .before .before .before .pre, c .before .before .before .before .before .before .before .before .before .before .before .before .lay-head .ensures .1, c .before .before .before .before .before .before .before .before .lay-each .ensures .1, c .before .before .before .before .lay-each2 .ensures .1)
+lay-constant-requires c κs =
+    let s = c .before .before .before .before .before .before .before .before .before .before .before .before .before .before .before .before .before .before .before in
+    let lay-head = c .before .before .before .before .before .before .before .before .before .before .before .before .lay-head in
+    let lay-each = c .before .before .before .before .before .before .before .before .lay-each in
+    let lay-each2 = c .before .before .before .before .lay-each2 in
+    omega (arith, s .pre, lay-head .ensures .1, lay-each .ensures .1, lay-each2 .ensures .1)
 
 same-length : tie.Need-same-length
 same-length c = search needs
@@ -51,14 +65,23 @@ same-length c = search needs
 returns : tie.Need-returns
 unfolding rule rowParts
 returns c =
-    let ws = c .before .before .before .before .before .before .before .before .before .before .before .before .before .before .before .before .before .before .before .before .before .before .args .args .now in
+    let s = c .before .before .before .before .before .before .before .before .before .before .before .before .before .before .before .before .before .before .before .before .before .before in
+    let past-at = c .before .before .before .before .before .before .before .before .before .before .before .before .before .before .before .before .before .before .before .past-at in
+    let size-at = c .before .before .before .before .before .before .before .before .before .before .before .before .before .before .before .before .before .before .size-at in
+    let size-at2 = c .before .before .before .before .before .before .before .before .before .before .before .before .before .before .before .before .size-at2 in
+    let lay-head = c .before .before .before .before .before .before .before .before .before .before .before .before .before .before .before .lay-head in
+    let lay-each = c .before .before .before .before .before .before .before .before .before .before .before .lay-each in
+    let lay-each2 = c .before .before .before .before .before .before .before .lay-each2 in
+    let one-less = c .before .before .before .one-less in
+    let lay-constant = c .before .before .lay-constant in
+    let ws = s .args .args .now in
     let xs = each -1 (vars ws 0) in
     let ys = each +1 (vars ws (past ws 0)) in
-    let m : c .before .before .before .before .before .before .before .before .before .before .before .before .before .before .before .before .before .before .size-at .result ≡ size ws (past ws 0) = c .before .before .before .before .before .before .before .before .before .before .before .before .before .before .before .before .before .before .size-at .ensures ∙ ap (size ws) (c .before .before .before .before .before .before .before .before .before .before .before .before .before .before .before .before .before .before .before .past-at .ensures) in
-    let h = rw (m, c .before .before .before .before .before .before .before .before .before .before .before .before .before .before .before .before .size-at2 .ensures) at (c .before .before .before .before .before .before .before .before .before .before .before .before .before .before .before .lay-head .ensures) in
-    let u = rw (c .before .before .before .before .before .before .before .before .before .before .before .before .before .before .before .before .before .before .before .past-at .ensures) at (c .before .before .before .before .before .before .before .lay-each2 .ensures) in
-    let k = rw (read (c .before .before .before .one-less .ok) (c .before .before .before .one-less .ensures), m, ← length-vars ws (past ws 0)) at (c .before .before .lay-constant .ensures) in
-    (λ first β. went-as (one-row first _) (row-went first (xs ++ ys) (simp (length-append, each-length, length-vars)) (terms-append first xs ys ∙ rw (each-parts first -1 ws 0, each-parts first +1 ws (past ws 0))) (h .0) (went-then (c .before .before .before .before .before .before .before .before .before .before .before .lay-each .ensures .0) (u .0)) (k .0)), omega (arith, h .1, c .before .before .before .before .before .before .before .before .before .before .before .lay-each .ensures .1, u .1, k .1))
+    let m : size-at .result ≡ size ws (past ws 0) = size-at .ensures ∙ ap (size ws) (past-at .ensures) in
+    let h = rw (m, size-at2 .ensures) at (lay-head .ensures) in
+    let u = rw (past-at .ensures) at (lay-each2 .ensures) in
+    let k = rw (read (one-less .ok) (one-less .ensures), m, ← length-vars ws (past ws 0)) at (lay-constant .ensures) in
+    (λ first β. went-as (one-row first _) (row-went first (xs ++ ys) (simp (length-append, each-length, length-vars)) (terms-append first xs ys ∙ rw (each-parts first -1 ws 0, each-parts first +1 ws (past ws 0))) (h .0) (went-then (lay-each .ensures .0) (u .0)) (k .0)), omega (arith, h .1, lay-each .ensures .1, u .1, k .1))
 
 pub bool-clause-spec : {M : Type 1} → statement M
 bool-clause-spec =

@@ -44,11 +44,18 @@ same-length c = search needs
 returns : tie.Need-returns
 unfolding rowParts numbered
 returns c =
-    let ws = c .before .before .before .before .before .before .before .before .before .before .before .before .before .before .before .before .before .before .before .before .args .args .now in
+    let s = c .before .before .before .before .before .before .before .before .before .before .before .before .before .before .before .before .before .before .before .before in
+    let size-at = c .before .before .before .before .before .before .before .before .before .before .before .before .before .before .before .before .before .size-at in
+    let lay-head = c .before .before .before .before .before .before .before .before .before .before .before .before .before .before .before .lay-head in
+    let lay-each = c .before .before .before .before .before .before .before .before .before .before .before .lay-each in
+    let lay-term = c .before .before .before .before .before .before .before .lay-term in
+    let one-less = c .before .before .before .one-less in
+    let lay-constant = c .before .before .lay-constant in
+    let ws = s .args .args .now in
     let ts = each +1 (vars ws 0) in
-    let t = -1 · source (c .before .before .before .before .before .before .before .before .before .before .before .before .before .before .before .before .before .before .before .before .args .r) in
-    let k = rw (read (c .before .before .before .one-less .ok) (c .before .before .before .one-less .ensures), c .before .before .before .before .before .before .before .before .before .before .before .before .before .before .before .before .before .size-at .ensures, ← length-vars ws 0) at (c .before .before .lay-constant .ensures) in
-    (λ first. row-went first (ts ++ (t ∷ [])) (simp (length-append, each-length, length-vars)) (last-term first ts t (each-parts first +1 ws 0)) (rw (c .before .before .before .before .before .before .before .before .before .before .before .before .before .before .before .before .before .size-at .ensures) at (c .before .before .before .before .before .before .before .before .before .before .before .before .before .before .before .lay-head .ensures .0)) (went-then (c .before .before .before .before .before .before .before .before .before .before .before .lay-each .ensures .0) (c .before .before .before .before .before .before .before .lay-term .ensures .0)) (k .0), omega (arith, c .before .before .before .before .before .before .before .before .before .before .before .before .before .before .before .lay-head .ensures .1, c .before .before .before .before .before .before .before .before .before .before .before .lay-each .ensures .1, c .before .before .before .before .before .before .before .lay-term .ensures .1, k .1))
+    let t = -1 · source (s .args .r) in
+    let k = rw (read (one-less .ok) (one-less .ensures), size-at .ensures, ← length-vars ws 0) at (lay-constant .ensures) in
+    (λ first. row-went first (ts ++ (t ∷ [])) (simp (length-append, each-length, length-vars)) (last-term first ts t (each-parts first +1 ws 0)) (rw (size-at .ensures) at (lay-head .ensures .0)) (went-then (lay-each .ensures .0) (lay-term .ensures .0)) (k .0), omega (arith, lay-head .ensures .1, lay-each .ensures .1, lay-term .ensures .1, k .1))
 
 pub lay-all-spec : {M : Type 1} → statement M
 lay-all-spec =

@@ -30,9 +30,14 @@ same-length c = search needs
 returns : tie.Need-returns
 unfolding var
 returns c =
-    let a = c .before .before .before .before .before .before .before .before .before .before .args in
+    let s = c .before .before .before .before .before .before .before .before .before .before in
+    let word-at = c .before .before .before .before .before .before .before .word-at in
+    let word-at2 = c .before .before .before .before .before .before .word-at2 in
+    let word-at3 = c .before .before .before .before .before .word-at3 in
+    let int-lin-eq-reif = c .before .before .int-lin-eq-reif in
+    let a = s .args in
     let ws = a .args .now in
-    let w = rw (c .before .before .before .before .before .before .before .word-at .ensures, c .before .before .before .before .before .before .word-at2 .ensures, c .before .before .before .before .before .word-at3 .ensures) at (c .before .before .int-lin-eq-reif .ensures) in
+    let w = rw (word-at .ensures, word-at2 .ensures, word-at3 .ensures) at (int-lin-eq-reif .ensures) in
     (λ β e. went-as (ap (blockParts (a .first)) (two-terms β (wordAt ws 0) (wordAt ws 1) (wordAt ws 2))) (w .0 β (e ∙ two-sum β ws (wordAt ws 2))), w .1)
 
 pub int-eq-reif-spec : {M : Type 1} → statement M

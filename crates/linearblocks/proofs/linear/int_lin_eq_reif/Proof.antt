@@ -14,7 +14,9 @@ use Rattle.linearblocks.proofs.linear.int_lin_eq_reif.Statement.{statem
 use Rattle.linearblocks.proofs.linear.int_lin_eq_reif.Tie as tie
 
 larger-size-requires : tie.Need-larger-size-requires
-larger-size-requires c κs = let a = c .before .before .before .before .args in rw (back (a .sum .lower) (c .before .struct-told .given .0 .1), back (a .sum .upper) (c .struct-told2 .given .1 .0 .1)) (c .before .before .before .before .pre .2)
+larger-size-requires c κs =
+    let s = c .before .before .before .before in
+    let a = s .args in rw (back (a .sum .lower) (c .before .struct-told .given .0 .1), back (a .sum .upper) (c .struct-told2 .given .1 .0 .1)) (s .pre .2)
 
 past-terms-at-requires : tie.Need-past-terms-at-requires
 past-terms-at-requires c κs = search needs
@@ -37,7 +39,16 @@ same-length c = search needs
 
 returns : tie.Need-returns
 unfolding rule linEqualReified signed linked split link zeroRows linearSum
-returns c = let a = c .before .before .before .before .before .before .before .before .before .before .before .before .before .before .before .args in (λ β e. let l = back (a .sum .lower) (c .before .before .before .before .before .before .before .before .before .before .before .before .struct-told .given .0 .1) ∙ ap (λ (S : Bounds). S .lower) e in let u = back (a .sum .upper) (c .before .before .before .before .before .before .before .before .before .before .before .struct-told2 .given .1 .0 .1) ∙ ap (λ (S : Bounds). S .upper) e in rows-then (a .first) _ _ (rw (l, u) at (c .before .before .before .before .before .before .lay-split .ensures .0)) (rw (read (c .before .before .before .before .before .before .before .before .before .before .larger-size .ok) (c .before .before .before .before .before .before .before .before .before .before .larger-size .ensures .0), l, u, c .before .before .before .before .before .before .before .before .var-at .ensures, c .before .before .before .before .before .before .before .before .before .past-terms-at .ensures) at (c .before .before .lay-zero .ensures .0)), omega (arith, c .before .before .before .before .before .before .lay-split .ensures .1, c .before .before .lay-zero .ensures .1))
+returns c =
+    let s = c .before .before .before .before .before .before .before .before .before .before .before .before .before .before .before in
+    let struct-told = c .before .before .before .before .before .before .before .before .before .before .before .before .struct-told in
+    let struct-told2 = c .before .before .before .before .before .before .before .before .before .before .before .struct-told2 in
+    let larger-size = c .before .before .before .before .before .before .before .before .before .before .larger-size in
+    let past-terms-at = c .before .before .before .before .before .before .before .before .before .past-terms-at in
+    let var-at = c .before .before .before .before .before .before .before .before .var-at in
+    let lay-split = c .before .before .before .before .before .before .lay-split in
+    let lay-zero = c .before .before .lay-zero in
+    let a = s .args in (λ β e. let l = back (a .sum .lower) (struct-told .given .0 .1) ∙ ap (λ (S : Bounds). S .lower) e in let u = back (a .sum .upper) (struct-told2 .given .1 .0 .1) ∙ ap (λ (S : Bounds). S .upper) e in rows-then (a .first) _ _ (rw (l, u) at (lay-split .ensures .0)) (rw (read (larger-size .ok) (larger-size .ensures .0), l, u, var-at .ensures, past-terms-at .ensures) at (lay-zero .ensures .0)), omega (arith, lay-split .ensures .1, lay-zero .ensures .1))
 
 pub int-lin-eq-reif-spec : {M : Type 1} → statement M
 int-lin-eq-reif-spec =

@@ -27,14 +27,27 @@ lay-slack-requires : tie.Need-lay-slack-requires
 lay-slack-requires c κs = search needs
 
 lay-at-most-requires : tie.Need-lay-at-most-requires
-lay-at-most-requires c κs = let a = c .before .before .before .before .before .before .before .before .before .before .before .args in rw (back (a .sum .lower) (c .before .before .before .before .before .before .before .before .struct-told .given .0 .1), back (a .sum .upper) (c .before .before .before .before .before .before .before .struct-told2 .given .1 .0 .1)) (omega (arith, c .before .before .before .lay-slack .ensures .1), c .before .before .before .before .before .before .before .before .before .before .before .pre .1, c .before .before .before .before .before .before .before .before .before .before .before .pre .2 .0, c .before .before .before .before .before .before .before .before .before .before .before .pre .2 .1)
+lay-at-most-requires c κs =
+    let s = c .before .before .before .before .before .before .before .before .before .before .before in
+    let struct-told = c .before .before .before .before .before .before .before .before .struct-told in
+    let struct-told2 = c .before .before .before .before .before .before .before .struct-told2 in
+    let lay-slack = c .before .before .before .lay-slack in
+    let a = s .args in rw (back (a .sum .lower) (struct-told .given .0 .1), back (a .sum .upper) (struct-told2 .given .1 .0 .1)) (omega (arith, lay-slack .ensures .1), s .pre .1, s .pre .2 .0, s .pre .2 .1)
 
 same-length : tie.Need-same-length
 same-length c = search needs
 
 returns : tie.Need-returns
 unfolding rule linLessEqualReified linked slack link atMostRows linearSum
-returns c = let a = c .before .before .before .before .before .before .before .before .before .before .before .before .before .before .args in (λ β e. let l = back (a .sum .lower) (c .before .before .before .before .before .before .before .before .before .before .before .struct-told .given .0 .1) ∙ ap (λ (S : Bounds). S .lower) e in let u = back (a .sum .upper) (c .before .before .before .before .before .before .before .before .before .before .struct-told2 .given .1 .0 .1) ∙ ap (λ (S : Bounds). S .upper) e in rows-then (a .first) _ _ (rw (l, u) at (c .before .before .before .before .before .before .lay-slack .ensures .0)) (rw (l, u, c .before .before .before .before .before .before .before .before .var-at .ensures, c .before .before .before .before .before .before .before .before .before .past-terms-at .ensures) at (c .before .before .lay-at-most .ensures .0)), omega (arith, c .before .before .before .before .before .before .lay-slack .ensures .1, c .before .before .lay-at-most .ensures .1))
+returns c =
+    let s = c .before .before .before .before .before .before .before .before .before .before .before .before .before .before in
+    let struct-told = c .before .before .before .before .before .before .before .before .before .before .before .struct-told in
+    let struct-told2 = c .before .before .before .before .before .before .before .before .before .before .struct-told2 in
+    let past-terms-at = c .before .before .before .before .before .before .before .before .before .past-terms-at in
+    let var-at = c .before .before .before .before .before .before .before .before .var-at in
+    let lay-slack = c .before .before .before .before .before .before .lay-slack in
+    let lay-at-most = c .before .before .lay-at-most in
+    let a = s .args in (λ β e. let l = back (a .sum .lower) (struct-told .given .0 .1) ∙ ap (λ (S : Bounds). S .lower) e in let u = back (a .sum .upper) (struct-told2 .given .1 .0 .1) ∙ ap (λ (S : Bounds). S .upper) e in rows-then (a .first) _ _ (rw (l, u) at (lay-slack .ensures .0)) (rw (l, u, var-at .ensures, past-terms-at .ensures) at (lay-at-most .ensures .0)), omega (arith, lay-slack .ensures .1, lay-at-most .ensures .1))
 
 pub int-lin-le-reif-spec : {M : Type 1} → statement M
 int-lin-le-reif-spec =

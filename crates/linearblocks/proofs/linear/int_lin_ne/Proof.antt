@@ -39,7 +39,13 @@ same-length c = search needs
 
 returns : tie.Need-returns
 unfolding rule linNotEqual signed linked split link flatMap rowParts termParts numbered rowOf many linearSum
-returns c = let a = c .before .before .before .before .before .before .before .before .before .before .before .before .before .before .args in (λ β e. rows-then (a .first) _ (sum≤0 (-1 · aux 0 ∷ +2 · aux 2 ∷ []) +1 ∷ []) (rw (back (a .sum .lower) (c .before .before .before .before .before .before .before .before .before .before .before .struct-told .given .0 .1) ∙ ap (λ (S : Bounds). S .lower) e, back (a .sum .upper) (c .before .before .before .before .before .before .before .before .before .before .struct-told2 .given .1 .0 .1) ∙ ap (λ (S : Bounds). S .upper) e) at (c .before .before .before .before .before .before .before .before .lay-split .ensures .0)) (rw (add-zero (a .first)) (c .before .before .lay-row .ensures .0)), omega (arith, c .before .before .before .before .before .before .before .before .lay-split .ensures .1, c .before .before .lay-row .ensures .1))
+returns c =
+    let s = c .before .before .before .before .before .before .before .before .before .before .before .before .before .before in
+    let struct-told = c .before .before .before .before .before .before .before .before .before .before .before .struct-told in
+    let struct-told2 = c .before .before .before .before .before .before .before .before .before .before .struct-told2 in
+    let lay-split = c .before .before .before .before .before .before .before .before .lay-split in
+    let lay-row = c .before .before .lay-row in
+    let a = s .args in (λ β e. rows-then (a .first) _ (sum≤0 (-1 · aux 0 ∷ +2 · aux 2 ∷ []) +1 ∷ []) (rw (back (a .sum .lower) (struct-told .given .0 .1) ∙ ap (λ (S : Bounds). S .lower) e, back (a .sum .upper) (struct-told2 .given .1 .0 .1) ∙ ap (λ (S : Bounds). S .upper) e) at (lay-split .ensures .0)) (rw (add-zero (a .first)) (lay-row .ensures .0)), omega (arith, lay-split .ensures .1, lay-row .ensures .1))
 
 pub int-lin-ne-spec : {M : Type 1} → statement M
 int-lin-ne-spec =

@@ -26,7 +26,9 @@ lay-row-requires : tie.Need-lay-row-requires
 lay-row-requires c κs = search needs
 
 minus-requires : tie.Need-minus-requires
-minus-requires c κs = rw (toZ-ofZ (c .before .before .before .before .before .before .before .before .fits .lower)) (omega (arith, c .before .before .before .before .before .before .before .before .pre .2))
+minus-requires c κs =
+    let s = c .before .before .before .before .before .before .before .before in
+    rw (toZ-ofZ (s .fits .lower)) (omega (arith, s .pre .2))
 
 slice-aggregate-lay-row-3 : tie.Need-slice-aggregate-lay-row-3
 slice-aggregate-lay-row-3 c = search needs
@@ -43,9 +45,14 @@ same-length c = search needs
 returns : tie.Need-returns
 unfolding atMostRows flatMap rowParts termParts numbered rowOf many
 returns c =
-    let d = rw (read (c .before .before .before .before .before .before .before .before .before .before .opposite .ok) (c .before .before .before .before .before .before .before .before .before .before .opposite .ensures), toZ-ofZ (c .before .before .before .before .before .before .before .before .before .before .before .before .before .before .before .fits .upper)) at (c .before .before .before .before .before .before .before .before .before .lay-row .ensures) in
-    let e = rw (read (c .before .before .before .before .before .before .minus .ok) (c .before .before .before .before .before .before .minus .ensures), toZ-ofZ (c .before .before .before .before .before .before .before .before .before .before .before .before .before .before .before .fits .lower)) at (c .before .before .lay-row2 .ensures) in
-    (rw (add-zero (c .before .before .before .before .before .before .before .before .before .before .before .before .before .before .before .args .first)) (went-then (d .0) (e .0)), omega (arith, d .1, e .1))
+    let s = c .before .before .before .before .before .before .before .before .before .before .before .before .before .before .before in
+    let opposite = c .before .before .before .before .before .before .before .before .before .before .opposite in
+    let lay-row = c .before .before .before .before .before .before .before .before .before .lay-row in
+    let minus = c .before .before .before .before .before .before .minus in
+    let lay-row2 = c .before .before .lay-row2 in
+    let d = rw (read (opposite .ok) (opposite .ensures), toZ-ofZ (s .fits .upper)) at (lay-row .ensures) in
+    let e = rw (read (minus .ok) (minus .ensures), toZ-ofZ (s .fits .lower)) at (lay-row2 .ensures) in
+    (rw (add-zero (s .args .first)) (went-then (d .0) (e .0)), omega (arith, d .1, e .1))
 
 pub lay-at-most-spec : {M : Type 1} → statement M
 lay-at-most-spec =

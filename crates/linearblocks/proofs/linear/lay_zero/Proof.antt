@@ -43,8 +43,12 @@ same-length c = search needs
 returns : tie.Need-returns
 unfolding zeroRows flatMap rowParts termParts numbered rowOf many
 returns c =
-    let d = rw (read (c .before .before .before .before .before .before .before .before .before .opposite .ok) (c .before .before .before .before .before .before .before .before .before .opposite .ensures), toZ-ofZ (c .before .before .before .before .before .before .before .before .before .before .before .before .before .before .fits .w)) at (c .before .before .before .before .before .before .before .before .lay-row .ensures) in
-    (rw (add-zero (c .before .before .before .before .before .before .before .before .before .before .before .before .before .before .args .first)) (went-then (d .0) (c .before .before .lay-row2 .ensures .0)), omega (arith, d .1, c .before .before .lay-row2 .ensures .1))
+    let s = c .before .before .before .before .before .before .before .before .before .before .before .before .before .before in
+    let opposite = c .before .before .before .before .before .before .before .before .before .opposite in
+    let lay-row = c .before .before .before .before .before .before .before .before .lay-row in
+    let lay-row2 = c .before .before .lay-row2 in
+    let d = rw (read (opposite .ok) (opposite .ensures), toZ-ofZ (s .fits .w)) at (lay-row .ensures) in
+    (rw (add-zero (s .args .first)) (went-then (d .0) (lay-row2 .ensures .0)), omega (arith, d .1, lay-row2 .ensures .1))
 
 pub lay-zero-spec : {M : Type 1} → statement M
 lay-zero-spec =

@@ -22,8 +22,10 @@ largest-requires c κs = search needs
 returns : tie.Need-returns
 unfolding absZ
 returns c =
-    rw (read (c .largest .ok) (c .largest .ensures), read (c .before .before .size-of .ok) (c .before .before .size-of .ensures), read (c .before .size-of2 .ok) (c .before .size-of2 .ensures), toZ-ofZ (c .before .before .before .fits .a), toZ-ofZ (c .before .before .before .fits .b))
-    (refl, pick-size true (absZ (c .before .before .before .args .a)) (absZ (c .before .before .before .args .b)) (c .before .before .before .pre .0) (c .before .before .before .pre .1))
+    let s = c .before .before .before in
+    let size-of = c .before .before .size-of in
+    rw (read (c .largest .ok) (c .largest .ensures), read (size-of .ok) (size-of .ensures), read (c .before .size-of2 .ok) (c .before .size-of2 .ensures), toZ-ofZ (s .fits .a), toZ-ofZ (s .fits .b))
+    (refl, pick-size true (absZ (s .args .a)) (absZ (s .args .b)) (s .pre .0) (s .pre .1))
 
 pub larger-size-spec : {M : Type 1} → statement M
 larger-size-spec =

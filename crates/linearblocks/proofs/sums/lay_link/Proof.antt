@@ -43,9 +43,15 @@ same-length c = search needs
 returns : tie.Need-returns
 unfolding rowParts link numbered
 returns c =
-    let ws = c .before .before .before .before .before .before .before .before .before .before .before .before .before .before .before .before .before .before .before .args .args .now in
-    let first = c .before .before .before .before .before .before .before .before .before .before .before .before .before .before .before .before .before .before .before .args .first in
-    (row-went first (sources (terms ws 0) ++ (-1 · aux 0 ∷ [])) (simp (length-append, sources-length, length-terms)) (last-term first (sources (terms ws 0)) (-1 · aux 0) (terms-parts first ws 0)) (rw (c .before .before .before .before .before .before .before .before .before .before .before .before .before .before .before .size-at .ensures) at (c .before .before .before .before .before .before .before .before .before .before .before .before .before .before .lay-head .ensures .0)) (went-then (c .before .before .before .before .before .before .before .before .before .before .lay-terms .ensures .0) (rw (add-zero first) (c .before .before .before .before .before .before .lay-term .ensures .0))) (c .before .before .lay-minus-constant .ensures .0), omega (arith, c .before .before .before .before .before .before .before .before .before .before .before .before .before .before .lay-head .ensures .1, c .before .before .before .before .before .before .before .before .before .before .lay-terms .ensures .1, c .before .before .before .before .before .before .lay-term .ensures .1, c .before .before .lay-minus-constant .ensures .1))
+    let s = c .before .before .before .before .before .before .before .before .before .before .before .before .before .before .before .before .before .before .before in
+    let size-at = c .before .before .before .before .before .before .before .before .before .before .before .before .before .before .before .size-at in
+    let lay-head = c .before .before .before .before .before .before .before .before .before .before .before .before .before .before .lay-head in
+    let lay-terms = c .before .before .before .before .before .before .before .before .before .before .lay-terms in
+    let lay-term = c .before .before .before .before .before .before .lay-term in
+    let lay-minus-constant = c .before .before .lay-minus-constant in
+    let ws = s .args .args .now in
+    let first = s .args .first in
+    (row-went first (sources (terms ws 0) ++ (-1 · aux 0 ∷ [])) (simp (length-append, sources-length, length-terms)) (last-term first (sources (terms ws 0)) (-1 · aux 0) (terms-parts first ws 0)) (rw (size-at .ensures) at (lay-head .ensures .0)) (went-then (lay-terms .ensures .0) (rw (add-zero first) (lay-term .ensures .0))) (lay-minus-constant .ensures .0), omega (arith, lay-head .ensures .1, lay-terms .ensures .1, lay-term .ensures .1, lay-minus-constant .ensures .1))
 
 pub lay-link-spec : {M : Type 1} → statement M
 lay-link-spec =

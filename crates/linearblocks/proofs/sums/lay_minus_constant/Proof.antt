@@ -10,7 +10,9 @@ constant-of-requires : tie.Need-constant-of-requires
 constant-of-requires c κs = search needs
 
 opposite-requires : tie.Need-opposite-requires
-opposite-requires c κs = rw (read (c .constant-of .ok) (c .constant-of .ensures)) (omega (arith, num-size (c .before .before .before .before .args .args .now) (pastTerms (c .before .before .before .before .args .args .now) 0)))
+opposite-requires c κs =
+    let s = c .before .before .before .before in
+    rw (read (c .constant-of .ok) (c .constant-of .ensures)) (omega (arith, num-size (s .args .args .now) (pastTerms (s .args .args .now) 0)))
 
 lay-constant-requires : tie.Need-lay-constant-requires
 lay-constant-requires c κs = search needs
@@ -19,7 +21,11 @@ same-length : tie.Need-same-length
 same-length c = search needs
 
 returns : tie.Need-returns
-returns c = rw (read (c .before .before .before .opposite .ok) (c .before .before .before .opposite .ensures), read (c .before .before .before .before .constant-of .ok) (c .before .before .before .before .constant-of .ensures)) at (c .before .before .lay-constant .ensures)
+returns c =
+    let constant-of = c .before .before .before .before .constant-of in
+    let opposite = c .before .before .before .opposite in
+    let lay-constant = c .before .before .lay-constant in
+    rw (read (opposite .ok) (opposite .ensures), read (constant-of .ok) (constant-of .ensures)) at (lay-constant .ensures)
 
 pub lay-minus-constant-spec : {M : Type 1} → statement M
 lay-minus-constant-spec =

@@ -21,8 +21,11 @@ same-length c = search needs
 returns : tie.Need-returns
 unfolding blockParts boundParts flatMap slack
 returns c =
-    let d = rw (toZ-ofZ (c .before .before .before .before .before .before .before .before .before .before .fits .lower), toZ-ofZ (c .before .before .before .before .before .before .before .before .before .before .fits .upper)) at (c .before .before .before .before .before .before .lay-bound .ensures) in
-    (rw (append-nil (rowParts (c .before .before .before .before .before .before .before .before .before .before .args .first) (link (c .before .before .before .before .before .before .before .before .before .before .args .args .now)))) (went-then (d .0) (c .before .before .lay-link .ensures .0)), omega (arith, d .1, c .before .before .lay-link .ensures .1))
+    let s = c .before .before .before .before .before .before .before .before .before .before in
+    let lay-bound = c .before .before .before .before .before .before .lay-bound in
+    let lay-link = c .before .before .lay-link in
+    let d = rw (toZ-ofZ (s .fits .lower), toZ-ofZ (s .fits .upper)) at (lay-bound .ensures) in
+    (rw (append-nil (rowParts (s .args .first) (link (s .args .args .now)))) (went-then (d .0) (lay-link .ensures .0)), omega (arith, d .1, lay-link .ensures .1))
 
 pub lay-slack-spec : {M : Type 1} → statement M
 lay-slack-spec = tie.close (tie.spec lay-bound-requires lay-link-requires same-length returns)

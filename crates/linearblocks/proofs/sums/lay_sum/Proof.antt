@@ -27,8 +27,13 @@ same-length c = search needs
 
 returns : tie.Need-returns
 returns c =
-    let ws = c .before .before .before .before .before .before .before .before .before .before .before .before .before .before .before .args .args .now in
-    (λ first. row-went first (sources (terms ws 0)) (sources-length (terms ws 0) ∙ length-terms ws 0) (terms-parts first ws 0) (rw (c .before .before .before .before .before .before .before .before .before .before .before .size-at .ensures) at (c .before .before .before .before .before .before .before .before .before .before .lay-head .ensures .0)) (c .before .before .before .before .before .before .lay-terms .ensures .0) (c .before .before .lay-minus-constant .ensures .0), omega (arith, c .before .before .before .before .before .before .before .before .before .before .lay-head .ensures .1, c .before .before .before .before .before .before .lay-terms .ensures .1, c .before .before .lay-minus-constant .ensures .1))
+    let s = c .before .before .before .before .before .before .before .before .before .before .before .before .before .before .before in
+    let size-at = c .before .before .before .before .before .before .before .before .before .before .before .size-at in
+    let lay-head = c .before .before .before .before .before .before .before .before .before .before .lay-head in
+    let lay-terms = c .before .before .before .before .before .before .lay-terms in
+    let lay-minus-constant = c .before .before .lay-minus-constant in
+    let ws = s .args .args .now in
+    (λ first. row-went first (sources (terms ws 0)) (sources-length (terms ws 0) ∙ length-terms ws 0) (terms-parts first ws 0) (rw (size-at .ensures) at (lay-head .ensures .0)) (lay-terms .ensures .0) (lay-minus-constant .ensures .0), omega (arith, lay-head .ensures .1, lay-terms .ensures .1, lay-minus-constant .ensures .1))
 
 pub lay-sum-spec : {M : Type 1} → statement M
 lay-sum-spec =

@@ -14,7 +14,9 @@ largest-requires : tie.Need-largest-requires
 largest-requires c κs = search needs
 
 returns : tie.Need-returns
-returns c = read (c .largest .ok) (c .largest .ensures) ∙ rw (read (c .before .opposite .ok) (c .before .opposite .ensures), toZ-ofZ (c .before .before .fits .v)) (abs-max (c .before .before .args .v))
+returns c =
+    let s = c .before .before in
+    read (c .largest .ok) (c .largest .ensures) ∙ rw (read (c .before .opposite .ok) (c .before .opposite .ensures), toZ-ofZ (s .fits .v)) (abs-max (s .args .v))
 
 pub size-of-spec : {M : Type 1} → statement M
 size-of-spec = tie.close (tie.spec opposite-requires largest-requires returns)

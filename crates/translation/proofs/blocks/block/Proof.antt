@@ -62,7 +62,10 @@ returns-4 c =
 choice-block-requires : tie.Need-choice-block-requires
 choice-block-requires c κs =
     let s = c .before .before .before .before .before .before .before .before .before in
-    (c .before .before .if4 .left, omega (arith, c .before .if5 .taken), rw (c .before .before .before .before .before .before .none-yet .ensures) (omega arith), s .pre .0, s .pre .1, s .pre .2, s .pre .3)
+    let none-yet = c .before .before .before .before .before .before .none-yet in
+    let if4 = c .before .before .if4 in
+    let s = s in
+    (if4 .left, omega (arith, c .before .if5 .taken), rw (none-yet .ensures) (omega arith), s .pre .0, s .pre .1, s .pre .2, s .pre .3)
 
 same-length-5 : tie.Need-same-length-5
 same-length-5 c = search needs

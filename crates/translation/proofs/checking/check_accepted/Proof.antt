@@ -28,7 +28,10 @@ slice-aggregate-model-sums-2 : tie.Need-slice-aggregate-model-sums-2
 slice-aggregate-model-sums-2 c = search needs
 
 model-sums-requires : tie.Need-model-sums-requires
-model-sums-requires c κs = let k = bounds-kept (c .before .before .before .before) in (omega (arith, few-words (c .before .before .before .before .before .before .before .before .args .ws .now) (c .before .before .before .before .before .before .before .before .pre)), k .short-lowers, k .short-uppers, k .lowers, k .uppers)
+model-sums-requires c κs =
+    let s = c .before .before .before .before .before .before .before .before in
+    let p = c .before .before .before .before in
+    let k = bounds-kept p in (omega (arith, few-words (s .args .ws .now) (s .pre)), k .short-lowers, k .short-uppers, k .lowers, k .uppers)
 
 slice-aggregate-check-blocks : tie.Need-slice-aggregate-check-blocks
 slice-aggregate-check-blocks c = search needs
@@ -40,10 +43,17 @@ count-sources-requires : tie.Need-count-sources-requires
 count-sources-requires c κs = search needs
 
 check-blocks-requires : tie.Need-check-blocks-requires
-check-blocks-requires c κs = let ws = c .before .before .before .before .before .before .before .before .before .before .before .before .args .ws .now in let k = bounds-kept (c .before .before .before .before .before .before .before .before) in (few-words ws (c .before .before .before .before .before .before .before .before .before .before .before .before .pre), k .few, omega (arith, few-words ws (c .before .before .before .before .before .before .before .before .before .before .before .before .pre), c .count-sources .ensures, sources-front ws .0), k .lowers, k .uppers, few-constraints ws (c .before .before .before .before .before .before .before .before .before .before .before .before .pre), c .before .before .before .model-sums .ensures)
+check-blocks-requires c κs =
+    let s = c .before .before .before .before .before .before .before .before .before .before .before .before in
+    let p = c .before .before .before .before .before .before .before .before in
+    let model-sums = c .before .before .before .model-sums in
+    let ws = s .args .ws .now in let k = bounds-kept p in (few-words ws (s .pre), k .few, omega (arith, few-words ws (s .pre), c .count-sources .ensures, sources-front ws .0), k .lowers, k .uppers, few-constraints ws (s .pre), model-sums .ensures)
 
 returns : tie.Need-returns
-returns c = let k = bounds-kept (c .before .before .before .before .before .before .before .before .before) in c .check-blocks .ensures ∙ rw (k .same, k .many, c .before .count-sources .ensures) (checks (c .before .before .before .before .before .before .before .before .before .before .before .before .before .args .ws .now) (c .before .before .before .before .before .before .before .before .before .before .before .before .before .pre))
+returns c =
+    let s = c .before .before .before .before .before .before .before .before .before .before .before .before .before in
+    let p = c .before .before .before .before .before .before .before .before .before in
+    let k = bounds-kept p in c .check-blocks .ensures ∙ rw (k .same, k .many, c .before .count-sources .ensures) (checks (s .args .ws .now) (s .pre))
 
 pub check-accepted-spec : {M : Type 1} → statement M
 check-accepted-spec =

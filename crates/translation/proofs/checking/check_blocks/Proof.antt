@@ -23,14 +23,21 @@ abbrev μ-loop : tie.MeasureT-loop
 
 -- the constraint at the place has a sum
 has : (c : tie.Then1 Inv-loop μ-loop) → c .before .before .before .before .loop .constraints < 256
-has c = has-place (c .before .before .before .before .loop .inv .passed) (c .before .before .before .loop-test .taken) (sym (c .before .kind-of .ensures) ∙ c .if1 .taken) (c .before .before .before .before .before .before .pre .5)
+has c =
+    let s = c .before .before .before .before .before .before in
+    let loop = c .before .before .before .before .loop in
+    has-place (loop .inv .passed) (c .before .before .before .loop-test .taken) (sym (c .before .kind-of .ensures) ∙ c .if1 .taken) (s .pre .5)
 
 -- what the constraint at the place costs
 costs : (c : tie.After-cost-of Inv-loop μ-loop) →
     let l = c .before .before .before .before .before .before .before .before .loop in
     let a = c .before .before .before .before .before .before .before .before .before .before .args in
     Costs (boundsOf (a .ls .now) (a .us .now)) (a .variables + l .auxiliaries) (headed (a .ws .now) (l .at)) (c .cost-of .result)
-costs c = placed (rw (c .before .before .payload-of .ensures, tail-is (c .before .before .before .before .before .before .before .before .before .before .args .ws .now) (c .before .before .before .before .before .before .before .before .loop .at + 1)) at (c .cost-of .ensures))
+costs c =
+    let s = c .before .before .before .before .before .before .before .before .before .before in
+    let loop = c .before .before .before .before .before .before .before .before .loop in
+    let payload-of = c .before .before .payload-of in
+    placed (rw (payload-of .ensures, tail-is (s .args .ws .now) (loop .at + 1)) at (c .cost-of .ensures))
 
 add-words : tie.Need-add-words Inv-loop μ-loop
 add-words c = search needs
@@ -76,36 +83,65 @@ add-cost-of c = omega (arith, c .before .before .before .before .before .before 
 
 cost-of-requires : tie.Need-cost-of-requires Inv-loop μ-loop
 cost-of-requires c κs =
-    let l = c .before .before .before .before .before .before .before .loop in
-    let s = c .before .before .before .before .before .before .before .before .before in (
+    let s = c .before .before .before .before .before .before .before .before .before in
+    let loop = c .before .before .before .before .before .before .before .loop in
+    let kind-of = c .before .before .before .before .kind-of in
+    let if1 = c .before .before .before .if1 in
+    let l = loop in
+    let s = s in (
       omega (arith, l .inv .room),
       s .pre .3,
       s .pre .4,
       rw (c .before .payload-of .ensures, tail-is (s .args .ws .now) (l .at + 1), s .pre .6)
-          (summed-here (l .inv .passed) (c .before .before .before .before .before .before .loop-test .taken) (sym (c .before .before .before .before .kind-of .ensures) ∙ c .before .before .before .if1 .taken) _ _ (λ v. (s .pre .3 v, s .pre .4 v)) (s .pre .5)),
+          (summed-here (l .inv .passed) (c .before .before .before .before .before .before .loop-test .taken) (sym (kind-of .ensures) ∙ if1 .taken) _ _ (λ v. (s .pre .3 v, s .pre .4 v)) (s .pre .5)),
     )
 
 returns : tie.Need-returns Inv-loop μ-loop
 unfolding checked
-returns c = stop (c .before .before .before .before .before .before .before .before .before .before .loop .inv) (c .before .before .before .before .before .before .before .before .before .loop-test .taken) (sym (c .before .before .before .before .before .before .before .kind-of .ensures) ∙ c .before .before .before .before .before .before .if1 .taken) (costs (c .before .before)) (c .if2 .taken)
+returns c =
+    let loop = c .before .before .before .before .before .before .before .before .before .before .loop in
+    let kind-of = c .before .before .before .before .before .before .before .kind-of in
+    let if1 = c .before .before .before .before .before .before .if1 in
+    stop (loop .inv) (c .before .before .before .before .before .before .before .before .before .loop-test .taken) (sym (kind-of .ensures) ∙ if1 .taken) (costs (c .before .before)) (c .if2 .taken)
 
 add-constraints : tie.Need-add-constraints Inv-loop μ-loop
-add-constraints c = omega (arith, c .before .before .before .before .before .before .before .before .before .before .loop .inv .few, c .before .before .before .before .before .before .before .before .before .loop-test .taken, c .before .before .before .before .before .before .before .before .before .before .before .before .pre .0)
+add-constraints c =
+    let s = c .before .before .before .before .before .before .before .before .before .before .before .before in
+    let loop = c .before .before .before .before .before .before .before .before .before .before .loop in
+    omega (arith, loop .inv .few, c .before .before .before .before .before .before .before .before .before .loop-test .taken, s .pre .0)
 
 add-auxiliaries : tie.Need-add-auxiliaries Inv-loop μ-loop
-add-auxiliaries c = omega (arith, c .before .before .before .before .before .before .before .before .before .before .before .loop .inv .small, c .before .before .before .before .before .before .before .before .before .before .loop-test .taken, c .before .before .before .before .before .before .before .before .before .before .before .before .before .pre .0, c .before .before .before .before .before .before .before .before .before .before .before .before .before .pre .2, c .before .before .before .cost-of .ensures .small)
+add-auxiliaries c =
+    let s = c .before .before .before .before .before .before .before .before .before .before .before .before .before in
+    let loop = c .before .before .before .before .before .before .before .before .before .before .before .loop in
+    let cost-of = c .before .before .before .cost-of in
+    omega (arith, loop .inv .small, c .before .before .before .before .before .before .before .before .before .before .loop-test .taken, s .pre .0, s .pre .2, cost-of .ensures .small)
 
 add-rows : tie.Need-add-rows Inv-loop μ-loop
-add-rows c = omega (arith, c .before .before .before .before .before .before .before .before .before .before .before .before .loop .inv .small, c .before .before .before .before .before .before .before .before .before .before .before .loop-test .taken, c .before .before .before .before .before .before .before .before .before .before .before .before .before .before .pre .0, c .before .before .before .before .before .before .before .before .before .before .before .before .before .before .pre .2, c .before .before .before .before .cost-of .ensures .small)
+add-rows c =
+    let s = c .before .before .before .before .before .before .before .before .before .before .before .before .before .before in
+    let loop = c .before .before .before .before .before .before .before .before .before .before .before .before .loop in
+    let cost-of = c .before .before .before .before .cost-of in
+    omega (arith, loop .inv .small, c .before .before .before .before .before .before .before .before .before .before .before .loop-test .taken, s .pre .0, s .pre .2, cost-of .ensures .small)
 
 add-words-2 : tie.Need-add-words-2 Inv-loop μ-loop
-add-words-2 c = omega (arith, c .before .before .before .before .before .before .before .before .before .before .before .before .before .loop .inv .small, c .before .before .before .before .before .before .before .before .before .before .before .before .loop-test .taken, c .before .before .before .before .before .before .before .before .before .before .before .before .before .before .before .pre .0, c .before .before .before .before .before .before .before .before .before .before .before .before .before .before .before .pre .2, c .before .before .before .before .before .cost-of .ensures .small)
+add-words-2 c =
+    let s = c .before .before .before .before .before .before .before .before .before .before .before .before .before .before .before in
+    let loop = c .before .before .before .before .before .before .before .before .before .before .before .before .before .loop in
+    let cost-of = c .before .before .before .before .before .cost-of in
+    omega (arith, loop .inv .small, c .before .before .before .before .before .before .before .before .before .before .before .before .loop-test .taken, s .pre .0, s .pre .2, cost-of .ensures .small)
 
 loop-less : tie.Need-loop-less Inv-loop μ-loop
 loop-less c = search needs
 
 loop-again : tie.Need-loop-again Inv-loop μ-loop
-loop-again c = more (c .before .before .before .before .before .before .before .before .before .before .before .before .before .loop .inv) (c .before .before .before .before .before .before .before .before .before .before .before .before .loop-test .taken) (sym (c .before .before .before .before .before .before .before .before .before .before .kind-of .ensures) ∙ c .before .before .before .before .before .before .before .before .before .if1 .taken) (costs (c .before .before .before .before .before)) (c .before .before .before .if2 .left)
+loop-again c =
+    let loop = c .before .before .before .before .before .before .before .before .before .before .before .before .before .loop in
+    let kind-of = c .before .before .before .before .before .before .before .before .before .before .kind-of in
+    let if1 = c .before .before .before .before .before .before .before .before .before .if1 in
+    let p = c .before .before .before .before .before in
+    let if2 = c .before .before .before .if2 in
+    more (loop .inv) (c .before .before .before .before .before .before .before .before .before .before .before .before .loop-test .taken) (sym (kind-of .ensures) ∙ if1 .taken) (costs p) (if2 .left)
 
 loop-less-2 : tie.Need-loop-less-2 Inv-loop μ-loop
 loop-less-2 c = search needs

@@ -17,13 +17,21 @@ slice-aggregate-block : tie.Need-slice-aggregate-block
 slice-aggregate-block c = search needs
 
 block-requires : tie.Need-block-requires
-block-requires c κs = (c .before .before .before .before .pre .0, c .before .before .before .before .pre .1, c .before .before .before .before .pre .2, narrow _ (constraintOf (c .before .before .before .before .args .code) (c .before .before .before .before .args .args .now)) (sym (c .before .before .too-wide .ensures) ∙ c .before .if1 .left), c .before .before .before .before .pre .3)
+block-requires c κs =
+    let s = c .before .before .before .before in
+    let too-wide = c .before .before .too-wide in
+    (s .pre .0, s .pre .1, s .pre .2, narrow _ (constraintOf (s .args .code) (s .args .args .now)) (sym (too-wide .ensures) ∙ c .before .if1 .left), s .pre .3)
 
 fault-of-requires : tie.Need-fault-of-requires
 fault-of-requires c κs = search needs
 
 returns-2 : tie.Need-returns-2
-returns-2 c = laid-costs (sym (c .before .before .before .before .before .too-wide .ensures) ∙ c .before .before .before .before .if1 .left) (told (placed-block (boundsOf (c .before .before .before .before .before .before .before .args .ls .now) (c .before .before .before .before .before .before .before .args .us .now)) (c .before .before .before .before .before .before .before .args .first) (constraintOf (c .before .before .before .before .before .before .before .args .code) (c .before .before .before .before .before .before .before .args .args .now)) (c .before .before .block .ensures .0))) (c .before .before .block .ensures .1) (c .fault-of .ensures)
+returns-2 c =
+    let s = c .before .before .before .before .before .before .before in
+    let too-wide = c .before .before .before .before .before .too-wide in
+    let if1 = c .before .before .before .before .if1 in
+    let block = c .before .before .block in
+    laid-costs (sym (too-wide .ensures) ∙ if1 .left) (told (placed-block (boundsOf (s .args .ls .now) (s .args .us .now)) (s .args .first) (constraintOf (s .args .code) (s .args .args .now)) (block .ensures .0))) (block .ensures .1) (c .fault-of .ensures)
 
 pub cost-of-spec : {M : Type 1} → statement M
 cost-of-spec =

@@ -16,11 +16,17 @@ bound-at-requires-2 : tie.Need-bound-at-requires-2
 bound-at-requires-2 c κs = search needs
 
 width-of-requires : tie.Need-width-of-requires
-width-of-requires c κs = rw (back (c .before .bound-at .result) (c .before .bound-at .ok), c .before .bound-at .ensures, back (c .bound-at2 .result) (c .bound-at2 .ok), c .bound-at2 .ensures) (c .before .before .before .before .before .pre .0 _, c .before .before .before .before .before .pre .1 _)
+width-of-requires c κs =
+    let s = c .before .before .before .before .before in
+    rw (back (c .before .bound-at .result) (c .before .bound-at .ok), c .before .bound-at .ensures, back (c .bound-at2 .result) (c .bound-at2 .ok), c .bound-at2 .ensures) (s .pre .0 _, s .pre .1 _)
 
 returns : tie.Need-returns
 unfolding tooWide
-returns c = rw (eq-eqb _ _ (c .before .before .before .before .if1 .taken), c .width-of .ensures, back (c .before .before .bound-at .result) (c .before .before .bound-at .ok), c .before .before .bound-at .ensures, back (c .before .bound-at2 .result) (c .before .bound-at2 .ok), c .before .bound-at2 .ensures, c .before .before .before .var-at .ensures)
+returns c =
+    let if1 = c .before .before .before .before .if1 in
+    let var-at = c .before .before .before .var-at in
+    let bound-at = c .before .before .bound-at in
+    rw (eq-eqb _ _ (if1 .taken), c .width-of .ensures, back (bound-at .result) (bound-at .ok), bound-at .ensures, back (c .before .bound-at2 .result) (c .before .bound-at2 .ok), c .before .bound-at2 .ensures, var-at .ensures)
 
 returns-2 : tie.Need-returns-2
 unfolding tooWide

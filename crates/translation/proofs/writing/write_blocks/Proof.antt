@@ -30,7 +30,10 @@ fits c = omega (arith, c .loop .inv .total, c .loop .inv .same, c .before .befor
 
 -- the constraint at the place has a sum
 has : (c : tie.Then1 Inv-loop μ-loop) → c .before .before .before .before .loop .constraints < 256
-has c = has-place (c .before .before .before .before .loop .inv .passed) (c .before .before .before .loop-test .taken) (sym (c .before .kind-of .ensures) ∙ c .if1 .taken) (c .before .before .before .before .before .before .before .pre .5)
+has c =
+    let s = c .before .before .before .before .before .before .before in
+    let loop = c .before .before .before .before .loop in
+    has-place (loop .inv .passed) (c .before .before .before .loop-test .taken) (sym (c .before .kind-of .ensures) ∙ c .if1 .taken) (s .pre .5)
 
 -- the block of the constraint at the place went over the lent tail
 went : (c : tie.After-block Inv-loop μ-loop) →
@@ -38,10 +41,13 @@ went : (c : tie.After-block Inv-loop μ-loop) →
     let a = c .before .before .before .before .before .before .before .before .before .before .before .before .args in
     Went nothing (c .block .result) (midOf (l .at) (length (l .out) - l .at) (l .out)) (c .block .last .0) (blockParts (l .first) (blockOf (boundsOf (a .ls .now) (a .us .now)) (headed (a .ws .now) (l .p))))
 went c =
-    let l = c .before .before .before .before .before .before .before .before .before .loop in
-    let a = c .before .before .before .before .before .before .before .before .before .before .before .before .args in
+    let s = c .before .before .before .before .before .before .before .before .before .before .before .before in
+    let loop = c .before .before .before .before .before .before .before .before .before .loop in
+    let payload-of = c .before .before .payload-of in
+    let l = loop in
+    let a = s .args in
     placed-block (boundsOf (a .ls .now) (a .us .now)) (l .first) (headed (a .ws .now) (l .p))
-    (rw (c .before .before .payload-of .ensures, tail-is (a .ws .now) (l .p + 1)) at (c .block .ensures .0))
+    (rw (payload-of .ensures, tail-is (a .ws .now) (l .p + 1)) at (c .block .ensures .0))
 
 loop-holds : tie.Need-loop-holds Inv-loop μ-loop
 loop-holds c = begun _ _ _ _ _ (c .before .before .pre .0) (c .before .before .pre .3)
@@ -93,9 +99,13 @@ part-block-end-2 c = search needs
 
 block-requires : tie.Need-block-requires Inv-loop μ-loop
 block-requires c κs =
-    let l = c .before .before .before .before .before .before .before .before .loop in
     let s = c .before .before .before .before .before .before .before .before .before .before .before in
-    let e = sym (c .before .before .before .before .before .kind-of .ensures) ∙ c .before .before .before .before .if1 .taken in (
+    let loop = c .before .before .before .before .before .before .before .before .loop in
+    let kind-of = c .before .before .before .before .before .kind-of in
+    let if1 = c .before .before .before .before .if1 in
+    let l = loop in
+    let s = s in
+    let e = sym (kind-of .ensures) ∙ if1 .taken in (
       omega (arith, l .inv .room),
       s .pre .1,
       s .pre .2,
@@ -117,7 +127,12 @@ loop-less : tie.Need-loop-less Inv-loop μ-loop
 loop-less c = search needs
 
 loop-again : tie.Need-loop-again Inv-loop μ-loop
-loop-again c = let l = c .before .before .before .before .before .before .before .before .before .before .before .before .before .loop in let a = c .before .before .before .before .before .before .before .before .before .before .before .before .before .before .before .before .args in let w = went (c .before .before .before .before) in more (l .inv) (c .before .before .before .before .before .before .before .before .before .before .before .before .loop-test .taken) (sym (c .before .before .before .before .before .before .before .before .before .before .kind-of .ensures) ∙ c .before .before .before .before .before .before .before .before .before .if1 .taken) (told w) (block-back (l .first) (blockOf (boundsOf (a .ls .now) (a .us .now)) (headed (a .ws .now) (l .p))) (l .at) (l .out) (fits (c .before .before .before .before .before .before .before .before .before .before .before .before .before)) w)
+loop-again c =
+    let s = c .before .before .before .before .before .before .before .before .before .before .before .before .before .before .before .before in
+    let loop = c .before .before .before .before .before .before .before .before .before .before .before .before .before .loop in
+    let kind-of = c .before .before .before .before .before .before .before .before .before .before .kind-of in
+    let if1 = c .before .before .before .before .before .before .before .before .before .if1 in
+    let l = loop in let a = s .args in let w = went (c .before .before .before .before) in more (l .inv) (c .before .before .before .before .before .before .before .before .before .before .before .before .loop-test .taken) (sym (kind-of .ensures) ∙ if1 .taken) (told w) (block-back (l .first) (blockOf (boundsOf (a .ls .now) (a .us .now)) (headed (a .ws .now) (l .p))) (l .at) (l .out) (fits (c .before .before .before .before .before .before .before .before .before .before .before .before .before)) w)
 
 loop-less-2 : tie.Need-loop-less-2 Inv-loop μ-loop
 loop-less-2 c = search needs

@@ -40,7 +40,11 @@ slice-aggregate-lay : tie.Need-slice-aggregate-lay
 slice-aggregate-lay c = rw (c .before .before .count-sources .ensures, sources-front (c .before .before .before .before .before .before .before .before .before .before .args .ws .now) .1) refl
 
 lay-requires : tie.Need-lay-requires
-lay-requires c κs = let ws = c .before .before .before .before .before .before .before .before .before .before .args .ws .now in rw (c .before .before .count-sources .ensures, sources-front ws .1) (omega (arith, sources-front ws .0, few-words ws (read (c .before .before .before .before .before .before .before .before .before .before))))
+lay-requires c κs =
+    let s = c .before .before .before .before .before .before .before .before .before .before in
+    let p = c .before .before .before .before .before .before .before .before .before .before in
+    let count-sources = c .before .before .count-sources in
+    let ws = s .args .ws .now in rw (count-sources .ensures, sources-front ws .1) (omega (arith, sources-front ws .0, few-words ws (read p)))
 
 slice-aggregate-model-sums : tie.Need-slice-aggregate-model-sums
 slice-aggregate-model-sums c = search needs
@@ -49,7 +53,9 @@ slice-aggregate-model-sums-2 : tie.Need-slice-aggregate-model-sums-2
 slice-aggregate-model-sums-2 c = search needs
 
 model-sums-requires : tie.Need-model-sums-requires
-model-sums-requires c κs = let k = bounds-kept (c .before .before .before .before .before .before .before .before .before .before) in (omega (arith, few-words (c .before .before .before .before .before .before .before .before .before .before .before .before .before .before .before .args .ws .now) (read (c .before .before .before .before .before .before .before .before .before .before .before .before .before .before .before))), k .short-lowers, k .short-uppers, k .lowers, k .uppers)
+model-sums-requires c κs =
+    let s = c .before .before .before .before .before .before .before .before .before .before .before .before .before .before .before in
+    let k = bounds-kept (c .before .before .before .before .before .before .before .before .before .before) in (omega (arith, few-words (s .args .ws .now) (read (c .before .before .before .before .before .before .before .before .before .before .before .before .before .before .before))), k .short-lowers, k .short-uppers, k .lowers, k .uppers)
 
 slice-aggregate-write-blocks : tie.Need-slice-aggregate-write-blocks
 slice-aggregate-write-blocks c = search needs
@@ -58,7 +64,10 @@ slice-aggregate-write-blocks-2 : tie.Need-slice-aggregate-write-blocks-2
 slice-aggregate-write-blocks-2 c = search needs
 
 write-blocks-requires : tie.Need-write-blocks-requires
-write-blocks-requires c κs = let s = c .before .before .before .before .before .before .before .before .before .before .before .before .before .before .before .before .before .before .before in let ws = s .args .ws .now in let k = bounds-kept (c .before .before .before .before .before .before .before .before .before .before .before .before .before .before) in (k .few, k .lowers, k .uppers, rw (k .same, k .many) (blocks-pass ws (s .pre .0)), rw (k .same, k .many, c .before .before .before .before .before .before .before .before .before .before .before .count-sources .ensures, same-room (c .before .before .before .before .before .before .before .before)) (omega (arith, system-length ws, s .pre .1)), few-constraints ws (read s), c .before .before .before .model-sums .ensures)
+write-blocks-requires c κs =
+    let count-sources = c .before .before .before .before .before .before .before .before .before .before .before .count-sources in
+    let model-sums = c .before .before .before .model-sums in
+    let s = c .before .before .before .before .before .before .before .before .before .before .before .before .before .before .before .before .before .before .before in let ws = s .args .ws .now in let k = bounds-kept (c .before .before .before .before .before .before .before .before .before .before .before .before .before .before) in (k .few, k .lowers, k .uppers, rw (k .same, k .many) (blocks-pass ws (s .pre .0)), rw (k .same, k .many, count-sources .ensures, same-room (c .before .before .before .before .before .before .before .before)) (omega (arith, system-length ws, s .pre .1)), few-constraints ws (read s), model-sums .ensures)
 
 word-of-requires : tie.Need-word-of-requires
 word-of-requires c κs = search needs
@@ -67,13 +76,22 @@ slice-aggregate-lay-2 : tie.Need-slice-aggregate-lay-2
 slice-aggregate-lay-2 c = search needs
 
 lay-requires-2 : tie.Need-lay-requires-2
-lay-requires-2 c κs = let s = c .before .before .before .before .before .before .before .before .before .before .before .before .before .before .before .before .before .before .before .before .before .before .before .before .before in let ws = s .args .ws .now in let k = bounds-kept (c .before .before .before .before .before .before .before .before .before .before .before .before .before .before .before .before .before .before .before .before) in omega (arith, rw (k .same, k .many, c .before .before .before .before .before .before .before .before .before .before .before .before .before .before .before .before .before .count-sources .ensures) at (c .before .before .before .before .before .write-blocks .ensures .0), system-length ws, never-too-many ws (s .pre .0))
+lay-requires-2 c κs =
+    let count-sources = c .before .before .before .before .before .before .before .before .before .before .before .before .before .before .before .before .before .count-sources in
+    let write-blocks = c .before .before .before .before .before .write-blocks in
+    let s = c .before .before .before .before .before .before .before .before .before .before .before .before .before .before .before .before .before .before .before .before .before .before .before .before .before in let ws = s .args .ws .now in let k = bounds-kept (c .before .before .before .before .before .before .before .before .before .before .before .before .before .before .before .before .before .before .before .before) in omega (arith, rw (k .same, k .many, count-sources .ensures) at (write-blocks .ensures .0), system-length ws, never-too-many ws (s .pre .0))
 
 same-length : tie.Need-same-length
 same-length c = search needs
 
 returns : tie.Need-returns
-returns c = let s = c .before .before .before .before .before .before .before .before .before .before .before .before .before .before .before .before .before .before .before .before .before .before .before .before .before .before .before .before in let ws = s .args .ws .now in let k = bounds-kept (c .before .before .before .before .before .before .before .before .before .before .before .before .before .before .before .before .before .before .before .before .before .before .before) in c .before .before .lay2 .ensures ∙ rw (c .before .before .before .before .before .before .before .before .write-blocks .ensures .1, c .before .before .before .before .before .before .before .before .write-blocks .ensures .0, c .before .before .before .before .before .before .before .before .before .before .before .before .before .before .before .before .before .lay .ensures, c .before .before .before .before .before .word-of .ensures, k .same, k .many, c .before .before .before .before .before .before .before .before .before .before .before .before .before .before .before .before .before .before .before .before .count-sources .ensures, sources-front ws .1) (system-over ws (s .args .out .now))
+returns c =
+    let count-sources = c .before .before .before .before .before .before .before .before .before .before .before .before .before .before .before .before .before .before .before .before .count-sources in
+    let lay = c .before .before .before .before .before .before .before .before .before .before .before .before .before .before .before .before .before .lay in
+    let write-blocks = c .before .before .before .before .before .before .before .before .write-blocks in
+    let word-of = c .before .before .before .before .before .word-of in
+    let lay2 = c .before .before .lay2 in
+    let s = c .before .before .before .before .before .before .before .before .before .before .before .before .before .before .before .before .before .before .before .before .before .before .before .before .before .before .before .before in let ws = s .args .ws .now in let k = bounds-kept (c .before .before .before .before .before .before .before .before .before .before .before .before .before .before .before .before .before .before .before .before .before .before .before) in lay2 .ensures ∙ rw (write-blocks .ensures .1, write-blocks .ensures .0, lay .ensures, word-of .ensures, k .same, k .many, count-sources .ensures, sources-front ws .1) (system-over ws (s .args .out .now))
 
 pub write-system-spec : {M : Type 1} → statement M
 write-system-spec =
