@@ -185,7 +185,7 @@ pub extern "C" fn pearrummy_check_bytes(bytes: &[u8]) -> u32
     if limit::MODEL_WORDS < bytes.len() / 4 {
         return fault::TOO_MANY_WORDS;
     }
-    let mut words = [0u32; 8192];
+    let mut words = [0u32; limit::MODEL_WORDS];
     let n = words_of_bytes(bytes, &mut words);
     number_of(check(&words[..n]))
 }

@@ -12,6 +12,14 @@ use translation::translate;
 
 mod output;
 
+// One word more than a model may have, and the bytes of so many words.
+const WORDS: usize = 8193;
+
+const BYTES: usize = 32772;
+
+// The row words that are printed at most.
+const ROOM: usize = 16384;
+
 // The lesser of two counts.
 fn at_most(n: usize, most: usize) -> usize
     ensures { λ r. ⌜ r ≡ min n most ⌝ }
@@ -24,16 +32,16 @@ fn translate_bytes(bytes: &[u8], out: &mut [u32]) -> Written
     ensures answer { λ r. ⌜ wrote r ≡ translateAnswer (bytesWords (now (bytes .entry))) (length (now (out .entry))) ⌝ }
     ensures output { λ r. ⌜ now (out .exit) ≡ translated (bytesWords (now (bytes .entry))) (now (out .entry)) ⌝ }
 {
-    let mut words = [0u32; 8193];
-    let n = at_most(words_of_bytes(bytes, &mut words), 8193);
+    let mut words = [0u32; WORDS];
+    let n = at_most(words_of_bytes(bytes, &mut words), WORDS);
     translate(&words[..n], out)
 }
 
 // The bytes of 8,193 words are read at most. A row system of more than 16,384 words does not fit, and translate refuses it.
 fn main() {
-    let mut bytes = [0u8; 32772];
+    let mut bytes = [0u8; BYTES];
     let n = io::read_full(0, &mut bytes);
-    let mut out = [0u32; 16384];
+    let mut out = [0u32; ROOM];
     let answer = translate_bytes(&bytes[..n], &mut out);
     print_answer(answer, &out);
 }
