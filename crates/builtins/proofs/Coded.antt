@@ -1,28 +1,43 @@
 -- A code that is none, and the absolute value as a maximum.
-use mathlib.Core.Path.{_≡_, refl, ap, _∙_}
+use mathlib.Core.Path.{_≡_, refl, ap}
 use mathlib.Core.Bool.{true}
 use mathlib.Core.List.{List}
-use Prim.Native.Nat.{ℕ, _≤_}
+use Prim.Native.Nat.{ℕ, zero, suc, _<_, _≤_}
 use native.Mathlib.Omega.{arith}
 use lib.IntN.{ℤ}
-use lib.ListN.{List·getD-eq-default}
+use lib.ListN.{getD, List·getD-eq-default}
 use Rattle.integers.specs.Number.{neg, maxZ, absZ}
 use Rattle.integers.specs.Terms.{Valuation}
 use Rattle.integers.proofs.Linear.{linear}
 use Rattle.integers.proofs.Tests.{says-equal}
+use Rattle.models.specs.Table as Table
 use Rattle.models.specs.Builtin.{Builtin, int-eq}
 use Rattle.models.specs.Model.{builtin, builtins}
 use Rattle.models.specs.Meaning.{meaning}
 use Rattle.builtins.specs.Coded.{builtinOf}
 
--- past the last code the builtin is that of code 0, which is true of all values
-pub code-zero : (σ : Valuation) (ws : List ℕ) → meaning σ (builtinOf 0 ws) ≡ true
-unfolding meaning builtin builtins
-code-zero σ ws = says-equal (σ 0) (σ 0) .1 refl
+-- a code that is none: not 1, not 2, .., not the last
+abbrev pub None : ℕ → ℕ → Type 0
+None zero code = Unit {0}
+None (suc n) code = None n code × (code ≡ suc n → ⊥)
 
-pub no-code : (σ : Valuation) (code : ℕ) (ws : List ℕ) → 29 ≤ code → meaning σ (builtinOf code ws) ≡ true
+none-of : (n code : ℕ) → None n code → 1 ≤ code → n < code
+none-of zero code h l = l
+none-of (suc n) code h l = omega (arith, none-of n code (h .0) l, h .1)
+
+-- its builtin is that of code 0
+pub default : (code : ℕ) (ws : List ℕ) → None Table.last code → builtinOf code ws ≡ int-eq 0 0
 unfolding builtin builtins
-no-code σ code ws h = ap (λ (f : List ℕ → Builtin). meaning σ (f ws)) (List·getD-eq-default builtins (λ (l : List ℕ). int-eq 0 0) h) ∙ code-zero σ ws
+default code ws h = go code (none-of Table.last code h)
+  where
+    go : (code : ℕ) → (1 ≤ code → Table.last < code) → getD builtins code (λ (l : List ℕ). int-eq 0 0) ws ≡ int-eq 0 0
+    go zero f = refl
+    go (suc n) f = ap (λ (g : List ℕ → Builtin). g ws) (List·getD-eq-default builtins (λ (l : List ℕ). int-eq 0 0) {n = suc n} (f (omega arith)))
+
+-- which is true of all values
+pub no-code : (σ : Valuation) (code : ℕ) (ws : List ℕ) → None Table.last code → meaning σ (builtinOf code ws) ≡ true
+unfolding meaning
+no-code σ code ws h = rw (default code ws h) (says-equal (σ 0) (σ 0) .1 refl)
 
 pub abs-max : (x : ℤ) → maxZ x (neg x) ≡ absZ x
 abs-max = simp linear (omega arith)

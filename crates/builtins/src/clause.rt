@@ -1,11 +1,9 @@
 // Codes 21 to 23: lists of Boolean variables.
 ghost use mathlib.Core.Path.{_≡_};
-ghost use Prim.Native.Nat.{_≤_, _<_};
 ghost use Rattle.integers.specs.Terms.{value};
 ghost use Rattle.models.specs.Builtin.{bool-clause, array-bool-and, array-bool-xor};
 ghost use Rattle.models.specs.Model.{var, vars, past};
 ghost use Rattle.models.specs.Meaning.{meaning};
-ghost use Rattle.builtins.specs.Coded.{builtinOf};
 use arguments::all_on;
 use arguments::any_equal;
 use arguments::how_many;
@@ -15,7 +13,7 @@ use arguments::test::agree;
 use arguments::test::either;
 
 // Whether bool_clause is true.
-fn bool_clause(args: &[u32], values: &[i32]) -> bool
+pub fn bool_clause(args: &[u32], values: &[i32]) -> bool
     ensures { λ r. ⌜ r ≡ meaning (value (now (values .entry))) (bool-clause (vars (now (args .entry)) 0) (vars (now (args .entry)) (past (now (args .entry)) 0))) ⌝ }
 {
     either(
@@ -25,7 +23,7 @@ fn bool_clause(args: &[u32], values: &[i32]) -> bool
 }
 
 // Whether array_bool_and is true.
-fn array_bool_and(args: &[u32], values: &[i32]) -> bool
+pub fn array_bool_and(args: &[u32], values: &[i32]) -> bool
     ensures { λ r. ⌜ r ≡ meaning (value (now (values .entry))) (array-bool-and (vars (now (args .entry)) 0) (var (now (args .entry)) (past (now (args .entry)) 0))) ⌝ }
 {
     agree(
@@ -35,20 +33,8 @@ fn array_bool_and(args: &[u32], values: &[i32]) -> bool
 }
 
 // Whether array_bool_xor is true.
-fn array_bool_xor(args: &[u32], values: &[i32]) -> bool
+pub fn array_bool_xor(args: &[u32], values: &[i32]) -> bool
     ensures { λ r. ⌜ r ≡ meaning (value (now (values .entry))) (array-bool-xor (vars (now (args .entry)) 0)) ⌝ }
 {
     how_many(args, 0, 1, values) == 1
-}
-
-// Whether a builtin of a code from 21 to 23 is true.
-pub fn holds(code: usize, args: &[u32], values: &[i32]) -> bool
-    requires { ⌜ (21 ≤ code) × (code < 24) ⌝ }
-    ensures { λ r. ⌜ r ≡ meaning (value (now (values .entry))) (builtinOf code (now (args .entry))) ⌝ }
-{
-    match code {
-        21 => bool_clause(args, values),
-        22 => array_bool_and(args, values),
-        _ => array_bool_xor(args, values),
-    }
 }

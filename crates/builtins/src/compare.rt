@@ -1,10 +1,9 @@
 // Codes 1 to 5, and 14: comparisons of two variables.
 ghost use mathlib.Core.Path.{_≡_};
-ghost use Prim.Native.Nat.{_≤_, _<_};
 ghost use Rattle.integers.specs.Terms.{value};
 ghost use Rattle.models.specs.Builtin.{int-eq, int-le, int-lt, int-le-reif, int-eq-reif};
 ghost use Rattle.models.specs.Meaning.{meaning};
-ghost use Rattle.builtins.specs.Coded.{builtinOf, two, three};
+ghost use Rattle.builtins.specs.Coded.{two, three};
 use arguments::is_on;
 use arguments::test::agree;
 use arguments::test::at_most;
@@ -45,18 +44,4 @@ pub fn int_eq_reif(args: &[u32], values: &[i32]) -> bool
     ensures { λ r. ⌜ r ≡ meaning (value (now (values .entry))) (three int-eq-reif (now (args .entry))) ⌝ }
 {
     agree(is_on(args, 2, values), int_eq(args, values))
-}
-
-// Whether a builtin of a code from 1 to 5 is true; int_ne is true where int_eq is not.
-pub fn holds(code: usize, args: &[u32], values: &[i32]) -> bool
-    requires { ⌜ (1 ≤ code) × (code < 6) ⌝ }
-    ensures { λ r. ⌜ r ≡ meaning (value (now (values .entry))) (builtinOf code (now (args .entry))) ⌝ }
-{
-    match code {
-        1 => int_eq(args, values),
-        2 => int_le(args, values),
-        3 => int_lt(args, values),
-        4 => !int_eq(args, values),
-        _ => int_le_reif(args, values),
-    }
 }

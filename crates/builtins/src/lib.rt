@@ -1,6 +1,5 @@
 // Whether a builtin is true of values: by its code and the words of its arguments.
 ghost use mathlib.Core.Path.{_≡_};
-ghost use Prim.Native.Nat.{_<_};
 ghost use Rattle.integers.specs.Terms.{value};
 ghost use Rattle.models.specs.Meaning.{meaning};
 ghost use Rattle.arguments.specs.Small.{Small};
@@ -18,26 +17,35 @@ pub fn holds(code: usize, args: &[u32], values: &[i32]) -> bool
     requires { ⌜ Small (now values) ⌝ }
     ensures { λ r. ⌜ r ≡ meaning (value (now (values .entry))) (builtinOf code (now (args .entry))) ⌝ }
 {
-    if code < 1 {
-        return true;
+    match code {
+        1 => compare::int_eq(args, values),
+        2 => compare::int_le(args, values),
+        3 => compare::int_lt(args, values),
+        4 => !compare::int_eq(args, values),
+        5 => compare::int_le_reif(args, values),
+        6 => number::int_plus(args, values),
+        7 => number::int_times(args, values),
+        8 => number::int_abs(args, values),
+        9 => number::int_max(args, values),
+        10 => linear::int_lin_eq(args, values),
+        11 => linear::int_lin_le(args, values),
+        12 => !linear::int_lin_eq(args, values),
+        13 => linear::int_lin_eq_reif(args, values),
+        14 => compare::int_eq_reif(args, values),
+        15 => linear::int_lin_le_reif(args, values),
+        16 => compare::int_eq(args, values),
+        17 => !compare::int_eq(args, values),
+        18 => boolean::bool_and(args, values),
+        19 => boolean::bool_or(args, values),
+        20 => boolean::bool_xor(args, values),
+        21 => clause::bool_clause(args, values),
+        22 => clause::array_bool_and(args, values),
+        23 => clause::array_bool_xor(args, values),
+        24 => list::array_int_element(args, values),
+        25 => list::array_var_int_element(args, values),
+        26 => list::array_int_maximum(args, values),
+        27 => list::set_in(args, values),
+        28 => list::set_in_reif(args, values),
+        _ => true,
     }
-    if code < 6 {
-        return compare::holds(code, args, values);
-    }
-    if code < 10 {
-        return number::holds(code, args, values);
-    }
-    if code < 16 {
-        return linear::holds(code, args, values);
-    }
-    if code < 21 {
-        return boolean::holds(code, args, values);
-    }
-    if code < 24 {
-        return clause::holds(code, args, values);
-    }
-    if code < 29 {
-        return list::holds(code, args, values);
-    }
-    true
 }

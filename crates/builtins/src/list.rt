@@ -1,11 +1,10 @@
 // Codes 24 to 28: elements and maximum of a list, membership.
 ghost use mathlib.Core.Path.{_≡_};
-ghost use Prim.Native.Nat.{_≤_, _<_};
 ghost use Rattle.integers.specs.Terms.{value};
 ghost use Rattle.models.specs.Builtin.{array-int-element, array-var-int-element, array-int-maximum, set-in, set-in-reif};
 ghost use Rattle.models.specs.Model.{var, vars, nums, past, size};
 ghost use Rattle.models.specs.Meaning.{meaning};
-ghost use Rattle.builtins.specs.Coded.{builtinOf, indexIn};
+ghost use Rattle.builtins.specs.Coded.{indexIn};
 use arguments::any_equal;
 use arguments::count_of;
 use arguments::is_member;
@@ -31,7 +30,7 @@ fn index_of(args: &[u32], values: &[i32]) -> usize
 }
 
 // Whether array_int_element is true.
-fn array_int_element(args: &[u32], values: &[i32]) -> bool
+pub fn array_int_element(args: &[u32], values: &[i32]) -> bool
     ensures { λ r. ⌜ r ≡ meaning (value (now (values .entry))) (array-int-element (var (now (args .entry)) 0) (nums (now (args .entry)) 1) (var (now (args .entry)) (past (now (args .entry)) 1))) ⌝ }
 {
     let k = index_of(args, values);
@@ -45,7 +44,7 @@ fn array_int_element(args: &[u32], values: &[i32]) -> bool
 }
 
 // Whether array_var_int_element is true.
-fn array_var_int_element(args: &[u32], values: &[i32]) -> bool
+pub fn array_var_int_element(args: &[u32], values: &[i32]) -> bool
     ensures { λ r. ⌜ r ≡ meaning (value (now (values .entry))) (array-var-int-element (var (now (args .entry)) 0) (vars (now (args .entry)) 1) (var (now (args .entry)) (past (now (args .entry)) 1))) ⌝ }
 {
     let k = index_of(args, values);
@@ -59,7 +58,7 @@ fn array_var_int_element(args: &[u32], values: &[i32]) -> bool
 }
 
 // Whether array_int_maximum is true.
-fn array_int_maximum(args: &[u32], values: &[i32]) -> bool
+pub fn array_int_maximum(args: &[u32], values: &[i32]) -> bool
     ensures { λ r. ⌜ r ≡ meaning (value (now (values .entry))) (array-int-maximum (var (now (args .entry)) 0) (vars (now (args .entry)) 1)) ⌝ }
 {
     let m = value_of(args, 0, values);
@@ -70,29 +69,15 @@ fn array_int_maximum(args: &[u32], values: &[i32]) -> bool
 }
 
 // Whether set_in is true.
-fn set_in(args: &[u32], values: &[i32]) -> bool
+pub fn set_in(args: &[u32], values: &[i32]) -> bool
     ensures { λ r. ⌜ r ≡ meaning (value (now (values .entry))) (set-in (var (now (args .entry)) 0) (nums (now (args .entry)) 1)) ⌝ }
 {
     is_member(args, 1, value_of(args, 0, values))
 }
 
 // Whether set_in_reif is true.
-fn set_in_reif(args: &[u32], values: &[i32]) -> bool
+pub fn set_in_reif(args: &[u32], values: &[i32]) -> bool
     ensures { λ r. ⌜ r ≡ meaning (value (now (values .entry))) (set-in-reif (var (now (args .entry)) 0) (nums (now (args .entry)) 1) (var (now (args .entry)) (past (now (args .entry)) 1))) ⌝ }
 {
     agree(is_on(args, past_at(args, 1), values), set_in(args, values))
-}
-
-// Whether a builtin of a code from 24 to 28 is true.
-pub fn holds(code: usize, args: &[u32], values: &[i32]) -> bool
-    requires { ⌜ (24 ≤ code) × (code < 29) ⌝ }
-    ensures { λ r. ⌜ r ≡ meaning (value (now (values .entry))) (builtinOf code (now (args .entry))) ⌝ }
-{
-    match code {
-        24 => array_int_element(args, values),
-        25 => array_var_int_element(args, values),
-        26 => array_int_maximum(args, values),
-        27 => set_in(args, values),
-        _ => set_in_reif(args, values),
-    }
 }

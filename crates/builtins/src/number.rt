@@ -1,11 +1,10 @@
 // Codes 6 to 9: arithmetic of variables.
 ghost use mathlib.Core.Path.{_≡_};
-ghost use Prim.Native.Nat.{_≤_, _<_};
 ghost use Rattle.integers.specs.Terms.{value};
 ghost use Rattle.models.specs.Builtin.{int-plus, int-times, int-abs, int-max};
 ghost use Rattle.models.specs.Meaning.{meaning};
 ghost use Rattle.arguments.specs.Small.{Small};
-ghost use Rattle.builtins.specs.Coded.{builtinOf, two, three};
+ghost use Rattle.builtins.specs.Coded.{two, three};
 use arguments::value_of;
 use integers::equal;
 use integers::largest;
@@ -14,7 +13,7 @@ use integers::plus;
 use integers::times;
 
 // Whether int_plus is true.
-fn int_plus(args: &[u32], values: &[i32]) -> bool
+pub fn int_plus(args: &[u32], values: &[i32]) -> bool
     requires { ⌜ Small (now values) ⌝ }
     ensures { λ r. ⌜ r ≡ meaning (value (now (values .entry))) (three int-plus (now (args .entry))) ⌝ }
 {
@@ -25,7 +24,7 @@ fn int_plus(args: &[u32], values: &[i32]) -> bool
 }
 
 // Whether int_times is true.
-fn int_times(args: &[u32], values: &[i32]) -> bool
+pub fn int_times(args: &[u32], values: &[i32]) -> bool
     requires { ⌜ Small (now values) ⌝ }
     ensures { λ r. ⌜ r ≡ meaning (value (now (values .entry))) (three int-times (now (args .entry))) ⌝ }
 {
@@ -36,7 +35,7 @@ fn int_times(args: &[u32], values: &[i32]) -> bool
 }
 
 // Whether int_abs is true.
-fn int_abs(args: &[u32], values: &[i32]) -> bool
+pub fn int_abs(args: &[u32], values: &[i32]) -> bool
     requires { ⌜ Small (now values) ⌝ }
     ensures { λ r. ⌜ r ≡ meaning (value (now (values .entry))) (two int-abs (now (args .entry))) ⌝ }
 {
@@ -45,24 +44,11 @@ fn int_abs(args: &[u32], values: &[i32]) -> bool
 }
 
 // Whether int_max is true.
-fn int_max(args: &[u32], values: &[i32]) -> bool
+pub fn int_max(args: &[u32], values: &[i32]) -> bool
     ensures { λ r. ⌜ r ≡ meaning (value (now (values .entry))) (three int-max (now (args .entry))) ⌝ }
 {
     equal(
         largest(value_of(args, 0, values), value_of(args, 1, values)),
         value_of(args, 2, values),
     )
-}
-
-// Whether a builtin of a code from 6 to 9 is true.
-pub fn holds(code: usize, args: &[u32], values: &[i32]) -> bool
-    requires { ⌜ (6 ≤ code) × (code < 10) × Small (now values) ⌝ }
-    ensures { λ r. ⌜ r ≡ meaning (value (now (values .entry))) (builtinOf code (now (args .entry))) ⌝ }
-{
-    match code {
-        6 => int_plus(args, values),
-        7 => int_times(args, values),
-        8 => int_abs(args, values),
-        _ => int_max(args, values),
-    }
 }

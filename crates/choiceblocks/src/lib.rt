@@ -1,4 +1,4 @@
-// The blocks of codes 24 to 28: elements and maximum of a list, membership.
+// The blocks of lists with one choice: elements and maximum of a list, membership.
 ghost use mathlib.Core.Path.{_≡_};
 ghost use Prim.Native.Nat.{_+_, _<_, _≤_};
 ghost use lib.IntN.{natAbs};
@@ -7,7 +7,6 @@ ghost use Rattle.integers.specs.Number.{maxZ, count, +0, +1};
 ghost use Rattle.integers.specs.Bounds.{width};
 ghost use Rattle.models.specs.Builtin.{array-int-element, array-var-int-element, array-int-maximum, set-in, set-in-reif};
 ghost use Rattle.models.specs.Model.{var, vars, nums, size, past};
-ghost use Rattle.builtins.specs.Coded.{builtinOf};
 ghost use Rattle.rules.specs.Parts.{places, members};
 ghost use Rattle.rules.specs.Rule.{rule};
 ghost use Rattle.laying.specs.Part.{blockParts};
@@ -177,26 +176,4 @@ pub fn set_in_reif(
     let t = lay_bits(out, s, width);
     let u = lay_choice(out, t, lower, first, width, var_at(args, 0));
     lay_member_row(out, u, &vs, lower, first, n, var_at(args, past_at(args, 1)))
-}
-
-// The block of a code from 24 to 28.
-pub fn choice_block(
-    out: &mut [u32],
-    s: Laid,
-    code: usize,
-    args: &[u32],
-    ls: &[i64],
-    us: &[i64],
-    first: usize,
-) -> Laid
-    requires { ⌜ (24 ≤ code) × (code ≤ 28) × (total s < 1000000000) × (first < 10000) × Bounded (now ls) × Bounded (now us) × (code ≡ 28 → width (boundsOf (now ls) (now us) (var (now args) 0)) ≤ 64) ⌝ }
-    ensures { λ r. ⌜ Went s r (now (out .entry)) (now (out .exit)) (blockParts first (rule (boundsOf (now (ls .entry)) (now (us .entry))) (builtinOf code (now (args .entry))))) × Near 1000000 s r ⌝ }
-{
-    match code {
-        24 => array_int_element(out, s, args, ls, us, first),
-        25 => array_var_int_element(out, s, args, ls, us, first),
-        26 => array_int_maximum(out, s, args, ls, us, first),
-        27 => set_in(out, s, args, ls, us, first),
-        _ => set_in_reif(out, s, args, ls, us, first),
-    }
 }

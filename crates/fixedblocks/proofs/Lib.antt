@@ -1,3 +1,2 @@
 -- Laws for proofs about the blocks of builtins without lists.
 pub mod Laid
-pub mod Codes

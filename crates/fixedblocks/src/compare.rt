@@ -1,9 +1,8 @@
-// Blocks of codes 1 to 5: comparisons of two variables.
+// Blocks: comparisons of two variables.
 ghost use Prim.Native.Nat.{ℕ, _<_};
 ghost use Rattle.integers.specs.declared.Bounds.{Bounds};
 ghost use Rattle.models.specs.Builtin.{int-eq, int-ne, int-le-reif};
 ghost use Rattle.rules.specs.Rule.{rule};
-ghost use Rattle.builtins.specs.Coded.{builtinOf};
 ghost use Rattle.laying.specs.Part.{blockParts};
 ghost use Rattle.laying.specs.Went.{Went, Near, total};
 ghost use Rattle.extremes.specs.Bounded.{boundsOf, Bounded};
@@ -11,7 +10,6 @@ use crate::rows::at_most_if;
 use crate::rows::below_if;
 use crate::rows::below_unless;
 use crate::rows::two_terms;
-use arguments::var_at;
 use laying::Laid;
 use laying::lay_bound;
 use words::kind;
@@ -25,7 +23,7 @@ pub fn int_eq(out: &mut [u32], s: Laid, a: usize, b: usize) -> Laid
 }
 
 // 4 int_ne: a < b where the auxiliary is 0, b < a where it is 1.
-fn int_ne(
+pub fn int_ne(
     out: &mut [u32],
     s: Laid,
     a: usize,
@@ -43,7 +41,7 @@ fn int_ne(
 }
 
 // 5 int_le_reif: a ≤ b where r is 1, b < a where it is 0.
-fn int_le_reif(
+pub fn int_le_reif(
     out: &mut [u32],
     s: Laid,
     a: usize,
@@ -58,29 +56,4 @@ fn int_le_reif(
 {
     let t = at_most_if(out, s, r, a, b, ls, us);
     below_unless(out, t, r, b, a, ls, us)
-}
-
-// The block of a code below 6.
-pub fn block(
-    out: &mut [u32],
-    s: Laid,
-    code: usize,
-    args: &[u32],
-    ls: &[i64],
-    us: &[i64],
-    first: usize,
-) -> Laid
-    requires { ⌜ (total s < 1000000000) × Bounded (now ls) × Bounded (now us) × (code < 6) ⌝ }
-    ensures { λ r. ⌜ Went s r (now (out .entry)) (now (out .exit)) (blockParts first (rule (boundsOf (now (ls .entry)) (now (us .entry))) (builtinOf code (now (args .entry))))) × Near 10000 s r ⌝ }
-{
-    let a = var_at(args, 0);
-    let b = var_at(args, 1);
-    match code {
-        0 => int_eq(out, s, 0, 0),
-        1 => int_eq(out, s, a, b),
-        2 => two_terms(out, s, kind::AT_MOST, a, -1, b, 0),
-        3 => two_terms(out, s, kind::AT_MOST, a, -1, b, 1),
-        4 => int_ne(out, s, a, b, ls, us, first),
-        _ => int_le_reif(out, s, a, b, var_at(args, 2), ls, us, first),
-    }
 }

@@ -1,11 +1,10 @@
-// Blocks of codes 6 to 9: sums, products, absolute values and maxima.
+// Blocks: sums, products, absolute values and maxima.
 ghost use mathlib.Core.List.{[], _∷_};
-ghost use Prim.Native.Nat.{_<_, _≤_};
+ghost use Prim.Native.Nat.{_<_};
 ghost use lib.ListN.{getD};
 ghost use Rattle.integers.specs.Number.{minZ, maxZ, +0};
 ghost use Rattle.models.specs.Builtin.{int-times, int-abs, int-max};
 ghost use Rattle.rules.specs.Rule.{rule};
-ghost use Rattle.builtins.specs.Coded.{builtinOf};
 ghost use Rattle.laying.specs.Part.{bound, blockParts};
 ghost use Rattle.laying.specs.Went.{Went, Near, total};
 ghost use Rattle.extremes.specs.Bounded.{boundsOf, Bounded};
@@ -13,7 +12,6 @@ use crate::rows::at_most_if;
 use crate::rows::at_most_unless;
 use crate::rows::three_terms;
 use crate::rows::two_terms;
-use arguments::var_at;
 use extremes::bound_at;
 use extremes::end_product;
 use extremes::zero_lower;
@@ -25,7 +23,7 @@ use laying::lay_times;
 use words::kind;
 
 // 7 int_times: the auxiliary is a×b, and c.
-fn int_times(
+pub fn int_times(
     out: &mut [u32],
     s: Laid,
     a: usize,
@@ -56,7 +54,7 @@ fn lay_zero_bound(out: &mut [u32], s: Laid, x: usize, ls: &[i64], us: &[i64]) ->
 }
 
 // 8 int_abs: y is x where the bit is 0 and −x where it is 1, and not negative.
-fn int_abs(
+pub fn int_abs(
     out: &mut [u32],
     s: Laid,
     x: usize,
@@ -79,7 +77,7 @@ fn int_abs(
 }
 
 // 9 int_max: a and b are at most c; c is at most a where the auxiliary is 0, at most b where it is 1.
-fn int_max(
+pub fn int_max(
     out: &mut [u32],
     s: Laid,
     a: usize,
@@ -97,28 +95,4 @@ fn int_max(
     let v = two_terms(out, u, kind::AT_MOST, b, -1, c, 0);
     let w = at_most_unless(out, v, first, c, a, ls, us);
     at_most_if(out, w, first, c, b, ls, us)
-}
-
-// The block of a code from 6 to 9.
-pub fn block(
-    out: &mut [u32],
-    s: Laid,
-    code: usize,
-    args: &[u32],
-    ls: &[i64],
-    us: &[i64],
-    first: usize,
-) -> Laid
-    requires { ⌜ (total s < 1000000000) × (first < 10000) × Bounded (now ls) × Bounded (now us) × (6 ≤ code) × (code < 10) ⌝ }
-    ensures { λ r. ⌜ Went s r (now (out .entry)) (now (out .exit)) (blockParts first (rule (boundsOf (now (ls .entry)) (now (us .entry))) (builtinOf code (now (args .entry))))) × Near 10000 s r ⌝ }
-{
-    let a = var_at(args, 0);
-    let b = var_at(args, 1);
-    let c = var_at(args, 2);
-    match code {
-        6 => three_terms(out, s, kind::EQUAL, a, 1, b, -1, c, 0),
-        7 => int_times(out, s, a, b, c, ls, us, first),
-        8 => int_abs(out, s, a, b, ls, us, first),
-        _ => int_max(out, s, a, b, c, ls, us, first),
-    }
 }

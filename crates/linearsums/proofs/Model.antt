@@ -9,7 +9,7 @@ use native.Mathlib.Numerals.{add-one}
 use lib.Dec.{eqb}
 use lib.ListN.{length, getD, drop}
 use lib.Seq.{getD-drop, getD-set-same, getD-set-other}
-use borrow.Author.Tests.{eq-eqb, ne-eqb, le-ltb, eqb-true, eqb-false}
+use borrow.Author.Tests.{eq-eqb, ne-eqb, eqb-true, eqb-false}
 use Rattle.integers.specs.Choice.{_if_else_}
 use Rattle.integers.specs.Number.{+0, +1, -1}
 use Rattle.integers.specs.Bounds.{_to_}
@@ -21,8 +21,8 @@ use Rattle.words.specs.Small.{Near}
 use Rattle.models.specs.Model.{var, num, size, past, pastTerms, terms, constraints, constraintsFrom}
 use Rattle.models.proofs.Constraints.{starts-none, starts-one}
 use Rattle.rules.specs.Parts.{L, U}
-use Rattle.linearsums.specs.Sum.{linearSum, equalSum, sumOf, Fits, Summed}
-use Rattle.linearsums.specs.Places.{codeBefore, sumSize, sumNumber, sumVariable, sumConstant, sumTerms, sumUpTo, sumBounds, afterHead, afterHeads, sumsUpTo}
+use Rattle.linearsums.specs.Sum.{noSum, ofTwo, formOf, linearSum, equalSum, sumOf, Fits, Summed}
+use Rattle.linearsums.specs.Places.{codeBefore, formBefore, sumSize, sumNumber, sumVariable, sumConstant, sumTerms, sumUpTo, sumBounds, afterHead, afterHeads, sumsUpTo}
 use Rattle.linearsums.proofs.Size.{few-terms, upto-fits, upto-all}
 use Rattle.linearsums.proofs.Places.{head-here, head-later, heads-more, sums-length}
 use Rattle.linearsums.proofs.Filling.{below-or-from}
@@ -57,26 +57,26 @@ module _ (ws : List ℕ) (a : ℕ) where
   constant-from = num-from (pastTerms ws a) (pastTerms args 0) (omega (arith, size-from))
 
   -- ---- by the code
-  module _ (β : ℕ → Bounds) (code : ℕ) (is : codeBefore ws a ≡ code) (low : 12 ≤ code) (high : code ≤ 15) where
-    linear-is : (code ≡ 14 → ⊥) → sumBounds ws a β ≡ linearSum β args
-    unfolding sumBounds sumUpTo sumTerms sumSize sumNumber sumVariable sumConstant linearSum
+  module _ (β : ℕ → Bounds) (code : ℕ) (is : codeBefore ws a ≡ code) (some : formOf code ≡ noSum → ⊥) where
+    linear-is : (formOf code ≡ ofTwo → ⊥) → sumBounds ws a β ≡ linearSum β args
+    unfolding sumBounds sumUpTo sumTerms formBefore sumSize sumNumber sumVariable sumConstant linearSum
     linear-is other =
-        rw (is, le-ltb code 12 low, le-ltb 15 code high, ne-eqb code 14 other)
+        rw (is, ne-eqb (formOf code) noSum some, ne-eqb (formOf code) ofTwo other)
         (ap₂ (λ ts c. L β ts c to U β ts c) terms-from constant-from)
 
-    equal-is : code ≡ 14 → sumBounds ws a β ≡ equalSum β args
-    unfolding sumBounds sumUpTo sumTerms sumSize sumNumber sumVariable sumConstant equalSum listOf
+    equal-is : formOf code ≡ ofTwo → sumBounds ws a β ≡ equalSum β args
+    unfolding sumBounds sumUpTo sumTerms formBefore sumSize sumNumber sumVariable sumConstant equalSum listOf
     equal-is e =
-        rw (is, le-ltb code 12 low, le-ltb 15 code high, eq-eqb code 14 e)
+        rw (is, ne-eqb (formOf code) noSum some, eq-eqb (formOf code) ofTwo e)
         (ap₂ (λ x y. let ts = +1 · x ∷ -1 · y ∷ [] in L β ts +0 to U β ts +0) (var-from (a + 0) 0 refl) (var-from (a + 1) 1 refl))
 
     sum-is : sumBounds ws a β ≡ sumOf β code args
     unfolding sumOf
-    sum-is = go (eqb code 14) refl
+    sum-is = go (eqb (formOf code) ofTwo) refl
       where
-        go : (t : Bool) → eqb code 14 ≡ t → sumBounds ws a β ≡ (equalSum β args if t else linearSum β args)
-        go true e = equal-is (eqb-true code 14 e)
-        go false e = linear-is (eqb-false code 14 e)
+        go : (t : Bool) → eqb (formOf code) ofTwo ≡ t → sumBounds ws a β ≡ (equalSum β args if t else linearSum β args)
+        go true e = equal-is (eqb-true (formOf code) ofTwo e)
+        go false e = linear-is (eqb-false (formOf code) ofTwo e)
 
 code-of-head : (ws : List ℕ) (p : ℕ) → kind (getD ws p 0) ≡ 4 → codeBefore ws (p + 1) ≡ payload (getD ws p 0)
 unfolding codeBefore wordAt
@@ -125,11 +125,11 @@ module _ {ws : List ℕ} {p k : ℕ} (d : Passed ws p k) (h : p < length ws) whe
     has-place few = omega (arith, one-left)
 
     -- its sum is the k-th of the list, whatever stands past the list's end
-    sum-here : (β : ℕ → Bounds) (o : Bounds) → k < 256 → 12 ≤ payload (getD ws p 0) → payload (getD ws p 0) ≤ 15 → getD (sumsUpTo ws β 256) k o ≡ sumOf β (payload (getD ws p 0)) (drop (p + 1) ws)
-    sum-here β o few low high =
+    sum-here : (β : ℕ → Bounds) (o : Bounds) → k < 256 → (formOf (payload (getD ws p 0)) ≡ noSum → ⊥) → getD (sumsUpTo ws β 256) k o ≡ sumOf β (payload (getD ws p 0)) (drop (p + 1) ws)
+    sum-here β o few some =
         in-list ws β o 256 k few (omega arith)
         ∙ ap (λ (a : ℕ). sumBounds ws a β) (sym (here ∙ ap (afterHeads ws) (add-one k)))
-        ∙ sum-is ws (p + 1) β (payload (getD ws p 0)) (code-of-head ws p e) low high
+        ∙ sum-is ws (p + 1) β (payload (getD ws p 0)) (code-of-head ws p e) some
 
     pub summed-here : (β : ℕ → Bounds) (o : Bounds) → ((v : ℕ) → Near (β v .lower) × Near (β v .upper)) → length (constraints ws) ≤ 256 → Summed β (payload (getD ws p 0)) (drop (p + 1) ws) (getD (sumsUpTo ws β 256) k o)
     summed-here β o near few = record { fits = sums-fit ws β o near k (has-place few); is = sum-here β o (has-place few) }

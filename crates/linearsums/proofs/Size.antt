@@ -21,12 +21,13 @@ use Rattle.arguments.proofs.Size.{size-le, num-size}
 use Rattle.arguments.proofs.Walk.{one-more, ⊕-assoc, ⊕-zero}
 use Rattle.rules.specs.Parts.{extreme, L, U}
 use Rattle.extremes.proofs.Size.{pick-size, product-size}
-use Rattle.linearsums.specs.Places.{codeBefore, sumSize, sumNumber, sumVariable, sumConstant, sumTerms, sumUpTo, sumBounds, withTerm}
+use Rattle.linearsums.specs.Sum.{noSum, ofTwo}
+use Rattle.linearsums.specs.Places.{formBefore, sumSize, sumNumber, sumVariable, sumConstant, sumTerms, sumUpTo, sumBounds, withTerm}
 
 -- ---- the numbers of a sum
 pub number-near : (ws : List ℕ) (a k : ℕ) → Near (sumNumber ws a k)
 unfolding sumNumber
-number-near ws a k = go (eqb (codeBefore ws a) 14) (eqb k 0)
+number-near ws a k = go (eqb (formBefore ws a) ofTwo) (eqb k 0)
   where
     go : (s t : Bool) → Near ((+1 if t else -1) if s else num ws (a + 1 + k))
     go true true = omega arith
@@ -35,7 +36,7 @@ number-near ws a k = go (eqb (codeBefore ws a) 14) (eqb k 0)
 
 pub constant-near : (ws : List ℕ) (a : ℕ) → Near (sumConstant ws a)
 unfolding sumConstant
-constant-near ws a = go (eqb (codeBefore ws a) 14)
+constant-near ws a = go (eqb (formBefore ws a) ofTwo)
   where
     go : (s : Bool) → Near (+0 if s else num ws (pastTerms ws a))
     go true = omega arith
@@ -43,13 +44,12 @@ constant-near ws a = go (eqb (codeBefore ws a) 14)
 
 pub few-terms : (ws : List ℕ) (a : ℕ) → sumSize ws a ≤ 32
 unfolding sumSize
-few-terms ws a = go (ltb (codeBefore ws a) 12) (ltb 15 (codeBefore ws a)) (eqb (codeBefore ws a) 14)
+few-terms ws a = go (eqb (formBefore ws a) noSum) (eqb (formBefore ws a) ofTwo)
   where
-    go : (s t u : Bool) → (0 if s else 0 if t else 2 if u else size ws a) ≤ 32
-    go true t u = omega arith
-    go false true u = omega arith
-    go false false true = omega arith
-    go false false false = size-le ws a
+    go : (s t : Bool) → (0 if s else 2 if t else size ws a) ≤ 32
+    go true t = omega arith
+    go false true = omega arith
+    go false false = size-le ws a
 
 -- ---- one term more
 extreme-more : (pick : ℤ → ℤ → ℤ) (β : ℕ → Bounds) (f : ℕ → Term ℕ) (k : ℕ) →

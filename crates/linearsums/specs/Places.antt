@@ -1,7 +1,7 @@
 -- The sum of a constraint by the words of the whole model, as the code finds it: a is the place after the constraint's head. And the sums of all constraints.
 use mathlib.Core.List.{List, [], _∷_}
 use Prim.Native.Nat.{ℕ, zero, suc, _+_, _-_}
-use lib.Dec.{eqb, ltb}
+use lib.Dec.{eqb}
 use lib.IntN.{ℤ}
 use lib.ListN.{set, drop, replicate}
 use Rattle.integers.specs.Choice.{_if_else_}
@@ -15,7 +15,7 @@ use Rattle.words.specs.Small.{Near}
 use Rattle.words.specs.Word.{kind, payload, wordAt}
 use Rattle.models.specs.Model.{var, num, size, past, pastTerms}
 use Rattle.rules.specs.Parts.{L, U}
-use Rattle.linearsums.specs.Sum.{equalReified}
+use Rattle.linearsums.specs.Sum.{noSum, ofTwo, formOf}
 
 module _ (ws : List ℕ) where
   -- the code of the constraint whose head stands before place a, 0 if none does
@@ -25,26 +25,29 @@ module _ (ws : List ℕ) where
       payload (wordAt ws (a - 1)) if eqb (kind (wordAt ws (a - 1))) Kind.constraint else
       0
 
+  -- which sum it has
+  unfoldable pub formBefore : ℕ → ℕ
+  formBefore a = formOf (codeBefore a)
+
   module _ (a : ℕ) where
-    -- how many terms the sum has: none but for the codes 12 to 15
+    -- how many terms the sum has
     unfoldable pub sumSize : ℕ
     sumSize =
-        0 if ltb (codeBefore a) 12 else
-        0 if ltb 15 (codeBefore a) else
-        2 if eqb (codeBefore a) equalReified else
+        0 if eqb (formBefore a) noSum else
+        2 if eqb (formBefore a) ofTwo else
         size ws a
 
     -- the number and the variable of term k, and the constant c
     unfoldable pub sumNumber : ℕ → ℤ
     sumNumber k =
-        (+1 if eqb k 0 else -1) if eqb (codeBefore a) equalReified else
+        (+1 if eqb k 0 else -1) if eqb (formBefore a) ofTwo else
         num ws (a + 1 + k)
 
     unfoldable pub sumVariable : ℕ → ℕ
-    sumVariable k = var ws (a + k) if eqb (codeBefore a) equalReified else var ws (past ws a + k)
+    sumVariable k = var ws (a + k) if eqb (formBefore a) ofTwo else var ws (past ws a + k)
 
     unfoldable pub sumConstant : ℤ
-    sumConstant = +0 if eqb (codeBefore a) equalReified else num ws (pastTerms ws a)
+    sumConstant = +0 if eqb (formBefore a) ofTwo else num ws (pastTerms ws a)
 
     -- the first k terms
     unfoldable pub sumTerms : ℕ → List (Term ℕ)

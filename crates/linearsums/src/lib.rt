@@ -8,7 +8,8 @@ ghost use Rattle.integers.specs.Number.{_⊕_, _⊖_, _⊗_, minZ, maxZ, +0};
 ghost use Rattle.integers.specs.Bounds.{_to_, boundsIn};
 ghost use Rattle.words.specs.Small.{Near};
 ghost use Rattle.extremes.specs.Bounded.{boundsOf, Bounded};
-ghost use Rattle.linearsums.specs.Places.{codeBefore, sumSize, sumNumber, sumVariable, sumConstant, sumBounds, withTerm, BoundsNear, afterHead, noSums, sumsUpTo};
+ghost use Rattle.linearsums.specs.Sum.{formOf};
+ghost use Rattle.linearsums.specs.Places.{codeBefore, formBefore, sumSize, sumNumber, sumVariable, sumConstant, sumBounds, withTerm, BoundsNear, afterHead, noSums, sumsUpTo};
 use arguments::num_at;
 use arguments::past_at;
 use arguments::past_terms_at;
@@ -25,12 +26,25 @@ use words::limit;
 use words::payload_of;
 use words::word_at;
 
-// The codes whose rules have L and U: from int_lin_ne to int_lin_le_reif.
-const FIRST: usize = 12;
+// The sum of which a rule has L and U: none, that of its terms and its number, or a − b.
+const NO_SUM: usize = 0;
 
-const LAST: usize = 15;
-// The code of int_eq_reif, whose sum has the terms 1×a and −1×b.
-const EQUAL_REIFIED: usize = 14;
+const OF_TERMS: usize = 1;
+
+const OF_TWO: usize = 2;
+
+// The sum of a code.
+fn form_of(code: usize) -> usize
+    ensures { λ r. ⌜ r ≡ formOf code ⌝ }
+{
+    match code {
+        12 => OF_TERMS,
+        13 => OF_TERMS,
+        14 => OF_TWO,
+        15 => OF_TERMS,
+        _ => NO_SUM,
+    }
+}
 
 // The code of the constraint whose head stands before place a, 0 if none does.
 fn code_before(ws: &[u32], a: usize) -> usize
@@ -46,18 +60,22 @@ fn code_before(ws: &[u32], a: usize) -> usize
     0
 }
 
+// Which sum it has.
+fn form_before(ws: &[u32], a: usize) -> usize
+    ensures { λ r. ⌜ r ≡ formBefore (now (ws .entry)) a ⌝ }
+{
+    form_of(code_before(ws, a))
+}
+
 // How many terms the sum has.
 pub fn sum_size(ws: &[u32], a: usize) -> usize
     ensures { λ r. ⌜ r ≡ sumSize (now (ws .entry)) a ⌝ }
 {
-    let code = code_before(ws, a);
-    if code < FIRST {
+    let form = form_before(ws, a);
+    if form == NO_SUM {
         return 0;
     }
-    if LAST < code {
-        return 0;
-    }
-    if code == EQUAL_REIFIED {
+    if form == OF_TWO {
         return 2;
     }
     size_at(ws, a)
@@ -68,7 +86,7 @@ fn sum_number(ws: &[u32], a: usize, k: usize) -> i64
     requires { ⌜ (a < 1099511627776) × (k ≤ 32) ⌝ }
     ensures { λ r. ⌜ r ≡ sumNumber (now (ws .entry)) a k ⌝ }
 {
-    if code_before(ws, a) == EQUAL_REIFIED {
+    if form_before(ws, a) == OF_TWO {
         if k == 0 {
             return 1;
         }
@@ -82,7 +100,7 @@ pub fn sum_variable(ws: &[u32], a: usize, k: usize) -> usize
     requires { ⌜ (a < 1099511627776) × (k ≤ 32) ⌝ }
     ensures { λ r. ⌜ r ≡ sumVariable (now (ws .entry)) a k ⌝ }
 {
-    if code_before(ws, a) == EQUAL_REIFIED {
+    if form_before(ws, a) == OF_TWO {
         return var_at(ws, a + k);
     }
     var_at(ws, past_at(ws, a) + k)
@@ -93,7 +111,7 @@ fn sum_constant(ws: &[u32], a: usize) -> i64
     requires { ⌜ a < 1099511627776 ⌝ }
     ensures { λ r. ⌜ r ≡ sumConstant (now (ws .entry)) a ⌝ }
 {
-    if code_before(ws, a) == EQUAL_REIFIED {
+    if form_before(ws, a) == OF_TWO {
         return 0;
     }
     num_at(ws, past_terms_at(ws, a))

@@ -1,4 +1,4 @@
--- Where a code has arguments: no code above 28 has one, and no code has a fourth.
+-- Where a code has arguments: no code above the last has one, and no code has a fourth.
 use mathlib.Core.Path.{_≡_, refl, sym}
 use mathlib.Core.Bool.{Bool, true, false}
 use mathlib.Core.List.{List, [], _∷_}
@@ -10,6 +10,7 @@ use lib.ListN.{length, getD, List·getD-eq-default}
 use borrow.Author.Tests.{leb-true, leb-false, le-leb}
 use Rattle.integers.specs.Lists.{all}
 use Rattle.integers.proofs.Tests.{All, says-all}
+use Rattle.models.specs.Table as Table
 use Rattle.models.specs.Shape.{argument, shapes}
 
 element : {A : Type 0} (P : A → Type 0) (xs : List A) (d : A) → P d → All P xs → (i : ℕ) → P (getD xs i d)
@@ -24,7 +25,7 @@ all-short : All Short shapes
 unfolding all shapes
 all-short = says-all (λ r. leb (length r) 3) Short (λ r. (leb-true (length r) 3, le-leb (length r) 3)) shapes .0 refl
 
-pub past-codes : (code k : ℕ) → 28 < code → 0 ≡ argument code k
+pub past-codes : (code k : ℕ) → Table.last < code → 0 ≡ argument code k
 unfolding argument shapes
 past-codes code k h = rw (List·getD-eq-default shapes [] {n = code} h)
 

@@ -56,7 +56,7 @@ fn of_head(c: usize, w: u32) -> u32
         if p == 0 {
             return fault::UNKNOWN_CODE;
         }
-        if limit::CODES < p {
+        if shapes::CODES < p {
             return fault::UNKNOWN_CODE;
         }
         return fault::NONE;

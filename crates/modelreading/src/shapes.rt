@@ -21,11 +21,14 @@ pub const BOOLEANS: u32 = 6;
 
 pub const PARALLEL: u32 = 7;
 
+// the last code
+pub const CODES: usize = 28;
+
 // the most arguments of a code
 pub const MOST: usize = 3;
 
 // The arguments of each code, from 0, which is no code.
-pub const SHAPES: [[u32; MOST]; 29] = [
+pub const SHAPES: [[u32; MOST]; CODES + 1] = [
     [NONE, NONE, NONE],
     [INTEGER, INTEGER, NONE],
     [INTEGER, INTEGER, NONE],
@@ -58,11 +61,11 @@ pub const SHAPES: [[u32; MOST]; 29] = [
 ];
 
 // The k-th argument of a code, counted from 0, in the lent table.
-pub fn argument_of(shapes: &[[u32; MOST]; 29], code: usize, k: usize) -> u32
+pub fn argument_of(shapes: &[[u32; MOST]; CODES + 1], code: usize, k: usize) -> u32
     requires { ⌜ now shapes ≡ table ⌝ }
     ensures { λ r. ⌜ r ≡ argument code k ⌝ }
 {
-    if code <= words::limit::CODES {
+    if code <= CODES {
         if k < MOST {
             return shapes[code][k];
         }
@@ -71,7 +74,7 @@ pub fn argument_of(shapes: &[[u32; MOST]; 29], code: usize, k: usize) -> u32
 }
 
 // The argument that is due where no word of a list is left.
-pub fn argument_due(shapes: &[[u32; MOST]; 29], due: Due) -> u32
+pub fn argument_due(shapes: &[[u32; MOST]; CODES + 1], due: Due) -> u32
     requires { ⌜ now shapes ≡ table ⌝ }
     ensures { λ r. ⌜ r ≡ argumentDue due ⌝ }
 {

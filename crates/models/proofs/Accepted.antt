@@ -22,6 +22,7 @@ use Rattle.words.specs.declared.Refusal.{Refusal}
 use Rattle.words.specs.Variables.{variables}
 use Rattle.words.proofs.Sources.{Sources, none, integer, boolean}
 use Rattle.words.proofs.Word.{signed-range, says-range}
+use Rattle.models.specs.Table as Table
 use Rattle.models.specs.Builtin.{Builtin}
 use Rattle.models.specs.Shape as Shape
 use Rattle.models.specs.Model.{Constraint, constraintsFrom, constraints, builtin}
@@ -167,8 +168,8 @@ module _ (ws : List ℕ) (h : readModel ws ≡ accepted) where
   pub typed : All (λ c. TypedIn (variables ws) (builtin c)) (constraints ws)
   typed = each _ (λ c f. typed-in (form .types) (variables ws) (form .matches) (builtin c) (fitting-typed (form .types) c f))
 
-  pub coded : All (λ c. (1 ≤ c .code) × (c .code ≤ 28)) (constraints ws)
-  coded = each (λ c. (1 ≤ c .code) × (c .code ≤ 28)) (λ c f. (f .low, f .high))
+  pub coded : All (λ c. (1 ≤ c .code) × (c .code ≤ Table.last)) (constraints ws)
+  coded = each (λ c. (1 ≤ c .code) × (c .code ≤ Table.last)) (λ c f. (f .low, f .high))
 
   pub split : Split ws
   split = record {

@@ -13,6 +13,7 @@ use Rattle.integers.proofs.Tests.{All}
 use Rattle.words.specs.Word.{kind, payload, signed, wordAt}
 use Rattle.words.specs.Variables.{startsPair, variables}
 use Rattle.words.proofs.Sources.{Sources, none, integer, boolean}
+use Rattle.models.specs.Table as Table
 use Rattle.models.specs.Shape as Shape
 use Rattle.models.specs.Shape.{shapes}
 use Rattle.models.specs.Model.{Constraint, constraintsFrom}
@@ -85,7 +86,7 @@ last p w k = (rw k, rw k)
 -- a constraint over variables of the types ts
 pub record Fitting (ts : List ℕ) (c : Constraint) : Type 0 where
   pub low : 1 ≤ c .code
-  pub high : c .code ≤ 28
+  pub high : c .code ≤ Table.last
   pub fits : FitAll (c .arguments) ts 0 (getD shapes (c .code) [])
 
 pub record Contents (ts : List ℕ) (c p : ℕ) (ws : List ℕ) : Type 0 where

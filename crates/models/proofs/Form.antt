@@ -12,6 +12,7 @@ use Rattle.integers.specs.Lists.{all}
 use Rattle.integers.proofs.Linear.{_⊑_}
 use Rattle.integers.proofs.Tests.{All, says-all}
 use Rattle.words.specs.Word.{kind, payload, signed, wordAt}
+use Rattle.models.specs.Table as Table
 use Rattle.models.specs.Shape as Shape
 use Rattle.models.specs.Shape.{argument, shapes}
 use Rattle.models.specs.Reading.{faultHead, faultArgument, faultDue, fault, afterHead, afterDue, declared, started, after, faultEnd, ended}
@@ -26,7 +27,7 @@ taken code ws = pastArguments ws 0 (getD shapes code [])
 -- after c constraints, over variables of the types ts
 pub data Posed (ts : List ℕ) : ℕ → List ℕ → Type 0 where
   end : {c w : ℕ} → kind w ≡ 7 → Posed ts c (w ∷ [])
-  constraint : {c w : ℕ} {ws : List ℕ} → c < 256 → kind w ≡ 4 → 1 ≤ payload w → payload w ≤ 28
+  constraint : {c w : ℕ} {ws : List ℕ} → c < 256 → kind w ≡ 4 → 1 ≤ payload w → payload w ≤ Table.last
       → FitAll ws ts 0 (getD shapes (payload w) [])
       → taken (payload w) ws ≤ length ws → ((j : ℕ) → j < taken (payload w) ws → Plain (wordAt ws j))
       → Posed ts (c + 1) (drop (taken (payload w) ws) ws) → Posed ts c (w ∷ ws)

@@ -18,6 +18,7 @@ use Rattle.words.specs.Word.{kind, payload, signed, wordAt}
 use Rattle.words.specs.Fault as Fault
 use Rattle.words.specs.Refusal.{faultOr, accepted, firstFault}
 use Rattle.words.specs.declared.Refusal.{Refusal}
+use Rattle.models.specs.Table as Table
 use Rattle.models.specs.Reading.{State, faultHead, faultStart, faultUpper, faultNumber, faultVariable, faultLength, fault, afterDue, declared, started, after, ended}
 use Rattle.models.specs.declared.Due.{Due}
 
@@ -82,17 +83,17 @@ module _ (w : ℕ) where
 
 -- where a constraint or the end may stand, after c constraints
 pub data Head (c w : ℕ) : Type 0 where
-  at-constraint : c < 256 → kind w ≡ 4 → 1 ≤ payload w → payload w ≤ 28 → Head c w
+  at-constraint : c < 256 → kind w ≡ 4 → 1 ≤ payload w → payload w ≤ Table.last → Head c w
   at-end : kind w ≡ 7 → Head c w
 
 pub is-head : (c w : ℕ) → faultHead c w ≡ 0 → Head c w
 unfolding faultHead
 is-head c w e = elim (either _ (eqb (kind w) 4) _ e) [ inl h ↦ one (h .0) (h .1) | inr h ↦ at-end (eqb-true _ _ (not-second _ (eqb (kind w) 7) 2 (h .1) .0)) ]
   where
-    one : eqb (kind w) 4 ≡ true → (Fault.tooManyConstraints if leb 256 c else Fault.unknownCode if eqb (payload w) 0 || ltb 28 (payload w) else Fault.none) ≡ 0 → Head c w
+    one : eqb (kind w) 4 ≡ true → (Fault.tooManyConstraints if leb 256 c else Fault.unknownCode if eqb (payload w) 0 || ltb Table.last (payload w) else Fault.none) ≡ 0 → Head c w
     one t e =
         let h = not-first 6 (leb 256 c) _ e in
-        let k = neither _ _ (not-first 7 (eqb (payload w) 0 || ltb 28 (payload w)) 0 (h .1) .0) in
+        let k = neither _ _ (not-first 7 (eqb (payload w) 0 || ltb Table.last (payload w)) 0 (h .1) .0) in
         at-constraint (omega (arith, leb-false 256 c (h .0))) (eqb-true _ _ t) (omega (arith, eqb-false (payload w) 0 (k .0))) (ltb-false _ _ (k .1))
 
 -- where a variable may stand too, after v variables

@@ -1,6 +1,7 @@
 -- What the contracts cite: the builtins, their meaning, reading a model, judge-model.
 pub mod Builtin
 pub mod Meaning
+pub mod Table
 pub mod Shape
 pub mod Reading
 pub mod Model

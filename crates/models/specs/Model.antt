@@ -10,7 +10,8 @@ use Rattle.integers.specs.Terms.{Term, _·_}
 use Rattle.words.specs.Word.{kind, payload, signed, wordAt}
 use Rattle.words.specs.Kind as Kind
 use Rattle.words.specs.Limit as Limit
-use Rattle.models.specs.Builtin.{Builtin, int-eq, int-le, int-lt, int-ne, int-le-reif, int-plus, int-times, int-abs, int-max, int-lin-eq, int-lin-le, int-lin-ne, int-lin-eq-reif, int-eq-reif, int-lin-le-reif, bool2int, bool-not, bool-and, bool-or, bool-xor, bool-clause, array-bool-and, array-bool-xor, array-int-element, array-var-int-element, array-int-maximum, set-in, set-in-reif}
+use Rattle.models.specs.Builtin.{Builtin, int-eq}
+use Rattle.models.specs.Table.{Sort, integer, boolean, number, numbers, integers, booleans, parallel, Argument, Takes, Code, codes}
 
 -- a constraint: the place of its head word, its code, and the words after its head
 pub record Constraint : Type 0 where
@@ -59,43 +60,33 @@ module _ (ws : List ℕ) where
   unfoldable pub pastTerms : ℕ → ℕ
   pastTerms i = past i + size i
 
+  -- the argument of a sort at place i, and the place after it
+  abbrev pub argumentAt : ℕ → (s : Sort) → Argument s
+  argumentAt i integer = var i
+  argumentAt i boolean = var i
+  argumentAt i number = num i
+  argumentAt i numbers = nums i
+  argumentAt i integers = vars i
+  argumentAt i booleans = vars i
+  argumentAt i parallel = terms i
+
+  abbrev pub placeAfter : ℕ → Sort → ℕ
+  placeAfter i integer = i + 1
+  placeAfter i boolean = i + 1
+  placeAfter i number = i + 1
+  placeAfter i numbers = past i
+  placeAfter i integers = past i
+  placeAfter i booleans = past i
+  placeAfter i parallel = pastTerms i
+
+  -- the builtin of the arguments from place i on
+  abbrev pub given : ℕ → (ss : List Sort) → Takes ss → Builtin
+  given i [] b = b
+  given i (s ∷ ss) f = given (placeAfter i s) ss (f (argumentAt i s))
+
 -- by code, from the words after the head
 unfoldable pub builtins : List (List ℕ → Builtin)
-builtins =
-    (λ ws. int-eq 0 0) ∷
-    -- 1 to 9
-    (λ ws. int-eq (var ws 0) (var ws 1)) ∷
-    (λ ws. int-le (var ws 0) (var ws 1)) ∷
-    (λ ws. int-lt (var ws 0) (var ws 1)) ∷
-    (λ ws. int-ne (var ws 0) (var ws 1)) ∷
-    (λ ws. int-le-reif (var ws 0) (var ws 1) (var ws 2)) ∷
-    (λ ws. int-plus (var ws 0) (var ws 1) (var ws 2)) ∷
-    (λ ws. int-times (var ws 0) (var ws 1) (var ws 2)) ∷
-    (λ ws. int-abs (var ws 0) (var ws 1)) ∷
-    (λ ws. int-max (var ws 0) (var ws 1) (var ws 2)) ∷
-    -- 10 to 15
-    (λ ws. int-lin-eq (terms ws 0) (num ws (pastTerms ws 0))) ∷
-    (λ ws. int-lin-le (terms ws 0) (num ws (pastTerms ws 0))) ∷
-    (λ ws. int-lin-ne (terms ws 0) (num ws (pastTerms ws 0))) ∷
-    (λ ws. int-lin-eq-reif (terms ws 0) (num ws (pastTerms ws 0)) (var ws (pastTerms ws 0 + 1))) ∷
-    (λ ws. int-eq-reif (var ws 0) (var ws 1) (var ws 2)) ∷
-    (λ ws. int-lin-le-reif (terms ws 0) (num ws (pastTerms ws 0)) (var ws (pastTerms ws 0 + 1))) ∷
-    -- 16 to 23
-    (λ ws. bool2int (var ws 0) (var ws 1)) ∷
-    (λ ws. bool-not (var ws 0) (var ws 1)) ∷
-    (λ ws. bool-and (var ws 0) (var ws 1) (var ws 2)) ∷
-    (λ ws. bool-or (var ws 0) (var ws 1) (var ws 2)) ∷
-    (λ ws. bool-xor (var ws 0) (var ws 1) (var ws 2)) ∷
-    (λ ws. bool-clause (vars ws 0) (vars ws (past ws 0))) ∷
-    (λ ws. array-bool-and (vars ws 0) (var ws (past ws 0))) ∷
-    (λ ws. array-bool-xor (vars ws 0)) ∷
-    -- 24 to 28
-    (λ ws. array-int-element (var ws 0) (nums ws 1) (var ws (past ws 1))) ∷
-    (λ ws. array-var-int-element (var ws 0) (vars ws 1) (var ws (past ws 1))) ∷
-    (λ ws. array-int-maximum (var ws 0) (vars ws 1)) ∷
-    (λ ws. set-in (var ws 0) (nums ws 1)) ∷
-    (λ ws. set-in-reif (var ws 0) (nums ws 1) (var ws (past ws 1))) ∷
-    []
+builtins = (λ ws. int-eq 0 0) ∷ map (λ (c : Code) ws. given ws 0 (c .sorts) (c .make)) codes
 
 unfoldable pub builtin : Constraint → Builtin
 builtin c = getD builtins (c .code) (λ ws. int-eq 0 0) (c .arguments)

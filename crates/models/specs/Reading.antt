@@ -1,5 +1,5 @@
 -- Reading a model: faults 1 to 11, the leftmost faulty word, at one word by list order.
-use mathlib.Core.Bool.{Bool, not, _||_}
+use mathlib.Core.Bool.{not, _||_}
 use mathlib.Core.List.{List, [], _∷_, _++_}
 use Prim.Native.Nat.{ℕ, _+_, _-_}
 use lib.Dec.{ltb, leb, eqb}
@@ -10,8 +10,9 @@ use Rattle.words.specs.Word.{kind, payload, signed}
 use Rattle.words.specs.Kind as Kind
 use Rattle.words.specs.Limit as Limit
 use Rattle.words.specs.Fault as Fault
-use Rattle.words.specs.Refusal.{_at-place_, _else-refuse_, faultOr, accepted, firstFault}
+use Rattle.words.specs.Refusal.{_at-place_, firstFault}
 use Rattle.words.specs.declared.Refusal.{Refusal}
+use Rattle.models.specs.Table as Table
 use Rattle.models.specs.Shape as Shape
 use Rattle.models.specs.Shape.{argument}
 use Rattle.models.specs.declared.Due.{Due}
@@ -29,7 +30,7 @@ pub record State : Type 0 where
 unfoldable pub faultHead : ℕ → ℕ → ℕ
 faultHead c w =
     (Fault.tooManyConstraints if leb Limit.constraints c
-    else Fault.unknownCode if eqb (payload w) 0 || ltb Limit.codes (payload w)
+    else Fault.unknownCode if eqb (payload w) 0 || ltb Table.last (payload w)
     else Fault.none) if eqb (kind w) Kind.constraint
     else (Fault.payloadAboveZero if ltb 0 (payload w) else Fault.none) if eqb (kind w) Kind.modelEnd
     else Fault.wrongKind

@@ -1,8 +1,9 @@
--- The arguments of each code: what the reader expects after a constraint's head word.
--- 01: "Arguments of bool_ and array_bool_ builtins, a of 16 and every named r are Boolean; all other variables integer."
-use mathlib.Core.List.{List, [], _∷_}
+-- The arguments of each code as numbers: what the reader expects after a constraint's head word.
+use mathlib.Core.List.{List, [], _∷_, map}
 use Prim.Native.Nat.{ℕ}
 use lib.ListN.{getD}
+use Rattle.models.specs.Table as Table
+use Rattle.models.specs.Table.{Sort, Code, codes}
 
 -- one argument: none is left, a variable of a type, a number, a list with its length word.
 -- The first three are also the types of a variable that a number names: not declared, integer, Boolean.
@@ -31,43 +32,18 @@ booleans = 6
 abbrev pub parallel : ℕ
 parallel = 7
 
+abbrev pub shapeOf : Sort → ℕ
+shapeOf Table.integer = integer
+shapeOf Table.boolean = boolean
+shapeOf Table.number = number
+shapeOf Table.numbers = numbers
+shapeOf Table.integers = integers
+shapeOf Table.booleans = booleans
+shapeOf Table.parallel = parallel
+
 -- by code; none for 0, which is no code
 unfoldable pub shapes : List (List ℕ)
-shapes =
-    [] ∷
-    -- 1 to 9
-    (integer ∷ integer ∷ []) ∷
-    (integer ∷ integer ∷ []) ∷
-    (integer ∷ integer ∷ []) ∷
-    (integer ∷ integer ∷ []) ∷
-    (integer ∷ integer ∷ boolean ∷ []) ∷
-    (integer ∷ integer ∷ integer ∷ []) ∷
-    (integer ∷ integer ∷ integer ∷ []) ∷
-    (integer ∷ integer ∷ []) ∷
-    (integer ∷ integer ∷ integer ∷ []) ∷
-    -- 10 to 15
-    (parallel ∷ number ∷ []) ∷
-    (parallel ∷ number ∷ []) ∷
-    (parallel ∷ number ∷ []) ∷
-    (parallel ∷ number ∷ boolean ∷ []) ∷
-    (integer ∷ integer ∷ boolean ∷ []) ∷
-    (parallel ∷ number ∷ boolean ∷ []) ∷
-    -- 16 to 23
-    (boolean ∷ integer ∷ []) ∷
-    (boolean ∷ boolean ∷ []) ∷
-    (boolean ∷ boolean ∷ boolean ∷ []) ∷
-    (boolean ∷ boolean ∷ boolean ∷ []) ∷
-    (boolean ∷ boolean ∷ boolean ∷ []) ∷
-    (booleans ∷ booleans ∷ []) ∷
-    (booleans ∷ boolean ∷ []) ∷
-    (booleans ∷ []) ∷
-    -- 24 to 28
-    (integer ∷ numbers ∷ integer ∷ []) ∷
-    (integer ∷ integers ∷ integer ∷ []) ∷
-    (integer ∷ integers ∷ []) ∷
-    (integer ∷ numbers ∷ []) ∷
-    (integer ∷ numbers ∷ boolean ∷ []) ∷
-    []
+shapes = [] ∷ map (λ (c : Code). map shapeOf (c .sorts)) codes
 
 -- the k-th argument of a code, counted from 0
 unfoldable pub argument : ℕ → ℕ → ℕ

@@ -1,83 +1,60 @@
--- The codes with no auxiliaries pick nothing.
-use mathlib.Core.Path.{_≡_, refl, sym}
-use mathlib.Core.Bool.{true, false}
-use mathlib.Core.List.{List, [], _∷_}
-use Prim.Native.Nat.{ℕ, zero, suc, _+_, _<_, _≤_}
+-- A code that is none of those with auxiliaries picks nothing.
+use mathlib.Core.Path.{_≡_, refl, ap}
+use mathlib.Core.Bool.{false}
+use mathlib.Core.List.{List, [], _∷_, map}
+use Prim.Native.Nat.{ℕ, zero, suc, _+_}
 use native.Mathlib.Omega.{arith}
-use native.Mathlib.Nat.{zero-add}
 use lib.Dec.{eqb}
 use lib.IntN.{ℤ}
-use lib.ListN.{getD}
+use lib.ListN.{getD, drop}
 use borrow.Author.Tests.{ne-eqb}
+use Rattle.integers.specs.Choice.{_if_else_}
 use Rattle.integers.specs.Lists.{any}
-use Rattle.integers.specs.Terms.{value}
-use Rattle.integers.proofs.Tests.{All, false-true}
-use Rattle.models.specs.Builtin.{Builtin, int-eq}
+use Rattle.integers.specs.Terms.{Valuation, value}
+use Rattle.integers.specs.declared.Bounds.{Bounds}
+use Rattle.models.specs.Builtin.{int-eq}
+use Rattle.models.specs.Table.{Code, codes}
 use Rattle.models.specs.Model.{builtin, builtins}
-use Rattle.models.proofs.Codes.{_&_}
+use Rattle.models.proofs.Codes.{makeOf}
 use Rattle.rules.specs.Pick.{pick}
 use Rattle.extremes.specs.Bounded.{boundsOf}
 use Rattle.picking.specs.Picked.{picksOf}
 
--- the codes with auxiliaries, and a code that is none of them
-coded : List ℕ
-coded = 4 ∷ 7 ∷ 8 ∷ 9 ∷ 12 ∷ 13 ∷ 14 ∷ 15 ∷ 20 ∷ 24 ∷ 25 ∷ 26 ∷ 27 ∷ 28 ∷ []
+-- a code is none of the keys, which are listed from the last to the first: what a match tells its default
+abbrev pub NoneOf : List ℕ → ℕ → Type 0
+NoneOf [] k = Unit {0}
+NoneOf (m ∷ ms) k = NoneOf ms k × (k ≡ m → ⊥)
 
-pub Bare : ℕ → Type 0
-Bare k = any (eqb k) coded ≡ false
-
-not-any : (k : ℕ) (ms : List ℕ) → All (λ m. ¬ (k ≡ m)) ms → any (eqb k) ms ≡ false
+not-any : (k : ℕ) (ms : List ℕ) → NoneOf ms k → any (eqb k) ms ≡ false
 unfolding any
 not-any k [] h = refl
-not-any k (m ∷ ms) h = rw (ne-eqb k m (h .0)) (not-any k ms (h .1))
+not-any k (m ∷ ms) h = rw (ne-eqb k m (h .1)) (not-any k ms (h .0))
 
-module _ (k : ℕ) where
-  pub bare-arithmetic : k < 10 → ¬ (k ≡ 4) → ¬ (k ≡ 7) → ¬ (k ≡ 8) → ¬ (k ≡ 9) → Bare k
-  unfolding Bare coded
-  bare-arithmetic l f g h i =
-      not-any k coded
-      (f & g & h & i & (λ e. omega arith) & (λ e. omega arith) & (λ e. omega arith) & (λ e. omega arith) & (λ e. omega arith)
-      & (λ e. omega arith) & (λ e. omega arith) & (λ e. omega arith) & (λ e. omega arith) & (λ e. omega arith) & tt)
+abbrev Picks : Type 0
+Picks = (ℕ → Bounds) → Valuation → List ℕ → List ℤ
 
-  pub bare-sums : 10 ≤ k → k < 24 → ¬ (k ≡ 12) → ¬ (k ≡ 13) → ¬ (k ≡ 14) → ¬ (k ≡ 15) → ¬ (k ≡ 20) → Bare k
-  unfolding Bare coded
-  bare-sums l m f g h i j =
-      not-any k coded
-      ((λ e. omega arith) & (λ e. omega arith) & (λ e. omega arith) & (λ e. omega arith) & f & g & h & i & j
-      & (λ e. omega arith) & (λ e. omega arith) & (λ e. omega arith) & (λ e. omega arith) & (λ e. omega arith) & tt)
+-- what the codes pick, counted from k, those of the keys left out; that this is nothing is a single equation, which antt computes
+abbrev pub picksBut : List ℕ → ℕ → List Code → List Picks
+picksBut keys k [] = []
+picksBut keys k (c ∷ cs) = (λ β σ ws. [] if any (eqb k) keys else pick β σ (makeOf c ws)) ∷ picksBut keys (suc k) cs
 
-  pub bare-lists : 24 ≤ k → ¬ (k ≡ 24) → ¬ (k ≡ 25) → ¬ (k ≡ 26) → ¬ (k ≡ 27) → ¬ (k ≡ 28) → Bare k
-  unfolding Bare coded
-  bare-lists l f g h i j =
-      not-any k coded
-      ((λ e. omega arith) & (λ e. omega arith) & (λ e. omega arith) & (λ e. omega arith) & (λ e. omega arith)
-      & (λ e. omega arith) & (λ e. omega arith) & (λ e. omega arith) & (λ e. omega arith) & f & g & h & i & j & tt)
+abbrev pub nothing : Code → Picks
+nothing c β σ ws = []
 
-not-bare : {G : Type 0} → true ≡ false → G
-not-bare b = false-true (sym b)
+module _ (keys : List ℕ) (β : ℕ → Bounds) (σ : Valuation) (ws : List ℕ) where
+  row : (k : ℕ) (cs : List Code) → picksBut keys k cs ≡ map nothing cs → (n : ℕ) → any (eqb (k + n)) keys ≡ false →
+      pick β σ (getD (map makeOf cs) n (λ ws. int-eq 0 0) ws) ≡ []
+  unfolding pick
+  row k [] e n h = refl
+  row k (c ∷ cs) e zero h =
+      let m : k + 0 ≡ k = omega arith in
+      let i : ([] if any (eqb k) keys else pick β σ (makeOf c ws)) ≡ [] = ap (λ (ps : List Picks). getD ps 0 (nothing c) β σ ws) e in
+      rw (rw m at h) at i
+  row k (c ∷ cs) e (suc n) h = let m : k + suc n ≡ suc k + n = omega arith in row (suc k) cs (ap (drop 1) e) n (rw m at h)
 
--- a law of each builtin and its code, counted from k, is a law of every code
-abbrev From : (ℕ → (List ℕ → Builtin) → Type 0) → ℕ → List (List ℕ → Builtin) → Type 0
-From P k [] = Unit {0}
-From P k (f ∷ fs) = P k f × From P (suc k) fs
-
-from-at : (P : ℕ → (List ℕ → Builtin) → Type 0) (d : List ℕ → Builtin) → ((n : ℕ) → P n d) → (k : ℕ) (fs : List (List ℕ → Builtin)) → From P k fs →
-    (n : ℕ) → P (k + n) (getD fs n d)
-from-at P d h k [] rows n = h (k + n)
-from-at P d h k (f ∷ fs) rows zero = let e : k + 0 ≡ k = omega arith in rw e (rows .0)
-from-at P d h k (f ∷ fs) rows (suc n) = let e : k + suc n ≡ suc k + n = omega arith in rw e (from-at P d h (suc k) fs (rows .1) n)
-
-pub none-picked : (ls us vs : List ℤ) (code : ℕ) (ws : List ℕ) → Bare code → picksOf ls us vs code ws ≡ []
-unfolding pick builtin builtins Bare coded any
-none-picked ls us vs code ws = rw (zero-add code) at (from-at None (λ ws. int-eq 0 0) (λ n b. refl) 0 builtins rows code)
-  where
-    None : ℕ → (List ℕ → Builtin) → Type 0
-    None k f = Bare k → pick (boundsOf ls us) (value vs) (f ws) ≡ []
-
-    rows : From None 0 builtins
-    rows =
-        (λ b. refl)
-        & (λ b. refl) & (λ b. refl) & (λ b. refl) & not-bare & (λ b. refl) & (λ b. refl) & not-bare & not-bare & not-bare
-        & (λ b. refl) & (λ b. refl) & not-bare & not-bare & not-bare & not-bare
-        & (λ b. refl) & (λ b. refl) & (λ b. refl) & (λ b. refl) & not-bare & (λ b. refl) & (λ b. refl) & (λ b. refl)
-        & not-bare & not-bare & not-bare & not-bare & not-bare & tt
+pub none-picked : (keys : List ℕ) → picksBut keys 1 codes ≡ map nothing codes → (ls us vs : List ℤ) (code : ℕ) (ws : List ℕ) → NoneOf keys code → picksOf ls us vs code ws ≡ []
+unfolding pick builtin builtins
+none-picked keys e ls us vs zero ws h = refl
+none-picked keys e ls us vs (suc n) ws h =
+    let m : suc n ≡ 1 + n = omega arith in
+    row keys (boundsOf ls us) (value vs) ws 1 codes e n (rw m at (not-any (suc n) keys h))

@@ -342,96 +342,6 @@ fn pick_set_reif(
     )
 }
 
-// Codes below 10.
-fn pick_arithmetic(
-    out: &mut [i32],
-    at: usize,
-    code: usize,
-    args: &[u32],
-    ls: &[i64],
-    us: &[i64],
-    values: &[i32],
-) -> usize
-    requires { ⌜ (code < 10) × Ready at (now ls) (now us) (now values) (picksOf (now ls) (now us) (now values) code (now args)) ⌝ }
-    ensures { λ r. ⌜ Picked at r (now (out .entry)) (now (out .exit)) (picksOf (now (ls .entry)) (now (us .entry)) (now (values .entry)) code (now (args .entry))) ⌝ }
-{
-    if code == 4 {
-        return pick_ne(out, at, args, values);
-    }
-    if code == 7 {
-        return pick_times(out, at, args, values);
-    }
-    if code == 8 {
-        return pick_abs(out, at, args, values);
-    }
-    if code == 9 {
-        return pick_max(out, at, args, values);
-    }
-    at
-}
-
-// Codes from 10 to 23.
-fn pick_sums(
-    out: &mut [i32],
-    at: usize,
-    code: usize,
-    args: &[u32],
-    ls: &[i64],
-    us: &[i64],
-    values: &[i32],
-) -> usize
-    requires { ⌜ (10 ≤ code) × (code < 24) × Ready at (now ls) (now us) (now values) (picksOf (now ls) (now us) (now values) code (now args)) ⌝ }
-    ensures { λ r. ⌜ Picked at r (now (out .entry)) (now (out .exit)) (picksOf (now (ls .entry)) (now (us .entry)) (now (values .entry)) code (now (args .entry))) ⌝ }
-{
-    if code == 12 {
-        return pick_linear(out, at, args, values);
-    }
-    if code == 13 {
-        return pick_linear(out, at, args, values);
-    }
-    if code == 14 {
-        return pick_difference(out, at, args, values);
-    }
-    if code == 15 {
-        return pick_sum(out, at, args, values);
-    }
-    if code == 20 {
-        return pick_xor(out, at, args, values);
-    }
-    at
-}
-
-// Codes from 24 on.
-fn pick_lists(
-    out: &mut [i32],
-    at: usize,
-    code: usize,
-    args: &[u32],
-    ls: &[i64],
-    us: &[i64],
-    values: &[i32],
-) -> usize
-    requires { ⌜ (24 ≤ code) × Ready at (now ls) (now us) (now values) (picksOf (now ls) (now us) (now values) code (now args)) ⌝ }
-    ensures { λ r. ⌜ Picked at r (now (out .entry)) (now (out .exit)) (picksOf (now (ls .entry)) (now (us .entry)) (now (values .entry)) code (now (args .entry))) ⌝ }
-{
-    if code == 24 {
-        return pick_element(out, at, args, ls, us, values);
-    }
-    if code == 25 {
-        return pick_var_element(out, at, args, ls, us, values);
-    }
-    if code == 26 {
-        return pick_maximum(out, at, args, values);
-    }
-    if code == 27 {
-        return pick_member(out, at, args, ls, us, values);
-    }
-    if code == 28 {
-        return pick_set_reif(out, at, args, ls, us, values);
-    }
-    at
-}
-
 // What fill writes for the auxiliaries of a constraint of a code; the place after it.
 pub fn pick_block(
     out: &mut [i32],
@@ -445,11 +355,21 @@ pub fn pick_block(
     requires { ⌜ Ready at (now ls) (now us) (now values) (picksOf (now ls) (now us) (now values) code (now args)) ⌝ }
     ensures { λ r. ⌜ Picked at r (now (out .entry)) (now (out .exit)) (picksOf (now (ls .entry)) (now (us .entry)) (now (values .entry)) code (now (args .entry))) ⌝ }
 {
-    if code < 10 {
-        return pick_arithmetic(out, at, code, args, ls, us, values);
+    match code {
+        4 => pick_ne(out, at, args, values),
+        7 => pick_times(out, at, args, values),
+        8 => pick_abs(out, at, args, values),
+        9 => pick_max(out, at, args, values),
+        12 => pick_linear(out, at, args, values),
+        13 => pick_linear(out, at, args, values),
+        14 => pick_difference(out, at, args, values),
+        15 => pick_sum(out, at, args, values),
+        20 => pick_xor(out, at, args, values),
+        24 => pick_element(out, at, args, ls, us, values),
+        25 => pick_var_element(out, at, args, ls, us, values),
+        26 => pick_maximum(out, at, args, values),
+        27 => pick_member(out, at, args, ls, us, values),
+        28 => pick_set_reif(out, at, args, ls, us, values),
+        _ => at,
     }
-    if code < 24 {
-        return pick_sums(out, at, code, args, ls, us, values);
-    }
-    pick_lists(out, at, code, args, ls, us, values)
 }

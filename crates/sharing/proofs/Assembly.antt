@@ -1,9 +1,9 @@
 -- Block after block, the auxiliaries numbered on: the values satisfy all blocks' rows exactly where they make every builtin true.
 use mathlib.Core.Path.{_≡_, refl, sym, ap, ap₂, _∙_, subst, fun-ext}
 use mathlib.Core.Logic.{_↔_}
-use mathlib.Core.Bool.{Bool, true}
-use mathlib.Core.List.{List, [], _∷_, _++_, map, flatMap, append-assoc}
-use Prim.Native.Nat.{ℕ, zero, suc, _+_, _<_}
+use mathlib.Core.Bool.{true}
+use mathlib.Core.List.{List, [], _∷_, _++_, map, append-assoc}
+use Prim.Native.Nat.{ℕ, _+_}
 use native.Mathlib.Omega.{arith}
 use lib.IntN.{ℤ}
 use lib.ListN.{length, length-append}
@@ -14,15 +14,15 @@ use Rattle.integers.proofs.Tests.{All}
 use Rattle.models.specs.Meaning.{meaning}
 use Rattle.models.specs.Model.{Constraint, builtin}
 use Rattle.rowsystems.specs.Row.{Row, rename}
-use Rattle.rules.specs.Block.{Block, numbered}
+use Rattle.rules.specs.Block.{numbered}
 use Rattle.rules.specs.Pick.{pick}
 use Rattle.rules.specs.Translation.{blockOf}
-use Rattle.sharing.proofs.Good.{Sat, see, Keeps, Good}
+use Rattle.sharing.proofs.Good.{Sat, Keeps, Good}
 use Rattle.sharing.proofs.Fits.{Fits}
 use Rattle.sharing.proofs.Formed.{Formed}
 use Rattle.sharing.proofs.Gates.{keeps-append, from-append}
 use Rattle.sharing.proofs.Numbering.{Agrees, rows-agree}
-use Rattle.sharing.proofs.Codes.{sound, complete, filled}
+use Rattle.sharing.proofs.Codes.{laws}
 
 module _ (β : ℕ → Bounds) where
   abbrev size : Constraint → ℕ
@@ -72,15 +72,15 @@ module _ (β : ℕ → Bounds) where
   sound-all : (σ α : Valuation) (cs : List Constraint) → AllFit σ cs → AllGood σ cs α → AllTrue σ cs
   unfolding blockOf
   sound-all σ α [] f g = tt
-  sound-all σ α (c ∷ cs) f g = (sound β σ α (builtin c) (f .0) (g .0), sound-all σ _ cs (f .1) (g .1))
+  sound-all σ α (c ∷ cs) f g = (laws β (builtin c) .sound σ α (f .0) (g .0), sound-all σ _ cs (f .1) (g .1))
 
   complete-all : (σ : Valuation) (cs : List Constraint) → AllFit σ cs → AllTrue σ cs → (rest : List ℤ) → AllGood σ cs (value (picksOf σ cs ++ rest))
   unfolding blockOf
   complete-all σ [] f m rest = tt
   complete-all σ (c ∷ cs) f m rest =
       subst (λ zs. AllGood σ (c ∷ cs) (value zs)) (sym (append-assoc (pick β σ (builtin c)) (picksOf σ cs) rest)) (
-        complete β σ (builtin c) (f .0) (m .0) (picksOf σ cs ++ rest),
-        subst (AllGood σ cs) (sym (fun-ext (from-append (pick β σ (builtin c)) (picksOf σ cs ++ rest) (size c) (filled β σ (builtin c))))) (complete-all σ cs (f .1) (m .1) rest),
+        laws β (builtin c) .complete σ (f .0) (m .0) (picksOf σ cs ++ rest),
+        subst (AllGood σ cs) (sym (fun-ext (from-append (pick β σ (builtin c)) (picksOf σ cs ++ rest) (size c) (laws β (builtin c) .filled σ)))) (complete-all σ cs (f .1) (m .1) rest),
       )
 
   pub picks-length : (σ : Valuation) (cs : List Constraint) → length (picksOf σ cs) ≡ length (auxiliariesOf cs)
@@ -88,7 +88,7 @@ module _ (β : ℕ → Bounds) where
   picks-length σ [] = refl
   picks-length σ (c ∷ cs) =
       length-append (pick β σ (builtin c)) (picksOf σ cs)
-      ∙ ap₂ _+_ (filled β σ (builtin c)) (picks-length σ cs)
+      ∙ ap₂ _+_ (laws β (builtin c) .filled σ) (picks-length σ cs)
       ∙ sym (length-append (blockOf β c .auxiliaries) (auxiliariesOf cs))
 
   -- ---- what the rest of the proof cites

@@ -1,6 +1,8 @@
--- For each of the 28 builtins: its block is sound and complete, and fill has a value for each of its auxiliaries.
-use Prim.Native.Nat.{ℕ}
-use Rattle.integers.specs.Terms.{Valuation}
+-- For each builtin: its block is sound and complete, fill has a value for each of its auxiliaries, its words are few and it is well formed.
+use Rattle.words.specs.Limit as Limit
+use Rattle.words.specs.Kind as Kind
+use Prim.Native.Nat.{ℕ, zero, suc, _+_, _≤_, _<_, _*_}
+use Rattle.integers.specs.Terms.{Valuation, Term, _·_}
 use Rattle.integers.specs.declared.Bounds.{Bounds}
 use Rattle.models.specs.Builtin.{Builtin, int-eq, int-le, int-lt, int-ne, int-le-reif, int-plus, int-times, int-abs, int-max, int-lin-eq, int-lin-le, int-lin-ne, int-lin-eq-reif, int-eq-reif, int-lin-le-reif, bool2int, bool-not, bool-and, bool-or, bool-xor, bool-clause, array-bool-and, array-bool-xor, array-int-element, array-var-int-element, array-int-maximum, set-in, set-in-reif}
 use Rattle.sharing.proofs.Basics.{Sound, Complete, Filled}
@@ -12,95 +14,369 @@ use Rattle.sharing.proofs.BooleanLists.{bool-clause-sound, bool-clause-
 use Rattle.sharing.proofs.Elements.{array-int-element-sound, array-int-element-complete, array-int-element-filled, array-var-int-element-sound, array-var-int-element-complete, array-var-int-element-filled}
 use Rattle.sharing.proofs.Maximum.{array-int-maximum-sound, array-int-maximum-complete, array-int-maximum-filled}
 use Rattle.sharing.proofs.Sets.{set-in-sound, set-in-complete, set-in-filled, set-in-reif-sound, set-in-reif-complete, set-in-reif-filled}
+use mathlib.Core.Path.{_≡_, refl}
+use mathlib.Core.Logic.{_↔_}
+use mathlib.Core.Bool.{Bool, true, false}
+use mathlib.Core.List.{List, [], _∷_, map}
+use native.Mathlib.Omega.{arith}
+use lib.IntN.{ℤ}
+use lib.ListN.{length, length-append, length-map, getD}
+use lib.Dec.{leb}
+use borrow.Author.Tests.{ltb-false, leb-true}
+use Rattle.integers.specs.Choice.{_if_else_}
+use Rattle.integers.specs.Number.{_⊖_, count, +0, +1, -1}
+use Rattle.integers.specs.Bounds.{width, values}
+use Rattle.integers.proofs.Linear.{arithZ}
+use Rattle.integers.proofs.Lists.{all-append, all-mapped, listOf-length}
+use Rattle.integers.proofs.Tests.{In, All}
+use Rattle.models.specs.Model.{Constraint, var, size, vars, nums, terms, builtins, builtin}
+use Rattle.models.proofs.Arguments.{integerArguments, booleanArguments, builtinWords}
+use Rattle.rules.specs.Block.{Ref, source, aux, blockWords}
+use Rattle.rules.specs.Parts.{_─_≤0, _─_=0, each, one, oneBit, chosen, products, nth, places, members}
+use Rattle.rules.specs.Check.{tooWide}
+use Rattle.rules.specs.Rule.{rule, linked, signed, notEqual, lessEqualReified, absolute, larger, linNotEqual, linEqualReified, linLessEqualReified, exclusiveOr, numberElement, variableElement, largest, inSet, inSetReified}
+use Rattle.sharing.proofs.OneHot.{bits-length}
+use Rattle.sharing.proofs.Members.{members-length}
+use Rattle.rules.proofs.Lengths.{sources-length, each-length, weighted-length, values-length}
+use Rattle.sharing.proofs.Places.{value-place, places-length, all-nth, members-in}
+use Rattle.sharing.proofs.Formed.{TermIn, RowIn, Formed, Short, bit-ordered, Z-ordered, endProducts-ordered, L-U-ordered, bits-ordered, signed-ordered, gated-ordered, append-in, sources-terms, each-in, less-in, oneBit-in, chosen-in, choice-in, products-in, linked-in, linEqualReified-formed}
+use Rattle.sharing.proofs.Sizes.{total, rowSize, total-append, total-map, total-same, products-size, block-length}
 
--- the variables keep their bounds, the auxiliaries keep theirs, and every row is satisfied: then the builtin is true
-pub sound : (β : ℕ → Bounds) (σ α : Valuation) (b : Builtin) → Sound β σ α b
-sound β σ α (int-eq a b) = int-eq-sound β σ α a b
-sound β σ α (int-le a b) = int-le-sound β σ α a b
-sound β σ α (int-lt a b) = int-lt-sound β σ α a b
-sound β σ α (int-ne a b) = int-ne-sound β σ α a b
-sound β σ α (int-le-reif a b r) = int-le-reif-sound β σ α a b r
-sound β σ α (int-plus a b c) = int-plus-sound β σ α a b c
-sound β σ α (int-times a b c) = int-times-sound β σ α a b c
-sound β σ α (int-abs x y) = int-abs-sound β σ α x y
-sound β σ α (int-max a b c) = int-max-sound β σ α a b c
-sound β σ α (int-lin-eq asbs c) = int-lin-eq-sound β σ α asbs c
-sound β σ α (int-lin-le asbs c) = int-lin-le-sound β σ α asbs c
-sound β σ α (int-lin-ne asbs c) = int-lin-ne-sound β σ α asbs c
-sound β σ α (int-lin-eq-reif asbs c r) = int-lin-eq-reif-sound β σ α asbs c r
-sound β σ α (int-eq-reif a b r) = int-eq-reif-sound β σ α a b r
-sound β σ α (int-lin-le-reif asbs c r) = int-lin-le-reif-sound β σ α asbs c r
-sound β σ α (bool2int a b) = bool2int-sound β σ α a b
-sound β σ α (bool-not a b) = bool-not-sound β σ α a b
-sound β σ α (bool-and a b r) = bool-and-sound β σ α a b r
-sound β σ α (bool-or a b r) = bool-or-sound β σ α a b r
-sound β σ α (bool-xor a b r) = bool-xor-sound β σ α a b r
-sound β σ α (bool-clause xs ys) = bool-clause-sound β σ α xs ys
-sound β σ α (array-bool-and xs r) = array-bool-and-sound β σ α xs r
-sound β σ α (array-bool-xor xs) = array-bool-xor-sound β σ α xs
-sound β σ α (array-int-element i ns c) = array-int-element-sound β σ α i ns c
-sound β σ α (array-var-int-element i xs c) = array-var-int-element-sound β σ α i xs c
-sound β σ α (array-int-maximum m xs) = array-int-maximum-sound β σ α m xs
-sound β σ α (set-in x S) = set-in-sound β σ α x S
-sound β σ α (set-in-reif x S r) = set-in-reif-sound β σ α x S r
+ruleset lengths = (length-append, length-map, sources-length, each-length, bits-length, weighted-length, total-append, total-map, products-size)
 
--- the variables keep their bounds and the builtin is true: then the picks, followed by anything, make the block good
-pub complete : (β : ℕ → Bounds) (σ : Valuation) (b : Builtin) → Complete β σ b
-complete β σ (int-eq a b) = int-eq-complete β σ a b
-complete β σ (int-le a b) = int-le-complete β σ a b
-complete β σ (int-lt a b) = int-lt-complete β σ a b
-complete β σ (int-ne a b) = int-ne-complete β σ a b
-complete β σ (int-le-reif a b r) = int-le-reif-complete β σ a b r
-complete β σ (int-plus a b c) = int-plus-complete β σ a b c
-complete β σ (int-times a b c) = int-times-complete β σ a b c
-complete β σ (int-abs x y) = int-abs-complete β σ x y
-complete β σ (int-max a b c) = int-max-complete β σ a b c
-complete β σ (int-lin-eq asbs c) = int-lin-eq-complete β σ asbs c
-complete β σ (int-lin-le asbs c) = int-lin-le-complete β σ asbs c
-complete β σ (int-lin-ne asbs c) = int-lin-ne-complete β σ asbs c
-complete β σ (int-lin-eq-reif asbs c r) = int-lin-eq-reif-complete β σ asbs c r
-complete β σ (int-eq-reif a b r) = int-eq-reif-complete β σ a b r
-complete β σ (int-lin-le-reif asbs c r) = int-lin-le-reif-complete β σ asbs c r
-complete β σ (bool2int a b) = bool2int-complete β σ a b
-complete β σ (bool-not a b) = bool-not-complete β σ a b
-complete β σ (bool-and a b r) = bool-and-complete β σ a b r
-complete β σ (bool-or a b r) = bool-or-complete β σ a b r
-complete β σ (bool-xor a b r) = bool-xor-complete β σ a b r
-complete β σ (bool-clause xs ys) = bool-clause-complete β σ xs ys
-complete β σ (array-bool-and xs r) = array-bool-and-complete β σ xs r
-complete β σ (array-bool-xor xs) = array-bool-xor-complete β σ xs
-complete β σ (array-int-element i ns c) = array-int-element-complete β σ i ns c
-complete β σ (array-var-int-element i xs c) = array-var-int-element-complete β σ i xs c
-complete β σ (array-int-maximum m xs) = array-int-maximum-complete β σ m xs
-complete β σ (set-in x S) = set-in-complete β σ x S
-complete β σ (set-in-reif x S r) = set-in-reif-complete β σ x S r
+-- what is proved of a builtin over variables with these bounds
+pub record Laws (β : ℕ → Bounds) (b : Builtin) : Type 1 where
+  -- the sizes that its block needs: lists of at most 32 elements, the x of 28 with at most 64 values
+  pub Sizes : Type 0
+  -- the variables keep their bounds, the auxiliaries keep theirs, and every row is satisfied: then the builtin is true
+  pub sound : (σ α : Valuation) → Sound β σ α b
+  -- the variables keep their bounds and the builtin is true: then the picks, followed by anything, make the block good
+  pub complete : (σ : Valuation) → Complete β σ b
+  pub filled : (σ : Valuation) → Filled β σ b
+  -- at most 8 words for each word of its constraint and 6 for each of its auxiliaries
+  pub small : 2 * length (rule β b .auxiliaries) + total rowSize (rule β b .rows) ≤ 8 * (1 + builtinWords b) + 6 * length (rule β b .auxiliaries)
+  pub formed : (n : ℕ) → All (λ v. v < n) (integerArguments b) → All (λ v. v < n) (booleanArguments b) → Sizes → Formed n (rule β b)
 
-pub filled : (β : ℕ → Bounds) (σ : Valuation) (b : Builtin) → Filled β σ b
-filled β σ (int-eq a b) = int-eq-filled β σ a b
-filled β σ (int-le a b) = int-le-filled β σ a b
-filled β σ (int-lt a b) = int-lt-filled β σ a b
-filled β σ (int-ne a b) = int-ne-filled β σ a b
-filled β σ (int-le-reif a b r) = int-le-reif-filled β σ a b r
-filled β σ (int-plus a b c) = int-plus-filled β σ a b c
-filled β σ (int-times a b c) = int-times-filled β σ a b c
-filled β σ (int-abs x y) = int-abs-filled β σ x y
-filled β σ (int-max a b c) = int-max-filled β σ a b c
-filled β σ (int-lin-eq asbs c) = int-lin-eq-filled β σ asbs c
-filled β σ (int-lin-le asbs c) = int-lin-le-filled β σ asbs c
-filled β σ (int-lin-ne asbs c) = int-lin-ne-filled β σ asbs c
-filled β σ (int-lin-eq-reif asbs c r) = int-lin-eq-reif-filled β σ asbs c r
-filled β σ (int-eq-reif a b r) = int-eq-reif-filled β σ a b r
-filled β σ (int-lin-le-reif asbs c r) = int-lin-le-reif-filled β σ asbs c r
-filled β σ (bool2int a b) = bool2int-filled β σ a b
-filled β σ (bool-not a b) = bool-not-filled β σ a b
-filled β σ (bool-and a b r) = bool-and-filled β σ a b r
-filled β σ (bool-or a b r) = bool-or-filled β σ a b r
-filled β σ (bool-xor a b r) = bool-xor-filled β σ a b r
-filled β σ (bool-clause xs ys) = bool-clause-filled β σ xs ys
-filled β σ (array-bool-and xs r) = array-bool-and-filled β σ xs r
-filled β σ (array-bool-xor xs) = array-bool-xor-filled β σ xs
-filled β σ (array-int-element i ns c) = array-int-element-filled β σ i ns c
-filled β σ (array-var-int-element i xs c) = array-var-int-element-filled β σ i xs c
-filled β σ (array-int-maximum m xs) = array-int-maximum-filled β σ m xs
-filled β σ (set-in x S) = set-in-filled β σ x S
-filled β σ (set-in-reif x S r) = set-in-reif-filled β σ x S r
+unfoldable pub laws : (β : ℕ → Bounds) (b : Builtin) → Laws β b
+unfolding integerArguments booleanArguments rule _─_≤0 _─_=0 notEqual lessEqualReified absolute larger linNotEqual linLessEqualReified exclusiveOr numberElement variableElement largest inSet inSetReified signed builtinWords oneBit chosen linked linEqualReified
+laws β (int-eq a b) = record {
+  Sizes = Unit {0};
+  sound = λ σ α. int-eq-sound β σ α a b;
+  complete = λ σ. int-eq-complete β σ a b;
+  filled = λ σ. int-eq-filled β σ a b;
+  small = omega arith;
+  formed = λ n h k s. omega arith;
+}
+laws β (int-le a b) = record {
+  Sizes = Unit {0};
+  sound = λ σ α. int-le-sound β σ α a b;
+  complete = λ σ. int-le-complete β σ a b;
+  filled = λ σ. int-le-filled β σ a b;
+  small = omega arith;
+  formed = λ n h k s. omega arith;
+}
+laws β (int-lt a b) = record {
+  Sizes = Unit {0};
+  sound = λ σ α. int-lt-sound β σ α a b;
+  complete = λ σ. int-lt-complete β σ a b;
+  filled = λ σ. int-lt-filled β σ a b;
+  small = omega arith;
+  formed = λ n h k s. omega arith;
+}
+laws β (int-ne a b) = record {
+  Sizes = Unit {0};
+  sound = λ σ α. int-ne-sound β σ α a b;
+  complete = λ σ. int-ne-complete β σ a b;
+  filled = λ σ. int-ne-filled β σ a b;
+  small = omega arith;
+  formed = λ n h k s. omega arithZ;
+}
+laws β (int-le-reif a b r) = record {
+  Sizes = Unit {0};
+  sound = λ σ α. int-le-reif-sound β σ α a b r;
+  complete = λ σ. int-le-reif-complete β σ a b r;
+  filled = λ σ. int-le-reif-filled β σ a b r;
+  small = omega arith;
+  formed = λ n h k s. omega arith;
+}
+laws β (int-plus a b c) = record {
+  Sizes = Unit {0};
+  sound = λ σ α. int-plus-sound β σ α a b c;
+  complete = λ σ. int-plus-complete β σ a b c;
+  filled = λ σ. int-plus-filled β σ a b c;
+  small = omega arith;
+  formed = λ n h k s. omega arith;
+}
+laws β (int-times a b c) = record {
+  Sizes = Unit {0};
+  sound = λ σ α. int-times-sound β σ α a b c;
+  complete = λ σ. int-times-complete β σ a b c;
+  filled = λ σ. int-times-filled β σ a b c;
+  small = omega arith;
+  formed = λ n h k s. ((endProducts-ordered (β a) (β b), tt), omega arith);
+}
+laws β (int-abs x y) = record {
+  Sizes = Unit {0};
+  sound = λ σ α. int-abs-sound β σ α x y;
+  complete = λ σ. int-abs-complete β σ x y;
+  filled = λ σ. int-abs-filled β σ x y;
+  small = omega arith;
+  formed = λ n h k s. ((bit-ordered, (Z-ordered (β x), tt)), omega arith);
+}
+laws β (int-max a b c) = record {
+  Sizes = Unit {0};
+  sound = λ σ α. int-max-sound β σ α a b c;
+  complete = λ σ. int-max-complete β σ a b c;
+  filled = λ σ. int-max-filled β σ a b c;
+  small = omega arith;
+  formed = λ n h k s. omega arithZ;
+}
+laws β (int-lin-eq asbs c) = record {
+  Sizes = Short asbs;
+  sound = λ σ α. int-lin-eq-sound β σ α asbs c;
+  complete = λ σ. int-lin-eq-complete β σ asbs c;
+  filled = λ σ. int-lin-eq-filled β σ asbs c;
+  small = simp lengths (omega arith);
+  formed = λ n h k s. (tt, (sources-terms n 0 asbs s h, tt));
+}
+laws β (int-lin-le asbs c) = record {
+  Sizes = Short asbs;
+  sound = λ σ α. int-lin-le-sound β σ α asbs c;
+  complete = λ σ. int-lin-le-complete β σ asbs c;
+  filled = λ σ. int-lin-le-filled β σ asbs c;
+  small = simp lengths (omega arith);
+  formed = λ n h k s. (tt, (sources-terms n 0 asbs s h, tt));
+}
+laws β (int-lin-ne asbs c) = record {
+  Sizes = Short asbs;
+  sound = λ σ α. int-lin-ne-sound β σ α asbs c;
+  complete = λ σ. int-lin-ne-complete β σ asbs c;
+  filled = λ σ. int-lin-ne-filled β σ asbs c;
+  small = simp lengths (omega arith);
+  formed = λ n h k s. (signed-ordered β asbs c, (linked-in n β 3 asbs c (omega arith) s h, omega arith));
+}
+laws β (int-lin-eq-reif asbs c r) = record {
+  Sizes = Short asbs;
+  sound = λ σ α. int-lin-eq-reif-sound β σ α asbs c r;
+  complete = λ σ. int-lin-eq-reif-complete β σ asbs c r;
+  filled = λ σ. int-lin-eq-reif-filled β σ asbs c r;
+  small = simp lengths (omega arith);
+  formed = λ n h k s. linEqualReified-formed n β asbs c r s h (k .0);
+}
+laws β (int-eq-reif a b r) = record {
+  Sizes = Unit {0};
+  sound = λ σ α. int-eq-reif-sound β σ α a b r;
+  complete = λ σ. int-eq-reif-complete β σ a b r;
+  filled = λ σ. int-eq-reif-filled β σ a b r;
+  small = simp lengths (omega arith);
+  formed = λ n h k s. linEqualReified-formed n β (+1 · a ∷ -1 · b ∷ []) +0 r (omega arith) h (k .0);
+}
+laws β (int-lin-le-reif asbs c r) = record {
+  Sizes = Short asbs;
+  sound = λ σ α. int-lin-le-reif-sound β σ α asbs c r;
+  complete = λ σ. int-lin-le-reif-complete β σ asbs c r;
+  filled = λ σ. int-lin-le-reif-filled β σ asbs c r;
+  small = simp lengths (omega arith);
+  formed = λ n h k s. ((L-U-ordered β asbs c, tt), (linked-in n β 1 asbs c (omega arith) s h, omega arith));
+}
+laws β (bool2int a b) = record {
+  Sizes = Unit {0};
+  sound = λ σ α. bool2int-sound β σ α a b;
+  complete = λ σ. bool2int-complete β σ a b;
+  filled = λ σ. bool2int-filled β σ a b;
+  small = omega arith;
+  formed = λ n h k s. omega arith;
+}
+laws β (bool-not a b) = record {
+  Sizes = Unit {0};
+  sound = λ σ α. bool-not-sound β σ α a b;
+  complete = λ σ. bool-not-complete β σ a b;
+  filled = λ σ. bool-not-filled β σ a b;
+  small = omega arith;
+  formed = λ n h k s. omega arith;
+}
+laws β (bool-and a b r) = record {
+  Sizes = Unit {0};
+  sound = λ σ α. bool-and-sound β σ α a b r;
+  complete = λ σ. bool-and-complete β σ a b r;
+  filled = λ σ. bool-and-filled β σ a b r;
+  small = omega arith;
+  formed = λ n h k s. omega arith;
+}
+laws β (bool-or a b r) = record {
+  Sizes = Unit {0};
+  sound = λ σ α. bool-or-sound β σ α a b r;
+  complete = λ σ. bool-or-complete β σ a b r;
+  filled = λ σ. bool-or-filled β σ a b r;
+  small = omega arith;
+  formed = λ n h k s. omega arith;
+}
+laws β (bool-xor a b r) = record {
+  Sizes = Unit {0};
+  sound = λ σ α. bool-xor-sound β σ α a b r;
+  complete = λ σ. bool-xor-complete β σ a b r;
+  filled = λ σ. bool-xor-filled β σ a b r;
+  small = omega arith;
+  formed = λ n h k s. omega arithZ;
+}
+laws β (bool-clause xs ys) = record {
+  Sizes = Short xs × Short ys;
+  sound = λ σ α. bool-clause-sound β σ α xs ys;
+  complete = λ σ. bool-clause-complete β σ xs ys;
+  filled = λ σ. bool-clause-filled β σ xs ys;
+  small = simp lengths (omega arith);
+  formed = λ n h k s.
+      let q = all-append (λ v. v < n) xs ys .0 k in
+      (tt, (append-in n 0 (each -1 xs) (each +1 ys) (simp each-length (omega arith)) (each-in n 0 -1 xs (q .0)) (each-in n 0 +1 ys (q .1)), tt));
+}
+laws β (array-bool-and xs r) = record {
+  Sizes = Short xs;
+  sound = λ σ α. array-bool-and-sound β σ α xs r;
+  complete = λ σ. array-bool-and-complete β σ xs r;
+  filled = λ σ. array-bool-and-filled β σ xs r;
+  small = simp (lengths, total-same (λ x. rowSize (source r ─ source x ≤0)) 6 (λ x. refl)) (omega arith);
+  formed = λ n h k s. (
+    tt,
+    all-append (RowIn n 0) (map (λ x. source r ─ source x ≤0) xs) _ .1 (
+      all-mapped (λ x. source r ─ source x ≤0) (λ v. v < n) (RowIn n 0) (λ v l. omega arith) xs (k .1),
+      (less-in n 0 (each +1 xs) r (simp each-length (omega arith)) (k .0) (each-in n 0 +1 xs (k .1)), tt),
+    ),
+  );
+}
+laws β (array-bool-xor xs) = record {
+  Sizes = Short xs;
+  sound = λ σ α. array-bool-xor-sound β σ α xs;
+  complete = λ σ. array-bool-xor-complete β σ xs;
+  filled = λ σ. array-bool-xor-filled β σ xs;
+  small = simp lengths (omega arith);
+  formed = λ n h k s. (tt, ((simp each-length (omega arith), each-in n 0 +1 xs k), tt));
+}
+laws β (array-int-element i ns c) = record {
+  Sizes = Short ns;
+  sound = λ σ α. array-int-element-sound β σ α i ns c;
+  complete = λ σ. array-int-element-complete β σ i ns c;
+  filled = λ σ. array-int-element-filled β σ i ns c;
+  small = simp lengths (omega (arith, places-length (β i) (length ns)));
+  formed = λ n h k s.
+      let js = values (places (β i) (length ns)) in
+      let l : length js ≤ length ns = places-length (β i) (length ns) in
+      let m = length js in (
+        bits-ordered js,
+        rw bits-length (choice-in n m js i (omega arith) (omega arith) (h .0)
+            (chosen-in n m (nth +0 ns) js 0 c (omega arith) (omega arith) (h .1 .0), tt)),
+      );
+}
+laws β (array-var-int-element i xs c) = record {
+  Sizes = Short xs;
+  sound = λ σ α. array-var-int-element-sound β σ α i xs c;
+  complete = λ σ. array-var-int-element-complete β σ i xs c;
+  filled = λ σ. array-var-int-element-filled β σ i xs c;
+  small = simp lengths (omega (arith, places-length (β i) (length xs)));
+  formed = λ n h k s.
+      let js = values (places (β i) (length xs)) in
+      let l : length js ≤ length xs = places-length (β i) (length xs) in
+      let m = length js + length js in (
+        gated-ordered β (nth 0 xs) js,
+        rw (length-append, bits-length, length-map) (choice-in n m js i (omega arith) (omega arith) (h .0)
+            (all-append (RowIn n m) (products (nth 0 xs) js 0 (length js)) (chosen one js (length js) c ∷ []) .1 (
+              products-in n m (nth 0 xs) js 0 (length js) (omega arith) (omega arith) (all-nth (λ v. v < n) 0 xs (β i) (h .1 .1)),
+              (chosen-in n m one js (length js) c (omega arith) (omega arith) (h .1 .0), tt),
+            ))),
+      );
+}
+laws β (array-int-maximum x xs) = record {
+  Sizes = Short xs;
+  sound = λ σ α. array-int-maximum-sound β σ α x xs;
+  complete = λ σ. array-int-maximum-complete β σ x xs;
+  filled = λ σ. array-int-maximum-filled β σ x xs;
+  small = simp (lengths, total-same (λ v. rowSize (source v ─ source x ≤0)) 6 (λ v. refl)) (omega arith);
+  formed = λ n h k s.
+      let m = length xs + length xs in (
+        gated-ordered β (λ x. x) xs,
+        rw (length-append, bits-length, length-map) (
+          oneBit-in n m xs (omega arith) (omega arith),
+          all-append (RowIn n m) (products (λ x. x) xs 0 (length xs)) (chosen one xs (length xs) x ∷ map (λ v. source v ─ source x ≤0) xs) .1 (
+            products-in n m (λ x. x) xs 0 (length xs) (omega arith) (omega arith) (h .1),
+            (
+              chosen-in n m one xs (length xs) x (omega arith) (omega arith) (h .0),
+              all-mapped (λ v. source v ─ source x ≤0) (λ v. v < n) (RowIn n m) (λ v l. omega arith) xs (h .1),
+            ),
+          ),
+        ),
+      );
+}
+laws β (set-in x S) = record {
+  Sizes = Short S;
+  sound = λ σ α. set-in-sound β σ α x S;
+  complete = λ σ. set-in-complete β σ x S;
+  filled = λ σ. set-in-filled β σ x S;
+  small = simp lengths (omega arith);
+  formed = λ n h k s.
+      let vs = members S (β x) in
+      let l : length vs ≤ length S = members-length S (β x) in
+      (bits-ordered vs, rw bits-length (choice-in n (length vs) vs x (omega arith) (omega arith) (h .0) tt));
+}
+laws β (set-in-reif x S r) = record {
+  Sizes = Short S × (width (β x) ≤ Limit.setBits);
+  sound = λ σ α. set-in-reif-sound β σ α x S r;
+  complete = λ σ. set-in-reif-complete β σ x S r;
+  filled = λ σ. set-in-reif-filled β σ x S r;
+  small = simp lengths (omega (arith, members-length S (β x)));
+  formed = λ n h k s.
+      let vs = values (β x) in
+      let ms = members S (β x) in
+      let e : length vs ≡ width (β x) = values-length (β x) in
+      let l : length ms ≤ length S = members-length S (β x) in
+      let place : ℤ → Term Ref = λ v. +1 · aux (count (v ⊖ β x .lower)) in (
+        bits-ordered vs,
+        rw bits-length (choice-in n (length vs) vs x (omega arith) (omega arith) (h .0) (
+          less-in n (length vs) (map place ms) r (simp length-map (omega arith)) (k .0)
+              (all-mapped place (In (β x)) (TermIn n (length vs)) (λ v i. rw e (value-place (β x) v i)) ms (members-in S (β x))),
+          tt,
+        )),
+      );
+}
+
+pub block-size : (first : ℕ) (β : ℕ → Bounds) (b : Builtin) →
+    length (blockWords first (rule β b)) ≤ 8 * (1 + builtinWords b) + 6 * length (rule β b .auxiliaries)
+block-size first β b = rw (block-length first (rule β b)) (laws β b .small)
+
+-- ---- the builtins of constraints that are not too wide
+
+-- what holds of every place of a table and its entry
+abbrev AllAt : {A : Type 0} → (ℕ → A → Type 0) → List A → Type 0
+AllAt P [] = Unit {0}
+AllAt P (x ∷ xs) = P 0 x × AllAt (λ k. P (suc k)) xs
+
+entry : {A : Type 0} (P : ℕ → A → Type 0) (xs : List A) (d : A) → AllAt P xs → ((k : ℕ) → P k d) → (k : ℕ) → P k (getD xs k d)
+entry P [] d h p k = p k
+entry P (x ∷ xs) d h p zero = h .0
+entry P (x ∷ xs) d h p (suc k) = entry (λ k. P (suc k)) xs d (h .1) (λ k. p (suc k)) k
+
+-- rules of `simp` that take away what is plain: a length that is read is at most 32
+size-small : (ws : List ℕ) (i : ℕ) → (size ws i ≤ Limit.listLength) ↔ Unit {0}
+unfolding size
+size-small ws i = (λ h. tt, λ t. go (leb (var ws i) Limit.listLength) refl)
+  where
+    go : (b : Bool) → leb (var ws i) Limit.listLength ≡ b → (var ws i if b else Limit.listLength) ≤ Limit.listLength
+    go true e = leb-true (var ws i) Limit.listLength e
+    go false e = omega arith
+
+function-unit : (A : Type 0) → (A → Unit {0}) ↔ Unit {0}
+function-unit A = (λ h. tt, λ t a. tt)
+
+pair-unit : (A : Type 0) → (Unit {0} × A) ↔ A
+pair-unit A = (λ h. h .1, λ a. (tt, a))
+
+pub sized : (β : ℕ → Bounds) (c : Constraint) → tooWide β c ≡ false → laws β (builtin c) .Sizes
+unfolding tooWide builtin builtins laws vars nums terms
+sized β c e = entry Small builtins (λ ws. int-eq 0 0) table (λ k ws w. tt) (c .code) (c .arguments) narrow
+  where
+    Small : ℕ → (List ℕ → Builtin) → Type 0
+    Small k f = (ws : List ℕ) → (k ≡ 28 → width (β (var ws 0)) ≤ Limit.setBits) → laws β (f ws) .Sizes
+
+    narrow : c .code ≡ 28 → width (β (var (c .arguments) 0)) ≤ Limit.setBits
+    narrow d = ltb-false _ _ (rw d at e)
+
+    table : AllAt Small builtins
+    table = simp (listOf-length, size-small, function-unit, pair-unit) (λ ws w. w refl, tt)

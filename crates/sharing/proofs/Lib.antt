@@ -14,10 +14,10 @@ pub mod Members
 pub mod Elements
 pub mod Maximum
 pub mod Sets
-pub mod Codes
 pub mod Places
 pub mod Formed
 pub mod Sizes
+pub mod Codes
 pub mod Numbering
 pub mod Assembly
 pub mod Satisfied

@@ -24,7 +24,8 @@ use Rattle.rowsystems.proofs.ReadBack.{System, read-back}
 use Rattle.rules.specs.Translation.{bounds, blockOf, sourceWords, blocksWords, systemWords, auxiliaries, picks}
 use Rattle.rules.specs.Pick.{pick}
 use Rattle.sharing.specs.SharedSolutions.{Passes, SatisfiesModel, SatisfiesRows, SharedSolutions}
-use Rattle.sharing.proofs.Formed.{Formed, formed, sized}
+use Rattle.sharing.proofs.Formed.{Formed}
+use Rattle.sharing.proofs.Codes.{laws, sized}
 use Rattle.sharing.proofs.Assembly.{auxiliariesOf, rowsFrom, picksOf, picks-length}
 use Rattle.sharing.proofs.Shared.{Typed, picks-satisfy, system-sound}
 use Rattle.sharing.proofs.Accepts.{Fine, passes-read, passes-fine}
@@ -47,7 +48,7 @@ fine-formed : (Vs : List Bounds) (first : ℕ) (cs : List Constraint) → All (T
 unfolding blockOf
 fine-formed Vs first [] t f = tt
 fine-formed Vs first (c ∷ cs) t f = (
-  formed (length Vs) (boundsIn Vs) (builtin c) (t .0 .0) (all-implies (λ v. (v < length Vs) × (boundsIn Vs v ≡ bit)) (λ v. v < length Vs) (λ v h. h .0) (booleanArguments (builtin c)) (t .0 .1)) (sized (boundsIn Vs) c (f .0)),
+  laws (boundsIn Vs) (builtin c) .formed (length Vs) (t .0 .0) (all-implies (λ v. (v < length Vs) × (boundsIn Vs v ≡ bit)) (λ v. v < length Vs) (λ v h. h .0) (booleanArguments (builtin c)) (t .0 .1)) (sized (boundsIn Vs) c (f .0)),
   fine-formed Vs (first + length (blockOf (boundsIn Vs) c .auxiliaries)) cs (t .1) (f .3),
 )
 

@@ -6,18 +6,76 @@ ghost use Rattle.models.specs.Model.{var};
 ghost use Rattle.builtins.specs.Coded.{builtinOf};
 ghost use Rattle.rules.specs.Rule.{rule};
 ghost use Rattle.laying.specs.Part.{blockParts};
-ghost use Rattle.laying.specs.Went.{Went, Near, nothing};
+ghost use Rattle.laying.specs.Went.{Went, Near, nothing, total};
 ghost use Rattle.extremes.specs.Bounded.{boundsOf, Bounded};
 ghost use Rattle.linearsums.specs.Sum.{Summed};
-use choiceblocks::choice_block;
-use fixedblocks::boolean_block;
-use fixedblocks::low_block;
-use fixedblocks::other_block;
+use arguments::var_at;
+use choiceblocks::array_int_element;
+use choiceblocks::array_int_maximum;
+use choiceblocks::array_var_int_element;
+use choiceblocks::set_in;
+use choiceblocks::set_in_reif;
+use fixedblocks::boolean;
+use fixedblocks::compare;
+use fixedblocks::number;
+use fixedblocks::rows::three_terms;
+use fixedblocks::rows::two_terms;
 use integers::Bounds;
 use laying::Laid;
 use laying::none_yet;
-use linearblocks::clause_block;
-use linearblocks::linear_block;
+use linearblocks::clause;
+use linearblocks::linear;
+use words::kind;
+
+// Lays the block of a constraint after what is laid; its auxiliaries are numbered from `first` on, and `sum` is L and U where its rule has these.
+fn lay_block(
+    out: &mut [u32],
+    s: Laid,
+    code: usize,
+    args: &[u32],
+    ls: &[i64],
+    us: &[i64],
+    sum: Bounds,
+    first: usize,
+) -> Laid
+    requires { ⌜ (total s < 1000000000) × (first < 10000) × Bounded (now ls) × Bounded (now us) × (code ≡ 28 → width (boundsOf (now ls) (now us) (var (now args) 0)) ≤ 64) × Summed (boundsOf (now ls) (now us)) code (now args) sum ⌝ }
+    ensures { λ r. ⌜ Went s r (now (out .entry)) (now (out .exit)) (blockParts first (rule (boundsOf (now (ls .entry)) (now (us .entry))) (builtinOf code (now (args .entry))))) × Near 1000000 s r ⌝ }
+{
+    let a = var_at(args, 0);
+    let b = var_at(args, 1);
+    let c = var_at(args, 2);
+    match code {
+        1 => compare::int_eq(out, s, a, b),
+        2 => two_terms(out, s, kind::AT_MOST, a, -1, b, 0),
+        3 => two_terms(out, s, kind::AT_MOST, a, -1, b, 1),
+        4 => compare::int_ne(out, s, a, b, ls, us, first),
+        5 => compare::int_le_reif(out, s, a, b, c, ls, us, first),
+        6 => three_terms(out, s, kind::EQUAL, a, 1, b, -1, c, 0),
+        7 => number::int_times(out, s, a, b, c, ls, us, first),
+        8 => number::int_abs(out, s, a, b, ls, us, first),
+        9 => number::int_max(out, s, a, b, c, ls, us, first),
+        10 => linear::int_lin_eq(out, s, args),
+        11 => linear::int_lin_le(out, s, args),
+        12 => linear::int_lin_ne(out, s, args, sum, first),
+        13 => linear::int_lin_eq_reif(out, s, args, sum, first),
+        14 => linear::int_eq_reif(out, s, args, sum, first),
+        15 => linear::int_lin_le_reif(out, s, args, sum, first),
+        16 => compare::int_eq(out, s, a, b),
+        17 => two_terms(out, s, kind::EQUAL, a, 1, b, -1),
+        18 => boolean::bool_and(out, s, a, b, c),
+        19 => boolean::bool_or(out, s, a, b, c),
+        20 => boolean::bool_xor(out, s, a, b, c, first),
+        21 => clause::bool_clause(out, s, args),
+        22 => clause::array_bool_and(out, s, args),
+        23 => clause::array_bool_xor(out, s, args),
+        24 => array_int_element(out, s, args, ls, us, first),
+        25 => array_var_int_element(out, s, args, ls, us, first),
+        26 => array_int_maximum(out, s, args, ls, us, first),
+        27 => set_in(out, s, args, ls, us, first),
+        28 => set_in_reif(out, s, args, ls, us, first),
+        _ => compare::int_eq(out, s, 0, 0),
+    }
+}
 
 // Lays the block of a constraint to the front of the output; its auxiliaries are numbered from `first` on, and `sum` is L and U where its rule has these.
 pub fn block(
@@ -33,20 +91,5 @@ pub fn block(
     ensures { λ r. ⌜ Went nothing r (now (out .entry)) (now (out .exit)) (blockParts first (rule (boundsOf (now (ls .entry)) (now (us .entry))) (builtinOf code (now (args .entry))))) × Near 1000000 nothing r ⌝ }
 {
     let s = none_yet();
-    if code < 10 {
-        return low_block(out, s, code, args, ls, us, first);
-    }
-    if code < 16 {
-        return linear_block(out, s, code, args, sum, first);
-    }
-    if code < 21 {
-        return boolean_block(out, s, code, args, first);
-    }
-    if code < 24 {
-        return clause_block(out, s, code, args);
-    }
-    if code < 29 {
-        return choice_block(out, s, code, args, ls, us, first);
-    }
-    other_block(out, s)
+    lay_block(out, s, code, args, ls, us, sum, first)
 }

@@ -9,10 +9,6 @@ lowest = negsuc 134217727
 abbrev pub highest : ℤ
 highest = pos 134217727
 
--- Rules: "Codes run from 1 to 28 without a gap."
-abbrev pub codes : ℕ
-codes = 28
-
 -- Numbered faults, 1: "More than 8,192 model words, or 131,072 row words"
 abbrev pub modelWords : ℕ
 modelWords = 8192

@@ -4,8 +4,6 @@
 pub const LOWEST: i64 = -134217728;
 
 pub const HIGHEST: i64 = 134217727;
-// the last code
-pub const CODES: usize = 28;
 // words of a model and of a row system
 pub const MODEL_WORDS: usize = 8192;
 

@@ -1,71 +1,78 @@
--- Each group's function; the table's default where the code is none.
+-- Each code's function, at the table's entry for the code; the table's default where the code is none.
 use mathlib.Core.Path.{_≡_, sym}
-use native.Mathlib.Omega.{arith}
 use borrow.Author.Needs.{needs}
 use Rattle.integers.specs.Terms.{value}
-use Rattle.builtins.proofs.Coded.{code-zero, no-code}
+use Rattle.models.specs.Meaning.{meaning}
+use Rattle.models.specs.Model.{builtin, builtins}
+use Rattle.models.specs.Table as Table
+use Rattle.builtins.proofs.Coded.{no-code}
 use Rattle.builtins.proofs.holds.Statement.{statement}
 use Rattle.builtins.proofs.holds.Tie as tie
 
-returns : tie.Need-returns
-returns c = let e : c .before .before .args .code ≡ 0 = omega arith in rw e (sym (code-zero (value (c .before .before .args .values .now)) (c .before .before .args .args .now)))
-
-holds-requires : tie.Need-holds-requires
-holds-requires c κs = search needs
-
-returns-2 : tie.Need-returns-2
-returns-2 c = search needs
-
-holds-requires-2 : tie.Need-holds-requires-2
-holds-requires-2 c κs = search needs
-
-returns-3 : tie.Need-returns-3
-returns-3 c = search needs
-
-holds-requires-3 : tie.Need-holds-requires-3
-holds-requires-3 c κs = search needs
-
-returns-4 : tie.Need-returns-4
-returns-4 c = search needs
-
-holds-requires-4 : tie.Need-holds-requires-4
-holds-requires-4 c κs = search needs
-
-returns-5 : tie.Need-returns-5
-returns-5 c = search needs
-
-holds-requires-5 : tie.Need-holds-requires-5
-holds-requires-5 c κs = search needs
-
-returns-6 : tie.Need-returns-6
-returns-6 c = search needs
-
-holds-requires-6 : tie.Need-holds-requires-6
-holds-requires-6 c κs = search needs
-
-returns-7 : tie.Need-returns-7
-returns-7 c = search needs
-
-returns-8 : tie.Need-returns-8
-returns-8 c =
-    let s = c .before .before .before .before .before .before .before .before in
-    sym (no-code (value (s .args .values .now)) (s .args .code) (s .args .args .now) (omega arith))
+other : tie.Need-returns-29
+other c =
+    let s = c .before .before in
+    sym (no-code (value (s .args .values .now)) (s .args .code) (s .args .args .now) (c .match .rest))
 
 pub holds-spec : {M : Type 1} → statement M
+unfolding meaning builtin builtins
 holds-spec =
     tie.close
     (tie.spec
-    returns
-    holds-requires
-    returns-2
-    holds-requires-2
-    returns-3
-    holds-requires-3
-    returns-4
-    holds-requires-4
-    returns-5
-    holds-requires-5
-    returns-6
-    holds-requires-6
-    returns-7
-    returns-8)
+    (λ c κs. search needs)
+    (λ c κs. search needs)
+    (λ c κs. search needs)
+    (λ c κs. search needs)
+    (λ c κs. search needs)
+    (λ c κs. search needs)
+    (λ c κs. search needs)
+    (λ c κs. search needs)
+    (λ c κs. search needs)
+    (λ c κs. search needs)
+    (λ c κs. search needs)
+    (λ c κs. search needs)
+    (λ c κs. search needs)
+    (λ c κs. search needs)
+    (λ c κs. search needs)
+    (λ c κs. search needs)
+    (λ c κs. search needs)
+    (λ c κs. search needs)
+    (λ c κs. search needs)
+    (λ c κs. search needs)
+    (λ c κs. search needs)
+    (λ c κs. search needs)
+    (λ c κs. search needs)
+    (λ c κs. search needs)
+    (λ c κs. search needs)
+    (λ c κs. search needs)
+    (λ c κs. search needs)
+    (λ c κs. search needs)
+    (λ c. let e : c .before .before .before .args .code ≡ 1 = c .before .match .keys1 in rw e (c .int-eq .ensures))
+    (λ c. let e : c .before .before .before .args .code ≡ 2 = c .before .match .keys2 in rw e (c .int-le .ensures))
+    (λ c. let e : c .before .before .before .args .code ≡ 3 = c .before .match .keys3 in rw e (c .int-lt .ensures))
+    (λ c. let e : c .before .before .before .args .code ≡ 4 = c .before .match .keys4 in rw (e, c .int-eq2 .ensures))
+    (λ c. let e : c .before .before .before .args .code ≡ 5 = c .before .match .keys5 in rw e (c .int-le-reif .ensures))
+    (λ c. let e : c .before .before .before .args .code ≡ 6 = c .before .match .keys6 in rw e (c .int-plus .ensures))
+    (λ c. let e : c .before .before .before .args .code ≡ 7 = c .before .match .keys7 in rw e (c .int-times .ensures))
+    (λ c. let e : c .before .before .before .args .code ≡ 8 = c .before .match .keys8 in rw e (c .int-abs .ensures))
+    (λ c. let e : c .before .before .before .args .code ≡ 9 = c .before .match .keys9 in rw e (c .int-max .ensures))
+    (λ c. let e : c .before .before .before .args .code ≡ 10 = c .before .match .keys10 in rw e (c .int-lin-eq .ensures))
+    (λ c. let e : c .before .before .before .args .code ≡ 11 = c .before .match .keys11 in rw e (c .int-lin-le .ensures))
+    (λ c. let e : c .before .before .before .args .code ≡ 12 = c .before .match .keys12 in rw (e, c .int-lin-eq2 .ensures))
+    (λ c. let e : c .before .before .before .args .code ≡ 13 = c .before .match .keys13 in rw e (c .int-lin-eq-reif .ensures))
+    (λ c. let e : c .before .before .before .args .code ≡ 14 = c .before .match .keys14 in rw e (c .int-eq-reif .ensures))
+    (λ c. let e : c .before .before .before .args .code ≡ 15 = c .before .match .keys15 in rw e (c .int-lin-le-reif .ensures))
+    (λ c. let e : c .before .before .before .args .code ≡ 16 = c .before .match .keys16 in rw e (c .int-eq3 .ensures))
+    (λ c. let e : c .before .before .before .args .code ≡ 17 = c .before .match .keys17 in rw (e, c .int-eq4 .ensures))
+    (λ c. let e : c .before .before .before .args .code ≡ 18 = c .before .match .keys18 in rw e (c .bool-and .ensures))
+    (λ c. let e : c .before .before .before .args .code ≡ 19 = c .before .match .keys19 in rw e (c .bool-or .ensures))
+    (λ c. let e : c .before .before .before .args .code ≡ 20 = c .before .match .keys20 in rw e (c .bool-xor .ensures))
+    (λ c. let e : c .before .before .before .args .code ≡ 21 = c .before .match .keys21 in rw e (c .bool-clause .ensures))
+    (λ c. let e : c .before .before .before .args .code ≡ 22 = c .before .match .keys22 in rw e (c .array-bool-and .ensures))
+    (λ c. let e : c .before .before .before .args .code ≡ 23 = c .before .match .keys23 in rw e (c .array-bool-xor .ensures))
+    (λ c. let e : c .before .before .before .args .code ≡ 24 = c .before .match .keys24 in rw e (c .array-int-element .ensures))
+    (λ c. let e : c .before .before .before .args .code ≡ 25 = c .before .match .keys25 in rw e (c .array-var-int-element .ensures))
+    (λ c. let e : c .before .before .before .args .code ≡ 26 = c .before .match .keys26 in rw e (c .array-int-maximum .ensures))
+    (λ c. let e : c .before .before .before .args .code ≡ 27 = c .before .match .keys27 in rw e (c .set-in .ensures))
+    (λ c. let e : c .before .before .before .args .code ≡ 28 = c .before .match .keys28 in rw e (c .set-in-reif .ensures))
+    other)

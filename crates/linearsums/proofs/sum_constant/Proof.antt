@@ -7,12 +7,12 @@ use Rattle.linearsums.specs.Places.{sumConstant}
 use Rattle.linearsums.proofs.sum_constant.Statement.{statement}
 use Rattle.linearsums.proofs.sum_constant.Tie as tie
 
-code-before-requires : tie.Need-code-before-requires
-code-before-requires c κs = search needs
+form-before-requires : tie.Need-form-before-requires
+form-before-requires c κs = search needs
 
 returns : tie.Need-returns
 unfolding sumConstant
-returns c = rw (← c .before .code-before .ensures, eq-eqb _ 14 (c .if1 .taken))
+returns c = rw (← c .before .form-before .ensures, eq-eqb _ 2 (c .if1 .taken))
 
 past-terms-at-requires : tie.Need-past-terms-at-requires
 past-terms-at-requires c κs = search needs
@@ -23,11 +23,11 @@ num-at-requires c κs = search needs
 returns-2 : tie.Need-returns-2
 unfolding sumConstant
 returns-2 c =
-    let code-before = c .before .before .before .code-before in
+    let form-before = c .before .before .before .form-before in
     let if1 = c .before .before .if1 in
-    back (c .num-at .result) (c .num-at .ok) ∙ c .num-at .ensures ∙ rw (← code-before .ensures, ne-eqb _ 14 (if1 .left), c .before .past-terms-at .ensures)
+    back (c .num-at .result) (c .num-at .ok) ∙ c .num-at .ensures ∙ rw (← form-before .ensures, ne-eqb _ 2 (if1 .left), c .before .past-terms-at .ensures)
 
 pub sum-constant-spec : {M : Type 1} → statement M
 sum-constant-spec =
     tie.close
-    (tie.spec code-before-requires returns past-terms-at-requires num-at-requires returns-2)
+    (tie.spec form-before-requires returns past-terms-at-requires num-at-requires returns-2)

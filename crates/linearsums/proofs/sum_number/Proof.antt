@@ -7,16 +7,16 @@ use Rattle.linearsums.specs.Places.{sumNumber}
 use Rattle.linearsums.proofs.sum_number.Statement.{statement}
 use Rattle.linearsums.proofs.sum_number.Tie as tie
 
-code-before-requires : tie.Need-code-before-requires
-code-before-requires c κs = search needs
+form-before-requires : tie.Need-form-before-requires
+form-before-requires c κs = search needs
 
 returns : tie.Need-returns
 unfolding sumNumber
-returns c = rw (← c .before .before .code-before .ensures, eq-eqb _ 14 (c .before .if1 .taken), eq-eqb _ 0 (c .if2 .taken))
+returns c = rw (← c .before .before .form-before .ensures, eq-eqb _ 2 (c .before .if1 .taken), eq-eqb _ 0 (c .if2 .taken))
 
 returns-2 : tie.Need-returns-2
 unfolding sumNumber
-returns-2 c = rw (← c .before .before .code-before .ensures, eq-eqb _ 14 (c .before .if1 .taken), ne-eqb _ 0 (c .if2 .left))
+returns-2 c = rw (← c .before .before .form-before .ensures, eq-eqb _ 2 (c .before .if1 .taken), ne-eqb _ 0 (c .if2 .left))
 
 add-num-at : tie.Need-add-num-at
 add-num-at c = search needs
@@ -29,13 +29,13 @@ num-at-requires c κs = search needs
 
 returns-3 : tie.Need-returns-3
 unfolding sumNumber
-returns-3 c = back (c .num-at .result) (c .num-at .ok) ∙ c .num-at .ensures ∙ rw (← c .before .before .code-before .ensures, ne-eqb _ 14 (c .before .if1 .left))
+returns-3 c = back (c .num-at .result) (c .num-at .ok) ∙ c .num-at .ensures ∙ rw (← c .before .before .form-before .ensures, ne-eqb _ 2 (c .before .if1 .left))
 
 pub sum-number-spec : {M : Type 1} → statement M
 sum-number-spec =
     tie.close
     (tie.spec
-    code-before-requires
+    form-before-requires
     returns
     returns-2
     add-num-at

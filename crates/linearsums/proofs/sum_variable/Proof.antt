@@ -9,8 +9,8 @@ use Rattle.linearsums.specs.Places.{sumVariable}
 use Rattle.linearsums.proofs.sum_variable.Statement.{statement}
 use Rattle.linearsums.proofs.sum_variable.Tie as tie
 
-code-before-requires : tie.Need-code-before-requires
-code-before-requires c κs = search needs
+form-before-requires : tie.Need-form-before-requires
+form-before-requires c κs = search needs
 
 add-var-at : tie.Need-add-var-at
 add-var-at c = search needs
@@ -20,7 +20,7 @@ var-at-requires c κs = search needs
 
 returns : tie.Need-returns
 unfolding sumVariable
-returns c = c .var-at .ensures ∙ rw (← c .before .before .code-before .ensures, eq-eqb _ 14 (c .before .if1 .taken))
+returns c = c .var-at .ensures ∙ rw (← c .before .before .form-before .ensures, eq-eqb _ 2 (c .before .if1 .taken))
 
 past-at-requires : tie.Need-past-at-requires
 past-at-requires c κs = search needs
@@ -36,13 +36,13 @@ var-at-requires-2 c κs = search needs
 
 returns-2 : tie.Need-returns-2
 unfolding sumVariable
-returns-2 c = c .var-at2 .ensures ∙ rw (← c .before .before .before .code-before .ensures, ne-eqb _ 14 (c .before .before .if1 .left), c .before .past-at .ensures)
+returns-2 c = c .var-at2 .ensures ∙ rw (← c .before .before .before .form-before .ensures, ne-eqb _ 2 (c .before .before .if1 .left), c .before .past-at .ensures)
 
 pub sum-variable-spec : {M : Type 1} → statement M
 sum-variable-spec =
     tie.close
     (tie.spec
-    code-before-requires
+    form-before-requires
     add-var-at
     var-at-requires
     returns

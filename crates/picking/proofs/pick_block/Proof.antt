@@ -1,0 +1,184 @@
+-- Each code by its own function; the others pick nothing.
+use mathlib.Core.Path.{_≡_, refl}
+use mathlib.Core.List.{[], _∷_}
+use borrow.Author.Needs.{needs}
+use Rattle.integers.specs.Lists.{any}
+use Rattle.models.specs.Model.{builtin, builtins}
+use Rattle.rules.specs.Pick.{pick}
+use Rattle.picking.proofs.Writing.{picked-none}
+use Rattle.picking.proofs.Bare.{none-picked}
+use Rattle.picking.proofs.pick_block.Statement.{statement}
+use Rattle.picking.proofs.pick_block.Tie as tie
+
+returns : tie.Need-returns
+unfolding pick builtin builtins
+returns c = let e : c .before .before .before .before .before .args .code ≡ 4 = c .before .before .before .match .keys1 in rw e (c .before .pick-ne .ensures)
+
+pick-times-requires : tie.Need-pick-times-requires
+unfolding pick builtin builtins
+pick-times-requires c κs =
+    let p = c .before .before .before .pre in
+    let e : c .before .before .before .args .code ≡ 7 = c .before .match .keys2 in
+    (p .place, p .small, rw e at (p .ranged))
+
+returns-2 : tie.Need-returns-2
+unfolding pick builtin builtins
+returns-2 c = let e : c .before .before .before .before .before .args .code ≡ 7 = c .before .before .before .match .keys2 in rw e (c .before .pick-times .ensures)
+
+pick-abs-requires : tie.Need-pick-abs-requires
+unfolding pick builtin builtins
+pick-abs-requires c κs =
+    let p = c .before .before .before .pre in
+    let e : c .before .before .before .args .code ≡ 8 = c .before .match .keys3 in
+    (p .place, rw e at (p .ranged))
+
+returns-3 : tie.Need-returns-3
+unfolding pick builtin builtins
+returns-3 c = let e : c .before .before .before .before .before .args .code ≡ 8 = c .before .before .before .match .keys3 in rw e (c .before .pick-abs .ensures)
+
+returns-4 : tie.Need-returns-4
+unfolding pick builtin builtins
+returns-4 c = let e : c .before .before .before .before .before .args .code ≡ 9 = c .before .before .before .match .keys4 in rw e (c .before .pick-max .ensures)
+
+pick-linear-requires : tie.Need-pick-linear-requires
+unfolding pick builtin builtins
+pick-linear-requires c κs =
+    let p = c .before .before .before .pre in
+    let e : c .before .before .before .args .code ≡ 12 = c .before .match .keys5 in
+    (p .place, p .small, rw e at (p .ranged))
+
+returns-5 : tie.Need-returns-5
+unfolding pick builtin builtins
+returns-5 c = let e : c .before .before .before .before .before .args .code ≡ 12 = c .before .before .before .match .keys5 in rw e (c .before .pick-linear .ensures)
+
+pick-linear-requires-2 : tie.Need-pick-linear-requires-2
+unfolding pick builtin builtins
+pick-linear-requires-2 c κs =
+    let p = c .before .before .before .pre in
+    let e : c .before .before .before .args .code ≡ 13 = c .before .match .keys6 in
+    (p .place, p .small, rw e at (p .ranged))
+
+returns-6 : tie.Need-returns-6
+unfolding pick builtin builtins
+returns-6 c = let e : c .before .before .before .before .before .args .code ≡ 13 = c .before .before .before .match .keys6 in rw e (c .before .pick-linear2 .ensures)
+
+pick-difference-requires : tie.Need-pick-difference-requires
+unfolding pick builtin builtins
+pick-difference-requires c κs =
+    let p = c .before .before .before .pre in
+    let e : c .before .before .before .args .code ≡ 14 = c .before .match .keys7 in
+    (p .place, p .small, rw e at (p .ranged))
+
+returns-7 : tie.Need-returns-7
+unfolding pick builtin builtins
+returns-7 c = let e : c .before .before .before .before .before .args .code ≡ 14 = c .before .before .before .match .keys7 in rw e (c .before .pick-difference .ensures)
+
+pick-sum-requires : tie.Need-pick-sum-requires
+unfolding pick builtin builtins
+pick-sum-requires c κs =
+    let p = c .before .before .before .pre in
+    let e : c .before .before .before .args .code ≡ 15 = c .before .match .keys8 in
+    (p .place, p .small, rw e at (p .ranged))
+
+returns-8 : tie.Need-returns-8
+unfolding pick builtin builtins
+returns-8 c = let e : c .before .before .before .before .before .args .code ≡ 15 = c .before .before .before .match .keys8 in rw e (c .before .pick-sum .ensures)
+
+pick-xor-requires : tie.Need-pick-xor-requires
+unfolding pick builtin builtins
+pick-xor-requires c κs =
+    let p = c .before .before .before .pre in
+    let e : c .before .before .before .args .code ≡ 20 = c .before .match .keys9 in
+    (p .place, p .small, rw e at (p .ranged))
+
+returns-9 : tie.Need-returns-9
+unfolding pick builtin builtins
+returns-9 c = let e : c .before .before .before .before .before .args .code ≡ 20 = c .before .before .before .match .keys9 in rw e (c .before .pick-xor .ensures)
+
+returns-10 : tie.Need-returns-10
+unfolding pick builtin builtins
+returns-10 c = let e : c .before .before .before .before .before .args .code ≡ 24 = c .before .before .before .match .keys10 in rw e (c .before .pick-element .ensures)
+
+pick-var-element-requires : tie.Need-pick-var-element-requires
+unfolding pick builtin builtins
+pick-var-element-requires c κs =
+    let p = c .before .before .before .pre in
+    let e : c .before .before .before .args .code ≡ 25 = c .before .match .keys11 in
+    (p .place, p .lowers, p .uppers, p .small, rw e at (p .ranged))
+
+returns-11 : tie.Need-returns-11
+unfolding pick builtin builtins
+returns-11 c = let e : c .before .before .before .before .before .args .code ≡ 25 = c .before .before .before .match .keys11 in rw e (c .before .pick-var-element .ensures)
+
+pick-maximum-requires : tie.Need-pick-maximum-requires
+unfolding pick builtin builtins
+pick-maximum-requires c κs =
+    let p = c .before .before .before .pre in
+    let e : c .before .before .before .args .code ≡ 26 = c .before .match .keys12 in
+    (p .place, rw e at (p .ranged))
+
+returns-12 : tie.Need-returns-12
+unfolding pick builtin builtins
+returns-12 c = let e : c .before .before .before .before .before .args .code ≡ 26 = c .before .before .before .match .keys12 in rw e (c .before .pick-maximum .ensures)
+
+returns-13 : tie.Need-returns-13
+unfolding pick builtin builtins
+returns-13 c = let e : c .before .before .before .before .before .args .code ≡ 27 = c .before .before .before .match .keys13 in rw e (c .before .pick-member .ensures)
+
+returns-14 : tie.Need-returns-14
+unfolding pick builtin builtins
+returns-14 c = let e : c .before .before .before .before .before .args .code ≡ 28 = c .before .before .before .match .keys14 in rw e (c .before .pick-set-reif .ensures)
+
+other : tie.Need-returns-15
+unfolding pick any
+other c =
+    let a = c .before .before .args in
+    rw (none-picked (28 ∷ 27 ∷ 26 ∷ 25 ∷ 24 ∷ 20 ∷ 15 ∷ 14 ∷ 13 ∷ 12 ∷ 9 ∷ 8 ∷ 7 ∷ 4 ∷ []) refl (a .ls .now) (a .us .now) (a .values .now) (a .code) (a .args .now) (c .match .rest)) (picked-none (a .at) (a .out .now))
+
+pub pick-block-spec : {M : Type 1} → statement M
+pick-block-spec =
+    tie.close
+    (tie.spec
+    (λ c κs. search needs)
+    pick-times-requires
+    pick-abs-requires
+    (λ c κs. search needs)
+    pick-linear-requires
+    pick-linear-requires-2
+    pick-difference-requires
+    pick-sum-requires
+    pick-xor-requires
+    (λ c κs. search needs)
+    pick-var-element-requires
+    pick-maximum-requires
+    (λ c κs. search needs)
+    (λ c κs. search needs)
+    (λ c. search needs)
+    returns
+    (λ c. search needs)
+    returns-2
+    (λ c. search needs)
+    returns-3
+    (λ c. search needs)
+    returns-4
+    (λ c. search needs)
+    returns-5
+    (λ c. search needs)
+    returns-6
+    (λ c. search needs)
+    returns-7
+    (λ c. search needs)
+    returns-8
+    (λ c. search needs)
+    returns-9
+    (λ c. search needs)
+    returns-10
+    (λ c. search needs)
+    returns-11
+    (λ c. search needs)
+    returns-12
+    (λ c. search needs)
+    returns-13
+    (λ c. search needs)
+    returns-14
+    other)

@@ -1,0 +1,337 @@
+-- Each code's block, at the table's entry for the code; the table's default where the code is none.
+use mathlib.Core.Path.{_≡_}
+use mathlib.Core.List.{flatMap}
+use native.Mathlib.Omega.{arith}
+use borrow.Author.Needs.{needs}
+use Rattle.integers.specs.Lists.{any}
+use Rattle.models.specs.Model.{builtin, builtins}
+use Rattle.builtins.proofs.Coded.{default}
+use Rattle.rules.specs.Block.{numbered}
+use Rattle.rules.specs.Parts.{_─_≤0}
+use Rattle.rules.specs.Rule.{rule}
+use Rattle.laying.specs.Part.{boundParts, termParts, rowParts, blockParts}
+use Rattle.laying.specs.Lists.{many, rowOf}
+use Rattle.extremes.specs.Bounded.{boundsOf}
+use Rattle.linearsums.specs.Sum.{formOf, sumOf}
+use Rattle.translation.proofs.blocks.lay_block.Statement.{statement}
+use Rattle.translation.proofs.blocks.lay_block.Tie as tie
+
+set-in-reif-requires : tie.Need-set-in-reif-requires
+set-in-reif-requires c κs =
+    let p = c .before .before .before .before .before .before .before .pre in
+    (p .0, p .1, p .2, p .3, p .4 (c .before .match .keys28))
+
+returns : tie.Need-returns
+unfolding builtin builtins
+returns c =
+    let s = c .before .before .before .before .before .before .before .before .before .before in
+    let e : s .args .code ≡ 1 = c .before .before .before .before .match .keys1 in
+    let w = rw (c .before .before .before .before .before .before .before .var-at .ensures, c .before .before .before .before .before .before .var-at2 .ensures) at (c .before .before .int-eq .ensures) in
+    rw e (w .0 (boundsOf (s .args .ls .now) (s .args .us .now)) (s .args .first), omega (arith, w .1))
+
+returns-2 : tie.Need-returns-2
+unfolding builtin builtins rule _─_≤0 blockParts boundParts flatMap rowParts termParts numbered rowOf many
+returns-2 c =
+    let s = c .before .before .before .before .before .before .before .before .before .before in
+    let e : s .args .code ≡ 2 = c .before .before .before .before .match .keys2 in
+    let w = rw (c .before .before .before .before .before .before .before .var-at .ensures, c .before .before .before .before .before .before .var-at2 .ensures) at (c .before .before .two-terms .ensures) in
+    rw e (w .0, omega (arith, w .1))
+
+returns-3 : tie.Need-returns-3
+unfolding builtin builtins rule _─_≤0 blockParts boundParts flatMap rowParts termParts numbered rowOf many
+returns-3 c =
+    let s = c .before .before .before .before .before .before .before .before .before .before in
+    let e : s .args .code ≡ 3 = c .before .before .before .before .match .keys3 in
+    let w = rw (c .before .before .before .before .before .before .before .var-at .ensures, c .before .before .before .before .before .before .var-at2 .ensures) at (c .before .before .two-terms2 .ensures) in
+    rw e (w .0, omega (arith, w .1))
+
+returns-4 : tie.Need-returns-4
+unfolding builtin builtins
+returns-4 c =
+    let s = c .before .before .before .before .before .before .before .before .before .before in
+    let e : s .args .code ≡ 4 = c .before .before .before .before .match .keys4 in
+    let w = rw (c .before .before .before .before .before .before .before .var-at .ensures, c .before .before .before .before .before .before .var-at2 .ensures) at (c .before .before .int-ne .ensures) in
+    rw e (w .0, omega (arith, w .1))
+
+returns-5 : tie.Need-returns-5
+unfolding builtin builtins
+returns-5 c =
+    let s = c .before .before .before .before .before .before .before .before .before .before in
+    let e : s .args .code ≡ 5 = c .before .before .before .before .match .keys5 in
+    let w = rw (c .before .before .before .before .before .before .before .var-at .ensures, c .before .before .before .before .before .before .var-at2 .ensures, c .before .before .before .before .before .var-at3 .ensures) at (c .before .before .int-le-reif .ensures) in
+    rw e (w .0, omega (arith, w .1))
+
+returns-6 : tie.Need-returns-6
+unfolding builtin builtins rule _─_≤0 blockParts boundParts flatMap rowParts termParts numbered rowOf many
+returns-6 c =
+    let s = c .before .before .before .before .before .before .before .before .before .before in
+    let e : s .args .code ≡ 6 = c .before .before .before .before .match .keys6 in
+    let w = rw (c .before .before .before .before .before .before .before .var-at .ensures, c .before .before .before .before .before .before .var-at2 .ensures, c .before .before .before .before .before .var-at3 .ensures) at (c .before .before .three-terms .ensures) in
+    rw e (w .0, omega (arith, w .1))
+
+returns-7 : tie.Need-returns-7
+unfolding builtin builtins
+returns-7 c =
+    let s = c .before .before .before .before .before .before .before .before .before .before in
+    let e : s .args .code ≡ 7 = c .before .before .before .before .match .keys7 in
+    let w = rw (c .before .before .before .before .before .before .before .var-at .ensures, c .before .before .before .before .before .before .var-at2 .ensures, c .before .before .before .before .before .var-at3 .ensures) at (c .before .before .int-times .ensures) in
+    rw e (w .0, omega (arith, w .1))
+
+returns-8 : tie.Need-returns-8
+unfolding builtin builtins
+returns-8 c =
+    let s = c .before .before .before .before .before .before .before .before .before .before in
+    let e : s .args .code ≡ 8 = c .before .before .before .before .match .keys8 in
+    let w = rw (c .before .before .before .before .before .before .before .var-at .ensures, c .before .before .before .before .before .before .var-at2 .ensures) at (c .before .before .int-abs .ensures) in
+    rw e (w .0, omega (arith, w .1))
+
+returns-9 : tie.Need-returns-9
+unfolding builtin builtins
+returns-9 c =
+    let s = c .before .before .before .before .before .before .before .before .before .before in
+    let e : s .args .code ≡ 9 = c .before .before .before .before .match .keys9 in
+    let w = rw (c .before .before .before .before .before .before .before .var-at .ensures, c .before .before .before .before .before .before .var-at2 .ensures, c .before .before .before .before .before .var-at3 .ensures) at (c .before .before .int-max .ensures) in
+    rw e (w .0, omega (arith, w .1))
+
+returns-10 : tie.Need-returns-10
+unfolding builtin builtins
+returns-10 c =
+    let s = c .before .before .before .before .before .before .before .before .before .before in
+    let e : s .args .code ≡ 10 = c .before .before .before .before .match .keys10 in
+    rw e (c .before .before .int-lin-eq .ensures .0 (s .args .first) (boundsOf (s .args .ls .now) (s .args .us .now)), c .before .before .int-lin-eq .ensures .1)
+
+returns-11 : tie.Need-returns-11
+unfolding builtin builtins
+returns-11 c =
+    let s = c .before .before .before .before .before .before .before .before .before .before in
+    let e : s .args .code ≡ 11 = c .before .before .before .before .match .keys11 in
+    rw e (c .before .before .int-lin-le .ensures .0 (s .args .first) (boundsOf (s .args .ls .now) (s .args .us .now)), c .before .before .int-lin-le .ensures .1)
+
+returns-12 : tie.Need-returns-12
+unfolding builtin builtins sumOf formOf any
+returns-12 c =
+    let s = c .before .before .before .before .before .before .before .before .before .before in
+    let e : s .args .code ≡ 12 = c .before .before .before .before .match .keys12 in
+    let is = (rw e at (s .pre .5)) .is (λ z. omega arith) in
+    rw e (c .before .before .int-lin-ne .ensures .0 (boundsOf (s .args .ls .now) (s .args .us .now)) is, c .before .before .int-lin-ne .ensures .1)
+
+returns-13 : tie.Need-returns-13
+unfolding builtin builtins sumOf formOf any
+returns-13 c =
+    let s = c .before .before .before .before .before .before .before .before .before .before in
+    let e : s .args .code ≡ 13 = c .before .before .before .before .match .keys13 in
+    let is = (rw e at (s .pre .5)) .is (λ z. omega arith) in
+    rw e (c .before .before .int-lin-eq-reif .ensures .0 (boundsOf (s .args .ls .now) (s .args .us .now)) is, c .before .before .int-lin-eq-reif .ensures .1)
+
+returns-14 : tie.Need-returns-14
+unfolding builtin builtins sumOf formOf any
+returns-14 c =
+    let s = c .before .before .before .before .before .before .before .before .before .before in
+    let e : s .args .code ≡ 14 = c .before .before .before .before .match .keys14 in
+    let is = (rw e at (s .pre .5)) .is (λ z. omega arith) in
+    rw e (c .before .before .int-eq-reif .ensures .0 (boundsOf (s .args .ls .now) (s .args .us .now)) is, c .before .before .int-eq-reif .ensures .1)
+
+returns-15 : tie.Need-returns-15
+unfolding builtin builtins sumOf formOf any
+returns-15 c =
+    let s = c .before .before .before .before .before .before .before .before .before .before in
+    let e : s .args .code ≡ 15 = c .before .before .before .before .match .keys15 in
+    let is = (rw e at (s .pre .5)) .is (λ z. omega arith) in
+    rw e (c .before .before .int-lin-le-reif .ensures .0 (boundsOf (s .args .ls .now) (s .args .us .now)) is, c .before .before .int-lin-le-reif .ensures .1)
+
+returns-16 : tie.Need-returns-16
+unfolding builtin builtins rule
+returns-16 c =
+    let s = c .before .before .before .before .before .before .before .before .before .before in
+    let e : s .args .code ≡ 16 = c .before .before .before .before .match .keys16 in
+    let w = rw (c .before .before .before .before .before .before .before .var-at .ensures, c .before .before .before .before .before .before .var-at2 .ensures) at (c .before .before .int-eq2 .ensures) in
+    rw e (w .0 (boundsOf (s .args .ls .now) (s .args .us .now)) (s .args .first), omega (arith, w .1))
+
+returns-17 : tie.Need-returns-17
+unfolding builtin builtins rule _─_≤0 blockParts boundParts flatMap rowParts termParts numbered rowOf many
+returns-17 c =
+    let s = c .before .before .before .before .before .before .before .before .before .before in
+    let e : s .args .code ≡ 17 = c .before .before .before .before .match .keys17 in
+    let w = rw (c .before .before .before .before .before .before .before .var-at .ensures, c .before .before .before .before .before .before .var-at2 .ensures) at (c .before .before .two-terms3 .ensures) in
+    rw e (w .0, omega (arith, w .1))
+
+returns-18 : tie.Need-returns-18
+unfolding builtin builtins
+returns-18 c =
+    let s = c .before .before .before .before .before .before .before .before .before .before in
+    let e : s .args .code ≡ 18 = c .before .before .before .before .match .keys18 in
+    let w = rw (c .before .before .before .before .before .before .before .var-at .ensures, c .before .before .before .before .before .before .var-at2 .ensures, c .before .before .before .before .before .var-at3 .ensures) at (c .before .before .bool-and .ensures) in
+    rw e (w .0 (boundsOf (s .args .ls .now) (s .args .us .now)) (s .args .first), omega (arith, w .1))
+
+returns-19 : tie.Need-returns-19
+unfolding builtin builtins
+returns-19 c =
+    let s = c .before .before .before .before .before .before .before .before .before .before in
+    let e : s .args .code ≡ 19 = c .before .before .before .before .match .keys19 in
+    let w = rw (c .before .before .before .before .before .before .before .var-at .ensures, c .before .before .before .before .before .before .var-at2 .ensures, c .before .before .before .before .before .var-at3 .ensures) at (c .before .before .bool-or .ensures) in
+    rw e (w .0 (boundsOf (s .args .ls .now) (s .args .us .now)) (s .args .first), omega (arith, w .1))
+
+returns-20 : tie.Need-returns-20
+unfolding builtin builtins
+returns-20 c =
+    let s = c .before .before .before .before .before .before .before .before .before .before in
+    let e : s .args .code ≡ 20 = c .before .before .before .before .match .keys20 in
+    let w = rw (c .before .before .before .before .before .before .before .var-at .ensures, c .before .before .before .before .before .before .var-at2 .ensures, c .before .before .before .before .before .var-at3 .ensures) at (c .before .before .bool-xor .ensures) in
+    rw e (w .0 (boundsOf (s .args .ls .now) (s .args .us .now)), omega (arith, w .1))
+
+returns-21 : tie.Need-returns-21
+unfolding builtin builtins
+returns-21 c =
+    let s = c .before .before .before .before .before .before .before .before .before .before in
+    let e : s .args .code ≡ 21 = c .before .before .before .before .match .keys21 in
+    rw e (c .before .before .bool-clause .ensures .0 (s .args .first) (boundsOf (s .args .ls .now) (s .args .us .now)), c .before .before .bool-clause .ensures .1)
+
+returns-22 : tie.Need-returns-22
+unfolding builtin builtins
+returns-22 c =
+    let s = c .before .before .before .before .before .before .before .before .before .before in
+    let e : s .args .code ≡ 22 = c .before .before .before .before .match .keys22 in
+    rw e (c .before .before .array-bool-and .ensures .0 (s .args .first) (boundsOf (s .args .ls .now) (s .args .us .now)), c .before .before .array-bool-and .ensures .1)
+
+returns-23 : tie.Need-returns-23
+unfolding builtin builtins
+returns-23 c =
+    let s = c .before .before .before .before .before .before .before .before .before .before in
+    let e : s .args .code ≡ 23 = c .before .before .before .before .match .keys23 in
+    rw e (c .before .before .array-bool-xor .ensures .0 (s .args .first) (boundsOf (s .args .ls .now) (s .args .us .now)), c .before .before .array-bool-xor .ensures .1)
+
+returns-24 : tie.Need-returns-24
+unfolding builtin builtins
+returns-24 c =
+    let s = c .before .before .before .before .before .before .before .before .before .before in
+    let e : s .args .code ≡ 24 = c .before .before .before .before .match .keys24 in
+    rw e (c .before .before .array-int-element .ensures)
+
+returns-25 : tie.Need-returns-25
+unfolding builtin builtins
+returns-25 c =
+    let s = c .before .before .before .before .before .before .before .before .before .before in
+    let e : s .args .code ≡ 25 = c .before .before .before .before .match .keys25 in
+    rw e (c .before .before .array-var-int-element .ensures)
+
+returns-26 : tie.Need-returns-26
+unfolding builtin builtins
+returns-26 c =
+    let s = c .before .before .before .before .before .before .before .before .before .before in
+    let e : s .args .code ≡ 26 = c .before .before .before .before .match .keys26 in
+    rw e (c .before .before .array-int-maximum .ensures)
+
+returns-27 : tie.Need-returns-27
+unfolding builtin builtins
+returns-27 c =
+    let s = c .before .before .before .before .before .before .before .before .before .before in
+    let e : s .args .code ≡ 27 = c .before .before .before .before .match .keys27 in
+    rw e (c .before .before .set-in .ensures)
+
+returns-28 : tie.Need-returns-28
+unfolding builtin builtins
+returns-28 c =
+    let s = c .before .before .before .before .before .before .before .before .before .before in
+    let e : s .args .code ≡ 28 = c .before .before .before .before .match .keys28 in
+    rw e (c .before .before .set-in-reif .ensures)
+
+other : tie.Need-returns-29
+other c =
+    let s = c .before .before .before .before .before .before .before .before .before .before in
+    let w = c .before .before .int-eq3 .ensures in
+    rw (default (s .args .code) (s .args .args .now) (c .before .before .before .before .match .rest)) (w .0 (boundsOf (s .args .ls .now) (s .args .us .now)) (s .args .first), omega (arith, w .1))
+
+pub lay-block-spec : {M : Type 1} → statement M
+lay-block-spec =
+    tie.close
+    (tie.spec
+    (λ c κs. search needs)
+    (λ c κs. search needs)
+    (λ c κs. search needs)
+    (λ c κs. search needs)
+    (λ c κs. search needs)
+    (λ c κs. search needs)
+    (λ c κs. search needs)
+    (λ c κs. search needs)
+    (λ c κs. search needs)
+    (λ c κs. search needs)
+    (λ c κs. search needs)
+    (λ c κs. search needs)
+    (λ c κs. search needs)
+    (λ c κs. search needs)
+    (λ c κs. search needs)
+    (λ c κs. search needs)
+    (λ c κs. search needs)
+    (λ c κs. search needs)
+    (λ c κs. search needs)
+    (λ c κs. search needs)
+    (λ c κs. search needs)
+    (λ c κs. search needs)
+    (λ c κs. search needs)
+    (λ c κs. search needs)
+    (λ c κs. search needs)
+    (λ c κs. search needs)
+    (λ c κs. search needs)
+    (λ c κs. search needs)
+    (λ c κs. search needs)
+    (λ c κs. search needs)
+    set-in-reif-requires
+    (λ c κs. search needs)
+    (λ c. search needs)
+    returns
+    (λ c. search needs)
+    returns-2
+    (λ c. search needs)
+    returns-3
+    (λ c. search needs)
+    returns-4
+    (λ c. search needs)
+    returns-5
+    (λ c. search needs)
+    returns-6
+    (λ c. search needs)
+    returns-7
+    (λ c. search needs)
+    returns-8
+    (λ c. search needs)
+    returns-9
+    (λ c. search needs)
+    returns-10
+    (λ c. search needs)
+    returns-11
+    (λ c. search needs)
+    returns-12
+    (λ c. search needs)
+    returns-13
+    (λ c. search needs)
+    returns-14
+    (λ c. search needs)
+    returns-15
+    (λ c. search needs)
+    returns-16
+    (λ c. search needs)
+    returns-17
+    (λ c. search needs)
+    returns-18
+    (λ c. search needs)
+    returns-19
+    (λ c. search needs)
+    returns-20
+    (λ c. search needs)
+    returns-21
+    (λ c. search needs)
+    returns-22
+    (λ c. search needs)
+    returns-23
+    (λ c. search needs)
+    returns-24
+    (λ c. search needs)
+    returns-25
+    (λ c. search needs)
+    returns-26
+    (λ c. search needs)
+    returns-27
+    (λ c. search needs)
+    returns-28
+    (λ c. search needs)
+    other)
