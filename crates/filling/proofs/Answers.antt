@@ -1,19 +1,16 @@
 -- The answers of fill of a model that passes the check, and what each leaves in the lent list.
-use mathlib.Core.Path.{_≡_, refl, sym, ap, _∙_}
-use mathlib.Core.Bool.{Bool, true, false}
+use mathlib.Core.Path.{_≡_, sym, _∙_}
+use mathlib.Core.Bool.{false}
 use mathlib.Core.List.{List, _++_}
 use Prim.Native.Nat.{ℕ, _+_, _<_, _≤_}
-use lib.Dec.{ltb, eqb}
 use lib.IntN.{ℤ}
 use native.Mathlib.Omega.{arith}
-use lib.ListN.{length, length-append, take}
+use lib.ListN.{length, length-append}
 use borrow.Author.Tests.{eq-eqb, ne-eqb, lt-ltb, le-ltb}
-use Rattle.integers.specs.Choice.{_if_else_}
 use Rattle.words.specs.Variables.{variables}
 use Rattle.words.specs.Overlay.{overlay}
-use Rattle.words.specs.Refusal.{_at-place_, accepted, _else-refuse_, countFault}
+use Rattle.words.specs.Refusal.{accepted, _else-refuse_, countFault}
 use Rattle.words.specs.Answer.{Answer, refused, written, holds, isHolds, _else-answer_}
-use Rattle.words.specs.declared.Refusal.{Refusal}
 use Rattle.models.specs.JudgeModel.{judgeModel, judgeAccepted}
 use Rattle.rules.specs.Translation.{picks, auxiliaries}
 use Rattle.rules.specs.Translate.{roomFault}

@@ -1,5 +1,5 @@
 -- What fill writes of a model that passes the check, where the values satisfy it: numbers in the range, at places that do not wrap.
-use mathlib.Core.Path.{_≡_, sym, ap, subst}
+use mathlib.Core.Path.{_≡_, ap, subst}
 use mathlib.Core.Bool.{true}
 use mathlib.Core.List.{List, _++_}
 use Prim.Native.Nat.{ℕ, _+_, _<_, _≤_}
@@ -13,7 +13,7 @@ use Rattle.words.specs.Variables.{variables}
 use Rattle.words.proofs.Word.{says-range}
 use Rattle.models.proofs.Accepted as Accepted
 use Rattle.arguments.specs.Small.{Small}
-use Rattle.rules.specs.Translation.{picks, auxiliaries}
+use Rattle.rules.specs.Translation.{picks}
 use Rattle.sharing.specs.SharedSolutions.{Passes, SatisfiesModel}
 use Rattle.sharing.proofs.Accepts.{passes-read}
 use Rattle.sharing.proofs.Theorem.{few-in-all, fill-counts}

@@ -5,7 +5,7 @@ use Prim.Native.Nat.{ℕ}
 use lib.IntN.{ℤ, pos}
 use lib.Signed.{leZ}
 use lib.ListN.{getD}
-use Rattle.integers.specs.Number.{_⊕_, _⊖_, count, +0, +1, minZ, maxZ}
+use Rattle.integers.specs.Number.{_⊕_, _⊖_, count, +0, +1}
 use Rattle.integers.specs.Lists.{listOf}
 use Rattle.integers.specs.declared.Bounds.{Bounds}
 

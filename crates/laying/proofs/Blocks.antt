@@ -1,21 +1,21 @@
 -- The parts of a block have the words, the auxiliaries, the rows and the numbers that its definition says.
 use mathlib.Core.Path.{_≡_, refl, sym, ap, ap₂, _∙_}
-use mathlib.Core.Bool.{Bool, not}
-use mathlib.Core.List.{List, [], _∷_, _++_, append-nil, flatMap, map}
-use Prim.Native.Nat.{ℕ, _+_}
+use mathlib.Core.Bool.{not}
+use mathlib.Core.List.{List, [], _∷_, _++_, flatMap, map}
+use Prim.Native.Nat.{ℕ}
 use native.Mathlib.Omega.{arith}
 use lib.IntN.{ℤ}
 use lib.ListN.{length}
 use Rattle.integers.specs.Lists.{all}
-use Rattle.integers.specs.Terms.{Term, _·_}
+use Rattle.integers.specs.Terms.{Term}
 use Rattle.integers.specs.declared.Bounds.{Bounds}
 use Rattle.words.specs.Word.{word, numberWord, inRange}
 use Rattle.words.specs.Kind as Kind
 use Rattle.rowsystems.specs.Row.{Row, sum≤0, sum=0, product, rename, renameTerms}
 use Rattle.rowsystems.specs.RowWords.{boundWords, termWords, sumWords, rowWords, boundNumbers, rowNumbers}
 use Rattle.rules.specs.Block.{Ref, Block, numbered, blockWords, blockNumbers, outside}
-use Rattle.laying.specs.Part.{Part, head, constant, partWords, partNumbers, partAuxiliaries, partRows, wordsIn, numbersIn, auxiliariesIn, rowsIn, boundParts, termParts, rowParts, blockParts}
-use Rattle.laying.proofs.Parts.{flatMap-append, words-append, numbers-append, auxiliaries-append, rows-append}
+use Rattle.laying.specs.Part.{head, constant, partWords, partNumbers, partAuxiliaries, partRows, wordsIn, numbersIn, auxiliariesIn, rowsIn, boundParts, termParts, rowParts, blockParts}
+use Rattle.laying.proofs.Parts.{words-append, numbers-append, auxiliaries-append, rows-append}
 
 -- ---- of bounds and terms
 

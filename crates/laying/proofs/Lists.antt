@@ -1,22 +1,22 @@
 -- The lists of the definitions as the loops lay them, and rows of given terms.
-use mathlib.Core.Path.{_≡_, refl, sym, ap, ap₂, _∙_}
+use mathlib.Core.Path.{_≡_, refl, ap, ap₂, _∙_}
 use mathlib.Core.List.{List, [], _∷_, _++_, map, map-append, flatMap}
 use Prim.Native.Nat.{ℕ, zero, suc, _+_}
 use native.Mathlib.Omega.{arith}
 use lib.IntN.{ℤ}
 use lib.ListN.{length}
-use Rattle.integers.specs.Number.{+0, +1, -1}
+use Rattle.integers.specs.Number.{+0, +1}
 use Rattle.integers.specs.Lists.{listOf}
 use Rattle.integers.specs.Bounds.{width, values}
-use Rattle.integers.specs.Terms.{Term, _·_}
+use Rattle.integers.specs.Terms.{Term}
 use Rattle.integers.specs.declared.Bounds.{Bounds}
 use Rattle.integers.proofs.Lists.{listOf-length}
 use Rattle.words.specs.Kind as Kind
 use Rattle.models.specs.Model.{size, past, vars, nums, terms}
-use Rattle.rowsystems.specs.Row.{Row, sum≤0, sum=0, product, renameTerms}
-use Rattle.rules.specs.Block.{Ref, source, aux, numbered}
+use Rattle.rowsystems.specs.Row.{Row, sum≤0, sum=0, renameTerms}
+use Rattle.rules.specs.Block.{Ref, source, numbered}
 use Rattle.rules.specs.Parts.{_─_≤0, sources, each, bits, weighted, one, products}
-use Rattle.laying.specs.Part.{Part, bound, head, term, constant, times, boundParts, termParts, rowParts}
+use Rattle.laying.specs.Part.{bound, head, term, constant, times, boundParts, termParts, rowParts}
 use Rattle.laying.specs.Lists.{many, termAt, rowOf, sumAt, eachAt, oneAt, labelAt, bitAt, productAt, belowAt, aboveAt}
 use Rattle.laying.proofs.Parts.{many-same}
 

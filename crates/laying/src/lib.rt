@@ -5,7 +5,7 @@ ghost use Prim.Native.Nat.{_+_, _<_, _≤_};
 ghost use lib.IntN.{natAbs};
 ghost use lib.ListN.{length};
 ghost use Rattle.models.specs.Model.{size, past};
-ghost use Rattle.laying.specs.Part.{Part, bound, head, term, constant, times};
+ghost use Rattle.laying.specs.Part.{bound, head, term, constant, times};
 ghost use Rattle.laying.specs.Lists.{many, rowOf, termAt, sumAt, eachAt, oneAt, labelAt, bitAt, productAt, belowAt, aboveAt};
 ghost use Rattle.laying.specs.Went.{Went, Over, Near, total, nothing};
 use arguments::num_at;

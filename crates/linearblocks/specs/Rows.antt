@@ -4,7 +4,7 @@ use Prim.Native.Nat.{ℕ}
 use lib.IntN.{ℤ}
 use Rattle.integers.specs.Number.{_⊖_, neg, +1, +2, -1, -2}
 use Rattle.integers.specs.Bounds.{_to_, bit}
-use Rattle.integers.specs.Terms.{Term, _·_}
+use Rattle.integers.specs.Terms.{_·_}
 use Rattle.models.specs.Model.{num, terms, pastTerms}
 use Rattle.rowsystems.specs.Row.{Row, sum≤0, sum=0, product}
 use Rattle.rules.specs.Block.{Ref, source, aux, Block}

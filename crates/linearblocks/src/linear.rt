@@ -5,7 +5,7 @@ ghost use Prim.Native.Nat.{ℕ, _<_, _≤_};
 ghost use lib.IntN.{natAbs};
 ghost use Rattle.models.specs.Builtin.{int-lin-eq, int-lin-le, int-lin-ne, int-lin-eq-reif, int-eq-reif, int-lin-le-reif};
 ghost use Rattle.builtins.specs.Coded.{three, linear, linearReified};
-ghost use Rattle.rules.specs.Rule.{rule, block};
+ghost use Rattle.rules.specs.Rule.{rule};
 ghost use Rattle.linearsums.specs.Sum.{linearSum, equalSum, Fits};
 ghost use Rattle.laying.specs.Part.{rowParts, blockParts};
 ghost use Rattle.laying.specs.Went.{Went, Near, total};

@@ -7,7 +7,7 @@ ghost use lib.ListN.{length};
 ghost use Rattle.integers.specs.Number.{neg, maxZ, absZ};
 ghost use Rattle.models.specs.Model.{num, terms, pastTerms};
 ghost use Rattle.rules.specs.Parts.{sources};
-ghost use Rattle.laying.specs.Part.{Part, head, constant, termParts, rowParts, blockParts};
+ghost use Rattle.laying.specs.Part.{head, constant, termParts, rowParts, blockParts};
 ghost use Rattle.laying.specs.Went.{Went, Near, total};
 ghost use Rattle.linearblocks.specs.Rows.{link, split, slack};
 use arguments::num_at;

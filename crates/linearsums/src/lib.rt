@@ -1,6 +1,6 @@
 // L and U of the sums of a model, worked out over a lent list of the bounds of its variables.
 ghost use mathlib.Core.Path.{_≡_};
-ghost use Prim.Native.Nat.{_+_, _*_, _<_, _≤_};
+ghost use Prim.Native.Nat.{_+_, _<_, _≤_};
 ghost use lib.IntN.{natAbs};
 ghost use lib.ListN.{length};
 ghost use Rattle.integers.specs.Choice.{_if_else_};

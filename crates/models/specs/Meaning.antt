@@ -1,5 +1,5 @@
 -- When a builtin is true of values: 000, section 3, save where 01 states it otherwise; never by its rows.
-use mathlib.Core.Bool.{Bool, true, false, not, _&&_, _||_, Bool·beq}
+use mathlib.Core.Bool.{Bool, false, not, _&&_, _||_, Bool·beq}
 use mathlib.Core.List.{List, map}
 use Prim.Native.Nat.{ℕ, _-_}
 use lib.Dec.{leb, eqb}

@@ -9,7 +9,7 @@ use lib.Seq.{length-take-le}
 use borrow.Author.Tests.{lt-ltb}
 use Rattle.words.specs.Overlay.{overlay}
 use Rattle.words.proofs.Overlay.{length-overlay}
-use Rattle.words.specs.Answer.{Answer, refused, _else-answer_}
+use Rattle.words.specs.Answer.{refused, _else-answer_}
 use Rattle.words.specs.Refusal.{_else-refuse_}
 use Rattle.models.specs.Reading.{readModel}
 use Rattle.rules.specs.Check.{checkFault}

@@ -1,6 +1,6 @@
 -- Reading a row system: faults 1 to 5, 9 to 11, 14, 17, the leftmost faulty word, at one word by list order.
 use mathlib.Core.Bool.{Bool, not, _&&_, _||_}
-use mathlib.Core.List.{List, [], _∷_}
+use mathlib.Core.List.{List}
 use Prim.Native.Nat.{ℕ, _+_, _-_}
 use lib.Dec.{ltb, leb, eqb}
 use lib.Signed.{ltZ}

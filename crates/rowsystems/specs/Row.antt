@@ -1,7 +1,6 @@
 -- Rows and products; 01: "products count as rows throughout". A row speaks of variables of any type X: numbers, or a block's own.
 use mathlib.Core.Bool.{Bool}
 use mathlib.Core.List.{List, map}
-use Prim.Native.Nat.{ℕ}
 use lib.IntN.{ℤ}
 use lib.Signed.{leZ}
 use Rattle.integers.specs.Number.{_⊕_, _⊗_, _==_, +0}

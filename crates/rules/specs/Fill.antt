@@ -1,5 +1,5 @@
 -- Fill: 1 to 14, then 15, then 16; else judge-model's answer, and where that is "holds" the values and the auxiliaries that it picks.
-use mathlib.Core.Bool.{Bool, _&&_}
+use mathlib.Core.Bool.{_&&_}
 use mathlib.Core.List.{List, _++_}
 use Prim.Native.Nat.{ℕ, _+_}
 use lib.Dec.{eqb}

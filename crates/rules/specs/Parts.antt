@@ -1,5 +1,5 @@
 -- What several rules share: Z, L and U, products of bounds, one-hot bits, the members of a set.
-use mathlib.Core.Bool.{Bool, _&&_}
+use mathlib.Core.Bool.{_&&_}
 use mathlib.Core.List.{List, [], _∷_, _++_, map}
 use Prim.Native.Nat.{ℕ, zero, suc, _-_}
 use lib.IntN.{ℤ, pos}

@@ -9,7 +9,7 @@ use lib.ListN.{length}
 use Rattle.integers.specs.Choice.{_if_else_}
 use Rattle.integers.specs.Number.{_⊖_, _⊗_, _==_, +0, +1, -1}
 use Rattle.integers.specs.Bounds.{values}
-use Rattle.integers.specs.Terms.{Valuation, Term, _·_, sum}
+use Rattle.integers.specs.Terms.{Valuation, _·_, sum}
 use Rattle.integers.specs.declared.Bounds.{Bounds}
 use Rattle.models.specs.Builtin.{Builtin, int-eq, int-le, int-lt, int-ne, int-le-reif, int-plus, int-times, int-abs, int-max, int-lin-eq, int-lin-le, int-lin-ne, int-lin-eq-reif, int-eq-reif, int-lin-le-reif, bool2int, bool-not, bool-and, bool-or, bool-xor, bool-clause, array-bool-and, array-bool-xor, array-int-element, array-var-int-element, array-int-maximum, set-in, set-in-reif}
 use Rattle.rules.specs.Parts.{nth, places, members}

@@ -2,7 +2,7 @@
 use mathlib.Core.Path.{_≡_, refl}
 use mathlib.Core.Logic.{_↔_}
 use mathlib.Core.Bool.{Bool, true, false}
-use mathlib.Core.List.{List, [], _∷_, _++_, map}
+use mathlib.Core.List.{List, _++_}
 use Prim.Native.Nat.{ℕ}
 use native.Mathlib.Decide.{ℕ-discrete}
 use native.Mathlib.Omega.{arith}
@@ -14,7 +14,7 @@ use Rattle.integers.specs.Terms.{Valuation, value}
 use Rattle.integers.specs.declared.Bounds.{Bounds}
 use Rattle.integers.proofs.Linear.{_⊑_, rep, linear}
 use Rattle.integers.proofs.Bits.{Bit, bits, Reified, to-bit, bit-of}
-use Rattle.integers.proofs.Tests.{Says, In, All, says-equal, says-beq, false-true}
+use Rattle.integers.proofs.Tests.{Says, In, says-equal, says-beq, false-true}
 use Rattle.models.specs.Builtin.{Builtin}
 use Rattle.models.specs.Meaning.{meaning, on, _iff_}
 use Rattle.rules.specs.Block.{Ref}

@@ -1,18 +1,15 @@
 -- Demand 3 in the judges' own words, and what fill's values keep.
-use mathlib.Core.Path.{_≡_, refl, sym, ap, _∙_, subst}
+use mathlib.Core.Path.{_≡_, refl, sym, ap, _∙_}
 use mathlib.Core.Logic.{_↔_}
 use mathlib.Core.Bool.{Bool, true, false}
-use mathlib.Core.List.{List, [], _∷_, _++_}
-use Prim.Native.Nat.{ℕ, _<_}
-use native.Mathlib.Omega.{arith}
+use mathlib.Core.List.{List, _++_}
+use Prim.Native.Nat.{ℕ}
 use lib.Dec.{eqb}
 use lib.IntN.{ℤ}
 use lib.ListN.{length}
 use borrow.Author.Tests.{eqb-true, eq-eqb}
 use Rattle.integers.specs.Choice.{_if_else_}
-use Rattle.integers.specs.Bounds.{within, boundsIn}
 use Rattle.integers.specs.Terms.{value}
-use Rattle.integers.specs.declared.Bounds.{Bounds}
 use Rattle.integers.proofs.Tests.{false-true}
 use Rattle.words.specs.Variables.{variables}
 use Rattle.words.specs.Refusal.{_at-place_, accepted, _else-refuse_, countFault}
@@ -33,7 +30,7 @@ use Rattle.rowsystems.specs.JudgeRows.{judgeRows}
 use Rattle.rules.specs.Translation.{systemWords, auxiliaries, picks}
 use Rattle.sharing.specs.SharedSolutions.{Passes, Satisfies, SatisfiesModel, SatisfiesRows}
 use Rattle.sharing.proofs.Accepts.{passes-read}
-use Rattle.sharing.proofs.Theorem.{written-read, fill-counts, fill-satisfies, shared-solutions}
+use Rattle.sharing.proofs.Theorem.{written-read, fill-satisfies, shared-solutions}
 
 -- a refusal is not "holds"
 not-refused : (n p : ℕ) → refused n p ≡ holds → ⊥

@@ -2,10 +2,10 @@
 use mathlib.Core.Path.{_≡_, refl, sym, ap, ap₂, _∙_, fun-ext}
 use mathlib.Core.Logic.{_⊎_, inl, inr, _↔_}
 use mathlib.Core.Bool.{Bool, true, false, _&&_, _||_}
-use mathlib.Core.List.{List, [], _∷_, _++_, map}
+use mathlib.Core.List.{List, [], _∷_, _++_}
 use native.Mathlib.Omega.{arith}
-use Prim.Native.Nat.{ℕ, zero, suc, _+_, _-_, _≤_, _<_}
-use lib.IntN.{ℤ, pos, negsuc}
+use Prim.Native.Nat.{ℕ, zero, suc, _+_, _≤_, _<_}
+use lib.IntN.{ℤ, pos}
 use lib.Signed.{leZ, ltZ}
 use lib.ListN.{length}
 use Rattle.integers.specs.Choice.{_if_else_}
@@ -13,7 +13,7 @@ use Rattle.integers.specs.Number.{_⊕_, _⊖_, _==_, count, +1}
 use Rattle.integers.specs.Lists.{listOf, any}
 use Rattle.integers.specs.Bounds.{_to_, width, values}
 use Rattle.integers.specs.declared.Bounds.{Bounds}
-use Rattle.integers.proofs.Linear.{_⊑_, _⊏_, diff, linear, arithZ, diff-pos, diff-negsuc, diff-≡, dec⊑}
+use Rattle.integers.proofs.Linear.{_⊑_, _⊏_, linear, arithZ, dec⊑}
 use Rattle.integers.proofs.Lists.{any-map, all-members}
 use Rattle.integers.proofs.Tests.{Says, false-true, says-le, says-lt, says-and, says-equal, says-any, In, All, Any, Member}
 use Rattle.models.specs.Meaning.{member}

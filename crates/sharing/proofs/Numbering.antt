@@ -1,13 +1,12 @@
 -- A block whose auxiliaries are numbered on from the variables before it means what it meant by itself.
-use mathlib.Core.Path.{_≡_, refl, sym, ap, ap₂, _∙_, subst}
+use mathlib.Core.Path.{_≡_, refl, sym, ap₂, _∙_, subst}
 use mathlib.Core.Logic.{_↔_}
-use mathlib.Core.List.{List, [], _∷_, _++_, map}
-use Prim.Native.Nat.{ℕ, zero, suc, _+_, _<_}
+use mathlib.Core.List.{List, [], _∷_, map}
+use Prim.Native.Nat.{ℕ, suc, _+_, _<_}
 use native.Mathlib.Omega.{arith}
 use lib.IntN.{ℤ, pos}
-use lib.ListN.{length}
 use Rattle.integers.specs.Number.{_⊕_, _⊗_}
-use Rattle.integers.specs.Terms.{Valuation, Term, _·_}
+use Rattle.integers.specs.Terms.{Valuation, Term}
 use Rattle.integers.proofs.Linear.{_⊑_}
 use Rattle.integers.proofs.Tests.{All}
 use Rattle.rowsystems.specs.Row.{Row, sum≤0, sum=0, product, renameTerms, rename}

@@ -1,5 +1,4 @@
 -- The places of a list inside bounds: how many there are, what holds at them, and the place of a value among those of its bounds.
-use mathlib.Core.Path.{_≡_}
 use mathlib.Core.List.{List}
 use Prim.Native.Nat.{ℕ, _≤_, _<_}
 use native.Mathlib.Omega.{arith}

@@ -1,15 +1,14 @@
 -- What fill writes fits 32 bits: every value and every pick is in the range of signed payloads.
-use mathlib.Core.Path.{_≡_, refl, sym, ap, _∙_, subst}
-use mathlib.Core.Bool.{Bool, true, false}
+use mathlib.Core.Path.{_≡_, sym, subst}
+use mathlib.Core.Bool.{true}
 use mathlib.Core.List.{List, [], _∷_, _++_, flatMap}
-use Prim.Native.Nat.{ℕ, zero, suc, _<_}
-use native.Mathlib.Omega.{arith}
+use Prim.Native.Nat.{ℕ, _<_}
 use lib.IntN.{ℤ}
 use lib.ListN.{length}
 use Rattle.integers.specs.Bounds.{boundsIn}
 use Rattle.integers.specs.Terms.{value}
 use Rattle.integers.specs.declared.Bounds.{Bounds}
-use Rattle.integers.proofs.Linear.{_⊑_, arithZ}
+use Rattle.integers.proofs.Linear.{arithZ}
 use Rattle.integers.proofs.Lists.{all-append, all-implies, all-at}
 use Rattle.integers.proofs.Tests.{In, says-within, All}
 use Rattle.words.specs.Limit as Limit

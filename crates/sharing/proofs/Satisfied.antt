@@ -1,15 +1,14 @@
 -- What it is that a list satisfies a model or a row system, as bounds that are kept and propositions that hold.
-use mathlib.Core.Path.{_≡_, refl, sym, ap, _∙_, subst}
+use mathlib.Core.Path.{_≡_, subst}
 use mathlib.Core.Logic.{_↔_}
-use mathlib.Core.Bool.{Bool, true}
+use mathlib.Core.Bool.{Bool}
 use mathlib.Core.List.{List, [], _∷_}
 use Prim.Native.Nat.{ℕ, zero, suc, _<_}
 use native.Mathlib.Omega.{arith}
 use native.Mathlib.Nat.{le-of-suc-le-suc, not-suc-le-zero}
 use lib.IntN.{ℤ}
-use lib.ListN.{length, getD}
-use Rattle.integers.specs.Lists.{all}
-use Rattle.integers.specs.Bounds.{within, boundsIn}
+use lib.ListN.{length}
+use Rattle.integers.specs.Bounds.{boundsIn}
 use Rattle.integers.specs.Terms.{Valuation, value}
 use Rattle.integers.specs.declared.Bounds.{Bounds}
 use Rattle.integers.proofs.Tests.{Says, says-all, says-within, In, All}

@@ -1,26 +1,26 @@
 -- A list satisfies a model exactly where some auxiliaries make it satisfy rows that are the model's blocks, numbered on; and the picks do.
-use mathlib.Core.Path.{_≡_, refl, sym, ap, ap₂, _∙_, subst}
+use mathlib.Core.Path.{_≡_, sym, ap₂, _∙_, subst}
 use mathlib.Core.Logic.{_↔_}
-use mathlib.Core.Bool.{Bool, true}
-use mathlib.Core.List.{List, [], _∷_, _++_, flatMap, append-nil}
+use mathlib.Core.Bool.{true}
+use mathlib.Core.List.{List, [], _++_, append-nil}
 use Prim.Native.Nat.{ℕ, _+_, _<_}
 use native.Mathlib.Omega.{arith}
 use lib.IntN.{ℤ, pos}
-use lib.ListN.{length, getD, length-append, List·getD-append}
+use lib.ListN.{length, length-append, List·getD-append}
 use Rattle.integers.specs.Bounds.{bit, boundsIn}
 use Rattle.integers.specs.Terms.{Valuation, value}
 use Rattle.integers.specs.declared.Bounds.{Bounds}
 use Rattle.integers.proofs.Bits.{Bit, to-bit}
 use Rattle.integers.proofs.Lists.{all-implies}
-use Rattle.integers.proofs.Tests.{Says, In, All}
+use Rattle.integers.proofs.Tests.{In, All}
 use Rattle.words.specs.Variables.{variables}
 use Rattle.models.specs.Meaning.{meaning}
 use Rattle.models.specs.Model.{Constraint, constraints, builtin}
 use Rattle.models.proofs.Arguments.{integerArguments, booleanArguments}
-use Rattle.rowsystems.specs.Row.{Row, satisfied}
+use Rattle.rowsystems.specs.Row.{satisfied}
 use Rattle.rowsystems.specs.RowSystem.{rows}
-use Rattle.rules.specs.Translation.{bounds, blockOf, auxiliaries, picks}
-use Rattle.sharing.specs.SharedSolutions.{SatisfiesModel, SatisfiesRows, SharedSolutions}
+use Rattle.rules.specs.Translation.{blockOf}
+use Rattle.sharing.specs.SharedSolutions.{SatisfiesModel, SatisfiesRows}
 use Rattle.sharing.proofs.Good.{Sat, says-satisfied, Keeps}
 use Rattle.sharing.proofs.Fits.{Fits}
 use Rattle.sharing.proofs.Formed.{Formed}

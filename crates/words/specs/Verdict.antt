@@ -1,5 +1,4 @@
 -- The answer, in 01's words, of each case of the enum that a judge answers.
-use Prim.Native.Nat.{ℕ}
 use Rattle.words.specs.Answer.{Answer, refused, holds, outOfBounds, isFalse}
 use Rattle.words.specs.declared.Verdict.{Verdict}
 use Rattle.words.specs.declared.Verdict.the-variants.{Refused, Holds, OutOfBounds, False}

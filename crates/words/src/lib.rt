@@ -1,6 +1,6 @@
 // Words: their kind and payload, total reads, laying words over a lent list; refusals.
 ghost use mathlib.Core.Path.{_≡_};
-ghost use Prim.Native.Nat.{ℕ, _+_, _<_};
+ghost use Prim.Native.Nat.{_+_, _<_};
 ghost use lib.ListN.{length};
 ghost use Rattle.integers.specs.Terms.{value};
 ghost use Rattle.words.specs.Word.{kind, payload, signed, inRange, word, complement, numberWord, wordAt};

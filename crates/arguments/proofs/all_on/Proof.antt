@@ -6,15 +6,9 @@ use Rattle.arguments.proofs.Walk.{all-count, length-listOf}
 use Rattle.arguments.proofs.all_on.Statement.{statement}
 use Rattle.arguments.proofs.all_on.Tie as tie
 
-how-many-requires : tie.Need-how-many-requires
-how-many-requires c κs = search needs
-
-size-at-requires : tie.Need-size-at-requires
-size-at-requires c κs = search needs
-
 returns : tie.Need-returns
 unfolding on vars
 returns c = rw (c .before .how-many .ensures, c .size-at .ensures, ← all-count, length-listOf)
 
 pub all-on-spec : {M : Type 1} → statement M
-all-on-spec = tie.close (tie.spec how-many-requires size-at-requires returns)
+all-on-spec = tie.close (tie.spec (λ c κs. search needs) (λ c κs. search needs) returns)

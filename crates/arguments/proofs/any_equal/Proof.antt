@@ -5,11 +5,8 @@ use Rattle.arguments.proofs.Walk.{any-count}
 use Rattle.arguments.proofs.any_equal.Statement.{statement}
 use Rattle.arguments.proofs.any_equal.Tie as tie
 
-how-many-requires : tie.Need-how-many-requires
-how-many-requires c κs = search needs
-
 returns : tie.Need-returns
 returns c = rw (c .how-many .ensures, toZ-ofZ (c .before .before .fits .v)) (any-count _ _)
 
 pub any-equal-spec : {M : Type 1} → statement M
-any-equal-spec = tie.close (tie.spec how-many-requires returns)
+any-equal-spec = tie.close (tie.spec (λ c κs. search needs) returns)

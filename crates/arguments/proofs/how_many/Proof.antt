@@ -21,36 +21,12 @@ Inv-loop args i v values n k₀ found₀ k found = (k ≤ n) × (n ≤ 32) × (f
 abbrev μ-loop : tie.MeasureT-loop
 μ-loop args i v values n k₀ found₀ k found = n - k
 
-size-at-requires : tie.Need-size-at-requires Inv-loop μ-loop
-size-at-requires c κs = search needs
-
 loop-holds : tie.Need-loop-holds Inv-loop μ-loop
 unfolding listOf howMany
 loop-holds c = (search needs, omega (arith, size-le (c .before .before .args .args .now) (c .before .before .args .i)), search needs, refl)
 
-add-value-of : tie.Need-add-value-of Inv-loop μ-loop
-add-value-of c = search needs
-
-add-value-of-2 : tie.Need-add-value-of-2 Inv-loop μ-loop
-add-value-of-2 c = search needs
-
-value-of-requires : tie.Need-value-of-requires Inv-loop μ-loop
-value-of-requires c κs = search needs
-
-equal-requires : tie.Need-equal-requires Inv-loop μ-loop
-equal-requires c κs = search needs
-
-one-if-requires : tie.Need-one-if-requires Inv-loop μ-loop
-one-if-requires c κs = search needs
-
 add-found : tie.Need-add-found Inv-loop μ-loop
 add-found c = omega (arith, bit-le (c .before .equal .result))
-
-add-k : tie.Need-add-k Inv-loop μ-loop
-add-k c = search needs
-
-loop-less : tie.Need-loop-less Inv-loop μ-loop
-loop-less c = search needs
 
 loop-again : tie.Need-loop-again Inv-loop μ-loop
 loop-again c =
@@ -71,15 +47,15 @@ how-many-spec =
     (tie.spec
     Inv-loop
     μ-loop
-    size-at-requires
+    (λ c κs. search needs)
     loop-holds
-    add-value-of
-    add-value-of-2
-    value-of-requires
-    equal-requires
-    one-if-requires
+    (λ c. search needs)
+    (λ c. search needs)
+    (λ c κs. search needs)
+    (λ c κs. search needs)
+    (λ c κs. search needs)
     add-found
-    add-k
-    loop-less
+    (λ c. search needs)
+    (λ c. search needs)
     loop-again
     returns)

@@ -21,33 +21,9 @@ Inv-loop args i x n k₀ so-far₀ k so-far = (k ≤ n) × (n ≤ 32) × (so-far
 abbrev μ-loop : tie.MeasureT-loop
 μ-loop args i x n k₀ so-far₀ k so-far = n - k
 
-size-at-requires : tie.Need-size-at-requires Inv-loop μ-loop
-size-at-requires c κs = search needs
-
 loop-holds : tie.Need-loop-holds Inv-loop μ-loop
 unfolding listOf any
 loop-holds c = (search needs, omega (arith, size-le (c .before .before .args .args .now) (c .before .before .args .i)), refl)
-
-add-num-at : tie.Need-add-num-at Inv-loop μ-loop
-add-num-at c = search needs
-
-add-num-at-2 : tie.Need-add-num-at-2 Inv-loop μ-loop
-add-num-at-2 c = search needs
-
-num-at-requires : tie.Need-num-at-requires Inv-loop μ-loop
-num-at-requires c κs = search needs
-
-equal-requires : tie.Need-equal-requires Inv-loop μ-loop
-equal-requires c κs = search needs
-
-either-requires : tie.Need-either-requires Inv-loop μ-loop
-either-requires c κs = search needs
-
-add-k : tie.Need-add-k Inv-loop μ-loop
-add-k c = search needs
-
-loop-less : tie.Need-loop-less Inv-loop μ-loop
-loop-less c = search needs
 
 loop-again : tie.Need-loop-again Inv-loop μ-loop
 loop-again c =
@@ -68,14 +44,14 @@ is-member-spec =
     (tie.spec
     Inv-loop
     μ-loop
-    size-at-requires
+    (λ c κs. search needs)
     loop-holds
-    add-num-at
-    add-num-at-2
-    num-at-requires
-    equal-requires
-    either-requires
-    add-k
-    loop-less
+    (λ c. search needs)
+    (λ c. search needs)
+    (λ c κs. search needs)
+    (λ c κs. search needs)
+    (λ c κs. search needs)
+    (λ c. search needs)
+    (λ c. search needs)
     loop-again
     returns)

@@ -21,33 +21,9 @@ Inv-loop args i m values n k₀ so-far₀ k so-far = (k ≤ n) × (n ≤ 32) × 
 abbrev μ-loop : tie.MeasureT-loop
 μ-loop args i m values n k₀ so-far₀ k so-far = n - k
 
-size-at-requires : tie.Need-size-at-requires Inv-loop μ-loop
-size-at-requires c κs = search needs
-
 loop-holds : tie.Need-loop-holds Inv-loop μ-loop
 unfolding listOf all
 loop-holds c = (search needs, omega (arith, size-le (c .before .before .args .args .now) (c .before .before .args .i)), refl)
-
-add-value-of : tie.Need-add-value-of Inv-loop μ-loop
-add-value-of c = search needs
-
-add-value-of-2 : tie.Need-add-value-of-2 Inv-loop μ-loop
-add-value-of-2 c = search needs
-
-value-of-requires : tie.Need-value-of-requires Inv-loop μ-loop
-value-of-requires c κs = search needs
-
-at-most-requires : tie.Need-at-most-requires Inv-loop μ-loop
-at-most-requires c κs = search needs
-
-both-requires : tie.Need-both-requires Inv-loop μ-loop
-both-requires c κs = search needs
-
-add-k : tie.Need-add-k Inv-loop μ-loop
-add-k c = search needs
-
-loop-less : tie.Need-loop-less Inv-loop μ-loop
-loop-less c = search needs
 
 loop-again : tie.Need-loop-again Inv-loop μ-loop
 loop-again c =
@@ -68,14 +44,14 @@ none-above-spec =
     (tie.spec
     Inv-loop
     μ-loop
-    size-at-requires
+    (λ c κs. search needs)
     loop-holds
-    add-value-of
-    add-value-of-2
-    value-of-requires
-    at-most-requires
-    both-requires
-    add-k
-    loop-less
+    (λ c. search needs)
+    (λ c. search needs)
+    (λ c κs. search needs)
+    (λ c κs. search needs)
+    (λ c κs. search needs)
+    (λ c. search needs)
+    (λ c. search needs)
     loop-again
     returns)

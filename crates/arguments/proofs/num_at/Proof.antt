@@ -6,15 +6,9 @@ use Rattle.arguments.proofs.Size.{read}
 use Rattle.arguments.proofs.num_at.Statement.{statement}
 use Rattle.arguments.proofs.num_at.Tie as tie
 
-word-at-requires : tie.Need-word-at-requires
-word-at-requires c κs = search needs
-
-signed-of-requires : tie.Need-signed-of-requires
-signed-of-requires c κs = search needs
-
 returns : tie.Need-returns
 unfolding num
 returns c = read (c .signed-of .ok) (c .signed-of .ensures) ∙ rw (c .before .word-at .ensures)
 
 pub num-at-spec : {M : Type 1} → statement M
-num-at-spec = tie.close (tie.spec word-at-requires signed-of-requires returns)
+num-at-spec = tie.close (tie.spec (λ c κs. search needs) (λ c κs. search needs) returns)

@@ -6,12 +6,6 @@ use Rattle.arguments.proofs.Size.{size-le}
 use Rattle.arguments.proofs.past_at.Statement.{statement}
 use Rattle.arguments.proofs.past_at.Tie as tie
 
-add-result : tie.Need-add-result
-add-result c = search needs
-
-size-at-requires : tie.Need-size-at-requires
-size-at-requires c κs = search needs
-
 add-result-2 : tie.Need-add-result-2
 add-result-2 c = omega (arith, size-le (c .before .before .args .args .now) (c .before .before .args .i))
 
@@ -20,4 +14,4 @@ unfolding past
 returns c = rw (c .size-at .ensures)
 
 pub past-at-spec : {M : Type 1} → statement M
-past-at-spec = tie.close (tie.spec add-result size-at-requires add-result-2 returns)
+past-at-spec = tie.close (tie.spec (λ c. search needs) (λ c κs. search needs) add-result-2 returns)

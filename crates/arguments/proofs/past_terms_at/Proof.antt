@@ -6,12 +6,6 @@ use Rattle.arguments.proofs.Size.{size-le}
 use Rattle.arguments.proofs.past_terms_at.Statement.{statement}
 use Rattle.arguments.proofs.past_terms_at.Tie as tie
 
-past-at-requires : tie.Need-past-at-requires
-past-at-requires c κs = search needs
-
-size-at-requires : tie.Need-size-at-requires
-size-at-requires c κs = search needs
-
 add-result : tie.Need-add-result
 unfolding past
 add-result c = omega (arith, size-le (c .before .before .before .args .args .now) (c .before .before .before .args .i))
@@ -21,4 +15,4 @@ unfolding pastTerms
 returns c = rw (c .size-at .ensures, c .before .past-at .ensures)
 
 pub past-terms-at-spec : {M : Type 1} → statement M
-past-terms-at-spec = tie.close (tie.spec past-at-requires size-at-requires add-result returns)
+past-terms-at-spec = tie.close (tie.spec (λ c κs. search needs) (λ c κs. search needs) add-result returns)

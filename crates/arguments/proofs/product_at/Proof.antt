@@ -16,12 +16,6 @@ use Rattle.arguments.proofs.product_at.Tie as tie
 whole : (c : tie.After-value-of) → toZ w64 (ofZ w64 (c .before .num-at .result)) ⊗ toZ w64 (ofZ w64 (c .value-of .result)) ≡ num (c .before .before .before .args .args .now) (c .before .before .before .args .a) ⊗ value (c .before .before .before .args .values .now) (var (c .before .before .before .args .args .now) (c .before .before .before .args .x))
 whole c = rw (read (c .before .num-at .ok) (c .before .num-at .ensures), read (c .value-of .ok) (c .value-of .ensures))
 
-num-at-requires : tie.Need-num-at-requires
-num-at-requires c κs = search needs
-
-value-of-requires : tie.Need-value-of-requires
-value-of-requires c κs = search needs
-
 times-requires : tie.Need-times-requires
 times-requires c κs =
     let s = c .before .before .before in
@@ -31,4 +25,4 @@ returns : tie.Need-returns
 returns c = read (c .times .ok) (c .times .ensures) ∙ whole (c .before)
 
 pub product-at-spec : {M : Type 1} → statement M
-product-at-spec = tie.close (tie.spec num-at-requires value-of-requires times-requires returns)
+product-at-spec = tie.close (tie.spec (λ c κs. search needs) (λ c κs. search needs) times-requires returns)

@@ -5,9 +5,6 @@ use Rattle.models.specs.Model.{size}
 use Rattle.arguments.proofs.size_at.Statement.{statement}
 use Rattle.arguments.proofs.size_at.Tie as tie
 
-var-at-requires : tie.Need-var-at-requires
-var-at-requires c κs = search needs
-
 returns : tie.Need-returns
 unfolding size
 returns c = rw (← c .before .var-at .ensures, le-leb _ _ (c .if1 .taken))
@@ -17,4 +14,4 @@ unfolding size
 returns-2 c = rw (← c .before .var-at .ensures, lt-leb _ _ (c .if1 .left))
 
 pub size-at-spec : {M : Type 1} → statement M
-size-at-spec = tie.close (tie.spec var-at-requires returns returns-2)
+size-at-spec = tie.close (tie.spec (λ c κs. search needs) returns returns-2)

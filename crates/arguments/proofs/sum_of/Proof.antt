@@ -38,36 +38,12 @@ term-size c =
 next : (c : tie.After-plus Inv-loop μ-loop) → toZ w64 (ofZ w64 (c .plus .result)) ≡ toZ w64 (c .before .before .before .loop .total) ⊕ toZ w64 (ofZ w64 (c .before .product-at .result))
 next c = read (c .plus .ok) (c .plus .ensures)
 
-size-at-requires : tie.Need-size-at-requires Inv-loop μ-loop
-size-at-requires c κs = search needs
-
-past-at-requires : tie.Need-past-at-requires Inv-loop μ-loop
-past-at-requires c κs = search needs
-
 loop-holds : tie.Need-loop-holds Inv-loop μ-loop
 unfolding listOf sum past
 loop-holds c = let h = size-le (c .before .before .before .args .args .now) (c .before .before .before .args .i) in (search needs, omega arith, omega arith, search needs, refl)
 
-add-product-at : tie.Need-add-product-at Inv-loop μ-loop
-add-product-at c = search needs
-
-add-product-at-2 : tie.Need-add-product-at-2 Inv-loop μ-loop
-add-product-at-2 c = search needs
-
-add-product-at-3 : tie.Need-add-product-at-3 Inv-loop μ-loop
-add-product-at-3 c = search needs
-
-product-at-requires : tie.Need-product-at-requires Inv-loop μ-loop
-product-at-requires c κs = search needs
-
 plus-requires : tie.Need-plus-requires Inv-loop μ-loop
 plus-requires c κs = omega (arith, term-size c)
-
-add-k : tie.Need-add-k Inv-loop μ-loop
-add-k c = search needs
-
-loop-less : tie.Need-loop-less Inv-loop μ-loop
-loop-less c = search needs
 
 loop-again : tie.Need-loop-again Inv-loop μ-loop
 loop-again c = (
@@ -91,15 +67,15 @@ sum-of-spec =
     (tie.spec
     Inv-loop
     μ-loop
-    size-at-requires
-    past-at-requires
+    (λ c κs. search needs)
+    (λ c κs. search needs)
     loop-holds
-    add-product-at
-    add-product-at-2
-    add-product-at-3
-    product-at-requires
+    (λ c. search needs)
+    (λ c. search needs)
+    (λ c. search needs)
+    (λ c κs. search needs)
     plus-requires
-    add-k
-    loop-less
+    (λ c. search needs)
+    (λ c. search needs)
     loop-again
     returns)

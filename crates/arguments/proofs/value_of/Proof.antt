@@ -5,14 +5,8 @@ use Rattle.arguments.proofs.Size.{read}
 use Rattle.arguments.proofs.value_of.Statement.{statement}
 use Rattle.arguments.proofs.value_of.Tie as tie
 
-var-at-requires : tie.Need-var-at-requires
-var-at-requires c κs = search needs
-
-value-at-requires : tie.Need-value-at-requires
-value-at-requires c κs = search needs
-
 returns : tie.Need-returns
 returns c = read (c .value-at .ok) (c .value-at .ensures) ∙ rw (c .before .var-at .ensures)
 
 pub value-of-spec : {M : Type 1} → statement M
-value-of-spec = tie.close (tie.spec var-at-requires value-at-requires returns)
+value-of-spec = tie.close (tie.spec (λ c κs. search needs) (λ c κs. search needs) returns)

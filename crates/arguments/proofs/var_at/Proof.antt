@@ -5,15 +5,9 @@ use Rattle.models.specs.Model.{var}
 use Rattle.arguments.proofs.var_at.Statement.{statement}
 use Rattle.arguments.proofs.var_at.Tie as tie
 
-word-at-requires : tie.Need-word-at-requires
-word-at-requires c κs = search needs
-
-payload-of-requires : tie.Need-payload-of-requires
-payload-of-requires c κs = search needs
-
 returns : tie.Need-returns
 unfolding var
 returns c = c .payload-of .ensures ∙ rw (c .before .word-at .ensures)
 
 pub var-at-spec : {M : Type 1} → statement M
-var-at-spec = tie.close (tie.spec word-at-requires payload-of-requires returns)
+var-at-spec = tie.close (tie.spec (λ c κs. search needs) (λ c κs. search needs) returns)

@@ -12,35 +12,8 @@ use Rattle.choiceblocks.proofs.Blocks.{number-element}
 use Rattle.choiceblocks.proofs.array_int_element.Statement.{statement}
 use Rattle.choiceblocks.proofs.array_int_element.Tie as tie
 
-labels-requires : tie.Need-labels-requires
-labels-requires c κs = search needs
-
-first-element-requires : tie.Need-first-element-requires
-first-element-requires c κs = search needs
-
-lay-bits-requires : tie.Need-lay-bits-requires
-lay-bits-requires c κs = search needs
-
-first-label-requires : tie.Need-first-label-requires
-first-label-requires c κs = search needs
-
-var-at-requires : tie.Need-var-at-requires
-var-at-requires c κs = search needs
-
 lay-choice-requires : tie.Need-lay-choice-requires
 lay-choice-requires c κs = rw (back (c .before .first-label .result) (c .before .first-label .ok)) (search needs)
-
-past-at-requires : tie.Need-past-at-requires
-past-at-requires c κs = search needs
-
-var-at-requires-2 : tie.Need-var-at-requires-2
-var-at-requires-2 c κs = search needs
-
-lay-number-row-requires : tie.Need-lay-number-row-requires
-lay-number-row-requires c κs = search needs
-
-same-length : tie.Need-same-length
-same-length c = search needs
 
 returns : tie.Need-returns
 unfolding places
@@ -67,14 +40,14 @@ pub array-int-element-spec : {M : Type 1} → statement M
 array-int-element-spec =
     tie.close
     (tie.spec
-    labels-requires
-    first-element-requires
-    lay-bits-requires
-    first-label-requires
-    var-at-requires
+    (λ c κs. search needs)
+    (λ c κs. search needs)
+    (λ c κs. search needs)
+    (λ c κs. search needs)
+    (λ c κs. search needs)
     lay-choice-requires
-    past-at-requires
-    var-at-requires-2
-    lay-number-row-requires
-    same-length
+    (λ c κs. search needs)
+    (λ c κs. search needs)
+    (λ c κs. search needs)
+    (λ c. search needs)
     returns)

@@ -13,12 +13,6 @@ use Rattle.choiceblocks.proofs.array_int_maximum.Tie as tie
 few : (c : tie.After-size-at) → c .size-at .result ≤ 32
 few c = omega (arith, c .size-at .ensures, size-le (c .before .before .before .before .args .args .now) 1)
 
-var-at-requires : tie.Need-var-at-requires
-var-at-requires c κs = search needs
-
-size-at-requires : tie.Need-size-at-requires
-size-at-requires c κs = search needs
-
 lay-gates-requires : tie.Need-lay-gates-requires
 lay-gates-requires c κs = (omega arith, omega (arith, few (c .before)), omega arith)
 
@@ -44,9 +38,6 @@ lay-below-requires c κs =
     let start = at-lay-gates .before .before .before .before .before .before in
     (omega (arith, start .pre .0, at-lay-gates .lay-gates .ensures .1, at-lay-one-bit .lay-one-bit .ensures .1, lay-gated .ensures .1), omega (arith, few (c .before .before .before .before .before .before .before .before .before .before .before .before .before)), omega arith)
 
-same-length : tie.Need-same-length
-same-length c = search needs
-
 returns : tie.Need-returns
 returns c =
     let p = c .before .before .before .before .before .before in
@@ -70,11 +61,11 @@ pub array-int-maximum-spec : {M : Type 1} → statement M
 array-int-maximum-spec =
     tie.close
     (tie.spec
-    var-at-requires
-    size-at-requires
+    (λ c κs. search needs)
+    (λ c κs. search needs)
     lay-gates-requires
     lay-one-bit-requires
     lay-gated-requires
     lay-below-requires
-    same-length
+    (λ c. search needs)
     returns)

@@ -11,29 +11,8 @@ use Rattle.choiceblocks.proofs.Blocks.{variable-element}
 use Rattle.choiceblocks.proofs.array_var_int_element.Statement.{statement}
 use Rattle.choiceblocks.proofs.array_var_int_element.Tie as tie
 
-labels-requires : tie.Need-labels-requires
-labels-requires c κs = search needs
-
-first-element-requires : tie.Need-first-element-requires
-first-element-requires c κs = search needs
-
-lay-gates-requires : tie.Need-lay-gates-requires
-lay-gates-requires c κs = search needs
-
-first-label-requires : tie.Need-first-label-requires
-first-label-requires c κs = search needs
-
-var-at-requires : tie.Need-var-at-requires
-var-at-requires c κs = search needs
-
 lay-choice-requires : tie.Need-lay-choice-requires
 lay-choice-requires c κs = rw (back (c .before .first-label .result) (c .before .first-label .ok)) (search needs)
-
-past-at-requires : tie.Need-past-at-requires
-past-at-requires c κs = search needs
-
-var-at-requires-2 : tie.Need-var-at-requires-2
-var-at-requires-2 c κs = search needs
 
 lay-gated-requires : tie.Need-lay-gated-requires
 lay-gated-requires c κs =
@@ -44,9 +23,6 @@ lay-gated-requires c κs =
     let at-labels = at-first-element .before in
     let start = at-labels .before .before .before in
     (omega (arith, start .pre .0, at-lay-gates .lay-gates .ensures .1, at-lay-choice .lay-choice .ensures .1), omega (arith, at-labels .labels .ensures .1), omega (arith, at-first-element .first-element .ensures .1), omega (arith, start .pre .1))
-
-same-length : tie.Need-same-length
-same-length c = search needs
 
 returns : tie.Need-returns
 unfolding places
@@ -74,14 +50,14 @@ pub array-var-int-element-spec : {M : Type 1} → statement M
 array-var-int-element-spec =
     tie.close
     (tie.spec
-    labels-requires
-    first-element-requires
-    lay-gates-requires
-    first-label-requires
-    var-at-requires
+    (λ c κs. search needs)
+    (λ c κs. search needs)
+    (λ c κs. search needs)
+    (λ c κs. search needs)
+    (λ c κs. search needs)
     lay-choice-requires
-    past-at-requires
-    var-at-requires-2
+    (λ c κs. search needs)
+    (λ c κs. search needs)
     lay-gated-requires
-    same-length
+    (λ c. search needs)
     returns)

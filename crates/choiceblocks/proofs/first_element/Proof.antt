@@ -8,12 +8,6 @@ use Rattle.extremes.proofs.Size.{count-le}
 use Rattle.choiceblocks.proofs.first_element.Statement.{statement}
 use Rattle.choiceblocks.proofs.first_element.Tie as tie
 
-first-label-requires : tie.Need-first-label-requires
-first-label-requires c κs = search needs
-
-count-of-requires : tie.Need-count-of-requires
-count-of-requires c κs = search needs
-
 add-result : tie.Need-add-result
 add-result c = omega (arith, rw (back (c .before .first-label .result) (c .before .first-label .ok)) at (c .count-of .ensures), count-le (c .before .first-label .result), c .before .first-label .ensures .1)
 
@@ -23,4 +17,4 @@ returns c =
     (ap (λ (n : ℕ). 1 + n) (e ∙ rw (c .before .first-label .ensures .0)), omega (arith, e, count-le (c .before .first-label .result), c .before .first-label .ensures .1))
 
 pub first-element-spec : {M : Type 1} → statement M
-first-element-spec = tie.close (tie.spec first-label-requires count-of-requires add-result returns)
+first-element-spec = tie.close (tie.spec (λ c κs. search needs) (λ c κs. search needs) add-result returns)

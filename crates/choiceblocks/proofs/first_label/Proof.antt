@@ -8,12 +8,6 @@ use Rattle.extremes.proofs.Size.{pick-size}
 use Rattle.choiceblocks.proofs.first_label.Statement.{statement}
 use Rattle.choiceblocks.proofs.first_label.Tie as tie
 
-lower-label-requires : tie.Need-lower-label-requires
-lower-label-requires c κs = search needs
-
-first-place-requires : tie.Need-first-place-requires
-first-place-requires c κs = search needs
-
 returns : tie.Need-returns
 returns c =
     let l = c .before .lower-label .ensures in
@@ -21,4 +15,4 @@ returns c =
     (e, rw (e, ← l .0) (pick-size true +1 (c .before .lower-label .result) (omega arith) (l .1)))
 
 pub first-label-spec : {M : Type 1} → statement M
-first-label-spec = tie.close (tie.spec lower-label-requires first-place-requires returns)
+first-label-spec = tie.close (tie.spec (λ c κs. search needs) (λ c κs. search needs) returns)

@@ -14,20 +14,8 @@ use Rattle.extremes.specs.Bounded.{boundsOf}
 use Rattle.choiceblocks.proofs.labels.Statement.{statement}
 use Rattle.choiceblocks.proofs.labels.Tie as tie
 
-size-at-requires : tie.Need-size-at-requires
-size-at-requires c κs = search needs
-
-var-at-requires : tie.Need-var-at-requires
-var-at-requires c κs = search needs
-
-bound-at-requires : tie.Need-bound-at-requires
-bound-at-requires c κs = search needs
-
 last-place-requires : tie.Need-last-place-requires
 last-place-requires c κs = omega (arith, c .before .before .size-at .ensures, size-le (c .before .before .before .before .args .args .now) 1)
-
-first-label-requires : tie.Need-first-label-requires
-first-label-requires c κs = search needs
 
 width-of-requires : tie.Need-width-of-requires
 width-of-requires c κs =
@@ -56,10 +44,10 @@ pub labels-spec : {M : Type 1} → statement M
 labels-spec =
     tie.close
     (tie.spec
-    size-at-requires
-    var-at-requires
-    bound-at-requires
+    (λ c κs. search needs)
+    (λ c κs. search needs)
+    (λ c κs. search needs)
     last-place-requires
-    first-label-requires
+    (λ c κs. search needs)
     width-of-requires
     returns)

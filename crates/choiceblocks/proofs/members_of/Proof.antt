@@ -11,23 +11,11 @@ use Rattle.choiceblocks.proofs.Members.{members-size}
 use Rattle.choiceblocks.proofs.members_of.Statement.{statement}
 use Rattle.choiceblocks.proofs.members_of.Tie as tie
 
-var-at-requires : tie.Need-var-at-requires
-var-at-requires c κs = search needs
-
-bound-at-requires : tie.Need-bound-at-requires
-bound-at-requires c κs = search needs
-
-bound-at-requires-2 : tie.Need-bound-at-requires-2
-bound-at-requires-2 c κs = search needs
-
 members-requires : tie.Need-members-requires
 members-requires c κs =
     let s = c .before .before .before .before .before in
     let var-at = c .before .before .before .var-at in
     (omega arith, rw (read (c .before .bound-at2 .ok) (c .before .bound-at2 .ensures)) (s .pre .0 (var-at .result)))
-
-same-length : tie.Need-same-length
-same-length c = search needs
 
 returns : tie.Need-returns
 returns c =
@@ -53,9 +41,9 @@ pub members-of-spec : {M : Type 1} → statement M
 members-of-spec =
     tie.close
     (tie.spec
-    var-at-requires
-    bound-at-requires
-    bound-at-requires-2
+    (λ c κs. search needs)
+    (λ c κs. search needs)
+    (λ c κs. search needs)
     members-requires
-    same-length
+    (λ c. search needs)
     returns)

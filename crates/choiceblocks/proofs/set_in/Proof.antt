@@ -9,30 +9,6 @@ use Rattle.choiceblocks.proofs.Blocks.{in-set}
 use Rattle.choiceblocks.proofs.set_in.Statement.{statement}
 use Rattle.choiceblocks.proofs.set_in.Tie as tie
 
-var-at-requires : tie.Need-var-at-requires
-var-at-requires c κs = search needs
-
-slice-aggregate-members-of : tie.Need-slice-aggregate-members-of
-slice-aggregate-members-of c = search needs
-
-members-of-requires : tie.Need-members-of-requires
-members-of-requires c κs = search needs
-
-lay-bits-requires : tie.Need-lay-bits-requires
-lay-bits-requires c κs = search needs
-
-lay-one-bit-requires : tie.Need-lay-one-bit-requires
-lay-one-bit-requires c κs = search needs
-
-slice-aggregate-lay-value-row : tie.Need-slice-aggregate-lay-value-row
-slice-aggregate-lay-value-row c = search needs
-
-lay-value-row-requires : tie.Need-lay-value-row-requires
-lay-value-row-requires c κs = search needs
-
-same-length : tie.Need-same-length
-same-length c = search needs
-
 returns : tie.Need-returns
 returns c =
     let p = c .before .before .before .before .before .before .before in
@@ -53,12 +29,12 @@ pub set-in-spec : {M : Type 1} → statement M
 set-in-spec =
     tie.close
     (tie.spec
-    var-at-requires
-    slice-aggregate-members-of
-    members-of-requires
-    lay-bits-requires
-    lay-one-bit-requires
-    slice-aggregate-lay-value-row
-    lay-value-row-requires
-    same-length
+    (λ c κs. search needs)
+    (λ c. search needs)
+    (λ c κs. search needs)
+    (λ c κs. search needs)
+    (λ c κs. search needs)
+    (λ c. search needs)
+    (λ c κs. search needs)
+    (λ c. search needs)
     returns)

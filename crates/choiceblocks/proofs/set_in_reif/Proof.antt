@@ -11,37 +11,10 @@ use Rattle.choiceblocks.proofs.Blocks.{in-set-reified}
 use Rattle.choiceblocks.proofs.set_in_reif.Statement.{statement}
 use Rattle.choiceblocks.proofs.set_in_reif.Tie as tie
 
-lower-label-requires : tie.Need-lower-label-requires
-lower-label-requires c κs = search needs
-
-slice-aggregate-members-of : tie.Need-slice-aggregate-members-of
-slice-aggregate-members-of c = search needs
-
-members-of-requires : tie.Need-members-of-requires
-members-of-requires c κs = search needs
-
-width-at-requires : tie.Need-width-at-requires
-width-at-requires c κs = search needs
-
-lay-bits-requires : tie.Need-lay-bits-requires
-lay-bits-requires c κs = search needs
-
-var-at-requires : tie.Need-var-at-requires
-var-at-requires c κs = search needs
-
 lay-choice-requires : tie.Need-lay-choice-requires
 lay-choice-requires c κs =
     let at-lower-label = c .before .before .before .before .before .before .before .before .before .before in
     rw (back (at-lower-label .lower-label .result) (at-lower-label .lower-label .ok)) (search needs)
-
-slice-aggregate-lay-member-row : tie.Need-slice-aggregate-lay-member-row
-slice-aggregate-lay-member-row c = search needs
-
-past-at-requires : tie.Need-past-at-requires
-past-at-requires c κs = search needs
-
-var-at-requires-2 : tie.Need-var-at-requires-2
-var-at-requires-2 c κs = search needs
 
 lay-member-row-requires : tie.Need-lay-member-row-requires
 lay-member-row-requires c κs =
@@ -52,9 +25,6 @@ lay-member-row-requires c κs =
     let at-lower-label = at-members-of .before .before in
     let start = at-lower-label .before .before .before in
     rw (back (at-lower-label .lower-label .result) (at-lower-label .lower-label .ok)) (omega (arith, start .pre .0, at-lay-bits .lay-bits .ensures .1, at-lay-choice .lay-choice .ensures .1), omega (arith, at-members-of .members-of .ensures .few), omega (arith, start .pre .1), omega (arith, at-lower-label .lower-label .ensures .1), at-members-of .members-of .ensures .near)
-
-same-length : tie.Need-same-length
-same-length c = search needs
 
 returns : tie.Need-returns
 returns c =
@@ -82,16 +52,16 @@ pub set-in-reif-spec : {M : Type 1} → statement M
 set-in-reif-spec =
     tie.close
     (tie.spec
-    lower-label-requires
-    slice-aggregate-members-of
-    members-of-requires
-    width-at-requires
-    lay-bits-requires
-    var-at-requires
+    (λ c κs. search needs)
+    (λ c. search needs)
+    (λ c κs. search needs)
+    (λ c κs. search needs)
+    (λ c κs. search needs)
+    (λ c κs. search needs)
     lay-choice-requires
-    slice-aggregate-lay-member-row
-    past-at-requires
-    var-at-requires-2
+    (λ c. search needs)
+    (λ c κs. search needs)
+    (λ c κs. search needs)
     lay-member-row-requires
-    same-length
+    (λ c. search needs)
     returns)

@@ -5,15 +5,6 @@ use Rattle.arguments.proofs.Size.{read}
 use Rattle.choiceblocks.proofs.width_at.Statement.{statement}
 use Rattle.choiceblocks.proofs.width_at.Tie as tie
 
-var-at-requires : tie.Need-var-at-requires
-var-at-requires c κs = search needs
-
-bound-at-requires : tie.Need-bound-at-requires
-bound-at-requires c κs = search needs
-
-lower-label-requires : tie.Need-lower-label-requires
-lower-label-requires c κs = search needs
-
 width-of-requires : tie.Need-width-of-requires
 width-of-requires c κs =
     let s = c .before .before .before .before in
@@ -29,4 +20,4 @@ returns c =
 pub width-at-spec : {M : Type 1} → statement M
 width-at-spec =
     tie.close
-    (tie.spec var-at-requires bound-at-requires lower-label-requires width-of-requires returns)
+    (tie.spec (λ c κs. search needs) (λ c κs. search needs) (λ c κs. search needs) width-of-requires returns)

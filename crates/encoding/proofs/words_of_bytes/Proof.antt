@@ -18,45 +18,6 @@ abbrev μ-loop : tie.MeasureT-loop
 loop-holds : tie.Need-loop-holds Inv-loop μ-loop
 loop-holds c = begun _ _
 
-sub-loop : tie.Need-sub-loop Inv-loop μ-loop
-sub-loop c = search needs
-
-shared-slice-read-word-of-bytes : tie.Need-shared-slice-read-word-of-bytes Inv-loop μ-loop
-shared-slice-read-word-of-bytes c = search needs
-
-add-word-of-bytes : tie.Need-add-word-of-bytes Inv-loop μ-loop
-add-word-of-bytes c = search needs
-
-shared-slice-read-word-of-bytes-2 : tie.Need-shared-slice-read-word-of-bytes-2 Inv-loop μ-loop
-shared-slice-read-word-of-bytes-2 c = search needs
-
-add-word-of-bytes-2 : tie.Need-add-word-of-bytes-2 Inv-loop μ-loop
-add-word-of-bytes-2 c = search needs
-
-shared-slice-read-word-of-bytes-3 : tie.Need-shared-slice-read-word-of-bytes-3 Inv-loop μ-loop
-shared-slice-read-word-of-bytes-3 c = search needs
-
-add-word-of-bytes-3 : tie.Need-add-word-of-bytes-3 Inv-loop μ-loop
-add-word-of-bytes-3 c = search needs
-
-shared-slice-read-word-of-bytes-4 : tie.Need-shared-slice-read-word-of-bytes-4 Inv-loop μ-loop
-shared-slice-read-word-of-bytes-4 c = search needs
-
-word-of-bytes-requires : tie.Need-word-of-bytes-requires Inv-loop μ-loop
-word-of-bytes-requires c κs = search needs
-
-put-word-requires : tie.Need-put-word-requires Inv-loop μ-loop
-put-word-requires c κs = search needs
-
-add-i : tie.Need-add-i Inv-loop μ-loop
-add-i c = search needs
-
-add-at : tie.Need-add-at Inv-loop μ-loop
-add-at c = search needs
-
-loop-less : tie.Need-loop-less Inv-loop μ-loop
-loop-less c = search needs
-
 loop-again : tie.Need-loop-again Inv-loop μ-loop
 loop-again c =
     rw (c .before .before .put-word .ensures, c .before .before .before .before .word-of-bytes .ensures)
@@ -75,19 +36,19 @@ words-of-bytes-spec =
     Inv-loop
     μ-loop
     loop-holds
-    sub-loop
-    shared-slice-read-word-of-bytes
-    add-word-of-bytes
-    shared-slice-read-word-of-bytes-2
-    add-word-of-bytes-2
-    shared-slice-read-word-of-bytes-3
-    add-word-of-bytes-3
-    shared-slice-read-word-of-bytes-4
-    word-of-bytes-requires
-    put-word-requires
-    add-i
-    add-at
-    loop-less
+    (λ c. search needs)
+    (λ c. search needs)
+    (λ c. search needs)
+    (λ c. search needs)
+    (λ c. search needs)
+    (λ c. search needs)
+    (λ c. search needs)
+    (λ c. search needs)
+    (λ c κs. search needs)
+    (λ c κs. search needs)
+    (λ c. search needs)
+    (λ c. search needs)
+    (λ c. search needs)
     loop-again
     same-length
     returns)

@@ -16,23 +16,11 @@ unfolding endProducts
 ends true A B = refl
 ends false A B = refl
 
-bound-at-requires : tie.Need-bound-at-requires
-bound-at-requires c κs = search needs
-
-bound-at-requires-2 : tie.Need-bound-at-requires-2
-bound-at-requires-2 c κs = search needs
-
-bound-at-requires-3 : tie.Need-bound-at-requires-3
-bound-at-requires-3 c κs = search needs
-
 times-ends-requires : tie.Need-times-ends-requires
 times-ends-requires c κs =
     let s = c .before .before .before in
     let bound-at = c .before .before .bound-at in
     rw (back (bound-at .result) (bound-at .ok), bound-at .ensures, back (c .before .bound-at2 .result) (c .before .bound-at2 .ok), c .before .bound-at2 .ensures, back (c .bound-at3 .result) (c .bound-at3 .ok), c .bound-at3 .ensures) (s .pre .0 (s .args .a), s .pre .0 (s .args .b), s .pre .1 (s .args .b))
-
-bound-at-requires-4 : tie.Need-bound-at-requires-4
-bound-at-requires-4 c κs = search needs
 
 times-ends-requires-2 : tie.Need-times-ends-requires-2
 times-ends-requires-2 c κs =
@@ -40,9 +28,6 @@ times-ends-requires-2 c κs =
     let bound-at = c .before .before .before .before .bound-at in
     let bound-at2 = c .before .before .before .bound-at2 in
     rw (back (bound-at .result) (bound-at .ok), bound-at .ensures, back (bound-at2 .result) (bound-at2 .ok), bound-at2 .ensures, back (c .bound-at4 .result) (c .bound-at4 .ok), c .bound-at4 .ensures) (s .pre .1 (s .args .a), s .pre .0 (s .args .b), s .pre .1 (s .args .b))
-
-pick-requires : tie.Need-pick-requires
-pick-requires c κs = search needs
 
 returns : tie.Need-returns
 returns c =
@@ -60,11 +45,11 @@ pub end-product-spec : {M : Type 1} → statement M
 end-product-spec =
     tie.close
     (tie.spec
-    bound-at-requires
-    bound-at-requires-2
-    bound-at-requires-3
+    (λ c κs. search needs)
+    (λ c κs. search needs)
+    (λ c κs. search needs)
     times-ends-requires
-    bound-at-requires-4
+    (λ c κs. search needs)
     times-ends-requires-2
-    pick-requires
+    (λ c κs. search needs)
     returns)

@@ -6,11 +6,8 @@ use Rattle.integers.proofs.Fits.{back}
 use Rattle.extremes.proofs.first_place.Statement.{statement}
 use Rattle.extremes.proofs.first_place.Tie as tie
 
-largest-requires : tie.Need-largest-requires
-largest-requires c κs = search needs
-
 returns : tie.Need-returns
 returns c = back (c .largest .result) (c .largest .ok) ∙ c .largest .ensures ∙ rw (toZ-ofZ (c .before .fits .lower))
 
 pub first-place-spec : {M : Type 1} → statement M
-first-place-spec = tie.close (tie.spec largest-requires returns)
+first-place-spec = tie.close (tie.spec (λ c κs. search needs) returns)

@@ -6,12 +6,6 @@ use Rattle.integers.proofs.Fits.{back}
 use Rattle.extremes.proofs.gap.Statement.{statement}
 use Rattle.extremes.proofs.gap.Tie as tie
 
-bound-at-requires : tie.Need-bound-at-requires
-bound-at-requires c κs = search needs
-
-bound-at-requires-2 : tie.Need-bound-at-requires-2
-bound-at-requires-2 c κs = search needs
-
 minus-requires : tie.Need-minus-requires
 minus-requires c κs =
     let s = c .before .before in
@@ -23,4 +17,4 @@ returns c =
     back (c .minus .result) (c .minus .ok) ∙ c .minus .ensures ∙ rw (back (bound-at .result) (bound-at .ok), bound-at .ensures, back (c .before .bound-at2 .result) (c .before .bound-at2 .ok), c .before .bound-at2 .ensures)
 
 pub gap-spec : {M : Type 1} → statement M
-gap-spec = tie.close (tie.spec bound-at-requires bound-at-requires-2 minus-requires returns)
+gap-spec = tie.close (tie.spec (λ c κs. search needs) (λ c κs. search needs) minus-requires returns)

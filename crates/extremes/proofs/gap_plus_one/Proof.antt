@@ -7,9 +7,6 @@ use Rattle.extremes.proofs.Size.{gap-size}
 use Rattle.extremes.proofs.gap_plus_one.Statement.{statement}
 use Rattle.extremes.proofs.gap_plus_one.Tie as tie
 
-gap-requires : tie.Need-gap-requires
-gap-requires c κs = search needs
-
 plus-requires : tie.Need-plus-requires
 plus-requires c κs = rw (back (c .gap .result) (c .gap .ok), c .gap .ensures) (omega (arith, gap-size (c .before .args .ls .now) (c .before .args .us .now) (c .before .pre .0) (c .before .pre .1) (c .before .args .a) (c .before .args .b)))
 
@@ -17,4 +14,4 @@ returns : tie.Need-returns
 returns c = back (c .plus .result) (c .plus .ok) ∙ c .plus .ensures ∙ rw (back (c .before .gap .result) (c .before .gap .ok), c .before .gap .ensures)
 
 pub gap-plus-one-spec : {M : Type 1} → statement M
-gap-plus-one-spec = tie.close (tie.spec gap-requires plus-requires returns)
+gap-plus-one-spec = tie.close (tie.spec (λ c κs. search needs) plus-requires returns)

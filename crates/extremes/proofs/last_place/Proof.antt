@@ -9,14 +9,8 @@ use Rattle.integers.proofs.Fits.{back}
 use Rattle.extremes.proofs.last_place.Statement.{statement}
 use Rattle.extremes.proofs.last_place.Tie as tie
 
-cast-least : tie.Need-cast-least
-cast-least c = search needs
-
-least-requires : tie.Need-least-requires
-least-requires c κs = search needs
-
 returns : tie.Need-returns
 returns c = let h : c .before .args .n < 9223372036854775808 = omega arith in back (c .least .result) (c .least .ok) ∙ c .least .ensures ∙ rw (toZ-ofZ (c .before .fits .upper), toZ-pos w64 {n = c .before .args .n} h)
 
 pub last-place-spec : {M : Type 1} → statement M
-last-place-spec = tie.close (tie.spec cast-least least-requires returns)
+last-place-spec = tie.close (tie.spec (λ c. search needs) (λ c κs. search needs) returns)

@@ -21,30 +21,9 @@ Inv-loop args i from above n k₀ least-yet₀ k least-yet = (k ≤ n) × (n ≤
 abbrev μ-loop : tie.MeasureT-loop
 μ-loop args i from above n k₀ least-yet₀ k least-yet = n - k
 
-size-at-requires : tie.Need-size-at-requires Inv-loop μ-loop
-size-at-requires c κs = search needs
-
 loop-holds : tie.Need-loop-holds Inv-loop μ-loop
 unfolding listOf leastFrom
 loop-holds c = (search needs, omega (arith, size-le (c .before .before .args .args .now) (c .before .before .args .i)), refl)
-
-add-num-at : tie.Need-add-num-at Inv-loop μ-loop
-add-num-at c = search needs
-
-add-num-at-2 : tie.Need-add-num-at-2 Inv-loop μ-loop
-add-num-at-2 c = search needs
-
-num-at-requires : tie.Need-num-at-requires Inv-loop μ-loop
-num-at-requires c κs = search needs
-
-nearer-requires : tie.Need-nearer-requires Inv-loop μ-loop
-nearer-requires c κs = search needs
-
-add-k : tie.Need-add-k Inv-loop μ-loop
-add-k c = search needs
-
-loop-less : tie.Need-loop-less Inv-loop μ-loop
-loop-less c = search needs
 
 loop-again : tie.Need-loop-again Inv-loop μ-loop
 loop-again c =
@@ -64,13 +43,13 @@ least-from-spec =
     (tie.spec
     Inv-loop
     μ-loop
-    size-at-requires
+    (λ c κs. search needs)
     loop-holds
-    add-num-at
-    add-num-at-2
-    num-at-requires
-    nearer-requires
-    add-k
-    loop-less
+    (λ c. search needs)
+    (λ c. search needs)
+    (λ c κs. search needs)
+    (λ c κs. search needs)
+    (λ c. search needs)
+    (λ c. search needs)
     loop-again
     returns)

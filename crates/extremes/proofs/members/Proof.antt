@@ -36,17 +36,8 @@ small c =
 plus-requires : tie.Need-plus-requires Inv-loop μ-loop
 plus-requires c κs = rw (toZ-ofZ (c .before .fits .upper)) (omega (arith, c .before .pre .1))
 
-size-at-requires : tie.Need-size-at-requires Inv-loop μ-loop
-size-at-requires c κs = search needs
-
 loop-holds : tie.Need-loop-holds Inv-loop μ-loop
 loop-holds c = rw (c .size-at .ensures) (begun (c .before .before .before .args .args .now) (c .before .before .before .args .i) _ _ _)
-
-least-from-requires : tie.Need-least-from-requires Inv-loop μ-loop
-least-from-requires c κs = search needs
-
-below-requires : tie.Need-below-requires Inv-loop μ-loop
-below-requires c κs = search needs
 
 same-length : tie.Need-same-length Inv-loop μ-loop
 same-length c = c .before .before .before .before .loop .inv .same
@@ -58,9 +49,6 @@ returns c =
     let least-from = c .before .before .least-from in
     rw (toZ-ofZ (s .fits .upper), toZ-ofZ (s .fits .lower)) at (none-left (loop .left) (least-from .result) (c .before .before .before .loop-test .taken) (least (c .before .before)) (rw (back (least-from .result) (least-from .ok)) at (sym (c .before .below .ensures) ∙ c .if1 .taken)) (loop .inv))
 
-put-requires : tie.Need-put-requires Inv-loop μ-loop
-put-requires c κs = search needs
-
 plus-requires-2 : tie.Need-plus-requires-2 Inv-loop μ-loop
 plus-requires-2 c κs =
     let least-from = c .before .before .before .before .before .least-from in
@@ -69,12 +57,6 @@ plus-requires-2 c κs =
 
 add-k : tie.Need-add-k Inv-loop μ-loop
 add-k c = omega (arith, c .before .before .before .before .before .before .before .before .loop .inv .fuel)
-
-sub-left : tie.Need-sub-left Inv-loop μ-loop
-sub-left c = search needs
-
-loop-less : tie.Need-loop-less Inv-loop μ-loop
-loop-less c = search needs
 
 loop-again : tie.Need-loop-again Inv-loop μ-loop
 loop-again c =
@@ -102,17 +84,17 @@ members-spec =
     Inv-loop
     μ-loop
     plus-requires
-    size-at-requires
+    (λ c κs. search needs)
     loop-holds
-    least-from-requires
-    below-requires
+    (λ c κs. search needs)
+    (λ c κs. search needs)
     same-length
     returns
-    put-requires
+    (λ c κs. search needs)
     plus-requires-2
     add-k
-    sub-left
-    loop-less
+    (λ c. search needs)
+    (λ c. search needs)
     loop-again
     same-length-2
     returns-2)

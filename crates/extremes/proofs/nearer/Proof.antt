@@ -13,15 +13,6 @@ test c =
     let at-most = c .before .before .at-most in
     c .both .ensures ∙ rw (at-most .ensures, c .before .below .ensures, toZ-ofZ (s .fits .from), toZ-ofZ (s .fits .v), toZ-ofZ (s .fits .above))
 
-at-most-requires : tie.Need-at-most-requires
-at-most-requires c κs = search needs
-
-below-requires : tie.Need-below-requires
-below-requires c κs = search needs
-
-both-requires : tie.Need-both-requires
-both-requires c κs = search needs
-
 returns : tie.Need-returns
 returns c = toZ-ofZ (c .before .before .before .before .fits .v) ∙ rw (sym (test (c .before)) ∙ c .if1 .taken)
 
@@ -29,4 +20,4 @@ returns-2 : tie.Need-returns-2
 returns-2 c = toZ-ofZ (c .before .before .before .before .fits .above) ∙ rw (sym (test (c .before)) ∙ c .if1 .left)
 
 pub nearer-spec : {M : Type 1} → statement M
-nearer-spec = tie.close (tie.spec at-most-requires below-requires both-requires returns returns-2)
+nearer-spec = tie.close (tie.spec (λ c κs. search needs) (λ c κs. search needs) (λ c κs. search needs) returns returns-2)

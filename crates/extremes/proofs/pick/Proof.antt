@@ -6,17 +6,11 @@ use Rattle.integers.proofs.Fits.{back}
 use Rattle.extremes.proofs.pick.Statement.{statement}
 use Rattle.extremes.proofs.pick.Tie as tie
 
-largest-requires : tie.Need-largest-requires
-largest-requires c κs = search needs
-
 returns : tie.Need-returns
 returns c = back (c .largest .result) (c .largest .ok) ∙ c .largest .ensures ∙ rw (toZ-ofZ (c .before .before .fits .a), toZ-ofZ (c .before .before .fits .b), c .before .if1 .taken)
-
-least-requires : tie.Need-least-requires
-least-requires c κs = search needs
 
 returns-2 : tie.Need-returns-2
 returns-2 c = back (c .least .result) (c .least .ok) ∙ c .least .ensures ∙ rw (toZ-ofZ (c .before .before .fits .a), toZ-ofZ (c .before .before .fits .b), c .before .if1 .left)
 
 pub pick-spec : {M : Type 1} → statement M
-pick-spec = tie.close (tie.spec largest-requires returns least-requires returns-2)
+pick-spec = tie.close (tie.spec (λ c κs. search needs) returns (λ c κs. search needs) returns-2)

@@ -6,12 +6,6 @@ use Rattle.extremes.specs.Kept.{upperOf}
 use Rattle.extremes.proofs.upper_of.Statement.{statement}
 use Rattle.extremes.proofs.upper_of.Tie as tie
 
-starts-pair-requires : tie.Need-starts-pair-requires
-starts-pair-requires c κs = search needs
-
-signed-of-requires : tie.Need-signed-of-requires
-signed-of-requires c κs = search needs
-
 returns : tie.Need-returns
 unfolding upperOf
 returns c = back (c .signed-of .result) (c .signed-of .ok) ∙ c .signed-of .ensures ∙ rw (sym (c .before .before .starts-pair .ensures) ∙ c .before .if1 .taken)
@@ -21,4 +15,4 @@ unfolding upperOf
 returns-2 c = rw (sym (c .before .starts-pair .ensures) ∙ c .if1 .left)
 
 pub upper-of-spec : {M : Type 1} → statement M
-upper-of-spec = tie.close (tie.spec starts-pair-requires signed-of-requires returns returns-2)
+upper-of-spec = tie.close (tie.spec (λ c κs. search needs) (λ c κs. search needs) returns returns-2)

@@ -14,9 +14,6 @@ minus-requires c κs = rw (toZ-ofZ (c .fits .upper), toZ-ofZ (c .fits .lower)) (
 plus-requires : tie.Need-plus-requires
 plus-requires c κs = rw (back (c .minus .result) (c .minus .ok), c .minus .ensures, toZ-ofZ (c .before .fits .upper), toZ-ofZ (c .before .fits .lower)) (omega (arith, minus-size (c .before .args .upper) (c .before .args .lower)))
 
-count-of-requires : tie.Need-count-of-requires
-count-of-requires c κs = search needs
-
 returns : tie.Need-returns
 unfolding width
 returns c =
@@ -25,4 +22,4 @@ returns c =
     c .count-of .ensures ∙ rw (back (c .before .plus .result) (c .before .plus .ok), c .before .plus .ensures, back (minus .result) (minus .ok), minus .ensures, toZ-ofZ (s .fits .upper), toZ-ofZ (s .fits .lower))
 
 pub width-of-spec : {M : Type 1} → statement M
-width-of-spec = tie.close (tie.spec minus-requires plus-requires count-of-requires returns)
+width-of-spec = tie.close (tie.spec minus-requires plus-requires (λ c κs. search needs) returns)

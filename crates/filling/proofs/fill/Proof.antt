@@ -6,15 +6,6 @@ use borrow.Author.Needs.{needs}
 use Rattle.filling.proofs.fill.Statement.{statement}
 use Rattle.filling.proofs.fill.Tie as tie
 
-check-requires : tie.Need-check-requires
-check-requires c κs = search needs
-
-enum-known-refusal : tie.Need-enum-known-refusal
-enum-known-refusal c = search needs
-
-enum-known-variables : tie.Need-enum-known-variables
-enum-known-variables c = search needs
-
 fill-passed-requires : tie.Need-fill-passed-requires
 unfolding checked
 fill-passed-requires c κs =
@@ -30,9 +21,6 @@ returns c =
     let check = c .before .before .before .check in
     stands (s .args .ws .now) (s .args .values .now) (s .args .out .now) (rw (c .before .refusal .given .1) at (check .ensures))
 
-same-length : tie.Need-same-length
-same-length c = search needs
-
 returns-2 : tie.Need-returns-2
 returns-2 c = c .before .fill-passed .ensures
 
@@ -40,10 +28,10 @@ pub fill-spec : {M : Type 1} → statement M
 fill-spec =
     tie.close
     (tie.spec
-    check-requires
-    enum-known-refusal
-    enum-known-variables
+    (λ c κs. search needs)
+    (λ c. search needs)
+    (λ c. search needs)
     fill-passed-requires
     returns
-    same-length
+    (λ c. search needs)
     returns-2)

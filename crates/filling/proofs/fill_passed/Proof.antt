@@ -1,8 +1,8 @@
 -- The number of values, the room, then judge-model's answer, as in the definition.
-use mathlib.Core.Path.{_≡_, refl, sym, ap, _∙_}
+use mathlib.Core.Path.{refl, sym, _∙_}
 use native.Mathlib.Omega.{arith}
 use borrow.Author.Needs.{needs}
-use Rattle.words.specs.Answer.{refused, isHolds}
+use Rattle.words.specs.Answer.{isHolds}
 use Rattle.words.specs.Verdict.{verdict}
 use Rattle.sharing.proofs.Accepts.{passes-read}
 use Rattle.sharing.proofs.Theorem.{few-in-all}
@@ -28,14 +28,8 @@ returns-2 c =
     let s = c .before .before .before in
     too-short (s .args .ws .now) (s .pre .0) (s .args .values .now) (s .args .out .now) (c .before .if1 .left ∙ s .pre .1) (rw (s .pre .1, s .pre .2) at (c .if2 .taken))
 
-accepted-requires : tie.Need-accepted-requires
-accepted-requires c κs = search needs
-
 judge-read-requires : tie.Need-judge-read-requires
 judge-read-requires c κs = c .accepted .ensures ∙ sym (passes-read (c .before .before .before .before .args .ws .now) (c .before .before .before .before .pre .0))
-
-enum-known-refusal : tie.Need-enum-known-refusal
-enum-known-refusal c = search needs
 
 enum-told : tie.Need-enum-told
 enum-told c = search needs
@@ -45,17 +39,7 @@ unfolding verdict
 write-filled-requires c κs =
     let s = c .before .before .before .before .before .before .before .before in
     let judge-read = c .before .before .before .judge-read in
-    let s = s in
     (s .pre .0, judge-model-says (s .args .ws .now) (passes-read (s .args .ws .now) (s .pre .0)) (s .args .values .now) .0 (sym (judge-read .ensures) ∙ rw (c .before .enum-told .given .1)))
-
-add-t20 : tie.Need-add-t20
-add-t20 c = search needs
-
-enum-known-i : tie.Need-enum-known-i
-enum-known-i c = search needs
-
-enum-known-i-2 : tie.Need-enum-known-i-2
-enum-known-i-2 c = search needs
 
 returns-3 : tie.Need-returns-3
 unfolding handed verdict isHolds
@@ -64,11 +48,7 @@ returns-3 c =
     let if1 = c .before .before .before .before .before .before .if1 in
     let if2 = c .before .before .before .before .before .if2 in
     let judge-read = c .before .before .before .judge-read in
-    let s = s in
     not-held (s .args .ws .now) (s .pre .0) (s .args .values .now) (s .args .out .now) (if1 .left ∙ s .pre .1) (rw (s .pre .1, s .pre .2) at (if2 .left)) _ (rw (c .before .refusal .given .1) at (judge-read .ensures)) refl (λ n e. clash (cc))
-
-same-length : tie.Need-same-length
-same-length c = search needs
 
 returns-4 : tie.Need-returns-4
 unfolding handed verdict
@@ -78,7 +58,6 @@ returns-4 c =
     let if2 = c .before .before .before .before .before .before .before .if2 in
     let judge-read = c .before .before .before .before .before .judge-read in
     let enum-told = c .before .before .before .enum-told in
-    let s = s in
     rw (s .pre .1, s .pre .2, c .before .write-filled .ensures) (held (s .args .ws .now) (s .pre .0) (s .args .values .now) (s .args .out .now) (if1 .left ∙ s .pre .1) (rw (s .pre .1, s .pre .2) at (if2 .left)) (sym (judge-read .ensures) ∙ rw (enum-told .given .1)))
 
 returns-5 : tie.Need-returns-5
@@ -88,7 +67,6 @@ returns-5 c =
     let if1 = c .before .before .before .before .before .before .if1 in
     let if2 = c .before .before .before .before .before .if2 in
     let judge-read = c .before .before .before .judge-read in
-    let s = s in
     not-held (s .args .ws .now) (s .pre .0) (s .args .values .now) (s .args .out .now) (if1 .left ∙ s .pre .1) (rw (s .pre .1, s .pre .2) at (if2 .left)) _ (rw (c .before .i .given .1) at (judge-read .ensures)) refl (λ n e. clash (cc))
 
 returns-6 : tie.Need-returns-6
@@ -98,7 +76,6 @@ returns-6 c =
     let if1 = c .before .before .before .before .before .before .if1 in
     let if2 = c .before .before .before .before .before .if2 in
     let judge-read = c .before .before .before .judge-read in
-    let s = s in
     not-held (s .args .ws .now) (s .pre .0) (s .args .values .now) (s .args .out .now) (if1 .left ∙ s .pre .1) (rw (s .pre .1, s .pre .2) at (if2 .left)) _ (rw (c .before .i2 .given .1) at (judge-read .ensures)) refl (λ n e. clash (cc))
 
 pub fill-passed-spec : {M : Type 1} → statement M
@@ -108,16 +85,16 @@ fill-passed-spec =
     returns
     add-if2
     returns-2
-    accepted-requires
+    (λ c κs. search needs)
     judge-read-requires
-    enum-known-refusal
+    (λ c. search needs)
     enum-told
     write-filled-requires
-    add-t20
-    enum-known-i
-    enum-known-i-2
+    (λ c. search needs)
+    (λ c. search needs)
+    (λ c. search needs)
     returns-3
-    same-length
+    (λ c. search needs)
     returns-4
     returns-5
     returns-6)

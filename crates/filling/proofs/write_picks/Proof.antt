@@ -1,5 +1,5 @@
 -- The invariant: writing the picks of the constraints that are left gives what writing those of all gives.
-use mathlib.Core.Path.{_≡_, sym, ap, _∙_}
+use mathlib.Core.Path.{sym, ap, _∙_}
 use Prim.Native.Nat.{_+_, _-_}
 use native.Mathlib.Omega.{arith}
 use lib.ListN.{length}
@@ -23,41 +23,14 @@ loop-holds : tie.Need-loop-holds Inv-loop μ-loop
 loop-holds c = begun _ _ _ _ _ _ (c .before .pre .3)
 
 -- src/lib.rt:56:17
-mul-w : tie.Need-mul-w Inv-loop μ-loop
-mul-w c = search needs
-
 -- src/lib.rt:56:17
-shared-slice-read-w : tie.Need-shared-slice-read-w Inv-loop μ-loop
-shared-slice-read-w c = search needs
-
 -- src/lib.rt:57:9
-add-p : tie.Need-add-p Inv-loop μ-loop
-add-p c = search needs
-
 -- src/lib.rt:58:12
-kind-of-requires : tie.Need-kind-of-requires Inv-loop μ-loop
-kind-of-requires c κs = search needs
-
 -- src/lib.rt:59:38
-payload-of-requires : tie.Need-payload-of-requires Inv-loop μ-loop
-payload-of-requires c κs = search needs
-
 -- src/lib.rt:59:53
-mul-pick-block : tie.Need-mul-pick-block Inv-loop μ-loop
-mul-pick-block c = search needs
-
 -- src/lib.rt:59:53
-sub-pick-block : tie.Need-sub-pick-block Inv-loop μ-loop
-sub-pick-block c = search needs
-
 -- src/lib.rt:59:53
-part-pick-block-start : tie.Need-part-pick-block-start Inv-loop μ-loop
-part-pick-block-start c = search needs
-
 -- src/lib.rt:59:53
-part-pick-block-end : tie.Need-part-pick-block-end Inv-loop μ-loop
-part-pick-block-end c = search needs
-
 -- src/lib.rt:59:13
 pick-block-requires : tie.Need-pick-block-requires Inv-loop μ-loop
 unfolding wordAt
@@ -75,9 +48,6 @@ pick-block-requires c κs =
     }
 
 -- src/lib.rt:55:5
-loop-less : tie.Need-loop-less Inv-loop μ-loop
-loop-less c = search needs
-
 -- src/lib.rt:55:5
 loop-again : tie.Need-loop-again Inv-loop μ-loop
 unfolding wordAt
@@ -90,9 +60,6 @@ loop-again c =
     picked (loop .inv) (c .before .before .before .before .before .before .before .before .loop-test .taken) (eq-eqb _ _ (sym (kind-of .ensures) ∙ if1 .taken)) (rw (payload-of .ensures, tail-is (s .args .ws .now) (loop .p + 1)) at (c .before .pick-block .ensures))
 
 -- src/lib.rt:55:5
-loop-less-2 : tie.Need-loop-less-2 Inv-loop μ-loop
-loop-less-2 c = search needs
-
 -- src/lib.rt:55:5
 loop-again-2 : tie.Need-loop-again-2 Inv-loop μ-loop
 unfolding wordAt
@@ -113,19 +80,19 @@ write-picks-spec =
     Inv-loop
     μ-loop
     loop-holds
-    mul-w
-    shared-slice-read-w
-    add-p
-    kind-of-requires
-    payload-of-requires
-    mul-pick-block
-    sub-pick-block
-    part-pick-block-start
-    part-pick-block-end
+    (λ c. search needs)
+    (λ c. search needs)
+    (λ c. search needs)
+    (λ c κs. search needs)
+    (λ c κs. search needs)
+    (λ c. search needs)
+    (λ c. search needs)
+    (λ c. search needs)
+    (λ c. search needs)
     pick-block-requires
-    loop-less
+    (λ c. search needs)
     loop-again
-    loop-less-2
+    (λ c. search needs)
     loop-again-2
     same-length
     returns)

@@ -6,30 +6,6 @@ use Rattle.hexadecimal.specs.Digits.{digits, digitAt}
 use Rattle.hexadecimal.proofs.digits_of.Statement.{statement}
 use Rattle.hexadecimal.proofs.digits_of.Tie as tie
 
-digit-of-requires : tie.Need-digit-of-requires
-digit-of-requires c κs = search needs
-
-digit-of-requires-2 : tie.Need-digit-of-requires-2
-digit-of-requires-2 c κs = search needs
-
-digit-of-requires-3 : tie.Need-digit-of-requires-3
-digit-of-requires-3 c κs = search needs
-
-digit-of-requires-4 : tie.Need-digit-of-requires-4
-digit-of-requires-4 c κs = search needs
-
-digit-of-requires-5 : tie.Need-digit-of-requires-5
-digit-of-requires-5 c κs = search needs
-
-digit-of-requires-6 : tie.Need-digit-of-requires-6
-digit-of-requires-6 c κs = search needs
-
-digit-of-requires-7 : tie.Need-digit-of-requires-7
-digit-of-requires-7 c κs = search needs
-
-digit-of-requires-8 : tie.Need-digit-of-requires-8
-digit-of-requires-8 c κs = search needs
-
 returns : tie.Need-returns
 unfolding digits digitAt
 returns c =
@@ -45,12 +21,12 @@ pub digits-of-spec : {M : Type 1} → statement M
 digits-of-spec =
     tie.close
     (tie.spec
-    digit-of-requires
-    digit-of-requires-2
-    digit-of-requires-3
-    digit-of-requires-4
-    digit-of-requires-5
-    digit-of-requires-6
-    digit-of-requires-7
-    digit-of-requires-8
+    (λ c κs. search needs)
+    (λ c κs. search needs)
+    (λ c κs. search needs)
+    (λ c κs. search needs)
+    (λ c κs. search needs)
+    (λ c κs. search needs)
+    (λ c κs. search needs)
+    (λ c κs. search needs)
     returns)

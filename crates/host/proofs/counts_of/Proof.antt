@@ -5,12 +5,6 @@ use Rattle.host.specs.Structs.{countsOf}
 use Rattle.host.proofs.counts_of.Statement.{statement}
 use Rattle.host.proofs.counts_of.Tie as tie
 
-enum-known-c : tie.Need-enum-known-c
-enum-known-c c = search needs
-
-enum-known-c-2 : tie.Need-enum-known-c-2
-enum-known-c-2 c = search needs
-
 returns : tie.Need-returns
 unfolding countsOf checked
 returns c = rw (c .before .c .given .1)
@@ -20,4 +14,4 @@ unfolding countsOf checked
 returns-2 c = rw (c .before .c2 .given .1)
 
 pub counts-of-spec : {M : Type 1} → statement M
-counts-of-spec = tie.close (tie.spec enum-known-c enum-known-c-2 returns returns-2)
+counts-of-spec = tie.close (tie.spec (λ c. search needs) (λ c. search needs) returns returns-2)

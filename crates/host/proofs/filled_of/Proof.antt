@@ -5,18 +5,6 @@ use Rattle.host.specs.Structs.{judgementOf}
 use Rattle.host.proofs.filled_of.Statement.{statement}
 use Rattle.host.proofs.filled_of.Tie as tie
 
-enum-known-f : tie.Need-enum-known-f
-enum-known-f c = search needs
-
-enum-known-f-2 : tie.Need-enum-known-f-2
-enum-known-f-2 c = search needs
-
-enum-known-f-3 : tie.Need-enum-known-f-3
-enum-known-f-3 c = search needs
-
-enum-known-f-4 : tie.Need-enum-known-f-4
-enum-known-f-4 c = search needs
-
 returns : tie.Need-returns
 unfolding judgementOf handed
 returns c = rw (c .before .f .given .1)
@@ -37,10 +25,10 @@ pub filled-of-spec : {M : Type 1} → statement M
 filled-of-spec =
     tie.close
     (tie.spec
-    enum-known-f
-    enum-known-f-2
-    enum-known-f-3
-    enum-known-f-4
+    (λ c. search needs)
+    (λ c. search needs)
+    (λ c. search needs)
+    (λ c. search needs)
     returns
     returns-2
     returns-3

@@ -5,18 +5,6 @@ use Rattle.host.specs.Structs.{judgementOf}
 use Rattle.host.proofs.judgement_of.Statement.{statement}
 use Rattle.host.proofs.judgement_of.Tie as tie
 
-enum-known-v : tie.Need-enum-known-v
-enum-known-v c = search needs
-
-enum-told : tie.Need-enum-told
-enum-told c = search needs
-
-enum-known-v-2 : tie.Need-enum-known-v-2
-enum-known-v-2 c = search needs
-
-enum-known-v-3 : tie.Need-enum-known-v-3
-enum-known-v-3 c = search needs
-
 returns : tie.Need-returns
 unfolding judgementOf verdict
 returns c = rw (c .before .v .given .1)
@@ -37,10 +25,10 @@ pub judgement-of-spec : {M : Type 1} → statement M
 judgement-of-spec =
     tie.close
     (tie.spec
-    enum-known-v
-    enum-told
-    enum-known-v-2
-    enum-known-v-3
+    (λ c. search needs)
+    (λ c. search needs)
+    (λ c. search needs)
+    (λ c. search needs)
     returns
     returns-2
     returns-3

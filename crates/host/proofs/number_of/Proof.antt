@@ -5,12 +5,6 @@ use Rattle.translation.specs.Checked.{checked}
 use Rattle.host.proofs.number_of.Statement.{statement}
 use Rattle.host.proofs.number_of.Tie as tie
 
-enum-known-c : tie.Need-enum-known-c
-enum-known-c c = search needs
-
-enum-told : tie.Need-enum-told
-enum-told c = search needs
-
 returns : tie.Need-returns
 unfolding refusalNumber checked
 returns c = rw (c .before .c .given .1)
@@ -20,4 +14,4 @@ unfolding refusalNumber checked
 returns-2 c = rw (c .enum-told .given .1)
 
 pub number-of-spec : {M : Type 1} → statement M
-number-of-spec = tie.close (tie.spec enum-known-c enum-told returns returns-2)
+number-of-spec = tie.close (tie.spec (λ c. search needs) (λ c. search needs) returns returns-2)

@@ -5,14 +5,8 @@ use Rattle.host.specs.Structs.{countsOf}
 use Rattle.host.proofs.pearrummy_check.Statement.{statement}
 use Rattle.host.proofs.pearrummy_check.Tie as tie
 
-check-requires : tie.Need-check-requires
-check-requires c κs = search needs
-
-counts-of-requires : tie.Need-counts-of-requires
-counts-of-requires c κs = search needs
-
 returns : tie.Need-returns
 returns c = c .counts-of .ensures ∙ ap countsOf (c .before .check .ensures)
 
 pub pearrummy-check-spec : {M : Type 1} → statement M
-pearrummy-check-spec = tie.close (tie.spec check-requires counts-of-requires returns)
+pearrummy-check-spec = tie.close (tie.spec (λ c κs. search needs) (λ c κs. search needs) returns)

@@ -25,23 +25,11 @@ front c = rw (c .words-of-bytes .ensures .0, c .words-of-bytes .ensures .1) (fro
 returns : tie.Need-returns
 returns c = too-many (c .before .before .args .bytes .now) (rw (quarter (c .before .before .args .bytes .now)) at (c .if1 .taken))
 
-slice-aggregate-words-of-bytes : tie.Need-slice-aggregate-words-of-bytes
-slice-aggregate-words-of-bytes c = search needs
-
-words-of-bytes-requires : tie.Need-words-of-bytes-requires
-words-of-bytes-requires c κs = search needs
-
 array-share-prefix-words : tie.Need-array-share-prefix-words
 array-share-prefix-words c = omega (arith, fit (c .before), c .before .words-of-bytes .ensures .0)
 
 slice-aggregate-check : tie.Need-slice-aggregate-check
 slice-aggregate-check c = c .before .before .words-of-bytes .ensures .0 ∙ sym (ap length (front (c .before .before)))
-
-check-requires : tie.Need-check-requires
-check-requires c κs = search needs
-
-number-of-requires : tie.Need-number-of-requires
-number-of-requires c κs = search needs
 
 returns-2 : tie.Need-returns-2
 unfolding checkBytes
@@ -52,10 +40,10 @@ pearrummy-check-bytes-spec =
     tie.close
     (tie.spec
     returns
-    slice-aggregate-words-of-bytes
-    words-of-bytes-requires
+    (λ c. search needs)
+    (λ c κs. search needs)
     array-share-prefix-words
     slice-aggregate-check
-    check-requires
-    number-of-requires
+    (λ c κs. search needs)
+    (λ c κs. search needs)
     returns-2)

@@ -5,14 +5,8 @@ use Rattle.host.specs.Structs.{judgementOf}
 use Rattle.host.proofs.pearrummy_judge_rows.Statement.{statement}
 use Rattle.host.proofs.pearrummy_judge_rows.Tie as tie
 
-judge-rows-requires : tie.Need-judge-rows-requires
-judge-rows-requires c κs = search needs
-
-judgement-of-requires : tie.Need-judgement-of-requires
-judgement-of-requires c κs = search needs
-
 returns : tie.Need-returns
 returns c = c .judgement-of .ensures ∙ ap judgementOf (c .before .judge-rows .ensures)
 
 pub pearrummy-judge-rows-spec : {M : Type 1} → statement M
-pearrummy-judge-rows-spec = tie.close (tie.spec judge-rows-requires judgement-of-requires returns)
+pearrummy-judge-rows-spec = tie.close (tie.spec (λ c κs. search needs) (λ c κs. search needs) returns)

@@ -5,18 +5,9 @@ use Rattle.host.specs.Structs.{writtenOf}
 use Rattle.host.proofs.pearrummy_translate.Statement.{statement}
 use Rattle.host.proofs.pearrummy_translate.Tie as tie
 
-translate-requires : tie.Need-translate-requires
-translate-requires c κs = search needs
-
-written-of-requires : tie.Need-written-of-requires
-written-of-requires c κs = search needs
-
-same-length : tie.Need-same-length
-same-length c = search needs
-
 returns : tie.Need-returns
 returns c = let e = c .before .before .before .translate .ensures in (c .written-of .ensures ∙ ap writtenOf (e .0), (e .1 .0, rw (e .0) at (e .1 .1)))
 
 pub pearrummy-translate-spec : {M : Type 1} → statement M
 pearrummy-translate-spec =
-    tie.close (tie.spec translate-requires written-of-requires same-length returns)
+    tie.close (tie.spec (λ c κs. search needs) (λ c κs. search needs) (λ c. search needs) returns)

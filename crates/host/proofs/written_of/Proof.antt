@@ -5,12 +5,6 @@ use Rattle.host.specs.Structs.{writtenOf}
 use Rattle.host.proofs.written_of.Statement.{statement}
 use Rattle.host.proofs.written_of.Tie as tie
 
-enum-known-w : tie.Need-enum-known-w
-enum-known-w c = search needs
-
-enum-known-w-2 : tie.Need-enum-known-w-2
-enum-known-w-2 c = search needs
-
 returns : tie.Need-returns
 unfolding writtenOf wrote
 returns c = rw (c .before .w .given .1)
@@ -20,4 +14,4 @@ unfolding writtenOf wrote
 returns-2 c = rw (c .before .w2 .given .1)
 
 pub written-of-spec : {M : Type 1} → statement M
-written-of-spec = tie.close (tie.spec enum-known-w enum-known-w-2 returns returns-2)
+written-of-spec = tie.close (tie.spec (λ c. search needs) (λ c. search needs) returns returns-2)

@@ -1,5 +1,5 @@
 -- The code tests as the definition does.
-use mathlib.Core.Path.{_≡_, _∙_}
+use mathlib.Core.Path.{_∙_}
 use mir.Facts.{toZ-ofZ}
 use Rattle.integers.specs.Number.{minZ}
 use Rattle.integers.proofs.least.Statement.{statement}

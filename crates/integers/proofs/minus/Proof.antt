@@ -1,5 +1,5 @@
 -- The difference of two numbers fits where their absolute values add up to less than 2^63.
-use mathlib.Core.Path.{_≡_, sym, ap, _∙_}
+use mathlib.Core.Path.{_∙_}
 use native.Mathlib.Omega.{arith}
 use mir.Facts.{toZ-ofZ}
 use Rattle.integers.specs.Number.{_⊖_}

@@ -1,5 +1,5 @@
 -- The opposite of a number fits where its absolute value is below 2^63.
-use mathlib.Core.Path.{_≡_, sym, ap, _∙_}
+use mathlib.Core.Path.{_∙_}
 use native.Mathlib.Omega.{arith}
 use mir.Facts.{toZ-ofZ}
 use lib.IntN.{negℤ, +ℤ-idl}

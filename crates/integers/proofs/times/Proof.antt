@@ -1,5 +1,5 @@
 -- The product of two numbers fits where that of their absolute values does.
-use mathlib.Core.Path.{_≡_, sym, ap, _∙_}
+use mathlib.Core.Path.{_∙_}
 use native.Mathlib.Omega.{arith}
 use mir.Facts.{toZ-ofZ}
 use Rattle.integers.specs.Number.{_⊗_}

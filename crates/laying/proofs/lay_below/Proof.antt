@@ -16,27 +16,6 @@ abbrev μ-loop : tie.MeasureT-loop
 loop-holds : tie.Need-loop-holds Inv-loop μ-loop
 loop-holds c = begun 2000 _ _ _ _
 
-add-var-at : tie.Need-add-var-at Inv-loop μ-loop
-add-var-at c = search needs
-
-var-at-requires : tie.Need-var-at-requires Inv-loop μ-loop
-var-at-requires c κs = search needs
-
-slice-aggregate-lay-row : tie.Need-slice-aggregate-lay-row Inv-loop μ-loop
-slice-aggregate-lay-row c = search needs
-
-slice-aggregate-lay-row-2 : tie.Need-slice-aggregate-lay-row-2 Inv-loop μ-loop
-slice-aggregate-lay-row-2 c = search needs
-
-lay-row-requires : tie.Need-lay-row-requires Inv-loop μ-loop
-lay-row-requires c κs = search needs
-
-add-k : tie.Need-add-k Inv-loop μ-loop
-add-k c = search needs
-
-loop-less : tie.Need-loop-less Inv-loop μ-loop
-loop-less c = search needs
-
 loop-again : tie.Need-loop-again Inv-loop μ-loop
 loop-again c =
     let l = c .before .before .before .before .before .before .before in
@@ -55,13 +34,13 @@ lay-below-spec =
     Inv-loop
     μ-loop
     loop-holds
-    add-var-at
-    var-at-requires
-    slice-aggregate-lay-row
-    slice-aggregate-lay-row-2
-    lay-row-requires
-    add-k
-    loop-less
+    (λ c. search needs)
+    (λ c κs. search needs)
+    (λ c. search needs)
+    (λ c. search needs)
+    (λ c κs. search needs)
+    (λ c. search needs)
+    (λ c. search needs)
     loop-again
     same-length
     returns)

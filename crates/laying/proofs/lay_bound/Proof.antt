@@ -11,30 +11,6 @@ use Rattle.laying.proofs.Parts.{and-true, went-one}
 use Rattle.laying.proofs.lay_bound.Statement.{statement}
 use Rattle.laying.proofs.lay_bound.Tie as tie
 
-number-word-requires : tie.Need-number-word-requires
-number-word-requires c κs = search needs
-
-number-word-requires-2 : tie.Need-number-word-requires-2
-number-word-requires-2 c κs = search needs
-
-in-range-requires : tie.Need-in-range-requires
-in-range-requires c κs = search needs
-
-in-range-requires-2 : tie.Need-in-range-requires-2
-in-range-requires-2 c κs = search needs
-
-both-requires : tie.Need-both-requires
-both-requires c κs = search needs
-
-slice-aggregate-lay-part : tie.Need-slice-aggregate-lay-part
-slice-aggregate-lay-part c = search needs
-
-lay-part-requires : tie.Need-lay-part-requires
-lay-part-requires c κs = search needs
-
-same-length : tie.Need-same-length
-same-length c = search needs
-
 returns : tie.Need-returns
 unfolding partWords partNumbers partAuxiliaries partRows all
 returns c =
@@ -53,12 +29,12 @@ pub lay-bound-spec : {M : Type 1} → statement M
 lay-bound-spec =
     tie.close
     (tie.spec
-    number-word-requires
-    number-word-requires-2
-    in-range-requires
-    in-range-requires-2
-    both-requires
-    slice-aggregate-lay-part
-    lay-part-requires
-    same-length
+    (λ c κs. search needs)
+    (λ c κs. search needs)
+    (λ c κs. search needs)
+    (λ c κs. search needs)
+    (λ c κs. search needs)
+    (λ c. search needs)
+    (λ c κs. search needs)
+    (λ c. search needs)
     returns)

@@ -8,21 +8,6 @@ use Rattle.laying.proofs.Parts.{and-true, went-one}
 use Rattle.laying.proofs.lay_constant.Statement.{statement}
 use Rattle.laying.proofs.lay_constant.Tie as tie
 
-number-word-requires : tie.Need-number-word-requires
-number-word-requires c κs = search needs
-
-slice-aggregate-lay-part : tie.Need-slice-aggregate-lay-part
-slice-aggregate-lay-part c = search needs
-
-in-range-requires : tie.Need-in-range-requires
-in-range-requires c κs = search needs
-
-lay-part-requires : tie.Need-lay-part-requires
-lay-part-requires c κs = search needs
-
-same-length : tie.Need-same-length
-same-length c = search needs
-
 returns : tie.Need-returns
 unfolding partWords partNumbers partAuxiliaries partRows all
 returns c =
@@ -38,9 +23,9 @@ pub lay-constant-spec : {M : Type 1} → statement M
 lay-constant-spec =
     tie.close
     (tie.spec
-    number-word-requires
-    slice-aggregate-lay-part
-    in-range-requires
-    lay-part-requires
-    same-length
+    (λ c κs. search needs)
+    (λ c. search needs)
+    (λ c κs. search needs)
+    (λ c κs. search needs)
+    (λ c. search needs)
     returns)

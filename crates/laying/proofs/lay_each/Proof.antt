@@ -17,29 +17,8 @@ Inv-loop out₀ args i c n t₀ k₀ out t k = (n ≤ 32) × Laying 10 (eachAt a
 abbrev μ-loop : tie.MeasureT-loop
 μ-loop out₀ args i c n t₀ k₀ out t k = n - k
 
-size-at-requires : tie.Need-size-at-requires Inv-loop μ-loop
-size-at-requires c κs = search needs
-
 loop-holds : tie.Need-loop-holds Inv-loop μ-loop
 loop-holds c = let h = size-le (c .before .before .before .args .args .now) (c .before .before .before .args .i) in (omega arith, begun 10 _ _ _ _)
-
-add-var-at : tie.Need-add-var-at Inv-loop μ-loop
-add-var-at c = search needs
-
-add-var-at-2 : tie.Need-add-var-at-2 Inv-loop μ-loop
-add-var-at-2 c = search needs
-
-var-at-requires : tie.Need-var-at-requires Inv-loop μ-loop
-var-at-requires c κs = search needs
-
-lay-term-requires : tie.Need-lay-term-requires Inv-loop μ-loop
-lay-term-requires c κs = search needs
-
-add-k : tie.Need-add-k Inv-loop μ-loop
-add-k c = search needs
-
-loop-less : tie.Need-loop-less Inv-loop μ-loop
-loop-less c = search needs
 
 loop-again : tie.Need-loop-again Inv-loop μ-loop
 loop-again c =
@@ -58,14 +37,14 @@ lay-each-spec =
     (tie.spec
     Inv-loop
     μ-loop
-    size-at-requires
+    (λ c κs. search needs)
     loop-holds
-    add-var-at
-    add-var-at-2
-    var-at-requires
-    lay-term-requires
-    add-k
-    loop-less
+    (λ c. search needs)
+    (λ c. search needs)
+    (λ c κs. search needs)
+    (λ c κs. search needs)
+    (λ c. search needs)
+    (λ c. search needs)
     loop-again
     same-length
     returns)

@@ -19,27 +19,6 @@ abbrev μ-loop : tie.MeasureT-loop
 loop-holds : tie.Need-loop-holds Inv-loop μ-loop
 loop-holds c = begun 10 _ _ _ _
 
-mul-lay-term : tie.Need-mul-lay-term Inv-loop μ-loop
-mul-lay-term c = search needs
-
-shared-slice-copy-out-lay-term : tie.Need-shared-slice-copy-out-lay-term Inv-loop μ-loop
-shared-slice-copy-out-lay-term c = search needs
-
-mul-lay-term-2 : tie.Need-mul-lay-term-2 Inv-loop μ-loop
-mul-lay-term-2 c = search needs
-
-shared-slice-read-lay-term : tie.Need-shared-slice-read-lay-term Inv-loop μ-loop
-shared-slice-read-lay-term c = search needs
-
-lay-term-requires : tie.Need-lay-term-requires Inv-loop μ-loop
-lay-term-requires c κs = search needs
-
-add-k : tie.Need-add-k Inv-loop μ-loop
-add-k c = search needs
-
-loop-less : tie.Need-loop-less Inv-loop μ-loop
-loop-less c = search needs
-
 loop-again : tie.Need-loop-again Inv-loop μ-loop
 loop-again c =
     let p = c .before .before .before .before .before .before in
@@ -61,13 +40,13 @@ lay-given-spec =
     Inv-loop
     μ-loop
     loop-holds
-    mul-lay-term
-    shared-slice-copy-out-lay-term
-    mul-lay-term-2
-    shared-slice-read-lay-term
-    lay-term-requires
-    add-k
-    loop-less
+    (λ c. search needs)
+    (λ c. search needs)
+    (λ c. search needs)
+    (λ c. search needs)
+    (λ c κs. search needs)
+    (λ c. search needs)
+    (λ c. search needs)
     loop-again
     same-length
     returns)

@@ -8,18 +8,6 @@ use Rattle.laying.proofs.Parts.{went-one}
 use Rattle.laying.proofs.lay_head.Statement.{statement}
 use Rattle.laying.proofs.lay_head.Tie as tie
 
-word-of-requires : tie.Need-word-of-requires
-word-of-requires c κs = search needs
-
-slice-aggregate-lay-part : tie.Need-slice-aggregate-lay-part
-slice-aggregate-lay-part c = search needs
-
-lay-part-requires : tie.Need-lay-part-requires
-lay-part-requires c κs = search needs
-
-same-length : tie.Need-same-length
-same-length c = search needs
-
 returns : tie.Need-returns
 unfolding partWords partNumbers partAuxiliaries partRows all
 returns c =
@@ -30,4 +18,4 @@ returns c =
 pub lay-head-spec : {M : Type 1} → statement M
 lay-head-spec =
     tie.close
-    (tie.spec word-of-requires slice-aggregate-lay-part lay-part-requires same-length returns)
+    (tie.spec (λ c κs. search needs) (λ c. search needs) (λ c κs. search needs) (λ c. search needs) returns)

@@ -27,18 +27,6 @@ cast-plus c = fits64 (pos (c .before .before .loop .k)) (omega arith)
 plus-requires : tie.Need-plus-requires Inv-loop μ-loop
 plus-requires c κs = rw (toZ-ofZ (c .before .before .before .before .fits .from), toZ-pos w64 {n = c .before .before .loop .k} (omega arith)) (omega arith)
 
-add-lay-term : tie.Need-add-lay-term Inv-loop μ-loop
-add-lay-term c = search needs
-
-lay-term-requires : tie.Need-lay-term-requires Inv-loop μ-loop
-lay-term-requires c κs = search needs
-
-add-k : tie.Need-add-k Inv-loop μ-loop
-add-k c = search needs
-
-loop-less : tie.Need-loop-less Inv-loop μ-loop
-loop-less c = search needs
-
 loop-again : tie.Need-loop-again Inv-loop μ-loop
 loop-again c =
     let p = c .before .before .before .before .before in
@@ -62,10 +50,10 @@ lay-labels-spec =
     loop-holds
     cast-plus
     plus-requires
-    add-lay-term
-    lay-term-requires
-    add-k
-    loop-less
+    (λ c. search needs)
+    (λ c κs. search needs)
+    (λ c. search needs)
+    (λ c. search needs)
     loop-again
     same-length
     returns)

@@ -16,27 +16,6 @@ abbrev μ-loop : tie.MeasureT-loop
 loop-holds : tie.Need-loop-holds Inv-loop μ-loop
 loop-holds c = begun 10 _ _ _ _
 
-add-lay-times : tie.Need-add-lay-times Inv-loop μ-loop
-add-lay-times c = search needs
-
-add-var-at : tie.Need-add-var-at Inv-loop μ-loop
-add-var-at c = search needs
-
-var-at-requires : tie.Need-var-at-requires Inv-loop μ-loop
-var-at-requires c κs = search needs
-
-add-lay-times-2 : tie.Need-add-lay-times-2 Inv-loop μ-loop
-add-lay-times-2 c = search needs
-
-lay-times-requires : tie.Need-lay-times-requires Inv-loop μ-loop
-lay-times-requires c κs = search needs
-
-add-k : tie.Need-add-k Inv-loop μ-loop
-add-k c = search needs
-
-loop-less : tie.Need-loop-less Inv-loop μ-loop
-loop-less c = search needs
-
 loop-again : tie.Need-loop-again Inv-loop μ-loop
 loop-again c =
     let l = c .before .before .before .before .before in
@@ -55,13 +34,13 @@ lay-products-spec =
     Inv-loop
     μ-loop
     loop-holds
-    add-lay-times
-    add-var-at
-    var-at-requires
-    add-lay-times-2
-    lay-times-requires
-    add-k
-    loop-less
+    (λ c. search needs)
+    (λ c. search needs)
+    (λ c κs. search needs)
+    (λ c. search needs)
+    (λ c κs. search needs)
+    (λ c. search needs)
+    (λ c. search needs)
     loop-again
     same-length
     returns)

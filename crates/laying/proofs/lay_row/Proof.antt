@@ -7,18 +7,6 @@ use Rattle.laying.proofs.Parts.{went-then}
 use Rattle.laying.proofs.lay_row.Statement.{statement}
 use Rattle.laying.proofs.lay_row.Tie as tie
 
-lay-head-requires : tie.Need-lay-head-requires
-lay-head-requires c κs = search needs
-
-lay-given-requires : tie.Need-lay-given-requires
-lay-given-requires c κs = search needs
-
-lay-constant-requires : tie.Need-lay-constant-requires
-lay-constant-requires c κs = search needs
-
-same-length : tie.Need-same-length
-same-length c = search needs
-
 returns : tie.Need-returns
 unfolding rowOf
 returns c =
@@ -32,4 +20,4 @@ returns c =
 pub lay-row-spec : {M : Type 1} → statement M
 lay-row-spec =
     tie.close
-    (tie.spec lay-head-requires lay-given-requires lay-constant-requires same-length returns)
+    (tie.spec (λ c κs. search needs) (λ c κs. search needs) (λ c κs. search needs) (λ c. search needs) returns)

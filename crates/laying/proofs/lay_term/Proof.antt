@@ -8,24 +8,6 @@ use Rattle.laying.proofs.Parts.{and-true, went-one}
 use Rattle.laying.proofs.lay_term.Statement.{statement}
 use Rattle.laying.proofs.lay_term.Tie as tie
 
-word-of-requires : tie.Need-word-of-requires
-word-of-requires c κs = search needs
-
-number-word-requires : tie.Need-number-word-requires
-number-word-requires c κs = search needs
-
-slice-aggregate-lay-part : tie.Need-slice-aggregate-lay-part
-slice-aggregate-lay-part c = search needs
-
-in-range-requires : tie.Need-in-range-requires
-in-range-requires c κs = search needs
-
-lay-part-requires : tie.Need-lay-part-requires
-lay-part-requires c κs = search needs
-
-same-length : tie.Need-same-length
-same-length c = search needs
-
 returns : tie.Need-returns
 unfolding partWords partNumbers partAuxiliaries partRows all
 returns c =
@@ -42,10 +24,10 @@ pub lay-term-spec : {M : Type 1} → statement M
 lay-term-spec =
     tie.close
     (tie.spec
-    word-of-requires
-    number-word-requires
-    slice-aggregate-lay-part
-    in-range-requires
-    lay-part-requires
-    same-length
+    (λ c κs. search needs)
+    (λ c κs. search needs)
+    (λ c. search needs)
+    (λ c κs. search needs)
+    (λ c κs. search needs)
+    (λ c. search needs)
     returns)

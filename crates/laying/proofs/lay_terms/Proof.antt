@@ -16,42 +16,12 @@ Inv-loop out₀ args i n variables t₀ k₀ out t k = (n ≤ 32) × (variables 
 abbrev μ-loop : tie.MeasureT-loop
 μ-loop out₀ args i n variables t₀ k₀ out t k = n - k
 
-size-at-requires : tie.Need-size-at-requires Inv-loop μ-loop
-size-at-requires c κs = search needs
-
-past-at-requires : tie.Need-past-at-requires Inv-loop μ-loop
-past-at-requires c κs = search needs
-
 loop-holds : tie.Need-loop-holds Inv-loop μ-loop
 unfolding past
 loop-holds c =
     let a = c .before .before .before .before in
     let h = size-le (a .args .args .now) (a .args .i) in
     (omega arith, omega arith, begun 10 _ _ _ _)
-
-add-num-at : tie.Need-add-num-at Inv-loop μ-loop
-add-num-at c = search needs
-
-add-num-at-2 : tie.Need-add-num-at-2 Inv-loop μ-loop
-add-num-at-2 c = search needs
-
-num-at-requires : tie.Need-num-at-requires Inv-loop μ-loop
-num-at-requires c κs = search needs
-
-add-var-at : tie.Need-add-var-at Inv-loop μ-loop
-add-var-at c = search needs
-
-var-at-requires : tie.Need-var-at-requires Inv-loop μ-loop
-var-at-requires c κs = search needs
-
-lay-term-requires : tie.Need-lay-term-requires Inv-loop μ-loop
-lay-term-requires c κs = search needs
-
-add-k : tie.Need-add-k Inv-loop μ-loop
-add-k c = search needs
-
-loop-less : tie.Need-loop-less Inv-loop μ-loop
-loop-less c = search needs
 
 loop-again : tie.Need-loop-again Inv-loop μ-loop
 loop-again c =
@@ -75,17 +45,17 @@ lay-terms-spec =
     (tie.spec
     Inv-loop
     μ-loop
-    size-at-requires
-    past-at-requires
+    (λ c κs. search needs)
+    (λ c κs. search needs)
     loop-holds
-    add-num-at
-    add-num-at-2
-    num-at-requires
-    add-var-at
-    var-at-requires
-    lay-term-requires
-    add-k
-    loop-less
+    (λ c. search needs)
+    (λ c. search needs)
+    (λ c κs. search needs)
+    (λ c. search needs)
+    (λ c κs. search needs)
+    (λ c κs. search needs)
+    (λ c. search needs)
+    (λ c. search needs)
     loop-again
     same-length
     returns)

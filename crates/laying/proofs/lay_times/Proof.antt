@@ -8,27 +8,6 @@ use Rattle.laying.proofs.Parts.{went-one}
 use Rattle.laying.proofs.lay_times.Statement.{statement}
 use Rattle.laying.proofs.lay_times.Tie as tie
 
-word-of-requires : tie.Need-word-of-requires
-word-of-requires c κs = search needs
-
-word-of-requires-2 : tie.Need-word-of-requires-2
-word-of-requires-2 c κs = search needs
-
-word-of-requires-3 : tie.Need-word-of-requires-3
-word-of-requires-3 c κs = search needs
-
-word-of-requires-4 : tie.Need-word-of-requires-4
-word-of-requires-4 c κs = search needs
-
-slice-aggregate-lay-part : tie.Need-slice-aggregate-lay-part
-slice-aggregate-lay-part c = search needs
-
-lay-part-requires : tie.Need-lay-part-requires
-lay-part-requires c κs = search needs
-
-same-length : tie.Need-same-length
-same-length c = search needs
-
 returns : tie.Need-returns
 unfolding partWords partNumbers partAuxiliaries partRows all
 returns c =
@@ -46,11 +25,11 @@ pub lay-times-spec : {M : Type 1} → statement M
 lay-times-spec =
     tie.close
     (tie.spec
-    word-of-requires
-    word-of-requires-2
-    word-of-requires-3
-    word-of-requires-4
-    slice-aggregate-lay-part
-    lay-part-requires
-    same-length
+    (λ c κs. search needs)
+    (λ c κs. search needs)
+    (λ c κs. search needs)
+    (λ c κs. search needs)
+    (λ c. search needs)
+    (λ c κs. search needs)
+    (λ c. search needs)
     returns)

@@ -17,23 +17,8 @@ abbrev μ-loop : tie.MeasureT-loop
 loop-holds : tie.Need-loop-holds Inv-loop μ-loop
 loop-holds c = refl
 
-mul-w : tie.Need-mul-w Inv-loop μ-loop
-mul-w c = search needs
-
-shared-slice-read-w : tie.Need-shared-slice-read-w Inv-loop μ-loop
-shared-slice-read-w c = search needs
-
-add-p : tie.Need-add-p Inv-loop μ-loop
-add-p c = search needs
-
-kind-of-requires : tie.Need-kind-of-requires Inv-loop μ-loop
-kind-of-requires c κs = search needs
-
 returns : tie.Need-returns Inv-loop μ-loop
 returns c = head-here _ _ (c .before .before .before .loop-test .taken) (sym (c .before .kind-of .ensures) ∙ c .if1 .taken) ∙ c .before .before .before .before .loop .inv
-
-loop-less : tie.Need-loop-less Inv-loop μ-loop
-loop-less c = search needs
 
 loop-again : tie.Need-loop-again Inv-loop μ-loop
 loop-again c = head-later _ _ (c .before .before .before .loop-test .taken) (λ e. c .if1 .left (c .before .kind-of .ensures ∙ e)) ∙ c .before .before .before .before .loop .inv
@@ -48,11 +33,11 @@ after-head-spec =
     Inv-loop
     μ-loop
     loop-holds
-    mul-w
-    shared-slice-read-w
-    add-p
-    kind-of-requires
+    (λ c. search needs)
+    (λ c. search needs)
+    (λ c. search needs)
+    (λ c κs. search needs)
     returns
-    loop-less
+    (λ c. search needs)
     loop-again
     returns-2)

@@ -10,18 +10,6 @@ returns : tie.Need-returns
 unfolding codeBefore
 returns c = rw (eq-eqb _ 0 (c .if1 .taken))
 
-sub-word-at : tie.Need-sub-word-at
-sub-word-at c = search needs
-
-word-at-requires : tie.Need-word-at-requires
-word-at-requires c κs = search needs
-
-kind-of-requires : tie.Need-kind-of-requires
-kind-of-requires c κs = search needs
-
-payload-of-requires : tie.Need-payload-of-requires
-payload-of-requires c κs = search needs
-
 returns-2 : tie.Need-returns-2
 unfolding codeBefore
 returns-2 c =
@@ -39,9 +27,9 @@ code-before-spec =
     tie.close
     (tie.spec
     returns
-    sub-word-at
-    word-at-requires
-    kind-of-requires
-    payload-of-requires
+    (λ c. search needs)
+    (λ c κs. search needs)
+    (λ c κs. search needs)
+    (λ c κs. search needs)
     returns-2
     returns-3)

@@ -5,9 +5,6 @@ use Rattle.linearsums.proofs.Filling.{records-near}
 use Rattle.linearsums.proofs.model_sums.Statement.{statement}
 use Rattle.linearsums.proofs.model_sums.Tie as tie
 
-records-of-requires : tie.Need-records-of-requires
-records-of-requires c κs = search needs
-
 lend-bounds-requires : tie.Need-lend-bounds-requires
 lend-bounds-requires c κs = let s = c .before .before in (s .pre .0, records-near _ (s .args .ls .now) (s .args .us .now) (c .records-of .ensures) (s .pre .3) (s .pre .4))
 
@@ -15,4 +12,4 @@ returns : tie.Need-returns
 returns c = c .lend-bounds .ensures ∙ rw (c .before .records-of .ensures)
 
 pub model-sums-spec : {M : Type 1} → statement M
-model-sums-spec = tie.close (tie.spec records-of-requires lend-bounds-requires returns)
+model-sums-spec = tie.close (tie.spec (λ c κs. search needs) lend-bounds-requires returns)

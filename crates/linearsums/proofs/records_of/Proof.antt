@@ -15,24 +15,6 @@ abbrev μ-loop : tie.MeasureT-loop
 loop-holds : tie.Need-loop-holds Inv-loop μ-loop
 loop-holds c = begun _ _
 
-bound-at-requires : tie.Need-bound-at-requires Inv-loop μ-loop
-bound-at-requires c κs = search needs
-
-bound-at-requires-2 : tie.Need-bound-at-requires-2 Inv-loop μ-loop
-bound-at-requires-2 c κs = search needs
-
-mul-records : tie.Need-mul-records Inv-loop μ-loop
-mul-records c = search needs
-
-array-set-from-records : tie.Need-array-set-from-records Inv-loop μ-loop
-array-set-from-records c = search needs
-
-add-v : tie.Need-add-v Inv-loop μ-loop
-add-v c = search needs
-
-loop-less : tie.Need-loop-less Inv-loop μ-loop
-loop-less c = search needs
-
 loop-again : tie.Need-loop-again Inv-loop μ-loop
 loop-again c =
     let loop = c .before .before .before .loop in
@@ -48,11 +30,11 @@ records-of-spec =
     Inv-loop
     μ-loop
     loop-holds
-    bound-at-requires
-    bound-at-requires-2
-    mul-records
-    array-set-from-records
-    add-v
-    loop-less
+    (λ c κs. search needs)
+    (λ c κs. search needs)
+    (λ c. search needs)
+    (λ c. search needs)
+    (λ c. search needs)
+    (λ c. search needs)
     loop-again
     returns)

@@ -7,18 +7,9 @@ use Rattle.linearsums.specs.Places.{sumConstant}
 use Rattle.linearsums.proofs.sum_constant.Statement.{statement}
 use Rattle.linearsums.proofs.sum_constant.Tie as tie
 
-form-before-requires : tie.Need-form-before-requires
-form-before-requires c κs = search needs
-
 returns : tie.Need-returns
 unfolding sumConstant
 returns c = rw (← c .before .form-before .ensures, eq-eqb _ 2 (c .if1 .taken))
-
-past-terms-at-requires : tie.Need-past-terms-at-requires
-past-terms-at-requires c κs = search needs
-
-num-at-requires : tie.Need-num-at-requires
-num-at-requires c κs = search needs
 
 returns-2 : tie.Need-returns-2
 unfolding sumConstant
@@ -30,4 +21,4 @@ returns-2 c =
 pub sum-constant-spec : {M : Type 1} → statement M
 sum-constant-spec =
     tie.close
-    (tie.spec form-before-requires returns past-terms-at-requires num-at-requires returns-2)
+    (tie.spec (λ c κs. search needs) returns (λ c κs. search needs) (λ c κs. search needs) returns-2)

@@ -7,9 +7,6 @@ use Rattle.linearsums.specs.Places.{sumNumber}
 use Rattle.linearsums.proofs.sum_number.Statement.{statement}
 use Rattle.linearsums.proofs.sum_number.Tie as tie
 
-form-before-requires : tie.Need-form-before-requires
-form-before-requires c κs = search needs
-
 returns : tie.Need-returns
 unfolding sumNumber
 returns c = rw (← c .before .before .form-before .ensures, eq-eqb _ 2 (c .before .if1 .taken), eq-eqb _ 0 (c .if2 .taken))
@@ -17,15 +14,6 @@ returns c = rw (← c .before .before .form-before .ensures, eq-eqb _ 2 (c .befo
 returns-2 : tie.Need-returns-2
 unfolding sumNumber
 returns-2 c = rw (← c .before .before .form-before .ensures, eq-eqb _ 2 (c .before .if1 .taken), ne-eqb _ 0 (c .if2 .left))
-
-add-num-at : tie.Need-add-num-at
-add-num-at c = search needs
-
-add-num-at-2 : tie.Need-add-num-at-2
-add-num-at-2 c = search needs
-
-num-at-requires : tie.Need-num-at-requires
-num-at-requires c κs = search needs
 
 returns-3 : tie.Need-returns-3
 unfolding sumNumber
@@ -35,10 +23,10 @@ pub sum-number-spec : {M : Type 1} → statement M
 sum-number-spec =
     tie.close
     (tie.spec
-    form-before-requires
+    (λ c κs. search needs)
     returns
     returns-2
-    add-num-at
-    add-num-at-2
-    num-at-requires
+    (λ c. search needs)
+    (λ c. search needs)
+    (λ c κs. search needs)
     returns-3)

@@ -8,9 +8,6 @@ use Rattle.linearsums.proofs.Size.{constant-near}
 use Rattle.linearsums.proofs.sum_start.Statement.{statement}
 use Rattle.linearsums.proofs.sum_start.Tie as tie
 
-sum-constant-requires : tie.Need-sum-constant-requires
-sum-constant-requires c κs = search needs
-
 minus-requires : tie.Need-minus-requires
 minus-requires c κs = rw (read (c .sum-constant .ok) (c .sum-constant .ensures)) (omega (arith, constant-near (c .before .before .args .ws .now) (c .before .before .args .a)))
 
@@ -18,4 +15,4 @@ returns : tie.Need-returns
 returns c = ap (λ z. z to z) (read (c .minus .ok) (c .minus .ensures) ∙ rw (read (c .before .sum-constant .ok) (c .before .sum-constant .ensures)))
 
 pub sum-start-spec : {M : Type 1} → statement M
-sum-start-spec = tie.close (tie.spec sum-constant-requires minus-requires returns)
+sum-start-spec = tie.close (tie.spec (λ c κs. search needs) minus-requires returns)

@@ -9,9 +9,6 @@ use Rattle.linearsums.proofs.Size.{number-near}
 use Rattle.linearsums.proofs.sum_step.Statement.{statement}
 use Rattle.linearsums.proofs.sum_step.Tie as tie
 
-sum-number-requires : tie.Need-sum-number-requires
-sum-number-requires c κs = search needs
-
 with-ends-requires : tie.Need-with-ends-requires
 with-ends-requires c κs =
     let s = c .before .before .before .before .before .before in
@@ -41,4 +38,4 @@ returns c =
 
 pub sum-step-spec : {M : Type 1} → statement M
 sum-step-spec =
-    tie.close (tie.spec sum-number-requires with-ends-requires with-ends-requires-2 returns)
+    tie.close (tie.spec (λ c κs. search needs) with-ends-requires with-ends-requires-2 returns)

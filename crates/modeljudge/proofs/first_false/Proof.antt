@@ -34,36 +34,6 @@ loop-holds : tie.Need-loop-holds Inv-loop μ-loop
 unfolding constraints
 loop-holds c = none-passed _ _
 
-mul-w : tie.Need-mul-w Inv-loop μ-loop
-mul-w c = search needs
-
-shared-slice-read-w : tie.Need-shared-slice-read-w Inv-loop μ-loop
-shared-slice-read-w c = search needs
-
-add-at : tie.Need-add-at Inv-loop μ-loop
-add-at c = search needs
-
-kind-of-requires : tie.Need-kind-of-requires Inv-loop μ-loop
-kind-of-requires c κs = search needs
-
-payload-of-requires : tie.Need-payload-of-requires Inv-loop μ-loop
-payload-of-requires c κs = search needs
-
-mul-holds : tie.Need-mul-holds Inv-loop μ-loop
-mul-holds c = search needs
-
-sub-holds : tie.Need-sub-holds Inv-loop μ-loop
-sub-holds c = search needs
-
-part-holds-start : tie.Need-part-holds-start Inv-loop μ-loop
-part-holds-start c = search needs
-
-part-holds-end : tie.Need-part-holds-end Inv-loop μ-loop
-part-holds-end c = search needs
-
-holds-requires : tie.Need-holds-requires Inv-loop μ-loop
-holds-requires c κs = search needs
-
 returns : tie.Need-returns Inv-loop μ-loop
 unfolding verdict
 returns c =
@@ -73,12 +43,6 @@ returns c =
     let if1 = c .before .before .before .before .if1 in
     fail-one (loop .inv) (starts-one (s .args .ws .now) (loop .at) (c .before .before .before .before .before .before .before .loop-test .taken) (sym (kind-of .ensures) ∙ if1 .taken)) (said (c .before) ∙ not-true _ (c .if2 .taken))
 
-add-k : tie.Need-add-k Inv-loop μ-loop
-add-k c = search needs
-
-loop-less : tie.Need-loop-less Inv-loop μ-loop
-loop-less c = search needs
-
 loop-again : tie.Need-loop-again Inv-loop μ-loop
 loop-again c =
     let s = c .before .before .before .before .before .before .before .before .before .before in
@@ -86,9 +50,6 @@ loop-again c =
     let kind-of = c .before .before .before .before .before .kind-of in
     let if1 = c .before .before .before .before .if1 in
     pass-one (loop .inv) (starts-one (s .args .ws .now) (loop .at) (c .before .before .before .before .before .before .before .loop-test .taken) (sym (kind-of .ensures) ∙ if1 .taken)) (said (c .before) ∙ not-false _ (c .if2 .left))
-
-loop-less-2 : tie.Need-loop-less-2 Inv-loop μ-loop
-loop-less-2 c = search needs
 
 loop-again-2 : tie.Need-loop-again-2 Inv-loop μ-loop
 loop-again-2 c =
@@ -107,20 +68,20 @@ first-false-spec =
     Inv-loop
     μ-loop
     loop-holds
-    mul-w
-    shared-slice-read-w
-    add-at
-    kind-of-requires
-    payload-of-requires
-    mul-holds
-    sub-holds
-    part-holds-start
-    part-holds-end
-    holds-requires
+    (λ c. search needs)
+    (λ c. search needs)
+    (λ c. search needs)
+    (λ c κs. search needs)
+    (λ c κs. search needs)
+    (λ c. search needs)
+    (λ c. search needs)
+    (λ c. search needs)
+    (λ c. search needs)
+    (λ c κs. search needs)
     returns
-    add-k
-    loop-less
+    (λ c. search needs)
+    (λ c. search needs)
     loop-again
-    loop-less-2
+    (λ c. search needs)
     loop-again-2
     returns-2)

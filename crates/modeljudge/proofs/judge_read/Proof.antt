@@ -13,12 +13,6 @@ use Rattle.modeljudge.proofs.judge_read.Tie as tie
 said : (c : tie.After-is-holds) → let a = c .before .before .before .args in isHolds (judgedThen (a .read) (a .ws .now) (a .values .now) holds) ≡ c .is-holds .result
 said c = sym (c .is-holds .ensures ∙ ap isHolds (c .before .judge-values .ensures))
 
-judge-values-requires : tie.Need-judge-values-requires
-judge-values-requires c κs = search needs
-
-is-holds-requires : tie.Need-is-holds-requires
-is-holds-requires c κs = search needs
-
 first-false-requires : tie.Need-first-false-requires
 first-false-requires c κs = go-on _ _ _ (said (c .before) ∙ c .if1 .taken) .0
 
@@ -34,8 +28,8 @@ pub judge-read-spec : {M : Type 1} → statement M
 judge-read-spec =
     tie.close
     (tie.spec
-    judge-values-requires
-    is-holds-requires
+    (λ c κs. search needs)
+    (λ c κs. search needs)
     first-false-requires
     returns
     returns-2)

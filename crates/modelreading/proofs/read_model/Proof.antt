@@ -41,37 +41,13 @@ returns : tie.Need-returns Inv-loop μ-loop
 unfolding readModel
 returns c = rw (lt-ltb _ _ (c .if1 .taken))
 
-loop-holds : tie.Need-loop-holds Inv-loop μ-loop
-loop-holds c = search needs
-
-mul-w : tie.Need-mul-w Inv-loop μ-loop
-mul-w c = search needs
-
-shared-slice-read-w : tie.Need-shared-slice-read-w Inv-loop μ-loop
-shared-slice-read-w c = search needs
-
-payload-of-requires : tie.Need-payload-of-requires Inv-loop μ-loop
-payload-of-requires c κs = search needs
-
-type-at-requires : tie.Need-type-at-requires Inv-loop μ-loop
-type-at-requires c κs = search needs
-
 -- the table is the definition's: antt computes this once, for the whole table
 argument-due-requires : tie.Need-argument-due-requires Inv-loop μ-loop
 unfolding table shapes
 argument-due-requires c κs = refl
 
-of-due-requires : tie.Need-of-due-requires Inv-loop μ-loop
-of-due-requires c κs = search needs
-
 returns-2 : tie.Need-returns-2 Inv-loop μ-loop
 returns-2 c = stop (turn (c .before)) (c .if2 .taken) ∙ rest (c .before .before .before .before .before .before .before .before .before .before)
-
-after-due-requires : tie.Need-after-due-requires Inv-loop μ-loop
-after-due-requires c κs = search needs
-
-started-by-requires : tie.Need-started-by-requires Inv-loop μ-loop
-started-by-requires c κs = search needs
 
 add-c : tie.Need-add-c Inv-loop μ-loop
 add-c c =
@@ -79,23 +55,11 @@ add-c c =
     let loop = c .before .before .before .before .before .before .before .before .before .before .before .loop in
     record { fits = omega (arith, c .started-by .ensures, started-small (getD (s .args .ws .now) (loop .at) 0), loop .inv .counted) }
 
-declared-by-requires : tie.Need-declared-by-requires Inv-loop μ-loop
-declared-by-requires c κs = search needs
-
-mul-types : tie.Need-mul-types Inv-loop μ-loop
-mul-types c = search needs
-
 array-write-types : tie.Need-array-write-types Inv-loop μ-loop
 array-write-types c =
     let p = c .before .before .before .before .before in
     let if2 = c .before .before .before .before .if2 in
     room-here (turn p) (if2 .left) (c .before .declared-by .result) (c .before .declared-by .ensures) (c .if3 .taken)
-
-add-v : tie.Need-add-v Inv-loop μ-loop
-add-v c = search needs
-
-add-at : tie.Need-add-at Inv-loop μ-loop
-add-at c = search needs
 
 -- what is left after the word
 passed : (c : tie.Joined3 Inv-loop μ-loop) →
@@ -120,14 +84,8 @@ add-at-2 c = record { fits = omega (arith, c .listed-at .ensures .1 .inside) }
 past-requires : tie.Need-past-requires Inv-loop μ-loop
 past-requires c κs = c .listed-at .ensures .0
 
-loop-less : tie.Need-loop-less Inv-loop μ-loop
-loop-less c = search needs
-
 loop-again : tie.Need-loop-again Inv-loop μ-loop
 loop-again c = rw (c .past .ensures) (onward _ _ _ (c .before .listed-at .ensures) (passed (c .before .before .before)))
-
-refusal-at-end-requires : tie.Need-refusal-at-end-requires Inv-loop μ-loop
-refusal-at-end-requires c κs = search needs
 
 returns-3 : tie.Need-returns-3 Inv-loop μ-loop
 returns-3 c = c .refusal-at-end .ensures ∙ done (c .before .loop-test .left) (c .before .before .loop .inv) ∙ rest (c .before .before .before)
@@ -139,26 +97,26 @@ read-model-spec =
     Inv-loop
     μ-loop
     returns
-    loop-holds
-    mul-w
-    shared-slice-read-w
-    payload-of-requires
-    type-at-requires
+    (λ c. search needs)
+    (λ c. search needs)
+    (λ c. search needs)
+    (λ c κs. search needs)
+    (λ c κs. search needs)
     argument-due-requires
-    of-due-requires
+    (λ c κs. search needs)
     returns-2
-    after-due-requires
-    started-by-requires
+    (λ c κs. search needs)
+    (λ c κs. search needs)
     add-c
-    declared-by-requires
-    mul-types
+    (λ c κs. search needs)
+    (λ c. search needs)
     array-write-types
-    add-v
-    add-at
+    (λ c. search needs)
+    (λ c. search needs)
     listed-at-requires
     add-at-2
     past-requires
-    loop-less
+    (λ c. search needs)
     loop-again
-    refusal-at-end-requires
+    (λ c κs. search needs)
     returns-3)

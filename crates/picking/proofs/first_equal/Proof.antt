@@ -25,23 +25,8 @@ abbrev μ-loop : tie.MeasureT-loop
 tested : (c : tie.After-equal Inv-loop μ-loop) → c .equal .result ≡ (value (c .before .before .before .before .before .before .args .values .now) (var (c .before .before .before .before .before .before .args .args .now) (c .before .before .before .before .before .before .args .i + 1 + c .before .before .before .loop .k)) == toZ w64 (ofZ w64 (c .before .before .before .before .before .before .args .v)))
 tested c = c .equal .ensures ∙ rw (back (c .before .value-of .result) (c .before .value-of .ok), c .before .value-of .ensures)
 
-size-at-requires : tie.Need-size-at-requires Inv-loop μ-loop
-size-at-requires c κs = search needs
-
 loop-holds : tie.Need-loop-holds Inv-loop μ-loop
 loop-holds c = (search needs, omega (arith, size-le (c .before .before .args .args .now) (c .before .before .args .i)), λ j l. absurd (omega arith))
-
-add-value-of : tie.Need-add-value-of Inv-loop μ-loop
-add-value-of c = search needs
-
-add-value-of-2 : tie.Need-add-value-of-2 Inv-loop μ-loop
-add-value-of-2 c = search needs
-
-value-of-requires : tie.Need-value-of-requires Inv-loop μ-loop
-value-of-requires c κs = search needs
-
-equal-requires : tie.Need-equal-requires Inv-loop μ-loop
-equal-requires c κs = search needs
 
 returns : tie.Need-returns Inv-loop μ-loop
 returns c = (
@@ -51,12 +36,6 @@ returns c = (
     here = λ l. rw (← toZ-ofZ (c .before .before .before .before .before .before .before .fits .v)) (sym (tested (c .before)) ∙ c .if1 .taken);
   },
 )
-
-add-k : tie.Need-add-k Inv-loop μ-loop
-add-k c = search needs
-
-loop-less : tie.Need-loop-less Inv-loop μ-loop
-loop-less c = search needs
 
 loop-again : tie.Need-loop-again Inv-loop μ-loop
 loop-again c =
@@ -79,14 +58,14 @@ first-equal-spec =
     (tie.spec
     Inv-loop
     μ-loop
-    size-at-requires
+    (λ c κs. search needs)
     loop-holds
-    add-value-of
-    add-value-of-2
-    value-of-requires
-    equal-requires
+    (λ c. search needs)
+    (λ c. search needs)
+    (λ c κs. search needs)
+    (λ c κs. search needs)
     returns
-    add-k
-    loop-less
+    (λ c. search needs)
+    (λ c. search needs)
     loop-again
     returns-2)

@@ -5,15 +5,6 @@ use Rattle.integers.proofs.Fits.{back}
 use Rattle.picking.proofs.first_label.Statement.{statement}
 use Rattle.picking.proofs.first_label.Tie as tie
 
-var-at-requires : tie.Need-var-at-requires
-var-at-requires c κs = search needs
-
-bound-at-requires : tie.Need-bound-at-requires
-bound-at-requires c κs = search needs
-
-first-place-requires : tie.Need-first-place-requires
-first-place-requires c κs = search needs
-
 returns : tie.Need-returns
 returns c =
     let var-at = c .before .before .var-at in
@@ -21,4 +12,4 @@ returns c =
 
 pub first-label-spec : {M : Type 1} → statement M
 first-label-spec =
-    tie.close (tie.spec var-at-requires bound-at-requires first-place-requires returns)
+    tie.close (tie.spec (λ c κs. search needs) (λ c κs. search needs) (λ c κs. search needs) returns)

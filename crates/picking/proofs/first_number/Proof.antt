@@ -1,7 +1,7 @@
 -- The loop's invariant: no number before place k is v.
 use mathlib.Core.Path.{_≡_, sym, _∙_}
 use mathlib.Core.Bool.{false}
-use Prim.Native.Nat.{ℕ, _+_, _-_, _<_, _≤_}
+use Prim.Native.Nat.{ℕ, _-_, _<_, _≤_}
 use native.Mathlib.Omega.{arith}
 use lib.ListN.{getD}
 use mir.Syntax.{w64}
@@ -26,24 +26,12 @@ tested c = c .equal .ensures ∙ rw (back (c .before .bound-at .result) (c .befo
 loop-holds : tie.Need-loop-holds Inv-loop μ-loop
 loop-holds c = (search needs, λ j l. absurd (omega arith))
 
-bound-at-requires : tie.Need-bound-at-requires Inv-loop μ-loop
-bound-at-requires c κs = search needs
-
-equal-requires : tie.Need-equal-requires Inv-loop μ-loop
-equal-requires c κs = search needs
-
 returns : tie.Need-returns Inv-loop μ-loop
 returns c =
     record {
       before = λ j l m. rw (← toZ-ofZ (c .before .before .before .before .before .fits .v)) (c .before .before .before .before .loop .inv .1 j m);
       here = λ l. rw (← toZ-ofZ (c .before .before .before .before .before .fits .v)) (sym (tested (c .before)) ∙ c .if1 .taken);
     }
-
-add-k : tie.Need-add-k Inv-loop μ-loop
-add-k c = search needs
-
-loop-less : tie.Need-loop-less Inv-loop μ-loop
-loop-less c = search needs
 
 loop-again : tie.Need-loop-again Inv-loop μ-loop
 loop-again c =
@@ -65,10 +53,10 @@ first-number-spec =
     Inv-loop
     μ-loop
     loop-holds
-    bound-at-requires
-    equal-requires
+    (λ c κs. search needs)
+    (λ c κs. search needs)
     returns
-    add-k
-    loop-less
+    (λ c. search needs)
+    (λ c. search needs)
     loop-again
     returns-2)

@@ -7,15 +7,6 @@ use Rattle.arguments.proofs.Size.{size-le}
 use Rattle.picking.proofs.last_label.Statement.{statement}
 use Rattle.picking.proofs.last_label.Tie as tie
 
-size-at-requires : tie.Need-size-at-requires
-size-at-requires c κs = search needs
-
-var-at-requires : tie.Need-var-at-requires
-var-at-requires c κs = search needs
-
-bound-at-requires : tie.Need-bound-at-requires
-bound-at-requires c κs = search needs
-
 last-place-requires : tie.Need-last-place-requires
 last-place-requires c κs = omega (arith, c .before .before .size-at .ensures, size-le (c .before .before .before .before .args .args .now) 1)
 
@@ -28,4 +19,4 @@ returns c =
 pub last-label-spec : {M : Type 1} → statement M
 last-label-spec =
     tie.close
-    (tie.spec size-at-requires var-at-requires bound-at-requires last-place-requires returns)
+    (tie.spec (λ c κs. search needs) (λ c κs. search needs) (λ c κs. search needs) last-place-requires returns)

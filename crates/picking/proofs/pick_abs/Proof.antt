@@ -4,17 +4,11 @@ use Rattle.integers.proofs.Fits.{back}
 use Rattle.picking.proofs.pick_abs.Statement.{statement}
 use Rattle.picking.proofs.pick_abs.Tie as tie
 
-value-of-requires : tie.Need-value-of-requires
-value-of-requires c κs = search needs
-
 put-sign-requires : tie.Need-put-sign-requires
 put-sign-requires c κs = (search needs, rw (back (c .value-of .result) (c .value-of .ok), c .value-of .ensures) (c .before .before .before .pre .1))
-
-same-length : tie.Need-same-length
-same-length c = search needs
 
 returns : tie.Need-returns
 returns c = rw (back (c .before .before .value-of .result) (c .before .before .value-of .ok), c .before .before .value-of .ensures) at (c .before .put-sign .ensures)
 
 pub pick-abs-spec : {M : Type 1} → statement M
-pick-abs-spec = tie.close (tie.spec value-of-requires put-sign-requires same-length returns)
+pick-abs-spec = tie.close (tie.spec (λ c κs. search needs) put-sign-requires (λ c. search needs) returns)

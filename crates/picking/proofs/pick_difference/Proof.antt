@@ -17,12 +17,6 @@ whole c =
     let value-of = c .before .before .value-of in
     back (c .minus .result) (c .minus .ok) ∙ c .minus .ensures ∙ rw (back (value-of .result) (value-of .ok), value-of .ensures, back (c .before .value-of2 .result) (c .before .value-of2 .ok), c .before .value-of2 .ensures)
 
-value-of-requires : tie.Need-value-of-requires
-value-of-requires c κs = search needs
-
-value-of-requires-2 : tie.Need-value-of-requires-2
-value-of-requires-2 c κs = search needs
-
 minus-requires : tie.Need-minus-requires
 minus-requires c κs =
     let s = c .before .before .before .before in
@@ -31,9 +25,6 @@ minus-requires c κs =
 put-signed-requires : tie.Need-put-signed-requires
 put-signed-requires c κs = (search needs, rw (whole (c)) (rw difference at (c .before .before .before .before .before .pre .2)))
 
-same-length : tie.Need-same-length
-same-length c = search needs
-
 returns : tie.Need-returns
 returns c = rw difference (rw (whole (c .before .before)) at (c .before .put-signed .ensures))
 
@@ -41,9 +32,9 @@ pub pick-difference-spec : {M : Type 1} → statement M
 pick-difference-spec =
     tie.close
     (tie.spec
-    value-of-requires
-    value-of-requires-2
+    (λ c κs. search needs)
+    (λ c κs. search needs)
     minus-requires
     put-signed-requires
-    same-length
+    (λ c. search needs)
     returns)

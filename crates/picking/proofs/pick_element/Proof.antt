@@ -7,15 +7,6 @@ use Rattle.picking.proofs.Codes.{element-picks}
 use Rattle.picking.proofs.pick_element.Statement.{statement}
 use Rattle.picking.proofs.pick_element.Tie as tie
 
-first-label-requires : tie.Need-first-label-requires
-first-label-requires c κs = search needs
-
-last-label-requires : tie.Need-last-label-requires
-last-label-requires c κs = search needs
-
-value-of-requires : tie.Need-value-of-requires
-value-of-requires c κs = search needs
-
 put-labels-requires : tie.Need-put-labels-requires
 put-labels-requires c κs =
     let s = c .before .before .before .before .before in
@@ -25,9 +16,6 @@ put-labels-requires c κs =
       rw (back (c .before .last-label .result) (c .before .last-label .ok), c .before .last-label .ensures) (labels-near (s .args .ls .now) (s .args .us .now) (s .args .args .now) (s .pre .1) (s .pre .2) .1),
       rw (back (c .value-of .result) (c .value-of .ok), c .value-of .ensures) (s .pre .3 (var (s .args .args .now) 0)),
     )
-
-same-length : tie.Need-same-length
-same-length c = search needs
 
 returns : tie.Need-returns
 returns c =
@@ -41,9 +29,9 @@ pub pick-element-spec : {M : Type 1} → statement M
 pick-element-spec =
     tie.close
     (tie.spec
-    first-label-requires
-    last-label-requires
-    value-of-requires
+    (λ c κs. search needs)
+    (λ c κs. search needs)
+    (λ c κs. search needs)
     put-labels-requires
-    same-length
+    (λ c. search needs)
     returns)

@@ -4,17 +4,11 @@ use Rattle.integers.proofs.Fits.{back}
 use Rattle.picking.proofs.pick_linear.Statement.{statement}
 use Rattle.picking.proofs.pick_linear.Tie as tie
 
-sum-less-requires : tie.Need-sum-less-requires
-sum-less-requires c κs = search needs
-
 put-signed-requires : tie.Need-put-signed-requires
 put-signed-requires c κs = (search needs, rw (back (c .sum-less .result) (c .sum-less .ok), c .sum-less .ensures) (c .before .before .before .pre .2))
-
-same-length : tie.Need-same-length
-same-length c = search needs
 
 returns : tie.Need-returns
 returns c = rw (back (c .before .before .sum-less .result) (c .before .before .sum-less .ok), c .before .before .sum-less .ensures) at (c .before .put-signed .ensures)
 
 pub pick-linear-spec : {M : Type 1} → statement M
-pick-linear-spec = tie.close (tie.spec sum-less-requires put-signed-requires same-length returns)
+pick-linear-spec = tie.close (tie.spec (λ c κs. search needs) put-signed-requires (λ c. search needs) returns)

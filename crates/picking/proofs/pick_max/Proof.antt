@@ -7,20 +7,8 @@ use Rattle.picking.proofs.Only.{bit-in}
 use Rattle.picking.proofs.pick_max.Statement.{statement}
 use Rattle.picking.proofs.pick_max.Tie as tie
 
-value-of-requires : tie.Need-value-of-requires
-value-of-requires c κs = search needs
-
-value-of-requires-2 : tie.Need-value-of-requires-2
-value-of-requires-2 c κs = search needs
-
-equal-requires : tie.Need-equal-requires
-equal-requires c κs = search needs
-
 put-if-requires : tie.Need-put-if-requires
 put-if-requires c κs = (search needs, bit-in (not (c .before .equal .result)))
-
-same-length : tie.Need-same-length
-same-length c = search needs
 
 returns : tie.Need-returns
 unfolding bitOf
@@ -34,9 +22,9 @@ pub pick-max-spec : {M : Type 1} → statement M
 pick-max-spec =
     tie.close
     (tie.spec
-    value-of-requires
-    value-of-requires-2
-    equal-requires
+    (λ c κs. search needs)
+    (λ c κs. search needs)
+    (λ c κs. search needs)
     put-if-requires
-    same-length
+    (λ c. search needs)
     returns)

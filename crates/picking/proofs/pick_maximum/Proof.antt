@@ -22,29 +22,11 @@ picks c =
     let a = s .args in
     maximum-picks [] [] (a .values .now) (a .args .now) (c .first-equal .result) (rw (back (c .before .value-of .result) (c .before .value-of .ok), c .before .value-of .ensures) at (c .first-equal .ensures .1))
 
-value-of-requires : tie.Need-value-of-requires
-value-of-requires c κs = search needs
-
-first-equal-requires : tie.Need-first-equal-requires
-first-equal-requires c κs = search needs
-
-size-at-requires : tie.Need-size-at-requires
-size-at-requires c κs = search needs
-
-add-value-of : tie.Need-add-value-of
-add-value-of c = search needs
-
-value-of-requires-2 : tie.Need-value-of-requires-2
-value-of-requires-2 c κs = search needs
-
 put-gated-requires : tie.Need-put-gated-requires
 put-gated-requires c κs =
     let s = c .before .before .before .before .before .before in
     let p = c .before .before .before in
     (search needs, omega (arith, c .before .size-at .ensures, size-le (s .args .args .now) 1), rw (back (c .value-of2 .result) (c .value-of2 .ok), c .value-of2 .ensures, c .before .size-at .ensures) (rw (picks p) at (s .pre .1)))
-
-same-length : tie.Need-same-length
-same-length c = search needs
 
 returns : tie.Need-returns
 returns c =
@@ -57,11 +39,11 @@ pub pick-maximum-spec : {M : Type 1} → statement M
 pick-maximum-spec =
     tie.close
     (tie.spec
-    value-of-requires
-    first-equal-requires
-    size-at-requires
-    add-value-of
-    value-of-requires-2
+    (λ c κs. search needs)
+    (λ c κs. search needs)
+    (λ c κs. search needs)
+    (λ c. search needs)
+    (λ c κs. search needs)
     put-gated-requires
-    same-length
+    (λ c. search needs)
     returns)

@@ -37,32 +37,11 @@ picks c =
     (rw (back (bound-at .result) (bound-at .ok), bound-at .ensures, back (bound-at2 .result) (bound-at2 .ok), bound-at2 .ensures, var-at .ensures) at (members .ensures .1))
     (rw (back (c .before .value-of .result) (c .before .value-of .ok), c .before .value-of .ensures, many p) at (c .first-number .ensures)))
 
-var-at-requires : tie.Need-var-at-requires
-var-at-requires c κs = search needs
-
-bound-at-requires : tie.Need-bound-at-requires
-bound-at-requires c κs = search needs
-
-bound-at-requires-2 : tie.Need-bound-at-requires-2
-bound-at-requires-2 c κs = search needs
-
-slice-aggregate-members : tie.Need-slice-aggregate-members
-slice-aggregate-members c = search needs
-
 members-requires : tie.Need-members-requires
 members-requires c κs =
     let s = c .before .before .before .before .before in
     let var-at = c .before .before .before .var-at in
     (search needs, rw (back (c .before .bound-at2 .result) (c .before .bound-at2 .ok), c .before .bound-at2 .ensures) (s .pre .1 (var-at .result)))
-
-slice-aggregate-first-number : tie.Need-slice-aggregate-first-number
-slice-aggregate-first-number c = search needs
-
-value-of-requires : tie.Need-value-of-requires
-value-of-requires c κs = search needs
-
-first-number-requires : tie.Need-first-number-requires
-first-number-requires c κs = search needs
 
 put-only-requires : tie.Need-put-only-requires
 put-only-requires c κs =
@@ -71,9 +50,6 @@ put-only-requires c κs =
     let p = c .before .before .before .before .before in
     (omega (arith, many p, let a = s .args in members-length (a .args .now) 1 (getD (a .ls .now) (var (a .args .now) 0) +0 to getD (a .us .now) (var (a .args .now) 0) +0)), bits-ranged (members .result) (c .before .first-number .result))
 
-same-length : tie.Need-same-length
-same-length c = search needs
-
 returns : tie.Need-returns
 returns c = rw (picks (c .before .before .before)) (c .before .put-only .ensures)
 
@@ -81,14 +57,14 @@ pub pick-member-spec : {M : Type 1} → statement M
 pick-member-spec =
     tie.close
     (tie.spec
-    var-at-requires
-    bound-at-requires
-    bound-at-requires-2
-    slice-aggregate-members
+    (λ c κs. search needs)
+    (λ c κs. search needs)
+    (λ c κs. search needs)
+    (λ c. search needs)
     members-requires
-    slice-aggregate-first-number
-    value-of-requires
-    first-number-requires
+    (λ c. search needs)
+    (λ c κs. search needs)
+    (λ c κs. search needs)
     put-only-requires
-    same-length
+    (λ c. search needs)
     returns)

@@ -6,20 +6,8 @@ use Rattle.picking.proofs.Only.{bit-in}
 use Rattle.picking.proofs.pick_ne.Statement.{statement}
 use Rattle.picking.proofs.pick_ne.Tie as tie
 
-value-of-requires : tie.Need-value-of-requires
-value-of-requires c κs = search needs
-
-value-of-requires-2 : tie.Need-value-of-requires-2
-value-of-requires-2 c κs = search needs
-
-below-requires : tie.Need-below-requires
-below-requires c κs = search needs
-
 put-if-requires : tie.Need-put-if-requires
 put-if-requires c κs = (search needs, bit-in (c .before .below .result))
-
-same-length : tie.Need-same-length
-same-length c = search needs
 
 returns : tie.Need-returns
 unfolding bitOf
@@ -33,9 +21,9 @@ pub pick-ne-spec : {M : Type 1} → statement M
 pick-ne-spec =
     tie.close
     (tie.spec
-    value-of-requires
-    value-of-requires-2
-    below-requires
+    (λ c κs. search needs)
+    (λ c κs. search needs)
+    (λ c κs. search needs)
     put-if-requires
-    same-length
+    (λ c. search needs)
     returns)

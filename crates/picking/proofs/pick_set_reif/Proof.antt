@@ -6,18 +6,6 @@ use Rattle.picking.proofs.Codes.{set-picks}
 use Rattle.picking.proofs.pick_set_reif.Statement.{statement}
 use Rattle.picking.proofs.pick_set_reif.Tie as tie
 
-var-at-requires : tie.Need-var-at-requires
-var-at-requires c κs = search needs
-
-bound-at-requires : tie.Need-bound-at-requires
-bound-at-requires c κs = search needs
-
-bound-at-requires-2 : tie.Need-bound-at-requires-2
-bound-at-requires-2 c κs = search needs
-
-value-of-requires : tie.Need-value-of-requires
-value-of-requires c κs = search needs
-
 put-labels-requires : tie.Need-put-labels-requires
 put-labels-requires c κs =
     let s = c .before .before .before .before .before .before in
@@ -28,9 +16,6 @@ put-labels-requires c κs =
       rw (back (c .before .bound-at2 .result) (c .before .bound-at2 .ok), c .before .bound-at2 .ensures) (s .pre .2 (var-at .result)),
       rw (back (c .value-of .result) (c .value-of .ok), c .value-of .ensures) (s .pre .3 (var (s .args .args .now) 0)),
     )
-
-same-length : tie.Need-same-length
-same-length c = search needs
 
 returns : tie.Need-returns
 returns c =
@@ -45,10 +30,10 @@ pub pick-set-reif-spec : {M : Type 1} → statement M
 pick-set-reif-spec =
     tie.close
     (tie.spec
-    var-at-requires
-    bound-at-requires
-    bound-at-requires-2
-    value-of-requires
+    (λ c κs. search needs)
+    (λ c κs. search needs)
+    (λ c κs. search needs)
+    (λ c κs. search needs)
     put-labels-requires
-    same-length
+    (λ c. search needs)
     returns)

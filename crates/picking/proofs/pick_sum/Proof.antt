@@ -4,17 +4,11 @@ use Rattle.integers.proofs.Fits.{back}
 use Rattle.picking.proofs.pick_sum.Statement.{statement}
 use Rattle.picking.proofs.pick_sum.Tie as tie
 
-sum-less-requires : tie.Need-sum-less-requires
-sum-less-requires c κs = search needs
-
 put-requires : tie.Need-put-requires
 put-requires c κs = (search needs, rw (back (c .sum-less .result) (c .sum-less .ok), c .sum-less .ensures) (c .before .before .before .pre .2 0))
-
-same-length : tie.Need-same-length
-same-length c = search needs
 
 returns : tie.Need-returns
 returns c = rw (back (c .before .before .sum-less .result) (c .before .before .sum-less .ok), c .before .before .sum-less .ensures) at (c .before .put .ensures)
 
 pub pick-sum-spec : {M : Type 1} → statement M
-pick-sum-spec = tie.close (tie.spec sum-less-requires put-requires same-length returns)
+pick-sum-spec = tie.close (tie.spec (λ c κs. search needs) put-requires (λ c. search needs) returns)

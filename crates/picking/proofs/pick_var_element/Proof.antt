@@ -45,17 +45,8 @@ counted c =
     let value-of = c .before .before .before .value-of in
     c .count-of .ensures ∙ rw (back (value-of .result) (value-of .ok), value-of .ensures)
 
-first-label-requires : tie.Need-first-label-requires
-first-label-requires c κs = search needs
-
-last-label-requires : tie.Need-last-label-requires
-last-label-requires c κs = search needs
-
 width-of-requires : tie.Need-width-of-requires
 width-of-requires c κs = near c
-
-value-of-requires : tie.Need-value-of-requires
-value-of-requires c κs = search needs
 
 place-of-requires : tie.Need-place-of-requires
 place-of-requires c κs = (
@@ -63,16 +54,10 @@ place-of-requires c κs = (
   near (c .before .before) .0,
 )
 
-count-of-requires : tie.Need-count-of-requires
-count-of-requires c κs = search needs
-
 add-value-of : tie.Need-add-value-of
 add-value-of c =
     let s = c .before .before .before .before .before .before .before .before in
     omega (arith, counted c, count-le (value (s .args .values .now) (var (s .args .args .now) 0)), s .pre .3 (var (s .args .args .now) 0))
-
-value-of-requires-2 : tie.Need-value-of-requires-2
-value-of-requires-2 c κs = search needs
 
 put-gated-requires : tie.Need-put-gated-requires
 put-gated-requires c κs =
@@ -85,9 +70,6 @@ put-gated-requires c κs =
       rw (back (c .value-of2 .result) (c .value-of2 .ok), c .value-of2 .ensures, counted (c .before)) (rw (picks (c .before .before .before)) at (s .pre .4)),
     )
 
-same-length : tie.Need-same-length
-same-length c = search needs
-
 returns : tie.Need-returns
 returns c =
     let value-of2 = c .before .before .value-of2 in
@@ -97,14 +79,14 @@ pub pick-var-element-spec : {M : Type 1} → statement M
 pick-var-element-spec =
     tie.close
     (tie.spec
-    first-label-requires
-    last-label-requires
+    (λ c κs. search needs)
+    (λ c κs. search needs)
     width-of-requires
-    value-of-requires
+    (λ c κs. search needs)
     place-of-requires
-    count-of-requires
+    (λ c κs. search needs)
     add-value-of
-    value-of-requires-2
+    (λ c κs. search needs)
     put-gated-requires
-    same-length
+    (λ c. search needs)
     returns)

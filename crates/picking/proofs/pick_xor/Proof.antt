@@ -6,23 +6,14 @@ use Rattle.picking.proofs.Writing.{picked-then}
 use Rattle.picking.proofs.pick_xor.Statement.{statement}
 use Rattle.picking.proofs.pick_xor.Tie as tie
 
-values-product-requires : tie.Need-values-product-requires
-values-product-requires c κs = search needs
-
 put-requires : tie.Need-put-requires
 put-requires c κs = (search needs, rw (back (c .values-product .result) (c .values-product .ok), c .values-product .ensures) (c .before .before .before .pre .2 0))
-
-values-product-requires-2 : tie.Need-values-product-requires-2
-values-product-requires-2 c κs = search needs
 
 put-requires-2 : tie.Need-put-requires-2
 put-requires-2 c κs =
     let s = c .before .before .before .before .before .before .before in
     let put = c .before .before .before .put in
     (omega (arith, put .ensures .next), rw (back (c .values-product2 .result) (c .values-product2 .ok), c .values-product2 .ensures) (s .pre .2 1))
-
-same-length : tie.Need-same-length
-same-length c = search needs
 
 returns : tie.Need-returns
 returns c =
@@ -35,9 +26,9 @@ pub pick-xor-spec : {M : Type 1} → statement M
 pick-xor-spec =
     tie.close
     (tie.spec
-    values-product-requires
+    (λ c κs. search needs)
     put-requires
-    values-product-requires-2
+    (λ c κs. search needs)
     put-requires-2
-    same-length
+    (λ c. search needs)
     returns)

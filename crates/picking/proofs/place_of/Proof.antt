@@ -14,9 +14,6 @@ returns c = label-none (c .before .args .v) (c .before .args .first) (c .before 
 minus-requires : tie.Need-minus-requires
 minus-requires c κs = rw (toZ-ofZ (c .before .fits .v), toZ-ofZ (c .before .fits .first)) (omega arith)
 
-count-of-requires : tie.Need-count-of-requires
-count-of-requires c κs = search needs
-
 returns-2 : tie.Need-returns-2
 returns-2 c =
     let s = c .before .before .before in
@@ -24,4 +21,4 @@ returns-2 c =
     rw (c .count-of .ensures, back (c .before .minus .result) (c .before .minus .ok), c .before .minus .ensures, toZ-ofZ (s .fits .v), toZ-ofZ (s .fits .first)) (label-at (s .args .v) (s .args .first) (s .args .n) (not-below _ _ (rw (toZ-ofZ (s .fits .v), toZ-ofZ (s .fits .first)) at (if1 .left))))
 
 pub place-of-spec : {M : Type 1} → statement M
-place-of-spec = tie.close (tie.spec returns minus-requires count-of-requires returns-2)
+place-of-spec = tie.close (tie.spec returns minus-requires (λ c κs. search needs) returns-2)

@@ -16,15 +16,6 @@ written c = ⊎-elim (λ w. w .1 ∙ rw (toZ-ofZ (c .before .fits .v), toZ-ofZ (
 cast-out : tie.Need-cast-out
 cast-out c = rw (toZ-ofZ (c .before .fits .v)) (fits32 (c .before .args .v) (c .before .pre .1))
 
-mul-t7 : tie.Need-mul-t7
-mul-t7 c = search needs
-
-slice-set-from-out : tie.Need-slice-set-from-out
-slice-set-from-out c = search needs
-
-add-result : tie.Need-add-result
-add-result c = search needs
-
 same-length : tie.Need-same-length
 same-length c = ap length (written c) ∙ simp length-set
 
@@ -33,4 +24,4 @@ unfolding overlay
 returns c = record { next = search needs; over = written c }
 
 pub put-spec : {M : Type 1} → statement M
-put-spec = tie.close (tie.spec cast-out mul-t7 slice-set-from-out add-result same-length returns)
+put-spec = tie.close (tie.spec cast-out (λ c. search needs) (λ c. search needs) (λ c. search needs) same-length returns)

@@ -18,11 +18,8 @@ put-only-requires-2 c κs =
     let put-only = c .before .before .put-only in
     (omega (arith, put-only .ensures .next, only-length (s .args .n) (s .args .h) +1), rw (toZ-ofZ (s .fits .x)) (ranged-right (onlyAt (s .args .n) (s .args .h) +1) (onlyAt (s .args .n) (s .args .h) (s .args .x)) (s .pre .2)))
 
-same-length : tie.Need-same-length
-same-length c = search needs
-
 returns : tie.Need-returns
 returns c = rw (toZ-ofZ (c .before .before .before .before .before .before .fits .x)) at (picked-then (c .before .before .before .before .put-only .ensures) (c .before .put-only2 .ensures))
 
 pub put-gated-spec : {M : Type 1} → statement M
-put-gated-spec = tie.close (tie.spec put-only-requires put-only-requires-2 same-length returns)
+put-gated-spec = tie.close (tie.spec put-only-requires put-only-requires-2 (λ c. search needs) returns)

@@ -13,20 +13,11 @@ use Rattle.picking.proofs.put_labels.Tie as tie
 wide : (c : tie.After-width-of) → c .width-of .result ≡ width (c .before .args .lower to c .before .args .upper)
 wide c = c .width-of .ensures ∙ rw (toZ-ofZ (c .before .fits .lower), toZ-ofZ (c .before .fits .upper))
 
-width-of-requires : tie.Need-width-of-requires
-width-of-requires c κs = search needs
-
-place-of-requires : tie.Need-place-of-requires
-place-of-requires c κs = search needs
-
 put-only-requires : tie.Need-put-only-requires
 put-only-requires c κs =
     let s = c .before .before .before in
     let width-of = c .before .before .width-of in
     (omega (arith, wide (c .before .before), width-size (s .args .lower) (s .args .upper) (s .pre .1) (s .pre .2)), bits-ranged (width-of .result) (c .before .place-of .result))
-
-same-length : tie.Need-same-length
-same-length c = search needs
 
 returns : tie.Need-returns
 returns c =
@@ -38,4 +29,4 @@ returns c =
 
 pub put-labels-spec : {M : Type 1} → statement M
 put-labels-spec =
-    tie.close (tie.spec width-of-requires place-of-requires put-only-requires same-length returns)
+    tie.close (tie.spec (λ c κs. search needs) (λ c κs. search needs) put-only-requires (λ c. search needs) returns)

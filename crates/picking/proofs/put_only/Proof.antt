@@ -41,26 +41,14 @@ ended c =
 loop-holds : tie.Need-loop-holds Inv-loop μ-loop
 loop-holds c = (search needs, rw add-zero)
 
-add-put-if : tie.Need-add-put-if Inv-loop μ-loop
-add-put-if c = search needs
-
 put-if-requires : tie.Need-put-if-requires Inv-loop μ-loop
 put-if-requires c κs = (search needs, rw (← kept c) (c .before .before .before .pre .1 (c .before .before .loop .k)))
-
-add-k : tie.Need-add-k Inv-loop μ-loop
-add-k c = search needs
-
-loop-less : tie.Need-loop-less Inv-loop μ-loop
-loop-less c = search needs
 
 loop-again : tie.Need-loop-again Inv-loop μ-loop
 loop-again c =
     let s = c .before .before .before .before .before in
     let loop = c .before .before .before .before .loop in
     (search needs, rw (toZ-ofZ (s .fits .v)) (picked-step (s .args .at) (loop .k) (onlyAt (s .args .n) (s .args .h) (s .args .v)) (rw (← kept (c .before .before)) at (c .before .put-if .ensures)) (omega (arith, only-length (s .args .n) (s .args .h) (s .args .v), c .before .before .before .loop-test .taken)) (rw (toZ-ofZ (s .fits .v)) at (loop .inv .1))))
-
-add-result : tie.Need-add-result Inv-loop μ-loop
-add-result c = search needs
 
 same-length : tie.Need-same-length Inv-loop μ-loop
 same-length c = ap length (ended c) ∙ simp length-overlay
@@ -75,11 +63,11 @@ put-only-spec =
     Inv-loop
     μ-loop
     loop-holds
-    add-put-if
+    (λ c. search needs)
     put-if-requires
-    add-k
-    loop-less
+    (λ c. search needs)
+    (λ c. search needs)
     loop-again
-    add-result
+    (λ c. search needs)
     same-length
     returns)

@@ -8,9 +8,6 @@ use Rattle.picking.proofs.Writing.{picked-then}
 use Rattle.picking.proofs.put_sign.Statement.{statement}
 use Rattle.picking.proofs.put_sign.Tie as tie
 
-below-requires : tie.Need-below-requires
-below-requires c κs = search needs
-
 put-if-requires : tie.Need-put-if-requires
 put-if-requires c κs = (search needs, bit-in (c .before .below .result))
 
@@ -22,9 +19,6 @@ put-if-requires-2 c κs =
     let put-if = c .before .before .put-if in
     (omega (arith, put-if .ensures .next), rw (toZ-ofZ (s .fits .x), below .ensures, toZ-ofZ (s .fits .x)) (rw bit-times at (s .pre .1 1)))
 
-same-length : tie.Need-same-length
-same-length c = search needs
-
 returns : tie.Need-returns
 returns c =
     let s = c .before .before .before .before .before .before .before in
@@ -34,4 +28,4 @@ returns c =
 
 pub put-sign-spec : {M : Type 1} → statement M
 put-sign-spec =
-    tie.close (tie.spec below-requires put-if-requires put-if-requires-2 same-length returns)
+    tie.close (tie.spec (λ c κs. search needs) put-if-requires put-if-requires-2 (λ c. search needs) returns)

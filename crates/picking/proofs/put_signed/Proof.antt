@@ -16,12 +16,9 @@ put-sign-requires : tie.Need-put-sign-requires
 unfolding signedPick
 put-sign-requires c κs = (omega (arith, c .before .before .put .ensures .next), rw (toZ-ofZ (c .before .before .before .before .fits .x)) (λ k. c .before .before .before .before .pre .1 (suc k)))
 
-same-length : tie.Need-same-length
-same-length c = search needs
-
 returns : tie.Need-returns
 unfolding signedPick
 returns c = rw (toZ-ofZ (c .before .before .before .before .before .before .fits .x)) at (picked-then (c .before .before .before .before .put .ensures) (c .before .put-sign .ensures))
 
 pub put-signed-spec : {M : Type 1} → statement M
-put-signed-spec = tie.close (tie.spec put-requires put-sign-requires same-length returns)
+put-signed-spec = tie.close (tie.spec put-requires put-sign-requires (λ c. search needs) returns)

@@ -8,15 +8,6 @@ use Rattle.picking.proofs.Sizes.{sum-size}
 use Rattle.picking.proofs.sum_less.Statement.{statement}
 use Rattle.picking.proofs.sum_less.Tie as tie
 
-sum-of-requires : tie.Need-sum-of-requires
-sum-of-requires c κs = search needs
-
-past-terms-at-requires : tie.Need-past-terms-at-requires
-past-terms-at-requires c κs = search needs
-
-num-at-requires : tie.Need-num-at-requires
-num-at-requires c κs = search needs
-
 minus-requires : tie.Need-minus-requires
 minus-requires c κs =
     let s = c .before .before .before .before in
@@ -32,4 +23,4 @@ returns c =
 pub sum-less-spec : {M : Type 1} → statement M
 sum-less-spec =
     tie.close
-    (tie.spec sum-of-requires past-terms-at-requires num-at-requires minus-requires returns)
+    (tie.spec (λ c κs. search needs) (λ c κs. search needs) (λ c κs. search needs) minus-requires returns)

@@ -7,12 +7,6 @@ use Rattle.models.specs.Model.{var}
 use Rattle.picking.proofs.values_product.Statement.{statement}
 use Rattle.picking.proofs.values_product.Tie as tie
 
-value-of-requires : tie.Need-value-of-requires
-value-of-requires c κs = search needs
-
-value-of-requires-2 : tie.Need-value-of-requires-2
-value-of-requires-2 c κs = search needs
-
 times-requires : tie.Need-times-requires
 times-requires c κs =
     let s = c .before .before .before in
@@ -25,4 +19,4 @@ returns c =
 
 pub values-product-spec : {M : Type 1} → statement M
 values-product-spec =
-    tie.close (tie.spec value-of-requires value-of-requires-2 times-requires returns)
+    tie.close (tie.spec (λ c κs. search needs) (λ c κs. search needs) times-requires returns)

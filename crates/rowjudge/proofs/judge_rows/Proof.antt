@@ -13,15 +13,6 @@ use Rattle.rowjudge.proofs.judge_rows.Tie as tie
 said : (c : tie.After-is-holds) → let a = c .before .before .before .before .args in isHolds (judgedThen (c .before .before .read-rows .result) (a .ws .now) (a .values .now) holds) ≡ c .is-holds .result
 said c = sym (c .is-holds .ensures ∙ ap isHolds (c .before .judge-values .ensures))
 
-read-rows-requires : tie.Need-read-rows-requires
-read-rows-requires c κs = search needs
-
-judge-values-requires : tie.Need-judge-values-requires
-judge-values-requires c κs = search needs
-
-is-holds-requires : tie.Need-is-holds-requires
-is-holds-requires c κs = search needs
-
 judge-each-row-requires : tie.Need-judge-each-row-requires
 judge-each-row-requires c κs = go-on _ _ _ (said (c .before) ∙ c .if1 .taken) .0
 
@@ -37,9 +28,9 @@ pub judge-rows-spec : {M : Type 1} → statement M
 judge-rows-spec =
     tie.close
     (tie.spec
-    read-rows-requires
-    judge-values-requires
-    is-holds-requires
+    (λ c κs. search needs)
+    (λ c κs. search needs)
+    (λ c κs. search needs)
     judge-each-row-requires
     returns
     returns-2)

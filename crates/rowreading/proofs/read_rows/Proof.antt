@@ -53,29 +53,11 @@ items-holds : tie.Need-items-holds Inv-loop μ-loop Inv-items μ-items
 unfolding startDue
 items-holds c = (omega arith, record { within = omega arith; few = omega arith }, refl)
 
-word-at-requires : tie.Need-word-at-requires Inv-loop μ-loop Inv-items μ-items
-word-at-requires c κs = search needs
-
-fault-head-requires : tie.Need-fault-head-requires Inv-loop μ-loop Inv-items μ-items
-fault-head-requires c κs = search needs
-
-started-of-requires : tie.Need-started-of-requires Inv-loop μ-loop Inv-items μ-items
-started-of-requires c κs = search needs
-
 add-n : tie.Need-add-n Inv-loop μ-loop Inv-items μ-items
 add-n c =
     let items = c .before .before .before .before .items in
     let word-at = c .before .before .before .word-at in
     record { fits = omega (arith, c .started-of .ensures, started-few (word-at .result), items .inv .0, items .inv .1 .within, items .inv .1 .few) }
-
-add-at : tie.Need-add-at Inv-loop μ-loop Inv-items μ-items
-add-at c = search needs
-
-item-of-requires : tie.Need-item-of-requires Inv-loop μ-loop Inv-items μ-items
-item-of-requires c κs = search needs
-
-terms-of-requires : tie.Need-terms-of-requires Inv-loop μ-loop Inv-items μ-items
-terms-of-requires c κs = search needs
 
 loop-holds : tie.Need-loop-holds Inv-loop μ-loop Inv-items μ-items
 unfolding dueAfter
@@ -95,21 +77,12 @@ loop-holds c =
           ∙ items .inv .2),
     )
 
-read-term-requires : tie.Need-read-term-requires Inv-loop μ-loop Inv-items μ-items
-read-term-requires c κs = search needs
-
 -- past a term without a fault
 past-term : (c : tie.Else3 Inv-loop μ-loop Inv-items μ-items) → c .before .read-term .result .at ≡ c .before .before .before .loop .at + 2
 past-term c = c .before .read-term .ensures .1 (c .if3 .left)
 
 add-at-2 : tie.Need-add-at-2 Inv-loop μ-loop Inv-items μ-items
 add-at-2 c = record { fits = omega (arith, past-term c, c .before .read-term .ensures .0 0 .inside, c .before .before .before .loop .inv .1 .few) }
-
-sub-left : tie.Need-sub-left Inv-loop μ-loop Inv-items μ-items
-sub-left c = search needs
-
-loop-less : tie.Need-loop-less Inv-loop μ-loop Inv-items μ-items
-loop-less c = search needs
 
 loop-again : tie.Need-loop-again Inv-loop μ-loop Inv-items μ-items
 loop-again c =
@@ -122,15 +95,6 @@ loop-again c =
       sym (gone (term-gone (c .before .before .before .before .before .item-of .result) (l .left) (c .before .before .loop-test .taken) (l .inv .2) t) (c .if3 .left)) ∙ l .inv .3,
     )
 
-read-rest-requires : tie.Need-read-rest-requires Inv-loop μ-loop Inv-items μ-items
-read-rest-requires c κs = search needs
-
-sources-after-requires : tie.Need-sources-after-requires Inv-loop μ-loop Inv-items μ-items
-sources-after-requires c κs = search needs
-
-items-less : tie.Need-items-less Inv-loop μ-loop Inv-items μ-items
-items-less c = search needs
-
 items-again : tie.Need-items-again Inv-loop μ-loop Inv-items μ-items
 items-again c =
     let items = c .before .before .before .before .before .before .before .before .before .before .before .items in
@@ -142,9 +106,6 @@ items-again c =
       record { within = read-rest .ensures .inside; few = loop .inv .1 .few },
       rw (c .sources-after .ensures) (let z : loop .left ≡ 0 = omega (arith, c .before .before .before .loop-test .left) in sym (gone (read-rest .ensures) (c .before .if4 .left)) ∙ rw z at (loop .inv .3)),
     )
-
-refusal-at-requires : tie.Need-refusal-at-requires Inv-loop μ-loop Inv-items μ-items
-refusal-at-requires c κs = search needs
 
 returns-2 : tie.Need-returns-2 Inv-loop μ-loop Inv-items μ-items
 unfolding readRows onward
@@ -160,22 +121,22 @@ read-rows-spec =
     μ-items
     returns
     items-holds
-    word-at-requires
-    fault-head-requires
-    started-of-requires
+    (λ c κs. search needs)
+    (λ c κs. search needs)
+    (λ c κs. search needs)
     add-n
-    add-at
-    item-of-requires
-    terms-of-requires
+    (λ c. search needs)
+    (λ c κs. search needs)
+    (λ c κs. search needs)
     loop-holds
-    read-term-requires
+    (λ c κs. search needs)
     add-at-2
-    sub-left
-    loop-less
+    (λ c. search needs)
+    (λ c. search needs)
     loop-again
-    read-rest-requires
-    sources-after-requires
-    items-less
+    (λ c κs. search needs)
+    (λ c κs. search needs)
+    (λ c. search needs)
     items-again
-    refusal-at-requires
+    (λ c κs. search needs)
     returns-2)

@@ -6,9 +6,6 @@ use Rattle.rowsystems.specs.Reading.{started}
 use Rattle.rowreading.proofs.started_of.Statement.{statement}
 use Rattle.rowreading.proofs.started_of.Tie as tie
 
-kind-of-requires : tie.Need-kind-of-requires
-kind-of-requires c κs = search needs
-
 returns : tie.Need-returns
 unfolding started startsPair
 returns c = rw (← c .before .kind-of .ensures, eq-eqb _ _ (c .if1 .taken))
@@ -26,4 +23,4 @@ unfolding started startsPair
 returns-4 c = rw (← c .before .before .before .kind-of .ensures, ne-eqb _ _ (c .before .before .if1 .left), ne-eqb _ _ (c .before .if2 .left), ne-eqb _ _ (c .if3 .left))
 
 pub started-of-spec : {M : Type 1} → statement M
-started-of-spec = tie.close (tie.spec kind-of-requires returns returns-2 returns-3 returns-4)
+started-of-spec = tie.close (tie.spec (λ c κs. search needs) returns returns-2 returns-3 returns-4)

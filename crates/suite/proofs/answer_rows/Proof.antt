@@ -5,12 +5,6 @@ use borrow.Author.Needs.{needs}
 use Rattle.suite.proofs.answer_rows.Statement.{statement}
 use Rattle.suite.proofs.answer_rows.Tie as tie
 
-at-most-requires : tie.Need-at-most-requires
-at-most-requires c κs = search needs
-
-at-most-requires-2 : tie.Need-at-most-requires-2
-at-most-requires-2 c κs = search needs
-
 slice-aggregate-judge-rows : tie.Need-slice-aggregate-judge-rows
 slice-aggregate-judge-rows c =
     sym (length-take-le (c .before .before .at-most .result) (c .before .before .before .before .args .rows .now) (c .before .before .at-most .ensures))
@@ -19,23 +13,14 @@ slice-aggregate-judge-rows-2 : tie.Need-slice-aggregate-judge-rows-2
 slice-aggregate-judge-rows-2 c =
     sym (length-take-le (c .before .before .at-most2 .result) (c .before .before .before .before .before .args .values .now) (c .before .before .at-most2 .ensures))
 
-judge-rows-requires : tie.Need-judge-rows-requires
-judge-rows-requires c κs = search needs
-
-print-verdict-requires : tie.Need-print-verdict-requires
-print-verdict-requires c κs = search needs
-
-returns : tie.Need-returns
-returns c = search needs
-
 pub answer-rows-spec : {M : Type 1} → statement M
 answer-rows-spec =
     tie.close
     (tie.spec
-    at-most-requires
-    at-most-requires-2
+    (λ c κs. search needs)
+    (λ c κs. search needs)
     slice-aggregate-judge-rows
     slice-aggregate-judge-rows-2
-    judge-rows-requires
-    print-verdict-requires
-    returns)
+    (λ c κs. search needs)
+    (λ c κs. search needs)
+    (λ c. search needs))

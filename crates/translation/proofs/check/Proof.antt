@@ -11,9 +11,6 @@ use Rattle.translation.specs.Checked.{checked}
 use Rattle.translation.proofs.check.Statement.{statement}
 use Rattle.translation.proofs.check.Tie as tie
 
-read-model-requires : tie.Need-read-model-requires
-read-model-requires c κs = search needs
-
 returns : tie.Need-returns
 unfolding checked check checkFault
 returns c =
@@ -24,8 +21,5 @@ returns c =
 check-accepted-requires : tie.Need-check-accepted-requires
 check-accepted-requires c κs = read-zero (c .before .before .before .before .args .ws .now) (rw (c .before .before .read-model .ensures) at (c .if1 .left))
 
-returns-2 : tie.Need-returns-2
-returns-2 c = search needs
-
 pub check-spec : {M : Type 1} → statement M
-check-spec = tie.close (tie.spec read-model-requires returns check-accepted-requires returns-2)
+check-spec = tie.close (tie.spec (λ c κs. search needs) returns check-accepted-requires (λ c. search needs))

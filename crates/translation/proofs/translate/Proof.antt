@@ -19,15 +19,6 @@ passed c =
     let check = c .before .before .check in
     counted (s .args .ws .now) (rw (c .words .given .1) at (check .ensures))
 
-check-requires : tie.Need-check-requires
-check-requires c κs = search needs
-
-enum-known-refusal : tie.Need-enum-known-refusal
-enum-known-refusal c = search needs
-
-enum-known-words : tie.Need-enum-known-words
-enum-known-words c = search needs
-
 returns : tie.Need-returns
 unfolding wrote
 returns c =
@@ -44,9 +35,6 @@ returns-2 c =
     let a = c .before .before .before .before .before .before .args in
     stands (a .ws .now) (a .out .now) (rw (c .before .refusal .given .1) at (c .before .before .before .check .ensures))
 
-same-length : tie.Need-same-length
-same-length c = search needs
-
 returns-3 : tie.Need-returns-3
 unfolding wrote
 returns-3 c =
@@ -58,11 +46,11 @@ pub translate-spec : {M : Type 1} → statement M
 translate-spec =
     tie.close
     (tie.spec
-    check-requires
-    enum-known-refusal
-    enum-known-words
+    (λ c κs. search needs)
+    (λ c. search needs)
+    (λ c. search needs)
     returns
     write-system-requires
     returns-2
-    same-length
+    (λ c. search needs)
     returns-3)

@@ -14,27 +14,6 @@ Inv-loop ws count₀ at₀ count at = Counted ws count at
 abbrev μ-loop : tie.MeasureT-loop
 μ-loop ws count₀ at₀ count at = length ws - at
 
-loop-holds : tie.Need-loop-holds Inv-loop μ-loop
-loop-holds c = search needs
-
-mul-starts-variable : tie.Need-mul-starts-variable Inv-loop μ-loop
-mul-starts-variable c = search needs
-
-shared-slice-read-starts-variable : tie.Need-shared-slice-read-starts-variable Inv-loop μ-loop
-shared-slice-read-starts-variable c = search needs
-
-starts-variable-requires : tie.Need-starts-variable-requires Inv-loop μ-loop
-starts-variable-requires c κs = search needs
-
-add-count : tie.Need-add-count Inv-loop μ-loop
-add-count c = search needs
-
-add-at : tie.Need-add-at Inv-loop μ-loop
-add-at c = search needs
-
-loop-less : tie.Need-loop-less Inv-loop μ-loop
-loop-less c = search needs
-
 loop-again : tie.Need-loop-again Inv-loop μ-loop
 loop-again c =
     ⊎-elim
@@ -51,12 +30,12 @@ count-variables-spec =
     (tie.spec
     Inv-loop
     μ-loop
-    loop-holds
-    mul-starts-variable
-    shared-slice-read-starts-variable
-    starts-variable-requires
-    add-count
-    add-at
-    loop-less
+    (λ c. search needs)
+    (λ c. search needs)
+    (λ c. search needs)
+    (λ c κs. search needs)
+    (λ c. search needs)
+    (λ c. search needs)
+    (λ c. search needs)
     loop-again
     returns)

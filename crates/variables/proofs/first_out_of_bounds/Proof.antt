@@ -32,9 +32,6 @@ said c = sym (c .keeps .ensures ∙ rw (toZ-ofZ (record { sfits = c .before .val
 here : (c : tie.In-loop Inv-loop μ-loop) → c .before .loop .at < length (c .before .before .before .args .ws .now)
 here c = words-left (c .before .loop .inv .1) (rw (c .before .before .before .pre) at (c .loop-test .taken))
 
-loop-holds : tie.Need-loop-holds Inv-loop μ-loop
-loop-holds c = search needs
-
 mul-w : tie.Need-mul-w Inv-loop μ-loop
 mul-w c = let h = here c in search needs
 
@@ -44,18 +41,6 @@ shared-slice-read-w c = let h = here (c .before) in search needs
 add-at : tie.Need-add-at Inv-loop μ-loop
 add-at c = let h = here (c .before) in search needs
 
-starts-variable-requires : tie.Need-starts-variable-requires Inv-loop μ-loop
-starts-variable-requires c κs = search needs
-
-word-at-requires : tie.Need-word-at-requires Inv-loop μ-loop
-word-at-requires c κs = search needs
-
-value-at-requires : tie.Need-value-at-requires Inv-loop μ-loop
-value-at-requires c κs = search needs
-
-keeps-requires : tie.Need-keeps-requires Inv-loop μ-loop
-keeps-requires c κs = search needs
-
 returns : tie.Need-returns Inv-loop μ-loop
 unfolding verdict
 returns c =
@@ -63,9 +48,6 @@ returns c =
     let starts-variable = c .before .before .before .before .before .starts-variable in
     let if1 = c .before .before .before .before .if1 in
     break-one (loop .inv .0) (here (c .before .before .before .before .before .before .before)) (sym (starts-variable .ensures) ∙ if1 .taken) (said (c .before) ∙ not-true _ (c .if2 .taken))
-
-add-x : tie.Need-add-x Inv-loop μ-loop
-add-x c = search needs
 
 loop-less : tie.Need-loop-less Inv-loop μ-loop
 loop-less c = let h = here (c .before .before .before .before .before .before .before) in omega (arith, h)
@@ -102,16 +84,16 @@ first-out-of-bounds-spec =
     (tie.spec
     Inv-loop
     μ-loop
-    loop-holds
+    (λ c. search needs)
     mul-w
     shared-slice-read-w
     add-at
-    starts-variable-requires
-    word-at-requires
-    value-at-requires
-    keeps-requires
+    (λ c κs. search needs)
+    (λ c κs. search needs)
+    (λ c κs. search needs)
+    (λ c κs. search needs)
     returns
-    add-x
+    (λ c. search needs)
     loop-less
     loop-again
     loop-less-2

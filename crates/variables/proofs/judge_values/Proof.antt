@@ -13,9 +13,6 @@ returns c =
     let a = c .before .before .before .args in
     first-answers (a .read .number) (a .read .place) (countFault (a .ws .now) (a .values .now)) _ (c .if1 .taken)
 
-count-variables-requires : tie.Need-count-variables-requires
-count-variables-requires c κs = search needs
-
 returns-2 : tie.Need-returns-2
 unfolding verdict
 returns-2 c =
@@ -36,4 +33,4 @@ returns-3 c =
 pub judge-values-spec : {M : Type 1} → statement M
 judge-values-spec =
     tie.close
-    (tie.spec returns count-variables-requires returns-2 first-out-of-bounds-requires returns-3)
+    (tie.spec returns (λ c κs. search needs) returns-2 first-out-of-bounds-requires returns-3)

@@ -6,18 +6,6 @@ use Rattle.variables.specs.Start.{boundsOf}
 use Rattle.variables.proofs.keeps.Statement.{statement}
 use Rattle.variables.proofs.keeps.Tie as tie
 
-starts-pair-requires : tie.Need-starts-pair-requires
-starts-pair-requires c κs = search needs
-
-signed-of-requires : tie.Need-signed-of-requires
-signed-of-requires c κs = search needs
-
-signed-of-requires-2 : tie.Need-signed-of-requires-2
-signed-of-requires-2 c κs = search needs
-
-between-requires : tie.Need-between-requires
-between-requires c κs = search needs
-
 returns : tie.Need-returns
 unfolding boundsOf
 returns c =
@@ -25,9 +13,6 @@ returns c =
     let b = c .before .signed-of2 in
     rw (← c .before .before .before .before .starts-pair .ensures, c .before .before .before .if1 .taken)
     (c .between .ensures ∙ rw (toZ-ofZ (record { sfits = a .ok }), toZ-ofZ (record { sfits = b .ok }), a .ensures, b .ensures, toZ-ofZ (c .before .before .before .before .before .fits .v)))
-
-between-requires-2 : tie.Need-between-requires-2
-between-requires-2 c κs = search needs
 
 returns-2 : tie.Need-returns-2
 unfolding boundsOf
@@ -37,10 +22,10 @@ pub keeps-spec : {M : Type 1} → statement M
 keeps-spec =
     tie.close
     (tie.spec
-    starts-pair-requires
-    signed-of-requires
-    signed-of-requires-2
-    between-requires
+    (λ c κs. search needs)
+    (λ c κs. search needs)
+    (λ c κs. search needs)
+    (λ c κs. search needs)
     returns
-    between-requires-2
+    (λ c κs. search needs)
     returns-2)

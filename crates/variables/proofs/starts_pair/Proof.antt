@@ -5,9 +5,6 @@ use Rattle.words.specs.Variables.{startsPair}
 use Rattle.variables.proofs.starts_pair.Statement.{statement}
 use Rattle.variables.proofs.starts_pair.Tie as tie
 
-kind-of-requires : tie.Need-kind-of-requires
-kind-of-requires c κs = search needs
-
 returns : tie.Need-returns
 unfolding startsPair
 returns c = rw (← c .before .kind-of .ensures, eq-eqb _ _ (c .if1 .taken))
@@ -17,4 +14,4 @@ unfolding startsPair
 returns-2 c = rw (← c .before .kind-of .ensures, ne-eqb _ _ (c .if1 .left))
 
 pub starts-pair-spec : {M : Type 1} → statement M
-starts-pair-spec = tie.close (tie.spec kind-of-requires returns returns-2)
+starts-pair-spec = tie.close (tie.spec (λ c κs. search needs) returns returns-2)

@@ -1,5 +1,5 @@
 -- A number that is not negative is its own payload, modulo 2^28; a negative one is as far below 2^28 as it is below 0.
-use mathlib.Core.Path.{_≡_, refl, sym, ap, _∙_}
+use mathlib.Core.Path.{_≡_, sym, _∙_}
 use native.Mathlib.Omega.{arith}
 use lib.IntN.{pos, negsuc, _-ℤ_}
 use lib.Signed.{mag}
@@ -31,13 +31,10 @@ sub-below c = rw (below c) (record { sfits = omega (arith, c .before .fits .v .s
 cast-result-2 : tie.Need-cast-result-2
 cast-result-2 c = rw (toZ-ofZ (sub-below c), below c) (tt, record { fits = omega (arith, c .before .fits .v .sfits) })
 
-sub-result : tie.Need-sub-result
-sub-result c = search needs
-
 returns-2 : tie.Need-returns-2
 unfolding complement
 returns-2 c = rw (toZ-ofZ (sub-below c), below c) (sym (complement-below (c .before .args .v) (rw (toZ-ofZ (c .before .fits .v)) at (c .if1 .left))))
 
 pub complement-of-spec : {M : Type 1} → statement M
 complement-of-spec =
-    tie.close (tie.spec cast-result returns sub-below cast-result-2 sub-result returns-2)
+    tie.close (tie.spec cast-result returns sub-below cast-result-2 (λ c. search needs) returns-2)

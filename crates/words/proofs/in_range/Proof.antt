@@ -1,5 +1,4 @@
 -- The code tests as the definition does.
-use mathlib.Core.Path.{_≡_, refl, sym, ap, _∙_}
 use mir.Facts.{toZ-ofZ}
 use Rattle.words.specs.Word.{inRange}
 use Rattle.words.proofs.in_range.Statement.{statement}

@@ -1,5 +1,5 @@
 -- The code tests the payload as the definition does.
-use mathlib.Core.Path.{_≡_, refl, sym, ap, _∙_}
+use mathlib.Core.Path.{_∙_}
 use Prim.Native.Nat.{_%_}
 use native.Mathlib.Omega.{arith}
 use mir.Syntax.{w64}
@@ -10,12 +10,6 @@ use Rattle.words.proofs.Machine.{less}
 use borrow.Author.Needs.{needs}
 use Rattle.words.proofs.signed_of.Statement.{statement}
 use Rattle.words.proofs.signed_of.Tie as tie
-
-cast-result : tie.Need-cast-result
-cast-result c = search needs
-
-cast-result-2 : tie.Need-cast-result-2
-cast-result-2 c = search needs
 
 sub-result : tie.Need-sub-result
 sub-result c = rw (less (c .before .args .w % 268435456) (omega arith)) (record { sfits = omega arith })
@@ -29,4 +23,4 @@ unfolding signed payload
 returns-2 c = toZ-ofZ (sub-result c) ∙ simp (le-ltb _ _ (c .if1 .left), less (c .before .args .w % 268435456) (omega arith))
 
 pub signed-of-spec : {M : Type 1} → statement M
-signed-of-spec = tie.close (tie.spec cast-result cast-result-2 sub-result returns returns-2)
+signed-of-spec = tie.close (tie.spec (λ c. search needs) (λ c. search needs) sub-result returns returns-2)

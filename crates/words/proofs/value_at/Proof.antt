@@ -1,8 +1,8 @@
 -- Inside the list its element, made wider; past its end 0.
-use mathlib.Core.Path.{_≡_, refl, sym, ap, _∙_}
+use mathlib.Core.Path.{sym, _∙_}
 use lib.ListN.{getD, List·getD-eq-default}
 use lib.IntN.{pos}
-use mir.Syntax.{w32, w64}
+use mir.Syntax.{w32}
 use mir.Val.{SFits}
 use mir.Facts.{toZ-ofZ, sfits-widen}
 use Rattle.integers.specs.Terms.{value}
@@ -12,12 +12,6 @@ use Rattle.words.proofs.value_at.Tie as tie
 
 fits : (c : tie.After-result) → SFits w32 (getD (c .before .before .args .values .now) (c .before .before .args .x) (pos 0))
 fits c = record { sfits = c .result .given }
-
-mul-result : tie.Need-mul-result
-mul-result c = search needs
-
-shared-slice-copy-out-result : tie.Need-shared-slice-copy-out-result
-shared-slice-copy-out-result c = search needs
 
 cast-result : tie.Need-cast-result
 cast-result c = rw (toZ-ofZ (fits c)) (sfits-widen tt (fits c))
@@ -32,4 +26,4 @@ returns-2 c = sym (List·getD-eq-default (c .before .args .values .now) (pos 0) 
 
 pub value-at-spec : {M : Type 1} → statement M
 value-at-spec =
-    tie.close (tie.spec mul-result shared-slice-copy-out-result cast-result returns returns-2)
+    tie.close (tie.spec (λ c. search needs) (λ c. search needs) cast-result returns returns-2)

@@ -5,21 +5,6 @@ use Rattle.models.specs.Meaning.{meaning}
 use Rattle.builtins.proofs.boolean.bool_or.Statement.{statement}
 use Rattle.builtins.proofs.boolean.bool_or.Tie as tie
 
-is-on-requires : tie.Need-is-on-requires
-is-on-requires c κs = search needs
-
-is-on-requires-2 : tie.Need-is-on-requires-2
-is-on-requires-2 c κs = search needs
-
-is-on-requires-3 : tie.Need-is-on-requires-3
-is-on-requires-3 c κs = search needs
-
-either-requires : tie.Need-either-requires
-either-requires c κs = search needs
-
-agree-requires : tie.Need-agree-requires
-agree-requires c κs = search needs
-
 returns : tie.Need-returns
 unfolding meaning
 returns c = c .agree .ensures ∙ rw (c .before .either .ensures, c .before .before .is-on3 .ensures, c .before .before .before .is-on2 .ensures, c .before .before .before .before .is-on .ensures)
@@ -28,9 +13,9 @@ pub bool-or-spec : {M : Type 1} → statement M
 bool-or-spec =
     tie.close
     (tie.spec
-    is-on-requires
-    is-on-requires-2
-    is-on-requires-3
-    either-requires
-    agree-requires
+    (λ c κs. search needs)
+    (λ c κs. search needs)
+    (λ c κs. search needs)
+    (λ c κs. search needs)
+    (λ c κs. search needs)
     returns)

@@ -5,18 +5,9 @@ use Rattle.models.specs.Meaning.{meaning}
 use Rattle.builtins.proofs.boolean.bool_xor.Statement.{statement}
 use Rattle.builtins.proofs.boolean.bool_xor.Tie as tie
 
-is-on-requires : tie.Need-is-on-requires
-is-on-requires c κs = search needs
-
-int-eq-requires : tie.Need-int-eq-requires
-int-eq-requires c κs = search needs
-
-agree-requires : tie.Need-agree-requires
-agree-requires c κs = search needs
-
 returns : tie.Need-returns
 unfolding meaning
 returns c = c .agree .ensures ∙ rw (c .before .int-eq .ensures, c .before .before .is-on .ensures)
 
 pub bool-xor-spec : {M : Type 1} → statement M
-bool-xor-spec = tie.close (tie.spec is-on-requires int-eq-requires agree-requires returns)
+bool-xor-spec = tie.close (tie.spec (λ c κs. search needs) (λ c κs. search needs) (λ c κs. search needs) returns)

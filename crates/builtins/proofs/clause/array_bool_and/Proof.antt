@@ -5,22 +5,10 @@ use Rattle.models.specs.Meaning.{meaning}
 use Rattle.builtins.proofs.clause.array_bool_and.Statement.{statement}
 use Rattle.builtins.proofs.clause.array_bool_and.Tie as tie
 
-past-at-requires : tie.Need-past-at-requires
-past-at-requires c κs = search needs
-
-is-on-requires : tie.Need-is-on-requires
-is-on-requires c κs = search needs
-
-all-on-requires : tie.Need-all-on-requires
-all-on-requires c κs = search needs
-
-agree-requires : tie.Need-agree-requires
-agree-requires c κs = search needs
-
 returns : tie.Need-returns
 unfolding meaning
 returns c = c .agree .ensures ∙ rw (c .before .all-on .ensures, c .before .before .is-on .ensures, c .before .before .before .past-at .ensures)
 
 pub array-bool-and-spec : {M : Type 1} → statement M
 array-bool-and-spec =
-    tie.close (tie.spec past-at-requires is-on-requires all-on-requires agree-requires returns)
+    tie.close (tie.spec (λ c κs. search needs) (λ c κs. search needs) (λ c κs. search needs) (λ c κs. search needs) returns)

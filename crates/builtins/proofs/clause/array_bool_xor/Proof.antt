@@ -4,12 +4,9 @@ use Rattle.models.specs.Meaning.{meaning, on}
 use Rattle.builtins.proofs.clause.array_bool_xor.Statement.{statement}
 use Rattle.builtins.proofs.clause.array_bool_xor.Tie as tie
 
-how-many-requires : tie.Need-how-many-requires
-how-many-requires c κs = search needs
-
 returns : tie.Need-returns
 unfolding meaning on
 returns c = rw (c .how-many .ensures)
 
 pub array-bool-xor-spec : {M : Type 1} → statement M
-array-bool-xor-spec = tie.close (tie.spec how-many-requires returns)
+array-bool-xor-spec = tie.close (tie.spec (λ c κs. search needs) returns)

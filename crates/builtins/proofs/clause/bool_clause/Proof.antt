@@ -8,18 +8,9 @@ use Rattle.arguments.proofs.Size.{size-le}
 use Rattle.builtins.proofs.clause.bool_clause.Statement.{statement}
 use Rattle.builtins.proofs.clause.bool_clause.Tie as tie
 
-any-equal-requires : tie.Need-any-equal-requires
-any-equal-requires c κs = search needs
-
-past-at-requires : tie.Need-past-at-requires
-past-at-requires c κs = search needs
-
 any-equal-requires-2 : tie.Need-any-equal-requires-2
 unfolding past
 any-equal-requires-2 c κs = omega (arith, size-le (c .before .before .before .args .args .now) 0)
-
-either-requires : tie.Need-either-requires
-either-requires c κs = search needs
 
 returns : tie.Need-returns
 unfolding meaning on off
@@ -28,4 +19,4 @@ returns c = c .either .ensures ∙ rw (c .before .any-equal2 .ensures, c .before
 pub bool-clause-spec : {M : Type 1} → statement M
 bool-clause-spec =
     tie.close
-    (tie.spec any-equal-requires past-at-requires any-equal-requires-2 either-requires returns)
+    (tie.spec (λ c κs. search needs) (λ c κs. search needs) any-equal-requires-2 (λ c κs. search needs) returns)

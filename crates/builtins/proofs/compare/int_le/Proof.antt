@@ -6,18 +6,9 @@ use Rattle.arguments.proofs.Size.{read}
 use Rattle.builtins.proofs.compare.int_le.Statement.{statement}
 use Rattle.builtins.proofs.compare.int_le.Tie as tie
 
-value-of-requires : tie.Need-value-of-requires
-value-of-requires c κs = search needs
-
-value-of-requires-2 : tie.Need-value-of-requires-2
-value-of-requires-2 c κs = search needs
-
-at-most-requires : tie.Need-at-most-requires
-at-most-requires c κs = search needs
-
 returns : tie.Need-returns
 unfolding meaning
 returns c = c .at-most .ensures ∙ rw (read (c .before .before .value-of .ok) (c .before .before .value-of .ensures), read (c .before .value-of2 .ok) (c .before .value-of2 .ensures))
 
 pub int-le-spec : {M : Type 1} → statement M
-int-le-spec = tie.close (tie.spec value-of-requires value-of-requires-2 at-most-requires returns)
+int-le-spec = tie.close (tie.spec (λ c κs. search needs) (λ c κs. search needs) (λ c κs. search needs) returns)

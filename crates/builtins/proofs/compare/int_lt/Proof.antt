@@ -6,18 +6,9 @@ use Rattle.arguments.proofs.Size.{read}
 use Rattle.builtins.proofs.compare.int_lt.Statement.{statement}
 use Rattle.builtins.proofs.compare.int_lt.Tie as tie
 
-value-of-requires : tie.Need-value-of-requires
-value-of-requires c κs = search needs
-
-value-of-requires-2 : tie.Need-value-of-requires-2
-value-of-requires-2 c κs = search needs
-
-below-requires : tie.Need-below-requires
-below-requires c κs = search needs
-
 returns : tie.Need-returns
 unfolding meaning
 returns c = c .below .ensures ∙ rw (read (c .before .before .value-of .ok) (c .before .before .value-of .ensures), read (c .before .value-of2 .ok) (c .before .value-of2 .ensures))
 
 pub int-lt-spec : {M : Type 1} → statement M
-int-lt-spec = tie.close (tie.spec value-of-requires value-of-requires-2 below-requires returns)
+int-lt-spec = tie.close (tie.spec (λ c κs. search needs) (λ c κs. search needs) (λ c κs. search needs) returns)

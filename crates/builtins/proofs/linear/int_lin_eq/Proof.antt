@@ -6,18 +6,6 @@ use Rattle.arguments.proofs.Size.{read}
 use Rattle.builtins.proofs.linear.int_lin_eq.Statement.{statement}
 use Rattle.builtins.proofs.linear.int_lin_eq.Tie as tie
 
-sum-of-requires : tie.Need-sum-of-requires
-sum-of-requires c κs = search needs
-
-past-terms-at-requires : tie.Need-past-terms-at-requires
-past-terms-at-requires c κs = search needs
-
-num-at-requires : tie.Need-num-at-requires
-num-at-requires c κs = search needs
-
-equal-requires : tie.Need-equal-requires
-equal-requires c κs = search needs
-
 returns : tie.Need-returns
 unfolding meaning
 returns c =
@@ -28,4 +16,4 @@ returns c =
 pub int-lin-eq-spec : {M : Type 1} → statement M
 int-lin-eq-spec =
     tie.close
-    (tie.spec sum-of-requires past-terms-at-requires num-at-requires equal-requires returns)
+    (tie.spec (λ c κs. search needs) (λ c κs. search needs) (λ c κs. search needs) (λ c κs. search needs) returns)

@@ -8,21 +8,9 @@ use Rattle.arguments.proofs.Size.{size-le}
 use Rattle.builtins.proofs.linear.int_lin_eq_reif.Statement.{statement}
 use Rattle.builtins.proofs.linear.int_lin_eq_reif.Tie as tie
 
-past-terms-at-requires : tie.Need-past-terms-at-requires
-past-terms-at-requires c κs = search needs
-
 add-is-on : tie.Need-add-is-on
 unfolding past pastTerms
 add-is-on c = omega (arith, size-le (c .before .before .args .args .now) 0)
-
-is-on-requires : tie.Need-is-on-requires
-is-on-requires c κs = search needs
-
-int-lin-eq-requires : tie.Need-int-lin-eq-requires
-int-lin-eq-requires c κs = search needs
-
-agree-requires : tie.Need-agree-requires
-agree-requires c κs = search needs
 
 returns : tie.Need-returns
 unfolding meaning
@@ -32,9 +20,9 @@ pub int-lin-eq-reif-spec : {M : Type 1} → statement M
 int-lin-eq-reif-spec =
     tie.close
     (tie.spec
-    past-terms-at-requires
+    (λ c κs. search needs)
     add-is-on
-    is-on-requires
-    int-lin-eq-requires
-    agree-requires
+    (λ c κs. search needs)
+    (λ c κs. search needs)
+    (λ c κs. search needs)
     returns)

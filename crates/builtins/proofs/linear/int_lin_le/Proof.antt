@@ -6,18 +6,6 @@ use Rattle.arguments.proofs.Size.{read}
 use Rattle.builtins.proofs.linear.int_lin_le.Statement.{statement}
 use Rattle.builtins.proofs.linear.int_lin_le.Tie as tie
 
-sum-of-requires : tie.Need-sum-of-requires
-sum-of-requires c κs = search needs
-
-past-terms-at-requires : tie.Need-past-terms-at-requires
-past-terms-at-requires c κs = search needs
-
-num-at-requires : tie.Need-num-at-requires
-num-at-requires c κs = search needs
-
-at-most-requires : tie.Need-at-most-requires
-at-most-requires c κs = search needs
-
 returns : tie.Need-returns
 unfolding meaning
 returns c =
@@ -28,4 +16,4 @@ returns c =
 pub int-lin-le-spec : {M : Type 1} → statement M
 int-lin-le-spec =
     tie.close
-    (tie.spec sum-of-requires past-terms-at-requires num-at-requires at-most-requires returns)
+    (tie.spec (λ c κs. search needs) (λ c κs. search needs) (λ c κs. search needs) (λ c κs. search needs) returns)

@@ -7,18 +7,6 @@ use Rattle.arguments.proofs.Walk.{any-map, all-map}
 use Rattle.builtins.proofs.list.array_int_maximum.Statement.{statement}
 use Rattle.builtins.proofs.list.array_int_maximum.Tie as tie
 
-value-of-requires : tie.Need-value-of-requires
-value-of-requires c κs = search needs
-
-any-equal-requires : tie.Need-any-equal-requires
-any-equal-requires c κs = search needs
-
-none-above-requires : tie.Need-none-above-requires
-none-above-requires c κs = search needs
-
-both-requires : tie.Need-both-requires
-both-requires c κs = search needs
-
 returns : tie.Need-returns
 unfolding meaning maximum
 returns c =
@@ -29,4 +17,4 @@ returns c =
 pub array-int-maximum-spec : {M : Type 1} → statement M
 array-int-maximum-spec =
     tie.close
-    (tie.spec value-of-requires any-equal-requires none-above-requires both-requires returns)
+    (tie.spec (λ c κs. search needs) (λ c κs. search needs) (λ c κs. search needs) (λ c κs. search needs) returns)

@@ -11,25 +11,10 @@ use Rattle.builtins.proofs.Element.{index-le, inside, outside}
 use Rattle.builtins.proofs.list.array_var_int_element.Statement.{statement}
 use Rattle.builtins.proofs.list.array_var_int_element.Tie as tie
 
-index-of-requires : tie.Need-index-of-requires
-index-of-requires c κs = search needs
-
 add-value-of : tie.Need-add-value-of
 add-value-of c =
     let s = c .before .before .before in
     omega (arith, index-le (size (s .args .args .now) 1) (value (s .args .values .now) (var (s .args .args .now) 0)), size-le (s .args .args .now) 1)
-
-value-of-requires : tie.Need-value-of-requires
-value-of-requires c κs = search needs
-
-past-at-requires : tie.Need-past-at-requires
-past-at-requires c κs = search needs
-
-value-of-requires-2 : tie.Need-value-of-requires-2
-value-of-requires-2 c κs = search needs
-
-equal-requires : tie.Need-equal-requires
-equal-requires c κs = search needs
 
 returns : tie.Need-returns
 unfolding meaning vars
@@ -52,11 +37,11 @@ pub array-var-int-element-spec : {M : Type 1} → statement M
 array-var-int-element-spec =
     tie.close
     (tie.spec
-    index-of-requires
+    (λ c κs. search needs)
     add-value-of
-    value-of-requires
-    past-at-requires
-    value-of-requires-2
-    equal-requires
+    (λ c κs. search needs)
+    (λ c κs. search needs)
+    (λ c κs. search needs)
+    (λ c κs. search needs)
     returns
     returns-2)

@@ -13,15 +13,6 @@ use Rattle.builtins.proofs.list.index_of.Tie as tie
 counted : (c : tie.After-count-of) → c .count-of .result ≡ count (value (c .before .before .before .args .values .now) (var (c .before .before .before .args .args .now) 0))
 counted c = c .count-of .ensures ∙ rw (read (c .before .value-of .ok) (c .before .value-of .ensures))
 
-value-of-requires : tie.Need-value-of-requires
-value-of-requires c κs = search needs
-
-count-of-requires : tie.Need-count-of-requires
-count-of-requires c κs = search needs
-
-size-at-requires : tie.Need-size-at-requires
-size-at-requires c κs = search needs
-
 returns : tie.Need-returns
 unfolding indexIn
 returns c = rw (← counted (c .before .before), ← c .before .size-at .ensures, le-leb _ _ (c .if1 .taken))
@@ -32,4 +23,4 @@ returns-2 c = rw (← counted (c .before .before), ← c .before .size-at .ensur
 
 pub index-of-spec : {M : Type 1} → statement M
 index-of-spec =
-    tie.close (tie.spec value-of-requires count-of-requires size-at-requires returns returns-2)
+    tie.close (tie.spec (λ c κs. search needs) (λ c κs. search needs) (λ c κs. search needs) returns returns-2)

@@ -6,15 +6,9 @@ use Rattle.arguments.proofs.Size.{read}
 use Rattle.builtins.proofs.list.set_in.Statement.{statement}
 use Rattle.builtins.proofs.list.set_in.Tie as tie
 
-value-of-requires : tie.Need-value-of-requires
-value-of-requires c κs = search needs
-
-is-member-requires : tie.Need-is-member-requires
-is-member-requires c κs = search needs
-
 returns : tie.Need-returns
 unfolding meaning
 returns c = c .is-member .ensures ∙ rw (read (c .before .value-of .ok) (c .before .value-of .ensures))
 
 pub set-in-spec : {M : Type 1} → statement M
-set-in-spec = tie.close (tie.spec value-of-requires is-member-requires returns)
+set-in-spec = tie.close (tie.spec (λ c κs. search needs) (λ c κs. search needs) returns)

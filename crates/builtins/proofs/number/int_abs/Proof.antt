@@ -9,20 +9,8 @@ use Rattle.builtins.proofs.Coded.{abs-max}
 use Rattle.builtins.proofs.number.int_abs.Statement.{statement}
 use Rattle.builtins.proofs.number.int_abs.Tie as tie
 
-value-of-requires : tie.Need-value-of-requires
-value-of-requires c κs = search needs
-
 opposite-requires : tie.Need-opposite-requires
 opposite-requires c κs = rw (read (c .value-of .ok) (c .value-of .ensures)) (omega (arith, c .before .before .pre (var (c .before .before .args .args .now) 0)))
-
-largest-requires : tie.Need-largest-requires
-largest-requires c κs = search needs
-
-value-of-requires-2 : tie.Need-value-of-requires-2
-value-of-requires-2 c κs = search needs
-
-equal-requires : tie.Need-equal-requires
-equal-requires c κs = search needs
 
 returns : tie.Need-returns
 unfolding meaning
@@ -36,9 +24,9 @@ pub int-abs-spec : {M : Type 1} → statement M
 int-abs-spec =
     tie.close
     (tie.spec
-    value-of-requires
+    (λ c κs. search needs)
     opposite-requires
-    largest-requires
-    value-of-requires-2
-    equal-requires
+    (λ c κs. search needs)
+    (λ c κs. search needs)
+    (λ c κs. search needs)
     returns)

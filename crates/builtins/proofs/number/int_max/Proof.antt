@@ -6,21 +6,6 @@ use Rattle.arguments.proofs.Size.{read}
 use Rattle.builtins.proofs.number.int_max.Statement.{statement}
 use Rattle.builtins.proofs.number.int_max.Tie as tie
 
-value-of-requires : tie.Need-value-of-requires
-value-of-requires c κs = search needs
-
-value-of-requires-2 : tie.Need-value-of-requires-2
-value-of-requires-2 c κs = search needs
-
-largest-requires : tie.Need-largest-requires
-largest-requires c κs = search needs
-
-value-of-requires-3 : tie.Need-value-of-requires-3
-value-of-requires-3 c κs = search needs
-
-equal-requires : tie.Need-equal-requires
-equal-requires c κs = search needs
-
 returns : tie.Need-returns
 unfolding meaning
 returns c =
@@ -33,9 +18,9 @@ pub int-max-spec : {M : Type 1} → statement M
 int-max-spec =
     tie.close
     (tie.spec
-    value-of-requires
-    value-of-requires-2
-    largest-requires
-    value-of-requires-3
-    equal-requires
+    (λ c κs. search needs)
+    (λ c κs. search needs)
+    (λ c κs. search needs)
+    (λ c κs. search needs)
+    (λ c κs. search needs)
     returns)

@@ -9,22 +9,10 @@ use Rattle.arguments.proofs.Size.{read}
 use Rattle.builtins.proofs.number.int_times.Statement.{statement}
 use Rattle.builtins.proofs.number.int_times.Tie as tie
 
-value-of-requires : tie.Need-value-of-requires
-value-of-requires c κs = search needs
-
-value-of-requires-2 : tie.Need-value-of-requires-2
-value-of-requires-2 c κs = search needs
-
 times-requires : tie.Need-times-requires
 times-requires c κs =
     let s = c .before .before .before in
     rw (read (c .before .value-of .ok) (c .before .value-of .ensures), read (c .value-of2 .ok) (c .value-of2 .ensures)) (omega (arith, mul-le (s .pre (var (s .args .args .now) 0)) (s .pre (var (s .args .args .now) 1))))
-
-value-of-requires-3 : tie.Need-value-of-requires-3
-value-of-requires-3 c κs = search needs
-
-equal-requires : tie.Need-equal-requires
-equal-requires c κs = search needs
 
 returns : tie.Need-returns
 unfolding meaning
@@ -38,9 +26,9 @@ pub int-times-spec : {M : Type 1} → statement M
 int-times-spec =
     tie.close
     (tie.spec
-    value-of-requires
-    value-of-requires-2
+    (λ c κs. search needs)
+    (λ c κs. search needs)
     times-requires
-    value-of-requires-3
-    equal-requires
+    (λ c κs. search needs)
+    (λ c κs. search needs)
     returns)

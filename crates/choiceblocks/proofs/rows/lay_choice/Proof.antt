@@ -7,15 +7,6 @@ use Rattle.choiceblocks.specs.Rows.{choiceRows}
 use Rattle.choiceblocks.proofs.rows.lay_choice.Statement.{statement}
 use Rattle.choiceblocks.proofs.rows.lay_choice.Tie as tie
 
-lay-one-bit-requires : tie.Need-lay-one-bit-requires
-lay-one-bit-requires c κs = search needs
-
-lay-label-row-requires : tie.Need-lay-label-row-requires
-lay-label-row-requires c κs = search needs
-
-same-length : tie.Need-same-length
-same-length c = search needs
-
 returns : tie.Need-returns
 unfolding choiceRows
 returns c =
@@ -27,4 +18,4 @@ returns c =
 
 pub lay-choice-spec : {M : Type 1} → statement M
 lay-choice-spec =
-    tie.close (tie.spec lay-one-bit-requires lay-label-row-requires same-length returns)
+    tie.close (tie.spec (λ c κs. search needs) (λ c κs. search needs) (λ c. search needs) returns)

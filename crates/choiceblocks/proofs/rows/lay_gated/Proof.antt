@@ -6,21 +6,6 @@ use Rattle.choiceblocks.specs.Rows.{gatedRows}
 use Rattle.choiceblocks.proofs.rows.lay_gated.Statement.{statement}
 use Rattle.choiceblocks.proofs.rows.lay_gated.Tie as tie
 
-add-lay-products : tie.Need-add-lay-products
-add-lay-products c = search needs
-
-lay-products-requires : tie.Need-lay-products-requires
-lay-products-requires c κs = search needs
-
-add-lay-one-row : tie.Need-add-lay-one-row
-add-lay-one-row c = search needs
-
-lay-one-row-requires : tie.Need-lay-one-row-requires
-lay-one-row-requires c κs = search needs
-
-same-length : tie.Need-same-length
-same-length c = search needs
-
 returns : tie.Need-returns
 unfolding gatedRows
 returns c =
@@ -32,9 +17,9 @@ pub lay-gated-spec : {M : Type 1} → statement M
 lay-gated-spec =
     tie.close
     (tie.spec
-    add-lay-products
-    lay-products-requires
-    add-lay-one-row
-    lay-one-row-requires
-    same-length
+    (λ c. search needs)
+    (λ c κs. search needs)
+    (λ c. search needs)
+    (λ c κs. search needs)
+    (λ c. search needs)
     returns)

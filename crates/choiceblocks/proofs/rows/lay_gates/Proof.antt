@@ -6,15 +6,6 @@ use Rattle.choiceblocks.specs.Rows.{gates}
 use Rattle.choiceblocks.proofs.rows.lay_gates.Statement.{statement}
 use Rattle.choiceblocks.proofs.rows.lay_gates.Tie as tie
 
-lay-bits-requires : tie.Need-lay-bits-requires
-lay-bits-requires c κs = search needs
-
-lay-zeros-requires : tie.Need-lay-zeros-requires
-lay-zeros-requires c κs = search needs
-
-same-length : tie.Need-same-length
-same-length c = search needs
-
 returns : tie.Need-returns
 unfolding gates
 returns c =
@@ -23,4 +14,4 @@ returns c =
     (went-then (a .0) (b .0), omega (arith, a .1, b .1))
 
 pub lay-gates-spec : {M : Type 1} → statement M
-lay-gates-spec = tie.close (tie.spec lay-bits-requires lay-zeros-requires same-length returns)
+lay-gates-spec = tie.close (tie.spec (λ c κs. search needs) (λ c κs. search needs) (λ c. search needs) returns)

@@ -7,20 +7,8 @@ use Rattle.choiceblocks.specs.Rows.{sumRow}
 use Rattle.choiceblocks.proofs.rows.lay_label_row.Statement.{statement}
 use Rattle.choiceblocks.proofs.rows.lay_label_row.Tie as tie
 
-add-lay-head : tie.Need-add-lay-head
-add-lay-head c = search needs
-
-lay-head-requires : tie.Need-lay-head-requires
-lay-head-requires c κs = search needs
-
 lay-labels-requires : tie.Need-lay-labels-requires
 lay-labels-requires c κs = rw (toZ-ofZ (c .before .before .before .before .before .before .fits .from)) (search needs)
-
-lay-last-requires : tie.Need-lay-last-requires
-lay-last-requires c κs = search needs
-
-same-length : tie.Need-same-length
-same-length c = search needs
 
 returns : tie.Need-returns
 unfolding sumRow
@@ -37,9 +25,9 @@ pub lay-label-row-spec : {M : Type 1} → statement M
 lay-label-row-spec =
     tie.close
     (tie.spec
-    add-lay-head
-    lay-head-requires
+    (λ c. search needs)
+    (λ c κs. search needs)
     lay-labels-requires
-    lay-last-requires
-    same-length
+    (λ c κs. search needs)
+    (λ c. search needs)
     returns)

@@ -5,15 +5,6 @@ use Rattle.laying.proofs.Parts.{went-then}
 use Rattle.choiceblocks.proofs.rows.lay_last.Statement.{statement}
 use Rattle.choiceblocks.proofs.rows.lay_last.Tie as tie
 
-lay-term-requires : tie.Need-lay-term-requires
-lay-term-requires c κs = search needs
-
-lay-constant-requires : tie.Need-lay-constant-requires
-lay-constant-requires c κs = search needs
-
-same-length : tie.Need-same-length
-same-length c = search needs
-
 returns : tie.Need-returns
 returns c =
     let a = c .before .before .before .before .before .before .lay-term .ensures in
@@ -21,4 +12,4 @@ returns c =
     (went-then (a .0) (b .0), omega (arith, a .1, b .1))
 
 pub lay-last-spec : {M : Type 1} → statement M
-lay-last-spec = tie.close (tie.spec lay-term-requires lay-constant-requires same-length returns)
+lay-last-spec = tie.close (tie.spec (λ c κs. search needs) (λ c κs. search needs) (λ c. search needs) returns)

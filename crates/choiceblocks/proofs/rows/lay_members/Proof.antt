@@ -24,16 +24,10 @@ abbrev μ-loop : tie.MeasureT-loop
 loop-holds : tie.Need-loop-holds Inv-loop μ-loop
 loop-holds c = begun 10 _ _ _ _
 
-bound-at-requires : tie.Need-bound-at-requires Inv-loop μ-loop
-bound-at-requires c κs = search needs
-
 minus-requires : tie.Need-minus-requires Inv-loop μ-loop
 minus-requires c κs =
     let start = c .before .before .before .before .before in
     rw (read (c .bound-at .ok) (c .bound-at .ensures), toZ-ofZ (start .fits .from)) (omega (arith, start .pre .4 (c .before .before .before .loop .k)))
-
-count-of-requires : tie.Need-count-of-requires Inv-loop μ-loop
-count-of-requires c κs = search needs
 
 add-lay-term : tie.Need-add-lay-term Inv-loop μ-loop
 add-lay-term c =
@@ -43,15 +37,6 @@ add-lay-term c =
     let start = at-loop .before .before in
     let m = rw (read (c .before .minus .ok) (c .before .minus .ensures), read (bound-at .ok) (bound-at .ensures), toZ-ofZ (start .fits .from)) at (c .count-of .ensures) in
     omega (arith, m, count-le ((getD (start .args .vs .now) (at-loop .loop .k) +0) ⊖ start .args .from), minus-size (getD (start .args .vs .now) (at-loop .loop .k) +0) (start .args .from), start .pre .4 (at-loop .loop .k))
-
-lay-term-requires : tie.Need-lay-term-requires Inv-loop μ-loop
-lay-term-requires c κs = search needs
-
-add-k : tie.Need-add-k Inv-loop μ-loop
-add-k c = search needs
-
-loop-less : tie.Need-loop-less Inv-loop μ-loop
-loop-less c = search needs
 
 loop-again : tie.Need-loop-again Inv-loop μ-loop
 loop-again c =
@@ -77,13 +62,13 @@ lay-members-spec =
     Inv-loop
     μ-loop
     loop-holds
-    bound-at-requires
+    (λ c κs. search needs)
     minus-requires
-    count-of-requires
+    (λ c κs. search needs)
     add-lay-term
-    lay-term-requires
-    add-k
-    loop-less
+    (λ c κs. search needs)
+    (λ c. search needs)
+    (λ c. search needs)
     loop-again
     same-length
     returns)

@@ -6,21 +6,6 @@ use Rattle.choiceblocks.specs.Rows.{sumRow}
 use Rattle.choiceblocks.proofs.rows.lay_number_row.Statement.{statement}
 use Rattle.choiceblocks.proofs.rows.lay_number_row.Tie as tie
 
-add-lay-head : tie.Need-add-lay-head
-add-lay-head c = search needs
-
-lay-head-requires : tie.Need-lay-head-requires
-lay-head-requires c κs = search needs
-
-lay-numbers-requires : tie.Need-lay-numbers-requires
-lay-numbers-requires c κs = search needs
-
-lay-last-requires : tie.Need-lay-last-requires
-lay-last-requires c κs = search needs
-
-same-length : tie.Need-same-length
-same-length c = search needs
-
 returns : tie.Need-returns
 unfolding sumRow
 returns c =
@@ -35,9 +20,9 @@ pub lay-number-row-spec : {M : Type 1} → statement M
 lay-number-row-spec =
     tie.close
     (tie.spec
-    add-lay-head
-    lay-head-requires
-    lay-numbers-requires
-    lay-last-requires
-    same-length
+    (λ c. search needs)
+    (λ c κs. search needs)
+    (λ c κs. search needs)
+    (λ c κs. search needs)
+    (λ c. search needs)
     returns)

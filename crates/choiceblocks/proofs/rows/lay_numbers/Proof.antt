@@ -17,24 +17,6 @@ abbrev μ-loop : tie.MeasureT-loop
 loop-holds : tie.Need-loop-holds Inv-loop μ-loop
 loop-holds c = begun 10 _ _ _ _
 
-add-num-at : tie.Need-add-num-at Inv-loop μ-loop
-add-num-at c = search needs
-
-num-at-requires : tie.Need-num-at-requires Inv-loop μ-loop
-num-at-requires c κs = search needs
-
-add-lay-term : tie.Need-add-lay-term Inv-loop μ-loop
-add-lay-term c = search needs
-
-lay-term-requires : tie.Need-lay-term-requires Inv-loop μ-loop
-lay-term-requires c κs = search needs
-
-add-k : tie.Need-add-k Inv-loop μ-loop
-add-k c = search needs
-
-loop-less : tie.Need-loop-less Inv-loop μ-loop
-loop-less c = search needs
-
 loop-again : tie.Need-loop-again Inv-loop μ-loop
 loop-again c =
     let p = c .before .before .before .before .before in
@@ -57,12 +39,12 @@ lay-numbers-spec =
     Inv-loop
     μ-loop
     loop-holds
-    add-num-at
-    num-at-requires
-    add-lay-term
-    lay-term-requires
-    add-k
-    loop-less
+    (λ c. search needs)
+    (λ c κs. search needs)
+    (λ c. search needs)
+    (λ c κs. search needs)
+    (λ c. search needs)
+    (λ c. search needs)
     loop-again
     same-length
     returns)

@@ -6,18 +6,6 @@ use Rattle.choiceblocks.specs.Rows.{oneRow}
 use Rattle.choiceblocks.proofs.rows.lay_one_bit.Statement.{statement}
 use Rattle.choiceblocks.proofs.rows.lay_one_bit.Tie as tie
 
-lay-head-requires : tie.Need-lay-head-requires
-lay-head-requires c κs = search needs
-
-lay-ones-requires : tie.Need-lay-ones-requires
-lay-ones-requires c κs = search needs
-
-lay-constant-requires : tie.Need-lay-constant-requires
-lay-constant-requires c κs = search needs
-
-same-length : tie.Need-same-length
-same-length c = search needs
-
 returns : tie.Need-returns
 unfolding oneRow
 returns c =
@@ -31,4 +19,4 @@ returns c =
 pub lay-one-bit-spec : {M : Type 1} → statement M
 lay-one-bit-spec =
     tie.close
-    (tie.spec lay-head-requires lay-ones-requires lay-constant-requires same-length returns)
+    (tie.spec (λ c κs. search needs) (λ c κs. search needs) (λ c κs. search needs) (λ c. search needs) returns)

@@ -6,21 +6,6 @@ use Rattle.choiceblocks.specs.Rows.{sumRow}
 use Rattle.choiceblocks.proofs.rows.lay_one_row.Statement.{statement}
 use Rattle.choiceblocks.proofs.rows.lay_one_row.Tie as tie
 
-add-lay-head : tie.Need-add-lay-head
-add-lay-head c = search needs
-
-lay-head-requires : tie.Need-lay-head-requires
-lay-head-requires c κs = search needs
-
-lay-ones-requires : tie.Need-lay-ones-requires
-lay-ones-requires c κs = search needs
-
-lay-last-requires : tie.Need-lay-last-requires
-lay-last-requires c κs = search needs
-
-same-length : tie.Need-same-length
-same-length c = search needs
-
 returns : tie.Need-returns
 unfolding sumRow
 returns c =
@@ -35,9 +20,9 @@ pub lay-one-row-spec : {M : Type 1} → statement M
 lay-one-row-spec =
     tie.close
     (tie.spec
-    add-lay-head
-    lay-head-requires
-    lay-ones-requires
-    lay-last-requires
-    same-length
+    (λ c. search needs)
+    (λ c κs. search needs)
+    (λ c κs. search needs)
+    (λ c κs. search needs)
+    (λ c. search needs)
     returns)

@@ -17,33 +17,6 @@ abbrev μ-loop : tie.MeasureT-loop
 loop-holds : tie.Need-loop-holds Inv-loop μ-loop
 loop-holds c = begun 10 _ _ _ _
 
-add-var-at : tie.Need-add-var-at Inv-loop μ-loop
-add-var-at c = search needs
-
-var-at-requires : tie.Need-var-at-requires Inv-loop μ-loop
-var-at-requires c κs = search needs
-
-bound-at-requires : tie.Need-bound-at-requires Inv-loop μ-loop
-bound-at-requires c κs = search needs
-
-bound-at-requires-2 : tie.Need-bound-at-requires-2 Inv-loop μ-loop
-bound-at-requires-2 c κs = search needs
-
-zero-lower-requires : tie.Need-zero-lower-requires Inv-loop μ-loop
-zero-lower-requires c κs = search needs
-
-zero-upper-requires : tie.Need-zero-upper-requires Inv-loop μ-loop
-zero-upper-requires c κs = search needs
-
-lay-bound-requires : tie.Need-lay-bound-requires Inv-loop μ-loop
-lay-bound-requires c κs = search needs
-
-add-k : tie.Need-add-k Inv-loop μ-loop
-add-k c = search needs
-
-loop-less : tie.Need-loop-less Inv-loop μ-loop
-loop-less c = search needs
-
 loop-again : tie.Need-loop-again Inv-loop μ-loop
 loop-again c =
     let lay-bound = c .before .before .lay-bound in
@@ -66,15 +39,15 @@ lay-zeros-spec =
     Inv-loop
     μ-loop
     loop-holds
-    add-var-at
-    var-at-requires
-    bound-at-requires
-    bound-at-requires-2
-    zero-lower-requires
-    zero-upper-requires
-    lay-bound-requires
-    add-k
-    loop-less
+    (λ c. search needs)
+    (λ c κs. search needs)
+    (λ c κs. search needs)
+    (λ c κs. search needs)
+    (λ c κs. search needs)
+    (λ c κs. search needs)
+    (λ c κs. search needs)
+    (λ c. search needs)
+    (λ c. search needs)
     loop-again
     same-length
     returns)

@@ -11,18 +11,6 @@ use Rattle.fixedblocks.proofs.Laid.{then}
 use Rattle.fixedblocks.proofs.boolean.bool_and.Statement.{statement}
 use Rattle.fixedblocks.proofs.boolean.bool_and.Tie as tie
 
-two-terms-requires : tie.Need-two-terms-requires
-two-terms-requires c κs = search needs
-
-two-terms-requires-2 : tie.Need-two-terms-requires-2
-two-terms-requires-2 c κs = search needs
-
-three-terms-requires : tie.Need-three-terms-requires
-three-terms-requires c κs = search needs
-
-same-length : tie.Need-same-length
-same-length c = search needs
-
 returns : tie.Need-returns
 unfolding rule _─_≤0 blockParts boundParts flatMap rowParts termParts numbered rowOf many
 returns c =
@@ -35,4 +23,4 @@ returns c =
 pub bool-and-spec : {M : Type 1} → statement M
 bool-and-spec =
     tie.close
-    (tie.spec two-terms-requires two-terms-requires-2 three-terms-requires same-length returns)
+    (tie.spec (λ c κs. search needs) (λ c κs. search needs) (λ c κs. search needs) (λ c. search needs) returns)

@@ -10,15 +10,6 @@ use Rattle.fixedblocks.proofs.Laid.{then}
 use Rattle.fixedblocks.proofs.boolean.bool_or.Statement.{statement}
 use Rattle.fixedblocks.proofs.boolean.bool_or.Tie as tie
 
-three-terms-requires : tie.Need-three-terms-requires
-three-terms-requires c κs = search needs
-
-three-terms-requires-2 : tie.Need-three-terms-requires-2
-three-terms-requires-2 c κs = search needs
-
-same-length : tie.Need-same-length
-same-length c = search needs
-
 returns : tie.Need-returns
 unfolding rule blockParts boundParts flatMap rowParts termParts numbered rowOf many
 returns c =
@@ -26,4 +17,4 @@ returns c =
     ((λ β first. w .0), omega (arith, w .1))
 
 pub bool-or-spec : {M : Type 1} → statement M
-bool-or-spec = tie.close (tie.spec three-terms-requires three-terms-requires-2 same-length returns)
+bool-or-spec = tie.close (tie.spec (λ c κs. search needs) (λ c κs. search needs) (λ c. search needs) returns)

@@ -13,27 +13,6 @@ use Rattle.fixedblocks.proofs.Laid.{then}
 use Rattle.fixedblocks.proofs.boolean.bool_xor.Statement.{statement}
 use Rattle.fixedblocks.proofs.boolean.bool_xor.Tie as tie
 
-add-y : tie.Need-add-y
-add-y c = search needs
-
-lay-bound-requires : tie.Need-lay-bound-requires
-lay-bound-requires c κs = search needs
-
-lay-bound-requires-2 : tie.Need-lay-bound-requires-2
-lay-bound-requires-2 c κs = search needs
-
-lay-times-requires : tie.Need-lay-times-requires
-lay-times-requires c κs = search needs
-
-lay-times-requires-2 : tie.Need-lay-times-requires-2
-lay-times-requires-2 c κs = search needs
-
-slice-aggregate-lay-row : tie.Need-slice-aggregate-lay-row
-slice-aggregate-lay-row c = search needs
-
-slice-aggregate-lay-row-2 : tie.Need-slice-aggregate-lay-row-2
-slice-aggregate-lay-row-2 c = search needs
-
 lay-row-requires : tie.Need-lay-row-requires
 lay-row-requires c κs =
     let s = c .before .before .before .before .before .before .before .before .before .before .before .before .before .before .before .before .before .before .before .before in
@@ -80,13 +59,13 @@ pub bool-xor-spec : {M : Type 1} → statement M
 bool-xor-spec =
     tie.close
     (tie.spec
-    add-y
-    lay-bound-requires
-    lay-bound-requires-2
-    lay-times-requires
-    lay-times-requires-2
-    slice-aggregate-lay-row
-    slice-aggregate-lay-row-2
+    (λ c. search needs)
+    (λ c κs. search needs)
+    (λ c κs. search needs)
+    (λ c κs. search needs)
+    (λ c κs. search needs)
+    (λ c. search needs)
+    (λ c. search needs)
     lay-row-requires
     three-terms-requires
     same-length

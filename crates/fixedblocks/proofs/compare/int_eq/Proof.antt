@@ -10,12 +10,6 @@ use Rattle.laying.specs.Lists.{many, rowOf}
 use Rattle.fixedblocks.proofs.compare.int_eq.Statement.{statement}
 use Rattle.fixedblocks.proofs.compare.int_eq.Tie as tie
 
-two-terms-requires : tie.Need-two-terms-requires
-two-terms-requires c κs = search needs
-
-same-length : tie.Need-same-length
-same-length c = search needs
-
 returns : tie.Need-returns
 unfolding rule _─_=0 blockParts boundParts flatMap rowParts termParts numbered rowOf many
 returns c =
@@ -23,4 +17,4 @@ returns c =
     ((λ β first. w .0), omega (arith, w .1))
 
 pub int-eq-spec : {M : Type 1} → statement M
-int-eq-spec = tie.close (tie.spec two-terms-requires same-length returns)
+int-eq-spec = tie.close (tie.spec (λ c κs. search needs) (λ c. search needs) returns)

@@ -10,15 +10,6 @@ use Rattle.fixedblocks.proofs.Laid.{then}
 use Rattle.fixedblocks.proofs.compare.int_le_reif.Statement.{statement}
 use Rattle.fixedblocks.proofs.compare.int_le_reif.Tie as tie
 
-at-most-if-requires : tie.Need-at-most-if-requires
-at-most-if-requires c κs = search needs
-
-below-unless-requires : tie.Need-below-unless-requires
-below-unless-requires c κs = search needs
-
-same-length : tie.Need-same-length
-same-length c = search needs
-
 returns : tie.Need-returns
 unfolding rule lessEqualReified blockParts boundParts flatMap rowParts termParts numbered rowOf many
 returns c =
@@ -27,4 +18,4 @@ returns c =
 
 pub int-le-reif-spec : {M : Type 1} → statement M
 int-le-reif-spec =
-    tie.close (tie.spec at-most-if-requires below-unless-requires same-length returns)
+    tie.close (tie.spec (λ c κs. search needs) (λ c κs. search needs) (λ c. search needs) returns)

@@ -11,18 +11,6 @@ use Rattle.fixedblocks.proofs.Laid.{then}
 use Rattle.fixedblocks.proofs.compare.int_ne.Statement.{statement}
 use Rattle.fixedblocks.proofs.compare.int_ne.Tie as tie
 
-lay-bound-requires : tie.Need-lay-bound-requires
-lay-bound-requires c κs = search needs
-
-below-unless-requires : tie.Need-below-unless-requires
-below-unless-requires c κs = search needs
-
-below-if-requires : tie.Need-below-if-requires
-below-if-requires c κs = search needs
-
-same-length : tie.Need-same-length
-same-length c = search needs
-
 returns : tie.Need-returns
 unfolding rule notEqual blockParts boundParts flatMap rowParts termParts numbered rowOf many
 returns c =
@@ -36,4 +24,4 @@ returns c =
 pub int-ne-spec : {M : Type 1} → statement M
 int-ne-spec =
     tie.close
-    (tie.spec lay-bound-requires below-unless-requires below-if-requires same-length returns)
+    (tie.spec (λ c κs. search needs) (λ c κs. search needs) (λ c κs. search needs) (λ c. search needs) returns)

@@ -14,27 +14,6 @@ use Rattle.fixedblocks.proofs.Laid.{then}
 use Rattle.fixedblocks.proofs.number.int_abs.Statement.{statement}
 use Rattle.fixedblocks.proofs.number.int_abs.Tie as tie
 
-lay-bound-requires : tie.Need-lay-bound-requires
-lay-bound-requires c κs = search needs
-
-lay-zero-bound-requires : tie.Need-lay-zero-bound-requires
-lay-zero-bound-requires c κs = search needs
-
-add-z : tie.Need-add-z
-add-z c = search needs
-
-lay-times-requires : tie.Need-lay-times-requires
-lay-times-requires c κs = search needs
-
-three-terms-requires : tie.Need-three-terms-requires
-three-terms-requires c κs = search needs
-
-slice-aggregate-lay-row : tie.Need-slice-aggregate-lay-row
-slice-aggregate-lay-row c = search needs
-
-slice-aggregate-lay-row-2 : tie.Need-slice-aggregate-lay-row-2
-slice-aggregate-lay-row-2 c = search needs
-
 lay-row-requires : tie.Need-lay-row-requires
 lay-row-requires c κs =
     let s = c .before .before .before .before .before .before .before .before .before .before .before .before .before .before .before .before .before .before .before .before in
@@ -69,13 +48,13 @@ pub int-abs-spec : {M : Type 1} → statement M
 int-abs-spec =
     tie.close
     (tie.spec
-    lay-bound-requires
-    lay-zero-bound-requires
-    add-z
-    lay-times-requires
-    three-terms-requires
-    slice-aggregate-lay-row
-    slice-aggregate-lay-row-2
+    (λ c κs. search needs)
+    (λ c κs. search needs)
+    (λ c. search needs)
+    (λ c κs. search needs)
+    (λ c κs. search needs)
+    (λ c. search needs)
+    (λ c. search needs)
     lay-row-requires
     same-length
     returns)

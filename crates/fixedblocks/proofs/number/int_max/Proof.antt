@@ -14,18 +14,6 @@ use Rattle.fixedblocks.proofs.Laid.{then}
 use Rattle.fixedblocks.proofs.number.int_max.Statement.{statement}
 use Rattle.fixedblocks.proofs.number.int_max.Tie as tie
 
-lay-bound-requires : tie.Need-lay-bound-requires
-lay-bound-requires c κs = search needs
-
-two-terms-requires : tie.Need-two-terms-requires
-two-terms-requires c κs = search needs
-
-two-terms-requires-2 : tie.Need-two-terms-requires-2
-two-terms-requires-2 c κs = search needs
-
-at-most-unless-requires : tie.Need-at-most-unless-requires
-at-most-unless-requires c κs = search needs
-
 at-most-if-requires : tie.Need-at-most-if-requires
 at-most-if-requires c κs =
     let s = c .before .before .before .before .before .before .before .before .before .before .before .before .before .before .before .before .before .before in
@@ -60,10 +48,10 @@ pub int-max-spec : {M : Type 1} → statement M
 int-max-spec =
     tie.close
     (tie.spec
-    lay-bound-requires
-    two-terms-requires
-    two-terms-requires-2
-    at-most-unless-requires
+    (λ c κs. search needs)
+    (λ c κs. search needs)
+    (λ c κs. search needs)
+    (λ c κs. search needs)
     at-most-if-requires
     same-length
     returns)

@@ -13,24 +13,6 @@ use Rattle.fixedblocks.proofs.Laid.{then}
 use Rattle.fixedblocks.proofs.number.int_times.Statement.{statement}
 use Rattle.fixedblocks.proofs.number.int_times.Tie as tie
 
-end-product-requires : tie.Need-end-product-requires
-end-product-requires c κs = search needs
-
-end-product-requires-2 : tie.Need-end-product-requires-2
-end-product-requires-2 c κs = search needs
-
-lay-bound-requires : tie.Need-lay-bound-requires
-lay-bound-requires c κs = search needs
-
-lay-times-requires : tie.Need-lay-times-requires
-lay-times-requires c κs = search needs
-
-two-terms-requires : tie.Need-two-terms-requires
-two-terms-requires c κs = search needs
-
-same-length : tie.Need-same-length
-same-length c = search needs
-
 returns : tie.Need-returns
 unfolding rule _─_=0 blockParts boundParts flatMap rowParts termParts numbered rowOf many
 returns c =
@@ -48,10 +30,10 @@ pub int-times-spec : {M : Type 1} → statement M
 int-times-spec =
     tie.close
     (tie.spec
-    end-product-requires
-    end-product-requires-2
-    lay-bound-requires
-    lay-times-requires
-    two-terms-requires
-    same-length
+    (λ c κs. search needs)
+    (λ c κs. search needs)
+    (λ c κs. search needs)
+    (λ c κs. search needs)
+    (λ c κs. search needs)
+    (λ c. search needs)
     returns)

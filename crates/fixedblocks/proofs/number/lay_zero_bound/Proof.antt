@@ -4,24 +4,6 @@ use Rattle.integers.proofs.Fits.{back}
 use Rattle.fixedblocks.proofs.number.lay_zero_bound.Statement.{statement}
 use Rattle.fixedblocks.proofs.number.lay_zero_bound.Tie as tie
 
-bound-at-requires : tie.Need-bound-at-requires
-bound-at-requires c κs = search needs
-
-zero-lower-requires : tie.Need-zero-lower-requires
-zero-lower-requires c κs = search needs
-
-bound-at-requires-2 : tie.Need-bound-at-requires-2
-bound-at-requires-2 c κs = search needs
-
-zero-upper-requires : tie.Need-zero-upper-requires
-zero-upper-requires c κs = search needs
-
-lay-bound-requires : tie.Need-lay-bound-requires
-lay-bound-requires c κs = search needs
-
-same-length : tie.Need-same-length
-same-length c = search needs
-
 returns : tie.Need-returns
 returns c =
     let bound-at = c .before .before .before .before .before .before .before .bound-at in
@@ -35,10 +17,10 @@ pub lay-zero-bound-spec : {M : Type 1} → statement M
 lay-zero-bound-spec =
     tie.close
     (tie.spec
-    bound-at-requires
-    zero-lower-requires
-    bound-at-requires-2
-    zero-upper-requires
-    lay-bound-requires
-    same-length
+    (λ c κs. search needs)
+    (λ c κs. search needs)
+    (λ c κs. search needs)
+    (λ c κs. search needs)
+    (λ c κs. search needs)
+    (λ c. search needs)
     returns)

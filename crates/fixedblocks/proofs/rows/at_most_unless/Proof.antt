@@ -6,19 +6,10 @@ use Rattle.extremes.proofs.Size.{gap-size}
 use Rattle.fixedblocks.proofs.rows.at_most_unless.Statement.{statement}
 use Rattle.fixedblocks.proofs.rows.at_most_unless.Tie as tie
 
-gap-requires : tie.Need-gap-requires
-gap-requires c κs = search needs
-
 opposite-requires : tie.Need-opposite-requires
 opposite-requires c κs =
     let s = c .before .before .before in
     rw (back (c .before .gap .result) (c .before .gap .ok), c .before .gap .ensures) (omega (arith, gap-size (s .args .ls .now) (s .args .us .now) (s .pre .1) (s .pre .2) (s .args .x) (s .args .y)))
-
-three-terms-requires : tie.Need-three-terms-requires
-three-terms-requires c κs = search needs
-
-same-length : tie.Need-same-length
-same-length c = search needs
 
 returns : tie.Need-returns
 returns c =
@@ -29,4 +20,4 @@ returns c =
 
 pub at-most-unless-spec : {M : Type 1} → statement M
 at-most-unless-spec =
-    tie.close (tie.spec gap-requires opposite-requires three-terms-requires same-length returns)
+    tie.close (tie.spec (λ c κs. search needs) opposite-requires (λ c κs. search needs) (λ c. search needs) returns)

@@ -6,19 +6,10 @@ use Rattle.extremes.proofs.Size.{gap-plus-one-size}
 use Rattle.fixedblocks.proofs.rows.below_if.Statement.{statement}
 use Rattle.fixedblocks.proofs.rows.below_if.Tie as tie
 
-gap-plus-one-requires : tie.Need-gap-plus-one-requires
-gap-plus-one-requires c κs = search needs
-
 minus-requires : tie.Need-minus-requires
 minus-requires c κs =
     let s = c .before .before .before in
     rw (back (c .before .gap-plus-one .result) (c .before .gap-plus-one .ok), c .before .gap-plus-one .ensures) (omega (arith, gap-plus-one-size (s .args .ls .now) (s .args .us .now) (s .pre .1) (s .pre .2) (s .args .x) (s .args .y)))
-
-three-terms-requires : tie.Need-three-terms-requires
-three-terms-requires c κs = search needs
-
-same-length : tie.Need-same-length
-same-length c = search needs
 
 returns : tie.Need-returns
 returns c =
@@ -30,4 +21,4 @@ returns c =
 pub below-if-spec : {M : Type 1} → statement M
 below-if-spec =
     tie.close
-    (tie.spec gap-plus-one-requires minus-requires three-terms-requires same-length returns)
+    (tie.spec (λ c κs. search needs) minus-requires (λ c κs. search needs) (λ c. search needs) returns)

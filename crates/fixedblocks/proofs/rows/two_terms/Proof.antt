@@ -4,18 +4,6 @@ use borrow.Author.Needs.{needs}
 use Rattle.fixedblocks.proofs.rows.two_terms.Statement.{statement}
 use Rattle.fixedblocks.proofs.rows.two_terms.Tie as tie
 
-slice-aggregate-lay-row : tie.Need-slice-aggregate-lay-row
-slice-aggregate-lay-row c = search needs
-
-slice-aggregate-lay-row-2 : tie.Need-slice-aggregate-lay-row-2
-slice-aggregate-lay-row-2 c = search needs
-
-lay-row-requires : tie.Need-lay-row-requires
-lay-row-requires c κs = search needs
-
-same-length : tie.Need-same-length
-same-length c = search needs
-
 returns : tie.Need-returns
 returns c =
     let s = c .before .before .before .before .before .before .before in
@@ -26,8 +14,8 @@ pub two-terms-spec : {M : Type 1} → statement M
 two-terms-spec =
     tie.close
     (tie.spec
-    slice-aggregate-lay-row
-    slice-aggregate-lay-row-2
-    lay-row-requires
-    same-length
+    (λ c. search needs)
+    (λ c. search needs)
+    (λ c κs. search needs)
+    (λ c. search needs)
     returns)

@@ -20,25 +20,10 @@ use Rattle.linearblocks.proofs.Rows.{rows-then}
 use Rattle.linearblocks.proofs.clause.array_bool_and.Statement.{statement}
 use Rattle.linearblocks.proofs.clause.array_bool_and.Tie as tie
 
-past-at-requires : tie.Need-past-at-requires
-past-at-requires c κs = search needs
-
-var-at-requires : tie.Need-var-at-requires
-var-at-requires c κs = search needs
-
-size-at-requires : tie.Need-size-at-requires
-size-at-requires c κs = search needs
-
 lay-above-requires : tie.Need-lay-above-requires
 lay-above-requires c κs =
     let s = c .before .before .before .before .before .before in
     (omega (arith, s .pre), rw (c .size-at .ensures) (omega (arith, size-le (s .args .args .now) 0)), omega arith)
-
-lay-all-requires : tie.Need-lay-all-requires
-lay-all-requires c κs = search needs
-
-same-length : tie.Need-same-length
-same-length c = search needs
 
 returns : tie.Need-returns
 unfolding rule blockParts boundParts flatMap
@@ -60,10 +45,10 @@ pub array-bool-and-spec : {M : Type 1} → statement M
 array-bool-and-spec =
     tie.close
     (tie.spec
-    past-at-requires
-    var-at-requires
-    size-at-requires
+    (λ c κs. search needs)
+    (λ c κs. search needs)
+    (λ c κs. search needs)
     lay-above-requires
-    lay-all-requires
-    same-length
+    (λ c κs. search needs)
+    (λ c. search needs)
     returns)

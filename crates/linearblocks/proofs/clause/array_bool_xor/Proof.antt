@@ -14,21 +14,6 @@ use Rattle.linearblocks.proofs.Rows.{row-went, one-row}
 use Rattle.linearblocks.proofs.clause.array_bool_xor.Statement.{statement}
 use Rattle.linearblocks.proofs.clause.array_bool_xor.Tie as tie
 
-size-at-requires : tie.Need-size-at-requires
-size-at-requires c κs = search needs
-
-lay-head-requires : tie.Need-lay-head-requires
-lay-head-requires c κs = search needs
-
-lay-each-requires : tie.Need-lay-each-requires
-lay-each-requires c κs = search needs
-
-lay-constant-requires : tie.Need-lay-constant-requires
-lay-constant-requires c κs = search needs
-
-same-length : tie.Need-same-length
-same-length c = search needs
-
 returns : tie.Need-returns
 unfolding rule rowParts
 returns c =
@@ -45,9 +30,9 @@ pub array-bool-xor-spec : {M : Type 1} → statement M
 array-bool-xor-spec =
     tie.close
     (tie.spec
-    size-at-requires
-    lay-head-requires
-    lay-each-requires
-    lay-constant-requires
-    same-length
+    (λ c κs. search needs)
+    (λ c κs. search needs)
+    (λ c κs. search needs)
+    (λ c κs. search needs)
+    (λ c. search needs)
     returns)

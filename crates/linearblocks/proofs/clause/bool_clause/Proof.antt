@@ -17,27 +17,12 @@ use Rattle.linearblocks.proofs.Rows.{row-went, one-row}
 use Rattle.linearblocks.proofs.clause.bool_clause.Statement.{statement}
 use Rattle.linearblocks.proofs.clause.bool_clause.Tie as tie
 
-past-at-requires : tie.Need-past-at-requires
-past-at-requires c κs = search needs
-
-size-at-requires : tie.Need-size-at-requires
-size-at-requires c κs = search needs
-
-size-at-requires-2 : tie.Need-size-at-requires-2
-size-at-requires-2 c κs = search needs
-
 add-lay-head : tie.Need-add-lay-head
 add-lay-head c =
     let s = c .before .before .before .before .before .before in
     let past-at = c .before .before .before .past-at in
     let size-at = c .before .before .size-at in
     rw (size-at .ensures, c .size-at2 .ensures) (omega (arith, size-le (s .args .args .now) (past-at .result), size-le (s .args .args .now) 0))
-
-lay-head-requires : tie.Need-lay-head-requires
-lay-head-requires c κs = search needs
-
-lay-each-requires : tie.Need-lay-each-requires
-lay-each-requires c κs = search needs
 
 lay-each-requires-2 : tie.Need-lay-each-requires-2
 unfolding past
@@ -58,9 +43,6 @@ lay-constant-requires c κs =
     let lay-each = c .before .before .before .before .before .before .before .before .lay-each in
     let lay-each2 = c .before .before .before .before .lay-each2 in
     omega (arith, s .pre, lay-head .ensures .1, lay-each .ensures .1, lay-each2 .ensures .1)
-
-same-length : tie.Need-same-length
-same-length c = search needs
 
 returns : tie.Need-returns
 unfolding rule rowParts
@@ -87,14 +69,14 @@ pub bool-clause-spec : {M : Type 1} → statement M
 bool-clause-spec =
     tie.close
     (tie.spec
-    past-at-requires
-    size-at-requires
-    size-at-requires-2
+    (λ c κs. search needs)
+    (λ c κs. search needs)
+    (λ c κs. search needs)
     add-lay-head
-    lay-head-requires
-    lay-each-requires
+    (λ c κs. search needs)
+    (λ c κs. search needs)
     lay-each-requires-2
     one-less-requires
     lay-constant-requires
-    same-length
+    (λ c. search needs)
     returns)

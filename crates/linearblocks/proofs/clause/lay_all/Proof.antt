@@ -17,29 +17,11 @@ use Rattle.linearblocks.proofs.Rows.{row-went, last-term}
 use Rattle.linearblocks.proofs.clause.lay_all.Statement.{statement}
 use Rattle.linearblocks.proofs.clause.lay_all.Tie as tie
 
-size-at-requires : tie.Need-size-at-requires
-size-at-requires c κs = search needs
-
 add-lay-head : tie.Need-add-lay-head
 add-lay-head c = rw (c .before .size-at .ensures) (omega (arith, size-le (c .before .before .before .before .args .args .now) 0))
 
-lay-head-requires : tie.Need-lay-head-requires
-lay-head-requires c κs = search needs
-
-lay-each-requires : tie.Need-lay-each-requires
-lay-each-requires c κs = search needs
-
-lay-term-requires : tie.Need-lay-term-requires
-lay-term-requires c κs = search needs
-
 one-less-requires : tie.Need-one-less-requires
 one-less-requires c κs = rw (c .before .before .before .before .before .before .before .before .before .before .before .before .before .size-at .ensures) (size-le _ _)
-
-lay-constant-requires : tie.Need-lay-constant-requires
-lay-constant-requires c κs = search needs
-
-same-length : tie.Need-same-length
-same-length c = search needs
 
 returns : tie.Need-returns
 unfolding rowParts numbered
@@ -61,12 +43,12 @@ pub lay-all-spec : {M : Type 1} → statement M
 lay-all-spec =
     tie.close
     (tie.spec
-    size-at-requires
+    (λ c κs. search needs)
     add-lay-head
-    lay-head-requires
-    lay-each-requires
-    lay-term-requires
+    (λ c κs. search needs)
+    (λ c κs. search needs)
+    (λ c κs. search needs)
     one-less-requires
-    lay-constant-requires
-    same-length
+    (λ c κs. search needs)
+    (λ c. search needs)
     returns)

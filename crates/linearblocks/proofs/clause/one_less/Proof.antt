@@ -8,9 +8,6 @@ use Rattle.arguments.proofs.Size.{read}
 use Rattle.linearblocks.proofs.clause.one_less.Statement.{statement}
 use Rattle.linearblocks.proofs.clause.one_less.Tie as tie
 
-cast-minus : tie.Need-cast-minus
-cast-minus c = search needs
-
 minus-requires : tie.Need-minus-requires
 minus-requires c κs = rw (toZ-pos w64 {n = c .args .n} (omega arith)) (omega arith)
 
@@ -18,4 +15,4 @@ returns : tie.Need-returns
 returns c = read (c .minus .ok) (c .minus .ensures) ∙ rw (toZ-pos w64 {n = c .before .args .n} (omega arith))
 
 pub one-less-spec : {M : Type 1} → statement M
-one-less-spec = tie.close (tie.spec cast-minus minus-requires returns)
+one-less-spec = tie.close (tie.spec (λ c. search needs) minus-requires returns)

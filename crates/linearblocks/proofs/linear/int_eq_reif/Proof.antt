@@ -9,24 +9,6 @@ use Rattle.linearblocks.proofs.Rows.{two-terms, two-sum}
 use Rattle.linearblocks.proofs.linear.int_eq_reif.Statement.{statement}
 use Rattle.linearblocks.proofs.linear.int_eq_reif.Tie as tie
 
-word-at-requires : tie.Need-word-at-requires
-word-at-requires c κs = search needs
-
-word-at-requires-2 : tie.Need-word-at-requires-2
-word-at-requires-2 c κs = search needs
-
-word-at-requires-3 : tie.Need-word-at-requires-3
-word-at-requires-3 c κs = search needs
-
-slice-aggregate-int-lin-eq-reif : tie.Need-slice-aggregate-int-lin-eq-reif
-slice-aggregate-int-lin-eq-reif c = search needs
-
-int-lin-eq-reif-requires : tie.Need-int-lin-eq-reif-requires
-int-lin-eq-reif-requires c κs = search needs
-
-same-length : tie.Need-same-length
-same-length c = search needs
-
 returns : tie.Need-returns
 unfolding var
 returns c =
@@ -44,10 +26,10 @@ pub int-eq-reif-spec : {M : Type 1} → statement M
 int-eq-reif-spec =
     tie.close
     (tie.spec
-    word-at-requires
-    word-at-requires-2
-    word-at-requires-3
-    slice-aggregate-int-lin-eq-reif
-    int-lin-eq-reif-requires
-    same-length
+    (λ c κs. search needs)
+    (λ c κs. search needs)
+    (λ c κs. search needs)
+    (λ c. search needs)
+    (λ c κs. search needs)
+    (λ c. search needs)
     returns)

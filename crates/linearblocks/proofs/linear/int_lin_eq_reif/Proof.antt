@@ -18,24 +18,9 @@ larger-size-requires c κs =
     let s = c .before .before .before .before in
     let a = s .args in rw (back (a .sum .lower) (c .before .struct-told .given .0 .1), back (a .sum .upper) (c .struct-told2 .given .1 .0 .1)) (s .pre .2)
 
-past-terms-at-requires : tie.Need-past-terms-at-requires
-past-terms-at-requires c κs = search needs
-
 add-var-at : tie.Need-add-var-at
 unfolding past pastTerms
 add-var-at c = rw (c .past-terms-at .ensures) (omega (arith, size-le (c .before .before .before .before .before .before .args .args .now) 0))
-
-var-at-requires : tie.Need-var-at-requires
-var-at-requires c κs = search needs
-
-lay-split-requires : tie.Need-lay-split-requires
-lay-split-requires c κs = search needs
-
-lay-zero-requires : tie.Need-lay-zero-requires
-lay-zero-requires c κs = search needs
-
-same-length : tie.Need-same-length
-same-length c = search needs
 
 returns : tie.Need-returns
 unfolding rule linEqualReified signed linked split link zeroRows linearSum
@@ -55,10 +40,10 @@ int-lin-eq-reif-spec =
     tie.close
     (tie.spec
     larger-size-requires
-    past-terms-at-requires
+    (λ c κs. search needs)
     add-var-at
-    var-at-requires
-    lay-split-requires
-    lay-zero-requires
-    same-length
+    (λ c κs. search needs)
+    (λ c κs. search needs)
+    (λ c κs. search needs)
+    (λ c. search needs)
     returns)

@@ -13,18 +13,9 @@ use Rattle.linearblocks.proofs.Rows.{rows-then}
 use Rattle.linearblocks.proofs.linear.int_lin_le_reif.Statement.{statement}
 use Rattle.linearblocks.proofs.linear.int_lin_le_reif.Tie as tie
 
-past-terms-at-requires : tie.Need-past-terms-at-requires
-past-terms-at-requires c κs = search needs
-
 add-var-at : tie.Need-add-var-at
 unfolding past pastTerms
 add-var-at c = rw (c .past-terms-at .ensures) (omega (arith, size-le (c .before .before .before .before .before .args .args .now) 0))
-
-var-at-requires : tie.Need-var-at-requires
-var-at-requires c κs = search needs
-
-lay-slack-requires : tie.Need-lay-slack-requires
-lay-slack-requires c κs = search needs
 
 lay-at-most-requires : tie.Need-lay-at-most-requires
 lay-at-most-requires c κs =
@@ -33,9 +24,6 @@ lay-at-most-requires c κs =
     let struct-told2 = c .before .before .before .before .before .before .before .struct-told2 in
     let lay-slack = c .before .before .before .lay-slack in
     let a = s .args in rw (back (a .sum .lower) (struct-told .given .0 .1), back (a .sum .upper) (struct-told2 .given .1 .0 .1)) (omega (arith, lay-slack .ensures .1), s .pre .1, s .pre .2 .0, s .pre .2 .1)
-
-same-length : tie.Need-same-length
-same-length c = search needs
 
 returns : tie.Need-returns
 unfolding rule linLessEqualReified linked slack link atMostRows linearSum
@@ -53,10 +41,10 @@ pub int-lin-le-reif-spec : {M : Type 1} → statement M
 int-lin-le-reif-spec =
     tie.close
     (tie.spec
-    past-terms-at-requires
+    (λ c κs. search needs)
     add-var-at
-    var-at-requires
-    lay-slack-requires
+    (λ c κs. search needs)
+    (λ c κs. search needs)
     lay-at-most-requires
-    same-length
+    (λ c. search needs)
     returns)

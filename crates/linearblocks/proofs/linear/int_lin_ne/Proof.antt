@@ -19,24 +19,6 @@ use Rattle.linearblocks.proofs.Rows.{rows-then}
 use Rattle.linearblocks.proofs.linear.int_lin_ne.Statement.{statement}
 use Rattle.linearblocks.proofs.linear.int_lin_ne.Tie as tie
 
-lay-split-requires : tie.Need-lay-split-requires
-lay-split-requires c κs = search needs
-
-add-t13 : tie.Need-add-t13
-add-t13 c = search needs
-
-slice-aggregate-lay-row : tie.Need-slice-aggregate-lay-row
-slice-aggregate-lay-row c = search needs
-
-slice-aggregate-lay-row-2 : tie.Need-slice-aggregate-lay-row-2
-slice-aggregate-lay-row-2 c = search needs
-
-lay-row-requires : tie.Need-lay-row-requires
-lay-row-requires c κs = search needs
-
-same-length : tie.Need-same-length
-same-length c = search needs
-
 returns : tie.Need-returns
 unfolding rule linNotEqual signed linked split link flatMap rowParts termParts numbered rowOf many linearSum
 returns c =
@@ -51,10 +33,10 @@ pub int-lin-ne-spec : {M : Type 1} → statement M
 int-lin-ne-spec =
     tie.close
     (tie.spec
-    lay-split-requires
-    add-t13
-    slice-aggregate-lay-row
-    slice-aggregate-lay-row-2
-    lay-row-requires
-    same-length
+    (λ c κs. search needs)
+    (λ c. search needs)
+    (λ c. search needs)
+    (λ c. search needs)
+    (λ c κs. search needs)
+    (λ c. search needs)
     returns)

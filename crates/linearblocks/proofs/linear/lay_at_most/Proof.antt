@@ -13,34 +13,13 @@ use Rattle.linearblocks.specs.Rows.{atMostRows}
 use Rattle.linearblocks.proofs.linear.lay_at_most.Statement.{statement}
 use Rattle.linearblocks.proofs.linear.lay_at_most.Tie as tie
 
-slice-aggregate-lay-row : tie.Need-slice-aggregate-lay-row
-slice-aggregate-lay-row c = search needs
-
-slice-aggregate-lay-row-2 : tie.Need-slice-aggregate-lay-row-2
-slice-aggregate-lay-row-2 c = search needs
-
 opposite-requires : tie.Need-opposite-requires
 opposite-requires c κs = rw (toZ-ofZ (c .before .before .before .before .fits .upper)) (omega (arith, c .before .before .before .before .pre .3))
-
-lay-row-requires : tie.Need-lay-row-requires
-lay-row-requires c κs = search needs
 
 minus-requires : tie.Need-minus-requires
 minus-requires c κs =
     let s = c .before .before .before .before .before .before .before .before in
     rw (toZ-ofZ (s .fits .lower)) (omega (arith, s .pre .2))
-
-slice-aggregate-lay-row-3 : tie.Need-slice-aggregate-lay-row-3
-slice-aggregate-lay-row-3 c = search needs
-
-slice-aggregate-lay-row-4 : tie.Need-slice-aggregate-lay-row-4
-slice-aggregate-lay-row-4 c = search needs
-
-lay-row-requires-2 : tie.Need-lay-row-requires-2
-lay-row-requires-2 c κs = search needs
-
-same-length : tie.Need-same-length
-same-length c = search needs
 
 returns : tie.Need-returns
 unfolding atMostRows flatMap rowParts termParts numbered rowOf many
@@ -58,13 +37,13 @@ pub lay-at-most-spec : {M : Type 1} → statement M
 lay-at-most-spec =
     tie.close
     (tie.spec
-    slice-aggregate-lay-row
-    slice-aggregate-lay-row-2
+    (λ c. search needs)
+    (λ c. search needs)
     opposite-requires
-    lay-row-requires
+    (λ c κs. search needs)
     minus-requires
-    slice-aggregate-lay-row-3
-    slice-aggregate-lay-row-4
-    lay-row-requires-2
-    same-length
+    (λ c. search needs)
+    (λ c. search needs)
+    (λ c κs. search needs)
+    (λ c. search needs)
     returns)

@@ -16,9 +16,6 @@ size-of-requires c κs = rw (toZ-ofZ (c .fits .a)) (omega (arith, c .pre .0))
 size-of-requires-2 : tie.Need-size-of-requires-2
 size-of-requires-2 c κs = rw (toZ-ofZ (c .before .fits .b)) (omega (arith, c .before .pre .1))
 
-largest-requires : tie.Need-largest-requires
-largest-requires c κs = search needs
-
 returns : tie.Need-returns
 unfolding absZ
 returns c =
@@ -29,4 +26,4 @@ returns c =
 
 pub larger-size-spec : {M : Type 1} → statement M
 larger-size-spec =
-    tie.close (tie.spec size-of-requires size-of-requires-2 largest-requires returns)
+    tie.close (tie.spec size-of-requires size-of-requires-2 (λ c κs. search needs) returns)

@@ -19,26 +19,8 @@ use Rattle.linearblocks.proofs.Rows.{row-went, last-term}
 use Rattle.linearblocks.proofs.sums.lay_link.Statement.{statement}
 use Rattle.linearblocks.proofs.sums.lay_link.Tie as tie
 
-size-at-requires : tie.Need-size-at-requires
-size-at-requires c κs = search needs
-
 add-lay-head : tie.Need-add-lay-head
 add-lay-head c = rw (c .size-at .ensures) (omega (arith, size-le (c .before .before .before .before .args .args .now) 0))
-
-lay-head-requires : tie.Need-lay-head-requires
-lay-head-requires c κs = search needs
-
-lay-terms-requires : tie.Need-lay-terms-requires
-lay-terms-requires c κs = search needs
-
-lay-term-requires : tie.Need-lay-term-requires
-lay-term-requires c κs = search needs
-
-lay-minus-constant-requires : tie.Need-lay-minus-constant-requires
-lay-minus-constant-requires c κs = search needs
-
-same-length : tie.Need-same-length
-same-length c = search needs
 
 returns : tie.Need-returns
 unfolding rowParts link numbered
@@ -57,11 +39,11 @@ pub lay-link-spec : {M : Type 1} → statement M
 lay-link-spec =
     tie.close
     (tie.spec
-    size-at-requires
+    (λ c κs. search needs)
     add-lay-head
-    lay-head-requires
-    lay-terms-requires
-    lay-term-requires
-    lay-minus-constant-requires
-    same-length
+    (λ c κs. search needs)
+    (λ c κs. search needs)
+    (λ c κs. search needs)
+    (λ c κs. search needs)
+    (λ c. search needs)
     returns)

@@ -6,19 +6,10 @@ use Rattle.arguments.proofs.Size.{read, num-size}
 use Rattle.linearblocks.proofs.sums.lay_minus_constant.Statement.{statement}
 use Rattle.linearblocks.proofs.sums.lay_minus_constant.Tie as tie
 
-constant-of-requires : tie.Need-constant-of-requires
-constant-of-requires c κs = search needs
-
 opposite-requires : tie.Need-opposite-requires
 opposite-requires c κs =
     let s = c .before .before .before .before in
     rw (read (c .constant-of .ok) (c .constant-of .ensures)) (omega (arith, num-size (s .args .args .now) (pastTerms (s .args .args .now) 0)))
-
-lay-constant-requires : tie.Need-lay-constant-requires
-lay-constant-requires c κs = search needs
-
-same-length : tie.Need-same-length
-same-length c = search needs
 
 returns : tie.Need-returns
 returns c =
@@ -30,4 +21,4 @@ returns c =
 pub lay-minus-constant-spec : {M : Type 1} → statement M
 lay-minus-constant-spec =
     tie.close
-    (tie.spec constant-of-requires opposite-requires lay-constant-requires same-length returns)
+    (tie.spec (λ c κs. search needs) opposite-requires (λ c κs. search needs) (λ c. search needs) returns)

@@ -9,15 +9,6 @@ use Rattle.linearblocks.specs.Rows.{link, slack}
 use Rattle.linearblocks.proofs.sums.lay_slack.Statement.{statement}
 use Rattle.linearblocks.proofs.sums.lay_slack.Tie as tie
 
-lay-bound-requires : tie.Need-lay-bound-requires
-lay-bound-requires c κs = search needs
-
-lay-link-requires : tie.Need-lay-link-requires
-lay-link-requires c κs = search needs
-
-same-length : tie.Need-same-length
-same-length c = search needs
-
 returns : tie.Need-returns
 unfolding blockParts boundParts flatMap slack
 returns c =
@@ -28,4 +19,4 @@ returns c =
     (rw (append-nil (rowParts (s .args .first) (link (s .args .args .now)))) (went-then (d .0) (lay-link .ensures .0)), omega (arith, d .1, lay-link .ensures .1))
 
 pub lay-slack-spec : {M : Type 1} → statement M
-lay-slack-spec = tie.close (tie.spec lay-bound-requires lay-link-requires same-length returns)
+lay-slack-spec = tie.close (tie.spec (λ c κs. search needs) (λ c κs. search needs) (λ c. search needs) returns)

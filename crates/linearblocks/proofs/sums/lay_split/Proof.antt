@@ -14,24 +14,6 @@ use Rattle.linearblocks.specs.Rows.{split}
 use Rattle.linearblocks.proofs.sums.lay_split.Statement.{statement}
 use Rattle.linearblocks.proofs.sums.lay_split.Tie as tie
 
-lay-bound-requires : tie.Need-lay-bound-requires
-lay-bound-requires c κs = search needs
-
-lay-bound-requires-2 : tie.Need-lay-bound-requires-2
-lay-bound-requires-2 c κs = search needs
-
-zero-lower-requires : tie.Need-zero-lower-requires
-zero-lower-requires c κs = search needs
-
-zero-upper-requires : tie.Need-zero-upper-requires
-zero-upper-requires c κs = search needs
-
-lay-bound-requires-3 : tie.Need-lay-bound-requires-3
-lay-bound-requires-3 c κs = search needs
-
-lay-link-requires : tie.Need-lay-link-requires
-lay-link-requires c κs = search needs
-
 add-lay-times : tie.Need-add-lay-times
 add-lay-times c =
     let s = c .before .before .before .before .before .before .before .before .before .before .before .before .before .before .before .before .before .before .before .before .before in
@@ -81,12 +63,12 @@ pub lay-split-spec : {M : Type 1} → statement M
 lay-split-spec =
     tie.close
     (tie.spec
-    lay-bound-requires
-    lay-bound-requires-2
-    zero-lower-requires
-    zero-upper-requires
-    lay-bound-requires-3
-    lay-link-requires
+    (λ c κs. search needs)
+    (λ c κs. search needs)
+    (λ c κs. search needs)
+    (λ c κs. search needs)
+    (λ c κs. search needs)
+    (λ c κs. search needs)
     add-lay-times
     add-lay-times-2
     lay-times-requires

@@ -10,21 +10,6 @@ use Rattle.linearblocks.proofs.Rows.{row-went}
 use Rattle.linearblocks.proofs.sums.lay_sum.Statement.{statement}
 use Rattle.linearblocks.proofs.sums.lay_sum.Tie as tie
 
-size-at-requires : tie.Need-size-at-requires
-size-at-requires c κs = search needs
-
-lay-head-requires : tie.Need-lay-head-requires
-lay-head-requires c κs = search needs
-
-lay-terms-requires : tie.Need-lay-terms-requires
-lay-terms-requires c κs = search needs
-
-lay-minus-constant-requires : tie.Need-lay-minus-constant-requires
-lay-minus-constant-requires c κs = search needs
-
-same-length : tie.Need-same-length
-same-length c = search needs
-
 returns : tie.Need-returns
 returns c =
     let s = c .before .before .before .before .before .before .before .before .before .before .before .before .before .before .before in
@@ -39,9 +24,9 @@ pub lay-sum-spec : {M : Type 1} → statement M
 lay-sum-spec =
     tie.close
     (tie.spec
-    size-at-requires
-    lay-head-requires
-    lay-terms-requires
-    lay-minus-constant-requires
-    same-length
+    (λ c κs. search needs)
+    (λ c κs. search needs)
+    (λ c κs. search needs)
+    (λ c κs. search needs)
+    (λ c. search needs)
     returns)

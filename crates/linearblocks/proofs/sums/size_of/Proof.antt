@@ -7,16 +7,10 @@ use Rattle.builtins.proofs.Coded.{abs-max}
 use Rattle.linearblocks.proofs.sums.size_of.Statement.{statement}
 use Rattle.linearblocks.proofs.sums.size_of.Tie as tie
 
-opposite-requires : tie.Need-opposite-requires
-opposite-requires c κs = search needs
-
-largest-requires : tie.Need-largest-requires
-largest-requires c κs = search needs
-
 returns : tie.Need-returns
 returns c =
     let s = c .before .before in
     read (c .largest .ok) (c .largest .ensures) ∙ rw (read (c .before .opposite .ok) (c .before .opposite .ensures), toZ-ofZ (s .fits .v)) (abs-max (s .args .v))
 
 pub size-of-spec : {M : Type 1} → statement M
-size-of-spec = tie.close (tie.spec opposite-requires largest-requires returns)
+size-of-spec = tie.close (tie.spec (λ c κs. search needs) (λ c κs. search needs) returns)

@@ -5,29 +5,17 @@ use Rattle.models.specs.Reading.{faultArgument}
 use Rattle.modelreading.proofs.faults.of_argument.Statement.{statement}
 use Rattle.modelreading.proofs.faults.of_argument.Tie as tie
 
-of-head-requires : tie.Need-of-head-requires
-of-head-requires c κs = search needs
-
 returns : tie.Need-returns
 unfolding faultArgument
 returns c = rw (eq-eqb _ _ (c .before .if1 .taken)) (c .of-head .ensures)
-
-of-variable-requires : tie.Need-of-variable-requires
-of-variable-requires c κs = search needs
 
 returns-2 : tie.Need-returns-2
 unfolding faultArgument
 returns-2 c = rw (ne-eqb _ _ (c .before .before .if1 .left), lt-ltb _ _ (c .before .if2 .taken)) (c .of-variable .ensures)
 
-of-number-requires : tie.Need-of-number-requires
-of-number-requires c κs = search needs
-
 returns-3 : tie.Need-returns-3
 unfolding faultArgument
 returns-3 c = rw (ne-eqb _ _ (c .before .before .before .if1 .left), le-ltb _ _ (c .before .before .if2 .left), eq-eqb _ _ (c .before .if3 .taken)) (c .of-number .ensures)
-
-of-length-requires : tie.Need-of-length-requires
-of-length-requires c κs = search needs
 
 returns-4 : tie.Need-returns-4
 unfolding faultArgument
@@ -37,11 +25,11 @@ pub of-argument-spec : {M : Type 1} → statement M
 of-argument-spec =
     tie.close
     (tie.spec
-    of-head-requires
+    (λ c κs. search needs)
     returns
-    of-variable-requires
+    (λ c κs. search needs)
     returns-2
-    of-number-requires
+    (λ c κs. search needs)
     returns-3
-    of-length-requires
+    (λ c κs. search needs)
     returns-4)

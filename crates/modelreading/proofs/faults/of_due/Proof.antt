@@ -6,40 +6,13 @@ use Rattle.modelreading.specs.Argument.{argumentDue}
 use Rattle.modelreading.proofs.faults.of_due.Statement.{statement}
 use Rattle.modelreading.proofs.faults.of_due.Tie as tie
 
-enum-told : tie.Need-enum-told
-enum-told c = search needs
-
-of-start-requires : tie.Need-of-start-requires
-of-start-requires c κs = search needs
-
-enum-known-due : tie.Need-enum-known-due
-enum-known-due c = search needs
-
-of-upper-requires : tie.Need-of-upper-requires
-of-upper-requires c κs = search needs
-
-enum-known-due-2 : tie.Need-enum-known-due-2
-enum-known-due-2 c = search needs
-
-of-number-requires : tie.Need-of-number-requires
-of-number-requires c κs = search needs
-
 returns : tie.Need-returns
 unfolding faultDue
 returns c = rw (c .before .before .before .due2 .given .1, lt-ltb _ _ (c .before .if1 .taken)) (c .of-number .ensures)
 
-of-variable-requires : tie.Need-of-variable-requires
-of-variable-requires c κs = search needs
-
 returns-2 : tie.Need-returns-2
 unfolding faultDue
 returns-2 c = rw (c .before .before .before .before .due2 .given .1, le-ltb _ _ (c .before .before .if1 .left), lt-ltb _ _ (c .before .if2 .taken)) (c .of-variable .ensures)
-
-of-argument-requires : tie.Need-of-argument-requires
-of-argument-requires c κs = search needs
-
-enum-told-2 : tie.Need-enum-told-2
-enum-told-2 c = search needs
 
 returns-3 : tie.Need-returns-3
 unfolding faultDue
@@ -65,17 +38,17 @@ pub of-due-spec : {M : Type 1} → statement M
 of-due-spec =
     tie.close
     (tie.spec
-    enum-told
-    of-start-requires
-    enum-known-due
-    of-upper-requires
-    enum-known-due-2
-    of-number-requires
+    (λ c. search needs)
+    (λ c κs. search needs)
+    (λ c. search needs)
+    (λ c κs. search needs)
+    (λ c. search needs)
+    (λ c κs. search needs)
     returns
-    of-variable-requires
+    (λ c κs. search needs)
     returns-2
-    of-argument-requires
-    enum-told-2
+    (λ c κs. search needs)
+    (λ c. search needs)
     returns-3
     returns-4
     returns-5

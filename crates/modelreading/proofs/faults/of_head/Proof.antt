@@ -5,15 +5,9 @@ use Rattle.models.specs.Reading.{faultHead}
 use Rattle.modelreading.proofs.faults.of_head.Statement.{statement}
 use Rattle.modelreading.proofs.faults.of_head.Tie as tie
 
-kind-of-requires : tie.Need-kind-of-requires
-kind-of-requires c κs = search needs
-
 returns : tie.Need-returns
 unfolding faultHead
 returns c = rw (← c .before .before .kind-of .ensures, eq-eqb _ _ (c .before .if1 .taken), le-leb _ _ (c .if2 .taken))
-
-payload-of-requires : tie.Need-payload-of-requires
-payload-of-requires c κs = search needs
 
 returns-2 : tie.Need-returns-2
 unfolding faultHead
@@ -41,9 +35,6 @@ returns-4 c =
     let payload-of = c .before .before .payload-of in
     rw (← kind-of .ensures, eq-eqb _ _ (if1 .taken), lt-leb _ _ (if2 .left), ← payload-of .ensures, ne-eqb _ _ (c .before .if3 .left), le-ltb _ _ (c .if4 .left))
 
-of-payload-requires : tie.Need-of-payload-requires
-of-payload-requires c κs = search needs
-
 returns-5 : tie.Need-returns-5
 unfolding faultHead
 returns-5 c = rw (← c .before .before .before .kind-of .ensures, ne-eqb _ _ (c .before .before .if1 .left), eq-eqb _ _ (c .before .if5 .taken)) (c .of-payload .ensures)
@@ -56,12 +47,12 @@ pub of-head-spec : {M : Type 1} → statement M
 of-head-spec =
     tie.close
     (tie.spec
-    kind-of-requires
+    (λ c κs. search needs)
     returns
-    payload-of-requires
+    (λ c κs. search needs)
     returns-2
     returns-3
     returns-4
-    of-payload-requires
+    (λ c κs. search needs)
     returns-5
     returns-6)

@@ -5,15 +5,9 @@ use Rattle.models.specs.Reading.{faultLength}
 use Rattle.modelreading.proofs.faults.of_length.Statement.{statement}
 use Rattle.modelreading.proofs.faults.of_length.Tie as tie
 
-kind-of-requires : tie.Need-kind-of-requires
-kind-of-requires c κs = search needs
-
 returns : tie.Need-returns
 unfolding faultLength
 returns c = rw (← c .before .kind-of .ensures, ne-eqb _ _ (c .if1 .taken))
-
-payload-of-requires : tie.Need-payload-of-requires
-payload-of-requires c κs = search needs
 
 returns-2 : tie.Need-returns-2
 unfolding faultLength
@@ -25,4 +19,4 @@ returns-3 c = rw (← c .before .before .before .kind-of .ensures, eq-eqb _ _ (c
 
 pub of-length-spec : {M : Type 1} → statement M
 of-length-spec =
-    tie.close (tie.spec kind-of-requires returns payload-of-requires returns-2 returns-3)
+    tie.close (tie.spec (λ c κs. search needs) returns (λ c κs. search needs) returns-2 returns-3)

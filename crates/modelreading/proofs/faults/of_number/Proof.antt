@@ -5,9 +5,6 @@ use Rattle.models.specs.Reading.{faultNumber}
 use Rattle.modelreading.proofs.faults.of_number.Statement.{statement}
 use Rattle.modelreading.proofs.faults.of_number.Tie as tie
 
-kind-of-requires : tie.Need-kind-of-requires
-kind-of-requires c κs = search needs
-
 returns : tie.Need-returns
 unfolding faultNumber
 returns c = rw (← c .before .kind-of .ensures, eq-eqb _ _ (c .if1 .taken))
@@ -17,4 +14,4 @@ unfolding faultNumber
 returns-2 c = rw (← c .before .kind-of .ensures, ne-eqb _ _ (c .if1 .left))
 
 pub of-number-spec : {M : Type 1} → statement M
-of-number-spec = tie.close (tie.spec kind-of-requires returns returns-2)
+of-number-spec = tie.close (tie.spec (λ c κs. search needs) returns returns-2)

@@ -4,9 +4,6 @@ use borrow.Author.Needs.{needs}
 use Rattle.modelreading.proofs.faults.of_payload.Statement.{statement}
 use Rattle.modelreading.proofs.faults.of_payload.Tie as tie
 
-payload-of-requires : tie.Need-payload-of-requires
-payload-of-requires c κs = search needs
-
 returns : tie.Need-returns
 returns c = rw (← c .before .payload-of .ensures, lt-ltb _ _ (c .if1 .taken))
 
@@ -14,4 +11,4 @@ returns-2 : tie.Need-returns-2
 returns-2 c = rw (← c .before .payload-of .ensures, le-ltb _ _ (c .if1 .left))
 
 pub of-payload-spec : {M : Type 1} → statement M
-of-payload-spec = tie.close (tie.spec payload-of-requires returns returns-2)
+of-payload-spec = tie.close (tie.spec (λ c κs. search needs) returns returns-2)

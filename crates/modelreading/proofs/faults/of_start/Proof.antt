@@ -9,24 +9,9 @@ use Rattle.modelreading.proofs.Order.{in-order}
 use Rattle.modelreading.proofs.faults.of_start.Statement.{statement}
 use Rattle.modelreading.proofs.faults.of_start.Tie as tie
 
-kind-of-requires : tie.Need-kind-of-requires
-kind-of-requires c κs = search needs
-
-of-room-requires : tie.Need-of-room-requires
-of-room-requires c κs = search needs
-
 returns : tie.Need-returns
 unfolding faultStart
 returns c = rw (← c .before .before .kind-of .ensures, eq-eqb _ _ (c .before .if1 .taken)) (c .of-room .ensures)
-
-of-payload-requires : tie.Need-of-payload-requires
-of-payload-requires c κs = search needs
-
-of-room-requires-2 : tie.Need-of-room-requires-2
-of-room-requires-2 c κs = search needs
-
-first-of-requires : tie.Need-first-of-requires
-first-of-requires c κs = search needs
 
 returns-2 : tie.Need-returns-2
 unfolding faultStart
@@ -34,9 +19,6 @@ returns-2 c =
     let a = c .before .before .before .before in
     rw (← a .before .kind-of .ensures, ne-eqb _ _ (a .if1 .left), eq-eqb _ _ (c .before .before .before .if2 .taken))
     (c .first-of .ensures ∙ rw (c .before .before .of-payload .ensures, c .before .of-room2 .ensures) (in-order (ltb 0 (payload (a .before .before .args .w))) 4 _))
-
-of-head-requires : tie.Need-of-head-requires
-of-head-requires c κs = search needs
 
 returns-3 : tie.Need-returns-3
 unfolding faultStart
@@ -46,12 +28,12 @@ pub of-start-spec : {M : Type 1} → statement M
 of-start-spec =
     tie.close
     (tie.spec
-    kind-of-requires
-    of-room-requires
+    (λ c κs. search needs)
+    (λ c κs. search needs)
     returns
-    of-payload-requires
-    of-room-requires-2
-    first-of-requires
+    (λ c κs. search needs)
+    (λ c κs. search needs)
+    (λ c κs. search needs)
     returns-2
-    of-head-requires
+    (λ c κs. search needs)
     returns-3)

@@ -6,18 +6,9 @@ use Rattle.models.specs.Reading.{faultUpper}
 use Rattle.modelreading.proofs.faults.of_upper.Statement.{statement}
 use Rattle.modelreading.proofs.faults.of_upper.Tie as tie
 
-kind-of-requires : tie.Need-kind-of-requires
-kind-of-requires c κs = search needs
-
 returns : tie.Need-returns
 unfolding faultUpper
 returns c = rw (← c .before .kind-of .ensures, ne-eqb _ _ (c .if1 .taken))
-
-signed-of-requires : tie.Need-signed-of-requires
-signed-of-requires c κs = search needs
-
-signed-of-requires-2 : tie.Need-signed-of-requires-2
-signed-of-requires-2 c κs = search needs
 
 returns-2 : tie.Need-returns-2
 unfolding faultUpper
@@ -36,4 +27,4 @@ returns-3 c =
 pub of-upper-spec : {M : Type 1} → statement M
 of-upper-spec =
     tie.close
-    (tie.spec kind-of-requires returns signed-of-requires signed-of-requires-2 returns-2 returns-3)
+    (tie.spec (λ c κs. search needs) returns (λ c κs. search needs) (λ c κs. search needs) returns-2 returns-3)

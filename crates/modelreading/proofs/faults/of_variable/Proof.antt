@@ -5,9 +5,6 @@ use Rattle.models.specs.Reading.{faultVariable}
 use Rattle.modelreading.proofs.faults.of_variable.Statement.{statement}
 use Rattle.modelreading.proofs.faults.of_variable.Tie as tie
 
-kind-of-requires : tie.Need-kind-of-requires
-kind-of-requires c κs = search needs
-
 returns : tie.Need-returns
 unfolding faultVariable
 returns c = rw (← c .before .kind-of .ensures, ne-eqb _ _ (c .if1 .taken))
@@ -21,4 +18,4 @@ unfolding faultVariable
 returns-3 c = rw (← c .before .before .kind-of .ensures, eq-eqb _ _ (c .before .if1 .left), eq-eqb _ _ (c .if2 .left))
 
 pub of-variable-spec : {M : Type 1} → statement M
-of-variable-spec = tie.close (tie.spec kind-of-requires returns returns-2 returns-3)
+of-variable-spec = tie.close (tie.spec (λ c κs. search needs) returns returns-2 returns-3)

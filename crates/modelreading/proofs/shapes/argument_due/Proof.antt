@@ -4,21 +4,6 @@ use Rattle.modelreading.specs.Argument.{argumentDue}
 use Rattle.modelreading.proofs.shapes.argument_due.Statement.{statement}
 use Rattle.modelreading.proofs.shapes.argument_due.Tie as tie
 
-enum-told : tie.Need-enum-told
-enum-told c = search needs
-
-enum-told-2 : tie.Need-enum-told-2
-enum-told-2 c = search needs
-
-enum-known-due : tie.Need-enum-known-due
-enum-known-due c = search needs
-
-argument-of-requires : tie.Need-argument-of-requires
-argument-of-requires c κs = search needs
-
-enum-told-3 : tie.Need-enum-told-3
-enum-told-3 c = search needs
-
 returns : tie.Need-returns
 unfolding argumentDue
 returns c = rw (c .enum-told .given .1)
@@ -39,11 +24,11 @@ pub argument-due-spec : {M : Type 1} → statement M
 argument-due-spec =
     tie.close
     (tie.spec
-    enum-told
-    enum-told-2
-    enum-known-due
-    argument-of-requires
-    enum-told-3
+    (λ c. search needs)
+    (λ c. search needs)
+    (λ c. search needs)
+    (λ c κs. search needs)
+    (λ c. search needs)
     returns
     returns-2
     returns-3

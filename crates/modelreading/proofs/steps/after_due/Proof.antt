@@ -9,40 +9,13 @@ use Rattle.modelreading.proofs.Places.{argument-place}
 use Rattle.modelreading.proofs.steps.after_due.Statement.{statement}
 use Rattle.modelreading.proofs.steps.after_due.Tie as tie
 
-enum-told : tie.Need-enum-told
-enum-told c = search needs
-
-after-start-requires : tie.Need-after-start-requires
-after-start-requires c κs = search needs
-
-enum-told-2 : tie.Need-enum-told-2
-enum-told-2 c = search needs
-
-enum-known-due : tie.Need-enum-known-due
-enum-known-due c = search needs
-
-sub-arguments : tie.Need-sub-arguments
-sub-arguments c = search needs
-
-arguments-requires : tie.Need-arguments-requires
-arguments-requires c κs = search needs
-
 returns : tie.Need-returns
 unfolding afterDue
 returns c = rw (c .before .before .before .due .given .1, lt-ltb _ _ (c .before .if1 .taken)) (c .arguments .ensures)
 
-sub-arguments-2 : tie.Need-sub-arguments-2
-sub-arguments-2 c = search needs
-
-arguments-requires-2 : tie.Need-arguments-requires-2
-arguments-requires-2 c κs = search needs
-
 returns-2 : tie.Need-returns-2
 unfolding afterDue
 returns-2 c = rw (c .before .before .before .before .due .given .1, le-ltb _ _ (c .before .before .if1 .left), lt-ltb _ _ (c .before .if2 .taken)) (c .arguments2 .ensures)
-
-after-head-requires : tie.Need-after-head-requires
-after-head-requires c κs = search needs
 
 returns-3 : tie.Need-returns-3
 unfolding afterDue argumentDue
@@ -60,12 +33,6 @@ add-after-argument c =
     let d = due .given .0 .1 .1 .1 in
     let e = rw (due .given .1) at (c .before .before .before .before .before .before .pre) in
     record { fits = omega (arith, argument-place (d .0) (d .1 .0) (λ z. c .if3 .left (e ∙ sym z))) }
-
-after-argument-requires : tie.Need-after-argument-requires
-after-argument-requires c κs = search needs
-
-enum-told-3 : tie.Need-enum-told-3
-enum-told-3 c = search needs
 
 returns-4 : tie.Need-returns-4
 unfolding afterDue
@@ -92,21 +59,21 @@ pub after-due-spec : {M : Type 1} → statement M
 after-due-spec =
     tie.close
     (tie.spec
-    enum-told
-    after-start-requires
-    enum-told-2
-    enum-known-due
-    sub-arguments
-    arguments-requires
+    (λ c. search needs)
+    (λ c κs. search needs)
+    (λ c. search needs)
+    (λ c. search needs)
+    (λ c. search needs)
+    (λ c κs. search needs)
     returns
-    sub-arguments-2
-    arguments-requires-2
+    (λ c. search needs)
+    (λ c κs. search needs)
     returns-2
-    after-head-requires
+    (λ c κs. search needs)
     returns-3
     add-after-argument
-    after-argument-requires
-    enum-told-3
+    (λ c κs. search needs)
+    (λ c. search needs)
     returns-4
     returns-5
     returns-6

@@ -5,15 +5,6 @@ use Rattle.models.specs.Reading.{afterHead}
 use Rattle.modelreading.proofs.steps.after_head.Statement.{statement}
 use Rattle.modelreading.proofs.steps.after_head.Tie as tie
 
-kind-of-requires : tie.Need-kind-of-requires
-kind-of-requires c κs = search needs
-
-payload-of-requires : tie.Need-payload-of-requires
-payload-of-requires c κs = search needs
-
-arguments-requires : tie.Need-arguments-requires
-arguments-requires c κs = search needs
-
 returns : tie.Need-returns
 unfolding afterHead
 returns c = rw (← c .before .before .before .kind-of .ensures, eq-eqb _ _ (c .before .before .if1 .taken), ← c .before .payload-of .ensures) (c .arguments .ensures)
@@ -24,4 +15,4 @@ returns-2 c = rw (← c .before .kind-of .ensures, ne-eqb _ _ (c .if1 .left))
 
 pub after-head-spec : {M : Type 1} → statement M
 after-head-spec =
-    tie.close (tie.spec kind-of-requires payload-of-requires arguments-requires returns returns-2)
+    tie.close (tie.spec (λ c κs. search needs) (λ c κs. search needs) (λ c κs. search needs) returns returns-2)

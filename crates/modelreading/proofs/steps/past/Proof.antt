@@ -5,21 +5,9 @@ use Rattle.modelreading.specs.Listed.{listLength, past}
 use Rattle.modelreading.proofs.steps.past.Statement.{statement}
 use Rattle.modelreading.proofs.steps.past.Tie as tie
 
-enum-told : tie.Need-enum-told
-enum-told c = search needs
-
-enum-known-due : tie.Need-enum-known-due
-enum-known-due c = search needs
-
-enum-known-due-2 : tie.Need-enum-known-due-2
-enum-known-due-2 c = search needs
-
 sub-arguments : tie.Need-sub-arguments
 unfolding listLength
 sub-arguments c = rw (c .before .before .due2 .given .1, lt-ltb _ _ (c .if1 .taken)) at (c .before .before .before .before .pre)
-
-arguments-requires : tie.Need-arguments-requires
-arguments-requires c κs = search needs
 
 returns : tie.Need-returns
 unfolding past
@@ -28,12 +16,6 @@ returns c = rw (c .before .before .before .due2 .given .1, lt-ltb _ _ (c .before
 sub-arguments-2 : tie.Need-sub-arguments-2
 unfolding listLength
 sub-arguments-2 c = rw (c .before .before .due2 .given .1, le-ltb _ _ (c .if1 .left)) at (c .before .before .before .before .pre)
-
-arguments-requires-2 : tie.Need-arguments-requires-2
-arguments-requires-2 c κs = search needs
-
-enum-told-2 : tie.Need-enum-told-2
-enum-told-2 c = search needs
 
 returns-2 : tie.Need-returns-2
 unfolding past
@@ -55,15 +37,15 @@ pub past-spec : {M : Type 1} → statement M
 past-spec =
     tie.close
     (tie.spec
-    enum-told
-    enum-known-due
-    enum-known-due-2
+    (λ c. search needs)
+    (λ c. search needs)
+    (λ c. search needs)
     sub-arguments
-    arguments-requires
+    (λ c κs. search needs)
     returns
     sub-arguments-2
-    arguments-requires-2
-    enum-told-2
+    (λ c κs. search needs)
+    (λ c. search needs)
     returns-2
     returns-3
     returns-4

@@ -5,9 +5,6 @@ use Rattle.models.specs.Reading.{started}
 use Rattle.modelreading.proofs.steps.started_by.Statement.{statement}
 use Rattle.modelreading.proofs.steps.started_by.Tie as tie
 
-kind-of-requires : tie.Need-kind-of-requires
-kind-of-requires c κs = search needs
-
 returns : tie.Need-returns
 unfolding started
 returns c = rw (← c .before .kind-of .ensures, eq-eqb _ _ (c .if1 .taken))
@@ -17,4 +14,4 @@ unfolding started
 returns-2 c = rw (← c .before .kind-of .ensures, ne-eqb _ _ (c .if1 .left))
 
 pub started-by-spec : {M : Type 1} → statement M
-started-by-spec = tie.close (tie.spec kind-of-requires returns returns-2)
+started-by-spec = tie.close (tie.spec (λ c κs. search needs) returns returns-2)

@@ -6,15 +6,9 @@ use Rattle.rowsystems.specs.Row.{satisfied}
 use Rattle.rowjudge.proofs.rows.adds_to_zero.Statement.{statement}
 use Rattle.rowjudge.proofs.rows.adds_to_zero.Tie as tie
 
-whole-of-requires : tie.Need-whole-of-requires
-whole-of-requires c κs = search needs
-
-equal-requires : tie.Need-equal-requires
-equal-requires c κs = search needs
-
 returns : tie.Need-returns
 unfolding satisfied
 returns c = c .equal .ensures ∙ rw (back (c .before .whole-of .result) (c .before .whole-of .ok), c .before .whole-of .ensures)
 
 pub adds-to-zero-spec : {M : Type 1} → statement M
-adds-to-zero-spec = tie.close (tie.spec whole-of-requires equal-requires returns)
+adds-to-zero-spec = tie.close (tie.spec (λ c κs. search needs) (λ c κs. search needs) returns)

@@ -10,22 +10,10 @@ use Rattle.rowsystems.specs.Row.{satisfied}
 use Rattle.rowjudge.proofs.rows.is_product.Statement.{statement}
 use Rattle.rowjudge.proofs.rows.is_product.Tie as tie
 
-variable-value-requires : tie.Need-variable-value-requires
-variable-value-requires c κs = search needs
-
-variable-value-requires-2 : tie.Need-variable-value-requires-2
-variable-value-requires-2 c κs = search needs
-
-variable-value-requires-3 : tie.Need-variable-value-requires-3
-variable-value-requires-3 c κs = search needs
-
 times-requires : tie.Need-times-requires
 times-requires c κs =
     let s = c .before .before .before .before in
     rw (back (c .before .variable-value2 .result) (c .before .variable-value2 .ok), back (c .variable-value3 .result) (c .variable-value3 .ok), c .before .variable-value2 .ensures, c .variable-value3 .ensures) (let σ = value (s .args .values .now) in let f = variableAt (s .args .ws .now) 1 in let g = variableAt (s .args .ws .now) 2 in omega (arith, factors-fit (σ f) (σ g) (s .pre f) (s .pre g)))
-
-equal-requires : tie.Need-equal-requires
-equal-requires c κs = search needs
 
 returns : tie.Need-returns
 unfolding satisfied
@@ -39,9 +27,9 @@ pub is-product-spec : {M : Type 1} → statement M
 is-product-spec =
     tie.close
     (tie.spec
-    variable-value-requires
-    variable-value-requires-2
-    variable-value-requires-3
+    (λ c κs. search needs)
+    (λ c κs. search needs)
+    (λ c κs. search needs)
     times-requires
-    equal-requires
+    (λ c κs. search needs)
     returns)

@@ -34,33 +34,6 @@ said c =
 loop-holds : tie.Need-loop-holds Inv-loop μ-loop
 loop-holds c = none-passed _ _
 
-mul-w : tie.Need-mul-w Inv-loop μ-loop
-mul-w c = search needs
-
-shared-slice-read-w : tie.Need-shared-slice-read-w Inv-loop μ-loop
-shared-slice-read-w c = search needs
-
-add-at : tie.Need-add-at Inv-loop μ-loop
-add-at c = search needs
-
-starts-row-requires : tie.Need-starts-row-requires Inv-loop μ-loop
-starts-row-requires c κs = search needs
-
-mul-row-holds : tie.Need-mul-row-holds Inv-loop μ-loop
-mul-row-holds c = search needs
-
-sub-row-holds : tie.Need-sub-row-holds Inv-loop μ-loop
-sub-row-holds c = search needs
-
-part-row-holds-start : tie.Need-part-row-holds-start Inv-loop μ-loop
-part-row-holds-start c = search needs
-
-part-row-holds-end : tie.Need-part-row-holds-end Inv-loop μ-loop
-part-row-holds-end c = search needs
-
-row-holds-requires : tie.Need-row-holds-requires Inv-loop μ-loop
-row-holds-requires c κs = search needs
-
 returns : tie.Need-returns Inv-loop μ-loop
 unfolding verdict
 returns c =
@@ -70,12 +43,6 @@ returns c =
     let if1 = c .before .before .before .if1 in
     fail-one (loop .inv) (starts-one (s .args .ws .now) (loop .at) (c .before .before .before .before .before .before .loop-test .taken) (sym (starts-row .ensures) ∙ if1 .taken)) (said (c .before) ∙ not-true _ (c .if2 .taken))
 
-add-k : tie.Need-add-k Inv-loop μ-loop
-add-k c = search needs
-
-loop-less : tie.Need-loop-less Inv-loop μ-loop
-loop-less c = search needs
-
 loop-again : tie.Need-loop-again Inv-loop μ-loop
 loop-again c =
     let s = c .before .before .before .before .before .before .before .before .before in
@@ -83,9 +50,6 @@ loop-again c =
     let starts-row = c .before .before .before .before .starts-row in
     let if1 = c .before .before .before .if1 in
     pass-one (loop .inv) (starts-one (s .args .ws .now) (loop .at) (c .before .before .before .before .before .before .loop-test .taken) (sym (starts-row .ensures) ∙ if1 .taken)) (said (c .before) ∙ not-false _ (c .if2 .left))
-
-loop-less-2 : tie.Need-loop-less-2 Inv-loop μ-loop
-loop-less-2 c = search needs
 
 loop-again-2 : tie.Need-loop-again-2 Inv-loop μ-loop
 loop-again-2 c =
@@ -104,19 +68,19 @@ judge-each-row-spec =
     Inv-loop
     μ-loop
     loop-holds
-    mul-w
-    shared-slice-read-w
-    add-at
-    starts-row-requires
-    mul-row-holds
-    sub-row-holds
-    part-row-holds-start
-    part-row-holds-end
-    row-holds-requires
+    (λ c. search needs)
+    (λ c. search needs)
+    (λ c. search needs)
+    (λ c κs. search needs)
+    (λ c. search needs)
+    (λ c. search needs)
+    (λ c. search needs)
+    (λ c. search needs)
+    (λ c κs. search needs)
     returns
-    add-k
-    loop-less
+    (λ c. search needs)
+    (λ c. search needs)
     loop-again
-    loop-less-2
+    (λ c. search needs)
     loop-again-2
     returns-2)

@@ -6,15 +6,9 @@ use Rattle.rowsystems.specs.RowSystem.{numberAt}
 use Rattle.rowjudge.proofs.rows.number_at.Statement.{statement}
 use Rattle.rowjudge.proofs.rows.number_at.Tie as tie
 
-word-at-requires : tie.Need-word-at-requires
-word-at-requires c κs = search needs
-
-signed-of-requires : tie.Need-signed-of-requires
-signed-of-requires c κs = search needs
-
 returns : tie.Need-returns
 unfolding numberAt
 returns c = back (c .signed-of .result) (c .signed-of .ok) ∙ c .signed-of .ensures ∙ rw (c .before .word-at .ensures)
 
 pub number-at-spec : {M : Type 1} → statement M
-number-at-spec = tie.close (tie.spec word-at-requires signed-of-requires returns)
+number-at-spec = tie.close (tie.spec (λ c κs. search needs) (λ c κs. search needs) returns)

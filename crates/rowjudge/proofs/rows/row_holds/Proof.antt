@@ -7,21 +7,12 @@ use Rattle.rowjudge.proofs.Sums.{count-few}
 use Rattle.rowjudge.proofs.rows.row_holds.Statement.{statement}
 use Rattle.rowjudge.proofs.rows.row_holds.Tie as tie
 
-kind-of-requires : tie.Need-kind-of-requires
-kind-of-requires c κs = search needs
-
-terms-of-requires : tie.Need-terms-of-requires
-terms-of-requires c κs = search needs
-
 at-most-requires : tie.Need-at-most-requires
 at-most-requires c κs = (omega (arith, c .terms-of .ensures, count-few (c .before .before .before .before .args .head)), c .before .before .before .before .pre)
 
 returns : tie.Need-returns
 unfolding rowOf
 returns c = rw (← c .before .before .before .kind-of .ensures, eq-eqb _ _ (c .before .before .if1 .taken), ← c .before .terms-of .ensures) (c .at-most .ensures)
-
-terms-of-requires-2 : tie.Need-terms-of-requires-2
-terms-of-requires-2 c κs = search needs
 
 adds-to-zero-requires : tie.Need-adds-to-zero-requires
 adds-to-zero-requires c κs = (omega (arith, c .terms-of2 .ensures, count-few (c .before .before .before .before .before .args .head)), c .before .before .before .before .before .pre)
@@ -34,9 +25,6 @@ returns-2 c =
     let if2 = c .before .before .if2 in
     rw (← kind-of .ensures, ne-eqb _ _ (if1 .left), eq-eqb _ _ (if2 .taken), ← c .before .terms-of2 .ensures) (c .adds-to-zero .ensures)
 
-is-product-requires : tie.Need-is-product-requires
-is-product-requires c κs = search needs
-
 returns-3 : tie.Need-returns-3
 unfolding rowOf
 returns-3 c = rw (← c .before .before .before .kind-of .ensures, ne-eqb _ _ (c .before .before .if1 .left), ne-eqb _ _ (c .before .if2 .left)) (c .is-product .ensures)
@@ -45,12 +33,12 @@ pub row-holds-spec : {M : Type 1} → statement M
 row-holds-spec =
     tie.close
     (tie.spec
-    kind-of-requires
-    terms-of-requires
+    (λ c κs. search needs)
+    (λ c κs. search needs)
     at-most-requires
     returns
-    terms-of-requires-2
+    (λ c κs. search needs)
     adds-to-zero-requires
     returns-2
-    is-product-requires
+    (λ c κs. search needs)
     returns-3)

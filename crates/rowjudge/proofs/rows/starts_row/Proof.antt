@@ -5,9 +5,6 @@ use Rattle.rowjudge.specs.OneWord.{startsRow}
 use Rattle.rowjudge.proofs.rows.starts_row.Statement.{statement}
 use Rattle.rowjudge.proofs.rows.starts_row.Tie as tie
 
-kind-of-requires : tie.Need-kind-of-requires
-kind-of-requires c κs = search needs
-
 returns : tie.Need-returns
 unfolding startsRow
 returns c = rw (← c .before .kind-of .ensures, eq-eqb _ _ (c .if1 .taken))
@@ -21,4 +18,4 @@ unfolding startsRow
 returns-3 c = rw (← c .before .before .kind-of .ensures, ne-eqb _ _ (c .before .if1 .left), ne-eqb _ _ (c .if2 .left))
 
 pub starts-row-spec : {M : Type 1} → statement M
-starts-row-spec = tie.close (tie.spec kind-of-requires returns returns-2 returns-3)
+starts-row-spec = tie.close (tie.spec (λ c κs. search needs) returns returns-2 returns-3)

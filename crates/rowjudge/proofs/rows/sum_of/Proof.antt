@@ -27,23 +27,11 @@ term c = back (c .term-at .result) (c .term-at .ok) ∙ c .term-at .ensures
 loop-holds : tie.Need-loop-holds Inv-loop μ-loop
 loop-holds c = (omega arith, sym (no-terms (c .before .args .ws .now) (c .before .args .values .now)))
 
-mul-term-at : tie.Need-mul-term-at Inv-loop μ-loop
-mul-term-at c = search needs
-
-term-at-requires : tie.Need-term-at-requires Inv-loop μ-loop
-term-at-requires c κs = search needs
-
 plus-requires : tie.Need-plus-requires Inv-loop μ-loop
 plus-requires c κs =
     let s = c .before .before .before .before in
     let loop = c .before .before .loop in
     rw (loop .inv .1, term (c)) (let ws = s .args .ws .now in let k = loop .k in let x = variableAt ws (2 * k) in omega (arith, sum-size ws (s .args .values .now) (s .pre .1) k, product-size (numberAt ws (2 * k + 1)) (value (s .args .values .now) x) (number-size ws (2 * k + 1)) (s .pre .1 x)))
-
-add-k : tie.Need-add-k Inv-loop μ-loop
-add-k c = search needs
-
-loop-less : tie.Need-loop-less Inv-loop μ-loop
-loop-less c = search needs
 
 loop-again : tie.Need-loop-again Inv-loop μ-loop
 loop-again c =
@@ -61,10 +49,10 @@ sum-of-spec =
     Inv-loop
     μ-loop
     loop-holds
-    mul-term-at
-    term-at-requires
+    (λ c. search needs)
+    (λ c κs. search needs)
     plus-requires
-    add-k
-    loop-less
+    (λ c. search needs)
+    (λ c. search needs)
     loop-again
     returns)

@@ -11,15 +11,6 @@ use Rattle.rowjudge.proofs.Sums.{number-size}
 use Rattle.rowjudge.proofs.rows.term_at.Statement.{statement}
 use Rattle.rowjudge.proofs.rows.term_at.Tie as tie
 
-add-number-at : tie.Need-add-number-at
-add-number-at c = search needs
-
-number-at-requires : tie.Need-number-at-requires
-number-at-requires c κs = search needs
-
-variable-value-requires : tie.Need-variable-value-requires
-variable-value-requires c κs = search needs
-
 times-requires : tie.Need-times-requires
 times-requires c κs =
     let s = c .before .before .before in
@@ -33,4 +24,4 @@ returns c =
 pub term-at-spec : {M : Type 1} → statement M
 term-at-spec =
     tie.close
-    (tie.spec add-number-at number-at-requires variable-value-requires times-requires returns)
+    (tie.spec (λ c. search needs) (λ c κs. search needs) (λ c κs. search needs) times-requires returns)

@@ -5,9 +5,6 @@ use Rattle.rowsystems.specs.RowSystem.{termCount}
 use Rattle.rowjudge.proofs.rows.terms_of.Statement.{statement}
 use Rattle.rowjudge.proofs.rows.terms_of.Tie as tie
 
-payload-of-requires : tie.Need-payload-of-requires
-payload-of-requires c κs = search needs
-
 returns : tie.Need-returns
 unfolding termCount
 returns c = rw (← c .before .payload-of .ensures, le-leb _ _ (c .if1 .taken))
@@ -17,4 +14,4 @@ unfolding termCount
 returns-2 c = rw (← c .before .payload-of .ensures, lt-leb _ _ (c .if1 .left))
 
 pub terms-of-spec : {M : Type 1} → statement M
-terms-of-spec = tie.close (tie.spec payload-of-requires returns returns-2)
+terms-of-spec = tie.close (tie.spec (λ c κs. search needs) returns returns-2)

@@ -6,19 +6,10 @@ use Rattle.rowsystems.specs.RowSystem.{variableAt}
 use Rattle.rowjudge.proofs.rows.variable_value.Statement.{statement}
 use Rattle.rowjudge.proofs.rows.variable_value.Tie as tie
 
-word-at-requires : tie.Need-word-at-requires
-word-at-requires c κs = search needs
-
-payload-of-requires : tie.Need-payload-of-requires
-payload-of-requires c κs = search needs
-
-value-at-requires : tie.Need-value-at-requires
-value-at-requires c κs = search needs
-
 returns : tie.Need-returns
 unfolding variableAt
 returns c = back (c .value-at .result) (c .value-at .ok) ∙ c .value-at .ensures ∙ rw (c .before .payload-of .ensures, c .before .before .word-at .ensures)
 
 pub variable-value-spec : {M : Type 1} → statement M
 variable-value-spec =
-    tie.close (tie.spec word-at-requires payload-of-requires value-at-requires returns)
+    tie.close (tie.spec (λ c κs. search needs) (λ c κs. search needs) (λ c κs. search needs) returns)

@@ -9,15 +9,6 @@ use Rattle.rowjudge.proofs.Sums.{number-size, sum-size}
 use Rattle.rowjudge.proofs.rows.whole_of.Statement.{statement}
 use Rattle.rowjudge.proofs.rows.whole_of.Tie as tie
 
-sum-of-requires : tie.Need-sum-of-requires
-sum-of-requires c κs = search needs
-
-mul-number-at : tie.Need-mul-number-at
-mul-number-at c = search needs
-
-number-at-requires : tie.Need-number-at-requires
-number-at-requires c κs = search needs
-
 plus-requires : tie.Need-plus-requires
 plus-requires c κs =
     let s = c .before .before .before in
@@ -31,4 +22,4 @@ returns c =
 
 pub whole-of-spec : {M : Type 1} → statement M
 whole-of-spec =
-    tie.close (tie.spec sum-of-requires mul-number-at number-at-requires plus-requires returns)
+    tie.close (tie.spec (λ c κs. search needs) (λ c. search needs) (λ c κs. search needs) plus-requires returns)

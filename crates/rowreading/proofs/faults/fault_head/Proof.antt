@@ -4,19 +4,13 @@ use Rattle.rowreading.specs.Item.{faultHead}
 use Rattle.rowreading.proofs.faults.fault_head.Statement.{statement}
 use Rattle.rowreading.proofs.faults.fault_head.Tie as tie
 
-fault-source-requires : tie.Need-fault-source-requires
-fault-source-requires c κs = search needs
-
 returns : tie.Need-returns
 unfolding faultHead
 returns c = rw (c .before .if1 .taken) (c .fault-source .ensures)
-
-fault-item-requires : tie.Need-fault-item-requires
-fault-item-requires c κs = search needs
 
 returns-2 : tie.Need-returns-2
 unfolding faultHead
 returns-2 c = rw (c .before .if1 .left) (c .fault-item .ensures)
 
 pub fault-head-spec : {M : Type 1} → statement M
-fault-head-spec = tie.close (tie.spec fault-source-requires returns fault-item-requires returns-2)
+fault-head-spec = tie.close (tie.spec (λ c κs. search needs) returns (λ c κs. search needs) returns-2)

@@ -5,21 +5,9 @@ use Rattle.rowsystems.specs.Reading.{faultItem}
 use Rattle.rowreading.proofs.faults.fault_item.Statement.{statement}
 use Rattle.rowreading.proofs.faults.fault_item.Tie as tie
 
-kind-of-requires : tie.Need-kind-of-requires
-kind-of-requires c κs = search needs
-
-payload-of-requires : tie.Need-payload-of-requires
-payload-of-requires c κs = search needs
-
-fault-if-requires : tie.Need-fault-if-requires
-fault-if-requires c κs = search needs
-
 returns : tie.Need-returns
 unfolding faultItem
 returns c = rw (← c .before .before .before .kind-of .ensures, ← c .before .before .payload-of .ensures, eq-eqb _ _ (c .before .if1 .taken)) (c .fault-if .ensures)
-
-fault-if-requires-2 : tie.Need-fault-if-requires-2
-fault-if-requires-2 c κs = search needs
 
 returns-2 : tie.Need-returns-2
 unfolding faultItem
@@ -28,9 +16,6 @@ returns-2 c =
     let payload-of = c .before .before .before .payload-of in
     let if1 = c .before .before .if1 in
     rw (← kind-of .ensures, ← payload-of .ensures, ne-eqb _ _ (if1 .left), eq-eqb _ _ (c .before .if2 .taken)) (c .fault-if2 .ensures)
-
-fault-if-requires-3 : tie.Need-fault-if-requires-3
-fault-if-requires-3 c κs = search needs
 
 returns-3 : tie.Need-returns-3
 unfolding faultItem
@@ -41,9 +26,6 @@ returns-3 c =
     let if2 = c .before .before .if2 in
     rw (← kind-of .ensures, ← payload-of .ensures, ne-eqb _ _ (if1 .left), ne-eqb _ _ (if2 .left), eq-eqb _ _ (c .before .if3 .taken)) (c .fault-if3 .ensures)
 
-fault-if-requires-4 : tie.Need-fault-if-requires-4
-fault-if-requires-4 c κs = search needs
-
 returns-4 : tie.Need-returns-4
 unfolding faultItem
 returns-4 c =
@@ -53,9 +35,6 @@ returns-4 c =
     let if2 = c .before .before .before .if2 in
     let if3 = c .before .before .if3 in
     rw (← kind-of .ensures, ← payload-of .ensures, ne-eqb _ _ (if1 .left), ne-eqb _ _ (if2 .left), ne-eqb _ _ (if3 .left), eq-eqb _ _ (c .before .if4 .taken)) (c .fault-if4 .ensures)
-
-fault-if-requires-5 : tie.Need-fault-if-requires-5
-fault-if-requires-5 c κs = search needs
 
 returns-5 : tie.Need-returns-5
 unfolding faultItem
@@ -82,16 +61,16 @@ pub fault-item-spec : {M : Type 1} → statement M
 fault-item-spec =
     tie.close
     (tie.spec
-    kind-of-requires
-    payload-of-requires
-    fault-if-requires
+    (λ c κs. search needs)
+    (λ c κs. search needs)
+    (λ c κs. search needs)
     returns
-    fault-if-requires-2
+    (λ c κs. search needs)
     returns-2
-    fault-if-requires-3
+    (λ c κs. search needs)
     returns-3
-    fault-if-requires-4
+    (λ c κs. search needs)
     returns-4
-    fault-if-requires-5
+    (λ c κs. search needs)
     returns-5
     returns-6)

@@ -5,25 +5,13 @@ use Rattle.rowsystems.specs.Reading.{faultResult}
 use Rattle.rowreading.proofs.faults.fault_result.Statement.{statement}
 use Rattle.rowreading.proofs.faults.fault_result.Tie as tie
 
-kind-of-requires : tie.Need-kind-of-requires
-kind-of-requires c κs = search needs
-
 returns : tie.Need-returns
 unfolding faultResult
 returns c = rw (← c .before .kind-of .ensures, ne-eqb _ _ (c .if1 .taken))
 
-payload-of-requires : tie.Need-payload-of-requires
-payload-of-requires c κs = search needs
-
 returns-2 : tie.Need-returns-2
 unfolding faultResult
 returns-2 c = rw (← c .before .before .before .kind-of .ensures, eq-eqb _ _ (c .before .before .if1 .left), ← c .before .payload-of .ensures, le-leb _ _ (c .if2 .taken))
-
-not-above-requires : tie.Need-not-above-requires
-not-above-requires c κs = search needs
-
-fault-if-requires : tie.Need-fault-if-requires
-fault-if-requires c κs = search needs
 
 returns-3 : tie.Need-returns-3
 unfolding faultResult
@@ -38,10 +26,10 @@ pub fault-result-spec : {M : Type 1} → statement M
 fault-result-spec =
     tie.close
     (tie.spec
-    kind-of-requires
+    (λ c κs. search needs)
     returns
-    payload-of-requires
+    (λ c κs. search needs)
     returns-2
-    not-above-requires
-    fault-if-requires
+    (λ c κs. search needs)
+    (λ c κs. search needs)
     returns-3)

@@ -5,18 +5,9 @@ use Rattle.rowsystems.specs.Reading.{faultSource}
 use Rattle.rowreading.proofs.faults.fault_source.Statement.{statement}
 use Rattle.rowreading.proofs.faults.fault_source.Tie as tie
 
-kind-of-requires : tie.Need-kind-of-requires
-kind-of-requires c κs = search needs
-
-fault-if-requires : tie.Need-fault-if-requires
-fault-if-requires c κs = search needs
-
 returns : tie.Need-returns
 unfolding faultSource
 returns c = rw (← c .before .before .kind-of .ensures, eq-eqb _ _ (c .before .if1 .taken)) (c .fault-if .ensures)
-
-payload-of-requires : tie.Need-payload-of-requires
-payload-of-requires c κs = search needs
 
 returns-2 : tie.Need-returns-2
 unfolding faultSource
@@ -25,9 +16,6 @@ returns-2 c =
     let if1 = c .before .before .before .if1 in
     let if2 = c .before .before .if2 in
     rw (← kind-of .ensures, ne-eqb _ _ (if1 .left), eq-eqb _ _ (if2 .taken), ← c .before .payload-of .ensures, lt-ltb _ _ (c .if3 .taken))
-
-fault-if-requires-2 : tie.Need-fault-if-requires-2
-fault-if-requires-2 c κs = search needs
 
 returns-3 : tie.Need-returns-3
 unfolding faultSource
@@ -38,9 +26,6 @@ returns-3 c =
     let payload-of = c .before .before .payload-of in
     rw (← kind-of .ensures, ne-eqb _ _ (if1 .left), eq-eqb _ _ (if2 .taken), ← payload-of .ensures, le-ltb _ _ (c .before .if3 .left)) (c .fault-if2 .ensures)
 
-fault-item-requires : tie.Need-fault-item-requires
-fault-item-requires c κs = search needs
-
 returns-4 : tie.Need-returns-4
 unfolding faultSource
 returns-4 c = rw (← c .before .before .before .kind-of .ensures, ne-eqb _ _ (c .before .before .if1 .left), ne-eqb _ _ (c .before .if2 .left)) (c .fault-item .ensures)
@@ -49,12 +34,12 @@ pub fault-source-spec : {M : Type 1} → statement M
 fault-source-spec =
     tie.close
     (tie.spec
-    kind-of-requires
-    fault-if-requires
+    (λ c κs. search needs)
+    (λ c κs. search needs)
     returns
-    payload-of-requires
+    (λ c κs. search needs)
     returns-2
-    fault-if-requires-2
+    (λ c κs. search needs)
     returns-3
-    fault-item-requires
+    (λ c κs. search needs)
     returns-4)

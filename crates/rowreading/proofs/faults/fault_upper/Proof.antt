@@ -18,18 +18,9 @@ compared : (c : tie.After-signed-of2) →
 compared c =
     rw (back (c .before .signed-of .result) (c .before .signed-of .ok), back (c .signed-of2 .result) (c .signed-of2 .ok), c .before .signed-of .ensures, c .signed-of2 .ensures)
 
-kind-of-requires : tie.Need-kind-of-requires
-kind-of-requires c κs = search needs
-
 returns : tie.Need-returns
 unfolding faultUpper
 returns c = rw (← c .before .kind-of .ensures, ne-eqb _ _ (c .if1 .taken))
-
-signed-of-requires : tie.Need-signed-of-requires
-signed-of-requires c κs = search needs
-
-signed-of-requires-2 : tie.Need-signed-of-requires-2
-signed-of-requires-2 c κs = search needs
 
 returns-2 : tie.Need-returns-2
 unfolding faultUpper
@@ -42,4 +33,4 @@ returns-3 c = rw (← c .before .before .before .before .kind-of .ensures, eq-eq
 pub fault-upper-spec : {M : Type 1} → statement M
 fault-upper-spec =
     tie.close
-    (tie.spec kind-of-requires returns signed-of-requires signed-of-requires-2 returns-2 returns-3)
+    (tie.spec (λ c κs. search needs) returns (λ c κs. search needs) (λ c κs. search needs) returns-2 returns-3)

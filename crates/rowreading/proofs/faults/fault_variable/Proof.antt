@@ -5,18 +5,9 @@ use Rattle.rowsystems.specs.Reading.{faultVariable}
 use Rattle.rowreading.proofs.faults.fault_variable.Statement.{statement}
 use Rattle.rowreading.proofs.faults.fault_variable.Tie as tie
 
-kind-of-requires : tie.Need-kind-of-requires
-kind-of-requires c κs = search needs
-
 returns : tie.Need-returns
 unfolding faultVariable
 returns c = rw (← c .before .kind-of .ensures, ne-eqb _ _ (c .if1 .taken))
-
-payload-of-requires : tie.Need-payload-of-requires
-payload-of-requires c κs = search needs
-
-fault-if-requires : tie.Need-fault-if-requires
-fault-if-requires c κs = search needs
 
 returns-2 : tie.Need-returns-2
 unfolding faultVariable
@@ -24,4 +15,4 @@ returns-2 c = rw (← c .before .before .before .kind-of .ensures, eq-eqb _ _ (c
 
 pub fault-variable-spec : {M : Type 1} → statement M
 fault-variable-spec =
-    tie.close (tie.spec kind-of-requires returns payload-of-requires fault-if-requires returns-2)
+    tie.close (tie.spec (λ c κs. search needs) returns (λ c κs. search needs) (λ c κs. search needs) returns-2)

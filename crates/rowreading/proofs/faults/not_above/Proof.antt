@@ -5,25 +5,13 @@ use Rattle.rowsystems.specs.Reading.{notAbove}
 use Rattle.rowreading.proofs.faults.not_above.Statement.{statement}
 use Rattle.rowreading.proofs.faults.not_above.Tie as tie
 
-kind-of-requires : tie.Need-kind-of-requires
-kind-of-requires c κs = search needs
-
 returns : tie.Need-returns
 unfolding notAbove
 returns c = rw (← c .before .kind-of .ensures, ne-eqb _ _ (c .if1 .taken))
 
-kind-of-requires-2 : tie.Need-kind-of-requires-2
-kind-of-requires-2 c κs = search needs
-
 returns-2 : tie.Need-returns-2
 unfolding notAbove
 returns-2 c = rw (← c .before .before .before .kind-of .ensures, eq-eqb _ _ (c .before .before .if1 .left), ← c .before .kind-of2 .ensures, ne-eqb _ _ (c .if2 .taken))
-
-payload-of-requires : tie.Need-payload-of-requires
-payload-of-requires c κs = search needs
-
-payload-of-requires-2 : tie.Need-payload-of-requires-2
-payload-of-requires-2 c κs = search needs
 
 returns-3 : tie.Need-returns-3
 unfolding notAbove
@@ -34,9 +22,6 @@ returns-3 c =
     let if2 = c .before .before .before .if2 in
     let payload-of = c .before .before .payload-of in
     rw (← kind-of .ensures, eq-eqb _ _ (if1 .left), ← kind-of2 .ensures, eq-eqb _ _ (if2 .left), ← payload-of .ensures, ← c .before .payload-of2 .ensures, le-leb _ _ (c .if3 .taken))
-
-payload-of-requires-3 : tie.Need-payload-of-requires-3
-payload-of-requires-3 c κs = search needs
 
 returns-4 : tie.Need-returns-4
 unfolding notAbove
@@ -53,12 +38,12 @@ pub not-above-spec : {M : Type 1} → statement M
 not-above-spec =
     tie.close
     (tie.spec
-    kind-of-requires
+    (λ c κs. search needs)
     returns
-    kind-of-requires-2
+    (λ c κs. search needs)
     returns-2
-    payload-of-requires
-    payload-of-requires-2
+    (λ c κs. search needs)
+    (λ c κs. search needs)
     returns-3
-    payload-of-requires-3
+    (λ c κs. search needs)
     returns-4)

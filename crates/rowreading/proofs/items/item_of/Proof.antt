@@ -6,9 +6,6 @@ use Rattle.rowreading.specs.Item.{dueAfter, dueWith, itemTerms}
 use Rattle.rowreading.proofs.items.item_of.Statement.{statement}
 use Rattle.rowreading.proofs.items.item_of.Tie as tie
 
-kind-of-requires : tie.Need-kind-of-requires
-kind-of-requires c κs = search needs
-
 returns : tie.Need-returns
 unfolding dueAfter dueWith itemTerms afterDue afterItem
 returns c = rw (← c .before .kind-of .ensures, eq-eqb _ _ (c .if1 .taken))
@@ -38,9 +35,6 @@ returns-5 c =
     let if3 = c .before .before .if3 in
     rw (← kind-of .ensures, ne-eqb _ _ (if1 .left), ne-eqb _ _ (if2 .left), ne-eqb _ _ (if3 .left), ne-eqb _ _ (c .before .if4 .left), eq-eqb _ _ (c .if5 .taken))
 
-payload-of-requires : tie.Need-payload-of-requires
-payload-of-requires c κs = search needs
-
 returns-6 : tie.Need-returns-6
 unfolding dueAfter dueWith itemTerms afterDue afterItem
 returns-6 c =
@@ -55,11 +49,11 @@ pub item-of-spec : {M : Type 1} → statement M
 item-of-spec =
     tie.close
     (tie.spec
-    kind-of-requires
+    (λ c κs. search needs)
     returns
     returns-2
     returns-3
     returns-4
     returns-5
-    payload-of-requires
+    (λ c κs. search needs)
     returns-6)

@@ -24,27 +24,6 @@ first c =
     let p = c .before .before .before in
     and-then (result p) (c .before .if1 .left) (rw (c .variable-at .ensures) (first-factor (s .args .ws .now) (s .args .n) (step-over .result .at) (result p .inside)))
 
-word-at-requires : tie.Need-word-at-requires
-word-at-requires c κs = search needs
-
-add-word-at : tie.Need-add-word-at
-add-word-at c = search needs
-
-word-at-requires-2 : tie.Need-word-at-requires-2
-word-at-requires-2 c κs = search needs
-
-add-word-at-2 : tie.Need-add-word-at-2
-add-word-at-2 c = search needs
-
-word-at-requires-3 : tie.Need-word-at-requires-3
-word-at-requires-3 c κs = search needs
-
-fault-result-requires : tie.Need-fault-result-requires
-fault-result-requires c κs = search needs
-
-step-over-requires : tie.Need-step-over-requires
-step-over-requires c κs = search needs
-
 returns : tie.Need-returns
 returns c = or-halted (result (c .before .before)) (c .if1 .taken)
 
@@ -68,13 +47,13 @@ pub read-product-spec : {M : Type 1} → statement M
 read-product-spec =
     tie.close
     (tie.spec
-    word-at-requires
-    add-word-at
-    word-at-requires-2
-    add-word-at-2
-    word-at-requires-3
-    fault-result-requires
-    step-over-requires
+    (λ c κs. search needs)
+    (λ c. search needs)
+    (λ c κs. search needs)
+    (λ c. search needs)
+    (λ c κs. search needs)
+    (λ c κs. search needs)
+    (λ c κs. search needs)
     returns
     variable-at-requires
     returns-2

@@ -5,39 +5,6 @@ use Rattle.rowreading.proofs.Inner.{source-upper, auxiliary-upper, row-
 use Rattle.rowreading.proofs.items.read_rest.Statement.{statement}
 use Rattle.rowreading.proofs.items.read_rest.Tie as tie
 
-enum-known-item : tie.Need-enum-known-item
-enum-known-item c = search needs
-
-upper-at-requires : tie.Need-upper-at-requires
-upper-at-requires c κs = search needs
-
-enum-told : tie.Need-enum-told
-enum-told c = search needs
-
-enum-known-item-2 : tie.Need-enum-known-item-2
-enum-known-item-2 c = search needs
-
-upper-at-requires-2 : tie.Need-upper-at-requires-2
-upper-at-requires-2 c κs = search needs
-
-enum-told-2 : tie.Need-enum-told-2
-enum-told-2 c = search needs
-
-number-at-requires : tie.Need-number-at-requires
-number-at-requires c κs = search needs
-
-enum-told-3 : tie.Need-enum-told-3
-enum-told-3 c = search needs
-
-read-product-requires : tie.Need-read-product-requires
-read-product-requires c κs = search needs
-
-enum-told-4 : tie.Need-enum-told-4
-enum-told-4 c = search needs
-
-step-over-requires : tie.Need-step-over-requires
-step-over-requires c κs = search needs
-
 returns : tie.Need-returns
 unfolding startDue dueWith moreSources
 returns c =
@@ -78,17 +45,17 @@ pub read-rest-spec : {M : Type 1} → statement M
 read-rest-spec =
     tie.close
     (tie.spec
-    enum-known-item
-    upper-at-requires
-    enum-told
-    enum-known-item-2
-    upper-at-requires-2
-    enum-told-2
-    number-at-requires
-    enum-told-3
-    read-product-requires
-    enum-told-4
-    step-over-requires
+    (λ c. search needs)
+    (λ c κs. search needs)
+    (λ c. search needs)
+    (λ c. search needs)
+    (λ c κs. search needs)
+    (λ c. search needs)
+    (λ c κs. search needs)
+    (λ c. search needs)
+    (λ c κs. search needs)
+    (λ c. search needs)
+    (λ c κs. search needs)
     returns
     returns-2
     returns-3

@@ -17,18 +17,12 @@ variable c left =
     let s = c .before .before in
     rw (c .variable-at .ensures) (term-variable (s .args .ws .now) (s .args .n) (s .args .at) (s .pre .within) left)
 
-variable-at-requires : tie.Need-variable-at-requires
-variable-at-requires c κs = search needs
-
 -- without a fault it ends at the next place
 next : (c : tie.After-variable-at) → c .variable-at .result .number ≡ 0 → c .variable-at .result .at ≡ c .before .before .args .at + 1
 next c e = ap (λ (r : Step). r .at) (c .variable-at .ensures) ∙ stepped _ _ (ap (λ (r : Step). r .number) (sym (c .variable-at .ensures)) ∙ e)
 
 returns : tie.Need-returns
 returns c = (λ left. or-halted (variable (c .before .before) left) (c .if1 .taken), λ e. absurd (c .if1 .taken e))
-
-add-number-at : tie.Need-add-number-at
-add-number-at c = search needs
 
 number-at-requires : tie.Need-number-at-requires
 number-at-requires c κs = omega (arith, variable (c .before .before) 0 .inside, next (c .before .before) (c .if1 .left), c .before .before .before .before .pre .few)
@@ -44,4 +38,4 @@ returns-2 c =
     )
 
 pub read-term-spec : {M : Type 1} → statement M
-read-term-spec = tie.close (tie.spec variable-at-requires returns add-number-at number-at-requires returns-2)
+read-term-spec = tie.close (tie.spec (λ c κs. search needs) returns (λ c. search needs) number-at-requires returns-2)

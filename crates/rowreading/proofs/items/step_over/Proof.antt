@@ -5,9 +5,6 @@ use Rattle.rowreading.specs.Onward.{stepOver}
 use Rattle.rowreading.proofs.items.step_over.Statement.{statement}
 use Rattle.rowreading.proofs.items.step_over.Tie as tie
 
-add-t4 : tie.Need-add-t4
-add-t4 c = search needs
-
 returns : tie.Need-returns
 unfolding stepOver
 returns c = rw (eq-eqb _ _ (c .if1 .taken))
@@ -17,4 +14,4 @@ unfolding stepOver
 returns-2 c = rw (ne-eqb _ _ (c .if1 .left))
 
 pub step-over-spec : {M : Type 1} → statement M
-step-over-spec = tie.close (tie.spec add-t4 returns returns-2)
+step-over-spec = tie.close (tie.spec (λ c. search needs) returns returns-2)

@@ -5,15 +5,6 @@ use Rattle.rowreading.proofs.Steps.{word-step}
 use Rattle.rowreading.proofs.items.upper_at.Statement.{statement}
 use Rattle.rowreading.proofs.items.upper_at.Tie as tie
 
-word-at-requires : tie.Need-word-at-requires
-word-at-requires c κs = search needs
-
-fault-upper-requires : tie.Need-fault-upper-requires
-fault-upper-requires c κs = search needs
-
-step-over-requires : tie.Need-step-over-requires
-step-over-requires c κs = search needs
-
 returns : tie.Need-returns
 returns c =
     let s = c .before .before .before .before in
@@ -22,4 +13,4 @@ returns c =
 
 pub upper-at-spec : {M : Type 1} → statement M
 upper-at-spec =
-    tie.close (tie.spec word-at-requires fault-upper-requires step-over-requires returns)
+    tie.close (tie.spec (λ c κs. search needs) (λ c κs. search needs) (λ c κs. search needs) returns)

@@ -14,24 +14,9 @@ below : (n : ℕ) → mag (negsuc 0 -ℤ pos n) ≡ n
 below zero = refl
 below (suc n) = omega arith
 
-cast-result : tie.Need-cast-result
-cast-result c = search needs
-
-sub-result : tie.Need-sub-result
-sub-result c = search needs
-
-cast-result-2 : tie.Need-cast-result-2
-cast-result-2 c = search needs
-
 sub-result-2 : tie.Need-sub-result-2
 sub-result-2 c = rw (toZ-pos w32 {n = 4294967295 - c .before .args .w} (omega arith)) (record { sfits = omega (arith, below (4294967295 - c .before .args .w)) })
 
-returns : tie.Need-returns
-returns c = search needs
-
-returns-2 : tie.Need-returns-2
-returns-2 c = search needs
-
 pub as-signed-spec : {M : Type 1} → statement M
 as-signed-spec =
-    tie.close (tie.spec cast-result sub-result cast-result-2 sub-result-2 returns returns-2)
+    tie.close (tie.spec (λ c. search needs) (λ c. search needs) (λ c. search needs) sub-result-2 (λ c. search needs) (λ c. search needs))

@@ -1,5 +1,4 @@
 -- The invariant: the list keeps its length. The measure: what is left of it.
-use native.Mathlib.Omega.{arith}
 use borrow.Author.Needs.{needs}
 use mathlib.Core.Path.{_≡_}
 use Prim.Native.Nat.{_-_}
@@ -13,41 +12,17 @@ Inv-loop out₀ i₀ out i = length out ≡ length out₀
 abbrev μ-loop : tie.MeasureT-loop
 μ-loop out₀ i₀ out i = length out₀ - i
 
-loop-holds : tie.Need-loop-holds Inv-loop μ-loop
-loop-holds c = search needs
-
-mul-out : tie.Need-mul-out Inv-loop μ-loop
-mul-out c = search needs
-
-slice-set-of-out : tie.Need-slice-set-of-out Inv-loop μ-loop
-slice-set-of-out c = search needs
-
-add-i : tie.Need-add-i Inv-loop μ-loop
-add-i c = search needs
-
-loop-less : tie.Need-loop-less Inv-loop μ-loop
-loop-less c = search needs
-
-loop-again : tie.Need-loop-again Inv-loop μ-loop
-loop-again c = search needs
-
-same-length : tie.Need-same-length Inv-loop μ-loop
-same-length c = search needs
-
-returns : tie.Need-returns Inv-loop μ-loop
-returns c = search needs
-
 pub mark-values-spec : {M : Type 1} → statement M
 mark-values-spec =
     tie.close
     (tie.spec
     Inv-loop
     μ-loop
-    loop-holds
-    mul-out
-    slice-set-of-out
-    add-i
-    loop-less
-    loop-again
-    same-length
-    returns)
+    (λ c. search needs)
+    (λ c. search needs)
+    (λ c. search needs)
+    (λ c. search needs)
+    (λ c. search needs)
+    (λ c. search needs)
+    (λ c. search needs)
+    (λ c. search needs))

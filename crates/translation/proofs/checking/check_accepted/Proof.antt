@@ -12,35 +12,14 @@ use Rattle.translation.proofs.checking.check_accepted.Tie as tie
 bounds-kept : (c : tie.After-keep-bounds) → Kept (c .before .before .before .before .args .ws .now) (c .keep-bounds .result) (c .keep-bounds .last .1 .0) (c .keep-bounds .last .1 .1 .0)
 bounds-kept c = kept (c .before .before .before .before .pre) (c .keep-bounds .ensures)
 
-slice-aggregate-keep-bounds : tie.Need-slice-aggregate-keep-bounds
-slice-aggregate-keep-bounds c = search needs
-
-slice-aggregate-keep-bounds-2 : tie.Need-slice-aggregate-keep-bounds-2
-slice-aggregate-keep-bounds-2 c = search needs
-
 keep-bounds-requires : tie.Need-keep-bounds-requires
 keep-bounds-requires c κs = omega (arith, few-words (c .before .before .before .args .ws .now) (c .before .before .before .pre))
-
-slice-aggregate-model-sums : tie.Need-slice-aggregate-model-sums
-slice-aggregate-model-sums c = search needs
-
-slice-aggregate-model-sums-2 : tie.Need-slice-aggregate-model-sums-2
-slice-aggregate-model-sums-2 c = search needs
 
 model-sums-requires : tie.Need-model-sums-requires
 model-sums-requires c κs =
     let s = c .before .before .before .before .before .before .before .before in
     let p = c .before .before .before .before in
     let k = bounds-kept p in (omega (arith, few-words (s .args .ws .now) (s .pre)), k .short-lowers, k .short-uppers, k .lowers, k .uppers)
-
-slice-aggregate-check-blocks : tie.Need-slice-aggregate-check-blocks
-slice-aggregate-check-blocks c = search needs
-
-slice-aggregate-check-blocks-2 : tie.Need-slice-aggregate-check-blocks-2
-slice-aggregate-check-blocks-2 c = search needs
-
-count-sources-requires : tie.Need-count-sources-requires
-count-sources-requires c κs = search needs
 
 check-blocks-requires : tie.Need-check-blocks-requires
 check-blocks-requires c κs =
@@ -59,14 +38,14 @@ pub check-accepted-spec : {M : Type 1} → statement M
 check-accepted-spec =
     tie.close
     (tie.spec
-    slice-aggregate-keep-bounds
-    slice-aggregate-keep-bounds-2
+    (λ c. search needs)
+    (λ c. search needs)
     keep-bounds-requires
-    slice-aggregate-model-sums
-    slice-aggregate-model-sums-2
+    (λ c. search needs)
+    (λ c. search needs)
     model-sums-requires
-    slice-aggregate-check-blocks
-    slice-aggregate-check-blocks-2
-    count-sources-requires
+    (λ c. search needs)
+    (λ c. search needs)
+    (λ c κs. search needs)
     check-blocks-requires
     returns)

@@ -39,44 +39,14 @@ costs c =
     let payload-of = c .before .before .payload-of in
     placed (rw (payload-of .ensures, tail-is (s .args .ws .now) (loop .at + 1)) at (c .cost-of .ensures))
 
-add-words : tie.Need-add-words Inv-loop μ-loop
-add-words c = search needs
-
 loop-holds : tie.Need-loop-holds Inv-loop μ-loop
 loop-holds c = begun _ _ _ _ (c .before .pre .1)
-
-mul-w : tie.Need-mul-w Inv-loop μ-loop
-mul-w c = search needs
-
-shared-slice-read-w : tie.Need-shared-slice-read-w Inv-loop μ-loop
-shared-slice-read-w c = search needs
-
-add-at : tie.Need-add-at Inv-loop μ-loop
-add-at c = search needs
-
-kind-of-requires : tie.Need-kind-of-requires Inv-loop μ-loop
-kind-of-requires c κs = search needs
 
 mul-sum : tie.Need-mul-sum Inv-loop μ-loop
 mul-sum c = omega (arith, has c)
 
 array-copy-out-sum : tie.Need-array-copy-out-sum Inv-loop μ-loop
 array-copy-out-sum c = has c
-
-payload-of-requires : tie.Need-payload-of-requires Inv-loop μ-loop
-payload-of-requires c κs = search needs
-
-mul-cost-of : tie.Need-mul-cost-of Inv-loop μ-loop
-mul-cost-of c = search needs
-
-sub-cost-of : tie.Need-sub-cost-of Inv-loop μ-loop
-sub-cost-of c = search needs
-
-part-cost-of-start : tie.Need-part-cost-of-start Inv-loop μ-loop
-part-cost-of-start c = search needs
-
-part-cost-of-end : tie.Need-part-cost-of-end Inv-loop μ-loop
-part-cost-of-end c = search needs
 
 add-cost-of : tie.Need-add-cost-of Inv-loop μ-loop
 add-cost-of c = omega (arith, c .before .before .before .before .before .before .before .loop .inv .room)
@@ -87,8 +57,7 @@ cost-of-requires c κs =
     let loop = c .before .before .before .before .before .before .before .loop in
     let kind-of = c .before .before .before .before .kind-of in
     let if1 = c .before .before .before .if1 in
-    let l = loop in
-    let s = s in (
+    let l = loop in (
       omega (arith, l .inv .room),
       s .pre .3,
       s .pre .4,
@@ -131,9 +100,6 @@ add-words-2 c =
     let cost-of = c .before .before .before .before .before .cost-of in
     omega (arith, loop .inv .small, c .before .before .before .before .before .before .before .before .before .before .before .before .loop-test .taken, s .pre .0, s .pre .2, cost-of .ensures .small)
 
-loop-less : tie.Need-loop-less Inv-loop μ-loop
-loop-less c = search needs
-
 loop-again : tie.Need-loop-again Inv-loop μ-loop
 loop-again c =
     let loop = c .before .before .before .before .before .before .before .before .before .before .before .before .before .loop in
@@ -142,9 +108,6 @@ loop-again c =
     let p = c .before .before .before .before .before in
     let if2 = c .before .before .before .if2 in
     more (loop .inv) (c .before .before .before .before .before .before .before .before .before .before .before .before .loop-test .taken) (sym (kind-of .ensures) ∙ if1 .taken) (costs p) (if2 .left)
-
-loop-less-2 : tie.Need-loop-less-2 Inv-loop μ-loop
-loop-less-2 c = search needs
 
 loop-again-2 : tie.Need-loop-again-2 Inv-loop μ-loop
 loop-again-2 c = skip (c .before .before .before .before .loop .inv) (c .before .before .before .loop-test .taken) (λ e. c .if1 .left (c .before .kind-of .ensures ∙ e))
@@ -159,19 +122,19 @@ check-blocks-spec =
     (tie.spec
     Inv-loop
     μ-loop
-    add-words
+    (λ c. search needs)
     loop-holds
-    mul-w
-    shared-slice-read-w
-    add-at
-    kind-of-requires
+    (λ c. search needs)
+    (λ c. search needs)
+    (λ c. search needs)
+    (λ c κs. search needs)
     mul-sum
     array-copy-out-sum
-    payload-of-requires
-    mul-cost-of
-    sub-cost-of
-    part-cost-of-start
-    part-cost-of-end
+    (λ c κs. search needs)
+    (λ c. search needs)
+    (λ c. search needs)
+    (λ c. search needs)
+    (λ c. search needs)
     add-cost-of
     cost-of-requires
     returns
@@ -179,8 +142,8 @@ check-blocks-spec =
     add-auxiliaries
     add-rows
     add-words-2
-    loop-less
+    (λ c. search needs)
     loop-again
-    loop-less-2
+    (λ c. search needs)
     loop-again-2
     returns-2)

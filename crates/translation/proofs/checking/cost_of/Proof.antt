@@ -7,23 +7,14 @@ use Rattle.translation.proofs.OneBlock.{narrow, told, placed-block, wid
 use Rattle.translation.proofs.checking.cost_of.Statement.{statement}
 use Rattle.translation.proofs.checking.cost_of.Tie as tie
 
-too-wide-requires : tie.Need-too-wide-requires
-too-wide-requires c κs = search needs
-
 returns : tie.Need-returns
 returns c = wide-costs (sym (c .before .too-wide .ensures) ∙ c .if1 .taken)
-
-slice-aggregate-block : tie.Need-slice-aggregate-block
-slice-aggregate-block c = search needs
 
 block-requires : tie.Need-block-requires
 block-requires c κs =
     let s = c .before .before .before .before in
     let too-wide = c .before .before .too-wide in
     (s .pre .0, s .pre .1, s .pre .2, narrow _ (constraintOf (s .args .code) (s .args .args .now)) (sym (too-wide .ensures) ∙ c .before .if1 .left), s .pre .3)
-
-fault-of-requires : tie.Need-fault-of-requires
-fault-of-requires c κs = search needs
 
 returns-2 : tie.Need-returns-2
 returns-2 c =
@@ -37,9 +28,9 @@ pub cost-of-spec : {M : Type 1} → statement M
 cost-of-spec =
     tie.close
     (tie.spec
-    too-wide-requires
+    (λ c κs. search needs)
     returns
-    slice-aggregate-block
+    (λ c. search needs)
     block-requires
-    fault-of-requires
+    (λ c κs. search needs)
     returns-2)

@@ -4,12 +4,6 @@ use borrow.Author.Needs.{needs}
 use Rattle.translation.proofs.checking.fault_of.Statement.{statement}
 use Rattle.translation.proofs.checking.fault_of.Tie as tie
 
-returns : tie.Need-returns
-returns c = search needs
-
-add-if2 : tie.Need-add-if2
-add-if2 c = search needs
-
 returns-2 : tie.Need-returns-2
 returns-2 c = rw (c .before .before .if1 .left, lt-ltb _ _ (c .if2 .taken))
 
@@ -17,4 +11,4 @@ returns-3 : tie.Need-returns-3
 returns-3 c = rw (c .before .before .if1 .left, le-ltb _ _ (c .if2 .left))
 
 pub fault-of-spec : {M : Type 1} → statement M
-fault-of-spec = tie.close (tie.spec returns add-if2 returns-2 returns-3)
+fault-of-spec = tie.close (tie.spec (λ c. search needs) (λ c. search needs) returns-2 returns-3)

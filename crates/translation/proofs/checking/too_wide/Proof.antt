@@ -6,15 +6,6 @@ use Rattle.rules.specs.Check.{tooWide}
 use Rattle.translation.proofs.checking.too_wide.Statement.{statement}
 use Rattle.translation.proofs.checking.too_wide.Tie as tie
 
-var-at-requires : tie.Need-var-at-requires
-var-at-requires c κs = search needs
-
-bound-at-requires : tie.Need-bound-at-requires
-bound-at-requires c κs = search needs
-
-bound-at-requires-2 : tie.Need-bound-at-requires-2
-bound-at-requires-2 c κs = search needs
-
 width-of-requires : tie.Need-width-of-requires
 width-of-requires c κs =
     let s = c .before .before .before .before .before in
@@ -36,9 +27,9 @@ pub too-wide-spec : {M : Type 1} → statement M
 too-wide-spec =
     tie.close
     (tie.spec
-    var-at-requires
-    bound-at-requires
-    bound-at-requires-2
+    (λ c κs. search needs)
+    (λ c κs. search needs)
+    (λ c κs. search needs)
     width-of-requires
     returns
     returns-2)

@@ -52,26 +52,11 @@ went c =
 loop-holds : tie.Need-loop-holds Inv-loop μ-loop
 loop-holds c = begun _ _ _ _ _ (c .before .before .pre .0) (c .before .before .pre .3)
 
-mul-w : tie.Need-mul-w Inv-loop μ-loop
-mul-w c = search needs
-
-shared-slice-read-w : tie.Need-shared-slice-read-w Inv-loop μ-loop
-shared-slice-read-w c = search needs
-
-add-p : tie.Need-add-p Inv-loop μ-loop
-add-p c = search needs
-
-kind-of-requires : tie.Need-kind-of-requires Inv-loop μ-loop
-kind-of-requires c κs = search needs
-
 mul-sum : tie.Need-mul-sum Inv-loop μ-loop
 mul-sum c = omega (arith, has c)
 
 array-copy-out-sum : tie.Need-array-copy-out-sum Inv-loop μ-loop
 array-copy-out-sum c = has c
-
-mul-block : tie.Need-mul-block Inv-loop μ-loop
-mul-block c = search needs
 
 sub-block : tie.Need-sub-block Inv-loop μ-loop
 sub-block c = omega (arith, fits (c .before .before .before .before .before))
@@ -82,21 +67,6 @@ part-block-start c = omega (arith, fits (c .before .before .before .before .befo
 part-block-end : tie.Need-part-block-end Inv-loop μ-loop
 part-block-end c = omega (arith, fits (c .before .before .before .before .before))
 
-payload-of-requires : tie.Need-payload-of-requires Inv-loop μ-loop
-payload-of-requires c κs = search needs
-
-mul-block-2 : tie.Need-mul-block-2 Inv-loop μ-loop
-mul-block-2 c = search needs
-
-sub-block-2 : tie.Need-sub-block-2 Inv-loop μ-loop
-sub-block-2 c = search needs
-
-part-block-start-2 : tie.Need-part-block-start-2 Inv-loop μ-loop
-part-block-start-2 c = search needs
-
-part-block-end-2 : tie.Need-part-block-end-2 Inv-loop μ-loop
-part-block-end-2 c = search needs
-
 block-requires : tie.Need-block-requires Inv-loop μ-loop
 block-requires c κs =
     let s = c .before .before .before .before .before .before .before .before .before .before .before in
@@ -104,7 +74,6 @@ block-requires c κs =
     let kind-of = c .before .before .before .before .before .kind-of in
     let if1 = c .before .before .before .before .if1 in
     let l = loop in
-    let s = s in
     let e = sym (kind-of .ensures) ∙ if1 .taken in (
       omega (arith, l .inv .room),
       s .pre .1,
@@ -123,9 +92,6 @@ add-first c = omega (arith, c .before .before .before .before .before .before .b
 add-at : tie.Need-add-at Inv-loop μ-loop
 add-at c = omega (arith, fits (c .before .before .before .before .before .before .before .before .before .before .before .before .before), c .before .before .before .before .block .ensures .1)
 
-loop-less : tie.Need-loop-less Inv-loop μ-loop
-loop-less c = search needs
-
 loop-again : tie.Need-loop-again Inv-loop μ-loop
 loop-again c =
     let s = c .before .before .before .before .before .before .before .before .before .before .before .before .before .before .before .before in
@@ -133,9 +99,6 @@ loop-again c =
     let kind-of = c .before .before .before .before .before .before .before .before .before .before .kind-of in
     let if1 = c .before .before .before .before .before .before .before .before .before .if1 in
     let l = loop in let a = s .args in let w = went (c .before .before .before .before) in more (l .inv) (c .before .before .before .before .before .before .before .before .before .before .before .before .loop-test .taken) (sym (kind-of .ensures) ∙ if1 .taken) (told w) (block-back (l .first) (blockOf (boundsOf (a .ls .now) (a .us .now)) (headed (a .ws .now) (l .p))) (l .at) (l .out) (fits (c .before .before .before .before .before .before .before .before .before .before .before .before .before)) w)
-
-loop-less-2 : tie.Need-loop-less-2 Inv-loop μ-loop
-loop-less-2 c = search needs
 
 loop-again-2 : tie.Need-loop-again-2 Inv-loop μ-loop
 loop-again-2 c = skip (c .before .before .before .before .loop .inv) (c .before .before .before .loop-test .taken) (λ e. c .if1 .left (c .before .kind-of .ensures ∙ e))
@@ -153,28 +116,28 @@ write-blocks-spec =
     Inv-loop
     μ-loop
     loop-holds
-    mul-w
-    shared-slice-read-w
-    add-p
-    kind-of-requires
+    (λ c. search needs)
+    (λ c. search needs)
+    (λ c. search needs)
+    (λ c κs. search needs)
     mul-sum
     array-copy-out-sum
-    mul-block
+    (λ c. search needs)
     sub-block
     part-block-start
     part-block-end
-    payload-of-requires
-    mul-block-2
-    sub-block-2
-    part-block-start-2
-    part-block-end-2
+    (λ c κs. search needs)
+    (λ c. search needs)
+    (λ c. search needs)
+    (λ c. search needs)
+    (λ c. search needs)
     block-requires
     add-constraints
     add-first
     add-at
-    loop-less
+    (λ c. search needs)
     loop-again
-    loop-less-2
+    (λ c. search needs)
     loop-again-2
     same-length
     returns)

@@ -24,17 +24,8 @@ bounds-kept c = kept (read (c .before .before .before .before .before)) (c .keep
 same-room : (c : tie.After-lay) → length (c .lay .last .0) ≡ length (c .before .before .before .before .before .before .before .before .before .before .before .args .out .now)
 same-room c = ap length (c .lay .ensures) ∙ length-overlay _ _ _
 
-slice-aggregate-keep-bounds : tie.Need-slice-aggregate-keep-bounds
-slice-aggregate-keep-bounds c = search needs
-
-slice-aggregate-keep-bounds-2 : tie.Need-slice-aggregate-keep-bounds-2
-slice-aggregate-keep-bounds-2 c = search needs
-
 keep-bounds-requires : tie.Need-keep-bounds-requires
 keep-bounds-requires c κs = omega (arith, few-words (c .before .before .before .before .args .ws .now) (read (c .before .before .before .before)))
-
-count-sources-requires : tie.Need-count-sources-requires
-count-sources-requires c κs = search needs
 
 slice-aggregate-lay : tie.Need-slice-aggregate-lay
 slice-aggregate-lay c = rw (c .before .before .count-sources .ensures, sources-front (c .before .before .before .before .before .before .before .before .before .before .args .ws .now) .1) refl
@@ -46,22 +37,10 @@ lay-requires c κs =
     let count-sources = c .before .before .count-sources in
     let ws = s .args .ws .now in rw (count-sources .ensures, sources-front ws .1) (omega (arith, sources-front ws .0, few-words ws (read p)))
 
-slice-aggregate-model-sums : tie.Need-slice-aggregate-model-sums
-slice-aggregate-model-sums c = search needs
-
-slice-aggregate-model-sums-2 : tie.Need-slice-aggregate-model-sums-2
-slice-aggregate-model-sums-2 c = search needs
-
 model-sums-requires : tie.Need-model-sums-requires
 model-sums-requires c κs =
     let s = c .before .before .before .before .before .before .before .before .before .before .before .before .before .before .before in
     let k = bounds-kept (c .before .before .before .before .before .before .before .before .before .before) in (omega (arith, few-words (s .args .ws .now) (read (c .before .before .before .before .before .before .before .before .before .before .before .before .before .before .before))), k .short-lowers, k .short-uppers, k .lowers, k .uppers)
-
-slice-aggregate-write-blocks : tie.Need-slice-aggregate-write-blocks
-slice-aggregate-write-blocks c = search needs
-
-slice-aggregate-write-blocks-2 : tie.Need-slice-aggregate-write-blocks-2
-slice-aggregate-write-blocks-2 c = search needs
 
 write-blocks-requires : tie.Need-write-blocks-requires
 write-blocks-requires c κs =
@@ -69,20 +48,11 @@ write-blocks-requires c κs =
     let model-sums = c .before .before .before .model-sums in
     let s = c .before .before .before .before .before .before .before .before .before .before .before .before .before .before .before .before .before .before .before in let ws = s .args .ws .now in let k = bounds-kept (c .before .before .before .before .before .before .before .before .before .before .before .before .before .before) in (k .few, k .lowers, k .uppers, rw (k .same, k .many) (blocks-pass ws (s .pre .0)), rw (k .same, k .many, count-sources .ensures, same-room (c .before .before .before .before .before .before .before .before)) (omega (arith, system-length ws, s .pre .1)), few-constraints ws (read s), model-sums .ensures)
 
-word-of-requires : tie.Need-word-of-requires
-word-of-requires c κs = search needs
-
-slice-aggregate-lay-2 : tie.Need-slice-aggregate-lay-2
-slice-aggregate-lay-2 c = search needs
-
 lay-requires-2 : tie.Need-lay-requires-2
 lay-requires-2 c κs =
     let count-sources = c .before .before .before .before .before .before .before .before .before .before .before .before .before .before .before .before .before .count-sources in
     let write-blocks = c .before .before .before .before .before .write-blocks in
     let s = c .before .before .before .before .before .before .before .before .before .before .before .before .before .before .before .before .before .before .before .before .before .before .before .before .before in let ws = s .args .ws .now in let k = bounds-kept (c .before .before .before .before .before .before .before .before .before .before .before .before .before .before .before .before .before .before .before .before) in omega (arith, rw (k .same, k .many, count-sources .ensures) at (write-blocks .ensures .0), system-length ws, never-too-many ws (s .pre .0))
-
-same-length : tie.Need-same-length
-same-length c = search needs
 
 returns : tie.Need-returns
 returns c =
@@ -97,20 +67,20 @@ pub write-system-spec : {M : Type 1} → statement M
 write-system-spec =
     tie.close
     (tie.spec
-    slice-aggregate-keep-bounds
-    slice-aggregate-keep-bounds-2
+    (λ c. search needs)
+    (λ c. search needs)
     keep-bounds-requires
-    count-sources-requires
+    (λ c κs. search needs)
     slice-aggregate-lay
     lay-requires
-    slice-aggregate-model-sums
-    slice-aggregate-model-sums-2
+    (λ c. search needs)
+    (λ c. search needs)
     model-sums-requires
-    slice-aggregate-write-blocks
-    slice-aggregate-write-blocks-2
+    (λ c. search needs)
+    (λ c. search needs)
     write-blocks-requires
-    word-of-requires
-    slice-aggregate-lay-2
+    (λ c κs. search needs)
+    (λ c. search needs)
     lay-requires-2
-    same-length
+    (λ c. search needs)
     returns)
