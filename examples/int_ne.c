@@ -36,10 +36,10 @@ int main(void) {
     printf("check: fault %u; variables %zu, constraints %zu, auxiliaries %zu, rows %zu, words %zu\n", c.fault, c.variables, c.constraints, c.auxiliaries, c.rows, c.words);
     expect(c.fault == 0 && c.place == 0 && c.variables == 2 && c.constraints == 1 && c.auxiliaries == 1 && c.rows == 2 && c.words == 23);
 
-    /* Check over bytes, the lowest of a word first: the end word alone is a model, and there is no code 29. */
-    static const uint8_t end[] = {0, 0, 0, 0x70}, no_code[] = {29, 0, 0, 0x40};
+    /* Check over bytes, the lowest of a word first: the end word alone is a model, and there is no code 255. */
+    static const uint8_t end[] = {0, 0, 0, 0x70}, no_code[] = {255, 0, 0, 0x40};
     uint32_t accepted = pearrummy_check_bytes(end, 4), refused = pearrummy_check_bytes(no_code, 4);
-    printf("check over bytes: of the end word fault %u, of a constraint of code 29 fault %u\n", accepted, refused);
+    printf("check over bytes: of the end word fault %u, of a constraint of code 255 fault %u\n", accepted, refused);
     expect(accepted == 0 && refused == 8);
 
     /* The words of the row system. */

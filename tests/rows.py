@@ -75,7 +75,7 @@ def refusals():
     yield [BOOLEAN] * 8192, 6, 256
     yield FALSE_CLAUSE * 257 + [END], 7, 512
     yield [head(0), END], 8, 0
-    yield [head(29), END], 8, 0
+    yield [head(255), END], 8, 0
     yield [head(23), number(33), END], 9, 1
     yield [head(23), number(-1), END], 9, 1
     yield [head(23), number(1), variable(0), END], 10, 2
