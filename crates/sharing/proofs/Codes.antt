@@ -1,6 +1,5 @@
 -- For each builtin: its block is sound and complete, fill has a value for each of its auxiliaries, its words are few and it is well formed.
 use Rattle.words.specs.Limit as Limit
-use Rattle.words.specs.Kind as Kind
 use Prim.Native.Nat.{ℕ, zero, suc, _+_, _≤_, _<_, _*_}
 use Rattle.integers.specs.Terms.{Valuation, Term, _·_}
 use Rattle.integers.specs.declared.Bounds.{Bounds}

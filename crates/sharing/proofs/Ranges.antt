@@ -11,7 +11,6 @@ use Rattle.integers.specs.declared.Bounds.{Bounds}
 use Rattle.integers.proofs.Linear.{arithZ}
 use Rattle.integers.proofs.Lists.{all-append, all-implies, all-at}
 use Rattle.integers.proofs.Tests.{In, says-within, All}
-use Rattle.words.specs.Limit as Limit
 use Rattle.words.specs.Word.{inRange}
 use Rattle.words.specs.Variables.{variables}
 use Rattle.words.proofs.Word.{says-range}

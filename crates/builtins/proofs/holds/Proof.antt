@@ -4,7 +4,6 @@ use borrow.Author.Needs.{needs}
 use Rattle.integers.specs.Terms.{value}
 use Rattle.models.specs.Meaning.{meaning}
 use Rattle.models.specs.Model.{builtin, builtins}
-use Rattle.models.specs.Table as Table
 use Rattle.builtins.proofs.Coded.{no-code}
 use Rattle.builtins.proofs.holds.Statement.{statement}
 use Rattle.builtins.proofs.holds.Tie as tie
