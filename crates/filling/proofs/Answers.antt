@@ -1,5 +1,5 @@
 -- The answers of fill of a model that passes the check, and what each leaves in the lent list.
-use mathlib.Core.Path.{_≡_, sym, _∙_}
+use mathlib.Core.Path.{_≡_, sym, ap, _∙_}
 use mathlib.Core.Bool.{false}
 use mathlib.Core.List.{List, _++_}
 use Prim.Native.Nat.{ℕ, _+_, _<_, _≤_}
@@ -22,6 +22,7 @@ use Rattle.sharing.proofs.Judged.{judge-model-says}
 use Rattle.translation.proofs.Over.{front-over}
 use Rattle.translation.proofs.Refusals.{clash}
 use Rattle.filling.specs.Satisfied.{Satisfied}
+use Rattle.filling.specs.HandsOver.{HandsOver}
 
 -- an answer of fill, the list afterwards, and that what was handed over satisfies the row system
 abbrev pub Gives : List ℕ → List ℤ → List ℤ → Answer → List ℤ → Type 0
@@ -72,3 +73,15 @@ module _ (ws : List ℕ) (passes : Passes ws) (vs : List ℤ) (out : List ℤ) w
       pub not-held : (answer : Answer) → answer ≡ judgeModel ws vs → isHolds answer ≡ false → ((n : ℕ) → answer ≡ written n → ⊥) → Gives ws vs out answer out
       unfolding fill filled _else-answer_
       not-held answer h n f = (rw (no-fault, sym judged ∙ sym h, n), (rw (no-fault, sym judged ∙ sym h, n), λ m e. absurd (f m e)))
+
+-- fill's own answer and list are such that every list that satisfies the model is handed over with its auxiliaries
+pub hands-over : (ws : List ℕ) (vs out : List ℤ) {answer : Answer} {out′ : List ℤ} → Gives ws vs out answer out′ → HandsOver ws vs answer out out′
+hands-over ws vs out g passes s room =
+    let h = held ws passes vs out (s .one-each) room (judge-model-says ws (passes-read ws passes) vs .1 s) in
+    let n : length (vs ++ picks ws vs) ≡ length (variables ws) + length (auxiliaries ws) = omega (arith, length-append vs (picks ws vs), s .one-each, fill-counts ws passes vs) in
+    (picks ws vs, fill-counts ws passes vs, fill-satisfies ws passes vs s, g .0 ∙ sym (h .0) ∙ ap written (sym n), g .1 .0 ∙ sym (h .1 .0))
+
+-- fill's promises: the three that each way of ending shows, and that one
+pub with-hands-over : (ws : List ℕ) (vs out : List ℤ) {answer : Answer} {out′ : List ℤ} → Gives ws vs out answer out′ →
+    (answer ≡ fill ws vs (length out)) × ((out′ ≡ filled ws vs out) × (Satisfied ws answer out′ × HandsOver ws vs answer out out′))
+with-hands-over ws vs out g = (g .0, (g .1 .0, (g .1 .1, hands-over ws vs out g)))

@@ -1,3 +1,4 @@
 -- What the contracts cite: the answer of fill, and what it hands over.
 pub mod Filled
 pub mod Satisfied
+pub mod HandsOver

@@ -14,6 +14,7 @@ ghost use Rattle.extremes.specs.Bounded.{Bounded};
 ghost use Rattle.picking.specs.Picked.{Ranged, picksFrom};
 ghost use Rattle.filling.specs.Filled.{handed};
 ghost use Rattle.filling.specs.Satisfied.{Satisfied};
+ghost use Rattle.filling.specs.HandsOver.{HandsOver};
 use extremes::keep_bounds;
 use modeljudge::judge_read;
 use picking::pick_block;
@@ -121,6 +122,7 @@ pub fn fill(ws: &[u32], values: &[i32], out: &mut [i32]) -> Filled
     ensures answer { λ r. ⌜ handed r ≡ fillAnswer (now (ws .entry)) (now (values .entry)) (length (now (out .entry))) ⌝ }
     ensures output { λ r. ⌜ now (out .exit) ≡ filled (now (ws .entry)) (now (values .entry)) (now (out .entry)) ⌝ }
     ensures satisfied { λ r. ⌜ Satisfied (now (ws .entry)) (handed r) (now (out .exit)) ⌝ }
+    ensures completes { λ r. ⌜ HandsOver (now (ws .entry)) (now (values .entry)) (handed r) (now (out .entry)) (now (out .exit)) ⌝ }
 {
     match check(ws) {
         Checked::Refused(refusal) => Filled::Refused(refusal),
