@@ -21,8 +21,3 @@ pub enum Due {
     // nothing: the end word was read
     Ended,
 }
-
-// The reader's first state.
-pub fn start() -> Due {
-    Due::Source
-}
