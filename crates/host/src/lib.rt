@@ -12,6 +12,7 @@ ghost use Rattle.translation.specs.Checked.{checked};
 ghost use Rattle.translation.specs.Shares.{Shares};
 ghost use Rattle.translation.specs.Written.{wrote};
 ghost use Rattle.filling.specs.Filled.{handed};
+ghost use Rattle.filling.specs.HandsOver.{HandsOver};
 ghost use Rattle.filling.specs.Satisfied.{Satisfied};
 ghost use Rattle.host.specs.Bytes.{checkBytes};
 ghost use Rattle.host.specs.Structs.{countsOf, judgementOf, writtenOf};
@@ -230,6 +231,7 @@ pub extern "C" fn pearrummy_fill(words: &[u32], values: &[i32], out: &mut [i32])
     ensures answer { λ r. ⌜ r ≡ judgementOf (fillAnswer (now (words .entry)) (now (values .entry)) (length (now (out .entry)))) ⌝ }
     ensures output { λ r. ⌜ now (out .exit) ≡ filled (now (words .entry)) (now (values .entry)) (now (out .entry)) ⌝ }
     ensures satisfied { λ r. ⌜ Satisfied (now (words .entry)) (fillAnswer (now (words .entry)) (now (values .entry)) (length (now (out .entry)))) (now (out .exit)) ⌝ }
+    ensures completes { λ r. ⌜ HandsOver (now (words .entry)) (now (values .entry)) (fillAnswer (now (words .entry)) (now (values .entry)) (length (now (out .entry)))) (now (out .entry)) (now (out .exit)) ⌝ }
 {
     filled_of(fill(words, values, out))
 }

@@ -6,7 +6,7 @@ use Rattle.host.proofs.pearrummy_fill.Statement.{statement}
 use Rattle.host.proofs.pearrummy_fill.Tie as tie
 
 returns : tie.Need-returns
-returns c = let e = c .before .before .fill .ensures in (c .filled-of .ensures ∙ ap judgementOf (e .0), (e .1 .0, rw (e .0) at (e .1 .1)))
+returns c = let e = c .before .before .fill .ensures in (c .filled-of .ensures ∙ ap judgementOf (e .0), (e .1 .0, (rw (e .0) at (e .1 .1 .0), rw (e .0) at (e .1 .1 .1))))
 
 pub pearrummy-fill-spec : {M : Type 1} → statement M
 pearrummy-fill-spec = tie.close (tie.spec (λ c κs. search needs) (λ c κs. search needs) (λ c. search needs) returns)
