@@ -1,0 +1,112 @@
+#!/usr/bin/env python3
+"""Makes the tables of docs/PROMISES.md that list files and edits, between the lines `<!-- NAME -->` and `<!-- end -->`.
+
+    tests/tables.py           write them
+    tests/tables.py --check   only say whether they are up to date
+
+believed: the files of specs/ that the contracts of the calls for C, of the program rows and of the digits cite, and those that these
+stand on, with their lines, all and without signatures. edits: the must-fail edits with the first line of each, `# what is wrong`.
+Every `CRATE/EDIT` and `CRATE/specs/FILE` that the page names must be there."""
+import glob, os, re, sys
+
+TOP = os.path.dirname(os.path.dirname(os.path.abspath(__file__)))
+PAGE = os.path.join(TOP, 'docs', 'PROMISES.md')
+CONTRACTS = ['host', 'rows', 'hexadecimal']
+
+
+def crates():
+    for line in open(os.path.join(TOP, 'crates.txt')):
+        if m := re.match(r'(\w+):', line):
+            yield m.group(1)
+
+
+def cited(path):
+    """The files of specs/ that a file imports; `declared` has the structs and enums of the code."""
+    for line in open(path):
+        if m := re.match(r'(?:ghost )?use Rattle·(\w+?)(?:·specs)?\.specs\.(\w+)', line):
+            if m.group(2) != 'declared':
+                yield m.group(1), m.group(2)
+
+
+def file_of(crate, name):
+    return os.path.join(TOP, 'crates', crate, 'specs', name + '.antt')
+
+
+def believed():
+    """Every file of specs/ that a contract of the calls stands on."""
+    found, left = set(), []
+    for crate in CONTRACTS:
+        for path in glob.glob(os.path.join(TOP, 'crates', crate, 'src', '*.rt')):
+            left += cited(path)
+    while left:
+        one = left.pop()
+        if one not in found:
+            found.add(one)
+            left += cited(file_of(*one))
+    return found
+
+
+def lines(path):
+    """Without comments, imports and blank lines; all, and those that are no signature of a definition."""
+    text = [line for line in open(path) if not re.match(r'\s*(--.*|(use|pub mod|module) .*)?$', line)]
+    signature = re.compile(r'\s*(abbrev |unfoldable )?pub (?!data|record)[^=]* : ')
+    return len(text), sum(1 for line in text if not signature.match(line))
+
+
+def order(crate):
+    """The files of a crate in the order of its Lib.antt."""
+    return re.findall(r'^pub mod (\w+)', open(file_of(crate, 'Lib')).read(), re.M)
+
+
+def believed_table():
+    known, total = believed(), [0, 0]
+    yield '| Files | Lines | Without signatures |'
+    yield '|---|---|---|'
+    for crate in crates():
+        names = [n for n in (order(crate) if os.path.exists(file_of(crate, 'Lib')) else []) if (crate, n) in known]
+        if names:
+            counts = [sum(column) for column in zip(*(lines(file_of(crate, name)) for name in names))]
+            total = [a + b for a, b in zip(total, counts)]
+            yield f'| `{crate}/specs`: {", ".join(names)} | {counts[0]} | {counts[1]} |'
+    yield f'| together | {total[0]:,} | {total[1]:,} |'
+
+
+def edits_table():
+    yield '| Crate | Edit | What is wrong |'
+    yield '|---|---|---|'
+    for crate in crates():
+        for path in sorted(glob.glob(os.path.join(TOP, 'crates', crate, 'must-fail', '*.edit'))):
+            first = open(path).readline().rstrip('\n')
+            if not first.startswith('# '):
+                sys.exit(f'{path}: its first line does not say what is wrong')
+            yield f'| `{crate}` | `{os.path.basename(path)[:-5]}` | {first[2:]} |'
+
+
+def check_names(page):
+    """The edits and definitions that the page names are there."""
+    for crate, name in re.findall(r'`(\w+)/(\w+)`', page):
+        if crate in crates() and name not in ('specs', 'proofs', 'src') and not os.path.exists(os.path.join(TOP, 'crates', crate, 'must-fail', name + '.edit')):
+            sys.exit(f'docs/PROMISES.md: there is no edit {crate}/{name}')
+    for crate, folder, name in re.findall(r'`(\w+)/(specs|proofs)/(\w+)`', page):
+        if not os.path.exists(os.path.join(TOP, 'crates', crate, folder, name + '.antt')):
+            sys.exit(f'docs/PROMISES.md: there is no file {crate}/{folder}/{name}')
+
+
+def main():
+    old = new = open(PAGE).read()
+    for name, table in (('believed', believed_table), ('edits', edits_table)):
+        mark = re.compile(rf'(<!-- {name} -->\n).*?(<!-- end -->)', re.S)
+        if not mark.search(new):
+            sys.exit(f'{PAGE}: no place for the table {name}')
+        text = '\n'.join(table())
+        new = mark.sub(lambda m: m.group(1) + text + '\n' + m.group(2), new)
+    check_names(new)
+    if '--check' in sys.argv:
+        if new != old:
+            sys.exit('docs/PROMISES.md: its tables are not those of the tree; run tests/tables.py')
+        print('docs/PROMISES.md: its tables are those of the tree')
+    else:
+        open(PAGE, 'w').write(new)
+
+
+main()
