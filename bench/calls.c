@@ -1,8 +1,10 @@
-/* How long the calls take, as a table: `make bench`. Every answer is "accepted" or "holds", so that every word is worked on; the program exits with 1 if one is not. */
+/* How long the calls take, as a table: `make bench`; with the argument `stack`, how many bytes of stack each takes. Every answer is "accepted" or "holds", so that every word is worked on; the program exits with 1 if one is not. */
 #include "../include/pearrummy.h"
 #include <stdio.h>
 #include <stdlib.h>
+#include <string.h>
 #include <time.h>
+#include <ucontext.h>
 
 enum { MODEL = 8192, ROWS = 131072, IN_ALL = 4096, ROUNDS = 9 };
 
@@ -180,7 +182,47 @@ static struct pearrummy_counts begin_model(size_t total, int n) {
     return c;
 }
 
-int main(void) {
+/* ---- Stack: a call runs on a stack of its own that is painted first; what is no longer painted was used. */
+
+static unsigned char stack[1 << 20];
+static ucontext_t here, there;
+static int (*on_stack)(void);
+static int accepted;
+
+static int nothing(void) { return 1; }
+static void run_there(void) { accepted = on_stack(); }
+
+static size_t stack_of(int (*call)(void)) {
+    memset(stack, 0xA5, sizeof stack);
+    getcontext(&there);
+    there.uc_stack.ss_sp = stack;
+    there.uc_stack.ss_size = sizeof stack;
+    there.uc_link = &here;
+    on_stack = call;
+    makecontext(&there, run_there, 0);
+    swapcontext(&here, &there);
+    if (!accepted) exit(1);
+    size_t unused = 0;
+    while (stack[unused] == 0xA5) unused++;
+    return sizeof stack - unused;
+}
+
+/* The calls on the longest model, which has all builtins. */
+static void measure_stack(void) {
+    static const struct { const char *name; int (*call)(void); } calls[] = {
+        {"pearrummy_check_bytes", check_bytes}, {"pearrummy_check", check}, {"pearrummy_translate", translate},
+        {"pearrummy_judge_model", judge_model}, {"pearrummy_judge_rows", judge_rows}, {"pearrummy_fill", fill}};
+    begin_model(MODEL, 32);
+    if (!translate() || !fill()) exit(1);
+    size_t none = stack_of(nothing);
+    for (size_t k = 0; k < sizeof calls / sizeof *calls; k++) printf("%s %zu\n", calls[k].name, stack_of(calls[k].call) - none);
+}
+
+int main(int count, char **arguments) {
+    if (count == 2 && strcmp(arguments[1], "stack") == 0) {
+        measure_stack();
+        return 0;
+    }
     static const struct { size_t words; int elements; } models[] = {{64, 2}, {1024, 32}, {8192, 32}};
     static const size_t systems[] = {16384, 65536, 131072};
     printf("| Words | Constraints | Auxiliaries | Rows | Row words |\n|---|---|---|---|---|\n");

@@ -34,9 +34,10 @@ fn now() -> i64 {
     time.seconds * 1_000_000_000 + time.nanoseconds
 }
 
-/// A model, its row system cut to the same number of words, and values that hold of each.
+/// A model, its bytes, its row system cut to the same number of words, and values that hold of each.
 struct Case {
     model: Vec<u32>,
+    bytes: Vec<u8>,
     values: Vec<i32>,
     rows: Vec<u32>,
     row_values: Vec<i32>,
@@ -52,7 +53,8 @@ fn case(random: &mut Random, size: usize) -> Case {
         if model.len() == size && counts.fault == 0 && twin::fill(&model, &values, &mut all).said == HOLDS {
             if let Some((rows, row_values)) = inputs::cut_rows(&words, &all, size) {
                 if twin::judge_rows(&rows, &row_values).said == HOLDS {
-                    return Case { model, values, rows, row_values };
+                    let bytes = model.iter().flat_map(|word| word.to_le_bytes()).collect();
+                    return Case { model, bytes, values, rows, row_values };
                 }
             }
         }
@@ -89,53 +91,85 @@ fn median(mut numbers: Vec<f64>) -> f64 {
     numbers[numbers.len() / 2]
 }
 
-pub fn run() {
-    println!("processor time, medians of {ROUNDS} rounds over {MODELS} models of each size, both sides in turn");
-    let mut lines: [Vec<String>; 5] = Default::default();
-    for size in SIZES {
-        let mut random = Random::new(7, size as u64);
-        let cases: Vec<Case> = (0..MODELS).map(|_| case(&mut random, size)).collect();
-        let models = || cases.iter().map(|case| case.model.clone()).collect::<Vec<_>>();
-        let values = || cases.iter().map(|case| case.values.clone()).collect::<Vec<_>>();
-        let mut out = vec![0u32; twin::ROW_WORDS];
-        let mut out_values = vec![0i32; twin::ALL_VARIABLES];
-        let (mut other_out, mut other_out_values) = (out.clone(), out_values.clone());
-        let (mut words, mut sources) = (models(), values());
+/// The values with the last one out of its bounds, whatever these are.
+fn last_out_of_bounds(values: &[i32]) -> Vec<i32> {
+    let mut values = values.to_vec();
+    *values.last_mut().expect("a case has variables") = i32::MAX;
+    values
+}
 
-        lines[0].push(measure(
+/// The lines of one size.
+fn lines(size: usize) -> Vec<String> {
+    let mut random = Random::new(7, size as u64);
+    let cases: Vec<Case> = (0..MODELS).map(|_| case(&mut random, size)).collect();
+    let each = |list: fn(&Case) -> Vec<i32>| cases.iter().map(list).collect::<Vec<_>>();
+    let mut out = vec![0u32; twin::ROW_WORDS];
+    let mut out_values = vec![0i32; twin::ALL_VARIABLES];
+    let (mut other_out, mut other_out_values) = (out.clone(), out_values.clone());
+    let mut bytes: Vec<Vec<u8>> = cases.iter().map(|case| case.bytes.clone()).collect();
+    let mut models: Vec<Vec<u32>> = cases.iter().map(|case| case.model.clone()).collect();
+    let mut rows: Vec<Vec<u32>> = cases.iter().map(|case| case.rows.clone()).collect();
+    let (mut values, mut row_values) = (each(|case| case.values.clone()), each(|case| case.row_values.clone()));
+    let (wrong, wrong_rows) = (each(|case| last_out_of_bounds(&case.values)), each(|case| last_out_of_bounds(&case.row_values)));
+    let (mut lent, mut lent_rows) = (wrong.clone(), wrong_rows.clone());
+    vec![
+        measure(
             "check",
             size,
-            |at| _ = black_box(library::check(Lent::new(&mut words[at]))),
+            |at| _ = black_box(library::check(Lent::new(&mut models[at]))),
             |at| _ = black_box(twin::check(black_box(&cases[at].model))),
-        ));
-        lines[1].push(measure(
+        ),
+        measure(
+            "check over bytes",
+            size,
+            |at| _ = black_box(library::check_bytes(Lent::new(&mut bytes[at]))),
+            |at| _ = black_box(twin::check_bytes(black_box(&cases[at].bytes))),
+        ),
+        measure(
             "translate",
             size,
-            |at| _ = black_box(library::translate(Lent::new(&mut words[at]), Lent::new(&mut out))),
+            |at| _ = black_box(library::translate(Lent::new(&mut models[at]), Lent::new(&mut out))),
             |at| _ = black_box(twin::translate(black_box(&cases[at].model), &mut other_out)),
-        ));
-        lines[2].push(measure(
+        ),
+        measure(
             "judge-model",
             size,
-            |at| _ = black_box(library::judge_model(Lent::new(&mut words[at]), Lent::new(&mut sources[at]))),
+            |at| _ = black_box(library::judge_model(Lent::new(&mut models[at]), Lent::new(&mut values[at]))),
             |at| _ = black_box(twin::judge_model(black_box(&cases[at].model), &cases[at].values)),
-        ));
-        lines[4].push(measure(
-            "fill",
+        ),
+        measure(
+            "judge-model, the last value out of bounds",
             size,
-            |at| _ = black_box(library::fill(Lent::new(&mut words[at]), Lent::new(&mut sources[at]), Lent::new(&mut out_values))),
-            |at| _ = black_box(twin::fill(black_box(&cases[at].model), &cases[at].values, &mut other_out_values)),
-        ));
-        words = cases.iter().map(|case| case.rows.clone()).collect();
-        sources = cases.iter().map(|case| case.row_values.clone()).collect();
-        lines[3].push(measure(
+            |at| _ = black_box(library::judge_model(Lent::new(&mut models[at]), Lent::new(&mut lent[at]))),
+            |at| _ = black_box(twin::judge_model(black_box(&cases[at].model), &wrong[at])),
+        ),
+        measure(
             "judge-rows",
             size,
-            |at| _ = black_box(library::judge_rows(Lent::new(&mut words[at]), Lent::new(&mut sources[at]))),
+            |at| _ = black_box(library::judge_rows(Lent::new(&mut rows[at]), Lent::new(&mut row_values[at]))),
             |at| _ = black_box(twin::judge_rows(black_box(&cases[at].rows), &cases[at].row_values)),
-        ));
-    }
+        ),
+        measure(
+            "judge-rows, the last value out of bounds",
+            size,
+            |at| _ = black_box(library::judge_rows(Lent::new(&mut rows[at]), Lent::new(&mut lent_rows[at]))),
+            |at| _ = black_box(twin::judge_rows(black_box(&cases[at].rows), &wrong_rows[at])),
+        ),
+        measure(
+            "fill",
+            size,
+            |at| _ = black_box(library::fill(Lent::new(&mut models[at]), Lent::new(&mut values[at]), Lent::new(&mut out_values))),
+            |at| _ = black_box(twin::fill(black_box(&cases[at].model), &cases[at].values, &mut other_out_values)),
+        ),
+    ]
+}
+
+pub fn run() {
+    println!("processor time, medians of {ROUNDS} rounds over {MODELS} models of each size, both sides in turn");
     println!("| Call | Words | Library, ns a word | Twin, ns a word | Ratio |");
     println!("|---|---|---|---|---|");
-    lines.iter().flatten().for_each(|line| println!("{line}"));
+    let sizes = SIZES.map(lines);
+    for call in 0..sizes[0].len() {
+        sizes.iter().for_each(|lines| println!("{}", lines[call]));
+    }
 }
