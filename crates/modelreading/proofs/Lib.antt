@@ -1,7 +1,10 @@
--- Laws for the proofs of the reader.
+-- Laws for the proofs of the reader and for its callers.
 pub mod Table
 pub mod Places
 pub mod Order
-pub mod Declared
+pub mod Onward
+pub mod Steps
+pub mod Inner
+pub mod Variable
 pub mod Loop
-pub mod Listed
+pub mod Heads

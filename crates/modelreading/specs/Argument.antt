@@ -1,10 +1,8 @@
--- The table of the arguments of each code, and the argument that is due where no word of a list is left.
+-- The table of the arguments of each code.
 use mathlib.Core.List.{List, [], _∷_, map}
 use Prim.Native.Nat.{ℕ, zero, suc}
 use Rattle.models.specs.Shape as Shape
-use Rattle.models.specs.Shape.{argument, shapes}
-use Rattle.models.specs.declared.Due.{Due}
-use Rattle.models.specs.declared.Due.the-variants.{Start, Upper, Arguments, Ended}
+use Rattle.models.specs.Shape.{shapes}
 
 -- the arguments of each code, filled up with none to three
 abbrev pub filled : ℕ → List ℕ → List ℕ
@@ -14,10 +12,3 @@ filled (suc n) (x ∷ xs) = x ∷ filled n xs
 
 unfoldable pub table : List (List ℕ)
 table = map (filled 3) shapes
-
--- the argument that is due
-unfoldable pub argumentDue : Due → ℕ
-argumentDue Start = Shape.none
-argumentDue (Upper lower) = Shape.none
-argumentDue (Arguments numbers variables type code k) = argument code k
-argumentDue Ended = Shape.none

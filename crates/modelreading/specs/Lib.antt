@@ -1,3 +1,4 @@
--- What the contracts cite: the argument that is due, and the words of a list that are read at once.
+-- What the contracts cite: the table of arguments, reading on from a place, and what reading keeps.
 pub mod Argument
-pub mod Listed
+pub mod Onward
+pub mod Seen

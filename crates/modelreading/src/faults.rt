@@ -1,14 +1,14 @@
 // The fault of a word, 0 for none. Where two hold, the lower number comes first.
 ghost use mathlib.Core.Path.{_≡_};
+ghost use Prim.Native.Nat.{_≤_};
 ghost use lib.Dec.{eqb, ltb, leb};
+ghost use lib.ListN.{getD, take};
 ghost use Rattle.integers.specs.Choice.{_if_else_};
 ghost use Rattle.words.specs.Word.{payload};
 ghost use Rattle.words.specs.Fault as Fault;
 ghost use Rattle.words.specs.Limit as Limit;
-ghost use Rattle.models.specs.Reading.{faultHead, faultStart, faultUpper, faultNumber, faultVariable, faultLength, faultArgument, faultDue, faultEnd};
-ghost use Rattle.modelreading.specs.Argument.{argumentDue};
+ghost use Rattle.models.specs.Reading.{faultHead, faultStart, faultUpper, faultNumber, faultLength, faultVariable};
 use crate::shapes;
-use models::Due;
 use words::fault;
 use words::kind;
 use words::limit;
@@ -44,7 +44,7 @@ fn of_room(v: usize) -> u32
 }
 
 // Where a constraint or the end may stand, after c constraints.
-fn of_head(c: usize, w: u32) -> u32
+pub fn of_head(c: usize, w: u32) -> u32
     ensures { λ r. ⌜ r ≡ faultHead c w ⌝ }
 {
     let k = words::kind_of(w);
@@ -68,7 +68,7 @@ fn of_head(c: usize, w: u32) -> u32
 }
 
 // Where a variable may stand too, after v variables.
-fn of_start(v: usize, c: usize, w: u32) -> u32
+pub fn of_start(v: usize, c: usize, w: u32) -> u32
     ensures { λ r. ⌜ r ≡ faultStart v c w ⌝ }
 {
     let k = words::kind_of(w);
@@ -84,7 +84,7 @@ fn of_start(v: usize, c: usize, w: u32) -> u32
 }
 
 // Of an upper bound after the word of its lower one.
-fn of_upper(lower: u32, w: u32) -> u32
+pub fn of_upper(lower: u32, w: u32) -> u32
     ensures { λ r. ⌜ r ≡ faultUpper lower w ⌝ }
 {
     if words::kind_of(w) != kind::UPPER {
@@ -106,21 +106,8 @@ pub fn of_number(w: u32) -> u32
     fault::WRONG_KIND
 }
 
-// Of a variable that is to have a type, and has the type t.
-pub fn of_variable(t: u32, wanted: u32, w: u32) -> u32
-    ensures { λ r. ⌜ r ≡ faultVariable t wanted w ⌝ }
-{
-    if words::kind_of(w) != kind::VARIABLE {
-        return fault::WRONG_KIND;
-    }
-    if t != wanted {
-        return fault::NOT_DECLARED;
-    }
-    fault::NONE
-}
-
 // Of a list's length.
-fn of_length(w: u32) -> u32
+pub fn of_length(w: u32) -> u32
     ensures { λ r. ⌜ r ≡ faultLength w ⌝ }
 {
     if words::kind_of(w) != kind::NUMBER {
@@ -132,63 +119,20 @@ fn of_length(w: u32) -> u32
     fault::NONE
 }
 
-// Of the word at an argument.
-fn of_argument(t: u32, c: usize, argument: u32, w: u32) -> u32
-    ensures { λ r. ⌜ r ≡ faultArgument t c argument w ⌝ }
+// Of a word that is to name a variable of a type among the first v.
+pub fn of_variable(types: &[u32; 256], v: usize, wanted: u32, w: u32) -> u32
+    requires { ⌜ (v ≤ 256) × (1 ≤ wanted) ⌝ }
+    ensures { λ r. ⌜ r ≡ faultVariable (getD (take v (now (types .entry))) (payload w) 0) wanted w ⌝ }
 {
-    if argument == shapes::NONE {
-        return of_head(c, w);
+    if words::kind_of(w) != kind::VARIABLE {
+        return fault::WRONG_KIND;
     }
-    if argument < shapes::NUMBER {
-        return of_variable(t, argument, w);
+    let x = words::payload_of(w);
+    if v <= x {
+        return fault::NOT_DECLARED;
     }
-    if argument == shapes::NUMBER {
-        return of_number(w);
+    if types[x] != wanted {
+        return fault::NOT_DECLARED;
     }
-    of_length(w)
-}
-
-// By what is due, an argument where no word of a list is left: v variables and c constraints stand before, and t is the type of the variable that the word names.
-pub fn of_due(due: Due, argument: u32, v: usize, t: u32, c: usize, w: u32) -> u32
-    requires { ⌜ argument ≡ argumentDue due ⌝ }
-    ensures { λ r. ⌜ r ≡ faultDue due v t c w ⌝ }
-{
-    match due {
-        Due::Start => of_start(v, c, w),
-        Due::Upper(lower) => of_upper(lower, w),
-        Due::Arguments {
-            numbers,
-            variables,
-            kind,
-            code: _,
-            k: _,
-        } => {
-            if 0 < numbers {
-                return of_number(w);
-            }
-            if 0 < variables {
-                return of_variable(t, kind, w);
-            }
-            of_argument(t, c, argument, w)
-        }
-        Due::Ended => fault::WORD_AFTER_END,
-    }
-}
-
-// Where the words end.
-pub fn of_end(due: Due) -> u32
-    ensures { λ r. ⌜ r ≡ faultEnd due ⌝ }
-{
-    match due {
-        Due::Start => fault::WORDS_END,
-        Due::Upper(_) => fault::WORDS_END,
-        Due::Arguments {
-            numbers: _,
-            variables: _,
-            kind: _,
-            code: _,
-            k: _,
-        } => fault::WORDS_END,
-        Due::Ended => fault::NONE,
-    }
+    fault::NONE
 }

@@ -1,135 +1,103 @@
-// The reader of a model: the first faulty word, by faults 1 to 11.
+// The reader of a model: the first faulty word, by faults 1 to 11; and of an accepted model what it saw.
 ghost use mathlib.Core.Path.{_≡_};
-ghost use Prim.Native.Nat.{_≤_};
-ghost use lib.ListN.{length, getD, take};
-ghost use Rattle.words.specs.Word.{payload};
-ghost use Rattle.words.specs.Refusal.{faultOr, accepted};
-ghost use Rattle.models.specs.Reading.{faultNumber, faultVariable, faultEnd, readModel};
-ghost use Rattle.modelreading.specs.Listed.{Faultless, Listed};
+ghost use lib.ListN.{length};
+ghost use Rattle.words.specs.Refusal.{_at-place_};
+ghost use Rattle.modelreading.specs.Onward.{stopped};
+ghost use Rattle.modelreading.specs.Seen.{Kept};
 
 pub mod faults;
+pub mod items;
 pub mod shapes;
-pub mod steps;
 
-use models::Due;
-use words::Refusal;
+use items::arguments_at;
+use items::declared_by;
+use items::variable_at;
+use words::fault;
+use words::kind;
+use words::kind_of;
+use words::limit;
+use words::payload_of;
+use words::word_at;
 
-// The type of a variable among the first v, none for any other number.
-fn type_at(types: &[u32; 256], v: usize, x: usize) -> u32
-    requires { ⌜ v ≤ 256 ⌝ }
-    ensures { λ r. ⌜ r ≡ getD (take v (now (types .entry))) x 0 ⌝ }
-{
-    if x < v {
-        return types[x];
-    }
-    shapes::NONE
+// A fault and its place; where the number is 0, how many variables the model has, how many words they take, and how many constraints.
+pub struct Read {
+    pub number: u32,
+    pub place: usize,
+    pub variables: usize,
+    pub sources: usize,
+    pub constraints: usize,
 }
 
-// The refusal where the words end.
-fn refusal_at_end(due: Due, at: usize) -> Refusal
-    ensures { λ r. ⌜ r ≡ faultOr (faultEnd due) at accepted ⌝ }
+// The answer where a reading stops with a fault at a place, where a word is due: fault 2 where the words have ended before it.
+fn refused(ws: &[u32], number: u32, place: usize) -> Read
+    ensures { λ r. ⌜ r .number at-place r .place ≡ stopped (now (ws .entry)) number place ⌝ }
 {
-    let number = faults::of_end(due);
-    if number == words::fault::NONE {
-        return Refusal {
-            number: words::fault::NONE,
-            place: 0,
-        };
+    let mut found = fault::WORDS_END;
+    if place < ws.len() {
+        found = number;
     }
-    Refusal { number, place: at }
-}
-
-// How many words from a place on are numbers, at most n.
-fn numbers_at(ws: &[u32], at: usize, n: usize) -> usize
-    requires { ⌜ at ≤ length (now ws) ⌝ }
-    ensures { λ r. ⌜ (r ≤ n) × Faultless faultNumber (now (ws .entry)) at r ⌝ }
-{
-    let mut k = 0;
-    while k < n {
-        if faults::of_number(words::word_at(ws, at + k)) != words::fault::NONE {
-            return k;
-        }
-        k += 1;
-    }
-    k
-}
-
-// How many words from a place on name variables of a type, at most n.
-fn variables_at(ws: &[u32], at: usize, n: usize, kind: u32, types: &[u32; 256], v: usize) -> usize
-    requires { ⌜ (at ≤ length (now ws)) × (v ≤ 256) ⌝ }
-    ensures { λ r. ⌜ (r ≤ n) × Faultless (λ w. faultVariable (getD (take v (now (types .entry))) (payload w) 0) kind w) (now (ws .entry)) at r ⌝ }
-{
-    let mut k = 0;
-    while k < n {
-        let w = words::word_at(ws, at + k);
-        let t = type_at(types, v, words::payload_of(w));
-        if faults::of_variable(t, kind, w) != words::fault::NONE {
-            return k;
-        }
-        k += 1;
-    }
-    k
-}
-
-// How many words from a place on belong to the list that is due, before the first faulty one.
-fn listed_at(ws: &[u32], at: usize, due: Due, types: &[u32; 256], v: usize) -> usize
-    requires { ⌜ (at ≤ length (now ws)) × (v ≤ 256) ⌝ }
-    ensures { λ r. ⌜ Listed (now (ws .entry)) (take v (now (types .entry))) at due r ⌝ }
-{
-    match due {
-        Due::Start => 0,
-        Due::Upper(_) => 0,
-        Due::Arguments {
-            numbers,
-            variables,
-            kind,
-            code: _,
-            k: _,
-        } => {
-            if 0 < numbers {
-                return numbers_at(ws, at, numbers);
-            }
-            variables_at(ws, at, variables, kind, types, v)
-        }
-        Due::Ended => 0,
+    Read {
+        number: found,
+        place,
+        variables: 0,
+        sources: 0,
+        constraints: 0,
     }
 }
 
-// The first fault of a model and its place.
-pub fn read_model(ws: &[u32]) -> Refusal
-    ensures { λ r. ⌜ r ≡ readModel (now (ws .entry)) ⌝ }
+// The first fault of a model and its place; of an accepted model what it has, and in heads the places of its constraints.
+pub fn read_model(ws: &[u32], heads: &mut [usize; 256]) -> Read
+    requires { ⌜ length (now heads) ≡ 256 ⌝ }
+    ensures { λ r. ⌜ Kept (now (ws .entry)) (now (heads .exit)) r ⌝ }
 {
-    if words::limit::MODEL_WORDS < ws.len() {
-        return Refusal {
-            number: words::fault::TOO_MANY_WORDS,
-            place: 0,
-        };
+    if limit::MODEL_WORDS < ws.len() {
+        return refused(ws, fault::TOO_MANY_WORDS, 0);
     }
     let table = shapes::SHAPES;
     let mut types = [shapes::NONE; 256];
     let mut v = 0;
-    let mut c = 0;
     let mut at = 0;
-    let mut due = Due::Start;
-    while at < ws.len() {
-        let w = ws[at];
-        let t = type_at(&types, v, words::payload_of(w));
-        let argument = shapes::argument_due(&table, due);
-        let number = faults::of_due(due, argument, v, t, c, w);
-        if number != words::fault::NONE {
-            return Refusal { number, place: at };
+    loop {
+        let w = word_at(ws, at);
+        let declared = declared_by(w);
+        if declared == shapes::NONE {
+            break;
         }
-        due = steps::after_due(due, argument, w);
-        c += steps::started_by(w);
-        let declared = steps::declared_by(w);
-        if declared != shapes::NONE {
-            types[v] = declared;
-            v += 1;
+        let variable = variable_at(ws, at, w, v);
+        if variable.number != fault::NONE {
+            return refused(ws, variable.number, variable.at);
         }
-        at += 1;
-        let listed = listed_at(ws, at, due, &types, v);
-        at += listed;
-        due = steps::past(due, listed);
+        types[v] = declared;
+        v += 1;
+        at = variable.at;
     }
-    refusal_at_end(due, at)
+    let sources = at;
+    let mut c = 0;
+    loop {
+        let head = word_at(ws, at);
+        let number = faults::of_head(c, head);
+        if number != fault::NONE {
+            return refused(ws, number, at);
+        }
+        if kind_of(head) == kind::MODEL_END {
+            break;
+        }
+        heads[c] = at;
+        c += 1;
+        let arguments = arguments_at(ws, at + 1, payload_of(head), &table, &types, v);
+        if arguments.number != fault::NONE {
+            return refused(ws, arguments.number, arguments.at);
+        }
+        at = arguments.at;
+    }
+    if at + 1 < ws.len() {
+        return refused(ws, fault::WORD_AFTER_END, at + 1);
+    }
+    Read {
+        number: fault::NONE,
+        place: 0,
+        variables: v,
+        sources,
+        constraints: c,
+    }
 }

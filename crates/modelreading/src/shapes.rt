@@ -1,8 +1,7 @@
 // The arguments of each code, as a table.
 ghost use mathlib.Core.Path.{_≡_};
 ghost use Rattle.models.specs.Shape.{argument};
-ghost use Rattle.modelreading.specs.Argument.{table, argumentDue};
-use models::Due;
+ghost use Rattle.modelreading.specs.Argument.{table};
 
 // one argument, and the type of a variable: none, an integer variable, a Boolean one, a number
 pub const NONE: u32 = 0;
@@ -71,23 +70,4 @@ pub fn argument_of(shapes: &[[u32; MOST]; CODES + 1], code: usize, k: usize) -> 
         }
     }
     NONE
-}
-
-// The argument that is due where no word of a list is left.
-pub fn argument_due(shapes: &[[u32; MOST]; CODES + 1], due: Due) -> u32
-    requires { ⌜ now shapes ≡ table ⌝ }
-    ensures { λ r. ⌜ r ≡ argumentDue due ⌝ }
-{
-    match due {
-        Due::Start => NONE,
-        Due::Upper(_) => NONE,
-        Due::Arguments {
-            numbers: _,
-            variables: _,
-            kind: _,
-            code,
-            k,
-        } => argument_of(shapes, code, k),
-        Due::Ended => NONE,
-    }
 }

@@ -25,7 +25,7 @@ use Rattle.words.proofs.Word.{signed-range, says-range}
 use Rattle.models.specs.Table as Table
 use Rattle.models.specs.Builtin.{Builtin}
 use Rattle.models.specs.Shape as Shape
-use Rattle.models.specs.Model.{Constraint, constraintsFrom, constraints, builtin}
+use Rattle.models.specs.Model.{Constraint, constraintsFrom, constraints, sourceWords, builtin}
 use Rattle.models.specs.Reading.{fault, after, ended, begin, readModel}
 use Rattle.models.proofs.Arguments.{integerArguments, booleanArguments}
 use Rattle.models.proofs.Sound.{sound}
@@ -109,14 +109,15 @@ posed-late : {ts : List ℕ} {c : ℕ} {ws : List ℕ} → Posed ts c ws → Lat
 posed-late (end {c} {w} k) = lt-leb (kind w) 3 (omega arith)
 posed-late (constraint {c} {w} few k lo hi f l p r) = lt-leb (kind w) 3 (omega arith)
 
--- the words of variables are what a definition finds that takes words from the front as long as their kind is at most 3
-pub longest-front : (f : List ℕ → List ℕ) → f [] ≡ [] → ((w : ℕ) (ws : List ℕ) → f (w ∷ ws) ≡ (w ∷ f ws if leb (kind w) 3 else [])) → {ws : List ℕ} (s : Split ws) → f ws ≡ s .src
-longest-front f none-of more-of {ws} s = ap f (s .whole) ∙ go (s .src) (s .rest) (s .front) (s .late)
+-- the words of the variables are the front
+pub sources-are : {ws : List ℕ} (s : Split ws) → sourceWords ws ≡ s .src
+unfolding sourceWords
+sources-are {ws} s = ap sourceWords (s .whole) ∙ go (s .src) (s .rest) (s .front) (s .late)
   where
-    go : (src rest : List ℕ) → All (λ w. leb (kind w) 3 ≡ true) src → Late rest → f (src ++ rest) ≡ src
-    go [] [] h l = none-of
-    go [] (w ∷ rest) h l = more-of w rest ∙ rw l
-    go (w ∷ src) rest h l = more-of w (src ++ rest) ∙ rw (h .0) (ap (λ vs. w ∷ vs) (go src rest (h .1) l))
+    go : (src rest : List ℕ) → All (λ w. leb (kind w) 3 ≡ true) src → Late rest → sourceWords (src ++ rest) ≡ src
+    go [] [] h l = refl
+    go [] (w ∷ rest) h l = rw l
+    go (w ∷ src) rest h l = rw (h .0) (ap (λ vs. w ∷ vs) (go src rest (h .1) l))
 
 -- ---- sums over constraints
 

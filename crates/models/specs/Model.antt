@@ -30,6 +30,11 @@ constraintsFrom p (w ∷ ws) =
 unfoldable pub constraints : List ℕ → List Constraint
 constraints ws = constraintsFrom 0 ws
 
+-- the words of the variables: those before the first of a kind above 3
+unfoldable pub sourceWords : List ℕ → List ℕ
+sourceWords [] = []
+sourceWords (w ∷ ws) = let rest = sourceWords ws in w ∷ rest if leb (kind w) Kind.boolean else []
+
 -- ---- the arguments among the words after a head
 module _ (ws : List ℕ) where
   -- a variable and a number at place i

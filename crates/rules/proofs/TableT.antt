@@ -23,7 +23,7 @@ use Rattle.models.specs.Meaning.{on, off, element, maximum, member, meaning}
 use Rattle.models.specs.Shape.{shapes, argument}
 use Rattle.models.specs.Reading as Model
 use Rattle.models.specs.Reading.{readModel}
-use Rattle.models.specs.Model.{constraintsFrom, constraints, var, num, size, vars, nums, past, terms, pastTerms, builtins, builtin}
+use Rattle.models.specs.Model.{constraintsFrom, constraints, sourceWords, var, num, size, vars, nums, past, terms, pastTerms, builtins, builtin}
 use Rattle.models.specs.JudgeModel as JudgeModel
 use Rattle.models.specs.JudgeModel.{judgeModel}
 use Rattle.rowsystems.specs.Row.{satisfied, renameTerms, rename}
@@ -38,7 +38,7 @@ use Rattle.rules.specs.Parts.{Z, endProducts, extreme, L, U, _─_≤0, 
 use Rattle.rules.specs.Rule as Rule
 use Rattle.rules.specs.Rule.{rule}
 use Rattle.rules.specs.Pick.{bitOf, signPick, signedPick, firstBit, gatedPick, pick}
-use Rattle.rules.specs.Translation.{bounds, blockOf, sourceWords, blocksWords, systemWords, auxiliaries, blockRows, picks}
+use Rattle.rules.specs.Translation.{bounds, blockOf, blocksWords, systemWords, auxiliaries, blockRows, picks}
 use Rattle.rules.specs.Check.{tooWide, blockFault, blocksFault, checkFault, check}
 use Rattle.rules.specs.Translate.{roomFault, translateFault, translate, translated}
 use Rattle.rules.specs.Fill.{filledCount, fillFault, fill, filled}

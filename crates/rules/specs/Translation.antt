@@ -1,17 +1,15 @@
 -- The row system of a model's words: the sources' words, a block for each constraint, the end word; and what check counts in it.
 use mathlib.Core.List.{List, [], _∷_, _++_, flatMap}
 use Prim.Native.Nat.{ℕ, _+_}
-use lib.Dec.{leb}
 use lib.IntN.{ℤ}
 use lib.ListN.{length}
-use Rattle.integers.specs.Choice.{_if_else_}
 use Rattle.integers.specs.Bounds.{boundsIn}
 use Rattle.integers.specs.Terms.{value}
 use Rattle.integers.specs.declared.Bounds.{Bounds}
-use Rattle.words.specs.Word.{kind, word}
+use Rattle.words.specs.Word.{word}
 use Rattle.words.specs.Kind as Kind
 use Rattle.words.specs.Variables.{variables}
-use Rattle.models.specs.Model.{Constraint, constraints, builtin}
+use Rattle.models.specs.Model.{Constraint, constraints, sourceWords, builtin}
 use Rattle.rowsystems.specs.Row.{Row}
 use Rattle.rules.specs.Block.{Ref, Block, blockWords}
 use Rattle.rules.specs.Rule.{rule}
@@ -24,17 +22,13 @@ bounds ws = boundsIn (variables ws)
 unfoldable pub blockOf : (ℕ → Bounds) → Constraint → Block
 blockOf β c = rule β (builtin c)
 
--- 01, Words: "1, 2, 3 as above, copied"
-unfoldable pub sourceWords : List ℕ → List ℕ
-sourceWords [] = []
-sourceWords (w ∷ ws) = let rest = sourceWords ws in w ∷ rest if leb (kind w) Kind.boolean else []
-
 -- the blocks' words, their auxiliaries numbered from `first` on
 unfoldable pub blocksWords : (ℕ → Bounds) → ℕ → List Constraint → List ℕ
 blocksWords β first [] = []
 blocksWords β first (c ∷ cs) =
     blockWords first (blockOf β c) ++ blocksWords β (first + length (blockOf β c .auxiliaries)) cs
 
+-- 01, Words: "1, 2, 3 as above, copied"
 unfoldable pub systemWords : List ℕ → List ℕ
 systemWords ws =
     sourceWords ws ++ (blocksWords (bounds ws) (length (variables ws)) (constraints ws) ++ (word Kind.rowsEnd 0 ∷ []))

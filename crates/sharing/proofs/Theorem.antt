@@ -21,7 +21,7 @@ use Rattle.models.proofs.Arguments.{booleanArguments}
 use Rattle.models.proofs.Accepted as Accepted
 use Rattle.rowsystems.specs.Reading.{readRows}
 use Rattle.rowsystems.proofs.ReadBack.{System, read-back}
-use Rattle.rules.specs.Translation.{bounds, blockOf, sourceWords, blocksWords, systemWords, auxiliaries, picks}
+use Rattle.rules.specs.Translation.{bounds, blockOf, blocksWords, systemWords, auxiliaries, picks}
 use Rattle.rules.specs.Pick.{pick}
 use Rattle.sharing.specs.SharedSolutions.{Passes, SatisfiesModel, SatisfiesRows, SharedSolutions}
 use Rattle.sharing.proofs.Formed.{Formed}
@@ -77,16 +77,12 @@ module _ (ws : List ℕ) (passes : Passes ws) where
   parts : Accepted.Split ws
   parts = Accepted.split ws (passes-read ws passes)
 
-  sources-are : sourceWords ws ≡ parts .src
-  unfolding sourceWords
-  sources-are = Accepted.longest-front sourceWords refl (λ w vs. refl) parts
-
   after-sources : List ℕ
   after-sources = blocksWords (boundsIn Vs) (length Vs) (constraints ws) ++ (word Kind.rowsEnd 0 ∷ [])
 
   words-are : systemWords ws ≡ parts .src ++ after-sources
   unfolding systemWords bounds after-sources
-  words-are = ap (λ l. l ++ (blocksWords (boundsIn Vs) (length Vs) (constraints ws) ++ (word Kind.rowsEnd 0 ∷ []))) sources-are
+  words-are = ap (λ l. l ++ (blocksWords (boundsIn Vs) (length Vs) (constraints ws) ++ (word Kind.rowsEnd 0 ∷ []))) (Accepted.sources-are parts)
 
   -- "the words never pass 131,072"
   pub never-too-many : length (systemWords ws) ≤ Limit.rowWords

@@ -11,11 +11,11 @@ use Rattle.words.specs.Variables.{variables}
 use Rattle.words.specs.Refusal.{faultOr, accepted, _else-refuse_}
 use Rattle.words.specs.Answer.{Answer, refused, counts, _else-answer_}
 use Rattle.words.specs.declared.Refusal.{Refusal}
-use Rattle.models.specs.Model.{Constraint, constraints, constraintsFrom}
+use Rattle.models.specs.Model.{Constraint, constraints, sourceWords, constraintsFrom}
 use Rattle.models.specs.Reading.{readModel}
 use Rattle.models.proofs.Constraints.{headed, starts-none, starts-one, none-left}
 use Rattle.rules.specs.Block.{blockWords}
-use Rattle.rules.specs.Translation.{bounds, blockOf, sourceWords, blocksWords, systemWords, auxiliaries, blockRows}
+use Rattle.rules.specs.Translation.{bounds, blockOf, blocksWords, systemWords, auxiliaries, blockRows}
 use Rattle.rules.specs.Check.{blockFault, blocksFault, checkFault, check}
 use Rattle.sharing.proofs.Accepts.{one-fine}
 use Rattle.linearsums.proofs.Model.{Passed, passed-none, passed-word, passed-head}

@@ -14,9 +14,9 @@ use Rattle.words.specs.Refusal.{_at-place_, accepted, _else-refuse_}
 use Rattle.words.specs.Answer.{Answer, refused, counts, written, refusedOr, _else-answer_}
 use Rattle.words.specs.declared.Refusal.{Refusal}
 use Rattle.words.proofs.Reading as Reading
-use Rattle.models.specs.Model.{Constraint, constraints}
+use Rattle.models.specs.Model.{Constraint, constraints, sourceWords}
 use Rattle.models.specs.Reading.{readModel}
-use Rattle.rules.specs.Translation.{bounds, blockOf, sourceWords, blocksWords, systemWords}
+use Rattle.rules.specs.Translation.{bounds, blockOf, blocksWords, systemWords}
 use Rattle.rules.specs.Check.{blockFault, blocksFault, checkFault, check}
 use Rattle.rules.specs.Translate.{roomFault, translateFault, translate, translated}
 use Rattle.sharing.specs.SharedSolutions.{Passes}

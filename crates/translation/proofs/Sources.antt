@@ -10,7 +10,7 @@ use borrow.Author.Tests.{le-leb, lt-leb}
 use Rattle.integers.specs.Choice.{_if_else_}
 use Rattle.words.specs.Word.{kind}
 use Rattle.words.proofs.Reading.{word-then}
-use Rattle.rules.specs.Translation.{sourceWords}
+use Rattle.models.specs.Model.{sourceWords}
 
 -- n words of variables stand before the place n
 pub record Front (ws : List ℕ) (n : ℕ) : Type 0 where

@@ -1,65 +1,87 @@
--- The loop's invariant: judging the rest from here gives what judging the whole gives.
+-- The loop's invariant: judging the constraints from the k-th on gives what judging all gives.
 use mathlib.Core.Path.{_≡_, sym, _∙_}
-use Prim.Native.Nat.{_-_, _+_}
-use lib.ListN.{length, drop}
+use Prim.Native.Nat.{_-_, _+_, _<_, _≤_}
+use native.Mathlib.Omega.{arith}
+use lib.ListN.{length, getD, drop, drop-of-length-le}
 use borrow.Author.Tests.{not-true, not-false}
 use borrow.Author.Needs.{needs}
 use Rattle.integers.specs.Terms.{value}
+use Rattle.words.specs.Word.{wordAt}
 use Rattle.words.specs.Verdict.{verdict}
-use Rattle.words.proofs.Judge.{Passed, none-passed, pass-none, pass-one, fail-one, pass-all}
+use Rattle.words.proofs.Judge.{Passed, none-passed, pass-one, fail-one, pass-all}
 use Rattle.words.proofs.Reading.{tail-is}
 use Rattle.models.specs.Meaning.{meaning}
-use Rattle.models.specs.Model.{builtin, constraints, constraintsFrom}
-use Rattle.models.proofs.Constraints.{headed, starts-none, starts-one, none-left}
+use Rattle.models.specs.Model.{builtin, constraints}
+use Rattle.modelreading.specs.Seen.{headed}
+use Rattle.modelreading.proofs.Heads.{head-at, head-inside}
 use Rattle.modeljudge.proofs.first_false.Statement.{statement}
 use Rattle.modeljudge.proofs.first_false.Tie as tie
 
 abbrev Inv-loop : tie.InvT-loop
-Inv-loop ws values at₀ k₀ at k = Passed (λ c. meaning (value values) (builtin c)) (constraints ws) k at (constraintsFrom at (drop at ws))
+Inv-loop ws heads n values k₀ k = (k ≤ n) × Passed (λ c. meaning (value values) (builtin c)) (constraints ws) k k (drop k (constraints ws))
 
 abbrev μ-loop : tie.MeasureT-loop
-μ-loop ws values at₀ k₀ at k = length ws - at
+μ-loop ws heads n values k₀ k = n - k
+
+-- the head stands among the words
+inside : (c : tie.In-loop Inv-loop μ-loop) → let s = c .before .before .before in getD (s .args .heads .now) (c .before .loop .k) 0 < length (s .args .ws .now)
+inside c = head-inside (c .before .before .before .pre .0) (c .before .loop .k) (c .loop-test .taken)
 
 -- what holds says of the constraint
 said : (c : tie.After-holds Inv-loop μ-loop) →
-    meaning (value (c .before .before .before .before .before .before .before .before .before .args .values .now)) (builtin (headed (c .before .before .before .before .before .before .before .before .before .args .ws .now) (c .before .before .before .before .before .before .before .loop .at))) ≡ c .holds .result
-unfolding builtin
+    let s = c .before .before .before .before .before .before .before .before in
+    meaning (value (s .args .values .now)) (builtin (headed (s .args .ws .now) (getD (s .args .heads .now) (c .before .before .before .before .before .before .loop .k) 0))) ≡ c .holds .result
+unfolding builtin wordAt
 said c =
-    let s = c .before .before .before .before .before .before .before .before .before in
-    let loop = c .before .before .before .before .before .before .before .loop in
-    let payload-of = c .before .before .payload-of in
-    sym (c .holds .ensures ∙ rw (payload-of .ensures, tail-is (s .args .ws .now) (loop .at + 1)))
+    let s = c .before .before .before .before .before .before .before .before in
+    let at = getD (s .args .heads .now) (c .before .before .before .before .before .before .loop .k) 0 in
+    sym (c .holds .ensures ∙ rw (c .before .before .payload-of .ensures, tail-is (s .args .ws .now) (at + 1)))
 
 loop-holds : tie.Need-loop-holds Inv-loop μ-loop
-unfolding constraints
-loop-holds c = none-passed _ _
+loop-holds c = (omega arith, none-passed _ _)
+
+mul-at : tie.Need-mul-at Inv-loop μ-loop
+mul-at c = record { fits = omega (arith, c .loop-test .taken, c .before .before .before .pre .0 .room) }
+
+element-copy-out-at : tie.Need-element-copy-out-at Inv-loop μ-loop
+element-copy-out-at c = omega (arith, c .loop-test .taken, c .before .before .before .pre .0 .room)
+
+mul-payload-of : tie.Need-mul-payload-of Inv-loop μ-loop
+mul-payload-of c = let h = inside (c .before) in search needs
+
+shared-slice-read-payload-of : tie.Need-shared-slice-read-payload-of Inv-loop μ-loop
+shared-slice-read-payload-of c = inside (c .before .before)
+
+add-holds : tie.Need-add-holds Inv-loop μ-loop
+add-holds c = let h = inside (c .before .before .before) in search needs
+
+mul-holds : tie.Need-mul-holds Inv-loop μ-loop
+mul-holds c = let h = inside (c .before .before .before) in search needs
+
+sub-holds : tie.Need-sub-holds Inv-loop μ-loop
+sub-holds c = let h = inside (c .before .before .before) in search needs
+
+part-holds-start : tie.Need-part-holds-start Inv-loop μ-loop
+part-holds-start c = omega (arith, inside (c .before .before .before))
 
 returns : tie.Need-returns Inv-loop μ-loop
 unfolding verdict
 returns c =
-    let s = c .before .before .before .before .before .before .before .before .before .before in
-    let loop = c .before .before .before .before .before .before .before .before .loop in
-    let kind-of = c .before .before .before .before .before .kind-of in
-    let if1 = c .before .before .before .before .if1 in
-    fail-one (loop .inv) (starts-one (s .args .ws .now) (loop .at) (c .before .before .before .before .before .before .before .loop-test .taken) (sym (kind-of .ensures) ∙ if1 .taken)) (said (c .before) ∙ not-true _ (c .if2 .taken))
+    let l = c .before .before .before .before .before .before .before in
+    fail-one (l .loop .inv .1) (head-at (l .before .before .pre .0) (l .loop .k) (c .before .before .before .before .before .before .loop-test .taken)) (said (c .before) ∙ not-true _ (c .if1 .taken))
 
 loop-again : tie.Need-loop-again Inv-loop μ-loop
 loop-again c =
-    let s = c .before .before .before .before .before .before .before .before .before .before in
-    let loop = c .before .before .before .before .before .before .before .before .loop in
-    let kind-of = c .before .before .before .before .before .kind-of in
-    let if1 = c .before .before .before .before .if1 in
-    pass-one (loop .inv) (starts-one (s .args .ws .now) (loop .at) (c .before .before .before .before .before .before .before .loop-test .taken) (sym (kind-of .ensures) ∙ if1 .taken)) (said (c .before) ∙ not-false _ (c .if2 .left))
-
-loop-again-2 : tie.Need-loop-again-2 Inv-loop μ-loop
-loop-again-2 c =
-    let s = c .before .before .before .before .before .before in
-    let loop = c .before .before .before .before .loop in
-    pass-none (loop .inv) (starts-none (s .args .ws .now) (loop .at) (c .before .before .before .loop-test .taken) (λ e. c .if1 .left (c .before .kind-of .ensures ∙ e)))
+    let l = c .before .before .before .before .before .before .before in
+    let t = c .before .before .before .before .before .before .loop-test .taken in
+    (omega arith, pass-one (l .loop .inv .1) (head-at (l .before .before .pre .0) (l .loop .k) t) (said (c .before) ∙ not-false _ (c .if1 .left)))
 
 returns-2 : tie.Need-returns-2 Inv-loop μ-loop
 unfolding verdict
-returns-2 c = pass-all (c .before .loop .inv) (none-left (c .before .before .before .args .ws .now) (c .before .loop .at) (c .loop-test .left))
+returns-2 c =
+    let s = c .before .before .before in
+    let h : length (constraints (s .args .ws .now)) ≤ c .before .loop .k = omega (arith, s .pre .0 .counted, c .loop-test .left) in
+    pass-all (c .before .loop .inv .1) (drop-of-length-le (constraints (s .args .ws .now)) h)
 
 pub first-false-spec : {M : Type 1} → statement M
 first-false-spec =
@@ -68,20 +90,19 @@ first-false-spec =
     Inv-loop
     μ-loop
     loop-holds
-    (λ c. search needs)
-    (λ c. search needs)
-    (λ c. search needs)
+    mul-at
+    element-copy-out-at
+    mul-payload-of
+    shared-slice-read-payload-of
     (λ c κs. search needs)
-    (λ c κs. search needs)
-    (λ c. search needs)
-    (λ c. search needs)
-    (λ c. search needs)
+    add-holds
+    mul-holds
+    sub-holds
+    part-holds-start
     (λ c. search needs)
     (λ c κs. search needs)
     returns
     (λ c. search needs)
     (λ c. search needs)
     loop-again
-    (λ c. search needs)
-    loop-again-2
     returns-2)

@@ -1,94 +1,168 @@
--- The loop's invariant: reading the rest from here gives what reading the whole gives.
+-- The invariants: reading the rest from here gives what reading the whole gives, and what was seen so far is kept.
 use mathlib.Core.Path.{_≡_, refl, sym, _∙_}
-use mathlib.Core.Logic.{⊎-elim}
-use Prim.Native.Nat.{_+_, _-_}
+use Prim.Native.Nat.{_+_, _-_, _<_}
 use native.Mathlib.Omega.{arith}
-use lib.ListN.{length, getD}
-use borrow.Author.Tests.{lt-ltb, le-ltb}
 use borrow.Author.Needs.{needs}
-use Rattle.models.specs.Reading.{readModel}
+use lib.ListN.{length, take}
+use Rattle.words.specs.Word.{kind, payload, wordAt}
 use Rattle.models.specs.Shape.{shapes}
+use Rattle.models.specs.Reading.{faultHead}
 use Rattle.modelreading.specs.Argument.{table}
-use Rattle.modelreading.proofs.Declared.{started-small}
-use Rattle.modelreading.proofs.Loop.{Left, Turn, whole, stop, again, again-one, room-here, done}
-use Rattle.modelreading.proofs.Listed.{onward}
+use Rattle.modelreading.specs.Onward.{ArgumentsRead}
+use Rattle.modelreading.specs.Seen.{Declares}
+use Rattle.modelreading.proofs.Loop.{Opening, Posing, kept-fault, too-long, all-read, opening, opening-halted, opened, posing, head-halted, head-here, posing-one, arguments-halted, posing-on, after-end, no-fault, seen}
 use Rattle.modelreading.proofs.read_model.Statement.{statement}
 use Rattle.modelreading.proofs.read_model.Tie as tie
 
 abbrev Inv-loop : tie.InvT-loop
-Inv-loop ws table types₀ v₀ c₀ at₀ due₀ types v c at due = Left ws types v c at due
+Inv-loop ws heads table types₀ v₀ at₀ types v at = Opening ws types v at
 
 abbrev μ-loop : tie.MeasureT-loop
-μ-loop ws table types₀ v₀ c₀ at₀ due₀ types v c at due = length ws - at
+μ-loop ws heads table types₀ v₀ at₀ types v at = length ws - at
 
--- past fault 1
-rest : (c : tie.Else1 Inv-loop μ-loop) → whole (c .before .before .args .ws .now) ≡ readModel (c .before .before .args .ws .now)
-unfolding readModel
-rest c = rw (le-ltb _ _ (c .if1 .left))
+abbrev Inv-loop2 : tie.InvT-loop2
+Inv-loop2 ws heads₀ table types v at₀ sources c₀ heads at c = Posing ws types heads v sources c at
 
--- what a turn knows when the fault is found
-turn : (c : tie.After-of-due Inv-loop μ-loop) →
-    let p = c .before .before .before .before .before .before .before .before .loop in
-    Turn (c .before .before .before .before .before .before .before .before .before .before .before .args .ws .now) (p .types) (p .v) (p .c) (p .at) (p .due) (c .before .before .before .type-at .result) (c .of-due .result)
-turn c = record {
-  here = c .before .before .before .before .before .before .before .loop-test .taken;
-  left = c .before .before .before .before .before .before .before .before .loop .inv;
-  type = rw (c .before .before .before .before .payload-of .ensures) at (c .before .before .before .type-at .ensures);
-  found = c .of-due .ensures;
-}
+abbrev μ-loop2 : tie.MeasureT-loop2
+μ-loop2 ws heads₀ table types v at₀ sources c₀ heads at c = length ws - at
 
-returns : tie.Need-returns Inv-loop μ-loop
-unfolding readModel
-returns c = rw (lt-ltb _ _ (c .if1 .taken))
+returns : tie.Need-returns Inv-loop μ-loop Inv-loop2 μ-loop2
+returns c = kept-fault 1 0 (λ z. omega arith) (too-long _ (c .before .if1 .taken)) (c .refused .ensures)
+
+loop-holds : tie.Need-loop-holds Inv-loop μ-loop Inv-loop2 μ-loop2
+loop-holds c = opening (c .if1 .left) refl
+
+variable-at-requires : tie.Need-variable-at-requires Inv-loop μ-loop Inv-loop2 μ-loop2
+variable-at-requires c κs = (c .before .before .before .loop .inv .placed, c .before .before .word-at .ensures)
+
+-- the variable read
+variable : (c : tie.After-variable-at Inv-loop μ-loop Inv-loop2 μ-loop2) →
+    let p = c .before .before .before .before .loop in
+    Declares (c .before .before .before .before .before .before .before .args .ws .now) (p .v) (p .at) (c .before .before .declared-by .result) (c .variable-at .result)
+variable c = c .variable-at .ensures (c .before .before .declared-by .result) (c .before .before .declared-by .ensures) (c .before .if2 .left)
+
+returns-2 : tie.Need-returns-2 Inv-loop μ-loop Inv-loop2 μ-loop2
+returns-2 c =
+    let p = c .before .before .before in
+    kept-fault _ _ (c .before .if3 .taken) (opening-halted (p .before .before .before .before .loop .inv) (variable p) (c .before .if3 .taken) ∙ all-read _ (p .before .before .before .before .before .if1 .left)) (c .refused2 .ensures)
+
+mul-types : tie.Need-mul-types Inv-loop μ-loop Inv-loop2 μ-loop2
+mul-types c = omega (arith, variable (c .before .before) .room (c .if3 .left))
+
+array-write-types : tie.Need-array-write-types Inv-loop μ-loop Inv-loop2 μ-loop2
+array-write-types c = variable (c .before .before) .room (c .if3 .left)
+
+add-v : tie.Need-add-v Inv-loop μ-loop Inv-loop2 μ-loop2
+add-v c = record { fits = omega (arith, variable (c .before .before) .room (c .if3 .left)) }
+
+loop-less : tie.Need-loop-less Inv-loop μ-loop Inv-loop2 μ-loop2
+loop-less c = let p = c .before .before in omega (arith, variable p .on (c .if3 .left), variable p .inside (c .if3 .left))
+
+loop-again : tie.Need-loop-again Inv-loop μ-loop Inv-loop2 μ-loop2
+loop-again c = let p = c .before .before in opened (p .before .before .before .before .loop .inv) (variable p) (c .if3 .left)
+
+loop2-holds : tie.Need-loop2-holds Inv-loop μ-loop Inv-loop2 μ-loop2
+loop2-holds c = posing (c .before .before .before .loop .inv) (rw (c .before .before .word-at .ensures) at (sym (c .if2 .taken) ∙ c .before .declared-by .ensures)) (c .before .before .before .before .before .before .pre)
+
+-- the head's fault
+head : (c : tie.After-of-head Inv-loop μ-loop Inv-loop2 μ-loop2) →
+    let p = c .before .before .loop2 in
+    c .of-head .result ≡ faultHead (p .c) (wordAt (c .before .before .before .before .before .before .before .before .before .args .ws .now) (p .at))
+head c = c .of-head .ensures ∙ rw (c .before .word-at2 .ensures)
+
+returns-3 : tie.Need-returns-3 Inv-loop μ-loop Inv-loop2 μ-loop2
+returns-3 c =
+    let p = c .before .before in
+    kept-fault _ _ (c .before .if4 .taken) (head-halted (p .before .before .loop2 .inv) (head p) (c .before .if4 .taken) ∙ all-read _ (p .before .before .before .before .before .before .before .if1 .left)) (c .refused3 .ensures)
+
+-- it is no end
+not-end : (c : tie.Else5 Inv-loop μ-loop Inv-loop2 μ-loop2) →
+    let o = c .before .before .before in
+    kind (wordAt (o .before .before .before .before .before .before .before .before .before .args .ws .now) (o .before .before .loop2 .at)) ≡ 7 → ⊥
+not-end c k = c .if5 .left (c .before .kind-of .ensures ∙ rw (c .before .before .before .before .word-at2 .ensures) k)
+
+room : (c : tie.Else5 Inv-loop μ-loop Inv-loop2 μ-loop2) → c .before .before .before .before .before .loop2 .c < 256
+room c = let o = c .before .before .before in posing-one (o .before .before .loop2 .inv) (head o) (c .before .before .if4 .left) (not-end c) .0
+
+inside : (c : tie.Else5 Inv-loop μ-loop Inv-loop2 μ-loop2) →
+    let o = c .before .before .before in
+    o .before .before .loop2 .at < length (o .before .before .before .before .before .before .before .before .before .args .ws .now)
+inside c = let o = c .before .before .before in head-here (o .before .before .loop2 .inv) (head o) (c .before .before .if4 .left)
+
+mul-heads : tie.Need-mul-heads Inv-loop μ-loop Inv-loop2 μ-loop2
+mul-heads c = record { fits = omega (arith, room c) }
+
+element-write-heads : tie.Need-element-write-heads Inv-loop μ-loop Inv-loop2 μ-loop2
+element-write-heads c = room c
+
+add-c : tie.Need-add-c Inv-loop μ-loop Inv-loop2 μ-loop2
+add-c c = record { fits = omega (arith, room c) }
+
+add-arguments-at : tie.Need-add-arguments-at Inv-loop μ-loop Inv-loop2 μ-loop2
+add-arguments-at c = let o = c .before .before .before in record { fits = omega (arith, inside c, o .before .before .loop2 .inv .placed .few) }
 
 -- the table is the definition's: antt computes this once, for the whole table
-argument-due-requires : tie.Need-argument-due-requires Inv-loop μ-loop
+arguments-at-requires : tie.Need-arguments-at-requires Inv-loop μ-loop Inv-loop2 μ-loop2
 unfolding table shapes
-argument-due-requires c κs = refl
+arguments-at-requires c κs =
+    let p = c .before .before .before in
+    let i = p .before .before .before .before .before .loop2 .inv in
+    (record { within = omega (arith, inside p); few = i .placed .few }, i .few, refl)
 
-returns-2 : tie.Need-returns-2 Inv-loop μ-loop
-returns-2 c = stop (turn (c .before)) (c .if2 .taken) ∙ rest (c .before .before .before .before .before .before .before .before .before .before)
+-- the arguments read
+arguments : (c : tie.After-arguments-at Inv-loop μ-loop Inv-loop2 μ-loop2) →
+    let o = c .before .before .before .before .before .before .before in
+    let ws = o .before .before .before .before .before .before .before .before .before .args .ws .now in
+    let l = o .before .before .before .before .before .before .loop in
+    ArgumentsRead ws (take (l .v) (l .types)) (payload (wordAt ws (o .before .before .loop2 .at))) (o .before .before .loop2 .at + 1) (c .arguments-at .result)
+arguments c = rw (c .before .before .before .payload-of .ensures, c .before .before .before .before .before .before .before .before .word-at2 .ensures) at (c .arguments-at .ensures)
 
-add-c : tie.Need-add-c Inv-loop μ-loop
-add-c c =
-    let s = c .before .before .before .before .before .before .before .before .before .before .before .before .before .before in
-    let loop = c .before .before .before .before .before .before .before .before .before .before .before .loop in
-    record { fits = omega (arith, c .started-by .ensures, started-small (getD (s .args .ws .now) (loop .at) 0), loop .inv .counted) }
+returns-4 : tie.Need-returns-4 Inv-loop μ-loop Inv-loop2 μ-loop2
+returns-4 c =
+    let p = c .before .before .before in
+    let q = p .before .before .before .before in
+    let o = q .before .before .before in
+    kept-fault _ _ (c .before .if6 .taken)
+    (arguments-halted (o .before .before .loop2 .inv) (head o) (q .before .before .if4 .left) (not-end q) (arguments p) (c .before .if6 .taken) ∙ all-read _ (o .before .before .before .before .before .before .before .if1 .left))
+    (c .refused4 .ensures)
 
-array-write-types : tie.Need-array-write-types Inv-loop μ-loop
-array-write-types c =
-    let p = c .before .before .before .before .before in
-    let if2 = c .before .before .before .before .if2 in
-    room-here (turn p) (if2 .left) (c .before .declared-by .result) (c .before .declared-by .ensures) (c .if3 .taken)
+loop2-less : tie.Need-loop2-less Inv-loop μ-loop Inv-loop2 μ-loop2
+loop2-less c =
+    let p = c .before .before in
+    let a = arguments p 0 in
+    omega (arith, inside (p .before .before .before .before), a .on, a .inside)
 
--- what is left after the word
-passed : (c : tie.Joined3 Inv-loop μ-loop) →
-    let p = c .before .before .before .before .before .before .before .before .before .before .before .before .before in
-    Left (p .before .before .before .args .ws .now) (c .if3 .types) (c .if3 .v) (p .loop .c + c .before .before .started-by .result) (p .loop .at + 1) (c .before .before .before .after-due .result)
-passed c =
-    let p = c .before .before .before .before .before in
-    let if2 = c .before .before .before .before .if2 in
-    let after-due = c .before .before .before .after-due in
-    let started-by = c .before .before .started-by in
-    ⊎-elim
-    (λ w. rw (w .1, w .2, started-by .ensures, after-due .ensures) (again-one (turn p) (if2 .left) (c .before .declared-by .result) (c .before .declared-by .ensures) (w .0 .taken)))
-    (λ w. rw (w .1, w .2, started-by .ensures, after-due .ensures) (again (turn p) (if2 .left) (sym (w .0 .left) ∙ c .before .declared-by .ensures)))
-    (c .if3 .came)
+loop2-again : tie.Need-loop2-again Inv-loop μ-loop Inv-loop2 μ-loop2
+loop2-again c =
+    let p = c .before .before in
+    let q = p .before .before .before .before in
+    let o = q .before .before .before in
+    posing-on (o .before .before .loop2 .inv) (head o) (q .before .before .if4 .left) (not-end q) (arguments p) (c .if6 .left)
 
-listed-at-requires : tie.Need-listed-at-requires Inv-loop μ-loop
-listed-at-requires c κs = (search needs, passed (c .before) .few)
+-- the end word
+ended : (c : tie.Then5 Inv-loop μ-loop Inv-loop2 μ-loop2) →
+    let o = c .before .before .before in
+    kind (wordAt (o .before .before .before .before .before .before .before .before .before .args .ws .now) (o .before .before .loop2 .at)) ≡ 7
+ended c = rw (c .before .before .before .before .word-at2 .ensures) at (sym (c .before .kind-of .ensures) ∙ c .if5 .taken)
 
-add-at-2 : tie.Need-add-at-2 Inv-loop μ-loop
-add-at-2 c = record { fits = omega (arith, c .listed-at .ensures .1 .inside) }
+returns-5 : tie.Need-returns-5 Inv-loop μ-loop Inv-loop2 μ-loop2
+returns-5 c =
+    let q = c .before .before in
+    let o = q .before .before .before in
+    kept-fault _ _ (λ z. omega arith)
+    (after-end (o .before .before .loop2 .inv) (head o) (q .before .before .if4 .left) (ended q) (c .before .if7 .taken) ∙ all-read _ (o .before .before .before .before .before .before .before .if1 .left))
+    (c .refused5 .ensures)
 
-past-requires : tie.Need-past-requires Inv-loop μ-loop
-past-requires c κs = c .listed-at .ensures .0
-
-loop-again : tie.Need-loop-again Inv-loop μ-loop
-loop-again c = rw (c .past .ensures) (onward _ _ _ (c .before .listed-at .ensures) (passed (c .before .before .before)))
-
-returns-3 : tie.Need-returns-3 Inv-loop μ-loop
-returns-3 c = c .refusal-at-end .ensures ∙ done (c .before .loop-test .left) (c .before .before .loop .inv) ∙ rest (c .before .before .before)
+returns-6 : tie.Need-returns-6 Inv-loop μ-loop Inv-loop2 μ-loop2
+returns-6 c =
+    let q = c .before in
+    let o = q .before .before .before in
+    let i = o .before .before .loop2 .inv in
+    let z = q .before .before .if4 .left in
+    record {
+      refusal = no-fault i (head o) z (ended q) (c .if7 .left) ∙ all-read _ (o .before .before .before .before .before .before .before .if1 .left);
+      seen = λ n. seen i (head o) z (ended q) (c .if7 .left);
+    }
 
 pub read-model-spec : {M : Type 1} → statement M
 read-model-spec =
@@ -96,27 +170,39 @@ read-model-spec =
     (tie.spec
     Inv-loop
     μ-loop
+    Inv-loop2
+    μ-loop2
+    (λ c κs. search needs)
     returns
-    (λ c. search needs)
-    (λ c. search needs)
-    (λ c. search needs)
+    loop-holds
     (λ c κs. search needs)
     (λ c κs. search needs)
-    argument-due-requires
+    variable-at-requires
     (λ c κs. search needs)
     returns-2
-    (λ c κs. search needs)
-    (λ c κs. search needs)
-    add-c
-    (λ c κs. search needs)
-    (λ c. search needs)
+    mul-types
     array-write-types
-    (λ c. search needs)
-    (λ c. search needs)
-    listed-at-requires
-    add-at-2
-    past-requires
-    (λ c. search needs)
+    add-v
+    loop-less
     loop-again
+    loop2-holds
     (λ c κs. search needs)
-    returns-3)
+    (λ c κs. search needs)
+    (λ c κs. search needs)
+    returns-3
+    (λ c κs. search needs)
+    mul-heads
+    element-write-heads
+    add-c
+    add-arguments-at
+    (λ c κs. search needs)
+    arguments-at-requires
+    (λ c κs. search needs)
+    returns-4
+    loop2-less
+    loop2-again
+    (λ c. search needs)
+    (λ c. search needs)
+    (λ c κs. search needs)
+    returns-5
+    returns-6)

@@ -1,0 +1,75 @@
+-- Each word inside a constraint, from what is due there to what is due after it.
+use mathlib.Core.Path.{_≡_, refl}
+use mathlib.Core.List.{List}
+use Prim.Native.Nat.{ℕ, _+_, _-_, _<_, _≤_}
+use native.Mathlib.Omega.{arith}
+use borrow.Author.Tests.{lt-ltb, le-ltb, le-leb, ne-eqb}
+use lib.ListN.{length, getD, List·getD-eq-default}
+use Rattle.words.specs.Word.{kind, payload, wordAt}
+use Rattle.models.specs.Shape.{argument}
+use Rattle.models.specs.Reading.{faultNumber, faultVariable, faultLength, faultArgument, faultEnd, faultDue, afterDue, afterArgument}
+use Rattle.models.specs.declared.Due.the-variants.{Arguments}
+use Rattle.models.proofs.Sound.{Plain, plain, is-number, is-variable, is-length}
+use Rattle.modelreading.specs.Onward.{Went, stepOver, argumentsFrom, NumbersRead, VariablesRead}
+use Rattle.modelreading.proofs.Steps.{step, and-then, or-halted, over-fault}
+
+module _ (ws ts : List ℕ) (c at : ℕ) (h : at ≤ length ws) where
+  abbrev w : ℕ
+  w = wordAt ws at
+
+  abbrev t : ℕ
+  t = getD ts (payload w) 0
+
+  plain-number : faultNumber w ≡ 0 → Plain w
+  plain-number e = plain (is-number w e) (omega arith) (omega arith)
+
+  plain-variable : (type : ℕ) → faultVariable t type w ≡ 0 → Plain w
+  plain-variable type e = plain (is-variable w t type e .0) (omega arith) (omega arith)
+
+  plain-length : faultLength w ≡ 0 → Plain w
+  plain-length e = plain (is-length w e .0) (omega arith) (omega arith)
+
+  -- of a list
+  pub a-number : (n l type code k : ℕ) → 0 < n → Went ws ts c (Arguments n l type code k) at (Arguments (n - 1) l type code k) (stepOver (faultNumber w) at)
+  unfolding faultEnd faultDue afterDue
+  a-number n l type code k p = step h refl plain-number (rw (lt-ltb 0 n p)) (rw (lt-ltb 0 n p))
+
+  pub a-variable : (n type code k : ℕ) → 0 < n → Went ws ts c (Arguments 0 n type code k) at (Arguments 0 (n - 1) type code k) (stepOver (faultVariable t type w) at)
+  unfolding faultEnd faultDue afterDue
+  a-variable n type code k p = step h refl (plain-variable type) (rw (lt-ltb 0 n p)) (rw (lt-ltb 0 n p))
+
+  -- of an argument
+  module _ (arg code k : ℕ) (e : arg ≡ argument code k) where
+    pub one-variable : 1 ≤ arg → arg < 3 → Went ws ts c (argumentsFrom code k) at (argumentsFrom code (k + 1)) (stepOver (faultVariable t arg w) at)
+    unfolding faultEnd faultDue afterDue faultArgument afterArgument
+    one-variable l m = step h refl (plain-variable arg) (rw (← e, ne-eqb arg 0 (λ z. omega arith), lt-ltb arg 3 m)) (rw (← e, ne-eqb arg 0 (λ z. omega arith), le-leb arg 3 (omega arith)))
+
+    pub one-number : arg ≡ 3 → Went ws ts c (argumentsFrom code k) at (argumentsFrom code (k + 1)) (stepOver (faultNumber w) at)
+    unfolding faultEnd faultDue afterDue faultArgument afterArgument
+    one-number l = step h refl plain-number (rw (← e, l)) (rw (← e, l))
+
+    pub a-length : 4 ≤ arg → Went ws ts c (argumentsFrom code k) at (afterArgument arg code (k + 1) w) (stepOver (faultLength w) at)
+    unfolding faultEnd faultDue afterDue faultArgument
+    a-length l = step h refl plain-length (rw (← e, ne-eqb arg 0 (λ z. omega arith), le-ltb arg 3 (omega arith), ne-eqb arg 3 (λ z. omega arith))) (rw (← e, ne-eqb arg 0 (λ z. omega arith)))
+
+-- ---- one more word of a list, and the end of the words before it
+
+module _ {ws : List ℕ} {n at left place : ℕ} (p : 0 < left) where
+  pub more-numbers : NumbersRead ws n at left (record { number = 0; at = place }) → (f : ℕ) → f ≡ faultNumber (wordAt ws place) → NumbersRead ws n at (left - 1) (stepOver f place)
+  more-numbers h f e ts c l type code k = let g = h ts c l type code k in and-then g refl (rw e (a-number ws ts c place (g .inside) left l type code k p))
+
+  pub no-number : NumbersRead ws n at left (record { number = 0; at = place }) → length ws ≤ place → NumbersRead ws n at 0 (record { number = 3; at = place })
+  unfolding faultNumber wordAt kind
+  no-number h o ts c l type code k =
+      let z : _≡_ {A = ℕ} 3 0 → ⊥ = λ e. omega arith in
+      or-halted (rw (over-fault 3 place z) at (more-numbers h 3 (rw (List·getD-eq-default ws 0 {n = place} o)) ts c l type code k)) z
+
+  module _ {ts : List ℕ} {type : ℕ} where
+    pub more-variables : VariablesRead ws ts type n at left (record { number = 0; at = place }) → (f : ℕ) → f ≡ faultVariable (getD ts (payload (wordAt ws place)) 0) type (wordAt ws place) → VariablesRead ws ts type n at (left - 1) (stepOver f place)
+    more-variables h f e c code k = let g = h c code k in and-then g refl (rw e (a-variable ws ts c place (g .inside) left type code k p))
+
+    pub no-variable : VariablesRead ws ts type n at left (record { number = 0; at = place }) → length ws ≤ place → VariablesRead ws ts type n at 0 (record { number = 3; at = place })
+    unfolding faultVariable wordAt kind
+    no-variable h o c code k =
+        let z : _≡_ {A = ℕ} 3 0 → ⊥ = λ e. omega arith in
+        or-halted (rw (over-fault 3 place z) at (more-variables h 3 (rw (List·getD-eq-default ws 0 {n = place} o)) c code k)) z

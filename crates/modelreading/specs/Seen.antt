@@ -1,0 +1,57 @@
+-- What reading keeps of a model.
+use mathlib.Core.Path.{_≡_}
+use mathlib.Core.List.{List, [], _∷_, _++_, map}
+use Prim.Native.Nat.{ℕ, _+_, _<_, _≤_}
+use lib.Dec.{eqb}
+use lib.ListN.{length, getD, drop, take}
+use Rattle.integers.specs.Choice.{_if_else_}
+use Rattle.words.specs.Fault as Fault
+use Rattle.words.specs.Kind as Kind
+use Rattle.words.specs.Word.{payload, wordAt}
+use Rattle.words.specs.Refusal.{_at-place_, accepted}
+use Rattle.words.specs.Variables.{variables}
+use Rattle.models.specs.Model.{Constraint, constraintsFrom, constraints, sourceWords}
+use Rattle.models.specs.Reading.{declared, readModel}
+use Rattle.models.specs.declared.Due.the-variants.{Start}
+use Rattle.modelreading.specs.Onward.{onward, stopped}
+use Rattle.modelreading.specs.declared.items.Step.{Step}
+use Rattle.modelreading.specs.declared.Read.{Read}
+
+-- the constraint whose head stands at a place
+abbrev pub headed : List ℕ → ℕ → Constraint
+headed ws at = record { place = at; code = payload (wordAt ws at); arguments = drop (at + 1) ws }
+
+-- a variable's words stand from one place to another
+pub record Passed (ws : List ℕ) (at to : ℕ) : Type 0 where
+  pub one-variable : length (variables (drop at ws)) ≡ length (variables (drop to ws)) + 1
+  pub more-sources : at + length (sourceWords (drop at ws)) ≡ to + length (sourceWords (drop to ws))
+  pub same-constraints : constraintsFrom at (drop at ws) ≡ constraintsFrom to (drop to ws)
+
+-- the step r leads past a variable of the type d, after v variables, or to the first fault
+pub record Declares (ws : List ℕ) (v at d : ℕ) (r : Step) : Type 0 where
+  pub reads : (ts : List ℕ) → length ts ≡ v → onward Start ts 0 at ws ≡ (onward Start (ts ++ (d ∷ [])) 0 (r .at) ws if eqb (r .number) Fault.none else stopped ws (r .number) (r .at))
+  pub room : r .number ≡ 0 → v < 256
+  pub on : r .number ≡ 0 → at < r .at
+  pub inside : r .number ≡ 0 → r .at ≤ length ws
+  pub passed : r .number ≡ 0 → Passed ws at (r .at)
+
+abbrev pub VariableRead : List ℕ → ℕ → ℕ → ℕ → Step → Type 0
+VariableRead ws v at w r = (d : ℕ) → d ≡ getD (declared w) 0 0 → (d ≡ 0 → ⊥) → Declares ws v at d r
+
+-- the first n of hs are the places of the constraints' heads
+pub record Heads (ws hs : List ℕ) (n : ℕ) : Type 0 where
+  pub room : n ≤ 256
+  pub counted : n ≡ length (constraints ws)
+  pub places : map (headed ws) (take n hs) ≡ constraints ws
+
+-- what is kept of an accepted model: how many variables, how many words they take, how many constraints, and where their heads stand
+pub record Seen (ws hs : List ℕ) (r : Read) : Type 0 where
+  pub accepts : readModel ws ≡ accepted
+  pub variables-counted : r .variables ≡ length (variables ws)
+  pub sources-counted : r .sources ≡ length (sourceWords ws)
+  pub heads : Heads ws hs (r .constraints)
+
+-- what reading answers
+pub record Kept (ws : List ℕ) (hs : List ℕ) (r : Read) : Type 0 where
+  pub refusal : r .number at-place r .place ≡ readModel ws
+  pub seen : r .number ≡ 0 → Seen ws hs r
