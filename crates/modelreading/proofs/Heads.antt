@@ -16,10 +16,10 @@ use Rattle.words.specs.Word.{kind, payload, wordAt}
 use Rattle.words.specs.Refusal.{accepted}
 use Rattle.words.specs.Variables.{variables, startsPair}
 use Rattle.words.proofs.Sources.{Sources, none, integer, boolean}
-use Rattle.models.specs.Model.{Constraint, constraintsFrom, constraints, sourceWords}
+use Rattle.models.specs.Model.{Constraint, headed, constraintsFrom, constraints, sourceWords}
 use Rattle.models.specs.Reading.{readModel}
 use Rattle.models.proofs.Accepted.{split, sources-are}
-use Rattle.modelreading.specs.Seen.{headed, Heads}
+use Rattle.modelreading.specs.Seen.{Heads}
 
 -- every constraint's head is among the words
 stands : (p : ℕ) (ws : List ℕ) → All (λ c. c .place < p + length ws) (constraintsFrom p ws)

@@ -18,7 +18,7 @@ use Rattle.words.specs.Refusal.{_at-place_, accepted}
 use Rattle.words.specs.Variables.{variables}
 use Rattle.words.specs.declared.Refusal.{Refusal}
 use Rattle.words.proofs.Reading.{word-then}
-use Rattle.models.specs.Model.{constraintsFrom, constraints, sourceWords}
+use Rattle.models.specs.Model.{headed, constraintsFrom, constraints, sourceWords}
 use Rattle.models.specs.Reading.{faultHead, faultEnd, faultDue, afterHead, declared, started, readModel}
 use Rattle.models.specs.declared.Due.the-variants.{Start, Ended}
 use Rattle.models.proofs.Sound.{is-head, at-constraint, at-end}
@@ -26,7 +26,7 @@ use Rattle.models.proofs.Constraints.{starts-one}
 use Rattle.modelreading.specs.declared.items.Step.{Step}
 use Rattle.modelreading.specs.declared.Read.{Read}
 use Rattle.modelreading.specs.Onward.{onward, stopped, Placed, heads, argumentsFrom, ArgumentsRead}
-use Rattle.modelreading.specs.Seen.{headed, Declares, Seen, Kept}
+use Rattle.modelreading.specs.Seen.{Declares, Seen, Kept}
 use Rattle.modelreading.proofs.Onward.{faultAt, here, go-on, stop-here, end-here, stop-at, start-heads, head-fault, head-after}
 use Rattle.modelreading.proofs.Steps.{gone, halted, present}
 use Rattle.modelreading.proofs.Variable.{none-declared, none-posed}

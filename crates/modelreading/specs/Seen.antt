@@ -6,20 +6,14 @@ use lib.Dec.{eqb}
 use lib.ListN.{length, getD, drop, take}
 use Rattle.integers.specs.Choice.{_if_else_}
 use Rattle.words.specs.Fault as Fault
-use Rattle.words.specs.Kind as Kind
-use Rattle.words.specs.Word.{payload, wordAt}
 use Rattle.words.specs.Refusal.{_at-place_, accepted}
 use Rattle.words.specs.Variables.{variables}
-use Rattle.models.specs.Model.{Constraint, constraintsFrom, constraints, sourceWords}
+use Rattle.models.specs.Model.{headed, constraintsFrom, constraints, sourceWords}
 use Rattle.models.specs.Reading.{declared, readModel}
 use Rattle.models.specs.declared.Due.the-variants.{Start}
 use Rattle.modelreading.specs.Onward.{onward, stopped}
 use Rattle.modelreading.specs.declared.items.Step.{Step}
 use Rattle.modelreading.specs.declared.Read.{Read}
-
--- the constraint whose head stands at a place
-abbrev pub headed : List ℕ → ℕ → Constraint
-headed ws at = record { place = at; code = payload (wordAt ws at); arguments = drop (at + 1) ws }
 
 -- a variable's words stand from one place to another
 pub record Passed (ws : List ℕ) (at to : ℕ) : Type 0 where

@@ -3,7 +3,7 @@ use mathlib.Core.List.{List, [], _∷_, map}
 use Prim.Native.Nat.{ℕ, _+_}
 use lib.Dec.{leb, eqb}
 use lib.IntN.{ℤ}
-use lib.ListN.{getD}
+use lib.ListN.{getD, drop}
 use Rattle.integers.specs.Choice.{_if_else_}
 use Rattle.integers.specs.Lists.{listOf}
 use Rattle.integers.specs.Terms.{Term, _·_}
@@ -18,6 +18,10 @@ pub record Constraint : Type 0 where
   pub place : ℕ
   pub code : ℕ
   pub arguments : List ℕ
+
+-- the constraint whose head stands at a place
+abbrev pub headed : List ℕ → ℕ → Constraint
+headed ws at = record { place = at; code = payload (wordAt ws at); arguments = drop (at + 1) ws }
 
 -- one for each word of kind 4, the words counted from p
 unfoldable pub constraintsFrom : ℕ → List ℕ → List Constraint

@@ -11,8 +11,7 @@ use Rattle.words.specs.Verdict.{verdict}
 use Rattle.words.proofs.Judge.{Passed, none-passed, pass-one, fail-one, pass-all}
 use Rattle.words.proofs.Reading.{tail-is}
 use Rattle.models.specs.Meaning.{meaning}
-use Rattle.models.specs.Model.{builtin, constraints}
-use Rattle.modelreading.specs.Seen.{headed}
+use Rattle.models.specs.Model.{headed, builtin, constraints}
 use Rattle.modelreading.proofs.Heads.{head-at, head-inside}
 use Rattle.modeljudge.proofs.first_false.Statement.{statement}
 use Rattle.modeljudge.proofs.first_false.Tie as tie
