@@ -20,7 +20,7 @@ use denote.Laws.{Is, Makes, Lawful, Copy, Tells, Typed, shows}
 use denote.Memory.{cellAt, lone, partAt, partOf, pointee, shares}
 use denote.Array.{Array, array-vals, array-tells, array-typed}
 use denote.ArrayMemory.{array-apart, array-whole}
-use denote.Builtin.{u32}
+use denote.Builtin.{u32, usize}
 use denote.Slice.{Room, sliceTy}
 use denote.Steps.{only, peeks}
 use denote.Struct.Laws as LL
@@ -43,6 +43,13 @@ slice k = sliceTy (tyRef (named k) imm (pointee (R .written)))
 -- a reference to words, at the first lifetime
 abbrev pub words : Ty
 words = sliceTy (tyRef (named 0) imm (pointee (u32 .written)))
+
+-- the places of 256 heads, and a reference to them, at the second lifetime
+abbrev pub Heads : RattleType
+Heads = Array usize 256
+
+abbrev pub heads : Ty
+heads = tyRef (named 1) imm (pointee (Heads .written))
 
 -- past the end of a list
 abbrev pub none : Bounds

@@ -1,29 +1,25 @@
 -- The sum of a constraint by the words of the whole model, as the code finds it: a is the place after the constraint's head. And the sums of all constraints.
-use mathlib.Core.List.{List, [], _∷_}
-use Prim.Native.Nat.{ℕ, zero, suc, _+_, _-_}
+use mathlib.Core.List.{List}
+use Prim.Native.Nat.{ℕ, zero, suc, _+_, _-_, _<_}
 use lib.Dec.{eqb}
 use lib.IntN.{ℤ}
-use lib.ListN.{set, drop, replicate}
+use lib.ListN.{length, getD, set, replicate}
 use Rattle.integers.specs.Choice.{_if_else_}
 use Rattle.integers.specs.Number.{_⊕_, _⊗_, minZ, maxZ, +0, +1, -1}
 use Rattle.integers.specs.Bounds.{_to_, boundsIn}
 use Rattle.integers.specs.Lists.{listOf}
 use Rattle.integers.specs.Terms.{Term, _·_}
 use Rattle.integers.specs.declared.Bounds.{Bounds}
-use Rattle.words.specs.Kind as Kind
 use Rattle.words.specs.Small.{Near}
-use Rattle.words.specs.Word.{kind, payload, wordAt}
+use Rattle.words.specs.Word.{payload, wordAt}
 use Rattle.models.specs.Model.{var, num, size, past, pastTerms}
 use Rattle.rules.specs.Parts.{L, U}
 use Rattle.linearsums.specs.Sum.{noSum, ofTwo, formOf}
 
 module _ (ws : List ℕ) where
-  -- the code of the constraint whose head stands before place a, 0 if none does
+  -- the code of the constraint whose head stands before place a, 0 at the front
   unfoldable pub codeBefore : ℕ → ℕ
-  codeBefore a =
-      0 if eqb a 0 else
-      payload (wordAt ws (a - 1)) if eqb (kind (wordAt ws (a - 1))) Kind.constraint else
-      0
+  codeBefore a = 0 if eqb a 0 else payload (wordAt ws (a - 1))
 
   -- which sum it has
   unfoldable pub formBefore : ℕ → ℕ
@@ -66,26 +62,17 @@ withTerm T n B = T .lower ⊕ minZ (n ⊗ B .lower) (n ⊗ B .upper) to T .upper
 
 -- ---- all constraints of a model
 
--- how many words there are up to the first head of a constraint, it included; all if there is none
-unfoldable pub upToHead : List ℕ → ℕ
-upToHead [] = 0
-upToHead (w ∷ ws) = 1 if eqb (kind w) Kind.constraint else suc (upToHead ws)
+-- the words have a place for each of the first n heads
+abbrev pub HeadsInside : List ℕ → List ℕ → ℕ → Type 0
+HeadsInside ws hs n = (k : ℕ) → k < n → getD hs k 0 < length ws
 
--- the place after the first head from a place on, and after k heads from the front
-unfoldable pub afterHead : List ℕ → ℕ → ℕ
-afterHead ws from = from + upToHead (drop from ws)
-
-unfoldable pub afterHeads : List ℕ → ℕ → ℕ
-afterHeads ws zero = 0
-afterHeads ws (suc k) = afterHead ws (afterHeads ws k)
-
--- L and U of the sums of the first k constraints, in a list for 256 constraints
+-- L and U of the sums of the first k constraints, whose heads stand at the places hs, in a list for 256 constraints
 unfoldable pub noSums : List Bounds
 noSums = replicate 256 (+0 to +0)
 
-unfoldable pub sumsUpTo : List ℕ → (ℕ → Bounds) → ℕ → List Bounds
-sumsUpTo ws β zero = noSums
-sumsUpTo ws β (suc k) = set (sumsUpTo ws β k) k (sumBounds ws (afterHeads ws (suc k)) β)
+unfoldable pub sumsUpTo : List ℕ → List ℕ → (ℕ → Bounds) → ℕ → List Bounds
+sumsUpTo ws hs β zero = noSums
+sumsUpTo ws hs β (suc k) = set (sumsUpTo ws hs β k) k (sumBounds ws (getD hs k 0 + 1) β)
 
 -- the bounds of every variable are near 0
 abbrev pub BoundsNear : List Bounds → Type 0

@@ -2,14 +2,14 @@
 ghost use mathlib.Core.Path.{_≡_};
 ghost use Prim.Native.Nat.{_+_, _<_, _≤_};
 ghost use lib.IntN.{natAbs};
-ghost use lib.ListN.{length};
+ghost use lib.ListN.{length, getD};
 ghost use Rattle.integers.specs.Choice.{_if_else_};
 ghost use Rattle.integers.specs.Number.{_⊕_, _⊖_, _⊗_, minZ, maxZ, +0};
 ghost use Rattle.integers.specs.Bounds.{_to_, boundsIn};
 ghost use Rattle.words.specs.Small.{Near};
 ghost use Rattle.extremes.specs.Bounded.{boundsOf, Bounded};
 ghost use Rattle.linearsums.specs.Sum.{formOf};
-ghost use Rattle.linearsums.specs.Places.{codeBefore, formBefore, sumSize, sumNumber, sumVariable, sumConstant, sumBounds, withTerm, BoundsNear, afterHead, noSums, sumsUpTo};
+ghost use Rattle.linearsums.specs.Places.{codeBefore, formBefore, sumSize, sumNumber, sumVariable, sumConstant, sumBounds, withTerm, BoundsNear, HeadsInside, noSums, sumsUpTo};
 use arguments::num_at;
 use arguments::past_at;
 use arguments::past_terms_at;
@@ -20,8 +20,6 @@ use extremes::times_ends;
 use integers::Bounds;
 use integers::minus;
 use integers::plus;
-use words::kind;
-use words::kind_of;
 use words::limit;
 use words::payload_of;
 use words::word_at;
@@ -46,18 +44,14 @@ fn form_of(code: usize) -> usize
     }
 }
 
-// The code of the constraint whose head stands before place a, 0 if none does.
+// The code of the constraint whose head stands before place a, 0 at the front.
 fn code_before(ws: &[u32], a: usize) -> usize
     ensures { λ r. ⌜ r ≡ codeBefore (now (ws .entry)) a ⌝ }
 {
     if a == 0 {
         return 0;
     }
-    let w = word_at(ws, a - 1);
-    if kind_of(w) == kind::CONSTRAINT {
-        return payload_of(w);
-    }
-    0
+    payload_of(word_at(ws, a - 1))
 }
 
 // Which sum it has.
@@ -179,19 +173,12 @@ pub fn sum_bounds(ws: &[u32], a: usize, bounds: &[Bounds]) -> Bounds
     total
 }
 
-// The place after the next head of a constraint, from a place on; the end if there is none.
-pub fn after_head(ws: &[u32], from: usize) -> usize
-    ensures { λ r. ⌜ r ≡ afterHead (now (ws .entry)) from ⌝ }
+// The place after the head of constraint k.
+pub fn after_head(heads: &[usize; 256], k: usize) -> usize
+    requires { ⌜ (k < 256) × (getD (now heads) k 0 < 1099511627776) ⌝ }
+    ensures { λ r. ⌜ r ≡ getD (now (heads .entry)) k 0 + 1 ⌝ }
 {
-    let mut p = from;
-    while p < ws.len() {
-        let w = ws[p];
-        p += 1;
-        if kind_of(w) == kind::CONSTRAINT {
-            return p;
-        }
-    }
-    p
+    heads[k] + 1
 }
 
 // No sums yet.
@@ -202,28 +189,36 @@ pub fn no_sums() -> [Bounds; 256]
     [none; 256]
 }
 
-// L and U of the sum of each constraint, in the order of the constraints.
-pub fn constraint_sums(ws: &[u32], bounds: &[Bounds]) -> [Bounds; 256]
-    requires { ⌜ (length (now ws) < 1099511627776) × BoundsNear (now bounds) ⌝ }
-    ensures { λ r. ⌜ r ≡ sumsUpTo (now (ws .entry)) (boundsIn (now (bounds .entry))) 256 ⌝ }
+// L and U of the sum of each of the n constraints, whose heads stand at these places.
+pub fn constraint_sums(
+    ws: &[u32],
+    heads: &[usize; 256],
+    n: usize,
+    bounds: &[Bounds],
+) -> [Bounds; 256]
+    requires { ⌜ (length (now ws) < 1099511627776) × (n ≤ 256) × HeadsInside (now ws) (now heads) n × BoundsNear (now bounds) ⌝ }
+    ensures { λ r. ⌜ r ≡ sumsUpTo (now (ws .entry)) (now (heads .entry)) (boundsIn (now (bounds .entry))) n ⌝ }
 {
     let mut sums = no_sums();
     let mut k = 0;
-    let mut a = 0;
-    while k < limit::CONSTRAINTS {
-        a = after_head(ws, a);
-        sums[k] = sum_bounds(ws, a, bounds);
+    while k < n {
+        sums[k] = sum_bounds(ws, after_head(heads, k), bounds);
         k += 1;
     }
     sums
 }
 
 // The same of bounds that are passed by value: they are lent as a list.
-pub fn lend_bounds(ws: &[u32], bounds: [Bounds; 256]) -> [Bounds; 256]
-    requires { ⌜ (length (now ws) < 1099511627776) × BoundsNear bounds ⌝ }
-    ensures { λ r. ⌜ r ≡ sumsUpTo (now (ws .entry)) (boundsIn bounds) 256 ⌝ }
+pub fn lend_bounds(
+    ws: &[u32],
+    heads: &[usize; 256],
+    n: usize,
+    bounds: [Bounds; 256],
+) -> [Bounds; 256]
+    requires { ⌜ (length (now ws) < 1099511627776) × (n ≤ 256) × HeadsInside (now ws) (now heads) n × BoundsNear bounds ⌝ }
+    ensures { λ r. ⌜ r ≡ sumsUpTo (now (ws .entry)) (now (heads .entry)) (boundsIn bounds) n ⌝ }
 {
-    constraint_sums(ws, &bounds)
+    constraint_sums(ws, heads, n, &bounds)
 }
 
 // The bounds of the variables as records, one for each, from the lists of lower and of upper bounds.
@@ -246,9 +241,15 @@ fn records_of(ls: &[i64], us: &[i64]) -> [Bounds; 256]
 }
 
 // L and U of the sum of each constraint of a model, whose variables have these bounds: the records are made once, and lent.
-pub fn model_sums(ws: &[u32], ls: &[i64], us: &[i64]) -> [Bounds; 256]
-    requires { ⌜ (length (now ws) < 1099511627776) × (length (now ls) ≤ 256) × (length (now us) ≤ 256) × Bounded (now ls) × Bounded (now us) ⌝ }
-    ensures { λ r. ⌜ r ≡ sumsUpTo (now (ws .entry)) (boundsOf (now (ls .entry)) (now (us .entry))) 256 ⌝ }
+pub fn model_sums(
+    ws: &[u32],
+    heads: &[usize; 256],
+    n: usize,
+    ls: &[i64],
+    us: &[i64],
+) -> [Bounds; 256]
+    requires { ⌜ (length (now ws) < 1099511627776) × (n ≤ 256) × HeadsInside (now ws) (now heads) n × (length (now ls) ≤ 256) × (length (now us) ≤ 256) × Bounded (now ls) × Bounded (now us) ⌝ }
+    ensures { λ r. ⌜ r ≡ sumsUpTo (now (ws .entry)) (now (heads .entry)) (boundsOf (now (ls .entry)) (now (us .entry))) n ⌝ }
 {
-    lend_bounds(ws, records_of(ls, us))
+    lend_bounds(ws, heads, n, records_of(ls, us))
 }

@@ -6,7 +6,7 @@ use Rattle.linearsums.proofs.model_sums.Statement.{statement}
 use Rattle.linearsums.proofs.model_sums.Tie as tie
 
 lend-bounds-requires : tie.Need-lend-bounds-requires
-lend-bounds-requires c κs = let s = c .before .before in (s .pre .0, records-near _ (s .args .ls .now) (s .args .us .now) (c .records-of .ensures) (s .pre .3) (s .pre .4))
+lend-bounds-requires c κs = let s = c .before .before in (s .pre .0, s .pre .1, s .pre .2, records-near _ (s .args .ls .now) (s .args .us .now) (c .records-of .ensures) (s .pre .5) (s .pre .6))
 
 returns : tie.Need-returns
 returns c = c .lend-bounds .ensures ∙ rw (c .before .records-of .ensures)
