@@ -13,13 +13,12 @@ use Rattle.integers.specs.declared.Bounds.{Bounds}
 use Rattle.integers.proofs.Tests.{All}
 use Rattle.integers.proofs.Lists.{all-at, all-implies}
 use Rattle.words.specs.Word.{kind, payload, wordAt}
-use Rattle.words.specs.Refusal.{accepted}
 use Rattle.words.specs.Variables.{variables, startsPair}
 use Rattle.words.proofs.Sources.{Sources, none, integer, boolean}
 use Rattle.models.specs.Model.{Constraint, headed, constraintsFrom, constraints, sourceWords}
-use Rattle.models.specs.Reading.{readModel}
-use Rattle.models.proofs.Accepted.{split, sources-are}
-use Rattle.modelreading.specs.Seen.{Heads}
+use Rattle.models.proofs.Accepted.{Split, split, sources-are}
+use Rattle.modelreading.specs.Seen.{Heads, Seen}
+use Rattle.modelreading.specs.declared.Read.{Read}
 
 -- every constraint's head is among the words
 stands : (p : ℕ) (ws : List ℕ) → All (λ c. c .place < p + length ws) (constraintsFrom p ws)
@@ -54,18 +53,19 @@ of-sources none = refl
 of-sources (integer {l} {u} k m o r) = rw (k, m, of-sources r)
 of-sources (boolean {w} k z r) = rw (k, of-sources r)
 
-module _ (ws : List ℕ) (h : readModel ws ≡ accepted) where
-  abbrev front : List ℕ
-  front = take (length (sourceWords ws)) ws
+module _ {ws hs : List ℕ} {r : Read} (s : Seen ws hs r) where
+  parts : Split ws
+  parts = split ws (s .accepts)
 
-  is-front : sourceWords ws ≡ split ws h .src
-  is-front = sources-are (split ws h)
+  -- the words of the variables are the front
+  pub front-inside : r .sources ≤ length ws
+  front-inside = omega (arith, s .sources-counted, ap length (sources-are parts), ap length (parts .whole), length-append (parts .src) (parts .rest))
 
-  pub front-inside : length (sourceWords ws) ≤ length ws
-  front-inside = omega (arith, ap length is-front, ap length (split ws h .whole), length-append (split ws h .src) (split ws h .rest))
+  pub front-words : take (r .sources) ws ≡ sourceWords ws
+  front-words =
+      ap (take (r .sources)) (parts .whole)
+      ∙ take-at (parts .src) (parts .rest) (r .sources) (sym (s .sources-counted ∙ ap length (sources-are parts)))
+      ∙ sym (sources-are parts)
 
-  pub front-variables : variables front ≡ variables ws
-  front-variables =
-      let s = split ws h in
-      let e : front ≡ s .src = ap (λ (vs : List ℕ). take (length (sourceWords ws)) vs) (s .whole) ∙ take-at (s .src) (s .rest) (length (sourceWords ws)) (ap length (sym is-front)) in
-      ap variables e ∙ of-sources (s .sources)
+  pub front-variables : variables (take (r .sources) ws) ≡ variables ws
+  front-variables = ap variables (front-words ∙ sources-are parts) ∙ of-sources (parts .sources)

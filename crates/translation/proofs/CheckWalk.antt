@@ -1,25 +1,27 @@
--- Check's walk over the constraints: what is left from a place on gives what the whole gives; and that this is check's answer.
+-- Check's walk over the constraints: what those that are left give is what all give; and that this is check's answer.
 use mathlib.Core.Path.{_≡_, refl, ap, sym, _∙_}
 use mathlib.Core.List.{List, [], _∷_, _++_, flatMap}
-use Prim.Native.Nat.{ℕ, zero, suc, _+_, _*_, _<_, _≤_}
+use Prim.Native.Nat.{ℕ, zero, suc, _+_, _*_, _≤_}
 use native.Mathlib.Omega.{arith}
-use lib.ListN.{length, getD, drop, length-append}
+use lib.IntN.{ℤ}
+use lib.ListN.{length, drop, length-append, drop-of-length-le}
 use Rattle.integers.specs.declared.Bounds.{Bounds}
-use Rattle.words.specs.Word.{kind, word}
+use Rattle.words.specs.Word.{word}
 use Rattle.words.specs.Kind as Kind
 use Rattle.words.specs.Variables.{variables}
 use Rattle.words.specs.Refusal.{faultOr, accepted, _else-refuse_}
 use Rattle.words.specs.Answer.{Answer, refused, counts, _else-answer_}
 use Rattle.words.specs.declared.Refusal.{Refusal}
-use Rattle.models.specs.Model.{Constraint, constraints, sourceWords, constraintsFrom}
+use Rattle.models.specs.Model.{Constraint, constraints, sourceWords}
 use Rattle.models.specs.Reading.{readModel}
-use Rattle.models.proofs.Constraints.{headed, starts-none, starts-one, none-left}
+use Rattle.modelreading.specs.declared.Read.{Read}
 use Rattle.rules.specs.Block.{blockWords}
 use Rattle.rules.specs.Translation.{bounds, blockOf, blocksWords, systemWords, auxiliaries, blockRows}
 use Rattle.rules.specs.Check.{blockFault, blocksFault, checkFault, check}
 use Rattle.sharing.proofs.Accepts.{one-fine}
-use Rattle.linearsums.proofs.Model.{Passed, passed-none, passed-word, passed-head}
+use Rattle.extremes.specs.Bounded.{boundsOf}
 use Rattle.translation.specs.Walk.{countsFrom, Costs}
+use Rattle.translation.specs.ModelBounds.{ModelBounds}
 use Rattle.translation.specs.declared.Cost.{Cost}
 
 -- ---- one constraint more, a fault, the end
@@ -58,48 +60,36 @@ module _ (β : ℕ → Bounds) (v k a r w : ℕ) where
 
 -- ---- the walk
 
--- k constraints stand before the place, without a fault, and need a auxiliaries, r rows and w words
-pub record Checking (β : ℕ → Bounds) (v : ℕ) (ws : List ℕ) (start at k a r w : ℕ) : Type 0 where
+-- the first k constraints are without a fault, and need a auxiliaries, r rows and w words
+pub record Checking (β : ℕ → Bounds) (v : ℕ) (cs : List Constraint) (start k a r w : ℕ) : Type 0 where
   pub room : v + a ≤ 4096
-  pub few : k ≤ at
-  pub small : a + r + w ≤ start + 1000000 * at
-  pub passed : Passed ws at k
-  pub left : countsFrom β v k a r w (constraintsFrom at (drop at ws)) ≡ countsFrom β v 0 0 0 start (constraints ws)
+  pub small : a + r + w ≤ start + 1000000 * k
+  pub left : countsFrom β v k a r w (drop k cs) ≡ countsFrom β v 0 0 0 start cs
 
-pub begun : (β : ℕ → Bounds) (v : ℕ) (ws : List ℕ) (start : ℕ) → v ≤ 256 → Checking β v ws start 0 0 0 0 start
-unfolding constraints
-begun β v ws start h = record { room = omega arith; few = omega arith; small = omega arith; passed = passed-none ws; left = refl }
+pub begun : (β : ℕ → Bounds) (v : ℕ) (cs : List Constraint) (start : ℕ) → v ≤ 256 → Checking β v cs start 0 0 0 start
+begun β v cs start h = record { room = omega arith; small = omega arith; left = refl }
 
-module _ {β : ℕ → Bounds} {v : ℕ} {ws : List ℕ} {start at k a r w : ℕ} (l : Checking β v ws start at k a r w) where
-  pub skip : at < length ws → (kind (getD ws at 0) ≡ 4 → ⊥) → Checking β v ws start (at + 1) k a r w
-  skip h f = record { room = l .room; few = omega (arith, l .few); small = omega (arith, l .small); passed = passed-word (l .passed) h f; left = rw (starts-none ws at h f) at (l .left) }
-
-  module _ {b : Cost} (h : at < length ws) (e : kind (getD ws at 0) ≡ 4) (x : Costs β (v + a) (headed ws at) b) where
-    pub more : b .fault ≡ 0 → Checking β v ws start (at + 1) (k + 1) (a + b .auxiliaries) (r + b .rows) (w + b .words)
+module _ {β : ℕ → Bounds} {v : ℕ} {cs : List Constraint} {start k a r w : ℕ} (l : Checking β v cs start k a r w) where
+  module _ {c : Constraint} (e : drop k cs ≡ c ∷ drop (k + 1) cs) {b : Cost} (x : Costs β (v + a) c b) where
+    pub more : b .fault ≡ 0 → Checking β v cs start (k + 1) (a + b .auxiliaries) (r + b .rows) (w + b .words)
     more z =
         let n = x .counted z in
-        let f : blockFault β (v + a) (headed ws at) ≡ 0 = sym (x .fault) ∙ z in
+        let f : blockFault β (v + a) c ≡ 0 = sym (x .fault) ∙ z in
         record {
-          room = omega (arith, one-fine β (v + a) (headed ws at) f .2, n .auxiliaries);
-          few = omega (arith, l .few);
+          room = omega (arith, one-fine β (v + a) c f .2, n .auxiliaries);
           small = omega (arith, l .small, x .small);
-          passed = passed-head (l .passed) h e;
-          left = rw (n .words, n .auxiliaries, n .rows)
-              (sym (one-more β v k a r w (headed ws at) (constraintsFrom (at + 1) (drop (at + 1) ws)) f) ∙ rw (starts-one ws at h e) at (l .left));
+          left = rw (n .words, n .auxiliaries, n .rows) (sym (one-more β v k a r w c (drop (k + 1) cs) f) ∙ rw e at (l .left));
         }
 
-    pub stop : (b .fault ≡ 0 → ⊥) → refused (b .fault) at ≡ countsFrom β v 0 0 0 start (constraints ws)
-    stop z =
-        rw (x .fault)
-        (fault-here β v k a r w (headed ws at) (constraintsFrom (at + 1) (drop (at + 1) ws)) (λ f. z (x .fault ∙ f))
-        ∙ rw (starts-one ws at h e) at (l .left))
+    pub stop : (b .fault ≡ 0 → ⊥) → refused (b .fault) (c .place) ≡ countsFrom β v 0 0 0 start cs
+    stop z = rw (x .fault) (fault-here β v k a r w c (drop (k + 1) cs) (λ f. z (x .fault ∙ f)) ∙ rw e at (l .left))
 
-  pub done : length ws ≤ at → counts v k a r w ≡ countsFrom β v 0 0 0 start (constraints ws)
-  done h = all-counted β v k a r w ∙ rw (none-left ws at h) at (l .left)
+  pub done : length cs ≤ k → counts v k a r w ≡ countsFrom β v 0 0 0 start cs
+  done h = all-counted β v k a r w ∙ rw (drop-of-length-le cs h) at (l .left)
 
 -- ---- the whole
 
-pub checks : (ws : List ℕ) → readModel ws ≡ accepted → countsFrom (bounds ws) (length (variables ws)) 0 0 0 (length (sourceWords ws) + 1) (constraints ws) ≡ check ws
+checks : (ws : List ℕ) → readModel ws ≡ accepted → countsFrom (bounds ws) (length (variables ws)) 0 0 0 (length (sourceWords ws) + 1) (constraints ws) ≡ check ws
 unfolding countsFrom check checkFault systemWords auxiliaries blockRows _else-refuse_
 checks ws h =
     let n = length (variables ws) in
@@ -109,3 +99,6 @@ checks ws h =
     (ap (λ answer. blocksFault (bounds ws) n (constraints ws) else-answer answer)
     (same-counts (omega arith) (omega arith) (omega arith)
     (omega (arith, length-append (sourceWords ws) (B ++ (word Kind.rowsEnd 0 ∷ [])), length-append B (word Kind.rowsEnd 0 ∷ [])))))
+
+pub all-checked : {ws hs : List ℕ} {r : Read} {ls us : List ℤ} → ModelBounds ws hs r ls us → countsFrom (boundsOf ls us) (r .variables) 0 0 0 (r .sources + 1) (constraints ws) ≡ check ws
+all-checked {ws} m = rw (m .same, m .seen .variables-counted, m .seen .sources-counted) (checks ws (m .seen .accepts))

@@ -1,45 +1,82 @@
--- What `keep_bounds` leaves of the words of a model that was read without a fault: as many bounds as there are variables, the model's, near 0, in lists of at most 256.
+-- What `keep_bounds` leaves of the words of a model's variables: the model's bounds, near 0, in lists of at most 256. And what the walks over its constraints use.
 use mathlib.Core.Path.{_≡_, ap, ap₂, _∙_}
-use mathlib.Core.List.{List, map}
-use Prim.Native.Nat.{ℕ, _≤_}
+use mathlib.Core.List.{List, _∷_, map}
+use Prim.Native.Nat.{ℕ, _+_, _<_, _≤_}
 use native.Mathlib.Omega.{arith}
 use lib.IntN.{ℤ}
-use lib.ListN.{length, replicate, length-replicate}
+use lib.ListN.{length, getD, take, drop, length-replicate}
 use Rattle.integers.specs.Number.{+0}
 use Rattle.integers.specs.declared.Bounds.{Bounds}
 use Rattle.words.specs.Overlay.{overlay}
 use Rattle.words.proofs.Overlay.{length-overlay}
 use Rattle.words.specs.Variables.{variables}
-use Rattle.words.specs.Refusal.{accepted}
-use Rattle.models.specs.Reading.{readModel}
-use Rattle.models.proofs.Accepted.{few-variables}
+use Rattle.words.specs.Word.{payload, wordAt}
+use Rattle.models.specs.Model.{headed, constraints}
+use Rattle.models.proofs.Accepted as Accepted
+use Rattle.modelreading.specs.Seen.{Seen}
+use Rattle.modelreading.specs.declared.Read.{Read}
+use Rattle.modelreading.proofs.Heads as Heads
+use Rattle.modelreading.proofs.Heads.{front-inside, front-variables}
 use Rattle.rules.specs.Translation.{bounds}
 use Rattle.extremes.specs.Bounded.{boundsOf, Bounded}
 use Rattle.extremes.proofs.Kept.{lowersKept, uppersKept, kept-bounds, lowers-bounded, uppers-bounded}
+use Rattle.linearsums.specs.Sum.{Summed}
+use Rattle.linearsums.proofs.Model.{sum-here}
+use Rattle.translation.specs.ModelBounds.{ModelBounds, noBounds, modelSums}
 
-pub record Kept (ws : List ℕ) (n : ℕ) (ls us : List ℤ) : Type 0 where
-  pub many : n ≡ length (variables ws)
-  pub few : n ≤ 256
+-- ---- the bounds
+
+pub record Kept (ws : List ℕ) (ls us : List ℤ) : Type 0 where
   pub same : boundsOf ls us ≡ bounds ws
   pub lowers : Bounded ls
   pub uppers : Bounded us
   pub short-lowers : length ls ≤ 256
   pub short-uppers : length us ≤ 256
 
-pub kept : {ws : List ℕ} {n : ℕ} {ls us : List ℤ} → readModel ws ≡ accepted →
-    (n ≡ length (variables ws)) × (ls ≡ lowersKept ws 256) × (us ≡ uppersKept ws 256) → Kept ws n ls us
+pub kept : {ws hs : List ℕ} {r : Read} {n : ℕ} {ls us : List ℤ} → Seen ws hs r →
+    (n ≡ length (variables (take (r .sources) ws))) × (ls ≡ lowersKept (take (r .sources) ws) 256) × (us ≡ uppersKept (take (r .sources) ws) 256) → Kept ws ls us
 unfolding bounds
-kept {ws} {n} h k =
-    let f = few-variables ws h in
+kept {ws} {hs} {r} {n} {ls} {us} s k =
+    let f = Accepted.few-variables ws (s .accepts) in
+    let e = front-variables s in
+    let l : ls ≡ lowersKept ws 256 = k .1 ∙ rw e in
+    let u : us ≡ uppersKept ws 256 = k .2 ∙ rw e in
     record {
-      many = k .0;
-      few = omega (arith, k .0);
-      same = ap₂ boundsOf (k .1) (k .2) ∙ kept-bounds ws 256 f;
-      lowers = rw (k .1) (lowers-bounded ws 256 f);
-      uppers = rw (k .2) (uppers-bounded ws 256 f);
-      short-lowers = short (λ B. B .lower) (k .1);
-      short-uppers = short (λ B. B .upper) (k .2);
+      same = ap₂ boundsOf l u ∙ kept-bounds ws 256 f;
+      lowers = rw l (lowers-bounded ws 256 f);
+      uppers = rw u (uppers-bounded ws 256 f);
+      short-lowers = short (λ B. B .lower) l;
+      short-uppers = short (λ B. B .upper) u;
     }
   where
-    short : {zs : List ℤ} (f : Bounds → ℤ) → zs ≡ overlay (replicate 256 +0) 0 (map f (variables ws)) → length zs ≤ 256
-    short f e = omega (arith, ap length e, length-overlay (replicate 256 +0) 0 (map f (variables ws)), length-replicate 256 +0)
+    short : {zs : List ℤ} (f : Bounds → ℤ) → zs ≡ overlay noBounds 0 (map f (variables ws)) → length zs ≤ 256
+    short f e = omega (arith, ap length e, length-overlay noBounds 0 (map f (variables ws)), length-replicate 256 +0)
+
+-- ---- the walks
+
+module _ {ws hs : List ℕ} {r : Read} {ls us : List ℤ} (m : ModelBounds ws hs r ls us) where
+  pub few-words : length ws ≤ 8192
+  few-words = Accepted.few-words ws (m .seen .accepts)
+
+  pub few-variables : r .variables ≤ 256
+  few-variables = omega (arith, m .seen .variables-counted, Accepted.few-variables ws (m .seen .accepts))
+
+  pub few-sources : r .sources ≤ 8192
+  few-sources = omega (arith, few-words, front-inside (m .seen))
+
+  pub few-constraints : r .constraints ≤ 256
+  few-constraints = m .seen .heads .room
+
+  pub none-left : {k : ℕ} → r .constraints ≤ k → length (constraints ws) ≤ k
+  none-left h = omega (arith, m .seen .heads .counted)
+
+  -- the k-th constraint: where its head stands, what is left from it on, its L and U
+  module _ (k : ℕ) (l : k < r .constraints) where
+    pub head-inside : getD hs k 0 < length ws
+    head-inside = Heads.head-inside (m .seen .heads) k l
+
+    pub head-at : drop k (constraints ws) ≡ headed ws (getD hs k 0) ∷ drop (k + 1) (constraints ws)
+    head-at = Heads.head-at (m .seen .heads) k l
+
+    pub summed-at : {sums : List Bounds} (d : Bounds) → sums ≡ modelSums ws hs r ls us → Summed (boundsOf ls us) (payload (wordAt ws (getD hs k 0))) (drop (getD hs k 0 + 1) ws) (getD sums k d)
+    summed-at d e = rw e (sum-here ws hs (boundsOf ls us) d (λ v. (m .lowers v, m .uppers v)) (r .constraints) k l few-constraints)

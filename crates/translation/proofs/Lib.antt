@@ -1,5 +1,4 @@
 -- Laws for proofs about check and translate.
-pub mod Sources
 pub mod OneBlock
 pub mod Kept
 pub mod CheckWalk

@@ -1,5 +1,5 @@
 -- What check's answer says of translate's: a refusal that stands, fault 16, or the words of the row system, which share the model's solutions.
-use mathlib.Core.Path.{_≡_, refl, ap, sym, _∙_}
+use mathlib.Core.Path.{_≡_, refl, sym, _∙_}
 use mathlib.Core.List.{List, [], _∷_, _++_}
 use Prim.Native.Nat.{ℕ, zero, suc, _+_, _≤_, _<_}
 use native.Mathlib.Omega.{arith}
@@ -12,16 +12,19 @@ use Rattle.words.specs.Overlay.{overlay}
 use Rattle.words.specs.Variables.{variables}
 use Rattle.words.specs.Refusal.{_at-place_, accepted, _else-refuse_}
 use Rattle.words.specs.Answer.{Answer, refused, counts, written, refusedOr, _else-answer_}
-use Rattle.words.specs.declared.Refusal.{Refusal}
+use Rattle.words.proofs.Answers.{first-answers}
 use Rattle.words.proofs.Reading as Reading
 use Rattle.models.specs.Model.{Constraint, constraints, sourceWords}
 use Rattle.models.specs.Reading.{readModel}
-use Rattle.rules.specs.Translation.{bounds, blockOf, blocksWords, systemWords}
+use Rattle.modelreading.specs.Seen.{Kept}
+use Rattle.modelreading.specs.declared.Read.{Read}
+use Rattle.rules.specs.Translation.{bounds, blockOf, systemWords}
 use Rattle.rules.specs.Check.{blockFault, blocksFault, checkFault, check}
 use Rattle.rules.specs.Translate.{roomFault, translateFault, translate, translated}
 use Rattle.sharing.specs.SharedSolutions.{Passes}
 use Rattle.sharing.proofs.Accepts.{no-fault}
 use Rattle.sharing.proofs.Theorem.{shared-solutions}
+use Rattle.translation.specs.Walk.{allBlocks}
 use Rattle.translation.specs.Shares.{Shares}
 use Rattle.translation.proofs.Over.{three-over, front-over}
 
@@ -40,26 +43,19 @@ check-zero ws e =
     let h = no-fault (readModel ws .number) (readModel ws .place) _ e in
     sym (Reading.no-fault (readModel ws .number) (readModel ws .place) _ (h .0)) ∙ blocks-zero (bounds ws) (length (variables ws)) (constraints ws) (h .1)
 
--- ---- a model that passes the check: its blocks have no fault, and how its words are made up
-
-pub blocks-pass : (ws : List ℕ) → Passes ws → blocksFault (bounds ws) (length (variables ws)) (constraints ws) .number ≡ 0
-unfolding checkFault _else-refuse_
-blocks-pass ws h = no-fault (readModel ws .number) (readModel ws .place) _ (ap (λ (r : Refusal). r .number) h) .1
+-- ---- how the words of the row system are made up
 
 module _ (ws : List ℕ) where
-  abbrev Blocks : List ℕ
-  Blocks = blocksWords (bounds ws) (length (variables ws)) (constraints ws)
-
   abbrev End : List ℕ
   End = word Kind.rowsEnd 0 ∷ []
 
-  pub system-length : length (systemWords ws) ≡ length (sourceWords ws) + length Blocks + 1
+  pub system-length : length (systemWords ws) ≡ length (sourceWords ws) + length (allBlocks ws) + 1
   unfolding systemWords
-  system-length = omega (arith, length-append (sourceWords ws) (Blocks ++ End), length-append Blocks End)
+  system-length = omega (arith, length-append (sourceWords ws) (allBlocks ws ++ End), length-append (allBlocks ws) End)
 
-  pub system-over : (out : List ℕ) → overlay (overlay (overlay out 0 (sourceWords ws)) (length (sourceWords ws)) Blocks) (length (sourceWords ws) + length Blocks) End ≡ overlay out 0 (systemWords ws)
+  pub system-over : (out : List ℕ) → overlay (overlay (overlay out 0 (sourceWords ws)) (length (sourceWords ws)) (allBlocks ws)) (length (sourceWords ws) + length (allBlocks ws)) End ≡ overlay out 0 (systemWords ws)
   unfolding systemWords
-  system-over out = three-over out (sourceWords ws) Blocks End
+  system-over out = three-over out (sourceWords ws) (allBlocks ws) End
 
 -- ---- check's answer
 
@@ -78,6 +74,12 @@ refused-first (suc n) p after f = refl
 pub some-refusal : {n p : ℕ} (v c a r w m q : ℕ) → refused n p ≡ refusedOr m q (counts v c a r w) → (n ≡ m) × (p ≡ q) × (m ≡ 0 → ⊥)
 some-refusal v c a r w zero q e = clash (cc)
 some-refusal v c a r w (suc m) q e = (cc, cc, λ z. omega arith)
+
+-- a refusal of the reading is check's
+pub read-refused : {ws hs : List ℕ} {r : Read} → Kept ws hs r → (r .number ≡ 0 → ⊥) → refused (r .number) (r .place) ≡ check ws
+unfolding check checkFault
+read-refused {ws} {hs} {r} k f =
+    rw (← k .refusal) (first-answers (r .number) (r .place) (blocksFault (bounds ws) (length (variables ws)) (constraints ws)) _ f)
 
 -- counts: no fault, and the words that are needed
 pub counted : (ws : List ℕ) {v c a r w : ℕ} → counts v c a r w ≡ check ws → Passes ws × (w ≡ length (systemWords ws))

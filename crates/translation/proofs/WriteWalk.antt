@@ -2,69 +2,70 @@
 use mathlib.Core.Path.{_≡_, refl, ap, sym, _∙_, subst}
 use mathlib.Core.Bool.{false}
 use mathlib.Core.List.{List, _∷_, _++_}
-use Prim.Native.Nat.{ℕ, _+_, _<_, _≤_}
+use Prim.Native.Nat.{ℕ, _+_, _≤_}
 use native.Mathlib.Omega.{arith}
-use lib.ListN.{length, getD, drop, length-append}
+use lib.IntN.{ℤ}
+use lib.ListN.{length, drop, length-append, drop-of-length-le}
 use Rattle.integers.specs.declared.Bounds.{Bounds}
-use Rattle.words.specs.Word.{kind}
 use Rattle.words.specs.Overlay.{overlay}
 use Rattle.words.proofs.Overlay.{length-overlay, overlay-none, overlay-append}
-use Rattle.models.specs.Model.{Constraint, constraints, constraintsFrom}
-use Rattle.models.proofs.Constraints.{headed, starts-none, starts-one, none-left}
+use Rattle.models.specs.Model.{Constraint, constraints}
+use Rattle.modelreading.specs.declared.Read.{Read}
 use Rattle.rules.specs.Block.{blockWords}
 use Rattle.rules.specs.Translation.{blockOf, blocksWords}
-use Rattle.rules.specs.Check.{tooWide, blocksFault}
+use Rattle.rules.specs.Check.{tooWide}
 use Rattle.laying.specs.declared.Laid.{Laid}
-use Rattle.linearsums.proofs.Model.{Passed, passed-none, passed-word, passed-head}
-use Rattle.sharing.proofs.Accepts.{Fine, all-fine}
+use Rattle.extremes.specs.Bounded.{boundsOf}
+use Rattle.sharing.specs.SharedSolutions.{Passes}
+use Rattle.sharing.proofs.Accepts.{Fine, passes-fine}
+use Rattle.translation.specs.Walk.{allBlocks}
+use Rattle.translation.specs.ModelBounds.{ModelBounds}
 use Rattle.translation.proofs.OneBlock.{Told}
 
--- the blocks of the k constraints before place p are written, up to place `at` of the output; the next auxiliary is `first`
-pub record Writing (β : ℕ → Bounds) (v : ℕ) (ws o₀ : List ℕ) (start : ℕ) (o : List ℕ) (p k first at : ℕ) : Type 0 where
+-- the blocks of the first k constraints are written, up to place `at` of the output; the next auxiliary is `first`
+pub record Writing (β : ℕ → Bounds) (v : ℕ) (cs : List Constraint) (o₀ : List ℕ) (start : ℕ) (o : List ℕ) (k first at : ℕ) : Type 0 where
   pub room : first ≤ 4096
-  pub passed : Passed ws p k
-  pub fine : Fine β first (constraintsFrom p (drop p ws))
-  pub total : at + length (blocksWords β first (constraintsFrom p (drop p ws))) ≡ start + length (blocksWords β v (constraints ws))
-  pub over : overlay o at (blocksWords β first (constraintsFrom p (drop p ws))) ≡ overlay o₀ start (blocksWords β v (constraints ws))
+  pub fine : Fine β first (drop k cs)
+  pub total : at + length (blocksWords β first (drop k cs)) ≡ start + length (blocksWords β v cs)
+  pub over : overlay o at (blocksWords β first (drop k cs)) ≡ overlay o₀ start (blocksWords β v cs)
   pub same : length o ≡ length o₀
 
-pub begun : (β : ℕ → Bounds) (v : ℕ) (ws o : List ℕ) (start : ℕ) → v ≤ 256 → blocksFault β v (constraints ws) .number ≡ 0 → Writing β v ws o start o 0 0 v start
-unfolding constraints
-begun β v ws o start h f = record { room = omega arith; passed = passed-none ws; fine = all-fine β v (constraints ws) f; total = refl; over = refl; same = refl }
+pub begun : (β : ℕ → Bounds) (v : ℕ) (cs : List Constraint) (o : List ℕ) (start : ℕ) → v ≤ 256 → Fine β v cs → Writing β v cs o start o 0 v start
+begun β v cs o start h f = record { room = omega arith; fine = f; total = refl; over = refl; same = refl }
 
-module _ {β : ℕ → Bounds} {v : ℕ} {ws o₀ : List ℕ} {start : ℕ} {o : List ℕ} {p n first at : ℕ} (l : Writing β v ws o₀ start o p n first at) where
-  pub skip : p < length ws → (kind (getD ws p 0) ≡ 4 → ⊥) → Writing β v ws o₀ start o (p + 1) n first at
-  skip h k =
-      let e = starts-none ws p h k in
-      record { room = l .room; passed = passed-word (l .passed) h k; fine = subst (Fine β first) e (l .fine); total = rw e at (l .total); over = rw e at (l .over); same = l .same }
+module _ {β : ℕ → Bounds} {v : ℕ} {cs : List Constraint} {o₀ : List ℕ} {start : ℕ} {o : List ℕ} {k first at : ℕ} (l : Writing β v cs o₀ start o k first at) where
+  module _ {c : Constraint} (e : drop k cs ≡ c ∷ drop (k + 1) cs) where
+    here : Fine β first (c ∷ drop (k + 1) cs)
+    here = subst (Fine β first) e (l .fine)
 
-  module _ (h : p < length ws) (k : kind (getD ws p 0) ≡ 4) where
-    abbrev rest : List Constraint
-    rest = constraintsFrom (p + 1) (drop (p + 1) ws)
-
-    here : Fine β first (headed ws p ∷ rest)
-    here = subst (Fine β first) (starts-one ws p h k) (l .fine)
-
-    pub not-wide : tooWide β (headed ws p) ≡ false
+    pub not-wide : tooWide β c ≡ false
     not-wide = here .0
 
-    pub more : {b : Laid} {o′ : List ℕ} → Told first (blockOf β (headed ws p)) b → o′ ≡ overlay o at (blockWords first (blockOf β (headed ws p))) →
-        Writing β v ws o₀ start o′ (p + 1) (n + 1) (first + b .auxiliaries) (at + b .words)
+    pub more : {b : Laid} {o′ : List ℕ} → Told first (blockOf β c) b → o′ ≡ overlay o at (blockWords first (blockOf β c)) →
+        Writing β v cs o₀ start o′ (k + 1) (first + b .auxiliaries) (at + b .words)
     unfolding blocksWords
     more {b} {o′} t q =
-        let B = blockOf β (headed ws p) in
-        let left = blocksWords β (first + length (B .auxiliaries)) rest in
-        let e : blocksWords β first (constraintsFrom p (drop p ws)) ≡ blockWords first B ++ left = ap (blocksWords β first) (starts-one ws p h k) in
+        let B = blockOf β c in
+        let left = blocksWords β (first + length (B .auxiliaries)) (drop (k + 1) cs) in
+        let d : blocksWords β first (drop k cs) ≡ blockWords first B ++ left = ap (blocksWords β first) e in
         rw (t .words, t .auxiliaries, q)
         record {
           room = here .2;
-          passed = passed-head (l .passed) h k;
           fine = here .3;
-          total = omega (arith, l .total, ap length e, length-append (blockWords first B) left);
-          over = overlay-append o at (blockWords first B) left ∙ rw (← e) (l .over);
+          total = omega (arith, l .total, ap length d, length-append (blockWords first B) left);
+          over = overlay-append o at (blockWords first B) left ∙ rw (← d) (l .over);
           same = length-overlay o at (blockWords first B) ∙ l .same;
         }
 
-  pub done : length ws ≤ p → (at ≡ start + length (blocksWords β v (constraints ws))) × (o ≡ overlay o₀ start (blocksWords β v (constraints ws)))
+  pub done : length cs ≤ k → (at ≡ start + length (blocksWords β v cs)) × (o ≡ overlay o₀ start (blocksWords β v cs))
   unfolding blocksWords
-  done h = let e = none-left ws p h in (omega (arith, rw e at (l .total)), sym (overlay-none o at) ∙ rw e at (l .over))
+  done h = let e = drop-of-length-le cs h in (omega (arith, rw e at (l .total)), sym (overlay-none o at) ∙ rw e at (l .over))
+
+-- ---- the whole
+
+module _ {ws hs : List ℕ} {r : Read} {ls us : List ℤ} (m : ModelBounds ws hs r ls us) where
+  pub blocks-are : blocksWords (boundsOf ls us) (r .variables) (constraints ws) ≡ allBlocks ws
+  blocks-are = rw (m .same, m .seen .variables-counted)
+
+  pub all-fine : Passes ws → Fine (boundsOf ls us) (r .variables) (constraints ws)
+  all-fine h = rw (m .same, m .seen .variables-counted) (passes-fine ws h)

@@ -5,15 +5,20 @@ use Prim.Native.Nat.{ℕ, _+_, _≤_}
 use lib.ListN.{length}
 use Rattle.integers.specs.declared.Bounds.{Bounds}
 use Rattle.words.specs.Answer.{Answer, counts, _else-answer_}
-use Rattle.models.specs.Model.{Constraint}
+use Rattle.words.specs.Variables.{variables}
+use Rattle.models.specs.Model.{Constraint, constraints}
 use Rattle.rules.specs.Block.{blockWords}
-use Rattle.rules.specs.Translation.{blockOf, blocksWords}
+use Rattle.rules.specs.Translation.{bounds, blockOf, blocksWords}
 use Rattle.rules.specs.Check.{blockFault, blocksFault}
 use Rattle.translation.specs.declared.Cost.{Cost}
 
 -- the constraint of a code and the words after its head; its place plays no part in its block
 abbrev pub constraintOf : ℕ → List ℕ → Constraint
 constraintOf code ws = record { place = 0; code = code; arguments = ws }
+
+-- the words of all blocks
+abbrev pub allBlocks : List ℕ → List ℕ
+allBlocks ws = blocksWords (bounds ws) (length (variables ws)) (constraints ws)
 
 -- after k constraints with a auxiliaries, r rows and w words: v variables
 unfoldable pub countsFrom : (ℕ → Bounds) → (v k a r w : ℕ) → List Constraint → Answer

@@ -2,18 +2,14 @@
 ghost use mathlib.Core.Path.{_≡_};
 ghost use Prim.Native.Nat.{_+_, _<_, _≤_};
 ghost use lib.Dec.{ltb};
-ghost use lib.ListN.{length};
 ghost use Rattle.integers.specs.Choice.{_if_else_};
-ghost use Rattle.words.specs.Refusal.{accepted};
-ghost use Rattle.words.specs.Variables.{variables};
-ghost use Rattle.models.specs.Reading.{readModel};
-ghost use Rattle.models.specs.Model.{constraints, sourceWords};
+ghost use Rattle.modelreading.specs.Seen.{Kept};
 ghost use Rattle.rules.specs.Check.{tooWide, check as checkAnswer};
 ghost use Rattle.extremes.specs.Bounded.{boundsOf, Bounded};
 ghost use Rattle.linearsums.specs.Sum.{Summed};
-ghost use Rattle.linearsums.specs.Places.{sumsUpTo};
 ghost use Rattle.translation.specs.Checked.{checked};
-ghost use Rattle.translation.specs.Walk.{constraintOf, countsFrom, Costs};
+ghost use Rattle.translation.specs.Walk.{constraintOf, Costs};
+ghost use Rattle.translation.specs.ModelBounds.{ModelBounds, noBounds, modelSums};
 use crate::Checked;
 use crate::Cost;
 use crate::blocks::block;
@@ -24,28 +20,29 @@ use extremes::width_of;
 use integers::Bounds;
 use laying::Laid;
 use linearsums::model_sums;
+use modelreading::Read;
 use words::Refusal;
 use words::fault;
-use words::kind;
-use words::kind_of;
 use words::limit;
 use words::payload_of;
 
 // The code of set_in_reif, which has an auxiliary for each value of its first argument.
 const SET_IN_REIF: usize = 28;
 
-// How many words at the front are those of variables.
-pub fn count_sources(ws: &[u32]) -> usize
-    ensures { λ r. ⌜ r ≡ length (sourceWords (now (ws .entry))) ⌝ }
+// The bounds of the variables of a model that was read without a fault go into two lists of 256 zeros; L and U of its constraints.
+pub fn model_bounds(
+    ws: &[u32],
+    heads: &[usize; 256],
+    read: Read,
+    lowers: &mut [i64],
+    uppers: &mut [i64],
+) -> [Bounds; 256]
+    requires { ⌜ Kept (now ws) (now heads) read × (read .number ≡ 0) × (now lowers ≡ noBounds) × (now uppers ≡ noBounds) ⌝ }
+    ensures { λ r. ⌜ ModelBounds (now (ws .entry)) (now (heads .entry)) read (now (lowers .exit)) (now (uppers .exit)) × (r ≡ modelSums (now (ws .entry)) (now (heads .entry)) read (now (lowers .exit)) (now (uppers .exit))) ⌝ }
 {
-    let mut n = 0;
-    while n < ws.len() {
-        if kind::BOOLEAN < kind_of(ws[n]) {
-            return n;
-        }
-        n += 1;
-    }
-    n
+    let sources = read.sources;
+    keep_bounds(&ws[..sources], lowers, uppers);
+    model_sums(ws, heads, read.constraints, lowers, uppers)
 }
 
 // Whether a constraint needs more than 64 auxiliaries for the values of its first argument.
@@ -97,48 +94,40 @@ fn cost_of(code: usize, args: &[u32], ls: &[i64], us: &[i64], sum: Bounds, first
     }
 }
 
-// The first fault of the constraints, or what they need; `sources` words stand before their blocks, and the end word after them.
-fn check_blocks(
+// The first fault of 12 to 14 of a model that was read without a fault, or what it needs.
+pub fn check_read(
     ws: &[u32],
+    heads: &[usize; 256],
+    read: Read,
     ls: &[i64],
     us: &[i64],
     sums: [Bounds; 256],
-    variables: usize,
-    sources: usize,
 ) -> Checked
-    requires { ⌜ (length (now ws) ≤ 8192) × (variables ≤ 256) × (sources ≤ 8192) × Bounded (now ls) × Bounded (now us) × (length (constraints (now ws)) ≤ 256) × (sums ≡ sumsUpTo (now ws) (boundsOf (now ls) (now us)) 256) ⌝ }
-    ensures { λ r. ⌜ checked r ≡ countsFrom (boundsOf (now (ls .entry)) (now (us .entry))) variables 0 0 0 (sources + 1) (constraints (now (ws .entry))) ⌝ }
+    requires { ⌜ ModelBounds (now ws) (now heads) read (now ls) (now us) × (sums ≡ modelSums (now ws) (now heads) read (now ls) (now us)) ⌝ }
+    ensures { λ r. ⌜ checked r ≡ checkAnswer (now (ws .entry)) ⌝ }
 {
-    let mut at = 0;
+    let variables = read.variables;
+    let n = read.constraints;
     let mut constraints = 0;
     let mut auxiliaries = 0;
     let mut rows = 0;
-    let mut words = sources + 1;
-    while at < ws.len() {
-        let w = ws[at];
-        let place = at;
-        at += 1;
-        if kind_of(w) == kind::CONSTRAINT {
-            let sum = sums[constraints];
-            let cost = cost_of(
-                payload_of(w),
-                &ws[at..],
-                ls,
-                us,
-                sum,
-                variables + auxiliaries,
-            );
-            if cost.fault != fault::NONE {
-                return Checked::Refused(Refusal {
-                    number: cost.fault,
-                    place,
-                });
-            }
-            constraints += 1;
-            auxiliaries += cost.auxiliaries;
-            rows += cost.rows;
-            words += cost.words;
+    let mut words = read.sources + 1;
+    while constraints < n {
+        let place = heads[constraints];
+        let code = payload_of(ws[place]);
+        let sum = sums[constraints];
+        let first = variables + auxiliaries;
+        let cost = cost_of(code, &ws[place + 1..], ls, us, sum, first);
+        if cost.fault != fault::NONE {
+            return Checked::Refused(Refusal {
+                number: cost.fault,
+                place,
+            });
         }
+        constraints += 1;
+        auxiliaries += cost.auxiliaries;
+        rows += cost.rows;
+        words += cost.words;
     }
     Checked::Counts {
         variables,
@@ -147,16 +136,4 @@ fn check_blocks(
         rows,
         words,
     }
-}
-
-// The first fault of 12 to 14 of a model that was read without a fault, or what it needs.
-pub fn check_accepted(ws: &[u32]) -> Checked
-    requires { ⌜ readModel (now ws) ≡ accepted ⌝ }
-    ensures { λ r. ⌜ checked r ≡ checkAnswer (now (ws .entry)) ⌝ }
-{
-    let mut lowers = [0i64; 256];
-    let mut uppers = [0i64; 256];
-    let variables = keep_bounds(ws, &mut lowers, &mut uppers);
-    let sums = model_sums(ws, &lowers, &uppers);
-    check_blocks(ws, &lowers, &uppers, sums, variables, count_sources(ws))
 }

@@ -6,13 +6,15 @@ ghost use Rattle.rules.specs.Translate.{translate as translateAnswer, translate
 ghost use Rattle.translation.specs.Checked.{checked};
 ghost use Rattle.translation.specs.Written.{wrote};
 ghost use Rattle.translation.specs.Shares.{Shares};
-use checking::check_accepted;
+use checking::check_read;
+use checking::model_bounds;
+use modelreading::read_model;
 use words::Refusal;
 use words::fault;
 use writing::write_system;
 
 mod blocks;
-mod checking;
+pub mod checking;
 mod writing;
 
 // What check answers.
@@ -47,11 +49,18 @@ pub struct Cost {
 pub fn check(ws: &[u32]) -> Checked
     ensures { λ r. ⌜ checked r ≡ checkAnswer (now (ws .entry)) ⌝ }
 {
-    let read = modelreading::read_model(ws);
+    let mut heads = [0usize; 256];
+    let read = read_model(ws, &mut heads);
     if read.number != fault::NONE {
-        return Checked::Refused(read);
+        return Checked::Refused(Refusal {
+            number: read.number,
+            place: read.place,
+        });
     }
-    check_accepted(ws)
+    let mut lowers = [0i64; 256];
+    let mut uppers = [0i64; 256];
+    let sums = model_bounds(ws, &heads, read, &mut lowers, &mut uppers);
+    check_read(ws, &heads, read, &lowers, &uppers, sums)
 }
 
 // Writes the words of the row system to the front of the output; a refusal changes nothing.
@@ -60,7 +69,18 @@ pub fn translate(ws: &[u32], out: &mut [u32]) -> Written
     ensures output { λ r. ⌜ now (out .exit) ≡ translated (now (ws .entry)) (now (out .entry)) ⌝ }
     ensures shared { λ r. ⌜ Shares (now (ws .entry)) (wrote r) (now (out .exit)) ⌝ }
 {
-    match check(ws) {
+    let mut heads = [0usize; 256];
+    let read = read_model(ws, &mut heads);
+    if read.number != fault::NONE {
+        return Written::Refused(Refusal {
+            number: read.number,
+            place: read.place,
+        });
+    }
+    let mut lowers = [0i64; 256];
+    let mut uppers = [0i64; 256];
+    let sums = model_bounds(ws, &heads, read, &mut lowers, &mut uppers);
+    match check_read(ws, &heads, read, &lowers, &uppers, sums) {
         Checked::Refused(refusal) => Written::Refused(refusal),
         Checked::Counts {
             variables: _,
@@ -75,7 +95,7 @@ pub fn translate(ws: &[u32], out: &mut [u32]) -> Written
                     place: 0,
                 });
             }
-            write_system(ws, out);
+            write_system(ws, &heads, read, &lowers, &uppers, sums, out);
             Written::Words(words)
         }
     }

@@ -3,66 +3,64 @@ ghost use mathlib.Core.Path.{_≡_};
 ghost use Prim.Native.Nat.{_+_, _≤_};
 ghost use lib.ListN.{length};
 ghost use Rattle.words.specs.Overlay.{overlay};
-ghost use Rattle.models.specs.Model.{constraints};
-ghost use Rattle.rules.specs.Translation.{blocksWords, systemWords};
-ghost use Rattle.rules.specs.Check.{blocksFault};
+ghost use Rattle.models.specs.Model.{sourceWords};
+ghost use Rattle.rules.specs.Translation.{systemWords};
 ghost use Rattle.sharing.specs.SharedSolutions.{Passes};
-ghost use Rattle.extremes.specs.Bounded.{boundsOf, Bounded};
-ghost use Rattle.linearsums.specs.Places.{sumsUpTo};
+ghost use Rattle.translation.specs.Walk.{allBlocks};
+ghost use Rattle.translation.specs.ModelBounds.{ModelBounds, modelSums};
 use crate::blocks::block;
-use crate::checking::count_sources;
-use extremes::keep_bounds;
 use integers::Bounds;
-use linearsums::model_sums;
+use modelreading::Read;
 use words::kind;
-use words::kind_of;
 use words::lay;
 use words::payload_of;
 use words::word_of;
 
-// Each block goes into the rest of the lent output, from where the last one ended; where the last block ends.
+// Each block goes into the rest of the lent output, from where the last one ended, the first after the words of the variables; where the last block ends.
 fn write_blocks(
     ws: &[u32],
+    heads: &[usize; 256],
+    read: Read,
     ls: &[i64],
     us: &[i64],
     sums: [Bounds; 256],
-    variables: usize,
     out: &mut [u32],
-    start: usize,
 ) -> usize
-    requires { ⌜ (variables ≤ 256) × Bounded (now ls) × Bounded (now us) × (blocksFault (boundsOf (now ls) (now us)) variables (constraints (now ws)) .number ≡ 0) × (start + length (blocksWords (boundsOf (now ls) (now us)) variables (constraints (now ws))) ≤ length (now out)) × (length (constraints (now ws)) ≤ 256) × (sums ≡ sumsUpTo (now ws) (boundsOf (now ls) (now us)) 256) ⌝ }
-    ensures { λ r. ⌜ (r ≡ start + length (blocksWords (boundsOf (now (ls .entry)) (now (us .entry))) variables (constraints (now (ws .entry))))) × (now (out .exit) ≡ overlay (now (out .entry)) start (blocksWords (boundsOf (now (ls .entry)) (now (us .entry))) variables (constraints (now (ws .entry))))) ⌝ }
+    requires { ⌜ ModelBounds (now ws) (now heads) read (now ls) (now us) × (sums ≡ modelSums (now ws) (now heads) read (now ls) (now us)) × Passes (now ws) × (length (sourceWords (now ws)) + length (allBlocks (now ws)) ≤ length (now out)) ⌝ }
+    ensures { λ r. ⌜ (r ≡ length (sourceWords (now (ws .entry))) + length (allBlocks (now (ws .entry)))) × (now (out .exit) ≡ overlay (now (out .entry)) (length (sourceWords (now (ws .entry)))) (allBlocks (now (ws .entry)))) ⌝ }
 {
-    let mut p = 0;
-    let mut constraints = 0;
-    let mut first = variables;
-    let mut at = start;
-    while p < ws.len() {
-        let w = ws[p];
-        p += 1;
-        if kind_of(w) == kind::CONSTRAINT {
-            let sum = sums[constraints];
-            let laid = block(&mut out[at..], payload_of(w), &ws[p..], ls, us, sum, first);
-            constraints += 1;
-            first += laid.auxiliaries;
-            at += laid.words;
-        }
+    let n = read.constraints;
+    let mut k = 0;
+    let mut first = read.variables;
+    let mut at = read.sources;
+    while k < n {
+        let place = heads[k];
+        let code = payload_of(ws[place]);
+        let sum = sums[k];
+        let laid = block(&mut out[at..], code, &ws[place + 1..], ls, us, sum, first);
+        k += 1;
+        first += laid.auxiliaries;
+        at += laid.words;
     }
     at
 }
 
 // The words of the variables, the blocks, the end word.
-pub fn write_system(ws: &[u32], out: &mut [u32])
-    requires { ⌜ Passes (now ws) × (length (systemWords (now ws)) ≤ length (now out)) ⌝ }
+pub fn write_system(
+    ws: &[u32],
+    heads: &[usize; 256],
+    read: Read,
+    ls: &[i64],
+    us: &[i64],
+    sums: [Bounds; 256],
+    out: &mut [u32],
+)
+    requires { ⌜ ModelBounds (now ws) (now heads) read (now ls) (now us) × (sums ≡ modelSums (now ws) (now heads) read (now ls) (now us)) × Passes (now ws) × (length (systemWords (now ws)) ≤ length (now out)) ⌝ }
     ensures { λ r. ⌜ now (out .exit) ≡ overlay (now (out .entry)) 0 (systemWords (now (ws .entry))) ⌝ }
 {
-    let mut lowers = [0i64; 256];
-    let mut uppers = [0i64; 256];
-    let variables = keep_bounds(ws, &mut lowers, &mut uppers);
-    let sources = count_sources(ws);
+    let sources = read.sources;
     lay(out, 0, &ws[..sources]);
-    let sums = model_sums(ws, &lowers, &uppers);
-    let at = write_blocks(ws, &lowers, &uppers, sums, variables, out, sources);
+    let at = write_blocks(ws, heads, read, ls, us, sums, out);
     let end = [word_of(kind::ROWS_END, 0)];
     lay(out, at, &end);
 }

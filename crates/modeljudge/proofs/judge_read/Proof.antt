@@ -1,9 +1,9 @@
 -- What is judged of the values comes first, over the words of the variables alone; then the constraints, as in the definition.
 use mathlib.Core.Path.{_≡_, sym, ap, _∙_}
 use mathlib.Core.List.{List}
-use Prim.Native.Nat.{ℕ, _≤_}
+use Prim.Native.Nat.{ℕ}
 use lib.IntN.{ℤ}
-use lib.ListN.{length, take}
+use lib.ListN.{take}
 use lib.Seq.{length-take-le}
 use borrow.Author.Needs.{needs}
 use Rattle.words.specs.Answer.{Answer, holds, isHolds}
@@ -30,10 +30,7 @@ kept : (c : tie.Else1) → let a = c .before .before .before .args in Seen (a .w
 kept c = c .before .before .before .pre .seen (c .if1 .left)
 
 front : (c : tie.Else1) → let a = c .before .before .before .args in variables (take (a .read .sources) (a .ws .now)) ≡ variables (a .ws .now)
-front c = rw (kept c .sources-counted) (front-variables _ (kept c .accepts))
-
-inside : (c : tie.Else1) → let a = c .before .before .before .args in a .read .sources ≤ length (a .ws .now)
-inside c = rw (kept c .sources-counted) (front-inside _ (kept c .accepts))
+front c = front-variables (kept c)
 
 -- what `is_holds` says of the values
 said : (c : tie.After-is-holds) → let a = c .before .before .before .before .before .before .args in isHolds (judgedThen accepted (take (a .read .sources) (a .ws .now)) (a .values .now) holds) ≡ c .is-holds .result
@@ -46,7 +43,7 @@ returns c =
     rw (← s .pre .refusal) (first-answers (s .args .read .number) (s .args .read .place) (countFault (s .args .ws .now) (s .args .values .now)) _ (c .if1 .taken))
 
 slice-aggregate-judge-values : tie.Need-slice-aggregate-judge-values
-slice-aggregate-judge-values c = sym (length-take-le _ _ (inside (c .before)))
+slice-aggregate-judge-values c = sym (length-take-le _ _ (front-inside (kept (c .before))))
 
 first-false-requires : tie.Need-first-false-requires
 first-false-requires c κs =

@@ -1,4 +1,4 @@
--- Check's refusal stands; fault 16; else the words are written.
+-- A refusal of the reading or of the check stands; fault 16; else the words are written.
 use mathlib.Core.Path.{_≡_}
 use native.Mathlib.Omega.{arith}
 use lib.ListN.{length}
@@ -7,50 +7,61 @@ use Rattle.rules.specs.Translation.{systemWords}
 use Rattle.sharing.specs.SharedSolutions.{Passes}
 use Rattle.translation.specs.Checked.{checked}
 use Rattle.translation.specs.Written.{wrote}
-use Rattle.translation.proofs.Refusals.{counted, stands, too-short, writes}
+use Rattle.translation.proofs.Refusals.{counted, stands, too-short, writes, read-refused}
 use Rattle.translation.proofs.translate.Statement.{statement}
 use Rattle.translation.proofs.translate.Tie as tie
 
--- check found no fault, and how many words are needed
-passed : (c : tie.After-words) → Passes (c .before .before .before .before .before .args .ws .now) × (c .words .given .0 .1 .1 .1 .1 .0 ≡ length (systemWords (c .before .before .before .before .before .args .ws .now)))
+passed : (c : tie.After-words) → Passes (c .before .before .before .before .before .before .before .before .before .before .before .before .before .before .before .before .before .before .args .ws .now) × (c .words .given .0 .1 .1 .1 .1 .0 ≡ length (systemWords (c .before .before .before .before .before .before .before .before .before .before .before .before .before .before .before .before .before .before .args .ws .now)))
 unfolding checked
-passed c =
-    let s = c .before .before .before .before .before in
-    let check = c .before .before .check in
-    counted (s .args .ws .now) (rw (c .words .given .1) at (check .ensures))
+passed c = counted (c .before .before .before .before .before .before .before .before .before .before .before .before .before .before .before .before .before .before .args .ws .now) (rw (c .words .given .1) at (c .before .before .check-read .ensures))
 
 returns : tie.Need-returns
 unfolding wrote
-returns c =
-    let a = c .before .before .before .before .before .before .before .args in
-    let p = passed (c .before .before) in
-    too-short (a .ws .now) (a .out .now) (p .0) (omega (arith, p .1, c .if1 .taken))
-
-write-system-requires : tie.Need-write-system-requires
-write-system-requires c κs = let p = passed (c .before .before .before) in (p .0, omega (arith, p .1, c .before .if1 .left))
+returns c = stands (c .before .before .before .before .before .before .args .ws .now) (c .before .before .before .before .before .before .args .out .now) (read-refused (c .before .before .read-model .ensures) (c .if1 .taken))
 
 returns-2 : tie.Need-returns-2
-unfolding wrote checked
+unfolding wrote
 returns-2 c =
-    let a = c .before .before .before .before .before .before .args in
-    stands (a .ws .now) (a .out .now) (rw (c .before .refusal .given .1) at (c .before .before .before .check .ensures))
+    let a = c .before .before .before .before .before .before .before .before .before .before .before .before .before .before .before .before .before .before .before .before .args in
+    let p = passed (c .before .before) in
+    too-short (a .ws .now) (a .out .now) (p .0) (omega (arith, p .1, c .if2 .taken))
+
+write-system-requires : tie.Need-write-system-requires
+write-system-requires c κs =
+    let p = passed (c .before .before .before .before .before .before) in
+    (c .before .before .before .before .before .before .before .before .before .before .before .before .before .before .model-bounds .ensures .0, c .before .before .before .before .before .before .before .before .before .before .before .before .before .before .model-bounds .ensures .1, p .0, omega (arith, p .1, c .before .before .before .before .if2 .left))
 
 returns-3 : tie.Need-returns-3
-unfolding wrote
+unfolding wrote checked
 returns-3 c =
-    let a = c .before .before .before .before .before .before .before .before .before .before .before .args in
-    let p = passed (c .before .before .before .before .before .before) in
-    rw (p .1, c .before .before .write-system .ensures) (writes (a .ws .now) (a .out .now) (p .0) (omega (arith, p .1, c .before .before .before .before .if1 .left)))
+    let a = c .before .before .before .before .before .before .before .before .before .before .before .before .before .before .before .before .before .before .before .args in
+    stands (a .ws .now) (a .out .now) (rw (c .before .refusal .given .1) at (c .before .before .before .check-read .ensures))
+
+returns-4 : tie.Need-returns-4
+unfolding wrote
+returns-4 c =
+    let a = c .before .before .before .before .before .before .before .before .before .before .before .before .before .before .before .before .before .before .before .before .before .before .before .before .before .before .before .args in
+    let p = passed (c .before .before .before .before .before .before .before .before .before) in
+    rw (p .1, c .before .before .write-system .ensures) (writes (a .ws .now) (a .out .now) (p .0) (omega (arith, p .1, c .before .before .before .before .before .before .before .if2 .left)))
 
 pub translate-spec : {M : Type 1} → statement M
 translate-spec =
     tie.close
     (tie.spec
     (λ c κs. search needs)
-    (λ c. search needs)
-    (λ c. search needs)
     returns
-    write-system-requires
+    (λ c. search needs)
+    (λ c. search needs)
+    (λ c κs. search needs)
+    (λ c. search needs)
+    (λ c. search needs)
+    (λ c κs. search needs)
+    (λ c. search needs)
+    (λ c. search needs)
     returns-2
     (λ c. search needs)
-    returns-3)
+    (λ c. search needs)
+    write-system-requires
+    returns-3
+    (λ c. search needs)
+    returns-4)

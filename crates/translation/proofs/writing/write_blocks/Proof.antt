@@ -1,62 +1,88 @@
--- The loop's invariant is `Writing`: writing the blocks left from here gives what writing them all gives. Each lent tail comes back by `tail-back`.
-use mathlib.Core.Path.{sym, _∙_}
+-- The loop's invariant is `Writing`: writing the blocks that are left gives what writing them all gives. Each lent tail comes back by `block-back`.
+use mathlib.Core.Path.{ap}
 use Prim.Native.Nat.{_+_, _-_, _≤_, _<_}
 use native.Mathlib.Omega.{arith}
-use lib.ListN.{length}
+use lib.ListN.{length, getD}
 use borrow.Author.Needs.{needs}
 use borrow.Rule.Slice.PartMut.{midOf}
+use Rattle.words.specs.Word.{wordAt}
 use Rattle.words.proofs.Reading.{tail-is}
-use Rattle.models.proofs.Constraints.{headed}
+use Rattle.models.specs.Model.{headed, constraints}
 use Rattle.rules.specs.Translation.{blockOf}
+use Rattle.sharing.proofs.Theorem.{never-too-many}
 use Rattle.laying.specs.Part.{blockParts}
 use Rattle.laying.specs.Went.{Went, nothing}
 use Rattle.extremes.specs.Bounded.{boundsOf}
-use Rattle.linearsums.proofs.Model.{has-place, summed-here}
+use Rattle.translation.proofs.Refusals.{system-length}
+use Rattle.translation.proofs.Kept.{few-variables, few-constraints, none-left, head-inside, head-at, summed-at}
 use Rattle.translation.proofs.OneBlock.{narrow, told, placed-block}
 use Rattle.translation.proofs.Tail.{block-back}
-use Rattle.translation.proofs.WriteWalk.{Writing, begun, skip, not-wide, more, done}
+use Rattle.translation.proofs.WriteWalk.{Writing, begun, not-wide, more, done, blocks-are, all-fine}
 use Rattle.translation.proofs.writing.write_blocks.Statement.{statement}
 use Rattle.translation.proofs.writing.write_blocks.Tie as tie
 
 abbrev Inv-loop : tie.InvT-loop
-Inv-loop ws ls us variables out₀ start sums p₀ constraints₀ first₀ at₀ out p constraints first at = Writing (boundsOf ls us) variables ws out₀ start out p constraints first at
+Inv-loop ws heads ls us out₀ sums n k₀ first₀ at₀ out k first at = Writing (boundsOf ls us) first₀ (constraints ws) out₀ at₀ out k first at
 
 abbrev μ-loop : tie.MeasureT-loop
-μ-loop ws ls us variables out₀ start sums p₀ constraints₀ first₀ at₀ out p constraints first at = length ws - p
+μ-loop ws heads ls us out₀ sums n k₀ first₀ at₀ out k first at = n - k
 
--- the place is inside the output
+-- the place is inside the output, and so small that it does not wrap
 fits : (c : tie.At-loop Inv-loop μ-loop) → c .loop .at ≤ length (c .loop .out)
-fits c = omega (arith, c .loop .inv .total, c .loop .inv .same, c .before .before .before .pre .4)
+fits c =
+    let s = c .before .before .before in
+    let m = s .pre .0 in
+    omega (arith, c .loop .inv .total, c .loop .inv .same, ap length (blocks-are m), m .seen .sources-counted, s .pre .3)
 
--- the constraint at the place has a sum
-has : (c : tie.Then1 Inv-loop μ-loop) → c .before .before .before .before .loop .constraints < 256
-has c =
-    let s = c .before .before .before .before .before .before .before in
-    let loop = c .before .before .before .before .loop in
-    has-place (loop .inv .passed) (c .before .before .before .loop-test .taken) (sym (c .before .kind-of .ensures) ∙ c .if1 .taken) (s .pre .5)
+small : (c : tie.At-loop Inv-loop μ-loop) → c .loop .at ≤ 131072
+small c =
+    let s = c .before .before .before in
+    let m = s .pre .0 in
+    let ws = s .args .ws .now in
+    omega (arith, c .loop .inv .total, ap length (blocks-are m), m .seen .sources-counted, system-length ws, never-too-many ws (s .pre .2))
 
--- the block of the constraint at the place went over the lent tail
+-- the constraint has a place in the lists, and its head among the words
+few : (c : tie.In-loop Inv-loop μ-loop) → c .before .loop .k < 256
+few c = omega (arith, c .loop-test .taken, few-constraints (c .before .before .before .before .pre .0))
+
+inside : (c : tie.In-loop Inv-loop μ-loop) → let a = c .before .before .before .before .args in getD (a .heads .now) (c .before .loop .k) 0 < length (a .ws .now)
+inside c = head-inside (c .before .before .before .before .pre .0) (c .before .loop .k) (c .loop-test .taken)
+
+-- its block went over the lent tail
 went : (c : tie.After-block Inv-loop μ-loop) →
-    let l = c .before .before .before .before .before .before .before .before .before .loop in
-    let a = c .before .before .before .before .before .before .before .before .before .before .before .before .args in
-    Went nothing (c .block .result) (midOf (l .at) (length (l .out) - l .at) (l .out)) (c .block .last .0) (blockParts (l .first) (blockOf (boundsOf (a .ls .now) (a .us .now)) (headed (a .ws .now) (l .p))))
+    let a = c .before .before .before .before .before .before .before .before .before .before .before .args in
+    let l = c .before .before .before .before .before .before .before .before .loop in
+    Went nothing (c .block .result) (midOf (l .at) (length (l .out) - l .at) (l .out)) (c .block .last .0) (blockParts (l .first) (blockOf (boundsOf (a .ls .now) (a .us .now)) (headed (a .ws .now) (getD (a .heads .now) (l .k) 0))))
+unfolding wordAt
 went c =
-    let s = c .before .before .before .before .before .before .before .before .before .before .before .before in
-    let loop = c .before .before .before .before .before .before .before .before .before .loop in
-    let payload-of = c .before .before .payload-of in
-    let l = loop in
-    let a = s .args in
-    placed-block (boundsOf (a .ls .now) (a .us .now)) (l .first) (headed (a .ws .now) (l .p))
-    (rw (payload-of .ensures, tail-is (a .ws .now) (l .p + 1)) at (c .block .ensures .0))
+    let a = c .before .before .before .before .before .before .before .before .before .before .before .args in
+    let l = c .before .before .before .before .before .before .before .before .loop in
+    let at = getD (a .heads .now) (l .k) 0 in
+    placed-block (boundsOf (a .ls .now) (a .us .now)) (l .first) (headed (a .ws .now) at) (rw (c .before .before .before .before .payload-of .ensures, tail-is (a .ws .now) (at + 1)) at (c .block .ensures .0))
 
 loop-holds : tie.Need-loop-holds Inv-loop μ-loop
-loop-holds c = begun _ _ _ _ _ (c .before .before .pre .0) (c .before .before .pre .3)
+loop-holds c = let m = c .before .before .pre .0 in begun _ _ _ _ _ (few-variables m) (all-fine m (c .before .before .pre .2))
+
+mul-place : tie.Need-mul-place Inv-loop μ-loop
+mul-place c = record { fits = omega (arith, few c) }
+
+element-copy-out-place : tie.Need-element-copy-out-place Inv-loop μ-loop
+element-copy-out-place c = few c
+
+mul-payload-of : tie.Need-mul-payload-of Inv-loop μ-loop
+mul-payload-of c = let h = inside (c .before) in search needs
+
+shared-slice-read-payload-of : tie.Need-shared-slice-read-payload-of Inv-loop μ-loop
+shared-slice-read-payload-of c = inside (c .before .before)
 
 mul-sum : tie.Need-mul-sum Inv-loop μ-loop
-mul-sum c = omega (arith, has c)
+mul-sum c = omega (arith, few (c .before .before .before))
 
 array-copy-out-sum : tie.Need-array-copy-out-sum Inv-loop μ-loop
-array-copy-out-sum c = has c
+array-copy-out-sum c = few (c .before .before .before)
+
+mul-block : tie.Need-mul-block Inv-loop μ-loop
+mul-block c = let h = small (c .before .before .before .before .before) in search needs
 
 sub-block : tie.Need-sub-block Inv-loop μ-loop
 sub-block c = omega (arith, fits (c .before .before .before .before .before))
@@ -67,47 +93,57 @@ part-block-start c = omega (arith, fits (c .before .before .before .before .befo
 part-block-end : tie.Need-part-block-end Inv-loop μ-loop
 part-block-end c = omega (arith, fits (c .before .before .before .before .before))
 
+add-block : tie.Need-add-block Inv-loop μ-loop
+add-block c = let h = inside (c .before .before .before .before .before) in search needs
+
+mul-block-2 : tie.Need-mul-block-2 Inv-loop μ-loop
+mul-block-2 c = let h = inside (c .before .before .before .before .before) in search needs
+
+sub-block-2 : tie.Need-sub-block-2 Inv-loop μ-loop
+sub-block-2 c = let h = inside (c .before .before .before .before .before) in search needs
+
+part-block-start-2 : tie.Need-part-block-start-2 Inv-loop μ-loop
+part-block-start-2 c = omega (arith, inside (c .before .before .before .before .before))
+
 block-requires : tie.Need-block-requires Inv-loop μ-loop
+unfolding wordAt
 block-requires c κs =
-    let s = c .before .before .before .before .before .before .before .before .before .before .before in
-    let loop = c .before .before .before .before .before .before .before .before .loop in
-    let kind-of = c .before .before .before .before .before .kind-of in
-    let if1 = c .before .before .before .before .if1 in
-    let l = loop in
-    let e = sym (kind-of .ensures) ∙ if1 .taken in (
+    let s = c .before .before .before .before .before .before .before .before .before .before in
+    let l = c .before .before .before .before .before .before .before .loop in
+    let m = s .pre .0 in
+    let at = getD (s .args .heads .now) (l .k) 0 in
+    let t = c .before .before .before .before .before .before .loop-test .taken in (
       omega (arith, l .inv .room),
-      s .pre .1,
-      s .pre .2,
-      rw (c .before .payload-of .ensures, tail-is (s .args .ws .now) (l .p + 1)) (narrow _ (headed (s .args .ws .now) (l .p)) (not-wide (l .inv) (c .before .before .before .before .before .before .before .loop-test .taken) e)),
-      rw (c .before .payload-of .ensures, tail-is (s .args .ws .now) (l .p + 1), s .pre .6)
-          (summed-here (l .inv .passed) (c .before .before .before .before .before .before .before .loop-test .taken) e _ _ (λ v. (s .pre .1 v, s .pre .2 v)) (s .pre .5)),
+      m .lowers,
+      m .uppers,
+      rw (c .before .before .before .payload-of .ensures, tail-is (s .args .ws .now) (at + 1)) (narrow _ (headed (s .args .ws .now) at) (not-wide (l .inv) (head-at m (l .k) t))),
+      rw (c .before .before .before .payload-of .ensures, tail-is (s .args .ws .now) (at + 1)) (summed-at m (l .k) t _ (s .pre .1)),
     )
 
-add-constraints : tie.Need-add-constraints Inv-loop μ-loop
-add-constraints c = omega (arith, has (c .before .before .before .before .before .before .before))
+add-k : tie.Need-add-k Inv-loop μ-loop
+add-k c = omega (arith, few (c .before .before .before .before .before .before .before .before .before))
 
 add-first : tie.Need-add-first Inv-loop μ-loop
-add-first c = omega (arith, c .before .before .before .before .before .before .before .before .before .before .before .before .loop .inv .room, c .before .before .before .block .ensures .1)
+add-first c = omega (arith, c .before .before .before .before .before .before .before .before .before .before .before .loop .inv .room, c .before .before .before .block .ensures .1)
 
 add-at : tie.Need-add-at Inv-loop μ-loop
-add-at c = omega (arith, fits (c .before .before .before .before .before .before .before .before .before .before .before .before .before), c .before .before .before .before .block .ensures .1)
+add-at c = omega (arith, small (c .before .before .before .before .before .before .before .before .before .before .before .before), c .before .before .before .before .block .ensures .1)
 
 loop-again : tie.Need-loop-again Inv-loop μ-loop
 loop-again c =
-    let s = c .before .before .before .before .before .before .before .before .before .before .before .before .before .before .before .before in
-    let loop = c .before .before .before .before .before .before .before .before .before .before .before .before .before .loop in
-    let kind-of = c .before .before .before .before .before .before .before .before .before .before .kind-of in
-    let if1 = c .before .before .before .before .before .before .before .before .before .if1 in
-    let l = loop in let a = s .args in let w = went (c .before .before .before .before) in more (l .inv) (c .before .before .before .before .before .before .before .before .before .before .before .before .loop-test .taken) (sym (kind-of .ensures) ∙ if1 .taken) (told w) (block-back (l .first) (blockOf (boundsOf (a .ls .now) (a .us .now)) (headed (a .ws .now) (l .p))) (l .at) (l .out) (fits (c .before .before .before .before .before .before .before .before .before .before .before .before .before)) w)
-
-loop-again-2 : tie.Need-loop-again-2 Inv-loop μ-loop
-loop-again-2 c = skip (c .before .before .before .before .loop .inv) (c .before .before .before .loop-test .taken) (λ e. c .if1 .left (c .before .kind-of .ensures ∙ e))
+    let s = c .before .before .before .before .before .before .before .before .before .before .before .before .before .before .before in
+    let l = c .before .before .before .before .before .before .before .before .before .before .before .before .loop in
+    let w = went (c .before .before .before .before) in
+    more (l .inv) (head-at (s .pre .0) (l .k) (c .before .before .before .before .before .before .before .before .before .before .before .loop-test .taken)) (told w)
+    (block-back (l .first) (blockOf (boundsOf (s .args .ls .now) (s .args .us .now)) (headed (s .args .ws .now) (getD (s .args .heads .now) (l .k) 0))) (l .at) (l .out) (fits (c .before .before .before .before .before .before .before .before .before .before .before .before)) w)
 
 same-length : tie.Need-same-length Inv-loop μ-loop
 same-length c = c .before .loop .inv .same
 
 returns : tie.Need-returns Inv-loop μ-loop
-returns c = done (c .before .loop .inv) (c .loop-test .left)
+returns c =
+    let m = c .before .before .before .before .pre .0 in
+    rw (blocks-are m, m .seen .sources-counted) at (done (c .before .loop .inv) (none-left m (c .loop-test .left)))
 
 pub write-blocks-spec : {M : Type 1} → statement M
 write-blocks-spec =
@@ -116,28 +152,27 @@ write-blocks-spec =
     Inv-loop
     μ-loop
     loop-holds
-    (λ c. search needs)
-    (λ c. search needs)
-    (λ c. search needs)
+    mul-place
+    element-copy-out-place
+    mul-payload-of
+    shared-slice-read-payload-of
     (λ c κs. search needs)
     mul-sum
     array-copy-out-sum
-    (λ c. search needs)
+    mul-block
     sub-block
     part-block-start
     part-block-end
-    (λ c κs. search needs)
-    (λ c. search needs)
-    (λ c. search needs)
-    (λ c. search needs)
+    add-block
+    mul-block-2
+    sub-block-2
+    part-block-start-2
     (λ c. search needs)
     block-requires
-    add-constraints
+    add-k
     add-first
     add-at
     (λ c. search needs)
     loop-again
-    (λ c. search needs)
-    loop-again-2
     same-length
     returns)

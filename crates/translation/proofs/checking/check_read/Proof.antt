@@ -1,0 +1,155 @@
+-- The loop's invariant is `Checking`: what the constraints that are left give is what all give, check's answer.
+use mathlib.Core.Path.{_∙_}
+use Prim.Native.Nat.{_+_, _-_, _<_, _≤_}
+use native.Mathlib.Omega.{arith}
+use lib.ListN.{length, getD}
+use borrow.Author.Needs.{needs}
+use Rattle.words.specs.Word.{wordAt}
+use Rattle.words.proofs.Reading.{tail-is}
+use Rattle.models.specs.Model.{headed, constraints}
+use Rattle.extremes.specs.Bounded.{boundsOf}
+use Rattle.translation.specs.Checked.{checked}
+use Rattle.translation.specs.Walk.{Costs}
+use Rattle.translation.proofs.Kept.{few-variables, few-sources, few-constraints, none-left, head-inside, head-at, summed-at}
+use Rattle.translation.proofs.OneBlock.{placed}
+use Rattle.translation.proofs.CheckWalk.{Checking, begun, more, stop, done, all-checked}
+use Rattle.translation.proofs.checking.check_read.Statement.{statement}
+use Rattle.translation.proofs.checking.check_read.Tie as tie
+
+abbrev Inv-loop : tie.InvT-loop
+Inv-loop ws heads ls us sums variables n k₀ a₀ r₀ w₀ k a r w = Checking (boundsOf ls us) variables (constraints ws) w₀ k a r w
+
+abbrev μ-loop : tie.MeasureT-loop
+μ-loop ws heads ls us sums variables n k₀ a₀ r₀ w₀ k a r w = n - k
+
+-- the constraint has a place in the lists, and its head among the words
+few : (c : tie.In-loop Inv-loop μ-loop) → c .before .loop .constraints < 256
+few c = omega (arith, c .loop-test .taken, few-constraints (c .before .before .before .before .pre .0))
+
+inside : (c : tie.In-loop Inv-loop μ-loop) → let a = c .before .before .before .before .args in getD (a .heads .now) (c .before .loop .constraints) 0 < length (a .ws .now)
+inside c = head-inside (c .before .before .before .before .pre .0) (c .before .loop .constraints) (c .loop-test .taken)
+
+-- what it costs; with that the counts do not wrap
+costs : (c : tie.After-cost-of Inv-loop μ-loop) →
+    let a = c .before .before .before .before .before .before .before .before .before .before .args in
+    let l = c .before .before .before .before .before .before .before .loop in
+    Costs (boundsOf (a .ls .now) (a .us .now)) (a .read .variables + l .auxiliaries) (headed (a .ws .now) (getD (a .heads .now) (l .constraints) 0)) (c .cost-of .result)
+unfolding wordAt
+costs c =
+    let a = c .before .before .before .before .before .before .before .before .before .before .args in
+    let l = c .before .before .before .before .before .before .before .loop in
+    placed (rw (c .before .before .before .payload-of .ensures, tail-is (a .ws .now) (getD (a .heads .now) (l .constraints) 0 + 1)) at (c .cost-of .ensures))
+
+fit : (c : tie.After-cost-of Inv-loop μ-loop) →
+    let l = c .before .before .before .before .before .before .before .loop in
+    l .auxiliaries + l .rows + l .words + c .cost-of .result .auxiliaries + c .cost-of .result .rows + c .cost-of .result .words ≤ 300000000
+fit c = omega (arith, c .before .before .before .before .before .before .before .loop .inv .small, few (c .before .before .before .before .before .before), few-sources (c .before .before .before .before .before .before .before .before .before .before .pre .0), c .cost-of .ensures .small)
+
+add-words : tie.Need-add-words Inv-loop μ-loop
+add-words c = omega (arith, few-sources (c .before .before .pre .0))
+
+loop-holds : tie.Need-loop-holds Inv-loop μ-loop
+loop-holds c = begun _ _ _ _ (few-variables (c .before .before .pre .0))
+
+mul-place : tie.Need-mul-place Inv-loop μ-loop
+mul-place c = record { fits = omega (arith, few c) }
+
+element-copy-out-place : tie.Need-element-copy-out-place Inv-loop μ-loop
+element-copy-out-place c = few c
+
+mul-payload-of : tie.Need-mul-payload-of Inv-loop μ-loop
+mul-payload-of c = let h = inside (c .before) in search needs
+
+shared-slice-read-payload-of : tie.Need-shared-slice-read-payload-of Inv-loop μ-loop
+shared-slice-read-payload-of c = inside (c .before .before)
+
+mul-sum : tie.Need-mul-sum Inv-loop μ-loop
+mul-sum c = omega (arith, few (c .before .before .before))
+
+array-copy-out-sum : tie.Need-array-copy-out-sum Inv-loop μ-loop
+array-copy-out-sum c = few (c .before .before .before)
+
+add-first : tie.Need-add-first Inv-loop μ-loop
+add-first c = omega (arith, c .before .before .before .before .before .loop .inv .room)
+
+add-cost-of : tie.Need-add-cost-of Inv-loop μ-loop
+add-cost-of c = let h = inside (c .before .before .before .before) in search needs
+
+mul-cost-of : tie.Need-mul-cost-of Inv-loop μ-loop
+mul-cost-of c = let h = inside (c .before .before .before .before) in search needs
+
+sub-cost-of : tie.Need-sub-cost-of Inv-loop μ-loop
+sub-cost-of c = let h = inside (c .before .before .before .before) in search needs
+
+part-cost-of-start : tie.Need-part-cost-of-start Inv-loop μ-loop
+part-cost-of-start c = omega (arith, inside (c .before .before .before .before))
+
+cost-of-requires : tie.Need-cost-of-requires Inv-loop μ-loop
+unfolding wordAt
+cost-of-requires c κs =
+    let s = c .before .before .before .before .before .before .before .before .before in
+    let l = c .before .before .before .before .before .before .loop in
+    let m = s .pre .0 in
+    (omega (arith, l .inv .room), m .lowers, m .uppers, rw (c .before .before .payload-of .ensures, tail-is (s .args .ws .now) (getD (s .args .heads .now) (l .constraints) 0 + 1)) (summed-at m (l .constraints) (c .before .before .before .before .before .loop-test .taken) _ (s .pre .1)))
+
+returns : tie.Need-returns Inv-loop μ-loop
+unfolding checked
+returns c =
+    let m = c .before .before .before .before .before .before .before .before .before .before .before .before .pre .0 in
+    let l = c .before .before .before .before .before .before .before .before .before .loop in
+    stop (l .inv) (head-at m (l .constraints) (c .before .before .before .before .before .before .before .before .loop-test .taken)) (costs (c .before .before)) (c .if1 .taken) ∙ all-checked m
+
+add-constraints : tie.Need-add-constraints Inv-loop μ-loop
+add-constraints c = omega (arith, few (c .before .before .before .before .before .before .before .before))
+
+add-auxiliaries : tie.Need-add-auxiliaries Inv-loop μ-loop
+add-auxiliaries c = omega (arith, fit (c .before .before .before))
+
+add-rows : tie.Need-add-rows Inv-loop μ-loop
+add-rows c = omega (arith, fit (c .before .before .before .before))
+
+add-words-2 : tie.Need-add-words-2 Inv-loop μ-loop
+add-words-2 c = omega (arith, fit (c .before .before .before .before .before))
+
+loop-again : tie.Need-loop-again Inv-loop μ-loop
+loop-again c =
+    let m = c .before .before .before .before .before .before .before .before .before .before .before .before .before .before .before .pre .0 in
+    let l = c .before .before .before .before .before .before .before .before .before .before .before .before .loop in
+    more (l .inv) (head-at m (l .constraints) (c .before .before .before .before .before .before .before .before .before .before .before .loop-test .taken)) (costs (c .before .before .before .before .before)) (c .before .before .before .if1 .left)
+
+returns-2 : tie.Need-returns-2 Inv-loop μ-loop
+unfolding checked
+returns-2 c =
+    let m = c .before .before .before .before .pre .0 in
+    done (c .before .loop .inv) (none-left m (c .loop-test .left)) ∙ all-checked m
+
+pub check-read-spec : {M : Type 1} → statement M
+check-read-spec =
+    tie.close
+    (tie.spec
+    Inv-loop
+    μ-loop
+    add-words
+    loop-holds
+    mul-place
+    element-copy-out-place
+    mul-payload-of
+    shared-slice-read-payload-of
+    (λ c κs. search needs)
+    mul-sum
+    array-copy-out-sum
+    add-first
+    add-cost-of
+    mul-cost-of
+    sub-cost-of
+    part-cost-of-start
+    (λ c. search needs)
+    cost-of-requires
+    returns
+    add-constraints
+    add-auxiliaries
+    add-rows
+    add-words-2
+    (λ c. search needs)
+    loop-again
+    returns-2)

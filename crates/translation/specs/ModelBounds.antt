@@ -1,0 +1,28 @@
+-- What check, translate and fill have of a model that was read without a fault: what the reading kept, the bounds of the variables; and L and U of the constraints.
+use mathlib.Core.Path.{_≡_}
+use mathlib.Core.List.{List}
+use Prim.Native.Nat.{ℕ}
+use lib.IntN.{ℤ}
+use lib.ListN.{replicate}
+use Rattle.integers.specs.Number.{+0}
+use Rattle.integers.specs.declared.Bounds.{Bounds}
+use Rattle.modelreading.specs.Seen.{Seen, Kept}
+use Rattle.modelreading.specs.declared.Read.{Read}
+use Rattle.rules.specs.Translation.{bounds}
+use Rattle.extremes.specs.Bounded.{boundsOf, Bounded}
+use Rattle.linearsums.specs.Places.{sumsUpTo}
+
+-- a list for the bounds of 256 variables
+abbrev pub noBounds : List ℤ
+noBounds = replicate 256 +0
+
+pub record ModelBounds (ws hs : List ℕ) (r : Read) (ls us : List ℤ) : Type 0 where
+  pub kept : Kept ws hs r
+  pub seen : Seen ws hs r
+  pub same : boundsOf ls us ≡ bounds ws
+  pub lowers : Bounded ls
+  pub uppers : Bounded us
+
+-- L and U of each constraint
+abbrev pub modelSums : List ℕ → List ℕ → Read → List ℤ → List ℤ → List Bounds
+modelSums ws hs r ls us = sumsUpTo ws hs (boundsOf ls us) (r .constraints)
