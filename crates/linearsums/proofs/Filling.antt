@@ -1,5 +1,5 @@
 -- The records of the variables, as a loop fills them from two lists: what they give is what the lists give.
-use mathlib.Core.Path.{_≡_, refl, ap₂, sym, _∙_, fun-ext}
+use mathlib.Core.Path.{_≡_, refl, ap, sym, _∙_, fun-ext}
 use mathlib.Core.Logic.{_⊎_, inl, inr, ⊎-elim}
 use mathlib.Core.List.{List, [], _∷_}
 use Prim.Native.Nat.{ℕ, zero, suc, _+_, _<_, _≤_}
@@ -11,7 +11,7 @@ use Rattle.integers.specs.Number.{+0}
 use Rattle.integers.specs.Bounds.{_to_, boundsIn}
 use Rattle.integers.specs.declared.Bounds.{Bounds}
 use Rattle.extremes.specs.Bounded.{boundsOf, Bounded}
-use Rattle.linearsums.specs.Places.{BoundsNear}
+use Rattle.linearsums.specs.Places.{BoundsNear, NoneFrom}
 
 abbrev none : Bounds
 none = +0 to +0
@@ -20,11 +20,6 @@ pub below-or-from : (i v : ℕ) → (i < v) ⊎ (v ≤ i)
 below-or-from i zero = inr (omega arith)
 below-or-from zero (suc v) = inl (omega arith)
 below-or-from (suc i) (suc v) = ⊎-elim (λ h. inl (omega arith)) (λ h. inr (omega arith)) (below-or-from i v)
-
-past : {A : Type 0} (d : A) (xs : List A) (i : ℕ) → length xs ≤ i → getD xs i d ≡ d
-past d [] i h = refl
-past d (x ∷ xs) zero h = absurd (omega arith)
-past d (x ∷ xs) (suc i) h = past d xs i (omega arith)
 
 zeros : (n i : ℕ) → getD (replicate n none) i none ≡ none
 zeros zero i = refl
@@ -49,11 +44,20 @@ module _ {ls us : List ℤ} {Bs : List Bounds} {v : ℕ} (f : Filling ls us Bs v
     left = λ j l. getD-set-other Bs v j (boundsOf ls us v) none (λ e. omega arith) ∙ f .left j (omega arith);
   }
 
-  pub done : 256 ≤ v → length ls ≤ 256 → length us ≤ 256 → boundsIn Bs ≡ boundsOf ls us
+  pub done : (n : ℕ) → n ≤ v → NoneFrom (boundsOf ls us) n → boundsIn Bs ≡ boundsOf ls us
   unfolding boundsIn
-  done h l u = fun-ext (λ j. ⊎-elim (λ below. f .filled j below)
-      (λ from. past none Bs j (omega (arith, f .many)) ∙ sym (ap₂ (λ a b. a to b) (past +0 ls j (omega arith)) (past +0 us j (omega arith)))) (below-or-from j v))
+  done n h rest = fun-ext (λ j. ⊎-elim (λ below. f .filled j below) (λ from. f .left j from ∙ sym (rest j (omega arith))) (below-or-from j v))
 
 -- records are near 0 where the lists are
 pub records-near : (Bs : List Bounds) (ls us : List ℤ) → boundsIn Bs ≡ boundsOf ls us → Bounded ls → Bounded us → BoundsNear Bs
 records-near Bs ls us e l u v = rw e (l v, u v)
+
+-- past the last record of a list there is none; so it is with bounds that are the list's
+none-past : (Bs : List Bounds) → NoneFrom (boundsIn Bs) (length Bs)
+unfolding boundsIn
+none-past [] x h = refl
+none-past (B ∷ Bs) zero h = absurd (omega arith)
+none-past (B ∷ Bs) (suc x) h = none-past Bs x (omega arith)
+
+pub none-from : {β : ℕ → Bounds} (Bs : List Bounds) {v : ℕ} → β ≡ boundsIn Bs → v ≡ length Bs → NoneFrom β v
+none-from Bs e many x h = ap (λ γ. γ x) e ∙ none-past Bs x (omega (arith, many))

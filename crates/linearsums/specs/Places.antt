@@ -1,6 +1,7 @@
 -- The sum of a constraint by the words of the whole model, as the code finds it: a is the place after the constraint's head. And the sums of all constraints.
+use mathlib.Core.Path.{_≡_}
 use mathlib.Core.List.{List}
-use Prim.Native.Nat.{ℕ, zero, suc, _+_, _-_, _<_}
+use Prim.Native.Nat.{ℕ, zero, suc, _+_, _-_, _<_, _≤_}
 use lib.Dec.{eqb}
 use lib.IntN.{ℤ}
 use lib.ListN.{length, getD, set, replicate}
@@ -77,3 +78,7 @@ sumsUpTo ws hs β (suc k) = set (sumsUpTo ws hs β k) k (sumBounds ws (getD hs k
 -- the bounds of every variable are near 0
 abbrev pub BoundsNear : List Bounds → Type 0
 BoundsNear Bs = (v : ℕ) → Near (boundsIn Bs v .lower) × Near (boundsIn Bs v .upper)
+
+-- 0 and 0 from the v-th variable on
+abbrev pub NoneFrom : (ℕ → Bounds) → ℕ → Type 0
+NoneFrom β v = (x : ℕ) → v ≤ x → β x ≡ (+0 to +0)

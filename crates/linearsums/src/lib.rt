@@ -9,7 +9,7 @@ ghost use Rattle.integers.specs.Bounds.{_to_, boundsIn};
 ghost use Rattle.words.specs.Small.{Near};
 ghost use Rattle.extremes.specs.Bounded.{boundsOf, Bounded};
 ghost use Rattle.linearsums.specs.Sum.{formOf};
-ghost use Rattle.linearsums.specs.Places.{codeBefore, formBefore, sumSize, sumNumber, sumVariable, sumConstant, sumBounds, withTerm, BoundsNear, HeadsInside, noSums, sumsUpTo};
+ghost use Rattle.linearsums.specs.Places.{codeBefore, formBefore, sumSize, sumNumber, sumVariable, sumConstant, sumBounds, withTerm, BoundsNear, HeadsInside, NoneFrom, noSums, sumsUpTo};
 use arguments::num_at;
 use arguments::past_at;
 use arguments::past_terms_at;
@@ -20,7 +20,6 @@ use extremes::times_ends;
 use integers::Bounds;
 use integers::minus;
 use integers::plus;
-use words::limit;
 use words::payload_of;
 use words::word_at;
 
@@ -221,15 +220,15 @@ pub fn lend_bounds(
     constraint_sums(ws, heads, n, &bounds)
 }
 
-// The bounds of the variables as records, one for each, from the lists of lower and of upper bounds.
-fn records_of(ls: &[i64], us: &[i64]) -> [Bounds; 256]
-    requires { ⌜ (length (now ls) ≤ 256) × (length (now us) ≤ 256) ⌝ }
+// The bounds of the variables as records, from the lists of lower and of upper bounds; 0 and 0 past the last variable.
+fn records_of(ls: &[i64], us: &[i64], variables: usize) -> [Bounds; 256]
+    requires { ⌜ (variables ≤ 256) × NoneFrom (boundsOf (now ls) (now us)) variables ⌝ }
     ensures { λ r. ⌜ boundsIn r ≡ boundsOf (now (ls .entry)) (now (us .entry)) ⌝ }
 {
     let none = Bounds { lower: 0, upper: 0 };
     let mut records = [none; 256];
     let mut v = 0;
-    while v < limit::VARIABLES {
+    while v < variables {
         let record = Bounds {
             lower: bound_at(ls, v),
             upper: bound_at(us, v),
@@ -247,9 +246,10 @@ pub fn model_sums(
     n: usize,
     ls: &[i64],
     us: &[i64],
+    variables: usize,
 ) -> [Bounds; 256]
-    requires { ⌜ (length (now ws) < 1099511627776) × (n ≤ 256) × HeadsInside (now ws) (now heads) n × (length (now ls) ≤ 256) × (length (now us) ≤ 256) × Bounded (now ls) × Bounded (now us) ⌝ }
+    requires { ⌜ (length (now ws) < 1099511627776) × (n ≤ 256) × HeadsInside (now ws) (now heads) n × (variables ≤ 256) × NoneFrom (boundsOf (now ls) (now us)) variables × Bounded (now ls) × Bounded (now us) ⌝ }
     ensures { λ r. ⌜ r ≡ sumsUpTo (now (ws .entry)) (now (heads .entry)) (boundsOf (now (ls .entry)) (now (us .entry))) n ⌝ }
 {
-    lend_bounds(ws, heads, n, records_of(ls, us))
+    lend_bounds(ws, heads, n, records_of(ls, us, variables))
 }

@@ -1,14 +1,11 @@
--- What `keep_bounds` leaves of the words of a model's variables: the model's bounds, near 0, in lists of at most 256. And what the walks over its constraints use.
-use mathlib.Core.Path.{_≡_, ap, ap₂, _∙_}
-use mathlib.Core.List.{List, _∷_, map}
+-- What `keep_bounds` leaves of the words of a model's variables: the model's bounds, near 0, and 0 and 0 past the last of at most 256. And what the walks over its constraints use.
+use mathlib.Core.Path.{_≡_, ap₂, _∙_}
+use mathlib.Core.List.{List, _∷_}
 use Prim.Native.Nat.{ℕ, _+_, _<_, _≤_}
 use native.Mathlib.Omega.{arith}
 use lib.IntN.{ℤ}
-use lib.ListN.{length, getD, take, drop, length-replicate}
-use Rattle.integers.specs.Number.{+0}
+use lib.ListN.{length, getD, take, drop}
 use Rattle.integers.specs.declared.Bounds.{Bounds}
-use Rattle.words.specs.Overlay.{overlay}
-use Rattle.words.proofs.Overlay.{length-overlay}
 use Rattle.words.specs.Variables.{variables}
 use Rattle.words.specs.Word.{payload, wordAt}
 use Rattle.models.specs.Model.{headed, constraints}
@@ -20,37 +17,37 @@ use Rattle.modelreading.proofs.Heads.{front-inside, front-variables}
 use Rattle.rules.specs.Translation.{bounds}
 use Rattle.extremes.specs.Bounded.{boundsOf, Bounded}
 use Rattle.extremes.proofs.Kept.{lowersKept, uppersKept, kept-bounds, lowers-bounded, uppers-bounded}
+use Rattle.linearsums.specs.Places.{NoneFrom}
 use Rattle.linearsums.specs.Sum.{Summed}
+use Rattle.linearsums.proofs.Filling.{none-from}
 use Rattle.linearsums.proofs.Model.{sum-here}
-use Rattle.translation.specs.ModelBounds.{ModelBounds, noBounds, modelSums}
+use Rattle.translation.specs.ModelBounds.{ModelBounds, modelSums}
 
 -- ---- the bounds
 
-pub record Kept (ws : List ℕ) (ls us : List ℤ) : Type 0 where
+pub record Kept (ws : List ℕ) (n : ℕ) (ls us : List ℤ) : Type 0 where
   pub same : boundsOf ls us ≡ bounds ws
   pub lowers : Bounded ls
   pub uppers : Bounded us
-  pub short-lowers : length ls ≤ 256
-  pub short-uppers : length us ≤ 256
+  pub few : n ≤ 256
+  pub rest : NoneFrom (boundsOf ls us) n
 
 pub kept : {ws hs : List ℕ} {r : Read} {n : ℕ} {ls us : List ℤ} → Seen ws hs r →
-    (n ≡ length (variables (take (r .sources) ws))) × (ls ≡ lowersKept (take (r .sources) ws) 256) × (us ≡ uppersKept (take (r .sources) ws) 256) → Kept ws ls us
+    (n ≡ length (variables (take (r .sources) ws))) × (ls ≡ lowersKept (take (r .sources) ws) 256) × (us ≡ uppersKept (take (r .sources) ws) 256) → Kept ws (r .variables) ls us
 unfolding bounds
 kept {ws} {hs} {r} {n} {ls} {us} s k =
     let f = Accepted.few-variables ws (s .accepts) in
     let e = front-variables s in
     let l : ls ≡ lowersKept ws 256 = k .1 ∙ rw e in
     let u : us ≡ uppersKept ws 256 = k .2 ∙ rw e in
+    let same : boundsOf ls us ≡ bounds ws = ap₂ boundsOf l u ∙ kept-bounds ws 256 f in
     record {
-      same = ap₂ boundsOf l u ∙ kept-bounds ws 256 f;
+      same = same;
       lowers = rw l (lowers-bounded ws 256 f);
       uppers = rw u (uppers-bounded ws 256 f);
-      short-lowers = short (λ B. B .lower) l;
-      short-uppers = short (λ B. B .upper) u;
+      few = omega (arith, f, s .variables-counted);
+      rest = none-from (variables ws) same (s .variables-counted);
     }
-  where
-    short : {zs : List ℤ} (f : Bounds → ℤ) → zs ≡ overlay noBounds 0 (map f (variables ws)) → length zs ≤ 256
-    short f e = omega (arith, ap length e, length-overlay noBounds 0 (map f (variables ws)), length-replicate 256 +0)
 
 -- ---- the walks
 

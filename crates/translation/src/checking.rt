@@ -42,7 +42,7 @@ pub fn model_bounds(
 {
     let sources = read.sources;
     keep_bounds(&ws[..sources], lowers, uppers);
-    model_sums(ws, heads, read.constraints, lowers, uppers)
+    model_sums(ws, heads, read.constraints, lowers, uppers, read.variables)
 }
 
 // Whether a constraint needs more than 64 auxiliaries for the values of its first argument.

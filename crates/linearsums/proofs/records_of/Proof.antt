@@ -1,5 +1,6 @@
 -- The loop's invariant is `Filling`.
 use Prim.Native.Nat.{_-_}
+use native.Mathlib.Omega.{arith}
 use borrow.Author.Needs.{needs}
 use Rattle.arguments.proofs.Size.{read}
 use Rattle.linearsums.proofs.Filling.{Filling, begun, more, done}
@@ -7,10 +8,10 @@ use Rattle.linearsums.proofs.records_of.Statement.{statement}
 use Rattle.linearsums.proofs.records_of.Tie as tie
 
 abbrev Inv-loop : tie.InvT-loop
-Inv-loop ls us records₀ v₀ records v = Filling ls us records v
+Inv-loop ls us variables records₀ v₀ records v = Filling ls us records v
 
 abbrev μ-loop : tie.MeasureT-loop
-μ-loop ls us records₀ v₀ records v = 256 - v
+μ-loop ls us variables records₀ v₀ records v = variables - v
 
 loop-holds : tie.Need-loop-holds Inv-loop μ-loop
 loop-holds c = begun _ _
@@ -18,10 +19,10 @@ loop-holds c = begun _ _
 loop-again : tie.Need-loop-again Inv-loop μ-loop
 loop-again c =
     let loop = c .before .before .before .loop in
-    rw (read (c .before .bound-at .ok) (c .before .bound-at .ensures), read (c .bound-at2 .ok) (c .bound-at2 .ensures)) (more (loop .inv) (c .before .before .loop-test .taken))
+    rw (read (c .before .bound-at .ok) (c .before .bound-at .ensures), read (c .bound-at2 .ok) (c .bound-at2 .ensures)) (more (loop .inv) (omega (arith, c .before .before .loop-test .taken, c .before .before .before .before .pre .0)))
 
 returns : tie.Need-returns Inv-loop μ-loop
-returns c = done (c .before .loop .inv) (c .loop-test .left) (c .before .before .pre .0) (c .before .before .pre .1)
+returns c = done (c .before .loop .inv) _ (c .loop-test .left) (c .before .before .pre .1)
 
 pub records-of-spec : {M : Type 1} → statement M
 records-of-spec =

@@ -13,7 +13,7 @@ use Rattle.translation.proofs.checking.model_bounds.Tie as tie
 seen : (c : tie.Start) → Seen (c .args .ws .now) (c .args .heads .now) (c .args .read)
 seen c = c .pre .0 .seen (c .pre .1)
 
-bounds-kept : (c : tie.After-keep-bounds) → Kept (c .before .before .before .before .before .args .ws .now) (c .keep-bounds .last .1 .0) (c .keep-bounds .last .1 .1 .0)
+bounds-kept : (c : tie.After-keep-bounds) → Kept (c .before .before .before .before .before .args .ws .now) (c .before .before .before .before .before .args .read .variables) (c .keep-bounds .last .1 .0) (c .keep-bounds .last .1 .1 .0)
 bounds-kept c = kept (seen (c .before .before .before .before .before)) (rw (c .before .before .before .before .before .pre .2, c .before .before .before .before .before .pre .3) at (c .keep-bounds .ensures))
 
 slice-aggregate-keep-bounds : tie.Need-slice-aggregate-keep-bounds
@@ -27,7 +27,7 @@ model-sums-requires c κs =
     let s = c .before .before .before .before .before .before .before .before .before in
     let k = bounds-kept (c .before .before .before .before) in
     let v = seen s in
-    (omega (arith, few-words (s .args .ws .now) (v .accepts)), v .heads .room, λ j l. head-inside (v .heads) j l, k .short-lowers, k .short-uppers, k .lowers, k .uppers)
+    (omega (arith, few-words (s .args .ws .now) (v .accepts)), v .heads .room, λ j l. head-inside (v .heads) j l, k .few, k .rest, k .lowers, k .uppers)
 
 returns : tie.Need-returns
 returns c =
