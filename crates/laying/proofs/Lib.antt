@@ -1,4 +1,5 @@
 -- Laws for proofs about laying blocks.
 pub mod Parts
+pub mod Counts
 pub mod Blocks
 pub mod Lists

@@ -7,6 +7,7 @@ use native.Mathlib.Numerals.{add-one}
 use native.Mathlib.Omega.{arith}
 use lib.ListN.{length, length-append}
 use Rattle.integers.specs.Lists.{all}
+use Rattle.integers.proofs.Tests.{false-true}
 use Rattle.words.specs.Word.{inRange}
 use Rattle.words.specs.Overlay.{overlay}
 use Rattle.words.proofs.Overlay.{length-overlay, overlay-none, overlay-append}
@@ -62,6 +63,10 @@ or-false false = refl
 pub and-true : (b : Bool) → b ≡ (b && true)
 and-true true = refl
 and-true false = refl
+
+pub both-true : (a b : Bool) → (a && b) ≡ true → (a ≡ true) × (b ≡ true)
+both-true true b e = (refl, e)
+both-true false b e = false-true e
 
 pub went-none : (s : Laid) (o : List ℕ) → Went s s o o []
 unfolding wordsIn numbersIn auxiliariesIn rowsIn flatMap all

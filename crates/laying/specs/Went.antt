@@ -18,6 +18,13 @@ pub record Went (s r : Laid) (out out′ : List ℕ) (ps : List Part) : Type 0 w
   pub outside : r .outside ≡ (s .outside || not (all inRange (numbersIn ps)))
   pub over : out′ ≡ overlay out (s .words) (wordsIn ps)
 
+-- so many words, auxiliaries and rows more; whether their numbers fit
+pub record Counted (s r : Laid) (w a n : ℕ) (fit : Bool) : Type 0 where
+  pub words : r .words ≡ s .words + w
+  pub auxiliaries : r .auxiliaries ≡ s .auxiliaries + a
+  pub rows : r .rows ≡ s .rows + n
+  pub outside : r .outside ≡ (s .outside || not fit)
+
 -- words of one part went over the list, with so many auxiliaries and rows more; whether its numbers fit
 pub record Over (s r : Laid) (out out′ ws : List ℕ) (a n : ℕ) (fit : Bool) : Type 0 where
   pub words : r .words ≡ s .words + length ws

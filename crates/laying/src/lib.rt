@@ -4,10 +4,12 @@ ghost use mathlib.Core.List.{[], _∷_};
 ghost use Prim.Native.Nat.{_+_, _<_, _≤_};
 ghost use lib.IntN.{natAbs};
 ghost use lib.ListN.{length};
+ghost use Rattle.integers.specs.Lists.{all};
+ghost use Rattle.words.specs.Word.{inRange};
 ghost use Rattle.models.specs.Model.{size, past};
 ghost use Rattle.laying.specs.Part.{bound, head, term, constant, times};
 ghost use Rattle.laying.specs.Lists.{many, rowOf, termAt, sumAt, eachAt, oneAt, labelAt, bitAt, productAt, belowAt, aboveAt};
-ghost use Rattle.laying.specs.Went.{Went, Over, Near, total, nothing};
+ghost use Rattle.laying.specs.Went.{Went, Over, Counted, Near, total, nothing};
 use arguments::num_at;
 use arguments::past_at;
 use arguments::size_at;
@@ -41,6 +43,19 @@ pub fn none_yet() -> Laid
     }
 }
 
+// So many words, auxiliaries and rows more, whose numbers fit or not.
+pub fn counted(s: Laid, words: usize, auxiliaries: usize, rows: usize, fit: bool) -> Laid
+    requires { ⌜ (total s < 1000000000000) × (words < 1000) × (auxiliaries < 1000) × (rows < 1000) ⌝ }
+    ensures { λ r. ⌜ Counted s r words auxiliaries rows fit ⌝ }
+{
+    Laid {
+        words: s.words + words,
+        auxiliaries: s.auxiliaries + auxiliaries,
+        rows: s.rows + rows,
+        outside: either(s.outside, !fit),
+    }
+}
+
 // The words of one part, whose numbers fit or not, with so many auxiliaries and rows more.
 fn lay_part(
     out: &mut [u32],
@@ -53,14 +68,8 @@ fn lay_part(
     requires { ⌜ (total s < 1000000000000) × (length (now row) < 1000) × (auxiliaries < 1000) × (rows < 1000) ⌝ }
     ensures { λ r. ⌜ Over s r (now (out .entry)) (now (out .exit)) (now (row .entry)) auxiliaries rows fit ⌝ }
 {
-    let at = s.words;
-    lay(out, at, row);
-    Laid {
-        words: at + row.len(),
-        auxiliaries: s.auxiliaries + auxiliaries,
-        rows: s.rows + rows,
-        outside: either(s.outside, !fit),
-    }
+    lay(out, s.words, row);
+    counted(s, row.len(), auxiliaries, rows, fit)
 }
 
 // The bounds of an auxiliary.
@@ -134,11 +143,30 @@ fn lay_given(out: &mut [u32], s: Laid, xs: &[usize], cs: &[i64]) -> Laid
     t
 }
 
+// Whether numbers are in the range.
+fn all_in_range(cs: &[i64]) -> bool
+    requires { ⌜ length (now cs) ≤ 66 ⌝ }
+    ensures { λ r. ⌜ r ≡ all inRange (now (cs .entry)) ⌝ }
+{
+    let mut k = 0;
+    while k < cs.len() {
+        if !in_range(cs[k]) {
+            return false;
+        }
+        k += 1;
+    }
+    true
+}
+
 // A row of a kind, of given variables and coefficients.
 pub fn lay_row(out: &mut [u32], s: Laid, kind: u32, xs: &[usize], cs: &[i64], c: i64) -> Laid
     requires { ⌜ (total s < 800000000000) × (kind < 16) × (length (now xs) ≤ 66) × (length (now cs) ≡ length (now xs)) ⌝ }
     ensures { λ r. ⌜ Went s r (now (out .entry)) (now (out .exit)) (rowOf kind (now (xs .entry)) (now (cs .entry)) c) × Near 2000 s r ⌝ }
 {
+    if out.len() <= s.words {
+        let fit = both(all_in_range(cs), in_range(c));
+        return counted(s, 2 + 2 * xs.len(), 0, 1, fit);
+    }
     let begun = lay_head(out, s, kind, xs.len());
     let t = lay_given(out, begun, xs, cs);
     lay_constant(out, t, c)
@@ -151,6 +179,9 @@ pub fn lay_terms(out: &mut [u32], s: Laid, args: &[u32], i: usize) -> Laid
 {
     let n = size_at(args, i);
     let variables = past_at(args, i);
+    if out.len() <= s.words {
+        return counted(s, 2 * n, 0, 0, true);
+    }
     let mut t = s;
     let mut k = 0;
     while k < n {
@@ -166,6 +197,9 @@ pub fn lay_each(out: &mut [u32], s: Laid, args: &[u32], i: usize, c: i64) -> Lai
     ensures { λ r. ⌜ Went s r (now (out .entry)) (now (out .exit)) (many (eachAt (now (args .entry)) c (i + 1)) (size (now (args .entry)) i)) × Near 1000 s r ⌝ }
 {
     let n = size_at(args, i);
+    if both(out.len() <= s.words, in_range(c)) {
+        return counted(s, 2 * n, 0, 0, true);
+    }
     let mut t = s;
     let mut k = 0;
     while k < n {
@@ -180,6 +214,9 @@ pub fn lay_bits(out: &mut [u32], s: Laid, n: usize) -> Laid
     requires { ⌜ (total s < 900000000000) × (n ≤ 66) ⌝ }
     ensures { λ r. ⌜ Went s r (now (out .entry)) (now (out .exit)) (many bitAt n) × Near 1000 s r ⌝ }
 {
+    if out.len() <= s.words {
+        return counted(s, 2 * n, n, 0, true);
+    }
     let mut t = s;
     let mut k = 0;
     while k < n {
@@ -194,6 +231,9 @@ pub fn lay_ones(out: &mut [u32], s: Laid, v: usize, n: usize) -> Laid
     requires { ⌜ (total s < 900000000000) × (n ≤ 66) × (v < 1000000000000) ⌝ }
     ensures { λ r. ⌜ Went s r (now (out .entry)) (now (out .exit)) (many (oneAt v) n) × Near 1000 s r ⌝ }
 {
+    if out.len() <= s.words {
+        return counted(s, 2 * n, 0, 0, true);
+    }
     let mut t = s;
     let mut k = 0;
     while k < n {
@@ -208,6 +248,12 @@ pub fn lay_labels(out: &mut [u32], s: Laid, from: i64, v: usize, n: usize) -> La
     requires { ⌜ (total s < 900000000000) × (n ≤ 66) × (v < 1000000000000) × (natAbs from < 1000000000000) ⌝ }
     ensures { λ r. ⌜ Went s r (now (out .entry)) (now (out .exit)) (many (labelAt from v) n) × Near 1000 s r ⌝ }
 {
+    if both(
+        out.len() <= s.words,
+        both(in_range(from), in_range(plus(from, n as i64))),
+    ) {
+        return counted(s, 2 * n, 0, 0, true);
+    }
     let mut t = s;
     let mut k = 0;
     while k < n {
@@ -230,6 +276,9 @@ pub fn lay_products(
     requires { ⌜ (total s < 900000000000) × (n ≤ 66) × (base < 1000000000000) × (z < 1000000000000) × (b < 1000000000000) ⌝ }
     ensures { λ r. ⌜ Went s r (now (out .entry)) (now (out .exit)) (many (productAt (now (args .entry)) base z b) n) × Near 1000 s r ⌝ }
 {
+    if out.len() <= s.words {
+        return counted(s, 4 * n, 0, n, true);
+    }
     let mut t = s;
     let mut k = 0;
     while k < n {
@@ -244,6 +293,9 @@ pub fn lay_below(out: &mut [u32], s: Laid, args: &[u32], base: usize, m: usize, 
     requires { ⌜ (total s < 700000000000) × (n ≤ 66) × (base < 1000000000000) ⌝ }
     ensures { λ r. ⌜ Went s r (now (out .entry)) (now (out .exit)) (many (belowAt (now (args .entry)) base m) n) × Near 200000 s r ⌝ }
 {
+    if out.len() <= s.words {
+        return counted(s, 6 * n, 0, n, true);
+    }
     let mut t = s;
     let mut k = 0;
     while k < n {
@@ -260,6 +312,9 @@ pub fn lay_above(out: &mut [u32], s: Laid, args: &[u32], r: usize, base: usize, 
     requires { ⌜ (total s < 700000000000) × (n ≤ 66) × (base < 1000000000000) ⌝ }
     ensures { λ t. ⌜ Went s t (now (out .entry)) (now (out .exit)) (many (aboveAt (now (args .entry)) r base) n) × Near 200000 s t ⌝ }
 {
+    if out.len() <= s.words {
+        return counted(s, 6 * n, 0, n, true);
+    }
     let mut t = s;
     let mut k = 0;
     while k < n {

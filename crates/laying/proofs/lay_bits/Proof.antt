@@ -4,6 +4,7 @@ use native.Mathlib.Omega.{arith}
 use borrow.Author.Needs.{needs}
 use Rattle.laying.specs.Lists.{bitAt}
 use Rattle.laying.proofs.Parts.{Laying, begun, more, done, went-length}
+use Rattle.laying.proofs.Counts.{sized-bit, many-counted}
 use Rattle.laying.proofs.lay_bits.Statement.{statement}
 use Rattle.laying.proofs.lay_bits.Tie as tie
 
@@ -13,19 +14,23 @@ Inv-loop out₀ n t₀ k₀ out t k = Laying 10 bitAt n t₀ t out₀ out k
 abbrev μ-loop : tie.MeasureT-loop
 μ-loop out₀ n t₀ k₀ out t k = n - k
 
+returns : tie.Need-returns Inv-loop μ-loop
+returns c = many-counted 2 1 0 1000 (λ k h. sized-bit k) (omega arith, omega arith, omega arith, omega arith) (c .before .if1 .taken) (c .counted .ensures)
+
 loop-holds : tie.Need-loop-holds Inv-loop μ-loop
 loop-holds c = begun 10 _ _ _ _
 
 loop-again : tie.Need-loop-again Inv-loop μ-loop
 loop-again c =
-    let l = c .before .before .before .before in
-    more (l .loop-test .taken) (l .before .loop .inv) (c .before .before .lay-bound .ensures)
+    let loop-test = c .before .before .before .before .loop-test in
+    let loop = c .before .before .before .before .before .loop in
+    more (loop-test .taken) (loop .inv) (c .before .before .lay-bound .ensures)
 
 same-length : tie.Need-same-length Inv-loop μ-loop
 same-length c = went-length (c .before .loop .inv .went)
 
-returns : tie.Need-returns Inv-loop μ-loop
-returns c = done 1000 (omega arith) (c .loop-test .left) (c .before .loop .inv)
+returns-2 : tie.Need-returns-2 Inv-loop μ-loop
+returns-2 c = done 1000 (omega arith) (c .loop-test .left) (c .before .loop .inv)
 
 pub lay-bits-spec : {M : Type 1} → statement M
 lay-bits-spec =
@@ -33,10 +38,13 @@ lay-bits-spec =
     (tie.spec
     Inv-loop
     μ-loop
+    (λ c. search needs)
+    (λ c κs. search needs)
+    returns
     loop-holds
     (λ c κs. search needs)
     (λ c. search needs)
     (λ c. search needs)
     loop-again
     same-length
-    returns)
+    returns-2)

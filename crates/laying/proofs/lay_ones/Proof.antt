@@ -4,6 +4,7 @@ use native.Mathlib.Omega.{arith}
 use borrow.Author.Needs.{needs}
 use Rattle.laying.specs.Lists.{oneAt}
 use Rattle.laying.proofs.Parts.{Laying, begun, more, done, went-length}
+use Rattle.laying.proofs.Counts.{sized-one, many-counted}
 use Rattle.laying.proofs.lay_ones.Statement.{statement}
 use Rattle.laying.proofs.lay_ones.Tie as tie
 
@@ -13,19 +14,23 @@ Inv-loop out₀ v n t₀ k₀ out t k = Laying 10 (oneAt v) n t₀ t out₀ out 
 abbrev μ-loop : tie.MeasureT-loop
 μ-loop out₀ v n t₀ k₀ out t k = n - k
 
+returns : tie.Need-returns Inv-loop μ-loop
+returns c = many-counted 2 0 0 1000 (λ k h. sized-one _ k) (omega arith, omega arith, omega arith, omega arith) (c .before .if1 .taken) (c .counted .ensures)
+
 loop-holds : tie.Need-loop-holds Inv-loop μ-loop
 loop-holds c = begun 10 _ _ _ _
 
 loop-again : tie.Need-loop-again Inv-loop μ-loop
 loop-again c =
-    let l = c .before .before .before .before in
-    more (l .loop-test .taken) (l .before .loop .inv) (c .before .before .lay-term .ensures)
+    let loop-test = c .before .before .before .before .loop-test in
+    let loop = c .before .before .before .before .before .loop in
+    more (loop-test .taken) (loop .inv) (c .before .before .lay-term .ensures)
 
 same-length : tie.Need-same-length Inv-loop μ-loop
 same-length c = went-length (c .before .loop .inv .went)
 
-returns : tie.Need-returns Inv-loop μ-loop
-returns c = done 1000 (omega arith) (c .loop-test .left) (c .before .loop .inv)
+returns-2 : tie.Need-returns-2 Inv-loop μ-loop
+returns-2 c = done 1000 (omega arith) (c .loop-test .left) (c .before .loop .inv)
 
 pub lay-ones-spec : {M : Type 1} → statement M
 lay-ones-spec =
@@ -33,6 +38,9 @@ lay-ones-spec =
     (tie.spec
     Inv-loop
     μ-loop
+    (λ c. search needs)
+    (λ c κs. search needs)
+    returns
     loop-holds
     (λ c. search needs)
     (λ c κs. search needs)
@@ -40,4 +48,4 @@ lay-ones-spec =
     (λ c. search needs)
     loop-again
     same-length
-    returns)
+    returns-2)

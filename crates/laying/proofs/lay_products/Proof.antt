@@ -4,6 +4,7 @@ use native.Mathlib.Omega.{arith}
 use borrow.Author.Needs.{needs}
 use Rattle.laying.specs.Lists.{productAt}
 use Rattle.laying.proofs.Parts.{Laying, begun, more, done, went-length}
+use Rattle.laying.proofs.Counts.{sized-times, many-counted}
 use Rattle.laying.proofs.lay_products.Statement.{statement}
 use Rattle.laying.proofs.lay_products.Tie as tie
 
@@ -13,19 +14,24 @@ Inv-loop out₀ args base z b n t₀ k₀ out t k = Laying 10 (productAt args ba
 abbrev μ-loop : tie.MeasureT-loop
 μ-loop out₀ args base z b n t₀ k₀ out t k = n - k
 
+returns : tie.Need-returns Inv-loop μ-loop
+returns c = many-counted 4 0 1 1000 (λ k h. sized-times _ _ _) (omega arith, omega arith, omega arith, omega arith) (c .before .if1 .taken) (c .counted .ensures)
+
 loop-holds : tie.Need-loop-holds Inv-loop μ-loop
 loop-holds c = begun 10 _ _ _ _
 
 loop-again : tie.Need-loop-again Inv-loop μ-loop
 loop-again c =
-    let l = c .before .before .before .before .before in
-    more (l .loop-test .taken) (l .before .loop .inv) (simp (c .before .before .before .var-at .ensures) at (c .before .before .lay-times .ensures))
+    let loop-test = c .before .before .before .before .before .loop-test in
+    let loop = c .before .before .before .before .before .before .loop in
+    let var-at = c .before .before .before .var-at in
+    more (loop-test .taken) (loop .inv) (simp (var-at .ensures) at (c .before .before .lay-times .ensures))
 
 same-length : tie.Need-same-length Inv-loop μ-loop
 same-length c = went-length (c .before .loop .inv .went)
 
-returns : tie.Need-returns Inv-loop μ-loop
-returns c = done 1000 (omega arith) (c .loop-test .left) (c .before .loop .inv)
+returns-2 : tie.Need-returns-2 Inv-loop μ-loop
+returns-2 c = done 1000 (omega arith) (c .loop-test .left) (c .before .loop .inv)
 
 pub lay-products-spec : {M : Type 1} → statement M
 lay-products-spec =
@@ -33,6 +39,9 @@ lay-products-spec =
     (tie.spec
     Inv-loop
     μ-loop
+    (λ c. search needs)
+    (λ c κs. search needs)
+    returns
     loop-holds
     (λ c. search needs)
     (λ c. search needs)
@@ -43,4 +52,4 @@ lay-products-spec =
     (λ c. search needs)
     loop-again
     same-length
-    returns)
+    returns-2)

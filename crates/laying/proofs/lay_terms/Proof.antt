@@ -7,6 +7,7 @@ use Rattle.models.specs.Model.{past}
 use Rattle.arguments.proofs.Size.{size-le}
 use Rattle.laying.specs.Lists.{sumAt}
 use Rattle.laying.proofs.Parts.{Laying, begun, more, done, went-length}
+use Rattle.laying.proofs.Counts.{sized-number, many-counted}
 use Rattle.laying.proofs.lay_terms.Statement.{statement}
 use Rattle.laying.proofs.lay_terms.Tie as tie
 
@@ -16,28 +17,48 @@ Inv-loop out₀ args i n variables t₀ k₀ out t k = (n ≤ 32) × (variables 
 abbrev μ-loop : tie.MeasureT-loop
 μ-loop out₀ args i n variables t₀ k₀ out t k = n - k
 
+mul-counted : tie.Need-mul-counted Inv-loop μ-loop
+mul-counted c =
+    let s = c .before .before .before .before .before .before in
+    let size-at = c .before .before .before .size-at in
+    omega (arith, size-le (s .args .args .now) (s .args .i), size-at .ensures)
+
+counted-requires : tie.Need-counted-requires Inv-loop μ-loop
+counted-requires c κs =
+    let s = c .before .before .before .before .before .before in
+    let size-at = c .before .before .before .size-at in
+    omega (arith, size-le (s .args .args .now) (s .args .i), size-at .ensures)
+
+returns : tie.Need-returns Inv-loop μ-loop
+returns c =
+    let s = c .before .before .before .before .before .before .before in
+    let size-at = c .before .before .before .before .size-at in
+    let past-at = c .before .before .before .past-at in
+    let h = size-le (s .args .args .now) (s .args .i) in
+    rw (← size-at .ensures, ← past-at .ensures) (many-counted 2 0 0 1000 (λ k h. sized-number _ _ _) (omega arith, omega arith, omega arith, omega arith) (c .before .if1 .taken) (c .counted .ensures))
+
 loop-holds : tie.Need-loop-holds Inv-loop μ-loop
 unfolding past
 loop-holds c =
-    let a = c .before .before .before .before in
-    let h = size-le (a .args .args .now) (a .args .i) in
-    (omega arith, omega arith, begun 10 _ _ _ _)
+    let s = c .before .before .before .before .before .before in
+    let h = size-le (s .args .args .now) (s .args .i) in (omega arith, omega arith, begun 10 _ _ _ _)
 
 loop-again : tie.Need-loop-again Inv-loop μ-loop
 loop-again c =
-    let p = c .before .before .before .before in
+    let loop = c .before .before .before .before .before .before .before .loop in
+    let loop-test = c .before .before .before .before .before .before .loop-test in
+    let num-at = c .before .before .before .before .num-at in
     let var-at = c .before .before .before .var-at in
-    let lay-term = c .before .before .lay-term in
-    let n = p in
-    let l = n .before .before in
-    let i = l .before .loop .inv in
-    (i .0, i .1, more (l .loop-test .taken) (i .2) (rw (back (n .num-at .result) (n .num-at .ok), n .num-at .ensures, var-at .ensures) at (lay-term .ensures)))
+    (loop .inv .0, loop .inv .1, more (loop-test .taken) (loop .inv .2) (rw (back (num-at .result) (num-at .ok), num-at .ensures, var-at .ensures) at (c .before .before .lay-term .ensures)))
 
 same-length : tie.Need-same-length Inv-loop μ-loop
 same-length c = went-length (c .before .loop .inv .2 .went)
 
-returns : tie.Need-returns Inv-loop μ-loop
-returns c = rw (← c .before .before .before .size-at .ensures, ← c .before .before .past-at .ensures) (done 1000 (omega arith) (c .loop-test .left) (c .before .loop .inv .2))
+returns-2 : tie.Need-returns-2 Inv-loop μ-loop
+returns-2 c =
+    let size-at = c .before .before .before .before .before .size-at in
+    let past-at = c .before .before .before .before .past-at in
+    rw (← size-at .ensures, ← past-at .ensures) (done 1000 (omega arith) (c .loop-test .left) (c .before .loop .inv .2))
 
 pub lay-terms-spec : {M : Type 1} → statement M
 lay-terms-spec =
@@ -47,6 +68,9 @@ lay-terms-spec =
     μ-loop
     (λ c κs. search needs)
     (λ c κs. search needs)
+    mul-counted
+    counted-requires
+    returns
     loop-holds
     (λ c. search needs)
     (λ c. search needs)
@@ -58,4 +82,4 @@ lay-terms-spec =
     (λ c. search needs)
     loop-again
     same-length
-    returns)
+    returns-2)

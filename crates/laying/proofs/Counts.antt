@@ -1,0 +1,159 @@
+-- Parts for which the list has no room: they are counted, and the list stays as it is.
+use mathlib.Core.Path.{_≡_, refl, sym, ap, ap₂, _∙_}
+use mathlib.Core.Bool.{Bool, true, false, not, _&&_, _||_}
+use mathlib.Core.List.{List, [], _∷_, _++_, flatMap}
+use Prim.Native.Nat.{ℕ, zero, suc, _+_, _*_, _<_, _≤_}
+use native.Mathlib.Numerals.{add-one}
+use native.Mathlib.Omega.{arith}
+use lib.IntN.{ℤ, pos}
+use lib.ListN.{length, length-append, getD, drop, drop-of-length-le}
+use lib.Seq.{set-out, drop-cons}
+use Rattle.integers.specs.Number.{_⊕_, +0, +1, -1}
+use Rattle.integers.specs.Lists.{all}
+use Rattle.integers.proofs.Linear.{_⊑_, linear}
+use Rattle.words.specs.Limit as Limit
+use Rattle.words.specs.Word.{inRange, wordAt}
+use Rattle.words.specs.Overlay.{overlay}
+use Rattle.words.proofs.Word.{signed-range, says-range}
+use Rattle.models.specs.Model.{num}
+use Rattle.laying.specs.Part.{Part, bound, head, term, constant, times, partWords, partNumbers, partAuxiliaries, partRows, wordsIn, numbersIn, auxiliariesIn, rowsIn}
+use Rattle.laying.specs.Lists.{many, termAt, rowOf, bitAt, oneAt, labelAt}
+use Rattle.laying.specs.Went.{Went, Counted, Near}
+use Rattle.laying.specs.declared.Laid.{Laid}
+use Rattle.laying.proofs.Parts.{words-append, numbers-append, auxiliaries-append, rows-append, all-append, and-true}
+
+-- how many words, auxiliaries and rows, and whether the numbers are in the range
+pub record Sized (ps : List Part) (w a n : ℕ) (fit : Bool) : Type 0 where
+  pub words : length (wordsIn ps) ≡ w
+  pub auxiliaries : auxiliariesIn ps ≡ a
+  pub rows : rowsIn ps ≡ n
+  pub fits : all inRange (numbersIn ps) ≡ fit
+
+pub sized-none : Sized [] 0 0 0 true
+unfolding wordsIn numbersIn auxiliariesIn rowsIn flatMap all
+sized-none = record { words = refl; auxiliaries = refl; rows = refl; fits = refl }
+
+pub sized-then : {ps qs : List Part} {w a n v b m : ℕ} {fit too : Bool} → Sized ps w a n fit → Sized qs v b m too → Sized (ps ++ qs) (w + v) (a + b) (n + m) (fit && too)
+sized-then {ps} {qs} f g = record {
+  words = ap length (words-append ps qs) ∙ length-append (wordsIn ps) (wordsIn qs) ∙ ap₂ (λ (x y : ℕ). x + y) (f .words) (g .words);
+  auxiliaries = auxiliaries-append ps qs ∙ ap₂ (λ (x y : ℕ). x + y) (f .auxiliaries) (g .auxiliaries);
+  rows = rows-append ps qs ∙ ap₂ (λ (x y : ℕ). x + y) (f .rows) (g .rows);
+  fits = ap (all inRange) (numbers-append ps qs) ∙ all-append inRange (numbersIn ps) (numbersIn qs) ∙ ap₂ (λ (x y : Bool). x && y) (f .fits) (g .fits);
+}
+
+-- ---- one part
+
+sized-head : (kind n : ℕ) → Sized (head kind n ∷ []) 1 0 0 true
+unfolding wordsIn numbersIn auxiliariesIn rowsIn flatMap all partWords partNumbers partAuxiliaries partRows
+sized-head kind n = record { words = refl; auxiliaries = refl; rows = refl; fits = refl }
+
+sized-any : (c : ℤ) (v : ℕ) → Sized (term c v ∷ []) 2 0 0 (inRange c)
+unfolding wordsIn numbersIn auxiliariesIn rowsIn flatMap all partWords partNumbers partAuxiliaries partRows
+sized-any c v = record { words = refl; auxiliaries = refl; rows = refl; fits = sym (and-true (inRange c)) }
+
+pub sized-term : (c : ℤ) (v : ℕ) → inRange c ≡ true → Sized (term c v ∷ []) 2 0 0 true
+sized-term c v h = rw h at (sized-any c v)
+
+sized-constant : (c : ℤ) → Sized (constant c ∷ []) 1 0 1 (inRange c)
+unfolding wordsIn numbersIn auxiliariesIn rowsIn flatMap all partWords partNumbers partAuxiliaries partRows
+sized-constant c = record { words = refl; auxiliaries = refl; rows = refl; fits = sym (and-true (inRange c)) }
+
+pub sized-bound : (l u : ℤ) → inRange l ≡ true → inRange u ≡ true → Sized (bound l u ∷ []) 2 1 0 true
+unfolding wordsIn numbersIn auxiliariesIn rowsIn flatMap all partWords partNumbers partAuxiliaries partRows
+sized-bound l u h k = record { words = refl; auxiliaries = refl; rows = refl; fits = ap₂ (λ (b c : Bool). b && (c && true)) h k }
+
+pub sized-times : (r f g : ℕ) → Sized (times r f g ∷ []) 4 0 1 true
+unfolding wordsIn numbersIn auxiliariesIn rowsIn flatMap all partWords partNumbers partAuxiliaries partRows
+sized-times r f g = record { words = refl; auxiliaries = refl; rows = refl; fits = refl }
+
+-- ---- one turn of a loop
+
+pub sized-bit : (k : ℕ) → Sized (bitAt k) 2 1 0 true
+unfolding inRange
+sized-bit k = sized-bound +0 +1 refl refl
+
+pub sized-one : (v k : ℕ) → Sized (oneAt v k) 2 0 0 true
+unfolding inRange
+sized-one v k = sized-term +1 (v + k) refl
+
+pub sized-number : (args : List ℕ) (i v : ℕ) → Sized (term (num args i) v ∷ []) 2 0 0 true
+unfolding num
+sized-number args i v = sized-term (num args i) v (signed-range (wordAt args i))
+
+-- a number between two of the range
+between : (from : ℤ) (k n : ℕ) → k < n → (Limit.lowest ⊑ from) × (from ⊑ Limit.highest) → (Limit.lowest ⊑ from ⊕ pos n) × (from ⊕ pos n ⊑ Limit.highest) →
+    (Limit.lowest ⊑ from ⊕ pos k) × (from ⊕ pos k ⊑ Limit.highest)
+between = simp linear (omega arith)
+
+pub sized-label : (from : ℤ) (v n : ℕ) → inRange from ≡ true → inRange (from ⊕ pos n) ≡ true → (k : ℕ) → k < n → Sized (labelAt from v k) 2 0 0 true
+sized-label from v n f l k h = sized-term _ (v + k) (says-range (from ⊕ pos k) .1 (between from k n h (says-range from .0 f) (says-range (from ⊕ pos n) .0 l)))
+
+-- ---- whether numbers are in the range, one after the other
+
+module _ (cs : List ℤ) (k : ℕ) where
+  pub range-more : k < length cs → inRange (getD cs k +0) ≡ true → all inRange (drop k cs) ≡ all inRange (drop (k + 1) cs)
+  unfolding all
+  range-more h r = ap (all inRange) (drop-cons cs k +0 h) ∙ rw (r, add-one k)
+
+  pub range-not : k < length cs → inRange (getD cs k +0) ≡ false → all inRange (drop k cs) ≡ false
+  unfolding all
+  range-not h r = ap (all inRange) (drop-cons cs k +0 h) ∙ rw r
+
+  pub range-end : length cs ≤ k → all inRange (drop k cs) ≡ true
+  unfolding all
+  range-end h = ap (all inRange) (drop-of-length-le cs h)
+
+-- ---- rows
+
+sized-terms : (xs : List ℕ) (cs : List ℤ) → length cs ≡ length xs → Sized (many (termAt xs cs) (length xs)) (2 * length xs) 0 0 (all inRange cs)
+unfolding many all
+sized-terms [] [] e = sized-none
+sized-terms [] (c ∷ cs) e = absurd (omega (arith, e))
+sized-terms (x ∷ xs) [] e = absurd (omega (arith, e))
+sized-terms (x ∷ xs) (c ∷ cs) e =
+    let d : 2 + 2 * length xs ≡ 2 * suc (length xs) = omega arith in
+    rw d at (sized-then (sized-any c x) (sized-terms xs cs (omega (arith, e))))
+
+pub sized-row : (kind : ℕ) (xs : List ℕ) (cs : List ℤ) (c : ℤ) → length cs ≡ length xs → Sized (rowOf kind xs cs c) (2 + 2 * length xs) 0 1 (all inRange cs && inRange c)
+unfolding rowOf
+sized-row kind xs cs c e =
+    let d : 1 + (2 * length xs + 1) ≡ 2 + 2 * length xs = omega arith in
+    rw d at (sized-then (sized-head kind (length xs)) (sized-then (sized-terms xs cs e) (sized-constant c)))
+
+-- a row of two variables, the coefficients 1 and −1
+pub sized-pair : (kind x y : ℕ) → Sized (rowOf kind (x ∷ y ∷ []) (+1 ∷ -1 ∷ []) +0) 6 0 1 true
+unfolding inRange all
+sized-pair kind x y = sized-row kind (x ∷ y ∷ []) (+1 ∷ -1 ∷ []) +0 refl
+
+-- ---- many lists, each of the same counts
+
+pub sized-many : (f : ℕ → List Part) (w a r n : ℕ) → ((k : ℕ) → k < n → Sized (f k) w a r true) → Sized (many f n) (w * n) (a * n) (r * n) true
+unfolding many
+sized-many f w a r zero h =
+    let e : (x : ℕ) → 0 ≡ x * 0 = λ x. omega arith in
+    rw (← e w, ← e a, ← e r) sized-none
+sized-many f w a r (suc n) h =
+    let e : (x : ℕ) → x + x * n ≡ x * suc n = λ x. omega arith in
+    rw (← e w, ← e a, ← e r) (sized-then (h 0 (omega arith)) (sized-many (λ k. f (suc k)) w a r n (λ k l. h (suc k) (omega arith))))
+
+-- ---- no room
+
+overlay-past : (out : List ℕ) (at : ℕ) (xs : List ℕ) → length out ≤ at → overlay out at xs ≡ out
+unfolding overlay
+overlay-past out at [] h = refl
+overlay-past out at (x ∷ xs) h = ap (λ l. overlay l (suc at) xs) (set-out out at x h) ∙ overlay-past out (suc at) xs (omega arith)
+
+pub no-room : {s r : Laid} {o : List ℕ} {ps : List Part} {w a n : ℕ} {fit : Bool} → Sized ps w a n fit → length o ≤ s .words → Counted s r w a n fit → Went s r o o ps
+no-room {s} {r} {o} {ps} z h c = record {
+  words = omega (arith, c .words, z .words);
+  auxiliaries = omega (arith, c .auxiliaries, z .auxiliaries);
+  rows = omega (arith, c .rows, z .rows);
+  outside = c .outside ∙ ap (λ (b : Bool). s .outside || not b) (sym (z .fits));
+  over = sym (overlay-past o (s .words) (wordsIn ps) h);
+}
+
+-- what a loop gives that has nothing to lay: many lists of w words, a auxiliaries and r rows each
+pub many-counted : {s t : Laid} {o : List ℕ} {f : ℕ → List Part} {n W A R : ℕ} (w a r b : ℕ) → ((k : ℕ) → k < n → Sized (f k) w a r true) →
+    (W ≡ w * n) × (A ≡ a * n) × (R ≡ r * n) × (W + A + R ≤ b) → length o ≤ s .words → Counted s t W A R true → Went s t o o (many f n) × Near b s t
+many-counted {f = f} {n = n} w a r b h e room c =
+    (no-room (rw (← e .0, ← e .1, ← e .2) at (sized-many f w a r n h)) room c, omega (arith, c .words, c .auxiliaries, c .rows, e .3))
