@@ -1,21 +1,27 @@
 // The rows over one-hot bits, and the lists that they are made of.
+ghost use mathlib.Core.Path.{_≡_};
+ghost use mathlib.Core.Bool.{true};
 ghost use mathlib.Core.List.{[], _∷_};
 ghost use Prim.Native.Nat.{ℕ, _+_, _<_, _≤_};
 ghost use lib.IntN.{natAbs};
 ghost use lib.ListN.{getD};
 ghost use Rattle.integers.specs.Number.{+0, -1};
-ghost use Rattle.laying.specs.Part.{term, constant};
+ghost use Rattle.integers.specs.Lists.{all};
+ghost use Rattle.words.specs.Word.{inRange};
+ghost use Rattle.laying.specs.Part.{term, constant, numbersIn};
 ghost use Rattle.laying.specs.Lists.{many, oneAt, labelAt};
 ghost use Rattle.laying.specs.Went.{Went, Near, total};
 ghost use Rattle.choiceblocks.specs.Rows.{zeroAt, numberAt, valueAt, memberAt, oneRow, sumRow, choiceRows, gates, gatedRows};
 use arguments::count_of;
 use arguments::num_at;
+use arguments::test::both;
 use arguments::var_at;
 use extremes::bound_at;
 use extremes::zero_lower;
 use extremes::zero_upper;
 use integers::minus;
 use laying::Laid;
+use laying::counted;
 use laying::lay_bits;
 use laying::lay_bound;
 use laying::lay_constant;
@@ -24,7 +30,25 @@ use laying::lay_labels;
 use laying::lay_ones;
 use laying::lay_products;
 use laying::lay_term;
+use words::in_range;
 use words::kind;
+
+// Whether Z of n variables, from place base on, is in the range.
+fn zeros_in_range(args: &[u32], base: usize, n: usize, ls: &[i64], us: &[i64]) -> bool
+    requires { ⌜ (n ≤ 66) × (base < 1000000000000) ⌝ }
+    ensures { λ r. ⌜ r ≡ all inRange (numbersIn (many (zeroAt (now (ls .entry)) (now (us .entry)) (now (args .entry)) base) n)) ⌝ }
+{
+    let mut fit = true;
+    let mut k = 0;
+    while k < n {
+        let v = var_at(args, base + k);
+        let from = in_range(zero_lower(bound_at(ls, v)));
+        let to = in_range(zero_upper(bound_at(us, v)));
+        fit = both(fit, both(from, to));
+        k += 1;
+    }
+    fit
+}
 
 // Z of n variables, from place base on.
 fn lay_zeros(
@@ -39,6 +63,9 @@ fn lay_zeros(
     requires { ⌜ (total s < 900000000000) × (n ≤ 66) × (base < 1000000000000) ⌝ }
     ensures { λ r. ⌜ Went s r (now (out .entry)) (now (out .exit)) (many (zeroAt (now (ls .entry)) (now (us .entry)) (now (args .entry)) base) n) × Near 1000 s r ⌝ }
 {
+    if out.len() <= s.words {
+        return counted(s, 2 * n, n, 0, zeros_in_range(args, base, n, ls, us));
+    }
     let mut t = s;
     let mut k = 0;
     while k < n {
@@ -58,6 +85,9 @@ fn lay_numbers(out: &mut [u32], s: Laid, args: &[u32], base: usize, v: usize, n:
     requires { ⌜ (total s < 900000000000) × (n ≤ 66) × (base < 1000000000000) × (v < 1000000000000) ⌝ }
     ensures { λ r. ⌜ Went s r (now (out .entry)) (now (out .exit)) (many (numberAt (now (args .entry)) base v) n) × Near 1000 s r ⌝ }
 {
+    if out.len() <= s.words {
+        return counted(s, 2 * n, 0, 0, true);
+    }
     let mut t = s;
     let mut k = 0;
     while k < n {
@@ -67,11 +97,14 @@ fn lay_numbers(out: &mut [u32], s: Laid, args: &[u32], base: usize, v: usize, n:
     t
 }
 
-// The first n numbers of a list × n consecutive variables.
+// The first n numbers of a list of the range × n consecutive variables.
 fn lay_values(out: &mut [u32], s: Laid, vs: &[i64], v: usize, n: usize) -> Laid
-    requires { ⌜ (total s < 900000000000) × (n ≤ 66) × (v < 1000000000000) ⌝ }
+    requires { ⌜ (total s < 900000000000) × (n ≤ 66) × (v < 1000000000000) × ((k : ℕ) → inRange (getD (now vs) k +0) ≡ true) ⌝ }
     ensures { λ r. ⌜ Went s r (now (out .entry)) (now (out .exit)) (many (valueAt (now (vs .entry)) v) n) × Near 1000 s r ⌝ }
 {
+    if out.len() <= s.words {
+        return counted(s, 2 * n, 0, 0, true);
+    }
     let mut t = s;
     let mut k = 0;
     while k < n {
@@ -86,6 +119,9 @@ fn lay_members(out: &mut [u32], s: Laid, vs: &[i64], from: i64, v: usize, n: usi
     requires { ⌜ (total s < 900000000000) × (n ≤ 66) × (v < 1000000000000) × (natAbs from < 1000000000) × ((k : ℕ) → natAbs (getD (now vs) k +0) < 1000000000) ⌝ }
     ensures { λ r. ⌜ Went s r (now (out .entry)) (now (out .exit)) (many (memberAt (now (vs .entry)) from v) n) × Near 1000 s r ⌝ }
 {
+    if out.len() <= s.words {
+        return counted(s, 2 * n, 0, 0, true);
+    }
     let mut t = s;
     let mut k = 0;
     while k < n {
@@ -152,9 +188,9 @@ pub fn lay_number_row(
     lay_last(out, u, c)
 }
 
-// Σv×b − x = 0 over the first n numbers of a list.
+// Σv×b − x = 0 over the first n numbers of a list of the range.
 pub fn lay_value_row(out: &mut [u32], s: Laid, vs: &[i64], v: usize, n: usize, x: usize) -> Laid
-    requires { ⌜ (total s < 800000000000) × (n ≤ 66) × (v < 1000000000) ⌝ }
+    requires { ⌜ (total s < 800000000000) × (n ≤ 66) × (v < 1000000000) × ((k : ℕ) → inRange (getD (now vs) k +0) ≡ true) ⌝ }
     ensures { λ r. ⌜ Went s r (now (out .entry)) (now (out .exit)) (sumRow (valueAt (now (vs .entry)) v) n x) × Near 2000 s r ⌝ }
 {
     let t = lay_head(out, s, kind::EQUAL, n + 1);

@@ -20,14 +20,18 @@ use Rattle.laying.specs.Part.{Part, bound, head, term, constant, times, 
 use Rattle.laying.specs.Lists.{many, termAt, rowOf, bitAt, oneAt, labelAt}
 use Rattle.laying.specs.Went.{Went, Counted, Near}
 use Rattle.laying.specs.declared.Laid.{Laid}
-use Rattle.laying.proofs.Parts.{words-append, numbers-append, auxiliaries-append, rows-append, all-append, and-true}
+use Rattle.laying.proofs.Parts.{words-append, numbers-append, auxiliaries-append, rows-append, all-append, and-true, many-more}
+
+-- whether the numbers of parts are in the range
+abbrev pub fitting : List Part → Bool
+fitting ps = all inRange (numbersIn ps)
 
 -- how many words, auxiliaries and rows, and whether the numbers are in the range
 pub record Sized (ps : List Part) (w a n : ℕ) (fit : Bool) : Type 0 where
   pub words : length (wordsIn ps) ≡ w
   pub auxiliaries : auxiliariesIn ps ≡ a
   pub rows : rowsIn ps ≡ n
-  pub fits : all inRange (numbersIn ps) ≡ fit
+  pub fits : fitting ps ≡ fit
 
 pub sized-none : Sized [] 0 0 0 true
 unfolding wordsIn numbersIn auxiliariesIn rowsIn flatMap all
@@ -58,9 +62,9 @@ sized-constant : (c : ℤ) → Sized (constant c ∷ []) 1 0 1 (inRange c)
 unfolding wordsIn numbersIn auxiliariesIn rowsIn flatMap all partWords partNumbers partAuxiliaries partRows
 sized-constant c = record { words = refl; auxiliaries = refl; rows = refl; fits = sym (and-true (inRange c)) }
 
-pub sized-bound : (l u : ℤ) → inRange l ≡ true → inRange u ≡ true → Sized (bound l u ∷ []) 2 1 0 true
-unfolding wordsIn numbersIn auxiliariesIn rowsIn flatMap all partWords partNumbers partAuxiliaries partRows
-sized-bound l u h k = record { words = refl; auxiliaries = refl; rows = refl; fits = ap₂ (λ (b c : Bool). b && (c && true)) h k }
+pub sized-bound : (l u : ℤ) → Sized (bound l u ∷ []) 2 1 0 (fitting (bound l u ∷ []))
+unfolding wordsIn auxiliariesIn rowsIn flatMap partWords partAuxiliaries partRows
+sized-bound l u = record { words = refl; auxiliaries = refl; rows = refl; fits = refl }
 
 pub sized-times : (r f g : ℕ) → Sized (times r f g ∷ []) 4 0 1 true
 unfolding wordsIn numbersIn auxiliariesIn rowsIn flatMap all partWords partNumbers partAuxiliaries partRows
@@ -69,8 +73,8 @@ sized-times r f g = record { words = refl; auxiliaries = refl; rows = refl; fits
 -- ---- one turn of a loop
 
 pub sized-bit : (k : ℕ) → Sized (bitAt k) 2 1 0 true
-unfolding inRange
-sized-bit k = sized-bound +0 +1 refl refl
+unfolding inRange numbersIn flatMap all partNumbers
+sized-bit k = sized-bound +0 +1
 
 pub sized-one : (v k : ℕ) → Sized (oneAt v k) 2 0 0 true
 unfolding inRange
@@ -136,6 +140,16 @@ sized-many f w a r (suc n) h =
     let e : (x : ℕ) → x + x * n ≡ x * suc n = λ x. omega arith in
     rw (← e w, ← e a, ← e r) (sized-then (h 0 (omega arith)) (sized-many (λ k. f (suc k)) w a r n (λ k l. h (suc k) (omega arith))))
 
+pub sized-each : (f : ℕ → List Part) (w a r n : ℕ) → ((k : ℕ) → Sized (f k) w a r (fitting (f k))) → Sized (many f n) (w * n) (a * n) (r * n) (fitting (many f n))
+unfolding many numbersIn flatMap all
+sized-each f w a r zero h =
+    let e : (x : ℕ) → 0 ≡ x * 0 = λ x. omega arith in
+    rw (← e w, ← e a, ← e r) sized-none
+sized-each f w a r (suc n) h =
+    let e : (x : ℕ) → x + x * n ≡ x * suc n = λ x. omega arith in
+    let z = sized-then (h 0) (sized-each (λ k. f (suc k)) w a r n (λ k. h (suc k))) in
+    rw (← e w, ← e a, ← e r) (rw (← z .fits) at z)
+
 -- ---- no room
 
 overlay-past : (out : List ℕ) (at : ℕ) (xs : List ℕ) → length out ≤ at → overlay out at xs ≡ out
@@ -152,8 +166,23 @@ no-room {s} {r} {o} {ps} z h c = record {
   over = sym (overlay-past o (s .words) (wordsIn ps) h);
 }
 
--- what a loop gives that has nothing to lay: many lists of w words, a auxiliaries and r rows each
+-- what a loop gives that has nothing to lay: many lists of w words, a auxiliaries and r rows each; their numbers in the range, or tested
+given : {s t : Laid} {o : List ℕ} (f : ℕ → List Part) (n : ℕ) {W A R : ℕ} (w a r b : ℕ) {fit : Bool} → Sized (many f n) (w * n) (a * n) (r * n) fit →
+    (W ≡ w * n) × (A ≡ a * n) × (R ≡ r * n) × (W + A + R ≤ b) → length o ≤ s .words → Counted s t W A R fit → Went s t o o (many f n) × Near b s t
+given f n w a r b z e room c = (no-room (rw (← e .0, ← e .1, ← e .2) at z) room c, omega (arith, c .words, c .auxiliaries, c .rows, e .3))
+
 pub many-counted : {s t : Laid} {o : List ℕ} {f : ℕ → List Part} {n W A R : ℕ} (w a r b : ℕ) → ((k : ℕ) → k < n → Sized (f k) w a r true) →
     (W ≡ w * n) × (A ≡ a * n) × (R ≡ r * n) × (W + A + R ≤ b) → length o ≤ s .words → Counted s t W A R true → Went s t o o (many f n) × Near b s t
-many-counted {f = f} {n = n} w a r b h e room c =
-    (no-room (rw (← e .0, ← e .1, ← e .2) at (sized-many f w a r n h)) room c, omega (arith, c .words, c .auxiliaries, c .rows, e .3))
+many-counted {f = f} {n = n} w a r b h = given f n w a r b (sized-many f w a r n h)
+
+pub many-tested : {s t : Laid} {o : List ℕ} (f : ℕ → List Part) (n : ℕ) {W A R : ℕ} (w a r b : ℕ) → ((k : ℕ) → Sized (f k) w a r (fitting (f k))) →
+    (W ≡ w * n) × (A ≡ a * n) × (R ≡ r * n) × (W + A + R ≤ b) → length o ≤ s .words → Counted s t W A R (fitting (many f n)) → Went s t o o (many f n) × Near b s t
+many-tested f n w a r b h = given f n w a r b (sized-each f w a r n h)
+
+-- one list more is tested
+pub fitting-more : (f : ℕ → List Part) (k : ℕ) → fitting (many f (k + 1)) ≡ (fitting (many f k) && fitting (f k))
+fitting-more f k = ap fitting (many-more f k) ∙ ap (all inRange) (numbers-append (many f k) (f k)) ∙ all-append inRange (numbersIn (many f k)) (numbersIn (f k))
+
+pub fitting-bound : (l u : ℤ) → fitting (bound l u ∷ []) ≡ (inRange l && inRange u)
+unfolding numbersIn flatMap all partNumbers
+fitting-bound l u = ap (λ (b : Bool). inRange l && b) (sym (and-true (inRange u)))

@@ -6,10 +6,11 @@ use mir.Facts.{toZ-ofZ}
 use mir.Syntax.{w64}
 use mir.Val.{toZ}
 use borrow.Author.Needs.{needs}
-use Rattle.integers.proofs.Fits.{minus-size}
 use Rattle.integers.specs.Number.{_⊖_, +0}
+use Rattle.integers.proofs.Fits.{minus-size}
 use Rattle.arguments.proofs.Size.{read}
 use Rattle.laying.proofs.Parts.{Laying, begun, more, done, went-length}
+use Rattle.laying.proofs.Counts.{sized-one, many-counted}
 use Rattle.extremes.proofs.Size.{count-le}
 use Rattle.choiceblocks.specs.Rows.{memberAt}
 use Rattle.choiceblocks.proofs.rows.lay_members.Statement.{statement}
@@ -21,39 +22,42 @@ Inv-loop out₀ vs from v n t₀ k₀ out t k = Laying 10 (memberAt vs (toZ w64 
 abbrev μ-loop : tie.MeasureT-loop
 μ-loop out₀ vs from v n t₀ k₀ out t k = n - k
 
+returns : tie.Need-returns Inv-loop μ-loop
+returns c = many-counted 2 0 0 1000 (λ k h. sized-one _ _) (omega arith, omega arith, omega arith, omega arith) (c .before .if1 .taken) (c .counted .ensures)
+
 loop-holds : tie.Need-loop-holds Inv-loop μ-loop
 loop-holds c = begun 10 _ _ _ _
 
 minus-requires : tie.Need-minus-requires Inv-loop μ-loop
 minus-requires c κs =
-    let start = c .before .before .before .before .before in
-    rw (read (c .bound-at .ok) (c .bound-at .ensures), toZ-ofZ (start .fits .from)) (omega (arith, start .pre .4 (c .before .before .before .loop .k)))
+    let s = c .before .before .before .before .before .before .before in
+    let loop = c .before .before .before .loop in
+    rw (read (c .bound-at .ok) (c .bound-at .ensures), toZ-ofZ (s .fits .from)) (omega (arith, s .pre .4 (loop .k)))
 
 add-lay-term : tie.Need-add-lay-term Inv-loop μ-loop
 add-lay-term c =
-    let p = c .before .before .before .before .before in
-    let bound-at = c .before .before .bound-at in
-    let at-loop = p in
-    let start = at-loop .before .before in
-    let m = rw (read (c .before .minus .ok) (c .before .minus .ensures), read (bound-at .ok) (bound-at .ensures), toZ-ofZ (start .fits .from)) at (c .count-of .ensures) in
-    omega (arith, m, count-le ((getD (start .args .vs .now) (at-loop .loop .k) +0) ⊖ start .args .from), minus-size (getD (start .args .vs .now) (at-loop .loop .k) +0) (start .args .from), start .pre .4 (at-loop .loop .k))
+    let s = c .before .before .before .before .before .before .before .before .before in
+    let loop = c .before .before .before .before .before .loop in
+    let v = getD (s .args .vs .now) (loop .k) +0 in
+    let m = rw (read (c .before .minus .ok) (c .before .minus .ensures), read (c .before .before .bound-at .ok) (c .before .before .bound-at .ensures), toZ-ofZ (s .fits .from)) at (c .count-of .ensures) in
+    omega (arith, m, count-le (v ⊖ s .args .from), minus-size v (s .args .from), s .pre .4 (loop .k))
 
 loop-again : tie.Need-loop-again Inv-loop μ-loop
 loop-again c =
-    let p = c .before .before .before .before in
+    let loop-test = c .before .before .before .before .before .before .before .loop-test in
+    let loop = c .before .before .before .before .before .before .before .before .loop in
     let count-of = c .before .before .before .count-of in
-    let lay-term = c .before .before .lay-term in
-    let at-minus = p in
-    let at-bound-at = at-minus .before in
-    let at-loop-test = at-bound-at .before .before in
-    let at-loop = at-loop-test .before in
-    more (at-loop-test .loop-test .taken) (at-loop .loop .inv) (rw (count-of .ensures, read (at-minus .minus .ok) (at-minus .minus .ensures), read (at-bound-at .bound-at .ok) (at-bound-at .bound-at .ensures)) at (lay-term .ensures))
+    let minus = c .before .before .before .before .minus in
+    let bound-at = c .before .before .before .before .before .bound-at in
+    more (loop-test .taken) (loop .inv) (rw (count-of .ensures, read (minus .ok) (minus .ensures), read (bound-at .ok) (bound-at .ensures)) at (c .before .before .lay-term .ensures))
 
 same-length : tie.Need-same-length Inv-loop μ-loop
 same-length c = went-length (c .before .loop .inv .went)
 
-returns : tie.Need-returns Inv-loop μ-loop
-returns c = done 1000 (omega arith) (c .loop-test .left) (rw (toZ-ofZ (c .before .before .before .fits .from)) at (c .before .loop .inv))
+returns-2 : tie.Need-returns-2 Inv-loop μ-loop
+returns-2 c =
+    let s = c .before .before .before .before .before in
+    done 1000 (omega arith) (c .loop-test .left) (rw (toZ-ofZ (s .fits .from)) at (c .before .loop .inv))
 
 pub lay-members-spec : {M : Type 1} → statement M
 lay-members-spec =
@@ -61,6 +65,9 @@ lay-members-spec =
     (tie.spec
     Inv-loop
     μ-loop
+    (λ c. search needs)
+    (λ c κs. search needs)
+    returns
     loop-holds
     (λ c κs. search needs)
     minus-requires
@@ -71,4 +78,4 @@ lay-members-spec =
     (λ c. search needs)
     loop-again
     same-length
-    returns)
+    returns-2)

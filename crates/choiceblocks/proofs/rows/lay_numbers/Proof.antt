@@ -4,6 +4,7 @@ use native.Mathlib.Omega.{arith}
 use borrow.Author.Needs.{needs}
 use Rattle.arguments.proofs.Size.{read}
 use Rattle.laying.proofs.Parts.{Laying, begun, more, done, went-length}
+use Rattle.laying.proofs.Counts.{sized-number, many-counted}
 use Rattle.choiceblocks.specs.Rows.{numberAt}
 use Rattle.choiceblocks.proofs.rows.lay_numbers.Statement.{statement}
 use Rattle.choiceblocks.proofs.rows.lay_numbers.Tie as tie
@@ -14,23 +15,24 @@ Inv-loop out₀ args base v n t₀ k₀ out t k = Laying 10 (numberAt args base 
 abbrev μ-loop : tie.MeasureT-loop
 μ-loop out₀ args base v n t₀ k₀ out t k = n - k
 
+returns : tie.Need-returns Inv-loop μ-loop
+returns c = many-counted 2 0 0 1000 (λ k h. sized-number _ _ _) (omega arith, omega arith, omega arith, omega arith) (c .before .if1 .taken) (c .counted .ensures)
+
 loop-holds : tie.Need-loop-holds Inv-loop μ-loop
 loop-holds c = begun 10 _ _ _ _
 
 loop-again : tie.Need-loop-again Inv-loop μ-loop
 loop-again c =
-    let p = c .before .before .before .before .before in
+    let loop-test = c .before .before .before .before .before .loop-test in
+    let loop = c .before .before .before .before .before .before .loop in
     let num-at = c .before .before .before .num-at in
-    let lay-term = c .before .before .lay-term in
-    let at-loop-test = p in
-    let at-loop = at-loop-test .before in
-    more (at-loop-test .loop-test .taken) (at-loop .loop .inv) (rw (read (num-at .ok) (num-at .ensures)) at (lay-term .ensures))
+    more (loop-test .taken) (loop .inv) (rw (read (num-at .ok) (num-at .ensures)) at (c .before .before .lay-term .ensures))
 
 same-length : tie.Need-same-length Inv-loop μ-loop
 same-length c = went-length (c .before .loop .inv .went)
 
-returns : tie.Need-returns Inv-loop μ-loop
-returns c = done 1000 (omega arith) (c .loop-test .left) (c .before .loop .inv)
+returns-2 : tie.Need-returns-2 Inv-loop μ-loop
+returns-2 c = done 1000 (omega arith) (c .loop-test .left) (c .before .loop .inv)
 
 pub lay-numbers-spec : {M : Type 1} → statement M
 lay-numbers-spec =
@@ -38,6 +40,9 @@ lay-numbers-spec =
     (tie.spec
     Inv-loop
     μ-loop
+    (λ c. search needs)
+    (λ c κs. search needs)
+    returns
     loop-holds
     (λ c. search needs)
     (λ c κs. search needs)
@@ -47,4 +52,4 @@ lay-numbers-spec =
     (λ c. search needs)
     loop-again
     same-length
-    returns)
+    returns-2)

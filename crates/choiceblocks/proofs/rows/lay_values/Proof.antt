@@ -4,6 +4,7 @@ use native.Mathlib.Omega.{arith}
 use borrow.Author.Needs.{needs}
 use Rattle.arguments.proofs.Size.{read}
 use Rattle.laying.proofs.Parts.{Laying, begun, more, done, went-length}
+use Rattle.laying.proofs.Counts.{sized-term, many-counted}
 use Rattle.choiceblocks.specs.Rows.{valueAt}
 use Rattle.choiceblocks.proofs.rows.lay_values.Statement.{statement}
 use Rattle.choiceblocks.proofs.rows.lay_values.Tie as tie
@@ -14,23 +15,26 @@ Inv-loop out₀ vs v n t₀ k₀ out t k = Laying 10 (valueAt vs v) n t₀ t out
 abbrev μ-loop : tie.MeasureT-loop
 μ-loop out₀ vs v n t₀ k₀ out t k = n - k
 
+returns : tie.Need-returns Inv-loop μ-loop
+returns c =
+    let s = c .before .before .before .before in
+    many-counted 2 0 0 1000 (λ k h. sized-term _ _ (s .pre .3 k)) (omega arith, omega arith, omega arith, omega arith) (c .before .if1 .taken) (c .counted .ensures)
+
 loop-holds : tie.Need-loop-holds Inv-loop μ-loop
 loop-holds c = begun 10 _ _ _ _
 
 loop-again : tie.Need-loop-again Inv-loop μ-loop
 loop-again c =
-    let p = c .before .before .before .before .before in
+    let loop-test = c .before .before .before .before .before .loop-test in
+    let loop = c .before .before .before .before .before .before .loop in
     let bound-at = c .before .before .before .bound-at in
-    let lay-term = c .before .before .lay-term in
-    let at-loop-test = p in
-    let at-loop = at-loop-test .before in
-    more (at-loop-test .loop-test .taken) (at-loop .loop .inv) (rw (read (bound-at .ok) (bound-at .ensures)) at (lay-term .ensures))
+    more (loop-test .taken) (loop .inv) (rw (read (bound-at .ok) (bound-at .ensures)) at (c .before .before .lay-term .ensures))
 
 same-length : tie.Need-same-length Inv-loop μ-loop
 same-length c = went-length (c .before .loop .inv .went)
 
-returns : tie.Need-returns Inv-loop μ-loop
-returns c = done 1000 (omega arith) (c .loop-test .left) (c .before .loop .inv)
+returns-2 : tie.Need-returns-2 Inv-loop μ-loop
+returns-2 c = done 1000 (omega arith) (c .loop-test .left) (c .before .loop .inv)
 
 pub lay-values-spec : {M : Type 1} → statement M
 lay-values-spec =
@@ -38,6 +42,9 @@ lay-values-spec =
     (tie.spec
     Inv-loop
     μ-loop
+    (λ c. search needs)
+    (λ c κs. search needs)
+    returns
     loop-holds
     (λ c κs. search needs)
     (λ c. search needs)
@@ -46,4 +53,4 @@ lay-values-spec =
     (λ c. search needs)
     loop-again
     same-length
-    returns)
+    returns-2)
