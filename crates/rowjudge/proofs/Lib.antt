@@ -1,3 +1,4 @@
 -- Laws for the proofs of judge-rows.
 pub mod Sums
 pub mod Walk
+pub mod Judging

@@ -1,2 +1,3 @@
--- What the contracts cite: the row of one word.
+-- What the contracts cite: the row of one word, and the tally of one pass.
 pub mod OneWord
+pub mod Tallied

@@ -1,6 +1,6 @@
 // The rows and products of a row system, each judged from the words after its head.
 ghost use mathlib.Core.Path.{_≡_};
-ghost use Prim.Native.Nat.{_≤_, _+_, _*_};
+ghost use Prim.Native.Nat.{_≤_, _+_};
 ghost use Rattle.integers.specs.Number.{_⊕_, _⊗_};
 ghost use Rattle.integers.specs.Terms.{value, sum};
 ghost use Rattle.words.specs.Limit as Limit;
@@ -34,22 +34,22 @@ fn terms_of(head: u32) -> usize
 }
 
 // The value of the variable at a place.
-fn variable_value(ws: &[u32], i: usize, values: &[i32]) -> i64
+pub fn variable_value(ws: &[u32], i: usize, values: &[i32]) -> i64
     ensures { λ r. ⌜ r ≡ value (now (values .entry)) (variableAt (now (ws .entry)) i) ⌝ }
 {
     value_at(values, payload_of(word_at(ws, i)))
 }
 
 // The number at a place.
-fn number_at(ws: &[u32], i: usize) -> i64
+pub fn number_at(ws: &[u32], i: usize) -> i64
     ensures { λ r. ⌜ r ≡ numberAt (now (ws .entry)) i ⌝ }
 {
     signed_of(word_at(ws, i))
 }
 
 // Coefficient × value of the term at a place.
-fn term_at(ws: &[u32], i: usize, values: &[i32]) -> i64
-    requires { ⌜ (i ≤ 2 * Limit.terms) × Small (now values) ⌝ }
+pub fn term_at(ws: &[u32], i: usize, values: &[i32]) -> i64
+    requires { ⌜ (i ≤ Limit.rowWords) × Small (now values) ⌝ }
     ensures { λ r. ⌜ r ≡ numberAt (now (ws .entry)) (i + 1) ⊗ value (now (values .entry)) (variableAt (now (ws .entry)) i) ⌝ }
 {
     times(number_at(ws, i + 1), variable_value(ws, i, values))
@@ -106,7 +106,7 @@ fn is_product(ws: &[u32], values: &[i32]) -> bool
 }
 
 // Whether a row or a product starts at a word.
-fn starts_row(w: u32) -> bool
+pub fn starts_row(w: u32) -> bool
     ensures { λ r. ⌜ r ≡ startsRow w ⌝ }
 {
     let k = kind_of(w);

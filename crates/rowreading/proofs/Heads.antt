@@ -51,6 +51,9 @@ module _ (ws : List ℕ) (s : Bool) (n at f : ℕ) (e : f ≡ faultHead s n (wor
   pub head-halted : (f ≡ 0 → ⊥) → onward (startDue s) n at ws ≡ stopped ws f at
   head-halted z = stop-at ws (startDue s) n at f at-head z
 
+  pub head-on : f ≡ 0 → onward (startDue s) n at ws ≡ onward (afterDue due.Source (wordAt ws at)) (n + started (wordAt ws at)) (at + 1) ws
+  head-on z = go-on ws (startDue s) n at (sym z ∙ at-head) ∙ rw (after-head s n (wordAt ws at) (sym z ∙ e))
+
   pub head-gone : (item : Item) → f ≡ 0 → dueAfter item ≡ afterDue due.Source (wordAt ws at) →
       onward (startDue s) n at ws ≡ onward (dueAfter item) (n + started (wordAt ws at)) (at + 1) ws
   head-gone item z a =

@@ -59,7 +59,7 @@ module _ (ws : List ℕ) (n at : ℕ) (h : at ≤ length ws) where
   -- of a Boolean variable there is none; after the end there may be none
   pub no-word : {due : Due} → Went ws n due at due (record { number = Fault.none; at = at })
   unfolding resumed
-  no-word = record { reads = refl; on = omega arith; inside = h }
+  no-word = record { reads = refl; on = omega arith; inside = h; plain = λ j l k. absurd (omega arith); last = λ (e : _≡_ {A = ℕ} 0 11). absurd (omega arith) }
 
   pub after-end : {to : Due} → Went ws n Ended at to (stepOver Fault.wordAfterEnd at)
   unfolding faultDue afterDue stepOver

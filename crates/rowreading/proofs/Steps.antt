@@ -2,22 +2,24 @@
 use mathlib.Core.Path.{_≡_, refl, ap, sym, _∙_}
 use mathlib.Core.Bool.{Bool, true, false, not, _||_}
 use mathlib.Core.List.{List}
-use Prim.Native.Nat.{ℕ, _+_, _≤_}
+use Prim.Native.Nat.{ℕ, _+_, _<_, _≤_}
 use native.Mathlib.Omega.{arith}
 use native.Mathlib.Nat.{add-zero}
-use borrow.Author.Tests.{eqb-true, eqb-false, eq-eqb, ne-eqb}
-use lib.Dec.{T, ltb, eqb}
+use borrow.Author.Tests.{eqb-true, eqb-false, eq-eqb, ne-eqb, ltb-true, ltb-false}
+use lib.Dec.{T, ltb, leb, eqb}
+use lib.Signed.{ltZ}
 use lib.ListN.{length}
 use Rattle.integers.specs.Choice.{_if_else_}
+use Rattle.integers.proofs.Tests.{false-true}
 use Rattle.words.specs.Fault as Fault
 use Rattle.words.specs.Kind as Kind
-use Rattle.words.specs.Word.{kind, wordAt}
+use Rattle.words.specs.Word.{kind, payload, signed, wordAt}
 use Rattle.words.specs.Variables.{startsPair}
-use Rattle.rowsystems.specs.Reading.{faultUpper, faultVariable, faultNumber, faultResult, faultDue, afterDue, started}
+use Rattle.rowsystems.specs.Reading.{faultUpper, faultVariable, faultNumber, notAbove, faultResult, faultDue, afterDue, started}
 use Rattle.rowsystems.specs.declared.Due.{Due}
 use Rattle.rowsystems.specs.declared.Due.the-variants.{Source, SourceUpper, Item, AuxiliaryUpper, Terms, Coefficient, Result, FirstFactor, SecondFactor, Ended}
 use Rattle.rowreading.specs.declared.items.Step.{Step}
-use Rattle.rowreading.specs.Onward.{onward, stopped, resumed, Went, stepOver}
+use Rattle.rowreading.specs.Onward.{onward, stopped, resumed, startsKind, isEnded, Went, stepOver}
 use Rattle.rowreading.proofs.Onward.{faultAt, here, go-on, stop-at}
 
 -- ---- a step over a word without a fault leads to the next place
@@ -48,12 +50,16 @@ inner FirstFactor = true
 inner SecondFactor = true
 inner Ended = true
 
-abbrev startedKind : ℕ → ℕ
-startedKind k = 1 if (eqb k Kind.lower || eqb k Kind.auxiliaryLower) || eqb k Kind.boolean else 0
+pub or-false : (a b : Bool) → (a || b) ≡ false → (a ≡ false) × (b ≡ false)
+or-false true b e = false-true (sym e)
+or-false false b e = (refl, e)
 
-of-kind : (w k : ℕ) → startedKind k ≡ 0 → kind w ≡ k → started w ≡ 0
-unfolding started startsPair
-of-kind w k z e = ap startedKind e ∙ z
+of-kind : (w k : ℕ) → startsKind k ≡ false → kind w ≡ k → startsKind (kind w) ≡ false
+of-kind w k z e = ap startsKind e ∙ z
+
+pub plain-started : (w : ℕ) → startsKind (kind w) ≡ false → started w ≡ 0
+unfolding started startsPair startsKind
+plain-started w e = rw (or-false ((eqb (kind w) Kind.lower || eqb (kind w) Kind.auxiliaryLower) || eqb (kind w) Kind.boolean) ((eqb (kind w) Kind.atMost || eqb (kind w) Kind.equal) || eqb (kind w) Kind.product) e .0)
 
 -- the test of a kind, by each of the two ways in which it is written
 is-kind : (b : Bool) (x : ℕ) → 0 ≡ (Fault.wrongKind if not b else x) → b ≡ true
@@ -64,38 +70,75 @@ has-kind : (b : Bool) → 0 ≡ (Fault.none if b else Fault.wrongKind) → b ≡
 has-kind true e = refl
 has-kind false e = absurd (omega arith)
 
-no-upper : (k lower w : ℕ) → startedKind k ≡ 0 → 0 ≡ faultUpper k lower w → started w ≡ 0
+no-upper : (k lower w : ℕ) → startsKind k ≡ false → 0 ≡ faultUpper k lower w → startsKind (kind w) ≡ false
 unfolding faultUpper
 no-upper k lower w z e = of-kind w k z (eqb-true (kind w) k (is-kind (eqb (kind w) k) _ e))
 
-no-variable : (n w : ℕ) → 0 ≡ faultVariable n w → started w ≡ 0
-unfolding faultVariable
+no-variable : (n w : ℕ) → 0 ≡ faultVariable n w → startsKind (kind w) ≡ false
+unfolding faultVariable startsKind
 no-variable n w e = of-kind w Kind.variable refl (eqb-true (kind w) Kind.variable (is-kind (eqb (kind w) Kind.variable) _ e))
 
-no-number : (w : ℕ) → 0 ≡ faultNumber w → started w ≡ 0
-unfolding faultNumber
+no-number : (w : ℕ) → 0 ≡ faultNumber w → startsKind (kind w) ≡ false
+unfolding faultNumber startsKind
 no-number w e = of-kind w Kind.number refl (eqb-true (kind w) Kind.number (has-kind (eqb (kind w) Kind.number) e))
 
-no-result : (n w f g : ℕ) → 0 ≡ faultResult n w f g → started w ≡ 0
-unfolding faultResult
+no-result : (n w f g : ℕ) → 0 ≡ faultResult n w f g → startsKind (kind w) ≡ false
+unfolding faultResult startsKind
 no-result n w f g e = of-kind w Kind.variable refl (eqb-true (kind w) Kind.variable (is-kind (eqb (kind w) Kind.variable) _ e))
 
-none-started : (due : Due) (n w : ℕ) (l : List ℕ) → T (inner due) → 0 ≡ faultDue due n w l → started w ≡ 0
-unfolding faultDue
-none-started Source n w l i e = absurd i
-none-started (SourceUpper lower) n w l i e = no-upper Kind.upper lower w refl e
-none-started Item n w l i e = absurd i
-none-started (AuxiliaryUpper lower) n w l i e = no-upper Kind.auxiliaryUpper lower w refl e
-none-started (Terms left) n w l i e = go (ltb 0 left) e
+plain-here : (due : Due) (n w : ℕ) (l : List ℕ) → T (inner due) → 0 ≡ faultDue due n w l → startsKind (kind w) ≡ false
+unfolding faultDue startsKind
+plain-here Source n w l i e = absurd i
+plain-here (SourceUpper lower) n w l i e = no-upper Kind.upper lower w refl e
+plain-here Item n w l i e = absurd i
+plain-here (AuxiliaryUpper lower) n w l i e = no-upper Kind.auxiliaryUpper lower w refl e
+plain-here (Terms left) n w l i e = go (ltb 0 left) e
   where
-    go : (b : Bool) → 0 ≡ (faultVariable n w if b else faultNumber w) → started w ≡ 0
+    go : (b : Bool) → 0 ≡ (faultVariable n w if b else faultNumber w) → startsKind (kind w) ≡ false
     go true e = no-variable n w e
     go false e = no-number w e
-none-started (Coefficient left) n w l i e = no-number w e
-none-started Result n w l i e = no-result n w _ _ e
-none-started FirstFactor n w l i e = no-variable n w e
-none-started SecondFactor n w l i e = no-variable n w e
-none-started Ended n w l i e = absurd (omega arith)
+plain-here (Coefficient left) n w l i e = no-number w e
+plain-here Result n w l i e = no-result n w _ _ e
+plain-here FirstFactor n w l i e = no-variable n w e
+plain-here SecondFactor n w l i e = no-variable n w e
+plain-here Ended n w l i e = absurd (omega arith)
+
+-- the fault of a word after the end is no fault of another word
+never : (b : Bool) {x y : ℕ} → (11 ≡ x → ⊥) → (11 ≡ y → ⊥) → 11 ≡ (x if b else y) → ⊥
+never true f g e = f e
+never false f g e = g e
+
+differs : {x : ℕ} → (eqb 11 x ≡ false) → 11 ≡ x → ⊥
+differs {x} f e = eqb-false 11 x f e
+
+not-upper : (k lower w : ℕ) → 11 ≡ faultUpper k lower w → ⊥
+unfolding faultUpper
+not-upper k lower w = never (not (eqb (kind w) k)) (differs {x = Fault.wrongKind} refl) (never (ltZ (signed w) (signed lower)) (differs {x = Fault.upperBelowLower} refl) (differs {x = Fault.none} refl))
+
+not-variable : (n w : ℕ) → 11 ≡ faultVariable n w → ⊥
+unfolding faultVariable
+not-variable n w = never (not (eqb (kind w) Kind.variable)) (differs {x = Fault.wrongKind} refl) (never (leb n (payload w)) (differs {x = Fault.notDeclared} refl) (differs {x = Fault.none} refl))
+
+not-number : (w : ℕ) → 11 ≡ faultNumber w → ⊥
+unfolding faultNumber
+not-number w = never (eqb (kind w) Kind.number) (differs {x = Fault.none} refl) (differs {x = Fault.wrongKind} refl)
+
+not-result : (n w f g : ℕ) → 11 ≡ faultResult n w f g → ⊥
+unfolding faultResult
+not-result n w f g = never (not (eqb (kind w) Kind.variable)) (differs {x = Fault.wrongKind} refl) (never (leb n (payload w)) (differs {x = Fault.notDeclared} refl) (never (notAbove w f g) (differs {x = Fault.resultNotAbove} refl) (differs {x = Fault.none} refl)))
+
+last-here : (due : Due) (n w : ℕ) (l : List ℕ) → T (inner due) → 11 ≡ faultDue due n w l → isEnded due ≡ true
+unfolding faultDue isEnded
+last-here Source n w l i e = absurd i
+last-here (SourceUpper lower) n w l i e = absurd (not-upper Kind.upper lower w e)
+last-here Item n w l i e = absurd i
+last-here (AuxiliaryUpper lower) n w l i e = absurd (not-upper Kind.auxiliaryUpper lower w e)
+last-here (Terms left) n w l i e = absurd (never (ltb 0 left) (not-variable n w) (not-number w) e)
+last-here (Coefficient left) n w l i e = absurd (not-number w e)
+last-here Result n w l i e = absurd (not-result n w _ _ e)
+last-here FirstFactor n w l i e = absurd (not-variable n w e)
+last-here SecondFactor n w l i e = absurd (not-variable n w e)
+last-here Ended n w l i e = refl
 
 -- ---- one word
 
@@ -110,12 +153,14 @@ step {ws} {due} {to} {n} {at} {f} i h e a = go (eqb f Fault.none) refl
         record {
           reads =
               go-on ws due n at z
-              ∙ ap (λ (k : ℕ). onward (afterDue due (wordAt ws at)) k (at + 1) ws) (ap (λ (s : ℕ). n + s) (none-started due n (wordAt ws at) _ i z) ∙ add-zero n)
+              ∙ ap (λ (k : ℕ). onward (afterDue due (wordAt ws at)) k (at + 1) ws) (ap (λ (s : ℕ). n + s) (plain-started (wordAt ws at) (plain-here due n (wordAt ws at) _ i z)) ∙ add-zero n)
               ∙ rw (t, a);
           on = omega arith;
           inside = omega (arith, here ws due n at z);
+          plain = λ j l h. let k : at ≡ j = omega arith in rw (← k) (plain-here due n (wordAt ws at) _ i z);
+          last = λ k. last-here due n (wordAt ws at) _ i (sym k ∙ e);
         }
-    go false t = record { reads = stop-at ws due n at f e (eqb-false f Fault.none t) ∙ rw t; on = omega arith; inside = h }
+    go false t = record { reads = stop-at ws due n at f e (eqb-false f Fault.none t) ∙ rw t; on = omega arith; inside = h; plain = λ j l k. absurd (omega arith); last = λ k. last-here due n (wordAt ws at) _ i (sym k ∙ e) }
 
 -- ---- one step after another
 
@@ -128,12 +173,24 @@ module _ {ws : List ℕ} {n : ℕ} {a b : Due} {at : ℕ} {r : Step} (g : Went w
   unfolding resumed
   halted z = g .reads ∙ rw (ne-eqb (r .number) 0 z)
 
-  pub and-then : {c : Due} {s : Step} → r .number ≡ 0 → Went ws n b (r .at) c s → Went ws n a at c s
-  and-then z k = record { reads = gone z ∙ k .reads; on = omega (arith, g .on, k .on); inside = k .inside }
+  -- where what is due between is not the end
+  pub and-then : {c : Due} {s : Step} → isEnded b ≡ false → r .number ≡ 0 → Went ws n b (r .at) c s → Went ws n a at c s
+  and-then {c} {s} d z k =
+      record {
+        reads = gone z ∙ k .reads;
+        on = omega (arith, g .on, k .on);
+        inside = k .inside;
+        plain = λ j l h. both j l h (ltb j (r .at)) refl;
+        last = λ e. false-true (sym d ∙ k .last e);
+      }
+    where
+      both : (j : ℕ) → at ≤ j → j < s .at → (t : Bool) → ltb j (r .at) ≡ t → startsKind (kind (wordAt ws j)) ≡ false
+      both j l h true e = g .plain j l (ltb-true _ _ e)
+      both j l h false e = k .plain j (ltb-false _ _ e) h
 
   pub or-halted : {c : Due} → (r .number ≡ 0 → ⊥) → Went ws n a at c r
   unfolding resumed
-  or-halted z = record { reads = halted z ∙ rw (ne-eqb (r .number) 0 z); on = g .on; inside = g .inside }
+  or-halted z = record { reads = halted z ∙ rw (ne-eqb (r .number) 0 z); on = g .on; inside = g .inside; plain = g .plain; last = g .last }
 
 -- ---- the word at a place, its fault, the step over it: one call after another
 pub word-step : (F : ℕ → ℕ) (at : ℕ) {w v f : ℕ} {r : Step} → w ≡ v → f ≡ F w → r ≡ stepOver f at → r ≡ stepOver (F v) at

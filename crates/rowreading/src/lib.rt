@@ -36,7 +36,7 @@ pub fn started_of(w: u32) -> usize
 }
 
 // The refusal where a reading stops with a fault at a place: none past the end word, 2 where the words have ended before it.
-fn refusal_at(ws: &[u32], number: u32, place: usize) -> Refusal
+pub fn refusal_at(ws: &[u32], number: u32, place: usize) -> Refusal
     ensures { λ r. ⌜ r ≡ stopped (now (ws .entry)) number place ⌝ }
 {
     if place < ws.len() {

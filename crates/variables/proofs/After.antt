@@ -25,7 +25,7 @@ use Rattle.variables.specs.Judged.{judgedThen}
 use Rattle.variables.proofs.Small.{small}
 
 module _ (σ : Valuation) (after : Answer) where
-  next : (k : ℕ) (Bs : List Bounds) → firstOutOfBounds σ k Bs holds ≡ holds → after ≡ firstOutOfBounds σ k Bs after
+  pub next : (k : ℕ) (Bs : List Bounds) → firstOutOfBounds σ k Bs holds ≡ holds → after ≡ firstOutOfBounds σ k Bs after
   unfolding firstOutOfBounds
   next k [] e = refl
   next k (B ∷ Bs) e = go (within B (σ k)) e (next (k + 1) Bs)
