@@ -4,27 +4,25 @@ ghost use mathlib.Core.List.{_++_};
 ghost use Prim.Native.Nat.{_+_, _<_};
 ghost use lib.ListN.{length};
 ghost use Rattle.words.specs.Overlay.{overlay};
-ghost use Rattle.words.specs.Refusal.{accepted};
-ghost use Rattle.words.specs.Variables.{variables};
 ghost use Rattle.arguments.specs.Small.{Small};
 ghost use Rattle.rules.specs.Translation.{auxiliaries, picks};
 ghost use Rattle.rules.specs.Fill.{fill as fillAnswer, filled};
 ghost use Rattle.sharing.specs.SharedSolutions.{Passes, SatisfiesModel};
-ghost use Rattle.extremes.specs.Bounded.{Bounded};
-ghost use Rattle.picking.specs.Picked.{Ranged, picksFrom};
+ghost use Rattle.translation.specs.ModelBounds.{ModelBounds};
+ghost use Rattle.picking.specs.Picked.{Ranged};
 ghost use Rattle.filling.specs.Filled.{handed};
 ghost use Rattle.filling.specs.Satisfied.{Satisfied};
 ghost use Rattle.filling.specs.HandsOver.{HandsOver};
-use extremes::keep_bounds;
 use modeljudge::judge_read;
+use modelreading::Read;
+use modelreading::read_model;
 use picking::pick_block;
 use translation::Checked;
-use translation::check;
+use translation::checking::check_read;
+use translation::checking::model_bounds;
 use words::Refusal;
 use words::Verdict;
 use words::fault;
-use words::kind;
-use words::kind_of;
 use words::payload_of;
 
 // What fill answers.
@@ -50,50 +48,64 @@ fn lay_values(out: &mut [i32], values: &[i32])
 }
 
 // The auxiliaries of each constraint go into the lent list one after another, from a place on.
-fn write_picks(ws: &[u32], ls: &[i64], us: &[i64], values: &[i32], out: &mut [i32], start: usize)
-    requires { ⌜ Bounded (now ls) × Bounded (now us) × Small (now values) × Ranged (picksFrom (now ls) (now us) (now values) 0 (now ws)) × (start + length (picksFrom (now ls) (now us) (now values) 0 (now ws)) < 1099511627776) ⌝ }
-    ensures { λ r. ⌜ now (out .exit) ≡ overlay (now (out .entry)) start (picksFrom (now (ls .entry)) (now (us .entry)) (now (values .entry)) 0 (now (ws .entry))) ⌝ }
+fn write_picks(
+    ws: &[u32],
+    heads: &[usize; 256],
+    read: Read,
+    ls: &[i64],
+    us: &[i64],
+    values: &[i32],
+    out: &mut [i32],
+    start: usize,
+)
+    requires { ⌜ ModelBounds (now ws) (now heads) read (now ls) (now us) × Small (now values) × Ranged (picks (now ws) (now values)) × (start + length (picks (now ws) (now values)) < 1099511627776) ⌝ }
+    ensures { λ r. ⌜ now (out .exit) ≡ overlay (now (out .entry)) start (picks (now (ws .entry)) (now (values .entry))) ⌝ }
 {
-    let mut p = 0;
+    let n = read.constraints;
+    let mut k = 0;
     let mut at = start;
-    while p < ws.len() {
-        let w = ws[p];
-        p += 1;
-        if kind_of(w) == kind::CONSTRAINT {
-            at = pick_block(out, at, payload_of(w), &ws[p..], ls, us, values);
-        }
+    while k < n {
+        let place = heads[k];
+        let code = payload_of(ws[place]);
+        at = pick_block(out, at, code, &ws[place + 1..], ls, us, values);
+        k += 1;
     }
 }
 
 // The values, and after them the auxiliaries.
-fn write_filled(ws: &[u32], values: &[i32], out: &mut [i32])
-    requires { ⌜ Passes (now ws) × SatisfiesModel (now ws) (now values) ⌝ }
+fn write_filled(
+    ws: &[u32],
+    heads: &[usize; 256],
+    read: Read,
+    ls: &[i64],
+    us: &[i64],
+    values: &[i32],
+    out: &mut [i32],
+)
+    requires { ⌜ ModelBounds (now ws) (now heads) read (now ls) (now us) × Passes (now ws) × SatisfiesModel (now ws) (now values) ⌝ }
     ensures { λ r. ⌜ now (out .exit) ≡ overlay (now (out .entry)) 0 (now (values .entry) ++ picks (now (ws .entry)) (now (values .entry))) ⌝ }
 {
-    let mut lowers = [0i64; 256];
-    let mut uppers = [0i64; 256];
-    keep_bounds(ws, &mut lowers, &mut uppers);
     lay_values(out, values);
-    write_picks(ws, &lowers, &uppers, values, out, values.len());
+    write_picks(ws, heads, read, ls, us, values, out, values.len());
 }
 
-// What reading answers of a model that passes the check.
-fn accepted() -> Refusal
-    ensures { λ r. ⌜ r ≡ accepted ⌝ }
-{
-    Refusal {
-        number: fault::NONE,
-        place: 0,
-    }
-}
-
-// Of a model that passes the check, with these numbers of variables and auxiliaries.
-fn fill_passed(ws: &[u32], values: &[i32], out: &mut [i32], sources: usize, added: usize) -> Filled
-    requires { ⌜ Passes (now ws) × (sources ≡ length (variables (now ws))) × (added ≡ length (auxiliaries (now ws))) ⌝ }
+// Of a model that passes the check, with this number of auxiliaries.
+fn fill_passed(
+    ws: &[u32],
+    heads: &[usize; 256],
+    read: Read,
+    ls: &[i64],
+    us: &[i64],
+    values: &[i32],
+    out: &mut [i32],
+    added: usize,
+) -> Filled
+    requires { ⌜ ModelBounds (now ws) (now heads) read (now ls) (now us) × Passes (now ws) × (added ≡ length (auxiliaries (now ws))) ⌝ }
     ensures answer { λ r. ⌜ handed r ≡ fillAnswer (now (ws .entry)) (now (values .entry)) (length (now (out .entry))) ⌝ }
     ensures output { λ r. ⌜ now (out .exit) ≡ filled (now (ws .entry)) (now (values .entry)) (now (out .entry)) ⌝ }
     ensures satisfied { λ r. ⌜ Satisfied (now (ws .entry)) (handed r) (now (out .exit)) ⌝ }
 {
+    let sources = read.variables;
     if values.len() != sources {
         return Filled::Refused(Refusal {
             number: fault::WRONG_VALUE_COUNT,
@@ -106,10 +118,10 @@ fn fill_passed(ws: &[u32], values: &[i32], out: &mut [i32], sources: usize, adde
             place: 0,
         });
     }
-    match judge_read(accepted(), ws, values) {
+    match judge_read(read, ws, heads, values) {
         Verdict::Refused(refusal) => Filled::Refused(refusal),
         Verdict::Holds => {
-            write_filled(ws, values, out);
+            write_filled(ws, heads, read, ls, us, values, out);
             Filled::Values(sources + added)
         }
         Verdict::OutOfBounds(i) => Filled::OutOfBounds(i),
@@ -124,14 +136,25 @@ pub fn fill(ws: &[u32], values: &[i32], out: &mut [i32]) -> Filled
     ensures satisfied { λ r. ⌜ Satisfied (now (ws .entry)) (handed r) (now (out .exit)) ⌝ }
     ensures completes { λ r. ⌜ HandsOver (now (ws .entry)) (now (values .entry)) (handed r) (now (out .entry)) (now (out .exit)) ⌝ }
 {
-    match check(ws) {
+    let mut heads = [0usize; 256];
+    let read = read_model(ws, &mut heads);
+    if read.number != fault::NONE {
+        return Filled::Refused(Refusal {
+            number: read.number,
+            place: read.place,
+        });
+    }
+    let mut lowers = [0i64; 256];
+    let mut uppers = [0i64; 256];
+    let sums = model_bounds(ws, &heads, read, &mut lowers, &mut uppers);
+    match check_read(ws, &heads, read, &lowers, &uppers, sums) {
         Checked::Refused(refusal) => Filled::Refused(refusal),
         Checked::Counts {
-            variables,
+            variables: _,
             constraints: _,
             auxiliaries,
             rows: _,
             words: _,
-        } => fill_passed(ws, values, out, variables, auxiliaries),
+        } => fill_passed(ws, &heads, read, &lowers, &uppers, values, out, auxiliaries),
     }
 }

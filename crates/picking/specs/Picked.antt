@@ -9,7 +9,7 @@ use Rattle.integers.specs.Number.{+0}
 use Rattle.integers.specs.Terms.{value}
 use Rattle.words.specs.Word.{inRange}
 use Rattle.words.specs.Overlay.{overlay}
-use Rattle.models.specs.Model.{builtin, constraintsFrom}
+use Rattle.models.specs.Model.{Constraint, builtin}
 use Rattle.arguments.specs.Small.{Small}
 use Rattle.rules.specs.Pick.{pick}
 use Rattle.extremes.specs.Bounded.{boundsOf, Bounded}
@@ -27,9 +27,9 @@ Ranged ps = (k : ℕ) → inRange (getD ps k +0) ≡ true
 abbrev pub picksOf : List ℤ → List ℤ → List ℤ → ℕ → List ℕ → List ℤ
 picksOf ls us vs code args = pick (boundsOf ls us) (value vs) (builtin (record { place = 0; code = code; arguments = args }))
 
--- for the constraints among words that start at place p, one after another
-unfoldable pub picksFrom : List ℤ → List ℤ → List ℤ → ℕ → List ℕ → List ℤ
-picksFrom ls us vs p ws = flatMap (λ c. pick (boundsOf ls us) (value vs) (builtin c)) (constraintsFrom p ws)
+-- for constraints, one after another
+unfoldable pub picksFor : List ℤ → List ℤ → List ℤ → List Constraint → List ℤ
+picksFor ls us vs cs = flatMap (λ c. pick (boundsOf ls us) (value vs) (builtin c)) cs
 
 -- what writing them wants: a place that does not wrap, bounds and values near 0, and numbers of the range
 pub record Ready (at : ℕ) (ls us vs ps : List ℤ) : Type 0 where
