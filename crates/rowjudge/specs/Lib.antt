@@ -1,3 +1,3 @@
--- What the contracts cite: the row of one word, and the tally of one pass.
+-- What the contracts cite: the row of one word, and reading and judging an item at once.
 pub mod OneWord
-pub mod Tallied
+pub mod Passing

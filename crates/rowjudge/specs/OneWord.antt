@@ -9,6 +9,10 @@ use Rattle.words.specs.Word.{kind}
 use Rattle.rowsystems.specs.Row.{Row, sum≤0, sum=0, product}
 use Rattle.rowsystems.specs.RowSystem.{termCount, variableAt, termsIn, constantIn}
 
+-- whether a row starts at a word
+unfoldable pub startsSum : ℕ → Bool
+startsSum w = eqb (kind w) Kind.atMost || eqb (kind w) Kind.equal
+
 -- whether a row or a product starts at a word, and which, before the words ws
 unfoldable pub startsRow : ℕ → Bool
 startsRow w = (eqb (kind w) Kind.atMost || eqb (kind w) Kind.equal) || eqb (kind w) Kind.product

@@ -128,7 +128,7 @@ unfolding faultResult
 not-result n w f g = never (not (eqb (kind w) Kind.variable)) (differs {x = Fault.wrongKind} refl) (never (leb n (payload w)) (differs {x = Fault.notDeclared} refl) (never (notAbove w f g) (differs {x = Fault.resultNotAbove} refl) (differs {x = Fault.none} refl)))
 
 last-here : (due : Due) (n w : ℕ) (l : List ℕ) → T (inner due) → 11 ≡ faultDue due n w l → isEnded due ≡ true
-unfolding faultDue isEnded
+unfolding faultDue
 last-here Source n w l i e = absurd i
 last-here (SourceUpper lower) n w l i e = absurd (not-upper Kind.upper lower w e)
 last-here Item n w l i e = absurd i

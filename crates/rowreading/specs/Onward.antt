@@ -41,7 +41,7 @@ abbrev pub Plain : List ℕ → ℕ → ℕ → Type 0
 Plain ws a b = (j : ℕ) → a ≤ j → j < b → startsKind (kind (wordAt ws j)) ≡ false
 
 -- whether the end word was read
-unfoldable pub isEnded : Due → Bool
+abbrev pub isEnded : Due → Bool
 isEnded Source = false
 isEnded (SourceUpper lower) = false
 isEnded Item = false

@@ -116,7 +116,7 @@ pub fn number_at(ws: &[u32], at: usize) -> Step
 }
 
 // The upper bound, of kind k, at a place, after the word of its lower one.
-pub fn upper_at(ws: &[u32], k: u32, lower: u32, at: usize) -> Step
+fn upper_at(ws: &[u32], k: u32, lower: u32, at: usize) -> Step
     requires { ⌜ at ≤ Limit.rowWords ⌝ }
     ensures { λ r. ⌜ r ≡ stepOver (faultUpper k lower (wordAt (now (ws .entry)) at)) at ⌝ }
 {
@@ -136,7 +136,7 @@ pub fn read_term(ws: &[u32], n: usize, at: usize) -> Step
 }
 
 // A product's result and its two factors.
-pub fn read_product(ws: &[u32], n: usize, at: usize) -> Step
+fn read_product(ws: &[u32], n: usize, at: usize) -> Step
     requires { ⌜ Placed (now ws) at ⌝ }
     ensures { λ r. ⌜ Went (now (ws .entry)) n Due.Result at Due.Item r ⌝ }
 {

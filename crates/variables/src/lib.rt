@@ -36,7 +36,7 @@ pub fn starts_variable(w: u32) -> bool
 }
 
 // Whether a value is between two numbers.
-fn between(lower: i64, v: i64, upper: i64) -> bool
+pub fn between(lower: i64, v: i64, upper: i64) -> bool
     ensures { λ r. ⌜ r ≡ within (lower to upper) v ⌝ }
 {
     if lower <= v {
@@ -46,7 +46,7 @@ fn between(lower: i64, v: i64, upper: i64) -> bool
 }
 
 // Whether a value keeps the bounds of the variable that a word starts; a pair's upper bound is the next word.
-pub fn keeps(w: u32, next: u32, v: i64) -> bool
+fn keeps(w: u32, next: u32, v: i64) -> bool
     ensures { λ r. ⌜ r ≡ within (boundsOf w next) v ⌝ }
 {
     if starts_pair(w) {

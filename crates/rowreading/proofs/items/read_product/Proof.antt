@@ -1,22 +1,13 @@
 -- The result, then the first factor, then the second, up to the first fault.
-use mathlib.Core.Path.{_≡_, refl}
-use mathlib.Core.Bool.{false}
+use mathlib.Core.Path.{refl}
 use native.Mathlib.Omega.{arith}
 use borrow.Author.Needs.{needs}
 use Rattle.rowsystems.specs.declared.Due.the-variants.{Result, FirstFactor, SecondFactor}
-use Rattle.rowreading.specs.Onward.{Went, isEnded}
+use Rattle.rowreading.specs.Onward.{Went}
 use Rattle.rowreading.proofs.Steps.{and-then, or-halted}
 use Rattle.rowreading.proofs.Inner.{product-result, first-factor, second-factor}
 use Rattle.rowreading.proofs.items.read_product.Statement.{statement}
 use Rattle.rowreading.proofs.items.read_product.Tie as tie
-
-between : isEnded FirstFactor ≡ false
-unfolding isEnded
-between = refl
-
-between2 : isEnded SecondFactor ≡ false
-unfolding isEnded
-between2 = refl
 
 -- the result read, and the first factor after it
 result : (c : tie.After-step-over) → Went (c .before .before .before .before .before .before .args .ws .now) (c .before .before .before .before .before .before .args .n) Result (c .before .before .before .before .before .before .args .at) FirstFactor (c .step-over .result)
@@ -32,7 +23,7 @@ first c =
     let s = c .before .before .before .before .before .before .before .before .before in
     let step-over = c .before .before .before .step-over in
     let p = c .before .before .before in
-    and-then (result p) between (c .before .if1 .left) (rw (c .variable-at .ensures) (first-factor (s .args .ws .now) (s .args .n) (step-over .result .at) (result p .inside)))
+    and-then (result p) refl (c .before .if1 .left) (rw (c .variable-at .ensures) (first-factor (s .args .ws .now) (s .args .n) (step-over .result .at) (result p .inside)))
 
 returns : tie.Need-returns
 returns c = or-halted (result (c .before .before)) (c .if1 .taken)
@@ -51,7 +42,7 @@ returns-3 c =
     let s = c .before .before .before .before .before .before .before .before .before .before .before .before in
     let variable-at = c .before .before .before .variable-at in
     let p = c .before .before .before in
-    and-then (first p) between2 (c .before .if2 .left) (rw (c .variable-at2 .ensures) (second-factor (s .args .ws .now) (s .args .n) (variable-at .result .at) (first p .inside)))
+    and-then (first p) refl (c .before .if2 .left) (rw (c .variable-at2 .ensures) (second-factor (s .args .ws .now) (s .args .n) (variable-at .result .at) (first p .inside)))
 
 pub read-product-spec : {M : Type 1} → statement M
 read-product-spec =

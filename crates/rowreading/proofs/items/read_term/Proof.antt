@@ -1,20 +1,15 @@
 -- The variable, and if it has no fault the coefficient.
 use mathlib.Core.Path.{_≡_, refl, sym, ap, _∙_}
 use Prim.Native.Nat.{ℕ, suc, _+_}
-use mathlib.Core.Bool.{false}
 use native.Mathlib.Omega.{arith}
 use borrow.Author.Needs.{needs}
 use Rattle.rowsystems.specs.declared.Due.the-variants.{Terms, Coefficient}
-use Rattle.rowreading.specs.Onward.{Went, isEnded}
+use Rattle.rowreading.specs.Onward.{Went}
 use Rattle.rowreading.specs.declared.items.Step.{Step}
 use Rattle.rowreading.proofs.Steps.{and-then, or-halted, stepped}
 use Rattle.rowreading.proofs.Inner.{term-variable, term-coefficient}
 use Rattle.rowreading.proofs.items.read_term.Statement.{statement}
 use Rattle.rowreading.proofs.items.read_term.Tie as tie
-
-coefficient : (left : ℕ) → isEnded (Coefficient left) ≡ false
-unfolding isEnded
-coefficient left = refl
 
 -- the variable read
 variable : (c : tie.After-variable-at) (left : ℕ) → Went (c .before .before .args .ws .now) (c .before .before .args .n) (Terms (suc left)) (c .before .before .args .at) (Coefficient left) (c .variable-at .result)
@@ -38,7 +33,7 @@ returns-2 c =
     let v = p in
     let a = v .before .before .args in
     let l = variable v 0 .inside in (
-      λ left. and-then (variable v left) (coefficient left) (c .before .if1 .left) (rw (next v (c .before .if1 .left), c .number-at .ensures) (term-coefficient (a .ws .now) (a .n) (a .at + 1) (rw (next v (c .before .if1 .left)) at l) left)),
+      λ left. and-then (variable v left) refl (c .before .if1 .left) (rw (next v (c .before .if1 .left), c .number-at .ensures) (term-coefficient (a .ws .now) (a .n) (a .at + 1) (rw (next v (c .before .if1 .left)) at l) left)),
       λ e. ap (λ (r : Step). r .at) (c .number-at .ensures) ∙ stepped _ _ (ap (λ (r : Step). r .number) (sym (c .number-at .ensures)) ∙ e) ∙ omega arith,
     )
 

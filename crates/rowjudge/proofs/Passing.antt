@@ -1,0 +1,213 @@
+-- One item: reading on from its head, what its kind says, and what its words add up to.
+use mathlib.Core.Path.{_≡_, refl, sym, ap, _∙_}
+use mathlib.Core.Logic.{_⊎_, inl, inr, ⊎-elim}
+use mathlib.Core.Bool.{Bool, true, false, not, _||_}
+use mathlib.Core.List.{List}
+use Prim.Native.Nat.{ℕ, _+_, _*_, _<_, _≤_}
+use native.Mathlib.Omega.{arith}
+use borrow.Author.Tests.{ltb-false, leb-false, eqb-true, eqb-false, eq-eqb, ne-eqb, le-leb}
+use lib.Dec.{eqb, leb, ltb}
+use lib.IntN.{ℤ}
+use lib.ListN.{length, getD, drop}
+use lib.Seq.{getD-drop}
+use Rattle.integers.specs.Choice.{_if_else_}
+use Rattle.integers.specs.Number.{_⊕_, _⊗_}
+use Rattle.integers.specs.Terms.{Valuation, value, sum}
+use Rattle.integers.proofs.Tests.{false-true}
+use Rattle.words.specs.Fault as Fault
+use Rattle.words.specs.Kind as Kind
+use Rattle.words.specs.Limit as Limit
+use Rattle.words.specs.Variables.{startsPair}
+use Rattle.words.specs.Word.{kind, payload, wordAt}
+use Rattle.variables.specs.Start.{starts}
+use Rattle.rowsystems.specs.Reading.{faultItem, faultSource, faultVariable, afterDue, afterItem, started}
+use Rattle.rowsystems.specs.Row.{product, satisfied}
+use Rattle.rowsystems.specs.RowSystem.{numberAt, variableAt, termsIn, constantIn, termCount}
+use Rattle.rowsystems.specs.declared.Due.{Due}
+use Rattle.rowsystems.specs.declared.Due.the-variants as due
+use Rattle.rowreading.specs.Item.{faultHead}
+use Rattle.rowreading.specs.Onward.{startsKind, Plain, isEnded, resumed, stepOver, Went}
+use Rattle.rowreading.specs.declared.items.Step.{Step}
+use Rattle.rowreading.proofs.Heads.{head-here, head-halted, head-on}
+use Rattle.rowreading.proofs.Steps.{or-false, or-halted}
+use Rattle.rowjudge.specs.OneWord.{startsSum, startsRow, rowOf}
+use Rattle.rowjudge.specs.Passing.{isTrue, Passes}
+use Rattle.rowjudge.proofs.Sums.{one-more}
+
+-- ---- reading on from the head
+
+-- the end word starts nothing
+end-kind : (w : ℕ) → isEnded (afterDue due.Source w) ≡ true → startsKind (kind w) ≡ false
+unfolding afterDue afterItem startsKind
+end-kind w e = go (eqb (kind w) Kind.lower) (eqb (kind w) Kind.boolean) (eqb (kind w) Kind.auxiliaryLower) (eqb (kind w) Kind.product) (eqb (kind w) Kind.rowsEnd) refl e
+  where
+    go : (a b c d f : Bool) → eqb (kind w) Kind.rowsEnd ≡ f →
+        isEnded (due.SourceUpper w if a else due.Source if b else due.AuxiliaryUpper w if c else due.Result if d else due.Ended if f else due.Terms (payload w)) ≡ true →
+        startsKind (kind w) ≡ false
+    go true b c d f q e = false-true e
+    go false true c d f q e = false-true e
+    go false false true d f q e = false-true e
+    go false false false true f q e = false-true e
+    go false false false false true q e = ap startsKind (eqb-true (kind w) Kind.rowsEnd q)
+    go false false false false false q e = false-true e
+
+plain-from : (ws : List ℕ) (a b : ℕ) → startsKind (kind (wordAt ws a)) ≡ false → Plain ws (a + 1) b → Plain ws a b
+plain-from ws a b e p j l h = go (eqb a j) refl
+  where
+    go : (t : Bool) → eqb a j ≡ t → startsKind (kind (wordAt ws j)) ≡ false
+    go true q = rw (← eqb-true a j q) e
+    go false q = p j (omega (arith, eqb-false a j q)) h
+
+module _ (ws : List ℕ) (s : Bool) (n at w f : ℕ) (q : w ≡ wordAt ws at) (e : f ≡ faultHead s n w) where
+  head : f ≡ faultHead s n (wordAt ws at)
+  head = e ∙ ap (faultHead s n) q
+
+  pub head-there : f ≡ 0 → at < length ws
+  head-there z = head-here ws s n at f head z
+
+  pub head-stops : {to : Due} {m : ℕ} → at ≤ length ws → (f ≡ 0 → ⊥) → Passes ws s n at to m (record { number = f; at = at })
+  unfolding resumed
+  head-stops h z =
+      record {
+        reads = head-halted ws s n at f head z ∙ rw (ne-eqb f 0 z);
+        on = omega arith;
+        past = λ k. absurd (z k);
+        inside = h;
+        plain = λ j l k. absurd (omega arith);
+        last = λ i j l k. absurd (omega arith);
+      }
+
+  pub head-then : {to : Due} {m : ℕ} {r : Step} → f ≡ 0 → m ≡ n + started w → Went ws m (afterDue due.Source w) (at + 1) to r → Passes ws s n at to m r
+  head-then {to} {m} {r} z k g =
+      record {
+        reads = head-on ws s n at f head z ∙ rw (← q, ← k) (g .reads);
+        on = omega (arith, g .on);
+        past = λ i. omega (arith, g .on);
+        inside = g .inside;
+        plain = g .plain;
+        last = λ i. plain-from ws at (r .at) (rw (← q) (end-kind w (g .last i))) (g .plain);
+      }
+
+-- ---- what a kind says
+
+pub one-started : (w : ℕ) → starts w ≡ true → started w ≡ 1
+unfolding starts started
+one-started w e = rw e
+
+pub none-started : (w : ℕ) → starts w ≡ false → started w ≡ 0
+unfolding starts started
+none-started w e = rw e
+
+pub boolean-kind : (w : ℕ) → starts w ≡ true → (kind w ≡ Kind.lower → ⊥) → (kind w ≡ Kind.auxiliaryLower → ⊥) → kind w ≡ Kind.boolean
+unfolding starts startsPair
+boolean-kind w s f g = eqb-true (kind w) Kind.boolean (rw (ne-eqb (kind w) Kind.lower f, ne-eqb (kind w) Kind.auxiliaryLower g) at s)
+
+sum-kind : (w : ℕ) → startsSum w ≡ true → (kind w ≡ Kind.atMost) ⊎ (kind w ≡ Kind.equal)
+unfolding startsSum
+sum-kind w s = go (eqb (kind w) Kind.atMost) (eqb (kind w) Kind.equal) refl refl s
+  where
+    go : (a b : Bool) → eqb (kind w) Kind.atMost ≡ a → eqb (kind w) Kind.equal ≡ b → (a || b) ≡ true → (kind w ≡ Kind.atMost) ⊎ (kind w ≡ Kind.equal)
+    go true b e f t = inl (eqb-true _ _ e)
+    go false true e f t = inr (eqb-true _ _ f)
+    go false false e f t = false-true t
+
+module _ (w : ℕ) (t : startsSum w ≡ true) where
+  pub sum-due : afterDue due.Source w ≡ due.Terms (payload w)
+  unfolding afterDue afterItem
+  sum-due = ⊎-elim (λ k. rw k) (λ k. rw k) (sum-kind w t)
+
+  pub sum-starts : starts w ≡ false
+  unfolding starts startsPair
+  sum-starts = ⊎-elim (λ k. rw k) (λ k. rw k) (sum-kind w t)
+
+  pub sum-row : startsRow w ≡ true
+  unfolding startsRow
+  sum-row = ⊎-elim (λ k. rw k) (λ k. rw k) (sum-kind w t)
+
+  short : (long : Bool) → ltb Limit.terms (payload w) ≡ long → 0 ≡ (Fault.lengthOutside if long else Fault.none) → payload w ≤ Limit.terms
+  short true q e = absurd (omega arith)
+  short false q e = ltb-false Limit.terms (payload w) q
+
+  -- no more terms than the limit
+  pub sum-few : (s : Bool) (n : ℕ) → 0 ≡ faultHead s n w → payload w ≤ Limit.terms
+  unfolding faultHead faultSource faultItem
+  sum-few true n e = ⊎-elim (λ k. short (ltb Limit.terms (payload w)) refl (rw k at e)) (λ k. short (ltb Limit.terms (payload w)) refl (rw k at e)) (sum-kind w t)
+  sum-few false n e = ⊎-elim (λ k. short (ltb Limit.terms (payload w)) refl (rw k at e)) (λ k. short (ltb Limit.terms (payload w)) refl (rw k at e)) (sum-kind w t)
+
+  pub sum-true : (σ : Valuation) (ws : List ℕ) → payload w ≤ Limit.terms →
+      isTrue w (sum σ (termsIn ws (payload w)) ⊕ constantIn ws (payload w)) ≡ satisfied σ (rowOf w ws)
+  unfolding isTrue satisfied rowOf termCount
+  sum-true σ ws h =
+      ⊎-elim
+      (λ k. rw (eq-eqb (kind w) Kind.atMost k, le-leb (payload w) Limit.terms h))
+      (λ k. rw (ne-eqb (kind w) Kind.atMost (λ i. omega (arith, i, k)), eq-eqb (kind w) Kind.equal k, le-leb (payload w) Limit.terms h))
+      (sum-kind w t)
+
+pub product-row : (w : ℕ) → kind w ≡ Kind.product → startsRow w ≡ true
+unfolding startsRow
+product-row w k = rw k
+
+pub product-due : (w : ℕ) → kind w ≡ Kind.product → afterDue due.Source w ≡ due.Result
+unfolding afterDue afterItem
+product-due w k = rw k
+
+-- where no variable, row or product starts, the end does
+pub end-due : (s : Bool) (n w : ℕ) → starts w ≡ false → startsSum w ≡ false → (kind w ≡ Kind.product → ⊥) → 0 ≡ faultHead s n w → afterDue due.Source w ≡ due.Ended
+unfolding starts startsPair startsSum faultHead faultSource faultItem afterDue afterItem
+end-due s n w v u p e =
+    let a = or-false (eqb (kind w) Kind.lower || eqb (kind w) Kind.auxiliaryLower) (eqb (kind w) Kind.boolean) v in
+    let b = or-false (eqb (kind w) Kind.lower) (eqb (kind w) Kind.auxiliaryLower) (a .0) in
+    let c = or-false (eqb (kind w) Kind.atMost) (eqb (kind w) Kind.equal) u in
+    go (b .0) (a .1) (b .1) (c .0) (c .1) (ne-eqb _ _ p) (eqb (kind w) Kind.rowsEnd) refl s e
+  where
+    go : eqb (kind w) Kind.lower ≡ false → eqb (kind w) Kind.boolean ≡ false → eqb (kind w) Kind.auxiliaryLower ≡ false →
+        eqb (kind w) Kind.atMost ≡ false → eqb (kind w) Kind.equal ≡ false → eqb (kind w) Kind.product ≡ false →
+        (t : Bool) → eqb (kind w) Kind.rowsEnd ≡ t → (s : Bool) → 0 ≡ faultHead s n w → afterDue due.Source w ≡ due.Ended
+    go f g h i j k true t s e = rw (f, g, h, k, t)
+    go f g h i j k false t true e = absurd (omega (arith, (rw (f, g, h, i, j, k, t) at e)))
+    go f g h i j k false t false e = absurd (omega (arith, (rw (h, i, j, k, t) at e)))
+
+-- ---- words of a list and of its rest
+
+word-from : (ws : List ℕ) (s i k : ℕ) → s + i ≡ k → wordAt (drop s ws) i ≡ wordAt ws k
+unfolding wordAt
+word-from ws s i k e = getD-drop s ws i 0 ∙ ap (λ (j : ℕ). getD ws j 0) e
+
+pub product-true : (σ : Valuation) (ws : List ℕ) (w b : ℕ) → kind w ≡ Kind.product →
+    satisfied σ (product (variableAt ws b) (variableAt ws (b + 1)) (variableAt ws (b + 2))) ≡ satisfied σ (rowOf w (drop b ws))
+unfolding rowOf variableAt
+product-true σ ws w b k = rw (k, word-from ws b 0 b (omega arith), word-from ws b 1 (b + 1) (omega arith), word-from ws b 2 (b + 2) (omega arith))
+
+-- the constant after n terms
+pub constant-from : (ws : List ℕ) (a n b : ℕ) → b ≡ a + 2 * n → numberAt ws b ≡ constantIn (drop a ws) n
+unfolding constantIn numberAt
+constant-from ws a n b e = rw (word-from ws a (2 * n) b (omega arith))
+
+-- one term more
+pub term-added : (ws : List ℕ) (vs : List ℤ) (a d b : ℕ) (s : ℤ) → b ≡ a + 2 * d → s ≡ sum (value vs) (termsIn (drop a ws) d) →
+    s ⊕ numberAt ws (b + 1) ⊗ value vs (variableAt ws b) ≡ sum (value vs) (termsIn (drop a ws) (d + 1))
+unfolding numberAt variableAt
+term-added ws vs a d b s e q = rw q (sym (one-more (drop a ws) vs d ∙ rw (word-from ws a (2 * d + 1) (b + 1) (omega arith), word-from ws a (2 * d) b (omega arith))))
+
+-- a variable without a fault is declared
+pub declared : (n w : ℕ) → 0 ≡ faultVariable n w → payload w < n
+unfolding faultVariable
+declared n w e = go (eqb (kind w) Kind.variable) (leb n (payload w)) refl e
+  where
+    go : (a b : Bool) → leb n (payload w) ≡ b → 0 ≡ (Fault.wrongKind if not a else Fault.notDeclared if b else Fault.none) → payload w < n
+    go true true q e = absurd (omega arith)
+    go true false q e = omega (arith, leb-false n (payload w) q)
+    go false b q e = absurd (omega arith)
+
+-- ---- steps
+
+pub step-halts : {ws : List ℕ} {n p at f : ℕ} {a b c : Due} → Went ws n a p b (stepOver f at) → (f ≡ 0 → ⊥) → Went ws n a p c (record { number = f; at = at })
+unfolding stepOver
+step-halts {f = f} g z = or-halted (rw (ne-eqb f 0 z) at g) z
+
+pub step-goes : {ws : List ℕ} {n p f : ℕ} {a b : Due} (at : ℕ) → Went ws n a p b (stepOver f at) → f ≡ 0 → Went ws n a p b (record { number = 0; at = at + 1 })
+unfolding stepOver
+step-goes at g z = rw z at g
+
+pub as-step : {ws : List ℕ} {n p q : ℕ} {a b : Due} {r : Step} → Went ws n a p b r → r .number ≡ 0 → r .at ≡ q → Went ws n a p b (record { number = 0; at = q })
+as-step g z e = rw (← z, ← e) g

@@ -1,0 +1,89 @@
+-- The head, then the terms and the constant, all there or cut off.
+use mathlib.Core.Path.{_≡_, sym, _∙_}
+use native.Mathlib.Omega.{arith}
+use Prim.Native.Nat.{_+_, _≤_}
+use lib.ListN.{length, drop}
+use Rattle.integers.specs.Terms.{value}
+use Rattle.words.specs.Limit as Limit
+use Rattle.words.specs.Word.{payload}
+use Rattle.rowsystems.specs.Reading.{started}
+use Rattle.rowjudge.proofs.Passing.{head-there, head-stops, head-then, none-started, sum-due, sum-starts, sum-few, sum-true}
+use borrow.Author.Needs.{needs}
+use Rattle.rowjudge.proofs.items.see_row.Statement.{statement}
+use Rattle.rowjudge.proofs.items.see_row.Tie as tie
+
+-- there is a word
+there : (c : tie.Else1) → let a = c .before .before .before .args in a .at + 1 ≤ length (a .ws .now)
+there c =
+    let a = c .before .before .before .args in
+    omega (arith, head-there (a .ws .now) (a .sources) (a .n) (a .at) (a .head) (c .before .fault-head .result) (c .before .before .before .pre .1) (c .before .fault-head .ensures) (c .if1 .left))
+
+-- the head starts no variable
+none : (c : tie.Else1) → let a = c .before .before .before .args in a .n ≡ a .n + started (a .head)
+none c =
+    let a = c .before .before .before .args in
+    omega (arith, none-started (a .head) (sum-starts (a .head) (c .before .before .before .pre .3)))
+
+-- the terms are not too many
+few : (c : tie.Else1) → payload (c .before .before .before .args .head) ≤ Limit.terms
+few c =
+    let a = c .before .before .before .args in
+    sum-few (a .head) (c .before .before .before .pre .3) (a .sources) (a .n) (sym (c .if1 .left) ∙ c .before .fault-head .ensures)
+
+returns : tie.Need-returns
+returns c =
+    let a = c .before .before .before .before .args in
+    rw (c .faulty .ensures) (head-stops (a .ws .now) (a .sources) (a .n) (a .at) (a .head) (c .before .before .fault-head .result) (c .before .before .before .before .pre .1) (c .before .before .fault-head .ensures) (c .before .before .before .before .pre .0 .within) (c .before .if1 .taken), λ z. absurd (c .before .if1 .taken z))
+
+add-if2 : tie.Need-add-if2
+add-if2 c = let h = there (c .before) in let k = c .before .before .before .before .pre .0 .few in search needs
+
+mul-if2 : tie.Need-mul-if2
+mul-if2 c = record { fits = omega (arith, few (c .before), c .payload-of .ensures) }
+
+add-if2-2 : tie.Need-add-if2-2
+add-if2-2 c = record { fits = omega (arith, few (c .before), c .payload-of .ensures, there (c .before), c .before .before .before .before .pre .0 .few) }
+
+add-see-terms : tie.Need-add-see-terms
+add-see-terms c = let h = there (c .before .before) in let k = c .before .before .before .before .before .pre .0 .few in search needs
+
+see-terms-requires : tie.Need-see-terms-requires
+see-terms-requires c κs = (record { within = there (c .before .before); few = c .before .before .before .before .before .pre .0 .few }, c .before .before .before .before .before .pre .2, few (c .before .before), rw (← c .before .payload-of .ensures) (c .if2 .taken))
+
+returns-2 : tie.Need-returns-2
+returns-2 c =
+    let a = c .before .before .before .before .before .before .args in (
+      head-then (a .ws .now) (a .sources) (a .n) (a .at) (a .head) (c .before .before .before .before .fault-head .result) (c .before .before .before .before .before .before .pre .1) (c .before .before .before .before .fault-head .ensures) (c .before .before .before .if1 .left) (none (c .before .before .before)) (rw (sum-due (a .head) (c .before .before .before .before .before .before .pre .3)) (c .see-terms .ensures .0)),
+      λ z. c .see-terms .ensures .1 z ∙ sum-true (a .head) (c .before .before .before .before .before .before .pre .3) (value (a .values .now)) (drop (a .at + 1) (a .ws .now)) (few (c .before .before .before)),
+    )
+
+add-see-cut : tie.Need-add-see-cut
+add-see-cut c = let h = there (c .before .before) in let k = c .before .before .before .before .before .pre .0 .few in search needs
+
+see-cut-requires : tie.Need-see-cut-requires
+see-cut-requires c κs = (record { within = there (c .before .before); few = c .before .before .before .before .before .pre .0 .few }, c .if2 .left)
+
+returns-3 : tie.Need-returns-3
+returns-3 c =
+    let a = c .before .before .before .before .before .before .args in (
+      head-then (a .ws .now) (a .sources) (a .n) (a .at) (a .head) (c .before .before .before .before .fault-head .result) (c .before .before .before .before .before .before .pre .1) (c .before .before .before .before .fault-head .ensures) (c .before .before .before .if1 .left) (none (c .before .before .before)) (rw (sum-due (a .head) (c .before .before .before .before .before .before .pre .3), ← c .before .before .payload-of .ensures) (c .see-cut .ensures .0)),
+      λ z. absurd (c .see-cut .ensures .1 z),
+    )
+
+pub see-row-spec : {M : Type 1} → statement M
+see-row-spec =
+    tie.close
+    (tie.spec
+    (λ c κs. search needs)
+    (λ c κs. search needs)
+    returns
+    (λ c κs. search needs)
+    add-if2
+    mul-if2
+    add-if2-2
+    add-see-terms
+    see-terms-requires
+    returns-2
+    add-see-cut
+    see-cut-requires
+    returns-3)

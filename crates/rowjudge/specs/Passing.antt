@@ -1,0 +1,43 @@
+-- Reading and judging an item at once, from its head on.
+use mathlib.Core.Path.{_≡_}
+use mathlib.Core.Bool.{Bool}
+use mathlib.Core.List.{List}
+use Prim.Native.Nat.{ℕ, _+_, _<_, _≤_}
+use lib.Dec.{eqb}
+use lib.IntN.{ℤ}
+use lib.ListN.{length}
+use lib.Signed.{leZ}
+use Rattle.integers.specs.Choice.{_if_else_}
+use Rattle.integers.specs.Number.{_==_, +0}
+use Rattle.integers.specs.Terms.{value}
+use Rattle.words.specs.Fault as Fault
+use Rattle.words.specs.Kind as Kind
+use Rattle.words.specs.Small.{Near}
+use Rattle.words.specs.Word.{kind}
+use Rattle.rowsystems.specs.declared.Due.{Due}
+use Rattle.rowreading.specs.Item.{startDue}
+use Rattle.rowreading.specs.Onward.{onward, resumed, Plain}
+use Rattle.rowreading.specs.declared.items.Step.{Step}
+use Rattle.rowjudge.specs.declared.items.Seen.{Seen}
+
+-- where reading goes on
+abbrev pub stepOf : Seen → Step
+stepOf r = record { number = r .number; at = r .at }
+
+-- the values of the variables read so far are no farther from 0 than signed payloads are
+abbrev pub Known : List ℤ → ℕ → Type 0
+Known vs n = (x : ℕ) → x < n → Near (value vs x)
+
+-- whether a row with this head is true whose terms and constant add up to a number
+unfoldable pub isTrue : ℕ → ℤ → Bool
+isTrue w total = leZ total +0 if eqb (kind w) Kind.atMost else (total == +0)
+
+-- the step r leads from the head at a place, with n variables before it, to what is due after the item, with m variables before that,
+-- or to the first fault
+pub record Passes (ws : List ℕ) (sources : Bool) (n at : ℕ) (to : Due) (m : ℕ) (r : Step) : Type 0 where
+  pub reads : onward (startDue sources) n at ws ≡ resumed to m ws r
+  pub on : at ≤ r .at
+  pub past : r .number ≡ 0 → at < r .at
+  pub inside : r .at ≤ length ws
+  pub plain : Plain ws (at + 1) (r .at)
+  pub last : r .number ≡ Fault.wordAfterEnd → Plain ws at (r .at)

@@ -1,0 +1,243 @@
+// The items of a row system, each read and judged from its head on.
+ghost use mathlib.Core.Path.{_≡_};
+ghost use mathlib.Core.Bool.{true, false, not};
+ghost use Prim.Native.Nat.{_+_, _*_, _<_, _≤_};
+ghost use lib.Dec.{eqb};
+ghost use lib.ListN.{length, drop};
+ghost use Rattle.integers.specs.Bounds.{_to_, within};
+ghost use Rattle.integers.specs.Number.{_⊕_};
+ghost use Rattle.integers.specs.Terms.{value, sum};
+ghost use Rattle.words.specs.Kind as Kind;
+ghost use Rattle.words.specs.Limit as Limit;
+ghost use Rattle.words.specs.Word.{kind, payload, signed, wordAt};
+ghost use Rattle.variables.specs.Start.{starts, boundsOf};
+ghost use Rattle.rowsystems.specs.Reading.{faultUpper};
+ghost use Rattle.rowsystems.specs.Row.{product, satisfied};
+ghost use Rattle.rowsystems.specs.RowSystem.{variableAt, termsIn, constantIn};
+ghost use Rattle.rowreading.specs.Item.{startDue};
+ghost use Rattle.rowreading.specs.Onward.{Placed, Went, stepOver};
+ghost use Rattle.rowjudge.specs.OneWord.{startsSum, startsRow, rowOf};
+ghost use Rattle.rowjudge.specs.Passing.{stepOf, Known, isTrue, Passes};
+use integers::equal;
+use integers::plus;
+use integers::times;
+use rowreading::faults::fault_head;
+use rowreading::faults::fault_number;
+use rowreading::faults::fault_result;
+use rowreading::faults::fault_upper;
+use rowreading::faults::fault_variable;
+use rowreading::items::number_at;
+use rowreading::items::read_term;
+use rowsystems::Due;
+use variables::between;
+use words::fault;
+use words::kind;
+use words::kind_of;
+use words::payload_of;
+use words::signed_of;
+use words::value_at;
+use words::word_at;
+
+// Where reading goes on, with number 0, and whether the item is true; or a fault and its place.
+pub struct Seen {
+    pub number: u32,
+    pub at: usize,
+    pub holds: bool,
+}
+
+// A fault and its place.
+fn faulty(number: u32, at: usize) -> Seen
+    ensures { λ r. ⌜ r ≡ record { number = number; at = at; holds = false } ⌝ }
+{
+    Seen {
+        number,
+        at,
+        holds: false,
+    }
+}
+
+// The upper bound, of kind k, after the word of the lower one, and whether a value is between the two.
+fn see_upper(ws: &[u32], k: u32, lower: u32, at: usize, v: i64) -> Seen
+    requires { ⌜ at ≤ Limit.rowWords ⌝ }
+    ensures { λ r. ⌜ (stepOf r ≡ stepOver (faultUpper k lower (wordAt (now (ws .entry)) at)) at) × (r .number ≡ 0 → r .holds ≡ within (signed lower to signed (wordAt (now (ws .entry)) at)) v) ⌝ }
+{
+    let upper = word_at(ws, at);
+    let number = fault_upper(k, lower, upper);
+    if number != fault::NONE {
+        return faulty(number, at);
+    }
+    let holds = between(signed_of(lower), v, signed_of(upper));
+    Seen {
+        number: fault::NONE,
+        at: at + 1,
+        holds,
+    }
+}
+
+// A variable, and whether v is within its bounds.
+pub fn see_variable(ws: &[u32], sources: bool, head: u32, n: usize, at: usize, v: i64) -> Seen
+    requires { ⌜ Placed (now ws) at × (head ≡ wordAt (now ws) at) × (starts head ≡ true) ⌝ }
+    ensures { λ r. ⌜ Passes (now (ws .entry)) sources n at (startDue (not (eqb (kind head) Kind.auxiliaryLower))) (n + 1) (stepOf r) × (r .number ≡ 0 → r .holds ≡ within (boundsOf head (wordAt (now (ws .entry)) (at + 1))) v) ⌝ }
+{
+    let number = fault_head(sources, n, head);
+    if number != fault::NONE {
+        return faulty(number, at);
+    }
+    let k = kind_of(head);
+    if k == kind::AUXILIARY_LOWER {
+        return see_upper(ws, kind::AUXILIARY_UPPER, head, at + 1, v);
+    }
+    if k == kind::LOWER {
+        return see_upper(ws, kind::UPPER, head, at + 1, v);
+    }
+    let holds = between(0, v, 1);
+    Seen {
+        number: fault::NONE,
+        at: at + 1,
+        holds,
+    }
+}
+
+// Whether a row is true whose terms and constant add up to a number.
+fn is_true(head: u32, total: i64) -> bool
+    ensures { λ r. ⌜ r ≡ isTrue head total ⌝ }
+{
+    if kind_of(head) == kind::AT_MOST {
+        return total <= 0;
+    }
+    equal(total, 0)
+}
+
+// The terms and the constant of a row, all of which are there.
+fn see_terms(ws: &[u32], head: u32, n: usize, start: usize, values: &[i32]) -> Seen
+    requires { ⌜ Placed (now ws) start × Known (now values) n × (payload head ≤ Limit.terms) × (start + 2 * payload head < length (now ws)) ⌝ }
+    ensures { λ r. ⌜ Went (now (ws .entry)) n (Due.Terms (payload head)) start Due.Item (stepOf r) × (r .number ≡ 0 → r .holds ≡ isTrue head (sum (value (now (values .entry))) (termsIn (drop start (now (ws .entry))) (payload head)) ⊕ constantIn (drop start (now (ws .entry))) (payload head))) ⌝ }
+{
+    let terms = payload_of(head);
+    let mut at = start;
+    let mut left = terms;
+    let mut total: i64 = 0;
+    while 0 < left {
+        let x = ws[at];
+        let variable = fault_variable(n, x);
+        if variable != fault::NONE {
+            return faulty(variable, at);
+        }
+        let c = ws[at + 1];
+        let coefficient = fault_number(c);
+        if coefficient != fault::NONE {
+            return faulty(coefficient, at + 1);
+        }
+        total = plus(total, times(signed_of(c), value_at(values, payload_of(x))));
+        at += 2;
+        left -= 1;
+    }
+    let c = ws[at];
+    let constant = fault_number(c);
+    if constant != fault::NONE {
+        return faulty(constant, at);
+    }
+    let holds = is_true(head, plus(total, signed_of(c)));
+    Seen {
+        number: fault::NONE,
+        at: at + 1,
+        holds,
+    }
+}
+
+// The fault of a row in which the words end.
+fn see_cut(ws: &[u32], n: usize, start: usize, terms: usize) -> Seen
+    requires { ⌜ Placed (now ws) start × (length (now ws) ≤ start + 2 * terms) ⌝ }
+    ensures { λ r. ⌜ Went (now (ws .entry)) n (Due.Terms terms) start Due.Item (stepOf r) × (r .number ≡ 0 → ⊥) ⌝ }
+{
+    let mut at = start;
+    let mut left = terms;
+    while 0 < left {
+        let term = read_term(ws, n, at);
+        if term.number != fault::NONE {
+            return faulty(term.number, term.at);
+        }
+        at += 2;
+        left -= 1;
+    }
+    let constant = number_at(ws, at);
+    faulty(constant.number, constant.at)
+}
+
+// A row.
+fn see_row(ws: &[u32], sources: bool, head: u32, n: usize, at: usize, values: &[i32]) -> Seen
+    requires { ⌜ Placed (now ws) at × (head ≡ wordAt (now ws) at) × Known (now values) n × (startsSum head ≡ true) ⌝ }
+    ensures { λ r. ⌜ Passes (now (ws .entry)) sources n at Due.Item n (stepOf r) × (r .number ≡ 0 → r .holds ≡ satisfied (value (now (values .entry))) (rowOf head (drop (at + 1) (now (ws .entry))))) ⌝ }
+{
+    let number = fault_head(sources, n, head);
+    if number != fault::NONE {
+        return faulty(number, at);
+    }
+    let terms = payload_of(head);
+    if at + 1 + 2 * terms < ws.len() {
+        return see_terms(ws, head, n, at + 1, values);
+    }
+    see_cut(ws, n, at + 1, terms)
+}
+
+// The result and the two factors of a product.
+fn see_factors(ws: &[u32], n: usize, at: usize, values: &[i32]) -> Seen
+    requires { ⌜ Placed (now ws) at × Known (now values) n ⌝ }
+    ensures { λ r. ⌜ Went (now (ws .entry)) n Due.Result at Due.Item (stepOf r) × (r .number ≡ 0 → r .holds ≡ satisfied (value (now (values .entry))) (product (variableAt (now (ws .entry)) at) (variableAt (now (ws .entry)) (at + 1)) (variableAt (now (ws .entry)) (at + 2)))) ⌝ }
+{
+    let r = word_at(ws, at);
+    let f = word_at(ws, at + 1);
+    let g = word_at(ws, at + 2);
+    let result = fault_result(n, r, f, g);
+    if result != fault::NONE {
+        return faulty(result, at);
+    }
+    let first = fault_variable(n, f);
+    if first != fault::NONE {
+        return faulty(first, at + 1);
+    }
+    let second = fault_variable(n, g);
+    if second != fault::NONE {
+        return faulty(second, at + 2);
+    }
+    let of_factors = times(
+        value_at(values, payload_of(f)),
+        value_at(values, payload_of(g)),
+    );
+    let holds = equal(value_at(values, payload_of(r)), of_factors);
+    Seen {
+        number: fault::NONE,
+        at: at + 3,
+        holds,
+    }
+}
+
+// A product or the end.
+fn see_other(ws: &[u32], sources: bool, head: u32, n: usize, at: usize, values: &[i32]) -> Seen
+    requires { ⌜ Placed (now ws) at × (head ≡ wordAt (now ws) at) × Known (now values) n × (starts head ≡ false) × (startsSum head ≡ false) ⌝ }
+    ensures { λ r. ⌜ Passes (now (ws .entry)) sources n at Due.Item n (stepOf r) × (r .number ≡ 0 → (startsRow head ≡ true) × (r .holds ≡ satisfied (value (now (values .entry))) (rowOf head (drop (at + 1) (now (ws .entry)))))) ⌝ }
+{
+    let number = fault_head(sources, n, head);
+    if number != fault::NONE {
+        return faulty(number, at);
+    }
+    if kind_of(head) == kind::PRODUCT {
+        return see_factors(ws, n, at + 1, values);
+    }
+    faulty(fault::WORD_AFTER_END, at + 1)
+}
+
+// A row, a product or the end.
+pub fn see_item(ws: &[u32], sources: bool, head: u32, n: usize, at: usize, values: &[i32]) -> Seen
+    requires { ⌜ Placed (now ws) at × (head ≡ wordAt (now ws) at) × Known (now values) n × (starts head ≡ false) ⌝ }
+    ensures { λ r. ⌜ Passes (now (ws .entry)) sources n at Due.Item n (stepOf r) × (r .number ≡ 0 → (startsRow head ≡ true) × (r .holds ≡ satisfied (value (now (values .entry))) (rowOf head (drop (at + 1) (now (ws .entry)))))) ⌝ }
+{
+    let k = kind_of(head);
+    if k == kind::AT_MOST {
+        return see_row(ws, sources, head, n, at, values);
+    }
+    if k == kind::EQUAL {
+        return see_row(ws, sources, head, n, at, values);
+    }
+    see_other(ws, sources, head, n, at, values)
+}
