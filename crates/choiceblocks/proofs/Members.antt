@@ -1,24 +1,19 @@
 -- The members of a set, read back from the list that they were put into, and their rows.
 use mathlib.Core.Path.{_≡_, refl, sym, ap, _∙_, fun-ext}
-use mathlib.Core.Logic.{_⊎_, inl, inr}
-use mathlib.Core.Bool.{Bool, true, false, _&&_}
+use mathlib.Core.Bool.{Bool, true, false}
 use mathlib.Core.List.{List, [], _∷_, map}
-use Prim.Native.Nat.{ℕ, zero, suc, _+_, _≤_}
+use Prim.Native.Nat.{ℕ, zero, suc, _≤_}
 use native.Mathlib.Nat.{add-zero}
 use native.Mathlib.Omega.{arith}
 use lib.IntN.{ℤ, natAbs}
 use lib.ListN.{length, getD}
-use lib.Signed.{leZ, ltZ}
+use lib.Signed.{ltZ}
 use Rattle.integers.specs.Choice.{_if_else_}
 use Rattle.integers.specs.Number.{_⊕_, _⊖_, count, +0, +1}
 use Rattle.integers.specs.Lists.{listOf}
 use Rattle.integers.specs.Terms.{_·_}
 use Rattle.integers.specs.declared.Bounds.{Bounds}
-use Rattle.integers.proofs.Linear.{_⊏_, linear}
-use Rattle.integers.proofs.Tests.{false-true, says-lt}
-use Rattle.words.specs.Word.{inRange, wordAt}
-use Rattle.words.proofs.Word.{signed-range}
-use Rattle.models.specs.Model.{num, nums, size}
+use Rattle.models.specs.Model.{nums}
 use Rattle.rules.specs.Block.{aux, numbered}
 use Rattle.rules.specs.Parts.{weighted, leastFrom, rising, members}
 use Rattle.laying.specs.Part.{termParts}
@@ -42,39 +37,6 @@ rising-size ws i upper h (suc n) from k = let v = leastFrom (nums ws i) from (up
 pub members-size : (ws : List ℕ) (i : ℕ) (B : Bounds) → natAbs (B .upper) ≤ 134217728 → (k : ℕ) → natAbs (getD (members (nums ws i) B) k +0) ≤ 134217729
 unfolding members
 members-size ws i B h k = rising-size ws i (B .upper) h (length (nums ws i)) (B .lower) k
-
--- they are of the range, as the numbers of words are
-least-keeps : (P : ℤ → Type 0) (f : ℕ → ℤ) → ((j : ℕ) → P (f j)) → (n : ℕ) (from above : ℤ) → P above → P (leastFrom (listOf f n) from above)
-unfolding listOf leastFrom
-least-keeps P f h zero from above a = a
-least-keeps P f h (suc n) from above a = least-keeps P (λ j. f (suc j)) (λ j. h (suc j)) n from _ (by (leZ from (f 0) && ltZ (f 0) above))
-  where
-    by : (t : Bool) → P (f 0 if t else above)
-    by true = h 0
-    by false = a
-
-above-it : (upper : ℤ) → upper ⊏ upper ⊕ +1
-above-it = simp linear (omega arith)
-
-least-ranged : (ws : List ℕ) (i : ℕ) (from upper : ℤ) → let v = leastFrom (nums ws i) from (upper ⊕ +1) in ltZ upper v ≡ false → inRange v ≡ true
-unfolding nums num
-least-ranged ws i from upper t =
-    elim (least-keeps (λ v. (inRange v ≡ true) ⊎ (v ≡ upper ⊕ +1)) (λ j. num ws (i + 1 + j)) (λ j. inl (signed-range (wordAt ws (i + 1 + j)))) (size ws i) from (upper ⊕ +1) (inr refl))
-    [ inl r ↦ r | inr e ↦ false-true (sym t ∙ rw e (says-lt upper (upper ⊕ +1) .1 (above-it upper))) ]
-
-rising-ranged : (ws : List ℕ) (i : ℕ) (upper : ℤ) (n : ℕ) (from : ℤ) (k : ℕ) → inRange (getD (rising (nums ws i) upper n from) k +0) ≡ true
-unfolding rising inRange
-rising-ranged ws i upper zero from k = refl
-rising-ranged ws i upper (suc n) from k = let v = leastFrom (nums ws i) from (upper ⊕ +1) in go (ltZ upper v) v (rising (nums ws i) upper n (v ⊕ +1)) (least-ranged ws i from upper) (rising-ranged ws i upper n (v ⊕ +1)) k
-  where
-    go : (b : Bool) (v : ℤ) (rest : List ℤ) → (b ≡ false → inRange v ≡ true) → ((k : ℕ) → inRange (getD rest k +0) ≡ true) → (k : ℕ) → inRange (getD ([] if b else v ∷ rest) k +0) ≡ true
-    go true v rest l r k = refl
-    go false v rest l r zero = l refl
-    go false v rest l r (suc k) = r k
-
-pub members-ranged : (ws : List ℕ) (i : ℕ) (B : Bounds) (k : ℕ) → inRange (getD (members (nums ws i) B) k +0) ≡ true
-unfolding members
-members-ranged ws i B k = rising-ranged ws i (B .upper) (length (nums ws i)) (B .lower) k
 
 by-places : {A : Type 0} (d : A) (xs : List A) → listOf (λ k. getD xs k d) (length xs) ≡ xs
 unfolding listOf

@@ -1,16 +1,13 @@
--- The numbers of a list at the front of another one, which has zeros after them: at most 32, all of the range.
+-- The numbers of a list at the front of another one, which has zeros after them: at most 32, and none far from 0.
 use mathlib.Core.Path.{_≡_}
-use mathlib.Core.Bool.{true}
 use mathlib.Core.List.{List}
 use Prim.Native.Nat.{ℕ, _<_, _≤_}
 use lib.IntN.{ℤ, natAbs}
 use lib.ListN.{length, getD}
 use Rattle.integers.specs.Number.{+0}
-use Rattle.words.specs.Word.{inRange}
 
 pub record Listed (vs : List ℤ) (n : ℕ) (out : List ℤ) : Type 0 where
   pub many : n ≡ length vs
   pub few : n ≤ 32
   pub same : (k : ℕ) → getD out k +0 ≡ getD vs k +0
   pub near : (k : ℕ) → natAbs (getD out k +0) < 1000000000
-  pub ranged : (k : ℕ) → inRange (getD out k +0) ≡ true

@@ -6,7 +6,7 @@ ghost use Prim.Native.Nat.{ℕ, _+_, _<_, _≤_};
 ghost use lib.IntN.{natAbs};
 ghost use lib.ListN.{getD};
 ghost use Rattle.integers.specs.Number.{+0, -1};
-ghost use Rattle.integers.specs.Lists.{all};
+ghost use Rattle.integers.specs.Lists.{all, listOf};
 ghost use Rattle.words.specs.Word.{inRange};
 ghost use Rattle.laying.specs.Part.{term, constant, numbersIn};
 ghost use Rattle.laying.specs.Lists.{many, oneAt, labelAt};
@@ -30,6 +30,7 @@ use laying::lay_labels;
 use laying::lay_ones;
 use laying::lay_products;
 use laying::lay_term;
+use laying::numbers_in_range;
 use words::in_range;
 use words::kind;
 
@@ -86,7 +87,7 @@ fn lay_numbers(out: &mut [u32], s: Laid, args: &[u32], base: usize, v: usize, n:
     ensures { λ r. ⌜ Went s r (now (out .entry)) (now (out .exit)) (many (numberAt (now (args .entry)) base v) n) × Near 1000 s r ⌝ }
 {
     if out.len() <= s.words {
-        return counted(s, 2 * n, 0, 0, true);
+        return counted(s, 2 * n, 0, 0, numbers_in_range(args, base, n));
     }
     let mut t = s;
     let mut k = 0;
@@ -97,13 +98,26 @@ fn lay_numbers(out: &mut [u32], s: Laid, args: &[u32], base: usize, v: usize, n:
     t
 }
 
-// The first n numbers of a list of the range × n consecutive variables.
+// Whether the first n numbers of a list are in the range.
+fn values_in_range(vs: &[i64], n: usize) -> bool
+    ensures { λ r. ⌜ r ≡ all inRange (listOf (λ k. getD (now (vs .entry)) k +0) n) ⌝ }
+{
+    let mut fit = true;
+    let mut k = 0;
+    while k < n {
+        fit = both(fit, in_range(bound_at(vs, k)));
+        k += 1;
+    }
+    fit
+}
+
+// The first n numbers of a list × n consecutive variables.
 fn lay_values(out: &mut [u32], s: Laid, vs: &[i64], v: usize, n: usize) -> Laid
-    requires { ⌜ (total s < 900000000000) × (n ≤ 66) × (v < 1000000000000) × ((k : ℕ) → inRange (getD (now vs) k +0) ≡ true) ⌝ }
+    requires { ⌜ (total s < 900000000000) × (n ≤ 66) × (v < 1000000000000) ⌝ }
     ensures { λ r. ⌜ Went s r (now (out .entry)) (now (out .exit)) (many (valueAt (now (vs .entry)) v) n) × Near 1000 s r ⌝ }
 {
     if out.len() <= s.words {
-        return counted(s, 2 * n, 0, 0, true);
+        return counted(s, 2 * n, 0, 0, values_in_range(vs, n));
     }
     let mut t = s;
     let mut k = 0;
@@ -188,9 +202,9 @@ pub fn lay_number_row(
     lay_last(out, u, c)
 }
 
-// Σv×b − x = 0 over the first n numbers of a list of the range.
+// Σv×b − x = 0 over the first n numbers of a list.
 pub fn lay_value_row(out: &mut [u32], s: Laid, vs: &[i64], v: usize, n: usize, x: usize) -> Laid
-    requires { ⌜ (total s < 800000000000) × (n ≤ 66) × (v < 1000000000) × ((k : ℕ) → inRange (getD (now vs) k +0) ≡ true) ⌝ }
+    requires { ⌜ (total s < 800000000000) × (n ≤ 66) × (v < 1000000000) ⌝ }
     ensures { λ r. ⌜ Went s r (now (out .entry)) (now (out .exit)) (sumRow (valueAt (now (vs .entry)) v) n x) × Near 2000 s r ⌝ }
 {
     let t = lay_head(out, s, kind::EQUAL, n + 1);

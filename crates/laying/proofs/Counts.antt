@@ -9,13 +9,12 @@ use lib.IntN.{ℤ, pos}
 use lib.ListN.{length, length-append, getD, drop, drop-of-length-le}
 use lib.Seq.{set-out, drop-cons}
 use Rattle.integers.specs.Number.{_⊕_, +0, +1, -1}
-use Rattle.integers.specs.Lists.{all}
+use Rattle.integers.specs.Lists.{all, listOf}
 use Rattle.integers.proofs.Linear.{_⊑_, linear}
 use Rattle.words.specs.Limit as Limit
-use Rattle.words.specs.Word.{inRange, wordAt}
+use Rattle.words.specs.Word.{inRange}
 use Rattle.words.specs.Overlay.{overlay}
-use Rattle.words.proofs.Word.{signed-range, says-range}
-use Rattle.models.specs.Model.{num}
+use Rattle.words.proofs.Word.{says-range}
 use Rattle.laying.specs.Part.{Part, bound, head, term, constant, times, partWords, partNumbers, partAuxiliaries, partRows, wordsIn, numbersIn, auxiliariesIn, rowsIn}
 use Rattle.laying.specs.Lists.{many, termAt, rowOf, bitAt, oneAt, labelAt}
 use Rattle.laying.specs.Went.{Went, Counted, Near}
@@ -51,7 +50,7 @@ sized-head : (kind n : ℕ) → Sized (head kind n ∷ []) 1 0 0 true
 unfolding wordsIn numbersIn auxiliariesIn rowsIn flatMap all partWords partNumbers partAuxiliaries partRows
 sized-head kind n = record { words = refl; auxiliaries = refl; rows = refl; fits = refl }
 
-sized-any : (c : ℤ) (v : ℕ) → Sized (term c v ∷ []) 2 0 0 (inRange c)
+pub sized-any : (c : ℤ) (v : ℕ) → Sized (term c v ∷ []) 2 0 0 (inRange c)
 unfolding wordsIn numbersIn auxiliariesIn rowsIn flatMap all partWords partNumbers partAuxiliaries partRows
 sized-any c v = record { words = refl; auxiliaries = refl; rows = refl; fits = sym (and-true (inRange c)) }
 
@@ -79,10 +78,6 @@ sized-bit k = sized-bound +0 +1
 pub sized-one : (v k : ℕ) → Sized (oneAt v k) 2 0 0 true
 unfolding inRange
 sized-one v k = sized-term +1 (v + k) refl
-
-pub sized-number : (args : List ℕ) (i v : ℕ) → Sized (term (num args i) v ∷ []) 2 0 0 true
-unfolding num
-sized-number args i v = sized-term (num args i) v (signed-range (wordAt args i))
 
 -- a number between two of the range
 between : (from : ℤ) (k n : ℕ) → k < n → (Limit.lowest ⊑ from) × (from ⊑ Limit.highest) → (Limit.lowest ⊑ from ⊕ pos n) × (from ⊕ pos n ⊑ Limit.highest) →
@@ -140,6 +135,16 @@ sized-many f w a r (suc n) h =
     let e : (x : ℕ) → x + x * n ≡ x * suc n = λ x. omega arith in
     rw (← e w, ← e a, ← e r) (sized-then (h 0 (omega arith)) (sized-many (λ k. f (suc k)) w a r n (λ k l. h (suc k) (omega arith))))
 
+-- each with one number that is tested
+sized-listed : (f : ℕ → List Part) (g : ℕ → ℤ) (w a r n : ℕ) → ((k : ℕ) → Sized (f k) w a r (inRange (g k))) → Sized (many f n) (w * n) (a * n) (r * n) (all inRange (listOf g n))
+unfolding many all listOf
+sized-listed f g w a r zero h =
+    let e : (x : ℕ) → 0 ≡ x * 0 = λ x. omega arith in
+    rw (← e w, ← e a, ← e r) sized-none
+sized-listed f g w a r (suc n) h =
+    let e : (x : ℕ) → x + x * n ≡ x * suc n = λ x. omega arith in
+    rw (← e w, ← e a, ← e r) (sized-then (h 0) (sized-listed (λ k. f (suc k)) (λ k. g (suc k)) w a r n (λ k. h (suc k))))
+
 pub sized-each : (f : ℕ → List Part) (w a r n : ℕ) → ((k : ℕ) → Sized (f k) w a r (fitting (f k))) → Sized (many f n) (w * n) (a * n) (r * n) (fitting (many f n))
 unfolding many numbersIn flatMap all
 sized-each f w a r zero h =
@@ -178,6 +183,10 @@ many-counted {f = f} {n = n} w a r b h = given f n w a r b (sized-many f w a r n
 pub many-tested : {s t : Laid} {o : List ℕ} (f : ℕ → List Part) (n : ℕ) {W A R : ℕ} (w a r b : ℕ) → ((k : ℕ) → Sized (f k) w a r (fitting (f k))) →
     (W ≡ w * n) × (A ≡ a * n) × (R ≡ r * n) × (W + A + R ≤ b) → length o ≤ s .words → Counted s t W A R (fitting (many f n)) → Went s t o o (many f n) × Near b s t
 many-tested f n w a r b h = given f n w a r b (sized-each f w a r n h)
+
+pub many-listed : {s t : Laid} {o : List ℕ} {f : ℕ → List Part} {W A R : ℕ} (g : ℕ → ℤ) (n : ℕ) {fit : Bool} (w a r b : ℕ) → ((k : ℕ) → Sized (f k) w a r (inRange (g k))) →
+    (W ≡ w * n) × (A ≡ a * n) × (R ≡ r * n) × (W + A + R ≤ b) → length o ≤ s .words → fit ≡ all inRange (listOf g n) → Counted s t W A R fit → Went s t o o (many f n) × Near b s t
+many-listed {f = f} g n w a r b h e room tested c = given f n w a r b (sized-listed f g w a r n h) e room (rw tested at c)
 
 -- one list more is tested
 pub fitting-more : (f : ℕ → List Part) (k : ℕ) → fitting (many f (k + 1)) ≡ (fitting (many f k) && fitting (f k))

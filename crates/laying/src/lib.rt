@@ -4,9 +4,9 @@ ghost use mathlib.Core.List.{[], _∷_};
 ghost use Prim.Native.Nat.{_+_, _<_, _≤_};
 ghost use lib.IntN.{natAbs};
 ghost use lib.ListN.{length};
-ghost use Rattle.integers.specs.Lists.{all};
+ghost use Rattle.integers.specs.Lists.{all, listOf};
 ghost use Rattle.words.specs.Word.{inRange};
-ghost use Rattle.models.specs.Model.{size, past};
+ghost use Rattle.models.specs.Model.{num, size, past};
 ghost use Rattle.laying.specs.Part.{bound, head, term, constant, times};
 ghost use Rattle.laying.specs.Lists.{many, rowOf, termAt, sumAt, eachAt, oneAt, labelAt, bitAt, productAt, belowAt, aboveAt};
 ghost use Rattle.laying.specs.Went.{Went, Over, Counted, Near, total, nothing};
@@ -172,6 +172,20 @@ pub fn lay_row(out: &mut [u32], s: Laid, kind: u32, xs: &[usize], cs: &[i64], c:
     lay_constant(out, t, c)
 }
 
+// Whether n numbers from a place on are in the range.
+pub fn numbers_in_range(args: &[u32], base: usize, n: usize) -> bool
+    requires { ⌜ (n ≤ 66) × (base < 1000000000001) ⌝ }
+    ensures { λ r. ⌜ r ≡ all inRange (listOf (λ k. num (now (args .entry)) (base + k)) n) ⌝ }
+{
+    let mut fit = true;
+    let mut k = 0;
+    while k < n {
+        fit = both(fit, in_range(num_at(args, base + k)));
+        k += 1;
+    }
+    fit
+}
+
 // The terms of the parallel lists whose length word is at place i.
 pub fn lay_terms(out: &mut [u32], s: Laid, args: &[u32], i: usize) -> Laid
     requires { ⌜ (total s < 900000000000) × (i < 1000000000000) ⌝ }
@@ -180,7 +194,7 @@ pub fn lay_terms(out: &mut [u32], s: Laid, args: &[u32], i: usize) -> Laid
     let n = size_at(args, i);
     let variables = past_at(args, i);
     if out.len() <= s.words {
-        return counted(s, 2 * n, 0, 0, true);
+        return counted(s, 2 * n, 0, 0, numbers_in_range(args, i + 1, n));
     }
     let mut t = s;
     let mut k = 0;

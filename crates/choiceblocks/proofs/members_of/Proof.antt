@@ -7,7 +7,7 @@ use Rattle.rules.specs.Parts.{members}
 use Rattle.extremes.proofs.Kept.{over-zeros}
 use Rattle.extremes.proofs.Rising.{members-length}
 use Rattle.extremes.specs.Bounded.{boundsOf}
-use Rattle.choiceblocks.proofs.Members.{members-size, members-ranged}
+use Rattle.choiceblocks.proofs.Members.{members-size}
 use Rattle.choiceblocks.proofs.members_of.Statement.{statement}
 use Rattle.choiceblocks.proofs.members_of.Tie as tie
 
@@ -35,7 +35,6 @@ returns c =
       few = omega (arith, e .0, l);
       same = λ k. rw (e .1) (same k);
       near = λ k. rw (e .1, same k) (omega (arith, members-size ws 1 B (start .pre .0 (var ws 0)) k));
-      ranged = λ k. rw (e .1, same k) (members-ranged ws 1 B k);
     }
 
 pub members-of-spec : {M : Type 1} → statement M

@@ -3,11 +3,11 @@ use Prim.Native.Nat.{_+_, _-_, _≤_}
 use native.Mathlib.Omega.{arith}
 use borrow.Author.Needs.{needs}
 use Rattle.integers.proofs.Fits.{back}
-use Rattle.models.specs.Model.{past}
+use Rattle.models.specs.Model.{num, past}
 use Rattle.arguments.proofs.Size.{size-le}
 use Rattle.laying.specs.Lists.{sumAt}
 use Rattle.laying.proofs.Parts.{Laying, begun, more, done, went-length}
-use Rattle.laying.proofs.Counts.{sized-number, many-counted}
+use Rattle.laying.proofs.Counts.{sized-any, many-listed}
 use Rattle.laying.proofs.lay_terms.Statement.{statement}
 use Rattle.laying.proofs.lay_terms.Tie as tie
 
@@ -23,19 +23,25 @@ mul-counted c =
     let size-at = c .before .before .before .size-at in
     omega (arith, size-le (s .args .args .now) (s .args .i), size-at .ensures)
 
-counted-requires : tie.Need-counted-requires Inv-loop μ-loop
-counted-requires c κs =
+numbers-in-range-requires : tie.Need-numbers-in-range-requires Inv-loop μ-loop
+numbers-in-range-requires c κs =
     let s = c .before .before .before .before .before .before in
     let size-at = c .before .before .before .size-at in
+    let h = size-le (s .args .args .now) (s .args .i) in (omega (arith, h, size-at .ensures), omega arith)
+
+counted-requires : tie.Need-counted-requires Inv-loop μ-loop
+counted-requires c κs =
+    let s = c .before .before .before .before .before .before .before in
+    let size-at = c .before .before .before .before .size-at in
     omega (arith, size-le (s .args .args .now) (s .args .i), size-at .ensures)
 
 returns : tie.Need-returns Inv-loop μ-loop
 returns c =
-    let s = c .before .before .before .before .before .before .before in
-    let size-at = c .before .before .before .before .size-at in
-    let past-at = c .before .before .before .past-at in
+    let s = c .before .before .before .before .before .before .before .before in
+    let size-at = c .before .before .before .before .before .size-at in
+    let past-at = c .before .before .before .before .past-at in
     let h = size-le (s .args .args .now) (s .args .i) in
-    rw (← size-at .ensures, ← past-at .ensures) (many-counted 2 0 0 1000 (λ k h. sized-number _ _ _) (omega arith, omega arith, omega arith, omega arith) (c .before .if1 .taken) (c .counted .ensures))
+    rw (← size-at .ensures, ← past-at .ensures) (many-listed (λ k. num (s .args .args .now) (s .args .i + 1 + k)) _ 2 0 0 1000 (λ k. sized-any _ _) (omega arith, omega arith, omega arith, omega arith) (c .before .before .if1 .taken) (c .before .numbers-in-range .ensures) (c .counted .ensures))
 
 loop-holds : tie.Need-loop-holds Inv-loop μ-loop
 unfolding past
@@ -69,6 +75,8 @@ lay-terms-spec =
     (λ c κs. search needs)
     (λ c κs. search needs)
     mul-counted
+    (λ c. search needs)
+    numbers-in-range-requires
     counted-requires
     returns
     loop-holds

@@ -1,10 +1,11 @@
 -- The loop lays one list of parts in each turn: a term whose coefficient is the number at a place.
-use Prim.Native.Nat.{_-_}
+use Prim.Native.Nat.{_+_, _-_}
 use native.Mathlib.Omega.{arith}
 use borrow.Author.Needs.{needs}
+use Rattle.models.specs.Model.{num}
 use Rattle.arguments.proofs.Size.{read}
 use Rattle.laying.proofs.Parts.{Laying, begun, more, done, went-length}
-use Rattle.laying.proofs.Counts.{sized-number, many-counted}
+use Rattle.laying.proofs.Counts.{sized-any, many-listed}
 use Rattle.choiceblocks.specs.Rows.{numberAt}
 use Rattle.choiceblocks.proofs.rows.lay_numbers.Statement.{statement}
 use Rattle.choiceblocks.proofs.rows.lay_numbers.Tie as tie
@@ -16,7 +17,9 @@ abbrev μ-loop : tie.MeasureT-loop
 μ-loop out₀ args base v n t₀ k₀ out t k = n - k
 
 returns : tie.Need-returns Inv-loop μ-loop
-returns c = many-counted 2 0 0 1000 (λ k h. sized-number _ _ _) (omega arith, omega arith, omega arith, omega arith) (c .before .if1 .taken) (c .counted .ensures)
+returns c =
+    let s = c .before .before .before .before .before .before in
+    many-listed (λ k. num (s .args .args .now) (s .args .base + k)) _ 2 0 0 1000 (λ k. sized-any _ _) (omega arith, omega arith, omega arith, omega arith) (c .before .before .if1 .taken) (c .before .numbers-in-range .ensures) (c .counted .ensures)
 
 loop-holds : tie.Need-loop-holds Inv-loop μ-loop
 loop-holds c = begun 10 _ _ _ _
@@ -41,6 +44,7 @@ lay-numbers-spec =
     Inv-loop
     μ-loop
     (λ c. search needs)
+    (λ c κs. search needs)
     (λ c κs. search needs)
     returns
     loop-holds

@@ -2,9 +2,11 @@
 use Prim.Native.Nat.{_-_}
 use native.Mathlib.Omega.{arith}
 use borrow.Author.Needs.{needs}
+use lib.ListN.{getD}
+use Rattle.integers.specs.Number.{+0}
 use Rattle.arguments.proofs.Size.{read}
 use Rattle.laying.proofs.Parts.{Laying, begun, more, done, went-length}
-use Rattle.laying.proofs.Counts.{sized-term, many-counted}
+use Rattle.laying.proofs.Counts.{sized-any, many-listed}
 use Rattle.choiceblocks.specs.Rows.{valueAt}
 use Rattle.choiceblocks.proofs.rows.lay_values.Statement.{statement}
 use Rattle.choiceblocks.proofs.rows.lay_values.Tie as tie
@@ -17,8 +19,8 @@ abbrev μ-loop : tie.MeasureT-loop
 
 returns : tie.Need-returns Inv-loop μ-loop
 returns c =
-    let s = c .before .before .before .before in
-    many-counted 2 0 0 1000 (λ k h. sized-term _ _ (s .pre .3 k)) (omega arith, omega arith, omega arith, omega arith) (c .before .if1 .taken) (c .counted .ensures)
+    let s = c .before .before .before .before .before in
+    many-listed (λ k. getD (s .args .vs .now) k +0) _ 2 0 0 1000 (λ k. sized-any _ _) (omega arith, omega arith, omega arith, omega arith) (c .before .before .if1 .taken) (c .before .values-in-range .ensures) (c .counted .ensures)
 
 loop-holds : tie.Need-loop-holds Inv-loop μ-loop
 loop-holds c = begun 10 _ _ _ _
@@ -43,6 +45,7 @@ lay-values-spec =
     Inv-loop
     μ-loop
     (λ c. search needs)
+    (λ c κs. search needs)
     (λ c κs. search needs)
     returns
     loop-holds
