@@ -157,7 +157,7 @@ sized-each f w a r (suc n) h =
 
 -- ---- no room
 
-overlay-past : (out : List ℕ) (at : ℕ) (xs : List ℕ) → length out ≤ at → overlay out at xs ≡ out
+pub overlay-past : (out : List ℕ) (at : ℕ) (xs : List ℕ) → length out ≤ at → overlay out at xs ≡ out
 unfolding overlay
 overlay-past out at [] h = refl
 overlay-past out at (x ∷ xs) h = ap (λ l. overlay l (suc at) xs) (set-out out at x h) ∙ overlay-past out (suc at) xs (omega arith)

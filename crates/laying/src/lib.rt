@@ -68,7 +68,9 @@ fn lay_part(
     requires { ⌜ (total s < 1000000000000) × (length (now row) < 1000) × (auxiliaries < 1000) × (rows < 1000) ⌝ }
     ensures { λ r. ⌜ Over s r (now (out .entry)) (now (out .exit)) (now (row .entry)) auxiliaries rows fit ⌝ }
 {
-    lay(out, s.words, row);
+    if s.words < out.len() {
+        lay(out, s.words, row);
+    }
     counted(s, row.len(), auxiliaries, rows, fit)
 }
 
