@@ -16,7 +16,7 @@ use Rattle.words.specs.Answer.{Answer, holds, outOfBounds, isFalse, isHolds, re
 use Rattle.words.specs.Fault as Fault
 use Rattle.words.specs.Judge.{firstFalse, firstOutOfBounds, judge}
 use Rattle.words.specs.Kind as Kind
-use Rattle.words.specs.Refusal.{_at-place_, accepted, _else-refuse_, countFault}
+use Rattle.words.specs.Refusal.{_at-place_, accepted, faultOr, _else-refuse_, countFault}
 use Rattle.words.specs.Small.{Near}
 use Rattle.words.specs.Variables.{startsPair, variables}
 use Rattle.words.specs.Word.{kind, signed, wordAt}
@@ -201,6 +201,19 @@ module _ {ws : List ℕ} {vs : List ℤ} {n k : ℕ} {all : Bool} {wrong at : �
   pub all-judged : (holds if all else isFalse wrong) ≡ judgeAccepted ws vs
   unfolding judgeAccepted judge firstFalse
   all-judged = (rw (none-left ws at h) at (j .told)) ∙ next (value vs) (firstFalse (satisfied (value vs)) 0 (rows ws)) 0 (variables ws) (sym (keep-all (j .kept) (at-last ws at h)))
+
+-- the refusal, else 15, else what is judged of accepted words
+pub whole : (read : Refusal) (ws : List ℕ) (vs : List ℤ) (n : ℕ) (all : Bool) (wrong : ℕ) →
+    (read .number ≡ 0 → (n ≡ length (variables ws)) × ((holds if all else isFalse wrong) ≡ judgeAccepted ws vs)) →
+    ((read else-refuse (accepted if eqb (length vs) n else Fault.wrongValueCount at-place 0)) else-answer (holds if all else isFalse wrong))
+    ≡ ((read else-refuse countFault ws vs) else-answer judgeAccepted ws vs)
+unfolding _else-refuse_ _else-answer_ countFault
+whole read ws vs n all wrong f = go (read .number) (read .place) f
+  where
+    go : (k p : ℕ) → (k ≡ 0 → (n ≡ length (variables ws)) × ((holds if all else isFalse wrong) ≡ judgeAccepted ws vs)) →
+        (faultOr k p (accepted if eqb (length vs) n else Fault.wrongValueCount at-place 0) else-answer (holds if all else isFalse wrong)) ≡ (faultOr k p (countFault ws vs) else-answer judgeAccepted ws vs)
+    go zero p f = rw (f refl .0, f refl .1)
+    go (suc k) p f = refl
 
 -- ---- where the rows are not judged: words that are refused, a value out of its bounds
 

@@ -1,6 +1,9 @@
 // Judge-rows in one pass: each item is read, and its bounds, its row or its product judged, before the next.
 ghost use mathlib.Core.Path.{_≡_};
-ghost use Rattle.words.specs.Answer.{holds};
+ghost use Rattle.integers.specs.Choice.{_if_else_};
+ghost use Rattle.words.specs.Answer.{holds, isFalse, _else-answer_};
+ghost use Rattle.words.specs.Fault as Fault;
+ghost use Rattle.words.specs.Refusal.{_at-place_, accepted, _else-refuse_};
 ghost use Rattle.words.specs.Verdict.{verdict};
 ghost use Rattle.variables.specs.Judged.{judgedThen};
 ghost use Rattle.rowsystems.specs.JudgeRows.{judgeRows};
@@ -25,6 +28,25 @@ fn judge_bounds(ws: &[u32], values: &[i32]) -> Verdict
     ensures { λ r. ⌜ verdict r ≡ judgedThen (readRows (now (ws .entry))) (now (ws .entry)) (now (values .entry)) holds ⌝ }
 {
     variables::judge_values(rowreading::read_rows(ws), ws, values)
+}
+
+// The answer where the pass ends: the refusal of the words, else of the number of values, else the first wrong row or product.
+fn answer(read: Refusal, as_many: bool, all: bool, wrong: usize) -> Verdict
+    ensures { λ r. ⌜ verdict r ≡ ((read else-refuse (accepted if as_many else Fault.wrongValueCount at-place 0)) else-answer (holds if all else isFalse wrong)) ⌝ }
+{
+    if read.number != fault::NONE {
+        return Verdict::Refused(read);
+    }
+    if !as_many {
+        return Verdict::Refused(Refusal {
+            number: fault::WRONG_VALUE_COUNT,
+            place: 0,
+        });
+    }
+    if all {
+        return Verdict::Holds;
+    }
+    Verdict::False(wrong)
 }
 
 // "Holds", else the first variable out of bounds, else the first false row or product; a refusal comes first.
@@ -73,18 +95,5 @@ pub fn judge_rows(ws: &[u32], values: &[i32]) -> Verdict
             sources = false;
         }
     }
-    let read = refusal_at(ws, number, at);
-    if read.number != fault::NONE {
-        return Verdict::Refused(read);
-    }
-    if values.len() != n {
-        return Verdict::Refused(Refusal {
-            number: fault::WRONG_VALUE_COUNT,
-            place: 0,
-        });
-    }
-    if all {
-        return Verdict::Holds;
-    }
-    Verdict::False(wrong)
+    answer(refusal_at(ws, number, at), values.len() == n, all, wrong)
 }

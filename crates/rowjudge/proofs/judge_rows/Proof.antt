@@ -12,11 +12,8 @@ use mir.Facts.{toZ-ofZ}
 use Rattle.integers.specs.Bounds.{within}
 use Rattle.integers.specs.Terms.{value}
 use Rattle.words.specs.Judge.{judge}
-use Rattle.words.specs.Refusal.{countFault}
-use Rattle.words.specs.Verdict.{verdict}
 use Rattle.words.specs.Word.{wordAt}
 use Rattle.words.specs.declared.Refusal.{Refusal}
-use Rattle.words.proofs.Answers.{first-answers, second-answers, right-count, wrong-count}
 use Rattle.variables.specs.Start.{starts, boundsOf}
 use Rattle.variables.proofs.Walk.{break-one}
 use Rattle.rowsystems.specs.JudgeRows.{judgeRows, judgeAccepted}
@@ -27,7 +24,7 @@ use Rattle.rowsystems.specs.declared.Due.the-variants.{Source}
 use Rattle.rowreading.specs.Item.{startDue}
 use Rattle.rowreading.specs.Onward.{onward, Placed}
 use Rattle.rowjudge.specs.OneWord.{rowOf}
-use Rattle.rowjudge.proofs.Judging.{tells, row-holds, row-fails, Judging, begun, variable-judged, row-judged, goes, Exit, exit, at-the-end, all-counted, all-judged, refused-first, outside-first}
+use Rattle.rowjudge.proofs.Judging.{tells, row-holds, row-fails, Judging, begun, variable-judged, row-judged, goes, Exit, exit, at-the-end, all-counted, all-judged, whole, refused-first, outside-first}
 use Rattle.rowjudge.proofs.judge_rows.Statement.{statement}
 use Rattle.rowjudge.proofs.judge_rows.Tie as tie
 
@@ -163,34 +160,11 @@ loop-again-2 c =
     )
 
 returns-3 : tie.Need-returns-3 Inv-loop μ-loop
-unfolding verdict judgeRows
+unfolding judgeRows
 returns-3 c =
-    let a = c .before .before .before .before .before .before .before .before .before .args in
-    rw (← read (c .before .before)) (first-answers (c .before .before .refusal-at .result .number) (c .before .before .refusal-at .result .place) (countFault (a .ws .now) (a .values .now)) _ (c .if8 .taken))
-
-returns-4 : tie.Need-returns-4 Inv-loop μ-loop
-unfolding verdict judgeRows
-returns-4 c =
-    let a = c .before .before .before .before .before .before .before .before .before .before .args in
-    let r = c .before .before .before .refusal-at .result in
-    let e = ended (c .before .before .before) (c .before .if8 .left) in
-    rw (← read (c .before .before .before)) (wrong-count (a .ws .now) (a .values .now) _ (λ q. c .if9 .taken (q ∙ sym (all-counted (e .0) (e .1)))) ∙ second-answers (r .number) (r .place) (countFault (a .ws .now) (a .values .now)) _ (c .before .if8 .left))
-
-returns-5 : tie.Need-returns-5 Inv-loop μ-loop
-unfolding verdict judgeRows
-returns-5 c =
-    let a = c .before .before .before .before .before .before .before .before .before .before .before .args in
-    let r = c .before .before .before .before .refusal-at .result in
-    let e = ended (c .before .before .before .before) (c .before .before .if8 .left) in
-    rw (← read (c .before .before .before .before)) (rw (c .if10 .taken) at (all-judged (e .0) (e .1)) ∙ right-count (a .ws .now) (a .values .now) _ (c .before .if9 .left ∙ all-counted (e .0) (e .1)) ∙ second-answers (r .number) (r .place) (countFault (a .ws .now) (a .values .now)) _ (c .before .before .if8 .left))
-
-returns-6 : tie.Need-returns-6 Inv-loop μ-loop
-unfolding verdict judgeRows
-returns-6 c =
-    let a = c .before .before .before .before .before .before .before .before .before .before .before .args in
-    let r = c .before .before .before .before .refusal-at .result in
-    let e = ended (c .before .before .before .before) (c .before .before .if8 .left) in
-    rw (← read (c .before .before .before .before)) (rw (c .if10 .left) at (all-judged (e .0) (e .1)) ∙ right-count (a .ws .now) (a .values .now) _ (c .before .if9 .left ∙ all-counted (e .0) (e .1)) ∙ second-answers (r .number) (r .place) (countFault (a .ws .now) (a .values .now)) _ (c .before .before .if8 .left))
+    let a = c .before .before .before .before .before .before .before .before .args in
+    let l = c .before .before .before .before .before .loop in
+    rw (← read (c .before)) (c .answer .ensures ∙ whole (c .before .refusal-at .result) (a .ws .now) (a .values .now) (l .n) (l .all) (l .wrong) (λ z. let e = ended (c .before) z in (all-counted (e .0) (e .1), all-judged (e .0) (e .1))))
 
 pub judge-rows-spec : {M : Type 1} → statement M
 judge-rows-spec =
@@ -216,7 +190,5 @@ judge-rows-spec =
     loop-less-2
     loop-again-2
     (λ c κs. search needs)
-    returns-3
-    returns-4
-    returns-5
-    returns-6)
+    (λ c κs. search needs)
+    returns-3)
