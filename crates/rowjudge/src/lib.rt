@@ -21,7 +21,7 @@ use words::limit;
 use words::value_at;
 use words::word_at;
 
-pub mod items;
+mod items;
 
 // What comes before the rows: the refusal of the words, else of the number of values, else the first variable out of bounds.
 fn judge_bounds(ws: &[u32], values: &[i32]) -> Verdict

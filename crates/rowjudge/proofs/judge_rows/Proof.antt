@@ -72,10 +72,10 @@ tallied c =
     let xs = rows (drop (l .at + 1) ws) in
     let q = true-row (c .before .before) in
     ⊎-elim
-    (λ y. rw (y .2, y .3, y .1 .taken) (row-fails t (l .rows) (l .wrong) x xs (sym q ∙ not-true _ (y .0 .taken))))
+    (λ y. rw (y .3, y .2, y .1 .taken) (row-fails t (l .rows) (l .wrong) x xs (sym q ∙ not-true _ (y .0 .taken))))
     (⊎-elim
-    (λ y. rw (y .2, y .3, y .1 .left))
-    (λ y. rw (y .1, y .2) (row-holds t (l .rows) (l .wrong) x xs (l .all) (sym q ∙ not-false _ (y .0 .left)))))
+    (λ y. rw (y .3, y .2, y .1 .left))
+    (λ y. rw (y .2, y .1) (row-holds t (l .rows) (l .wrong) x xs (l .all) (sym q ∙ not-false _ (y .0 .left)))))
     (c .if6 .came)
 
 -- reading stops: in a variable, or in another item
