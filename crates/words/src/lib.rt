@@ -47,7 +47,7 @@ pub fn is_holds(answer: Verdict) -> bool
 pub fn kind_of(w: u32) -> u32
     ensures { λ r. ⌜ r ≡ kind w ⌝ }
 {
-    w / 268435456
+    w >> 28
 }
 
 // Its payload.
