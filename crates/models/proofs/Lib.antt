@@ -8,3 +8,4 @@ pub mod Typed
 pub mod Contents
 pub mod Accepted
 pub mod Constraints
+pub mod Parity

@@ -1,7 +1,7 @@
--- When a builtin is true of values: 000, section 3, save where 01 states it otherwise; never by its rows.
+-- When a builtin is true of values: 000, section 3, save where 01 or 02 states it otherwise; never by its rows.
 use mathlib.Core.Bool.{Bool, false, not, _&&_, _||_, Bool·beq}
 use mathlib.Core.List.{List, map}
-use Prim.Native.Nat.{ℕ, _-_}
+use Prim.Native.Nat.{ℕ, _-_, _%_}
 use lib.Dec.{leb, eqb}
 use lib.IntN.{ℤ, pos, negsuc}
 use lib.Signed.{leZ, ltZ}
@@ -36,6 +36,10 @@ maximum m xs = any (λ x. x == m) xs && all (λ x. leZ x m) xs
 unfoldable pub member : ℤ → List ℤ → Bool
 member x S = any (λ v. x == v) S
 
+-- a count is odd
+unfoldable pub odd : ℕ → Bool
+odd n = eqb (n % 2) 1
+
 unfoldable pub meaning : Valuation → Builtin → Bool
 -- 1 to 4: 000, 3.1.7, 3.1.9, 3.1.17, 3.1.22
 meaning σ (int-eq a b) = σ a == σ b
@@ -61,10 +65,10 @@ meaning σ (bool-not a b) = not (σ a == σ b)
 meaning σ (bool-and a b r) = on σ r iff on σ a && on σ b
 meaning σ (bool-or a b r) = on σ r iff on σ a || on σ b
 meaning σ (bool-xor a b r) = on σ r iff not (σ a == σ b)
--- 21, 22: 000, 3.2.7, 3.2.1. 23: 01, "FlatZinc's meaning taken here as: exactly one is 1"
+-- 21, 22: 000, 3.2.7, 3.2.1. 23: 02, Wish 5, "an odd number are 1"
 meaning σ (bool-clause xs ys) = any (on σ) xs || any (off σ) ys
 meaning σ (array-bool-and xs r) = on σ r iff all (on σ) xs
-meaning σ (array-bool-xor xs) = eqb (howMany (on σ) xs) 1
+meaning σ (array-bool-xor xs) = odd (howMany (on σ) xs)
 -- 24 to 28: 000, 3.1.1, 3.1.4, 3.1.2, 3.3.1, 3.3.2
 meaning σ (array-int-element i ns c) = element (σ i) ns (σ c)
 meaning σ (array-var-int-element i xs c) = element (σ i) (map σ xs) (σ c)

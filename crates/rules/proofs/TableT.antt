@@ -1,4 +1,4 @@
--- 01, Table T: T1 to T12 as one table over the definitions, with one proof: a test that is computed over the whole table.
+-- 01, Table T: T1 to T12, and what 02 adds, as one table over the definitions, with one proof: a test that is computed over the whole table.
 -- Where 01 says that values are false, no auxiliary values within their bounds may satisfy the rows with them either; where fill writes values,
 -- judge-rows must say "holds" of them. So each of the four slips that 000 invites makes a line of the table fail (must-fail/).
 use mathlib.Core.Path.{_≡_, refl}
@@ -19,7 +19,7 @@ use Rattle.words.specs.Overlay.{overlay}
 use Rattle.words.specs.Refusal.{_else-refuse_, firstFault, countFault}
 use Rattle.words.specs.Answer.{Answer, refused, counts, written, holds, outOfBounds, isFalse, _else-answer_, isHolds}
 use Rattle.words.specs.Judge.{firstFalse, firstOutOfBounds, judge}
-use Rattle.models.specs.Meaning.{on, off, element, maximum, member, meaning}
+use Rattle.models.specs.Meaning.{on, off, element, maximum, member, odd, meaning}
 use Rattle.models.specs.Shape.{shapes, argument}
 use Rattle.models.specs.Reading as Model
 use Rattle.models.specs.Reading.{readModel}
@@ -34,7 +34,7 @@ use Rattle.rowsystems.specs.RowSystem.{termCount, variableAt, numberAt, termsIn
 use Rattle.rowsystems.specs.JudgeRows as JudgeRows
 use Rattle.rowsystems.specs.JudgeRows.{judgeRows}
 use Rattle.rules.specs.Block.{numbered, blockWords, blockNumbers, outside}
-use Rattle.rules.specs.Parts.{Z, endProducts, extreme, L, U, _─_≤0, _─_=0, sources, each, bits, weighted, oneBit, chosen, products, nth, places, leastFrom, rising, members}
+use Rattle.rules.specs.Parts.{Z, endProducts, extreme, L, U, halfLess, _─_≤0, _─_=0, sources, each, bits, weighted, oneBit, chosen, products, nth, places, leastFrom, rising, members}
 use Rattle.rules.specs.Rule as Rule
 use Rattle.rules.specs.Rule.{rule}
 use Rattle.rules.specs.Pick.{bitOf, signPick, signedPick, firstBit, gatedPick, pick}
@@ -153,6 +153,18 @@ T11 upper = 0x10000000 ∷ upper ∷ 0x30000000 ∷ 0x4000001C ∷ 0x50000000 �
 T12 : List ℕ
 T12 = 0x40000015 ∷ 0x60000000 ∷ 0x60000000 ∷ 0x70000000 ∷ []
 
+-- 02, Wish 5: code 23 of three and of four switches, and of none
+switches : List ℕ
+switches = 0x30000000 ∷ 0x30000000 ∷ 0x30000000 ∷ 0x40000017 ∷ 0x60000003 ∷ 0x50000000 ∷ 0x50000001 ∷ 0x50000002 ∷ 0x70000000 ∷ []
+
+fourSwitches : List ℕ
+fourSwitches =
+    0x30000000 ∷ 0x30000000 ∷ 0x30000000 ∷ 0x30000000 ∷
+    0x40000017 ∷ 0x60000004 ∷ 0x50000000 ∷ 0x50000001 ∷ 0x50000002 ∷ 0x50000003 ∷ 0x70000000 ∷ []
+
+noSwitches : List ℕ
+noSwitches = 0x40000017 ∷ 0x60000000 ∷ 0x70000000 ∷ []
+
 pub table : List Line
 table =
     translates (0x70000000 ∷ []) (0xF0000000 ∷ []) ∷
@@ -173,20 +185,28 @@ table =
     accepts (T11 0x2000003F) 0xF0000000 ∷
     refuses (T11 0x20000040) 12 3 ∷
     never T12 ∷
+    fills switches (pos 1 ∷ pos 1 ∷ pos 1 ∷ []) (pos 1 ∷ []) ∷
+    fills switches (pos 0 ∷ pos 1 ∷ pos 0 ∷ []) (pos 0 ∷ []) ∷
+    denies switches (pos 1 ∷ pos 0 ∷ pos 1 ∷ []) 0 ∷
+    denies switches (pos 0 ∷ pos 0 ∷ pos 0 ∷ []) 0 ∷
+    fills fourSwitches (pos 1 ∷ pos 1 ∷ pos 0 ∷ pos 1 ∷ []) (pos 1 ∷ []) ∷
+    denies fourSwitches (pos 1 ∷ pos 1 ∷ pos 1 ∷ pos 1 ∷ []) 0 ∷
+    translates noSwitches (0x80000000 ∷ 0x90000000 ∷ 0xB0000001 ∷ 0x50000000 ∷ 0x6FFFFFFE ∷ 0x6FFFFFFF ∷ 0xF0000000 ∷ []) ∷
+    never noSwitches ∷
     []
 
 pub table-T : all isTrue table ≡ true
-unfolding sameList sameAnswer listsWithin isAccepted isDenied unusedWords unusedValues isTrue T3 T5 T6 T7 T8 T9 T10 T11 T12 table within width values
+unfolding sameList sameAnswer listsWithin isAccepted isDenied unusedWords unusedValues isTrue T3 T5 T6 T7 T8 T9 T10 T11 T12 switches fourSwitches noSwitches table within width values
     boundsIn listOf all any howMany _⊕_ _⊖_ _⊗_ neg minZ maxZ absZ _==_ count value sum _else-answer_ isHolds firstFalse firstOutOfBounds judge
     overlay _else-refuse_ firstFault countFault startsPair variables kind payload signed inRange word complement numberWord wordAt
-    JudgeModel.judgeAccepted JudgeRows.judgeAccepted judgeModel on off element maximum member meaning constraintsFrom constraints var num size vars
+    JudgeModel.judgeAccepted JudgeRows.judgeAccepted judgeModel on off element maximum member odd meaning constraintsFrom constraints var num size vars
     nums past terms pastTerms builtins builtin Model.faultHead Model.faultStart Model.faultUpper Rows.faultUpper Model.faultNumber Rows.faultNumber
     Model.faultVariable Rows.faultVariable Model.faultLength Model.faultArgument Model.faultDue Rows.faultDue Model.fault Rows.fault Model.afterHead
     Model.afterArgument Model.afterDue Rows.afterDue Model.declared Model.started Rows.started Model.after Rows.after Model.faultEnd Rows.faultEnd
     Model.ended Rows.ended readModel shapes argument judgeRows Rows.faultItem Rows.faultSource Rows.notAbove Rows.faultResult Rows.afterItem readRows
     satisfied renameTerms rename termCount variableAt numberAt termsIn constantIn rows boundWords termWords sumWords rowWords boundNumbers rowNumbers
     numbered blockWords blockNumbers outside tooWide blockFault blocksFault checkFault check filledCount fillFault fill filled Z endProducts extreme L
-    U _─_≤0 _─_=0 sources each bits weighted oneBit chosen products nth places leastFrom rising members bitOf signPick signedPick firstBit gatedPick
+    U halfLess _─_≤0 _─_=0 sources each bits weighted oneBit chosen products nth places leastFrom rising members bitOf signPick signedPick firstBit gatedPick
     pick Rule.linked Rule.signed Rule.notEqual Rule.lessEqualReified Rule.absolute Rule.larger Rule.linNotEqual Rule.linEqualReified
     Rule.linLessEqualReified Rule.exclusiveOr Rule.numberElement Rule.variableElement Rule.largest Rule.inSet Rule.inSetReified rule roomFault
     translateFault translate translated bounds blockOf sourceWords blocksWords systemWords auxiliaries blockRows picks flatMap zipWith

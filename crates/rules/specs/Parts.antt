@@ -1,7 +1,7 @@
--- What several rules share: Z, L and U, products of bounds, one-hot bits, the members of a set.
+-- What several rules share: Z, L and U, products of bounds, halves, one-hot bits, the members of a set.
 use mathlib.Core.Bool.{_&&_}
 use mathlib.Core.List.{List, [], _∷_, _++_, map}
-use Prim.Native.Nat.{ℕ, zero, suc, _-_}
+use Prim.Native.Nat.{ℕ, zero, suc, _-_, _/_}
 use lib.IntN.{ℤ, pos}
 use lib.Signed.{leZ, ltZ}
 use lib.ListN.{length, getD}
@@ -34,6 +34,10 @@ L β asbs c = extreme minZ β asbs ⊖ c
 
 unfoldable pub U : (ℕ → Bounds) → List (Term ℕ) → ℤ → ℤ
 U β asbs c = extreme maxZ β asbs ⊖ c
+
+-- 23: "(n−1)/2 rounded down, 0 for an empty list"
+unfoldable pub halfLess : ℕ → ℕ
+halfLess n = (n - 1) / 2
 
 -- x − y ≤ 0, x − y = 0
 infix 80 _─_≤0 _─_=0

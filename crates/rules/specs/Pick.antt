@@ -1,18 +1,20 @@
 -- What fill picks for the auxiliaries of each builtin, where the values σ make it true; 01, Five calls: "It picks b=1 in 8, 12, 13, 14 only for
--- a negative x; r=0 in 9 when a=c; the first maximum in 26."
+-- a negative x; r=0 in 9 when a=c; the first maximum in 26."; in 23 the t with Σ−2×t−1=0.
 use mathlib.Core.Bool.{Bool, not}
 use mathlib.Core.List.{List, [], _∷_, _++_, map, zipWith}
 use Prim.Native.Nat.{ℕ}
-use lib.IntN.{ℤ}
+use lib.IntN.{ℤ, pos}
 use lib.Signed.{ltZ}
 use lib.ListN.{length}
 use Rattle.integers.specs.Choice.{_if_else_}
 use Rattle.integers.specs.Number.{_⊖_, _⊗_, _==_, +0, +1, -1}
+use Rattle.integers.specs.Lists.{howMany}
 use Rattle.integers.specs.Bounds.{values}
 use Rattle.integers.specs.Terms.{Valuation, _·_, sum}
 use Rattle.integers.specs.declared.Bounds.{Bounds}
 use Rattle.models.specs.Builtin.{Builtin, int-eq, int-le, int-lt, int-ne, int-le-reif, int-plus, int-times, int-abs, int-max, int-lin-eq, int-lin-le, int-lin-ne, int-lin-eq-reif, int-eq-reif, int-lin-le-reif, bool2int, bool-not, bool-and, bool-or, bool-xor, bool-clause, array-bool-and, array-bool-xor, array-int-element, array-var-int-element, array-int-maximum, set-in, set-in-reif}
-use Rattle.rules.specs.Parts.{nth, places, members}
+use Rattle.models.specs.Meaning.{on}
+use Rattle.rules.specs.Parts.{halfLess, nth, places, members}
 
 unfoldable pub bitOf : Bool → ℤ
 bitOf t = +1 if t else +0
@@ -58,7 +60,7 @@ module _ (β : ℕ → Bounds) (σ : Valuation) where
   pick (bool-xor a b r) = (σ r ⊗ σ a) ∷ (σ r ⊗ σ b) ∷ []
   pick (bool-clause xs ys) = []
   pick (array-bool-and xs r) = []
-  pick (array-bool-xor xs) = []
+  pick (array-bool-xor xs) = pos (halfLess (howMany (on σ) xs)) ∷ []
   pick (array-int-element i ns c) = firstBit (λ j. j == σ i) (values (places (β i) (length ns)))
   pick (array-var-int-element i xs c) = gatedPick (λ j. σ (nth 0 xs j)) (λ j. j == σ i) (values (places (β i) (length xs)))
   pick (array-int-maximum m xs) = gatedPick σ (λ x. σ x == σ m) xs

@@ -1,4 +1,4 @@
--- 01, Rules of the 28 codes: the block of each builtin. The bounds of every variable are given; lo and hi are 01's.
+-- 01, Rules of the 28 codes, and 02: the block of each builtin. The bounds of every variable are given; lo and hi are 01's.
 use mathlib.Core.List.{List, [], _∷_, _++_, map}
 use Prim.Native.Nat.{ℕ}
 use lib.IntN.{ℤ, pos}
@@ -10,7 +10,7 @@ use Rattle.integers.specs.declared.Bounds.{Bounds}
 use Rattle.rowsystems.specs.Row.{Row, sum≤0, sum=0, product}
 use Rattle.models.specs.Builtin.{Builtin, int-eq, int-le, int-lt, int-ne, int-le-reif, int-plus, int-times, int-abs, int-max, int-lin-eq, int-lin-le, int-lin-ne, int-lin-eq-reif, int-eq-reif, int-lin-le-reif, bool2int, bool-not, bool-and, bool-or, bool-xor, bool-clause, array-bool-and, array-bool-xor, array-int-element, array-var-int-element, array-int-maximum, set-in, set-in-reif}
 use Rattle.rules.specs.Block.{Ref, source, aux, Block}
-use Rattle.rules.specs.Parts.{Z, endProducts, L, U, _─_≤0, _─_=0, sources, each, bits, one, oneBit, chosen, products, nth, places, members}
+use Rattle.rules.specs.Parts.{Z, endProducts, L, U, halfLess, _─_≤0, _─_=0, sources, each, bits, one, oneBit, chosen, products, nth, places, members}
 
 abbrev pub block : List Bounds → List (Row Ref) → Block
 block auxiliaries rows = record { auxiliaries = auxiliaries; rows = rows }
@@ -189,8 +189,8 @@ module _ (β : ℕ → Bounds) where
   -- 22 array_bool_and(as,r): each r−as_i≤0; Σas−r−n+1≤0.
   rule (array-bool-and xs r) =
       block [] (map (λ x. source r ─ source x ≤0) xs ++ (sum≤0 (each +1 xs ++ (-1 · source r ∷ [])) (+1 ⊖ pos (length xs)) ∷ []))
-  -- 23 array_bool_xor(as), FlatZinc's meaning taken here as: exactly one is 1: Σ−1=0.
-  rule (array-bool-xor xs) = block [] (sum=0 (each +1 xs) -1 ∷ [])
+  -- 23 array_bool_xor(as); 02, Wish 5: "aux t from 0 to (n−1)/2 rounded down, 0 for an empty list; Σ−2×t−1=0."
+  rule (array-bool-xor xs) = block ((+0 to pos (halfLess (length xs))) ∷ []) (sum=0 (each +1 xs ++ (-2 · aux 0 ∷ [])) -1 ∷ [])
   rule (array-int-element i ns c) = numberElement i ns c
   rule (array-var-int-element i xs c) = variableElement i xs c
   rule (array-int-maximum m xs) = largest m xs

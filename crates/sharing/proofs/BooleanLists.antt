@@ -3,25 +3,26 @@ use mathlib.Core.Path.{_≡_, refl}
 use mathlib.Core.Logic.{_⊎_, inl, inr, _↔_}
 use mathlib.Core.Bool.{Bool, true, false, _&&_, _||_}
 use mathlib.Core.List.{List, [], _∷_, _++_, map, append-nil}
-use Prim.Native.Nat.{ℕ, zero, suc, _+_, _≤_, _<_}
+use Prim.Native.Nat.{ℕ, zero, suc, _+_, _-_, _*_, _/_, _%_, _≤_, _<_}
 use native.Mathlib.Omega.{arith}
 use lib.IntN.{ℤ, pos}
 use lib.ListN.{length}
 use borrow.Author.Tests.{eqb-true, eq-eqb}
 use Rattle.integers.specs.Choice.{_if_else_}
-use Rattle.integers.specs.Number.{_⊕_, _⊖_, _⊗_, _==_, +0, +1, -1}
+use Rattle.integers.specs.Number.{_⊕_, _⊖_, _⊗_, _==_, +0, +1, -1, -2}
 use Rattle.integers.specs.Lists.{all, any, howMany}
-use Rattle.integers.specs.Terms.{Valuation, Term, _·_}
+use Rattle.integers.specs.Bounds.{_to_}
+use Rattle.integers.specs.Terms.{Valuation, Term, _·_, value}
 use Rattle.integers.specs.declared.Bounds.{Bounds}
 use Rattle.integers.proofs.Linear.{_⊑_, linear, arithZ, from₁}
 use Rattle.integers.proofs.Bits.{Bit, b0, b1, Reified, reified-0, reified-1, bit-case}
 use Rattle.integers.proofs.Lists.{all-append, all-map}
-use Rattle.integers.proofs.Tests.{Says, All, says-or, false-true}
+use Rattle.integers.proofs.Tests.{Says, In, All, says-or, false-true}
 use Rattle.models.specs.Builtin.{bool-clause, array-bool-and, array-bool-xor}
-use Rattle.models.specs.Meaning.{meaning, on, off}
+use Rattle.models.specs.Meaning.{meaning, on, off, odd}
 use Rattle.models.proofs.Arguments.{booleanArguments}
-use Rattle.rules.specs.Block.{Ref, source}
-use Rattle.rules.specs.Parts.{_─_≤0, each}
+use Rattle.rules.specs.Block.{Ref, source, aux}
+use Rattle.rules.specs.Parts.{halfLess, _─_≤0, each}
 use Rattle.rules.specs.Rule.{rule}
 use Rattle.rules.specs.Pick.{pick}
 use Rattle.sharing.proofs.Good.{Sat, dot, see}
@@ -122,6 +123,23 @@ module _ (σ : Valuation) where
       last : (k n : ℕ) → k ≤ n → +1 ⊗ pos k ⊕ (-1 ⊗ +1 ⊕ +0) ⊕ (+1 ⊖ pos n) ⊑ +0
       last = simp linear (omega arith)
 
+-- ---- 23: n − 2×t − 1 = 0
+
+-- only an odd n has such a t; then it is half of n − 1, which is within the bounds where n is at most the length
+odd-row : (n : ℕ) (t : ℤ) → +1 ⊗ pos n ⊕ (-2 ⊗ t ⊕ +0) ⊕ -1 ≡ +0 → n % 2 ≡ 1
+odd-row = simp linear (omega arith)
+
+row-odd : (n : ℕ) → n % 2 ≡ 1 → +1 ⊗ pos n ⊕ (-2 ⊗ pos (halfLess n) ⊕ +0) ⊕ -1 ≡ +0
+unfolding halfLess
+row-odd n e = row n ((n - 1) / 2) (omega arith)
+  where
+    row : (n k : ℕ) → n ≡ 2 * k + 1 → +1 ⊗ pos n ⊕ (-2 ⊗ pos k ⊕ +0) ⊕ -1 ≡ +0
+    row = simp linear (omega arith)
+
+half-in : (n m : ℕ) → n ≤ m → In (+0 to pos (halfLess m)) (pos (halfLess n))
+unfolding halfLess
+half-in n m h = let l : (n - 1) / 2 ≤ (m - 1) / 2 = omega arith in omega arithZ
+
 module _ (β : ℕ → Bounds) (σ : Valuation) where
   -- ---- 21 bool_clause
 
@@ -176,19 +194,19 @@ module _ (β : ℕ → Bounds) (σ : Valuation) where
 
   -- ---- 23 array_bool_xor
 
-  array-bool-xor-exact : (xs : List ℕ) → Exact β σ (array-bool-xor xs)
-  unfolding rule meaning booleanArguments
-  array-bool-xor-exact xs α f =
-      agree (eqb-true (ones σ xs) 1, eq-eqb (ones σ xs) 1) (one-row (rw (dot-each-only σ α +1 xs (f .zero-one)) (single (ones σ xs))))
-    where
-      single : (n : ℕ) → (+1 ⊗ pos n ⊕ +0 ⊕ -1 ≡ +0) ↔ (n ≡ 1)
-      single = simp linear (omega arith)
-
   pub array-bool-xor-sound : (α : Valuation) (as₁ : List ℕ) → Sound β σ α (array-bool-xor as₁)
-  array-bool-xor-sound α xs f = array-bool-xor-exact xs α f .0
+  unfolding rule meaning odd booleanArguments
+  array-bool-xor-sound α xs f g =
+      eq-eqb (ones σ xs % 2) 1 (odd-row (ones σ xs) (α 0) (rw (dot-each σ α +1 xs (f .zero-one) (-2 · aux 0 ∷ [])) at (g .1 .0)))
 
   pub array-bool-xor-complete : (as₁ : List ℕ) → Complete β σ (array-bool-xor as₁)
-  array-bool-xor-complete xs = complete (array-bool-xor-exact xs)
+  unfolding rule meaning odd booleanArguments pick value
+  array-bool-xor-complete xs f m rest =
+      let n = ones σ xs in
+      let α = value (pos (halfLess n) ∷ rest) in (
+        (half-in n (length xs) (how-many-bound (on σ) xs), tt),
+        (rw (dot-each σ α +1 xs (f .zero-one) (-2 · aux 0 ∷ [])) (row-odd n (eqb-true (n % 2) 1 m)), tt),
+      )
 
   pub array-bool-xor-filled : (as₁ : List ℕ) → Filled β σ (array-bool-xor as₁)
   unfolding rule pick

@@ -23,7 +23,7 @@ use lib.ListN.{length, length-append, length-map, getD}
 use lib.Dec.{leb}
 use borrow.Author.Tests.{ltb-false, leb-true}
 use Rattle.integers.specs.Choice.{_if_else_}
-use Rattle.integers.specs.Number.{_⊖_, count, +0, +1, -1}
+use Rattle.integers.specs.Number.{_⊖_, count, +0, +1, -1, -2}
 use Rattle.integers.specs.Bounds.{width, values}
 use Rattle.integers.proofs.Linear.{arithZ}
 use Rattle.integers.proofs.Lists.{all-append, all-mapped, listOf-length}
@@ -248,7 +248,10 @@ laws β (array-bool-xor xs) = record {
   complete = λ σ. array-bool-xor-complete β σ xs;
   filled = λ σ. array-bool-xor-filled β σ xs;
   small = simp lengths (omega arith);
-  formed = λ n h k s. (tt, ((simp each-length (omega arith), each-in n 0 +1 xs k), tt));
+  formed = λ n h k s. (
+    (omega arithZ, tt),
+    (append-in n 1 (each +1 xs) (-2 · aux 0 ∷ []) (simp each-length (omega arith)) (each-in n 1 +1 xs k) (omega arith, tt), tt),
+  );
 }
 laws β (array-int-element i ns c) = record {
   Sizes = Short ns;
