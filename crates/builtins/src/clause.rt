@@ -32,9 +32,9 @@ pub fn array_bool_and(args: &[u32], values: &[i32]) -> bool
     )
 }
 
-// Whether array_bool_xor is true.
+// Whether array_bool_xor is true: an odd number are 1.
 pub fn array_bool_xor(args: &[u32], values: &[i32]) -> bool
     ensures { λ r. ⌜ r ≡ meaning (value (now (values .entry))) (array-bool-xor (vars (now (args .entry)) 0)) ⌝ }
 {
-    how_many(args, 0, 1, values) == 1
+    how_many(args, 0, 1, values) % 2 == 1
 }

@@ -1,4 +1,4 @@
-// Numbers from the bounds of the variables, which stand in two lists: the least and largest of products, and the members of a set.
+// Numbers from the bounds of the variables, which stand in two lists: the least and largest of products, halves, and the members of a set.
 ghost use mathlib.Core.Path.{_≡_};
 ghost use mathlib.Core.Bool.{_&&_};
 ghost use mathlib.Core.List.{map};
@@ -14,7 +14,7 @@ ghost use Rattle.extremes.specs.Kept.{lowerOf, upperOf};
 ghost use Rattle.words.specs.Variables.{variables};
 ghost use Rattle.words.specs.Overlay.{overlay};
 ghost use Rattle.models.specs.Model.{nums};
-ghost use Rattle.rules.specs.Parts.{endProducts, leastFrom, members};
+ghost use Rattle.rules.specs.Parts.{endProducts, halfLess, leastFrom, members};
 use arguments::count_of;
 use arguments::num_at;
 use arguments::size_at;
@@ -122,6 +122,16 @@ pub fn last_place(n: usize, upper: i64) -> i64
     ensures { λ r. ⌜ r ≡ minZ (pos n) upper ⌝ }
 {
     least(n as i64, upper)
+}
+
+// Half of n − 1, rounded down; 0 for 0.
+pub fn half_less(n: usize) -> i64
+    ensures { λ r. ⌜ r ≡ pos (halfLess n) ⌝ }
+{
+    if n < 1 {
+        return 0;
+    }
+    ((n - 1) / 2) as i64
 }
 
 // Puts a number into a list, if the place is one of its places.

@@ -4,23 +4,25 @@ ghost use mathlib.Core.List.{[], _∷_, _++_};
 ghost use Prim.Native.Nat.{ℕ, _<_, _≤_};
 ghost use lib.IntN.{pos};
 ghost use lib.ListN.{length};
-ghost use Rattle.integers.specs.Number.{_⊖_, +1, -1};
+ghost use Rattle.integers.specs.Number.{_⊖_, +1, -1, -2};
 ghost use Rattle.integers.specs.Terms.{_·_};
 ghost use Rattle.integers.specs.declared.Bounds.{Bounds};
 ghost use Rattle.models.specs.Builtin.{bool-clause, array-bool-and, array-bool-xor};
 ghost use Rattle.models.specs.Model.{var, vars, past};
 ghost use Rattle.rules.specs.Rule.{rule};
-ghost use Rattle.rowsystems.specs.Row.{sum≤0};
-ghost use Rattle.rules.specs.Block.{source};
+ghost use Rattle.rowsystems.specs.Row.{sum≤0, sum=0};
+ghost use Rattle.rules.specs.Block.{source, aux};
 ghost use Rattle.rules.specs.Parts.{each};
 ghost use Rattle.laying.specs.Part.{rowParts, blockParts};
 ghost use Rattle.laying.specs.Went.{Went, Near, total};
 use arguments::past_at;
 use arguments::size_at;
 use arguments::var_at;
+use extremes::half_less;
 use integers::minus;
 use laying::Laid;
 use laying::lay_above;
+use laying::lay_bound;
 use laying::lay_constant;
 use laying::lay_each;
 use laying::lay_head;
@@ -70,12 +72,22 @@ pub fn array_bool_and(out: &mut [u32], s: Laid, args: &[u32]) -> Laid
     lay_all(out, t, args, r)
 }
 
-// array_bool_xor: Σ−1=0.
-pub fn array_bool_xor(out: &mut [u32], s: Laid, args: &[u32]) -> Laid
-    requires { ⌜ total s < 1000000000 ⌝ }
-    ensures { λ r. ⌜ ((first : ℕ) (β : ℕ → Bounds) → Went s r (now (out .entry)) (now (out .exit)) (blockParts first (rule β (array-bool-xor (vars (now (args .entry)) 0))))) × Near 1000000 s r ⌝ }
+// Σ−2×t−1=0, t the variable `first`.
+fn lay_odd(out: &mut [u32], s: Laid, args: &[u32], first: usize) -> Laid
+    requires { ⌜ total s < 2000000000 ⌝ }
+    ensures { λ r. ⌜ Went s r (now (out .entry)) (now (out .exit)) (rowParts first (sum=0 (each +1 (vars (now (args .entry)) 0) ++ (-2 · aux 0 ∷ [])) -1)) × Near 2000 s r ⌝ }
 {
-    let begun = lay_head(out, s, kind::EQUAL, size_at(args, 0));
+    let begun = lay_head(out, s, kind::EQUAL, size_at(args, 0) + 1);
     let t = lay_each(out, begun, args, 0, 1);
-    lay_constant(out, t, -1)
+    let u = lay_term(out, t, -2, first);
+    lay_constant(out, u, -1)
+}
+
+// array_bool_xor: t from 0 to (n−1)/2: Σ−2×t−1=0.
+pub fn array_bool_xor(out: &mut [u32], s: Laid, args: &[u32], first: usize) -> Laid
+    requires { ⌜ total s < 1000000000 ⌝ }
+    ensures { λ r. ⌜ ((β : ℕ → Bounds) → Went s r (now (out .entry)) (now (out .exit)) (blockParts first (rule β (array-bool-xor (vars (now (args .entry)) 0))))) × Near 1000000 s r ⌝ }
+{
+    let t = lay_bound(out, s, 0, half_less(size_at(args, 0)));
+    lay_odd(out, t, args, first)
 }

@@ -8,16 +8,20 @@ ghost use lib.Signed.{ltZ};
 ghost use lib.ListN.{getD};
 ghost use Rattle.integers.specs.Choice.{_if_else_};
 ghost use Rattle.integers.specs.Number.{_⊕_, _⊖_, _⊗_, _==_, minZ, maxZ, +0, +1, -1};
+ghost use Rattle.integers.specs.Lists.{howMany};
 ghost use Rattle.integers.specs.Bounds.{_to_, values};
 ghost use Rattle.integers.specs.Terms.{value, sum, _·_};
 ghost use Rattle.words.specs.Word.{inRange};
 ghost use Rattle.models.specs.Model.{var, num, size, vars, terms, pastTerms};
+ghost use Rattle.models.specs.Meaning.{on};
 ghost use Rattle.arguments.specs.Small.{Small};
+ghost use Rattle.rules.specs.Parts.{halfLess};
 ghost use Rattle.rules.specs.Pick.{bitOf, signPick, signedPick, firstBit, gatedPick};
 ghost use Rattle.extremes.specs.Bounded.{Near, Bounded};
 ghost use Rattle.picking.specs.Picked.{Picked, Ranged, Ready, picksOf};
 ghost use Rattle.picking.specs.Only.{onlyAt, FirstAt};
 use arguments::count_of;
+use arguments::how_many;
 use arguments::num_at;
 use arguments::past_terms_at;
 use arguments::size_at;
@@ -27,6 +31,7 @@ use arguments::value_of;
 use arguments::var_at;
 use extremes::bound_at;
 use extremes::first_place;
+use extremes::half_less;
 use extremes::last_place;
 use extremes::members;
 use extremes::width_of;
@@ -224,6 +229,14 @@ fn pick_xor(out: &mut [i32], at: usize, args: &[u32], values: &[i32]) -> usize
     put(out, next, values_product(args, 2, 1, values))
 }
 
+// 23: half of one less than how many are 1.
+fn pick_odd(out: &mut [i32], at: usize, args: &[u32], values: &[i32]) -> usize
+    requires { ⌜ (at < 1099511627776) × Ranged (pos (halfLess (howMany (on (value (now values))) (vars (now args) 0))) ∷ []) ⌝ }
+    ensures { λ r. ⌜ Picked at r (now (out .entry)) (now (out .exit)) (pos (halfLess (howMany (on (value (now (values .entry)))) (vars (now (args .entry)) 0))) ∷ []) ⌝ }
+{
+    put(out, at, half_less(how_many(args, 0, 1, values)))
+}
+
 // 24, 25: the first label.
 fn first_label(args: &[u32], ls: &[i64]) -> i64
     ensures { λ r. ⌜ r ≡ maxZ +1 (getD (now (ls .entry)) (var (now (args .entry)) 0) +0) ⌝ }
@@ -365,6 +378,7 @@ pub fn pick_block(
         14 => pick_difference(out, at, args, values),
         15 => pick_sum(out, at, args, values),
         20 => pick_xor(out, at, args, values),
+        23 => pick_odd(out, at, args, values),
         24 => pick_element(out, at, args, ls, us, values),
         25 => pick_var_element(out, at, args, ls, us, values),
         26 => pick_maximum(out, at, args, values),

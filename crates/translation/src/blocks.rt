@@ -67,7 +67,7 @@ fn lay_block(
         20 => boolean::bool_xor(out, s, a, b, c, first),
         21 => clause::bool_clause(out, s, args),
         22 => clause::array_bool_and(out, s, args),
-        23 => clause::array_bool_xor(out, s, args),
+        23 => clause::array_bool_xor(out, s, args, first),
         24 => array_int_element(out, s, args, ls, us, first),
         25 => array_var_int_element(out, s, args, ls, us, first),
         26 => array_int_maximum(out, s, args, ls, us, first),

@@ -95,45 +95,56 @@ returns-9 : tie.Need-returns-9
 unfolding pick builtin builtins
 returns-9 c = let e : c .before .before .before .before .before .args .code ≡ 20 = c .before .before .before .match .keys9 in rw e (c .before .pick-xor .ensures)
 
+pick-odd-requires : tie.Need-pick-odd-requires
+unfolding pick builtin builtins
+pick-odd-requires c κs =
+    let p = c .before .before .before .pre in
+    let e : c .before .before .before .args .code ≡ 23 = c .before .match .keys10 in
+    (p .place, rw e at (p .ranged))
+
 returns-10 : tie.Need-returns-10
 unfolding pick builtin builtins
-returns-10 c = let e : c .before .before .before .before .before .args .code ≡ 24 = c .before .before .before .match .keys10 in rw e (c .before .pick-element .ensures)
+returns-10 c = let e : c .before .before .before .before .before .args .code ≡ 23 = c .before .before .before .match .keys10 in rw e (c .before .pick-odd .ensures)
+
+returns-11 : tie.Need-returns-11
+unfolding pick builtin builtins
+returns-11 c = let e : c .before .before .before .before .before .args .code ≡ 24 = c .before .before .before .match .keys11 in rw e (c .before .pick-element .ensures)
 
 pick-var-element-requires : tie.Need-pick-var-element-requires
 unfolding pick builtin builtins
 pick-var-element-requires c κs =
     let p = c .before .before .before .pre in
-    let e : c .before .before .before .args .code ≡ 25 = c .before .match .keys11 in
+    let e : c .before .before .before .args .code ≡ 25 = c .before .match .keys12 in
     (p .place, p .lowers, p .uppers, p .small, rw e at (p .ranged))
 
-returns-11 : tie.Need-returns-11
+returns-12 : tie.Need-returns-12
 unfolding pick builtin builtins
-returns-11 c = let e : c .before .before .before .before .before .args .code ≡ 25 = c .before .before .before .match .keys11 in rw e (c .before .pick-var-element .ensures)
+returns-12 c = let e : c .before .before .before .before .before .args .code ≡ 25 = c .before .before .before .match .keys12 in rw e (c .before .pick-var-element .ensures)
 
 pick-maximum-requires : tie.Need-pick-maximum-requires
 unfolding pick builtin builtins
 pick-maximum-requires c κs =
     let p = c .before .before .before .pre in
-    let e : c .before .before .before .args .code ≡ 26 = c .before .match .keys12 in
+    let e : c .before .before .before .args .code ≡ 26 = c .before .match .keys13 in
     (p .place, rw e at (p .ranged))
-
-returns-12 : tie.Need-returns-12
-unfolding pick builtin builtins
-returns-12 c = let e : c .before .before .before .before .before .args .code ≡ 26 = c .before .before .before .match .keys12 in rw e (c .before .pick-maximum .ensures)
 
 returns-13 : tie.Need-returns-13
 unfolding pick builtin builtins
-returns-13 c = let e : c .before .before .before .before .before .args .code ≡ 27 = c .before .before .before .match .keys13 in rw e (c .before .pick-member .ensures)
+returns-13 c = let e : c .before .before .before .before .before .args .code ≡ 26 = c .before .before .before .match .keys13 in rw e (c .before .pick-maximum .ensures)
 
 returns-14 : tie.Need-returns-14
 unfolding pick builtin builtins
-returns-14 c = let e : c .before .before .before .before .before .args .code ≡ 28 = c .before .before .before .match .keys14 in rw e (c .before .pick-set-reif .ensures)
+returns-14 c = let e : c .before .before .before .before .before .args .code ≡ 27 = c .before .before .before .match .keys14 in rw e (c .before .pick-member .ensures)
 
-other : tie.Need-returns-15
+returns-15 : tie.Need-returns-15
+unfolding pick builtin builtins
+returns-15 c = let e : c .before .before .before .before .before .args .code ≡ 28 = c .before .before .before .match .keys15 in rw e (c .before .pick-set-reif .ensures)
+
+other : tie.Need-returns-16
 unfolding pick any
 other c =
     let a = c .before .before .args in
-    rw (none-picked (28 ∷ 27 ∷ 26 ∷ 25 ∷ 24 ∷ 20 ∷ 15 ∷ 14 ∷ 13 ∷ 12 ∷ 9 ∷ 8 ∷ 7 ∷ 4 ∷ []) refl (a .ls .now) (a .us .now) (a .values .now) (a .code) (a .args .now) (c .match .rest)) (picked-none (a .at) (a .out .now))
+    rw (none-picked (28 ∷ 27 ∷ 26 ∷ 25 ∷ 24 ∷ 23 ∷ 20 ∷ 15 ∷ 14 ∷ 13 ∷ 12 ∷ 9 ∷ 8 ∷ 7 ∷ 4 ∷ []) refl (a .ls .now) (a .us .now) (a .values .now) (a .code) (a .args .now) (c .match .rest)) (picked-none (a .at) (a .out .now))
 
 pub pick-block-spec : {M : Type 1} → statement M
 pick-block-spec =
@@ -148,6 +159,7 @@ pick-block-spec =
     pick-difference-requires
     pick-sum-requires
     pick-xor-requires
+    pick-odd-requires
     (λ c κs. search needs)
     pick-var-element-requires
     pick-maximum-requires
@@ -181,4 +193,6 @@ pick-block-spec =
     returns-13
     (λ c. search needs)
     returns-14
+    (λ c. search needs)
+    returns-15
     other)

@@ -1,11 +1,11 @@
--- The count is 1.
+-- The count is odd.
 use borrow.Author.Needs.{needs}
-use Rattle.models.specs.Meaning.{meaning, on}
+use Rattle.models.specs.Meaning.{meaning, on, odd}
 use Rattle.builtins.proofs.clause.array_bool_xor.Statement.{statement}
 use Rattle.builtins.proofs.clause.array_bool_xor.Tie as tie
 
 returns : tie.Need-returns
-unfolding meaning on
+unfolding meaning on odd
 returns c = rw (c .how-many .ensures)
 
 pub array-bool-xor-spec : {M : Type 1} → statement M

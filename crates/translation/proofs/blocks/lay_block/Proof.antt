@@ -198,7 +198,7 @@ unfolding builtin builtins
 returns-23 c =
     let s = c .before .before .before .before .before .before .before .before .before .before in
     let e : s .args .code ≡ 23 = c .before .before .before .before .match .keys23 in
-    rw e (c .before .before .array-bool-xor .ensures .0 (s .args .first) (boundsOf (s .args .ls .now) (s .args .us .now)), c .before .before .array-bool-xor .ensures .1)
+    rw e (c .before .before .array-bool-xor .ensures .0 (boundsOf (s .args .ls .now) (s .args .us .now)), c .before .before .array-bool-xor .ensures .1)
 
 returns-24 : tie.Need-returns-24
 unfolding builtin builtins
