@@ -92,7 +92,8 @@ def accepted():
     """Models without a fault: the words, those of the row system."""
     yield T3, T3_ROWS
     yield [END], [payload(15, 0)]
-    yield FALSE_CLAUSE * 256 + [END], [payload(11, 0), number(-1)] * 256 + [payload(15, 0)]
+    blocks = ([payload(8, 0), payload(9, 0), payload(11, 1), variable(t), number(-2), number(-1)] for t in range(256))
+    yield FALSE_CLAUSE * 256 + [END], [w for block in blocks for w in block] + [payload(15, 0)]
     yield sets(1, 0), sets_rows(1, 0)
     yield sets(41, 226), sets_rows(41, 226)  # 16,384 row words
 

@@ -49,7 +49,7 @@ BUILTINS = {
     20: ('bool_xor', 'B B B', lambda a, b, r: (a ^ b) == r),
     21: ('bool_clause', 'LB LB', lambda a, b: 1 in a or 0 in b),
     22: ('array_bool_and', 'LB B', lambda a, r: all(a) == r),
-    23: ('array_bool_xor', 'LB', lambda a: sum(a) == 1),
+    23: ('array_bool_xor', 'LB', lambda a: sum(a) % 2 == 1),
     24: ('array_int_element', 'I LN I', lambda i, a, c: (i, c) in enumerate(a, 1)),
     25: ('array_var_int_element', 'I LI I', lambda i, a, c: (i, c) in enumerate(a, 1)),
     26: ('array_int_maximum', 'I LI', lambda m, x: [m] == sorted(x)[-1:]),
@@ -237,10 +237,8 @@ def listed(items):
 
 
 def constraint_text(code, arguments):
-    """A constraint by Gecode's builtin of the same name, but for two: code 23 says that exactly one is 1, and no maximum of an empty list exists."""
+    """A constraint by Gecode's builtin of the same name, but where there is no maximum of an empty list."""
     name, kinds, _ = BUILTINS[code]
-    if code == 23:
-        return f'constraint int_lin_eq({listed([1] * len(arguments[0]))}, {listed(f"n{v}" for v in arguments[0])}, 1);'
     if code == 26 and not arguments[1]:
         return 'constraint bool_clause([], []);'
     texts, rest = [], list(arguments)

@@ -332,11 +332,15 @@ impl Builder<'_> {
                 push_variables(&mut words, &[r]);
             }
             23 => {
-                let (ones, zeros): (Vec<usize>, Vec<usize>) = booleans.iter().partition(|&&variable| self.values[variable] == 1);
-                let mut list = self.list(if aimed && !zeros.is_empty() { &zeros } else { &booleans }, length);
-                if aimed && !ones.is_empty() && !list.is_empty() {
+                let mut list = self.list(&booleans, length);
+                let ones = list.iter().filter(|&&variable| self.values[variable] == 1).count();
+                if aimed && ones % 2 == 0 && !list.is_empty() {
                     let at = self.random.below(list.len());
-                    list[at] = self.random.pick(&ones);
+                    let value = self.values[list[at]];
+                    let others: Vec<usize> = booleans.iter().copied().filter(|&variable| self.values[variable] != value).collect();
+                    if !others.is_empty() {
+                        list[at] = self.random.pick(&others);
+                    }
                 }
                 push_list(&mut words, &list);
             }
@@ -655,7 +659,7 @@ fn many_auxiliaries(random: &mut Random) -> Pair {
         count += 2;
     }
     while count < wanted {
-        let code = builder.random.pick(&[1, 4, 4, 4, 7, 8, 9, 9, 12, 13, 14, 15, 15, 18, 20, 24, 25, 26, 27, 28]);
+        let code = builder.random.pick(&[1, 4, 4, 4, 7, 8, 9, 9, 12, 13, 14, 15, 15, 18, 20, 23, 24, 25, 26, 27, 28]);
         let length = builder.random.below(3);
         builder.add(code, Some(length), false);
         count += builder.constraints.last().map_or(0, |constraint| builder.auxiliaries(constraint));

@@ -1,6 +1,6 @@
-//! Document 01 in plain Rust: check over words and over bytes, translate, judge-model, judge-rows and fill.
+//! Documents 01 and 02 in plain Rust: check over words and over bytes, translate, judge-model, judge-rows and fill.
 //!
-//! It is written from the document alone and shares nothing with the proved code, so that the two can be compared. Nothing here panics: every
+//! It is written from the documents alone and shares nothing with the proved code, so that the two can be compared. Nothing here panics: every
 //! index is tested by the reading that comes first, and numbers that may leave 32 bits are 64 bits wide (the largest is 33 × 2^54).
 
 use crate::answers::{Counts, Judgement, Refusal, Written, FALSE, HOLDS, OUT_OF_BOUNDS};
@@ -369,7 +369,7 @@ fn arguments(words: &[u32], head: usize) -> (Constraint<'_>, usize) {
 
 // --------------------------------------------------------------------------------------------------------------------------------- meaning
 
-/// Whether a builtin is true of values inside the bounds (000, section 3; for codes 23 to 26 the sentences of 01).
+/// Whether a builtin is true of values inside the bounds (000, section 3; for code 23 wish 5 of 02, for codes 24 to 26 the sentences of 01).
 fn is_true(constraint: &Constraint, values: &[i32]) -> bool {
     let [a, b, c] = constraint.single.map(|variable| values.get(variable).map_or(0, |&value| i64::from(value)));
     let value = |word: &u32| i64::from(values[number(*word)]);
@@ -395,7 +395,7 @@ fn is_true(constraint: &Constraint, values: &[i32]) -> bool {
         20 => (a != b) == (c == 1),
         21 => constraint.list.iter().any(|word| value(word) == 1) || constraint.second.iter().any(|word| value(word) == 0),
         22 => constraint.list.iter().all(|word| value(word) == 1) == (a == 1),
-        23 => constraint.list.iter().filter(|word| value(word) == 1).count() == 1,
+        23 => constraint.list.iter().filter(|word| value(word) == 1).count() % 2 == 1,
         24 => element(constraint.numbers, a).is_some_and(|&word| i64::from(signed(word)) == b),
         25 => element(constraint.list, a).is_some_and(|word| value(word) == b),
         26 => constraint.list.iter().map(value).max() == Some(a),
@@ -440,7 +440,7 @@ trait Sink {
     }
 }
 
-/// The block of a constraint (01, Rules of the 28 codes); `n` is the number of its first auxiliary.
+/// The block of a constraint (01, Rules of the 28 codes; for code 23 wish 5 of 02); `n` is the number of its first auxiliary.
 fn block(constraint: &Constraint, variables: &[Variable], n: usize, sink: &mut impl Sink) {
     let [a, b, c] = constraint.single;
     let bound = |variable: usize, upper: bool| variables.get(variable).map_or(0, |v| i64::from(if upper { v.upper } else { v.lower }));
@@ -555,8 +555,11 @@ fn block(constraint: &Constraint, variables: &[Variable], n: usize, sink: &mut i
             sink.constant(1 - list.len() as i64);
         }
         23 => {
-            sink.row(EQUAL, constraint.list.len());
-            constraint.list.iter().for_each(|&word| sink.term(number(word), 1));
+            let (list, t) = (constraint.list, n);
+            sink.auxiliary(0, if list.is_empty() { 0 } else { (list.len() as i64 - 1) / 2 });
+            sink.row(EQUAL, list.len() + 1);
+            list.iter().for_each(|&word| sink.term(number(word), 1));
+            sink.term(t, -2);
             sink.constant(-1);
         }
         24 => {
@@ -966,7 +969,7 @@ impl Auxiliaries<'_> {
     }
 }
 
-/// The auxiliaries of a constraint that is true of the values (01, Five calls).
+/// The auxiliaries of a constraint that is true of the values (01, Five calls; in code 23 the t of its row).
 fn fill_block(constraint: &Constraint, variables: &[Variable], values: &[i32], out: &mut Auxiliaries) {
     let [a, b, c] = constraint.single.map(|variable| values.get(variable).map_or(0, |&value| i64::from(value)));
     let bounds = || {
@@ -991,6 +994,10 @@ fn fill_block(constraint: &Constraint, variables: &[Variable], values: &[i32], o
         20 => {
             out.push(c * a);
             out.push(c * b);
+        }
+        23 => {
+            let sum: i64 = constraint.list.iter().map(|&word| i64::from(values[number(word)])).sum();
+            out.push((sum - 1) / 2);
         }
         24 => {
             let (lower, upper) = bounds();
