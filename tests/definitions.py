@@ -102,7 +102,9 @@ def write_crate(cases):
         opened += plain + [f'Rattle.{crate}.specs.{module}.{n}' for n in shared]
     head = '\n'.join([
         'use mathlib.Core.Path.{_≡_, refl}', 'use mathlib.Core.List.{List, [], _∷_, flatMap, zipWith}', 'use lib.IntN.{ℤ, pos, negsuc}',
-        'use Rattle.words.specs.Answer.{Answer, refused, counts, written, holds, outOfBounds, isFalse}'] + uses)
+        'use Rattle.words.specs.Answer.{Answer, refused, counts, written, holds, outOfBounds, isFalse}',
+        'use Rattle.rules.specs.Check.{check}', 'use Rattle.rules.specs.Translate.{translate, translated}',
+        'use Rattle.rules.specs.Fill.{fill, filled}'] + uses)
     with open(os.path.join(SCRATCH, 'crates', 'vectors', 'specs', 'Lib.antt'), 'w') as f:
         f.write('pub mod Vectors\n')
     lines = []

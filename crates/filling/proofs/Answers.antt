@@ -14,7 +14,7 @@ use Rattle.words.specs.Answer.{Answer, refused, written, holds, isHolds, _else-
 use Rattle.models.specs.JudgeModel.{judgeModel, judgeAccepted}
 use Rattle.rules.specs.Translation.{picks, auxiliaries}
 use Rattle.rules.specs.Translate.{roomFault}
-use Rattle.rules.specs.Fill.{filledCount, fillFault, fill, filled}
+use Rattle.rules.specs.Fill.{filledCount, fillFault, fillFaultIn, fill, fillIn, filled, filledIn}
 use Rattle.sharing.specs.SharedSolutions.{Passes, SatisfiesModel}
 use Rattle.sharing.proofs.Accepts.{passes-read}
 use Rattle.sharing.proofs.Theorem.{fill-counts, fill-satisfies}
@@ -43,12 +43,12 @@ handed-over ws passes vs s out l m e =
 
 module _ (ws : List ℕ) (passes : Passes ws) (vs : List ℤ) (out : List ℤ) where
   pub wrong-count : (length vs ≡ length (variables ws) → ⊥) → Gives ws vs out (refused 15 0) out
-  unfolding fill filled fillFault countFault _else-refuse_ _else-answer_
+  unfolding fillIn filledIn fillFaultIn countFault _else-refuse_ _else-answer_
   wrong-count f = let e = ne-eqb (length vs) (length (variables ws)) f in (rw (passes, e), (rw (passes, e), none-handed ws out))
 
   module _ (counted : length vs ≡ length (variables ws)) where
     pub too-short : length out < length (variables ws) + length (auxiliaries ws) → Gives ws vs out (refused 16 0) out
-    unfolding fill filled fillFault filledCount countFault roomFault _else-refuse_ _else-answer_
+    unfolding fillIn filledIn fillFaultIn filledCount countFault roomFault _else-refuse_ _else-answer_
     too-short l =
         let e = eq-eqb (length vs) (length (variables ws)) counted in
         let s = lt-ltb (length out) (length (variables ws) + length (auxiliaries ws)) l in
@@ -56,7 +56,7 @@ module _ (ws : List ℕ) (passes : Passes ws) (vs : List ℤ) (out : List ℤ) w
 
     module _ (room : length (variables ws) + length (auxiliaries ws) ≤ length out) where
       no-fault : fillFault ws vs (length out) ≡ accepted
-      unfolding fillFault filledCount countFault roomFault _else-refuse_
+      unfolding fillFaultIn filledCount countFault roomFault _else-refuse_
       no-fault = rw (passes, eq-eqb (length vs) (length (variables ws)) counted, le-ltb (length out) (length (variables ws) + length (auxiliaries ws)) room)
 
       -- judge-model says of the values what it says of accepted words
@@ -65,13 +65,13 @@ module _ (ws : List ℕ) (passes : Passes ws) (vs : List ℤ) (out : List ℤ) w
       judged = rw (passes-read ws passes, eq-eqb (length vs) (length (variables ws)) counted)
 
       pub held : judgeModel ws vs ≡ holds → Gives ws vs out (written (length (variables ws) + length (auxiliaries ws))) (overlay out 0 (vs ++ picks ws vs))
-      unfolding fill filled filledCount isHolds _else-answer_
+      unfolding fillIn filledIn filledCount isHolds _else-answer_
       held h =
           let s = judge-model-says ws (passes-read ws passes) vs .0 h in
           (rw (no-fault, sym judged ∙ h), (rw (no-fault, sym judged ∙ h), handed-over ws passes vs s out room))
 
       pub not-held : (answer : Answer) → answer ≡ judgeModel ws vs → isHolds answer ≡ false → ((n : ℕ) → answer ≡ written n → ⊥) → Gives ws vs out answer out
-      unfolding fill filled _else-answer_
+      unfolding fillIn filledIn _else-answer_
       not-held answer h n f = (rw (no-fault, sym judged ∙ sym h, n), (rw (no-fault, sym judged ∙ sym h, n), λ m e. absurd (f m e)))
 
 -- fill's own answer and list are such that every list that satisfies the model is handed over with its auxiliaries

@@ -7,10 +7,10 @@ use borrow.Author.Tests.{lt-ltb}
 use Rattle.words.specs.Refusal.{_else-refuse_}
 use Rattle.words.specs.Answer.{refusalNumber, _else-answer_}
 use Rattle.encoding.specs.Bytes.{bytesWords}
-use Rattle.models.specs.Reading.{readModel}
-use Rattle.rules.specs.Check.{checkFault, check}
+use Rattle.models.specs.Reading.{readModelIn}
+use Rattle.rules.specs.Check.{checkFaultIn, checkIn}
 use Rattle.host.specs.Bytes.{checkBytes}
 
 pub too-many : (bytes : List ℕ) → 8192 < length (bytesWords bytes) → 1 ≡ checkBytes bytes
-unfolding checkBytes check checkFault readModel refusalNumber _else-refuse_ _else-answer_
+unfolding checkBytes checkIn checkFaultIn readModelIn refusalNumber _else-refuse_ _else-answer_
 too-many bytes h = rw (lt-ltb 8192 (length (bytesWords bytes)) h)

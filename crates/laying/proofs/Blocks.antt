@@ -13,7 +13,7 @@ use Rattle.words.specs.Word.{word, numberWord, inRange}
 use Rattle.words.specs.Kind as Kind
 use Rattle.rowsystems.specs.Row.{Row, sum≤0, sum=0, product, rename, renameTerms}
 use Rattle.rowsystems.specs.RowWords.{boundWords, termWords, sumWords, rowWords, boundNumbers, rowNumbers}
-use Rattle.rules.specs.Block.{Ref, Block, numbered, blockWords, blockNumbers, outside}
+use Rattle.rules.specs.Block.{Ref, Block, numbered, blockWords, blockNumbers, outside, outsideIn}
 use Rattle.laying.specs.Part.{head, constant, partWords, partNumbers, partAuxiliaries, partRows, wordsIn, numbersIn, auxiliariesIn, rowsIn, boundParts, termParts, rowParts, blockParts}
 use Rattle.laying.proofs.Parts.{words-append, numbers-append, auxiliaries-append, rows-append}
 
@@ -150,7 +150,7 @@ module _ (first : ℕ) where
       omega (arith, rows-append (boundParts (B .auxiliaries)) (flatMap (rowParts first) (B .rows)), bound-rows (B .auxiliaries), rows-rows (B .rows))
 
   pub block-outside : (B : Block) → not (all inRange (numbersIn (blockParts first B))) ≡ outside B
-  unfolding blockParts outside blockNumbers
+  unfolding blockParts outsideIn blockNumbers
   block-outside B =
       ap (λ ns. not (all inRange ns))
       (numbers-append (boundParts (B .auxiliaries)) (flatMap (rowParts first) (B .rows))

@@ -10,6 +10,7 @@ use lib.ListN.{length, length-append, getD, drop, drop-of-length-le}
 use lib.Seq.{set-out, drop-cons}
 use Rattle.integers.specs.Number.{_⊕_, +0, +1, -1}
 use Rattle.integers.specs.Lists.{all, listOf}
+use Rattle.integers.specs.Bounds.{within}
 use Rattle.integers.proofs.Linear.{_⊑_, linear}
 use Rattle.words.specs.Limit as Limit
 use Rattle.words.specs.Word.{inRange}
@@ -72,11 +73,11 @@ sized-times r f g = record { words = refl; auxiliaries = refl; rows = refl; fits
 -- ---- one turn of a loop
 
 pub sized-bit : (k : ℕ) → Sized (bitAt k) 2 1 0 true
-unfolding inRange numbersIn flatMap all partNumbers
+unfolding within numbersIn flatMap all partNumbers
 sized-bit k = sized-bound +0 +1
 
 pub sized-one : (v k : ℕ) → Sized (oneAt v k) 2 0 0 true
-unfolding inRange
+unfolding within
 sized-one v k = sized-term +1 (v + k) refl
 
 -- a number between two of the range
@@ -121,7 +122,7 @@ sized-row kind xs cs c e =
 
 -- a row of two variables, the coefficients 1 and −1
 pub sized-pair : (kind x y : ℕ) → Sized (rowOf kind (x ∷ y ∷ []) (+1 ∷ -1 ∷ []) +0) 6 0 1 true
-unfolding inRange all
+unfolding within all
 sized-pair kind x y = sized-row kind (x ∷ y ∷ []) (+1 ∷ -1 ∷ []) +0 refl
 
 -- ---- many lists, each of the same counts

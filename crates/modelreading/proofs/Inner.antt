@@ -7,7 +7,7 @@ use borrow.Author.Tests.{lt-ltb, le-ltb, le-leb, ne-eqb}
 use lib.ListN.{length, getD, List·getD-eq-default}
 use Rattle.words.specs.Word.{kind, payload, wordAt}
 use Rattle.models.specs.Shape.{argument}
-use Rattle.models.specs.Reading.{faultNumber, faultVariable, faultLength, faultArgument, faultEnd, faultDue, afterDue, afterArgument}
+use Rattle.models.specs.Reading.{faultNumber, faultNumberIn, faultVariable, faultLength, faultArgumentIn, faultEnd, faultDueIn, afterDue, afterArgument}
 use Rattle.models.specs.declared.Due.the-variants.{Arguments}
 use Rattle.models.proofs.Sound.{Plain, plain, is-number, is-variable, is-length}
 use Rattle.modelreading.specs.Onward.{Went, stepOver, argumentsFrom, NumbersRead, VariablesRead}
@@ -31,25 +31,25 @@ module _ (ws ts : List ℕ) (c at : ℕ) (h : at ≤ length ws) where
 
   -- of a list
   pub a-number : (n l type code k : ℕ) → 0 < n → Went ws ts c (Arguments n l type code k) at (Arguments (n - 1) l type code k) (stepOver (faultNumber w) at)
-  unfolding faultEnd faultDue afterDue
+  unfolding faultEnd faultDueIn afterDue
   a-number n l type code k p = step h refl plain-number (rw (lt-ltb 0 n p)) (rw (lt-ltb 0 n p))
 
   pub a-variable : (n type code k : ℕ) → 0 < n → Went ws ts c (Arguments 0 n type code k) at (Arguments 0 (n - 1) type code k) (stepOver (faultVariable t type w) at)
-  unfolding faultEnd faultDue afterDue
+  unfolding faultEnd faultDueIn afterDue
   a-variable n type code k p = step h refl (plain-variable type) (rw (lt-ltb 0 n p)) (rw (lt-ltb 0 n p))
 
   -- of an argument
   module _ (arg code k : ℕ) (e : arg ≡ argument code k) where
     pub one-variable : 1 ≤ arg → arg < 3 → Went ws ts c (argumentsFrom code k) at (argumentsFrom code (k + 1)) (stepOver (faultVariable t arg w) at)
-    unfolding faultEnd faultDue afterDue faultArgument afterArgument
+    unfolding faultEnd faultDueIn afterDue faultArgumentIn afterArgument
     one-variable l m = step h refl (plain-variable arg) (rw (← e, ne-eqb arg 0 (λ z. omega arith), lt-ltb arg 3 m)) (rw (← e, ne-eqb arg 0 (λ z. omega arith), le-leb arg 3 (omega arith)))
 
     pub one-number : arg ≡ 3 → Went ws ts c (argumentsFrom code k) at (argumentsFrom code (k + 1)) (stepOver (faultNumber w) at)
-    unfolding faultEnd faultDue afterDue faultArgument afterArgument
+    unfolding faultEnd faultDueIn afterDue faultArgumentIn afterArgument
     one-number l = step h refl plain-number (rw (← e, l)) (rw (← e, l))
 
     pub a-length : 4 ≤ arg → Went ws ts c (argumentsFrom code k) at (afterArgument arg code (k + 1) w) (stepOver (faultLength w) at)
-    unfolding faultEnd faultDue afterDue faultArgument
+    unfolding faultEnd faultDueIn afterDue faultArgumentIn
     a-length l = step h refl plain-length (rw (← e, ne-eqb arg 0 (λ z. omega arith), le-ltb arg 3 (omega arith), ne-eqb arg 3 (λ z. omega arith))) (rw (← e, ne-eqb arg 0 (λ z. omega arith)))
 
 -- ---- one more word of a list, and the end of the words before it
@@ -59,7 +59,7 @@ module _ {ws : List ℕ} {n at left place : ℕ} (p : 0 < left) where
   more-numbers h f e ts c l type code k = let g = h ts c l type code k in and-then g refl (rw e (a-number ws ts c place (g .inside) left l type code k p))
 
   pub no-number : NumbersRead ws n at left (record { number = 0; at = place }) → length ws ≤ place → NumbersRead ws n at 0 (record { number = 3; at = place })
-  unfolding faultNumber wordAt kind
+  unfolding faultNumberIn wordAt kind
   no-number h o ts c l type code k =
       let z : _≡_ {A = ℕ} 3 0 → ⊥ = λ e. omega arith in
       or-halted (rw (over-fault 3 place z) at (more-numbers h 3 (rw (List·getD-eq-default ws 0 {n = place} o)) ts c l type code k)) z

@@ -19,7 +19,7 @@ use Rattle.words.specs.Variables.{variables}
 use Rattle.words.specs.declared.Refusal.{Refusal}
 use Rattle.words.proofs.Reading.{word-then}
 use Rattle.models.specs.Model.{headed, constraintsFrom, constraints, sourceWords}
-use Rattle.models.specs.Reading.{faultHead, faultEnd, faultDue, afterHead, declared, started, readModel}
+use Rattle.models.specs.Reading.{faultHead, faultEnd, faultDueIn, afterHead, declared, started, readModel, readModelIn}
 use Rattle.models.specs.declared.Due.the-variants.{Start, Ended}
 use Rattle.models.proofs.Sound.{is-head, at-constraint, at-end}
 use Rattle.models.proofs.Constraints.{starts-one}
@@ -48,11 +48,11 @@ pub kept-fault : {ws hs : List ℕ} (f p : ℕ) {r : Read} → (f ≡ 0 → ⊥)
 kept-fault {ws} {hs} f p z w e = record { refusal = e ∙ w; seen = λ n. absurd (stopped-some ws f p z (ap (λ (x : Refusal). x .number) (sym e) ∙ n)) }
 
 pub too-long : (ws : List ℕ) → 8192 < length ws → stopped ws 1 0 ≡ readModel ws
-unfolding stopped readModel
+unfolding stopped readModelIn
 too-long ws h = rw (lt-ltb 8192 (length ws) h, lt-ltb 0 (length ws) (omega arith))
 
 pub all-read : (ws : List ℕ) → length ws ≤ 8192 → whole ws ≡ readModel ws
-unfolding readModel onward
+unfolding readModelIn onward
 all-read ws h = rw (le-ltb 8192 (length ws) h)
 
 -- ---- the variables
@@ -194,7 +194,7 @@ module _ {ws types hs : List ℕ} {v sources c at : ℕ} (p : Posing ws types hs
       ended = rw (k, append-nil ts, add-zero c) at passed
 
       pub after-end : at + 1 < length ws → stopped ws 11 (at + 1) ≡ whole ws
-      unfolding stopped faultDue
+      unfolding stopped faultDueIn
       after-end l = rw (lt-ltb (at + 1) (length ws) l) (sym (stop-here ws ts Ended c (at + 1) 11 l refl (λ (q : _≡_ {A = ℕ} 11 0). omega arith)) ∙ ended)
 
       module _ (l : length ws ≤ at + 1) where

@@ -14,7 +14,7 @@ use Rattle.words.specs.Word.{kind, payload, wordAt}
 use Rattle.words.specs.Refusal.{_at-place_, faultOr, accepted, firstFault}
 use Rattle.words.proofs.Reading.{onward, refused, at-end, word-then}
 use Rattle.models.specs.Shape.{argument, shapes}
-use Rattle.models.specs.Reading.{faultHead, faultStart, faultUpper, faultNumber, faultVariable, faultLength, faultArgument, faultDue, faultEnd, fault, afterHead, afterDue, declared, started, after, ended, State}
+use Rattle.models.specs.Reading.{faultHead, faultStartIn, faultUpperIn, faultNumberIn, faultVariable, faultLengthIn, faultArgumentIn, faultDue, faultDueIn, faultEnd, fault, faultIn, afterHead, afterDue, declared, started, after, ended, State}
 use Rattle.models.specs.declared.Due.{Due}
 use Rattle.models.specs.declared.Due.the-variants.{Start, Upper, Arguments, Ended}
 use Rattle.modelreading.specs.Onward as Onward
@@ -28,7 +28,7 @@ same false n = refl
 
 -- a word 0 has a fault wherever a word is due, and after the end word too
 past : (due : Due) (v t c : ℕ) → (faultDue due v t c 0 ≡ Fault.wrongKind) ⊎ (faultDue due v t c 0 ≡ Fault.wordAfterEnd)
-unfolding faultDue faultStart faultHead faultUpper faultNumber faultVariable faultLength faultArgument kind
+unfolding faultDueIn faultStartIn faultHead faultUpperIn faultNumberIn faultVariable faultLengthIn faultArgumentIn kind
 past Start v t c = inl refl
 past (Upper lower) v t c = inl refl
 past (Arguments n l type code k) v t c = inl (simp same)
@@ -58,12 +58,12 @@ module _ (ws ts : List ℕ) (due : Due) (c at : ℕ) where
   here-state = record { due = due; types = ts; constraints = c }
 
   pub go-on : 0 ≡ faultAt → Onward.onward due ts c at ws ≡ Onward.onward (afterDue due (wordAt ws at)) (ts ++ declared (wordAt ws at)) (c + started (wordAt ws at)) (at + 1) ws
-  unfolding Onward.onward fault after wordAt
+  unfolding Onward.onward faultIn after wordAt
   go-on e = sym (onward fault after ended here-state ws at 0 (here e) e refl)
 
   -- a word with one ends the reading, and so does the end of the words
   pub stop-here : (f : ℕ) → at < length ws → f ≡ faultAt → (f ≡ 0 → ⊥) → Onward.onward due ts c at ws ≡ f at-place at
-  unfolding Onward.onward fault wordAt
+  unfolding Onward.onward faultIn wordAt
   stop-here f h e z = sym (refused fault after ended here-state ws at f h e z)
 
   pub end-here : length ws ≤ at → Onward.onward due ts c at ws ≡ faultOr (faultEnd due) at accepted
@@ -82,7 +82,7 @@ module _ (ws ts : List ℕ) (due : Due) (c at : ℕ) where
 
 pub alike : (ws ts : List ℕ) (d e : Due) (c at : ℕ) → faultAt ws ts d c at ≡ faultAt ws ts e c at → afterDue d (wordAt ws at) ≡ afterDue e (wordAt ws at) → faultEnd d ≡ faultEnd e →
     Onward.onward d ts c at ws ≡ Onward.onward e ts c at ws
-unfolding Onward.onward firstFault fault after ended wordAt
+unfolding Onward.onward firstFault faultIn after ended wordAt
 alike ws ts d e c at f a z = go (ltb at (length ws)) refl
   where
     go : (b : Bool) → ltb at (length ws) ≡ b → Onward.onward d ts c at ws ≡ Onward.onward e ts c at ws
@@ -91,7 +91,7 @@ alike ws ts d e c at f a z = go (ltb at (length ws)) refl
 
 -- the type of a list that is read does not count
 pub any-type : (ws ts : List ℕ) (type code k c at : ℕ) → Onward.onward (Arguments 0 0 type code k) ts c at ws ≡ Onward.onward (Onward.argumentsFrom code k) ts c at ws
-unfolding faultDue afterDue faultEnd
+unfolding faultDueIn afterDue faultEnd
 any-type ws ts type code k c at = alike ws ts (Arguments 0 0 type code k) (Onward.argumentsFrom code k) c at refl refl refl
 
 -- after the last argument a constraint or the end may stand
@@ -100,19 +100,19 @@ unfolding argument shapes
 none-of-zero = refl
 
 pub at-heads : (ws ts : List ℕ) (code k c at : ℕ) → 0 ≡ argument code k → Onward.onward (Onward.argumentsFrom code k) ts c at ws ≡ Onward.onward Onward.heads ts c at ws
-unfolding faultDue afterDue faultEnd faultArgument
+unfolding faultDueIn afterDue faultEnd faultArgumentIn
 at-heads ws ts code k c at e = alike ws ts (Onward.argumentsFrom code k) Onward.heads c at (rw (← e, ← none-of-zero)) (rw (← e, ← none-of-zero)) refl
 
 -- where no variable starts, as after the last argument
 pub start-heads : (ws ts : List ℕ) (c at : ℕ) → kind (wordAt ws at) ≢ 1 → kind (wordAt ws at) ≢ 3 → Onward.onward Start ts c at ws ≡ Onward.onward Onward.heads ts c at ws
-unfolding faultDue afterDue faultEnd faultStart faultArgument
+unfolding faultDueIn afterDue faultEnd faultStartIn faultArgumentIn
 start-heads ws ts c at a b =
     let w = wordAt ws at in
     alike ws ts Start Onward.heads c at (rw (ne-eqb (kind w) 1 a, ne-eqb (kind w) 3 b, ← none-of-zero)) (rw (ne-eqb (kind w) 1 a, ne-eqb (kind w) 3 b, ← none-of-zero)) refl
 
 -- the fault of a head, and what is due after it
 pub head-fault : (ws ts : List ℕ) (c at : ℕ) → faultAt ws ts Onward.heads c at ≡ faultHead c (wordAt ws at)
-unfolding faultDue faultArgument
+unfolding faultDueIn faultArgumentIn
 head-fault ws ts c at = rw (← none-of-zero)
 
 pub head-after : (w : ℕ) → afterDue Onward.heads w ≡ afterHead w

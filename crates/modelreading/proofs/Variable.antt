@@ -13,7 +13,7 @@ use Rattle.words.specs.Fault as Fault
 use Rattle.words.specs.Word.{kind, wordAt}
 use Rattle.words.specs.Variables.{variables, startsPair}
 use Rattle.words.proofs.Reading.{word-then}
-use Rattle.models.specs.Reading.{faultStart, faultUpper, faultEnd, faultDue, afterDue, declared, started}
+use Rattle.models.specs.Reading.{faultStart, faultUpper, faultEnd, faultDueIn, afterDue, declared, started}
 use Rattle.models.specs.Model.{constraintsFrom, sourceWords}
 use Rattle.models.specs.declared.Due.the-variants.{Start, Upper}
 use Rattle.models.proofs.Sound.{is-start, at-lower, at-boolean, at-head, is-upper}
@@ -69,7 +69,7 @@ module _ (ws : List ℕ) (v at : ℕ) (d : ℕ) (e : d ≡ getD (declared (wordA
   u = wordAt ws (at + 1)
 
   pub refused-first : (f : ℕ) → f ≡ faultStart v 0 w → (f ≡ 0 → ⊥) → Declares ws v at d (record { number = f; at = at })
-  unfolding faultDue faultEnd
+  unfolding faultDueIn faultEnd
   refused-first f g z = record {
     reads = λ ts q. stop-at ws ts Start 0 at f refl (rw q g) z ∙ rw (ne-eqb f 0 z);
     room = λ y. absurd (z y);
@@ -82,7 +82,7 @@ module _ (ws : List ℕ) (v at : ℕ) (d : ℕ) (e : d ≡ getD (declared (wordA
   first : faultStart v 0 w ≡ 0 → ((kind w ≡ 1) × (v < 256)) ⊎ ((kind w ≡ 3) × (v < 256))
   unfolding declared
   first z = elim (is-start v 0 w z) [
-    | at-lower few k ↦ inl (k, few)
+    | at-lower few k i ↦ inl (k, few)
     | at-boolean few k p ↦ inr (k, few)
     | at-head a b q ↦ absurd (n (e ∙ rw (ne-eqb (kind w) 1 a, ne-eqb (kind w) 3 b)))
   ]
@@ -97,13 +97,13 @@ module _ (ws : List ℕ) (v at : ℕ) (d : ℕ) (e : d ≡ getD (declared (wordA
   -- of an integer variable
   module _ (z : faultStart v 0 w ≡ 0) (k : kind w ≡ 1) where
     started-pair : (ts : List ℕ) → length ts ≡ v → (at < length ws) × (onward Start ts 0 at ws ≡ onward (Upper w) (ts ++ (d ∷ [])) 0 (at + 1) ws)
-    unfolding faultDue afterDue
+    unfolding faultDueIn afterDue
     started-pair ts q =
         let y : 0 ≡ faultAt ws ts Start 0 at = rw q (sym z) in
         (here ws ts Start 0 at y, go-on ws ts Start 0 at y ∙ rw (k, declared-one w d e n, none-started 1 k refl))
 
     pub pair : (f : ℕ) → f ≡ faultUpper w u → Declares ws v at d (stepOver f (at + 1))
-    unfolding stepOver faultEnd faultDue afterDue declared started
+    unfolding stepOver faultEnd faultDueIn afterDue declared started
     pair f g = go (eqb f Fault.none) refl
       where
         go : (b : Bool) → eqb f Fault.none ≡ b → Declares ws v at d (record { number = f; at = at + 1 + 1 } if b else record { number = f; at = at + 1 })
@@ -134,7 +134,7 @@ module _ (ws : List ℕ) (v at : ℕ) (d : ℕ) (e : d ≡ getD (declared (wordA
 
   -- of a Boolean one
   pub boolean : faultStart v 0 w ≡ 0 → kind w ≢ 1 → Declares ws v at d (record { number = 0; at = at + 1 })
-  unfolding faultDue afterDue
+  unfolding faultDueIn afterDue
   boolean z m =
       let k : kind w ≡ 3 = ⊎-elim (λ h. absurd (m (h .0))) (λ h. h .0) (first z) in
       let l = present ws at (omega arith) in

@@ -13,20 +13,20 @@ use borrow.Author.Tests.{ltb-false, le-leb, lt-leb}
 use Rattle.integers.specs.Choice.{_if_else_}
 use Rattle.integers.specs.Bounds.{bit, boundsIn}
 use Rattle.integers.specs.declared.Bounds.{Bounds}
-use Rattle.integers.proofs.Linear.{_⊑_, arithZ}
+use Rattle.integers.proofs.Linear.{arithZ}
 use Rattle.integers.proofs.Lists.{all-implies}
 use Rattle.integers.proofs.Tests.{All}
-use Rattle.words.specs.Word.{kind, inRange}
+use Rattle.words.specs.Word.{kind}
 use Rattle.words.specs.Refusal.{_at-place_, accepted, firstFault}
 use Rattle.words.specs.declared.Refusal.{Refusal}
 use Rattle.words.specs.Variables.{variables}
-use Rattle.words.proofs.Sources.{Sources, none, integer, boolean}
-use Rattle.words.proofs.Word.{signed-range, says-range}
+use Rattle.words.proofs.Sources.{Ordered, Sources, none, integer, boolean}
+use Rattle.words.proofs.Word.{says-range}
 use Rattle.models.specs.Table as Table
 use Rattle.models.specs.Builtin.{Builtin}
 use Rattle.models.specs.Shape as Shape
 use Rattle.models.specs.Model.{Constraint, constraintsFrom, constraints, sourceWords, builtin}
-use Rattle.models.specs.Reading.{fault, after, ended, begin, readModel}
+use Rattle.models.specs.Reading.{fault, after, ended, begin, readModel, readModelIn}
 use Rattle.models.proofs.Arguments.{integerArguments, booleanArguments}
 use Rattle.models.proofs.Sound.{sound}
 use Rattle.models.proofs.Fits.{Named}
@@ -36,14 +36,9 @@ use Rattle.models.proofs.Contents.{argumentWords, constraintWords, Fitt
 
 -- ---- bounds
 
-pub record Ordered (B : Bounds) : Type 0 where
-  pub rising : B .lower ⊑ B .upper
-  pub lower-in : inRange (B .lower) ≡ true
-  pub upper-in : inRange (B .upper) ≡ true
-
 sources-ordered : {src : List ℕ} {Bs : List Bounds} → Sources src Bs → All Ordered Bs
 sources-ordered none = tt
-sources-ordered (integer {l} {u} k m o r) = (record { rising = o; lower-in = signed-range l; upper-in = signed-range u }, sources-ordered r)
+sources-ordered (integer k m o r) = (o, sources-ordered r)
 sources-ordered (boolean k z r) = (record { rising = omega arithZ; lower-in = says-range (pos 0) .1 (omega arithZ, omega arithZ); upper-in = says-range (pos 1) .1 (omega arithZ, omega arithZ) }, sources-ordered r)
 
 -- ---- types and bounds
@@ -133,7 +128,7 @@ total-le f a (c ∷ cs) h = omega (arith, h .0, total-le f a cs (h .1))
 
 module _ (ws : List ℕ) (h : readModel ws ≡ accepted) where
   read : (length ws ≤ 8192) × (firstFault fault after ended begin 0 ws ≡ accepted)
-  unfolding readModel
+  unfolding readModelIn
   read = go (ltb 8192 (length ws)) refl h
     where
       go : (t : Bool) → ltb 8192 (length ws) ≡ t → ((1 at-place 0) if t else firstFault fault after ended begin 0 ws) ≡ accepted → (length ws ≤ 8192) × (firstFault fault after ended begin 0 ws ≡ accepted)

@@ -16,7 +16,7 @@ use Rattle.words.specs.Word.{payload, wordAt}
 use Rattle.models.specs.Shape as Shape
 use Rattle.models.specs.Shape.{argument}
 use Rattle.models.specs.Model.{var, size, past}
-use Rattle.models.specs.Reading.{faultNumber, faultVariable, faultLength, faultArgument, faultDue, fault, afterArgument, afterDue, faultEnd, ended}
+use Rattle.models.specs.Reading.{faultNumber, faultVariable, faultLength, faultArgumentIn, faultDue, faultDueIn, faultIn, afterArgument, afterDue, faultEnd, ended}
 use Rattle.models.specs.declared.Due.{Due}
 use Rattle.models.specs.declared.Due.the-variants.{Arguments}
 use Rattle.models.proofs.Sound.{Sound, Plain, plain, after-plain, reading, turn, is-number, is-variable, is-length}
@@ -71,7 +71,7 @@ less-one : (n : ℕ) → suc n - 1 ≡ n
 less-one n = omega arith
 
 number-due : (n m t code k v u c w : ℕ) → faultDue (Arguments (suc n) m t code k) v u c w ≡ faultNumber w
-unfolding faultDue
+unfolding faultDueIn
 number-due n m t code k v u c w = rw (positive n)
 
 after-number : (n m t code k w : ℕ) → afterDue (Arguments (suc n) m t code k) w ≡ Arguments n m t code k
@@ -79,7 +79,7 @@ unfolding afterDue
 after-number n m t code k w = rw (positive n, less-one n)
 
 variable-due : (m t code k v u c w : ℕ) → faultDue (Arguments 0 (suc m) t code k) v u c w ≡ faultVariable u t w
-unfolding faultDue
+unfolding faultDueIn
 variable-due m t code k v u c w = rw (positive m)
 
 after-variable : (m t code k w : ℕ) → afterDue (Arguments 0 (suc m) t code k) w ≡ Arguments 0 m t code k
@@ -106,7 +106,7 @@ module _ (ts ws : List ℕ) (c : ℕ) where
 
   -- one word
   one : (d : Due) (i : ℕ) → faultEnd d ≢ 0 → (faultAt d i ≡ 0 → Plain (wordAt ws i)) → Sound (reading d ts c) (drop i ws) → (faultAt d i ≡ 0) × To i (i + 1) (afterDue d (wordAt ws i))
-  unfolding fault ended var
+  unfolding faultIn ended var
   one d i n p h =
       let r = turn (reading d ts c) ws i n h in
       let q = p (r .faultless) in (
@@ -168,7 +168,7 @@ abbrev faultFirst : ℕ → ℕ → ℕ → ℕ
 faultFirst s u w = faultVariable u s w if ltb s Shape.number else faultNumber w if eqb s Shape.number else faultLength w
 
 argument-due : (s t code k v u c w : ℕ) → argument code k ≡ s → 1 ≤ s → faultDue (Arguments 0 0 t code k) v u c w ≡ faultFirst s u w
-unfolding faultDue faultArgument
+unfolding faultDueIn faultArgumentIn
 argument-due s t code k v u c w a l = rw (a, ne-eqb s 0 (λ e. omega arith))
 
 after-argument : (s t code k w : ℕ) → argument code k ≡ s → 1 ≤ s → afterDue (Arguments 0 0 t code k) w ≡ afterArgument s code (k + 1) w

@@ -9,13 +9,14 @@ use lib.Dec.{ltb}
 use lib.ListN.{length, getD, drop, length-drop}
 use borrow.Author.Tests.{ltb-true, lt-ltb, ne-eqb}
 use Rattle.integers.specs.Lists.{all}
-use Rattle.integers.proofs.Linear.{_⊑_}
+use Rattle.integers.specs.Bounds.{_to_}
 use Rattle.integers.proofs.Tests.{All, says-all}
 use Rattle.words.specs.Word.{kind, payload, signed, wordAt}
+use Rattle.words.proofs.Sources.{Ordered}
 use Rattle.models.specs.Table as Table
 use Rattle.models.specs.Shape as Shape
 use Rattle.models.specs.Shape.{argument, shapes}
-use Rattle.models.specs.Reading.{faultHead, faultArgument, faultDue, fault, afterHead, afterDue, declared, started, after, faultEnd, ended}
+use Rattle.models.specs.Reading.{faultHead, faultArgumentIn, faultDueIn, faultIn, afterHead, afterDue, declared, started, after, faultEnd, ended}
 use Rattle.models.specs.declared.Due.the-variants.{Start, Upper, Arguments}
 use Rattle.models.proofs.Sound.{Sound, Plain, reading, is-upper, at-constraint, at-end, is-head, at-lower, at-boolean, at-head, is-start}
 use Rattle.models.proofs.Fits.{FitAll, pastArguments, rest}
@@ -34,7 +35,7 @@ pub data Posed (ts : List ℕ) : ℕ → List ℕ → Type 0 where
 
 -- after variables of the types ts
 pub data Model : List ℕ → List ℕ → Type 0 where
-  integer : {ts : List ℕ} {l u : ℕ} {ws : List ℕ} → length ts < 256 → kind l ≡ 1 → kind u ≡ 2 → signed l ⊑ signed u
+  integer : {ts : List ℕ} {l u : ℕ} {ws : List ℕ} → length ts < 256 → kind l ≡ 1 → kind u ≡ 2 → Ordered (signed l to signed u)
       → Model (ts ++ (Shape.integer ∷ [])) ws → Model ts (l ∷ u ∷ ws)
   boolean : {ts : List ℕ} {w : ℕ} {ws : List ℕ} → length ts < 256 → kind w ≡ 3 → payload w ≡ 0
       → Model (ts ++ (Shape.boolean ∷ [])) ws → Model ts (w ∷ ws)
@@ -58,7 +59,7 @@ HeadSound ts c [] = ⊥
 HeadSound ts c (w ∷ ws) = (faultHead c w ≡ 0) × Sound (reading (afterHead w) (ts ++ declared w) (c + started w)) ws
 
 after-arguments : (ts : List ℕ) (c t code k : ℕ) (ws : List ℕ) → argument code k ≡ 0 → Sound (reading (Arguments 0 0 t code k) ts c) ws → HeadSound ts c ws
-unfolding ended faultEnd fault faultDue faultArgument after afterDue
+unfolding ended faultEnd faultIn faultDueIn faultArgumentIn after afterDue
 after-arguments ts c t code k [] e h = absurd (omega arith)
 after-arguments ts c t code k (w ∷ ws) e h = (rw e at (h .0), rw e at (h .1))
 
@@ -67,7 +68,7 @@ unfolding afterHead declared started
 constraint-read ts c w ws k h = rw (k, append-nil ts) at h
 
 end-read : (ts : List ℕ) (c w : ℕ) (ws : List ℕ) → kind w ≡ 7 → Sound (reading (afterHead w) ts c) ws → ws ≡ []
-unfolding afterHead fault faultDue
+unfolding afterHead faultIn faultDueIn
 end-read ts c w [] k h = refl
 end-read ts c w (x ∷ ws) k h = absurd (let z : _≡_ {A = ℕ} 11 0 = rw k at (h .0) in omega arith)
 
@@ -112,18 +113,18 @@ unfolding after afterDue
 at-posed ts w ws n m e h = posed (posed-from (suc (suc (length ws))) ts 0 (w ∷ ws) (omega arith) (e, rw (ne-eqb (kind w) 1 n, ne-eqb (kind w) 3 m) at h))
 
 pub model : (ts ws : List ℕ) → Sound (reading Start ts 0) ws → Model ts ws
-unfolding ended faultEnd fault faultDue
+unfolding ended faultEnd faultIn faultDueIn
 model ts [] h = absurd (omega arith)
 model ts (w ∷ []) h = elim (is-start (length ts) 0 w (h .0)) [
-  | at-lower few k ↦ absurd (let z : _≡_ {A = ℕ} 2 0 = after-lower ts w [] k (h .1) in omega arith)
+  | at-lower few k i ↦ absurd (let z : _≡_ {A = ℕ} 2 0 = after-lower ts w [] k (h .1) in omega arith)
   | at-boolean few k p ↦ absurd (let z : _≡_ {A = ℕ} 2 0 = after-boolean ts w [] k (h .1) in omega arith)
   | at-head n m e ↦ at-posed ts w [] n m e (h .1)
 ]
 model ts (w ∷ u ∷ ws) h = elim (is-start (length ts) 0 w (h .0)) [
-  | at-lower few k ↦
+  | at-lower few k i ↦
       let q = after-lower ts w (u ∷ ws) k (h .1) in
       let v = is-upper u w (q .0) in
-      integer few k (v .0) (v .1) (model (ts ++ (Shape.integer ∷ [])) ws (after-upper (ts ++ (Shape.integer ∷ [])) w u ws (v .0) (q .1)))
+      integer few k (v .0) (record { rising = v .1; lower-in = i; upper-in = v .2 }) (model (ts ++ (Shape.integer ∷ [])) ws (after-upper (ts ++ (Shape.integer ∷ [])) w u ws (v .0) (q .1)))
   | at-boolean few k p ↦ boolean few k p (model (ts ++ (Shape.boolean ∷ [])) (u ∷ ws) (after-boolean ts w (u ∷ ws) k (h .1)))
   | at-head n m e ↦ at-posed ts w (u ∷ ws) n m e (h .1)
 ]

@@ -1,6 +1,7 @@
 -- Laws for proofs about models.
 pub mod Arguments
 pub mod Sound
+pub mod Numbers
 pub mod Fits
 pub mod Form
 pub mod Codes

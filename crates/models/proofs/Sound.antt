@@ -1,9 +1,9 @@
 -- Words in which the reader of a model finds no fault: what that says of one word after the other, for the form of accepted words.
-use mathlib.Core.Path.{_≡_, refl, ap}
-use mathlib.Core.Logic.{_⊎_, inl, inr, _≢_}
+use mathlib.Core.Path.{_≡_, refl}
+use mathlib.Core.Logic.{inl, inr, _≢_}
 use mathlib.Core.Bool.{Bool, true, false, not, _||_}
 use mathlib.Core.List.{List, [], _∷_, append-nil}
-use Prim.Native.Nat.{ℕ, zero, suc, _+_, _≤_, _<_}
+use Prim.Native.Nat.{ℕ, _+_, _≤_, _<_}
 use native.Mathlib.Omega.{arith}
 use native.Mathlib.Nat.{add-zero}
 use native.Mathlib.Numerals.{add-one}
@@ -14,12 +14,13 @@ use lib.Seq.{drop-cons}
 use borrow.Author.Tests.{ltb-true, ltb-false, leb-false, eqb-true, eqb-false, not-false, ne-eqb}
 use Rattle.integers.specs.Choice.{_if_else_}
 use Rattle.integers.proofs.Linear.{_⊑_}
-use Rattle.words.specs.Word.{kind, payload, signed, wordAt}
+use Rattle.words.specs.Word.{kind, payload, signed, inRange, wordAt}
 use Rattle.words.specs.Fault as Fault
-use Rattle.words.specs.Refusal.{faultOr, accepted, firstFault}
-use Rattle.words.specs.declared.Refusal.{Refusal}
+use Rattle.words.specs.Refusal.{accepted, firstFault}
+use Rattle.words.proofs.Reading.{passed}
+use Rattle.words.proofs.Choices.{not-first, not-second, either, neither, of-kind, of-range}
 use Rattle.models.specs.Table as Table
-use Rattle.models.specs.Reading.{State, faultHead, faultStart, faultUpper, faultNumber, faultVariable, faultLength, fault, afterDue, declared, started, after, ended}
+use Rattle.models.specs.Reading.{State, faultHead, faultStart, faultStartIn, faultUpper, faultUpperIn, faultNumber, faultNumberIn, faultVariable, faultLength, faultLengthIn, fault, afterDue, declared, started, after, ended}
 use Rattle.models.specs.declared.Due.{Due}
 
 -- ---- no fault in the words, from a state on
@@ -28,32 +29,10 @@ abbrev pub Sound : State → List ℕ → Type 0
 Sound s [] = ended s ≡ 0
 Sound s (w ∷ ws) = (fault s w ws ≡ 0) × Sound (after s w) ws
 
-passed : (n p : ℕ) (r : Refusal) → faultOr n p r ≡ accepted → (n ≡ 0) × (r ≡ accepted)
-passed zero p r e = (refl, e)
-passed (suc n) p r e = let z : suc n ≡ 0 = ap (λ (x : Refusal). x .number) e in absurd (omega arith)
-
 pub sound : (ws : List ℕ) (s : State) (p : ℕ) → firstFault fault after ended s p ws ≡ accepted → Sound s ws
 unfolding firstFault
 sound [] s p e = passed (ended s) p accepted e .0
 sound (w ∷ ws) s p e = let h = passed (fault s w ws) p _ e in (h .0, sound ws (after s w) (p + 1) (h .1))
-
--- ---- a choice that is 0 where one of the two is not
-
-pub not-first : (a : ℕ) (t : Bool) (b : ℕ) → (suc a if t else b) ≡ 0 → (t ≡ false) × (b ≡ 0)
-not-first a true b e = absurd (omega arith)
-not-first a false b e = (refl, e)
-
-pub not-second : (a : ℕ) (t : Bool) (b : ℕ) → (a if t else suc b) ≡ 0 → (t ≡ true) × (a ≡ 0)
-not-second a true b e = (refl, e)
-not-second a false b e = absurd (omega arith)
-
-either : (a : ℕ) (t : Bool) (b : ℕ) → (a if t else b) ≡ 0 → ((t ≡ true) × (a ≡ 0)) ⊎ ((t ≡ false) × (b ≡ 0))
-either a true b e = inl (refl, e)
-either a false b e = inr (refl, e)
-
-neither : (t u : Bool) → (t || u) ≡ false → (t ≡ false) × (u ≡ false)
-neither true u e = absurd (let z : _≡_ {A = ℕ} 0 1 = cc in omega arith)
-neither false u e = (refl, e)
 
 not-below : (a b : _) → ltZ a b ≡ false → b ⊑ a
 not-below a b e = ltZ-no (rw e tt)
@@ -62,24 +41,23 @@ not-below a b e = ltZ-no (rw e tt)
 
 module _ (w : ℕ) where
   pub is-number : faultNumber w ≡ 0 → kind w ≡ 6
-  unfolding faultNumber
-  is-number e = eqb-true _ _ (not-second 0 (eqb (kind w) 6) 2 e .0)
-
-  -- of a kind k, and passing no test t for another fault
-  of-kind : (k n : ℕ) (t : Bool) → (Fault.wrongKind if not (eqb (kind w) k) else suc n if t else Fault.none) ≡ 0 → (kind w ≡ k) × (t ≡ false)
-  of-kind k n t e = let h = not-first 2 (not (eqb (kind w) k)) _ e in (eqb-true _ _ (not-false _ (h .0)), not-first n t 0 (h .1) .0)
+  unfolding faultNumberIn
+  is-number e = of-kind w 6 _ e .0
 
   pub is-variable : (t type : ℕ) → faultVariable t type w ≡ 0 → (kind w ≡ 5) × (t ≡ type)
   unfolding faultVariable
-  is-variable t type e = let h = of-kind 5 9 (not (eqb t type)) e in (h .0, eqb-true _ _ (not-false _ (h .1)))
+  is-variable t type e = let h = of-kind w 5 _ e in (h .0, eqb-true _ _ (not-false _ (not-first 9 (not (eqb t type)) 0 (h .1) .0)))
 
   pub is-length : faultLength w ≡ 0 → (kind w ≡ 6) × (payload w ≤ 32)
-  unfolding faultLength
-  is-length e = let h = of-kind 6 8 (ltb 32 (payload w)) e in (h .0, ltb-false _ _ (h .1))
+  unfolding faultLengthIn
+  is-length e = let h = of-kind w 6 _ e in (h .0, ltb-false _ _ (not-first 8 (ltb 32 (payload w)) 0 (of-range w _ (h .1) .1) .0))
 
-  pub is-upper : (l : ℕ) → faultUpper l w ≡ 0 → (kind w ≡ 2) × (signed l ⊑ signed w)
-  unfolding faultUpper
-  is-upper l e = let h = of-kind 2 3 (ltZ (signed w) (signed l)) e in (h .0, not-below _ _ (h .1))
+  pub is-upper : (l : ℕ) → faultUpper l w ≡ 0 → (kind w ≡ 2) × (signed l ⊑ signed w) × (inRange (signed w) ≡ true)
+  unfolding faultUpperIn
+  is-upper l e =
+      let h = of-kind w 2 _ e in
+      let r = of-range w _ (h .1) in
+      (h .0, not-below _ _ (not-first 3 (ltZ (signed w) (signed l)) 0 (r .1) .0), r .0)
 
 -- where a constraint or the end may stand, after c constraints
 pub data Head (c w : ℕ) : Type 0 where
@@ -98,14 +76,14 @@ is-head c w e = elim (either _ (eqb (kind w) 4) _ e) [ inl h ↦ one (h .0) (h .
 
 -- where a variable may stand too, after v variables
 pub data Start (v c w : ℕ) : Type 0 where
-  at-lower : v < 256 → kind w ≡ 1 → Start v c w
+  at-lower : v < 256 → kind w ≡ 1 → inRange (signed w) ≡ true → Start v c w
   at-boolean : v < 256 → kind w ≡ 3 → payload w ≡ 0 → Start v c w
   at-head : kind w ≢ 1 → kind w ≢ 3 → faultHead c w ≡ 0 → Start v c w
 
 pub is-start : (v c w : ℕ) → faultStart v c w ≡ 0 → Start v c w
-unfolding faultStart
+unfolding faultStartIn
 is-start v c w e = elim (either _ (eqb (kind w) 1) _ e) [
-  | inl h ↦ at-lower (leb-false 256 v (not-first 5 (leb 256 v) 0 (h .1) .0)) (eqb-true _ _ (h .0))
+  | inl h ↦ let r = of-range w _ (h .1) in at-lower (leb-false 256 v (not-first 5 (leb 256 v) 0 (r .1) .0)) (eqb-true _ _ (h .0)) (r .0)
   | inr h ↦ elim (either _ (eqb (kind w) 3) _ (h .1)) [
     | inl k ↦ let l = not-first 4 (ltb 0 (payload w)) _ (k .1) in
         at-boolean (leb-false 256 v (not-first 5 (leb 256 v) 0 (l .1) .0)) (eqb-true _ _ (k .0)) (omega (arith, ltb-false 0 (payload w) (l .0)))

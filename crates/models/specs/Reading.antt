@@ -1,4 +1,4 @@
--- Reading a model: faults 1 to 11, the leftmost faulty word, at one word by list order.
+-- Reading a model: faults 1 to 11 and 18, the leftmost faulty word, at one word by list order, 18 directly after 3.
 use mathlib.Core.Bool.{not, _||_}
 use mathlib.Core.List.{List, [], _∷_, _++_}
 use Prim.Native.Nat.{ℕ, _+_, _-_}
@@ -6,7 +6,8 @@ use lib.Dec.{ltb, leb, eqb}
 use lib.Signed.{ltZ}
 use lib.ListN.{length, getD}
 use Rattle.integers.specs.Choice.{_if_else_}
-use Rattle.words.specs.Word.{kind, payload, signed}
+use Rattle.integers.specs.declared.Bounds.{Bounds}
+use Rattle.words.specs.Word.{kind, payload, signed, tooLow}
 use Rattle.words.specs.Kind as Kind
 use Rattle.words.specs.Limit as Limit
 use Rattle.words.specs.Fault as Fault
@@ -24,7 +25,7 @@ pub record State : Type 0 where
   pub types : List ℕ
   pub constraints : ℕ
 
--- ---- The fault of a word, 0 for none. Where two hold, the lower number stands first.
+-- ---- The fault of a word, 0 for none. Where two hold, the lower number stands first, and 18 directly after 3.
 
 -- where a constraint or the end may stand, after c constraints: 3, 5, 7, 8
 unfoldable pub faultHead : ℕ → ℕ → ℕ
@@ -35,26 +36,6 @@ faultHead c w =
     else (Fault.payloadAboveZero if ltb 0 (payload w) else Fault.none) if eqb (kind w) Kind.modelEnd
     else Fault.wrongKind
 
--- where a variable may stand too, after v variables: 5, 6
-unfoldable pub faultStart : ℕ → ℕ → ℕ → ℕ
-faultStart v c w =
-    (Fault.tooManyVariables if leb Limit.variables v else Fault.none) if eqb (kind w) Kind.lower
-    else (Fault.payloadAboveZero if ltb 0 (payload w)
-    else Fault.tooManyVariables if leb Limit.variables v
-    else Fault.none) if eqb (kind w) Kind.boolean
-    else faultHead c w
-
--- of an upper bound after the word of its lower one: 3, 4
-unfoldable pub faultUpper : ℕ → ℕ → ℕ
-faultUpper lower w =
-    Fault.wrongKind if not (eqb (kind w) Kind.upper)
-    else Fault.upperBelowLower if ltZ (signed w) (signed lower)
-    else Fault.none
-
--- of a number: 3
-unfoldable pub faultNumber : ℕ → ℕ
-faultNumber w = Fault.none if eqb (kind w) Kind.number else Fault.wrongKind
-
 -- of a variable whose type is to be `type`, and is t: 3, 10
 unfoldable pub faultVariable : ℕ → ℕ → ℕ → ℕ
 faultVariable t type w =
@@ -62,33 +43,62 @@ faultVariable t type w =
     else Fault.notDeclared if not (eqb t type)
     else Fault.none
 
--- of a list's length: 3, 9
-unfoldable pub faultLength : ℕ → ℕ
-faultLength w =
-    Fault.wrongKind if not (eqb (kind w) Kind.number)
-    else Fault.lengthOutside if ltb Limit.listLength (payload w)
-    else Fault.none
+-- in a range of numbers, outside which a signed payload has fault 18, "checked directly after 3"
+module _ (range : Bounds) where
+  -- where a variable may stand too, after v variables: 18, 5, 6
+  unfoldable pub faultStartIn : ℕ → ℕ → ℕ → ℕ
+  faultStartIn v c w =
+      (Fault.lowestNumber if tooLow range w
+      else Fault.tooManyVariables if leb Limit.variables v
+      else Fault.none) if eqb (kind w) Kind.lower
+      else (Fault.payloadAboveZero if ltb 0 (payload w)
+      else Fault.tooManyVariables if leb Limit.variables v
+      else Fault.none) if eqb (kind w) Kind.boolean
+      else faultHead c w
 
--- of the word at an argument; after the last one, where a constraint or the end may stand
-unfoldable pub faultArgument : ℕ → ℕ → ℕ → ℕ → ℕ
-faultArgument t c arg w =
-    faultHead c w if eqb arg Shape.none
-    else faultVariable t arg w if ltb arg Shape.number
-    else faultNumber w if eqb arg Shape.number
-    else faultLength w
+  -- of an upper bound after the word of its lower one: 3, 18, 4
+  unfoldable pub faultUpperIn : ℕ → ℕ → ℕ
+  faultUpperIn lower w =
+      Fault.wrongKind if not (eqb (kind w) Kind.upper)
+      else Fault.lowestNumber if tooLow range w
+      else Fault.upperBelowLower if ltZ (signed w) (signed lower)
+      else Fault.none
 
--- by what is due: v variables and c constraints stand before, and t is the type of the variable that the word names
-unfoldable pub faultDue : Due → ℕ → ℕ → ℕ → ℕ → ℕ
-faultDue Start v t c w = faultStart v c w
-faultDue (Upper lower) v t c w = faultUpper lower w
-faultDue (Arguments numbers variables type code k) v t c w =
-    faultNumber w if ltb 0 numbers
-    else faultVariable t type w if ltb 0 variables
-    else faultArgument t c (argument code k) w
-faultDue Ended v t c w = Fault.wordAfterEnd
+  -- of a number: 3, 18
+  unfoldable pub faultNumberIn : ℕ → ℕ
+  faultNumberIn w =
+      Fault.wrongKind if not (eqb (kind w) Kind.number)
+      else Fault.lowestNumber if tooLow range w
+      else Fault.none
 
-unfoldable pub fault : State → ℕ → List ℕ → ℕ
-fault s w ws = faultDue (s .due) (length (s .types)) (getD (s .types) (payload w) Shape.none) (s .constraints) w
+  -- of a list's length: 3, 18, 9
+  unfoldable pub faultLengthIn : ℕ → ℕ
+  faultLengthIn w =
+      Fault.wrongKind if not (eqb (kind w) Kind.number)
+      else Fault.lowestNumber if tooLow range w
+      else Fault.lengthOutside if ltb Limit.listLength (payload w)
+      else Fault.none
+
+  -- of the word at an argument; after the last one, where a constraint or the end may stand
+  unfoldable pub faultArgumentIn : ℕ → ℕ → ℕ → ℕ → ℕ
+  faultArgumentIn t c arg w =
+      faultHead c w if eqb arg Shape.none
+      else faultVariable t arg w if ltb arg Shape.number
+      else faultNumberIn w if eqb arg Shape.number
+      else faultLengthIn w
+
+  -- by what is due: v variables and c constraints stand before, and t is the type of the variable that the word names
+  unfoldable pub faultDueIn : Due → ℕ → ℕ → ℕ → ℕ → ℕ
+  faultDueIn Start v t c w = faultStartIn v c w
+  faultDueIn (Upper lower) v t c w = faultUpperIn lower w
+  faultDueIn (Arguments numbers variables type code k) v t c w =
+      faultNumberIn w if ltb 0 numbers
+      else faultVariable t type w if ltb 0 variables
+      else faultArgumentIn t c (argument code k) w
+  faultDueIn Ended v t c w = Fault.wordAfterEnd
+
+  unfoldable pub faultIn : State → ℕ → List ℕ → ℕ
+  faultIn s w ws = faultDueIn (s .due) (length (s .types)) (getD (s .types) (payload w) Shape.none) (s .constraints) w
 
 -- ---- What is due after a word without a fault
 
@@ -140,7 +150,33 @@ abbrev pub begin : State
 begin = record { due = Start; types = []; constraints = 0 }
 
 -- 1 first: "More than 8,192 model words"
-unfoldable pub readModel : List ℕ → Refusal
-readModel ws =
-    let rest = firstFault fault after ended begin 0 ws in
+unfoldable pub readModelIn : Bounds → List ℕ → Refusal
+readModelIn range ws =
+    let rest = firstFault (faultIn range) after ended begin 0 ws in
     Fault.tooManyWords at-place 0 if ltb Limit.modelWords (length ws) else rest
+
+-- ---- In the range of 02
+
+abbrev pub faultStart : ℕ → ℕ → ℕ → ℕ
+faultStart = faultStartIn Limit.range
+
+abbrev pub faultUpper : ℕ → ℕ → ℕ
+faultUpper = faultUpperIn Limit.range
+
+abbrev pub faultNumber : ℕ → ℕ
+faultNumber = faultNumberIn Limit.range
+
+abbrev pub faultLength : ℕ → ℕ
+faultLength = faultLengthIn Limit.range
+
+abbrev pub faultArgument : ℕ → ℕ → ℕ → ℕ → ℕ
+faultArgument = faultArgumentIn Limit.range
+
+abbrev pub faultDue : Due → ℕ → ℕ → ℕ → ℕ → ℕ
+faultDue = faultDueIn Limit.range
+
+abbrev pub fault : State → ℕ → List ℕ → ℕ
+fault = faultIn Limit.range
+
+abbrev pub readModel : List ℕ → Refusal
+readModel = readModelIn Limit.range

@@ -13,6 +13,7 @@ use Rattle.integers.specs.Choice.{_if_else_}
 use Rattle.integers.specs.Number.{_⊗_, +0, +1}
 use Rattle.integers.specs.Lists.{listOf}
 use Rattle.integers.proofs.Linear.{linear, rep}
+use Rattle.integers.specs.Bounds.{within}
 use Rattle.words.specs.Word.{inRange}
 use Rattle.rules.specs.Pick.{bitOf, signPick, firstBit, gatedPick}
 use Rattle.picking.specs.Picked.{Ranged}
@@ -43,7 +44,7 @@ only-at (suc n) (suc h) v (suc k) l = only-at n h v k (omega arith) ∙ rw compa
 
 -- one-hot bits are in the range
 bit-ranged : (n h k : ℕ) → inRange (getD (onlyAt n h +1) k +0) ≡ true
-unfolding onlyAt inRange
+unfolding onlyAt within
 bit-ranged zero h k = refl
 bit-ranged (suc n) zero zero = refl
 bit-ranged (suc n) zero (suc k) = bit-ranged n n k
@@ -111,6 +112,6 @@ unfolding signPick bitOf
 sign-pick x = ap (λ z. (+1 if ltZ x +0 else +0) ∷ z ∷ []) (bit-times (ltZ x +0) x)
 
 pub bit-in : (t : Bool) → inRange (+1 if t else +0) ≡ true
-unfolding inRange
+unfolding within
 bit-in true = refl
 bit-in false = refl

@@ -12,6 +12,7 @@ use mir.Val.{SFits}
 use Rattle.integers.specs.Number.{+0}
 use Rattle.integers.specs.Terms.{value}
 use Rattle.integers.proofs.Linear.{arithZ}
+use Rattle.integers.specs.Bounds.{within}
 use Rattle.words.specs.Word.{inRange}
 use Rattle.words.specs.Overlay.{overlay}
 use Rattle.words.proofs.Word.{says-range}
@@ -43,7 +44,7 @@ fits32 (pos n) e = record { sfits = omega (arithZ, says-range (pos n) .0 e .1) }
 fits32 (negsuc n) e = record { sfits = omega (arithZ, says-range (negsuc n) .0 e .0) }
 
 zero-ranged : inRange +0 ≡ true
-unfolding inRange
+unfolding within
 zero-ranged = refl
 
 pub value-ranged : (ps : List ℤ) → ((x : ℕ) → x < length ps → inRange (value ps x) ≡ true) → Ranged ps

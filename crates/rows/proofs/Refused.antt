@@ -11,18 +11,18 @@ use Rattle.words.specs.Overlay.{overlay}
 use Rattle.words.proofs.Overlay.{length-overlay}
 use Rattle.words.specs.Answer.{refused, _else-answer_}
 use Rattle.words.specs.Refusal.{_else-refuse_}
-use Rattle.models.specs.Reading.{readModel}
-use Rattle.rules.specs.Check.{checkFault}
-use Rattle.rules.specs.Translate.{translateFault, translate, translated}
+use Rattle.models.specs.Reading.{readModelIn}
+use Rattle.rules.specs.Check.{checkFaultIn}
+use Rattle.rules.specs.Translate.{translateFaultIn, translate, translateIn, translated, translatedIn}
 use Rattle.translation.proofs.Over.{front-over}
 
 module _ (ws : List ℕ) (l : 8192 < length ws) where
   long-answer : (room : ℕ) → translate ws room ≡ refused 1 0
-  unfolding translate translateFault checkFault readModel _else-refuse_ _else-answer_
+  unfolding translateIn translateFaultIn checkFaultIn readModelIn _else-refuse_ _else-answer_
   long-answer room = rw (lt-ltb 8192 (length ws) l)
 
   long-output : (out : List ℕ) → translated ws out ≡ out
-  unfolding translated translateFault checkFault readModel _else-refuse_
+  unfolding translatedIn translateFaultIn checkFaultIn readModelIn _else-refuse_
   long-output out = rw (lt-ltb 8192 (length ws) l)
 
 -- The words laid over a list of 8,193: translate answers of the front that they fill what it answers of all.

@@ -1,2 +1,3 @@
 -- Laws for proofs about row systems.
 pub mod ReadBack
+pub mod Numbers

@@ -16,7 +16,7 @@ use Rattle.integers.specs.Terms.{Term, _·_}
 use Rattle.integers.specs.declared.Bounds.{Bounds}
 use Rattle.integers.proofs.Linear.{_⊑_, arithZ}
 use Rattle.integers.proofs.Tests.{All, says-not, says-lt}
-use Rattle.words.specs.Word.{kind, payload, signed, inRange, word, numberWord, wordAt}
+use Rattle.words.specs.Word.{kind, payload, signed, inRange, tooLow, word, numberWord, wordAt}
 use Rattle.words.specs.Kind as Kind
 use Rattle.words.specs.Limit as Limit
 use Rattle.words.specs.Variables.{startsPair, variables}
@@ -27,7 +27,7 @@ use Rattle.rowsystems.specs.declared.Due.{Due}
 use Rattle.rowsystems.specs.declared.Due.the-variants.{Source, Item, Terms}
 use Rattle.rowsystems.specs.Row.{Row, sum≤0, sum=0, product, renameTerms, rename}
 use Rattle.rowsystems.specs.RowWords.{boundWords, termWords, sumWords, rowWords, boundNumbers, rowNumbers}
-use Rattle.rowsystems.specs.Reading.{State, fault, faultDue, faultItem, faultSource, faultUpper, faultVariable, faultNumber, faultResult, notAbove, after, afterDue, afterItem, started, ended, faultEnd, begin, readRows}
+use Rattle.rowsystems.specs.Reading.{State, fault, faultDue, faultLower, faultItem, faultSource, faultUpper, faultVariable, faultNumber, faultResult, notAbove, after, afterDue, afterItem, started, ended, faultEnd, begin, readRows}
 use Rattle.rowsystems.specs.RowSystem.{rows, termCount, variableAt, numberAt, termsIn, constantIn}
 
 -- ---- Reading from a state on
@@ -77,12 +77,12 @@ end n =
 
 auxiliary : {n : ℕ} {ws : List ℕ} {Bs : List Bounds} {Rs : List (Row ℕ)} (B : Bounds) → n < Limit.inAll → Ranged (boundNumbers B) → B .lower ⊑ B .upper →
     Items (n + 1) ws Bs Rs → Items n (boundWords B ++ ws) (B ∷ Bs) Rs
-unfolding firstFault fault faultDue faultItem faultUpper after afterDue afterItem started variables startsPair rows boundWords boundNumbers wordAt
+unfolding firstFault fault faultDue faultItem faultLower faultUpper tooLow after afterDue afterItem started variables startsPair rows boundWords boundNumbers wordAt
 auxiliary {n} B room h o r =
     let l = signed-number Kind.auxiliaryLower (B .lower) (h .0) in
     let u = signed-number Kind.auxiliaryUpper (B .upper) (h .1 .0) in
     both Kind.auxiliaryLower (kind-number Kind.auxiliaryLower (B .lower)) refl refl (record {
-      accepts = λ p. simp (kind-number, l, u, add-zero, lt-leb Limit.inAll n room, not-below o) (r .1 .accepts (p + 1 + 1));
+      accepts = λ p. simp (kind-number, l, u, h .0, h .1 .0, add-zero, lt-leb Limit.inAll n room, not-below o) (r .1 .accepts (p + 1 + 1));
       the-bounds = simp (kind-number, l, u, r .1 .the-bounds);
       the-rows = simp kind-number (r .1 .the-rows);
     })
@@ -116,16 +116,17 @@ module _ {X : Type 0} (f : X → ℕ) {n : ℕ} (room : n ≤ Limit.inAll) where
   length-rename ts = length-map ts (λ t. t .coefficient · f (t .variable))
 
   -- the reader passes over a row's terms
-  terms-accepted : {ws : List ℕ} {Bs : List Bounds} {Rs : List (Row ℕ)} (ts : List (Term X)) → All (λ t. f (t .variable) < n) ts →
+  terms-accepted : {ws : List ℕ} {Bs : List Bounds} {Rs : List (Row ℕ)} (ts : List (Term X)) → Ranged (map (λ t. t .coefficient) ts) → All (λ t. f (t .variable) < n) ts →
       Reads (state (Terms 0) n) ws Bs Rs → Reads (state (Terms (length ts)) n) (flatMap termWords (renameTerms f ts) ++ ws) Bs Rs
-  unfolding firstFault fault faultDue faultVariable faultNumber after afterDue started variables startsPair rows termWords flatMap renameTerms
-  terms-accepted [] d r = r
-  terms-accepted (t ∷ ts) d r =
-      let k = terms-accepted ts (d .1) r in
+  unfolding firstFault fault faultDue faultVariable faultNumber tooLow after afterDue started variables startsPair rows termWords flatMap renameTerms
+  terms-accepted [] h d r = r
+  terms-accepted (t ∷ ts) h d r =
+      let k = terms-accepted ts (h .1) (d .1) r in
+      let c = signed-number Kind.number (t .coefficient) (h .0) in
       let e : f (t .variable) < n = d .0 in
       let m : suc (length ts) - 1 ≡ length ts = omega arith in
       record {
-        accepts = λ p. simp (kind-word, kind-number, variable-word, add-zero, m, lt-ltb 0 (suc (length ts)) (omega arith), lt-leb) (k .accepts (p + 1 + 1));
+        accepts = λ p. simp (kind-word, kind-number, variable-word, c, h .0, add-zero, m, lt-ltb 0 (suc (length ts)) (omega arith), lt-leb) (k .accepts (p + 1 + 1));
         the-bounds = simp (kind-word, kind-number) (k .the-bounds);
         the-rows = simp (kind-word, kind-number) (k .the-rows);
       }
@@ -153,18 +154,19 @@ module _ {X : Type 0} (f : X → ℕ) {n : ℕ} (room : n ≤ Limit.inAll) where
         ((w : ℕ) (vs : List ℕ) → kind w ≡ k → rows (w ∷ vs) ≡ make (termsIn vs (termCount w)) (constantIn vs (termCount w)) ∷ rows vs) →
         (ts : List (Term X)) (c : ℤ) → length ts ≤ Limit.terms → Ranged (map (λ t. t .coefficient) ts ++ (c ∷ [])) → All (λ t. f (t .variable) < n) ts →
         Items n (sumWords k (renameTerms f ts) c ++ ws) Bs (make (renameTerms f ts) c ∷ Rs)
-    unfolding sumWords firstFault fault faultDue faultItem faultNumber after afterDue afterItem started variables startsPair rows termCount wordAt
+    unfolding sumWords firstFault fault faultDue faultItem faultNumber tooLow after afterDue afterItem started variables startsPair rows termCount wordAt
     sum-row k make k1 k3 k8 kC kF kAB made ts c s h d =
         let last = numberWord Kind.number c ∷ ws in
         let w = kind-word k (length (renameTerms f ts)) in
         let l = length-rename ts in
         let p : payload (word k (length (renameTerms f ts))) ≡ length ts = payload-word k _ (omega arith) ∙ l in
-        let body : Reads (state (Terms (length ts)) n) (flatMap termWords (renameTerms f ts) ++ last) Bs Rs = terms-accepted ts d (record {
-          accepts = λ q. simp (kind-number, add-zero) (r .1 .accepts (q + 1));
+        let ranged = split (map (λ t. t .coefficient) ts) (c ∷ []) h in
+        let constant = signed-number Kind.number c (ranged .1 .0) in
+        let body : Reads (state (Terms (length ts)) n) (flatMap termWords (renameTerms f ts) ++ last) Bs Rs = terms-accepted ts (ranged .0) d (record {
+          accepts = λ q. simp (kind-number, constant, ranged .1 .0, add-zero) (r .1 .accepts (q + 1));
           the-bounds = simp kind-number (r .1 .the-bounds);
           the-rows = simp kind-number (r .1 .the-rows);
         }) in
-        let constant = signed-number Kind.number c (split (map (λ t. t .coefficient) ts) (c ∷ []) h .1 .0) in
         rw append-assoc (both k w k1 k3 (record {
           accepts = λ q. simp (w, p, k1, k3, k8, kC, kF, kAB, add-zero, le-ltb Limit.terms (length ts) s) (body .accepts (q + 1));
           the-bounds = simp (w, k1, k3, k8) (body .the-bounds);
@@ -207,12 +209,12 @@ block f As qs room h o d r =
 
 sources : {n : ℕ} {src ws : List ℕ} {Bs Cs : List Bounds} {Rs : List (Row ℕ)} → Sources src Bs → n + length Bs ≤ Limit.inAll →
     Items (n + length Bs) ws Cs Rs → Reads (state Source n) (src ++ ws) (Bs ++ Cs) Rs
-unfolding firstFault fault faultDue faultSource faultUpper after afterDue started variables startsPair rows wordAt
+unfolding firstFault fault faultDue faultSource faultLower faultUpper tooLow after afterDue started variables startsPair rows wordAt
 sources none room r = rw add-zero at (r .0)
 sources {n} (integer {Bs = Bs} l u o ss) room r =
     let k = sources ss (omega arith) (rw (one-more n (length Bs)) at r) in
     record {
-      accepts = λ p. simp (l, u, add-zero, lt-leb Limit.inAll n (omega arith), not-below o) (k .accepts (p + 1 + 1));
+      accepts = λ p. simp (l, u, o .lower-in, o .upper-in, add-zero, lt-leb Limit.inAll n (omega arith), not-below (o .rising)) (k .accepts (p + 1 + 1));
       the-bounds = simp (l, u, k .the-bounds);
       the-rows = simp (l, u, k .the-rows);
     }

@@ -1,4 +1,4 @@
--- Reading a row system: faults 1 to 5, 9 to 11, 14, 17, the leftmost faulty word, at one word by list order.
+-- Reading a row system: faults 1 to 5, 9 to 11, 14, 17, 18, the leftmost faulty word, at one word by list order, 18 directly after 3.
 use mathlib.Core.Bool.{Bool, not, _&&_, _||_}
 use mathlib.Core.List.{List}
 use Prim.Native.Nat.{ℕ, _+_, _-_}
@@ -6,7 +6,7 @@ use lib.Dec.{ltb, leb, eqb}
 use lib.Signed.{ltZ}
 use lib.ListN.{length}
 use Rattle.integers.specs.Choice.{_if_else_}
-use Rattle.words.specs.Word.{kind, payload, signed, wordAt}
+use Rattle.words.specs.Word.{kind, payload, signed, tooLow, wordAt}
 use Rattle.words.specs.Kind as Kind
 use Rattle.words.specs.Limit as Limit
 use Rattle.words.specs.Fault as Fault
@@ -21,29 +21,37 @@ pub record State : Type 0 where
   pub due : Due
   pub variables : ℕ
 
--- ---- The fault of a word, 0 for none. Where two hold, the lower number stands first.
+-- ---- The fault of a word, 0 for none. Where two hold, the lower number stands first, and 18 directly after 3.
 
--- where an auxiliary, a row, a product or the end may stand, after n variables: 3, 5, 9, 14
+-- of a lower bound after n variables: 18, 14
+unfoldable pub faultLower : ℕ → ℕ → ℕ
+faultLower n w =
+    Fault.lowestNumber if tooLow Limit.range w
+    else Fault.tooManyInAll if leb Limit.inAll n
+    else Fault.none
+
+-- where an auxiliary, a row, a product or the end may stand, after n variables: 3, 18, 5, 9, 14
 unfoldable pub faultItem : ℕ → ℕ → ℕ
 faultItem n w =
-    (Fault.tooManyInAll if leb Limit.inAll n else Fault.none) if eqb (kind w) Kind.auxiliaryLower
+    faultLower n w if eqb (kind w) Kind.auxiliaryLower
     else (Fault.lengthOutside if ltb Limit.terms (payload w) else Fault.none) if eqb (kind w) Kind.atMost || eqb (kind w) Kind.equal
     else (Fault.payloadAboveZero if ltb 0 (payload w) else Fault.none) if eqb (kind w) Kind.product || eqb (kind w) Kind.rowsEnd
     else Fault.wrongKind
 
--- where a source variable may stand too: 5, 14
+-- where a source variable may stand too: 18, 5, 14
 unfoldable pub faultSource : ℕ → ℕ → ℕ
 faultSource n w =
-    (Fault.tooManyInAll if leb Limit.inAll n else Fault.none) if eqb (kind w) Kind.lower
+    faultLower n w if eqb (kind w) Kind.lower
     else (Fault.payloadAboveZero if ltb 0 (payload w)
     else Fault.tooManyInAll if leb Limit.inAll n
     else Fault.none) if eqb (kind w) Kind.boolean
     else faultItem n w
 
--- of an upper bound, whose kind is k, after the word of its lower one: 3, 4
+-- of an upper bound, whose kind is k, after the word of its lower one: 3, 18, 4
 unfoldable pub faultUpper : ℕ → ℕ → ℕ → ℕ
 faultUpper k lower w =
     Fault.wrongKind if not (eqb (kind w) k)
+    else Fault.lowestNumber if tooLow Limit.range w
     else Fault.upperBelowLower if ltZ (signed w) (signed lower)
     else Fault.none
 
@@ -54,9 +62,12 @@ faultVariable n w =
     else Fault.notDeclared if leb n (payload w)
     else Fault.none
 
--- of a coefficient or a constant: 3
+-- of a coefficient or a constant: 3, 18
 unfoldable pub faultNumber : ℕ → ℕ
-faultNumber w = Fault.none if eqb (kind w) Kind.number else Fault.wrongKind
+faultNumber w =
+    Fault.wrongKind if not (eqb (kind w) Kind.number)
+    else Fault.lowestNumber if tooLow Limit.range w
+    else Fault.none
 
 -- 17: "A product's result number is not above both factors'; .. judged only if both factor words have kind 5."
 unfoldable pub notAbove : ℕ → ℕ → ℕ → Bool

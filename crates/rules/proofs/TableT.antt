@@ -4,7 +4,7 @@
 use mathlib.Core.Path.{_≡_, refl}
 use mathlib.Core.Bool.{Bool, true, false, not, _&&_}
 use mathlib.Core.List.{List, [], _∷_, _++_, map, flatMap, zipWith}
-use Prim.Native.Nat.{ℕ, _+_}
+use Prim.Native.Nat.{ℕ, zero, suc, _+_}
 use lib.Dec.{eqb}
 use lib.IntN.{ℤ, pos, negsuc}
 use lib.ListN.{length}
@@ -13,7 +13,7 @@ use Rattle.integers.specs.Lists.{listOf, all, any, howMany}
 use Rattle.integers.specs.Bounds.{within, width, values, boundsIn}
 use Rattle.integers.specs.Terms.{value, sum}
 use Rattle.integers.specs.declared.Bounds.{Bounds}
-use Rattle.words.specs.Word.{kind, payload, signed, inRange, word, complement, numberWord, wordAt}
+use Rattle.words.specs.Word.{kind, payload, signed, tooLow, word, complement, numberWord, wordAt}
 use Rattle.words.specs.Variables.{variables, startsPair}
 use Rattle.words.specs.Overlay.{overlay}
 use Rattle.words.specs.Refusal.{_else-refuse_, firstFault, countFault}
@@ -22,7 +22,7 @@ use Rattle.words.specs.Judge.{firstFalse, firstOutOfBounds, judge}
 use Rattle.models.specs.Meaning.{on, off, element, maximum, member, odd, meaning}
 use Rattle.models.specs.Shape.{shapes, argument}
 use Rattle.models.specs.Reading as Model
-use Rattle.models.specs.Reading.{readModel}
+use Rattle.models.specs.Reading.{readModelIn}
 use Rattle.models.specs.Model.{constraintsFrom, constraints, sourceWords, var, num, size, vars, nums, past, terms, pastTerms, builtins, builtin}
 use Rattle.models.specs.JudgeModel as JudgeModel
 use Rattle.models.specs.JudgeModel.{judgeModel}
@@ -33,20 +33,22 @@ use Rattle.rowsystems.specs.Reading.{readRows}
 use Rattle.rowsystems.specs.RowSystem.{termCount, variableAt, numberAt, termsIn, constantIn, rows}
 use Rattle.rowsystems.specs.JudgeRows as JudgeRows
 use Rattle.rowsystems.specs.JudgeRows.{judgeRows}
-use Rattle.rules.specs.Block.{numbered, blockWords, blockNumbers, outside}
+use Rattle.rules.specs.Block.{numbered, blockWords, blockNumbers, outsideIn}
 use Rattle.rules.specs.Parts.{Z, endProducts, extreme, L, U, halfLess, _─_≤0, _─_=0, sources, each, bits, weighted, oneBit, chosen, products, nth, places, leastFrom, rising, members}
 use Rattle.rules.specs.Rule as Rule
 use Rattle.rules.specs.Rule.{rule}
 use Rattle.rules.specs.Pick.{bitOf, signPick, signedPick, firstBit, gatedPick, pick}
 use Rattle.rules.specs.Translation.{bounds, blockOf, blocksWords, systemWords, auxiliaries, blockRows, picks}
-use Rattle.rules.specs.Check.{tooWide, blockFault, blocksFault, checkFault, check}
-use Rattle.rules.specs.Translate.{roomFault, translateFault, translate, translated}
-use Rattle.rules.specs.Fill.{filledCount, fillFault, fill, filled}
+use Rattle.rules.specs.Check.{tooWide, blockFaultIn, blocksFaultIn, checkFault, checkFaultIn, check, checkIn}
+use Rattle.rules.specs.Translate.{roomFault, translateFaultIn, translate, translateIn, translated, translatedIn}
+use Rattle.rules.specs.Fill.{filledCount, fillFaultIn, fill, fillIn, filled, filledIn}
 
 -- What a line of the table says of a model's words.
 pub data Line : Type 0 where
   -- check refuses them, with this number and place
   refuses : (model : List ℕ) (number place : ℕ) → Line
+  -- judge-rows refuses the words of a row system so
+  refusesRows : (system : List ℕ) (number place : ℕ) → Line
   -- check accepts them, and this word is among those that translate writes
   accepts : (model : List ℕ) (word : ℕ) → Line
   -- translate writes these words, and those past the end keep their values
@@ -100,6 +102,7 @@ unusedValues = pos 7 ∷ pos 8 ∷ []
 
 pub isTrue : Line → Bool
 isTrue (refuses m n p) = sameAnswer (check m) (refused n p)
+isTrue (refusesRows s n p) = sameAnswer (judgeRows s []) (refused n p)
 isTrue (accepts m w) = isAccepted m && any (eqb w) (systemWords m)
 isTrue (translates m ws) =
     sameAnswer (translate m (length ws + 2)) (written (length ws))
@@ -135,9 +138,9 @@ T8 =
     0x1FFFFFFC ∷ 0x2FFFFFFE ∷ 0x1FFFFFFC ∷ 0x2FFFFFFE ∷ 0x1FFFFFFC ∷ 0x2FFFFFFE ∷
     0x4000001A ∷ 0x50000000 ∷ 0x60000002 ∷ 0x50000001 ∷ 0x50000002 ∷ 0x70000000 ∷ []
 
--- code 5, a in 0..134,217,727, b from the word given to 134,217,727
-T9 : ℕ → List ℕ
-T9 lower = 0x10000000 ∷ 0x27FFFFFF ∷ lower ∷ 0x27FFFFFF ∷ 0x30000000 ∷ 0x40000005 ∷ 0x50000000 ∷ 0x50000001 ∷ 0x50000002 ∷ 0x70000000 ∷ []
+-- code 5, a in 0..134,217,727, b between the words given
+T9 : ℕ → ℕ → List ℕ
+T9 lower upper = 0x10000000 ∷ 0x27FFFFFF ∷ lower ∷ upper ∷ 0x30000000 ∷ 0x40000005 ∷ 0x50000000 ∷ 0x50000001 ∷ 0x50000002 ∷ 0x70000000 ∷ []
 
 -- code 24, n=3, i in 4..5; c in 1..3, the list 1, 2, 3
 T10 : List ℕ
@@ -165,6 +168,11 @@ fourSwitches =
 noSwitches : List ℕ
 noSwitches = 0x40000017 ∷ 0x60000000 ∷ 0x70000000 ∷ []
 
+-- 02, Wish 2: so many Boolean variables, where 18 comes before 6 and 14
+booleans : ℕ → List ℕ
+booleans zero = []
+booleans (suc n) = 0x30000000 ∷ booleans n
+
 pub table : List Line
 table =
     translates (0x70000000 ∷ []) (0xF0000000 ∷ []) ∷
@@ -179,8 +187,9 @@ table =
     fills T6 (pos 1 ∷ []) (pos 1 ∷ pos 0 ∷ pos 0 ∷ []) ∷
     denies T7 (pos 3 ∷ pos 3 ∷ pos 0 ∷ []) 0 ∷
     fills T8 (negsuc 2 ∷ negsuc 2 ∷ negsuc 2 ∷ []) (pos 1 ∷ pos 0 ∷ negsuc 2 ∷ pos 0 ∷ []) ∷
-    accepts (T9 0x10000000) 0x68000000 ∷
-    refuses (T9 0x1FFFFFFF) 13 5 ∷
+    refuses (T9 0x10000000 0x27FFFFFF) 13 5 ∷
+    refuses (T9 0x1FFFFFFF 0x27FFFFFF) 13 5 ∷
+    accepts (T9 0x10000000 0x27FFFFFE) 0x68000001 ∷
     never T10 ∷
     accepts (T11 0x2000003F) 0xF0000000 ∷
     refuses (T11 0x20000040) 12 3 ∷
@@ -193,21 +202,25 @@ table =
     denies fourSwitches (pos 1 ∷ pos 1 ∷ pos 1 ∷ pos 1 ∷ []) 0 ∷
     translates noSwitches (0x80000000 ∷ 0x90000000 ∷ 0xB0000001 ∷ 0x50000000 ∷ 0x6FFFFFFE ∷ 0x6FFFFFFF ∷ 0xF0000000 ∷ []) ∷
     never noSwitches ∷
+    refuses (0x10000000 ∷ 0x28000000 ∷ []) 18 1 ∷
+    refuses (booleans 256 ++ (0x18000000 ∷ [])) 18 256 ∷
+    refuses (0x40000017 ∷ 0x68000000 ∷ []) 18 1 ∷
+    refusesRows (booleans 4096 ++ (0x88000000 ∷ [])) 18 4096 ∷
     []
 
 pub table-T : all isTrue table ≡ true
-unfolding sameList sameAnswer listsWithin isAccepted isDenied unusedWords unusedValues isTrue T3 T5 T6 T7 T8 T9 T10 T11 T12 switches fourSwitches noSwitches table within width values
+unfolding sameList sameAnswer listsWithin isAccepted isDenied unusedWords unusedValues isTrue T3 T5 T6 T7 T8 T9 T10 T11 T12 switches fourSwitches noSwitches booleans table within width values
     boundsIn listOf all any howMany _⊕_ _⊖_ _⊗_ neg minZ maxZ absZ _==_ count value sum _else-answer_ isHolds firstFalse firstOutOfBounds judge
-    overlay _else-refuse_ firstFault countFault startsPair variables kind payload signed inRange word complement numberWord wordAt
+    overlay _else-refuse_ firstFault countFault startsPair variables kind payload signed word complement numberWord wordAt
     JudgeModel.judgeAccepted JudgeRows.judgeAccepted judgeModel on off element maximum member odd meaning constraintsFrom constraints var num size vars
-    nums past terms pastTerms builtins builtin Model.faultHead Model.faultStart Model.faultUpper Rows.faultUpper Model.faultNumber Rows.faultNumber
-    Model.faultVariable Rows.faultVariable Model.faultLength Model.faultArgument Model.faultDue Rows.faultDue Model.fault Rows.fault Model.afterHead
+    nums past terms pastTerms builtins builtin tooLow Model.faultHead Model.faultStartIn Model.faultUpperIn Rows.faultUpper Model.faultNumberIn Rows.faultNumber
+    Model.faultVariable Rows.faultVariable Model.faultLengthIn Model.faultArgumentIn Model.faultDueIn Rows.faultDue Model.faultIn Rows.fault Model.afterHead
     Model.afterArgument Model.afterDue Rows.afterDue Model.declared Model.started Rows.started Model.after Rows.after Model.faultEnd Rows.faultEnd
-    Model.ended Rows.ended readModel shapes argument judgeRows Rows.faultItem Rows.faultSource Rows.notAbove Rows.faultResult Rows.afterItem readRows
+    Model.ended Rows.ended readModelIn shapes argument judgeRows Rows.faultLower Rows.faultItem Rows.faultSource Rows.notAbove Rows.faultResult Rows.afterItem readRows
     satisfied renameTerms rename termCount variableAt numberAt termsIn constantIn rows boundWords termWords sumWords rowWords boundNumbers rowNumbers
-    numbered blockWords blockNumbers outside tooWide blockFault blocksFault checkFault check filledCount fillFault fill filled Z endProducts extreme L
+    numbered blockWords blockNumbers outsideIn tooWide blockFaultIn blocksFaultIn checkFaultIn checkIn filledCount fillFaultIn fillIn filledIn Z endProducts extreme L
     U halfLess _─_≤0 _─_=0 sources each bits weighted oneBit chosen products nth places leastFrom rising members bitOf signPick signedPick firstBit gatedPick
     pick Rule.linked Rule.signed Rule.notEqual Rule.lessEqualReified Rule.absolute Rule.larger Rule.linNotEqual Rule.linEqualReified
     Rule.linLessEqualReified Rule.exclusiveOr Rule.numberElement Rule.variableElement Rule.largest Rule.inSet Rule.inSetReified rule roomFault
-    translateFault translate translated bounds blockOf sourceWords blocksWords systemWords auxiliaries blockRows picks flatMap zipWith
+    translateFaultIn translateIn translatedIn bounds blockOf sourceWords blocksWords systemWords auxiliaries blockRows picks flatMap zipWith
 table-T = refl

@@ -4,8 +4,9 @@ use mathlib.Core.List.{List, _++_, flatMap}
 use Prim.Native.Nat.{ℕ, _+_}
 use lib.IntN.{ℤ}
 use Rattle.integers.specs.Lists.{all}
+use Rattle.integers.specs.Bounds.{within}
 use Rattle.integers.specs.declared.Bounds.{Bounds}
-use Rattle.words.specs.Word.{inRange}
+use Rattle.words.specs.Limit as Limit
 use Rattle.rowsystems.specs.Row.{Row, rename}
 use Rattle.rowsystems.specs.RowWords.{boundWords, rowWords, boundNumbers, rowNumbers}
 
@@ -30,5 +31,8 @@ blockWords first B = flatMap boundWords (B .auxiliaries) ++ flatMap (λ r. rowWo
 unfoldable pub blockNumbers : Block → List ℤ
 blockNumbers B = flatMap boundNumbers (B .auxiliaries) ++ flatMap rowNumbers (B .rows)
 
-unfoldable pub outside : Block → Bool
-outside B = not (all inRange (blockNumbers B))
+unfoldable pub outsideIn : Bounds → Block → Bool
+outsideIn range B = not (all (within range) (blockNumbers B))
+
+abbrev pub outside : Block → Bool
+outside = outsideIn Limit.range

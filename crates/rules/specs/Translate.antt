@@ -1,27 +1,42 @@
--- Translate: 1 to 14, then 16; else the words of the row system, laid over the lent output.
+-- Translate: 1 to 14 and 18, then 16; else the words of the row system, laid over the lent output.
 use mathlib.Core.List.{List}
 use Prim.Native.Nat.{ℕ}
 use lib.Dec.{ltb, eqb}
 use lib.ListN.{length}
 use Rattle.integers.specs.Choice.{_if_else_}
+use Rattle.integers.specs.declared.Bounds.{Bounds}
+use Rattle.words.specs.Limit as Limit
 use Rattle.words.specs.Fault as Fault
 use Rattle.words.specs.Overlay.{overlay}
 use Rattle.words.specs.Refusal.{_at-place_, accepted, _else-refuse_}
 use Rattle.words.specs.Answer.{Answer, written, _else-answer_}
 use Rattle.words.specs.declared.Refusal.{Refusal}
 use Rattle.rules.specs.Translation.{systemWords}
-use Rattle.rules.specs.Check.{checkFault}
+use Rattle.rules.specs.Check.{checkFaultIn}
 
 -- 16: "The lent output is too short": it has `room` places and n are needed
 unfoldable pub roomFault : ℕ → ℕ → Refusal
 roomFault room n = Fault.outputTooShort at-place 0 if ltb room n else accepted
 
-unfoldable pub translateFault : List ℕ → ℕ → Refusal
-translateFault ws room = checkFault ws else-refuse roomFault room (length (systemWords ws))
+-- in a range of numbers
+module _ (range : Bounds) where
+  unfoldable pub translateFaultIn : List ℕ → ℕ → Refusal
+  translateFaultIn ws room = checkFaultIn range ws else-refuse roomFault room (length (systemWords ws))
 
--- the answer, how many words were written; and the output afterwards: "words past the end keep their values"
-unfoldable pub translate : List ℕ → ℕ → Answer
-translate ws room = translateFault ws room else-answer written (length (systemWords ws))
+  -- the answer, how many words were written; and the output afterwards: "words past the end keep their values"
+  unfoldable pub translateIn : List ℕ → ℕ → Answer
+  translateIn ws room = translateFaultIn ws room else-answer written (length (systemWords ws))
 
-unfoldable pub translated : List ℕ → List ℕ → List ℕ
-translated ws out = overlay out 0 (systemWords ws) if eqb (translateFault ws (length out) .number) Fault.none else out
+  unfoldable pub translatedIn : List ℕ → List ℕ → List ℕ
+  translatedIn ws out = overlay out 0 (systemWords ws) if eqb (translateFaultIn ws (length out) .number) Fault.none else out
+
+-- ---- In the range of 02
+
+abbrev pub translateFault : List ℕ → ℕ → Refusal
+translateFault = translateFaultIn Limit.range
+
+abbrev pub translate : List ℕ → ℕ → Answer
+translate = translateIn Limit.range
+
+abbrev pub translated : List ℕ → List ℕ → List ℕ
+translated = translatedIn Limit.range

@@ -14,11 +14,11 @@ use Rattle.words.specs.Limit as Limit
 use Rattle.words.specs.Variables.{variables}
 use Rattle.words.specs.Refusal.{_at-place_, accepted, faultOr, _else-refuse_, firstFault}
 use Rattle.words.specs.declared.Refusal.{Refusal}
-use Rattle.models.specs.Reading.{fault, after, ended, begin, readModel}
+use Rattle.models.specs.Reading.{fault, after, ended, begin, readModel, readModelIn}
 use Rattle.models.specs.Model.{Constraint, constraints}
 use Rattle.rules.specs.Block.{outside}
 use Rattle.rules.specs.Translation.{bounds, blockOf}
-use Rattle.rules.specs.Check.{tooWide, blockFault, blocksFault, checkFault}
+use Rattle.rules.specs.Check.{tooWide, blockFault, blockFaultIn, blocksFault, blocksFaultIn, checkFaultIn}
 use Rattle.sharing.specs.SharedSolutions.{Passes}
 
 -- a fault makes a refusal, whose number is not 0
@@ -40,7 +40,7 @@ module _ {S : Type 0} (fault : S → ℕ → List ℕ → ℕ) (next : S → ℕ
       then-after (fault s w ws) p (firstFault fault next ended (next s w) (p + 1) ws) (f .0) ∙ read-without (next s w) (p + 1) ws (f .1)
 
 pub read-zero : (ws : List ℕ) → readModel ws .number ≡ 0 → readModel ws ≡ accepted
-unfolding readModel
+unfolding readModelIn
 read-zero ws = go (ltb Limit.modelWords (length ws))
   where
     rest : Refusal
@@ -63,7 +63,7 @@ Fine β first (c ∷ cs) =
 
 pub one-fine : (β : ℕ → Bounds) (first : ℕ) (c : Constraint) → blockFault β first c ≡ 0 →
     (tooWide β c ≡ false) × (outside (blockOf β c) ≡ false) × (first + length (blockOf β c .auxiliaries) ≤ Limit.inAll)
-unfolding blockFault
+unfolding blockFaultIn
 one-fine β first c = go (tooWide β c) (outside (blockOf β c)) (ltb Limit.inAll (first + length (blockOf β c .auxiliaries))) refl
   where
     go : (t u v : Bool) → ltb Limit.inAll (first + length (blockOf β c .auxiliaries)) ≡ v →
@@ -75,7 +75,7 @@ one-fine β first c = go (tooWide β c) (outside (blockOf β c)) (ltb Limit.inAl
     go false false false e f = (refl, refl, ltb-false _ _ e)
 
 pub all-fine : (β : ℕ → Bounds) (first : ℕ) (cs : List Constraint) → blocksFault β first cs .number ≡ 0 → Fine β first cs
-unfolding blocksFault
+unfolding blocksFaultIn
 all-fine β first [] e = tt
 all-fine β first (c ∷ cs) e =
     let n = first + length (blockOf β c .auxiliaries) in
@@ -86,11 +86,11 @@ all-fine β first (c ∷ cs) e =
 -- ---- the whole
 
 pub passes-read : (ws : List ℕ) → Passes ws → readModel ws ≡ accepted
-unfolding checkFault _else-refuse_
+unfolding checkFaultIn _else-refuse_
 passes-read ws h = read-zero ws (no-fault (readModel ws .number) (readModel ws .place) _ (ap (λ (r : Refusal). r .number) h) .0)
 
 pub passes-fine : (ws : List ℕ) → Passes ws → Fine (bounds ws) (length (variables ws)) (constraints ws)
-unfolding checkFault _else-refuse_
+unfolding checkFaultIn _else-refuse_
 passes-fine ws h =
     all-fine (bounds ws) (length (variables ws)) (constraints ws)
     (no-fault (readModel ws .number) (readModel ws .place) _ (ap (λ (r : Refusal). r .number) h) .1)

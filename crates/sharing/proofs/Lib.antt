@@ -28,3 +28,5 @@ pub mod Few
 pub mod Theorem
 pub mod Judged
 pub mod Ranges
+pub mod Opposites
+pub mod Before

@@ -14,6 +14,7 @@ use Rattle.integers.proofs.Tests.{In, says-within, All}
 use Rattle.words.specs.Word.{inRange}
 use Rattle.words.specs.Variables.{variables}
 use Rattle.words.proofs.Word.{says-range}
+use Rattle.words.proofs.Sources.{Ordered}
 use Rattle.models.specs.Model.{Constraint, constraints}
 use Rattle.models.proofs.Accepted as Accepted
 use Rattle.rowsystems.specs.RowWords.{boundNumbers, rowNumbers}
@@ -64,7 +65,7 @@ fill-in-range ws passes vs s =
     values-in (systemWords ws) (vs ++ picks ws vs)
     (subst (All BothIn) (sym (same-bounds ws passes))
     (all-append BothIn (variables ws) _ .1 (
-      all-implies Accepted.Ordered BothIn (λ B o. (o .lower-in, o .upper-in)) (variables ws) (Accepted.ordered ws (passes-read ws passes)),
+      all-implies Ordered BothIn (λ B o. (o .lower-in, o .upper-in)) (variables ws) (Accepted.ordered ws (passes-read ws passes)),
       blocks-in (boundsIn (variables ws)) (length (variables ws)) (constraints ws) (fine ws passes),
     )))
     (fill-satisfies ws passes vs s)

@@ -16,7 +16,7 @@ use Rattle.words.specs.Kind as Kind
 use Rattle.models.specs.Model.{Constraint}
 use Rattle.rowsystems.specs.Row.{Row, sum≤0, sum=0, product}
 use Rattle.rowsystems.proofs.ReadBack.{Items, Declared, Ranged, end, block}
-use Rattle.rules.specs.Block.{Ref, source, aux, numbered, blockWords, blockNumbers, outside}
+use Rattle.rules.specs.Block.{Ref, source, aux, numbered, blockWords, blockNumbers, outside, outsideIn}
 use Rattle.rules.specs.Translation.{blockOf, blocksWords}
 use Rattle.sharing.proofs.Formed.{RefIn, RowIn, Formed}
 use Rattle.sharing.proofs.Assembly.{auxiliariesOf, rowsFrom}
@@ -43,7 +43,7 @@ module _ (n first : ℕ) (later : n ≤ first) where
 -- ---- block after block
 
 pub in-range : (β : ℕ → Bounds) (c : Constraint) → outside (blockOf β c) ≡ false → Ranged (blockNumbers (blockOf β c))
-unfolding outside
+unfolding outsideIn
 in-range β c h = says-all inRange (λ z. inRange z ≡ true) (λ z. (λ e. e, λ e. e)) (blockNumbers (blockOf β c)) .0 (not-false _ h)
 
 pub items : (β : ℕ → Bounds) (n first : ℕ) (cs : List Constraint) → n ≤ first → All (λ c. Formed n (blockOf β c)) cs → Fine β first cs →

@@ -17,7 +17,7 @@ use Rattle.models.specs.Reading.{readModel}
 use Rattle.modelreading.specs.declared.Read.{Read}
 use Rattle.rules.specs.Block.{blockWords}
 use Rattle.rules.specs.Translation.{bounds, blockOf, blocksWords, systemWords, auxiliaries, blockRows}
-use Rattle.rules.specs.Check.{blockFault, blocksFault, checkFault, check}
+use Rattle.rules.specs.Check.{blockFault, blocksFault, blocksFaultIn, checkFaultIn, check, checkIn}
 use Rattle.sharing.proofs.Accepts.{one-fine}
 use Rattle.extremes.specs.Bounded.{boundsOf}
 use Rattle.translation.specs.Walk.{countsFrom, Costs}
@@ -38,7 +38,7 @@ module _ (β : ℕ → Bounds) (v k a r w : ℕ) where
   one-more : (c : Constraint) (cs : List Constraint) → blockFault β (v + a) c ≡ 0 →
       countsFrom β v k a r w (c ∷ cs)
       ≡ countsFrom β v (k + 1) (a + length (blockOf β c .auxiliaries)) (r + length (blockOf β c .rows)) (w + length (blockWords (v + a) (blockOf β c))) cs
-  unfolding countsFrom blocksFault blocksWords flatMap
+  unfolding countsFrom blocksFaultIn blocksWords flatMap
   one-more c cs f =
       let n = length (blockOf β c .auxiliaries) in
       let e : v + a + n ≡ v + (a + n) = omega arith in
@@ -51,11 +51,11 @@ module _ (β : ℕ → Bounds) (v k a r w : ℕ) where
 
   fault-here : (c : Constraint) (cs : List Constraint) → (blockFault β (v + a) c ≡ 0 → ⊥) →
       refused (blockFault β (v + a) c) (c .place) ≡ countsFrom β v k a r w (c ∷ cs)
-  unfolding countsFrom blocksFault
+  unfolding countsFrom blocksFaultIn
   fault-here c cs f = fault-first (blockFault β (v + a) c) (c .place) _ _ f
 
   all-counted : counts v k a r w ≡ countsFrom β v k a r w []
-  unfolding countsFrom blocksFault blocksWords flatMap _else-answer_
+  unfolding countsFrom blocksFaultIn blocksWords flatMap _else-answer_
   all-counted = same-counts (omega arith) (omega arith) (omega arith) (omega arith)
 
 -- ---- the walk
@@ -90,7 +90,7 @@ module _ {β : ℕ → Bounds} {v : ℕ} {cs : List Constraint} {start k a r w :
 -- ---- the whole
 
 checks : (ws : List ℕ) → readModel ws ≡ accepted → countsFrom (bounds ws) (length (variables ws)) 0 0 0 (length (sourceWords ws) + 1) (constraints ws) ≡ check ws
-unfolding countsFrom check checkFault systemWords auxiliaries blockRows _else-refuse_
+unfolding countsFrom checkIn checkFaultIn systemWords auxiliaries blockRows _else-refuse_
 checks ws h =
     let n = length (variables ws) in
     let e : n + 0 ≡ n = omega arith in

@@ -15,7 +15,7 @@ use Rattle.builtins.specs.Coded.{builtinOf}
 use Rattle.rules.specs.Rule.{rule}
 use Rattle.rules.specs.Block.{Block, blockWords, outside}
 use Rattle.rules.specs.Translation.{blockOf}
-use Rattle.rules.specs.Check.{tooWide, blockFault}
+use Rattle.rules.specs.Check.{tooWide, blockFault, blockFaultIn}
 use Rattle.laying.specs.Part.{blockParts}
 use Rattle.laying.specs.Went.{Went, nothing}
 use Rattle.laying.specs.declared.Laid.{Laid}
@@ -41,7 +41,7 @@ told {first} {B} w = record {
 
 fault-told : (β : ℕ → Bounds) (first : ℕ) (c : Constraint) {r : Laid} → tooWide β c ≡ false → Told first (blockOf β c) r →
     _≡_ {A = ℕ} (13 if r .outside else 14 if ltb 4096 (first + r .auxiliaries) else 0) (blockFault β first c)
-unfolding blockFault
+unfolding blockFaultIn
 fault-told β first c t n = rw (t, n .outside-is, n .auxiliaries)
 
 -- ---- fault 12
@@ -53,7 +53,7 @@ narrow β c t e = ltb-false 64 _ (rw (eq-eqb (c .code) 28 e) at t)
 -- ---- what a constraint costs
 
 pub wide-costs : {β : ℕ → Bounds} {first : ℕ} {c : Constraint} → tooWide β c ≡ true → Costs β first c (record { fault = 12; auxiliaries = 0; rows = 0; words = 0 })
-unfolding blockFault
+unfolding blockFaultIn
 wide-costs t = record { fault = rw t; counted = λ e. absurd (omega arith); small = omega arith }
 
 pub laid-costs : {β : ℕ → Bounds} {first : ℕ} {c : Constraint} {n : ℕ} {b : Laid} → tooWide β c ≡ false → Told first (blockOf β c) b → b .words + b .auxiliaries + b .rows ≤ 1000000 →
@@ -73,7 +73,7 @@ unfolding blockOf builtin
 placed-block β first c w = w
 
 pub placed : {β : ℕ → Bounds} {first : ℕ} {c : Constraint} {r : Cost} → Costs β first (constraintOf (c .code) (c .arguments)) r → Costs β first c r
-unfolding blockFault tooWide blockOf builtin
+unfolding blockFaultIn tooWide blockOf builtin
 placed x = record {
   fault = x .fault;
   counted = λ e. record { auxiliaries = x .counted e .auxiliaries; rows = x .counted e .rows; words = x .counted e .words };

@@ -19,8 +19,8 @@ use Rattle.models.specs.Reading.{readModel}
 use Rattle.modelreading.specs.Seen.{Kept}
 use Rattle.modelreading.specs.declared.Read.{Read}
 use Rattle.rules.specs.Translation.{bounds, blockOf, systemWords}
-use Rattle.rules.specs.Check.{blockFault, blocksFault, checkFault, check}
-use Rattle.rules.specs.Translate.{roomFault, translateFault, translate, translated}
+use Rattle.rules.specs.Check.{blockFault, blocksFault, blocksFaultIn, checkFault, checkFaultIn, check, checkIn}
+use Rattle.rules.specs.Translate.{roomFault, translateFault, translateFaultIn, translate, translateIn, translated, translatedIn}
 use Rattle.sharing.specs.SharedSolutions.{Passes}
 use Rattle.sharing.proofs.Accepts.{no-fault}
 use Rattle.sharing.proofs.Theorem.{shared-solutions}
@@ -31,14 +31,14 @@ use Rattle.translation.proofs.Over.{three-over, front-over}
 -- ---- a refusal whose number is 0 is `accepted`
 
 blocks-zero : (β : ℕ → Bounds) (first : ℕ) (cs : List Constraint) → blocksFault β first cs .number ≡ 0 → blocksFault β first cs ≡ accepted
-unfolding blocksFault
+unfolding blocksFaultIn
 blocks-zero β first [] e = refl
 blocks-zero β first (c ∷ cs) e =
     let h = no-fault (blockFault β first c) (c .place) _ e in
     sym (Reading.no-fault (blockFault β first c) (c .place) _ (h .0)) ∙ blocks-zero β (first + length (blockOf β c .auxiliaries)) cs (h .1)
 
 check-zero : (ws : List ℕ) → checkFault ws .number ≡ 0 → Passes ws
-unfolding checkFault _else-refuse_
+unfolding checkFaultIn _else-refuse_
 check-zero ws e =
     let h = no-fault (readModel ws .number) (readModel ws .place) _ e in
     sym (Reading.no-fault (readModel ws .number) (readModel ws .place) _ (h .0)) ∙ blocks-zero (bounds ws) (length (variables ws)) (constraints ws) (h .1)
@@ -77,13 +77,13 @@ some-refusal v c a r w (suc m) q e = (cc, cc, λ z. omega arith)
 
 -- a refusal of the reading is check's
 pub read-refused : {ws hs : List ℕ} {r : Read} → Kept ws hs r → (r .number ≡ 0 → ⊥) → refused (r .number) (r .place) ≡ check ws
-unfolding check checkFault
+unfolding checkIn checkFaultIn
 read-refused {ws} {hs} {r} k f =
     rw (← k .refusal) (first-answers (r .number) (r .place) (blocksFault (bounds ws) (length (variables ws)) (constraints ws)) _ f)
 
 -- counts: no fault, and the words that are needed
 pub counted : (ws : List ℕ) {v c a r w : ℕ} → counts v c a r w ≡ check ws → Passes ws × (w ≡ length (systemWords ws))
-unfolding check _else-answer_
+unfolding checkIn _else-answer_
 counted ws e = let h = no-refusal (checkFault ws .number) (checkFault ws .place) _ e in (check-zero ws (h .0), let g = h .1 in cc)
 
 -- ---- translate's promise, by what is refused
@@ -93,24 +93,24 @@ Promise ws out answer out′ = (answer ≡ translate ws (length out)) × ((out�
 
 module _ (ws out : List ℕ) where
   refuses : {n p : ℕ} → (n ≡ 0 → ⊥) → translateFault ws (length out) ≡ (n at-place p) → Promise ws out (refused n p) out
-  unfolding translate translated _else-answer_
+  unfolding translateIn translatedIn _else-answer_
   refuses {n} {p} f e = (rw e (refused-first n p _ f), (rw (e, ne-eqb n 0 f), λ m g. clash (cc)))
 
   -- check's refusal stands
   pub stands : {n p : ℕ} → refused n p ≡ check ws → Promise ws out (refused n p) out
-  unfolding check translateFault _else-answer_ _else-refuse_
+  unfolding checkIn translateFaultIn _else-answer_ _else-refuse_
   stands {n} {p} e =
       let h = some-refusal _ _ _ _ _ (checkFault ws .number) (checkFault ws .place) e in
       refuses (λ z. h .2 (sym (h .0) ∙ z)) (rw (h .0, h .1) (sym (Reading.some-fault (checkFault ws .number) (checkFault ws .place) _ (h .2))))
 
   -- 16
   pub too-short : Passes ws → length out < length (systemWords ws) → Promise ws out (refused 16 0) out
-  unfolding translateFault roomFault _else-refuse_
+  unfolding translateFaultIn roomFault _else-refuse_
   too-short h l = refuses (λ z. omega arith) (rw (h, lt-ltb (length out) (length (systemWords ws)) l))
 
   -- the words are written
   pub writes : Passes ws → length (systemWords ws) ≤ length out → Promise ws out (written (length (systemWords ws))) (overlay out 0 (systemWords ws))
-  unfolding translate translated translateFault roomFault _else-refuse_ _else-answer_
+  unfolding translateIn translatedIn translateFaultIn roomFault _else-refuse_ _else-answer_
   writes h l =
       let f = le-ltb (length out) (length (systemWords ws)) l in
       (rw (h, f), (rw (h, f), λ m g. let e : m ≡ length (systemWords ws) = cc in rw (e, front-over out (systemWords ws) l) (shared-solutions ws h)))

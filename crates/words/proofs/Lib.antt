@@ -1,5 +1,7 @@
 -- Laws for proofs about words, laying, reading and judging.
 pub mod Word
+pub mod Range
+pub mod Choices
 pub mod Sources
 pub mod Machine
 pub mod Overlay

@@ -1,11 +1,14 @@
--- Laws of reading words for the first fault, over any fault of a word: a word refused, a word accepted, the end.
+-- Laws of reading words for the first fault, over any fault of a word: a word refused, a word accepted, the end, and what two readings share.
 use mathlib.Core.Path.{_≡_, refl, ap, _∙_}
-use mathlib.Core.List.{List, _∷_}
+use mathlib.Core.Bool.{Bool, true, false}
+use mathlib.Core.List.{List, [], _∷_}
 use Prim.Native.Nat.{ℕ, zero, suc, _+_, _-_, _<_, _≤_}
 use native.Mathlib.Omega.{arith}
 use native.Mathlib.Numerals.{add-one}
 use lib.ListN.{length, getD, take, drop, length-drop, drop-of-length-le}
 use lib.Seq.{drop-cons, getD-drop, take-all}
+use Rattle.integers.specs.Choice.{_if_else_}
+use Rattle.integers.proofs.Tests.{All}
 use Rattle.words.specs.Word.{wordAt}
 use Rattle.words.specs.declared.Refusal.{Refusal}
 use Rattle.words.specs.Refusal.{_at-place_, faultOr, accepted, firstFault}
@@ -17,6 +20,15 @@ some-fault (suc n) p after f = refl
 
 pub no-fault : (n p : ℕ) (after : Refusal) → n ≡ 0 → after ≡ faultOr n p after
 no-fault n p after e = rw e
+
+pub passed : (n p : ℕ) (r : Refusal) → faultOr n p r ≡ accepted → (n ≡ 0) × (r ≡ accepted)
+passed zero p r e = (refl, e)
+passed (suc n) p r e = let z : suc n ≡ 0 = ap (λ (x : Refusal). x .number) e in absurd (omega arith)
+
+-- a limit on the number of words comes first
+pub not-too-many : (n : ℕ) (t : Bool) (r : Refusal) → (suc n at-place 0 if t else r) ≡ accepted → (t ≡ false) × (r ≡ accepted)
+not-too-many n true r e = let z : suc n ≡ 0 = ap (λ (x : Refusal). x .number) e in absurd (omega arith)
+not-too-many n false r e = (refl, e)
 
 -- the word at a place, and the words after it
 pub word-then : (ws : List ℕ) (at : ℕ) → at < length ws → drop at ws ≡ getD ws at 0 ∷ drop (at + 1) ws
@@ -46,3 +58,17 @@ module _ {S : Type 0} (fault : S → ℕ → List ℕ → ℕ) (next : S → ℕ
   pub at-end : length ws ≤ at → faultOr (ended s) at accepted ≡ firstFault fault next ended s at (drop at ws)
   unfolding firstFault
   at-end h = rw (drop-of-length-le ws h)
+
+-- what holds of each word without a fault holds of all words of a reading without one
+module _ {S : Type 0} (fault : S → ℕ → List ℕ → ℕ) (next : S → ℕ → S) (ended : S → ℕ) (Q : ℕ → Type 0) (one : (s : S) (w : ℕ) (ws : List ℕ) → fault s w ws ≡ 0 → Q w) where
+  pub each-word : (s : S) (p : ℕ) (ws : List ℕ) → firstFault fault next ended s p ws ≡ accepted → All Q ws
+  unfolding firstFault
+  each-word s p [] e = tt
+  each-word s p (w ∷ ws) e = let h = passed (fault s w ws) p _ e in (one s w ws (h .0), each-word (next s w) (p + 1) ws (h .1))
+
+-- two readings whose faults are alike at each of the words are alike
+module _ {S : Type 0} (f g : S → ℕ → List ℕ → ℕ) (next : S → ℕ → S) (ended : S → ℕ) (Q : ℕ → Type 0) (one : (s : S) (w : ℕ) (ws : List ℕ) → Q w → f s w ws ≡ g s w ws) where
+  pub same-reading : (s : S) (p : ℕ) (ws : List ℕ) → All Q ws → firstFault f next ended s p ws ≡ firstFault g next ended s p ws
+  unfolding firstFault
+  same-reading s p [] h = refl
+  same-reading s p (w ∷ ws) h = rw (one s w ws (h .0), same-reading (next s w) (p + 1) ws (h .1)) refl

@@ -8,10 +8,12 @@ use lib.IntN.{ℤ, pos, negsuc, natAbs}
 use borrow.Author.Tests.{ltb-true, ltb-false, lt-ltb, le-ltb}
 use Rattle.integers.specs.Choice.{_if_else_}
 use Rattle.integers.specs.Number.{_⊗_}
+use Rattle.integers.specs.Bounds.{_to_}
+use Rattle.integers.specs.declared.Bounds.{Bounds}
 use Rattle.integers.proofs.Fits.{times-size, mul-le}
 use Rattle.integers.proofs.Linear.{_⊑_, linear, arithZ}
-use Rattle.integers.proofs.Tests.{Says, says-and, says-le}
-use Rattle.words.specs.Word.{kind, payload, signed, inRange, word, complement, numberWord}
+use Rattle.integers.proofs.Tests.{Says, In, says-within}
+use Rattle.words.specs.Word.{kind, payload, signed, inRange, tooLow, word, complement, numberWord}
 use Rattle.words.specs.Limit as Limit
 use Rattle.words.specs.Small.{Near}
 
@@ -32,37 +34,45 @@ payload-word k p h = omega arith
 
 -- the test of the range as a proposition, for `omega arithZ`
 pub says-range : (z : ℤ) → Says (inRange z) ((Limit.lowest ⊑ z) × (z ⊑ Limit.highest))
-unfolding inRange
-says-range z = says-and (says-le Limit.lowest z) (says-le z Limit.highest)
+says-range z = says-within Limit.range z
 
 -- the signed number: a bound, a coefficient or a constant, which check's 13 leaves in the range
 pub signed-number : (k : ℕ) (z : ℤ) → inRange z ≡ true → signed (numberWord k z) ≡ z
 unfolding signed numberWord complement
 signed-number k (pos n) h =
-    let r : n ≤ 134217727 = omega (arithZ, says-range (pos n) .0 h .1) in
+    let r : n < Limit.half = omega (arithZ, says-range (pos n) .0 h .1) in
     let e : payload (word k (n % 268435456)) ≡ n = payload-word k _ (omega arith) ∙ omega arith in
-    rw (e, lt-ltb n 134217728 (omega arith)) refl
+    rw (e, lt-ltb n Limit.half r) refl
 signed-number k (negsuc n) h =
-    let r : n ≤ 134217727 = omega (arithZ, says-range (negsuc n) .0 h .0) in
+    let r : n < Limit.half = omega (arithZ, says-range (negsuc n) .0 h .0) in
     let e : payload (word k (268435455 - n % 268435456)) ≡ 268435455 - n = payload-word k _ (omega arith) ∙ omega arith in
     let f : 268435455 - (268435455 - n) ≡ n = omega arith in
-    rw (e, le-ltb (268435455 - n) 134217728 (omega arith), f) refl
+    rw (e, le-ltb (268435455 - n) Limit.half (omega arith), f) refl
 
--- every number read is of the range, so a model's bounds and numbers need no test
-pub signed-range : (w : ℕ) → inRange (signed w) ≡ true
+-- 01, Words: "−134,217,728 to 134,217,727": all numbers of 28 bits, the range before 02
+abbrev pub before : Bounds
+before = negsuc 134217727 to Limit.highest
+
+-- no signed payload is outside it
+pub signed-in : (w : ℕ) → In before (signed w)
 unfolding signed payload
-signed-range w = by (ltb (w % 268435456) 134217728) refl
+signed-in w = by (ltb (w % 268435456) Limit.half) refl
   where
-    by : (t : Bool) → ltb (w % 268435456) 134217728 ≡ t → inRange (pos (w % 268435456) if t else negsuc (268435455 - w % 268435456)) ≡ true
-    by true e = says-range _ .1 (omega arithZ, omega (arithZ, ltb-true))
-    by false e = says-range _ .1 (omega (arithZ, ltb-false), omega arithZ)
+    by : (t : Bool) → ltb (w % 268435456) Limit.half ≡ t → In before (pos (w % 268435456) if t else negsuc (268435455 - w % 268435456))
+    by true e = (omega arithZ, omega (arithZ, ltb-true))
+    by false e = (omega (arithZ, ltb-false), omega arithZ)
+
+-- so that fault 18 is never found there
+pub never-too-low : (w : ℕ) → tooLow before w ≡ false
+unfolding tooLow
+never-too-low w = rw (says-within before (signed w) .1 (signed-in w)) refl
 
 -- and near to 0, as is what lies between two such numbers
 pub between-near : (l x u : ℤ) → l ⊑ x → x ⊑ u → Near l → Near u → Near x
 between-near = simp linear (omega arith)
 
 pub signed-near : (w : ℕ) → Near (signed w)
-signed-near w = let k = says-range (signed w) .0 (signed-range w) in between-near Limit.lowest (signed w) Limit.highest (k .0) (k .1) (omega arith) (omega arith)
+signed-near w = between-near (before .lower) (signed w) (before .upper) (signed-in w .0) (signed-in w .1) (omega arith) (omega arith)
 
 -- products of such numbers
 pub factors-fit : (a b : ℤ) → Near a → Near b → natAbs a * natAbs b ≤ 18014398509481984

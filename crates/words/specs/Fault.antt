@@ -1,4 +1,4 @@
--- 01, Numbered faults: the numbers, each named once. 0 is no fault.
+-- 01, Numbered faults, and those of 02: the numbers, each named once. 0 is no fault.
 use Prim.Native.Nat.{ℕ}
 
 abbrev pub none : ℕ
@@ -71,3 +71,7 @@ outputTooShort = 16
 -- "A product's result number is not above both factors'"
 abbrev pub resultNotAbove : ℕ
 resultNotAbove = 17
+
+-- 02, wish 2: "when a signed payload, a list length too, is the lowest 28-bit number, checked directly after 3"
+abbrev pub lowestNumber : ℕ
+lowestNumber = 18

@@ -1,13 +1,22 @@
--- The limits of 01, each named once.
+-- The limits of 01 and 02, each named once.
 use Prim.Native.Nat.{ℕ}
 use lib.IntN.{ℤ, pos, negsuc}
+use Rattle.integers.specs.Bounds.{_to_}
+use Rattle.integers.specs.declared.Bounds.{Bounds}
 
--- Words: "−134,217,728 to 134,217,727 ("the range")"
+-- 02, wish 2: "The range becomes −134,217,727 to 134,217,727, for models, rows and rule 13."
 abbrev pub lowest : ℤ
-lowest = negsuc 134217727
+lowest = negsuc 134217726
 
 abbrev pub highest : ℤ
 highest = pos 134217727
+
+abbrev pub range : Bounds
+range = lowest to highest
+
+-- 01, Words: "Signed payloads are two's complement": from 2^27 on a payload is a negative number, first of all the lowest 28-bit one
+abbrev pub half : ℕ
+half = 134217728
 
 -- Numbered faults, 1: "More than 8,192 model words, or 131,072 row words"
 abbrev pub modelWords : ℕ

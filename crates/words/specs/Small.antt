@@ -3,9 +3,10 @@ use mathlib.Core.List.{List}
 use Prim.Native.Nat.{ℕ, _≤_}
 use lib.IntN.{ℤ, natAbs}
 use Rattle.integers.specs.Terms.{value}
+use Rattle.words.specs.Limit as Limit
 
 abbrev pub Near : ℤ → Type 0
-Near z = natAbs z ≤ 134217728
+Near z = natAbs z ≤ Limit.half
 
 abbrev pub Small : List ℤ → Type 0
 Small vs = (x : ℕ) → Near (value vs x)

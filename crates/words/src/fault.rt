@@ -1,4 +1,4 @@
-// The numbers of faults, as document 01 lists them.
+// The numbers of faults, as documents 01 and 02 list them.
 pub const NONE: u32 = 0;
 
 pub const TOO_MANY_WORDS: u32 = 1;
@@ -34,3 +34,5 @@ pub const WRONG_VALUE_COUNT: u32 = 15;
 pub const OUTPUT_TOO_SHORT: u32 = 16;
 
 pub const RESULT_NOT_ABOVE: u32 = 17;
+
+pub const LOWEST_NUMBER: u32 = 18;

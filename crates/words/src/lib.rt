@@ -3,7 +3,8 @@ ghost use mathlib.Core.Path.{_≡_};
 ghost use Prim.Native.Nat.{_+_, _<_};
 ghost use lib.ListN.{length};
 ghost use Rattle.integers.specs.Terms.{value};
-ghost use Rattle.words.specs.Word.{kind, payload, signed, inRange, word, complement, numberWord, wordAt};
+ghost use Rattle.words.specs.Limit as Limit;
+ghost use Rattle.words.specs.Word.{kind, payload, signed, inRange, tooLow, word, complement, numberWord, wordAt};
 ghost use Rattle.words.specs.Overlay.{overlay};
 ghost use Rattle.words.specs.Answer.{isHolds};
 ghost use Rattle.words.specs.Verdict.{verdict};
@@ -62,14 +63,21 @@ pub fn signed_of(w: u32) -> i64
     ensures { λ r. ⌜ r ≡ signed w ⌝ }
 {
     let p = w % 268435456;
-    if p < 134217728 {
+    if p < limit::HALF {
         p as i64
     } else {
         (p as i64) - 268435456
     }
 }
 
-// Whether a number fits a signed payload.
+// Whether a signed payload is the lowest 28-bit number, which is not in the range.
+pub fn is_lowest(w: u32) -> bool
+    ensures { λ r. ⌜ r ≡ tooLow Limit.range w ⌝ }
+{
+    w % 268435456 == limit::HALF
+}
+
+// Whether a number is in the range.
 pub fn in_range(v: i64) -> bool
     ensures { λ r. ⌜ r ≡ inRange v ⌝ }
 {

@@ -1,9 +1,11 @@
-// The limits of document 01.
+// The limits of documents 01 and 02.
 
-// the range of signed payloads
-pub const LOWEST: i64 = -134217728;
+// the range of numbers
+pub const LOWEST: i64 = -134217727;
 
 pub const HIGHEST: i64 = 134217727;
+// the payload of the lowest 28-bit number, from which on payloads are negative numbers
+pub const HALF: u32 = 134217728;
 // words of a model and of a row system
 pub const MODEL_WORDS: usize = 8192;
 

@@ -1,16 +1,16 @@
 -- The code tests the word as the definition does.
 use borrow.Author.Tests.{eq-eqb, ne-eqb}
 use borrow.Author.Needs.{needs}
-use Rattle.models.specs.Reading.{faultNumber}
+use Rattle.models.specs.Reading.{faultNumberIn}
 use Rattle.modelreading.proofs.faults.of_number.Statement.{statement}
 use Rattle.modelreading.proofs.faults.of_number.Tie as tie
 
 returns : tie.Need-returns
-unfolding faultNumber
+unfolding faultNumberIn
 returns c = rw (← c .before .kind-of .ensures, eq-eqb _ _ (c .if1 .taken))
 
 returns-2 : tie.Need-returns-2
-unfolding faultNumber
+unfolding faultNumberIn
 returns-2 c = rw (← c .before .kind-of .ensures, ne-eqb _ _ (c .if1 .left))
 
 pub of-number-spec : {M : Type 1} → statement M

@@ -4,24 +4,24 @@ use lib.Dec.{ltb}
 use borrow.Author.Tests.{eq-eqb, ne-eqb}
 use borrow.Author.Needs.{needs}
 use Rattle.words.specs.Word.{payload}
-use Rattle.models.specs.Reading.{faultStart}
+use Rattle.models.specs.Reading.{faultStartIn}
 use Rattle.modelreading.proofs.Order.{in-order}
 use Rattle.modelreading.proofs.faults.of_start.Statement.{statement}
 use Rattle.modelreading.proofs.faults.of_start.Tie as tie
 
 returns : tie.Need-returns
-unfolding faultStart
+unfolding faultStartIn
 returns c = rw (← c .before .before .kind-of .ensures, eq-eqb _ _ (c .before .if1 .taken)) (c .of-room .ensures)
 
 returns-2 : tie.Need-returns-2
-unfolding faultStart
+unfolding faultStartIn
 returns-2 c =
     let a = c .before .before .before .before in
     rw (← a .before .kind-of .ensures, ne-eqb _ _ (a .if1 .left), eq-eqb _ _ (c .before .before .before .if2 .taken))
     (c .first-of .ensures ∙ rw (c .before .before .of-payload .ensures, c .before .of-room2 .ensures) (in-order (ltb 0 (payload (a .before .before .args .w))) 4 _))
 
 returns-3 : tie.Need-returns-3
-unfolding faultStart
+unfolding faultStartIn
 returns-3 c = rw (← c .before .before .before .kind-of .ensures, ne-eqb _ _ (c .before .before .if1 .left), ne-eqb _ _ (c .before .if2 .left)) (c .of-head .ensures)
 
 pub of-start-spec : {M : Type 1} → statement M

@@ -2,23 +2,23 @@
 use mir.Facts.{toZ-ofZ}
 use borrow.Author.Tests.{eq-eqb, ne-eqb}
 use borrow.Author.Needs.{needs}
-use Rattle.models.specs.Reading.{faultUpper}
+use Rattle.models.specs.Reading.{faultUpperIn}
 use Rattle.modelreading.proofs.faults.of_upper.Statement.{statement}
 use Rattle.modelreading.proofs.faults.of_upper.Tie as tie
 
 returns : tie.Need-returns
-unfolding faultUpper
+unfolding faultUpperIn
 returns c = rw (← c .before .kind-of .ensures, ne-eqb _ _ (c .if1 .taken))
 
 returns-2 : tie.Need-returns-2
-unfolding faultUpper
+unfolding faultUpperIn
 returns-2 c =
     let a = c .before .before in
     let b = c .before in
     rw (← a .before .before .kind-of .ensures, eq-eqb _ _ (a .before .if1 .left), rw (toZ-ofZ (record { sfits = a .signed-of .ok }), toZ-ofZ (record { sfits = b .signed-of2 .ok }), a .signed-of .ensures, b .signed-of2 .ensures) at (c .if2 .taken))
 
 returns-3 : tie.Need-returns-3
-unfolding faultUpper
+unfolding faultUpperIn
 returns-3 c =
     let a = c .before .before in
     let b = c .before in
