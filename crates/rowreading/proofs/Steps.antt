@@ -13,7 +13,8 @@ use Rattle.integers.specs.Choice.{_if_else_}
 use Rattle.integers.proofs.Tests.{false-true}
 use Rattle.words.specs.Fault as Fault
 use Rattle.words.specs.Kind as Kind
-use Rattle.words.specs.Word.{kind, payload, signed, wordAt}
+use Rattle.words.specs.Limit as Limit
+use Rattle.words.specs.Word.{kind, payload, signed, tooLow, wordAt}
 use Rattle.words.specs.Variables.{startsPair}
 use Rattle.rowsystems.specs.Reading.{faultUpper, faultVariable, faultNumber, notAbove, faultResult, faultDue, afterDue, started}
 use Rattle.rowsystems.specs.declared.Due.{Due}
@@ -66,10 +67,6 @@ is-kind : (b : Bool) (x : ℕ) → 0 ≡ (Fault.wrongKind if not b else x) → b
 is-kind true x e = refl
 is-kind false x e = absurd (omega arith)
 
-has-kind : (b : Bool) → 0 ≡ (Fault.none if b else Fault.wrongKind) → b ≡ true
-has-kind true e = refl
-has-kind false e = absurd (omega arith)
-
 no-upper : (k lower w : ℕ) → startsKind k ≡ false → 0 ≡ faultUpper k lower w → startsKind (kind w) ≡ false
 unfolding faultUpper
 no-upper k lower w z e = of-kind w k z (eqb-true (kind w) k (is-kind (eqb (kind w) k) _ e))
@@ -80,7 +77,7 @@ no-variable n w e = of-kind w Kind.variable refl (eqb-true (kind w) Kind.variabl
 
 no-number : (w : ℕ) → 0 ≡ faultNumber w → startsKind (kind w) ≡ false
 unfolding faultNumber startsKind
-no-number w e = of-kind w Kind.number refl (eqb-true (kind w) Kind.number (has-kind (eqb (kind w) Kind.number) e))
+no-number w e = of-kind w Kind.number refl (eqb-true (kind w) Kind.number (is-kind (eqb (kind w) Kind.number) _ e))
 
 no-result : (n w f g : ℕ) → 0 ≡ faultResult n w f g → startsKind (kind w) ≡ false
 unfolding faultResult startsKind
@@ -113,7 +110,7 @@ differs {x} f e = eqb-false 11 x f e
 
 not-upper : (k lower w : ℕ) → 11 ≡ faultUpper k lower w → ⊥
 unfolding faultUpper
-not-upper k lower w = never (not (eqb (kind w) k)) (differs {x = Fault.wrongKind} refl) (never (ltZ (signed w) (signed lower)) (differs {x = Fault.upperBelowLower} refl) (differs {x = Fault.none} refl))
+not-upper k lower w = never (not (eqb (kind w) k)) (differs {x = Fault.wrongKind} refl) (never (tooLow Limit.range w) (differs {x = Fault.lowestNumber} refl) (never (ltZ (signed w) (signed lower)) (differs {x = Fault.upperBelowLower} refl) (differs {x = Fault.none} refl)))
 
 not-variable : (n w : ℕ) → 11 ≡ faultVariable n w → ⊥
 unfolding faultVariable
@@ -121,7 +118,7 @@ not-variable n w = never (not (eqb (kind w) Kind.variable)) (differs {x = Fault.
 
 not-number : (w : ℕ) → 11 ≡ faultNumber w → ⊥
 unfolding faultNumber
-not-number w = never (eqb (kind w) Kind.number) (differs {x = Fault.none} refl) (differs {x = Fault.wrongKind} refl)
+not-number w = never (not (eqb (kind w) Kind.number)) (differs {x = Fault.wrongKind} refl) (never (tooLow Limit.range w) (differs {x = Fault.lowestNumber} refl) (differs {x = Fault.none} refl))
 
 not-result : (n w f g : ℕ) → 11 ≡ faultResult n w f g → ⊥
 unfolding faultResult

@@ -2,9 +2,10 @@
 ghost use mathlib.Core.Path.{_≡_};
 ghost use Rattle.integers.specs.Choice.{_if_else_};
 ghost use Rattle.words.specs.Fault as Fault;
-ghost use Rattle.rowsystems.specs.Reading.{faultItem, faultSource, faultUpper, faultVariable, faultNumber, notAbove, faultResult};
+ghost use Rattle.rowsystems.specs.Reading.{faultLower, faultItem, faultSource, faultUpper, faultVariable, faultNumber, notAbove, faultResult};
 ghost use Rattle.rowreading.specs.Item.{faultHead};
 use words::fault;
+use words::is_lowest;
 use words::kind;
 use words::kind_of;
 use words::limit;
@@ -18,6 +19,16 @@ fn fault_if(test: bool, number: u32) -> u32
     if test { number } else { fault::NONE }
 }
 
+// Of a lower bound, after n variables.
+fn fault_lower(n: usize, w: u32) -> u32
+    ensures { λ r. ⌜ r ≡ faultLower n w ⌝ }
+{
+    if is_lowest(w) {
+        return fault::LOWEST_NUMBER;
+    }
+    fault_if(limit::IN_ALL <= n, fault::TOO_MANY_IN_ALL)
+}
+
 // Of a word where an auxiliary, a row, a product or the end may stand, after n variables.
 fn fault_item(n: usize, w: u32) -> u32
     ensures { λ r. ⌜ r ≡ faultItem n w ⌝ }
@@ -27,7 +38,7 @@ fn fault_item(n: usize, w: u32) -> u32
     let long = limit::TERMS < payload;
     let above = 0 < payload;
     if k == kind::AUXILIARY_LOWER {
-        return fault_if(limit::IN_ALL <= n, fault::TOO_MANY_IN_ALL);
+        return fault_lower(n, w);
     }
     if k == kind::AT_MOST {
         return fault_if(long, fault::LENGTH_OUTSIDE);
@@ -50,7 +61,7 @@ fn fault_source(n: usize, w: u32) -> u32
 {
     let k = kind_of(w);
     if k == kind::LOWER {
-        return fault_if(limit::IN_ALL <= n, fault::TOO_MANY_IN_ALL);
+        return fault_lower(n, w);
     }
     if k == kind::BOOLEAN {
         if 0 < payload_of(w) {
@@ -78,6 +89,9 @@ pub fn fault_upper(k: u32, lower: u32, w: u32) -> u32
     if kind_of(w) != k {
         return fault::WRONG_KIND;
     }
+    if is_lowest(w) {
+        return fault::LOWEST_NUMBER;
+    }
     if signed_of(w) < signed_of(lower) {
         return fault::UPPER_BELOW_LOWER;
     }
@@ -98,10 +112,10 @@ pub fn fault_variable(n: usize, w: u32) -> u32
 pub fn fault_number(w: u32) -> u32
     ensures { λ r. ⌜ r ≡ faultNumber w ⌝ }
 {
-    if kind_of(w) == kind::NUMBER {
-        return fault::NONE;
+    if kind_of(w) != kind::NUMBER {
+        return fault::WRONG_KIND;
     }
-    fault::WRONG_KIND
+    fault_if(is_lowest(w), fault::LOWEST_NUMBER)
 }
 
 // Whether a product's factor words f and g have kind 5 and its result word r is not above both.

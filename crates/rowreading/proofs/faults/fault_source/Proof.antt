@@ -7,7 +7,7 @@ use Rattle.rowreading.proofs.faults.fault_source.Tie as tie
 
 returns : tie.Need-returns
 unfolding faultSource
-returns c = rw (← c .before .before .kind-of .ensures, eq-eqb _ _ (c .before .if1 .taken)) (c .fault-if .ensures)
+returns c = rw (← c .before .before .kind-of .ensures, eq-eqb _ _ (c .before .if1 .taken)) (c .fault-lower .ensures)
 
 returns-2 : tie.Need-returns-2
 unfolding faultSource
@@ -24,7 +24,7 @@ returns-3 c =
     let if1 = c .before .before .before .before .if1 in
     let if2 = c .before .before .before .if2 in
     let payload-of = c .before .before .payload-of in
-    rw (← kind-of .ensures, ne-eqb _ _ (if1 .left), eq-eqb _ _ (if2 .taken), ← payload-of .ensures, le-ltb _ _ (c .before .if3 .left)) (c .fault-if2 .ensures)
+    rw (← kind-of .ensures, ne-eqb _ _ (if1 .left), eq-eqb _ _ (if2 .taken), ← payload-of .ensures, le-ltb _ _ (c .before .if3 .left)) (c .fault-if .ensures)
 
 returns-4 : tie.Need-returns-4
 unfolding faultSource
