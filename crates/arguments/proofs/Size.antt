@@ -14,6 +14,7 @@ use Rattle.integers.specs.Terms.{value}
 use Rattle.integers.proofs.Tests.{false-true, capped}
 use Rattle.integers.proofs.Fits.{back}
 use Rattle.words.specs.Word.{wordAt}
+use Rattle.words.specs.Small.{Near}
 use Rattle.words.proofs.Word.{signed-near, product-size as near-product}
 use Rattle.models.specs.Model.{var, num, size}
 use Rattle.arguments.specs.Small.{Small}
@@ -24,7 +25,7 @@ unfolding size
 size-le ws i = capped (var ws i) 32 32 (omega arith)
 
 -- a number is at most 2^27, its product with a small value at most 2^54
-pub num-size : (ws : List ℕ) (i : ℕ) → natAbs (num ws i) ≤ 134217728
+pub num-size : (ws : List ℕ) (i : ℕ) → Near (num ws i)
 unfolding num
 num-size ws i = signed-near (wordAt ws i)
 

@@ -2,7 +2,7 @@
 use mathlib.Core.Path.{_≡_, refl, sym, ap, _∙_, fun-ext}
 use mathlib.Core.Bool.{Bool, true, false}
 use mathlib.Core.List.{List, [], _∷_, map}
-use Prim.Native.Nat.{ℕ, zero, suc, _≤_}
+use Prim.Native.Nat.{ℕ, zero, suc, _+_, _≤_}
 use native.Mathlib.Nat.{add-zero}
 use native.Mathlib.Omega.{arith}
 use lib.IntN.{ℤ, natAbs}
@@ -13,6 +13,8 @@ use Rattle.integers.specs.Number.{_⊕_, _⊖_, count, +0, +1}
 use Rattle.integers.specs.Lists.{listOf}
 use Rattle.integers.specs.Terms.{_·_}
 use Rattle.integers.specs.declared.Bounds.{Bounds}
+use Rattle.words.specs.Limit as Limit
+use Rattle.words.specs.Small.{Near}
 use Rattle.models.specs.Model.{nums}
 use Rattle.rules.specs.Block.{aux, numbered}
 use Rattle.rules.specs.Parts.{weighted, leastFrom, rising, members}
@@ -24,17 +26,17 @@ use Rattle.choiceblocks.specs.Rows.{valueAt, memberAt}
 use Rattle.choiceblocks.proofs.OneHot.{terms-many}
 
 -- how large they are
-rising-size : (ws : List ℕ) (i : ℕ) (upper : ℤ) → natAbs upper ≤ 134217728 → (n : ℕ) (from : ℤ) (k : ℕ) → natAbs (getD (rising (nums ws i) upper n from) k +0) ≤ 134217729
+rising-size : (ws : List ℕ) (i : ℕ) (upper : ℤ) → Near upper → (n : ℕ) (from : ℤ) (k : ℕ) → natAbs (getD (rising (nums ws i) upper n from) k +0) ≤ Limit.half + 1
 unfolding rising
 rising-size ws i upper h zero from k = omega arith
 rising-size ws i upper h (suc n) from k = let v = leastFrom (nums ws i) from (upper ⊕ +1) in go (ltZ upper v) v (rising (nums ws i) upper n (v ⊕ +1)) (set-size ws i from upper h) (rising-size ws i upper h n (v ⊕ +1)) k
   where
-    go : (b : Bool) (v : ℤ) (rest : List ℤ) → natAbs v ≤ 134217729 → ((k : ℕ) → natAbs (getD rest k +0) ≤ 134217729) → (k : ℕ) → natAbs (getD ([] if b else v ∷ rest) k +0) ≤ 134217729
+    go : (b : Bool) (v : ℤ) (rest : List ℤ) → natAbs v ≤ Limit.half + 1 → ((k : ℕ) → natAbs (getD rest k +0) ≤ Limit.half + 1) → (k : ℕ) → natAbs (getD ([] if b else v ∷ rest) k +0) ≤ Limit.half + 1
     go true v rest l r k = omega arith
     go false v rest l r zero = l
     go false v rest l r (suc k) = r k
 
-pub members-size : (ws : List ℕ) (i : ℕ) (B : Bounds) → natAbs (B .upper) ≤ 134217728 → (k : ℕ) → natAbs (getD (members (nums ws i) B) k +0) ≤ 134217729
+pub members-size : (ws : List ℕ) (i : ℕ) (B : Bounds) → Near (B .upper) → (k : ℕ) → natAbs (getD (members (nums ws i) B) k +0) ≤ Limit.half + 1
 unfolding members
 members-size ws i B h k = rising-size ws i (B .upper) h (length (nums ws i)) (B .lower) k
 

@@ -5,6 +5,7 @@ ghost use lib.IntN.{natAbs};
 ghost use lib.ListN.{getD, replicate};
 ghost use Rattle.integers.specs.Number.{maxZ, count, +0, +1};
 ghost use Rattle.integers.specs.Bounds.{width};
+ghost use Rattle.words.specs.Limit as Limit;
 ghost use Rattle.models.specs.Builtin.{array-int-element, array-var-int-element, array-int-maximum, set-in, set-in-reif};
 ghost use Rattle.models.specs.Model.{var, vars, nums, size, past};
 ghost use Rattle.rules.specs.Parts.{places, members};
@@ -38,7 +39,7 @@ mod rows;
 // The lower bound of the variable at place 0.
 fn lower_label(args: &[u32], ls: &[i64]) -> i64
     requires { ⌜ Bounded (now ls) ⌝ }
-    ensures { λ r. ⌜ (r ≡ getD (now (ls .entry)) (var (now (args .entry)) 0) +0) × (natAbs r ≤ 134217728) ⌝ }
+    ensures { λ r. ⌜ (r ≡ getD (now (ls .entry)) (var (now (args .entry)) 0) +0) × (natAbs r ≤ Limit.half) ⌝ }
 {
     bound_at(ls, var_at(args, 0))
 }
@@ -55,7 +56,7 @@ fn width_at(args: &[u32], ls: &[i64], us: &[i64]) -> usize
 // The first place of the list at place 1 that it can have as an index.
 fn first_label(args: &[u32], ls: &[i64]) -> i64
     requires { ⌜ Bounded (now ls) ⌝ }
-    ensures { λ r. ⌜ (r ≡ maxZ +1 (getD (now (ls .entry)) (var (now (args .entry)) 0) +0)) × (natAbs r ≤ 134217728) ⌝ }
+    ensures { λ r. ⌜ (r ≡ maxZ +1 (getD (now (ls .entry)) (var (now (args .entry)) 0) +0)) × (natAbs r ≤ Limit.half) ⌝ }
 {
     first_place(lower_label(args, ls))
 }

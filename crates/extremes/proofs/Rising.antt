@@ -14,6 +14,8 @@ use Rattle.integers.specs.Lists.{listOf}
 use Rattle.integers.specs.Bounds.{_to_}
 use Rattle.integers.specs.declared.Bounds.{Bounds}
 use Rattle.integers.proofs.Fits.{plus-size}
+use Rattle.words.specs.Limit as Limit
+use Rattle.words.specs.Small.{Near}
 use Rattle.words.specs.Overlay.{overlay}
 use Rattle.models.specs.Model.{num, nums, size}
 use Rattle.arguments.proofs.Size.{size-le, num-size}
@@ -39,10 +41,10 @@ least-size m f (suc k) from above h a = least-size m (λ j. f (suc j)) k from (f
     by true = h 0
     by false = a
 
-pub set-size : (ws : List ℕ) (i : ℕ) (from upper : ℤ) → natAbs upper ≤ 134217728 → natAbs (leastFrom (nums ws i) from (upper ⊕ +1)) ≤ 134217729
+pub set-size : (ws : List ℕ) (i : ℕ) (from upper : ℤ) → Near upper → natAbs (leastFrom (nums ws i) from (upper ⊕ +1)) ≤ Limit.half + 1
 unfolding nums
 set-size ws i from upper h =
-    least-size 134217729 (λ j. num ws (i + 1 + j)) (size ws i) from (upper ⊕ +1) (λ j. omega (arith, num-size ws (i + 1 + j)))
+    least-size (Limit.half + 1) (λ j. num ws (i + 1 + j)) (size ws i) from (upper ⊕ +1) (λ j. omega (arith, num-size ws (i + 1 + j)))
     (omega (arith, plus-size upper +1))
 
 -- there are at most 32 members

@@ -2,13 +2,14 @@
 use mathlib.Core.Path.{_≡_}
 use mathlib.Core.Bool.{true}
 use mathlib.Core.List.{List, _++_}
-use Prim.Native.Nat.{ℕ, _+_, _<_, _≤_}
+use Prim.Native.Nat.{ℕ, _+_, _<_}
 use native.Mathlib.Omega.{arith}
-use lib.IntN.{ℤ, pos, negsuc, natAbs}
+use lib.IntN.{ℤ, pos, negsuc}
 use lib.ListN.{length}
 use Rattle.integers.specs.Terms.{value}
 use Rattle.integers.proofs.Linear.{arithZ}
 use Rattle.words.specs.Word.{inRange}
+use Rattle.words.specs.Small.{Near}
 use Rattle.words.proofs.Word.{says-range}
 use Rattle.arguments.specs.Small.{Small}
 use Rattle.rules.specs.Translation.{picks}
@@ -18,7 +19,7 @@ use Rattle.sharing.proofs.Ranges.{fill-in-range}
 use Rattle.picking.specs.Picked.{Ranged}
 use Rattle.picking.proofs.Writing.{value-ranged, ranged-left, ranged-right}
 
-near : (z : ℤ) → inRange z ≡ true → natAbs z ≤ 134217728
+near : (z : ℤ) → inRange z ≡ true → Near z
 near (pos n) e = omega (arithZ, says-range (pos n) .0 e .1)
 near (negsuc n) e = omega (arithZ, says-range (negsuc n) .0 e .0)
 

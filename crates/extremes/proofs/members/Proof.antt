@@ -1,6 +1,6 @@
 -- The loop's invariant is `Rising`: the members found stand in the list, and the rest follows.
 use mathlib.Core.Path.{_≡_, sym, _∙_}
-use Prim.Native.Nat.{_≤_}
+use Prim.Native.Nat.{_+_, _≤_}
 use native.Mathlib.Omega.{arith}
 use lib.IntN.{natAbs}
 use mir.Syntax.{w64}
@@ -10,6 +10,7 @@ use borrow.Author.Needs.{needs}
 use Rattle.integers.specs.Number.{_⊕_, +1}
 use Rattle.integers.specs.Bounds.{_to_}
 use Rattle.integers.proofs.Fits.{back}
+use Rattle.words.specs.Limit as Limit
 use Rattle.models.specs.Model.{nums}
 use Rattle.rules.specs.Parts.{leastFrom, members}
 use Rattle.extremes.proofs.Rising.{Rising, begun, found, none-left, all-found, set-size}
@@ -27,7 +28,7 @@ least c =
     let plus = c .before .before .before .before .plus in
     c .least-from .ensures ∙ rw (back (plus .result) (plus .ok), plus .ensures)
 
-small : (c : tie.After-least-from Inv-loop μ-loop) → natAbs (c .least-from .result) ≤ 134217729
+small : (c : tie.After-least-from Inv-loop μ-loop) → natAbs (c .least-from .result) ≤ Limit.half + 1
 small c =
     let s = c .before .before .before .before .before .before in
     let loop = c .before .before .loop in
