@@ -1,10 +1,11 @@
-// The fault of a word, 0 for none. Where two hold, the lower number comes first.
+// The fault of a word, 0 for none. Where two hold, the lower number comes first, and 18 directly after 3.
 ghost use mathlib.Core.Path.{_≡_};
 ghost use Prim.Native.Nat.{_≤_};
 ghost use lib.Dec.{eqb, ltb, leb};
+ghost use lib.Signed.{ltZ};
 ghost use lib.ListN.{getD, take};
 ghost use Rattle.integers.specs.Choice.{_if_else_};
-ghost use Rattle.words.specs.Word.{payload};
+ghost use Rattle.words.specs.Word.{payload, signed, tooLow};
 ghost use Rattle.words.specs.Fault as Fault;
 ghost use Rattle.words.specs.Limit as Limit;
 ghost use Rattle.models.specs.Reading.{faultHead, faultStart, faultUpper, faultNumber, faultLength, faultVariable};
@@ -13,7 +14,7 @@ use words::fault;
 use words::kind;
 use words::limit;
 
-// The first of two faults, in the order of their numbers.
+// The first of two faults of a word.
 fn first_of(first: u32, second: u32) -> u32
     ensures { λ r. ⌜ r ≡ (second if eqb first Fault.none else first) ⌝ }
 {
@@ -29,6 +30,16 @@ fn of_payload(w: u32) -> u32
 {
     if 0 < words::payload_of(w) {
         return fault::PAYLOAD_ABOVE_ZERO;
+    }
+    fault::NONE
+}
+
+// Of a signed payload.
+fn of_lowest(w: u32) -> u32
+    ensures { λ r. ⌜ r ≡ (Fault.lowestNumber if tooLow Limit.range w else Fault.none) ⌝ }
+{
+    if words::is_lowest(w) {
+        return fault::LOWEST_NUMBER;
     }
     fault::NONE
 }
@@ -73,7 +84,9 @@ pub fn of_start(v: usize, c: usize, w: u32) -> u32
 {
     let k = words::kind_of(w);
     if k == kind::LOWER {
-        return of_room(v);
+        let lowest = of_lowest(w);
+        let room = of_room(v);
+        return first_of(lowest, room);
     }
     if k == kind::BOOLEAN {
         let payload = of_payload(w);
@@ -83,6 +96,16 @@ pub fn of_start(v: usize, c: usize, w: u32) -> u32
     of_head(c, w)
 }
 
+// Of an upper bound that may be below its lower one.
+fn of_order(lower: u32, w: u32) -> u32
+    ensures { λ r. ⌜ r ≡ (Fault.upperBelowLower if ltZ (signed w) (signed lower) else Fault.none) ⌝ }
+{
+    if words::signed_of(w) < words::signed_of(lower) {
+        return fault::UPPER_BELOW_LOWER;
+    }
+    fault::NONE
+}
+
 // Of an upper bound after the word of its lower one.
 pub fn of_upper(lower: u32, w: u32) -> u32
     ensures { λ r. ⌜ r ≡ faultUpper lower w ⌝ }
@@ -90,20 +113,29 @@ pub fn of_upper(lower: u32, w: u32) -> u32
     if words::kind_of(w) != kind::UPPER {
         return fault::WRONG_KIND;
     }
-    if words::signed_of(w) < words::signed_of(lower) {
-        return fault::UPPER_BELOW_LOWER;
-    }
-    fault::NONE
+    let lowest = of_lowest(w);
+    let below = of_order(lower, w);
+    first_of(lowest, below)
 }
 
 // Of a number.
 pub fn of_number(w: u32) -> u32
     ensures { λ r. ⌜ r ≡ faultNumber w ⌝ }
 {
-    if words::kind_of(w) == kind::NUMBER {
-        return fault::NONE;
+    if words::kind_of(w) != kind::NUMBER {
+        return fault::WRONG_KIND;
     }
-    fault::WRONG_KIND
+    of_lowest(w)
+}
+
+// Of a length that may be above 32.
+fn of_size(w: u32) -> u32
+    ensures { λ r. ⌜ r ≡ (Fault.lengthOutside if ltb Limit.listLength (payload w) else Fault.none) ⌝ }
+{
+    if limit::LIST_LENGTH < words::payload_of(w) {
+        return fault::LENGTH_OUTSIDE;
+    }
+    fault::NONE
 }
 
 // Of a list's length.
@@ -113,10 +145,9 @@ pub fn of_length(w: u32) -> u32
     if words::kind_of(w) != kind::NUMBER {
         return fault::WRONG_KIND;
     }
-    if limit::LIST_LENGTH < words::payload_of(w) {
-        return fault::LENGTH_OUTSIDE;
-    }
-    fault::NONE
+    let lowest = of_lowest(w);
+    let long = of_size(w);
+    first_of(lowest, long)
 }
 
 // Of a word that is to name a variable of a type among the first v.
