@@ -435,7 +435,7 @@ impl Builder<'_> {
             let ends = numbers.iter().zip(&list).map(|(number, &variable)| (number * self.bounds[variable].0, number * self.bounds[variable].1));
             let (least, largest) = ends.fold((0, 0), |(least, largest), (one, other)| (least + one.min(other), largest + one.max(other)));
             let end = self.random.pick(&[least, largest]);
-            constant = end - self.random.pick(&[LEAST, LARGEST, LEAST, LARGEST, -LEAST]) - self.random.between(-2, 2);
+            constant = end - self.random.pick(&[LEAST, LARGEST, LEAST - 1, LARGEST, LARGEST + 1]) - self.random.between(-2, 2);
         }
         constant = constant.clamp(LEAST, LARGEST);
         words.push(word(NUMBER, length.min(list.len()) as i64));
@@ -587,10 +587,11 @@ fn edge_model(random: &mut Random) -> Pair {
 fn damage_past_limit(random: &mut Random, words: &mut [u32], kinds: &[u32], limit: usize) {
     let past = words.iter().enumerate().filter(|(_, &word)| kinds.contains(&kind(word))).map(|(at, _)| at).nth(limit);
     if let (Some(at), true) = (past, random.one_in(3)) {
-        words[at] = match random.below(4) {
+        words[at] = match random.below(5) {
             0 => likely_word(random),
             1 => word(kind(words[at]), random.between(1, 40)),
             2 => word(kind(words[at]), 0),
+            3 => word(kind(words[at]), LEAST - 1),
             _ => words[at] ^ 1 << random.below(32),
         };
     }
@@ -990,8 +991,8 @@ fn likely_word(random: &mut Random) -> u32 {
     let kind = random.pick(&[1, 1, 2, 2, 3, 3, 4, 4, 5, 5, 5, 5, 6, 6, 6, 6, 7, 8, 9, 10, 11, 12, 15, 0, 13, 14]);
     let payload = match random.below(8) {
         0 => 0,
-        1 => random.pick(&ENDS),
-        2 => random.between(LEAST, LARGEST),
+        1 => random.pick(&ENDS) - 1,
+        2 => random.between(LEAST - 1, LARGEST),
         3 => random.pick(&[28, 29, 32, 33, 66, 67, 255, 256, 257, -1]),
         _ => random.between(0, 8),
     };
@@ -1030,7 +1031,7 @@ fn damage(random: &mut Random, words: &mut Vec<u32>) {
     }
     let at = random.below(words.len());
     let old = words[at];
-    match random.below(15) {
+    match random.below(17) {
         0 => words[at] = random.next() as u32,
         1 => words[at] = likely_word(random),
         2 => words[at] = word(kind(likely_word(random)), i64::from(signed(old))),
@@ -1063,6 +1064,18 @@ fn damage(random: &mut Random, words: &mut Vec<u32>) {
             let counted = words.iter().rposition(|&word| matches!(kind(word), CONSTRAINT | AT_MOST | EQUAL));
             let at = counted.map_or(at, |head| (head + random.below(3)).min(words.len() - 1));
             words[at] = random.pick(&numbers);
+        }
+        14 | 15 => {
+            // The lowest 28-bit number, at a word with a signed payload; a length, if one is met.
+            let length = words.windows(2).position(|pair| kind(pair[0]) == CONSTRAINT && kind(pair[1]) == NUMBER);
+            let signed = |&at: &usize| matches!(kind(words[at]), LOWER | UPPER | NUMBER | AUX_LOWER | AUX_UPPER);
+            let places: Vec<usize> = (0..words.len()).filter(signed).collect();
+            let at = match length {
+                Some(head) if random.one_in(4) => head + 1,
+                _ if places.is_empty() => at,
+                _ => random.pick(&places),
+            };
+            words[at] = word(kind(words[at]), LEAST - 1);
         }
         _ => {
             let next = (at + 1) % words.len();

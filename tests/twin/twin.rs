@@ -30,9 +30,11 @@ pub const EQUAL: u32 = 0xB;
 pub const PRODUCT: u32 = 0xC;
 pub const ROWS_END: u32 = 0xF;
 
-/// "The range" of signed payloads.
-pub const LEAST: i64 = -134_217_728;
+/// "The range" (02, wish 2).
+pub const LEAST: i64 = -134_217_727;
 pub const LARGEST: i64 = 134_217_727;
+/// The payload of the lowest 28-bit number, which has no opposite.
+pub const LOWEST: u32 = 0x0800_0000;
 
 /// The top 4 bits of a word.
 pub fn kind(word: u32) -> u32 {
@@ -72,10 +74,23 @@ fn expect(words: &[u32], at: usize, wanted: u32) -> Result<u32, Refusal> {
     }
 }
 
-/// The bound pair that starts at a place; its upper word must have one kind: fault 2, 3, then 4.
+/// The signed payload of the word at a place: fault 18 where it is the lowest 28-bit number.
+fn ranged(word: u32, at: usize) -> Result<i32, Refusal> {
+    if payload(word) == LOWEST {
+        return refusal(18, at);
+    }
+    Ok(signed(word))
+}
+
+/// The signed payload of the word at a place, which must have one kind: fault 2, 3, then 18.
+fn expect_signed(words: &[u32], at: usize, wanted: u32) -> Result<i32, Refusal> {
+    ranged(expect(words, at, wanted)?, at)
+}
+
+/// The bound pair that starts at a place; its upper word must have one kind: fault 2, 3, 18, then 4.
 fn bound_pair(words: &[u32], at: usize, upper_kind: u32) -> Result<(i32, i32), Refusal> {
     let lower = signed(words[at]);
-    let upper = signed(expect(words, at + 1, upper_kind)?);
+    let upper = expect_signed(words, at + 1, upper_kind)?;
     if upper < lower {
         return refusal(4, at + 1);
     }
@@ -208,7 +223,7 @@ impl Constraint<'_> {
     }
 }
 
-/// Reads the variables of a model, up to the first constraint or the end word: fault 1, then 2 to 6.
+/// Reads the variables of a model, up to the first constraint or the end word: fault 1, then 2 to 6 and 18.
 fn read_variables(words: &[u32], variables: &mut Variables) -> Result<(), Refusal> {
     if words.len() > MODEL_WORDS {
         return refusal(1, 0);
@@ -218,6 +233,7 @@ fn read_variables(words: &[u32], variables: &mut Variables) -> Result<(), Refusa
         let Some(&word) = words.get(at) else { return refusal(2, at) };
         let full = variables.count == MODEL_VARIABLES;
         let (variable, size) = match kind(word) {
+            LOWER if payload(word) == LOWEST => return refusal(18, at),
             LOWER if full => return refusal(6, at),
             LOWER => {
                 let (lower, upper) = bound_pair(words, at, UPPER)?;
@@ -238,7 +254,7 @@ fn read_variables(words: &[u32], variables: &mut Variables) -> Result<(), Refusa
     }
 }
 
-/// Reads the constraints of a model and the end word: faults 2, 3, 5 and 7 to 11. Gives each whole constraint and the place of its head word to
+/// Reads the constraints of a model and the end word: faults 2, 3, 5, 7 to 11 and 18. Gives each whole constraint and the place of its head word to
 /// `visit`; answers their number.
 fn read_constraints<'a>(words: &'a [u32], variables: &Variables, mut visit: impl FnMut(usize, &Constraint<'a>)) -> Result<usize, Refusal> {
     let mut at = variables.end;
@@ -262,7 +278,7 @@ fn read_constraints<'a>(words: &'a [u32], variables: &Variables, mut visit: impl
     }
 }
 
-/// Checks a head word's code and its arguments: faults 2, 3, 8, 9 and 10. Answers the place behind them.
+/// Checks a head word's code and its arguments: faults 2, 3, 8, 9, 10 and 18. Answers the place behind them.
 fn check_arguments(words: &[u32], head: usize, variables: &[Variable]) -> Result<usize, Refusal> {
     let Some(shape) = SHAPES.get((payload(words[head]) as usize).wrapping_sub(1)) else { return refusal(8, head) };
     let mut at = head + 1;
@@ -284,9 +300,9 @@ fn check_arguments(words: &[u32], head: usize, variables: &[Variable]) -> Result
     Ok(at)
 }
 
-/// The list length at a place: fault 2, 3, then 9.
+/// The list length at a place: fault 2, 3, 18, then 9.
 fn list_length(words: &[u32], at: usize) -> Result<usize, Refusal> {
-    let length = signed(expect(words, at, NUMBER)?);
+    let length = expect_signed(words, at, NUMBER)?;
     if (0..=LIST_LENGTH).contains(&length) {
         Ok(length as usize)
     } else {
@@ -313,11 +329,12 @@ fn check_variables(words: &[u32], at: usize, count: usize, variables: &[Variable
     }
 }
 
-/// Checks a count of number arguments: fault 2, then 3. Answers the place behind them.
+/// Checks a count of number arguments: fault 2, 3, then 18. Answers the place behind them.
 fn check_numbers(words: &[u32], at: usize, count: usize) -> Result<usize, Refusal> {
     let behind = at + count;
-    if let Some(place) = words[at..behind.min(words.len())].iter().position(|&word| kind(word) != NUMBER) {
-        return refusal(3, at + place);
+    let wrong = |&word: &u32| kind(word) != NUMBER || payload(word) == LOWEST;
+    if let Some(place) = words[at..behind.min(words.len())].iter().position(wrong) {
+        return refusal(if kind(words[at + place]) == NUMBER { 18 } else { 3 }, at + place);
     }
     if behind <= words.len() {
         Ok(behind)
@@ -777,7 +794,7 @@ impl Sink for Writer<'_> {
 
 // ----------------------------------------------------------------------------------------------------------------------------------- calls
 
-/// Reads a model and measures its blocks: faults 1 to 11, then the first constraint's fault of 12 to 14. Gives each constraint to `visit`.
+/// Reads a model and measures its blocks: faults 1 to 11 and 18, then the first constraint's fault of 12 to 14. Gives each constraint to `visit`.
 fn measure<'a>(words: &'a [u32], variables: &mut Variables, mut visit: impl FnMut(&Variables, &Constraint<'a>)) -> Result<Counts, Refusal> {
     read_variables(words, variables)?;
     let variables = &*variables;
@@ -1054,6 +1071,9 @@ fn try_judge_rows(words: &[u32], values: &[i32]) -> Result<Judgement, Refusal> {
                 if first == BOOLEAN && payload(word) > 0 {
                     return refusal(5, at);
                 }
+                if first != BOOLEAN {
+                    ranged(word, at)?;
+                }
                 if declared == ALL_VARIABLES {
                     return refusal(14, at);
                 }
@@ -1097,7 +1117,7 @@ fn value_of(values: &[i32], variable: usize) -> i64 {
     values.get(variable).map_or(0, |&value| i64::from(value))
 }
 
-/// Whether the row at a place is satisfied, and the place behind it: faults 2, 3, 9 and 10.
+/// Whether the row at a place is satisfied, and the place behind it: faults 2, 3, 9, 10 and 18.
 fn row(words: &[u32], head: usize, declared: usize, values: &[i32]) -> Result<(bool, usize), Refusal> {
     let terms = payload(words[head]);
     if terms > ROW_TERMS {
@@ -1110,12 +1130,12 @@ fn row(words: &[u32], head: usize, declared: usize, values: &[i32]) -> Result<(b
         if variable >= declared {
             return refusal(10, at);
         }
-        let coefficient = i64::from(signed(expect(words, at + 1, NUMBER)?));
+        let coefficient = i64::from(expect_signed(words, at + 1, NUMBER)?);
         // It wraps only where a value is far out of its bounds; then no row is named.
         sum = sum.wrapping_add(coefficient * value_of(values, variable));
         at += 2;
     }
-    sum = sum.wrapping_add(i64::from(signed(expect(words, at, NUMBER)?)));
+    sum = sum.wrapping_add(i64::from(expect_signed(words, at, NUMBER)?));
     Ok((if kind(words[head]) == EQUAL { sum == 0 } else { sum <= 0 }, at + 1))
 }
 
