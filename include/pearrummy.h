@@ -45,21 +45,21 @@ struct pearrummy_written {
  * Stack: 55 KiB. */
 uint32_t pearrummy_check_bytes(const uint8_t *bytes, size_t bytes_count);
 
-/* Checks a model; faults 1 to 14. Stack: 23 KiB. */
+/* Checks a model; faults 1 to 14 and 18. Stack: 23 KiB. */
 struct pearrummy_counts pearrummy_check(const uint32_t *words, size_t words_count);
 
-/* Writes the row system of a model to the front of `out`; faults 1 to 14 and 16. Words past the end keep their values; a refusal changes nothing.
+/* Writes the row system of a model to the front of `out`; faults 1 to 14, 16 and 18. Words past the end keep their values; a refusal changes nothing.
  * Stack: 27 KiB. */
 struct pearrummy_written pearrummy_translate(const uint32_t *words, size_t words_count, uint32_t *out, size_t out_count);
 
-/* Judges values of a model's variables; faults 1 to 11 and 15. Stack: 4 KiB. */
+/* Judges values of a model's variables; faults 1 to 11, 15 and 18. Stack: 4 KiB. */
 struct pearrummy_judgement pearrummy_judge_model(const uint32_t *words, size_t words_count, const int32_t *values, size_t values_count);
 
-/* Judges values of a row system's variables and auxiliaries; faults 1 to 5, 9 to 11, 14, 15 and 17. Stack: 1 KiB. */
+/* Judges values of a row system's variables and auxiliaries; faults 1 to 5, 9 to 11, 14, 15, 17 and 18. Stack: 1 KiB. */
 struct pearrummy_judgement pearrummy_judge_rows(const uint32_t *words, size_t words_count, const int32_t *values, size_t values_count);
 
 /* Judges values of a model's variables and, where they hold, writes them and the auxiliaries to the front of `out` and puts into `at` how many
- * there are; faults 1 to 16. Values past the end keep theirs; any other answer changes nothing. Stack: 23 KiB. */
+ * there are; faults 1 to 16 and 18. Values past the end keep theirs; any other answer changes nothing. Stack: 23 KiB. */
 struct pearrummy_judgement pearrummy_fill(const uint32_t *words, size_t words_count, const int32_t *values, size_t values_count, int32_t *out, size_t out_count);
 
 #endif

@@ -1,4 +1,4 @@
-// The reader of a model: the first faulty word, by faults 1 to 11; and of an accepted model what it saw.
+// The reader of a model: the first faulty word, by faults 1 to 11 and 18; and of an accepted model what it saw.
 ghost use mathlib.Core.Path.{_≡_};
 ghost use lib.ListN.{length};
 ghost use Rattle.words.specs.Refusal.{_at-place_};

@@ -1,4 +1,4 @@
--- Judge-model: 1 to 11, then 15, then whether the values keep every bound and every builtin is true of them.
+-- Judge-model: 1 to 11 and 18, then 15, then whether the values keep every bound and every builtin is true of them.
 use mathlib.Core.List.{List}
 use Prim.Native.Nat.{ℕ}
 use lib.IntN.{ℤ}

@@ -45,7 +45,7 @@ pub struct Cost {
     pub words: usize,
 }
 
-// What the model needs, or its first fault of 1 to 14.
+// What the model needs, or its first fault of 1 to 14 and 18.
 pub fn check(ws: &[u32]) -> Checked
     ensures { λ r. ⌜ checked r ≡ checkAnswer (now (ws .entry)) ⌝ }
 {
