@@ -8,7 +8,7 @@ use Rattle.integers.specs.Choice.{_if_else_}
 use Rattle.integers.specs.Terms.{Term}
 use Rattle.models.specs.Table.{Sort, integer, boolean, number, numbers, integers, booleans, parallel, Argument}
 use Rattle.models.specs.Shape as Shape
-use Rattle.models.specs.Builtin.{Builtin, int-eq, int-le, int-lt, int-ne, int-le-reif, int-plus, int-times, int-abs, int-max, int-lin-eq, int-lin-le, int-lin-ne, int-lin-eq-reif, int-eq-reif, int-lin-le-reif, bool2int, bool-not, bool-and, bool-or, bool-xor, bool-clause, array-bool-and, array-bool-xor, array-int-element, array-var-int-element, array-int-maximum, set-in, set-in-reif}
+use Rattle.models.specs.Builtin.{Builtin, int-eq, int-le, int-lt, int-ne, int-le-reif, int-plus, int-times, int-abs, int-max, int-lin-eq, int-lin-le, int-lin-ne, int-lin-eq-reif, int-eq-reif, int-lin-le-reif, bool2int, bool-not, bool-and, bool-or, bool-xor, bool-clause, array-bool-and, array-bool-xor, array-int-element, array-var-int-element, array-int-maximum, set-in, set-in-reif, int-min, int-lt-reif, int-ne-reif, int-lin-ne-reif, array-int-minimum, bool-eq-reif, bool-le-reif, bool-lt-reif}
 
 -- an argument and its sort
 pub record Given : Type 0 where
@@ -48,6 +48,14 @@ argumentsOf (array-var-int-element i xs c) = integer ! i ∷ integers ! xs ∷ i
 argumentsOf (array-int-maximum m xs) = integer ! m ∷ integers ! xs ∷ []
 argumentsOf (set-in x S) = integer ! x ∷ numbers ! S ∷ []
 argumentsOf (set-in-reif x S r) = integer ! x ∷ numbers ! S ∷ boolean ! r ∷ []
+argumentsOf (int-min a b c) = integer ! a ∷ integer ! b ∷ integer ! c ∷ []
+argumentsOf (int-lt-reif a b r) = integer ! a ∷ integer ! b ∷ boolean ! r ∷ []
+argumentsOf (int-ne-reif a b r) = integer ! a ∷ integer ! b ∷ boolean ! r ∷ []
+argumentsOf (int-lin-ne-reif asbs c r) = parallel ! asbs ∷ number ! c ∷ boolean ! r ∷ []
+argumentsOf (array-int-minimum m xs) = integer ! m ∷ integers ! xs ∷ []
+argumentsOf (bool-eq-reif a b r) = boolean ! a ∷ boolean ! b ∷ boolean ! r ∷ []
+argumentsOf (bool-le-reif a b r) = boolean ! a ∷ boolean ! b ∷ boolean ! r ∷ []
+argumentsOf (bool-lt-reif a b r) = boolean ! a ∷ boolean ! b ∷ boolean ! r ∷ []
 
 -- ---- of one argument: its variables, their type, whether it is a list, its words
 

@@ -1,4 +1,4 @@
--- 01, Rules of the 28 codes: the builtins in the order of their codes, with 01's names of their arguments.
+-- 01, Rules of the 28 codes, and 02, wish 1: the builtins in the order of their codes, with their names of the arguments.
 -- A variable argument is the variable's number; parallel lists of numbers and variables are a list of terms.
 use mathlib.Core.List.{List}
 use Prim.Native.Nat.{ℕ}
@@ -29,3 +29,9 @@ pub data Builtin : Type 0 where
   array-int-maximum : (m : ℕ) (xs : List ℕ) → Builtin
   set-in : (x : ℕ) (S : List ℤ) → Builtin
   set-in-reif : (x : ℕ) (S : List ℤ) (r : ℕ) → Builtin
+  -- 29 to 36
+  int-min : (a b c : ℕ) → Builtin
+  int-lt-reif int-ne-reif : (a b r : ℕ) → Builtin
+  int-lin-ne-reif : (asbs : List (Term ℕ)) (c : ℤ) (r : ℕ) → Builtin
+  array-int-minimum : (m : ℕ) (xs : List ℕ) → Builtin
+  bool-eq-reif bool-le-reif bool-lt-reif : (a b r : ℕ) → Builtin

@@ -6,10 +6,10 @@ use lib.Dec.{leb, eqb}
 use lib.IntN.{ℤ, pos, negsuc}
 use lib.Signed.{leZ, ltZ}
 use lib.ListN.{length, getD}
-use Rattle.integers.specs.Number.{_⊕_, _⊗_, maxZ, absZ, _==_, +0, +1}
+use Rattle.integers.specs.Number.{_⊕_, _⊗_, minZ, maxZ, absZ, _==_, +0, +1}
 use Rattle.integers.specs.Lists.{all, any, howMany}
 use Rattle.integers.specs.Terms.{Valuation, sum}
-use Rattle.models.specs.Builtin.{Builtin, int-eq, int-le, int-lt, int-ne, int-le-reif, int-plus, int-times, int-abs, int-max, int-lin-eq, int-lin-le, int-lin-ne, int-lin-eq-reif, int-eq-reif, int-lin-le-reif, bool2int, bool-not, bool-and, bool-or, bool-xor, bool-clause, array-bool-and, array-bool-xor, array-int-element, array-var-int-element, array-int-maximum, set-in, set-in-reif}
+use Rattle.models.specs.Builtin.{Builtin, int-eq, int-le, int-lt, int-ne, int-le-reif, int-plus, int-times, int-abs, int-max, int-lin-eq, int-lin-le, int-lin-ne, int-lin-eq-reif, int-eq-reif, int-lin-le-reif, bool2int, bool-not, bool-and, bool-or, bool-xor, bool-clause, array-bool-and, array-bool-xor, array-int-element, array-var-int-element, array-int-maximum, set-in, set-in-reif, int-min, int-lt-reif, int-ne-reif, int-lin-ne-reif, array-int-minimum, bool-eq-reif, bool-le-reif, bool-lt-reif}
 
 -- a Boolean variable that is 1; one that is 0
 unfoldable pub on : Valuation → ℕ → Bool
@@ -31,6 +31,10 @@ element (negsuc i) xs c = false
 -- 000, 3.1.2: m is one of the list, and none of the list is above it; 01: "No maximum of an empty list exists: false."
 unfoldable pub maximum : ℤ → List ℤ → Bool
 maximum m xs = any (λ x. x == m) xs && all (λ x. leZ x m) xs
+
+-- 000, 3.1.3: m is one of the list, and none of the list is below it; 02, wish 1: "false of an empty list"
+unfoldable pub minimum : ℤ → List ℤ → Bool
+minimum m xs = any (λ x. x == m) xs && all (λ x. leZ m x) xs
 
 -- 000, 3.3.1: x is one of the numbers
 unfoldable pub member : ℤ → List ℤ → Bool
@@ -75,3 +79,13 @@ meaning σ (array-var-int-element i xs c) = element (σ i) (map σ xs) (σ c)
 meaning σ (array-int-maximum m xs) = maximum (σ m) (map σ xs)
 meaning σ (set-in x S) = member (σ x) S
 meaning σ (set-in-reif x S r) = on σ r iff member (σ x) S
+-- 29 to 33: 000, 3.1.20, 3.1.18, 3.1.23, 3.1.16, 3.1.3
+meaning σ (int-min a b c) = minZ (σ a) (σ b) == σ c
+meaning σ (int-lt-reif a b r) = on σ r iff ltZ (σ a) (σ b)
+meaning σ (int-ne-reif a b r) = on σ r iff not (σ a == σ b)
+meaning σ (int-lin-ne-reif asbs c r) = on σ r iff not (sum σ asbs == c)
+meaning σ (array-int-minimum m xs) = minimum (σ m) (map σ xs)
+-- 34 to 36: 000, 3.2.9, 3.2.11, 3.2.15
+meaning σ (bool-eq-reif a b r) = on σ r iff σ a == σ b
+meaning σ (bool-le-reif a b r) = on σ r iff leZ (σ a) (σ b)
+meaning σ (bool-lt-reif a b r) = on σ r iff ltZ (σ a) (σ b)

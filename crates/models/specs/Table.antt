@@ -1,4 +1,4 @@
--- 01, Rules of the 28 codes: one row a code, the sorts of its arguments and its builtin.
+-- 01, Rules of the 28 codes, and 02, wish 1: one row a code, the sorts of its arguments and its builtin.
 -- "Arguments of bool_ and array_bool_ builtins, a of 16 and every named r are Boolean; all other variables integer."
 use mathlib.Core.List.{List, [], _∷_}
 use Prim.Native.Nat.{ℕ}
@@ -34,7 +34,7 @@ pub record Code : Type 0 where
 abbrev pub takes : (ss : List Sort) → Takes ss → Code
 takes ss f = record { sorts = ss; make = f }
 
--- "Codes run from 1 to 28 without a gap."
+-- "Codes run from 1 to 28 without a gap."; 02: "codes 29 to 36"
 abbrev pub codes : List Code
 codes =
     -- 1 to 9
@@ -69,6 +69,15 @@ codes =
     takes (integer ∷ integers ∷ []) B.array-int-maximum ∷
     takes (integer ∷ numbers ∷ []) B.set-in ∷
     takes (integer ∷ numbers ∷ boolean ∷ []) B.set-in-reif ∷
+    -- 29 to 36
+    takes (integer ∷ integer ∷ integer ∷ []) B.int-min ∷
+    takes (integer ∷ integer ∷ boolean ∷ []) B.int-lt-reif ∷
+    takes (integer ∷ integer ∷ boolean ∷ []) B.int-ne-reif ∷
+    takes (parallel ∷ number ∷ boolean ∷ []) B.int-lin-ne-reif ∷
+    takes (integer ∷ integers ∷ []) B.array-int-minimum ∷
+    takes (boolean ∷ boolean ∷ boolean ∷ []) B.bool-eq-reif ∷
+    takes (boolean ∷ boolean ∷ boolean ∷ []) B.bool-le-reif ∷
+    takes (boolean ∷ boolean ∷ boolean ∷ []) B.bool-lt-reif ∷
     []
 
 -- the last code

@@ -19,7 +19,7 @@ use Rattle.words.specs.Overlay.{overlay}
 use Rattle.words.specs.Refusal.{_else-refuse_, firstFault, countFault}
 use Rattle.words.specs.Answer.{Answer, refused, counts, written, holds, outOfBounds, isFalse, _else-answer_, isHolds}
 use Rattle.words.specs.Judge.{firstFalse, firstOutOfBounds, judge}
-use Rattle.models.specs.Meaning.{on, off, element, maximum, member, odd, meaning}
+use Rattle.models.specs.Meaning.{on, off, element, maximum, minimum, member, odd, meaning}
 use Rattle.models.specs.Shape.{shapes, argument}
 use Rattle.models.specs.Reading as Model
 use Rattle.models.specs.Reading.{readModelIn}
@@ -173,6 +173,40 @@ booleans : ℕ → List ℕ
 booleans zero = []
 booleans (suc n) = 0x30000000 ∷ booleans n
 
+-- codes 29 to 31, a and b in −3..3, and a third variable
+three : ℕ → List ℕ → List ℕ
+three head third = 0x1FFFFFFD ∷ 0x20000003 ∷ 0x1FFFFFFD ∷ 0x20000003 ∷ (third ++ (head ∷ 0x50000000 ∷ 0x50000001 ∷ 0x50000002 ∷ 0x70000000 ∷ []))
+
+-- int_min, c in −3..3
+of29 : List ℕ
+of29 = three 0x4000001D (0x1FFFFFFD ∷ 0x20000003 ∷ [])
+
+-- int_lt_reif, int_ne_reif
+of30 : List ℕ
+of30 = three 0x4000001E (0x30000000 ∷ [])
+
+of31 : List ℕ
+of31 = three 0x4000001F (0x30000000 ∷ [])
+
+-- int_lin_ne_reif 1×x, c=0, x in −5..3
+of32 : List ℕ
+of32 =
+    0x1FFFFFFB ∷ 0x20000003 ∷ 0x30000000 ∷
+    0x40000020 ∷ 0x60000001 ∷ 0x60000001 ∷ 0x50000000 ∷ 0x60000000 ∷ 0x50000001 ∷ 0x70000000 ∷ []
+
+-- minimum, m and two others in −4..−2; minimum of an empty list
+of33 : List ℕ
+of33 =
+    0x1FFFFFFC ∷ 0x2FFFFFFE ∷ 0x1FFFFFFC ∷ 0x2FFFFFFE ∷ 0x1FFFFFFC ∷ 0x2FFFFFFE ∷
+    0x40000021 ∷ 0x50000000 ∷ 0x60000002 ∷ 0x50000001 ∷ 0x50000002 ∷ 0x70000000 ∷ []
+
+noneOf33 : List ℕ
+noneOf33 = 0x1FFFFFFC ∷ 0x2FFFFFFE ∷ 0x40000021 ∷ 0x50000000 ∷ 0x60000000 ∷ 0x70000000 ∷ []
+
+-- codes 34 to 36, three Boolean variables
+ofBits : ℕ → List ℕ
+ofBits head = 0x30000000 ∷ 0x30000000 ∷ 0x30000000 ∷ head ∷ 0x50000000 ∷ 0x50000001 ∷ 0x50000002 ∷ 0x70000000 ∷ []
+
 pub table : List Line
 table =
     translates (0x70000000 ∷ []) (0xF0000000 ∷ []) ∷
@@ -206,13 +240,31 @@ table =
     refuses (booleans 256 ++ (0x18000000 ∷ [])) 18 256 ∷
     refuses (0x40000017 ∷ 0x68000000 ∷ []) 18 1 ∷
     refusesRows (booleans 4096 ++ (0x88000000 ∷ [])) 18 4096 ∷
+    fills of29 (negsuc 2 ∷ pos 3 ∷ negsuc 2 ∷ []) (pos 0 ∷ []) ∷
+    fills of29 (pos 3 ∷ negsuc 2 ∷ negsuc 2 ∷ []) (pos 1 ∷ []) ∷
+    denies of29 (pos 3 ∷ negsuc 2 ∷ pos 3 ∷ []) 0 ∷
+    denies of30 (pos 3 ∷ pos 3 ∷ pos 1 ∷ []) 0 ∷
+    fills of30 (negsuc 2 ∷ pos 3 ∷ pos 1 ∷ []) [] ∷
+    denies of31 (pos 3 ∷ pos 3 ∷ pos 1 ∷ []) 0 ∷
+    fills of31 (pos 3 ∷ pos 3 ∷ pos 0 ∷ []) (pos 0 ∷ pos 0 ∷ pos 0 ∷ []) ∷
+    denies of32 (pos 0 ∷ pos 1 ∷ []) 0 ∷
+    fills of32 (negsuc 4 ∷ pos 1 ∷ []) (negsuc 4 ∷ pos 1 ∷ negsuc 4 ∷ []) ∷
+    fills of33 (negsuc 2 ∷ negsuc 2 ∷ negsuc 2 ∷ []) (pos 1 ∷ pos 0 ∷ negsuc 2 ∷ pos 0 ∷ []) ∷
+    denies of33 (negsuc 1 ∷ negsuc 2 ∷ negsuc 1 ∷ []) 0 ∷
+    never noneOf33 ∷
+    fills (ofBits 0x40000022) (pos 1 ∷ pos 1 ∷ pos 1 ∷ []) (pos 1 ∷ pos 1 ∷ []) ∷
+    denies (ofBits 0x40000022) (pos 0 ∷ pos 0 ∷ pos 0 ∷ []) 0 ∷
+    denies (ofBits 0x40000023) (pos 0 ∷ pos 0 ∷ pos 0 ∷ []) 0 ∷
+    denies (ofBits 0x40000023) (pos 1 ∷ pos 0 ∷ pos 1 ∷ []) 0 ∷
+    denies (ofBits 0x40000024) (pos 1 ∷ pos 1 ∷ pos 1 ∷ []) 0 ∷
+    denies (ofBits 0x40000024) (pos 0 ∷ pos 1 ∷ pos 0 ∷ []) 0 ∷
     []
 
 pub table-T : all isTrue table ≡ true
-unfolding sameList sameAnswer listsWithin isAccepted isDenied unusedWords unusedValues isTrue T3 T5 T6 T7 T8 T9 T10 T11 T12 switches fourSwitches noSwitches booleans table within width values
+unfolding sameList sameAnswer listsWithin isAccepted isDenied unusedWords unusedValues isTrue T3 T5 T6 T7 T8 T9 T10 T11 T12 switches fourSwitches noSwitches booleans three of29 of30 of31 of32 of33 noneOf33 ofBits table within width values
     boundsIn listOf all any howMany _⊕_ _⊖_ _⊗_ neg minZ maxZ absZ _==_ count value sum _else-answer_ isHolds firstFalse firstOutOfBounds judge
     overlay _else-refuse_ firstFault countFault startsPair variables kind payload signed word complement numberWord wordAt
-    JudgeModel.judgeAccepted JudgeRows.judgeAccepted judgeModel on off element maximum member odd meaning constraintsFrom constraints var num size vars
+    JudgeModel.judgeAccepted JudgeRows.judgeAccepted judgeModel on off element maximum minimum member odd meaning constraintsFrom constraints var num size vars
     nums past terms pastTerms builtins builtin tooLow Model.faultHead Model.faultStartIn Model.faultUpperIn Rows.faultUpper Model.faultNumberIn Rows.faultNumber
     Model.faultVariable Rows.faultVariable Model.faultLengthIn Model.faultArgumentIn Model.faultDueIn Rows.faultDue Model.faultIn Rows.fault Model.afterHead
     Model.afterArgument Model.afterDue Rows.afterDue Model.declared Model.started Rows.started Model.after Rows.after Model.faultEnd Rows.faultEnd
@@ -220,7 +272,7 @@ unfolding sameList sameAnswer listsWithin isAccepted isDenied unusedWords unused
     satisfied renameTerms rename termCount variableAt numberAt termsIn constantIn rows boundWords termWords sumWords rowWords boundNumbers rowNumbers
     numbered blockWords blockNumbers outsideIn tooWide blockFaultIn blocksFaultIn checkFaultIn checkIn filledCount fillFaultIn fillIn filledIn Z endProducts extreme L
     U halfLess _─_≤0 _─_=0 sources each bits weighted oneBit chosen products nth places leastFrom rising members bitOf signPick signedPick firstBit gatedPick
-    pick Rule.linked Rule.signed Rule.notEqual Rule.lessEqualReified Rule.absolute Rule.larger Rule.linNotEqual Rule.linEqualReified
-    Rule.linLessEqualReified Rule.exclusiveOr Rule.numberElement Rule.variableElement Rule.largest Rule.inSet Rule.inSetReified rule roomFault
+    pick Rule.linked Rule.signed Rule.whereOne Rule.whereZero Rule.orderReified Rule.absolute Rule.touching Rule.linNotEqual Rule.zeroRows
+    Rule.zeroReified Rule.linLessEqualReified Rule.sameRows Rule.sameReified Rule.numberElement Rule.variableElement Rule.oneOf Rule.inSet Rule.inSetReified rule roomFault
     translateFaultIn translateIn translatedIn bounds blockOf sourceWords blocksWords systemWords auxiliaries blockRows picks flatMap zipWith
 table-T = refl

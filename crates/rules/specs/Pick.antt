@@ -1,5 +1,6 @@
 -- What fill picks for the auxiliaries of each builtin, where the values σ make it true; 01, Five calls: "It picks b=1 in 8, 12, 13, 14 only for
--- a negative x; r=0 in 9 when a=c; the first maximum in 26."; in 23 the t with Σ−2×t−1=0.
+-- a negative x; r=0 in 9 when a=c; the first maximum in 26."; in 23 the t with Σ−2×t−1=0. 02, wish 1: "Fill takes r=0 in 29 when a=c, the first
+-- minimum in 33, b=1 in 31 and 32 only for a negative x."
 use mathlib.Core.Bool.{Bool, not}
 use mathlib.Core.List.{List, [], _∷_, _++_, map, zipWith}
 use Prim.Native.Nat.{ℕ}
@@ -12,7 +13,7 @@ use Rattle.integers.specs.Lists.{howMany}
 use Rattle.integers.specs.Bounds.{values}
 use Rattle.integers.specs.Terms.{Valuation, _·_, sum}
 use Rattle.integers.specs.declared.Bounds.{Bounds}
-use Rattle.models.specs.Builtin.{Builtin, int-eq, int-le, int-lt, int-ne, int-le-reif, int-plus, int-times, int-abs, int-max, int-lin-eq, int-lin-le, int-lin-ne, int-lin-eq-reif, int-eq-reif, int-lin-le-reif, bool2int, bool-not, bool-and, bool-or, bool-xor, bool-clause, array-bool-and, array-bool-xor, array-int-element, array-var-int-element, array-int-maximum, set-in, set-in-reif}
+use Rattle.models.specs.Builtin.{Builtin, int-eq, int-le, int-lt, int-ne, int-le-reif, int-plus, int-times, int-abs, int-max, int-lin-eq, int-lin-le, int-lin-ne, int-lin-eq-reif, int-eq-reif, int-lin-le-reif, bool2int, bool-not, bool-and, bool-or, bool-xor, bool-clause, array-bool-and, array-bool-xor, array-int-element, array-var-int-element, array-int-maximum, set-in, set-in-reif, int-min, int-lt-reif, int-ne-reif, int-lin-ne-reif, array-int-minimum, bool-eq-reif, bool-le-reif, bool-lt-reif}
 use Rattle.models.specs.Meaning.{on}
 use Rattle.rules.specs.Parts.{halfLess, nth, places, members}
 
@@ -23,7 +24,7 @@ bitOf t = +1 if t else +0
 unfoldable pub signPick : ℤ → List ℤ
 signPick x = let b = bitOf (ltZ x +0) in b ∷ (b ⊗ x) ∷ []
 
--- 12 to 14: x = Σ − c, then b and z
+-- 12 to 14, 31, 32: x = Σ − c, then b and z
 unfoldable pub signedPick : ℤ → List ℤ
 signedPick x = x ∷ signPick x
 
@@ -66,3 +67,11 @@ module _ (β : ℕ → Bounds) (σ : Valuation) where
   pick (array-int-maximum m xs) = gatedPick σ (λ x. σ x == σ m) xs
   pick (set-in x S) = firstBit (λ v. v == σ x) (members S (β x))
   pick (set-in-reif x S r) = firstBit (λ v. v == σ x) (values (β x))
+  pick (int-min a b c) = bitOf (not (σ a == σ c)) ∷ []
+  pick (int-lt-reif a b r) = []
+  pick (int-ne-reif a b r) = signedPick (sum σ (+1 · a ∷ -1 · b ∷ []) ⊖ +0)
+  pick (int-lin-ne-reif asbs c r) = signedPick (sum σ asbs ⊖ c)
+  pick (array-int-minimum m xs) = gatedPick σ (λ x. σ x == σ m) xs
+  pick (bool-eq-reif a b r) = (σ r ⊗ σ a) ∷ (σ r ⊗ σ b) ∷ []
+  pick (bool-le-reif a b r) = []
+  pick (bool-lt-reif a b r) = []

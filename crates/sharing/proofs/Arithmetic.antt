@@ -1,30 +1,32 @@
--- Codes 6 to 9, sum, product, absolute value and maximum; first the auxiliaries b and z of 8 and of 12 to 14, and the bounds of a product.
-use mathlib.Core.Path.{_≡_, refl, _∙_}
+-- Codes 6 to 9 and 29, sum, product, absolute value, maximum and minimum; first the auxiliaries b and z of 8, 12 to 14, 31 and 32, and the bounds of a
+-- product.
+use mathlib.Core.Path.{_≡_, refl, sym, _∙_}
 use mathlib.Core.Logic.{_⊎_, inl, inr}
+use mathlib.Core.Bool.{Bool, true}
 use mathlib.Core.List.{List, [], _∷_, _++_}
 use Prim.Native.Nat.{ℕ}
 use native.Mathlib.Omega.{arith}
 use lib.IntN.{ℤ}
 use lib.Signed.{ltZ}
-use Rattle.integers.specs.Number.{_⊕_, _⊗_, minZ, maxZ, absZ, +0, +1}
+use Rattle.integers.specs.Number.{_⊕_, _⊖_, _⊗_, minZ, maxZ, absZ, _==_, +0, +1}
 use Rattle.integers.specs.Bounds.{bit}
 use Rattle.integers.specs.Terms.{Valuation, value}
 use Rattle.integers.specs.declared.Bounds.{Bounds}
 use Rattle.integers.proofs.Linear.{_⊑_, _⊏_, rep, linear, from₁, from₂}
 use Rattle.integers.proofs.Bits.{to-bit, bit-case}
 use Rattle.integers.proofs.Product.{between, ⊗-comm}
-use Rattle.integers.proofs.Tests.{In, says-lt, says-equal, says-not}
-use Rattle.models.specs.Builtin.{int-plus, int-times, int-abs, int-max}
+use Rattle.integers.proofs.Tests.{Says, In, says-lt, says-equal, says-not}
+use Rattle.models.specs.Builtin.{int-plus, int-times, int-abs, int-max, int-min}
 use Rattle.models.specs.Meaning.{meaning}
 use Rattle.models.proofs.Arguments.{integerArguments}
 use Rattle.rules.specs.Block.{source, aux}
 use Rattle.rules.specs.Parts.{Z, endProducts, _─_≤0}
-use Rattle.rules.specs.Rule.{rule, absolute, larger}
+use Rattle.rules.specs.Rule.{rule, whereOne, whereZero, absolute, touching}
 use Rattle.rules.specs.Pick.{pick, bitOf, signPick}
 use Rattle.sharing.proofs.Good.{Good, Keeps, see}
-use Rattle.sharing.proofs.Basics.{Sound, Complete, Filled, Exact, complete, agree, equal-row, by-test, Decides, decides-sound, decides-complete, not-not}
+use Rattle.sharing.proofs.Basics.{Sound, Complete, Filled, Exact, complete, agree, says-as, equal-row, by-test, Decides, decides-sound, decides-complete, not-not}
 
--- ---- 8, 12 to 14: b is 0 or 1, z := b×x
+-- ---- 8, 12 to 14, 31, 32: b is 0 or 1, z := b×x
 
 -- a product with 0 or 1 is 0 or the other factor
 pub bit-product : (b x z : ℤ) → In bit b → z ≡ b ⊗ x → (z ≡ +0) ⊎ (z ≡ x)
@@ -132,27 +134,50 @@ module _ (β : ℕ → Bounds) (σ : Valuation) where
   unfolding rule absolute pick signPick
   int-abs-filled x y = refl
 
-  -- ---- 9 int_max: r is 0 where a = c
+  -- ---- 9 int_max, 29 int_min: the least of y − x and v − u is 0; r is 0 where x = y
 
-  max-rows : (a b c : ℕ) → In (β a) (σ a) × In (β b) (σ b) × In (β c) (σ c) →
-      Decides (λ r. Good (larger β a b c) σ (value (r ∷ []))) (maxZ (σ a) (σ b) ≡ σ c) (¬ (σ a ≡ σ c))
-  unfolding larger _─_≤0 value
-  max-rows a b c =
-      rw (rep (σ a), rep (σ b), rep (σ c), rep (β a .lower), rep (β a .upper), rep (β b .lower), rep (β b .upper), rep (β c .lower), rep (β c .upper))
+  touching-rows : (x y u v : ℕ) → In (β x) (σ x) × In (β y) (σ y) × In (β u) (σ u) × In (β v) (σ v) →
+      Decides (λ r. Good (touching β x y u v) σ (value (r ∷ []))) (minZ (σ y ⊖ σ x) (σ v ⊖ σ u) ≡ +0) (¬ (σ x ≡ σ y))
+  unfolding touching whereOne whereZero _─_≤0 value
+  touching-rows x y u v =
+      rw (rep (σ x), rep (σ y), rep (σ u), rep (σ v), rep (β x .lower), rep (β x .upper), rep (β y .lower), rep (β y .upper), rep (β u .lower), rep (β u .upper), rep (β v .lower), rep (β v .upper))
       (simp (linear, not-not) (omega arith))
 
+  -- t is the test of the builtin, s the test that r picks
+  module _ (x y u v : ℕ) (h : In (β x) (σ x) × In (β y) (σ y) × In (β u) (σ u) × In (β v) (σ v)) {t : Bool} (says : Says t (minZ (σ y ⊖ σ x) (σ v ⊖ σ u) ≡ +0)) where
+    touching-sound : (α : Valuation) → Good (touching β x y u v) σ α → t ≡ true
+    unfolding touching whereOne whereZero _─_≤0 value
+    touching-sound α g = says .1 (decides-sound (λ r. Good (touching β x y u v) σ (value (r ∷ []))) (touching-rows x y u v h) (α 0) (g .0 .0) g)
+
+    touching-complete : {s : Bool} → Says s (¬ (σ x ≡ σ y)) → t ≡ true → (rest : List ℤ) → Good (touching β x y u v) σ (value ((bitOf s ∷ []) ++ rest))
+    unfolding touching whereOne whereZero _─_≤0 value
+    touching-complete s m rest = decides-complete (λ r. Good (touching β x y u v) σ (value (r ∷ []))) (touching-rows x y u v h) s (says .0 m)
+
+  says-larger : (a b c : ℕ) → Says (maxZ (σ a) (σ b) == σ c) (minZ (σ c ⊖ σ a) (σ c ⊖ σ b) ≡ +0)
+  says-larger a b c = says-as (says-equal (maxZ (σ a) (σ b)) (σ c)) (rw (rep (σ a), rep (σ b), rep (σ c)) (simp linear (omega arith)))
+
   pub int-max-sound : (α : Valuation) (a b c : ℕ) → Sound β σ α (int-max a b c)
-  unfolding rule larger _─_≤0 meaning integerArguments value
-  int-max-sound α a b c f g =
-      says-equal (maxZ (σ a) (σ b)) (σ c) .1
-      (decides-sound (λ r. Good (larger β a b c) σ (value (r ∷ []))) (max-rows a b c (f .kept .0, f .kept .1 .0, f .kept .1 .1 .0)) (α 0) (g .0 .0) g)
+  unfolding rule meaning integerArguments
+  int-max-sound α a b c f = touching-sound a c b c (f .kept .0, f .kept .1 .1 .0, f .kept .1 .0, f .kept .1 .1 .0) (says-larger a b c) α
 
   pub int-max-complete : (a b c : ℕ) → Complete β σ (int-max a b c)
-  unfolding rule larger _─_≤0 meaning integerArguments pick value
-  int-max-complete a b c f m rest =
-      decides-complete (λ r. Good (larger β a b c) σ (value (r ∷ []))) (max-rows a b c (f .kept .0, f .kept .1 .0, f .kept .1 .1 .0))
-      (says-not (says-equal (σ a) (σ c))) (says-equal (maxZ (σ a) (σ b)) (σ c) .0 m)
+  unfolding rule meaning integerArguments pick
+  int-max-complete a b c f =
+      touching-complete a c b c (f .kept .0, f .kept .1 .1 .0, f .kept .1 .0, f .kept .1 .1 .0) (says-larger a b c) (says-not (says-equal (σ a) (σ c)))
 
   pub int-max-filled : (a b c : ℕ) → Filled β σ (int-max a b c)
-  unfolding rule larger pick
+  unfolding rule touching pick
   int-max-filled a b c = refl
+
+  says-smaller : (a b c : ℕ) → Says (minZ (σ a) (σ b) == σ c) (minZ (σ a ⊖ σ c) (σ b ⊖ σ c) ≡ +0)
+  says-smaller a b c = says-as (says-equal (minZ (σ a) (σ b)) (σ c)) (rw (rep (σ a), rep (σ b), rep (σ c)) (simp linear (omega arith)))
+
+  pub int-min-sound : (α : Valuation) (a b c : ℕ) → Sound β σ α (int-min a b c)
+  unfolding rule meaning integerArguments
+  int-min-sound α a b c f = touching-sound c a c b (f .kept .1 .1 .0, f .kept .0, f .kept .1 .1 .0, f .kept .1 .0) (says-smaller a b c) α
+
+  pub int-min-complete : (a b c : ℕ) → Complete β σ (int-min a b c)
+  unfolding rule meaning integerArguments pick
+  int-min-complete a b c f =
+      touching-complete c a c b (f .kept .1 .1 .0, f .kept .0, f .kept .1 .1 .0, f .kept .1 .0) (says-smaller a b c)
+      (says-not (says-as (says-equal (σ a) (σ c)) (sym, sym)))

@@ -99,6 +99,11 @@ decides-sound {A} R d r h = bit-of (λ b. R b → A) (d .0) (d .1) (to-bit r (h 
 pub decides-complete : {A C : Type 0} {t : Bool} (R : ℤ → Type 0) → Decides R A C → Says t C → A → R (bitOf t)
 decides-complete R d s a = by-test s R (d .2 a) (d .3 a)
 
+-- two values are equal, or are not
+abbrev pub Same : Bool → ℤ → ℤ → Type 0
+Same true x y = x ≡ y
+Same false x y = ¬ (x ≡ y)
+
 -- a rule of `simp` for a denied denial, which `omega` does not read
 pub not-not : (a b : ℕ) → ¬ (¬ (a ≡ b)) ↔ (a ≡ b)
 not-not a b = (λ f. go (ℕ-discrete a b) f, λ e f. f e)

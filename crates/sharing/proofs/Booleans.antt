@@ -1,27 +1,26 @@
--- Codes 16 to 20, the builtins of two or three Boolean variables.
+-- Codes 16 to 20 and 34 to 36, the builtins of two or three Boolean variables.
 use mathlib.Core.Path.{_≡_, refl}
 use mathlib.Core.Logic.{_⊎_, inl, inr, _↔_}
-use mathlib.Core.Bool.{_&&_, _||_}
+use mathlib.Core.Bool.{Bool, true, false, _&&_, _||_}
 use mathlib.Core.List.{List, [], _∷_}
 use Prim.Native.Nat.{ℕ}
 use native.Mathlib.Omega.{arith}
 use lib.IntN.{ℤ}
-use Rattle.integers.specs.Number.{_⊕_, _⊗_, +0, +1, +2, -1}
+use Rattle.integers.specs.Number.{_⊕_, _⊗_, +0, +1, +2}
 use Rattle.integers.specs.Bounds.{bit}
-use Rattle.integers.specs.Terms.{Valuation, _·_, value}
+use Rattle.integers.specs.Terms.{Valuation, value}
 use Rattle.integers.specs.declared.Bounds.{Bounds}
-use Rattle.integers.proofs.Linear.{_⊑_, linear}
+use Rattle.integers.proofs.Linear.{_⊑_, _⊏_, linear}
 use Rattle.integers.proofs.Bits.{Bit, bits, Reified, bit-case}
-use Rattle.integers.proofs.Tests.{Says, In, All, says-equal, says-not, says-and, says-or}
-use Rattle.models.specs.Builtin.{bool2int, bool-not, bool-and, bool-or, bool-xor}
-use Rattle.models.specs.Meaning.{meaning, on}
+use Rattle.integers.proofs.Tests.{Says, In, All, says-le, says-lt, says-equal, says-not, says-and, says-or}
+use Rattle.models.specs.Builtin.{bool2int, bool-not, bool-and, bool-or, bool-xor, bool-eq-reif, bool-le-reif, bool-lt-reif}
+use Rattle.models.specs.Meaning.{meaning, on, _iff_}
 use Rattle.models.proofs.Arguments.{booleanArguments}
-use Rattle.rowsystems.specs.Row.{Row, sum=0}
-use Rattle.rules.specs.Parts.{_─_≤0}
-use Rattle.rules.specs.Rule.{rule, exclusiveOr}
+use Rattle.rules.specs.Parts.{_─_≤0, _─_=0}
+use Rattle.rules.specs.Rule.{rule, sameRows, sameReified}
 use Rattle.rules.specs.Pick.{pick}
-use Rattle.sharing.proofs.Good.{Good, Sat}
-use Rattle.sharing.proofs.Basics.{Sound, Complete, Filled, Exact, complete, agree, says-as, says-reified, in-bit, not-not}
+use Rattle.sharing.proofs.Good.{Good, Sat, see}
+use Rattle.sharing.proofs.Basics.{Sound, Complete, Filled, Exact, complete, agree, says-as, says-reified, in-bit, Same, not-not}
 use Rattle.sharing.proofs.Comparisons.{equal-block}
 
 module _ (β : ℕ → Bounds) (σ : Valuation) where
@@ -129,36 +128,85 @@ module _ (β : ℕ → Bounds) (σ : Valuation) where
   unfolding rule pick
   bool-or-filled a b r = refl
 
-  -- ---- 20 bool_xor
+  -- ---- 20 bool_xor, 34 bool_eq_reif
+
+  -- the two rows after the products, where x and y are these
+  equal-rows : (r : ℤ) → Bit r → (a b : ℤ) → In bit a → In bit b → (x y : ℤ) → x ≡ r ⊗ a → y ≡ r ⊗ b →
+      All (Sat (see (value (a ∷ b ∷ r ∷ [])) (value (x ∷ y ∷ [])))) (sameRows true 0 1 2) ↔ Reified r (a ≡ b)
+  unfolding sameRows _─_=0 value
+  equal-rows = simp bits (simp linear (omega arith))
+
+  unequal-rows : (r : ℤ) → Bit r → (a b : ℤ) → In bit a → In bit b → (x y : ℤ) → x ≡ r ⊗ a → y ≡ r ⊗ b →
+      All (Sat (see (value (a ∷ b ∷ r ∷ [])) (value (x ∷ y ∷ [])))) (sameRows false 0 1 2) ↔ Reified r (¬ (a ≡ b))
+  unfolding sameRows value
+  unequal-rows = simp bits (simp (linear, not-not) (omega arith))
+
+  same-rows : (equal : Bool) (a b r : ℕ) → Bit (σ a) → Bit (σ b) → Bit (σ r) → (α : Valuation) → α 0 ≡ σ r ⊗ σ a → α 1 ≡ σ r ⊗ σ b →
+      All (Sat (see σ α)) (sameRows equal a b r) ↔ Reified (σ r) (Same equal (σ a) (σ b))
+  unfolding sameRows _─_=0 value
+  same-rows true a b r u v w α = equal-rows (σ r) w (σ a) (σ b) (in-bit (σ a) u) (in-bit (σ b) v) (α 0) (α 1)
+  same-rows false a b r u v w α = unequal-rows (σ r) w (σ a) (σ b) (in-bit (σ a) u) (in-bit (σ b) v) (α 0) (α 1)
+
+  -- t is the test of the builtin
+  module _ (equal : Bool) (a b r : ℕ) (u : Bit (σ a)) (v : Bit (σ b)) (w : Bit (σ r)) {t : Bool} (s : Says t (Same equal (σ a) (σ b))) where
+    same-reified-sound : (α : Valuation) → Good (sameReified equal a b r) σ α → (on σ r iff t) ≡ true
+    unfolding sameReified
+    same-reified-sound α g = says-reified σ r s .1 (same-rows equal a b r u v w α (g .1 .0) (g .1 .1 .0) .0 (g .1 .1 .1))
+
+    same-reified-complete : (on σ r iff t) ≡ true → (rest : List ℤ) → Good (sameReified equal a b r) σ (value ((σ r ⊗ σ a) ∷ (σ r ⊗ σ b) ∷ rest))
+    unfolding sameReified value
+    same-reified-complete m rest = (
+      (kept (σ a) u (σ r) w, (kept (σ b) v (σ r) w, tt)),
+      (refl, (refl, same-rows equal a b r u v w (value ((σ r ⊗ σ a) ∷ (σ r ⊗ σ b) ∷ rest)) refl refl .1 (says-reified σ r s .0 m))),
+    )
+      where
+        kept : (x : ℤ) → Bit x → (r : ℤ) → Bit r → In bit (r ⊗ x)
+        kept = simp bits (simp linear (omega arith))
 
   pub bool-xor-sound : (α : Valuation) (a b r : ℕ) → Sound β σ α (bool-xor a b r)
-  unfolding rule exclusiveOr meaning booleanArguments value
-  bool-xor-sound α a b r f g =
-      says-reified σ r (says-not (says-equal (σ a) (σ b))) .1
-      (rows (σ a) (f .zero-one .0) (σ b) (f .zero-one .1 .0) (σ r) (f .zero-one .1 .1 .0) (α 0) (α 1) g)
-    where
-      rows : (x : ℤ) → Bit x → (y : ℤ) → Bit y → (r : ℤ) → Bit r → (u v : ℤ) →
-          Good (exclusiveOr β 0 1 2) (value (x ∷ y ∷ r ∷ [])) (value (u ∷ v ∷ [])) → Reified r (¬ (x ≡ y))
-      rows = simp bits (simp linear (omega arith))
+  unfolding rule meaning booleanArguments
+  bool-xor-sound α a b r f =
+      same-reified-sound false a b r (f .zero-one .0) (f .zero-one .1 .0) (f .zero-one .1 .1 .0) (says-not (says-equal (σ a) (σ b))) α
 
   pub bool-xor-complete : (a b r : ℕ) → Complete β σ (bool-xor a b r)
-  unfolding rule exclusiveOr meaning booleanArguments pick value
-  bool-xor-complete a b r f m rest =
-      let s = f .zero-one .0 in
-      let t = f .zero-one .1 .0 in
-      let w = f .zero-one .1 .1 .0 in (
-        (kept (σ a) s (σ r) w, (kept (σ b) t (σ r) w, tt)),
-        (refl, (refl, rows (σ a) s (σ b) t (σ r) w (says-reified σ r (says-not (says-equal (σ a) (σ b))) .0 m))),
-      )
-    where
-      kept : (x : ℤ) → Bit x → (r : ℤ) → Bit r → In bit (r ⊗ x)
-      kept = simp bits (simp linear (omega arith))
-
-      rows : (x : ℤ) → Bit x → (y : ℤ) → Bit y → (r : ℤ) → Bit r → Reified r (¬ (x ≡ y)) →
-          let rows : List (Row ℕ) = sum=0 (+1 · 0 ∷ -1 · 3 ∷ -1 · 1 ∷ +1 · 4 ∷ []) +0 ∷ sum=0 (+1 · 3 ∷ +1 · 4 ∷ -1 · 2 ∷ []) +0 ∷ [] in
-          All (Sat (value (x ∷ y ∷ r ∷ (r ⊗ x) ∷ (r ⊗ y) ∷ []))) rows
-      rows = simp bits (simp (linear, not-not) (omega arith))
+  unfolding rule meaning booleanArguments pick
+  bool-xor-complete a b r f =
+      same-reified-complete false a b r (f .zero-one .0) (f .zero-one .1 .0) (f .zero-one .1 .1 .0) (says-not (says-equal (σ a) (σ b)))
 
   pub bool-xor-filled : (a b r : ℕ) → Filled β σ (bool-xor a b r)
-  unfolding rule exclusiveOr pick
+  unfolding rule sameReified pick
   bool-xor-filled a b r = refl
+
+  pub bool-eq-reif-sound : (α : Valuation) (a b r : ℕ) → Sound β σ α (bool-eq-reif a b r)
+  unfolding rule meaning booleanArguments
+  bool-eq-reif-sound α a b r f =
+      same-reified-sound true a b r (f .zero-one .0) (f .zero-one .1 .0) (f .zero-one .1 .1 .0) (says-equal (σ a) (σ b)) α
+
+  pub bool-eq-reif-complete : (a b r : ℕ) → Complete β σ (bool-eq-reif a b r)
+  unfolding rule meaning booleanArguments pick
+  bool-eq-reif-complete a b r f =
+      same-reified-complete true a b r (f .zero-one .0) (f .zero-one .1 .0) (f .zero-one .1 .1 .0) (says-equal (σ a) (σ b))
+
+  -- ---- 35 bool_le_reif, 36 bool_lt_reif
+
+  le-rows : (r : ℤ) → Bit r → (a b : ℤ) → In bit a → In bit b →
+      Good (rule β (bool-le-reif 0 1 2)) (value (a ∷ b ∷ r ∷ [])) (value []) ↔ Reified r (a ⊑ b)
+  unfolding rule _─_≤0 value
+  le-rows = simp bits (simp linear (omega arith))
+
+  pub bool-le-reif-exact : (a b r : ℕ) → Exact β σ (bool-le-reif a b r)
+  unfolding rule _─_≤0 meaning booleanArguments value
+  bool-le-reif-exact a b r α f =
+      agree (says-reified σ r (says-le (σ a) (σ b)))
+      (le-rows (σ r) (f .zero-one .1 .1 .0) (σ a) (σ b) (in-bit (σ a) (f .zero-one .0)) (in-bit (σ b) (f .zero-one .1 .0)))
+
+  lt-rows : (r : ℤ) → Bit r → (a b : ℤ) → In bit a → In bit b →
+      Good (rule β (bool-lt-reif 0 1 2)) (value (a ∷ b ∷ r ∷ [])) (value []) ↔ Reified r (a ⊏ b)
+  unfolding rule _─_≤0 value
+  lt-rows = simp bits (simp linear (omega arith))
+
+  pub bool-lt-reif-exact : (a b r : ℕ) → Exact β σ (bool-lt-reif a b r)
+  unfolding rule _─_≤0 meaning booleanArguments value
+  bool-lt-reif-exact a b r α f =
+      agree (says-reified σ r (says-lt (σ a) (σ b)))
+      (lt-rows (σ r) (f .zero-one .1 .1 .0) (σ a) (σ b) (in-bit (σ a) (f .zero-one .0)) (in-bit (σ b) (f .zero-one .1 .0)))

@@ -3,15 +3,15 @@ use Rattle.words.specs.Limit as Limit
 use Prim.Native.Nat.{ℕ, zero, suc, _+_, _≤_, _<_, _*_}
 use Rattle.integers.specs.Terms.{Valuation, Term, _·_}
 use Rattle.integers.specs.declared.Bounds.{Bounds}
-use Rattle.models.specs.Builtin.{Builtin, int-eq, int-le, int-lt, int-ne, int-le-reif, int-plus, int-times, int-abs, int-max, int-lin-eq, int-lin-le, int-lin-ne, int-lin-eq-reif, int-eq-reif, int-lin-le-reif, bool2int, bool-not, bool-and, bool-or, bool-xor, bool-clause, array-bool-and, array-bool-xor, array-int-element, array-var-int-element, array-int-maximum, set-in, set-in-reif}
-use Rattle.sharing.proofs.Basics.{Sound, Complete, Filled}
-use Rattle.sharing.proofs.Comparisons.{int-eq-sound, int-eq-complete, int-eq-filled, int-le-sound, int-le-complete, int-le-filled, int-lt-sound, int-lt-complete, int-lt-filled, int-ne-sound, int-ne-complete, int-ne-filled, int-le-reif-sound, int-le-reif-complete, int-le-reif-filled}
-use Rattle.sharing.proofs.Arithmetic.{int-plus-sound, int-plus-complete, int-plus-filled, int-times-sound, int-times-complete, int-times-filled, int-abs-sound, int-abs-complete, int-abs-filled, int-max-sound, int-max-complete, int-max-filled}
-use Rattle.sharing.proofs.Linear.{int-lin-eq-sound, int-lin-eq-complete, int-lin-eq-filled, int-lin-le-sound, int-lin-le-complete, int-lin-le-filled, int-lin-ne-sound, int-lin-ne-complete, int-lin-ne-filled, int-lin-eq-reif-sound, int-lin-eq-reif-complete, int-lin-eq-reif-filled, int-eq-reif-sound, int-eq-reif-complete, int-eq-reif-filled, int-lin-le-reif-sound, int-lin-le-reif-complete, int-lin-le-reif-filled}
-use Rattle.sharing.proofs.Booleans.{bool2int-sound, bool2int-complete, bool2int-filled, bool-not-sound, bool-not-complete, bool-not-filled, bool-and-sound, bool-and-complete, bool-and-filled, bool-or-sound, bool-or-complete, bool-or-filled, bool-xor-sound, bool-xor-complete, bool-xor-filled}
+use Rattle.models.specs.Builtin.{Builtin, int-eq, int-le, int-lt, int-ne, int-le-reif, int-plus, int-times, int-abs, int-max, int-lin-eq, int-lin-le, int-lin-ne, int-lin-eq-reif, int-eq-reif, int-lin-le-reif, bool2int, bool-not, bool-and, bool-or, bool-xor, bool-clause, array-bool-and, array-bool-xor, array-int-element, array-var-int-element, array-int-maximum, set-in, set-in-reif, int-min, int-lt-reif, int-ne-reif, int-lin-ne-reif, array-int-minimum, bool-eq-reif, bool-le-reif, bool-lt-reif}
+use Rattle.sharing.proofs.Basics.{Sound, Complete, Filled, complete}
+use Rattle.sharing.proofs.Comparisons.{int-eq-sound, int-eq-complete, int-eq-filled, int-le-sound, int-le-complete, int-le-filled, int-lt-sound, int-lt-complete, int-lt-filled, int-ne-sound, int-ne-complete, int-ne-filled, int-le-reif-sound, int-le-reif-complete, int-le-reif-filled, int-lt-reif-exact}
+use Rattle.sharing.proofs.Arithmetic.{int-plus-sound, int-plus-complete, int-plus-filled, int-times-sound, int-times-complete, int-times-filled, int-abs-sound, int-abs-complete, int-abs-filled, int-max-sound, int-max-complete, int-max-filled, int-min-sound, int-min-complete}
+use Rattle.sharing.proofs.Linear.{int-lin-eq-sound, int-lin-eq-complete, int-lin-eq-filled, int-lin-le-sound, int-lin-le-complete, int-lin-le-filled, int-lin-ne-sound, int-lin-ne-complete, int-lin-ne-filled, int-lin-eq-reif-sound, int-lin-eq-reif-complete, int-lin-eq-reif-filled, int-eq-reif-sound, int-eq-reif-complete, int-eq-reif-filled, int-lin-le-reif-sound, int-lin-le-reif-complete, int-lin-le-reif-filled, int-ne-reif-sound, int-ne-reif-complete, int-lin-ne-reif-sound, int-lin-ne-reif-complete}
+use Rattle.sharing.proofs.Booleans.{bool2int-sound, bool2int-complete, bool2int-filled, bool-not-sound, bool-not-complete, bool-not-filled, bool-and-sound, bool-and-complete, bool-and-filled, bool-or-sound, bool-or-complete, bool-or-filled, bool-xor-sound, bool-xor-complete, bool-xor-filled, bool-eq-reif-sound, bool-eq-reif-complete, bool-le-reif-exact, bool-lt-reif-exact}
 use Rattle.sharing.proofs.BooleanLists.{bool-clause-sound, bool-clause-complete, bool-clause-filled, array-bool-and-sound, array-bool-and-complete, array-bool-and-filled, array-bool-xor-sound, array-bool-xor-complete, array-bool-xor-filled}
 use Rattle.sharing.proofs.Elements.{array-int-element-sound, array-int-element-complete, array-int-element-filled, array-var-int-element-sound, array-var-int-element-complete, array-var-int-element-filled}
-use Rattle.sharing.proofs.Maximum.{array-int-maximum-sound, array-int-maximum-complete, array-int-maximum-filled}
+use Rattle.sharing.proofs.Maximum.{array-int-maximum-sound, array-int-maximum-complete, array-int-maximum-filled, array-int-minimum-sound, array-int-minimum-complete, array-int-minimum-filled}
 use Rattle.sharing.proofs.Sets.{set-in-sound, set-in-complete, set-in-filled, set-in-reif-sound, set-in-reif-complete, set-in-reif-filled}
 use mathlib.Core.Path.{_≡_, refl}
 use mathlib.Core.Logic.{_↔_}
@@ -33,12 +33,13 @@ use Rattle.models.proofs.Arguments.{integerArguments, booleanArguments, builtin
 use Rattle.rules.specs.Block.{Ref, source, aux, blockWords}
 use Rattle.rules.specs.Parts.{_─_≤0, _─_=0, each, one, oneBit, chosen, products, nth, places, members}
 use Rattle.rules.specs.Check.{tooWide}
-use Rattle.rules.specs.Rule.{rule, linked, signed, notEqual, lessEqualReified, absolute, larger, linNotEqual, linEqualReified, linLessEqualReified, exclusiveOr, numberElement, variableElement, largest, inSet, inSetReified}
+use Rattle.rules.specs.Rule.{rule, linked, signed, whereOne, whereZero, orderReified, absolute, touching, linNotEqual, zeroRows, zeroReified, linLessEqualReified, sameRows, sameReified, numberElement, variableElement, oneOf, inSet, inSetReified}
+use Rattle.rules.specs.Pick.{pick, signPick, signedPick}
 use Rattle.sharing.proofs.OneHot.{bits-length}
 use Rattle.sharing.proofs.Members.{members-length}
 use Rattle.rules.proofs.Lengths.{sources-length, each-length, weighted-length, values-length}
 use Rattle.sharing.proofs.Places.{value-place, places-length, all-nth, members-in}
-use Rattle.sharing.proofs.Formed.{TermIn, RowIn, Formed, Short, bit-ordered, Z-ordered, endProducts-ordered, L-U-ordered, bits-ordered, signed-ordered, gated-ordered, append-in, sources-terms, each-in, less-in, oneBit-in, chosen-in, choice-in, products-in, linked-in, linEqualReified-formed}
+use Rattle.sharing.proofs.Formed.{TermIn, RowIn, Formed, Short, bit-ordered, Z-ordered, endProducts-ordered, L-U-ordered, bits-ordered, signed-ordered, gated-ordered, append-in, sources-terms, each-in, less-in, chosen-in, choice-in, products-in, linked-in, zeroReified-formed, oneOf-formed}
 use Rattle.sharing.proofs.Sizes.{total, rowSize, total-append, total-map, total-same, products-size, block-length}
 
 ruleset lengths = (length-append, length-map, sources-length, each-length, bits-length, weighted-length, total-append, total-map, products-size)
@@ -57,7 +58,7 @@ pub record Laws (β : ℕ → Bounds) (b : Builtin) : Type 1 where
   pub formed : (n : ℕ) → All (λ v. v < n) (integerArguments b) → All (λ v. v < n) (booleanArguments b) → Sizes → Formed n (rule β b)
 
 unfoldable pub laws : (β : ℕ → Bounds) (b : Builtin) → Laws β b
-unfolding integerArguments booleanArguments rule _─_≤0 _─_=0 notEqual lessEqualReified absolute larger linNotEqual linLessEqualReified exclusiveOr numberElement variableElement largest inSet inSetReified signed builtinWords oneBit chosen linked linEqualReified
+unfolding integerArguments booleanArguments rule _─_≤0 _─_=0 whereOne whereZero orderReified absolute touching linNotEqual linLessEqualReified sameRows sameReified numberElement variableElement oneOf inSet inSetReified signed builtinWords oneBit chosen linked zeroRows zeroReified pick signPick signedPick
 laws β (int-eq a b) = record {
   Sizes = Unit {0};
   sound = λ σ α. int-eq-sound β σ α a b;
@@ -160,7 +161,7 @@ laws β (int-lin-eq-reif asbs c r) = record {
   complete = λ σ. int-lin-eq-reif-complete β σ asbs c r;
   filled = λ σ. int-lin-eq-reif-filled β σ asbs c r;
   small = simp lengths (omega arith);
-  formed = λ n h k s. linEqualReified-formed n β asbs c r s h (k .0);
+  formed = λ n h k s. zeroReified-formed n β true asbs c r s h (k .0);
 }
 laws β (int-eq-reif a b r) = record {
   Sizes = Unit {0};
@@ -168,7 +169,7 @@ laws β (int-eq-reif a b r) = record {
   complete = λ σ. int-eq-reif-complete β σ a b r;
   filled = λ σ. int-eq-reif-filled β σ a b r;
   small = simp lengths (omega arith);
-  formed = λ n h k s. linEqualReified-formed n β (+1 · a ∷ -1 · b ∷ []) +0 r (omega arith) h (k .0);
+  formed = λ n h k s. zeroReified-formed n β true (+1 · a ∷ -1 · b ∷ []) +0 r (omega arith) h (k .0);
 }
 laws β (int-lin-le-reif asbs c r) = record {
   Sizes = Short asbs;
@@ -286,26 +287,13 @@ laws β (array-var-int-element i xs c) = record {
             ))),
       );
 }
-laws β (array-int-maximum x xs) = record {
+laws β (array-int-maximum m xs) = record {
   Sizes = Short xs;
-  sound = λ σ α. array-int-maximum-sound β σ α x xs;
-  complete = λ σ. array-int-maximum-complete β σ x xs;
-  filled = λ σ. array-int-maximum-filled β σ x xs;
-  small = simp (lengths, total-same (λ v. rowSize (source v ─ source x ≤0)) 6 (λ v. refl)) (omega arith);
-  formed = λ n h k s.
-      let m = length xs + length xs in (
-        gated-ordered β (λ x. x) xs,
-        rw (length-append, bits-length, length-map) (
-          oneBit-in n m xs (omega arith) (omega arith),
-          all-append (RowIn n m) (products (λ x. x) xs 0 (length xs)) (chosen one xs (length xs) x ∷ map (λ v. source v ─ source x ≤0) xs) .1 (
-            products-in n m (λ x. x) xs 0 (length xs) (omega arith) (omega arith) (h .1),
-            (
-              chosen-in n m one xs (length xs) x (omega arith) (omega arith) (h .0),
-              all-mapped (λ v. source v ─ source x ≤0) (λ v. v < n) (RowIn n m) (λ v l. omega arith) xs (h .1),
-            ),
-          ),
-        ),
-      );
+  sound = λ σ α. array-int-maximum-sound β σ m xs α;
+  complete = λ σ. array-int-maximum-complete β σ m xs;
+  filled = λ σ. array-int-maximum-filled β σ m xs;
+  small = simp (lengths, total-same (λ v. rowSize (source v ─ source m ≤0)) 6 (λ v. refl)) (omega arith);
+  formed = λ n h k s. oneOf-formed n β (λ v. source v ─ source m ≤0) m xs s (h .0) (h .1) (λ k v l. omega arith);
 }
 laws β (set-in x S) = record {
   Sizes = Short S;
@@ -337,6 +325,70 @@ laws β (set-in-reif x S r) = record {
           tt,
         )),
       );
+}
+laws β (int-min a b c) = record {
+  Sizes = Unit {0};
+  sound = λ σ α. int-min-sound β σ α a b c;
+  complete = λ σ. int-min-complete β σ a b c;
+  filled = λ σ. refl;
+  small = omega arith;
+  formed = λ n h k s. omega arithZ;
+}
+laws β (int-lt-reif a b r) = record {
+  Sizes = Unit {0};
+  sound = λ σ α f. int-lt-reif-exact β σ a b r α f .0;
+  complete = λ σ. complete (int-lt-reif-exact β σ a b r);
+  filled = λ σ. refl;
+  small = omega arith;
+  formed = λ n h k s. omega arith;
+}
+laws β (int-ne-reif a b r) = record {
+  Sizes = Unit {0};
+  sound = λ σ α. int-ne-reif-sound β σ α a b r;
+  complete = λ σ. int-ne-reif-complete β σ a b r;
+  filled = λ σ. refl;
+  small = simp lengths (omega arith);
+  formed = λ n h k s. zeroReified-formed n β false (+1 · a ∷ -1 · b ∷ []) +0 r (omega arith) h (k .0);
+}
+laws β (int-lin-ne-reif asbs c r) = record {
+  Sizes = Short asbs;
+  sound = λ σ α. int-lin-ne-reif-sound β σ α asbs c r;
+  complete = λ σ. int-lin-ne-reif-complete β σ asbs c r;
+  filled = λ σ. refl;
+  small = simp lengths (omega arith);
+  formed = λ n h k s. zeroReified-formed n β false asbs c r s h (k .0);
+}
+laws β (array-int-minimum m xs) = record {
+  Sizes = Short xs;
+  sound = λ σ α. array-int-minimum-sound β σ m xs α;
+  complete = λ σ. array-int-minimum-complete β σ m xs;
+  filled = λ σ. array-int-minimum-filled β σ m xs;
+  small = simp (lengths, total-same (λ v. rowSize (source m ─ source v ≤0)) 6 (λ v. refl)) (omega arith);
+  formed = λ n h k s. oneOf-formed n β (λ v. source m ─ source v ≤0) m xs s (h .0) (h .1) (λ k v l. omega arith);
+}
+laws β (bool-eq-reif a b r) = record {
+  Sizes = Unit {0};
+  sound = λ σ α. bool-eq-reif-sound β σ α a b r;
+  complete = λ σ. bool-eq-reif-complete β σ a b r;
+  filled = λ σ. refl;
+  small = omega arith;
+  formed = λ n h k s. omega arithZ;
+}
+laws β (bool-le-reif a b r) = record {
+  Sizes = Unit {0};
+  sound = λ σ α f. bool-le-reif-exact β σ a b r α f .0;
+  complete = λ σ. complete (bool-le-reif-exact β σ a b r);
+  filled = λ σ. refl;
+  small = omega arith;
+  formed = λ n h k s. omega arith;
+}
+laws β (bool-lt-reif a b r) = record {
+  Sizes = Unit {0};
+  sound = λ σ α f. bool-lt-reif-exact β σ a b r α f .0;
+  complete = λ σ. complete (bool-lt-reif-exact β σ a b r);
+  filled = λ σ. refl;
+  small = omega arith;
+  formed = λ n h k s. omega arith;
 }
 
 pub block-size : (first : ℕ) (β : ℕ → Bounds) (b : Builtin) →

@@ -1,27 +1,27 @@
--- Codes 1 to 5, the comparisons of two variables.
+-- Codes 1 to 5 and 30, the comparisons of two variables.
 use mathlib.Core.Path.{_≡_, refl}
 use mathlib.Core.Logic.{_↔_}
-use mathlib.Core.Bool.{true}
+use mathlib.Core.Bool.{Bool, true}
 use mathlib.Core.List.{[], _∷_}
 use Prim.Native.Nat.{ℕ}
 use native.Mathlib.Omega.{arith}
 use lib.IntN.{ℤ}
-use Rattle.integers.specs.Number.{_==_}
+use Rattle.integers.specs.Number.{_⊕_, _==_, +0, +1}
 use Rattle.integers.specs.Bounds.{_to_, boundsIn}
 use Rattle.integers.specs.Terms.{Valuation, value}
 use Rattle.integers.specs.declared.Bounds.{Bounds}
 use Rattle.integers.proofs.Linear.{_⊑_, _⊏_, rep, linear}
 use Rattle.integers.proofs.Bits.{Bit, bits, Reified}
-use Rattle.integers.proofs.Tests.{In, says-le, says-lt, says-equal, says-not}
-use Rattle.models.specs.Builtin.{int-eq, int-le, int-lt, int-ne, int-le-reif}
-use Rattle.models.specs.Meaning.{meaning}
+use Rattle.integers.proofs.Tests.{Says, In, says-le, says-lt, says-equal, says-not}
+use Rattle.models.specs.Builtin.{int-eq, int-le, int-lt, int-ne, int-le-reif, int-lt-reif}
+use Rattle.models.specs.Meaning.{meaning, on, _iff_}
 use Rattle.models.proofs.Arguments.{integerArguments, booleanArguments}
 use Rattle.rules.specs.Block.{source}
 use Rattle.rules.specs.Parts.{_─_=0}
-use Rattle.rules.specs.Rule.{block, rule, notEqual, lessEqualReified}
+use Rattle.rules.specs.Rule.{block, rule, whereOne, whereZero, orderReified}
 use Rattle.rules.specs.Pick.{pick}
 use Rattle.sharing.proofs.Good.{Good, see}
-use Rattle.sharing.proofs.Basics.{Sound, Complete, Filled, Exact, complete, agree, says-reified, equal-row, not-above-row, one-row, Decides, decides-sound, decides-complete}
+use Rattle.sharing.proofs.Basics.{Sound, Complete, Filled, Exact, complete, agree, says-as, says-reified, equal-row, not-above-row, one-row, Decides, decides-sound, decides-complete}
 
 module _ (β : ℕ → Bounds) (σ : Valuation) where
   -- ---- 1 int_eq
@@ -78,39 +78,45 @@ module _ (β : ℕ → Bounds) (σ : Valuation) where
 
   -- ---- 4 int_ne: r is 1 where b < a
 
-  ne-rows : (a b : ℕ) → In (β a) (σ a) × In (β b) (σ b) → Decides (λ r. Good (notEqual β a b) σ (value (r ∷ []))) (¬ (σ a ≡ σ b)) (σ b ⊏ σ a)
-  unfolding notEqual value
+  ne-rows : (a b : ℕ) → In (β a) (σ a) × In (β b) (σ b) → Decides (λ r. Good (rule β (int-ne a b)) σ (value (r ∷ []))) (¬ (σ a ≡ σ b)) (σ b ⊏ σ a)
+  unfolding rule whereOne whereZero value
   ne-rows a b =
       rw (rep (σ a), rep (σ b), rep (β a .lower), rep (β a .upper), rep (β b .lower), rep (β b .upper)) (simp linear (omega arith))
 
   pub int-ne-sound : (α : Valuation) (a b : ℕ) → Sound β σ α (int-ne a b)
-  unfolding rule notEqual meaning integerArguments value
+  unfolding rule whereOne whereZero meaning integerArguments value
   int-ne-sound α a b f g =
       says-not (says-equal (σ a) (σ b)) .1
-      (decides-sound (λ r. Good (notEqual β a b) σ (value (r ∷ []))) (ne-rows a b (f .kept .0, f .kept .1 .0)) (α 0) (g .0 .0) g)
+      (decides-sound (λ r. Good (rule β (int-ne a b)) σ (value (r ∷ []))) (ne-rows a b (f .kept .0, f .kept .1 .0)) (α 0) (g .0 .0) g)
 
   pub int-ne-complete : (a b : ℕ) → Complete β σ (int-ne a b)
-  unfolding rule notEqual meaning integerArguments pick value
+  unfolding rule whereOne whereZero meaning integerArguments pick value
   int-ne-complete a b f m rest =
-      decides-complete (λ r. Good (notEqual β a b) σ (value (r ∷ []))) (ne-rows a b (f .kept .0, f .kept .1 .0))
+      decides-complete (λ r. Good (rule β (int-ne a b)) σ (value (r ∷ []))) (ne-rows a b (f .kept .0, f .kept .1 .0))
       (says-lt (σ b) (σ a)) (says-not (says-equal (σ a) (σ b)) .0 m)
 
   pub int-ne-filled : (a b : ℕ) → Filled β σ (int-ne a b)
-  unfolding rule notEqual pick
+  unfolding rule pick
   int-ne-filled a b = refl
 
-  -- ---- 5 int_le_reif
+  -- ---- 5 int_le_reif, 30 int_lt_reif: a + d ≤ b reified, d and e are 0 and 1, or 1 and 0
 
-  le-reif-rows : (r : ℤ) → Bit r → (x y l h l′ h′ : ℤ) → In (l to h) x → In (l′ to h′) y →
-      Good (lessEqualReified (boundsIn ((l to h) ∷ (l′ to h′) ∷ [])) 0 1 2) (value (x ∷ y ∷ r ∷ [])) (value []) ↔ Reified r (x ⊑ y)
-  unfolding lessEqualReified boundsIn value
-  le-reif-rows = simp bits (simp linear (omega arith))
+  order-rows : (r : ℤ) → Bit r → (d e x y l h l′ h′ : ℤ) → d ⊕ e ≡ +1 → In (l to h) x → In (l′ to h′) y →
+      Good (orderReified (boundsIn ((l to h) ∷ (l′ to h′) ∷ [])) d e 0 1 2) (value (x ∷ y ∷ r ∷ [])) (value []) ↔ Reified r (x ⊕ d ⊑ y)
+  unfolding orderReified whereOne whereZero boundsIn value
+  order-rows = simp bits (simp linear (omega arith))
+
+  -- t is the test of the builtin
+  order-exact : (d e : ℤ) → d ⊕ e ≡ +1 → {t : Bool} (a b r : ℕ) → Says t (σ a ⊕ d ⊑ σ b) → Bit (σ r) → In (β a) (σ a) → In (β b) (σ b) →
+      (α : Valuation) → Good (orderReified β d e a b r) σ α ↔ ((on σ r iff t) ≡ true)
+  unfolding orderReified whereOne whereZero boundsIn value
+  order-exact d e i a b r s w h k α =
+      agree (says-reified σ r s) (order-rows (σ r) w d e (σ a) (σ b) (β a .lower) (β a .upper) (β b .lower) (β b .upper) i h k)
 
   int-le-reif-exact : (a b r : ℕ) → Exact β σ (int-le-reif a b r)
-  unfolding rule lessEqualReified meaning integerArguments booleanArguments boundsIn value
+  unfolding rule meaning integerArguments booleanArguments _⊕_
   int-le-reif-exact a b r α f =
-      agree (says-reified σ r (says-le (σ a) (σ b)))
-      (le-reif-rows (σ r) (f .zero-one .0) (σ a) (σ b) (β a .lower) (β a .upper) (β b .lower) (β b .upper) (f .kept .0) (f .kept .1 .0))
+      order-exact +0 +1 refl a b r (says-as (says-le (σ a) (σ b)) (rw (rep (σ a), rep (σ b)) (simp linear (omega arith)))) (f .zero-one .0) (f .kept .0) (f .kept .1 .0) α
 
   pub int-le-reif-sound : (α : Valuation) (a b r : ℕ) → Sound β σ α (int-le-reif a b r)
   int-le-reif-sound α a b r f = int-le-reif-exact a b r α f .0
@@ -119,5 +125,10 @@ module _ (β : ℕ → Bounds) (σ : Valuation) where
   int-le-reif-complete a b r = complete (int-le-reif-exact a b r)
 
   pub int-le-reif-filled : (a b r : ℕ) → Filled β σ (int-le-reif a b r)
-  unfolding rule lessEqualReified pick
+  unfolding rule orderReified pick
   int-le-reif-filled a b r = refl
+
+  pub int-lt-reif-exact : (a b r : ℕ) → Exact β σ (int-lt-reif a b r)
+  unfolding rule meaning integerArguments booleanArguments _⊕_
+  int-lt-reif-exact a b r α f =
+      order-exact +1 +0 refl a b r (says-as (says-lt (σ a) (σ b)) (rw (rep (σ a), rep (σ b)) (simp linear (omega arith)))) (f .zero-one .0) (f .kept .0) (f .kept .1 .0) α

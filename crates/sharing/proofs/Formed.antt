@@ -1,10 +1,11 @@
 -- Every block is well formed: its auxiliaries' bounds are ordered, its rows name only the model's variables and its own and have at most 66
 -- terms, a product's result is above its factors. The builtins of a model whose sets are not too wide have the sizes that this needs.
+use mathlib.Core.Bool.{Bool, true, false}
 use mathlib.Core.List.{List, [], _∷_, _++_, map}
 use Prim.Native.Nat.{ℕ, suc, _+_, _≤_, _<_}
 use native.Mathlib.Omega.{arith}
 use lib.IntN.{ℤ}
-use lib.ListN.{length, length-append}
+use lib.ListN.{length, length-append, length-map}
 use Rattle.integers.specs.Number.{_⊕_, _⊖_, _⊗_, minZ, maxZ, +0, -1}
 use Rattle.integers.specs.Bounds.{_to_, bit}
 use Rattle.integers.specs.Terms.{Term, _·_}
@@ -18,8 +19,9 @@ use Rattle.models.proofs.Arguments.{variablesIn}
 use Rattle.rowsystems.specs.Row.{Row, sum≤0, sum=0, product, renameTerms}
 use Rattle.rules.specs.Block.{Ref, source, aux, Block}
 use Rattle.rules.specs.Parts.{Z, endProducts, extreme, L, U, sources, each, bits, weighted, one, oneBit, chosen, products}
-use Rattle.rules.specs.Rule.{linked, signed, linEqualReified}
+use Rattle.rules.specs.Rule.{linked, signed, zeroRows, zeroReified, oneOf}
 use Rattle.rules.proofs.Lengths.{sources-length, weighted-length}
+use Rattle.sharing.proofs.OneHot.{bits-length}
 
 -- ---- what well formed means, over n variables of the model and m auxiliaries of the block
 
@@ -84,7 +86,7 @@ L-U-ordered β asbs c = less _ _ c (extremes asbs)
     extremes [] = omega arithZ
     extremes (t ∷ ts) = core _ _ _ _ (extremes ts)
 
--- 12 to 14
+-- 12 to 14, 31, 32
 pub signed-ordered : (β : ℕ → Bounds) (asbs : List (Term ℕ)) (c : ℤ) → All Ordered (signed β asbs c)
 unfolding signed
 signed-ordered β asbs c = (L-U-ordered β asbs c, (bit-ordered, (Z-ordered _, tt)))
@@ -93,7 +95,7 @@ pub bits-ordered : {A : Type 0} (ls : List A) → All Ordered (bits ls)
 unfolding bits
 bits-ordered ls = all-made (λ l. bit) Ordered (λ l. bit-ordered) ls
 
--- 25, 26: the bits, then a z for each label
+-- 25, 26, 33: the bits, then a z for each label
 pub gated-ordered : {A : Type 0} (β : ℕ → Bounds) (x : A → ℕ) (ls : List A) → All Ordered (bits ls ++ map (λ l. Z (β (x l))) ls)
 gated-ordered β x ls =
     let zs = map (λ l. Z (β (x l))) ls in
@@ -154,8 +156,28 @@ module _ (n : ℕ) (β : ℕ → Bounds) where
   linked-in m asbs c l s h =
       append-in n m (sources asbs) (-1 · aux 0 ∷ []) (simp sources-length (omega arith)) (sources-in n m asbs h) (l, tt)
 
-  -- 13, 14
-  pub linEqualReified-formed : (asbs : List (Term ℕ)) (c : ℤ) (r : ℕ) → Short asbs → All (λ v. v < n) (variablesIn asbs) → r < n →
-      Formed n (linEqualReified β asbs c r)
-  unfolding linEqualReified signed
-  linEqualReified-formed asbs c r s h k = (signed-ordered β asbs c, (linked-in 3 asbs c (omega arith) s h, omega arith))
+  -- 13, 14, 31, 32
+  pub zeroReified-formed : (equal : Bool) (asbs : List (Term ℕ)) (c : ℤ) (r : ℕ) → Short asbs → All (λ v. v < n) (variablesIn asbs) → r < n →
+      Formed n (zeroReified β equal asbs c r)
+  unfolding zeroReified zeroRows signed
+  zeroReified-formed true asbs c r s h k = (signed-ordered β asbs c, (linked-in 3 asbs c (omega arith) s h, omega arith))
+  zeroReified-formed false asbs c r s h k = (signed-ordered β asbs c, (linked-in 3 asbs c (omega arith) s h, omega arith))
+
+  -- 26, 33
+  pub oneOf-formed : (last : ℕ → Row Ref) (m : ℕ) (xs : List ℕ) → Short xs → m < n → All (λ v. v < n) xs →
+      ((k v : ℕ) → v < n → RowIn n k (last v)) → Formed n (oneOf β last m xs)
+  unfolding oneOf
+  oneOf-formed last m xs s g h f =
+      let k = length xs + length xs in (
+        gated-ordered β (λ x. x) xs,
+        rw (length-append, bits-length, length-map) (
+          oneBit-in n k xs (omega arith) (omega arith),
+          all-append (RowIn n k) (products (λ x. x) xs 0 (length xs)) (chosen one xs (length xs) m ∷ map last xs) .1 (
+            products-in n k (λ x. x) xs 0 (length xs) (omega arith) (omega arith) h,
+            (
+              chosen-in n k one xs (length xs) m (omega arith) (omega arith) g,
+              all-mapped last (λ v. v < n) (RowIn n k) (f k) xs h,
+            ),
+          ),
+        ),
+      )

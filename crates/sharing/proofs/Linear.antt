@@ -1,28 +1,29 @@
--- Codes 10 to 15: Σ as×bs compared with a number. 12 to 15 go through x = Σ − c, compared with 0; 14 is 13 with the terms a − b.
+-- Codes 10 to 15, 31 and 32: Σ as×bs compared with a number. From 12 on they go through x = Σ − c, compared with 0; 14 is 13 with the terms a − b, and 31
+-- is 32 with them.
 use mathlib.Core.Path.{_≡_, refl}
 use mathlib.Core.Logic.{_⊎_, _↔_}
-use mathlib.Core.Bool.{Bool, true}
+use mathlib.Core.Bool.{Bool, true, false}
 use mathlib.Core.List.{List, [], _∷_, _++_}
 use Prim.Native.Nat.{ℕ}
 use native.Mathlib.Omega.{arith}
 use lib.IntN.{ℤ}
 use lib.Signed.{leZ}
-use Rattle.integers.specs.Number.{_⊖_, neg, minZ, maxZ, absZ, _==_, +0, +1, +2, -1, -2}
+use Rattle.integers.specs.Number.{_⊖_, neg, minZ, maxZ, absZ, _==_, +0, +1, -1}
 use Rattle.integers.specs.Bounds.{_to_}
 use Rattle.integers.specs.Terms.{Valuation, Term, _·_, sum, value}
 use Rattle.integers.specs.declared.Bounds.{Bounds}
 use Rattle.integers.proofs.Linear.{_⊑_, rep, linear, from₁, from₂}
 use Rattle.integers.proofs.Bits.{Bit, bits, Reified}
 use Rattle.integers.proofs.Tests.{Says, In, All, says-le, says-equal, says-not}
-use Rattle.models.specs.Builtin.{int-lin-eq, int-lin-le, int-lin-ne, int-lin-eq-reif, int-eq-reif, int-lin-le-reif}
+use Rattle.models.specs.Builtin.{int-lin-eq, int-lin-le, int-lin-ne, int-lin-eq-reif, int-eq-reif, int-lin-le-reif, int-ne-reif, int-lin-ne-reif}
 use Rattle.models.specs.Meaning.{meaning, on, _iff_}
 use Rattle.models.proofs.Arguments.{variablesIn, integerArguments, booleanArguments}
 use Rattle.rowsystems.specs.Row.{Row, sum≤0}
 use Rattle.rules.specs.Parts.{L, U}
-use Rattle.rules.specs.Rule.{rule, signed, linNotEqual, linEqualReified, linLessEqualReified}
+use Rattle.rules.specs.Rule.{rule, signed, linNotEqual, zeroRows, zeroReified, linLessEqualReified}
 use Rattle.rules.specs.Pick.{pick, signPick, signedPick}
-use Rattle.sharing.proofs.Good.{Good, Keeps, Sat}
-use Rattle.sharing.proofs.Basics.{Sound, Complete, Filled, Exact, complete, agree, says-as, says-reified}
+use Rattle.sharing.proofs.Good.{Good, Keeps, Sat, see}
+use Rattle.sharing.proofs.Basics.{Sound, Complete, Filled, Exact, complete, agree, says-as, says-reified, Same, not-not}
 use Rattle.sharing.proofs.Arithmetic.{bit-product, sign-product, sign-kept}
 use Rattle.sharing.proofs.Sums.{dot-sources-only, linked-row, sum-kept}
 
@@ -40,7 +41,7 @@ says-not-above-zero s c = says-as (says-le s c) (shifted s c)
     shifted : (s c : ℤ) → (s ⊑ c) ↔ (s ⊖ c ⊑ +0)
     shifted = simp linear (omega arith)
 
--- ---- 12 to 14: x in L..U, b, z in Z(x)
+-- ---- 12 to 14, 31, 32: x in L..U, b, z in Z(x)
 
 -- what is picked keeps its bounds
 signed-kept : (β : ℕ → Bounds) (σ : Valuation) (ts : List (Term ℕ)) (c : ℤ) → All (λ v. In (β v) (σ v)) (variablesIn ts) →
@@ -48,41 +49,53 @@ signed-kept : (β : ℕ → Bounds) (σ : Valuation) (ts : List (Term ℕ)) (c :
 unfolding signed signedPick value
 signed-kept β σ ts c h rest = let k = sum-kept β σ ts c h in (k, sign-kept (L β ts c to U β ts c) (sum σ ts ⊖ c) k rest)
 
--- ---- 13, 14
+-- ---- 13, 14, 31, 32
 
 -- the two rows after the product, where W is at least |x|: they give the meaning for both values of b, and it gives them for the b that is picked
-eq-reif-rows : (r : ℤ) → Bit r → (x z W : ℤ) → In (neg W to W) x → (z ≡ +0) ⊎ (z ≡ x) →
-    let rows : List (Row ℕ) = sum≤0 (+1 · 0 ∷ -2 · 1 ∷ W · 2 ∷ []) (neg W) ∷ sum≤0 (-1 · 0 ∷ +2 · 1 ∷ -1 · 2 ∷ []) +1 ∷ [] in
-    let R = All (Sat (value (x ∷ z ∷ r ∷ []))) rows in
-    (R → Reified r (x ≡ +0)) × (z ≡ minZ +0 x → Reified r (x ≡ +0) → R)
-unfolding value
-eq-reif-rows = simp bits (simp linear (omega arith))
+abbrev Decided : Bool → ℤ → ℤ → ℤ → Type 0 → Type 0
+Decided equal r x z R = (R → Reified r (Same equal x +0)) × (z ≡ minZ +0 x → Reified r (Same equal x +0) → R)
+
+equal-rows : (r : ℤ) → Bit r → (x z W : ℤ) → In (neg W to W) x → (z ≡ +0) ⊎ (z ≡ x) →
+    Decided true r x z (All (Sat (see (value (r ∷ [])) (value (x ∷ +0 ∷ z ∷ [])))) (zeroRows true W 0))
+unfolding zeroRows value
+equal-rows = simp bits (simp linear (omega arith))
+
+unequal-rows : (r : ℤ) → Bit r → (x z W : ℤ) → In (neg W to W) x → (z ≡ +0) ⊎ (z ≡ x) →
+    Decided false r x z (All (Sat (see (value (r ∷ [])) (value (x ∷ +0 ∷ z ∷ [])))) (zeroRows false W 0))
+unfolding zeroRows value
+unequal-rows = simp bits (simp (linear, not-not) (omega arith))
+
+zero-rows : (equal : Bool) (σ α : Valuation) (r : ℕ) (W : ℤ) → Bit (σ r) → In (neg W to W) (α 0) → (α 2 ≡ +0) ⊎ (α 2 ≡ α 0) →
+    Decided equal (σ r) (α 0) (α 2) (All (Sat (see σ α)) (zeroRows equal W r))
+unfolding zeroRows value
+zero-rows true σ α r W w = equal-rows (σ r) w (α 0) (α 2) W
+zero-rows false σ α r W w = unequal-rows (σ r) w (α 0) (α 2) W
 
 -- W = max(|L|,|U|) is at least |x|
 in-widest : (l u x : ℤ) → In (l to u) x → let W = maxZ (absZ l) (absZ u) in In (neg W to W) x
 in-widest = simp linear (omega arith)
 
--- t is the test of the builtin: Σ = c in 13, a = b in 14
-module _ (β : ℕ → Bounds) (σ : Valuation) (ts : List (Term ℕ)) (c : ℤ) (r : ℕ) (t : Bool) (s : Says t (sum σ ts ⊖ c ≡ +0)) (w : Bit (σ r)) where
-  eq-reified-sound : (α : Valuation) → Good (linEqualReified β ts c r) σ α → (on σ r iff t) ≡ true
-  unfolding linEqualReified signed value
-  eq-reified-sound α g =
+-- t is the test of the builtin: Σ = c in 13, a = b in 14, and their denials in 32 and 31
+module _ (equal : Bool) (β : ℕ → Bounds) (σ : Valuation) (ts : List (Term ℕ)) (c : ℤ) (r : ℕ) (t : Bool) (s : Says t (Same equal (sum σ ts ⊖ c) +0)) (w : Bit (σ r)) where
+  zero-reified-sound : (α : Valuation) → Good (zeroReified β equal ts c r) σ α → (on σ r iff t) ≡ true
+  unfolding zeroReified signed
+  zero-reified-sound α g =
       says-reified σ r s .1
       (rw (linked-row σ α β ts c .0 (g .1 .0)) at
-      (eq-reif-rows (σ r) w (α 0) (α 2) _ (in-widest _ _ _ (g .0 .0)) (bit-product (α 1) (α 0) (α 2) (g .0 .1 .0) (g .1 .1 .0)) .0 (g .1 .1 .1)))
+      (zero-rows equal σ α r _ w (in-widest _ _ _ (g .0 .0)) (bit-product (α 1) (α 0) (α 2) (g .0 .1 .0) (g .1 .1 .0)) .0 (g .1 .1 .1)))
 
-  eq-reified-complete : All (λ v. In (β v) (σ v)) (variablesIn ts) → (on σ r iff t) ≡ true → (rest : List ℤ) →
-      Good (linEqualReified β ts c r) σ (value (signedPick (sum σ ts ⊖ c) ++ rest))
-  unfolding linEqualReified signed signedPick signPick value
-  eq-reified-complete h m rest =
-      let k = signed-kept β σ ts c h rest in (
+  zero-reified-complete : All (λ v. In (β v) (σ v)) (variablesIn ts) → (on σ r iff t) ≡ true → (rest : List ℤ) →
+      Good (zeroReified β equal ts c r) σ (value (signedPick (sum σ ts ⊖ c) ++ rest))
+  unfolding zeroReified signed signedPick signPick value
+  zero-reified-complete h m rest =
+      let k = signed-kept β σ ts c h rest in
+      let α = value (signedPick (sum σ ts ⊖ c) ++ rest) in (
         k,
         (
-          linked-row σ (value (signedPick (sum σ ts ⊖ c) ++ rest)) β ts c .1 refl,
+          linked-row σ α β ts c .1 refl,
           (
             refl,
-            eq-reif-rows (σ r) w (sum σ ts ⊖ c) _ _ (in-widest _ _ _ (k .0)) (bit-product _ _ _ (k .1 .0) refl) .1
-                (sign-product (sum σ ts ⊖ c)) (says-reified σ r s .0 m),
+            zero-rows equal σ α r _ w (in-widest _ _ _ (k .0)) (bit-product _ _ _ (k .1 .0) refl) .1 (sign-product (sum σ ts ⊖ c)) (says-reified σ r s .0 m),
           ),
         ),
       )
@@ -156,21 +169,29 @@ module _ (β : ℕ → Bounds) (σ : Valuation) where
   unfolding rule linNotEqual signed pick signedPick signPick
   int-lin-ne-filled ts c = refl
 
-  -- ---- 13 int_lin_eq_reif
+  -- ---- 13 int_lin_eq_reif, 32 int_lin_ne_reif
 
   pub int-lin-eq-reif-sound : (α : Valuation) (asbs : List (Term ℕ)) (c : ℤ) (r : ℕ) → Sound β σ α (int-lin-eq-reif asbs c r)
   unfolding rule meaning booleanArguments
-  int-lin-eq-reif-sound α ts c r f = eq-reified-sound β σ ts c r _ (says-zero (sum σ ts) c) (f .zero-one .0) α
+  int-lin-eq-reif-sound α ts c r f = zero-reified-sound true β σ ts c r _ (says-zero (sum σ ts) c) (f .zero-one .0) α
 
   pub int-lin-eq-reif-complete : (asbs : List (Term ℕ)) (c : ℤ) (r : ℕ) → Complete β σ (int-lin-eq-reif asbs c r)
   unfolding rule meaning integerArguments booleanArguments pick
-  int-lin-eq-reif-complete ts c r f = eq-reified-complete β σ ts c r _ (says-zero (sum σ ts) c) (f .zero-one .0) (f .kept)
+  int-lin-eq-reif-complete ts c r f = zero-reified-complete true β σ ts c r _ (says-zero (sum σ ts) c) (f .zero-one .0) (f .kept)
 
   pub int-lin-eq-reif-filled : (asbs : List (Term ℕ)) (c : ℤ) (r : ℕ) → Filled β σ (int-lin-eq-reif asbs c r)
-  unfolding rule linEqualReified signed pick signedPick signPick
+  unfolding rule zeroReified signed pick signedPick signPick
   int-lin-eq-reif-filled ts c r = refl
 
-  -- ---- 14 int_eq_reif
+  pub int-lin-ne-reif-sound : (α : Valuation) (asbs : List (Term ℕ)) (c : ℤ) (r : ℕ) → Sound β σ α (int-lin-ne-reif asbs c r)
+  unfolding rule meaning booleanArguments
+  int-lin-ne-reif-sound α ts c r f = zero-reified-sound false β σ ts c r _ (says-not (says-zero (sum σ ts) c)) (f .zero-one .0) α
+
+  pub int-lin-ne-reif-complete : (asbs : List (Term ℕ)) (c : ℤ) (r : ℕ) → Complete β σ (int-lin-ne-reif asbs c r)
+  unfolding rule meaning integerArguments booleanArguments pick
+  int-lin-ne-reif-complete ts c r f = zero-reified-complete false β σ ts c r _ (says-not (says-zero (sum σ ts) c)) (f .zero-one .0) (f .kept)
+
+  -- ---- 14 int_eq_reif, 31 int_ne_reif
 
   abbrev difference : ℕ → ℕ → List (Term ℕ)
   difference a b = +1 · a ∷ -1 · b ∷ []
@@ -181,15 +202,23 @@ module _ (β : ℕ → Bounds) (σ : Valuation) where
 
   pub int-eq-reif-sound : (α : Valuation) (a b r : ℕ) → Sound β σ α (int-eq-reif a b r)
   unfolding rule meaning booleanArguments
-  int-eq-reif-sound α a b r f = eq-reified-sound β σ (difference a b) +0 r _ (says-difference a b) (f .zero-one .0) α
+  int-eq-reif-sound α a b r f = zero-reified-sound true β σ (difference a b) +0 r _ (says-difference a b) (f .zero-one .0) α
 
   pub int-eq-reif-complete : (a b r : ℕ) → Complete β σ (int-eq-reif a b r)
   unfolding rule meaning integerArguments booleanArguments pick
-  int-eq-reif-complete a b r f = eq-reified-complete β σ (difference a b) +0 r _ (says-difference a b) (f .zero-one .0) (f .kept)
+  int-eq-reif-complete a b r f = zero-reified-complete true β σ (difference a b) +0 r _ (says-difference a b) (f .zero-one .0) (f .kept)
 
   pub int-eq-reif-filled : (a b r : ℕ) → Filled β σ (int-eq-reif a b r)
-  unfolding rule linEqualReified signed pick signedPick signPick
+  unfolding rule zeroReified signed pick signedPick signPick
   int-eq-reif-filled a b r = refl
+
+  pub int-ne-reif-sound : (α : Valuation) (a b r : ℕ) → Sound β σ α (int-ne-reif a b r)
+  unfolding rule meaning booleanArguments
+  int-ne-reif-sound α a b r f = zero-reified-sound false β σ (difference a b) +0 r _ (says-not (says-difference a b)) (f .zero-one .0) α
+
+  pub int-ne-reif-complete : (a b r : ℕ) → Complete β σ (int-ne-reif a b r)
+  unfolding rule meaning integerArguments booleanArguments pick
+  int-ne-reif-complete a b r f = zero-reified-complete false β σ (difference a b) +0 r _ (says-not (says-difference a b)) (f .zero-one .0) (f .kept)
 
   -- ---- 15 int_lin_le_reif
 
