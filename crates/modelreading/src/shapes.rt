@@ -21,7 +21,7 @@ pub const BOOLEANS: u32 = 6;
 pub const PARALLEL: u32 = 7;
 
 // the last code
-pub const CODES: usize = 28;
+pub const CODES: usize = 36;
 
 // the most arguments of a code
 pub const MOST: usize = 3;
@@ -57,6 +57,14 @@ pub const SHAPES: [[u32; MOST]; CODES + 1] = [
     [INTEGER, INTEGERS, NONE],
     [INTEGER, NUMBERS, NONE],
     [INTEGER, NUMBERS, BOOLEAN],
+    [INTEGER, INTEGER, INTEGER],
+    [INTEGER, INTEGER, BOOLEAN],
+    [INTEGER, INTEGER, BOOLEAN],
+    [PARALLEL, NUMBER, BOOLEAN],
+    [INTEGER, INTEGERS, NONE],
+    [BOOLEAN, BOOLEAN, BOOLEAN],
+    [BOOLEAN, BOOLEAN, BOOLEAN],
+    [BOOLEAN, BOOLEAN, BOOLEAN],
 ];
 
 // The k-th argument of a code, counted from 0, in the lent table.
