@@ -2,15 +2,16 @@
 ghost use mathlib.Core.Path.{_≡_};
 ghost use Prim.Native.Nat.{_<_};
 ghost use lib.Signed.{leZ};
+ghost use Rattle.integers.specs.Choice.{_if_else_};
 ghost use Rattle.integers.specs.Number.{_⊗_, _==_, count};
 ghost use Rattle.integers.specs.Lists.{all, any, howMany};
 ghost use Rattle.integers.specs.Terms.{value, sum};
 ghost use Rattle.models.specs.Model.{var, num, size, past, pastTerms, vars, nums, terms};
 ghost use Rattle.models.specs.Meaning.{on, member};
 ghost use Rattle.arguments.specs.Small.{Small};
-use crate::test::at_most;
 use crate::test::both;
 use crate::test::either;
+use crate::test::in_order;
 use crate::test::one_if;
 use integers::equal;
 use integers::plus;
@@ -103,16 +104,16 @@ pub fn how_many(args: &[u32], i: usize, v: i64, values: &[i32]) -> usize
     found
 }
 
-// Whether no variable of the list at place i has a value above m.
-pub fn none_above(args: &[u32], i: usize, m: i64, values: &[i32]) -> bool
+// Whether no variable of the list at place i has a value above m; below m, where it is not `up`.
+pub fn none_past(args: &[u32], i: usize, m: i64, values: &[i32], up: bool) -> bool
     requires { ⌜ i < 1099511627776 ⌝ }
-    ensures { λ r. ⌜ r ≡ all (λ x. leZ (value (now (values .entry)) x) m) (vars (now (args .entry)) i) ⌝ }
+    ensures { λ r. ⌜ r ≡ all (λ x. leZ (value (now (values .entry)) x) m if up else leZ m (value (now (values .entry)) x)) (vars (now (args .entry)) i) ⌝ }
 {
     let n = size_at(args, i);
     let mut k = 0;
     let mut so_far = true;
     while k < n {
-        so_far = both(so_far, at_most(value_of(args, i + 1 + k, values), m));
+        so_far = both(so_far, in_order(value_of(args, i + 1 + k, values), m, up));
         k += 1;
     }
     so_far

@@ -18,6 +18,16 @@ pub fn below(a: i64, b: i64) -> bool
     a < b
 }
 
+// Whether a is not above b; whether b is not above a, where it is not `up`.
+pub fn in_order(a: i64, b: i64, up: bool) -> bool
+    ensures { λ r. ⌜ r ≡ (leZ a b if up else leZ b a) ⌝ }
+{
+    if up {
+        return a <= b;
+    }
+    b <= a
+}
+
 // 1 where the test is true, else 0.
 pub fn one_if(test: bool) -> usize
     ensures { λ r. ⌜ r ≡ (1 if test else 0) ⌝ }

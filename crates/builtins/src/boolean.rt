@@ -1,4 +1,4 @@
-// Codes 16 to 20: two or three Boolean variables.
+// Codes 18 to 20 and 31: two variables and a Boolean one.
 ghost use mathlib.Core.Path.{_≡_};
 ghost use Rattle.integers.specs.Terms.{value};
 ghost use Rattle.models.specs.Builtin.{bool-and, bool-or, bool-xor};

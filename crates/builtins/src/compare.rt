@@ -1,7 +1,7 @@
-// Codes 1 to 5, and 14: comparisons of two variables.
+// Codes 1 to 5, 14, 16, 17, 30 and 34 to 36: comparisons of two variables.
 ghost use mathlib.Core.Path.{_≡_};
 ghost use Rattle.integers.specs.Terms.{value};
-ghost use Rattle.models.specs.Builtin.{int-eq, int-le, int-lt, int-le-reif, int-eq-reif};
+ghost use Rattle.models.specs.Builtin.{int-eq, int-le, int-lt, int-le-reif, int-eq-reif, int-lt-reif};
 ghost use Rattle.models.specs.Meaning.{meaning};
 ghost use Rattle.builtins.specs.Coded.{two, three};
 use arguments::is_on;
@@ -37,6 +37,13 @@ pub fn int_le_reif(args: &[u32], values: &[i32]) -> bool
     ensures { λ r. ⌜ r ≡ meaning (value (now (values .entry))) (three int-le-reif (now (args .entry))) ⌝ }
 {
     agree(is_on(args, 2, values), int_le(args, values))
+}
+
+// Whether int_lt_reif is true.
+pub fn int_lt_reif(args: &[u32], values: &[i32]) -> bool
+    ensures { λ r. ⌜ r ≡ meaning (value (now (values .entry))) (three int-lt-reif (now (args .entry))) ⌝ }
+{
+    agree(is_on(args, 2, values), int_lt(args, values))
 }
 
 // Whether int_eq_reif is true.

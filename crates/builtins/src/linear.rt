@@ -1,8 +1,10 @@
 // Sums of terms compared with a number.
 ghost use mathlib.Core.Path.{_≡_};
+ghost use Prim.Native.Nat.{_+_};
 ghost use Rattle.integers.specs.Terms.{value};
-ghost use Rattle.models.specs.Builtin.{int-lin-eq, int-lin-le, int-lin-eq-reif, int-lin-le-reif};
-ghost use Rattle.models.specs.Meaning.{meaning};
+ghost use Rattle.models.specs.Builtin.{int-lin-eq, int-lin-le, int-lin-eq-reif, int-lin-ne-reif, int-lin-le-reif};
+ghost use Rattle.models.specs.Meaning.{meaning, on, _iff_};
+ghost use Rattle.models.specs.Model.{var, pastTerms};
 ghost use Rattle.arguments.specs.Small.{Small};
 ghost use Rattle.builtins.specs.Coded.{linear, linearReified};
 use arguments::is_on;
@@ -35,15 +37,27 @@ pub fn int_lin_le(args: &[u32], values: &[i32]) -> bool
     )
 }
 
+// Whether a test agrees with the variable after the number.
+fn reified(args: &[u32], test: bool, values: &[i32]) -> bool
+    ensures { λ r. ⌜ r ≡ (on (value (now (values .entry))) (var (now (args .entry)) (pastTerms (now (args .entry)) 0 + 1)) iff test) ⌝ }
+{
+    agree(is_on(args, past_terms_at(args, 0) + 1, values), test)
+}
+
 // Whether int_lin_eq_reif is true.
 pub fn int_lin_eq_reif(args: &[u32], values: &[i32]) -> bool
     requires { ⌜ Small (now values) ⌝ }
     ensures { λ r. ⌜ r ≡ meaning (value (now (values .entry))) (linearReified int-lin-eq-reif (now (args .entry))) ⌝ }
 {
-    agree(
-        is_on(args, past_terms_at(args, 0) + 1, values),
-        int_lin_eq(args, values),
-    )
+    reified(args, int_lin_eq(args, values), values)
+}
+
+// Whether int_lin_ne_reif is true.
+pub fn int_lin_ne_reif(args: &[u32], values: &[i32]) -> bool
+    requires { ⌜ Small (now values) ⌝ }
+    ensures { λ r. ⌜ r ≡ meaning (value (now (values .entry))) (linearReified int-lin-ne-reif (now (args .entry))) ⌝ }
+{
+    reified(args, !int_lin_eq(args, values), values)
 }
 
 // Whether int_lin_le_reif is true.
@@ -51,8 +65,5 @@ pub fn int_lin_le_reif(args: &[u32], values: &[i32]) -> bool
     requires { ⌜ Small (now values) ⌝ }
     ensures { λ r. ⌜ r ≡ meaning (value (now (values .entry))) (linearReified int-lin-le-reif (now (args .entry))) ⌝ }
 {
-    agree(
-        is_on(args, past_terms_at(args, 0) + 1, values),
-        int_lin_le(args, values),
-    )
+    reified(args, int_lin_le(args, values), values)
 }

@@ -1,15 +1,17 @@
-// Codes 24 to 28: elements and maximum of a list, membership.
+// Codes 24 to 28 and 33: elements, maximum and minimum of a list, membership.
 ghost use mathlib.Core.Path.{_≡_};
+ghost use mathlib.Core.List.{map};
+ghost use Rattle.integers.specs.Choice.{_if_else_};
 ghost use Rattle.integers.specs.Terms.{value};
-ghost use Rattle.models.specs.Builtin.{array-int-element, array-var-int-element, array-int-maximum, set-in, set-in-reif};
+ghost use Rattle.models.specs.Builtin.{array-int-element, array-var-int-element, set-in, set-in-reif};
 ghost use Rattle.models.specs.Model.{var, vars, nums, past, size};
-ghost use Rattle.models.specs.Meaning.{meaning};
+ghost use Rattle.models.specs.Meaning.{meaning, maximum, minimum};
 ghost use Rattle.builtins.specs.Coded.{indexIn};
 use arguments::any_equal;
 use arguments::count_of;
 use arguments::is_member;
 use arguments::is_on;
-use arguments::none_above;
+use arguments::none_past;
 use arguments::num_at;
 use arguments::past_at;
 use arguments::size_at;
@@ -57,14 +59,14 @@ pub fn array_var_int_element(args: &[u32], values: &[i32]) -> bool
     false
 }
 
-// Whether array_int_maximum is true.
-pub fn array_int_maximum(args: &[u32], values: &[i32]) -> bool
-    ensures { λ r. ⌜ r ≡ meaning (value (now (values .entry))) (array-int-maximum (var (now (args .entry)) 0) (vars (now (args .entry)) 1)) ⌝ }
+// Whether array_int_maximum is true; array_int_minimum, where it is not `up`.
+pub fn array_int_extreme(args: &[u32], values: &[i32], up: bool) -> bool
+    ensures { λ r. ⌜ r ≡ (maximum if up else minimum) (value (now (values .entry)) (var (now (args .entry)) 0)) (map (value (now (values .entry))) (vars (now (args .entry)) 1)) ⌝ }
 {
     let m = value_of(args, 0, values);
     both(
         any_equal(args, 1, m, values),
-        none_above(args, 1, m, values),
+        none_past(args, 1, m, values, up),
     )
 }
 

@@ -1,14 +1,18 @@
-// Codes 6 to 9: arithmetic of variables.
+// Codes 6 to 9 and 29: arithmetic of variables.
 ghost use mathlib.Core.Path.{_≡_};
+ghost use Rattle.integers.specs.Choice.{_if_else_};
+ghost use Rattle.integers.specs.Number.{minZ, maxZ, _==_};
 ghost use Rattle.integers.specs.Terms.{value};
-ghost use Rattle.models.specs.Builtin.{int-plus, int-times, int-abs, int-max};
+ghost use Rattle.models.specs.Builtin.{int-plus, int-times, int-abs};
 ghost use Rattle.models.specs.Meaning.{meaning};
+ghost use Rattle.models.specs.Model.{var};
 ghost use Rattle.arguments.specs.Small.{Small};
 ghost use Rattle.builtins.specs.Coded.{two, three};
 use arguments::value_of;
 use integers::equal;
 use integers::largest;
 use integers::opposite;
+use integers::pick;
 use integers::plus;
 use integers::times;
 
@@ -43,12 +47,12 @@ pub fn int_abs(args: &[u32], values: &[i32]) -> bool
     equal(largest(x, opposite(x)), value_of(args, 1, values))
 }
 
-// Whether int_max is true.
-pub fn int_max(args: &[u32], values: &[i32]) -> bool
-    ensures { λ r. ⌜ r ≡ meaning (value (now (values .entry))) (three int-max (now (args .entry))) ⌝ }
+// Whether int_max is true; int_min, where it is not `up`.
+pub fn int_extreme(args: &[u32], values: &[i32], up: bool) -> bool
+    ensures { λ r. ⌜ r ≡ ((maxZ if up else minZ) (value (now (values .entry)) (var (now (args .entry)) 0)) (value (now (values .entry)) (var (now (args .entry)) 1)) == value (now (values .entry)) (var (now (args .entry)) 2)) ⌝ }
 {
     equal(
-        largest(value_of(args, 0, values), value_of(args, 1, values)),
+        pick(value_of(args, 0, values), value_of(args, 1, values), up),
         value_of(args, 2, values),
     )
 }

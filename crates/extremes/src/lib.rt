@@ -24,6 +24,7 @@ use arguments::test::both;
 use integers::largest;
 use integers::least;
 use integers::minus;
+use integers::pick;
 use integers::plus;
 use integers::times;
 use words::signed_of;
@@ -37,16 +38,6 @@ pub fn bound_at(bounds: &[i64], v: usize) -> i64
         return bounds[v];
     }
     0
-}
-
-// The lesser or the larger of two.
-pub fn pick(a: i64, b: i64, up: bool) -> i64
-    ensures { λ r. ⌜ r ≡ (maxZ if up else minZ) a b ⌝ }
-{
-    if up {
-        return largest(a, b);
-    }
-    least(a, b)
 }
 
 // The lesser or the larger product of a number and two bounds.

@@ -2,6 +2,7 @@
 ghost use mathlib.Core.Path.{_≡_};
 ghost use Prim.Native.Nat.{_+_, _*_, _<_};
 ghost use lib.IntN.{natAbs};
+ghost use Rattle.integers.specs.Choice.{_if_else_};
 ghost use Rattle.integers.specs.Number.{_⊕_, _⊖_, _⊗_, neg, minZ, maxZ, _==_};
 
 // The bounds of a variable.
@@ -55,6 +56,16 @@ pub fn largest(a: i64, b: i64) -> i64
     ensures { λ r. ⌜ r ≡ maxZ a b ⌝ }
 {
     if a <= b { b } else { a }
+}
+
+// The lesser or the larger of two.
+pub fn pick(a: i64, b: i64, up: bool) -> i64
+    ensures { λ r. ⌜ r ≡ (maxZ if up else minZ) a b ⌝ }
+{
+    if up {
+        return largest(a, b);
+    }
+    least(a, b)
 }
 
 // Whether two are equal.

@@ -8,7 +8,7 @@ use Rattle.builtins.proofs.Coded.{no-code}
 use Rattle.builtins.proofs.holds.Statement.{statement}
 use Rattle.builtins.proofs.holds.Tie as tie
 
-other : tie.Need-returns-29
+other : tie.Need-returns-37
 other c =
     let s = c .before .before in
     sym (no-code (value (s .args .values .now)) (s .args .code) (s .args .args .now) (c .match .rest))
@@ -46,6 +46,14 @@ holds-spec =
     (λ c κs. search needs)
     (λ c κs. search needs)
     (λ c κs. search needs)
+    (λ c κs. search needs)
+    (λ c κs. search needs)
+    (λ c κs. search needs)
+    (λ c κs. search needs)
+    (λ c κs. search needs)
+    (λ c κs. search needs)
+    (λ c κs. search needs)
+    (λ c κs. search needs)
     (λ c. let e : c .before .before .before .args .code ≡ 1 = c .before .match .keys1 in rw e (c .int-eq .ensures))
     (λ c. let e : c .before .before .before .args .code ≡ 2 = c .before .match .keys2 in rw e (c .int-le .ensures))
     (λ c. let e : c .before .before .before .args .code ≡ 3 = c .before .match .keys3 in rw e (c .int-lt .ensures))
@@ -54,7 +62,7 @@ holds-spec =
     (λ c. let e : c .before .before .before .args .code ≡ 6 = c .before .match .keys6 in rw e (c .int-plus .ensures))
     (λ c. let e : c .before .before .before .args .code ≡ 7 = c .before .match .keys7 in rw e (c .int-times .ensures))
     (λ c. let e : c .before .before .before .args .code ≡ 8 = c .before .match .keys8 in rw e (c .int-abs .ensures))
-    (λ c. let e : c .before .before .before .args .code ≡ 9 = c .before .match .keys9 in rw e (c .int-max .ensures))
+    (λ c. let e : c .before .before .before .args .code ≡ 9 = c .before .match .keys9 in rw e (c .int-extreme .ensures))
     (λ c. let e : c .before .before .before .args .code ≡ 10 = c .before .match .keys10 in rw e (c .int-lin-eq .ensures))
     (λ c. let e : c .before .before .before .args .code ≡ 11 = c .before .match .keys11 in rw e (c .int-lin-le .ensures))
     (λ c. let e : c .before .before .before .args .code ≡ 12 = c .before .match .keys12 in rw (e, c .int-lin-eq2 .ensures))
@@ -71,7 +79,15 @@ holds-spec =
     (λ c. let e : c .before .before .before .args .code ≡ 23 = c .before .match .keys23 in rw e (c .array-bool-xor .ensures))
     (λ c. let e : c .before .before .before .args .code ≡ 24 = c .before .match .keys24 in rw e (c .array-int-element .ensures))
     (λ c. let e : c .before .before .before .args .code ≡ 25 = c .before .match .keys25 in rw e (c .array-var-int-element .ensures))
-    (λ c. let e : c .before .before .before .args .code ≡ 26 = c .before .match .keys26 in rw e (c .array-int-maximum .ensures))
+    (λ c. let e : c .before .before .before .args .code ≡ 26 = c .before .match .keys26 in rw e (c .array-int-extreme .ensures))
     (λ c. let e : c .before .before .before .args .code ≡ 27 = c .before .match .keys27 in rw e (c .set-in .ensures))
     (λ c. let e : c .before .before .before .args .code ≡ 28 = c .before .match .keys28 in rw e (c .set-in-reif .ensures))
+    (λ c. let e : c .before .before .before .args .code ≡ 29 = c .before .match .keys29 in rw e (c .int-extreme2 .ensures))
+    (λ c. let e : c .before .before .before .args .code ≡ 30 = c .before .match .keys30 in rw e (c .int-lt-reif .ensures))
+    (λ c. let e : c .before .before .before .args .code ≡ 31 = c .before .match .keys31 in rw e (c .bool-xor2 .ensures))
+    (λ c. let e : c .before .before .before .args .code ≡ 32 = c .before .match .keys32 in rw e (c .int-lin-ne-reif .ensures))
+    (λ c. let e : c .before .before .before .args .code ≡ 33 = c .before .match .keys33 in rw e (c .array-int-extreme2 .ensures))
+    (λ c. let e : c .before .before .before .args .code ≡ 34 = c .before .match .keys34 in rw e (c .int-eq-reif2 .ensures))
+    (λ c. let e : c .before .before .before .args .code ≡ 35 = c .before .match .keys35 in rw e (c .int-le-reif2 .ensures))
+    (λ c. let e : c .before .before .before .args .code ≡ 36 = c .before .match .keys36 in rw e (c .int-lt-reif2 .ensures))
     other)

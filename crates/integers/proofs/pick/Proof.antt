@@ -2,9 +2,9 @@
 use mathlib.Core.Path.{_∙_}
 use mir.Facts.{toZ-ofZ}
 use borrow.Author.Needs.{needs}
 use Rattle.integers.proofs.Fits.{back}
-use Rattle.extremes.proofs.pick.Statement.{statement}
-use Rattle.extremes.proofs.pick.Tie as tie
+use Rattle.integers.proofs.pick.Statement.{statement}
+use Rattle.integers.proofs.pick.Tie as tie
 
 returns : tie.Need-returns
 returns c = back (c .largest .result) (c .largest .ok) ∙ c .largest .ensures ∙ rw (toZ-ofZ (c .before .before .fits .a), toZ-ofZ (c .before .before .fits .b), c .before .if1 .taken)
