@@ -49,5 +49,5 @@ module _ (ls us : List ℤ) (l : Bounded ls) (u : Bounded us) where
   pub gap-size : (a b : ℕ) → natAbs (getD us a +0 ⊖ getD ls b +0) ≤ 268435456
   gap-size a b = omega (arith, minus-size (getD us a +0) (getD ls b +0), u a, l b)
 
-  pub gap-plus-one-size : (a b : ℕ) → natAbs (getD us a +0 ⊖ getD ls b +0 ⊕ +1) ≤ 268435457
-  gap-plus-one-size a b = omega (arith, gap-size a b, plus-size (getD us a +0 ⊖ getD ls b +0) +1)
+  pub gap-plus-size : (a b : ℕ) (d : ℤ) → natAbs d ≤ 1 → natAbs (getD us a +0 ⊖ getD ls b +0 ⊕ d) ≤ 268435457
+  gap-plus-size a b d h = omega (arith, gap-size a b, plus-size (getD us a +0 ⊖ getD ls b +0) d)

@@ -2,8 +2,8 @@
 ghost use mathlib.Core.Path.{_≡_};
 ghost use mathlib.Core.Bool.{_&&_};
 ghost use mathlib.Core.List.{map};
-ghost use Prim.Native.Nat.{_<_};
-ghost use lib.IntN.{pos};
+ghost use Prim.Native.Nat.{_<_, _≤_};
+ghost use lib.IntN.{pos, natAbs};
 ghost use lib.Signed.{leZ, ltZ};
 ghost use lib.ListN.{length, getD, set};
 ghost use Rattle.integers.specs.Choice.{_if_else_};
@@ -77,19 +77,19 @@ pub fn end_product(ls: &[i64], us: &[i64], a: usize, b: usize, up: bool) -> i64
 }
 
 // hi a − lo b
-pub fn gap(ls: &[i64], us: &[i64], a: usize, b: usize) -> i64
+fn gap(ls: &[i64], us: &[i64], a: usize, b: usize) -> i64
     requires { ⌜ Bounded (now ls) × Bounded (now us) ⌝ }
     ensures { λ r. ⌜ r ≡ getD (now (us .entry)) a +0 ⊖ getD (now (ls .entry)) b +0 ⌝ }
 {
     minus(bound_at(us, a), bound_at(ls, b))
 }
 
-// hi a − lo b + 1
-pub fn gap_plus_one(ls: &[i64], us: &[i64], a: usize, b: usize) -> i64
-    requires { ⌜ Bounded (now ls) × Bounded (now us) ⌝ }
-    ensures { λ r. ⌜ r ≡ getD (now (us .entry)) a +0 ⊖ getD (now (ls .entry)) b +0 ⊕ +1 ⌝ }
+// hi a − lo b + d
+pub fn gap_plus(ls: &[i64], us: &[i64], a: usize, b: usize, d: i64) -> i64
+    requires { ⌜ Bounded (now ls) × Bounded (now us) × (natAbs d ≤ 1) ⌝ }
+    ensures { λ r. ⌜ r ≡ getD (now (us .entry)) a +0 ⊖ getD (now (ls .entry)) b +0 ⊕ d ⌝ }
 {
-    plus(gap(ls, us, a, b), 1)
+    plus(gap(ls, us, a, b), d)
 }
 
 // How many values two bounds leave.

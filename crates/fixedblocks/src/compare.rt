@@ -1,15 +1,15 @@
 // Blocks: comparisons of two variables.
-ghost use Prim.Native.Nat.{ℕ, _<_};
+ghost use Prim.Native.Nat.{ℕ, _<_, _≤_};
+ghost use lib.IntN.{natAbs};
 ghost use Rattle.integers.specs.declared.Bounds.{Bounds};
-ghost use Rattle.models.specs.Builtin.{int-eq, int-ne, int-le-reif};
-ghost use Rattle.rules.specs.Rule.{rule};
+ghost use Rattle.models.specs.Builtin.{int-eq, int-ne};
+ghost use Rattle.rules.specs.Rule.{rule, orderReified};
 ghost use Rattle.laying.specs.Part.{blockParts};
 ghost use Rattle.laying.specs.Went.{Went, Near, total};
 ghost use Rattle.extremes.specs.Bounded.{boundsOf, Bounded};
-use crate::rows::at_most_if;
-use crate::rows::below_if;
-use crate::rows::below_unless;
 use crate::rows::two_terms;
+use crate::rows::where_one;
+use crate::rows::where_zero;
 use laying::Laid;
 use laying::lay_bound;
 use words::kind;
@@ -36,24 +36,25 @@ pub fn int_ne(
     ensures { λ r. ⌜ Went s r (now (out .entry)) (now (out .exit)) (blockParts first (rule (boundsOf (now (ls .entry)) (now (us .entry))) (int-ne a b))) × Near 10000 s r ⌝ }
 {
     let t = lay_bound(out, s, 0, 1);
-    let u = below_unless(out, t, first, a, b, ls, us);
-    below_if(out, u, first, b, a, ls, us)
+    let u = where_zero(out, t, first, a, b, 1, ls, us);
+    where_one(out, u, first, b, a, 1, ls, us)
 }
 
-// 5 int_le_reif: a ≤ b where r is 1, b < a where it is 0.
-pub fn int_le_reif(
+// 5 int_le_reif, with 0 and 1, and 30 int_lt_reif, with 1 and 0: a − b + d ≤ 0 where r is 1, b − a + e ≤ 0 where it is 0.
+pub fn order_reif(
     out: &mut [u32],
     s: Laid,
     a: usize,
     b: usize,
     r: usize,
+    d: i64,
+    e: i64,
     ls: &[i64],
     us: &[i64],
-    first: usize,
 ) -> Laid
-    requires { ⌜ (total s < 1000000000) × Bounded (now ls) × Bounded (now us) ⌝ }
-    ensures { λ q. ⌜ Went s q (now (out .entry)) (now (out .exit)) (blockParts first (rule (boundsOf (now (ls .entry)) (now (us .entry))) (int-le-reif a b r))) × Near 10000 s q ⌝ }
+    requires { ⌜ (total s < 1000000000) × Bounded (now ls) × Bounded (now us) × (natAbs d ≤ 1) × (natAbs e ≤ 1) ⌝ }
+    ensures { λ q. ⌜ ((first : ℕ) → Went s q (now (out .entry)) (now (out .exit)) (blockParts first (orderReified (boundsOf (now (ls .entry)) (now (us .entry))) d e a b r))) × Near 10000 s q ⌝ }
 {
-    let t = at_most_if(out, s, r, a, b, ls, us);
-    below_unless(out, t, r, b, a, ls, us)
+    let t = where_one(out, s, r, a, b, d, ls, us);
+    where_zero(out, t, r, b, a, e, ls, us)
 }

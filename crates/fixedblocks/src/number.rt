@@ -1,17 +1,17 @@
-// Blocks: sums, products, absolute values and maxima.
+// Blocks: sums, products, absolute values, maxima and minima.
 ghost use mathlib.Core.List.{[], _∷_};
 ghost use Prim.Native.Nat.{_<_};
 ghost use lib.ListN.{getD};
 ghost use Rattle.integers.specs.Number.{minZ, maxZ, +0};
-ghost use Rattle.models.specs.Builtin.{int-times, int-abs, int-max};
-ghost use Rattle.rules.specs.Rule.{rule};
+ghost use Rattle.models.specs.Builtin.{int-times, int-abs};
+ghost use Rattle.rules.specs.Rule.{rule, touching};
 ghost use Rattle.laying.specs.Part.{bound, blockParts};
 ghost use Rattle.laying.specs.Went.{Went, Near, total};
 ghost use Rattle.extremes.specs.Bounded.{boundsOf, Bounded};
-use crate::rows::at_most_if;
-use crate::rows::at_most_unless;
 use crate::rows::three_terms;
 use crate::rows::two_terms;
+use crate::rows::where_one;
+use crate::rows::where_zero;
 use extremes::bound_at;
 use extremes::end_product;
 use extremes::zero_lower;
@@ -76,23 +76,24 @@ pub fn int_abs(
     lay_row(out, w, kind::AT_MOST, &xs, &cs, 0)
 }
 
-// 9 int_max: a and b are at most c; c is at most a where the auxiliary is 0, at most b where it is 1.
-pub fn int_max(
+// 9 int_max and 29 int_min: x is at most y and u at most v; y is at most x where the auxiliary is 0, v at most u where it is 1.
+pub fn touching(
     out: &mut [u32],
     s: Laid,
-    a: usize,
-    b: usize,
-    c: usize,
+    x: usize,
+    y: usize,
+    u: usize,
+    v: usize,
     ls: &[i64],
     us: &[i64],
     first: usize,
 ) -> Laid
     requires { ⌜ (total s < 1000000000) × Bounded (now ls) × Bounded (now us) ⌝ }
-    ensures { λ r. ⌜ Went s r (now (out .entry)) (now (out .exit)) (blockParts first (rule (boundsOf (now (ls .entry)) (now (us .entry))) (int-max a b c))) × Near 10000 s r ⌝ }
+    ensures { λ r. ⌜ Went s r (now (out .entry)) (now (out .exit)) (blockParts first (touching (boundsOf (now (ls .entry)) (now (us .entry))) x y u v)) × Near 10000 s r ⌝ }
 {
-    let t = lay_bound(out, s, 0, 1);
-    let u = two_terms(out, t, kind::AT_MOST, a, -1, c, 0);
-    let v = two_terms(out, u, kind::AT_MOST, b, -1, c, 0);
-    let w = at_most_unless(out, v, first, c, a, ls, us);
-    at_most_if(out, w, first, c, b, ls, us)
+    let bit = lay_bound(out, s, 0, 1);
+    let one = two_terms(out, bit, kind::AT_MOST, x, -1, y, 0);
+    let two = two_terms(out, one, kind::AT_MOST, u, -1, v, 0);
+    let three = where_zero(out, two, first, y, x, 0, ls, us);
+    where_one(out, three, first, v, u, 0, ls, us)
 }

@@ -4,7 +4,7 @@ use native.Mathlib.Nat.{add-zero}
 use native.Mathlib.Omega.{arith}
 use borrow.Author.Needs.{needs}
 use Rattle.rules.specs.Block.{numbered}
-use Rattle.rules.specs.Rule.{rule, notEqual}
+use Rattle.rules.specs.Rule.{rule, whereOne, whereZero}
 use Rattle.laying.specs.Part.{boundParts, termParts, rowParts, blockParts}
 use Rattle.laying.specs.Lists.{many, rowOf}
 use Rattle.fixedblocks.proofs.Laid.{then}
@@ -12,13 +12,13 @@ use Rattle.fixedblocks.proofs.compare.int_ne.Statement.{statement}
 use Rattle.fixedblocks.proofs.compare.int_ne.Tie as tie
 
 returns : tie.Need-returns
-unfolding rule notEqual blockParts boundParts flatMap rowParts termParts numbered rowOf many
+unfolding rule whereOne whereZero blockParts boundParts flatMap rowParts termParts numbered rowOf many
 returns c =
     let s = c .before .before .before .before .before .before .before .before .before .before .before .before .before in
     let lay-bound = c .before .before .before .before .before .before .before .before .before .before .lay-bound in
-    let below-unless = c .before .before .before .before .before .before .below-unless in
-    let below-if = c .before .before .below-if in
-    let w = then 10 4000 (lay-bound .ensures) (then 2000 2000 (below-unless .ensures) (below-if .ensures)) in
+    let where-zero = c .before .before .before .before .before .before .where-zero in
+    let where-one = c .before .before .where-one in
+    let w = then 10 4000 (lay-bound .ensures) (then 2000 2000 (where-zero .ensures) (where-one .ensures)) in
     rw (add-zero (s .args .first)) (w .0, omega (arith, w .1))
 
 pub int-ne-spec : {M : Type 1} → statement M

@@ -1,0 +1,26 @@
+-- Three rows, one after the other.
+use mathlib.Core.List.{flatMap}
+use native.Mathlib.Omega.{arith}
+use borrow.Author.Needs.{needs}
+use Rattle.rules.specs.Block.{numbered}
+use Rattle.rules.specs.Parts.{_─_≤0}
+use Rattle.rules.specs.Rule.{rule}
+use Rattle.laying.specs.Part.{boundParts, termParts, rowParts, blockParts}
+use Rattle.laying.specs.Lists.{many, rowOf}
+use Rattle.fixedblocks.proofs.Laid.{then}
+use Rattle.fixedblocks.proofs.boolean.bool_lt_reif.Statement.{statement}
+use Rattle.fixedblocks.proofs.boolean.bool_lt_reif.Tie as tie
+
+returns : tie.Need-returns
+unfolding rule _─_≤0 blockParts boundParts flatMap rowParts termParts numbered rowOf many
+returns c =
+    let two-terms = c .before .before .before .before .before .before .before .before .before .before .two-terms in
+    let two-terms2 = c .before .before .before .before .before .before .two-terms2 in
+    let three-terms = c .before .before .three-terms in
+    let w = then 2000 4000 (two-terms .ensures) (then 2000 2000 (two-terms2 .ensures) (three-terms .ensures)) in
+    ((λ β first. w .0), omega (arith, w .1))
+
+pub bool-lt-reif-spec : {M : Type 1} → statement M
+bool-lt-reif-spec =
+    tie.close
+    (tie.spec (λ c κs. search needs) (λ c κs. search needs) (λ c κs. search needs) (λ c. search needs) returns)
