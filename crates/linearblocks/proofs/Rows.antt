@@ -1,25 +1,26 @@
--- A row laid as a head, terms and a constant; rows after those of a block; int_eq_reif as int_lin_eq_reif.
+-- A row laid as a head, terms and a constant; rows after those of a block; int_eq_reif as int_lin_eq_reif, int_ne_reif as int_lin_ne_reif.
 use mathlib.Core.Path.{_≡_, refl, sym, _∙_}
+use mathlib.Core.Bool.{Bool}
 use mathlib.Core.List.{List, [], _∷_, _++_, append-assoc, append-nil, flatMap}
 use Prim.Native.Nat.{ℕ}
 use lib.IntN.{ℤ}
 use lib.ListN.{length}
 use Rattle.integers.specs.Lists.{listOf}
-use Rattle.integers.specs.Terms.{Term}
+use Rattle.integers.specs.Number.{+0, +1, -1}
+use Rattle.integers.specs.Terms.{Term, _·_}
 use Rattle.integers.specs.declared.Bounds.{Bounds}
 use Rattle.words.specs.Word.{payload, signed, wordAt}
-use Rattle.models.specs.Builtin.{int-lin-eq-reif, int-eq-reif}
 use Rattle.models.specs.Model.{var, num, size, past, terms, pastTerms}
-use Rattle.builtins.specs.Coded.{linearReified}
 use Rattle.rowsystems.specs.Row.{Row}
 use Rattle.rules.specs.Block.{Ref, Block, numbered}
-use Rattle.rules.specs.Rule.{block, rule}
+use Rattle.rules.specs.Rule.{block, zeroReified}
 use Rattle.linearsums.specs.Sum.{linearSum, equalSum}
 use Rattle.laying.specs.Part.{Part, head, term, constant, boundParts, termParts, rowParts, blockParts}
 use Rattle.laying.specs.Went.{Went}
 use Rattle.laying.specs.declared.Laid.{Laid}
 use Rattle.laying.proofs.Parts.{flatMap-append, went-then}
 use Rattle.laying.proofs.Lists.{terms-append}
+use Rattle.linearblocks.specs.Rows.{termsReified}
 
 module _ (first : ℕ) where
   -- the parts of a row of terms, laid one after the other
@@ -43,11 +44,11 @@ module _ (first : ℕ) where
   unfolding termParts
   last-term ts t e = terms-append first ts (t ∷ []) ∙ rw e
 
--- the words that `int_eq_reif` lends for its three variables
-pub two-terms : (β : ℕ → Bounds) (a b r : ℕ) →
-    rule β (linearReified int-lin-eq-reif (2 ∷ 1 ∷ 268435455 ∷ a ∷ b ∷ 0 ∷ r ∷ [])) ≡ rule β (int-eq-reif (payload a) (payload b) (payload r))
-unfolding rule terms num var size past pastTerms payload signed wordAt listOf
-two-terms β a b r = refl
+-- the words that `two_reif` lends for its three variables
+pub two-terms : (β : ℕ → Bounds) (equal : Bool) (a b r : ℕ) →
+    termsReified β equal (2 ∷ 1 ∷ 268435455 ∷ a ∷ b ∷ 0 ∷ r ∷ []) ≡ zeroReified β equal (+1 · payload a ∷ -1 · payload b ∷ []) +0 (payload r)
+unfolding terms num var size past pastTerms payload signed wordAt listOf
+two-terms β equal a b r = refl
 
 pub two-sum : (β : ℕ → Bounds) (args : List ℕ) (r : ℕ) → equalSum β args ≡ linearSum β (2 ∷ 1 ∷ 268435455 ∷ wordAt args 0 ∷ wordAt args 1 ∷ 0 ∷ r ∷ [])
 unfolding equalSum linearSum terms num var size past pastTerms payload signed wordAt listOf

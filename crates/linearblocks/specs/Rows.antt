@@ -1,15 +1,17 @@
--- The parts of the blocks of 12 to 15, as several writers lay them: x is auxiliary 0, z auxiliary 2.
+-- The parts of the blocks of 12 to 15, 31 and 32, as several writers lay them: x is auxiliary 0, z auxiliary 2.
+use mathlib.Core.Bool.{Bool}
 use mathlib.Core.List.{List, [], _∷_, _++_}
-use Prim.Native.Nat.{ℕ}
+use Prim.Native.Nat.{ℕ, _+_}
 use lib.IntN.{ℤ}
-use Rattle.integers.specs.Number.{_⊖_, neg, +1, +2, -1, -2}
+use Rattle.integers.specs.Number.{_⊖_, neg, +0, +1, +2, -1, -2}
 use Rattle.integers.specs.Bounds.{_to_, bit}
 use Rattle.integers.specs.Terms.{_·_}
-use Rattle.models.specs.Model.{num, terms, pastTerms}
+use Rattle.integers.specs.declared.Bounds.{Bounds}
+use Rattle.models.specs.Model.{var, num, terms, pastTerms}
 use Rattle.rowsystems.specs.Row.{Row, sum≤0, sum=0, product}
 use Rattle.rules.specs.Block.{Ref, source, aux, Block}
 use Rattle.rules.specs.Parts.{Z, sources}
-use Rattle.rules.specs.Rule.{block}
+use Rattle.rules.specs.Rule.{block, zeroReified}
 
 -- Σ−x−c=0
 unfoldable pub link : List ℕ → Row Ref
@@ -24,11 +26,11 @@ split args lower upper =
 unfoldable pub slack : List ℕ → ℤ → ℤ → Block
 slack args lower upper = block ((lower to upper) ∷ []) (link args ∷ [])
 
--- x−2×z+W×r−W≤0; −x+2×z−r+1≤0
-unfoldable pub zeroRows : ℤ → ℕ → List (Row Ref)
-zeroRows W r =
-    sum≤0 (+1 · aux 0 ∷ -2 · aux 2 ∷ W · source r ∷ []) (neg W)
-    ∷ sum≤0 (-1 · aux 0 ∷ +2 · aux 2 ∷ -1 · source r ∷ []) +1
+-- x−2×z+p×r+q≤0; −x+2×z+u×r+v≤0
+unfoldable pub sizeRows : ℕ → ℤ → ℤ → ℤ → ℤ → List (Row Ref)
+sizeRows r p q u v =
+    sum≤0 (+1 · aux 0 ∷ -2 · aux 2 ∷ p · source r ∷ []) q
+    ∷ sum≤0 (-1 · aux 0 ∷ +2 · aux 2 ∷ u · source r ∷ []) v
     ∷ []
 
 -- x+U×r−U≤0; −x+(L−1)×r+1≤0
@@ -37,3 +39,10 @@ atMostRows L U r =
     sum≤0 (+1 · aux 0 ∷ U · source r ∷ []) (neg U)
     ∷ sum≤0 (-1 · aux 0 ∷ (L ⊖ +1) · source r ∷ []) +1
     ∷ []
+
+-- 13 and 32 of the terms and the number among the arguments, and the variable after them; 14 and 31 of three variables
+abbrev pub termsReified : (ℕ → Bounds) → Bool → List ℕ → Block
+termsReified β equal args = zeroReified β equal (terms args 0) (num args (pastTerms args 0)) (var args (pastTerms args 0 + 1))
+
+abbrev pub twoReified : (ℕ → Bounds) → Bool → List ℕ → Block
+twoReified β equal args = zeroReified β equal (+1 · var args 0 ∷ -1 · var args 1 ∷ []) +0 (var args 2)

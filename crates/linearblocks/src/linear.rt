@@ -1,15 +1,15 @@
-// Codes 10 to 15: the blocks of sums of terms, and of int_eq_reif. From 12 on `sum` is L and U.
+// Codes 10 to 15, 31 and 32: the blocks of sums of terms, of int_eq_reif and int_ne_reif. From 12 on `sum` is L and U.
 ghost use mathlib.Core.Path.{_≡_};
 ghost use mathlib.Core.List.{flatMap};
 ghost use Prim.Native.Nat.{ℕ, _<_, _≤_};
 ghost use lib.IntN.{natAbs};
-ghost use Rattle.models.specs.Builtin.{int-lin-eq, int-lin-le, int-lin-ne, int-lin-eq-reif, int-eq-reif, int-lin-le-reif};
-ghost use Rattle.builtins.specs.Coded.{three, linear, linearReified};
-ghost use Rattle.rules.specs.Rule.{rule};
+ghost use Rattle.models.specs.Builtin.{int-lin-eq, int-lin-le, int-lin-ne, int-lin-le-reif};
+ghost use Rattle.builtins.specs.Coded.{linear, linearReified};
+ghost use Rattle.rules.specs.Rule.{rule, zeroRows};
 ghost use Rattle.linearsums.specs.Sum.{linearSum, equalSum, Fits};
 ghost use Rattle.laying.specs.Part.{rowParts, blockParts};
 ghost use Rattle.laying.specs.Went.{Went, Near, total};
-ghost use Rattle.linearblocks.specs.Rows.{zeroRows, atMostRows};
+ghost use Rattle.linearblocks.specs.Rows.{sizeRows, atMostRows, termsReified, twoReified};
 use crate::sums::larger_size;
 use crate::sums::lay_slack;
 use crate::sums::lay_split;
@@ -53,42 +53,77 @@ pub fn int_lin_ne(out: &mut [u32], s: Laid, args: &[u32], sum: Bounds, first: us
     lay_row(out, t, kind::AT_MOST, &xs, &cs, 1)
 }
 
-// x−2×z+W×r−W≤0; −x+2×z−r+1≤0, x and z from `first` on.
-fn lay_zero(out: &mut [u32], s: Laid, w: i64, r: usize, first: usize) -> Laid
-    requires { ⌜ (total s < 2000000000) × (first < 10000) × (natAbs w ≤ 1152921504606846976) ⌝ }
-    ensures { λ t. ⌜ Went s t (now (out .entry)) (now (out .exit)) (flatMap (rowParts first) (zeroRows w r)) × Near 10000 s t ⌝ }
+// x−2×z+p×r+q≤0; −x+2×z+u×r+v≤0, x and z from `first` on.
+fn lay_size(
+    out: &mut [u32],
+    s: Laid,
+    r: usize,
+    p: i64,
+    q: i64,
+    u: i64,
+    v: i64,
+    first: usize,
+) -> Laid
+    requires { ⌜ (total s < 2000000000) × (first < 10000) ⌝ }
+    ensures { λ t. ⌜ Went s t (now (out .entry)) (now (out .exit)) (flatMap (rowParts first) (sizeRows r p q u v)) × Near 10000 s t ⌝ }
 {
     let xs = [first, first + 2, r];
-    let cs = [1, -2, w];
-    let t = lay_row(out, s, kind::AT_MOST, &xs, &cs, opposite(w));
-    let ds = [-1, 2, -1];
-    lay_row(out, t, kind::AT_MOST, &xs, &ds, 1)
+    let cs = [1, -2, p];
+    let t = lay_row(out, s, kind::AT_MOST, &xs, &cs, q);
+    let ds = [-1, 2, u];
+    lay_row(out, t, kind::AT_MOST, &xs, &ds, v)
 }
 
-// int_lin_eq_reif: the auxiliaries and the first two rows of int_lin_ne; x−2×z+W×r−W≤0; −x+2×z−r+1≤0; W=max(|L|,|U|).
-pub fn int_lin_eq_reif(out: &mut [u32], s: Laid, args: &[u32], sum: Bounds, first: usize) -> Laid
+// x−2×z+W×r−W≤0; −x+2×z−r+1≤0. Where it is not `equal`: x−2×z−W×r≤0; −x+2×z+r≤0.
+fn lay_zero(out: &mut [u32], s: Laid, w: i64, r: usize, first: usize, equal: bool) -> Laid
+    requires { ⌜ (total s < 2000000000) × (first < 10000) × (natAbs w ≤ 1152921504606846976) ⌝ }
+    ensures { λ t. ⌜ Went s t (now (out .entry)) (now (out .exit)) (flatMap (rowParts first) (zeroRows equal w r)) × Near 10000 s t ⌝ }
+{
+    let less = opposite(w);
+    if equal {
+        return lay_size(out, s, r, w, less, -1, 1, first);
+    }
+    lay_size(out, s, r, less, 0, 1, 0, first)
+}
+
+// int_lin_eq_reif: the auxiliaries and the first two rows of int_lin_ne; two rows with W=max(|L|,|U|). int_lin_ne_reif, where it is not `equal`.
+pub fn zero_reif(
+    out: &mut [u32],
+    s: Laid,
+    args: &[u32],
+    sum: Bounds,
+    first: usize,
+    equal: bool,
+) -> Laid
     requires { ⌜ (total s < 1000000000) × (first < 10000) × Fits sum ⌝ }
-    ensures { λ r. ⌜ ((β : ℕ → Bounds) → sum ≡ linearSum β (now (args .entry)) → Went s r (now (out .entry)) (now (out .exit)) (blockParts first (rule β (linearReified int-lin-eq-reif (now (args .entry)))))) × Near 1000000 s r ⌝ }
+    ensures { λ r. ⌜ ((β : ℕ → Bounds) → sum ≡ linearSum β (now (args .entry)) → Went s r (now (out .entry)) (now (out .exit)) (blockParts first (termsReified β equal (now (args .entry))))) × Near 1000000 s r ⌝ }
 {
     let lower = sum.lower;
     let upper = sum.upper;
     let w = larger_size(lower, upper);
     let r = var_at(args, past_terms_at(args, 0) + 1);
     let t = lay_split(out, s, args, lower, upper, first);
-    lay_zero(out, t, w, r, first)
+    lay_zero(out, t, w, r, first, equal)
 }
 
-// int_eq_reif: int_lin_eq_reif of the two terms 1×a and −1×b, with the constant 0.
-pub fn int_eq_reif(out: &mut [u32], s: Laid, args: &[u32], sum: Bounds, first: usize) -> Laid
+// int_eq_reif: int_lin_eq_reif of the two terms 1×a and −1×b, with the constant 0. int_ne_reif, where it is not `equal`.
+pub fn two_reif(
+    out: &mut [u32],
+    s: Laid,
+    args: &[u32],
+    sum: Bounds,
+    first: usize,
+    equal: bool,
+) -> Laid
     requires { ⌜ (total s < 1000000000) × (first < 10000) × Fits sum ⌝ }
-    ensures { λ r. ⌜ ((β : ℕ → Bounds) → sum ≡ equalSum β (now (args .entry)) → Went s r (now (out .entry)) (now (out .exit)) (blockParts first (rule β (three int-eq-reif (now (args .entry)))))) × Near 1000000 s r ⌝ }
+    ensures { λ r. ⌜ ((β : ℕ → Bounds) → sum ≡ equalSum β (now (args .entry)) → Went s r (now (out .entry)) (now (out .exit)) (blockParts first (twoReified β equal (now (args .entry))))) × Near 1000000 s r ⌝ }
 {
     let a = word_at(args, 0);
     let b = word_at(args, 1);
     let r = word_at(args, 2);
     // the length 2, the numbers 1 and −1, the variables, the number 0, the variable r
     let words = [2, 1, 268435455, a, b, 0, r];
-    int_lin_eq_reif(out, s, &words, sum, first)
+    zero_reif(out, s, &words, sum, first, equal)
 }
 
 // x+U×r−U≤0; −x+(L−1)×r+1≤0, x the variable `first`.

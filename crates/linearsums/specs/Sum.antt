@@ -24,9 +24,10 @@ abbrev pub ofTwo : ℕ
 ofTwo = 2
 
 unfoldable pub formOf : ℕ → ℕ
-formOf code = ofTerms if any (eqb code) (12 ∷ 13 ∷ 15 ∷ []) else ofTwo if any (eqb code) (14 ∷ []) else noSum
+formOf code = ofTerms if any (eqb code) (12 ∷ 13 ∷ 15 ∷ 32 ∷ []) else ofTwo if any (eqb code) (14 ∷ 31 ∷ []) else noSum
 
--- 01, Rules of the 28 codes: "L and U are the least and largest of Σ as×bs − c over the bounds"; "14 int_eq_reif(a,b,r): 13 with as=1,−1, c=0"
+-- 01, Rules of the 28 codes: "L and U are the least and largest of Σ as×bs − c over the bounds"; "14 int_eq_reif(a,b,r): 13 with as=1,−1, c=0".
+-- 02, wish 1: "31 int_ne_reif is that with 1, −1, c=0", of 32
 unfoldable pub linearSum : (ℕ → Bounds) → List ℕ → Bounds
 linearSum β args = L β (terms args 0) (num args (pastTerms args 0)) to U β (terms args 0) (num args (pastTerms args 0))
 

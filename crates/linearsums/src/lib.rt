@@ -39,6 +39,8 @@ fn form_of(code: usize) -> usize
         13 => OF_TERMS,
         14 => OF_TWO,
         15 => OF_TERMS,
+        31 => OF_TWO,
+        32 => OF_TERMS,
         _ => NO_SUM,
     }
 }

@@ -15,4 +15,6 @@ form-of-spec =
     (λ c. let e : c .before .args .code ≡ 13 = c .match .keys2 in rw e refl)
     (λ c. let e : c .before .args .code ≡ 14 = c .match .keys3 in rw e refl)
     (λ c. let e : c .before .args .code ≡ 15 = c .match .keys4 in rw e refl)
-    (λ c. let r = c .match .rest in rw (ne-eqb _ 12 (r .0 .0 .0 .1), ne-eqb _ 13 (r .0 .0 .1), ne-eqb _ 14 (r .0 .1), ne-eqb _ 15 (r .1)) refl))
+    (λ c. let e : c .before .args .code ≡ 31 = c .match .keys5 in rw e refl)
+    (λ c. let e : c .before .args .code ≡ 32 = c .match .keys6 in rw e refl)
+    (λ c. let r = c .match .rest in rw (ne-eqb _ 12 (r .0 .0 .0 .0 .0 .1), ne-eqb _ 13 (r .0 .0 .0 .0 .1), ne-eqb _ 14 (r .0 .0 .0 .1), ne-eqb _ 15 (r .0 .0 .1), ne-eqb _ 31 (r .0 .1), ne-eqb _ 32 (r .1)) refl))

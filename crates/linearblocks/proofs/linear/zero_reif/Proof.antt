@@ -6,12 +6,12 @@ use Rattle.integers.specs.declared.Bounds.{Bounds}
 use Rattle.integers.proofs.Fits.{back}
 use Rattle.models.specs.Model.{past, pastTerms}
 use Rattle.arguments.proofs.Size.{read, size-le}
-use Rattle.rules.specs.Rule.{linked, signed, linEqualReified, rule}
+use Rattle.rules.specs.Rule.{linked, signed, zeroReified}
 use Rattle.linearsums.specs.Sum.{linearSum}
-use Rattle.linearblocks.specs.Rows.{link, split, zeroRows}
+use Rattle.linearblocks.specs.Rows.{link, split}
 use Rattle.linearblocks.proofs.Rows.{rows-then}
-use Rattle.linearblocks.proofs.linear.int_lin_eq_reif.Statement.{statement}
-use Rattle.linearblocks.proofs.linear.int_lin_eq_reif.Tie as tie
+use Rattle.linearblocks.proofs.linear.zero_reif.Statement.{statement}
+use Rattle.linearblocks.proofs.linear.zero_reif.Tie as tie
 
 larger-size-requires : tie.Need-larger-size-requires
 larger-size-requires c κs =
@@ -23,7 +23,7 @@ unfolding past pastTerms
 add-var-at c = rw (c .past-terms-at .ensures) (omega (arith, size-le (c .before .before .before .before .before .before .args .args .now) 0))
 
 returns : tie.Need-returns
-unfolding rule linEqualReified signed linked split link zeroRows linearSum
+unfolding zeroReified signed linked split link linearSum
 returns c =
     let s = c .before .before .before .before .before .before .before .before .before .before .before .before .before .before .before in
     let struct-told = c .before .before .before .before .before .before .before .before .before .before .before .before .struct-told in
@@ -35,8 +35,8 @@ returns c =
     let lay-zero = c .before .before .lay-zero in
     let a = s .args in (λ β e. let l = back (a .sum .lower) (struct-told .given .0 .1) ∙ ap (λ (S : Bounds). S .lower) e in let u = back (a .sum .upper) (struct-told2 .given .1 .0 .1) ∙ ap (λ (S : Bounds). S .upper) e in rows-then (a .first) _ _ (rw (l, u) at (lay-split .ensures .0)) (rw (read (larger-size .ok) (larger-size .ensures .0), l, u, var-at .ensures, past-terms-at .ensures) at (lay-zero .ensures .0)), omega (arith, lay-split .ensures .1, lay-zero .ensures .1))
 
-pub int-lin-eq-reif-spec : {M : Type 1} → statement M
-int-lin-eq-reif-spec =
+pub zero-reif-spec : {M : Type 1} → statement M
+zero-reif-spec =
     tie.close
     (tie.spec
     larger-size-requires

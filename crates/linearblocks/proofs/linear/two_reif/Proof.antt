@@ -6,8 +6,8 @@ use Rattle.models.specs.Model.{var}
 use Rattle.laying.specs.Part.{blockParts}
 use Rattle.laying.proofs.Parts.{went-as}
 use Rattle.linearblocks.proofs.Rows.{two-terms, two-sum}
-use Rattle.linearblocks.proofs.linear.int_eq_reif.Statement.{statement}
-use Rattle.linearblocks.proofs.linear.int_eq_reif.Tie as tie
+use Rattle.linearblocks.proofs.linear.two_reif.Statement.{statement}
+use Rattle.linearblocks.proofs.linear.two_reif.Tie as tie
 
 returns : tie.Need-returns
 unfolding var
@@ -16,14 +16,14 @@ returns c =
     let word-at = c .before .before .before .before .before .before .before .word-at in
     let word-at2 = c .before .before .before .before .before .before .word-at2 in
     let word-at3 = c .before .before .before .before .before .word-at3 in
-    let int-lin-eq-reif = c .before .before .int-lin-eq-reif in
+    let zero-reif = c .before .before .zero-reif in
     let a = s .args in
     let ws = a .args .now in
-    let w = rw (word-at .ensures, word-at2 .ensures, word-at3 .ensures) at (int-lin-eq-reif .ensures) in
-    (λ β e. went-as (ap (blockParts (a .first)) (two-terms β (wordAt ws 0) (wordAt ws 1) (wordAt ws 2))) (w .0 β (e ∙ two-sum β ws (wordAt ws 2))), w .1)
+    let w = rw (word-at .ensures, word-at2 .ensures, word-at3 .ensures) at (zero-reif .ensures) in
+    (λ β e. went-as (ap (blockParts (a .first)) (two-terms β (a .equal) (wordAt ws 0) (wordAt ws 1) (wordAt ws 2))) (w .0 β (e ∙ two-sum β ws (wordAt ws 2))), w .1)
 
-pub int-eq-reif-spec : {M : Type 1} → statement M
-int-eq-reif-spec =
+pub two-reif-spec : {M : Type 1} → statement M
+two-reif-spec =
     tie.close
     (tie.spec
     (λ c κs. search needs)
