@@ -1,31 +1,33 @@
--- The blocks of codes 24 to 28 as the code lays them.
-use mathlib.Core.Path.{_≡_, refl, ap, ap₂, _∙_}
-use mathlib.Core.List.{List, [], _∷_, _++_, append-nil, map, flatMap}
+-- The blocks of codes 24 to 28 and 33 as the code lays them.
+use mathlib.Core.Path.{_≡_, refl, sym, ap, ap₂, _∙_}
+use mathlib.Core.Bool.{Bool, true, false}
+use mathlib.Core.List.{List, [], _∷_, _++_, append-assoc, append-nil, map, flatMap}
 use Prim.Native.Nat.{ℕ, _+_, _-_, _<_}
 use native.Mathlib.Nat.{add-zero}
 use native.Mathlib.Omega.{arith}
 use lib.IntN.{ℤ, pos}
 use lib.ListN.{length, getD, length-map}
 use Rattle.integers.specs.Number.{_⊕_, _⊖_, minZ, maxZ, count, +0, +1, -1}
+use Rattle.integers.specs.Choice.{_if_else_}
 use Rattle.integers.specs.Lists.{listOf}
 use Rattle.integers.specs.Bounds.{width, values}
 use Rattle.integers.specs.declared.Bounds.{Bounds}
 use Rattle.integers.specs.Terms.{_·_}
 use Rattle.integers.proofs.Lists.{listOf-length}
 use Rattle.integers.proofs.Linear.{linear}
-use Rattle.models.specs.Builtin.{array-int-element, array-var-int-element, array-int-maximum, set-in, set-in-reif}
+use Rattle.models.specs.Builtin.{array-int-element, array-var-int-element, set-in, set-in-reif}
 use Rattle.models.specs.Model.{size, var, num, vars, nums}
 use Rattle.arguments.proofs.Walk.{getD-listOf}
 use Rattle.rowsystems.specs.Row.{Row, sum=0}
 use Rattle.rules.specs.Block.{Ref, source, aux}
 use Rattle.rules.specs.Parts.{_─_≤0, bits, oneBit, chosen, products, one, nth, places, members}
-use Rattle.rules.specs.Rule.{block, rule, numberElement, variableElement, largest, inSet, inSetReified}
+use Rattle.rules.specs.Rule.{block, rule, numberElement, variableElement, oneOf, inSet, inSetReified}
 use Rattle.laying.specs.Part.{blockParts, rowParts}
-use Rattle.laying.specs.Lists.{many, bitAt, belowAt}
+use Rattle.laying.specs.Lists.{many, bitAt, belowAt, aboveAt}
 use Rattle.rules.proofs.Lengths.{values-length}
-use Rattle.laying.proofs.Lists.{length-vars, length-nums, bits-parts, weighted-many, below-parts}
+use Rattle.laying.proofs.Lists.{length-vars, length-nums, bits-parts, weighted-many, below-parts, above-parts}
 use Rattle.extremes.specs.Bounded.{boundsOf}
-use Rattle.choiceblocks.specs.Rows.{numberAt, valueAt, memberAt, oneRow, sumRow, choiceRows, gates, gatedRows}
+use Rattle.choiceblocks.specs.Rows.{numberAt, valueAt, memberAt, oneRow, sumRow, choiceRows, gates, gatedRows, oneOfParts, extremeOf}
 use Rattle.choiceblocks.proofs.OneHot.{many-below, one-row, sum-row, chosen-row, choice-rows, gates-parts, gated-rows}
 use Rattle.choiceblocks.proofs.Members.{value-terms, member-terms}
 
@@ -81,19 +83,30 @@ module _ (first : ℕ) where
         (choice-rows first B i (products x (values B) 0 (length (values B)) ++ (chosen one (values B) (length (values B)) c ∷ []))
         ∙ ap (λ ps. choiceRows (B .lower) first (width B) i ++ ps) (gated-rows first ls us args (1 + count (B .lower)) x f (width B) same c [] ∙ append-nil _)))
 
-    pub maximum : (m : ℕ) → blockParts first (rule (boundsOf ls us) (array-int-maximum m (vars args 1)))
-        ≡ gates ls us args 2 (size args 1) ++ (oneRow first (size args 1) ++ (gatedRows args 2 first (size args 1) m ++ many (belowAt args 2 m) (size args 1)))
-    unfolding rule largest blockParts flatMap vars
-    maximum m =
+    -- the parts of the row of each x, then those of the block
+    last-parts : (up : Bool) (m : ℕ) → flatMap (rowParts first) (map (λ x. source x ─ source m ≤0 if up else source m ─ source x ≤0) (vars args 1))
+        ≡ many (belowAt args 2 m if up else aboveAt args m 2) (size args 1)
+    last-parts true m = below-parts first args 1 m
+    last-parts false m = above-parts first args m 1
+
+    pub extreme-parts : (up : Bool) → let m = var args 0 in
+        blockParts first (extremeOf (boundsOf ls us) up m (vars args 1)) ≡ oneOfParts ls us args first ++ many (belowAt args 2 m if up else aboveAt args m 2) (size args 1)
+    unfolding oneOf oneOfParts blockParts flatMap vars
+    extreme-parts up =
         ap₂ (λ a b. a ++ b) (gates-parts first ls us args 2 (λ x. x) f n (λ k h. refl))
         (ap₂ (λ a b. a ++ b) (one-row first (listOf f n) ∙ ap (oneRow first) (listOf-length f n))
-        (gated-rows first ls us args 2 (λ x. x) f n (λ k h. refl) m (map (λ x. source x ─ source m ≤0) (listOf f n)) ∙ ap (λ ps. gatedRows args 2 first n m ++ ps) (below-parts first args 1 m)))
+        (gated-rows first ls us args 2 (λ x. x) f n (λ k h. refl) (var args 0) (map last (listOf f n)) ∙ ap (λ ps. gatedRows args 2 first n (var args 0) ++ ps) (last-parts up (var args 0))))
+        ∙ ap (λ ps. gates ls us args 2 n ++ ps) (sym (append-assoc (oneRow first n) _ _))
+        ∙ sym (append-assoc (gates ls us args 2 n) _ _)
       where
         f : ℕ → ℕ
         f k = var args (1 + 1 + k)
 
         n : ℕ
         n = size args 1
+
+        last : ℕ → Row Ref
+        last x = source x ─ source (var args 0) ≤0 if up else source (var args 0) ─ source x ≤0
 
   -- the members of a set, in a list that reads as they do
   module _ (β : ℕ → Bounds) (S out : List ℤ) (x : ℕ) (same : (k : ℕ) → getD out k +0 ≡ getD (members S (β x)) k +0) where

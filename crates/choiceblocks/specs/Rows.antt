@@ -1,11 +1,17 @@
 -- What the loops lay, turn by turn, and the rows over one-hot bits.
+use mathlib.Core.Bool.{Bool}
 use mathlib.Core.List.{List, [], _∷_, _++_}
 use Prim.Native.Nat.{ℕ, _+_}
 use lib.IntN.{ℤ}
 use lib.ListN.{getD}
+use Rattle.integers.specs.Choice.{_if_else_}
+use Rattle.integers.specs.declared.Bounds.{Bounds}
 use Rattle.integers.specs.Number.{_⊖_, minZ, maxZ, count, +0, +1, -1}
 use Rattle.words.specs.Kind as Kind
-use Rattle.models.specs.Model.{var, num}
+use Rattle.models.specs.Model.{var, num, size}
+use Rattle.rules.specs.Block.{source, Block}
+use Rattle.rules.specs.Parts.{_─_≤0}
+use Rattle.rules.specs.Rule.{oneOf}
 use Rattle.laying.specs.Part.{Part, bound, head, term, constant}
 use Rattle.laying.specs.Lists.{many, oneAt, labelAt, bitAt, productAt}
 
@@ -41,3 +47,12 @@ gates ls us args base n = many bitAt n ++ many (zeroAt ls us args base) n
 
 unfoldable pub gatedRows : List ℕ → ℕ → ℕ → ℕ → ℕ → List Part
 gatedRows args base v n m = many (productAt args base (v + n) v) n ++ sumRow (oneAt (v + n)) n m
+
+-- 26 and 33 with the arguments' m and list: what stands before the row of each x; the block, with x − m ≤ 0 or m − x ≤ 0
+unfoldable pub oneOfParts : List ℤ → List ℤ → List ℕ → ℕ → List Part
+oneOfParts ls us args first =
+    let n = size args 1 in
+    gates ls us args 2 n ++ (oneRow first n ++ gatedRows args 2 first n (var args 0))
+
+abbrev pub extremeOf : (ℕ → Bounds) → Bool → ℕ → List ℕ → Block
+extremeOf β up m xs = oneOf β (λ x. source x ─ source m ≤0 if up else source m ─ source x ≤0) m xs

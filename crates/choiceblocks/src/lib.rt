@@ -1,4 +1,4 @@
-// The blocks of lists with one choice: elements and maximum of a list, membership.
+// The blocks of lists with one choice: elements, maximum and minimum of a list, membership.
 ghost use mathlib.Core.Path.{_≡_};
 ghost use Prim.Native.Nat.{_+_, _<_, _≤_};
 ghost use lib.IntN.{natAbs};
@@ -6,7 +6,7 @@ ghost use lib.ListN.{getD, replicate};
 ghost use Rattle.integers.specs.Number.{maxZ, count, +0, +1};
 ghost use Rattle.integers.specs.Bounds.{width};
 ghost use Rattle.words.specs.Limit as Limit;
-ghost use Rattle.models.specs.Builtin.{array-int-element, array-var-int-element, array-int-maximum, set-in, set-in-reif};
+ghost use Rattle.models.specs.Builtin.{array-int-element, array-var-int-element, set-in, set-in-reif};
 ghost use Rattle.models.specs.Model.{var, vars, nums, size, past};
 ghost use Rattle.rules.specs.Parts.{places, members};
 ghost use Rattle.rules.specs.Rule.{rule};
@@ -14,6 +14,7 @@ ghost use Rattle.laying.specs.Part.{blockParts};
 ghost use Rattle.laying.specs.Went.{Went, Near, total};
 ghost use Rattle.extremes.specs.Bounded.{boundsOf, Bounded};
 ghost use Rattle.choiceblocks.specs.Listed.{Listed};
+ghost use Rattle.choiceblocks.specs.Rows.{oneOfParts, extremeOf};
 use crate::rows::lay_choice;
 use crate::rows::lay_gated;
 use crate::rows::lay_gates;
@@ -31,6 +32,7 @@ use extremes::last_place;
 use extremes::members;
 use extremes::width_of;
 use laying::Laid;
+use laying::lay_above;
 use laying::lay_below;
 use laying::lay_bits;
 
@@ -125,24 +127,38 @@ pub fn array_var_int_element(
     lay_gated(out, u, args, base, first, n, var_at(args, past_at(args, 1)))
 }
 
-// The block of array_int_maximum.
-pub fn array_int_maximum(
+// What array_int_maximum and array_int_minimum begin with: m is one of the list.
+fn lay_one_of(out: &mut [u32], s: Laid, args: &[u32], ls: &[i64], us: &[i64], first: usize) -> Laid
+    requires { ⌜ (total s < 1000000000) × (first < 10000) ⌝ }
+    ensures { λ r. ⌜ Went s r (now (out .entry)) (now (out .exit)) (oneOfParts (now (ls .entry)) (now (us .entry)) (now (args .entry)) first) × Near 10000 s r ⌝ }
+{
+    let m = var_at(args, 0);
+    let n = size_at(args, 1);
+    let t = lay_gates(out, s, args, 2, n, ls, us);
+    let u = lay_one_bit(out, t, first, n);
+    lay_gated(out, u, args, 2, first, n, m)
+}
+
+// The block of array_int_maximum; of array_int_minimum, where it is not `up`.
+pub fn array_int_extreme(
     out: &mut [u32],
     s: Laid,
     args: &[u32],
     ls: &[i64],
     us: &[i64],
     first: usize,
+    up: bool,
 ) -> Laid
-    requires { ⌜ (total s < 1000000000) × (first < 10000) × Bounded (now ls) × Bounded (now us) ⌝ }
-    ensures { λ r. ⌜ Went s r (now (out .entry)) (now (out .exit)) (blockParts first (rule (boundsOf (now (ls .entry)) (now (us .entry))) (array-int-maximum (var (now (args .entry)) 0) (vars (now (args .entry)) 1)))) × Near 1000000 s r ⌝ }
+    requires { ⌜ (total s < 1000000000) × (first < 10000) ⌝ }
+    ensures { λ r. ⌜ Went s r (now (out .entry)) (now (out .exit)) (blockParts first (extremeOf (boundsOf (now (ls .entry)) (now (us .entry))) up (var (now (args .entry)) 0) (vars (now (args .entry)) 1))) × Near 1000000 s r ⌝ }
 {
     let m = var_at(args, 0);
     let n = size_at(args, 1);
-    let t = lay_gates(out, s, args, 2, n, ls, us);
-    let u = lay_one_bit(out, t, first, n);
-    let w = lay_gated(out, u, args, 2, first, n, m);
-    lay_below(out, w, args, 2, m, n)
+    let t = lay_one_of(out, s, args, ls, us, first);
+    if up {
+        return lay_below(out, t, args, 2, m, n);
+    }
+    lay_above(out, t, args, m, 2, n)
 }
 
 // The block of set_in.
