@@ -183,7 +183,7 @@ fn pick_abs(out: &mut [i32], at: usize, args: &[u32], values: &[i32]) -> usize
     put_sign(out, at, value_of(args, 0, values))
 }
 
-// 9: whether a is not c.
+// 9, 29: whether a is not c.
 fn pick_max(out: &mut [i32], at: usize, args: &[u32], values: &[i32]) -> usize
     requires { ⌜ at < 1099511627776 ⌝ }
     ensures { λ r. ⌜ Picked at r (now (out .entry)) (now (out .exit)) (bitOf (not (value (now (values .entry)) (var (now (args .entry)) 0) == value (now (values .entry)) (var (now (args .entry)) 2))) ∷ []) ⌝ }
@@ -192,7 +192,7 @@ fn pick_max(out: &mut [i32], at: usize, args: &[u32], values: &[i32]) -> usize
     put_if(out, at, !same, 1)
 }
 
-// 12, 13: the sum less the constant, and its sign.
+// 12, 13, 32: the sum less the constant, and its sign.
 fn pick_linear(out: &mut [i32], at: usize, args: &[u32], values: &[i32]) -> usize
     requires { ⌜ (at < 1099511627776) × Small (now values) × Ranged (signedPick (sum (value (now values)) (terms (now args) 0) ⊖ num (now args) (pastTerms (now args) 0))) ⌝ }
     ensures { λ r. ⌜ Picked at r (now (out .entry)) (now (out .exit)) (signedPick (sum (value (now (values .entry))) (terms (now (args .entry)) 0) ⊖ num (now (args .entry)) (pastTerms (now (args .entry)) 0))) ⌝ }
@@ -200,7 +200,7 @@ fn pick_linear(out: &mut [i32], at: usize, args: &[u32], values: &[i32]) -> usiz
     put_signed(out, at, sum_less(args, values))
 }
 
-// 14: a less b, and its sign.
+// 14, 31: a less b, and its sign.
 fn pick_difference(out: &mut [i32], at: usize, args: &[u32], values: &[i32]) -> usize
     requires { ⌜ (at < 1099511627776) × Small (now values) × Ranged (signedPick (sum (value (now values)) (+1 · var (now args) 0 ∷ -1 · var (now args) 1 ∷ []) ⊖ +0)) ⌝ }
     ensures { λ r. ⌜ Picked at r (now (out .entry)) (now (out .exit)) (signedPick (sum (value (now (values .entry))) (+1 · var (now (args .entry)) 0 ∷ -1 · var (now (args .entry)) 1 ∷ []) ⊖ +0)) ⌝ }
@@ -220,7 +220,7 @@ fn pick_sum(out: &mut [i32], at: usize, args: &[u32], values: &[i32]) -> usize
     put(out, at, sum_less(args, values))
 }
 
-// 20: the products of r with a and with b.
+// 20, 34: the products of r with a and with b.
 fn pick_xor(out: &mut [i32], at: usize, args: &[u32], values: &[i32]) -> usize
     requires { ⌜ (at < 1099511627776) × Small (now values) × Ranged ((value (now values) (var (now args) 2) ⊗ value (now values) (var (now args) 0)) ∷ (value (now values) (var (now args) 2) ⊗ value (now values) (var (now args) 1)) ∷ []) ⌝ }
     ensures { λ r. ⌜ Picked at r (now (out .entry)) (now (out .exit)) ((value (now (values .entry)) (var (now (args .entry)) 2) ⊗ value (now (values .entry)) (var (now (args .entry)) 0)) ∷ (value (now (values .entry)) (var (now (args .entry)) 2) ⊗ value (now (values .entry)) (var (now (args .entry)) 1)) ∷ []) ⌝ }
@@ -291,7 +291,7 @@ fn pick_var_element(
     put_gated(out, at, n, h, value_of(args, 1 + count_of(i), values))
 }
 
-// 26: a bit for each element, 1 for the first that is m; the products of the bits and the elements.
+// 26, 33: a bit for each element, 1 for the first that is m; the products of the bits and the elements.
 fn pick_maximum(out: &mut [i32], at: usize, args: &[u32], values: &[i32]) -> usize
     requires { ⌜ (at < 1099511627776) × Ranged (gatedPick (value (now values)) (λ x. value (now values) x == value (now values) (var (now args) 0)) (vars (now args) 1)) ⌝ }
     ensures { λ r. ⌜ Picked at r (now (out .entry)) (now (out .exit)) (gatedPick (value (now (values .entry))) (λ x. value (now (values .entry)) x == value (now (values .entry)) (var (now (args .entry)) 0)) (vars (now (args .entry)) 1)) ⌝ }
@@ -384,6 +384,11 @@ pub fn pick_block(
         26 => pick_maximum(out, at, args, values),
         27 => pick_member(out, at, args, ls, us, values),
         28 => pick_set_reif(out, at, args, ls, us, values),
+        29 => pick_max(out, at, args, values),
+        31 => pick_difference(out, at, args, values),
+        32 => pick_linear(out, at, args, values),
+        33 => pick_maximum(out, at, args, values),
+        34 => pick_xor(out, at, args, values),
         _ => at,
     }
 }

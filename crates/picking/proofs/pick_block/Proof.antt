@@ -140,11 +140,59 @@ returns-15 : tie.Need-returns-15
 unfolding pick builtin builtins
 returns-15 c = let e : c .before .before .before .before .before .args .code ≡ 28 = c .before .before .before .match .keys15 in rw e (c .before .pick-set-reif .ensures)
 
-other : tie.Need-returns-16
+returns-16 : tie.Need-returns-16
+unfolding pick builtin builtins
+returns-16 c = let e : c .before .before .before .before .before .args .code ≡ 29 = c .before .before .before .match .keys16 in rw e (c .before .pick-max2 .ensures)
+
+pick-difference-requires-2 : tie.Need-pick-difference-requires-2
+unfolding pick builtin builtins
+pick-difference-requires-2 c κs =
+    let p = c .before .before .before .pre in
+    let e : c .before .before .before .args .code ≡ 31 = c .before .match .keys17 in
+    (p .place, p .small, rw e at (p .ranged))
+
+returns-17 : tie.Need-returns-17
+unfolding pick builtin builtins
+returns-17 c = let e : c .before .before .before .before .before .args .code ≡ 31 = c .before .before .before .match .keys17 in rw e (c .before .pick-difference2 .ensures)
+
+pick-linear-requires-3 : tie.Need-pick-linear-requires-3
+unfolding pick builtin builtins
+pick-linear-requires-3 c κs =
+    let p = c .before .before .before .pre in
+    let e : c .before .before .before .args .code ≡ 32 = c .before .match .keys18 in
+    (p .place, p .small, rw e at (p .ranged))
+
+returns-18 : tie.Need-returns-18
+unfolding pick builtin builtins
+returns-18 c = let e : c .before .before .before .before .before .args .code ≡ 32 = c .before .before .before .match .keys18 in rw e (c .before .pick-linear3 .ensures)
+
+pick-maximum-requires-2 : tie.Need-pick-maximum-requires-2
+unfolding pick builtin builtins
+pick-maximum-requires-2 c κs =
+    let p = c .before .before .before .pre in
+    let e : c .before .before .before .args .code ≡ 33 = c .before .match .keys19 in
+    (p .place, rw e at (p .ranged))
+
+returns-19 : tie.Need-returns-19
+unfolding pick builtin builtins
+returns-19 c = let e : c .before .before .before .before .before .args .code ≡ 33 = c .before .before .before .match .keys19 in rw e (c .before .pick-maximum2 .ensures)
+
+pick-xor-requires-2 : tie.Need-pick-xor-requires-2
+unfolding pick builtin builtins
+pick-xor-requires-2 c κs =
+    let p = c .before .before .before .pre in
+    let e : c .before .before .before .args .code ≡ 34 = c .before .match .keys20 in
+    (p .place, p .small, rw e at (p .ranged))
+
+returns-20 : tie.Need-returns-20
+unfolding pick builtin builtins
+returns-20 c = let e : c .before .before .before .before .before .args .code ≡ 34 = c .before .before .before .match .keys20 in rw e (c .before .pick-xor2 .ensures)
+
+other : tie.Need-returns-21
 unfolding pick any
 other c =
     let a = c .before .before .args in
-    rw (none-picked (28 ∷ 27 ∷ 26 ∷ 25 ∷ 24 ∷ 23 ∷ 20 ∷ 15 ∷ 14 ∷ 13 ∷ 12 ∷ 9 ∷ 8 ∷ 7 ∷ 4 ∷ []) refl (a .ls .now) (a .us .now) (a .values .now) (a .code) (a .args .now) (c .match .rest)) (picked-none (a .at) (a .out .now))
+    rw (none-picked (34 ∷ 33 ∷ 32 ∷ 31 ∷ 29 ∷ 28 ∷ 27 ∷ 26 ∷ 25 ∷ 24 ∷ 23 ∷ 20 ∷ 15 ∷ 14 ∷ 13 ∷ 12 ∷ 9 ∷ 8 ∷ 7 ∷ 4 ∷ []) refl (a .ls .now) (a .us .now) (a .values .now) (a .code) (a .args .now) (c .match .rest)) (picked-none (a .at) (a .out .now))
 
 pub pick-block-spec : {M : Type 1} → statement M
 pick-block-spec =
@@ -165,6 +213,11 @@ pick-block-spec =
     pick-maximum-requires
     (λ c κs. search needs)
     (λ c κs. search needs)
+    (λ c κs. search needs)
+    pick-difference-requires-2
+    pick-linear-requires-3
+    pick-maximum-requires-2
+    pick-xor-requires-2
     (λ c. search needs)
     returns
     (λ c. search needs)
@@ -195,4 +248,14 @@ pick-block-spec =
     returns-14
     (λ c. search needs)
     returns-15
+    (λ c. search needs)
+    returns-16
+    (λ c. search needs)
+    returns-17
+    (λ c. search needs)
+    returns-18
+    (λ c. search needs)
+    returns-19
+    (λ c. search needs)
+    returns-20
     other)
