@@ -11,7 +11,7 @@ ghost use Rattle.extremes.specs.Bounded.{boundsOf, Bounded};
 ghost use Rattle.linearsums.specs.Sum.{Summed};
 use arguments::var_at;
 use choiceblocks::array_int_element;
-use choiceblocks::array_int_maximum;
+use choiceblocks::array_int_extreme;
 use choiceblocks::array_var_int_element;
 use choiceblocks::set_in;
 use choiceblocks::set_in_reif;
@@ -49,16 +49,16 @@ fn lay_block(
         2 => two_terms(out, s, kind::AT_MOST, a, -1, b, 0),
         3 => two_terms(out, s, kind::AT_MOST, a, -1, b, 1),
         4 => compare::int_ne(out, s, a, b, ls, us, first),
-        5 => compare::int_le_reif(out, s, a, b, c, ls, us, first),
+        5 => compare::order_reif(out, s, a, b, c, 0, 1, ls, us),
         6 => three_terms(out, s, kind::EQUAL, a, 1, b, -1, c, 0),
         7 => number::int_times(out, s, a, b, c, ls, us, first),
         8 => number::int_abs(out, s, a, b, ls, us, first),
-        9 => number::int_max(out, s, a, b, c, ls, us, first),
+        9 => number::touching(out, s, a, c, b, c, ls, us, first),
         10 => linear::int_lin_eq(out, s, args),
         11 => linear::int_lin_le(out, s, args),
         12 => linear::int_lin_ne(out, s, args, sum, first),
-        13 => linear::int_lin_eq_reif(out, s, args, sum, first),
-        14 => linear::int_eq_reif(out, s, args, sum, first),
+        13 => linear::zero_reif(out, s, args, sum, first, true),
+        14 => linear::two_reif(out, s, args, sum, first, true),
         15 => linear::int_lin_le_reif(out, s, args, sum, first),
         16 => compare::int_eq(out, s, a, b),
         17 => two_terms(out, s, kind::EQUAL, a, 1, b, -1),
@@ -70,9 +70,17 @@ fn lay_block(
         23 => clause::array_bool_xor(out, s, args, first),
         24 => array_int_element(out, s, args, ls, us, first),
         25 => array_var_int_element(out, s, args, ls, us, first),
-        26 => array_int_maximum(out, s, args, ls, us, first),
+        26 => array_int_extreme(out, s, args, ls, us, first, true),
         27 => set_in(out, s, args, ls, us, first),
         28 => set_in_reif(out, s, args, ls, us, first),
+        29 => number::touching(out, s, c, a, c, b, ls, us, first),
+        30 => compare::order_reif(out, s, a, b, c, 1, 0, ls, us),
+        31 => linear::two_reif(out, s, args, sum, first, false),
+        32 => linear::zero_reif(out, s, args, sum, first, false),
+        33 => array_int_extreme(out, s, args, ls, us, first, false),
+        34 => boolean::bool_eq_reif(out, s, a, b, c, first),
+        35 => boolean::bool_le_reif(out, s, a, b, c),
+        36 => boolean::bool_lt_reif(out, s, a, b, c),
         _ => compare::int_eq(out, s, 0, 0),
     }
 }

@@ -54,12 +54,12 @@ returns-4 c =
     rw e (w .0, omega (arith, w .1))
 
 returns-5 : tie.Need-returns-5
-unfolding builtin builtins
+unfolding builtin builtins rule
 returns-5 c =
     let s = c .before .before .before .before .before .before .before .before .before .before in
     let e : s .args .code ≡ 5 = c .before .before .before .before .match .keys5 in
-    let w = rw (c .before .before .before .before .before .before .before .var-at .ensures, c .before .before .before .before .before .before .var-at2 .ensures, c .before .before .before .before .before .var-at3 .ensures) at (c .before .before .int-le-reif .ensures) in
-    rw e (w .0, omega (arith, w .1))
+    let w = rw (c .before .before .before .before .before .before .before .var-at .ensures, c .before .before .before .before .before .before .var-at2 .ensures, c .before .before .before .before .before .var-at3 .ensures) at (c .before .before .order-reif .ensures) in
+    rw e (w .0 (s .args .first), omega (arith, w .1))
 
 returns-6 : tie.Need-returns-6
 unfolding builtin builtins rule _─_≤0 blockParts boundParts flatMap rowParts termParts numbered rowOf many
@@ -86,11 +86,11 @@ returns-8 c =
     rw e (w .0, omega (arith, w .1))
 
 returns-9 : tie.Need-returns-9
-unfolding builtin builtins
+unfolding builtin builtins rule
 returns-9 c =
     let s = c .before .before .before .before .before .before .before .before .before .before in
     let e : s .args .code ≡ 9 = c .before .before .before .before .match .keys9 in
-    let w = rw (c .before .before .before .before .before .before .before .var-at .ensures, c .before .before .before .before .before .before .var-at2 .ensures, c .before .before .before .before .before .var-at3 .ensures) at (c .before .before .int-max .ensures) in
+    let w = rw (c .before .before .before .before .before .before .before .var-at .ensures, c .before .before .before .before .before .before .var-at2 .ensures, c .before .before .before .before .before .var-at3 .ensures) at (c .before .before .touching .ensures) in
     rw e (w .0, omega (arith, w .1))
 
 returns-10 : tie.Need-returns-10
@@ -116,20 +116,20 @@ returns-12 c =
     rw e (c .before .before .int-lin-ne .ensures .0 (boundsOf (s .args .ls .now) (s .args .us .now)) is, c .before .before .int-lin-ne .ensures .1)
 
 returns-13 : tie.Need-returns-13
-unfolding builtin builtins sumOf formOf any
+unfolding builtin builtins rule sumOf formOf any
 returns-13 c =
     let s = c .before .before .before .before .before .before .before .before .before .before in
     let e : s .args .code ≡ 13 = c .before .before .before .before .match .keys13 in
     let is = (rw e at (s .pre .5)) .is (λ z. omega arith) in
-    rw e (c .before .before .int-lin-eq-reif .ensures .0 (boundsOf (s .args .ls .now) (s .args .us .now)) is, c .before .before .int-lin-eq-reif .ensures .1)
+    rw e (c .before .before .zero-reif .ensures .0 (boundsOf (s .args .ls .now) (s .args .us .now)) is, c .before .before .zero-reif .ensures .1)
 
 returns-14 : tie.Need-returns-14
-unfolding builtin builtins sumOf formOf any
+unfolding builtin builtins rule sumOf formOf any
 returns-14 c =
     let s = c .before .before .before .before .before .before .before .before .before .before in
     let e : s .args .code ≡ 14 = c .before .before .before .before .match .keys14 in
     let is = (rw e at (s .pre .5)) .is (λ z. omega arith) in
-    rw e (c .before .before .int-eq-reif .ensures .0 (boundsOf (s .args .ls .now) (s .args .us .now)) is, c .before .before .int-eq-reif .ensures .1)
+    rw e (c .before .before .two-reif .ensures .0 (boundsOf (s .args .ls .now) (s .args .us .now)) is, c .before .before .two-reif .ensures .1)
 
 returns-15 : tie.Need-returns-15
 unfolding builtin builtins sumOf formOf any
@@ -215,11 +215,11 @@ returns-25 c =
     rw e (c .before .before .array-var-int-element .ensures)
 
 returns-26 : tie.Need-returns-26
-unfolding builtin builtins
+unfolding builtin builtins rule
 returns-26 c =
     let s = c .before .before .before .before .before .before .before .before .before .before in
     let e : s .args .code ≡ 26 = c .before .before .before .before .match .keys26 in
-    rw e (c .before .before .array-int-maximum .ensures)
+    rw e (c .before .before .array-int-extreme .ensures)
 
 returns-27 : tie.Need-returns-27
 unfolding builtin builtins
@@ -235,7 +235,70 @@ returns-28 c =
     let e : s .args .code ≡ 28 = c .before .before .before .before .match .keys28 in
     rw e (c .before .before .set-in-reif .ensures)
 
-other : tie.Need-returns-29
+returns-29 : tie.Need-returns-29
+unfolding builtin builtins rule
+returns-29 c =
+    let s = c .before .before .before .before .before .before .before .before .before .before in
+    let e : s .args .code ≡ 29 = c .before .before .before .before .match .keys29 in
+    let w = rw (c .before .before .before .before .before .before .before .var-at .ensures, c .before .before .before .before .before .before .var-at2 .ensures, c .before .before .before .before .before .var-at3 .ensures) at (c .before .before .touching2 .ensures) in
+    rw e (w .0, omega (arith, w .1))
+
+returns-30 : tie.Need-returns-30
+unfolding builtin builtins rule
+returns-30 c =
+    let s = c .before .before .before .before .before .before .before .before .before .before in
+    let e : s .args .code ≡ 30 = c .before .before .before .before .match .keys30 in
+    let w = rw (c .before .before .before .before .before .before .before .var-at .ensures, c .before .before .before .before .before .before .var-at2 .ensures, c .before .before .before .before .before .var-at3 .ensures) at (c .before .before .order-reif2 .ensures) in
+    rw e (w .0 (s .args .first), omega (arith, w .1))
+
+returns-31 : tie.Need-returns-31
+unfolding builtin builtins rule sumOf formOf any
+returns-31 c =
+    let s = c .before .before .before .before .before .before .before .before .before .before in
+    let e : s .args .code ≡ 31 = c .before .before .before .before .match .keys31 in
+    let is = (rw e at (s .pre .5)) .is (λ z. omega arith) in
+    rw e (c .before .before .two-reif2 .ensures .0 (boundsOf (s .args .ls .now) (s .args .us .now)) is, c .before .before .two-reif2 .ensures .1)
+
+returns-32 : tie.Need-returns-32
+unfolding builtin builtins rule sumOf formOf any
+returns-32 c =
+    let s = c .before .before .before .before .before .before .before .before .before .before in
+    let e : s .args .code ≡ 32 = c .before .before .before .before .match .keys32 in
+    let is = (rw e at (s .pre .5)) .is (λ z. omega arith) in
+    rw e (c .before .before .zero-reif2 .ensures .0 (boundsOf (s .args .ls .now) (s .args .us .now)) is, c .before .before .zero-reif2 .ensures .1)
+
+returns-33 : tie.Need-returns-33
+unfolding builtin builtins rule
+returns-33 c =
+    let s = c .before .before .before .before .before .before .before .before .before .before in
+    let e : s .args .code ≡ 33 = c .before .before .before .before .match .keys33 in
+    rw e (c .before .before .array-int-extreme2 .ensures)
+
+returns-34 : tie.Need-returns-34
+unfolding builtin builtins
+returns-34 c =
+    let s = c .before .before .before .before .before .before .before .before .before .before in
+    let e : s .args .code ≡ 34 = c .before .before .before .before .match .keys34 in
+    let w = rw (c .before .before .before .before .before .before .before .var-at .ensures, c .before .before .before .before .before .before .var-at2 .ensures, c .before .before .before .before .before .var-at3 .ensures) at (c .before .before .bool-eq-reif .ensures) in
+    rw e (w .0 (boundsOf (s .args .ls .now) (s .args .us .now)), omega (arith, w .1))
+
+returns-35 : tie.Need-returns-35
+unfolding builtin builtins
+returns-35 c =
+    let s = c .before .before .before .before .before .before .before .before .before .before in
+    let e : s .args .code ≡ 35 = c .before .before .before .before .match .keys35 in
+    let w = rw (c .before .before .before .before .before .before .before .var-at .ensures, c .before .before .before .before .before .before .var-at2 .ensures, c .before .before .before .before .before .var-at3 .ensures) at (c .before .before .bool-le-reif .ensures) in
+    rw e (w .0 (boundsOf (s .args .ls .now) (s .args .us .now)) (s .args .first), omega (arith, w .1))
+
+returns-36 : tie.Need-returns-36
+unfolding builtin builtins
+returns-36 c =
+    let s = c .before .before .before .before .before .before .before .before .before .before in
+    let e : s .args .code ≡ 36 = c .before .before .before .before .match .keys36 in
+    let w = rw (c .before .before .before .before .before .before .before .var-at .ensures, c .before .before .before .before .before .before .var-at2 .ensures, c .before .before .before .before .before .var-at3 .ensures) at (c .before .before .bool-lt-reif .ensures) in
+    rw e (w .0 (boundsOf (s .args .ls .now) (s .args .us .now)) (s .args .first), omega (arith, w .1))
+
+other : tie.Need-returns-37
 other c =
     let s = c .before .before .before .before .before .before .before .before .before .before in
     let w = c .before .before .int-eq3 .ensures in
@@ -276,6 +339,14 @@ lay-block-spec =
     (λ c κs. search needs)
     (λ c κs. search needs)
     set-in-reif-requires
+    (λ c κs. search needs)
+    (λ c κs. search needs)
+    (λ c κs. search needs)
+    (λ c κs. search needs)
+    (λ c κs. search needs)
+    (λ c κs. search needs)
+    (λ c κs. search needs)
+    (λ c κs. search needs)
     (λ c κs. search needs)
     (λ c. search needs)
     returns
@@ -333,5 +404,21 @@ lay-block-spec =
     returns-27
     (λ c. search needs)
     returns-28
+    (λ c. search needs)
+    returns-29
+    (λ c. search needs)
+    returns-30
+    (λ c. search needs)
+    returns-31
+    (λ c. search needs)
+    returns-32
+    (λ c. search needs)
+    returns-33
+    (λ c. search needs)
+    returns-34
+    (λ c. search needs)
+    returns-35
+    (λ c. search needs)
+    returns-36
     (λ c. search needs)
     other)
