@@ -82,6 +82,13 @@ static void constraint(int code, int n) {
     case 26: variable(MAX); list(n, A, B, A); break;
     case 27: variable(A); numbers(n, values[A]); break;
     case 28: variable(A); numbers(n, values[A]); variable(T); break;
+    case 29: three(A, B, B); break;
+    case 30: three(B, A, T); break;
+    case 31: three(A, B, T); break;
+    case 32: terms(n, 1); variable(T); break;
+    case 33: variable(B); list(n, B, A, A); break;
+    case 34: three(T, F, F); break;
+    case 35: case 36: three(F, T, T); break;
     }
 }
 
@@ -92,10 +99,11 @@ static void put_if(int code, int n, size_t total) {
     if (length + 1 != total && length + 5 > total) length = before;
 }
 
-/* A model of `total` words. Its constraints go round the 28 builtins, in every second round only round those with lists, which have n elements.
+/* A model of `total` words. Its constraints go round the 36 builtins, in every second round only round those with lists, which have n elements.
  * What does not fit is left out; words that are left at the end are a clause. */
 static void make_model(size_t total, int n) {
-    static const int round[] = {4, 12, 7, 26, 8, 28, 5, 13, 9, 24, 14, 10, 20, 15, 1, 11, 2, 22, 3, 23, 6, 25, 16, 27, 17, 21, 18, 19};
+    static const int round[] = {4, 12, 7, 26, 8, 28, 5, 13, 9, 24, 14, 10, 20, 15, 1, 11, 2, 22, 3, 23, 6, 25, 16, 27, 17, 21, 18, 19, 29, 32, 30, 33, 31, 34, 35, 36};
+    enum { CODES = sizeof round / sizeof *round };
     length = 0;
     for (int x = I; x < T; x++) {
         put(1, lowest[x]);
@@ -103,9 +111,10 @@ static void make_model(size_t total, int n) {
     }
     put(3, 0);
     put(3, 0);
-    for (int k = 0; length + 1 + 67 < total || k < 28; k++) {
-        int code = round[k % 28], with_list = code >= 10 && code != 14 && !(code >= 16 && code <= 20);
-        if (with_list || k / 28 % 2 == 0) put_if(code, n, total);
+    for (int k = 0; length + 1 + 67 < total || k < CODES; k++) {
+        int code = round[k % CODES];
+        int with_list = (code >= 10 && code <= 15 && code != 14) || (code >= 21 && code <= 28) || code == 32 || code == 33;
+        if (with_list || k / CODES % 2 == 0) put_if(code, n, total);
     }
     if (length + 1 < total) {
         int left = total - length - 4;

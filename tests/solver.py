@@ -1,5 +1,5 @@
 #!/usr/bin/env python3
-"""Compares the five calls with a second solver, Gecode, on random models over all 28 codes.
+"""Compares the five calls with a second solver, Gecode, on random models over all 36 codes.
 
     tests/solver.py [COUNT [SEED]]
 
@@ -54,7 +54,15 @@ BUILTINS = {
     25: ('array_var_int_element', 'I LI I', lambda i, a, c: (i, c) in enumerate(a, 1)),
     26: ('array_int_maximum', 'I LI', lambda m, x: [m] == sorted(x)[-1:]),
     27: ('set_in', 'I LN', lambda x, s: x in s),
-    28: ('set_in_reif', 'I LN B', lambda x, s, r: (x in s) == r)}
+    28: ('set_in_reif', 'I LN B', lambda x, s, r: (x in s) == r),
+    29: ('int_min', 'I I I', lambda a, b, c: min(a, b) == c),
+    30: ('int_lt_reif', 'I I B', lambda a, b, r: (a < b) == r),
+    31: ('int_ne_reif', 'I I B', lambda a, b, r: (a != b) == r),
+    32: ('int_lin_ne_reif', 'P N B', lambda a, b, c, r: (total(a, b) != c) == r),
+    33: ('array_int_minimum', 'I LI', lambda m, x: [m] == sorted(x)[:1]),
+    34: ('bool_eq_reif', 'B B B', lambda a, b, r: (a == b) == r),
+    35: ('bool_le_reif', 'B B B', lambda a, b, r: (a <= b) == r),
+    36: ('bool_lt_reif', 'B B B', lambda a, b, r: (a < b) == r)}
 
 
 def total(a, b):
@@ -146,8 +154,8 @@ def some_constraint(rng, code, variables, values):
 
 
 def rows_per_solution(constraints):
-    """At most so many solutions of the row system belong to one of the model: some auxiliaries are free in 8, 9, 13, 14 and 26."""
-    return math.prod(2 if code in (8, 9, 13, 14) else max(1, len(arguments[1])) if code == 26 else 1 for code, arguments in constraints)
+    """At most so many solutions of the row system belong to one of the model: some auxiliaries are free in 8, 9, 13, 14, 26, 29 and 31 to 33."""
+    return math.prod(2 if code in (8, 9, 13, 14, 29, 31, 32) else max(1, len(arguments[1])) if code in (26, 33) else 1 for code, arguments in constraints)
 
 
 def some_model(rng, codes):
@@ -237,9 +245,9 @@ def listed(items):
 
 
 def constraint_text(code, arguments):
-    """A constraint by Gecode's builtin of the same name, but where there is no maximum of an empty list."""
+    """A constraint by Gecode's builtin of the same name, but where there is no maximum or minimum of an empty list."""
     name, kinds, _ = BUILTINS[code]
-    if code == 26 and not arguments[1]:
+    if code in (26, 33) and not arguments[1]:
         return 'constraint bool_clause([], []);'
     texts, rest = [], list(arguments)
     for kind in kinds.split():
@@ -474,7 +482,7 @@ def main():
                 return 1
             lists, without, only = lists + counts[0], without + counts[1], only + counts[2]
     print(f'solver: {without} models have no solution, {only} have nothing else')
-    print(f'solver: {count} models, {lists} value lists, codes 1 to 28 at least {min(used[code] for code in BUILTINS)} times each, 0 differences')
+    print(f'solver: {count} models, {lists} value lists, codes 1 to 36 at least {min(used[code] for code in BUILTINS)} times each, 0 differences')
     return 0
 
 

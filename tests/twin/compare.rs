@@ -3,7 +3,7 @@
 use crate::answers::{Counts, Judgement, FALSE, HOLDS, OUT_OF_BOUNDS, REFUSED};
 use crate::inputs::{self, Input, Random};
 use crate::library::{self, Lent};
-use crate::twin::{self, kind, payload, CONSTRAINT};
+use crate::twin::{self, kind, payload, CODES, CONSTRAINT};
 use std::collections::BTreeMap;
 use std::fmt::{Debug, LowerHex};
 use std::process::exit;
@@ -140,7 +140,7 @@ pub struct Comparer {
     faults: [[u64; FAULTS + 1]; 6],
     answers: [[u64; 4]; 6],
     /// For each code: its constraints in accepted models, in models that hold, and those named as false.
-    codes: [[u64; 3]; 29],
+    codes: [[u64; 3]; CODES + 1],
 }
 
 impl Comparer {
@@ -158,7 +158,7 @@ impl Comparer {
             families: BTreeMap::new(),
             faults: [[0; FAULTS + 1]; 6],
             answers: [[0; 4]; 6],
-            codes: [[0; 3]; 29],
+            codes: [[0; 3]; CODES + 1],
         }
     }
 

@@ -3,7 +3,7 @@
 use crate::answers::HOLDS;
 use crate::twin::{self, kind, payload, signed, word};
 use crate::twin::{
-    ALL_VARIABLES, AT_MOST, AUX_LOWER, AUX_UPPER, BOOLEAN, CONSTRAINT, EQUAL, LARGEST, LEAST, LIST_LENGTH, LOWER, MODEL_CONSTRAINTS, MODEL_END,
+    ALL_VARIABLES, AT_MOST, AUX_LOWER, AUX_UPPER, BOOLEAN, CODES, CONSTRAINT, EQUAL, LARGEST, LEAST, LIST_LENGTH, LOWER, MODEL_CONSTRAINTS, MODEL_END,
     MODEL_VARIABLES, MODEL_WORDS, NUMBER, PRODUCT, ROWS_END, ROW_TERMS, ROW_WORDS, UPPER, VARIABLE,
 };
 
@@ -302,8 +302,8 @@ impl Builder<'_> {
     /// The words of a constraint, or none where a variable of some type is missing. `aimed`: its numbers are chosen to make it true.
     fn constraint(&mut self, code: u32, length: usize, aimed: bool) -> Option<Vec<u32>> {
         let (integers, booleans) = (self.integers.clone(), self.booleans.clone());
-        let wants_integer = matches!(code, 1..=9 | 14 | 16 | 24..=28);
-        let wants_boolean = matches!(code, 5 | 13..=20 | 22 | 28);
+        let wants_integer = matches!(code, 1..=9 | 14 | 16 | 24..=31 | 33);
+        let wants_boolean = matches!(code, 5 | 13..=20 | 22 | 28 | 30..=32 | 34..=36);
         if wants_integer && integers.is_empty() || wants_boolean && booleans.is_empty() {
             return None;
         }
@@ -311,12 +311,12 @@ impl Builder<'_> {
         let (int, bool) = (|random: &mut Random| random.pick(&integers), |random: &mut Random| random.pick(&booleans));
         match code {
             1..=4 | 8 => push_variables(&mut words, &[int(self.random), int(self.random)]),
-            5 | 14 => push_variables(&mut words, &[int(self.random), int(self.random), bool(self.random)]),
-            6 | 7 | 9 => push_variables(&mut words, &[int(self.random), int(self.random), int(self.random)]),
-            10..=13 | 15 => self.linear(code, length, aimed, &mut words),
+            5 | 14 | 30 | 31 => push_variables(&mut words, &[int(self.random), int(self.random), bool(self.random)]),
+            6 | 7 | 9 | 29 => push_variables(&mut words, &[int(self.random), int(self.random), int(self.random)]),
+            10..=13 | 15 | 32 => self.linear(code, length, aimed, &mut words),
             16 => push_variables(&mut words, &[bool(self.random), int(self.random)]),
             17 => push_variables(&mut words, &[bool(self.random), bool(self.random)]),
-            18..=20 => push_variables(&mut words, &[bool(self.random), bool(self.random), bool(self.random)]),
+            18..=20 | 34..=36 => push_variables(&mut words, &[bool(self.random), bool(self.random), bool(self.random)]),
             21 => {
                 let second_length = if self.random.one_in(2) { length } else { self.length() };
                 for length in [length, second_length] {
@@ -366,11 +366,12 @@ impl Builder<'_> {
                 push_list(&mut words, &list);
                 push_variables(&mut words, &[c]);
             }
-            26 => {
+            26 | 33 => {
                 let mut list = self.list(&integers, length);
-                let largest = list.iter().copied().max_by_key(|&variable| self.values[variable]);
-                let m = match largest {
-                    Some(largest) if aimed && self.random.one_in(2) => largest,
+                let sign = if code == 26 { 1 } else { -1 };
+                let extreme = list.iter().copied().max_by_key(|&variable| sign * self.value(variable));
+                let m = match extreme {
+                    Some(extreme) if aimed && self.random.one_in(2) => extreme,
                     _ => int(self.random),
                 };
                 if aimed && length > 0 && self.random.one_in(2) {
@@ -409,7 +410,7 @@ impl Builder<'_> {
         Some(words)
     }
 
-    /// The arguments of int_lin_eq, le, ne, eq_reif and le_reif.
+    /// The arguments of int_lin_eq, le, ne, eq_reif, le_reif and ne_reif.
     fn linear(&mut self, code: u32, length: usize, aimed: bool, words: &mut Vec<u32>) {
         let integers = self.integers.clone();
         let list = self.list(&integers, length);
@@ -426,7 +427,8 @@ impl Builder<'_> {
                 11 => sum + apart - 1,
                 12 => sum + self.random.pick(&[apart, -apart]),
                 13 if one => sum,
-                13 => sum + self.random.pick(&[apart, -apart]),
+                32 if !one => sum,
+                13 | 32 => sum + self.random.pick(&[apart, -apart]),
                 _ if one => sum + apart - 1,
                 _ => sum - apart,
             };
@@ -442,7 +444,7 @@ impl Builder<'_> {
         words.extend(numbers.iter().map(|&number| word(NUMBER, number)));
         push_variables(words, &list);
         words.push(word(NUMBER, constant));
-        if let (13 | 15, Some(r)) = (code, r) {
+        if let (13 | 15 | 32, Some(r)) = (code, r) {
             push_variables(words, &[r]);
         }
     }
@@ -502,7 +504,7 @@ fn push_numbers(words: &mut Vec<u32>, numbers: &[i64]) {
 }
 
 fn code(random: &mut Random) -> u32 {
-    1 + random.below(28) as u32
+    1 + random.below(CODES) as u32
 }
 
 /// Some constraints over the variables that are there.
@@ -554,7 +556,7 @@ fn edge_model(random: &mut Random) -> Pair {
     if builder.random.one_in(2) {
         builder.some_variables(1, 1, &SMALL_BOUNDS);
     }
-    let code = builder.random.pick(&[4, 5, 7, 9, 10, 11, 12, 13, 14, 15]);
+    let code = builder.random.pick(&[4, 5, 7, 9, 10, 11, 12, 13, 14, 15, 29, 30, 31, 32]);
     builder.add(code, None, false);
     let (mut words, values) = builder.finish();
     let fault = |words: &[u32]| twin::check(words).fault;
@@ -628,7 +630,7 @@ fn many_constraints(random: &mut Random) -> Pair {
     (words, values)
 }
 
-/// Blocks of code 28 with 64 auxiliaries and of code 26 with up to 64, then blocks of any code with few, sometimes in another order.
+/// Blocks of code 28 with 64 auxiliaries and of codes 26 and 33 with up to 64, then blocks of any code with few, sometimes in another order.
 fn many_auxiliaries(random: &mut Random) -> Pair {
     let mut builder = Builder::new(random);
     builder.some_variables(3, 2, &[Bounds::Tiny, Bounds::Index]);
@@ -649,7 +651,8 @@ fn many_auxiliaries(random: &mut Random) -> Pair {
             count += 64;
         } else {
             let length = LIST_LENGTH as usize - builder.random.below(8);
-            builder.add(26, Some(length), false);
+            let code = builder.random.pick(&[26, 33]);
+            builder.add(code, Some(length), false);
             count += 2 * length;
         }
     }
@@ -660,7 +663,7 @@ fn many_auxiliaries(random: &mut Random) -> Pair {
         count += 2;
     }
     while count < wanted {
-        let code = builder.random.pick(&[1, 4, 4, 4, 7, 8, 9, 9, 12, 13, 14, 15, 15, 18, 20, 23, 24, 25, 26, 27, 28]);
+        let code = builder.random.pick(&[1, 4, 4, 4, 7, 8, 9, 9, 12, 13, 14, 15, 15, 18, 20, 23, 24, 25, 26, 27, 28, 29, 31, 32, 33, 34]);
         let length = builder.random.below(3);
         builder.add(code, Some(length), false);
         count += builder.constraints.last().map_or(0, |constraint| builder.auxiliaries(constraint));
@@ -686,13 +689,13 @@ pub fn sized_model(random: &mut Random, size: usize) -> Pair {
     // The last words are left to short constraints.
     while size - builder.size() > 12 + 67 {
         if codes.is_empty() {
-            codes.extend(1..=28);
+            codes.extend(1..=CODES as u32);
             builder.random.shuffle(&mut codes);
         }
         let code = codes.pop().unwrap_or(1);
         let average = (size - builder.size()) / MODEL_CONSTRAINTS.saturating_sub(8 + builder.constraints.len()).max(1);
         let length = if average >= 12 { LIST_LENGTH as usize - builder.random.below(4) } else { 1 + builder.random.below(6) };
-        let is_list = matches!(code, 10..=13 | 15 | 21..=28);
+        let is_list = matches!(code, 10..=13 | 15 | 21..=28 | 32 | 33);
         if average >= 12 && !is_list && (average >= 36 || builder.random.below(4) > 0) {
             continue;
         }
@@ -993,7 +996,7 @@ fn likely_word(random: &mut Random) -> u32 {
         0 => 0,
         1 => random.pick(&ENDS) - 1,
         2 => random.between(LEAST - 1, LARGEST),
-        3 => random.pick(&[28, 29, 32, 33, 66, 67, 255, 256, 257, -1]),
+        3 => random.pick(&[28, 29, 32, 33, 36, 37, 66, 67, 255, 256, 257, -1]),
         _ => random.between(0, 8),
     };
     word(kind, payload)

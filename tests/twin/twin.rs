@@ -148,8 +148,11 @@ enum Argument {
     Booleans,
 }
 
-/// The arguments of codes 1 to 28 (01, Rules of the 28 codes, and the sentence on types below them).
-const SHAPES: [&[Argument]; 28] = {
+/// The last code.
+pub const CODES: usize = 36;
+
+/// The arguments of the codes (01, Rules of the 28 codes, and the sentence on types below them; 02, wish 1).
+const SHAPES: [&[Argument]; CODES] = {
     use Argument::{Boolean as B, Booleans as LB, Integer as I, Integers as LI, Number as N, Numbers as LN, Parallel as P};
     [
         &[I, I],     // 1 int_eq
@@ -180,6 +183,14 @@ const SHAPES: [&[Argument]; 28] = {
         &[I, LI],    // 26 array_int_maximum
         &[I, LN],    // 27 set_in
         &[I, LN, B], // 28 set_in_reif
+        &[I, I, I],  // 29 int_min
+        &[I, I, B],  // 30 int_lt_reif
+        &[I, I, B],  // 31 int_ne_reif
+        &[P, N, B],  // 32 int_lin_ne_reif
+        &[I, LI],    // 33 array_int_minimum
+        &[B, B, B],  // 34 bool_eq_reif
+        &[B, B, B],  // 35 bool_le_reif
+        &[B, B, B],  // 36 bool_lt_reif
     ]
 };
 
@@ -418,6 +429,13 @@ fn is_true(constraint: &Constraint, values: &[i32]) -> bool {
         26 => constraint.list.iter().map(value).max() == Some(a),
         27 => member(),
         28 => member() == (b == 1),
+        29 => a.min(b) == c,
+        30 | 36 => (a < b) == (c == 1),
+        31 => (a != b) == (c == 1),
+        32 => (constraint.sum(values) != 0) == (a == 1),
+        33 => constraint.list.iter().map(value).min() == Some(a),
+        34 => (a == b) == (c == 1),
+        35 => (a <= b) == (c == 1),
         _ => false,
     }
 }
@@ -457,7 +475,7 @@ trait Sink {
     }
 }
 
-/// The block of a constraint (01, Rules of the 28 codes; for code 23 wish 5 of 02); `n` is the number of its first auxiliary.
+/// The block of a constraint (01, Rules of the 28 codes; 02, wishes 1 and 5); `n` is the number of its first auxiliary.
 fn block(constraint: &Constraint, variables: &[Variable], n: usize, sink: &mut impl Sink) {
     let [a, b, c] = constraint.single;
     let bound = |variable: usize, upper: bool| variables.get(variable).map_or(0, |v| i64::from(if upper { v.upper } else { v.lower }));
@@ -519,11 +537,23 @@ fn block(constraint: &Constraint, variables: &[Variable], n: usize, sink: &mut i
             sum_row(constraint, EQUAL, Some(n), sink);
             reified_zero_rows(least, largest, n, a, sink);
         }
+        32 => {
+            let (least, largest) = constraint.least_and_largest(variables);
+            absolute_auxiliaries(least, largest, sink);
+            sum_row(constraint, EQUAL, Some(n), sink);
+            reified_not_zero_rows(least, largest, n, a, sink);
+        }
         14 => {
             let (least, largest) = (lo(a) - hi(b), hi(a) - lo(b));
             absolute_auxiliaries(least, largest, sink);
             sink.whole_row(EQUAL, [(a, 1), (b, -1), (n, -1)], 0);
             reified_zero_rows(least, largest, n, c, sink);
+        }
+        31 => {
+            let (least, largest) = (lo(a) - hi(b), hi(a) - lo(b));
+            absolute_auxiliaries(least, largest, sink);
+            sink.whole_row(EQUAL, [(a, 1), (b, -1), (n, -1)], 0);
+            reified_not_zero_rows(least, largest, n, c, sink);
         }
         15 => {
             let (x, r) = (n, a);
@@ -597,14 +627,15 @@ fn block(constraint: &Constraint, variables: &[Variable], n: usize, sink: &mut i
             one_of_rows(n, (start..).take(chosen.len()), i, sink);
             chosen_value_rows(n, chosen, result, sink);
         }
-        26 => {
+        26 | 33 => {
             let (list, m) = (constraint.list, a);
             list.iter().for_each(|_| sink.bit());
             list.iter().for_each(|&word| sink.with_zero(lo(number(word)), hi(number(word))));
             sum_of_bits_row(n, list.len(), sink);
             chosen_value_rows(n, list, m, sink);
             for &word in list {
-                sink.whole_row(AT_MOST, [(number(word), 1), (m, -1)], 0);
+                let (below, above) = if constraint.code == 26 { (number(word), m) } else { (m, number(word)) };
+                sink.whole_row(AT_MOST, [(below, 1), (above, -1)], 0);
             }
         }
         27 => {
@@ -623,6 +654,40 @@ fn block(constraint: &Constraint, variables: &[Variable], n: usize, sink: &mut i
             sink.term(r, -1);
             sink.constant(0);
         }
+        29 => {
+            let (p, q, r) = (hi(a) - lo(c), hi(b) - lo(c), n);
+            sink.bit();
+            sink.whole_row(AT_MOST, [(c, 1), (a, -1)], 0);
+            sink.whole_row(AT_MOST, [(c, 1), (b, -1)], 0);
+            sink.whole_row(AT_MOST, [(a, 1), (c, -1), (r, -p)], 0);
+            sink.whole_row(AT_MOST, [(b, 1), (c, -1), (r, q)], -q);
+        }
+        30 => {
+            let (p, q, r) = (hi(a) - lo(b) + 1, hi(b) - lo(a), c);
+            sink.whole_row(AT_MOST, [(a, 1), (b, -1), (r, p)], 1 - p);
+            sink.whole_row(AT_MOST, [(b, 1), (a, -1), (r, -q)], 0);
+        }
+        34 => {
+            let (r, x, y) = (c, n, n + 1);
+            sink.bit();
+            sink.bit();
+            sink.product(x, r, a);
+            sink.product(y, r, b);
+            sink.whole_row(EQUAL, [(x, 1), (y, -1)], 0);
+            sink.whole_row(EQUAL, [(r, -1), (a, -1), (b, -1), (x, 1), (y, 1)], 1);
+        }
+        35 => {
+            let r = c;
+            sink.whole_row(AT_MOST, [(a, -1), (r, -1)], 1);
+            sink.whole_row(AT_MOST, [(b, 1), (r, -1)], 0);
+            sink.whole_row(AT_MOST, [(a, 1), (b, -1), (r, 1)], -1);
+        }
+        36 => {
+            let r = c;
+            sink.whole_row(AT_MOST, [(a, 1), (r, 1)], -1);
+            sink.whole_row(AT_MOST, [(r, 1), (b, -1)], 0);
+            sink.whole_row(AT_MOST, [(b, 1), (a, -1), (r, -1)], 0);
+        }
         _ => (),
     }
 }
@@ -635,7 +700,7 @@ fn sum_row(constraint: &Constraint, kind: u32, x: Option<usize>, sink: &mut impl
     sink.constant(-constraint.constant);
 }
 
-/// The auxiliaries of codes 12 to 14: x in L..U, b, z in Z(x).
+/// The auxiliaries of codes 12 to 14, 31 and 32: x in L..U, b, z in Z(x).
 fn absolute_auxiliaries(least: i64, largest: i64, sink: &mut impl Sink) {
     sink.auxiliary(least, largest);
     sink.bit();
@@ -648,6 +713,14 @@ fn reified_zero_rows(least: i64, largest: i64, x: usize, r: usize, sink: &mut im
     sink.product(z, bit, x);
     sink.whole_row(AT_MOST, [(x, 1), (z, -2), (r, w)], -w);
     sink.whole_row(AT_MOST, [(x, -1), (z, 2), (r, -1)], 1);
+}
+
+/// The rows of codes 31 and 32 behind the first: z:=b×x; x−2×z−W×r≤0; −x+2×z+r≤0.
+fn reified_not_zero_rows(least: i64, largest: i64, x: usize, r: usize, sink: &mut impl Sink) {
+    let (bit, z, w) = (x + 1, x + 2, least.abs().max(largest.abs()));
+    sink.product(z, bit, x);
+    sink.whole_row(AT_MOST, [(x, 1), (z, -2), (r, -w)], 0);
+    sink.whole_row(AT_MOST, [(x, -1), (z, 2), (r, 1)], 0);
 }
 
 /// Σb−1=0 over consecutive auxiliaries.
@@ -986,7 +1059,7 @@ impl Auxiliaries<'_> {
     }
 }
 
-/// The auxiliaries of a constraint that is true of the values (01, Five calls; in code 23 the t of its row).
+/// The auxiliaries of a constraint that is true of the values (01, Five calls; 02, wishes 1 and 5).
 fn fill_block(constraint: &Constraint, variables: &[Variable], values: &[i32], out: &mut Auxiliaries) {
     let [a, b, c] = constraint.single.map(|variable| values.get(variable).map_or(0, |&value| i64::from(value)));
     let bounds = || {
@@ -997,18 +1070,18 @@ fn fill_block(constraint: &Constraint, variables: &[Variable], values: &[i32], o
         4 => out.push(i64::from(a > b)),
         7 => out.push(a * b),
         8 => out.sign(a),
-        9 => out.push(i64::from(a != c)),
-        12 | 13 => {
+        9 | 29 => out.push(i64::from(a != c)),
+        12 | 13 | 32 => {
             let x = constraint.sum(values);
             out.push(x);
             out.sign(x);
         }
-        14 => {
+        14 | 31 => {
             out.push(a - b);
             out.sign(a - b);
         }
         15 => out.push(constraint.sum(values)),
-        20 => {
+        20 | 34 => {
             out.push(c * a);
             out.push(c * b);
         }
@@ -1027,7 +1100,7 @@ fn fill_block(constraint: &Constraint, variables: &[Variable], values: &[i32], o
             out.one_of(chosen.len(), (a - start) as usize);
             out.value_at(chosen.len(), (a - start) as usize, b);
         }
-        26 => {
+        26 | 33 => {
             let list = constraint.list;
             let first = list.iter().position(|&word| i64::from(values[number(word)]) == a).unwrap_or(0);
             out.one_of(list.len(), first);
