@@ -99,7 +99,7 @@ static void put_if(int code, int n, size_t total) {
     if (length + 1 != total && length + 5 > total) length = before;
 }
 
-/* A model of `total` words. Its constraints go round the 36 builtins, in every second round only round those with lists, which have n elements.
+/* A model of `total` words. Its constraints go round the 36 builtins, in two of three rounds only round those with lists, which have n elements.
  * What does not fit is left out; words that are left at the end are a clause. */
 static void make_model(size_t total, int n) {
     static const int round[] = {4, 12, 7, 26, 8, 28, 5, 13, 9, 24, 14, 10, 20, 15, 1, 11, 2, 22, 3, 23, 6, 25, 16, 27, 17, 21, 18, 19, 29, 32, 30, 33, 31, 34, 35, 36};
@@ -114,7 +114,7 @@ static void make_model(size_t total, int n) {
     for (int k = 0; length + 1 + 67 < total || k < CODES; k++) {
         int code = round[k % CODES];
         int with_list = (code >= 10 && code <= 15 && code != 14) || (code >= 21 && code <= 28) || code == 32 || code == 33;
-        if (with_list || k / CODES % 2 == 0) put_if(code, n, total);
+        if (with_list || k / CODES % 3 == 0) put_if(code, n, total);
     }
     if (length + 1 < total) {
         int left = total - length - 4;

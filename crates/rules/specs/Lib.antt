@@ -1,4 +1,4 @@
--- What the contracts cite: blocks, the rules of the 28 codes, what fill picks, and the answers of check, translate and fill.
+-- What the contracts cite: blocks, the rules of the codes, what fill picks, and the answers of check, translate and fill.
 pub mod Block
 pub mod Parts
 pub mod Rule
