@@ -51,7 +51,7 @@ module _ (β : ℕ → Bounds) where
   abbrev pub hi : ℕ → ℤ
   hi v = β v .upper
 
-  -- 12 to 15: "Σ−x−c=0", x the first auxiliary
+  -- 12 to 15, 31, 32: "Σ−x−c=0", x the first auxiliary
   unfoldable pub linked : List (Term ℕ) → ℤ → Row Ref
   linked asbs c = sum=0 (sources asbs ++ (-1 · aux 0 ∷ [])) (neg c)
 

@@ -24,7 +24,7 @@ use Rattle.rules.specs.Parts.{Z, endProducts, _─_≤0}
 use Rattle.rules.specs.Rule.{rule, whereOne, whereZero, absolute, touching}
 use Rattle.rules.specs.Pick.{pick, bitOf, signPick}
 use Rattle.sharing.proofs.Good.{Good, Keeps, see}
-use Rattle.sharing.proofs.Basics.{Sound, Complete, Filled, Exact, complete, agree, says-as, equal-row, by-test, Decides, decides-sound, decides-complete, not-not}
+use Rattle.sharing.proofs.Basics.{Sound, Complete, Exact, agree, says-as, equal-row, by-test, Decides, decides-sound, decides-complete, not-not}
 
 -- ---- 8, 12 to 14, 31, 32: b is 0 or 1, z := b×x
 
@@ -79,20 +79,10 @@ product-kept A B a b h k =
 module _ (β : ℕ → Bounds) (σ : Valuation) where
   -- ---- 6 int_plus
 
-  int-plus-exact : (a b c : ℕ) → Exact β σ (int-plus a b c)
+  pub int-plus-exact : (a b c : ℕ) → Exact β σ (int-plus a b c)
   unfolding rule meaning
   int-plus-exact a b c α f =
       agree (says-equal (σ a ⊕ σ b) (σ c)) (rw (rep (σ a), rep (σ b), rep (σ c)) (simp linear (omega arith)))
-
-  pub int-plus-sound : (α : Valuation) (a b c : ℕ) → Sound β σ α (int-plus a b c)
-  int-plus-sound α a b c f = int-plus-exact a b c α f .0
-
-  pub int-plus-complete : (a b c : ℕ) → Complete β σ (int-plus a b c)
-  int-plus-complete a b c = complete (int-plus-exact a b c)
-
-  pub int-plus-filled : (a b c : ℕ) → Filled β σ (int-plus a b c)
-  unfolding rule pick
-  int-plus-filled a b c = refl
 
   -- ---- 7 int_times
 
@@ -107,10 +97,6 @@ module _ (β : ℕ → Bounds) (σ : Valuation) where
     (product-kept (β a) (β b) (σ a) (σ b) (f .kept .0) (f .kept .1 .0), tt),
     (refl, (equal-row _ (aux 0) (source c) .1 (says-equal (σ a ⊗ σ b) (σ c) .0 m), tt)),
   )
-
-  pub int-times-filled : (a b c : ℕ) → Filled β σ (int-times a b c)
-  unfolding rule pick
-  int-times-filled a b c = refl
 
   -- ---- 8 int_abs
 
@@ -129,10 +115,6 @@ module _ (β : ℕ → Bounds) (σ : Valuation) where
       from₁ (says-equal (absZ (σ x)) (σ y) .0 m) (rw (sign-product (σ x), rep (σ x), rep (σ y)) (simp linear (omega arith))),
     ),
   )
-
-  pub int-abs-filled : (x y : ℕ) → Filled β σ (int-abs x y)
-  unfolding rule absolute pick signPick
-  int-abs-filled x y = refl
 
   -- ---- 9 int_max, 29 int_min: the least of y − x and v − u is 0; r is 0 where x = y
 
@@ -164,10 +146,6 @@ module _ (β : ℕ → Bounds) (σ : Valuation) where
   unfolding rule meaning integerArguments pick
   int-max-complete a b c f =
       touching-complete a c b c (f .kept .0, f .kept .1 .1 .0, f .kept .1 .0, f .kept .1 .1 .0) (says-larger a b c) (says-not (says-equal (σ a) (σ c)))
-
-  pub int-max-filled : (a b c : ℕ) → Filled β σ (int-max a b c)
-  unfolding rule touching pick
-  int-max-filled a b c = refl
 
   says-smaller : (a b c : ℕ) → Says (minZ (σ a) (σ b) == σ c) (minZ (σ a ⊖ σ c) (σ b ⊖ σ c) ≡ +0)
   says-smaller a b c = says-as (says-equal (minZ (σ a) (σ b)) (σ c)) (rw (rep (σ a), rep (σ b), rep (σ c)) (simp linear (omega arith)))

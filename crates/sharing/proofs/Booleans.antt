@@ -20,25 +20,15 @@ use Rattle.rules.specs.Parts.{_─_≤0, _─_=0}
 use Rattle.rules.specs.Rule.{rule, sameRows, sameReified}
 use Rattle.rules.specs.Pick.{pick}
 use Rattle.sharing.proofs.Good.{Good, Sat, see}
-use Rattle.sharing.proofs.Basics.{Sound, Complete, Filled, Exact, complete, agree, says-as, says-reified, in-bit, Same, not-not}
+use Rattle.sharing.proofs.Basics.{Sound, Complete, Exact, agree, says-as, says-reified, in-bit, Same, not-not}
 use Rattle.sharing.proofs.Comparisons.{equal-block}
 
 module _ (β : ℕ → Bounds) (σ : Valuation) where
   -- ---- 16 bool2int, the block of 1
 
-  bool2int-exact : (a b : ℕ) → Exact β σ (bool2int a b)
+  pub bool2int-exact : (a b : ℕ) → Exact β σ (bool2int a b)
   unfolding rule meaning
   bool2int-exact a b α f = equal-block β σ α a b
-
-  pub bool2int-sound : (α : Valuation) (a b : ℕ) → Sound β σ α (bool2int a b)
-  bool2int-sound α a b f = bool2int-exact a b α f .0
-
-  pub bool2int-complete : (a b : ℕ) → Complete β σ (bool2int a b)
-  bool2int-complete a b = complete (bool2int-exact a b)
-
-  pub bool2int-filled : (a b : ℕ) → Filled β σ (bool2int a b)
-  unfolding rule pick
-  bool2int-filled a b = refl
 
   -- ---- 17 bool_not
 
@@ -46,20 +36,10 @@ module _ (β : ℕ → Bounds) (σ : Valuation) where
   unfolding rule value
   not-row = simp bits (simp linear (omega arith))
 
-  bool-not-exact : (a b : ℕ) → Exact β σ (bool-not a b)
+  pub bool-not-exact : (a b : ℕ) → Exact β σ (bool-not a b)
   unfolding rule meaning booleanArguments value
   bool-not-exact a b α f =
       agree (says-not (says-equal (σ a) (σ b))) (not-row (σ a) (f .zero-one .0) (σ b) (f .zero-one .1 .0))
-
-  pub bool-not-sound : (α : Valuation) (a b : ℕ) → Sound β σ α (bool-not a b)
-  bool-not-sound α a b f = bool-not-exact a b α f .0
-
-  pub bool-not-complete : (a b : ℕ) → Complete β σ (bool-not a b)
-  bool-not-complete a b = complete (bool-not-exact a b)
-
-  pub bool-not-filled : (a b : ℕ) → Filled β σ (bool-not a b)
-  unfolding rule pick
-  bool-not-filled a b = refl
 
   -- ---- 18 bool_and: both are 1 where their sum is 2
 
@@ -75,22 +55,12 @@ module _ (β : ℕ → Bounds) (σ : Valuation) where
   unfolding rule _─_≤0 value
   and-rows = simp bits (simp linear (omega arith))
 
-  bool-and-exact : (a b r : ℕ) → Exact β σ (bool-and a b r)
+  pub bool-and-exact : (a b r : ℕ) → Exact β σ (bool-and a b r)
   unfolding rule _─_≤0 meaning booleanArguments value
   bool-and-exact a b r α f =
       let s = f .zero-one .0 in
       let t = f .zero-one .1 .0 in
       agree (says-reified σ r (says-both a b s t)) (and-rows (σ r) (f .zero-one .1 .1 .0) (σ a) (σ b) (in-bit (σ a) s) (in-bit (σ b) t))
-
-  pub bool-and-sound : (α : Valuation) (a b r : ℕ) → Sound β σ α (bool-and a b r)
-  bool-and-sound α a b r f = bool-and-exact a b r α f .0
-
-  pub bool-and-complete : (a b r : ℕ) → Complete β σ (bool-and a b r)
-  bool-and-complete a b r = complete (bool-and-exact a b r)
-
-  pub bool-and-filled : (a b r : ℕ) → Filled β σ (bool-and a b r)
-  unfolding rule pick
-  bool-and-filled a b r = refl
 
   -- ---- 19 bool_or: one of them is 1 where their sum is at least 1
 
@@ -111,22 +81,12 @@ module _ (β : ℕ → Bounds) (σ : Valuation) where
   unfolding rule value
   or-rows = simp bits (simp linear (omega arith))
 
-  bool-or-exact : (a b r : ℕ) → Exact β σ (bool-or a b r)
+  pub bool-or-exact : (a b r : ℕ) → Exact β σ (bool-or a b r)
   unfolding rule meaning booleanArguments value
   bool-or-exact a b r α f =
       let s = f .zero-one .0 in
       let t = f .zero-one .1 .0 in
       agree (says-reified σ r (says-either a b s t)) (or-rows (σ r) (f .zero-one .1 .1 .0) (σ a) (σ b) (in-bit (σ a) s) (in-bit (σ b) t))
-
-  pub bool-or-sound : (α : Valuation) (a b r : ℕ) → Sound β σ α (bool-or a b r)
-  bool-or-sound α a b r f = bool-or-exact a b r α f .0
-
-  pub bool-or-complete : (a b r : ℕ) → Complete β σ (bool-or a b r)
-  bool-or-complete a b r = complete (bool-or-exact a b r)
-
-  pub bool-or-filled : (a b r : ℕ) → Filled β σ (bool-or a b r)
-  unfolding rule pick
-  bool-or-filled a b r = refl
 
   -- ---- 20 bool_xor, 34 bool_eq_reif
 
@@ -172,10 +132,6 @@ module _ (β : ℕ → Bounds) (σ : Valuation) where
   unfolding rule meaning booleanArguments pick
   bool-xor-complete a b r f =
       same-reified-complete false a b r (f .zero-one .0) (f .zero-one .1 .0) (f .zero-one .1 .1 .0) (says-not (says-equal (σ a) (σ b)))
-
-  pub bool-xor-filled : (a b r : ℕ) → Filled β σ (bool-xor a b r)
-  unfolding rule sameReified pick
-  bool-xor-filled a b r = refl
 
   pub bool-eq-reif-sound : (α : Valuation) (a b r : ℕ) → Sound β σ α (bool-eq-reif a b r)
   unfolding rule meaning booleanArguments

@@ -5,10 +5,10 @@ use Rattle.integers.specs.Terms.{Valuation, Term, _·_}
 use Rattle.integers.specs.declared.Bounds.{Bounds}
 use Rattle.models.specs.Builtin.{Builtin, int-eq, int-le, int-lt, int-ne, int-le-reif, int-plus, int-times, int-abs, int-max, int-lin-eq, int-lin-le, int-lin-ne, int-lin-eq-reif, int-eq-reif, int-lin-le-reif, bool2int, bool-not, bool-and, bool-or, bool-xor, bool-clause, array-bool-and, array-bool-xor, array-int-element, array-var-int-element, array-int-maximum, set-in, set-in-reif, int-min, int-lt-reif, int-ne-reif, int-lin-ne-reif, array-int-minimum, bool-eq-reif, bool-le-reif, bool-lt-reif}
 use Rattle.sharing.proofs.Basics.{Sound, Complete, Filled, complete}
-use Rattle.sharing.proofs.Comparisons.{int-eq-sound, int-eq-complete, int-eq-filled, int-le-sound, int-le-complete, int-le-filled, int-lt-sound, int-lt-complete, int-lt-filled, int-ne-sound, int-ne-complete, int-ne-filled, int-le-reif-sound, int-le-reif-complete, int-le-reif-filled, int-lt-reif-exact}
-use Rattle.sharing.proofs.Arithmetic.{int-plus-sound, int-plus-complete, int-plus-filled, int-times-sound, int-times-complete, int-times-filled, int-abs-sound, int-abs-complete, int-abs-filled, int-max-sound, int-max-complete, int-max-filled, int-min-sound, int-min-complete}
-use Rattle.sharing.proofs.Linear.{int-lin-eq-sound, int-lin-eq-complete, int-lin-eq-filled, int-lin-le-sound, int-lin-le-complete, int-lin-le-filled, int-lin-ne-sound, int-lin-ne-complete, int-lin-ne-filled, int-lin-eq-reif-sound, int-lin-eq-reif-complete, int-lin-eq-reif-filled, int-eq-reif-sound, int-eq-reif-complete, int-eq-reif-filled, int-lin-le-reif-sound, int-lin-le-reif-complete, int-lin-le-reif-filled, int-ne-reif-sound, int-ne-reif-complete, int-lin-ne-reif-sound, int-lin-ne-reif-complete}
-use Rattle.sharing.proofs.Booleans.{bool2int-sound, bool2int-complete, bool2int-filled, bool-not-sound, bool-not-complete, bool-not-filled, bool-and-sound, bool-and-complete, bool-and-filled, bool-or-sound, bool-or-complete, bool-or-filled, bool-xor-sound, bool-xor-complete, bool-xor-filled, bool-eq-reif-sound, bool-eq-reif-complete, bool-le-reif-exact, bool-lt-reif-exact}
+use Rattle.sharing.proofs.Comparisons.{int-eq-exact, int-le-exact, int-lt-exact, int-ne-sound, int-ne-complete, int-le-reif-exact, int-lt-reif-exact}
+use Rattle.sharing.proofs.Arithmetic.{int-plus-exact, int-times-sound, int-times-complete, int-abs-sound, int-abs-complete, int-max-sound, int-max-complete, int-min-sound, int-min-complete}
+use Rattle.sharing.proofs.Linear.{int-lin-eq-exact, int-lin-le-exact, int-lin-ne-sound, int-lin-ne-complete, int-lin-eq-reif-sound, int-lin-eq-reif-complete, int-eq-reif-sound, int-eq-reif-complete, int-lin-le-reif-sound, int-lin-le-reif-complete, int-ne-reif-sound, int-ne-reif-complete, int-lin-ne-reif-sound, int-lin-ne-reif-complete}
+use Rattle.sharing.proofs.Booleans.{bool2int-exact, bool-not-exact, bool-and-exact, bool-or-exact, bool-xor-sound, bool-xor-complete, bool-eq-reif-sound, bool-eq-reif-complete, bool-le-reif-exact, bool-lt-reif-exact}
 use Rattle.sharing.proofs.BooleanLists.{bool-clause-sound, bool-clause-complete, bool-clause-filled, array-bool-and-sound, array-bool-and-complete, array-bool-and-filled, array-bool-xor-sound, array-bool-xor-complete, array-bool-xor-filled}
 use Rattle.sharing.proofs.Elements.{array-int-element-sound, array-int-element-complete, array-int-element-filled, array-var-int-element-sound, array-var-int-element-complete, array-var-int-element-filled}
 use Rattle.sharing.proofs.Maximum.{array-int-maximum-sound, array-int-maximum-complete, array-int-maximum-filled, array-int-minimum-sound, array-int-minimum-complete, array-int-minimum-filled}
@@ -61,25 +61,25 @@ unfoldable pub laws : (β : ℕ → Bounds) (b : Builtin) → Laws β b
 unfolding integerArguments booleanArguments rule _─_≤0 _─_=0 whereOne whereZero orderReified absolute touching linNotEqual linLessEqualReified sameRows sameReified numberElement variableElement oneOf inSet inSetReified signed builtinWords oneBit chosen linked zeroRows zeroReified pick signPick signedPick
 laws β (int-eq a b) = record {
   Sizes = Unit {0};
-  sound = λ σ α. int-eq-sound β σ α a b;
-  complete = λ σ. int-eq-complete β σ a b;
-  filled = λ σ. int-eq-filled β σ a b;
+  sound = λ σ α f. int-eq-exact β σ a b α f .0;
+  complete = λ σ. complete (int-eq-exact β σ a b);
+  filled = λ σ. refl;
   small = omega arith;
   formed = λ n h k s. omega arith;
 }
 laws β (int-le a b) = record {
   Sizes = Unit {0};
-  sound = λ σ α. int-le-sound β σ α a b;
-  complete = λ σ. int-le-complete β σ a b;
-  filled = λ σ. int-le-filled β σ a b;
+  sound = λ σ α f. int-le-exact β σ a b α f .0;
+  complete = λ σ. complete (int-le-exact β σ a b);
+  filled = λ σ. refl;
   small = omega arith;
   formed = λ n h k s. omega arith;
 }
 laws β (int-lt a b) = record {
   Sizes = Unit {0};
-  sound = λ σ α. int-lt-sound β σ α a b;
-  complete = λ σ. int-lt-complete β σ a b;
-  filled = λ σ. int-lt-filled β σ a b;
+  sound = λ σ α f. int-lt-exact β σ a b α f .0;
+  complete = λ σ. complete (int-lt-exact β σ a b);
+  filled = λ σ. refl;
   small = omega arith;
   formed = λ n h k s. omega arith;
 }
@@ -87,23 +87,23 @@ laws β (int-ne a b) = record {
   Sizes = Unit {0};
   sound = λ σ α. int-ne-sound β σ α a b;
   complete = λ σ. int-ne-complete β σ a b;
-  filled = λ σ. int-ne-filled β σ a b;
+  filled = λ σ. refl;
   small = omega arith;
   formed = λ n h k s. omega arithZ;
 }
 laws β (int-le-reif a b r) = record {
   Sizes = Unit {0};
-  sound = λ σ α. int-le-reif-sound β σ α a b r;
-  complete = λ σ. int-le-reif-complete β σ a b r;
-  filled = λ σ. int-le-reif-filled β σ a b r;
+  sound = λ σ α f. int-le-reif-exact β σ a b r α f .0;
+  complete = λ σ. complete (int-le-reif-exact β σ a b r);
+  filled = λ σ. refl;
   small = omega arith;
   formed = λ n h k s. omega arith;
 }
 laws β (int-plus a b c) = record {
   Sizes = Unit {0};
-  sound = λ σ α. int-plus-sound β σ α a b c;
-  complete = λ σ. int-plus-complete β σ a b c;
-  filled = λ σ. int-plus-filled β σ a b c;
+  sound = λ σ α f. int-plus-exact β σ a b c α f .0;
+  complete = λ σ. complete (int-plus-exact β σ a b c);
+  filled = λ σ. refl;
   small = omega arith;
   formed = λ n h k s. omega arith;
 }
@@ -111,7 +111,7 @@ laws β (int-times a b c) = record {
   Sizes = Unit {0};
   sound = λ σ α. int-times-sound β σ α a b c;
   complete = λ σ. int-times-complete β σ a b c;
-  filled = λ σ. int-times-filled β σ a b c;
+  filled = λ σ. refl;
   small = omega arith;
   formed = λ n h k s. ((endProducts-ordered (β a) (β b), tt), omega arith);
 }
@@ -119,7 +119,7 @@ laws β (int-abs x y) = record {
   Sizes = Unit {0};
   sound = λ σ α. int-abs-sound β σ α x y;
   complete = λ σ. int-abs-complete β σ x y;
-  filled = λ σ. int-abs-filled β σ x y;
+  filled = λ σ. refl;
   small = omega arith;
   formed = λ n h k s. ((bit-ordered, (Z-ordered (β x), tt)), omega arith);
 }
@@ -127,23 +127,23 @@ laws β (int-max a b c) = record {
   Sizes = Unit {0};
   sound = λ σ α. int-max-sound β σ α a b c;
   complete = λ σ. int-max-complete β σ a b c;
-  filled = λ σ. int-max-filled β σ a b c;
+  filled = λ σ. refl;
   small = omega arith;
   formed = λ n h k s. omega arithZ;
 }
 laws β (int-lin-eq asbs c) = record {
   Sizes = Short asbs;
-  sound = λ σ α. int-lin-eq-sound β σ α asbs c;
-  complete = λ σ. int-lin-eq-complete β σ asbs c;
-  filled = λ σ. int-lin-eq-filled β σ asbs c;
+  sound = λ σ α f. int-lin-eq-exact β σ asbs c α f .0;
+  complete = λ σ. complete (int-lin-eq-exact β σ asbs c);
+  filled = λ σ. refl;
   small = simp lengths (omega arith);
   formed = λ n h k s. (tt, (sources-terms n 0 asbs s h, tt));
 }
 laws β (int-lin-le asbs c) = record {
   Sizes = Short asbs;
-  sound = λ σ α. int-lin-le-sound β σ α asbs c;
-  complete = λ σ. int-lin-le-complete β σ asbs c;
-  filled = λ σ. int-lin-le-filled β σ asbs c;
+  sound = λ σ α f. int-lin-le-exact β σ asbs c α f .0;
+  complete = λ σ. complete (int-lin-le-exact β σ asbs c);
+  filled = λ σ. refl;
   small = simp lengths (omega arith);
   formed = λ n h k s. (tt, (sources-terms n 0 asbs s h, tt));
 }
@@ -151,7 +151,7 @@ laws β (int-lin-ne asbs c) = record {
   Sizes = Short asbs;
   sound = λ σ α. int-lin-ne-sound β σ α asbs c;
   complete = λ σ. int-lin-ne-complete β σ asbs c;
-  filled = λ σ. int-lin-ne-filled β σ asbs c;
+  filled = λ σ. refl;
   small = simp lengths (omega arith);
   formed = λ n h k s. (signed-ordered β asbs c, (linked-in n β 3 asbs c (omega arith) s h, omega arith));
 }
@@ -159,7 +159,7 @@ laws β (int-lin-eq-reif asbs c r) = record {
   Sizes = Short asbs;
   sound = λ σ α. int-lin-eq-reif-sound β σ α asbs c r;
   complete = λ σ. int-lin-eq-reif-complete β σ asbs c r;
-  filled = λ σ. int-lin-eq-reif-filled β σ asbs c r;
+  filled = λ σ. refl;
   small = simp lengths (omega arith);
   formed = λ n h k s. zeroReified-formed n β true asbs c r s h (k .0);
 }
@@ -167,7 +167,7 @@ laws β (int-eq-reif a b r) = record {
   Sizes = Unit {0};
   sound = λ σ α. int-eq-reif-sound β σ α a b r;
   complete = λ σ. int-eq-reif-complete β σ a b r;
-  filled = λ σ. int-eq-reif-filled β σ a b r;
+  filled = λ σ. refl;
   small = simp lengths (omega arith);
   formed = λ n h k s. zeroReified-formed n β true (+1 · a ∷ -1 · b ∷ []) +0 r (omega arith) h (k .0);
 }
@@ -175,39 +175,39 @@ laws β (int-lin-le-reif asbs c r) = record {
   Sizes = Short asbs;
   sound = λ σ α. int-lin-le-reif-sound β σ α asbs c r;
   complete = λ σ. int-lin-le-reif-complete β σ asbs c r;
-  filled = λ σ. int-lin-le-reif-filled β σ asbs c r;
+  filled = λ σ. refl;
   small = simp lengths (omega arith);
   formed = λ n h k s. ((L-U-ordered β asbs c, tt), (linked-in n β 1 asbs c (omega arith) s h, omega arith));
 }
 laws β (bool2int a b) = record {
   Sizes = Unit {0};
-  sound = λ σ α. bool2int-sound β σ α a b;
-  complete = λ σ. bool2int-complete β σ a b;
-  filled = λ σ. bool2int-filled β σ a b;
+  sound = λ σ α f. bool2int-exact β σ a b α f .0;
+  complete = λ σ. complete (bool2int-exact β σ a b);
+  filled = λ σ. refl;
   small = omega arith;
   formed = λ n h k s. omega arith;
 }
 laws β (bool-not a b) = record {
   Sizes = Unit {0};
-  sound = λ σ α. bool-not-sound β σ α a b;
-  complete = λ σ. bool-not-complete β σ a b;
-  filled = λ σ. bool-not-filled β σ a b;
+  sound = λ σ α f. bool-not-exact β σ a b α f .0;
+  complete = λ σ. complete (bool-not-exact β σ a b);
+  filled = λ σ. refl;
   small = omega arith;
   formed = λ n h k s. omega arith;
 }
 laws β (bool-and a b r) = record {
   Sizes = Unit {0};
-  sound = λ σ α. bool-and-sound β σ α a b r;
-  complete = λ σ. bool-and-complete β σ a b r;
-  filled = λ σ. bool-and-filled β σ a b r;
+  sound = λ σ α f. bool-and-exact β σ a b r α f .0;
+  complete = λ σ. complete (bool-and-exact β σ a b r);
+  filled = λ σ. refl;
   small = omega arith;
   formed = λ n h k s. omega arith;
 }
 laws β (bool-or a b r) = record {
   Sizes = Unit {0};
-  sound = λ σ α. bool-or-sound β σ α a b r;
-  complete = λ σ. bool-or-complete β σ a b r;
-  filled = λ σ. bool-or-filled β σ a b r;
+  sound = λ σ α f. bool-or-exact β σ a b r α f .0;
+  complete = λ σ. complete (bool-or-exact β σ a b r);
+  filled = λ σ. refl;
   small = omega arith;
   formed = λ n h k s. omega arith;
 }
@@ -215,7 +215,7 @@ laws β (bool-xor a b r) = record {
   Sizes = Unit {0};
   sound = λ σ α. bool-xor-sound β σ α a b r;
   complete = λ σ. bool-xor-complete β σ a b r;
-  filled = λ σ. bool-xor-filled β σ a b r;
+  filled = λ σ. refl;
   small = omega arith;
   formed = λ n h k s. omega arithZ;
 }

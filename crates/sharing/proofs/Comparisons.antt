@@ -21,7 +21,7 @@ use Rattle.rules.specs.Parts.{_─_=0}
 use Rattle.rules.specs.Rule.{block, rule, whereOne, whereZero, orderReified}
 use Rattle.rules.specs.Pick.{pick}
 use Rattle.sharing.proofs.Good.{Good, see}
-use Rattle.sharing.proofs.Basics.{Sound, Complete, Filled, Exact, complete, agree, says-as, says-reified, equal-row, not-above-row, one-row, Decides, decides-sound, decides-complete}
+use Rattle.sharing.proofs.Basics.{Sound, Complete, Exact, agree, says-as, says-reified, equal-row, not-above-row, one-row, Decides, decides-sound, decides-complete}
 
 module _ (β : ℕ → Bounds) (σ : Valuation) where
   -- ---- 1 int_eq
@@ -30,51 +30,21 @@ module _ (β : ℕ → Bounds) (σ : Valuation) where
   pub equal-block : (α : Valuation) (a b : ℕ) → Good (block [] (source a ─ source b =0 ∷ [])) σ α ↔ ((σ a == σ b) ≡ true)
   equal-block α a b = agree (says-equal (σ a) (σ b)) (one-row (equal-row (see σ α) (source a) (source b)))
 
-  int-eq-exact : (a b : ℕ) → Exact β σ (int-eq a b)
+  pub int-eq-exact : (a b : ℕ) → Exact β σ (int-eq a b)
   unfolding rule meaning
   int-eq-exact a b α f = equal-block α a b
 
-  pub int-eq-sound : (α : Valuation) (a b : ℕ) → Sound β σ α (int-eq a b)
-  int-eq-sound α a b f = int-eq-exact a b α f .0
-
-  pub int-eq-complete : (a b : ℕ) → Complete β σ (int-eq a b)
-  int-eq-complete a b = complete (int-eq-exact a b)
-
-  pub int-eq-filled : (a b : ℕ) → Filled β σ (int-eq a b)
-  unfolding rule pick
-  int-eq-filled a b = refl
-
   -- ---- 2 int_le
 
-  int-le-exact : (a b : ℕ) → Exact β σ (int-le a b)
+  pub int-le-exact : (a b : ℕ) → Exact β σ (int-le a b)
   unfolding rule meaning
   int-le-exact a b α f = agree (says-le (σ a) (σ b)) (one-row (not-above-row (see σ α) (source a) (source b)))
 
-  pub int-le-sound : (α : Valuation) (a b : ℕ) → Sound β σ α (int-le a b)
-  int-le-sound α a b f = int-le-exact a b α f .0
-
-  pub int-le-complete : (a b : ℕ) → Complete β σ (int-le a b)
-  int-le-complete a b = complete (int-le-exact a b)
-
-  pub int-le-filled : (a b : ℕ) → Filled β σ (int-le a b)
-  unfolding rule pick
-  int-le-filled a b = refl
-
   -- ---- 3 int_lt
 
-  int-lt-exact : (a b : ℕ) → Exact β σ (int-lt a b)
+  pub int-lt-exact : (a b : ℕ) → Exact β σ (int-lt a b)
   unfolding rule meaning
   int-lt-exact a b α f = agree (says-lt (σ a) (σ b)) (rw (rep (σ a), rep (σ b)) (simp linear (omega arith)))
-
-  pub int-lt-sound : (α : Valuation) (a b : ℕ) → Sound β σ α (int-lt a b)
-  int-lt-sound α a b f = int-lt-exact a b α f .0
-
-  pub int-lt-complete : (a b : ℕ) → Complete β σ (int-lt a b)
-  int-lt-complete a b = complete (int-lt-exact a b)
-
-  pub int-lt-filled : (a b : ℕ) → Filled β σ (int-lt a b)
-  unfolding rule pick
-  int-lt-filled a b = refl
 
   -- ---- 4 int_ne: r is 1 where b < a
 
@@ -95,10 +65,6 @@ module _ (β : ℕ → Bounds) (σ : Valuation) where
       decides-complete (λ r. Good (rule β (int-ne a b)) σ (value (r ∷ []))) (ne-rows a b (f .kept .0, f .kept .1 .0))
       (says-lt (σ b) (σ a)) (says-not (says-equal (σ a) (σ b)) .0 m)
 
-  pub int-ne-filled : (a b : ℕ) → Filled β σ (int-ne a b)
-  unfolding rule pick
-  int-ne-filled a b = refl
-
   -- ---- 5 int_le_reif, 30 int_lt_reif: a + d ≤ b reified, d and e are 0 and 1, or 1 and 0
 
   order-rows : (r : ℤ) → Bit r → (d e x y l h l′ h′ : ℤ) → d ⊕ e ≡ +1 → In (l to h) x → In (l′ to h′) y →
@@ -113,20 +79,10 @@ module _ (β : ℕ → Bounds) (σ : Valuation) where
   order-exact d e i a b r s w h k α =
       agree (says-reified σ r s) (order-rows (σ r) w d e (σ a) (σ b) (β a .lower) (β a .upper) (β b .lower) (β b .upper) i h k)
 
-  int-le-reif-exact : (a b r : ℕ) → Exact β σ (int-le-reif a b r)
+  pub int-le-reif-exact : (a b r : ℕ) → Exact β σ (int-le-reif a b r)
   unfolding rule meaning integerArguments booleanArguments _⊕_
   int-le-reif-exact a b r α f =
       order-exact +0 +1 refl a b r (says-as (says-le (σ a) (σ b)) (rw (rep (σ a), rep (σ b)) (simp linear (omega arith)))) (f .zero-one .0) (f .kept .0) (f .kept .1 .0) α
-
-  pub int-le-reif-sound : (α : Valuation) (a b r : ℕ) → Sound β σ α (int-le-reif a b r)
-  int-le-reif-sound α a b r f = int-le-reif-exact a b r α f .0
-
-  pub int-le-reif-complete : (a b r : ℕ) → Complete β σ (int-le-reif a b r)
-  int-le-reif-complete a b r = complete (int-le-reif-exact a b r)
-
-  pub int-le-reif-filled : (a b r : ℕ) → Filled β σ (int-le-reif a b r)
-  unfolding rule orderReified pick
-  int-le-reif-filled a b r = refl
 
   pub int-lt-reif-exact : (a b r : ℕ) → Exact β σ (int-lt-reif a b r)
   unfolding rule meaning integerArguments booleanArguments _⊕_

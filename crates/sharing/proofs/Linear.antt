@@ -23,7 +23,7 @@ use Rattle.rules.specs.Parts.{L, U}
 use Rattle.rules.specs.Rule.{rule, signed, linNotEqual, zeroRows, zeroReified, linLessEqualReified}
 use Rattle.rules.specs.Pick.{pick, signPick, signedPick}
 use Rattle.sharing.proofs.Good.{Good, Keeps, Sat, see}
-use Rattle.sharing.proofs.Basics.{Sound, Complete, Filled, Exact, complete, agree, says-as, says-reified, Same, not-not}
+use Rattle.sharing.proofs.Basics.{Sound, Complete, Exact, agree, says-as, says-reified, Same, not-not}
 use Rattle.sharing.proofs.Arithmetic.{bit-product, sign-product, sign-kept}
 use Rattle.sharing.proofs.Sums.{dot-sources-only, linked-row, sum-kept}
 
@@ -112,35 +112,15 @@ le-reif-rows = simp bits (simp linear (omega arith))
 module _ (β : ℕ → Bounds) (σ : Valuation) where
   -- ---- 10 int_lin_eq, 11 int_lin_le
 
-  int-lin-eq-exact : (ts : List (Term ℕ)) (c : ℤ) → Exact β σ (int-lin-eq ts c)
+  pub int-lin-eq-exact : (ts : List (Term ℕ)) (c : ℤ) → Exact β σ (int-lin-eq ts c)
   unfolding rule meaning
   int-lin-eq-exact ts c α f =
       agree (says-equal (sum σ ts) c) (rw (dot-sources-only σ α ts, rep (sum σ ts), rep c) (simp linear (omega arith)))
 
-  pub int-lin-eq-sound : (α : Valuation) (asbs : List (Term ℕ)) (c : ℤ) → Sound β σ α (int-lin-eq asbs c)
-  int-lin-eq-sound α ts c f = int-lin-eq-exact ts c α f .0
-
-  pub int-lin-eq-complete : (asbs : List (Term ℕ)) (c : ℤ) → Complete β σ (int-lin-eq asbs c)
-  int-lin-eq-complete ts c = complete (int-lin-eq-exact ts c)
-
-  pub int-lin-eq-filled : (asbs : List (Term ℕ)) (c : ℤ) → Filled β σ (int-lin-eq asbs c)
-  unfolding rule pick
-  int-lin-eq-filled ts c = refl
-
-  int-lin-le-exact : (ts : List (Term ℕ)) (c : ℤ) → Exact β σ (int-lin-le ts c)
+  pub int-lin-le-exact : (ts : List (Term ℕ)) (c : ℤ) → Exact β σ (int-lin-le ts c)
   unfolding rule meaning
   int-lin-le-exact ts c α f =
       agree (says-le (sum σ ts) c) (rw (dot-sources-only σ α ts, rep (sum σ ts), rep c) (simp linear (omega arith)))
-
-  pub int-lin-le-sound : (α : Valuation) (asbs : List (Term ℕ)) (c : ℤ) → Sound β σ α (int-lin-le asbs c)
-  int-lin-le-sound α ts c f = int-lin-le-exact ts c α f .0
-
-  pub int-lin-le-complete : (asbs : List (Term ℕ)) (c : ℤ) → Complete β σ (int-lin-le asbs c)
-  int-lin-le-complete ts c = complete (int-lin-le-exact ts c)
-
-  pub int-lin-le-filled : (asbs : List (Term ℕ)) (c : ℤ) → Filled β σ (int-lin-le asbs c)
-  unfolding rule pick
-  int-lin-le-filled ts c = refl
 
   -- ---- 12 int_lin_ne
 
@@ -165,10 +145,6 @@ module _ (β : ℕ → Bounds) (σ : Valuation) where
         ),
       )
 
-  pub int-lin-ne-filled : (asbs : List (Term ℕ)) (c : ℤ) → Filled β σ (int-lin-ne asbs c)
-  unfolding rule linNotEqual signed pick signedPick signPick
-  int-lin-ne-filled ts c = refl
-
   -- ---- 13 int_lin_eq_reif, 32 int_lin_ne_reif
 
   pub int-lin-eq-reif-sound : (α : Valuation) (asbs : List (Term ℕ)) (c : ℤ) (r : ℕ) → Sound β σ α (int-lin-eq-reif asbs c r)
@@ -178,10 +154,6 @@ module _ (β : ℕ → Bounds) (σ : Valuation) where
   pub int-lin-eq-reif-complete : (asbs : List (Term ℕ)) (c : ℤ) (r : ℕ) → Complete β σ (int-lin-eq-reif asbs c r)
   unfolding rule meaning integerArguments booleanArguments pick
   int-lin-eq-reif-complete ts c r f = zero-reified-complete true β σ ts c r _ (says-zero (sum σ ts) c) (f .zero-one .0) (f .kept)
-
-  pub int-lin-eq-reif-filled : (asbs : List (Term ℕ)) (c : ℤ) (r : ℕ) → Filled β σ (int-lin-eq-reif asbs c r)
-  unfolding rule zeroReified signed pick signedPick signPick
-  int-lin-eq-reif-filled ts c r = refl
 
   pub int-lin-ne-reif-sound : (α : Valuation) (asbs : List (Term ℕ)) (c : ℤ) (r : ℕ) → Sound β σ α (int-lin-ne-reif asbs c r)
   unfolding rule meaning booleanArguments
@@ -207,10 +179,6 @@ module _ (β : ℕ → Bounds) (σ : Valuation) where
   pub int-eq-reif-complete : (a b r : ℕ) → Complete β σ (int-eq-reif a b r)
   unfolding rule meaning integerArguments booleanArguments pick
   int-eq-reif-complete a b r f = zero-reified-complete true β σ (difference a b) +0 r _ (says-difference a b) (f .zero-one .0) (f .kept)
-
-  pub int-eq-reif-filled : (a b r : ℕ) → Filled β σ (int-eq-reif a b r)
-  unfolding rule zeroReified signed pick signedPick signPick
-  int-eq-reif-filled a b r = refl
 
   pub int-ne-reif-sound : (α : Valuation) (a b r : ℕ) → Sound β σ α (int-ne-reif a b r)
   unfolding rule meaning booleanArguments
@@ -239,7 +207,3 @@ module _ (β : ℕ → Bounds) (σ : Valuation) where
           le-reif-rows (σ r) (f .zero-one .0) x _ _ k .1 (says-reified σ r (says-not-above-zero (sum σ ts) c) .0 m),
         ),
       )
-
-  pub int-lin-le-reif-filled : (asbs : List (Term ℕ)) (c : ℤ) (r : ℕ) → Filled β σ (int-lin-le-reif asbs c r)
-  unfolding rule linLessEqualReified pick
-  int-lin-le-reif-filled ts c r = refl
