@@ -8,7 +8,7 @@ use Rattle.integers.specs.Choice.{_if_else_}
 use Rattle.integers.specs.Terms.{Term}
 use Rattle.models.specs.Table.{Sort, integer, boolean, number, numbers, integers, booleans, parallel, Argument}
 use Rattle.models.specs.Shape as Shape
-use Rattle.models.specs.Builtin.{Builtin, int-eq, int-le, int-lt, int-ne, int-le-reif, int-plus, int-times, int-abs, int-max, int-lin-eq, int-lin-le, int-lin-ne, int-lin-eq-reif, int-eq-reif, int-lin-le-reif, bool2int, bool-not, bool-and, bool-or, bool-xor, bool-clause, array-bool-and, array-bool-xor, array-int-element, array-var-int-element, array-int-maximum, set-in, set-in-reif, int-min, int-lt-reif, int-ne-reif, int-lin-ne-reif, array-int-minimum, bool-eq-reif, bool-le-reif, bool-lt-reif}
+use Rattle.models.specs.Builtin.{Builtin, int-eq, int-le, int-lt, int-ne, int-le-reif, int-plus, int-times, int-abs, int-max, int-lin-eq, int-lin-le, int-lin-ne, int-lin-eq-reif, int-eq-reif, int-lin-le-reif, bool2int, bool-not, bool-and, bool-or, bool-xor, bool-clause, array-bool-and, array-bool-xor, array-int-element, array-var-int-element, array-int-maximum, set-in, set-in-reif, int-min, int-lt-reif, int-ne-reif, int-lin-ne-reif, array-int-minimum, bool-eq-reif, bool-le-reif, bool-lt-reif, int-div, int-mod}
 
 -- an argument and its sort
 pub record Given : Type 0 where
@@ -56,6 +56,8 @@ argumentsOf (array-int-minimum m xs) = integer ! m ∷ integers ! xs ∷ []
 argumentsOf (bool-eq-reif a b r) = boolean ! a ∷ boolean ! b ∷ boolean ! r ∷ []
 argumentsOf (bool-le-reif a b r) = boolean ! a ∷ boolean ! b ∷ boolean ! r ∷ []
 argumentsOf (bool-lt-reif a b r) = boolean ! a ∷ boolean ! b ∷ boolean ! r ∷ []
+argumentsOf (int-div n d q) = integer ! n ∷ integer ! d ∷ integer ! q ∷ []
+argumentsOf (int-mod n d r) = integer ! n ∷ integer ! d ∷ integer ! r ∷ []
 
 -- ---- of one argument: its variables, their type, whether it is a list, its words
 

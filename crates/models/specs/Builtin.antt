@@ -1,4 +1,4 @@
--- 01, Rules of the 28 codes, and 02, wish 1: the builtins in the order of their codes, with their names of the arguments.
+-- 01, Rules of the 28 codes, and 02, wishes 1 and 6: the builtins in the order of their codes, with their names of the arguments.
 -- A variable argument is the variable's number; parallel lists of numbers and variables are a list of terms.
 use mathlib.Core.List.{List}
 use Prim.Native.Nat.{ℕ}
@@ -35,3 +35,6 @@ pub data Builtin : Type 0 where
   int-lin-ne-reif : (asbs : List (Term ℕ)) (c : ℤ) (r : ℕ) → Builtin
   array-int-minimum : (m : ℕ) (xs : List ℕ) → Builtin
   bool-eq-reif bool-le-reif bool-lt-reif : (a b r : ℕ) → Builtin
+  -- 37, 38
+  int-div : (n d q : ℕ) → Builtin
+  int-mod : (n d r : ℕ) → Builtin

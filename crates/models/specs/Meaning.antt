@@ -4,12 +4,12 @@ use mathlib.Core.List.{List, map}
 use Prim.Native.Nat.{ℕ, _-_, _%_}
 use lib.Dec.{leb, eqb}
 use lib.IntN.{ℤ, pos, negsuc}
-use lib.Signed.{leZ, ltZ}
+use lib.Signed.{leZ, ltZ, quotZ, remZ}
 use lib.ListN.{length, getD}
 use Rattle.integers.specs.Number.{_⊕_, _⊗_, minZ, maxZ, absZ, _==_, +0, +1}
 use Rattle.integers.specs.Lists.{all, any, howMany}
 use Rattle.integers.specs.Terms.{Valuation, sum}
-use Rattle.models.specs.Builtin.{Builtin, int-eq, int-le, int-lt, int-ne, int-le-reif, int-plus, int-times, int-abs, int-max, int-lin-eq, int-lin-le, int-lin-ne, int-lin-eq-reif, int-eq-reif, int-lin-le-reif, bool2int, bool-not, bool-and, bool-or, bool-xor, bool-clause, array-bool-and, array-bool-xor, array-int-element, array-var-int-element, array-int-maximum, set-in, set-in-reif, int-min, int-lt-reif, int-ne-reif, int-lin-ne-reif, array-int-minimum, bool-eq-reif, bool-le-reif, bool-lt-reif}
+use Rattle.models.specs.Builtin.{Builtin, int-eq, int-le, int-lt, int-ne, int-le-reif, int-plus, int-times, int-abs, int-max, int-lin-eq, int-lin-le, int-lin-ne, int-lin-eq-reif, int-eq-reif, int-lin-le-reif, bool2int, bool-not, bool-and, bool-or, bool-xor, bool-clause, array-bool-and, array-bool-xor, array-int-element, array-var-int-element, array-int-maximum, set-in, set-in-reif, int-min, int-lt-reif, int-ne-reif, int-lin-ne-reif, array-int-minimum, bool-eq-reif, bool-le-reif, bool-lt-reif, int-div, int-mod}
 
 -- a Boolean variable that is 1; one that is 0
 unfoldable pub on : Valuation → ℕ → Bool
@@ -43,6 +43,13 @@ member x S = any (λ v. x == v) S
 -- a count is odd
 unfoldable pub odd : ℕ → Bool
 odd n = eqb (n % 2) 1
+
+-- 000, 3.1.6, 3.1.21; 02, wish 6: "cut towards zero, false for d=0"
+unfoldable pub quotient : ℤ → ℤ → ℤ → Bool
+quotient n d q = not (d == +0) && (quotZ n d == q)
+
+unfoldable pub remainder : ℤ → ℤ → ℤ → Bool
+remainder n d r = not (d == +0) && (remZ n d == r)
 
 unfoldable pub meaning : Valuation → Builtin → Bool
 -- 1 to 4: 000, 3.1.7, 3.1.9, 3.1.17, 3.1.22
@@ -89,3 +96,6 @@ meaning σ (array-int-minimum m xs) = minimum (σ m) (map σ xs)
 meaning σ (bool-eq-reif a b r) = on σ r iff σ a == σ b
 meaning σ (bool-le-reif a b r) = on σ r iff leZ (σ a) (σ b)
 meaning σ (bool-lt-reif a b r) = on σ r iff ltZ (σ a) (σ b)
+-- 37, 38: 000, 3.1.6, 3.1.21
+meaning σ (int-div n d q) = quotient (σ n) (σ d) (σ q)
+meaning σ (int-mod n d r) = remainder (σ n) (σ d) (σ r)

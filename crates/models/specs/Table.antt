@@ -1,4 +1,4 @@
--- 01, Rules of the 28 codes, and 02, wish 1: one row a code, the sorts of its arguments and its builtin.
+-- 01, Rules of the 28 codes, and 02, wishes 1 and 6: one row a code, the sorts of its arguments and its builtin.
 -- "Arguments of bool_ and array_bool_ builtins, a of 16 and every named r are Boolean; all other variables integer."
 use mathlib.Core.List.{List, [], _∷_}
 use Prim.Native.Nat.{ℕ}
@@ -34,7 +34,7 @@ pub record Code : Type 0 where
 abbrev pub takes : (ss : List Sort) → Takes ss → Code
 takes ss f = record { sorts = ss; make = f }
 
--- "Codes run from 1 to 28 without a gap."; 02: "codes 29 to 36"
+-- "Codes run from 1 to 28 without a gap."; 02: "codes 29 to 36", "codes 37 and 38"
 abbrev pub codes : List Code
 codes =
     -- 1 to 9
@@ -78,6 +78,9 @@ codes =
     takes (boolean ∷ boolean ∷ boolean ∷ []) B.bool-eq-reif ∷
     takes (boolean ∷ boolean ∷ boolean ∷ []) B.bool-le-reif ∷
     takes (boolean ∷ boolean ∷ boolean ∷ []) B.bool-lt-reif ∷
+    -- 37, 38
+    takes (integer ∷ integer ∷ integer ∷ []) B.int-div ∷
+    takes (integer ∷ integer ∷ integer ∷ []) B.int-mod ∷
     []
 
 -- the last code

@@ -19,7 +19,7 @@ use Rattle.words.specs.Overlay.{overlay}
 use Rattle.words.specs.Refusal.{_else-refuse_, firstFault, countFault}
 use Rattle.words.specs.Answer.{Answer, refused, counts, written, holds, outOfBounds, isFalse, _else-answer_, isHolds}
 use Rattle.words.specs.Judge.{firstFalse, firstOutOfBounds, judge}
-use Rattle.models.specs.Meaning.{on, off, element, maximum, minimum, member, odd, meaning}
+use Rattle.models.specs.Meaning.{on, off, element, maximum, minimum, member, odd, quotient, remainder, meaning}
 use Rattle.models.specs.Shape.{shapes, argument}
 use Rattle.models.specs.Reading as Model
 use Rattle.models.specs.Reading.{readModelIn}
@@ -35,9 +35,10 @@ use Rattle.rowsystems.specs.JudgeRows as JudgeRows
 use Rattle.rowsystems.specs.JudgeRows.{judgeRows}
 use Rattle.rules.specs.Block.{numbered, blockWords, blockNumbers, outsideIn}
 use Rattle.rules.specs.Parts.{Z, endProducts, extreme, L, U, halfLess, _─_≤0, _─_=0, sources, each, bits, weighted, oneBit, chosen, products, nth, places, leastFrom, rising, members}
+use Rattle.rules.specs.Division.{M, divisionTable, tableRow, divisionRows, quotientBounds, remainderRow}
 use Rattle.rules.specs.Rule as Rule
 use Rattle.rules.specs.Rule.{rule}
-use Rattle.rules.specs.Pick.{bitOf, signPick, signedPick, firstBit, gatedPick, pick}
+use Rattle.rules.specs.Pick.{bitOf, signPick, signedPick, firstBit, gatedPick, divisionPick, leftOverPick, pick}
 use Rattle.rules.specs.Translation.{bounds, blockOf, blocksWords, systemWords, auxiliaries, blockRows, picks}
 use Rattle.rules.specs.Check.{tooWide, blockFaultIn, blocksFaultIn, checkFault, checkFaultIn, check, checkIn}
 use Rattle.rules.specs.Translate.{roomFault, translateFaultIn, translate, translateIn, translated, translatedIn}
@@ -173,7 +174,7 @@ booleans : ℕ → List ℕ
 booleans zero = []
 booleans (suc n) = 0x30000000 ∷ booleans n
 
--- codes 29 to 31, a and b in −3..3, and a third variable
+-- codes 29 to 31, 37 and 38, two variables in −3..3 and a third one
 three : ℕ → List ℕ → List ℕ
 three head third = 0x1FFFFFFD ∷ 0x20000003 ∷ 0x1FFFFFFD ∷ 0x20000003 ∷ (third ++ (head ∷ 0x50000000 ∷ 0x50000001 ∷ 0x50000002 ∷ 0x70000000 ∷ []))
 
@@ -206,6 +207,13 @@ noneOf33 = 0x1FFFFFFC ∷ 0x2FFFFFFE ∷ 0x40000021 ∷ 0x50000000 ∷ 0x6000000
 -- codes 34 to 36, three Boolean variables
 ofBits : ℕ → List ℕ
 ofBits head = 0x30000000 ∷ 0x30000000 ∷ 0x30000000 ∷ head ∷ 0x50000000 ∷ 0x50000001 ∷ 0x50000002 ∷ 0x70000000 ∷ []
+
+-- int_div, int_mod, n, d and q or r in −3..3
+of37 : List ℕ
+of37 = three 0x40000025 (0x1FFFFFFD ∷ 0x20000003 ∷ [])
+
+of38 : List ℕ
+of38 = three 0x40000026 (0x1FFFFFFD ∷ 0x20000003 ∷ [])
 
 pub table : List Line
 table =
@@ -258,13 +266,29 @@ table =
     denies (ofBits 0x40000023) (pos 1 ∷ pos 0 ∷ pos 1 ∷ []) 0 ∷
     denies (ofBits 0x40000024) (pos 1 ∷ pos 1 ∷ pos 1 ∷ []) 0 ∷
     denies (ofBits 0x40000024) (pos 0 ∷ pos 1 ∷ pos 0 ∷ []) 0 ∷
+    fills of37 (pos 0 ∷ pos 2 ∷ pos 0 ∷ []) (pos 1 ∷ pos 1 ∷ pos 0 ∷ pos 1 ∷ []) ∷
+    fills of37 (pos 0 ∷ negsuc 1 ∷ pos 0 ∷ []) (pos 1 ∷ pos 0 ∷ pos 0 ∷ pos 0 ∷ []) ∷
+    fills of37 (pos 3 ∷ pos 2 ∷ pos 1 ∷ []) (pos 1 ∷ pos 1 ∷ pos 2 ∷ pos 1 ∷ []) ∷
+    fills of37 (pos 3 ∷ negsuc 1 ∷ negsuc 0 ∷ []) (pos 1 ∷ pos 0 ∷ pos 2 ∷ pos 0 ∷ []) ∷
+    fills of37 (negsuc 2 ∷ pos 2 ∷ negsuc 0 ∷ []) (pos 0 ∷ pos 1 ∷ negsuc 1 ∷ pos 0 ∷ []) ∷
+    fills of37 (negsuc 2 ∷ negsuc 1 ∷ pos 1 ∷ []) (pos 0 ∷ pos 0 ∷ negsuc 1 ∷ pos 0 ∷ []) ∷
+    denies of37 (negsuc 2 ∷ pos 2 ∷ negsuc 1 ∷ []) 0 ∷
+    denies of37 (pos 0 ∷ pos 0 ∷ pos 0 ∷ []) 0 ∷
+    fills of38 (pos 0 ∷ pos 2 ∷ pos 0 ∷ []) (pos 0 ∷ pos 1 ∷ pos 1 ∷ pos 0 ∷ pos 1 ∷ []) ∷
+    fills of38 (pos 0 ∷ negsuc 1 ∷ pos 0 ∷ []) (pos 0 ∷ pos 1 ∷ pos 0 ∷ pos 0 ∷ pos 0 ∷ []) ∷
+    fills of38 (pos 3 ∷ pos 2 ∷ pos 1 ∷ []) (pos 1 ∷ pos 1 ∷ pos 1 ∷ pos 2 ∷ pos 1 ∷ []) ∷
+    fills of38 (pos 3 ∷ negsuc 1 ∷ pos 1 ∷ []) (negsuc 0 ∷ pos 1 ∷ pos 0 ∷ pos 2 ∷ pos 0 ∷ []) ∷
+    fills of38 (negsuc 2 ∷ pos 2 ∷ negsuc 0 ∷ []) (negsuc 0 ∷ pos 0 ∷ pos 1 ∷ negsuc 1 ∷ pos 0 ∷ []) ∷
+    fills of38 (negsuc 2 ∷ negsuc 1 ∷ negsuc 0 ∷ []) (pos 1 ∷ pos 0 ∷ pos 0 ∷ negsuc 1 ∷ pos 0 ∷ []) ∷
+    denies of38 (negsuc 2 ∷ pos 2 ∷ pos 1 ∷ []) 0 ∷
+    denies of38 (pos 0 ∷ pos 0 ∷ pos 0 ∷ []) 0 ∷
     []
 
 pub table-T : all isTrue table ≡ true
-unfolding sameList sameAnswer listsWithin isAccepted isDenied unusedWords unusedValues isTrue T3 T5 T6 T7 T8 T9 T10 T11 T12 switches fourSwitches noSwitches booleans three of29 of30 of31 of32 of33 noneOf33 ofBits table within width values
+unfolding sameList sameAnswer listsWithin isAccepted isDenied unusedWords unusedValues isTrue T3 T5 T6 T7 T8 T9 T10 T11 T12 switches fourSwitches noSwitches booleans three of29 of30 of31 of32 of33 noneOf33 ofBits of37 of38 table within width values
     boundsIn listOf all any howMany _⊕_ _⊖_ _⊗_ neg minZ maxZ absZ _==_ count value sum _else-answer_ isHolds firstFalse firstOutOfBounds judge
     overlay _else-refuse_ firstFault countFault startsPair variables kind payload signed word complement numberWord wordAt
-    JudgeModel.judgeAccepted JudgeRows.judgeAccepted judgeModel on off element maximum minimum member odd meaning constraintsFrom constraints var num size vars
+    JudgeModel.judgeAccepted JudgeRows.judgeAccepted judgeModel on off element maximum minimum member odd quotient remainder meaning constraintsFrom constraints var num size vars
     nums past terms pastTerms builtins builtin tooLow Model.faultHead Model.faultStartIn Model.faultUpperIn Rows.faultUpper Model.faultNumberIn Rows.faultNumber
     Model.faultVariable Rows.faultVariable Model.faultLengthIn Model.faultArgumentIn Model.faultDueIn Rows.faultDue Model.faultIn Rows.fault Model.afterHead
     Model.afterArgument Model.afterDue Rows.afterDue Model.declared Model.started Rows.started Model.after Rows.after Model.faultEnd Rows.faultEnd
@@ -272,7 +296,7 @@ unfolding sameList sameAnswer listsWithin isAccepted isDenied unusedWords unused
     satisfied renameTerms rename termCount variableAt numberAt termsIn constantIn rows boundWords termWords sumWords rowWords boundNumbers rowNumbers
     numbered blockWords blockNumbers outsideIn tooWide blockFaultIn blocksFaultIn checkFaultIn checkIn filledCount fillFaultIn fillIn filledIn Z endProducts extreme L
     U halfLess _─_≤0 _─_=0 sources each bits weighted oneBit chosen products nth places leastFrom rising members bitOf signPick signedPick firstBit gatedPick
-    pick Rule.linked Rule.signed Rule.whereOne Rule.whereZero Rule.orderReified Rule.absolute Rule.touching Rule.linNotEqual Rule.zeroRows
-    Rule.zeroReified Rule.linLessEqualReified Rule.sameRows Rule.sameReified Rule.numberElement Rule.variableElement Rule.oneOf Rule.inSet Rule.inSetReified rule roomFault
+    divisionPick leftOverPick pick M divisionTable tableRow divisionRows quotientBounds remainderRow Rule.linked Rule.signed Rule.whereOne Rule.whereZero Rule.orderReified Rule.absolute Rule.touching Rule.linNotEqual Rule.zeroRows
+    Rule.zeroReified Rule.linLessEqualReified Rule.sameRows Rule.sameReified Rule.numberElement Rule.variableElement Rule.oneOf Rule.inSet Rule.inSetReified Rule.division Rule.leftOver rule roomFault
     translateFaultIn translateIn translatedIn bounds blockOf sourceWords blocksWords systemWords auxiliaries blockRows picks flatMap zipWith
 table-T = refl

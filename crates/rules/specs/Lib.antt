@@ -1,6 +1,7 @@
 -- What the contracts cite: blocks, the rules of the codes, what fill picks, and the answers of check, translate and fill.
 pub mod Block
 pub mod Parts
+pub mod Division
 pub mod Rule
 pub mod Pick
 pub mod Translation

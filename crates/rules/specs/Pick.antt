@@ -5,7 +5,7 @@ use mathlib.Core.Bool.{Bool, not}
 use mathlib.Core.List.{List, [], _∷_, _++_, map, zipWith}
 use Prim.Native.Nat.{ℕ}
 use lib.IntN.{ℤ, pos}
-use lib.Signed.{ltZ}
+use lib.Signed.{leZ, ltZ, quotZ}
 use lib.ListN.{length}
 use Rattle.integers.specs.Choice.{_if_else_}
 use Rattle.integers.specs.Number.{_⊖_, _⊗_, _==_, +0, +1, -1}
@@ -13,7 +13,7 @@ use Rattle.integers.specs.Lists.{howMany}
 use Rattle.integers.specs.Bounds.{values}
 use Rattle.integers.specs.Terms.{Valuation, _·_, sum}
 use Rattle.integers.specs.declared.Bounds.{Bounds}
-use Rattle.models.specs.Builtin.{Builtin, int-eq, int-le, int-lt, int-ne, int-le-reif, int-plus, int-times, int-abs, int-max, int-lin-eq, int-lin-le, int-lin-ne, int-lin-eq-reif, int-eq-reif, int-lin-le-reif, bool2int, bool-not, bool-and, bool-or, bool-xor, bool-clause, array-bool-and, array-bool-xor, array-int-element, array-var-int-element, array-int-maximum, set-in, set-in-reif, int-min, int-lt-reif, int-ne-reif, int-lin-ne-reif, array-int-minimum, bool-eq-reif, bool-le-reif, bool-lt-reif}
+use Rattle.models.specs.Builtin.{Builtin, int-eq, int-le, int-lt, int-ne, int-le-reif, int-plus, int-times, int-abs, int-max, int-lin-eq, int-lin-le, int-lin-ne, int-lin-eq-reif, int-eq-reif, int-lin-le-reif, bool2int, bool-not, bool-and, bool-or, bool-xor, bool-clause, array-bool-and, array-bool-xor, array-int-element, array-var-int-element, array-int-maximum, set-in, set-in-reif, int-min, int-lt-reif, int-ne-reif, int-lin-ne-reif, array-int-minimum, bool-eq-reif, bool-le-reif, bool-lt-reif, int-div, int-mod}
 use Rattle.models.specs.Meaning.{on}
 use Rattle.rules.specs.Parts.{halfLess, nth, places, members}
 
@@ -36,6 +36,17 @@ firstBit t (l ∷ ls) = let rest = firstBit t ls in +1 ∷ map (λ l. +0) ls if 
 -- the bits, and z := x×b for each label
 unfoldable pub gatedPick : {A : Type 0} → (A → ℤ) → (A → Bool) → List A → List ℤ
 gatedPick x t ls = firstBit t ls ++ zipWith (λ l b. x l ⊗ b) ls (firstBit t ls)
+
+-- 37: α=1 exactly for n≥0, β=1 exactly for d>0, p, γ
+unfoldable pub divisionPick : ℤ → ℤ → ℤ → List ℤ
+divisionPick n d q =
+    let α = bitOf (leZ +0 n) in
+    let β = bitOf (ltZ +0 d) in
+    α ∷ β ∷ (d ⊗ q) ∷ (α ⊗ β) ∷ []
+
+-- 38: q, then those of 37
+unfoldable pub leftOverPick : ℤ → ℤ → List ℤ
+leftOverPick n d = quotZ n d ∷ divisionPick n d (quotZ n d)
 
 module _ (β : ℕ → Bounds) (σ : Valuation) where
   unfoldable pub pick : Builtin → List ℤ
@@ -75,3 +86,5 @@ module _ (β : ℕ → Bounds) (σ : Valuation) where
   pick (bool-eq-reif a b r) = (σ r ⊗ σ a) ∷ (σ r ⊗ σ b) ∷ []
   pick (bool-le-reif a b r) = []
   pick (bool-lt-reif a b r) = []
+  pick (int-div n d q) = divisionPick (σ n) (σ d) (σ q)
+  pick (int-mod n d r) = leftOverPick (σ n) (σ d)

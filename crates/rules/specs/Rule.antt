@@ -9,9 +9,10 @@ use Rattle.integers.specs.Bounds.{_to_, bit, values}
 use Rattle.integers.specs.Terms.{Term, _·_}
 use Rattle.integers.specs.declared.Bounds.{Bounds}
 use Rattle.rowsystems.specs.Row.{Row, sum≤0, sum=0, product}
-use Rattle.models.specs.Builtin.{Builtin, int-eq, int-le, int-lt, int-ne, int-le-reif, int-plus, int-times, int-abs, int-max, int-lin-eq, int-lin-le, int-lin-ne, int-lin-eq-reif, int-eq-reif, int-lin-le-reif, bool2int, bool-not, bool-and, bool-or, bool-xor, bool-clause, array-bool-and, array-bool-xor, array-int-element, array-var-int-element, array-int-maximum, set-in, set-in-reif, int-min, int-lt-reif, int-ne-reif, int-lin-ne-reif, array-int-minimum, bool-eq-reif, bool-le-reif, bool-lt-reif}
+use Rattle.models.specs.Builtin.{Builtin, int-eq, int-le, int-lt, int-ne, int-le-reif, int-plus, int-times, int-abs, int-max, int-lin-eq, int-lin-le, int-lin-ne, int-lin-eq-reif, int-eq-reif, int-lin-le-reif, bool2int, bool-not, bool-and, bool-or, bool-xor, bool-clause, array-bool-and, array-bool-xor, array-int-element, array-var-int-element, array-int-maximum, set-in, set-in-reif, int-min, int-lt-reif, int-ne-reif, int-lin-ne-reif, array-int-minimum, bool-eq-reif, bool-le-reif, bool-lt-reif, int-div, int-mod}
 use Rattle.rules.specs.Block.{Ref, source, aux, Block}
 use Rattle.rules.specs.Parts.{Z, endProducts, L, U, halfLess, _─_≤0, _─_=0, sources, each, bits, one, oneBit, chosen, products, nth, places, members}
+use Rattle.rules.specs.Division.{divisionRows, quotientBounds, remainderRow}
 
 abbrev pub block : List Bounds → List (Row Ref) → Block
 block auxiliaries rows = record { auxiliaries = auxiliaries; rows = rows }
@@ -155,6 +156,22 @@ module _ (β : ℕ → Bounds) where
       ∷ sum=0 (map (λ v. +1 · aux (count (v ⊖ lo x))) (members S (β x)) ++ (-1 · source r ∷ [])) +0
       ∷ [])
 
+  -- 37 int_div(n,d,q), aux α, β, p (bounded as in code 7, from d and q), γ: p:=d×q; γ:=α×β; the ten rows.
+  unfoldable pub division : ℕ → ℕ → ℕ → Block
+  division n d q =
+      let P = endProducts (β d) (β q) in
+      block (bit ∷ bit ∷ P ∷ bit ∷ [])
+      (divisionRows (β n) (β d) P (source n) (source d) (source q) (aux 0) (aux 1) (aux 2) (aux 3))
+
+  -- 38 int_mod(n,d,r) "puts an auxiliary q first, .. and ends with p+r−n=0".
+  unfoldable pub leftOver : ℕ → ℕ → ℕ → Block
+  leftOver n d r =
+      let Q = quotientBounds (β n) in
+      let P = endProducts (β d) Q in
+      block (Q ∷ bit ∷ bit ∷ P ∷ bit ∷ [])
+      (divisionRows (β n) (β d) P (source n) (source d) (aux 0) (aux 1) (aux 2) (aux 3) (aux 4)
+      ++ (remainderRow (aux 3) (source r) (source n) ∷ []))
+
   unfoldable pub rule : Builtin → Block
   -- 1 int_eq(a,b): a−b=0. 2 int_le: a−b≤0. 3 int_lt: a−b+1≤0.
   rule (int-eq a b) = block [] (source a ─ source b =0 ∷ [])
@@ -231,3 +248,5 @@ module _ (β : ℕ → Bounds) where
       ∷ source r ─ source b ≤0
       ∷ sum≤0 (+1 · source b ∷ -1 · source a ∷ -1 · source r ∷ []) +0
       ∷ [])
+  rule (int-div n d q) = division n d q
+  rule (int-mod n d r) = leftOver n d r

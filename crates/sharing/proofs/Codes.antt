@@ -3,10 +3,11 @@ use Rattle.words.specs.Limit as Limit
 use Prim.Native.Nat.{ℕ, zero, suc, _+_, _≤_, _<_, _*_}
 use Rattle.integers.specs.Terms.{Valuation, Term, _·_}
 use Rattle.integers.specs.declared.Bounds.{Bounds}
-use Rattle.models.specs.Builtin.{Builtin, int-eq, int-le, int-lt, int-ne, int-le-reif, int-plus, int-times, int-abs, int-max, int-lin-eq, int-lin-le, int-lin-ne, int-lin-eq-reif, int-eq-reif, int-lin-le-reif, bool2int, bool-not, bool-and, bool-or, bool-xor, bool-clause, array-bool-and, array-bool-xor, array-int-element, array-var-int-element, array-int-maximum, set-in, set-in-reif, int-min, int-lt-reif, int-ne-reif, int-lin-ne-reif, array-int-minimum, bool-eq-reif, bool-le-reif, bool-lt-reif}
+use Rattle.models.specs.Builtin.{Builtin, int-eq, int-le, int-lt, int-ne, int-le-reif, int-plus, int-times, int-abs, int-max, int-lin-eq, int-lin-le, int-lin-ne, int-lin-eq-reif, int-eq-reif, int-lin-le-reif, bool2int, bool-not, bool-and, bool-or, bool-xor, bool-clause, array-bool-and, array-bool-xor, array-int-element, array-var-int-element, array-int-maximum, set-in, set-in-reif, int-min, int-lt-reif, int-ne-reif, int-lin-ne-reif, array-int-minimum, bool-eq-reif, bool-le-reif, bool-lt-reif, int-div, int-mod}
 use Rattle.sharing.proofs.Basics.{Sound, Complete, Filled, complete}
 use Rattle.sharing.proofs.Comparisons.{int-eq-exact, int-le-exact, int-lt-exact, int-ne-sound, int-ne-complete, int-le-reif-exact, int-lt-reif-exact}
 use Rattle.sharing.proofs.Arithmetic.{int-plus-exact, int-times-sound, int-times-complete, int-abs-sound, int-abs-complete, int-max-sound, int-max-complete, int-min-sound, int-min-complete}
+use Rattle.sharing.proofs.Division.{int-div-sound, int-div-complete, int-mod-sound, int-mod-complete}
 use Rattle.sharing.proofs.Linear.{int-lin-eq-exact, int-lin-le-exact, int-lin-ne-sound, int-lin-ne-complete, int-lin-eq-reif-sound, int-lin-eq-reif-complete, int-eq-reif-sound, int-eq-reif-complete, int-lin-le-reif-sound, int-lin-le-reif-complete, int-ne-reif-sound, int-ne-reif-complete, int-lin-ne-reif-sound, int-lin-ne-reif-complete}
 use Rattle.sharing.proofs.Booleans.{bool2int-exact, bool-not-exact, bool-and-exact, bool-or-exact, bool-xor-sound, bool-xor-complete, bool-eq-reif-sound, bool-eq-reif-complete, bool-le-reif-exact, bool-lt-reif-exact}
 use Rattle.sharing.proofs.BooleanLists.{bool-clause-sound, bool-clause-complete, bool-clause-filled, array-bool-and-sound, array-bool-and-complete, array-bool-and-filled, array-bool-xor-sound, array-bool-xor-complete, array-bool-xor-filled}
@@ -16,7 +17,7 @@ use Rattle.sharing.proofs.Sets.{set-in-sound, set-in-complete, set-in-f
 use mathlib.Core.Path.{_≡_, refl}
 use mathlib.Core.Logic.{_↔_}
 use mathlib.Core.Bool.{Bool, true, false}
-use mathlib.Core.List.{List, [], _∷_, map}
+use mathlib.Core.List.{List, [], _∷_, map, zipWith}
 use native.Mathlib.Omega.{arith}
 use lib.IntN.{ℤ}
 use lib.ListN.{length, length-append, length-map, getD}
@@ -33,13 +34,14 @@ use Rattle.models.proofs.Arguments.{integerArguments, booleanArguments, builtin
 use Rattle.rules.specs.Block.{Ref, source, aux, blockWords}
 use Rattle.rules.specs.Parts.{_─_≤0, _─_=0, each, one, oneBit, chosen, products, nth, places, members}
 use Rattle.rules.specs.Check.{tooWide}
-use Rattle.rules.specs.Rule.{rule, linked, signed, whereOne, whereZero, orderReified, absolute, touching, linNotEqual, zeroRows, zeroReified, linLessEqualReified, sameRows, sameReified, numberElement, variableElement, oneOf, inSet, inSetReified}
-use Rattle.rules.specs.Pick.{pick, signPick, signedPick}
+use Rattle.rules.specs.Division.{divisionTable, tableRow, divisionRows, remainderRow}
+use Rattle.rules.specs.Rule.{rule, linked, signed, whereOne, whereZero, orderReified, absolute, touching, linNotEqual, zeroRows, zeroReified, linLessEqualReified, sameRows, sameReified, numberElement, variableElement, oneOf, inSet, inSetReified, division, leftOver}
+use Rattle.rules.specs.Pick.{pick, signPick, signedPick, divisionPick, leftOverPick}
 use Rattle.sharing.proofs.OneHot.{bits-length}
 use Rattle.sharing.proofs.Members.{members-length}
 use Rattle.rules.proofs.Lengths.{sources-length, each-length, weighted-length, values-length}
 use Rattle.sharing.proofs.Places.{value-place, places-length, all-nth, members-in}
-use Rattle.sharing.proofs.Formed.{TermIn, RowIn, Formed, Short, bit-ordered, Z-ordered, endProducts-ordered, L-U-ordered, bits-ordered, signed-ordered, gated-ordered, append-in, sources-terms, each-in, less-in, chosen-in, choice-in, products-in, linked-in, zeroReified-formed, oneOf-formed}
+use Rattle.sharing.proofs.Formed.{TermIn, RowIn, Formed, Short, bit-ordered, Z-ordered, endProducts-ordered, L-U-ordered, bits-ordered, signed-ordered, gated-ordered, append-in, sources-terms, each-in, less-in, chosen-in, choice-in, products-in, linked-in, zeroReified-formed, oneOf-formed, division-formed, leftOver-formed}
 use Rattle.sharing.proofs.Sizes.{total, rowSize, total-append, total-map, total-same, products-size, block-length}
 
 ruleset lengths = (length-append, length-map, sources-length, each-length, bits-length, weighted-length, total-append, total-map, products-size)
@@ -53,12 +55,12 @@ pub record Laws (β : ℕ → Bounds) (b : Builtin) : Type 1 where
   -- the variables keep their bounds and the builtin is true: then the picks, followed by anything, make the block good
   pub complete : (σ : Valuation) → Complete β σ b
   pub filled : (σ : Valuation) → Filled β σ b
-  -- at most 8 words for each word of its constraint and 6 for each of its auxiliaries
-  pub small : 2 * length (rule β b .auxiliaries) + total rowSize (rule β b .rows) ≤ 8 * (1 + builtinWords b) + 6 * length (rule β b .auxiliaries)
+  -- at most 104 words, 8 more for each word of its constraint and 6 for each of its auxiliaries
+  pub small : 2 * length (rule β b .auxiliaries) + total rowSize (rule β b .rows) ≤ 8 * (1 + builtinWords b) + 6 * length (rule β b .auxiliaries) + 104
   pub formed : (n : ℕ) → All (λ v. v < n) (integerArguments b) → All (λ v. v < n) (booleanArguments b) → Sizes → Formed n (rule β b)
 
 unfoldable pub laws : (β : ℕ → Bounds) (b : Builtin) → Laws β b
-unfolding integerArguments booleanArguments rule _─_≤0 _─_=0 whereOne whereZero orderReified absolute touching linNotEqual linLessEqualReified sameRows sameReified numberElement variableElement oneOf inSet inSetReified signed builtinWords oneBit chosen linked zeroRows zeroReified pick signPick signedPick
+unfolding integerArguments booleanArguments rule _─_≤0 _─_=0 whereOne whereZero orderReified absolute touching linNotEqual linLessEqualReified sameRows sameReified numberElement variableElement oneOf inSet inSetReified signed builtinWords oneBit chosen linked zeroRows zeroReified pick signPick signedPick division leftOver divisionRows remainderRow divisionTable tableRow divisionPick leftOverPick zipWith
 laws β (int-eq a b) = record {
   Sizes = Unit {0};
   sound = λ σ α f. int-eq-exact β σ a b α f .0;
@@ -390,9 +392,25 @@ laws β (bool-lt-reif a b r) = record {
   small = omega arith;
   formed = λ n h k s. omega arith;
 }
+laws β (int-div n d q) = record {
+  Sizes = Unit {0};
+  sound = λ σ α. int-div-sound β σ α n d q;
+  complete = λ σ. int-div-complete β σ n d q;
+  filled = λ σ. refl;
+  small = omega arith;
+  formed = λ v h k s. division-formed v β n d q (h .0) (h .1 .0) (h .1 .1 .0);
+}
+laws β (int-mod n d r) = record {
+  Sizes = Unit {0};
+  sound = λ σ α. int-mod-sound β σ α n d r;
+  complete = λ σ. int-mod-complete β σ n d r;
+  filled = λ σ. refl;
+  small = omega arith;
+  formed = λ v h k s. leftOver-formed v β n d r (h .0) (h .1 .0) (h .1 .1 .0);
+}
 
 pub block-size : (first : ℕ) (β : ℕ → Bounds) (b : Builtin) →
-    length (blockWords first (rule β b)) ≤ 8 * (1 + builtinWords b) + 6 * length (rule β b .auxiliaries)
+    length (blockWords first (rule β b)) ≤ 8 * (1 + builtinWords b) + 6 * length (rule β b .auxiliaries) + 104
 block-size first β b = rw (block-length first (rule β b)) (laws β b .small)
 
 -- ---- the builtins of constraints that are not too wide

@@ -14,7 +14,7 @@ use Rattle.models.specs.Reading.{readModel}
 use Rattle.models.proofs.Arguments.{builtinWords}
 use Rattle.models.proofs.Typed.{counted-at}
 use Rattle.models.proofs.Contents.{argumentWords}
-use Rattle.models.proofs.Accepted.{coded, bounded, total}
+use Rattle.models.proofs.Accepted.{coded, bounded, total, few-constraints}
 use Rattle.rules.specs.Block.{blockWords}
 use Rattle.rules.specs.Translation.{blockOf, blocksWords}
 use Rattle.sharing.proofs.Codes.{block-size}
@@ -28,7 +28,7 @@ fewer c h = omega (arith, counted-at (c .code) (h .0) (h .1) (c .arguments))
 -- ---- the words of the blocks
 
 blocks-size : (β : ℕ → Bounds) (first : ℕ) (cs : List Constraint) →
-    length (blocksWords β first cs) ≤ 8 * total (λ c. 1 + builtinWords (builtin c)) cs + 6 * length (auxiliariesOf β cs)
+    length (blocksWords β first cs) ≤ 8 * total (λ c. 1 + builtinWords (builtin c)) cs + 6 * length (auxiliariesOf β cs) + 104 * length cs
 unfolding blocksWords blockOf
 blocks-size β first [] = omega arith
 blocks-size β first (c ∷ cs) =
@@ -49,7 +49,7 @@ fine-count β first (c ∷ cs) f l =
     omega (arith, length-append (blockOf β c .auxiliaries) (auxiliariesOf β cs), fine-count β n cs (f .3) (f .2))
 
 pub few-words : (ws : List ℕ) → readModel ws ≡ accepted → (β : ℕ → Bounds) (first : ℕ) → first + length (auxiliariesOf β (constraints ws)) ≤ Limit.inAll →
-    length (blocksWords β first (constraints ws)) ≤ 8 * length ws + 6 * Limit.inAll
+    length (blocksWords β first (constraints ws)) ≤ 8 * length ws + 6 * Limit.inAll + 104 * Limit.constraints
 few-words ws h β first l =
     let words = bounded ws h (λ c. 1 + builtinWords (builtin c)) 1 (all-implies (λ c. (1 ≤ c .code) × (c .code ≤ Table.last)) _ fewer (constraints ws) (coded ws h)) in
-    omega (arith, words, blocks-size β first (constraints ws))
+    omega (arith, words, blocks-size β first (constraints ws), few-constraints ws h)

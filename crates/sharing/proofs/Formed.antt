@@ -1,12 +1,12 @@
 -- Every block is well formed: its auxiliaries' bounds are ordered, its rows name only the model's variables and its own and have at most 66
 -- terms, a product's result is above its factors. The builtins of a model whose sets are not too wide have the sizes that this needs.
 use mathlib.Core.Bool.{Bool, true, false}
-use mathlib.Core.List.{List, [], _∷_, _++_, map}
+use mathlib.Core.List.{List, [], _∷_, _++_, map, zipWith}
 use Prim.Native.Nat.{ℕ, suc, _+_, _≤_, _<_}
 use native.Mathlib.Omega.{arith}
 use lib.IntN.{ℤ}
 use lib.ListN.{length, length-append, length-map}
-use Rattle.integers.specs.Number.{_⊕_, _⊖_, _⊗_, minZ, maxZ, +0, -1}
+use Rattle.integers.specs.Number.{_⊕_, _⊖_, _⊗_, neg, minZ, maxZ, absZ, +0, -1}
 use Rattle.integers.specs.Bounds.{_to_, bit}
 use Rattle.integers.specs.Terms.{Term, _·_}
 use Rattle.integers.specs.declared.Bounds.{Bounds}
@@ -19,7 +19,8 @@ use Rattle.models.proofs.Arguments.{variablesIn}
 use Rattle.rowsystems.specs.Row.{Row, sum≤0, sum=0, product, renameTerms}
 use Rattle.rules.specs.Block.{Ref, source, aux, Block}
 use Rattle.rules.specs.Parts.{Z, endProducts, extreme, L, U, sources, each, bits, weighted, one, oneBit, chosen, products}
-use Rattle.rules.specs.Rule.{linked, signed, zeroRows, zeroReified, oneOf}
+use Rattle.rules.specs.Division.{M, divisionTable, tableRow, divisionRows, quotientBounds, remainderRow}
+use Rattle.rules.specs.Rule.{linked, signed, zeroRows, zeroReified, oneOf, division, leftOver}
 use Rattle.rules.proofs.Lengths.{sources-length, weighted-length}
 use Rattle.sharing.proofs.OneHot.{bits-length}
 
@@ -70,6 +71,14 @@ unfolding endProducts
 endProducts-ordered A B = core (A .lower ⊗ B .lower) (A .lower ⊗ B .upper) (A .upper ⊗ B .lower) (A .upper ⊗ B .upper)
   where
     core : (p q r s : ℤ) → minZ (minZ p q) (minZ r s) ⊑ maxZ (maxZ p q) (maxZ r s)
+    core = simp linear (omega arith)
+
+-- 38
+pub quotientBounds-ordered : (N : Bounds) → Ordered (quotientBounds N)
+unfolding quotientBounds
+quotientBounds-ordered N = core (N .lower) (N .upper)
+  where
+    core : (l u : ℤ) → let w = maxZ (absZ l) (absZ u) in neg w ⊑ w
     core = simp linear (omega arith)
 
 pub L-U-ordered : (β : ℕ → Bounds) (asbs : List (Term ℕ)) (c : ℤ) → Ordered (L β asbs c to U β asbs c)
@@ -147,6 +156,23 @@ module _ (n m : ℕ) where
   products-in x [] k z l s h = tt
   products-in x (y ∷ ls) k z l s h = ((omega arith, h .0, omega arith), products-in x ls (suc k) (suc z) (omega arith) (omega arith) (h .1))
 
+  -- the rows of a table of numbers
+  table-in : (xs : List Ref) (table : List (List ℤ)) → length xs ≤ Limit.terms → All (RefIn n m) xs → All (RowIn n m) (map (tableRow xs) table)
+  unfolding tableRow zipWith
+  table-in xs table l h = all-made (tableRow xs) (RowIn n m) (λ cs. let r = zipped cs xs h in (omega (arith, r .0), r .1)) table
+    where
+      zipped : (cs : List ℤ) (xs : List Ref) → All (RefIn n m) xs →
+          (length (zipWith (λ c x. c · x) cs xs) ≤ length xs) × All (TermIn n m) (zipWith (λ c x. c · x) cs xs)
+      zipped [] xs h = (omega arith, tt)
+      zipped (c ∷ cs) [] h = (omega arith, tt)
+      zipped (c ∷ cs) (x ∷ xs) h = let r = zipped cs xs (h .1) in (omega (arith, r .0), (h .0, r .1))
+
+  -- 37, 38: the products and the ten rows
+  division-in : (N D P : Bounds) (v d q α β p γ : Ref) → RowIn n m (product p d q) → RowIn n m (product γ α β) →
+      All (RefIn n m) (v ∷ d ∷ p ∷ α ∷ β ∷ γ ∷ []) → All (RowIn n m) (divisionRows N D P v d q α β p γ)
+  unfolding divisionRows
+  division-in N D P v d q α β p γ h k r = (h, (k, table-in (v ∷ d ∷ p ∷ α ∷ β ∷ γ ∷ []) (divisionTable N D (M N D P)) (omega arith) r))
+
 -- ---- blocks
 
 module _ (n : ℕ) (β : ℕ → Bounds) where
@@ -179,5 +205,28 @@ module _ (n : ℕ) (β : ℕ → Bounds) where
               all-mapped last (λ v. v < n) (RowIn n k) (f k) xs h,
             ),
           ),
+        ),
+      )
+
+  -- 37
+  pub division-formed : (v d q : ℕ) → v < n → d < n → q < n → Formed n (division β v d q)
+  unfolding division
+  division-formed v d q h k l =
+      let P = endProducts (β d) (β q) in (
+        (bit-ordered, (bit-ordered, (endProducts-ordered (β d) (β q), (bit-ordered, tt)))),
+        division-in n 4 (β v) (β d) P (source v) (source d) (source q) (aux 0) (aux 1) (aux 2) (aux 3) (omega arith) (omega arith) (omega arith),
+      )
+
+  -- 38
+  pub leftOver-formed : (v d r : ℕ) → v < n → d < n → r < n → Formed n (leftOver β v d r)
+  unfolding leftOver remainderRow
+  leftOver-formed v d r h k l =
+      let Q = quotientBounds (β v) in
+      let P = endProducts (β d) Q in
+      let rows = divisionRows (β v) (β d) P (source v) (source d) (aux 0) (aux 1) (aux 2) (aux 3) (aux 4) in (
+        (quotientBounds-ordered (β v), (bit-ordered, (bit-ordered, (endProducts-ordered (β d) Q, (bit-ordered, tt))))),
+        all-append (RowIn n 5) rows (remainderRow (aux 3) (source r) (source v) ∷ []) .1 (
+          division-in n 5 (β v) (β d) P (source v) (source d) (aux 0) (aux 1) (aux 2) (aux 3) (aux 4) (omega arith) (omega arith) (omega arith),
+          omega arith,
         ),
       )

@@ -6,6 +6,7 @@ pub mod Sums
 pub mod Comparisons
 pub mod Arithmetic
 pub mod Linear
+pub mod Division
 pub mod Booleans
 pub mod BooleanLists
 pub mod OneHot

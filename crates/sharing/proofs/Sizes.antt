@@ -1,4 +1,4 @@
--- The number of words of a block: at most 8 for each word of its constraint and 6 for each of its auxiliaries.
+-- The number of words of a block, by its auxiliaries and rows.
 use mathlib.Core.Path.{_≡_, refl, _∙_}
 use mathlib.Core.List.{List, [], _∷_, _++_, flatMap, map}
 use Prim.Native.Nat.{ℕ, suc, _+_, _*_}
