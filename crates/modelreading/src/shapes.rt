@@ -21,7 +21,7 @@ pub const BOOLEANS: u32 = 6;
 pub const PARALLEL: u32 = 7;
 
 // the last code
-pub const CODES: usize = 36;
+pub const CODES: usize = 38;
 
 // the most arguments of a code
 pub const MOST: usize = 3;
@@ -65,6 +65,8 @@ pub const SHAPES: [[u32; MOST]; CODES + 1] = [
     [BOOLEAN, BOOLEAN, BOOLEAN],
     [BOOLEAN, BOOLEAN, BOOLEAN],
     [BOOLEAN, BOOLEAN, BOOLEAN],
+    [INTEGER, INTEGER, INTEGER],
+    [INTEGER, INTEGER, INTEGER],
 ];
 
 // The k-th argument of a code, counted from 0, in the lent table.
