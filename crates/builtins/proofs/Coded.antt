@@ -1,19 +1,21 @@
--- A code that is none, and the absolute value as a maximum.
-use mathlib.Core.Path.{_≡_, refl, ap}
-use mathlib.Core.Bool.{true}
+-- A code that is none, the absolute value as a maximum, and division by zero.
+use mathlib.Core.Path.{_≡_, refl, sym, ap, _∙_}
+use mathlib.Core.Bool.{Bool, true, false, not}
 use mathlib.Core.List.{List}
 use Prim.Native.Nat.{ℕ, zero, suc, _<_, _≤_}
 use native.Mathlib.Omega.{arith}
-use lib.IntN.{ℤ}
+use lib.IntN.{ℤ, pos, negsuc, natAbs}
+use lib.Signed.{quotZ, remZ}
 use lib.ListN.{getD, List·getD-eq-default}
-use Rattle.integers.specs.Number.{neg, maxZ, absZ}
+use Rattle.integers.specs.Choice.{_if_else_}
+use Rattle.integers.specs.Number.{neg, maxZ, absZ, _==_, +0}
 use Rattle.integers.specs.Terms.{Valuation}
 use Rattle.integers.proofs.Linear.{linear}
-use Rattle.integers.proofs.Tests.{says-equal}
+use Rattle.integers.proofs.Tests.{says-equal, false-true}
 use Rattle.models.specs.Table as Table
 use Rattle.models.specs.Builtin.{Builtin, int-eq}
 use Rattle.models.specs.Model.{builtin, builtins}
-use Rattle.models.specs.Meaning.{meaning}
+use Rattle.models.specs.Meaning.{quotient, remainder, meaning}
 use Rattle.builtins.specs.Coded.{builtinOf}
 
 -- a code that is none: not 1, not 2, .., not the last
@@ -41,3 +43,21 @@ no-code σ code ws h = rw (default code ws h) (says-equal (σ 0) (σ 0) .1 refl)
 
 pub abs-max : (x : ℤ) → maxZ x (neg x) ≡ absZ x
 abs-max = simp linear (omega arith)
+
+-- by zero there is neither quotient nor remainder
+pub by-zero : (left : Bool) (n d c : ℤ) → not (d == +0) ≡ false → false ≡ (remainder if left else quotient) n d c
+unfolding remainder quotient
+by-zero true n d c e = rw e refl
+by-zero false n d c e = rw e refl
+
+-- by another number, what is computed is compared
+pub by-other : (left : Bool) (n d c : ℤ) → not (d == +0) ≡ true → ((remZ if left else quotZ) n d == c) ≡ (remainder if left else quotient) n d c
+unfolding remainder quotient
+by-other true n d c e = rw e refl
+by-other false n d c e = rw e refl
+
+-- a divisor that is not zero has an absolute value above 0
+pub above-zero : (d : ℤ) → not (d == +0) ≡ true → 0 < natAbs d
+above-zero (pos zero) e = absurd (false-true (sym (ap not (says-equal (pos zero) +0 .1 refl)) ∙ e))
+above-zero (pos (suc n)) e = omega arith
+above-zero (negsuc n) e = omega arith

@@ -54,6 +54,8 @@ pub fn holds(code: usize, args: &[u32], values: &[i32]) -> bool
         34 => compare::int_eq_reif(args, values),
         35 => compare::int_le_reif(args, values),
         36 => compare::int_lt_reif(args, values),
+        37 => number::int_divided(args, values, false),
+        38 => number::int_divided(args, values, true),
         _ => true,
     }
 }

@@ -1,14 +1,15 @@
-// Codes 6 to 9 and 29: arithmetic of variables.
+// Codes 6 to 9, 29, 37 and 38: arithmetic of variables.
 ghost use mathlib.Core.Path.{_≡_};
 ghost use Rattle.integers.specs.Choice.{_if_else_};
 ghost use Rattle.integers.specs.Number.{minZ, maxZ, _==_};
 ghost use Rattle.integers.specs.Terms.{value};
 ghost use Rattle.models.specs.Builtin.{int-plus, int-times, int-abs};
-ghost use Rattle.models.specs.Meaning.{meaning};
+ghost use Rattle.models.specs.Meaning.{quotient, remainder, meaning};
 ghost use Rattle.models.specs.Model.{var};
 ghost use Rattle.arguments.specs.Small.{Small};
 ghost use Rattle.builtins.specs.Coded.{two, three};
 use arguments::value_of;
+use integers::divided;
 use integers::equal;
 use integers::largest;
 use integers::opposite;
@@ -55,4 +56,17 @@ pub fn int_extreme(args: &[u32], values: &[i32], up: bool) -> bool
         pick(value_of(args, 0, values), value_of(args, 1, values), up),
         value_of(args, 2, values),
     )
+}
+
+// Whether int_div is true; int_mod, where it is the remainder that is asked. Neither is for d=0.
+pub fn int_divided(args: &[u32], values: &[i32], left: bool) -> bool
+    requires { ⌜ Small (now values) ⌝ }
+    ensures { λ r. ⌜ r ≡ (remainder if left else quotient) (value (now (values .entry)) (var (now (args .entry)) 0)) (value (now (values .entry)) (var (now (args .entry)) 1)) (value (now (values .entry)) (var (now (args .entry)) 2)) ⌝ }
+{
+    let n = value_of(args, 0, values);
+    let d = value_of(args, 1, values);
+    if !equal(d, 0) {
+        return equal(divided(n, d, left), value_of(args, 2, values));
+    }
+    false
 }

@@ -1,12 +1,12 @@
 -- Signed numbers of 64 bits: what fits, and how large sums and products are.
 use mathlib.Core.Path.{_≡_, refl, ap, sym, _∙_}
 use mathlib.Core.Bool.{Bool, true, false, cond}
-use Prim.Native.Nat.{ℕ, zero, suc, _+_, _*_, _-_, _<_, _≤_}
+use Prim.Native.Nat.{ℕ, zero, suc, _+_, _*_, _-_, _/_, _%_, _<_, _≤_}
 use native.Mathlib.Omega.{arith}
-use native.Mathlib.Nat.{mul-le-mul-left, mul-le-mul-right, le-trans}
+use native.Mathlib.Nat.{mul-le-mul-left, mul-le-mul-right, le-trans, div-le-self, mod-le}
 use lib.Dec.{T, ltb, ltb→lt, eqb}
 use lib.IntN.{ℤ, pos, negsuc, negℤ, _+ℤ_, _*ℤ_, natAbs, subℕ}
-use lib.Signed.{mag}
+use lib.Signed.{mag, quotZ, remZ}
 use mir.Syntax.{w64}
 use mir.Val.{toZ, ofZ, SFits}
 use mir.Facts.{toZ-ofZ}
@@ -69,6 +69,22 @@ minus-size a b = omega (arith, add-abs a (negℤ b), neg-abs b)
 pub times-size : (a b : ℤ) → natAbs (a ⊗ b) ≡ natAbs a * natAbs b
 unfolding _⊗_
 times-size a b = mul-abs a b
+
+-- a quotient is no larger than the dividend, and a remainder neither
+pub quotient-size : (a d : ℤ) → natAbs (quotZ a d) ≤ natAbs a
+quotient-size (pos a) (pos d) = div-le-self a d
+quotient-size (pos a) (negsuc d) = omega (arith, neg-abs (pos (a / suc d)), div-le-self a (suc d))
+quotient-size (negsuc a) (pos d) = omega (arith, neg-abs (pos (suc a / d)), div-le-self (suc a) d)
+quotient-size (negsuc a) (negsuc d) = div-le-self (suc a) (suc d)
+
+pub remainder-size : (a d : ℤ) → natAbs (remZ a d) ≤ natAbs a
+remainder-size (pos a) d = mod-le a (natAbs d)
+remainder-size (negsuc a) d = omega (arith, neg-abs (pos (suc a % natAbs d)), mod-le (suc a) (natAbs d))
+
+-- a number that is not 0 has bits that are not all 0
+pub bits-above-zero : (z : ℤ) → SFits w64 z → 0 < natAbs z → 0 < ofZ w64 z
+bits-above-zero (pos n) f h = h
+bits-above-zero (negsuc n) f h = omega (arith, f .sfits)
 
 -- a product is at most the product of the limits
 pub mul-le : {a b m n : ℕ} → a ≤ m → b ≤ n → a * b ≤ m * n

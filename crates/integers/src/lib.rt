@@ -2,6 +2,7 @@
 ghost use mathlib.Core.Path.{_≡_};
 ghost use Prim.Native.Nat.{_+_, _*_, _<_};
 ghost use lib.IntN.{natAbs};
+ghost use lib.Signed.{quotZ, remZ};
 ghost use Rattle.integers.specs.Choice.{_if_else_};
 ghost use Rattle.integers.specs.Number.{_⊕_, _⊖_, _⊗_, neg, minZ, maxZ, _==_};
 
@@ -42,6 +43,33 @@ pub fn opposite(a: i64) -> i64
     ensures { λ r. ⌜ r ≡ neg a ⌝ }
 {
     0 - a
+}
+
+// The quotient, cut towards zero.
+pub fn quotient(a: i64, d: i64) -> i64
+    requires { ⌜ (natAbs a < 9223372036854775808) × (0 < natAbs d) ⌝ }
+    ensures { λ r. ⌜ r ≡ quotZ a d ⌝ }
+{
+    a / d
+}
+
+// What the quotient leaves, with the sign of a.
+fn remainder(a: i64, d: i64) -> i64
+    requires { ⌜ (natAbs a < 9223372036854775808) × (0 < natAbs d) ⌝ }
+    ensures { λ r. ⌜ r ≡ remZ a d ⌝ }
+{
+    a % d
+}
+
+// The quotient, or what it leaves.
+pub fn divided(a: i64, d: i64, left: bool) -> i64
+    requires { ⌜ (natAbs a < 9223372036854775808) × (0 < natAbs d) ⌝ }
+    ensures { λ r. ⌜ r ≡ (remZ if left else quotZ) a d ⌝ }
+{
+    if left {
+        return remainder(a, d);
+    }
+    quotient(a, d)
 }
 
 // The lesser of two.
