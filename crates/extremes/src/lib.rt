@@ -62,16 +62,24 @@ pub fn zero_upper(upper: i64) -> i64
     largest(0, upper)
 }
 
-// The least or the largest of the four end products of two variables.
+// The least or the largest of the four products of the ends of two bounds.
+pub fn product_end(al: i64, au: i64, bl: i64, bu: i64, up: bool) -> i64
+    requires { ⌜ Near al × Near au × Near bl × Near bu ⌝ }
+    ensures { λ r. ⌜ (r ≡ (endProducts (al to au) (bl to bu) .upper if up else endProducts (al to au) (bl to bu) .lower)) × (natAbs r ≤ 18014398509481984) ⌝ }
+{
+    pick(times_ends(al, bl, bu, up), times_ends(au, bl, bu, up), up)
+}
+
+// Of the bounds of two variables.
 pub fn end_product(ls: &[i64], us: &[i64], a: usize, b: usize, up: bool) -> i64
     requires { ⌜ Bounded (now ls) × Bounded (now us) ⌝ }
     ensures { λ r. ⌜ r ≡ (endProducts (boundsOf (now (ls .entry)) (now (us .entry)) a) (boundsOf (now (ls .entry)) (now (us .entry)) b) .upper if up else endProducts (boundsOf (now (ls .entry)) (now (us .entry)) a) (boundsOf (now (ls .entry)) (now (us .entry)) b) .lower) ⌝ }
 {
-    let lower = bound_at(ls, b);
-    let upper = bound_at(us, b);
-    pick(
-        times_ends(bound_at(ls, a), lower, upper, up),
-        times_ends(bound_at(us, a), lower, upper, up),
+    product_end(
+        bound_at(ls, a),
+        bound_at(us, a),
+        bound_at(ls, b),
+        bound_at(us, b),
         up,
     )
 }
