@@ -1,17 +1,17 @@
 -- A code that is none, the absolute value as a maximum, and division by zero.
-use mathlib.Core.Path.{_≡_, refl, sym, ap, _∙_}
+use mathlib.Core.Path.{_≡_, refl, ap}
 use mathlib.Core.Bool.{Bool, true, false, not}
 use mathlib.Core.List.{List}
 use Prim.Native.Nat.{ℕ, zero, suc, _<_, _≤_}
 use native.Mathlib.Omega.{arith}
-use lib.IntN.{ℤ, pos, negsuc, natAbs}
+use lib.IntN.{ℤ}
 use lib.Signed.{quotZ, remZ}
 use lib.ListN.{getD, List·getD-eq-default}
 use Rattle.integers.specs.Choice.{_if_else_}
 use Rattle.integers.specs.Number.{neg, maxZ, absZ, _==_, +0}
 use Rattle.integers.specs.Terms.{Valuation}
 use Rattle.integers.proofs.Linear.{linear}
-use Rattle.integers.proofs.Tests.{says-equal, false-true}
+use Rattle.integers.proofs.Tests.{says-equal}
 use Rattle.models.specs.Table as Table
 use Rattle.models.specs.Builtin.{Builtin, int-eq}
 use Rattle.models.specs.Model.{builtin, builtins}
@@ -55,9 +55,3 @@ pub by-other : (left : Bool) (n d c : ℤ) → not (d == +0) ≡ true → ((remZ
 unfolding remainder quotient
 by-other true n d c e = rw e refl
 by-other false n d c e = rw e refl
-
--- a divisor that is not zero has an absolute value above 0
-pub above-zero : (d : ℤ) → not (d == +0) ≡ true → 0 < natAbs d
-above-zero (pos zero) e = absurd (false-true (sym (ap not (says-equal (pos zero) +0 .1 refl)) ∙ e))
-above-zero (pos (suc n)) e = omega arith
-above-zero (negsuc n) e = omega arith

@@ -1,6 +1,6 @@
 -- Signed numbers of 64 bits: what fits, and how large sums and products are.
 use mathlib.Core.Path.{_≡_, refl, ap, sym, _∙_}
-use mathlib.Core.Bool.{Bool, true, false, cond}
+use mathlib.Core.Bool.{Bool, true, false, not, cond}
 use Prim.Native.Nat.{ℕ, zero, suc, _+_, _*_, _-_, _/_, _%_, _<_, _≤_}
 use native.Mathlib.Omega.{arith}
 use native.Mathlib.Nat.{mul-le-mul-left, mul-le-mul-right, le-trans, div-le-self, mod-le}
@@ -12,7 +12,7 @@ use mir.Val.{toZ, ofZ, SFits}
 use mir.Facts.{toZ-ofZ}
 use borrow.Author.Tests.{eqb-true, eqb-false}
 use Rattle.integers.specs.Number.{_⊕_, _⊖_, _⊗_, neg, _==_}
-use Rattle.integers.proofs.Tests.{says-equal}
+use Rattle.integers.proofs.Tests.{says-equal, false-true}
 
 -- `natAbs` is the absolute value; `mag` is it, or one less for a negative number
 pub mag-le : (z : ℤ) → mag z ≤ natAbs z
@@ -81,7 +81,12 @@ pub remainder-size : (a d : ℤ) → natAbs (remZ a d) ≤ natAbs a
 remainder-size (pos a) d = mod-le a (natAbs d)
 remainder-size (negsuc a) d = omega (arith, neg-abs (pos (suc a % natAbs d)), mod-le (suc a) (natAbs d))
 
--- a number that is not 0 has bits that are not all 0
+-- a number that is not 0 has an absolute value above 0, and bits that are not all 0
+pub above-zero : (z : ℤ) → not (z == pos 0) ≡ true → 0 < natAbs z
+above-zero (pos zero) e = absurd (false-true (sym (ap not (says-equal (pos zero) (pos 0) .1 refl)) ∙ e))
+above-zero (pos (suc n)) e = omega arith
+above-zero (negsuc n) e = omega arith
+
 pub bits-above-zero : (z : ℤ) → SFits w64 z → 0 < natAbs z → 0 < ofZ w64 z
 bits-above-zero (pos n) f h = h
 bits-above-zero (negsuc n) f h = omega (arith, f .sfits)

@@ -4,6 +4,7 @@ pub mod Only
 pub mod Labels
 pub mod Sizes
 pub mod Codes
+pub mod Division
 pub mod Members
 pub mod Bare
 pub mod Picks

@@ -4,7 +4,7 @@ ghost use mathlib.Core.Bool.{true, not};
 ghost use mathlib.Core.List.{[], _∷_, _++_};
 ghost use Prim.Native.Nat.{_+_, _<_, _≤_};
 ghost use lib.IntN.{pos};
-ghost use lib.Signed.{ltZ};
+ghost use lib.Signed.{ltZ, quotZ};
 ghost use lib.ListN.{getD};
 ghost use Rattle.integers.specs.Choice.{_if_else_};
 ghost use Rattle.integers.specs.Number.{_⊕_, _⊖_, _⊗_, _==_, minZ, maxZ, +0, +1, -1};
@@ -16,7 +16,7 @@ ghost use Rattle.models.specs.Model.{var, num, size, vars, terms, pastTerms};
 ghost use Rattle.models.specs.Meaning.{on};
 ghost use Rattle.arguments.specs.Small.{Small};
 ghost use Rattle.rules.specs.Parts.{halfLess};
-ghost use Rattle.rules.specs.Pick.{bitOf, signPick, signedPick, firstBit, gatedPick};
+ghost use Rattle.rules.specs.Pick.{bitOf, signPick, signedPick, firstBit, gatedPick, divisionPick, leftOverPick};
 ghost use Rattle.extremes.specs.Bounded.{Near, Bounded};
 ghost use Rattle.picking.specs.Picked.{Picked, Ranged, Ready, picksOf};
 ghost use Rattle.picking.specs.Only.{onlyAt, FirstAt};
@@ -26,7 +26,9 @@ use arguments::num_at;
 use arguments::past_terms_at;
 use arguments::size_at;
 use arguments::sum_of;
+use arguments::test::at_most;
 use arguments::test::below;
+use arguments::test::both;
 use arguments::value_of;
 use arguments::var_at;
 use extremes::bound_at;
@@ -37,6 +39,7 @@ use extremes::members;
 use extremes::width_of;
 use integers::equal;
 use integers::minus;
+use integers::quotient;
 use integers::times;
 
 // Writes a number at a place, if that is inside the list; the place after it.
@@ -355,6 +358,56 @@ fn pick_set_reif(
     )
 }
 
+// 37, 38: whether n is not negative, whether d is positive, d×q, and whether both.
+fn put_division(out: &mut [i32], at: usize, n: i64, d: i64, q: i64) -> usize
+    requires { ⌜ (at < 2199023255552) × Near d × Near q × Ranged (divisionPick n d q) ⌝ }
+    ensures { λ r. ⌜ Picked at r (now (out .entry)) (now (out .exit)) (divisionPick n d q) ⌝ }
+{
+    let alpha = at_most(0, n);
+    let beta = below(0, d);
+    let second = put_if(out, at, alpha, 1);
+    let third = put_if(out, second, beta, 1);
+    let fourth = put(out, third, times(d, q));
+    put_if(out, fourth, both(alpha, beta), 1)
+}
+
+// 37: the signs and the product of the division.
+fn pick_div(out: &mut [i32], at: usize, args: &[u32], values: &[i32]) -> usize
+    requires { ⌜ (at < 1099511627776) × Small (now values) × Ranged (divisionPick (value (now values) (var (now args) 0)) (value (now values) (var (now args) 1)) (value (now values) (var (now args) 2))) ⌝ }
+    ensures { λ r. ⌜ Picked at r (now (out .entry)) (now (out .exit)) (divisionPick (value (now (values .entry)) (var (now (args .entry)) 0)) (value (now (values .entry)) (var (now (args .entry)) 1)) (value (now (values .entry)) (var (now (args .entry)) 2))) ⌝ }
+{
+    put_division(
+        out,
+        at,
+        value_of(args, 0, values),
+        value_of(args, 1, values),
+        value_of(args, 2, values),
+    )
+}
+
+// The quotient, 0 by zero.
+fn quotient_of(n: i64, d: i64) -> i64
+    requires { ⌜ Near n ⌝ }
+    ensures { λ r. ⌜ (r ≡ quotZ n d) × Near r ⌝ }
+{
+    if !equal(d, 0) {
+        return quotient(n, d);
+    }
+    0
+}
+
+// 38: the quotient, then as in 37.
+fn pick_mod(out: &mut [i32], at: usize, args: &[u32], values: &[i32]) -> usize
+    requires { ⌜ (at < 1099511627776) × Small (now values) × Ranged (leftOverPick (value (now values) (var (now args) 0)) (value (now values) (var (now args) 1))) ⌝ }
+    ensures { λ r. ⌜ Picked at r (now (out .entry)) (now (out .exit)) (leftOverPick (value (now (values .entry)) (var (now (args .entry)) 0)) (value (now (values .entry)) (var (now (args .entry)) 1))) ⌝ }
+{
+    let n = value_of(args, 0, values);
+    let d = value_of(args, 1, values);
+    let q = quotient_of(n, d);
+    let next = put(out, at, q);
+    put_division(out, next, n, d, q)
+}
+
 // What fill writes for the auxiliaries of a constraint of a code; the place after it.
 pub fn pick_block(
     out: &mut [i32],
@@ -389,6 +442,8 @@ pub fn pick_block(
         32 => pick_linear(out, at, args, values),
         33 => pick_maximum(out, at, args, values),
         34 => pick_xor(out, at, args, values),
+        37 => pick_div(out, at, args, values),
+        38 => pick_mod(out, at, args, values),
         _ => at,
     }
 }

@@ -188,11 +188,33 @@ returns-20 : tie.Need-returns-20
 unfolding pick builtin builtins
 returns-20 c = let e : c .before .before .before .before .before .args .code ≡ 34 = c .before .before .before .match .keys20 in rw e (c .before .pick-xor2 .ensures)
 
-other : tie.Need-returns-21
+pick-div-requires : tie.Need-pick-div-requires
+unfolding pick builtin builtins
+pick-div-requires c κs =
+    let p = c .before .before .before .pre in
+    let e : c .before .before .before .args .code ≡ 37 = c .before .match .keys21 in
+    (p .place, p .small, rw e at (p .ranged))
+
+returns-21 : tie.Need-returns-21
+unfolding pick builtin builtins
+returns-21 c = let e : c .before .before .before .before .before .args .code ≡ 37 = c .before .before .before .match .keys21 in rw e (c .before .pick-div .ensures)
+
+pick-mod-requires : tie.Need-pick-mod-requires
+unfolding pick builtin builtins
+pick-mod-requires c κs =
+    let p = c .before .before .before .pre in
+    let e : c .before .before .before .args .code ≡ 38 = c .before .match .keys22 in
+    (p .place, p .small, rw e at (p .ranged))
+
+returns-22 : tie.Need-returns-22
+unfolding pick builtin builtins
+returns-22 c = let e : c .before .before .before .before .before .args .code ≡ 38 = c .before .before .before .match .keys22 in rw e (c .before .pick-mod .ensures)
+
+other : tie.Need-returns-23
 unfolding pick any
 other c =
     let a = c .before .before .args in
-    rw (none-picked (34 ∷ 33 ∷ 32 ∷ 31 ∷ 29 ∷ 28 ∷ 27 ∷ 26 ∷ 25 ∷ 24 ∷ 23 ∷ 20 ∷ 15 ∷ 14 ∷ 13 ∷ 12 ∷ 9 ∷ 8 ∷ 7 ∷ 4 ∷ []) refl (a .ls .now) (a .us .now) (a .values .now) (a .code) (a .args .now) (c .match .rest)) (picked-none (a .at) (a .out .now))
+    rw (none-picked (38 ∷ 37 ∷ 34 ∷ 33 ∷ 32 ∷ 31 ∷ 29 ∷ 28 ∷ 27 ∷ 26 ∷ 25 ∷ 24 ∷ 23 ∷ 20 ∷ 15 ∷ 14 ∷ 13 ∷ 12 ∷ 9 ∷ 8 ∷ 7 ∷ 4 ∷ []) refl (a .ls .now) (a .us .now) (a .values .now) (a .code) (a .args .now) (c .match .rest)) (picked-none (a .at) (a .out .now))
 
 pub pick-block-spec : {M : Type 1} → statement M
 pick-block-spec =
@@ -218,6 +240,8 @@ pick-block-spec =
     pick-linear-requires-3
     pick-maximum-requires-2
     pick-xor-requires-2
+    pick-div-requires
+    pick-mod-requires
     (λ c. search needs)
     returns
     (λ c. search needs)
@@ -258,4 +282,8 @@ pick-block-spec =
     returns-19
     (λ c. search needs)
     returns-20
+    (λ c. search needs)
+    returns-21
+    (λ c. search needs)
+    returns-22
     other)

@@ -2,9 +2,10 @@
 use mathlib.Core.Path.{_∙_}
 use native.Mathlib.Omega.{arith}
 use borrow.Author.Needs.{needs}
+use Rattle.integers.proofs.Fits.{above-zero}
 use Rattle.models.specs.Model.{var}
 use Rattle.arguments.proofs.Size.{read}
-use Rattle.builtins.proofs.Coded.{by-zero, by-other, above-zero}
+use Rattle.builtins.proofs.Coded.{by-zero, by-other}
 use Rattle.builtins.proofs.number.int_divided.Statement.{statement}
 use Rattle.builtins.proofs.number.int_divided.Tie as tie
 
