@@ -15,6 +15,8 @@ use choiceblocks::array_int_extreme;
 use choiceblocks::array_var_int_element;
 use choiceblocks::set_in;
 use choiceblocks::set_in_reif;
+use divisionblocks::int_div;
+use divisionblocks::int_mod;
 use fixedblocks::boolean;
 use fixedblocks::compare;
 use fixedblocks::number;
@@ -81,6 +83,8 @@ fn lay_block(
         34 => boolean::bool_eq_reif(out, s, a, b, c, first),
         35 => boolean::bool_le_reif(out, s, a, b, c),
         36 => boolean::bool_lt_reif(out, s, a, b, c),
+        37 => int_div(out, s, a, b, c, ls, us, first),
+        38 => int_mod(out, s, a, b, c, ls, us, first),
         _ => compare::int_eq(out, s, 0, 0),
     }
 }

@@ -298,7 +298,23 @@ returns-36 c =
     let w = rw (c .before .before .before .before .before .before .before .var-at .ensures, c .before .before .before .before .before .before .var-at2 .ensures, c .before .before .before .before .before .var-at3 .ensures) at (c .before .before .bool-lt-reif .ensures) in
     rw e (w .0 (boundsOf (s .args .ls .now) (s .args .us .now)) (s .args .first), omega (arith, w .1))
 
-other : tie.Need-returns-37
+returns-37 : tie.Need-returns-37
+unfolding builtin builtins
+returns-37 c =
+    let s = c .before .before .before .before .before .before .before .before .before .before in
+    let e : s .args .code ≡ 37 = c .before .before .before .before .match .keys37 in
+    let w = rw (c .before .before .before .before .before .before .before .var-at .ensures, c .before .before .before .before .before .before .var-at2 .ensures, c .before .before .before .before .before .var-at3 .ensures) at (c .before .before .int-div .ensures) in
+    rw e (w .0, omega (arith, w .1))
+
+returns-38 : tie.Need-returns-38
+unfolding builtin builtins
+returns-38 c =
+    let s = c .before .before .before .before .before .before .before .before .before .before in
+    let e : s .args .code ≡ 38 = c .before .before .before .before .match .keys38 in
+    let w = rw (c .before .before .before .before .before .before .before .var-at .ensures, c .before .before .before .before .before .before .var-at2 .ensures, c .before .before .before .before .before .var-at3 .ensures) at (c .before .before .int-mod .ensures) in
+    rw e (w .0, omega (arith, w .1))
+
+other : tie.Need-returns-39
 other c =
     let s = c .before .before .before .before .before .before .before .before .before .before in
     let w = c .before .before .int-eq3 .ensures in
@@ -339,6 +355,8 @@ lay-block-spec =
     (λ c κs. search needs)
     (λ c κs. search needs)
     set-in-reif-requires
+    (λ c κs. search needs)
+    (λ c κs. search needs)
     (λ c κs. search needs)
     (λ c κs. search needs)
     (λ c κs. search needs)
@@ -420,5 +438,9 @@ lay-block-spec =
     returns-35
     (λ c. search needs)
     returns-36
+    (λ c. search needs)
+    returns-37
+    (λ c. search needs)
+    returns-38
     (λ c. search needs)
     other)
