@@ -1,5 +1,5 @@
 #!/usr/bin/env python3
-"""Compares the five calls with a second solver, Gecode, on random models over all 36 codes.
+"""Compares the five calls with a second solver, Gecode, on random models over all 38 codes.
 
     tests/solver.py [COUNT [SEED]]
 
@@ -62,7 +62,14 @@ BUILTINS = {
     33: ('array_int_minimum', 'I LI', lambda m, x: [m] == sorted(x)[:1]),
     34: ('bool_eq_reif', 'B B B', lambda a, b, r: (a == b) == r),
     35: ('bool_le_reif', 'B B B', lambda a, b, r: (a <= b) == r),
-    36: ('bool_lt_reif', 'B B B', lambda a, b, r: (a < b) == r)}
+    36: ('bool_lt_reif', 'B B B', lambda a, b, r: (a < b) == r),
+    37: ('int_div', 'I I I', lambda n, d, q: d != 0 and cut(n, d) == q),
+    38: ('int_mod', 'I I I', lambda n, d, r: d != 0 and n - d * cut(n, d) == r)}
+
+
+def cut(n, d):
+    """The quotient, cut towards zero."""
+    return abs(n) // abs(d) * (1 if (n < 0) == (d < 0) else -1)
 
 
 def total(a, b):
@@ -482,7 +489,7 @@ def main():
                 return 1
             lists, without, only = lists + counts[0], without + counts[1], only + counts[2]
     print(f'solver: {without} models have no solution, {only} have nothing else')
-    print(f'solver: {count} models, {lists} value lists, codes 1 to 36 at least {min(used[code] for code in BUILTINS)} times each, 0 differences')
+    print(f'solver: {count} models, {lists} value lists, codes 1 to 38 at least {min(used[code] for code in BUILTINS)} times each, 0 differences')
     return 0
 
 

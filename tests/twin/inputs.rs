@@ -302,7 +302,7 @@ impl Builder<'_> {
     /// The words of a constraint, or none where a variable of some type is missing. `aimed`: its numbers are chosen to make it true.
     fn constraint(&mut self, code: u32, length: usize, aimed: bool) -> Option<Vec<u32>> {
         let (integers, booleans) = (self.integers.clone(), self.booleans.clone());
-        let wants_integer = matches!(code, 1..=9 | 14 | 16 | 24..=31 | 33);
+        let wants_integer = matches!(code, 1..=9 | 14 | 16 | 24..=31 | 33 | 37 | 38);
         let wants_boolean = matches!(code, 5 | 13..=20 | 22 | 28 | 30..=32 | 34..=36);
         if wants_integer && integers.is_empty() || wants_boolean && booleans.is_empty() {
             return None;
@@ -313,6 +313,7 @@ impl Builder<'_> {
             1..=4 | 8 => push_variables(&mut words, &[int(self.random), int(self.random)]),
             5 | 14 | 30 | 31 => push_variables(&mut words, &[int(self.random), int(self.random), bool(self.random)]),
             6 | 7 | 9 | 29 => push_variables(&mut words, &[int(self.random), int(self.random), int(self.random)]),
+            37 | 38 => self.division(code, aimed, &mut words),
             10..=13 | 15 | 32 => self.linear(code, length, aimed, &mut words),
             16 => push_variables(&mut words, &[bool(self.random), int(self.random)]),
             17 => push_variables(&mut words, &[bool(self.random), bool(self.random)]),
@@ -408,6 +409,20 @@ impl Builder<'_> {
             }
         }
         Some(words)
+    }
+
+    /// The arguments of int_div and int_mod. `aimed`: some of the variables that make it true, where there are any.
+    fn division(&mut self, code: u32, aimed: bool, words: &mut Vec<u32>) {
+        let integers = self.integers.clone();
+        let mut chosen = [0; 3];
+        for _ in 0..if aimed { 40 } else { 1 } {
+            chosen = [(); 3].map(|()| self.random.pick(&integers));
+            let [n, d, c] = chosen.map(|variable| self.value(variable));
+            if d != 0 && c == if code == 37 { n / d } else { n % d } {
+                break;
+            }
+        }
+        push_variables(words, &chosen);
     }
 
     /// The arguments of int_lin_eq, le, ne, eq_reif, le_reif and ne_reif.
@@ -556,7 +571,7 @@ fn edge_model(random: &mut Random) -> Pair {
     if builder.random.one_in(2) {
         builder.some_variables(1, 1, &SMALL_BOUNDS);
     }
-    let code = builder.random.pick(&[4, 5, 7, 9, 10, 11, 12, 13, 14, 15, 29, 30, 31, 32]);
+    let code = builder.random.pick(&[4, 5, 7, 9, 10, 11, 12, 13, 14, 15, 29, 30, 31, 32, 37, 38]);
     builder.add(code, None, false);
     let (mut words, values) = builder.finish();
     let fault = |words: &[u32]| twin::check(words).fault;
@@ -663,7 +678,7 @@ fn many_auxiliaries(random: &mut Random) -> Pair {
         count += 2;
     }
     while count < wanted {
-        let code = builder.random.pick(&[1, 4, 4, 4, 7, 8, 9, 9, 12, 13, 14, 15, 15, 18, 20, 23, 24, 25, 26, 27, 28, 29, 31, 32, 33, 34]);
+        let code = builder.random.pick(&[1, 4, 4, 4, 7, 8, 9, 9, 12, 13, 14, 15, 15, 18, 20, 23, 24, 25, 26, 27, 28, 29, 31, 32, 33, 34, 37, 38]);
         let length = builder.random.below(3);
         builder.add(code, Some(length), false);
         count += builder.constraints.last().map_or(0, |constraint| builder.auxiliaries(constraint));
@@ -996,7 +1011,7 @@ fn likely_word(random: &mut Random) -> u32 {
         0 => 0,
         1 => random.pick(&ENDS) - 1,
         2 => random.between(LEAST - 1, LARGEST),
-        3 => random.pick(&[28, 29, 32, 33, 36, 37, 66, 67, 255, 256, 257, -1]),
+        3 => random.pick(&[28, 29, 32, 33, 36, 37, 38, 39, 66, 67, 255, 256, 257, -1]),
         _ => random.between(0, 8),
     };
     word(kind, payload)

@@ -149,9 +149,9 @@ enum Argument {
 }
 
 /// The last code.
-pub const CODES: usize = 36;
+pub const CODES: usize = 38;
 
-/// The arguments of the codes (01, Rules of the 28 codes, and the sentence on types below them; 02, wish 1).
+/// The arguments of the codes (01, Rules of the 28 codes, and the sentence on types below them; 02, wishes 1 and 6).
 const SHAPES: [&[Argument]; CODES] = {
     use Argument::{Boolean as B, Booleans as LB, Integer as I, Integers as LI, Number as N, Numbers as LN, Parallel as P};
     [
@@ -191,6 +191,8 @@ const SHAPES: [&[Argument]; CODES] = {
         &[B, B, B],  // 34 bool_eq_reif
         &[B, B, B],  // 35 bool_le_reif
         &[B, B, B],  // 36 bool_lt_reif
+        &[I, I, I],  // 37 int_div
+        &[I, I, I],  // 38 int_mod
     ]
 };
 
@@ -436,6 +438,8 @@ fn is_true(constraint: &Constraint, values: &[i32]) -> bool {
         33 => constraint.list.iter().map(value).min() == Some(a),
         34 => (a == b) == (c == 1),
         35 => (a <= b) == (c == 1),
+        37 => b != 0 && a / b == c,
+        38 => b != 0 && a % b == c,
         _ => false,
     }
 }
@@ -475,7 +479,7 @@ trait Sink {
     }
 }
 
-/// The block of a constraint (01, Rules of the 28 codes; 02, wishes 1 and 5); `n` is the number of its first auxiliary.
+/// The block of a constraint (01, Rules of the 28 codes; 02, wishes 1, 5 and 6); `n` is the number of its first auxiliary.
 fn block(constraint: &Constraint, variables: &[Variable], n: usize, sink: &mut impl Sink) {
     let [a, b, c] = constraint.single;
     let bound = |variable: usize, upper: bool| variables.get(variable).map_or(0, |v| i64::from(if upper { v.upper } else { v.lower }));
@@ -498,9 +502,7 @@ fn block(constraint: &Constraint, variables: &[Variable], n: usize, sink: &mut i
         }
         6 => sink.whole_row(EQUAL, [(a, 1), (b, 1), (c, -1)], 0),
         7 => {
-            let ends = [lo(a) * lo(b), lo(a) * hi(b), hi(a) * lo(b), hi(a) * hi(b)];
-            let least = ends.into_iter().fold(i64::MAX, i64::min);
-            let largest = ends.into_iter().fold(i64::MIN, i64::max);
+            let (least, largest) = end_products((lo(a), hi(a)), (lo(b), hi(b)));
             sink.auxiliary(least, largest);
             sink.product(n, a, b);
             sink.whole_row(EQUAL, [(n, 1), (c, -1)], 0);
@@ -688,6 +690,18 @@ fn block(constraint: &Constraint, variables: &[Variable], n: usize, sink: &mut i
             sink.whole_row(AT_MOST, [(r, 1), (b, -1)], 0);
             sink.whole_row(AT_MOST, [(b, 1), (a, -1), (r, -1)], 0);
         }
+        37 => {
+            let bounds = [(lo(a), hi(a)), (lo(b), hi(b)), (lo(c), hi(c))];
+            division(a, b, c, bounds, n, sink);
+        }
+        38 => {
+            let largest = lo(a).abs().max(hi(a).abs());
+            sink.auxiliary(-largest, largest);
+            let bounds = [(lo(a), hi(a)), (lo(b), hi(b)), (-largest, largest)];
+            division(a, b, n, bounds, n + 1, sink);
+            let p = n + 3;
+            sink.whole_row(EQUAL, [(p, 1), (c, 1), (a, -1)], 0);
+        }
         _ => (),
     }
 }
@@ -721,6 +735,50 @@ fn reified_not_zero_rows(least: i64, largest: i64, x: usize, r: usize, sink: &mu
     sink.product(z, bit, x);
     sink.whole_row(AT_MOST, [(x, 1), (z, -2), (r, -w)], 0);
     sink.whole_row(AT_MOST, [(x, -1), (z, 2), (r, 1)], 0);
+}
+
+/// The least and the largest of the four end products of two variables, each with its lower and upper bound.
+fn end_products(a: (i64, i64), b: (i64, i64)) -> (i64, i64) {
+    let ends = [a.0 * b.0, a.0 * b.1, a.1 * b.0, a.1 * b.1];
+    (ends.into_iter().fold(i64::MAX, i64::min), ends.into_iter().fold(i64::MIN, i64::max))
+}
+
+/// The auxiliaries α, β, p, γ of codes 37 and 38, numbered from `first` on, the two products and the ten rows; the bounds of n, d and q.
+fn division(n: usize, d: usize, q: usize, bounds: [(i64, i64); 3], first: usize, sink: &mut impl Sink) {
+    let [(n_lo, n_hi), (d_lo, d_hi), q_bounds] = bounds;
+    let (p_lo, p_hi) = end_products((d_lo, d_hi), q_bounds);
+    let differences = [
+        p_hi - n_lo,
+        n_hi - p_lo,
+        n_hi - d_lo - p_lo + 1,
+        p_hi - n_lo + d_hi + 1,
+        n_hi + d_hi - p_lo + 1,
+        p_hi - n_lo - d_lo + 1,
+    ];
+    let m = differences.into_iter().fold(i64::MIN, i64::max);
+    let (alpha, beta, p, gamma) = (first, first + 1, first + 2, first + 3);
+    sink.bit();
+    sink.bit();
+    sink.auxiliary(p_lo, p_hi);
+    sink.bit();
+    sink.product(p, d, q);
+    sink.product(gamma, alpha, beta);
+    // n, d, p, α, β, γ and the constant
+    let rows = [
+        [-1, 0, 0, -n_lo, 0, 0, n_lo],
+        [1, 0, 0, -(n_hi + 1), 0, 0, 1],
+        [0, -1, 0, 0, 1 - d_lo, 0, d_lo],
+        [0, 1, 0, 0, -(d_hi + 1), 0, 1],
+        [-1, 0, 1, m, 0, 0, -m],
+        [1, 0, -1, -m, 0, 0, 0],
+        [1, -1, -1, 0, 0, m, 1 - m],
+        [-1, 1, 1, -m, -m, m, 1],
+        [1, 1, -1, m, 0, -m, 1 - m],
+        [-1, -1, 1, 0, m, -m, 1 - m],
+    ];
+    for [of_n, of_d, of_p, of_alpha, of_beta, of_gamma, constant] in rows {
+        sink.whole_row(AT_MOST, [(n, of_n), (d, of_d), (p, of_p), (alpha, of_alpha), (beta, of_beta), (gamma, of_gamma)], constant);
+    }
 }
 
 /// Σb−1=0 over consecutive auxiliaries.
@@ -1048,6 +1106,15 @@ impl Auxiliaries<'_> {
         self.push(x.min(0));
     }
 
+    /// α=1 exactly for n≥0, β=1 exactly for d>0, p = d×q, γ = α×β.
+    fn division(&mut self, n: i64, d: i64, q: i64) {
+        let (alpha, beta) = (i64::from(n >= 0), i64::from(d > 0));
+        self.push(alpha);
+        self.push(beta);
+        self.push(d * q);
+        self.push(alpha * beta);
+    }
+
     /// A bit for each element of a list, 1 at one place.
     fn one_of(&mut self, count: usize, place: usize) {
         (0..count).for_each(|at| self.push(i64::from(at == place)));
@@ -1059,7 +1126,7 @@ impl Auxiliaries<'_> {
     }
 }
 
-/// The auxiliaries of a constraint that is true of the values (01, Five calls; 02, wishes 1 and 5).
+/// The auxiliaries of a constraint that is true of the values (01, Five calls; 02, wishes 1, 5 and 6).
 fn fill_block(constraint: &Constraint, variables: &[Variable], values: &[i32], out: &mut Auxiliaries) {
     let [a, b, c] = constraint.single.map(|variable| values.get(variable).map_or(0, |&value| i64::from(value)));
     let bounds = || {
@@ -1081,6 +1148,11 @@ fn fill_block(constraint: &Constraint, variables: &[Variable], values: &[i32], o
             out.sign(a - b);
         }
         15 => out.push(constraint.sum(values)),
+        37 => out.division(a, b, c),
+        38 => {
+            out.push(a / b);
+            out.division(a, b, a / b);
+        }
         20 | 34 => {
             out.push(c * a);
             out.push(c * b);
