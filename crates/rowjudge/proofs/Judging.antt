@@ -26,7 +26,8 @@ use Rattle.words.proofs.Word.{between-near, signed-near}
 use Rattle.variables.specs.Judged.{judgedThen}
 use Rattle.variables.specs.Start.{starts, boundsOf}
 use Rattle.variables.proofs.After.{next, stop}
-use Rattle.variables.proofs.Walk.{at-none, at-last, Counted, count-none, count-one, counted, Kept, keep-none, keep-one, keep-all}
+use Rattle.variables.specs.Counted.{Counted}
+use Rattle.variables.proofs.Walk.{at-last, count-none, count-one, counted, Kept, keep-none, keep-one, keep-all}
 use Rattle.rowsystems.specs.JudgeRows.{judgeAccepted}
 use Rattle.rowsystems.specs.Row.{Row, satisfied}
 use Rattle.rowsystems.specs.RowSystem.{rows}
@@ -35,6 +36,7 @@ use Rattle.rowsystems.specs.declared.Due.the-variants as due
 use Rattle.rowreading.specs.Item.{startDue}
 use Rattle.rowreading.specs.Onward.{startsKind, Plain, onward, stopped, resumed}
 use Rattle.rowreading.specs.declared.items.Step.{Step}
+use Rattle.rowreading.proofs.Counts.{along, plain-variables, count-plain}
 use Rattle.rowreading.proofs.Steps.{or-false}
 use Rattle.rowjudge.specs.OneWord.{startsRow, rowOf}
 use Rattle.rowjudge.specs.Passing.{Known, Passes}
@@ -67,34 +69,19 @@ pub record Judging (ws : List ℕ) (vs : List ℤ) (n k : ℕ) (all : Bool) (wro
 pub begun : (ws : List ℕ) (vs : List ℤ) → Judging ws vs 0 0 true 0 0
 begun ws vs = record { few = omega arith; kept = record { few = omega arith; rest = refl }; counted = record { few = omega arith; number = omega arith }; known = λ x h. absurd (omega arith); told = refl }
 
--- words that start nothing
-one : (ws : List ℕ) (a : ℕ) → a < length ws → startsKind (kind (wordAt ws a)) ≡ false →
-    (variables (drop a ws) ≡ variables (drop (a + 1) ws)) × (rows (drop a ws) ≡ rows (drop (a + 1) ws))
-unfolding wordAt startsKind starts startsRow startsPair
-one ws a h e =
-    let w = wordAt ws a in
-    let f = or-false ((eqb (kind w) Kind.lower || eqb (kind w) Kind.auxiliaryLower) || eqb (kind w) Kind.boolean) ((eqb (kind w) Kind.atMost || eqb (kind w) Kind.equal) || eqb (kind w) Kind.product) e in
-    (at-none ws a h (f .0), starts-none ws a h (f .1))
-
-several : (ws : List ℕ) (d a : ℕ) → a + d ≤ length ws → Plain ws a (a + d) →
-    (variables (drop a ws) ≡ variables (drop (a + d) ws)) × (rows (drop a ws) ≡ rows (drop (a + d) ws))
-several ws zero a h p = let e : a + 0 ≡ a = omega arith in rw e (refl, refl)
-several ws (suc d) a h p =
-    let e : a + suc d ≡ a + 1 + d = omega arith in
-    let w = one ws a (omega arith) (p a (omega arith) (omega arith)) in
-    let r = several ws d (a + 1) (omega arith) (λ j l k. p j (omega arith) (omega arith)) in
-    rw e (w .0 ∙ r .0, w .1 ∙ r .1)
+-- words that start nothing start no row
+plain-rows : (ws : List ℕ) (a b : ℕ) → Plain ws a b → a ≤ b → b ≤ length ws → rows (drop a ws) ≡ rows (drop b ws)
+unfolding wordAt startsKind startsRow
+plain-rows ws = along ws rows (λ a h e. let k = kind (wordAt ws a) in starts-none ws a h (or-false ((eqb k Kind.lower || eqb k Kind.auxiliaryLower) || eqb k Kind.boolean) ((eqb k Kind.atMost || eqb k Kind.equal) || eqb k Kind.product) e .1))
 
 plain-to : {ws : List ℕ} {vs : List ℤ} {n k : ℕ} {all : Bool} {wrong a b : ℕ} → Judging ws vs n k all wrong a → Plain ws a b → a ≤ b → b ≤ length ws → Judging ws vs n k all wrong b
 plain-to {ws} {vs} {n} {k} {all} {wrong} {a} {b} j p l h =
-    let e : a + (b - a) ≡ b = omega arith in
-    let m = rw e at (several ws (b - a) a (omega arith) (rw e p)) in
     record {
       few = omega (arith, j .few);
-      kept = record { few = omega (arith, j .kept .few); rest = rw (m .0) at (j .kept .rest) };
-      counted = record { few = omega (arith, j .counted .few); number = rw (m .0) at (j .counted .number) };
+      kept = record { few = omega (arith, j .kept .few); rest = rw (plain-variables ws a b p l h) at (j .kept .rest) };
+      counted = count-plain (j .counted) p l h;
       known = j .known;
-      told = rw (m .1) at (j .told);
+      told = rw (plain-rows ws a b p l h) at (j .told);
     }
 
 -- ---- past an item
@@ -182,17 +169,6 @@ pub record Exit (ws : List ℕ) (vs : List ℤ) (n k : ℕ) (all : Bool) (wrong 
 pub exit : {ws : List ℕ} {vs : List ℤ} {n k : ℕ} {all : Bool} {wrong at : ℕ} {s : Bool} {m : ℕ} {d : Due} {r : Step} → Judging ws vs n k all wrong at →
     Passes ws s n at d m r → (r .number ≡ 0 → ⊥) → onward (startDue s) n at ws ≡ onward due.Source 0 0 ws → Exit ws vs n k all wrong (r .number) (r .at)
 exit j g z e = record { some = z; reads = sym (halts g z) ∙ e; judged = λ i. plain-to j (g .last i) (g .on) (g .inside) }
-
--- accepted: past the end word, and there are no words left
-pub at-the-end : (ws : List ℕ) (f p : ℕ) → (f ≡ 0 → ⊥) → stopped ws f p .number ≡ 0 → (f ≡ Fault.wordAfterEnd) × (length ws ≤ p)
-unfolding stopped
-at-the-end ws f p z e = go (ltb p (length ws)) (eqb f Fault.wordAfterEnd) refl refl e
-  where
-    go : (a b : Bool) → ltb p (length ws) ≡ a → eqb f Fault.wordAfterEnd ≡ b →
-        (f at-place p if a else accepted if b else Fault.wordsEnd at-place p) .number ≡ 0 → (f ≡ Fault.wordAfterEnd) × (length ws ≤ p)
-    go true b q r e = absurd (z e)
-    go false true q r e = (eqb-true f Fault.wordAfterEnd r, ltb-false p (length ws) q)
-    go false false q r e = absurd (omega arith)
 
 module _ {ws : List ℕ} {vs : List ℤ} {n k : ℕ} {all : Bool} {wrong at : ℕ} (j : Judging ws vs n k all wrong at) (h : length ws ≤ at) where
   pub all-counted : n ≡ length (variables ws)

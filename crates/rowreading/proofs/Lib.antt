@@ -3,3 +3,4 @@ pub mod Onward
 pub mod Steps
 pub mod Inner
 pub mod Heads
+pub mod Counts

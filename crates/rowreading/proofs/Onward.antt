@@ -5,7 +5,7 @@ use mathlib.Core.Bool.{Bool, true, false}
 use mathlib.Core.List.{List}
 use Prim.Native.Nat.{ℕ, _+_, _<_, _≤_}
 use native.Mathlib.Omega.{arith}
-use borrow.Author.Tests.{ltb-true, ltb-false}
+use borrow.Author.Tests.{ltb-true, ltb-false, eqb-true}
 use lib.Dec.{ltb, eqb}
 use lib.ListN.{length, drop, List·getD-eq-default}
 use Rattle.integers.specs.Choice.{_if_else_}
@@ -80,3 +80,16 @@ module _ (ws : List ℕ) (due : Due) (n at : ℕ) where
           let s = e ∙ sym (past-here h) in
           sym (at-end fault after ended here-state ws at h)
           ∙ ⊎-elim (λ k. rw (s ∙ k .0, k .1)) (λ k. rw (s ∙ k .0, k .1)) (past due n (drop (at + 1) ws))
+
+-- ---- the end
+
+-- accepted: past the end word, and there are no words left
+pub at-the-end : (ws : List ℕ) (f p : ℕ) → (f ≡ 0 → ⊥) → stopped ws f p .number ≡ 0 → (f ≡ Fault.wordAfterEnd) × (length ws ≤ p)
+unfolding stopped
+at-the-end ws f p z e = go (ltb p (length ws)) (eqb f Fault.wordAfterEnd) refl refl e
+  where
+    go : (a b : Bool) → ltb p (length ws) ≡ a → eqb f Fault.wordAfterEnd ≡ b →
+        (f at-place p if a else accepted if b else Fault.wordsEnd at-place p) .number ≡ 0 → (f ≡ Fault.wordAfterEnd) × (length ws ≤ p)
+    go true b q r e = absurd (z e)
+    go false true q r e = (eqb-true f Fault.wordAfterEnd r, ltb-false p (length ws) q)
+    go false false q r e = absurd (omega arith)

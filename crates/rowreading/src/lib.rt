@@ -1,7 +1,11 @@
 // Reading a row system: the first faulty word and its fault.
 ghost use mathlib.Core.Path.{_≡_};
+ghost use lib.ListN.{length};
+ghost use Rattle.words.specs.Variables.{variables};
+ghost use Rattle.variables.specs.Counted.{Counted};
 ghost use Rattle.rowsystems.specs.Reading.{readRows, started};
-ghost use Rattle.rowreading.specs.Onward.{stopped};
+ghost use Rattle.rowreading.specs.Item.{startDue};
+ghost use Rattle.rowreading.specs.Onward.{onward, stopped, Placed};
 use faults::fault_head;
 use items::item_of;
 use items::read_rest;
@@ -54,19 +58,20 @@ pub fn refusal_at(ws: &[u32], number: u32, place: usize) -> Refusal
     }
 }
 
-// The first fault of a row system and its place; number 0 where the words are accepted.
-pub fn read_rows(ws: &[u32]) -> Refusal
-    ensures { λ r. ⌜ r ≡ readRows (now (ws .entry)) ⌝ }
+// What reading finds, and how many variables the words have where they are accepted.
+pub struct Read {
+    pub refusal: Refusal,
+    pub variables: usize,
+}
+
+// The first fault of the items from a place on, with so many variables before it.
+pub fn read_on(ws: &[u32], first: bool, before: usize, start: usize) -> Read
+    requires { ⌜ Placed (now ws) start × Counted (now ws) before start ⌝ }
+    ensures { λ r. ⌜ (r .refusal ≡ onward (startDue first) before start (now (ws .entry))) × (r .refusal .number ≡ 0 → r .variables ≡ length (variables (now (ws .entry)))) ⌝ }
 {
-    if limit::ROW_WORDS < ws.len() {
-        return Refusal {
-            number: fault::TOO_MANY_WORDS,
-            place: 0,
-        };
-    }
-    let mut sources = true;
-    let mut n = 0;
-    let mut at = 0;
+    let mut sources = first;
+    let mut n = before;
+    let mut at = start;
     let mut number = fault::NONE;
     'items: loop {
         let head = word_at(ws, at);
@@ -96,5 +101,21 @@ pub fn read_rows(ws: &[u32]) -> Refusal
         }
         sources = sources_after(item);
     }
-    refusal_at(ws, number, at)
+    Read {
+        refusal: refusal_at(ws, number, at),
+        variables: n,
+    }
+}
+
+// The first fault of a row system and its place; number 0 where the words are accepted.
+pub fn read_rows(ws: &[u32]) -> Refusal
+    ensures { λ r. ⌜ r ≡ readRows (now (ws .entry)) ⌝ }
+{
+    if limit::ROW_WORDS < ws.len() {
+        return Refusal {
+            number: fault::TOO_MANY_WORDS,
+            place: 0,
+        };
+    }
+    read_on(ws, true, 0, 0).refusal
 }

@@ -19,6 +19,7 @@ use Rattle.words.specs.Variables.{startsPair, variables}
 use Rattle.words.specs.Word.{kind, signed, wordAt}
 use Rattle.words.proofs.Reading.{word-then, word-ahead}
 use Rattle.variables.specs.Start.{starts, boundsOf}
+use Rattle.variables.specs.Counted.{Counted}
 
 -- the variables of a list that begins with a word
 first-none : (w : ℕ) (ws : List ℕ) → starts w ≡ false → variables (w ∷ ws) ≡ variables ws
@@ -55,11 +56,7 @@ module _ (ws : List ℕ) (at : ℕ) where
   unfolding variables
   at-last h = rw (drop-of-length-le ws h)
 
--- ---- counting: n variables stand before the place
-pub record Counted (ws : List ℕ) (n at : ℕ) : Type 0 where
-  pub few : n ≤ at
-  pub number : n + length (variables (drop at ws)) ≡ length (variables ws)
-
+-- ---- counting
 module _ {ws : List ℕ} {n at : ℕ} (k : Counted ws n at) where
   pub count-none : at < length ws → starts (getD ws at 0) ≡ false → Counted ws n (at + 1)
   count-none h e = record { few = omega (arith, k .few); number = rw (at-none ws at h e) at (k .number) }

@@ -23,8 +23,9 @@ use Rattle.rowsystems.specs.RowSystem.{rows}
 use Rattle.rowsystems.specs.declared.Due.the-variants.{Source}
 use Rattle.rowreading.specs.Item.{startDue}
 use Rattle.rowreading.specs.Onward.{onward, Placed}
+use Rattle.rowreading.proofs.Onward.{at-the-end}
 use Rattle.rowjudge.specs.OneWord.{rowOf}
-use Rattle.rowjudge.proofs.Judging.{tells, row-holds, row-fails, Judging, begun, variable-judged, row-judged, goes, Exit, exit, at-the-end, all-counted, all-judged, whole, refused-first, outside-first}
+use Rattle.rowjudge.proofs.Judging.{tells, row-holds, row-fails, Judging, begun, variable-judged, row-judged, goes, Exit, exit, all-counted, all-judged, whole, refused-first, outside-first}
 use Rattle.rowjudge.proofs.judge_rows.Statement.{statement}
 use Rattle.rowjudge.proofs.judge_rows.Tie as tie
 

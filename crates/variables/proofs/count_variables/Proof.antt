@@ -4,7 +4,8 @@ use mathlib.Core.Logic.{⊎-elim}
 use Prim.Native.Nat.{_-_}
 use lib.ListN.{length}
 use borrow.Author.Needs.{needs}
-use Rattle.variables.proofs.Walk.{Counted, count-none, count-one, counted}
+use Rattle.variables.specs.Counted.{Counted}
+use Rattle.variables.proofs.Walk.{count-none, count-one, counted}
 use Rattle.variables.proofs.count_variables.Statement.{statement}
 use Rattle.variables.proofs.count_variables.Tie as tie
 
