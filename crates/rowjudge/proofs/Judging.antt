@@ -1,8 +1,8 @@
 -- The one pass: what it knows at a place, past an item, and where it stops.
-use mathlib.Core.Path.{_≡_, refl, sym, _∙_}
+use mathlib.Core.Path.{_≡_, refl, sym, ap, _∙_}
 use mathlib.Core.Bool.{Bool, true, false, _||_}
 use mathlib.Core.List.{List, _∷_}
-use Prim.Native.Nat.{ℕ, zero, suc, _+_, _-_, _<_, _≤_}
+use Prim.Native.Nat.{ℕ, zero, suc, _+_, _<_, _≤_}
 use native.Mathlib.Omega.{arith}
 use borrow.Author.Tests.{ltb-true, ltb-false, eqb-true, eq-eqb, ne-eqb}
 use lib.Dec.{eqb, ltb}
@@ -21,11 +21,9 @@ use Rattle.words.specs.Small.{Near}
 use Rattle.words.specs.Variables.{startsPair, variables}
 use Rattle.words.specs.Word.{kind, signed, wordAt}
 use Rattle.words.specs.declared.Refusal.{Refusal}
-use Rattle.words.proofs.Answers.{first-answers}
 use Rattle.words.proofs.Word.{between-near, signed-near}
-use Rattle.variables.specs.Judged.{judgedThen}
 use Rattle.variables.specs.Start.{starts, boundsOf}
-use Rattle.variables.proofs.After.{next, stop}
+use Rattle.variables.proofs.After.{next, found}
 use Rattle.variables.specs.Counted.{Counted}
 use Rattle.variables.proofs.Walk.{at-last, count-none, count-one, counted, Kept, keep-none, keep-one, keep-all}
 use Rattle.rowsystems.specs.JudgeRows.{judgeAccepted}
@@ -67,7 +65,7 @@ pub record Judging (ws : List ℕ) (vs : List ℤ) (n k : ℕ) (all : Bool) (wro
   pub told : tells (satisfied (value vs)) k all wrong (rows (drop at ws)) ≡ firstFalse (satisfied (value vs)) 0 (rows ws)
 
 pub begun : (ws : List ℕ) (vs : List ℤ) → Judging ws vs 0 0 true 0 0
-begun ws vs = record { few = omega arith; kept = record { few = omega arith; rest = refl }; counted = record { few = omega arith; number = omega arith }; known = λ x h. absurd (omega arith); told = refl }
+begun ws vs = record { few = omega arith; kept = record { few = omega arith; rest = refl }; counted = record { few = omega arith; number = omega arith }; known = (omega arith, λ x h. absurd (omega arith)); told = refl }
 
 -- words that start nothing start no row
 plain-rows : (ws : List ℕ) (a b : ℕ) → Plain ws a b → a ≤ b → b ≤ length ws → rows (drop a ws) ≡ rows (drop b ws)
@@ -110,27 +108,27 @@ kept-near w u v e = go (startsPair w) e
     go true e = let i = says-within (signed w to signed u) v .0 e in between-near (signed w) v (signed u) (i .0) (i .1) (signed-near w) (signed-near u)
     go false e = let i = says-within bit v .0 e in between-near (bit .lower) v (bit .upper) (i .0) (i .1) (omega arith) (omega arith)
 
-known-more : (vs : List ℤ) (n : ℕ) → Known vs n → Near (value vs n) → Known vs (n + 1)
-known-more vs n f h x l = go (ltb x n) refl
+known-more : (vs : List ℤ) (n : ℕ) → Known vs n → n + 1 ≤ length vs → Near (value vs n) → Known vs (n + 1)
+known-more vs n f l h = (l, λ x b. go x b (ltb x n) refl)
   where
-    go : (t : Bool) → ltb x n ≡ t → Near (value vs x)
-    go true e = f x (ltb-true x n e)
-    go false e = let q : n ≡ x = omega (arith, ltb-false x n e) in rw (← q) h
+    go : (x : ℕ) → x < n + 1 → (t : Bool) → ltb x n ≡ t → Near (value vs x)
+    go x b true e = f .1 x (ltb-true x n e)
+    go x b false e = let q : n ≡ x = omega (arith, ltb-false x n e) in rw (← q) h
 
 module _ {ws : List ℕ} {vs : List ℤ} {n k : ℕ} {all : Bool} {wrong at : ℕ} (j : Judging ws vs n k all wrong at) (h : at < length ws) where
   abbrev w : ℕ
   w = wordAt ws at
 
-  pub variable-judged : {b : ℕ} → starts w ≡ true → within (boundsOf w (wordAt ws (at + 1))) (value vs n) ≡ true →
+  pub variable-judged : {b : ℕ} → starts w ≡ true → n + 1 ≤ length vs → within (boundsOf w (wordAt ws (at + 1))) (value vs n) ≡ true →
       Plain ws (at + 1) b → at + 1 ≤ b → b ≤ length ws → Judging ws vs (n + 1) k all wrong b
   unfolding wordAt
-  variable-judged s e p l m =
+  variable-judged s f e p l m =
       plain-to
       (record {
         few = omega (arith, j .few);
         kept = keep-one (j .kept) h s e;
         counted = count-one (j .counted) h s;
-        known = known-more vs n (j .known) (kept-near w (wordAt ws (at + 1)) (value vs n) e);
+        known = known-more vs n (j .known) f (kept-near w (wordAt ws (at + 1)) (value vs n) e);
         told = rw (starts-none ws at h (variable-no-row w s)) at (j .told);
       })
       p l m
@@ -178,29 +176,31 @@ module _ {ws : List ℕ} {vs : List ℤ} {n k : ℕ} {all : Bool} {wrong at : �
   unfolding judgeAccepted judge firstFalse
   all-judged = (rw (none-left ws at h) at (j .told)) ∙ next (value vs) (firstFalse (satisfied (value vs)) 0 (rows ws)) 0 (variables ws) (sym (keep-all (j .kept) (at-last ws at h)))
 
--- the refusal, else 15, else what is judged of accepted words
-pub whole : (read : Refusal) (ws : List ℕ) (vs : List ℤ) (n : ℕ) (all : Bool) (wrong : ℕ) →
-    (read .number ≡ 0 → (n ≡ length (variables ws)) × ((holds if all else isFalse wrong) ≡ judgeAccepted ws vs)) →
-    ((read else-refuse (accepted if eqb (length vs) n else Fault.wrongValueCount at-place 0)) else-answer (holds if all else isFalse wrong))
-    ≡ ((read else-refuse countFault ws vs) else-answer judgeAccepted ws vs)
-unfolding _else-refuse_ _else-answer_ countFault
-whole read ws vs n all wrong f = go (read .number) (read .place) f
+-- 15, by a count of the variables that is right where the words are accepted
+pub first-refusal : (read : Refusal) (ws : List ℕ) (vs : List ℤ) (n : ℕ) → (read .number ≡ 0 → n ≡ length (variables ws)) →
+    (read else-refuse (accepted if eqb (length vs) n else Fault.wrongValueCount at-place 0)) ≡ (read else-refuse countFault ws vs)
+unfolding _else-refuse_ countFault
+first-refusal read ws vs n f = go (read .number) (read .place) f
   where
-    go : (k p : ℕ) → (k ≡ 0 → (n ≡ length (variables ws)) × ((holds if all else isFalse wrong) ≡ judgeAccepted ws vs)) →
-        (faultOr k p (accepted if eqb (length vs) n else Fault.wrongValueCount at-place 0) else-answer (holds if all else isFalse wrong)) ≡ (faultOr k p (countFault ws vs) else-answer judgeAccepted ws vs)
-    go zero p f = rw (f refl .0, f refl .1)
+    go : (k p : ℕ) → (k ≡ 0 → n ≡ length (variables ws)) → faultOr k p (accepted if eqb (length vs) n else Fault.wrongValueCount at-place 0) ≡ faultOr k p (countFault ws vs)
+    go zero p f = rw (f refl)
     go (suc k) p f = refl
 
--- ---- where the rows are not judged: words that are refused, a value out of its bounds
+-- where nothing is refused, the first has no fault
+pub none-first : (k p : ℕ) (r : Refusal) → faultOr k p r .number ≡ 0 → k ≡ 0
+none-first zero p r e = refl
+none-first (suc k) p r e = absurd (omega arith)
 
-module _ (read : Refusal) (ws : List ℕ) (vs : List ℤ) (after : Answer) where
-  pub refused-first : (read .number ≡ 0 → ⊥) → judgedThen read ws vs holds ≡ judgedThen read ws vs after
-  refused-first z = sym (first-answers (read .number) (read .place) (countFault ws vs) _ z) ∙ first-answers (read .number) (read .place) (countFault ws vs) _ z
+-- answers that are equal where nothing is refused
+pub same-answer : (r : Refusal) (a b : Answer) → (r .number ≡ 0 → a ≡ b) → (r else-answer a) ≡ (r else-answer b)
+unfolding _else-answer_
+same-answer r a b f = go (r .number) (r .place) f
+  where
+    go : (k p : ℕ) → (k ≡ 0 → a ≡ b) → refusedOr k p a ≡ refusedOr k p b
+    go zero p f = f refl
+    go (suc k) p f = refl
 
-  pub outside-first : (x : ℕ) → outOfBounds x ≡ firstOutOfBounds (value vs) 0 (variables ws) holds → judgedThen read ws vs holds ≡ judgedThen read ws vs after
-  unfolding _else-answer_ isHolds
-  outside-first x e = stop read ws vs (go ((read else-refuse countFault ws vs) .number) ((read else-refuse countFault ws vs) .place)) after
-    where
-      go : (n p : ℕ) → isHolds (refusedOr n p (firstOutOfBounds (value vs) 0 (variables ws) holds)) ≡ false
-      go zero p = rw (← e)
-      go (suc n) p = refl
+-- a value out of its bounds is what the judge names
+pub outside-first : (ws : List ℕ) (vs : List ℤ) (x : ℕ) → outOfBounds x ≡ firstOutOfBounds (value vs) 0 (variables ws) holds → outOfBounds x ≡ judgeAccepted ws vs
+unfolding judgeAccepted judge isHolds
+outside-first ws vs x e = e ∙ found (value vs) (firstFalse (satisfied (value vs)) 0 (rows ws)) 0 (variables ws) (ap isHolds (sym e))

@@ -20,7 +20,7 @@ use Rattle.words.specs.Limit as Limit
 use Rattle.words.specs.Variables.{startsPair}
 use Rattle.words.specs.Word.{kind, payload, wordAt}
 use Rattle.variables.specs.Start.{starts}
-use Rattle.rowsystems.specs.Reading.{faultItem, faultSource, faultVariable, afterDue, afterItem, started}
+use Rattle.rowsystems.specs.Reading.{faultItem, faultSource, faultVariable, afterDue, afterItem, started, faultResult, notAbove}
 use Rattle.rowsystems.specs.Row.{product, satisfied}
 use Rattle.rowsystems.specs.RowSystem.{numberAt, variableAt, termsIn, constantIn, termCount}
 use Rattle.rowsystems.specs.declared.Due.{Due}
@@ -190,14 +190,21 @@ unfolding numberAt variableAt
 term-added ws vs a d b s e q = rw q (sym (one-more (drop a ws) vs d ∙ rw (word-from ws a (2 * d + 1) (b + 1) (omega arith), word-from ws a (2 * d) b (omega arith))))
 
 -- a variable without a fault is declared
-pub declared : (n w : ℕ) → 0 ≡ faultVariable n w → payload w < n
-unfolding faultVariable
-declared n w e = go (eqb (kind w) Kind.variable) (leb n (payload w)) refl e
+named : (n w x : ℕ) → 0 ≡ (Fault.wrongKind if not (eqb (kind w) Kind.variable) else Fault.notDeclared if leb n (payload w) else x) → payload w < n
+named n w x e = go (eqb (kind w) Kind.variable) (leb n (payload w)) refl e
   where
-    go : (a b : Bool) → leb n (payload w) ≡ b → 0 ≡ (Fault.wrongKind if not a else Fault.notDeclared if b else Fault.none) → payload w < n
+    go : (a b : Bool) → leb n (payload w) ≡ b → 0 ≡ (Fault.wrongKind if not a else Fault.notDeclared if b else x) → payload w < n
     go true true q e = absurd (omega arith)
     go true false q e = omega (arith, leb-false n (payload w) q)
     go false b q e = absurd (omega arith)
+
+pub declared : (n w : ℕ) → 0 ≡ faultVariable n w → payload w < n
+unfolding faultVariable
+declared n w e = named n w Fault.none e
+
+pub declared-result : (n w f g : ℕ) → 0 ≡ faultResult n w f g → payload w < n
+unfolding faultResult
+declared-result n w f g e = named n w (Fault.resultNotAbove if notAbove w f g else Fault.none) e
 
 -- ---- steps
 

@@ -24,9 +24,9 @@ use Rattle.rowjudge.specs.declared.items.Seen.{Seen}
 abbrev pub stepOf : Seen → Step
 stepOf r = record { number = r .number; at = r .at }
 
--- the values of the variables read so far are no farther from 0 than signed payloads are
+-- the values of the variables read so far are there, no farther from 0 than signed payloads are
 abbrev pub Known : List ℤ → ℕ → Type 0
-Known vs n = (x : ℕ) → x < n → Near (value vs x)
+Known vs n = (n ≤ length vs) × ((x : ℕ) → x < n → Near (value vs x))
 
 -- whether a row with this head is true whose terms and constant add up to a number
 unfoldable pub isTrue : ℕ → ℤ → Bool

@@ -35,7 +35,6 @@ use words::kind;
 use words::kind_of;
 use words::payload_of;
 use words::signed_of;
-use words::value_at;
 use words::word_at;
 
 // Where reading goes on, with number 0, and whether the item is true; or a fault and its place.
@@ -108,6 +107,14 @@ fn is_true(head: u32, total: i64) -> bool
     equal(total, 0)
 }
 
+// The value of a variable whose value is there.
+fn known_value(values: &[i32], x: usize) -> i64
+    requires { ⌜ x < length (now values) ⌝ }
+    ensures { λ r. ⌜ r ≡ value (now (values .entry)) x ⌝ }
+{
+    values[x] as i64
+}
+
 // The terms and the constant of a row, all of which are there.
 fn see_terms(ws: &[u32], head: u32, n: usize, start: usize, values: &[i32]) -> Seen
     requires { ⌜ Placed (now ws) start × Known (now values) n × (payload head ≤ Limit.terms) × (start + 2 * payload head < length (now ws)) ⌝ }
@@ -128,7 +135,10 @@ fn see_terms(ws: &[u32], head: u32, n: usize, start: usize, values: &[i32]) -> S
         if coefficient != fault::NONE {
             return faulty(coefficient, at + 1);
         }
-        total = plus(total, times(signed_of(c), value_at(values, payload_of(x))));
+        total = plus(
+            total,
+            times(signed_of(c), known_value(values, payload_of(x))),
+        );
         at += 2;
         left -= 1;
     }
@@ -201,10 +211,10 @@ fn see_factors(ws: &[u32], n: usize, at: usize, values: &[i32]) -> Seen
         return faulty(second, at + 2);
     }
     let of_factors = times(
-        value_at(values, payload_of(f)),
-        value_at(values, payload_of(g)),
+        known_value(values, payload_of(f)),
+        known_value(values, payload_of(g)),
     );
-    let holds = equal(value_at(values, payload_of(r)), of_factors);
+    let holds = equal(known_value(values, payload_of(r)), of_factors);
     Seen {
         number: fault::NONE,
         at: at + 3,

@@ -36,7 +36,7 @@ module _ (σ : Valuation) (after : Answer) where
       go true e f = f e
       go false e f = absurd (let z : _≡_ {A = ℕ} 0 1 = cc in omega arith)
 
-  found : (k : ℕ) (Bs : List Bounds) → isHolds (firstOutOfBounds σ k Bs holds) ≡ false → firstOutOfBounds σ k Bs holds ≡ firstOutOfBounds σ k Bs after
+  pub found : (k : ℕ) (Bs : List Bounds) → isHolds (firstOutOfBounds σ k Bs holds) ≡ false → firstOutOfBounds σ k Bs holds ≡ firstOutOfBounds σ k Bs after
   unfolding firstOutOfBounds isHolds
   found k [] e = absurd (let z : _≡_ {A = ℕ} 0 1 = cc in omega arith)
   found k (B ∷ Bs) e = go (within B (σ k)) e (found (k + 1) Bs)
@@ -48,7 +48,7 @@ module _ (σ : Valuation) (after : Answer) where
       go false e f = refl
 
 -- where there is no refusal, there are as many values as variables
-as-many : (read : Refusal) (ws : List ℕ) (vs : List ℤ) → (read else-refuse countFault ws vs) .number ≡ 0 → length vs ≡ length (variables ws)
+pub as-many : (read : Refusal) (ws : List ℕ) (vs : List ℤ) → (read else-refuse countFault ws vs) .number ≡ 0 → length vs ≡ length (variables ws)
 unfolding _else-refuse_ countFault
 as-many read ws vs e = go (eqb (length vs) (length (variables ws))) refl (second (read .number) (read .place) (countFault ws vs) e)
   where

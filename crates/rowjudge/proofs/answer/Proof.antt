@@ -1,4 +1,4 @@
--- The first refusal answers, else the rows.
+-- The first refusal answers, else what is judged.
 use borrow.Author.Tests.{not-true, not-false}
 use Rattle.words.specs.Answer.{_else-answer_}
 use Rattle.words.specs.Fault as Fault
@@ -18,11 +18,7 @@ returns-2 c = rw (not-true (c .before .before .before .args .as-many) (c .if2 .t
 
 returns-3 : tie.Need-returns-3
 unfolding verdict _else-answer_
-returns-3 c = rw (not-false (c .before .before .before .before .args .as-many) (c .before .if2 .left), c .if3 .taken) (second-answers (c .before .before .before .before .args .read .number) (c .before .before .before .before .args .read .place) accepted _ (c .before .before .if1 .left))
-
-returns-4 : tie.Need-returns-4
-unfolding verdict _else-answer_
-returns-4 c = rw (not-false (c .before .before .before .before .args .as-many) (c .before .if2 .left), c .if3 .left) (second-answers (c .before .before .before .before .args .read .number) (c .before .before .before .before .args .read .place) accepted _ (c .before .before .if1 .left))
+returns-3 c = rw (not-false (c .before .before .before .args .as-many) (c .if2 .left)) (second-answers (c .before .before .before .args .read .number) (c .before .before .before .args .read .place) accepted _ (c .before .if1 .left))
 
 pub answer-spec : {M : Type 1} → statement M
-answer-spec = tie.close (tie.spec returns returns-2 returns-3 returns-4)
+answer-spec = tie.close (tie.spec returns returns-2 returns-3)

@@ -1,7 +1,6 @@
 -- Too many words, else reading from the first word on.
-use mathlib.Core.Path.{_≡_, refl, _∙_}
+use mathlib.Core.Path.{_∙_}
 use native.Mathlib.Omega.{arith}
-use borrow.Author.Needs.{needs}
 use borrow.Author.Tests.{lt-ltb, le-ltb}
 use Rattle.rowsystems.specs.Reading.{readRows}
 use Rattle.rowreading.specs.Item.{startDue}

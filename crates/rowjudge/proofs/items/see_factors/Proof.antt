@@ -1,13 +1,13 @@
 -- The result, then the first factor, then the second, up to the first fault; the values of declared variables are known, so that their product fits.
-use mathlib.Core.Path.{_≡_, refl, sym, _∙_}
+use mathlib.Core.Path.{_≡_, refl, sym, ap, _∙_}
 use native.Mathlib.Omega.{arith}
-use Prim.Native.Nat.{_+_}
+use Prim.Native.Nat.{_+_, _<_}
 use mir.Syntax.{w64}
 use mir.Val.{toZ, ofZ}
 use Rattle.integers.specs.Terms.{value}
 use Rattle.integers.proofs.Fits.{back}
 use Rattle.words.specs.Small.{Near}
-use Rattle.words.specs.Word.{wordAt}
+use Rattle.words.specs.Word.{payload}
 use Rattle.words.proofs.Word.{factors-fit}
 use Rattle.rowsystems.specs.Row.{satisfied}
 use Rattle.rowsystems.specs.RowSystem.{variableAt}
@@ -15,7 +15,7 @@ use Rattle.rowsystems.specs.declared.Due.the-variants.{Result, FirstFactor, Sec
 use Rattle.rowreading.specs.Onward.{Went, stepOver}
 use Rattle.rowreading.proofs.Inner.{product-result, first-factor, second-factor}
 use Rattle.rowreading.proofs.Steps.{and-then}
-use Rattle.rowjudge.proofs.Passing.{step-halts, step-goes, declared}
+use Rattle.rowjudge.proofs.Passing.{step-halts, step-goes, declared, declared-result}
 use borrow.Author.Needs.{needs}
 use Rattle.rowjudge.proofs.items.see_factors.Statement.{statement}
 use Rattle.rowjudge.proofs.items.see_factors.Tie as tie
@@ -45,20 +45,43 @@ second c =
     and-then g refl refl (rw (c .fault-variable2 .ensures, c .before .before .before .before .before .word-at3 .ensures) (second-factor (a .ws .now) (a .n) (a .at + 2) (g .inside)))
 
 -- the values of the two factors
-values : (c : tie.After-value-at2) → let a = c .before .before .before .before .before .before .before .before .before .before .before .before .before .before .args in (toZ w64 (ofZ w64 (c .before .before .value-at .result)) ≡ value (a .values .now) (variableAt (a .ws .now) (a .at + 1))) × (toZ w64 (ofZ w64 (c .value-at2 .result)) ≡ value (a .values .now) (variableAt (a .ws .now) (a .at + 2)))
+values : (c : tie.After-known-value2) → let a = c .before .before .before .before .before .before .before .before .before .before .before .before .before .before .args in (toZ w64 (ofZ w64 (c .before .before .known-value .result)) ≡ value (a .values .now) (variableAt (a .ws .now) (a .at + 1))) × (toZ w64 (ofZ w64 (c .known-value2 .result)) ≡ value (a .values .now) (variableAt (a .ws .now) (a .at + 2)))
 unfolding variableAt
-values c = (back (c .before .before .value-at .result) (c .before .before .value-at .ok) ∙ c .before .before .value-at .ensures ∙ rw (c .before .before .before .payload-of .ensures, c .before .before .before .before .before .before .before .before .before .before .before .word-at2 .ensures), back (c .value-at2 .result) (c .value-at2 .ok) ∙ c .value-at2 .ensures ∙ rw (c .before .payload-of2 .ensures, c .before .before .before .before .before .before .before .before .before .before .word-at3 .ensures))
+values c = (back (c .before .before .known-value .result) (c .before .before .known-value .ok) ∙ c .before .before .known-value .ensures ∙ rw (c .before .before .before .payload-of .ensures, c .before .before .before .before .before .before .before .before .before .before .before .word-at2 .ensures), back (c .known-value2 .result) (c .known-value2 .ok) ∙ c .known-value2 .ensures ∙ rw (c .before .payload-of2 .ensures, c .before .before .before .before .before .before .before .before .before .before .word-at3 .ensures))
 
-near : (c : tie.After-value-at2) → let a = c .before .before .before .before .before .before .before .before .before .before .before .before .before .before .args in Near (value (a .values .now) (variableAt (a .ws .now) (a .at + 1))) × Near (value (a .values .now) (variableAt (a .ws .now) (a .at + 2)))
+-- the three variables are declared, so that their values are there and known
+first-declared : (c : tie.After-fault-variable) → c .fault-variable .result ≡ 0 → variableAt (c .before .before .before .before .before .before .before .args .ws .now) (c .before .before .before .before .before .before .before .args .at + 1) < c .before .before .before .before .before .before .before .args .n
 unfolding variableAt
+first-declared c z = declared _ _ (sym z ∙ c .fault-variable .ensures ∙ rw (c .before .before .before .before .word-at2 .ensures))
+
+second-declared : (c : tie.After-fault-variable2) → c .fault-variable2 .result ≡ 0 → variableAt (c .before .before .before .before .before .before .before .before .before .args .ws .now) (c .before .before .before .before .before .before .before .before .before .args .at + 2) < c .before .before .before .before .before .before .before .before .before .args .n
+unfolding variableAt
+second-declared c z = declared _ _ (sym z ∙ c .fault-variable2 .ensures ∙ rw (c .before .before .before .before .before .word-at3 .ensures))
+
+result-declared : (c : tie.After-fault-result) → c .fault-result .result ≡ 0 → payload (c .before .before .before .word-at .result) < c .before .before .before .before .before .args .n
+result-declared c z = declared-result _ _ _ _ (sym z ∙ c .fault-result .ensures)
+
+known-value-requires : tie.Need-known-value-requires
+unfolding variableAt
+known-value-requires c κs =
+    let s = c .before .before .before .before .before .before .before .before .before .before .before in
+    omega (arith, c .payload-of .ensures, ap payload (c .before .before .before .before .before .before .before .before .word-at2 .ensures), first-declared (c .before .before .before .before) (c .before .before .before .if2 .left), s .pre .1 .0)
+
+known-value-requires-2 : tie.Need-known-value-requires-2
+unfolding variableAt
+known-value-requires-2 c κs =
+    let s = c .before .before .before .before .before .before .before .before .before .before .before .before .before in
+    omega (arith, c .payload-of2 .ensures, ap payload (c .before .before .before .before .before .before .before .before .before .word-at3 .ensures), second-declared (c .before .before .before .before) (c .before .before .before .if3 .left), s .pre .1 .0)
+
+known-value-requires-3 : tie.Need-known-value-requires-3
+known-value-requires-3 c κs =
+    let s = c .before .before .before .before .before .before .before .before .before .before .before .before .before .before .before .before in
+    omega (arith, c .payload-of3 .ensures, result-declared (c .before .before .before .before .before .before .before .before .before .before .before) (c .before .before .before .before .before .before .before .before .before .before .if1 .left), s .pre .1 .0)
+
+near : (c : tie.After-known-value2) → let a = c .before .before .before .before .before .before .before .before .before .before .before .before .before .before .args in Near (value (a .values .now) (variableAt (a .ws .now) (a .at + 1))) × Near (value (a .values .now) (variableAt (a .ws .now) (a .at + 2)))
 near c =
-    let a = c .before .before .before .before .before .before .before .before .before .before .before .before .before .before .args in
-    let ws = a .ws .now in
-    let at = a .at in
-    let n = a .n in (
-      c .before .before .before .before .before .before .before .before .before .before .before .before .before .before .pre .1 (variableAt ws (at + 1)) (declared n (wordAt ws (at + 1)) (sym (c .before .before .before .before .before .before .if2 .left) ∙ c .before .before .before .before .before .before .before .fault-variable .ensures ∙ rw (c .before .before .before .before .before .before .before .before .before .before .before .word-at2 .ensures))),
-      c .before .before .before .before .before .before .before .before .before .before .before .before .before .before .pre .1 (variableAt ws (at + 2)) (declared n (wordAt ws (at + 2)) (sym (c .before .before .before .before .if3 .left) ∙ c .before .before .before .before .before .fault-variable2 .ensures ∙ rw (c .before .before .before .before .before .before .before .before .before .before .word-at3 .ensures))),
-    )
+    let s = c .before .before .before .before .before .before .before .before .before .before .before .before .before .before in
+    (s .pre .1 .1 _ (first-declared (c .before .before .before .before .before .before .before) (c .before .before .before .before .before .before .if2 .left)), s .pre .1 .1 _ (second-declared (c .before .before .before .before .before) (c .before .before .before .before .if3 .left)))
 
 returns : tie.Need-returns
 returns c = rw (c .faulty .ensures) (step-halts (result (c .before .before)) (c .before .if1 .taken), λ z. absurd (c .before .if1 .taken z))
@@ -81,7 +104,7 @@ returns-4 c =
     let e : a .at + 2 + 1 ≡ a .at + 3 = omega arith in
     let v = values (c .before .before .before .before) in (
       rw e at (step-goes (a .at + 2) (second (c .before .before .before .before .before .before .before .before .before)) (c .before .before .before .before .before .before .before .before .if3 .left)),
-      λ z. c .equal .ensures ∙ rw (back (c .before .value-at3 .result) (c .before .value-at3 .ok), c .before .value-at3 .ensures, c .before .before .payload-of3 .ensures, c .before .before .before .before .before .before .before .before .before .before .before .before .before .before .before .before .word-at .ensures, back (c .before .before .before .times .result) (c .before .before .before .times .ok), c .before .before .before .times .ensures, v .0, v .1),
+      λ z. c .equal .ensures ∙ rw (back (c .before .known-value3 .result) (c .before .known-value3 .ok), c .before .known-value3 .ensures, c .before .before .payload-of3 .ensures, c .before .before .before .before .before .before .before .before .before .before .before .before .before .before .before .before .word-at .ensures, back (c .before .before .before .times .result) (c .before .before .before .times .ok), c .before .before .before .times .ensures, v .0, v .1),
     )
 
 pub see-factors-spec : {M : Type 1} → statement M
@@ -105,12 +128,12 @@ see-factors-spec =
     (λ c κs. search needs)
     returns-3
     (λ c κs. search needs)
+    known-value-requires
     (λ c κs. search needs)
-    (λ c κs. search needs)
-    (λ c κs. search needs)
+    known-value-requires-2
     times-requires
     (λ c κs. search needs)
-    (λ c κs. search needs)
+    known-value-requires-3
     (λ c κs. search needs)
     (λ c. search needs)
     returns-4)

@@ -62,18 +62,23 @@ constant c =
     let l = c .before .before .before .loop in
     let z : l .left ≡ 0 = omega (arith, c .before .before .loop-test .left) in and-then (rw z at (l .inv .2)) refl refl (rw (c .fault-number2 .ensures) (row-constant (a .ws .now) (a .n) (l .at) (l .inv .2 .inside)))
 
--- the value of the term's variable is known
-near : (c : tie.After-value-at Inv-loop μ-loop) → let a = c .before .before .before .before .before .before .before .before .before .before .before .before .before .args in Near (value (a .values .now) (variableAt (a .ws .now) (c .before .before .before .before .before .before .before .before .before .before .loop .at)))
-unfolding variableAt wordAt
-near c =
-    let a = c .before .before .before .before .before .before .before .before .before .before .before .before .before .args in
-    let l = c .before .before .before .before .before .before .before .before .before .before .loop in
-    c .before .before .before .before .before .before .before .before .before .before .before .before .before .pre .1 (variableAt (a .ws .now) (l .at)) (declared (a .n) (wordAt (a .ws .now) (l .at)) (sym (c .before .before .before .before .before .before .if1 .left) ∙ c .before .before .before .before .before .before .before .fault-variable .ensures))
+-- the term's variable is declared, so that its value is there and known
+here : (c : tie.After-payload-of2 Inv-loop μ-loop) → payload (wordAt (c .before .before .before .before .before .before .before .before .before .before .before .before .args .ws .now) (c .before .before .before .before .before .before .before .before .before .loop .at)) < c .before .before .before .before .before .before .before .before .before .before .before .before .args .n
+unfolding wordAt
+here c = declared (c .before .before .before .before .before .before .before .before .before .before .before .before .args .n) (wordAt (c .before .before .before .before .before .before .before .before .before .before .before .before .args .ws .now) (c .before .before .before .before .before .before .before .before .before .loop .at)) (sym (c .before .before .before .before .before .if1 .left) ∙ c .before .before .before .before .before .before .fault-variable .ensures)
+
+known-value-requires : tie.Need-known-value-requires Inv-loop μ-loop
+unfolding wordAt
+known-value-requires c κs = omega (arith, c .payload-of2 .ensures, here c, c .before .before .before .before .before .before .before .before .before .before .before .before .pre .1 .0)
+
+near : (c : tie.After-known-value Inv-loop μ-loop) → let a = c .before .before .before .before .before .before .before .before .before .before .before .before .before .args in Near (value (a .values .now) (variableAt (a .ws .now) (c .before .before .before .before .before .before .before .before .before .before .loop .at)))
+unfolding variableAt
+near c = c .before .before .before .before .before .before .before .before .before .before .before .before .before .pre .1 .1 _ (here (c .before))
 
 -- the factors of the term, and the term
-factors : (c : tie.After-value-at Inv-loop μ-loop) → let a = c .before .before .before .before .before .before .before .before .before .before .before .before .before .args in let l = c .before .before .before .before .before .before .before .before .before .before .loop in (toZ w64 (ofZ w64 (c .before .before .signed-of .result)) ≡ numberAt (a .ws .now) (l .at + 1)) × (toZ w64 (ofZ w64 (c .value-at .result)) ≡ value (a .values .now) (variableAt (a .ws .now) (l .at)))
+factors : (c : tie.After-known-value Inv-loop μ-loop) → let a = c .before .before .before .before .before .before .before .before .before .before .before .before .before .args in let l = c .before .before .before .before .before .before .before .before .before .before .loop in (toZ w64 (ofZ w64 (c .before .before .signed-of .result)) ≡ numberAt (a .ws .now) (l .at + 1)) × (toZ w64 (ofZ w64 (c .known-value .result)) ≡ value (a .values .now) (variableAt (a .ws .now) (l .at)))
 unfolding numberAt variableAt wordAt
-factors c = (back (c .before .before .signed-of .result) (c .before .before .signed-of .ok) ∙ c .before .before .signed-of .ensures, back (c .value-at .result) (c .value-at .ok) ∙ c .value-at .ensures ∙ rw (c .before .payload-of2 .ensures))
+factors c = (back (c .before .before .signed-of .result) (c .before .before .signed-of .ok) ∙ c .before .before .signed-of .ensures, back (c .known-value .result) (c .known-value .ok) ∙ c .known-value .ensures ∙ rw (c .before .payload-of2 .ensures))
 
 term : (c : tie.After-times Inv-loop μ-loop) → let a = c .before .before .before .before .before .before .before .before .before .before .before .before .before .before .args in let l = c .before .before .before .before .before .before .before .before .before .before .before .loop in toZ w64 (ofZ w64 (c .times .result)) ≡ numberAt (a .ws .now) (l .at + 1) ⊗ value (a .values .now) (variableAt (a .ws .now) (l .at))
 term c = back (c .times .result) (c .times .ok) ∙ c .times .ensures ∙ rw (factors (c .before) .0, factors (c .before) .1)
@@ -198,7 +203,7 @@ see-terms-spec =
     returns-2
     (λ c κs. search needs)
     (λ c κs. search needs)
-    (λ c κs. search needs)
+    known-value-requires
     times-requires
     plus-requires
     add-at
