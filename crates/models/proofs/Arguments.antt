@@ -6,9 +6,9 @@ use lib.Dec.{eqb}
 use lib.ListN.{length}
 use Rattle.integers.specs.Choice.{_if_else_}
 use Rattle.integers.specs.Terms.{Term}
-use Rattle.models.specs.Table.{Sort, integer, boolean, number, numbers, integers, booleans, parallel, Argument}
+use Rattle.models.specs.Table.{Sort, integer, boolean, number, exponent, numbers, integers, booleans, parallel, Argument}
 use Rattle.models.specs.Shape as Shape
-use Rattle.models.specs.Builtin.{Builtin, int-eq, int-le, int-lt, int-ne, int-le-reif, int-plus, int-times, int-abs, int-max, int-lin-eq, int-lin-le, int-lin-ne, int-lin-eq-reif, int-eq-reif, int-lin-le-reif, bool2int, bool-not, bool-and, bool-or, bool-xor, bool-clause, array-bool-and, array-bool-xor, array-int-element, array-var-int-element, array-int-maximum, set-in, set-in-reif, int-min, int-lt-reif, int-ne-reif, int-lin-ne-reif, array-int-minimum, bool-eq-reif, bool-le-reif, bool-lt-reif, int-div, int-mod}
+use Rattle.models.specs.Builtin.{Builtin, int-eq, int-le, int-lt, int-ne, int-le-reif, int-plus, int-times, int-abs, int-max, int-lin-eq, int-lin-le, int-lin-ne, int-lin-eq-reif, int-eq-reif, int-lin-le-reif, bool2int, bool-not, bool-and, bool-or, bool-xor, bool-clause, array-bool-and, array-bool-xor, array-int-element, array-var-int-element, array-int-maximum, set-in, set-in-reif, int-min, int-lt-reif, int-ne-reif, int-lin-ne-reif, array-int-minimum, bool-eq-reif, bool-le-reif, bool-lt-reif, int-div, int-mod, int-pow}
 
 -- an argument and its sort
 pub record Given : Type 0 where
@@ -58,6 +58,7 @@ argumentsOf (bool-le-reif a b r) = boolean ! a ∷ boolean ! b ∷ boolean ! r �
 argumentsOf (bool-lt-reif a b r) = boolean ! a ∷ boolean ! b ∷ boolean ! r ∷ []
 argumentsOf (int-div n d q) = integer ! n ∷ integer ! d ∷ integer ! q ∷ []
 argumentsOf (int-mod n d r) = integer ! n ∷ integer ! d ∷ integer ! r ∷ []
+argumentsOf (int-pow x k z) = integer ! x ∷ exponent ! k ∷ integer ! z ∷ []
 
 -- ---- of one argument: its variables, their type, whether it is a list, its words
 
@@ -69,6 +70,7 @@ abbrev pub namedIn : (s : Sort) → Argument s → List ℕ
 namedIn integer v = v ∷ []
 namedIn boolean v = v ∷ []
 namedIn number c = []
+namedIn exponent k = []
 namedIn numbers ns = []
 namedIn integers vs = vs
 namedIn booleans vs = vs
@@ -78,6 +80,7 @@ abbrev pub typeOf : Sort → ℕ
 typeOf integer = Shape.integer
 typeOf boolean = Shape.boolean
 typeOf number = Shape.none
+typeOf exponent = Shape.none
 typeOf numbers = Shape.none
 typeOf integers = Shape.integer
 typeOf booleans = Shape.boolean
@@ -87,6 +90,7 @@ abbrev pub isList : Sort → Bool
 isList integer = false
 isList boolean = false
 isList number = false
+isList exponent = false
 isList numbers = true
 isList integers = true
 isList booleans = true
@@ -96,6 +100,7 @@ abbrev pub wordsIn : (s : Sort) → Argument s → ℕ
 wordsIn integer v = 1
 wordsIn boolean v = 1
 wordsIn number c = 1
+wordsIn exponent k = 1
 wordsIn numbers ns = 1 + length ns
 wordsIn integers vs = 1 + length vs
 wordsIn booleans vs = 1 + length vs

@@ -16,10 +16,10 @@ use Rattle.words.specs.Word.{payload, wordAt}
 use Rattle.models.specs.Shape as Shape
 use Rattle.models.specs.Shape.{argument}
 use Rattle.models.specs.Model.{var, size, past}
-use Rattle.models.specs.Reading.{faultNumber, faultVariable, faultLength, faultArgumentIn, faultDue, faultDueIn, faultIn, afterArgument, afterDue, faultEnd, ended}
+use Rattle.models.specs.Reading.{faultNumber, faultVariable, faultCount, faultArgumentIn, faultDue, faultDueIn, faultIn, afterArgument, afterDue, faultEnd, ended}
 use Rattle.models.specs.declared.Due.{Due}
 use Rattle.models.specs.declared.Due.the-variants.{Arguments}
-use Rattle.models.proofs.Sound.{Sound, Plain, plain, after-plain, reading, turn, is-number, is-variable, is-length}
+use Rattle.models.proofs.Sound.{Sound, Plain, plain, after-plain, reading, turn, is-number, is-variable, is-count}
 
 -- variable v is declared with the type t
 abbrev pub Named : List ℕ → ℕ → ℕ → Type 0
@@ -41,7 +41,7 @@ module _ (ws : List ℕ) where
   pastNumbers i s = past ws i if hasNumbers s else i + 1
 
   abbrev pub pastArgument : ℕ → ℕ → ℕ
-  pastArgument i s = i + 1 if leb s Shape.number else pastNumbers i s + size ws i if hasVariables s else pastNumbers i s
+  pastArgument i s = i + 1 if leb s Shape.exponent else pastNumbers i s + size ws i if hasVariables s else pastNumbers i s
 
   abbrev pub pastArguments : ℕ → List ℕ → ℕ
   pastArguments i [] = i
@@ -55,7 +55,7 @@ module _ (ws : List ℕ) where
   abbrev pub Fits : List ℕ → ℕ → ℕ → Type 0
   Fits types i s =
       Named types s (var ws i) if ltb s Shape.number
-      else Unit {0} if eqb s Shape.number
+      else Unit {0} if leb s Shape.exponent
       else (var ws i ≤ 32) × All (Named types (typeIn s)) (listed i s)
 
   abbrev pub FitAll : List ℕ → ℕ → List ℕ → Type 0
@@ -165,7 +165,7 @@ plus-if x n false = add-zero x
 
 -- the fault of an argument's first word
 abbrev faultFirst : ℕ → ℕ → ℕ → ℕ
-faultFirst s u w = faultVariable u s w if ltb s Shape.number else faultNumber w if eqb s Shape.number else faultLength w
+faultFirst s u w = faultVariable u s w if ltb s Shape.number else faultNumber w if eqb s Shape.number else faultCount 27 w if eqb s Shape.exponent else faultCount 32 w
 
 argument-due : (s t code k v u c w : ℕ) → argument code k ≡ s → 1 ≤ s → faultDue (Arguments 0 0 t code k) v u c w ≡ faultFirst s u w
 unfolding faultDueIn faultArgumentIn
@@ -175,14 +175,14 @@ after-argument : (s t code k w : ℕ) → argument code k ≡ s → 1 ≤ s → 
 unfolding afterDue
 after-argument s t code k w a l = rw (a, ne-eqb s 0 (λ e. omega arith))
 
-after-one : (s code k w : ℕ) → s ≤ 3 → afterArgument s code k w ≡ Arguments 0 0 0 code k
+after-one : (s code k w : ℕ) → s ≤ 4 → afterArgument s code k w ≡ Arguments 0 0 0 code k
 unfolding afterArgument
-after-one s code k w l = rw (le-leb s 3)
+after-one s code k w l = rw (le-leb s 4)
 
-after-list : (s code k w : ℕ) → 3 < s →
+after-list : (s code k w : ℕ) → 4 < s →
     afterArgument s code k w ≡ Arguments (payload w if hasNumbers s else 0) (payload w if hasVariables s else 0) (typeIn s) code k
 unfolding afterArgument
-after-list s code k w l = rw (lt-leb s 3 l) (go (eqb s 4) (eqb s 5) (eqb s 6))
+after-list s code k w l = rw (lt-leb s 4 l) (go (eqb s 5) (eqb s 6) (eqb s 7))
   where
     go : (a b d : Bool) → ((Arguments (payload w) 0 0 code k) if a else (Arguments 0 (payload w) 1 code k) if b else (Arguments 0 (payload w) 2 code k) if d else (Arguments (payload w) (payload w) 1 code k))
         ≡ Arguments (payload w if a || not (b || d) else 0) (payload w if not a else 0) (Shape.none if a else Shape.integer if b else Shape.boolean if d else Shape.integer) code k
@@ -213,40 +213,49 @@ module _ (ts ws : List ℕ) (c : ℕ) where
 
     next-variable : ltb s 3 ≡ true → Next s code k i
     next-variable e =
-        let b : s ≤ 3 = omega (arith, ltb-true s 3 e) in
+        let b : s ≤ 4 = omega (arith, ltb-true s 3 e) in
         let r = first (λ f. plain (is-variable w _ s (rw e at f) .0) (omega arith) (omega arith)) in
-        record { fits = rw e (is-variable w _ s (rw e at (r .0)) .1); type = 0; to = rw (le-leb s 3 b) (rw (after-one s code (k + 1) w b) at (r .1)) }
+        record { fits = rw e (is-variable w _ s (rw e at (r .0)) .1); type = 0; to = rw (le-leb s 4 b) (rw (after-one s code (k + 1) w b) at (r .1)) }
 
     next-number : s ≡ 3 → Next s code k i
     next-number e =
-        let b : s ≤ 3 = omega arith in
+        let b : s ≤ 4 = omega arith in
         let r = first (λ f. plain (is-number w (rw e at f)) (omega arith) (omega arith)) in
-        record { fits = rw e tt; type = 0; to = rw (le-leb s 3 b) (rw (after-one s code (k + 1) w b) at (r .1)) }
+        record { fits = rw e tt; type = 0; to = rw (le-leb s 4 b) (rw (after-one s code (k + 1) w b) at (r .1)) }
 
-    next-list : 3 < s → Next s code k i
+    next-exponent : s ≡ 4 → Next s code k i
+    next-exponent e =
+        let b : s ≤ 4 = omega arith in
+        let r = first (λ f. plain (is-count w 27 (rw e at f) .0) (omega arith) (omega arith)) in
+        record { fits = rw e tt; type = 0; to = rw (le-leb s 4 b) (rw (after-one s code (k + 1) w b) at (r .1)) }
+
+    next-list : 4 < s → Next s code k i
     unfolding past var
     next-list b =
         let not-variable : ltb s 3 ≡ false = le-ltb s 3 (omega arith) in
         let not-number : eqb s 3 ≡ false = ne-eqb s 3 (λ e. omega arith) in
-        let r = first (λ f. plain (is-length w (rw (not-variable, not-number) at f) .0) (omega arith) (omega arith)) in
-        let small : var ws i ≤ 32 = is-length w (rw (not-variable, not-number) at (r .0)) .1 in
+        let not-exponent : eqb s 4 ≡ false = ne-eqb s 4 (λ e. omega arith) in
+        let not-one : leb s 4 ≡ false = lt-leb s 4 b in
+        let r = first (λ f. plain (is-count w 32 (rw (not-variable, not-number, not-exponent) at f) .0) (omega arith) (omega arith)) in
+        let small : var ws i ≤ 32 = is-count w 32 (rw (not-variable, not-number, not-exponent) at (r .0)) .1 in
         let n = size-small ws i small in
         let p : To ts ws c i (i + 1) (Arguments (size ws i if hasNumbers s else 0) (size ws i if hasVariables s else 0) (typeIn s) code (k + 1)) = simp (after-list s code (k + 1) w b, n) at (r .1) in
         let q : To ts ws c (i + 1) (pastNumbers ws i s) (Arguments 0 (size ws i if hasVariables s else 0) (typeIn s) code (k + 1)) = rw (plus-if (i + 1) (size ws i) (hasNumbers s)) at (numbers ts ws c _ _ _ _ _ (i + 1) (p .within) (p .sound)) in
         let v = variables ts ws c (size ws i if hasVariables s else 0) (typeIn s) code (k + 1) (pastNumbers ws i s) (q .within) (q .sound) in
         record {
-          fits = rw (not-variable, not-number) (small, all-if (Named ts (typeIn s)) (λ j. var ws (pastNumbers ws i s + j)) (size ws i) (hasVariables s) (v .1));
+          fits = rw (not-variable, not-one) (small, all-if (Named ts (typeIn s)) (λ j. var ws (pastNumbers ws i s + j)) (size ws i) (hasVariables s) (v .1));
           type = typeIn s;
-          to = rw (lt-leb s 3 b) (join ts ws c p (join ts ws c q (rw (plus-if (pastNumbers ws i s) (size ws i) (hasVariables s)) at (v .0))));
+          to = rw not-one (join ts ws c p (join ts ws c q (rw (plus-if (pastNumbers ws i s) (size ws i) (hasVariables s)) at (v .0))));
         }
 
     next : Next s code k i
-    next = go (ltb s 3) (eqb s 3) refl refl
+    next = go (ltb s 3) (eqb s 3) (eqb s 4) refl refl refl
       where
-        go : (x y : Bool) → ltb s 3 ≡ x → eqb s 3 ≡ y → Next s code k i
-        go true y e f = next-variable e
-        go false true e f = next-number (eqb-true s 3 f)
-        go false false e f = next-list (omega (arith, ltb-false s 3 e, eqb-false s 3 f))
+        go : (x y z : Bool) → ltb s 3 ≡ x → eqb s 3 ≡ y → eqb s 4 ≡ z → Next s code k i
+        go true y z e f g = next-variable e
+        go false true z e f g = next-number (eqb-true s 3 f)
+        go false false true e f g = next-exponent (eqb-true s 4 g)
+        go false false false e f g = next-list (omega (arith, ltb-false s 3 e, eqb-false s 3 f, eqb-false s 4 g))
 
   -- ---- all arguments: those of the shapes ss, from the k-th of the code on
   pub record Rest (ss : List ℕ) (i : ℕ) : Type 0 where

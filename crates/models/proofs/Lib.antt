@@ -10,3 +10,4 @@ pub mod Contents
 pub mod Accepted
 pub mod Constraints
 pub mod Parity
+pub mod Power

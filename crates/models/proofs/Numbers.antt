@@ -22,7 +22,7 @@ use Rattle.words.proofs.Choices.{either, of-kind, of-range}
 use Rattle.words.proofs.Reading.{not-too-many, each-word, same-reading}
 use Rattle.models.specs.Shape as Shape
 use Rattle.models.specs.Shape.{argument}
-use Rattle.models.specs.Reading.{faultHead, faultStart, faultStartIn, faultUpperIn, faultNumber, faultNumberIn, faultVariable, faultLength, faultLengthIn, faultArgument, faultArgumentIn, faultDue, faultDueIn, fault, faultIn, after, ended, begin, readModel, readModelIn}
+use Rattle.models.specs.Reading.{faultHead, faultStart, faultStartIn, faultUpperIn, faultNumber, faultNumberIn, faultVariable, faultCount, faultCountIn, faultArgument, faultArgumentIn, faultDue, faultDueIn, fault, faultIn, after, ended, begin, readModel, readModelIn}
 use Rattle.models.specs.declared.Due.{Due}
 use Rattle.models.specs.declared.Due.the-variants.{Start, Upper, Arguments, Ended}
 use Rattle.models.proofs.Sound.{is-variable, is-upper, at-constraint, at-end, is-head, at-lower, at-boolean, at-head, is-start}
@@ -34,9 +34,9 @@ module _ (w : ℕ) where
   unfolding faultNumberIn
   number-in e s = of-range w _ (of-kind w Kind.number _ e .1) .0
 
-  length-in : faultLength w ≡ 0 → NumberIn w
-  unfolding faultLengthIn
-  length-in e s = of-range w _ (of-kind w Kind.number _ e .1) .0
+  count-in : (most : ℕ) → faultCount most w ≡ 0 → NumberIn w
+  unfolding faultCountIn
+  count-in most e s = of-range w _ (of-kind w Kind.number _ e .1) .0
 
   variable-in : (t type : ℕ) → faultVariable t type w ≡ 0 → NumberIn w
   unfolding isSigned
@@ -63,7 +63,10 @@ module _ (w : ℕ) where
     | inl h ↦ head-in c (h .1)
     | inr h ↦ elim (either _ (ltb arg Shape.number) _ (h .1)) [
       | inl k ↦ variable-in t arg (k .1)
-      | inr k ↦ elim (either _ (eqb arg Shape.number) _ (k .1)) [ inl m ↦ number-in (m .1) | inr m ↦ length-in (m .1) ]
+      | inr k ↦ elim (either _ (eqb arg Shape.number) _ (k .1)) [
+        | inl m ↦ number-in (m .1)
+        | inr m ↦ elim (either _ (eqb arg Shape.exponent) _ (m .1)) [ inl n ↦ count-in Limit.exponent (n .1) | inr n ↦ count-in Limit.listLength (n .1) ]
+      ]
     ]
   ]
 
@@ -116,15 +119,15 @@ module _ (r r′ : Bounds) where
     unfolding faultNumberIn isSigned
     number-alike = second-alike (eqb (kind w) Kind.number) _ _ _ (lowest-alike Kind.number _ refl)
 
-    length-alike : faultLengthIn r w ≡ faultLengthIn r′ w
-    unfolding faultLengthIn isSigned
-    length-alike = second-alike (eqb (kind w) Kind.number) _ _ _ (lowest-alike Kind.number _ refl)
+    count-alike : (most : ℕ) → faultCountIn r most w ≡ faultCountIn r′ most w
+    unfolding faultCountIn isSigned
+    count-alike most = second-alike (eqb (kind w) Kind.number) _ _ _ (lowest-alike Kind.number _ refl)
 
     due-alike : (d : Due) (v t c : ℕ) → faultDueIn r d v t c w ≡ faultDueIn r′ d v t c w
     unfolding faultDueIn faultArgumentIn
     due-alike Start v t c = start-alike v c
     due-alike (Upper lower) v t c = upper-alike lower
-    due-alike (Arguments numbers variables type code k) v t c = rw (number-alike, length-alike) refl
+    due-alike (Arguments numbers variables type code k) v t c = rw (number-alike, count-alike Limit.exponent, count-alike Limit.listLength) refl
     due-alike Ended v t c = refl
 
   pub reads-alike : (ws : List ℕ) → All Alike ws → readModelIn r ws ≡ readModelIn r′ ws

@@ -20,7 +20,7 @@ use Rattle.words.specs.Refusal.{accepted, firstFault}
 use Rattle.words.proofs.Reading.{passed}
 use Rattle.words.proofs.Choices.{not-first, not-second, either, neither, of-kind, of-range}
 use Rattle.models.specs.Table as Table
-use Rattle.models.specs.Reading.{State, faultHead, faultStart, faultStartIn, faultUpper, faultUpperIn, faultNumber, faultNumberIn, faultVariable, faultLength, faultLengthIn, fault, afterDue, declared, started, after, ended}
+use Rattle.models.specs.Reading.{State, faultHead, faultStart, faultStartIn, faultUpper, faultUpperIn, faultNumber, faultNumberIn, faultVariable, faultCount, faultCountIn, fault, afterDue, declared, started, after, ended}
 use Rattle.models.specs.declared.Due.{Due}
 
 -- ---- no fault in the words, from a state on
@@ -48,9 +48,9 @@ module _ (w : ℕ) where
   unfolding faultVariable
   is-variable t type e = let h = of-kind w 5 _ e in (h .0, eqb-true _ _ (not-false _ (not-first 9 (not (eqb t type)) 0 (h .1) .0)))
 
-  pub is-length : faultLength w ≡ 0 → (kind w ≡ 6) × (payload w ≤ 32)
-  unfolding faultLengthIn
-  is-length e = let h = of-kind w 6 _ e in (h .0, ltb-false _ _ (not-first 8 (ltb 32 (payload w)) 0 (of-range w _ (h .1) .1) .0))
+  pub is-count : (most : ℕ) → faultCount most w ≡ 0 → (kind w ≡ 6) × (payload w ≤ most)
+  unfolding faultCountIn
+  is-count most e = let h = of-kind w 6 _ e in (h .0, ltb-false _ _ (not-first 8 (ltb most (payload w)) 0 (of-range w _ (h .1) .1) .0))
 
   pub is-upper : (l : ℕ) → faultUpper l w ≡ 0 → (kind w ≡ 2) × (signed l ⊑ signed w) × (inRange (signed w) ≡ true)
   unfolding faultUpperIn

@@ -14,7 +14,7 @@ use Rattle.integers.specs.Lists.{listOf}
 use Rattle.integers.specs.Terms.{_·_}
 use Rattle.integers.proofs.Lists.{all-implies, listOf-length}
 use Rattle.integers.proofs.Tests.{All}
-use Rattle.models.specs.Table.{Sort, integer, boolean, number, numbers, integers, booleans, parallel, Code, codes, last}
+use Rattle.models.specs.Table.{Sort, integer, boolean, number, exponent, numbers, integers, booleans, parallel, Code, codes, last}
 use Rattle.models.specs.Shape as Shape
 use Rattle.models.specs.Shape.{shapeOf, shapes}
 use Rattle.models.specs.Builtin.{Builtin, int-eq}
@@ -71,6 +71,7 @@ module _ (ws : List ℕ) where
   same-place i integer = refl
   same-place i boolean = refl
   same-place i number = refl
+  same-place i exponent = refl
   same-place i numbers = refl
   same-place i integers = refl
   same-place i booleans = refl
@@ -81,6 +82,7 @@ module _ (ws : List ℕ) where
   words-in i integer = omega arith
   words-in i boolean = omega arith
   words-in i number = omega arith
+  words-in i exponent = omega arith
   words-in i numbers = simp listOf-length (omega arith)
   words-in i integers = simp listOf-length (omega arith)
   words-in i booleans = simp listOf-length (omega arith)
@@ -96,6 +98,7 @@ module _ (ws : List ℕ) where
     named i integer h = (h, tt)
     named i boolean h = (h, tt)
     named i number h = tt
+    named i exponent h = tt
     named i numbers h = tt
     named i integers h = h .1
     named i booleans h = h .1

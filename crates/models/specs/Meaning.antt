@@ -1,7 +1,7 @@
 -- When a builtin is true of values: 000, section 3, save where 01 or 02 states it otherwise; never by its rows.
 use mathlib.Core.Bool.{Bool, false, not, _&&_, _||_, Bool·beq}
 use mathlib.Core.List.{List, map}
-use Prim.Native.Nat.{ℕ, _-_, _%_}
+use Prim.Native.Nat.{ℕ, zero, suc, _-_, _%_}
 use lib.Dec.{leb, eqb}
 use lib.IntN.{ℤ, pos, negsuc}
 use lib.Signed.{leZ, ltZ, quotZ, remZ}
@@ -9,7 +9,7 @@ use lib.ListN.{length, getD}
 use Rattle.integers.specs.Number.{_⊕_, _⊗_, minZ, maxZ, absZ, _==_, +0, +1}
 use Rattle.integers.specs.Lists.{all, any, howMany}
 use Rattle.integers.specs.Terms.{Valuation, sum}
-use Rattle.models.specs.Builtin.{Builtin, int-eq, int-le, int-lt, int-ne, int-le-reif, int-plus, int-times, int-abs, int-max, int-lin-eq, int-lin-le, int-lin-ne, int-lin-eq-reif, int-eq-reif, int-lin-le-reif, bool2int, bool-not, bool-and, bool-or, bool-xor, bool-clause, array-bool-and, array-bool-xor, array-int-element, array-var-int-element, array-int-maximum, set-in, set-in-reif, int-min, int-lt-reif, int-ne-reif, int-lin-ne-reif, array-int-minimum, bool-eq-reif, bool-le-reif, bool-lt-reif, int-div, int-mod}
+use Rattle.models.specs.Builtin.{Builtin, int-eq, int-le, int-lt, int-ne, int-le-reif, int-plus, int-times, int-abs, int-max, int-lin-eq, int-lin-le, int-lin-ne, int-lin-eq-reif, int-eq-reif, int-lin-le-reif, bool2int, bool-not, bool-and, bool-or, bool-xor, bool-clause, array-bool-and, array-bool-xor, array-int-element, array-var-int-element, array-int-maximum, set-in, set-in-reif, int-min, int-lt-reif, int-ne-reif, int-lin-ne-reif, array-int-minimum, bool-eq-reif, bool-le-reif, bool-lt-reif, int-div, int-mod, int-pow}
 
 -- a Boolean variable that is 1; one that is 0
 unfoldable pub on : Valuation → ℕ → Bool
@@ -50,6 +50,11 @@ quotient n d q = not (d == +0) && (quotZ n d == q)
 
 unfoldable pub remainder : ℤ → ℤ → ℤ → Bool
 remainder n d r = not (d == +0) && (remZ n d == r)
+
+-- 000, 3.1.25: x to the power k; 02, wish 13: 1 for k=0, "also at x=0"
+unfoldable pub power : ℤ → ℕ → ℤ
+power x zero = +1
+power x (suc k) = x ⊗ power x k
 
 unfoldable pub meaning : Valuation → Builtin → Bool
 -- 1 to 4: 000, 3.1.7, 3.1.9, 3.1.17, 3.1.22
@@ -99,3 +104,5 @@ meaning σ (bool-lt-reif a b r) = on σ r iff ltZ (σ a) (σ b)
 -- 37, 38: 000, 3.1.6, 3.1.21
 meaning σ (int-div n d q) = quotient (σ n) (σ d) (σ q)
 meaning σ (int-mod n d r) = remainder (σ n) (σ d) (σ r)
+-- 39: 000, 3.1.25
+meaning σ (int-pow x k z) = power (σ x) k == σ z

@@ -11,7 +11,7 @@ use Rattle.words.specs.Word.{kind, payload, signed, wordAt}
 use Rattle.words.specs.Kind as Kind
 use Rattle.words.specs.Limit as Limit
 use Rattle.models.specs.Builtin.{Builtin, int-eq}
-use Rattle.models.specs.Table.{Sort, integer, boolean, number, numbers, integers, booleans, parallel, Argument, Takes, Code, codes}
+use Rattle.models.specs.Table.{Sort, integer, boolean, number, exponent, numbers, integers, booleans, parallel, Argument, Takes, Code, codes}
 
 -- a constraint: the place of its head word, its code, and the words after its head
 pub record Constraint : Type 0 where
@@ -52,6 +52,10 @@ module _ (ws : List ℕ) where
   unfoldable pub size : ℕ → ℕ
   size i = var i if leb (var i) Limit.listLength else Limit.listLength
 
+  -- the exponent at place i; in an accepted model none is above 27
+  unfoldable pub exponentAt : ℕ → ℕ
+  exponentAt i = var i if leb (var i) Limit.exponent else Limit.exponent
+
   -- the list whose length word is at place i: of variables, of numbers; and the place after it
   unfoldable pub vars : ℕ → List ℕ
   vars i = listOf (λ k. var (i + 1 + k)) (size i)
@@ -74,6 +78,7 @@ module _ (ws : List ℕ) where
   argumentAt i integer = var i
   argumentAt i boolean = var i
   argumentAt i number = num i
+  argumentAt i exponent = exponentAt i
   argumentAt i numbers = nums i
   argumentAt i integers = vars i
   argumentAt i booleans = vars i
@@ -83,6 +88,7 @@ module _ (ws : List ℕ) where
   placeAfter i integer = i + 1
   placeAfter i boolean = i + 1
   placeAfter i number = i + 1
+  placeAfter i exponent = i + 1
   placeAfter i numbers = past i
   placeAfter i integers = past i
   placeAfter i booleans = past i

@@ -71,12 +71,12 @@ module _ (range : Bounds) where
       else Fault.lowestNumber if tooLow range w
       else Fault.none
 
-  -- of a list's length: 3, 18, 9
-  unfoldable pub faultLengthIn : ℕ → ℕ
-  faultLengthIn w =
+  -- of a list's length and of an exponent, the most that it may be given: 3, 18, 9
+  unfoldable pub faultCountIn : ℕ → ℕ → ℕ
+  faultCountIn most w =
       Fault.wrongKind if not (eqb (kind w) Kind.number)
       else Fault.lowestNumber if tooLow range w
-      else Fault.lengthOutside if ltb Limit.listLength (payload w)
+      else Fault.lengthOutside if ltb most (payload w)
       else Fault.none
 
   -- of the word at an argument; after the last one, where a constraint or the end may stand
@@ -85,7 +85,8 @@ module _ (range : Bounds) where
       faultHead c w if eqb arg Shape.none
       else faultVariable t arg w if ltb arg Shape.number
       else faultNumberIn w if eqb arg Shape.number
-      else faultLengthIn w
+      else faultCountIn Limit.exponent w if eqb arg Shape.exponent
+      else faultCountIn Limit.listLength w
 
   -- by what is due: v variables and c constraints stand before, and t is the type of the variable that the word names
   unfoldable pub faultDueIn : Due → ℕ → ℕ → ℕ → ℕ → ℕ
@@ -108,7 +109,7 @@ afterHead w = Arguments 0 0 0 (payload w) 0 if eqb (kind w) Kind.constraint else
 -- after the word at an argument; k is the place of the next argument
 unfoldable pub afterArgument : ℕ → ℕ → ℕ → ℕ → Due
 afterArgument arg code k w =
-    Arguments 0 0 0 code k if leb arg Shape.number
+    Arguments 0 0 0 code k if leb arg Shape.exponent
     else Arguments (payload w) 0 0 code k if eqb arg Shape.numbers
     else Arguments 0 (payload w) Shape.integer code k if eqb arg Shape.integers
     else Arguments 0 (payload w) Shape.boolean code k if eqb arg Shape.booleans
@@ -166,8 +167,8 @@ faultUpper = faultUpperIn Limit.range
 abbrev pub faultNumber : ℕ → ℕ
 faultNumber = faultNumberIn Limit.range
 
-abbrev pub faultLength : ℕ → ℕ
-faultLength = faultLengthIn Limit.range
+abbrev pub faultCount : ℕ → ℕ → ℕ
+faultCount = faultCountIn Limit.range
 
 abbrev pub faultArgument : ℕ → ℕ → ℕ → ℕ → ℕ
 faultArgument = faultArgumentIn Limit.range

@@ -5,7 +5,7 @@ use lib.ListN.{getD}
 use Rattle.models.specs.Table as Table
 use Rattle.models.specs.Table.{Sort, Code, codes}
 
--- one argument: none is left, a variable of a type, a number, a list with its length word.
+-- one argument: none is left, a variable of a type, a number, an exponent, a list with its length word.
 -- The first three are also the types of a variable that a number names: not declared, integer, Boolean.
 abbrev pub none : ℕ
 none = 0
@@ -19,23 +19,27 @@ boolean = 2
 abbrev pub number : ℕ
 number = 3
 
+abbrev pub exponent : ℕ
+exponent = 4
+
 abbrev pub numbers : ℕ
-numbers = 4
+numbers = 5
 
 abbrev pub integers : ℕ
-integers = 5
+integers = 6
 
 abbrev pub booleans : ℕ
-booleans = 6
+booleans = 7
 
 -- 01, Words: "Parallel lists share one length word: all numbers, then all variables."
 abbrev pub parallel : ℕ
-parallel = 7
+parallel = 8
 
 abbrev pub shapeOf : Sort → ℕ
 shapeOf Table.integer = integer
 shapeOf Table.boolean = boolean
 shapeOf Table.number = number
+shapeOf Table.exponent = exponent
 shapeOf Table.numbers = numbers
 shapeOf Table.integers = integers
 shapeOf Table.booleans = booleans

@@ -1,4 +1,4 @@
--- 01, Rules of the 28 codes, and 02, wishes 1 and 6: one row a code, the sorts of its arguments and its builtin.
+-- 01, Rules of the 28 codes, and 02, wishes 1, 6 and 13: one row a code, the sorts of its arguments and its builtin.
 -- "Arguments of bool_ and array_bool_ builtins, a of 16 and every named r are Boolean; all other variables integer."
 use mathlib.Core.List.{List, [], _∷_}
 use Prim.Native.Nat.{ℕ}
@@ -8,15 +8,16 @@ use Rattle.integers.specs.Terms.{Term}
 use Rattle.models.specs.Builtin as B
 use Rattle.models.specs.Builtin.{Builtin}
 
--- a variable of a type, a number, a list with its length word, parallel lists of numbers and variables
+-- a variable of a type, a number, the exponent of a power, a list with its length word, parallel lists of numbers and variables
 pub data Sort : Type 0 where
-  integer boolean number numbers integers booleans parallel : Sort
+  integer boolean number exponent numbers integers booleans parallel : Sort
 
 -- what an argument of a sort is
 abbrev pub Argument : Sort → Type 0
 Argument integer = ℕ
 Argument boolean = ℕ
 Argument number = ℤ
+Argument exponent = ℕ
 Argument numbers = List ℤ
 Argument integers = List ℕ
 Argument booleans = List ℕ
@@ -34,7 +35,7 @@ pub record Code : Type 0 where
 abbrev pub takes : (ss : List Sort) → Takes ss → Code
 takes ss f = record { sorts = ss; make = f }
 
--- "Codes run from 1 to 28 without a gap."; 02: "codes 29 to 36", "codes 37 and 38"
+-- "Codes run from 1 to 28 without a gap."; 02: "codes 29 to 36", "codes 37 and 38", "code 39"
 abbrev pub codes : List Code
 codes =
     -- 1 to 9
@@ -81,6 +82,8 @@ codes =
     -- 37, 38
     takes (integer ∷ integer ∷ integer ∷ []) B.int-div ∷
     takes (integer ∷ integer ∷ integer ∷ []) B.int-mod ∷
+    -- 39
+    takes (integer ∷ exponent ∷ integer ∷ []) B.int-pow ∷
     []
 
 -- the last code

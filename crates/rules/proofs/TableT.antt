@@ -19,11 +19,11 @@ use Rattle.words.specs.Overlay.{overlay}
 use Rattle.words.specs.Refusal.{_else-refuse_, firstFault, countFault}
 use Rattle.words.specs.Answer.{Answer, refused, counts, written, holds, outOfBounds, isFalse, _else-answer_, isHolds}
 use Rattle.words.specs.Judge.{firstFalse, firstOutOfBounds, judge}
-use Rattle.models.specs.Meaning.{on, off, element, maximum, minimum, member, odd, quotient, remainder, meaning}
+use Rattle.models.specs.Meaning.{on, off, element, maximum, minimum, member, odd, quotient, remainder, power, meaning}
 use Rattle.models.specs.Shape.{shapes, argument}
 use Rattle.models.specs.Reading as Model
 use Rattle.models.specs.Reading.{readModelIn}
-use Rattle.models.specs.Model.{constraintsFrom, constraints, sourceWords, var, num, size, vars, nums, past, terms, pastTerms, builtins, builtin}
+use Rattle.models.specs.Model.{constraintsFrom, constraints, sourceWords, var, num, size, exponentAt, vars, nums, past, terms, pastTerms, builtins, builtin}
 use Rattle.models.specs.JudgeModel as JudgeModel
 use Rattle.models.specs.JudgeModel.{judgeModel}
 use Rattle.rowsystems.specs.Row.{satisfied, renameTerms, rename}
@@ -36,9 +36,10 @@ use Rattle.rowsystems.specs.JudgeRows.{judgeRows}
 use Rattle.rules.specs.Block.{numbered, blockWords, blockNumbers, outsideIn}
 use Rattle.rules.specs.Parts.{Z, endProducts, extreme, L, U, halfLess, _─_≤0, _─_=0, sources, each, bits, weighted, oneBit, chosen, products, nth, places, leastFrom, rising, members}
 use Rattle.rules.specs.Division.{M, divisionTable, tableRow, divisionRows, quotientBounds, remainderRow}
+use Rattle.rules.specs.Power.{byHalves, next, noProduct, squared, multiplied, chain, nextValue, noValue, squaredValue, multipliedValue, powerValues}
 use Rattle.rules.specs.Rule as Rule
 use Rattle.rules.specs.Rule.{rule}
-use Rattle.rules.specs.Pick.{bitOf, signPick, signedPick, firstBit, gatedPick, divisionPick, leftOverPick, pick}
+use Rattle.rules.specs.Pick.{bitOf, signPick, signedPick, firstBit, gatedPick, divisionPick, leftOverPick, powerPick, pick}
 use Rattle.rules.specs.Translation.{bounds, blockOf, blocksWords, systemWords, auxiliaries, blockRows, picks}
 use Rattle.rules.specs.Check.{tooWide, blockFaultIn, blocksFaultIn, checkFault, checkFaultIn, check, checkIn}
 use Rattle.rules.specs.Translate.{roomFault, translateFaultIn, translate, translateIn, translated, translatedIn}
@@ -215,6 +216,10 @@ of37 = three 0x40000025 (0x1FFFFFFD ∷ 0x20000003 ∷ [])
 of38 : List ℕ
 of38 = three 0x40000026 (0x1FFFFFFD ∷ 0x20000003 ∷ [])
 
+-- int_pow, x within given bounds, the word of k, z in −27..27
+of39 : ℕ → ℕ → ℕ → List ℕ
+of39 lower upper k = lower ∷ upper ∷ 0x1FFFFFE5 ∷ 0x2000001B ∷ 0x40000027 ∷ 0x50000000 ∷ k ∷ 0x50000001 ∷ 0x70000000 ∷ []
+
 pub table : List Line
 table =
     translates (0x70000000 ∷ []) (0xF0000000 ∷ []) ∷
@@ -282,21 +287,30 @@ table =
     fills of38 (negsuc 2 ∷ negsuc 1 ∷ negsuc 0 ∷ []) (pos 1 ∷ pos 0 ∷ pos 0 ∷ negsuc 1 ∷ pos 0 ∷ []) ∷
     denies of38 (negsuc 2 ∷ pos 2 ∷ pos 1 ∷ []) 0 ∷
     denies of38 (pos 0 ∷ pos 0 ∷ pos 0 ∷ []) 0 ∷
+    fills (of39 0x1FFFFFFD 0x20000003 0x60000000) (pos 0 ∷ pos 1 ∷ []) [] ∷
+    denies (of39 0x1FFFFFFD 0x20000003 0x60000000) (pos 0 ∷ pos 0 ∷ []) 0 ∷
+    fills (of39 0x1FFFFFFD 0x20000003 0x60000001) (negsuc 2 ∷ negsuc 2 ∷ []) [] ∷
+    fills (of39 0x1FFFFFFD 0x20000003 0x60000003) (negsuc 2 ∷ negsuc 26 ∷ []) (pos 9 ∷ negsuc 26 ∷ []) ∷
+    denies (of39 0x1FFFFFFD 0x20000003 0x60000003) (negsuc 2 ∷ pos 27 ∷ []) 0 ∷
+    fills (of39 0x1FFFFFFF 0x20000001 0x6000001B) (negsuc 0 ∷ negsuc 0 ∷ []) (pos 1 ∷ negsuc 0 ∷ pos 1 ∷ pos 1 ∷ negsuc 0 ∷ pos 1 ∷ negsuc 0 ∷ []) ∷
+    fills (of39 0x1FFFFFFF 0x20000001 0x6000001B) (pos 0 ∷ pos 0 ∷ []) (pos 0 ∷ pos 0 ∷ pos 0 ∷ pos 0 ∷ pos 0 ∷ pos 0 ∷ pos 0 ∷ []) ∷
+    fills (of39 0x1FFFFFFF 0x20000001 0x6000001B) (pos 1 ∷ pos 1 ∷ []) (pos 1 ∷ pos 1 ∷ pos 1 ∷ pos 1 ∷ pos 1 ∷ pos 1 ∷ pos 1 ∷ []) ∷
+    denies (of39 0x1FFFFFFF 0x20000001 0x6000001B) (negsuc 0 ∷ pos 1 ∷ []) 0 ∷
     []
 
 pub table-T : all isTrue table ≡ true
-unfolding sameList sameAnswer listsWithin isAccepted isDenied unusedWords unusedValues isTrue T3 T5 T6 T7 T8 T9 T10 T11 T12 switches fourSwitches noSwitches booleans three of29 of30 of31 of32 of33 noneOf33 ofBits of37 of38 table within width values
+unfolding sameList sameAnswer listsWithin isAccepted isDenied unusedWords unusedValues isTrue T3 T5 T6 T7 T8 T9 T10 T11 T12 switches fourSwitches noSwitches booleans three of29 of30 of31 of32 of33 noneOf33 ofBits of37 of38 of39 table within width values
     boundsIn listOf all any howMany _⊕_ _⊖_ _⊗_ neg minZ maxZ absZ _==_ count value sum _else-answer_ isHolds firstFalse firstOutOfBounds judge
     overlay _else-refuse_ firstFault countFault startsPair variables kind payload signed word complement numberWord wordAt
-    JudgeModel.judgeAccepted JudgeRows.judgeAccepted judgeModel on off element maximum minimum member odd quotient remainder meaning constraintsFrom constraints var num size vars
+    JudgeModel.judgeAccepted JudgeRows.judgeAccepted judgeModel on off element maximum minimum member odd quotient remainder power meaning constraintsFrom constraints var num size exponentAt vars
     nums past terms pastTerms builtins builtin tooLow Model.faultHead Model.faultStartIn Model.faultUpperIn Rows.faultUpper Model.faultNumberIn Rows.faultNumber
-    Model.faultVariable Rows.faultVariable Model.faultLengthIn Model.faultArgumentIn Model.faultDueIn Rows.faultDue Model.faultIn Rows.fault Model.afterHead
+    Model.faultVariable Rows.faultVariable Model.faultCountIn Model.faultArgumentIn Model.faultDueIn Rows.faultDue Model.faultIn Rows.fault Model.afterHead
     Model.afterArgument Model.afterDue Rows.afterDue Model.declared Model.started Rows.started Model.after Rows.after Model.faultEnd Rows.faultEnd
     Model.ended Rows.ended readModelIn shapes argument judgeRows Rows.faultLower Rows.faultItem Rows.faultSource Rows.notAbove Rows.faultResult Rows.afterItem readRows
     satisfied renameTerms rename termCount variableAt numberAt termsIn constantIn rows boundWords termWords sumWords rowWords boundNumbers rowNumbers
     numbered blockWords blockNumbers outsideIn tooWide blockFaultIn blocksFaultIn checkFaultIn checkIn filledCount fillFaultIn fillIn filledIn Z endProducts extreme L
     U halfLess _─_≤0 _─_=0 sources each bits weighted oneBit chosen products nth places leastFrom rising members bitOf signPick signedPick firstBit gatedPick
-    divisionPick leftOverPick pick M divisionTable tableRow divisionRows quotientBounds remainderRow Rule.linked Rule.signed Rule.whereOne Rule.whereZero Rule.orderReified Rule.absolute Rule.touching Rule.linNotEqual Rule.zeroRows
-    Rule.zeroReified Rule.linLessEqualReified Rule.sameRows Rule.sameReified Rule.numberElement Rule.variableElement Rule.oneOf Rule.inSet Rule.inSetReified Rule.division Rule.leftOver rule roomFault
+    divisionPick leftOverPick powerPick pick byHalves next noProduct squared multiplied chain nextValue noValue squaredValue multipliedValue powerValues M divisionTable tableRow divisionRows quotientBounds remainderRow Rule.linked Rule.signed Rule.whereOne Rule.whereZero Rule.orderReified Rule.absolute Rule.touching Rule.linNotEqual Rule.zeroRows
+    Rule.zeroReified Rule.linLessEqualReified Rule.sameRows Rule.sameReified Rule.numberElement Rule.variableElement Rule.oneOf Rule.inSet Rule.inSetReified Rule.division Rule.leftOver Rule.powered rule roomFault
     translateFaultIn translateIn translatedIn bounds blockOf sourceWords blocksWords systemWords auxiliaries blockRows picks flatMap zipWith
 table-T = refl

@@ -2,6 +2,7 @@
 pub mod Block
 pub mod Parts
 pub mod Division
+pub mod Power
 pub mod Rule
 pub mod Pick
 pub mod Translation

@@ -3,7 +3,7 @@
 -- minimum in 33, b=1 in 31 and 32 only for a negative x."
 use mathlib.Core.Bool.{Bool, not}
 use mathlib.Core.List.{List, [], _∷_, _++_, map, zipWith}
-use Prim.Native.Nat.{ℕ}
+use Prim.Native.Nat.{ℕ, zero, suc}
 use lib.IntN.{ℤ, pos}
 use lib.Signed.{leZ, ltZ, quotZ}
 use lib.ListN.{length}
@@ -13,9 +13,10 @@ use Rattle.integers.specs.Lists.{howMany}
 use Rattle.integers.specs.Bounds.{values}
 use Rattle.integers.specs.Terms.{Valuation, _·_, sum}
 use Rattle.integers.specs.declared.Bounds.{Bounds}
-use Rattle.models.specs.Builtin.{Builtin, int-eq, int-le, int-lt, int-ne, int-le-reif, int-plus, int-times, int-abs, int-max, int-lin-eq, int-lin-le, int-lin-ne, int-lin-eq-reif, int-eq-reif, int-lin-le-reif, bool2int, bool-not, bool-and, bool-or, bool-xor, bool-clause, array-bool-and, array-bool-xor, array-int-element, array-var-int-element, array-int-maximum, set-in, set-in-reif, int-min, int-lt-reif, int-ne-reif, int-lin-ne-reif, array-int-minimum, bool-eq-reif, bool-le-reif, bool-lt-reif, int-div, int-mod}
+use Rattle.models.specs.Builtin.{Builtin, int-eq, int-le, int-lt, int-ne, int-le-reif, int-plus, int-times, int-abs, int-max, int-lin-eq, int-lin-le, int-lin-ne, int-lin-eq-reif, int-eq-reif, int-lin-le-reif, bool2int, bool-not, bool-and, bool-or, bool-xor, bool-clause, array-bool-and, array-bool-xor, array-int-element, array-var-int-element, array-int-maximum, set-in, set-in-reif, int-min, int-lt-reif, int-ne-reif, int-lin-ne-reif, array-int-minimum, bool-eq-reif, bool-le-reif, bool-lt-reif, int-div, int-mod, int-pow}
 use Rattle.models.specs.Meaning.{on}
 use Rattle.rules.specs.Parts.{halfLess, nth, places, members}
+use Rattle.rules.specs.Power.{powerValues}
 
 unfoldable pub bitOf : Bool → ℤ
 bitOf t = +1 if t else +0
@@ -47,6 +48,11 @@ divisionPick n d q =
 -- 38: q, then those of 37
 unfoldable pub leftOverPick : ℤ → ℤ → List ℤ
 leftOverPick n d = quotZ n d ∷ divisionPick n d (quotZ n d)
+
+-- 39: the products of the chain
+unfoldable pub powerPick : ℤ → ℕ → List ℤ
+powerPick x zero = []
+powerPick x (suc k) = powerValues x (suc k) .picked
 
 module _ (β : ℕ → Bounds) (σ : Valuation) where
   unfoldable pub pick : Builtin → List ℤ
@@ -88,3 +94,4 @@ module _ (β : ℕ → Bounds) (σ : Valuation) where
   pick (bool-lt-reif a b r) = []
   pick (int-div n d q) = divisionPick (σ n) (σ d) (σ q)
   pick (int-mod n d r) = leftOverPick (σ n) (σ d)
+  pick (int-pow x k z) = powerPick (σ x) k

@@ -1,7 +1,7 @@
 -- 01, Rules of the 28 codes, and 02: the block of each builtin. The bounds of every variable are given; lo and hi are 01's.
 use mathlib.Core.Bool.{Bool, true, false}
 use mathlib.Core.List.{List, [], _∷_, _++_, map}
-use Prim.Native.Nat.{ℕ}
+use Prim.Native.Nat.{ℕ, zero, suc}
 use lib.IntN.{ℤ, pos}
 use lib.ListN.{length}
 use Rattle.integers.specs.Number.{_⊕_, _⊖_, neg, maxZ, absZ, count, +0, +1, +2, -1, -2}
@@ -9,10 +9,11 @@ use Rattle.integers.specs.Bounds.{_to_, bit, values}
 use Rattle.integers.specs.Terms.{Term, _·_}
 use Rattle.integers.specs.declared.Bounds.{Bounds}
 use Rattle.rowsystems.specs.Row.{Row, sum≤0, sum=0, product}
-use Rattle.models.specs.Builtin.{Builtin, int-eq, int-le, int-lt, int-ne, int-le-reif, int-plus, int-times, int-abs, int-max, int-lin-eq, int-lin-le, int-lin-ne, int-lin-eq-reif, int-eq-reif, int-lin-le-reif, bool2int, bool-not, bool-and, bool-or, bool-xor, bool-clause, array-bool-and, array-bool-xor, array-int-element, array-var-int-element, array-int-maximum, set-in, set-in-reif, int-min, int-lt-reif, int-ne-reif, int-lin-ne-reif, array-int-minimum, bool-eq-reif, bool-le-reif, bool-lt-reif, int-div, int-mod}
+use Rattle.models.specs.Builtin.{Builtin, int-eq, int-le, int-lt, int-ne, int-le-reif, int-plus, int-times, int-abs, int-max, int-lin-eq, int-lin-le, int-lin-ne, int-lin-eq-reif, int-eq-reif, int-lin-le-reif, bool2int, bool-not, bool-and, bool-or, bool-xor, bool-clause, array-bool-and, array-bool-xor, array-int-element, array-var-int-element, array-int-maximum, set-in, set-in-reif, int-min, int-lt-reif, int-ne-reif, int-lin-ne-reif, array-int-minimum, bool-eq-reif, bool-le-reif, bool-lt-reif, int-div, int-mod, int-pow}
 use Rattle.rules.specs.Block.{Ref, source, aux, Block}
 use Rattle.rules.specs.Parts.{Z, endProducts, L, U, halfLess, _─_≤0, _─_=0, sources, each, bits, one, oneBit, chosen, products, nth, places, members}
 use Rattle.rules.specs.Division.{divisionRows, quotientBounds, remainderRow}
+use Rattle.rules.specs.Power.{chain}
 
 abbrev pub block : List Bounds → List (Row Ref) → Block
 block auxiliaries rows = record { auxiliaries = auxiliaries; rows = rows }
@@ -172,6 +173,13 @@ module _ (β : ℕ → Bounds) where
       (divisionRows (β n) (β d) P (source n) (source d) (aux 0) (aux 1) (aux 2) (aux 3) (aux 4)
       ++ (remainderRow (aux 3) (source r) (source n) ∷ []))
 
+  -- 39 int_pow(x,k,z): z−1=0 for k=0; else the chain of products, the last one p: p−z=0.
+  unfoldable pub powered : ℕ → ℕ → ℕ → Block
+  powered x zero z = block [] (sum=0 (+1 · source z ∷ []) -1 ∷ [])
+  powered x (suc k) z =
+      let c = chain (β x) x (suc k) in
+      block (c .auxiliaries) (c .products ++ (c .result ─ source z =0 ∷ []))
+
   unfoldable pub rule : Builtin → Block
   -- 1 int_eq(a,b): a−b=0. 2 int_le: a−b≤0. 3 int_lt: a−b+1≤0.
   rule (int-eq a b) = block [] (source a ─ source b =0 ∷ [])
@@ -250,3 +258,4 @@ module _ (β : ℕ → Bounds) where
       ∷ [])
   rule (int-div n d q) = division n d q
   rule (int-mod n d r) = leftOver n d r
+  rule (int-pow x k z) = powered x k z

@@ -3,11 +3,12 @@ use Rattle.words.specs.Limit as Limit
 use Prim.Native.Nat.{ℕ, zero, suc, _+_, _≤_, _<_, _*_}
 use Rattle.integers.specs.Terms.{Valuation, Term, _·_}
 use Rattle.integers.specs.declared.Bounds.{Bounds}
-use Rattle.models.specs.Builtin.{Builtin, int-eq, int-le, int-lt, int-ne, int-le-reif, int-plus, int-times, int-abs, int-max, int-lin-eq, int-lin-le, int-lin-ne, int-lin-eq-reif, int-eq-reif, int-lin-le-reif, bool2int, bool-not, bool-and, bool-or, bool-xor, bool-clause, array-bool-and, array-bool-xor, array-int-element, array-var-int-element, array-int-maximum, set-in, set-in-reif, int-min, int-lt-reif, int-ne-reif, int-lin-ne-reif, array-int-minimum, bool-eq-reif, bool-le-reif, bool-lt-reif, int-div, int-mod}
+use Rattle.models.specs.Builtin.{Builtin, int-eq, int-le, int-lt, int-ne, int-le-reif, int-plus, int-times, int-abs, int-max, int-lin-eq, int-lin-le, int-lin-ne, int-lin-eq-reif, int-eq-reif, int-lin-le-reif, bool2int, bool-not, bool-and, bool-or, bool-xor, bool-clause, array-bool-and, array-bool-xor, array-int-element, array-var-int-element, array-int-maximum, set-in, set-in-reif, int-min, int-lt-reif, int-ne-reif, int-lin-ne-reif, array-int-minimum, bool-eq-reif, bool-le-reif, bool-lt-reif, int-div, int-mod, int-pow}
 use Rattle.sharing.proofs.Basics.{Sound, Complete, Filled, complete}
 use Rattle.sharing.proofs.Comparisons.{int-eq-exact, int-le-exact, int-lt-exact, int-ne-sound, int-ne-complete, int-le-reif-exact, int-lt-reif-exact}
 use Rattle.sharing.proofs.Arithmetic.{int-plus-exact, int-times-sound, int-times-complete, int-abs-sound, int-abs-complete, int-max-sound, int-max-complete, int-min-sound, int-min-complete}
 use Rattle.sharing.proofs.Division.{int-div-sound, int-div-complete, int-mod-sound, int-mod-complete}
+use Rattle.sharing.proofs.Power.{powered-size, powered-formed, int-pow-sound, int-pow-complete, int-pow-filled}
 use Rattle.sharing.proofs.Linear.{int-lin-eq-exact, int-lin-le-exact, int-lin-ne-sound, int-lin-ne-complete, int-lin-eq-reif-sound, int-lin-eq-reif-complete, int-eq-reif-sound, int-eq-reif-complete, int-lin-le-reif-sound, int-lin-le-reif-complete, int-ne-reif-sound, int-ne-reif-complete, int-lin-ne-reif-sound, int-lin-ne-reif-complete}
 use Rattle.sharing.proofs.Booleans.{bool2int-exact, bool-not-exact, bool-and-exact, bool-or-exact, bool-xor-sound, bool-xor-complete, bool-eq-reif-sound, bool-eq-reif-complete, bool-le-reif-exact, bool-lt-reif-exact}
 use Rattle.sharing.proofs.BooleanLists.{bool-clause-sound, bool-clause-complete, bool-clause-filled, array-bool-and-sound, array-bool-and-complete, array-bool-and-filled, array-bool-xor-sound, array-bool-xor-complete, array-bool-xor-filled}
@@ -407,6 +408,14 @@ laws β (int-mod n d r) = record {
   filled = λ σ. refl;
   small = omega arith;
   formed = λ v h k s. leftOver-formed v β n d r (h .0) (h .1 .0) (h .1 .1 .0);
+}
+laws β (int-pow x k z) = record {
+  Sizes = Unit {0};
+  sound = λ σ α. int-pow-sound β σ α x k z;
+  complete = λ σ. int-pow-complete β σ x k z;
+  filled = λ σ. int-pow-filled β σ x k z;
+  small = omega (arith, powered-size β x k z);
+  formed = λ n h l s. powered-formed n β x k z (h .0) (h .1 .0);
 }
 
 pub block-size : (first : ℕ) (β : ℕ → Bounds) (b : Builtin) →

@@ -18,6 +18,7 @@ pub mod Sets
 pub mod Places
 pub mod Formed
 pub mod Sizes
+pub mod Power
 pub mod Codes
 pub mod Numbering
 pub mod Assembly

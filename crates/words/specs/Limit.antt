@@ -39,6 +39,10 @@ listLength = 32
 abbrev pub terms : ℕ
 terms = 66
 
+-- 02, wish 13: "k a number from 0 to 27", "A k outside its limits is fault 9."
+abbrev pub exponent : ℕ
+exponent = 27
+
 -- 12: "A code 28 needs more than 64 auxiliaries."
 abbrev pub setBits : ℕ
 setBits = 64

@@ -18,6 +18,8 @@ pub const CONSTRAINTS: usize = 256;
 pub const LIST_LENGTH: usize = 32;
 
 pub const TERMS: usize = 66;
+// the exponent of a power
+pub const EXPONENT: usize = 27;
 // auxiliaries of a code 28
 pub const SET_BITS: usize = 64;
 // variables and auxiliaries together
