@@ -7,9 +7,9 @@ use borrow.Author.Tests.{lt-ltb, le-ltb, le-leb, ne-eqb}
 use lib.ListN.{length, getD, List·getD-eq-default}
 use Rattle.words.specs.Word.{kind, payload, wordAt}
 use Rattle.models.specs.Shape.{argument}
-use Rattle.models.specs.Reading.{faultNumber, faultNumberIn, faultVariable, faultLength, faultArgumentIn, faultEnd, faultDueIn, afterDue, afterArgument}
+use Rattle.models.specs.Reading.{faultNumber, faultNumberIn, faultVariable, faultCount, faultArgumentIn, faultEnd, faultDueIn, afterDue, afterArgument}
 use Rattle.models.specs.declared.Due.the-variants.{Arguments}
-use Rattle.models.proofs.Sound.{Plain, plain, is-number, is-variable, is-length}
+use Rattle.models.proofs.Sound.{Plain, plain, is-number, is-variable, is-count}
 use Rattle.modelreading.specs.Onward.{Went, stepOver, argumentsFrom, NumbersRead, VariablesRead}
 use Rattle.modelreading.proofs.Steps.{step, and-then, or-halted, over-fault}
 
@@ -26,8 +26,8 @@ module _ (ws ts : List ℕ) (c at : ℕ) (h : at ≤ length ws) where
   plain-variable : (type : ℕ) → faultVariable t type w ≡ 0 → Plain w
   plain-variable type e = plain (is-variable w t type e .0) (omega arith) (omega arith)
 
-  plain-length : faultLength w ≡ 0 → Plain w
-  plain-length e = plain (is-length w e .0) (omega arith) (omega arith)
+  plain-count : (most : ℕ) → faultCount most w ≡ 0 → Plain w
+  plain-count most e = plain (is-count w most e .0) (omega arith) (omega arith)
 
   -- of a list
   pub a-number : (n l type code k : ℕ) → 0 < n → Went ws ts c (Arguments n l type code k) at (Arguments (n - 1) l type code k) (stepOver (faultNumber w) at)
@@ -42,15 +42,19 @@ module _ (ws ts : List ℕ) (c at : ℕ) (h : at ≤ length ws) where
   module _ (arg code k : ℕ) (e : arg ≡ argument code k) where
     pub one-variable : 1 ≤ arg → arg < 3 → Went ws ts c (argumentsFrom code k) at (argumentsFrom code (k + 1)) (stepOver (faultVariable t arg w) at)
     unfolding faultEnd faultDueIn afterDue faultArgumentIn afterArgument
-    one-variable l m = step h refl (plain-variable arg) (rw (← e, ne-eqb arg 0 (λ z. omega arith), lt-ltb arg 3 m)) (rw (← e, ne-eqb arg 0 (λ z. omega arith), le-leb arg 3 (omega arith)))
+    one-variable l m = step h refl (plain-variable arg) (rw (← e, ne-eqb arg 0 (λ z. omega arith), lt-ltb arg 3 m)) (rw (← e, ne-eqb arg 0 (λ z. omega arith), le-leb arg 4 (omega arith)))
 
     pub one-number : arg ≡ 3 → Went ws ts c (argumentsFrom code k) at (argumentsFrom code (k + 1)) (stepOver (faultNumber w) at)
     unfolding faultEnd faultDueIn afterDue faultArgumentIn afterArgument
     one-number l = step h refl plain-number (rw (← e, l)) (rw (← e, l))
 
-    pub a-length : 4 ≤ arg → Went ws ts c (argumentsFrom code k) at (afterArgument arg code (k + 1) w) (stepOver (faultLength w) at)
+    pub one-exponent : arg ≡ 4 → Went ws ts c (argumentsFrom code k) at (argumentsFrom code (k + 1)) (stepOver (faultCount 27 w) at)
+    unfolding faultEnd faultDueIn afterDue faultArgumentIn afterArgument
+    one-exponent l = step h refl (plain-count 27) (rw (← e, l)) (rw (← e, l))
+
+    pub a-length : 5 ≤ arg → Went ws ts c (argumentsFrom code k) at (afterArgument arg code (k + 1) w) (stepOver (faultCount 32 w) at)
     unfolding faultEnd faultDueIn afterDue faultArgumentIn
-    a-length l = step h refl plain-length (rw (← e, ne-eqb arg 0 (λ z. omega arith), le-ltb arg 3 (omega arith), ne-eqb arg 3 (λ z. omega arith))) (rw (← e, ne-eqb arg 0 (λ z. omega arith)))
+    a-length l = step h refl (plain-count 32) (rw (← e, ne-eqb arg 0 (λ z. omega arith), le-ltb arg 3 (omega arith), ne-eqb arg 3 (λ z. omega arith), ne-eqb arg 4 (λ z. omega arith))) (rw (← e, ne-eqb arg 0 (λ z. omega arith)))
 
 -- ---- one more word of a list, and the end of the words before it
 

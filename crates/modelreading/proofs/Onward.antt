@@ -14,7 +14,7 @@ use Rattle.words.specs.Word.{kind, payload, wordAt}
 use Rattle.words.specs.Refusal.{_at-place_, faultOr, accepted, firstFault}
 use Rattle.words.proofs.Reading.{onward, refused, at-end, word-then}
 use Rattle.models.specs.Shape.{argument, shapes}
-use Rattle.models.specs.Reading.{faultHead, faultStartIn, faultUpperIn, faultNumberIn, faultVariable, faultLengthIn, faultArgumentIn, faultDue, faultDueIn, faultEnd, fault, faultIn, afterHead, afterDue, declared, started, after, ended, State}
+use Rattle.models.specs.Reading.{faultHead, faultStartIn, faultUpperIn, faultNumberIn, faultVariable, faultCountIn, faultArgumentIn, faultDue, faultDueIn, faultEnd, fault, faultIn, afterHead, afterDue, declared, started, after, ended, State}
 use Rattle.models.specs.declared.Due.{Due}
 use Rattle.models.specs.declared.Due.the-variants.{Start, Upper, Arguments, Ended}
 use Rattle.modelreading.specs.Onward as Onward
@@ -28,7 +28,7 @@ same false n = refl
 
 -- a word 0 has a fault wherever a word is due, and after the end word too
 past : (due : Due) (v t c : ℕ) → (faultDue due v t c 0 ≡ Fault.wrongKind) ⊎ (faultDue due v t c 0 ≡ Fault.wordAfterEnd)
-unfolding faultDueIn faultStartIn faultHead faultUpperIn faultNumberIn faultVariable faultLengthIn faultArgumentIn kind
+unfolding faultDueIn faultStartIn faultHead faultUpperIn faultNumberIn faultVariable faultCountIn faultArgumentIn kind
 past Start v t c = inl refl
 past (Upper lower) v t c = inl refl
 past (Arguments n l type code k) v t c = inl (simp same)

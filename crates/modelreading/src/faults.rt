@@ -8,7 +8,7 @@ ghost use Rattle.integers.specs.Choice.{_if_else_};
 ghost use Rattle.words.specs.Word.{payload, signed, tooLow};
 ghost use Rattle.words.specs.Fault as Fault;
 ghost use Rattle.words.specs.Limit as Limit;
-ghost use Rattle.models.specs.Reading.{faultHead, faultStart, faultUpper, faultNumber, faultLength, faultVariable};
+ghost use Rattle.models.specs.Reading.{faultHead, faultStart, faultUpper, faultNumber, faultCount, faultVariable};
 use crate::shapes;
 use words::fault;
 use words::kind;
@@ -128,25 +128,25 @@ pub fn of_number(w: u32) -> u32
     of_lowest(w)
 }
 
-// Of a length that may be above 32.
-fn of_size(w: u32) -> u32
-    ensures { λ r. ⌜ r ≡ (Fault.lengthOutside if ltb Limit.listLength (payload w) else Fault.none) ⌝ }
+// Of a count that may be above the most.
+fn of_size(most: usize, w: u32) -> u32
+    ensures { λ r. ⌜ r ≡ (Fault.lengthOutside if ltb most (payload w) else Fault.none) ⌝ }
 {
-    if limit::LIST_LENGTH < words::payload_of(w) {
+    if most < words::payload_of(w) {
         return fault::LENGTH_OUTSIDE;
     }
     fault::NONE
 }
 
-// Of a list's length.
-pub fn of_length(w: u32) -> u32
-    ensures { λ r. ⌜ r ≡ faultLength w ⌝ }
+// Of a list's length and of an exponent, the most that it may be given.
+pub fn of_count(most: usize, w: u32) -> u32
+    ensures { λ r. ⌜ r ≡ faultCount most w ⌝ }
 {
     if words::kind_of(w) != kind::NUMBER {
         return fault::WRONG_KIND;
     }
     let lowest = of_lowest(w);
-    let long = of_size(w);
+    let long = of_size(most, w);
     first_of(lowest, long)
 }
 

@@ -13,6 +13,7 @@ use crate::shapes;
 use words::fault;
 use words::kind;
 use words::kind_of;
+use words::limit;
 use words::payload_of;
 use words::word_at;
 
@@ -99,7 +100,7 @@ fn variables_at(ws: &[u32], at: usize, n: usize, wanted: u32, types: &[u32; 256]
 
 // A list, whose length word was read: its numbers, its variables, or both.
 fn list_at(ws: &[u32], at: usize, n: usize, argument: u32, types: &[u32; 256], v: usize) -> Step
-    requires { ⌜ Placed (now ws) at × (n ≤ 32) × (v ≤ 256) × (4 ≤ argument) ⌝ }
+    requires { ⌜ Placed (now ws) at × (n ≤ 32) × (v ≤ 256) × (5 ≤ argument) ⌝ }
     ensures { λ r. ⌜ ListRead (now (ws .entry)) (take v (now (types .entry))) argument n at r ⌝ }
 {
     if argument == shapes::NUMBERS {
@@ -130,7 +131,10 @@ fn argument_at(ws: &[u32], at: usize, argument: u32, types: &[u32; 256], v: usiz
     if argument == shapes::NUMBER {
         return step_over(faults::of_number(w), at);
     }
-    let length = step_over(faults::of_length(w), at);
+    if argument == shapes::EXPONENT {
+        return step_over(faults::of_count(limit::EXPONENT, w), at);
+    }
+    let length = step_over(faults::of_count(limit::LIST_LENGTH, w), at);
     if length.number != fault::NONE {
         return length;
     }

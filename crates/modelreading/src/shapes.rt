@@ -3,7 +3,7 @@ ghost use mathlib.Core.Path.{_≡_};
 ghost use Rattle.models.specs.Shape.{argument};
 ghost use Rattle.modelreading.specs.Argument.{table};
 
-// one argument, and the type of a variable: none, an integer variable, a Boolean one, a number
+// one argument, and the type of a variable: none, an integer variable, a Boolean one, a number, the exponent of a power
 pub const NONE: u32 = 0;
 
 pub const INTEGER: u32 = 1;
@@ -11,17 +11,19 @@ pub const INTEGER: u32 = 1;
 pub const BOOLEAN: u32 = 2;
 
 pub const NUMBER: u32 = 3;
+
+pub const EXPONENT: u32 = 4;
 // a list of numbers, of integer variables, of Boolean ones; parallel lists
-pub const NUMBERS: u32 = 4;
+pub const NUMBERS: u32 = 5;
 
-pub const INTEGERS: u32 = 5;
+pub const INTEGERS: u32 = 6;
 
-pub const BOOLEANS: u32 = 6;
+pub const BOOLEANS: u32 = 7;
 
-pub const PARALLEL: u32 = 7;
+pub const PARALLEL: u32 = 8;
 
 // the last code
-pub const CODES: usize = 38;
+pub const CODES: usize = 39;
 
 // the most arguments of a code
 pub const MOST: usize = 3;
@@ -67,6 +69,7 @@ pub const SHAPES: [[u32; MOST]; CODES + 1] = [
     [BOOLEAN, BOOLEAN, BOOLEAN],
     [INTEGER, INTEGER, INTEGER],
     [INTEGER, INTEGER, INTEGER],
+    [INTEGER, EXPONENT, INTEGER],
 ];
 
 // The k-th argument of a code, counted from 0, in the lent table.
