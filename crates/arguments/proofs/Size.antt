@@ -16,13 +16,18 @@ use Rattle.integers.proofs.Fits.{back}
 use Rattle.words.specs.Word.{wordAt}
 use Rattle.words.specs.Small.{Near}
 use Rattle.words.proofs.Word.{signed-near, product-size as near-product}
-use Rattle.models.specs.Model.{var, num, size}
+use Rattle.models.specs.Model.{var, num, size, exponentAt}
 use Rattle.arguments.specs.Small.{Small}
 
 -- a list has at most 32 elements
 pub size-le : (ws : List ℕ) (i : ℕ) → size ws i ≤ 32
 unfolding size
 size-le ws i = capped (var ws i) 32 32 (omega arith)
+
+-- an exponent is at most 27
+pub exponent-le : (ws : List ℕ) (i : ℕ) → exponentAt ws i ≤ 27
+unfolding exponentAt
+exponent-le ws i = capped (var ws i) 27 27 (omega arith)
 
 -- a number is at most 2^27, its product with a small value at most 2^54
 pub num-size : (ws : List ℕ) (i : ℕ) → Near (num ws i)

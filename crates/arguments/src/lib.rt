@@ -6,7 +6,7 @@ ghost use Rattle.integers.specs.Choice.{_if_else_};
 ghost use Rattle.integers.specs.Number.{_⊗_, _==_, count};
 ghost use Rattle.integers.specs.Lists.{all, any, howMany};
 ghost use Rattle.integers.specs.Terms.{value, sum};
-ghost use Rattle.models.specs.Model.{var, num, size, past, pastTerms, vars, nums, terms};
+ghost use Rattle.models.specs.Model.{var, num, size, exponentAt, past, pastTerms, vars, nums, terms};
 ghost use Rattle.models.specs.Meaning.{on, member};
 ghost use Rattle.arguments.specs.Small.{Small};
 use crate::test::both;
@@ -47,6 +47,17 @@ pub fn size_at(args: &[u32], i: usize) -> usize
         return n;
     }
     limit::LIST_LENGTH
+}
+
+// The exponent at place i.
+pub fn exponent_at(args: &[u32], i: usize) -> usize
+    ensures { λ r. ⌜ r ≡ exponentAt (now (args .entry)) i ⌝ }
+{
+    let k = var_at(args, i);
+    if k <= limit::EXPONENT {
+        return k;
+    }
+    limit::EXPONENT
 }
 
 // The place after the list whose length word is at place i.

@@ -1,3 +1,4 @@
 -- Laws for proofs about builtins.
 pub mod Element
 pub mod Coded
+pub mod CutPower

@@ -2,7 +2,7 @@
 use mathlib.Core.List.{List}
 use Prim.Native.Nat.{ℕ, _+_}
 use lib.Dec.{leb}
-use lib.IntN.{ℤ}
+use lib.IntN.{ℤ, pos}
 use Rattle.integers.specs.Choice.{_if_else_}
 use Rattle.integers.specs.Number.{count}
 use Rattle.integers.specs.Terms.{Term}
@@ -25,6 +25,10 @@ linear B ws = B (terms ws 0) (num ws (pastTerms ws 0))
 
 abbrev pub linearReified : (List (Term ℕ) → ℤ → ℕ → Builtin) → List ℕ → Builtin
 linearReified B ws = B (terms ws 0) (num ws (pastTerms ws 0)) (var ws (pastTerms ws 0 + 1))
+
+-- no value is as far from 0: what a power that has left the values is cut to
+abbrev pub far : ℤ
+far = pos 268435456
 
 -- a number as a place in a list of n elements, counted from 1; 0 where the list has no such place
 unfoldable pub indexIn : ℕ → ℤ → ℕ

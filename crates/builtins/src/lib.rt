@@ -11,6 +11,7 @@ mod compare;
 mod linear;
 mod list;
 mod number;
+mod power;
 
 // Whether the builtin is true; a code that is none counts as true.
 pub fn holds(code: usize, args: &[u32], values: &[i32]) -> bool
@@ -56,6 +57,7 @@ pub fn holds(code: usize, args: &[u32], values: &[i32]) -> bool
         36 => compare::int_lt_reif(args, values),
         37 => number::int_divided(args, values, false),
         38 => number::int_divided(args, values, true),
+        39 => power::int_pow(args, values),
         _ => true,
     }
 }

@@ -6,3 +6,4 @@ pub mod Tests
 pub mod Lists
 pub mod Places
 pub mod Fits
+pub mod Cut

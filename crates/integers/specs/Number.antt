@@ -31,6 +31,10 @@ maxZ a b = b if leZ a b else a
 unfoldable pub absZ : ℤ → ℤ
 absZ a = pos (natAbs a)
 
+-- cut to −most..most
+unfoldable pub cut : ℤ → ℤ → ℤ
+cut most a = minZ most (maxZ (neg most) a)
+
 -- whether two are equal
 infix 4 _==_
 unfoldable pub _==_ : ℤ → ℤ → Bool

@@ -4,7 +4,7 @@ ghost use Prim.Native.Nat.{_+_, _*_, _<_};
 ghost use lib.IntN.{natAbs};
 ghost use lib.Signed.{quotZ, remZ};
 ghost use Rattle.integers.specs.Choice.{_if_else_};
-ghost use Rattle.integers.specs.Number.{_⊕_, _⊖_, _⊗_, neg, minZ, maxZ, _==_};
+ghost use Rattle.integers.specs.Number.{_⊕_, _⊖_, _⊗_, neg, minZ, maxZ, cut, _==_};
 
 // The bounds of a variable.
 #[repr(C)]
@@ -94,6 +94,14 @@ pub fn pick(a: i64, b: i64, up: bool) -> i64
         return largest(a, b);
     }
     least(a, b)
+}
+
+// A number cut to -most..most.
+pub fn cut_to(most: i64, a: i64) -> i64
+    requires { ⌜ natAbs most < 9223372036854775808 ⌝ }
+    ensures { λ r. ⌜ r ≡ cut most a ⌝ }
+{
+    least(most, largest(opposite(most), a))
 }
 
 // Whether two are equal.

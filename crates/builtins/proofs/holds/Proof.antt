@@ -8,7 +8,7 @@ use Rattle.builtins.proofs.Coded.{no-code}
 use Rattle.builtins.proofs.holds.Statement.{statement}
 use Rattle.builtins.proofs.holds.Tie as tie
 
-other : tie.Need-returns-39
+other : tie.Need-returns-40
 other c =
     let s = c .before .before in
     sym (no-code (value (s .args .values .now)) (s .args .code) (s .args .args .now) (c .match .rest))
@@ -18,6 +18,7 @@ unfolding meaning builtin builtins
 holds-spec =
     tie.close
     (tie.spec
+    (λ c κs. search needs)
     (λ c κs. search needs)
     (λ c κs. search needs)
     (λ c κs. search needs)
@@ -94,4 +95,5 @@ holds-spec =
     (λ c. let e : c .before .before .before .args .code ≡ 36 = c .before .match .keys36 in rw e (c .int-lt-reif2 .ensures))
     (λ c. let e : c .before .before .before .args .code ≡ 37 = c .before .match .keys37 in rw e (c .int-divided .ensures))
     (λ c. let e : c .before .before .before .args .code ≡ 38 = c .before .match .keys38 in rw e (c .int-divided2 .ensures))
+    (λ c. let e : c .before .before .before .args .code ≡ 39 = c .before .match .keys39 in rw e (c .int-pow .ensures))
     other)
