@@ -1,6 +1,6 @@
 -- What laying parts over a list does: the state `Laid` before and after, the list before and after.
 use mathlib.Core.Path.{_≡_}
-use mathlib.Core.Bool.{Bool, false, not, _||_}
+use mathlib.Core.Bool.{Bool, true, false, not, _||_}
 use mathlib.Core.List.{List}
 use Prim.Native.Nat.{ℕ, _+_, _≤_}
 use lib.ListN.{length}
@@ -32,6 +32,11 @@ pub record Over (s r : Laid) (out out′ ws : List ℕ) (a n : ℕ) (fit : Bool)
   pub rows : r .rows ≡ s .rows + n
   pub outside : r .outside ≡ (s .outside || not fit)
   pub over : out′ ≡ overlay out (s .words) ws
+
+-- as `Went`, and the words where all numbers are in the range: a block with another number is refused, and its words are never read
+pub record WentFitting (s r : Laid) (out out′ : List ℕ) (ps : List Part) : Type 0 where
+  pub counted : Counted s r (length (wordsIn ps)) (auxiliariesIn ps) (rowsIn ps) (all inRange (numbersIn ps))
+  pub over : all inRange (numbersIn ps) ≡ true → out′ ≡ overlay out (s .words) (wordsIn ps)
 
 abbrev pub nothing : Laid
 nothing = record { words = 0; auxiliaries = 0; rows = 0; outside = false }

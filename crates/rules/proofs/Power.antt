@@ -5,7 +5,7 @@ use Prim.Native.Nat.{ℕ, zero, suc, _+_, _/_, _%_, _≤_}
 use native.Mathlib.Nat.{div-add-mod, mod-lt}
 use native.Mathlib.Omega.{arith}
 use lib.Dec.{leb, eqb}
-use borrow.Author.Tests.{eqb-true, eqb-false, leb-true, leb-false}
+use borrow.Author.Tests.{eq-eqb, ne-eqb, eqb-true, eqb-false, leb-true, leb-false}
 use Rattle.integers.specs.Choice.{_if_else_}
 use Rattle.rules.specs.Power.{byHalves}
 
@@ -73,7 +73,7 @@ module _ {A : Type 0} (s : A) (f g : A → A) where
   at-one (suc zero) l = refl
   at-one (suc (suc k)) l = absurd (omega arith)
 
-  pub at-half : (k : ℕ) → 2 ≤ k → let h = f (byHalves s f g (k / 2) (k / 2)) in byHalves s f g k k ≡ (h if eqb (k % 2) 0 else g h)
+  at-half : (k : ℕ) → 2 ≤ k → let h = f (byHalves s f g (k / 2) (k / 2)) in byHalves s f g k k ≡ (h if eqb (k % 2) 0 else g h)
   unfolding byHalves
   at-half zero l = absurd (omega arith)
   at-half (suc k) l = go (leb (suc k) 1) refl
@@ -82,3 +82,9 @@ module _ {A : Type 0} (s : A) (f g : A → A) where
           (s if t else f (byHalves s f g k (suc k / 2)) if eqb (suc k % 2) 0 else g (f (byHalves s f g k (suc k / 2)))) ≡ (h if eqb (suc k % 2) 0 else g h)
       go true e = absurd (omega (arith, leb-true (suc k) 1 e))
       go false e = ap (λ c. f c if eqb (suc k % 2) 0 else g (f c)) (enough k (suc k / 2) (suc k / 2) (omega arith) (omega arith))
+
+  pub at-even : (k : ℕ) → 2 ≤ k → k % 2 ≡ 0 → byHalves s f g k k ≡ f (byHalves s f g (k / 2) (k / 2))
+  at-even k l e = rw (eq-eqb (k % 2) 0 e) at (at-half k l)
+
+  pub at-odd : (k : ℕ) → 2 ≤ k → ¬ (k % 2 ≡ 0) → byHalves s f g k k ≡ g (f (byHalves s f g (k / 2) (k / 2)))
+  at-odd k l e = rw (ne-eqb (k % 2) 0 e) at (at-half k l)
