@@ -8,3 +8,4 @@ pub mod Division
 pub mod Members
 pub mod Bare
 pub mod Picks
+pub mod Powers

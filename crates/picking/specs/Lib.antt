@@ -1,3 +1,4 @@
--- What the contracts cite: numbers written over a list, one number among zeros.
+-- What the contracts cite: numbers written over a list, one number among zeros, the products of a power.
 pub mod Picked
 pub mod Only
+pub mod Powered

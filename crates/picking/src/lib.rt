@@ -2,7 +2,7 @@
 ghost use mathlib.Core.Path.{_≡_};
 ghost use mathlib.Core.Bool.{true, not};
 ghost use mathlib.Core.List.{[], _∷_, _++_};
-ghost use Prim.Native.Nat.{_+_, _<_, _≤_};
+ghost use Prim.Native.Nat.{_+_, _*_, _<_, _≤_};
 ghost use lib.IntN.{pos};
 ghost use lib.Signed.{ltZ, quotZ};
 ghost use lib.ListN.{getD};
@@ -12,15 +12,18 @@ ghost use Rattle.integers.specs.Lists.{howMany};
 ghost use Rattle.integers.specs.Bounds.{_to_, values};
 ghost use Rattle.integers.specs.Terms.{value, sum, _·_};
 ghost use Rattle.words.specs.Word.{inRange};
-ghost use Rattle.models.specs.Model.{var, num, size, vars, terms, pastTerms};
+ghost use Rattle.models.specs.Model.{var, num, size, exponentAt, vars, terms, pastTerms};
 ghost use Rattle.models.specs.Meaning.{on};
 ghost use Rattle.arguments.specs.Small.{Small};
 ghost use Rattle.rules.specs.Parts.{halfLess};
-ghost use Rattle.rules.specs.Pick.{bitOf, signPick, signedPick, firstBit, gatedPick, divisionPick, leftOverPick};
+ghost use Rattle.rules.specs.Pick.{bitOf, signPick, signedPick, firstBit, gatedPick, divisionPick, leftOverPick, powerPick};
+ghost use Rattle.rules.specs.Power.{powerValues};
 ghost use Rattle.extremes.specs.Bounded.{Near, Bounded};
 ghost use Rattle.picking.specs.Picked.{Picked, Ranged, Ready, picksOf};
+ghost use Rattle.picking.specs.Powered.{NextPower, PowersPut};
 ghost use Rattle.picking.specs.Only.{onlyAt, FirstAt};
 use arguments::count_of;
+use arguments::exponent_at;
 use arguments::how_many;
 use arguments::num_at;
 use arguments::past_terms_at;
@@ -408,6 +411,54 @@ fn pick_mod(out: &mut [i32], at: usize, args: &[u32], values: &[i32]) -> usize
     put_division(out, next, n, d, q)
 }
 
+// The place after the products of a power, and the power.
+pub struct Powered {
+    pub at: usize,
+    pub held: i64,
+}
+
+// Writes one more product: of a factor and the power.
+fn put_next(out: &mut [i32], p: Powered, factor: i64) -> Powered
+    requires { ⌜ (p .at < 4398046511104) × Near factor × Near (p .held) × (inRange (factor ⊗ p .held) ≡ true) ⌝ }
+    ensures { λ r. ⌜ NextPower p r (now (out .entry)) (now (out .exit)) factor ⌝ }
+{
+    let v = times(factor, p.held);
+    Powered {
+        at: put(out, p.at, v),
+        held: v,
+    }
+}
+
+// Writes the products of a power from 1 on: by recursion on the exponent, which halves until it is 1.
+fn put_powers(out: &mut [i32], at: usize, x: i64, k: usize) -> Powered
+    requires { ⌜ (at < 1099511627776) × Near x × (1 ≤ k) × (k ≤ 27) × Ranged (powerValues x k .picked) ⌝ }
+    ensures { λ r. ⌜ PowersPut at r (now (out .entry)) (now (out .exit)) (powerValues x k) (20 * k) ⌝ }
+{
+    if k < 2 {
+        return Powered { at, held: x };
+    }
+    let half = put_powers(out, at, x, k / 2);
+    let square = put_next(out, half, half.held);
+    if k % 2 == 0 {
+        return square;
+    }
+    put_next(out, square, x)
+}
+
+// 39: the products of the power, none for k=0.
+fn pick_pow(out: &mut [i32], at: usize, args: &[u32], values: &[i32]) -> usize
+    requires { ⌜ (at < 1099511627776) × Small (now values) × Ranged (powerPick (value (now values) (var (now args) 0)) (exponentAt (now args) 1)) ⌝ }
+    ensures { λ r. ⌜ Picked at r (now (out .entry)) (now (out .exit)) (powerPick (value (now (values .entry)) (var (now (args .entry)) 0)) (exponentAt (now (args .entry)) 1)) ⌝ }
+{
+    let x = value_of(args, 0, values);
+    let k = exponent_at(args, 1);
+    if k == 0 {
+        return at;
+    }
+    let p = put_powers(out, at, x, k);
+    p.at
+}
+
 // What fill writes for the auxiliaries of a constraint of a code; the place after it.
 pub fn pick_block(
     out: &mut [i32],
@@ -444,6 +495,7 @@ pub fn pick_block(
         34 => pick_xor(out, at, args, values),
         37 => pick_div(out, at, args, values),
         38 => pick_mod(out, at, args, values),
+        39 => pick_pow(out, at, args, values),
         _ => at,
     }
 }

@@ -210,11 +210,22 @@ returns-22 : tie.Need-returns-22
 unfolding pick builtin builtins
 returns-22 c = let e : c .before .before .before .before .before .args .code ≡ 38 = c .before .before .before .match .keys22 in rw e (c .before .pick-mod .ensures)
 
-other : tie.Need-returns-23
+pick-pow-requires : tie.Need-pick-pow-requires
+unfolding pick builtin builtins
+pick-pow-requires c κs =
+    let p = c .before .before .before .pre in
+    let e : c .before .before .before .args .code ≡ 39 = c .before .match .keys23 in
+    (p .place, p .small, rw e at (p .ranged))
+
+returns-23 : tie.Need-returns-23
+unfolding pick builtin builtins
+returns-23 c = let e : c .before .before .before .before .before .args .code ≡ 39 = c .before .before .before .match .keys23 in rw e (c .before .pick-pow .ensures)
+
+other : tie.Need-returns-24
 unfolding pick any
 other c =
     let a = c .before .before .args in
-    rw (none-picked (38 ∷ 37 ∷ 34 ∷ 33 ∷ 32 ∷ 31 ∷ 29 ∷ 28 ∷ 27 ∷ 26 ∷ 25 ∷ 24 ∷ 23 ∷ 20 ∷ 15 ∷ 14 ∷ 13 ∷ 12 ∷ 9 ∷ 8 ∷ 7 ∷ 4 ∷ []) refl (a .ls .now) (a .us .now) (a .values .now) (a .code) (a .args .now) (c .match .rest)) (picked-none (a .at) (a .out .now))
+    rw (none-picked (39 ∷ 38 ∷ 37 ∷ 34 ∷ 33 ∷ 32 ∷ 31 ∷ 29 ∷ 28 ∷ 27 ∷ 26 ∷ 25 ∷ 24 ∷ 23 ∷ 20 ∷ 15 ∷ 14 ∷ 13 ∷ 12 ∷ 9 ∷ 8 ∷ 7 ∷ 4 ∷ []) refl (a .ls .now) (a .us .now) (a .values .now) (a .code) (a .args .now) (c .match .rest)) (picked-none (a .at) (a .out .now))
 
 pub pick-block-spec : {M : Type 1} → statement M
 pick-block-spec =
@@ -242,6 +253,7 @@ pick-block-spec =
     pick-xor-requires-2
     pick-div-requires
     pick-mod-requires
+    pick-pow-requires
     (λ c. search needs)
     returns
     (λ c. search needs)
@@ -286,4 +298,6 @@ pick-block-spec =
     returns-21
     (λ c. search needs)
     returns-22
+    (λ c. search needs)
+    returns-23
     other)
