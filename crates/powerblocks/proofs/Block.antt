@@ -1,7 +1,7 @@
 -- What is written of int_pow counts as the parts of its block and is them where they fit.
-use mathlib.Core.Path.{_≡_, refl, sym, ap, _∙_, subst}
-use mathlib.Core.List.{List, [], _∷_, _++_, flatMap, map, append-assoc}
-use Prim.Native.Nat.{ℕ, zero, suc, _+_, _≤_}
+use mathlib.Core.Path.{_≡_, refl, sym, ap, _∙_}
+use mathlib.Core.List.{[], _∷_, _++_, flatMap}
+use Prim.Native.Nat.{ℕ, zero, suc, _≤_}
 use native.Mathlib.Omega.{arith}
 use Rattle.integers.specs.Number.{+0, +1, -1}
 use Rattle.integers.specs.declared.Bounds.{Bounds}
@@ -11,11 +11,11 @@ use Rattle.rules.specs.Block.{Ref, source, numbered}
 use Rattle.rules.specs.Parts.{_─_=0}
 use Rattle.rules.specs.Power.{chain}
 use Rattle.rules.specs.Rule.{powered}
-use Rattle.laying.specs.Part.{Part, boundParts, termParts, rowParts, blockParts}
+use Rattle.laying.specs.Part.{boundParts, termParts, rowParts, blockParts}
 use Rattle.laying.specs.Lists.{many, rowOf}
 use Rattle.laying.proofs.Parts.{flatMap-append}
 use Rattle.laying.proofs.Alike.{Alike, alike-then}
-use Rattle.powerblocks.specs.Cut.{cutBounds, cutRanges}
+use Rattle.powerblocks.specs.Cut.{cutRanges}
 use Rattle.powerblocks.proofs.CutBounds.{near-not-cut, cut-ranges, alike-bounds}
 
 module _ (first : ℕ) (β : ℕ → Bounds) (x : ℕ) where

@@ -2,17 +2,16 @@
 -- So the bounds of the products of a power, cut at each step, are those of the chain, cut; their parts count as those of the chain and are the same where they fit.
 use mathlib.Core.Path.{_≡_, refl, sym, ap, ap₂, _∙_}
 use mathlib.Core.Logic.{_↔_}
-use mathlib.Core.Bool.{Bool, true, false, _&&_}
+use mathlib.Core.Bool.{true, _&&_}
 use mathlib.Core.List.{List, [], _∷_, _++_, map, map-append, flatMap}
-use Prim.Native.Nat.{ℕ, _+_, _≤_}
+use Prim.Native.Nat.{ℕ, _≤_}
 use native.Mathlib.Omega.{arith}
 use lib.IntN.{ℤ}
-use lib.ListN.{length}
 use mir.Syntax.{w64}
 use mir.Val.{toZ, ofZ}
 use mir.Facts.{toZ-ofZ}
 use Rattle.integers.specs.Number.{_⊗_, neg, minZ, maxZ, cut, +1}
-use Rattle.integers.specs.Bounds.{_to_, within}
+use Rattle.integers.specs.Bounds.{_to_}
 use Rattle.integers.specs.Lists.{all}
 use Rattle.integers.specs.declared.Bounds.{Bounds}
 use Rattle.integers.proofs.Linear.{_⊑_, linear, arithZ}
@@ -25,7 +24,7 @@ use Rattle.words.specs.Word.{inRange}
 use Rattle.rules.specs.Parts.{endProducts}
 use Rattle.rules.specs.Power.{Chain, next, noProduct, squared, multiplied, chain}
 use Rattle.rules.proofs.Power.{by-halves}
-use Rattle.laying.specs.Part.{Part, bound, partWords, partNumbers, partAuxiliaries, partRows, wordsIn, numbersIn, auxiliariesIn, rowsIn, boundParts}
+use Rattle.laying.specs.Part.{bound, partWords, partNumbers, partAuxiliaries, partRows, wordsIn, numbersIn, auxiliariesIn, rowsIn, boundParts}
 use Rattle.laying.proofs.Alike.{Alike}
 use Rattle.laying.proofs.Parts.{both-true}
 use Rattle.powerblocks.specs.Cut.{past, cutBounds, Ranges, cutNext, noRange, cutSquared, cutMultiplied, cutRanges}

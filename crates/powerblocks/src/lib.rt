@@ -40,14 +40,8 @@ fn next_range(out: &mut [u32], p: Ranged, lower: i64, upper: i64) -> Ranged
     requires { ⌜ (total (p .laid) < 900000000000) × Small.Near (p .lower) × Small.Near (p .upper) × Small.Near lower × Small.Near upper ⌝ }
     ensures { λ r. ⌜ NextRange p r (now (out .entry)) (now (out .exit)) (lower to upper) ⌝ }
 {
-    let l = cut_to(
-        PAST,
-        product_end(lower, upper, p.lower, p.upper, false),
-    );
-    let u = cut_to(
-        PAST,
-        product_end(lower, upper, p.lower, p.upper, true),
-    );
+    let l = cut_to(PAST, product_end(lower, upper, p.lower, p.upper, false));
+    let u = cut_to(PAST, product_end(lower, upper, p.lower, p.upper, true));
     Ranged {
         laid: lay_bound(out, p.laid, l, u),
         lower: l,

@@ -1,11 +1,10 @@
 -- For k=0 one row; else the bounds, the products and the last row.
 use native.Mathlib.Omega.{arith}
-use lib.IntN.{natAbs}
 use borrow.Author.Needs.{needs}
 use Rattle.integers.specs.Bounds.{bit}
 use Rattle.integers.proofs.Fits.{back}
 use Rattle.rules.specs.Rule.{rule}
-use Rattle.laying.proofs.Parts.{went-then, went-as, went-length}
+use Rattle.laying.proofs.Parts.{went-then, went-as}
 use Rattle.laying.proofs.Alike.{went-alike, went-fitting}
 use Rattle.extremes.specs.Bounded.{boundsOf}
 use Rattle.powerblocks.proofs.Block.{none-parts, power-alike}
@@ -48,7 +47,7 @@ returns-2 c =
     let p = c .before .before .before .before .before .before .before .before .lay-products .ensures (β (s .args .x)) in
     let w = c .before .before .lay-row2 .ensures in (
       went-alike (power-alike (s .args .first) β (s .args .x) (s .args .k) (s .args .z) (c .before .before .before .before .before .before .before .before .lay-products .result .held) (omega (arith, c .before .before .before .before .before .before .before .before .before .before .before .before .before .before .before .before .if1 .left)) (s .pre .3 (s .args .x)) (s .pre .4 (s .args .x)) (p .held))
-      (went-then (r .went) (went-then (p .went) (w .0))),
+          (went-then (r .went) (went-then (p .went) (w .0))),
       omega (arith, s .pre .2, r .near, p .near, w .1),
     )
 

@@ -1,5 +1,5 @@
 -- The end products of bounds near 0, cut, then laid.
-use mathlib.Core.Path.{_≡_, sym, ap, ap₂, _∙_}
+use mathlib.Core.Path.{ap, ap₂}
 use native.Mathlib.Omega.{arith}
 use lib.IntN.{natAbs}
 use mir.Facts.{toZ-ofZ}
@@ -7,7 +7,6 @@ use borrow.Author.Needs.{needs}
 use Rattle.integers.specs.Bounds.{_to_}
 use Rattle.integers.proofs.Fits.{back}
 use Rattle.rules.specs.Parts.{endProducts}
-use Rattle.powerblocks.specs.Cut.{cutBounds}
 use Rattle.powerblocks.proofs.CutBounds.{near-cut, near-back}
 use Rattle.powerblocks.proofs.next_range.Statement.{statement}
 use Rattle.powerblocks.proofs.next_range.Tie as tie
