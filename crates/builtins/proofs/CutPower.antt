@@ -1,8 +1,6 @@
 -- A power cut to −far..far, by halves; it is equal to a value where the power is.
 use mathlib.Core.Path.{_≡_, sym, ap, ap₂, _∙_}
-use mathlib.Core.Bool.{Bool}
 use Prim.Native.Nat.{ℕ, suc, _+_, _*_, _/_, _%_, _≤_, _<_}
-use native.Mathlib.Nat.{div-add-mod, mod-lt}
 use native.Mathlib.Omega.{arith}
 use lib.IntN.{ℤ, natAbs}
 use Rattle.integers.specs.Number.{_⊗_, neg, cut, _==_}

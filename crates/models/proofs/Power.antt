@@ -1,10 +1,10 @@
 -- Powers: the first one, and the product of two.
-use mathlib.Core.Path.{_≡_, sym, ap, _∙_}
+use mathlib.Core.Path.{_≡_, ap, _∙_}
 use Prim.Native.Nat.{ℕ, zero, suc, _+_}
 use native.Mathlib.Omega.{arith}
 use lib.IntN.{ℤ}
 use Rattle.integers.specs.Number.{_⊗_, +1}
-use Rattle.integers.proofs.Linear.{rep, linear}
+use Rattle.integers.proofs.Linear.{linear}
 use Rattle.models.specs.Meaning.{power}
 
 times-assoc : (a b c : ℤ) → a ⊗ (b ⊗ c) ≡ a ⊗ b ⊗ c

@@ -6,10 +6,10 @@ use Prim.Native.Nat.{ℕ, zero, suc, _+_, _*_, _≤_, _<_}
 use native.Mathlib.Omega.{arith}
 use lib.IntN.{ℤ}
 use lib.ListN.{length, length-append}
-use Rattle.integers.specs.Number.{_⊕_, _⊗_, _==_, +0, +1, -1}
+use Rattle.integers.specs.Number.{_⊕_, _⊗_, +0, +1, -1}
 use Rattle.integers.specs.Terms.{Valuation, value}
 use Rattle.integers.specs.declared.Bounds.{Bounds}
-use Rattle.integers.proofs.Linear.{rep, linear}
+use Rattle.integers.proofs.Linear.{linear}
 use Rattle.integers.proofs.Lists.{all-append}
 use Rattle.integers.proofs.Tests.{In, All, says-equal}
 use Rattle.rowsystems.specs.Row.{product}
@@ -23,7 +23,7 @@ use Rattle.rules.specs.Power.{Chain, next, noProduct, squared, multiplied, chai
 use Rattle.rules.specs.Rule.{rule, powered}
 use Rattle.rules.specs.Pick.{pick, powerPick}
 use Rattle.rules.proofs.Power.{by-halves, kept-by-halves}
-use Rattle.sharing.proofs.Good.{Good, Keeps, Sat, see}
+use Rattle.sharing.proofs.Good.{Keeps, Sat, see}
 use Rattle.sharing.proofs.Basics.{Sound, Complete, Filled, equal-row}
 use Rattle.sharing.proofs.OneHot.{From, from-head}
 use Rattle.sharing.proofs.Gates.{keeps-append, from-append}

@@ -17,7 +17,7 @@ use Rattle.rules.specs.Block.{Block, blockWords, outside}
 use Rattle.rules.specs.Translation.{blockOf}
 use Rattle.rules.specs.Check.{tooWide, blockFault, blockFaultIn}
 use Rattle.laying.specs.Part.{blockParts}
-use Rattle.laying.specs.Went.{Went, nothing}
+use Rattle.laying.specs.Went.{WentFitting, nothing}
 use Rattle.laying.specs.declared.Laid.{Laid}
 use Rattle.laying.proofs.Blocks.{block-words, block-auxiliaries, block-rows, block-outside}
 use Rattle.translation.specs.Walk.{constraintOf, Costs}
@@ -31,12 +31,12 @@ pub record Told (first : ℕ) (B : Block) (r : Laid) : Type 0 where
   pub rows : r .rows ≡ length (B .rows)
   pub outside-is : r .outside ≡ outside B
 
-pub told : {first : ℕ} {B : Block} {r : Laid} {o o′ : List ℕ} → Went nothing r o o′ (blockParts first B) → Told first B r
+pub told : {first : ℕ} {B : Block} {r : Laid} {o o′ : List ℕ} → WentFitting nothing r o o′ (blockParts first B) → Told first B r
 told {first} {B} w = record {
-  words = omega (arith, w .words, ap length (block-words first B));
-  auxiliaries = omega (arith, w .auxiliaries, block-auxiliaries first B);
-  rows = omega (arith, w .rows, block-rows first B);
-  outside-is = w .outside ∙ block-outside first B;
+  words = omega (arith, w .counted .words, ap length (block-words first B));
+  auxiliaries = omega (arith, w .counted .auxiliaries, block-auxiliaries first B);
+  rows = omega (arith, w .counted .rows, block-rows first B);
+  outside-is = w .counted .outside ∙ block-outside first B;
 }
 
 fault-told : (β : ℕ → Bounds) (first : ℕ) (c : Constraint) {r : Laid} → tooWide β c ≡ false → Told first (blockOf β c) r →
@@ -68,7 +68,7 @@ laid-costs {β} {first} {c} t n s e = record {
 -- ---- the constraint of a code and the words after its head
 
 pub placed-block : (β : ℕ → Bounds) (first : ℕ) (c : Constraint) {r : Laid} {o o′ : List ℕ} →
-    Went nothing r o o′ (blockParts first (rule β (builtinOf (c .code) (c .arguments)))) → Went nothing r o o′ (blockParts first (blockOf β c))
+    WentFitting nothing r o o′ (blockParts first (rule β (builtinOf (c .code) (c .arguments)))) → WentFitting nothing r o o′ (blockParts first (blockOf β c))
 unfolding blockOf builtin
 placed-block β first c w = w
 

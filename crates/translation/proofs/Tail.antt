@@ -1,5 +1,6 @@
 -- A tail that was lent, to the end of a list, and came back with words laid over its front.
-use mathlib.Core.Path.{_≡_, sym, ap, _∙_}
+use mathlib.Core.Path.{_≡_, refl, sym, ap, _∙_}
+use mathlib.Core.Bool.{Bool, true, false, not}
 use mathlib.Core.List.{List, [], _∷_, _++_, append-nil}
 use Prim.Native.Nat.{ℕ, suc, _+_, _-_, _≤_}
 use native.Mathlib.Omega.{arith}
@@ -8,11 +9,11 @@ use lib.ListN.{length, take, drop, set, take-append-drop, length-drop}
 use lib.Seq.{take-set-le, drop-set-add, take-all, drop-length}
 use borrow.Rule.Slice.PartMut.{putMid, midOf, post-is}
 use Rattle.words.specs.Overlay.{overlay}
-use Rattle.rules.specs.Block.{Block, blockWords}
+use Rattle.rules.specs.Block.{Block, blockWords, outside}
 use Rattle.laying.specs.Part.{blockParts}
-use Rattle.laying.specs.Went.{Went, nothing}
+use Rattle.laying.specs.Went.{WentFitting, nothing}
 use Rattle.laying.specs.declared.Laid.{Laid}
-use Rattle.laying.proofs.Blocks.{block-words}
+use Rattle.laying.proofs.Blocks.{block-words, block-outside}
 
 from : (a j : ℕ) (o ws : List ℕ) → take a o ++ overlay (drop a o) j ws ≡ overlay o (a + j) ws
 unfolding overlay
@@ -27,8 +28,12 @@ tail-back : (a : ℕ) (o ws : List ℕ) → a ≤ length o → putMid a (length 
 tail-back a o ws h =
     rw (post-is a (length o) o, drop-length, append-nil, take-all (length o - a) (drop a o) (simp length-drop (omega arith))) (from a 0 o ws ∙ rw add-zero)
 
--- where it is a block that is laid from nothing
-pub block-back : (first : ℕ) (B : Block) (at : ℕ) (out : List ℕ) {b : Laid} {out′ : List ℕ} → at ≤ length out →
-    Went nothing b (midOf at (length out - at) out) out′ (blockParts first B) → putMid at (length out - at) out out′ ≡ overlay out at (blockWords first B)
-block-back first B at out h w =
-    ap (putMid at (length out - at) out) (w .over ∙ ap (overlay _ 0) (block-words first B)) ∙ tail-back at out (blockWords first B) h
+-- where it is a block that is laid from nothing, its numbers in the range
+pub block-back : (first : ℕ) (B : Block) (at : ℕ) (out : List ℕ) {b : Laid} {out′ : List ℕ} → at ≤ length out → outside B ≡ false →
+    WentFitting nothing b (midOf at (length out - at) out) out′ (blockParts first B) → putMid at (length out - at) out out′ ≡ overlay out at (blockWords first B)
+block-back first B at out h f w =
+    ap (putMid at (length out - at) out) (w .over (fits _ (block-outside first B ∙ f)) ∙ ap (overlay _ 0) (block-words first B)) ∙ tail-back at out (blockWords first B) h
+  where
+    fits : (t : Bool) → not t ≡ false → t ≡ true
+    fits true e = refl
+    fits false e = sym e

@@ -11,7 +11,7 @@ use Rattle.words.specs.Overlay.{overlay}
 use Rattle.words.proofs.Overlay.{length-overlay, overlay-none, overlay-append}
 use Rattle.models.specs.Model.{Constraint, constraints}
 use Rattle.modelreading.specs.declared.Read.{Read}
-use Rattle.rules.specs.Block.{blockWords}
+use Rattle.rules.specs.Block.{blockWords, outside}
 use Rattle.rules.specs.Translation.{blockOf, blocksWords}
 use Rattle.rules.specs.Check.{tooWide}
 use Rattle.laying.specs.declared.Laid.{Laid}
@@ -40,6 +40,9 @@ module _ {β : ℕ → Bounds} {v : ℕ} {cs : List Constraint} {o₀ : List ℕ
 
     pub not-wide : tooWide β c ≡ false
     not-wide = here .0
+
+    pub not-outside : outside (blockOf β c) ≡ false
+    not-outside = here .1
 
     pub more : {b : Laid} {o′ : List ℕ} → Told first (blockOf β c) b → o′ ≡ overlay o at (blockWords first (blockOf β c)) →
         Writing β v cs o₀ start o′ (k + 1) (first + b .auxiliaries) (at + b .words)

@@ -6,9 +6,10 @@ ghost use Rattle.models.specs.Model.{var};
 ghost use Rattle.builtins.specs.Coded.{builtinOf};
 ghost use Rattle.rules.specs.Rule.{rule};
 ghost use Rattle.laying.specs.Part.{blockParts};
-ghost use Rattle.laying.specs.Went.{Went, Near, nothing, total};
+ghost use Rattle.laying.specs.Went.{WentFitting, Near, nothing, total};
 ghost use Rattle.extremes.specs.Bounded.{boundsOf, Bounded};
 ghost use Rattle.linearsums.specs.Sum.{Summed};
+use arguments::exponent_at;
 use arguments::var_at;
 use choiceblocks::array_int_element;
 use choiceblocks::array_int_extreme;
@@ -27,6 +28,7 @@ use laying::Laid;
 use laying::none_yet;
 use linearblocks::clause;
 use linearblocks::linear;
+use powerblocks::int_pow;
 use words::kind;
 
 // Lays the block of a constraint after what is laid; its auxiliaries are numbered from `first` on, and `sum` is L and U where its rule has these.
@@ -41,7 +43,7 @@ fn lay_block(
     first: usize,
 ) -> Laid
     requires { ⌜ (total s < 1000000000) × (first < 10000) × Bounded (now ls) × Bounded (now us) × (code ≡ 28 → width (boundsOf (now ls) (now us) (var (now args) 0)) ≤ 64) × Summed (boundsOf (now ls) (now us)) code (now args) sum ⌝ }
-    ensures { λ r. ⌜ Went s r (now (out .entry)) (now (out .exit)) (blockParts first (rule (boundsOf (now (ls .entry)) (now (us .entry))) (builtinOf code (now (args .entry))))) × Near 1000000 s r ⌝ }
+    ensures { λ r. ⌜ WentFitting s r (now (out .entry)) (now (out .exit)) (blockParts first (rule (boundsOf (now (ls .entry)) (now (us .entry))) (builtinOf code (now (args .entry))))) × Near 1000000 s r ⌝ }
 {
     let a = var_at(args, 0);
     let b = var_at(args, 1);
@@ -85,6 +87,7 @@ fn lay_block(
         36 => boolean::bool_lt_reif(out, s, a, b, c),
         37 => int_div(out, s, a, b, c, ls, us, first),
         38 => int_mod(out, s, a, b, c, ls, us, first),
+        39 => int_pow(out, s, a, exponent_at(args, 1), c, ls, us, first),
         _ => compare::int_eq(out, s, 0, 0),
     }
 }
@@ -100,7 +103,7 @@ pub fn block(
     first: usize,
 ) -> Laid
     requires { ⌜ (first < 10000) × Bounded (now ls) × Bounded (now us) × (code ≡ 28 → width (boundsOf (now ls) (now us) (var (now args) 0)) ≤ 64) × Summed (boundsOf (now ls) (now us)) code (now args) sum ⌝ }
-    ensures { λ r. ⌜ Went nothing r (now (out .entry)) (now (out .exit)) (blockParts first (rule (boundsOf (now (ls .entry)) (now (us .entry))) (builtinOf code (now (args .entry))))) × Near 1000000 nothing r ⌝ }
+    ensures { λ r. ⌜ WentFitting nothing r (now (out .entry)) (now (out .exit)) (blockParts first (rule (boundsOf (now (ls .entry)) (now (us .entry))) (builtinOf code (now (args .entry))))) × Near 1000000 nothing r ⌝ }
 {
     let s = none_yet();
     lay_block(out, s, code, args, ls, us, sum, first)

@@ -11,13 +11,13 @@ use Rattle.models.specs.Model.{headed, constraints}
 use Rattle.rules.specs.Translation.{blockOf}
 use Rattle.sharing.proofs.Theorem.{never-too-many}
 use Rattle.laying.specs.Part.{blockParts}
-use Rattle.laying.specs.Went.{Went, nothing}
+use Rattle.laying.specs.Went.{WentFitting, nothing}
 use Rattle.extremes.specs.Bounded.{boundsOf}
 use Rattle.translation.proofs.Refusals.{system-length}
 use Rattle.translation.proofs.Kept.{few-variables, few-constraints, none-left, head-inside, head-at, summed-at}
 use Rattle.translation.proofs.OneBlock.{narrow, told, placed-block}
 use Rattle.translation.proofs.Tail.{block-back}
-use Rattle.translation.proofs.WriteWalk.{Writing, begun, not-wide, more, done, blocks-are, all-fine}
+use Rattle.translation.proofs.WriteWalk.{Writing, begun, not-wide, not-outside, more, done, blocks-are, all-fine}
 use Rattle.translation.proofs.writing.write_blocks.Statement.{statement}
 use Rattle.translation.proofs.writing.write_blocks.Tie as tie
 
@@ -52,7 +52,7 @@ inside c = head-inside (c .before .before .before .before .pre .0) (c .before .l
 went : (c : tie.After-block Inv-loop μ-loop) →
     let a = c .before .before .before .before .before .before .before .before .before .before .before .args in
     let l = c .before .before .before .before .before .before .before .before .loop in
-    Went nothing (c .block .result) (midOf (l .at) (length (l .out) - l .at) (l .out)) (c .block .last .0) (blockParts (l .first) (blockOf (boundsOf (a .ls .now) (a .us .now)) (headed (a .ws .now) (getD (a .heads .now) (l .k) 0))))
+    WentFitting nothing (c .block .result) (midOf (l .at) (length (l .out) - l .at) (l .out)) (c .block .last .0) (blockParts (l .first) (blockOf (boundsOf (a .ls .now) (a .us .now)) (headed (a .ws .now) (getD (a .heads .now) (l .k) 0))))
 unfolding wordAt
 went c =
     let a = c .before .before .before .before .before .before .before .before .before .before .before .args in
@@ -134,8 +134,9 @@ loop-again c =
     let s = c .before .before .before .before .before .before .before .before .before .before .before .before .before .before .before in
     let l = c .before .before .before .before .before .before .before .before .before .before .before .before .loop in
     let w = went (c .before .before .before .before) in
-    more (l .inv) (head-at (s .pre .0) (l .k) (c .before .before .before .before .before .before .before .before .before .before .before .loop-test .taken)) (told w)
-    (block-back (l .first) (blockOf (boundsOf (s .args .ls .now) (s .args .us .now)) (headed (s .args .ws .now) (getD (s .args .heads .now) (l .k) 0))) (l .at) (l .out) (fits (c .before .before .before .before .before .before .before .before .before .before .before .before)) w)
+    let h = head-at (s .pre .0) (l .k) (c .before .before .before .before .before .before .before .before .before .before .before .loop-test .taken) in
+    more (l .inv) h (told w)
+    (block-back (l .first) (blockOf (boundsOf (s .args .ls .now) (s .args .us .now)) (headed (s .args .ws .now) (getD (s .args .heads .now) (l .k) 0))) (l .at) (l .out) (fits (c .before .before .before .before .before .before .before .before .before .before .before .before)) (not-outside (l .inv) h) w)
 
 same-length : tie.Need-same-length Inv-loop μ-loop
 same-length c = c .before .loop .inv .same
