@@ -3,6 +3,7 @@
 #
 #   tests/twin.sh [COUNT [SEED]]     COUNT random inputs (200,000 if none is given)
 #   tests/twin.sh --one SEED INDEX   one of them again
+#   tests/twin.sh --alone FILE..     recorded answers of some files, on the twin alone
 #   tests/twin.sh --bench            the times of both sides
 #
 # The recorded answers are tried on both sides first.

@@ -3,6 +3,7 @@
 //!     twin [COUNT [SEED]]      COUNT inputs of a seed
 //!     twin --one SEED INDEX    one input, as a reported difference names it
 //!     twin --vectors FILE..    recorded answers, against both
+//!     twin --alone FILE..      recorded answers, against the twin alone
 //!     twin --bench             times of both
 
 mod answers;
@@ -21,7 +22,7 @@ fn number(argument: Option<&String>, otherwise: u64) -> u64 {
         None => otherwise,
         Some(Ok(number)) => number,
         Some(Err(_)) => {
-            eprintln!("usage: twin [COUNT [SEED]] | --one SEED INDEX | --vectors FILE.. | --bench");
+            eprintln!("usage: twin [COUNT [SEED]] | --one SEED INDEX | --vectors FILE.. | --alone FILE.. | --bench");
             exit(2)
         }
     }
@@ -31,7 +32,8 @@ fn main() {
     let arguments: Vec<String> = std::env::args().skip(1).collect();
     match arguments.first().map(String::as_str) {
         Some("--bench") => bench::run(),
-        Some("--vectors") => vectors::run(&arguments[1..]),
+        Some("--vectors") => vectors::run(&arguments[1..], true),
+        Some("--alone") => vectors::run(&arguments[1..], false),
         Some("--one") => {
             let mut comparer = Comparer::new(number(arguments.get(1), 1));
             comparer.run(number(arguments.get(2), 0));

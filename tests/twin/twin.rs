@@ -747,14 +747,7 @@ fn end_products(a: (i64, i64), b: (i64, i64)) -> (i64, i64) {
 fn division(n: usize, d: usize, q: usize, bounds: [(i64, i64); 3], first: usize, sink: &mut impl Sink) {
     let [(n_lo, n_hi), (d_lo, d_hi), q_bounds] = bounds;
     let (p_lo, p_hi) = end_products((d_lo, d_hi), q_bounds);
-    let differences = [
-        p_hi - n_lo,
-        n_hi - p_lo,
-        n_hi - d_lo - p_lo + 1,
-        p_hi - n_lo + d_hi + 1,
-        n_hi + d_hi - p_lo + 1,
-        p_hi - n_lo - d_lo + 1,
-    ];
+    let differences = [p_hi - n_lo, n_hi - p_lo, n_hi - d_lo - p_lo + 1, p_hi - n_lo + d_hi + 1, n_hi + d_hi - p_lo + 1, p_hi - n_lo - d_lo + 1];
     let m = differences.into_iter().fold(i64::MIN, i64::max);
     let (alpha, beta, p, gamma) = (first, first + 1, first + 2, first + 3);
     sink.bit();

@@ -3,6 +3,7 @@
 use crate::answers::{Judgement, FALSE, HOLDS, OUT_OF_BOUNDS};
 use crate::library::{self, Lent};
 use crate::twin;
+use std::collections::HashSet;
 use std::process::exit;
 
 fn listed<T: ToString>(name: &str, list: impl IntoIterator<Item = T>) -> String {
@@ -51,31 +52,69 @@ fn answer(call: &str, words: &mut [u32], values: &mut [i32], room: usize, librar
     }
 }
 
-pub fn run(files: &[String]) {
-    let mut count = 0;
+/// A recorded answer and what it answers.
+struct Record<'a> {
+    call: &'a str,
+    words: Vec<u32>,
+    values: Vec<i32>,
+    room: usize,
+    answer: &'a str,
+}
+
+/// The record of a line, none where it has not the five parts.
+fn record(line: &str) -> Option<Record<'_>> {
+    let fields: Vec<&str> = line.split('|').map(str::trim).collect();
+    let [call, words, values, room, answer] = fields[..] else { return None };
+    Some(Record {
+        call,
+        words: words.split_whitespace().filter_map(|word| u32::from_str_radix(word, 16).ok()).collect(),
+        values: values.split_whitespace().filter_map(|value| value.parse().ok()).collect(),
+        room: room.parse().unwrap_or(0),
+        answer,
+    })
+}
+
+/// The lines of some files, in order.
+fn lines(files: &[String]) -> Vec<String> {
+    let mut lines = vec![];
     for file in files {
         let Ok(text) = std::fs::read_to_string(file) else {
             eprintln!("twin: cannot read {file}");
             exit(2)
         };
-        for line in text.lines().filter(|line| !line.trim().is_empty() && !line.starts_with('#')) {
-            let fields: Vec<&str> = line.split('|').map(str::trim).collect();
-            let [call, words, values, room, recorded] = fields[..] else {
-                println!("twin: not a vector: {line}");
-                exit(1)
-            };
-            let mut words: Vec<u32> = words.split_whitespace().filter_map(|word| u32::from_str_radix(word, 16).ok()).collect();
-            let mut values: Vec<i32> = values.split_whitespace().filter_map(|value| value.parse().ok()).collect();
-            let room = room.parse().unwrap_or(0);
-            for (side, library) in [("twin", false), ("library", true)] {
-                let answer = answer(call, &mut words, &mut values, room, library);
-                if answer != recorded {
-                    println!("twin: {file}: {line}\n{side}: {answer}");
-                    exit(1);
-                }
+        lines.extend(text.lines().filter(|line| !line.trim().is_empty() && !line.starts_with('#')).map(String::from));
+    }
+    lines
+}
+
+/// Of lines with the same call, words, values and room only the last: a later request can change an answer.
+fn latest(lines: Vec<String>) -> Vec<String> {
+    let mut asked = HashSet::new();
+    let mut latest: Vec<String> =
+        lines.into_iter().rev().filter(|line| asked.insert(line.rsplit_once('|').map_or("", |line| line.0).to_string())).collect();
+    latest.reverse();
+    latest
+}
+
+/// Tries the recorded answers of some files on the twin and the library, or the latest of them on the twin alone. Every difference is printed.
+pub fn run(files: &[String], both: bool) {
+    let lines = if both { lines(files) } else { latest(lines(files)) };
+    let mut differences = 0;
+    for line in &lines {
+        let Some(mut record) = record(line) else {
+            println!("twin: not a vector: {line}");
+            exit(1)
+        };
+        for (side, library) in [("twin", false), ("library", true)].into_iter().take(1 + usize::from(both)) {
+            let answer = answer(record.call, &mut record.words, &mut record.values, record.room, library);
+            if answer != record.answer {
+                println!("twin: {line}\n{side}: {answer}");
+                differences += 1;
             }
-            count += 1;
         }
     }
-    println!("twin: {count} recorded answers, 0 differences");
+    println!("twin: {} recorded answers, {differences} differences", lines.len());
+    if differences > 0 {
+        exit(1);
+    }
 }
