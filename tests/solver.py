@@ -280,9 +280,25 @@ def text_of(declarations, names, constraints):
     return '\n'.join(filter(None, lines)) + '\n'
 
 
+def with_copies(variables, constraints):
+    """The same model where no division has a variable twice, but an equal one behind the others: of int_mod(x, x, x) Gecode has wrong
+    solutions, also where int_eq makes them equal."""
+    variables, equal = list(variables), []
+    for code, arguments in constraints:
+        arguments = list(arguments)
+        for k in (1, 2) if code in (37, 38) else ():
+            if arguments[k] in arguments[:k]:
+                variables.append(variables[arguments[k]])
+                equal.append((10, [[1, -1], [arguments[k], len(variables) - 1], 0]))
+                arguments[k] = len(variables) - 1
+        equal.append((code, arguments))
+    return variables, equal
+
+
 def model_text(variables, constraints):
     """A model as FlatZinc; a Boolean variable x3 has the value n3."""
-    return text_of([f'var {v[0]}..{v[1]}: x{i};' if v else f'var bool: x{i}; var 0..1: n{i};' for i, v in enumerate(variables)],
+    declared, constraints = with_copies(variables, constraints)
+    return text_of([f'var {v[0]}..{v[1]}: x{i};' if v else f'var bool: x{i}; var 0..1: n{i};' for i, v in enumerate(declared)],
                    [f'x{i}' if v else f'n{i}' for i, v in enumerate(variables)],
                    [f'constraint bool2int(x{i}, n{i});' for i, v in enumerate(variables) if not v] + [constraint_text(*c) for c in constraints])
 
