@@ -91,6 +91,7 @@ static void constraint(int code, int n) {
     case 35: case 36: three(F, T, T); break;
     case 37: three(PRODUCT, A, B); break;
     case 38: three(SUM, A, B); break;
+    case 39: variable(I); number(5); variable(I); break;
     }
 }
 
@@ -101,10 +102,10 @@ static void put_if(int code, int n, size_t total) {
     if (length + 1 != total && length + 5 > total) length = before;
 }
 
-/* A model of `total` words. Its constraints go round the 38 builtins, in two of three rounds only round those with lists, which have n elements.
+/* A model of `total` words. Its constraints go round the 39 builtins, in two of three rounds only round those with lists, which have n elements.
  * What does not fit is left out; words that are left at the end are a clause. */
 static void make_model(size_t total, int n) {
-    static const int round[] = {4, 12, 7, 26, 8, 28, 5, 13, 9, 24, 14, 10, 20, 15, 1, 11, 2, 22, 3, 23, 6, 25, 16, 27, 17, 21, 18, 19, 29, 32, 30, 33, 31, 34, 35, 36, 37, 38};
+    static const int round[] = {4, 12, 7, 26, 8, 28, 5, 13, 9, 24, 14, 10, 20, 15, 1, 11, 2, 22, 3, 23, 6, 25, 16, 27, 17, 21, 18, 19, 29, 32, 30, 33, 31, 34, 35, 36, 37, 38, 39};
     enum { CODES = sizeof round / sizeof *round };
     length = 0;
     for (int x = I; x < T; x++) {

@@ -1,5 +1,5 @@
 #!/usr/bin/env python3
-"""Compares the five calls with a second solver, Gecode, on random models over all 38 codes.
+"""Compares the five calls with a second solver, Gecode, on random models over all 39 codes.
 
     tests/solver.py [COUNT [SEED]]
 
@@ -23,9 +23,10 @@ LISTS = 2000    # the most value lists of a model
 CHOICES = 8000  # the most solutions of a row system
 SAMPLE = 60     # so many other solutions of a row system, and so many changed ones, are judged at most
 CHUNK = 8       # models of one run of suite
+LARGEST = 2 ** 27 - 1
 
-# Of each builtin: its FlatZinc name, its arguments, and whether it is true of their values, by which arguments are chosen and nothing is judged.
-# I is an integer variable, B a Boolean one, N a number, LI, LB, LN are lists of them, P is a list of numbers and one of integer variables.
+# Of each builtin: its FlatZinc name (Gecode says gecode_int_pow), its arguments, and whether it is true of their values, by which arguments are chosen and nothing is judged.
+# I is an integer variable, B a Boolean one, N a number, K an exponent, LI, LB, LN are lists of them, P is a list of numbers and one of integer variables.
 BUILTINS = {
     1: ('int_eq', 'I I', lambda a, b: a == b),
     2: ('int_le', 'I I', lambda a, b: a <= b),
@@ -64,7 +65,8 @@ BUILTINS = {
     35: ('bool_le_reif', 'B B B', lambda a, b, r: (a <= b) == r),
     36: ('bool_lt_reif', 'B B B', lambda a, b, r: (a < b) == r),
     37: ('int_div', 'I I I', lambda n, d, q: d != 0 and cut(n, d) == q),
-    38: ('int_mod', 'I I I', lambda n, d, r: d != 0 and n - d * cut(n, d) == r)}
+    38: ('int_mod', 'I I I', lambda n, d, r: d != 0 and n - d * cut(n, d) == r),
+    39: ('int_pow', 'I K I', lambda x, k, z: x ** k == z)}
 
 
 def cut(n, d):
@@ -109,6 +111,19 @@ def some_integer(rng, centre):
     return low, low + rng.randint(1, 7)
 
 
+def exponents(variable):
+    """The exponents whose powers of a variable are inside the range."""
+    return [k for k in range(28) if max(map(abs, variable)) ** k <= LARGEST]
+
+
+def some_power(rng, base, most):
+    """The bounds of a variable that can be a power of another one, none above the most."""
+    power = rng.randint(*base) ** rng.choice(exponents(base))
+    if abs(power) > most:
+        return base
+    return max(-most, power - rng.choice([0, 0, 1, 3])), min(most, power + rng.choice([0, 0, 1, 3]))
+
+
 def some_variables(rng, codes):
     """Variables of the types that the codes need, in any order; at most LISTS value lists."""
     kinds = {kind for code in codes for kind in BUILTINS[code][1].split()}
@@ -117,6 +132,8 @@ def some_variables(rng, codes):
         integers = rng.randint(int('I' in kinds), 4 if {'I', 'P', 'LI'} & kinds else 1)
         booleans = rng.randint(int('B' in kinds), 5 if {'B', 'LB'} & kinds else 1)
         variables = [some_integer(rng, centre) for _ in range(integers)] + [None] * booleans
+        if 39 in codes and integers > 1 and rng.random() < 0.8:
+            variables[0] = some_power(rng, variables[1], LARGEST if set(codes) == {39} else 10000)
         if math.prod(map(width, variables)) <= LISTS:
             rng.shuffle(variables)
             return variables
@@ -137,6 +154,8 @@ def some_arguments(rng, code, variables):
         elif kind == 'P':
             vs = some(integers)
             arguments += [[rng.choice([1, 1, 1, -1, -1, 2, -2, 3, 0, rng.randint(-9, 9)]) for _ in vs], vs]
+        elif kind == 'K':
+            arguments.append(rng.choice([k for k in (0, 1, 2, 2, 3, 3, 4, 5, 26, 27, rng.randint(0, 27)) if k in exponents(variables[arguments[0]])]))
         elif kind == 'N':
             arguments.append(sum(a * value(i) for a, i in zip(*arguments)) + rng.choice([0, 0, 0, 0, 1, -1, rng.randint(-9, 9)]))
         else:
@@ -149,7 +168,7 @@ def is_true(code, arguments, values):
     """Whether a constraint is true of values."""
     at = lambda a: [values[i] for i in a] if isinstance(a, list) else values[a]
     kinds = BUILTINS[code][1].replace('P', 'LN LI').split()
-    return BUILTINS[code][2](*(a if kind in ('N', 'LN') else at(a) for kind, a in zip(kinds, arguments)))
+    return BUILTINS[code][2](*(a if kind in ('N', 'K', 'LN') else at(a) for kind, a in zip(kinds, arguments)))
 
 
 def some_constraint(rng, code, variables, values):
@@ -209,7 +228,7 @@ def model_words(model):
         for kind in BUILTINS[code][1].split():
             if kind in ('I', 'B'):
                 words.append(word(5, rest.pop(0)))
-            elif kind == 'N':
+            elif kind in ('N', 'K'):
                 words.append(word(6, rest.pop(0)))
             else:
                 numbers = rest.pop(0) if kind in ('P', 'LN') else []
@@ -260,7 +279,7 @@ def constraint_text(code, arguments):
     for kind in kinds.split():
         if kind in ('I', 'B'):
             texts.append(f'x{rest.pop(0)}')
-        elif kind == 'N':
+        elif kind in ('N', 'K'):
             texts.append(str(rest.pop(0)))
         elif kind == 'LN':
             numbers = rest.pop(0)
@@ -269,7 +288,7 @@ def constraint_text(code, arguments):
             if kind == 'P':
                 texts.append(listed(rest.pop(0)))
             texts.append(listed(f'x{v}' for v in rest.pop(0)))
-    return f'constraint {name}({", ".join(texts)});'
+    return f'constraint {"gecode_" if code == 39 else ""}{name}({", ".join(texts)});'
 
 
 def text_of(declarations, names, constraints):
@@ -505,7 +524,7 @@ def main():
                 return 1
             lists, without, only = lists + counts[0], without + counts[1], only + counts[2]
     print(f'solver: {without} models have no solution, {only} have nothing else')
-    print(f'solver: {count} models, {lists} value lists, codes 1 to 38 at least {min(used[code] for code in BUILTINS)} times each, 0 differences')
+    print(f'solver: {count} models, {lists} value lists, codes 1 to 39 at least {min(used[code] for code in BUILTINS)} times each, 0 differences')
     return 0
 
 

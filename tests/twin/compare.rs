@@ -394,6 +394,7 @@ impl Comparer {
             print!("  {code:2}: {:7} {:7} {:6}{}", counts[0], counts[1], counts[2], if code % 4 == 0 { "\n" } else { "" });
             complete &= counts.iter().all(|&count| count > 0);
         }
+        println!();
         complete
     }
 }

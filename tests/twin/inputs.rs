@@ -3,7 +3,7 @@
 use crate::answers::HOLDS;
 use crate::twin::{self, kind, payload, signed, word};
 use crate::twin::{
-    ALL_VARIABLES, AT_MOST, AUX_LOWER, AUX_UPPER, BOOLEAN, CODES, CONSTRAINT, EQUAL, LARGEST, LEAST, LIST_LENGTH, LOWER, MODEL_CONSTRAINTS,
+    ALL_VARIABLES, AT_MOST, AUX_LOWER, AUX_UPPER, BOOLEAN, CODES, CONSTRAINT, EQUAL, EXPONENT, LARGEST, LEAST, LIST_LENGTH, LOWER, MODEL_CONSTRAINTS,
     MODEL_END, MODEL_VARIABLES, MODEL_WORDS, NUMBER, PRODUCT, ROWS_END, ROW_TERMS, ROW_WORDS, UPPER, VARIABLE,
 };
 
@@ -122,6 +122,10 @@ const ENDS: [i64; 20] = [
 /// Numbers whose products lie at the ends of the range.
 const FACTORS: [i64; 14] = [-16_384, -16_383, -11_586, -11_585, -8_193, -8_192, -1, 0, 1, 8_191, 8_192, 11_585, 11_586, 16_384];
 
+/// Numbers whose powers lie at the ends of the range, or are 0 where all but the low 32, 64 or 128 bits are lost.
+const BASES: [i64; 26] =
+    [-65_536, -11_586, -11_585, -512, -511, -108, -43, -8, -7, -3, -2, -1, 0, 1, 2, 3, 4, 5, 7, 8, 107, 511, 512, 11_585, 65_536, HALF];
+
 /// How the bounds of an integer variable are chosen.
 #[derive(Clone, Copy)]
 enum Bounds {
@@ -131,12 +135,13 @@ enum Bounds {
     Medium,
     Width64,
     Factors,
+    Bases,
     Ends,
     Full,
 }
 
 const SMALL_BOUNDS: [Bounds; 6] = [Bounds::Tiny, Bounds::Tiny, Bounds::Index, Bounds::Index, Bounds::Bit, Bounds::Medium];
-const WIDE_BOUNDS: [Bounds; 5] = [Bounds::Factors, Bounds::Ends, Bounds::Ends, Bounds::Full, Bounds::Width64];
+const WIDE_BOUNDS: [Bounds; 6] = [Bounds::Factors, Bounds::Bases, Bounds::Ends, Bounds::Ends, Bounds::Full, Bounds::Width64];
 
 impl Bounds {
     fn choose(self, random: &mut Random) -> (i64, i64) {
@@ -156,6 +161,7 @@ impl Bounds {
                 (lower, lower + random.between(62, 64))
             }
             Bounds::Factors => (random.pick(&FACTORS), random.pick(&FACTORS)),
+            Bounds::Bases => (random.pick(&BASES), random.pick(&BASES)),
             Bounds::Ends => (random.pick(&ENDS), random.pick(&ENDS)),
             Bounds::Full => (random.between(LEAST, LARGEST), random.between(LEAST, LARGEST)),
         };
@@ -226,13 +232,14 @@ impl Builder<'_> {
         self.declare_integer(lower, upper, value);
     }
 
-    /// An integer variable whose value is the sum, product, absolute value or maximum of earlier ones.
+    /// An integer variable whose value is the sum, product, absolute value, a power or the maximum of earlier ones.
     fn derived_integer(&mut self) {
         let [one, other] = [0; 2].map(|_| i64::from(self.values[self.random.pick(&self.integers)]));
-        let value = match self.random.below(4) {
+        let value = match self.random.below(5) {
             0 => one + other,
             1 => one * other,
             2 => one.abs(),
+            3 => one.checked_pow(exponent(self.random) as u32).unwrap_or(0),
             _ => one.max(other),
         };
         if in_range(value) {
@@ -302,7 +309,7 @@ impl Builder<'_> {
     /// The words of a constraint, or none where a variable of some type is missing. `aimed`: its numbers are chosen to make it true.
     fn constraint(&mut self, code: u32, length: usize, aimed: bool) -> Option<Vec<u32>> {
         let (integers, booleans) = (self.integers.clone(), self.booleans.clone());
-        let wants_integer = matches!(code, 1..=9 | 14 | 16 | 24..=31 | 33 | 37 | 38);
+        let wants_integer = matches!(code, 1..=9 | 14 | 16 | 24..=31 | 33 | 37..=39);
         let wants_boolean = matches!(code, 5 | 13..=20 | 22 | 28 | 30..=32 | 34..=36);
         if wants_integer && integers.is_empty() || wants_boolean && booleans.is_empty() {
             return None;
@@ -314,6 +321,7 @@ impl Builder<'_> {
             5 | 14 | 30 | 31 => push_variables(&mut words, &[int(self.random), int(self.random), bool(self.random)]),
             6 | 7 | 9 | 29 => push_variables(&mut words, &[int(self.random), int(self.random), int(self.random)]),
             37 | 38 => self.division(code, aimed, &mut words),
+            39 => self.power(aimed, &mut words),
             10..=13 | 15 | 32 => self.linear(code, length, aimed, &mut words),
             16 => push_variables(&mut words, &[bool(self.random), int(self.random)]),
             17 => push_variables(&mut words, &[bool(self.random), bool(self.random)]),
@@ -425,6 +433,34 @@ impl Builder<'_> {
         push_variables(words, &chosen);
     }
 
+    /// The arguments of int_pow. `aimed`: some that make it true, where there are any; else at times the largest base, whose power is 0 where its
+    /// high bits are lost, with the result next to 0, or an exponent outside its limits.
+    fn power(&mut self, aimed: bool, words: &mut Vec<u32>) {
+        let integers = self.integers.clone();
+        let (mut x, mut z, mut k) = (0, 0, 0);
+        for _ in 0..if aimed { 40 } else { 1 } {
+            (x, z, k) = (self.random.pick(&integers), self.random.pick(&integers), exponent(self.random));
+            let (lower, upper) = self.bounds[x];
+            while self.modest && (lower.abs().max(upper.abs())).checked_pow(k as u32).is_none_or(|power| power > LARGEST) {
+                k /= 2;
+            }
+            if self.value(x).checked_pow(k as u32) == Some(self.value(z)) {
+                break;
+            }
+        }
+        if !aimed && !self.modest && self.random.one_in(4) {
+            let size = |&variable: &usize| self.value(variable).abs();
+            x = integers.iter().copied().max_by_key(size).unwrap_or(x);
+            z = integers.iter().copied().min_by_key(size).unwrap_or(z);
+        }
+        if !aimed && !self.modest && self.random.one_in(16) {
+            k = self.random.pick(&[-1, -2, 28, 29, 32, 64, LEAST, LARGEST]);
+        }
+        push_variables(words, &[x]);
+        words.push(word(NUMBER, k));
+        push_variables(words, &[z]);
+    }
+
     /// The arguments of int_lin_eq, le, ne, eq_reif, le_reif and ne_reif.
     fn linear(&mut self, code: u32, length: usize, aimed: bool, words: &mut Vec<u32>) {
         let integers = self.integers.clone();
@@ -522,6 +558,18 @@ fn code(random: &mut Random) -> u32 {
     1 + random.below(CODES) as u32
 }
 
+/// An exponent of int_pow: small ones and the largest mostly.
+fn exponent(random: &mut Random) -> i64 {
+    match random.below(10) {
+        0 => 0,
+        1 => 1,
+        2 | 3 => 2,
+        4 | 5 => 3,
+        6 => random.pick(&[25, 26, 27]),
+        _ => random.between(0, i64::from(EXPONENT)),
+    }
+}
+
 /// Some constraints over the variables that are there.
 fn some_constraints(builder: &mut Builder) {
     let count = match builder.random.below(20) {
@@ -571,7 +619,7 @@ fn edge_model(random: &mut Random) -> Pair {
     if builder.random.one_in(2) {
         builder.some_variables(1, 1, &SMALL_BOUNDS);
     }
-    let code = builder.random.pick(&[4, 5, 7, 9, 10, 11, 12, 13, 14, 15, 29, 30, 31, 32, 37, 38]);
+    let code = builder.random.pick(&[4, 5, 7, 9, 10, 11, 12, 13, 14, 15, 29, 30, 31, 32, 37, 38, 39, 39]);
     builder.add(code, None, false);
     let (mut words, values) = builder.finish();
     let fault = |words: &[u32]| twin::check(words).fault;
@@ -678,7 +726,7 @@ fn many_auxiliaries(random: &mut Random) -> Pair {
         count += 2;
     }
     while count < wanted {
-        let code = builder.random.pick(&[1, 4, 4, 4, 7, 8, 9, 9, 12, 13, 14, 15, 15, 18, 20, 23, 24, 25, 26, 27, 28, 29, 31, 32, 33, 34, 37, 38]);
+        let code = builder.random.pick(&[1, 4, 4, 4, 7, 8, 9, 9, 12, 13, 14, 15, 15, 18, 20, 23, 24, 25, 26, 27, 28, 29, 31, 32, 33, 34, 37, 38, 39]);
         let length = builder.random.below(3);
         builder.add(code, Some(length), false);
         count += builder.constraints.last().map_or(0, |constraint| builder.auxiliaries(constraint));
@@ -1011,7 +1059,7 @@ fn likely_word(random: &mut Random) -> u32 {
         0 => 0,
         1 => random.pick(&ENDS) - 1,
         2 => random.between(LEAST - 1, LARGEST),
-        3 => random.pick(&[28, 29, 32, 33, 36, 37, 38, 39, 66, 67, 255, 256, 257, -1]),
+        3 => random.pick(&[27, 28, 32, 33, 38, 39, 40, 66, 67, 255, 256, 257, -1]),
         _ => random.between(0, 8),
     };
     word(kind, payload)
@@ -1077,11 +1125,12 @@ fn damage(random: &mut Random, words: &mut Vec<u32>) {
             words.swap(at, other);
         }
         13 => {
-            // A length or number of terms, if one is met: the limits of both.
-            let numbers = [word(NUMBER, 33), word(NUMBER, 32), word(NUMBER, -1), word(AT_MOST, 66), word(AT_MOST, 67), word(EQUAL, 67)];
+            // A length, an exponent or a number of terms, if one is met: the limits of each.
+            let numbers = [33, 32, 28, 27, -1].map(|number| word(NUMBER, number));
+            let counts = [word(AT_MOST, 66), word(AT_MOST, 67), word(EQUAL, 67)];
             let counted = words.iter().rposition(|&word| matches!(kind(word), CONSTRAINT | AT_MOST | EQUAL));
             let at = counted.map_or(at, |head| (head + random.below(3)).min(words.len() - 1));
-            words[at] = random.pick(&numbers);
+            words[at] = if random.one_in(2) { random.pick(&numbers) } else { random.pick(&counts) };
         }
         14 | 15 => {
             // The lowest 28-bit number, at a word with a signed payload; a length, if one is met.

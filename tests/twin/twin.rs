@@ -14,6 +14,7 @@ pub const LIST_LENGTH: i32 = 32;
 pub const ROW_TERMS: u32 = 66;
 pub const ALL_VARIABLES: usize = 4_096;
 pub const REIFIED_SET_WIDTH: i64 = 64;
+pub const EXPONENT: i32 = 27;
 
 // The kinds (01, Words).
 pub const LOWER: u32 = 0x1;
@@ -141,6 +142,8 @@ enum Argument {
     Integer,
     Boolean,
     Number,
+    /// A number from 0 to 27, the exponent of a power.
+    Exponent,
     /// One length, the numbers, then the integer variables.
     Parallel,
     Numbers,
@@ -149,11 +152,11 @@ enum Argument {
 }
 
 /// The last code.
-pub const CODES: usize = 38;
+pub const CODES: usize = 39;
 
-/// The arguments of the codes (01, Rules of the 28 codes, and the sentence on types below them; 02, wishes 1 and 6).
+/// The arguments of the codes (01, Rules of the 28 codes, and the sentence on types below them; 02, wishes 1, 6 and 13).
 const SHAPES: [&[Argument]; CODES] = {
-    use Argument::{Boolean as B, Booleans as LB, Integer as I, Integers as LI, Number as N, Numbers as LN, Parallel as P};
+    use Argument::{Boolean as B, Booleans as LB, Exponent as E, Integer as I, Integers as LI, Number as N, Numbers as LN, Parallel as P};
     [
         &[I, I],     // 1 int_eq
         &[I, I],     // 2 int_le
@@ -193,6 +196,7 @@ const SHAPES: [&[Argument]; CODES] = {
         &[B, B, B],  // 36 bool_lt_reif
         &[I, I, I],  // 37 int_div
         &[I, I, I],  // 38 int_mod
+        &[I, E, I],  // 39 int_pow
     ]
 };
 
@@ -300,6 +304,7 @@ fn check_arguments(words: &[u32], head: usize, variables: &[Variable]) -> Result
             Argument::Integer => check_variables(words, at, 1, variables, false)?,
             Argument::Boolean => check_variables(words, at, 1, variables, true)?,
             Argument::Number => check_numbers(words, at, 1)?,
+            Argument::Exponent => check_exponent(words, at)?,
             Argument::Parallel => {
                 let length = list_length(words, at)?;
                 let behind = check_numbers(words, at + 1, length)?;
@@ -318,6 +323,15 @@ fn list_length(words: &[u32], at: usize) -> Result<usize, Refusal> {
     let length = expect_signed(words, at, NUMBER)?;
     if (0..=LIST_LENGTH).contains(&length) {
         Ok(length as usize)
+    } else {
+        refusal(9, at)
+    }
+}
+
+/// Checks the exponent at a place: fault 2, 3, 18, then 9. Answers the place behind it.
+fn check_exponent(words: &[u32], at: usize) -> Result<usize, Refusal> {
+    if (0..=EXPONENT).contains(&expect_signed(words, at, NUMBER)?) {
+        Ok(at + 1)
     } else {
         refusal(9, at)
     }
@@ -371,7 +385,7 @@ fn arguments(words: &[u32], head: usize) -> (Constraint<'_>, usize) {
                 constraint.single[singles] = number(first);
                 singles += 1;
             }
-            Argument::Number => constraint.constant = i64::from(signed(first)),
+            Argument::Number | Argument::Exponent => constraint.constant = i64::from(signed(first)),
             Argument::Parallel => {
                 let length = number(first);
                 constraint.numbers = &words[at..at + length];
@@ -440,8 +454,22 @@ fn is_true(constraint: &Constraint, values: &[i32]) -> bool {
         35 => (a <= b) == (c == 1),
         37 => b != 0 && a / b == c,
         38 => b != 0 && a % b == c,
+        39 => is_power(a, constraint.constant, b),
         _ => false,
     }
+}
+
+/// Whether z is x multiplied k times with 1, all inside the range but the power.
+fn is_power(x: i64, k: i64, z: i64) -> bool {
+    let mut power = 1i64;
+    for _ in 0..k {
+        power *= x;
+        // A power that has left the range never comes back: its base is not 0, 1 or −1.
+        if !(LEAST..=LARGEST).contains(&power) {
+            return false;
+        }
+    }
+    power == z
 }
 
 /// The element of a list whose index, from 1, is given.
@@ -479,7 +507,7 @@ trait Sink {
     }
 }
 
-/// The block of a constraint (01, Rules of the 28 codes; 02, wishes 1, 5 and 6); `n` is the number of its first auxiliary.
+/// The block of a constraint (01, Rules of the 28 codes; 02, wishes 1, 5, 6 and 13); `n` is the number of its first auxiliary.
 fn block(constraint: &Constraint, variables: &[Variable], n: usize, sink: &mut impl Sink) {
     let [a, b, c] = constraint.single;
     let bound = |variable: usize, upper: bool| variables.get(variable).map_or(0, |v| i64::from(if upper { v.upper } else { v.lower }));
@@ -702,6 +730,26 @@ fn block(constraint: &Constraint, variables: &[Variable], n: usize, sink: &mut i
             let p = n + 3;
             sink.whole_row(EQUAL, [(p, 1), (c, 1), (a, -1)], 0);
         }
+        39 => {
+            let (x, z, k) = (a, b, constraint.constant);
+            if k == 0 {
+                return sink.whole_row(EQUAL, [(z, 1)], -1);
+            }
+            // Bounds outside the range are found so; they are cut, as their products could leave 64 bits.
+            let cut = |bound: i64| bound.clamp(2 * LEAST, 2 * LARGEST);
+            power((lo(x), hi(x)), k, &mut |first, second| {
+                let (least, largest) = end_products(first, second);
+                sink.auxiliary(least, largest);
+                (cut(least), cut(largest))
+            });
+            let mut results = n..;
+            let result = power(x, k, &mut |first, second| {
+                let result = results.next().unwrap_or(n);
+                sink.product(result, first, second);
+                result
+            });
+            sink.whole_row(EQUAL, [(result, 1), (z, -1)], 0);
+        }
         _ => (),
     }
 }
@@ -771,6 +819,21 @@ fn division(n: usize, d: usize, q: usize, bounds: [(i64, i64); 3], first: usize,
     ];
     for [of_n, of_d, of_p, of_alpha, of_beta, of_gamma, constant] in rows {
         sink.whole_row(AT_MOST, [(n, of_n), (d, of_d), (p, of_p), (alpha, of_alpha), (beta, of_beta), (gamma, of_gamma)], constant);
+    }
+}
+
+/// The k-th power of x by halving (000, 3.1.25), k being 1 at least: the half power squared and, for an odd k, x times that. Gives the factors of each
+/// product, in order, to `product`, which answers the result.
+fn power<T: Copy>(x: T, k: i64, product: &mut impl FnMut(T, T) -> T) -> T {
+    if k <= 1 {
+        return x;
+    }
+    let half = power(x, k / 2, product);
+    let square = product(half, half);
+    if k % 2 == 0 {
+        square
+    } else {
+        product(x, square)
     }
 }
 
@@ -1119,7 +1182,7 @@ impl Auxiliaries<'_> {
     }
 }
 
-/// The auxiliaries of a constraint that is true of the values (01, Five calls; 02, wishes 1, 5 and 6).
+/// The auxiliaries of a constraint that is true of the values (01, Five calls; 02, wishes 1, 5, 6 and 13).
 fn fill_block(constraint: &Constraint, variables: &[Variable], values: &[i32], out: &mut Auxiliaries) {
     let [a, b, c] = constraint.single.map(|variable| values.get(variable).map_or(0, |&value| i64::from(value)));
     let bounds = || {
@@ -1145,6 +1208,12 @@ fn fill_block(constraint: &Constraint, variables: &[Variable], values: &[i32], o
         38 => {
             out.push(a / b);
             out.division(a, b, a / b);
+        }
+        39 => {
+            power(a, constraint.constant, &mut |first, second| {
+                out.push(first * second);
+                first * second
+            });
         }
         20 | 34 => {
             out.push(c * a);
