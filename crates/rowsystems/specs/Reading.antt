@@ -148,7 +148,7 @@ ended s = faultEnd (s .due)
 abbrev pub begin : State
 begin = record { due = Source; variables = 0 }
 
--- 1 first: "More than .. 131,072 row words"
+-- 1 first: "More than .. row words"
 unfoldable pub readRows : List ℕ → Refusal
 readRows ws =
     let rest = firstFault fault after ended begin 0 ws in

@@ -2,7 +2,7 @@
 -- Where 01 says that values are false, no auxiliary values within their bounds may satisfy the rows with them either; where fill writes values,
 -- judge-rows must say "holds" of them. So each of the four slips that 000 invites makes a line of the table fail (must-fail/).
 use mathlib.Core.Path.{_≡_, refl}
-use mathlib.Core.Bool.{Bool, true, false, not, _&&_}
+use mathlib.Core.Bool.{Bool, true, false, _&&_}
 use mathlib.Core.List.{List, [], _∷_, _++_, map, flatMap, zipWith}
 use Prim.Native.Nat.{ℕ, zero, suc, _+_}
 use lib.Dec.{eqb}
@@ -59,6 +59,8 @@ pub data Line : Type 0 where
   denies : (model : List ℕ) (values : List ℤ) (constraint : ℕ) → Line
   -- fill writes the values and these auxiliaries
   fills : (model : List ℕ) (values auxiliaries : List ℤ) → Line
+  -- the same, and no other auxiliaries within their bounds satisfy the rows with the values
+  fillsOnly : (model : List ℕ) (values auxiliaries : List ℤ) → Line
   -- check accepts them, and constraint 0 is false of all values within the bounds
   never : (model : List ℕ) → Line
 
@@ -89,11 +91,13 @@ listsWithin (B ∷ Bs) = flatMap (λ x. map (λ xs. x ∷ xs) (listsWithin Bs)) 
 isAccepted : List ℕ → Bool
 isAccepted m = eqb (checkFault m .number) 0
 
+-- the lists of auxiliaries within their bounds that satisfy the rows with the values
+completions : List ℕ → List ℤ → ℕ
+completions m vs = howMany (λ xs. isHolds (judgeRows (systemWords m) (vs ++ xs))) (listsWithin (auxiliaries m))
+
 -- the constraint is false of the values, and no auxiliaries within their bounds satisfy the rows with them
 isDenied : List ℕ → ℕ → List ℤ → Bool
-isDenied m i vs =
-    sameAnswer (judgeModel m vs) (isFalse i)
-    && not (any (λ xs. isHolds (judgeRows (systemWords m) (vs ++ xs))) (listsWithin (auxiliaries m)))
+isDenied m i vs = sameAnswer (judgeModel m vs) (isFalse i) && eqb (completions m vs) 0
 
 -- what lent words and values hold before a call
 unusedWords : List ℕ
@@ -101,6 +105,13 @@ unusedWords = 7 ∷ 8 ∷ []
 
 unusedValues : List ℤ
 unusedValues = pos 7 ∷ pos 8 ∷ []
+
+-- fill writes the values and the auxiliaries, and judge-rows says "holds" of them
+isFilled : List ℕ → List ℤ → List ℤ → Bool
+isFilled m vs xs =
+    sameAnswer (fill m vs (length vs + length xs + 2)) (written (length vs + length xs))
+    && sameList _==_ (filled m vs (map (λ x. pos 0) (vs ++ xs) ++ unusedValues)) (vs ++ xs ++ unusedValues)
+    && isHolds (judgeRows (systemWords m) (vs ++ xs))
 
 pub isTrue : Line → Bool
 isTrue (refuses m n p) = sameAnswer (check m) (refused n p)
@@ -111,10 +122,8 @@ isTrue (translates m ws) =
     && sameList eqb (translated m (ws ++ unusedWords)) (ws ++ unusedWords)
     && sameList eqb (translated m (map (λ w. 0) ws ++ unusedWords)) (ws ++ unusedWords)
 isTrue (denies m vs i) = isDenied m i vs
-isTrue (fills m vs xs) =
-    sameAnswer (fill m vs (length vs + length xs + 2)) (written (length vs + length xs))
-    && sameList _==_ (filled m vs (map (λ x. pos 0) (vs ++ xs) ++ unusedValues)) (vs ++ xs ++ unusedValues)
-    && isHolds (judgeRows (systemWords m) (vs ++ xs))
+isTrue (fills m vs xs) = isFilled m vs xs
+isTrue (fillsOnly m vs xs) = isFilled m vs xs && eqb (completions m vs) 1
 isTrue (never m) = isAccepted m && all (isDenied m 0) (listsWithin (variables m))
 
 -- ---- the table
@@ -134,11 +143,15 @@ T6 = 0x1FFFFFFB ∷ 0x20000003 ∷ 0x4000000C ∷ 0x60000001 ∷ 0x60000001 ∷ 
 T7 : List ℕ
 T7 = 0x10000000 ∷ 0x20000003 ∷ 0x10000000 ∷ 0x20000003 ∷ 0x30000000 ∷ 0x4000000E ∷ 0x50000000 ∷ 0x50000001 ∷ 0x50000002 ∷ 0x70000000 ∷ []
 
+-- 26 and 33: m between the words given, two others in −4..−2
+ofTwo : ℕ → ℕ → ℕ → List ℕ
+ofTwo head lower upper =
+    lower ∷ upper ∷ 0x1FFFFFFC ∷ 0x2FFFFFFE ∷ 0x1FFFFFFC ∷ 0x2FFFFFFE ∷
+    head ∷ 0x50000000 ∷ 0x60000002 ∷ 0x50000001 ∷ 0x50000002 ∷ 0x70000000 ∷ []
+
 -- maximum, m and two others in −4..−2
 T8 : List ℕ
-T8 =
-    0x1FFFFFFC ∷ 0x2FFFFFFE ∷ 0x1FFFFFFC ∷ 0x2FFFFFFE ∷ 0x1FFFFFFC ∷ 0x2FFFFFFE ∷
-    0x4000001A ∷ 0x50000000 ∷ 0x60000002 ∷ 0x50000001 ∷ 0x50000002 ∷ 0x70000000 ∷ []
+T8 = ofTwo 0x4000001A 0x1FFFFFFC 0x2FFFFFFE
 
 -- code 5, a in 0..134,217,727, b between the words given
 T9 : ℕ → ℕ → List ℕ
@@ -198,9 +211,7 @@ of32 =
 
 -- minimum, m and two others in −4..−2; minimum of an empty list
 of33 : List ℕ
-of33 =
-    0x1FFFFFFC ∷ 0x2FFFFFFE ∷ 0x1FFFFFFC ∷ 0x2FFFFFFE ∷ 0x1FFFFFFC ∷ 0x2FFFFFFE ∷
-    0x40000021 ∷ 0x50000000 ∷ 0x60000002 ∷ 0x50000001 ∷ 0x50000002 ∷ 0x70000000 ∷ []
+of33 = ofTwo 0x40000021 0x1FFFFFFC 0x2FFFFFFE
 
 noneOf33 : List ℕ
 noneOf33 = 0x1FFFFFFC ∷ 0x2FFFFFFE ∷ 0x40000021 ∷ 0x50000000 ∷ 0x60000000 ∷ 0x70000000 ∷ []
@@ -220,6 +231,11 @@ of38 = three 0x40000026 (0x1FFFFFFD ∷ 0x20000003 ∷ [])
 of39 : ℕ → ℕ → ℕ → List ℕ
 of39 lower upper k = lower ∷ upper ∷ 0x1FFFFFE5 ∷ 0x2000001B ∷ 0x40000027 ∷ 0x50000000 ∷ k ∷ 0x50000001 ∷ 0x70000000 ∷ []
 
+-- 02, wish 10, ties where the greater bound of one side is the less of the other: int_max, a and b in −3..3, c in 3..5; maximum, m in −2..0, and
+-- minimum, m in −6..−4, two others in −4..−2
+of9 : List ℕ
+of9 = three 0x40000009 (0x10000003 ∷ 0x20000005 ∷ [])
+
 pub table : List Line
 table =
     translates (0x70000000 ∷ []) (0xF0000000 ∷ []) ∷
@@ -231,9 +247,9 @@ table =
     denies T3 (pos 2 ∷ pos 2 ∷ []) 0 ∷
     denies T5 (negsuc 2 ∷ negsuc 2 ∷ []) 0 ∷
     fills T5 (negsuc 2 ∷ pos 3 ∷ []) (pos 1 ∷ negsuc 2 ∷ []) ∷
-    fills T6 (pos 1 ∷ []) (pos 1 ∷ pos 0 ∷ pos 0 ∷ []) ∷
+    fillsOnly T6 (pos 1 ∷ []) (pos 1 ∷ pos 0 ∷ pos 0 ∷ []) ∷
     denies T7 (pos 3 ∷ pos 3 ∷ pos 0 ∷ []) 0 ∷
-    fills T8 (negsuc 2 ∷ negsuc 2 ∷ negsuc 2 ∷ []) (pos 1 ∷ pos 0 ∷ negsuc 2 ∷ pos 0 ∷ []) ∷
+    fillsOnly T8 (negsuc 2 ∷ negsuc 2 ∷ negsuc 2 ∷ []) (pos 1 ∷ pos 0 ∷ negsuc 2 ∷ pos 0 ∷ []) ∷
     refuses (T9 0x10000000 0x27FFFFFF) 13 5 ∷
     refuses (T9 0x1FFFFFFF 0x27FFFFFF) 13 5 ∷
     accepts (T9 0x10000000 0x27FFFFFE) 0x68000001 ∷
@@ -259,10 +275,10 @@ table =
     denies of30 (pos 3 ∷ pos 3 ∷ pos 1 ∷ []) 0 ∷
     fills of30 (negsuc 2 ∷ pos 3 ∷ pos 1 ∷ []) [] ∷
     denies of31 (pos 3 ∷ pos 3 ∷ pos 1 ∷ []) 0 ∷
-    fills of31 (pos 3 ∷ pos 3 ∷ pos 0 ∷ []) (pos 0 ∷ pos 0 ∷ pos 0 ∷ []) ∷
+    fillsOnly of31 (pos 3 ∷ pos 3 ∷ pos 0 ∷ []) (pos 0 ∷ pos 0 ∷ pos 0 ∷ []) ∷
     denies of32 (pos 0 ∷ pos 1 ∷ []) 0 ∷
     fills of32 (negsuc 4 ∷ pos 1 ∷ []) (negsuc 4 ∷ pos 1 ∷ negsuc 4 ∷ []) ∷
-    fills of33 (negsuc 2 ∷ negsuc 2 ∷ negsuc 2 ∷ []) (pos 1 ∷ pos 0 ∷ negsuc 2 ∷ pos 0 ∷ []) ∷
+    fillsOnly of33 (negsuc 2 ∷ negsuc 2 ∷ negsuc 2 ∷ []) (pos 1 ∷ pos 0 ∷ negsuc 2 ∷ pos 0 ∷ []) ∷
     denies of33 (negsuc 1 ∷ negsuc 2 ∷ negsuc 1 ∷ []) 0 ∷
     never noneOf33 ∷
     fills (ofBits 0x40000022) (pos 1 ∷ pos 1 ∷ pos 1 ∷ []) (pos 1 ∷ pos 1 ∷ []) ∷
@@ -296,10 +312,16 @@ table =
     fills (of39 0x1FFFFFFF 0x20000001 0x6000001B) (pos 0 ∷ pos 0 ∷ []) (pos 0 ∷ pos 0 ∷ pos 0 ∷ pos 0 ∷ pos 0 ∷ pos 0 ∷ pos 0 ∷ []) ∷
     fills (of39 0x1FFFFFFF 0x20000001 0x6000001B) (pos 1 ∷ pos 1 ∷ []) (pos 1 ∷ pos 1 ∷ pos 1 ∷ pos 1 ∷ pos 1 ∷ pos 1 ∷ pos 1 ∷ []) ∷
     denies (of39 0x1FFFFFFF 0x20000001 0x6000001B) (negsuc 0 ∷ pos 1 ∷ []) 0 ∷
+    fillsOnly T5 (pos 0 ∷ pos 0 ∷ []) (pos 0 ∷ pos 0 ∷ []) ∷
+    fillsOnly T7 (pos 3 ∷ pos 3 ∷ pos 1 ∷ []) (pos 0 ∷ pos 0 ∷ pos 0 ∷ []) ∷
+    fillsOnly of9 (pos 3 ∷ pos 3 ∷ pos 3 ∷ []) (pos 0 ∷ []) ∷
+    fillsOnly of29 (pos 2 ∷ pos 2 ∷ pos 2 ∷ []) (pos 0 ∷ []) ∷
+    fillsOnly (ofTwo 0x4000001A 0x1FFFFFFE 0x20000000) (negsuc 1 ∷ negsuc 1 ∷ negsuc 1 ∷ []) (pos 1 ∷ pos 0 ∷ negsuc 1 ∷ pos 0 ∷ []) ∷
+    fillsOnly (ofTwo 0x40000021 0x1FFFFFFA 0x2FFFFFFC) (negsuc 3 ∷ negsuc 3 ∷ negsuc 3 ∷ []) (pos 1 ∷ pos 0 ∷ negsuc 3 ∷ pos 0 ∷ []) ∷
     []
 
 pub table-T : all isTrue table ≡ true
-unfolding sameList sameAnswer listsWithin isAccepted isDenied unusedWords unusedValues isTrue T3 T5 T6 T7 T8 T9 T10 T11 T12 switches fourSwitches noSwitches booleans three of29 of30 of31 of32 of33 noneOf33 ofBits of37 of38 of39 table within width values
+unfolding sameList sameAnswer listsWithin isAccepted completions isDenied unusedWords unusedValues isFilled isTrue T3 ofTwo T5 T6 T7 T8 T9 T10 T11 T12 switches fourSwitches noSwitches booleans three of29 of30 of31 of32 of33 noneOf33 ofBits of37 of38 of39 of9 table within width values
     boundsIn listOf all any howMany _⊕_ _⊖_ _⊗_ neg minZ maxZ absZ _==_ count value sum _else-answer_ isHolds firstFalse firstOutOfBounds judge
     overlay _else-refuse_ firstFault countFault startsPair variables kind payload signed word complement numberWord wordAt
     JudgeModel.judgeAccepted JudgeRows.judgeAccepted judgeModel on off element maximum minimum member odd quotient remainder power meaning constraintsFrom constraints var num size exponentAt vars
@@ -310,7 +332,7 @@ unfolding sameList sameAnswer listsWithin isAccepted isDenied unusedWords unused
     satisfied renameTerms rename termCount variableAt numberAt termsIn constantIn rows boundWords termWords sumWords rowWords boundNumbers rowNumbers
     numbered blockWords blockNumbers outsideIn tooWide blockFaultIn blocksFaultIn checkFaultIn checkIn filledCount fillFaultIn fillIn filledIn Z endProducts extreme L
     U halfLess _─_≤0 _─_=0 sources each bits weighted oneBit chosen products nth places leastFrom rising members bitOf signPick signedPick firstBit gatedPick
-    divisionPick leftOverPick powerPick pick byHalves next noProduct squared multiplied chain nextValue noValue squaredValue multipliedValue powerValues M divisionTable tableRow divisionRows quotientBounds remainderRow Rule.linked Rule.signed Rule.whereOne Rule.whereZero Rule.orderReified Rule.absolute Rule.touching Rule.linNotEqual Rule.zeroRows
-    Rule.zeroReified Rule.linLessEqualReified Rule.sameRows Rule.sameReified Rule.numberElement Rule.variableElement Rule.oneOf Rule.inSet Rule.inSetReified Rule.division Rule.leftOver Rule.powered rule roomFault
+    divisionPick leftOverPick powerPick pick byHalves next noProduct squared multiplied chain nextValue noValue squaredValue multipliedValue powerValues M divisionTable tableRow divisionRows quotientBounds remainderRow Rule.linked Rule.signed Rule.whereOne Rule.whereZero Rule.orderReified Rule.onlyNegative Rule.absolute Rule.touching Rule.linNotEqual Rule.zeroRows
+    Rule.zeroReified Rule.linLessEqualReified Rule.sameRows Rule.sameReified Rule.numberElement Rule.variableElement Rule.firstOnly Rule.oneOf Rule.inSet Rule.inSetReified Rule.division Rule.leftOver Rule.powered rule roomFault
     translateFaultIn translateIn translatedIn bounds blockOf sourceWords blocksWords systemWords auxiliaries blockRows picks flatMap zipWith
 table-T = refl

@@ -11,14 +11,14 @@ use Rattle.integers.specs.declared.Bounds.{Bounds}
 use Rattle.rowsystems.specs.Row.{Row, sum≤0, sum=0, product}
 use Rattle.models.specs.Builtin.{Builtin, int-eq, int-le, int-lt, int-ne, int-le-reif, int-plus, int-times, int-abs, int-max, int-lin-eq, int-lin-le, int-lin-ne, int-lin-eq-reif, int-eq-reif, int-lin-le-reif, bool2int, bool-not, bool-and, bool-or, bool-xor, bool-clause, array-bool-and, array-bool-xor, array-int-element, array-var-int-element, array-int-maximum, set-in, set-in-reif, int-min, int-lt-reif, int-ne-reif, int-lin-ne-reif, array-int-minimum, bool-eq-reif, bool-le-reif, bool-lt-reif, int-div, int-mod, int-pow}
 use Rattle.rules.specs.Block.{Ref, source, aux, Block}
-use Rattle.rules.specs.Parts.{Z, endProducts, L, U, halfLess, _─_≤0, _─_=0, sources, each, bits, one, oneBit, chosen, products, nth, places, members}
+use Rattle.rules.specs.Parts.{Z, endProducts, L, U, halfLess, _─_≤0, _─_=0, sources, each, bits, weighted, one, oneBit, chosen, products, nth, places, members}
 use Rattle.rules.specs.Division.{divisionRows, quotientBounds, remainderRow}
 use Rattle.rules.specs.Power.{chain}
 
 abbrev pub block : List Bounds → List (Row Ref) → Block
 block auxiliaries rows = record { auxiliaries = auxiliaries; rows = rows }
 
--- the last two rows of 13, where Σ is equal to c, and of 32, where it is not
+-- two rows of 13, where Σ is equal to c, and of 32, where it is not
 unfoldable pub zeroRows : Bool → ℤ → ℕ → List (Row Ref)
 zeroRows true W r =
     sum≤0 (+1 · aux 0 ∷ -2 · aux 2 ∷ W · source r ∷ []) (neg W)
@@ -45,6 +45,10 @@ sameRows false a b r =
 unfoldable pub sameReified : Bool → ℕ → ℕ → ℕ → Block
 sameReified equal a b r =
     block (bit ∷ bit ∷ []) (product (aux 0) (source r) (source a) ∷ product (aux 1) (source r) (source b) ∷ sameRows equal a b r)
+
+-- 02, wish 10, last in 8, 12 to 14, 31, 32: "for the sign bit b of x .. x+(U+1)×b−U≤0"; U is the most that x can be
+unfoldable pub onlyNegative : Ref → Ref → ℤ → Row Ref
+onlyNegative x b u = sum≤0 (+1 · x ∷ (u ⊕ +1) · b ∷ []) (neg u)
 
 module _ (β : ℕ → Bounds) where
   abbrev pub lo : ℕ → ℤ
@@ -76,16 +80,17 @@ module _ (β : ℕ → Bounds) where
   unfoldable pub orderReified : ℤ → ℤ → ℕ → ℕ → ℕ → Block
   orderReified d e a b r = block [] (whereOne d a b (source r) ∷ whereZero e b a (source r) ∷ [])
 
-  -- 8 int_abs(x,y), aux b, z in Z(x): z:=b×x; y−x+2×z=0; −y≤0.
+  -- 8 int_abs(x,y), aux b, z in Z(x): z:=b×x; y−x+2×z=0; −y≤0; x+(U+1)×b−U≤0, U=hi x.
   unfoldable pub absolute : ℕ → ℕ → Block
   absolute x y =
       block (bit ∷ Z (β x) ∷ [])
       (product (aux 1) (aux 0) (source x)
       ∷ sum=0 (+1 · source y ∷ -1 · source x ∷ +2 · aux 1 ∷ []) +0
       ∷ sum≤0 (-1 · source y ∷ []) +0
+      ∷ onlyNegative (source x) (aux 0) (hi x)
       ∷ [])
 
-  -- 9 and 29, aux r: x−y≤0; u−v≤0; y−x≤0 where r is 0; v−u≤0 where r is 1
+  -- 9 and 29, aux r: x−y≤0; u−v≤0; y−x≤0 where r is 0; v−u≤0 where r is 1; x−y+1≤0 where r is 1
   unfoldable pub touching : ℕ → ℕ → ℕ → ℕ → Block
   touching x y u v =
       block (bit ∷ [])
@@ -93,23 +98,26 @@ module _ (β : ℕ → Bounds) where
       ∷ source u ─ source v ≤0
       ∷ whereZero +0 y x (aux 0)
       ∷ whereOne +0 v u (aux 0)
+      ∷ whereOne +1 x y (aux 0)
       ∷ [])
 
-  -- 12 int_lin_ne, aux x in L..U, b, z in Z(x): Σ−x−c=0; z:=b×x; −x+2×z+1≤0.
+  -- 12 int_lin_ne, aux x in L..U, b, z in Z(x): Σ−x−c=0; z:=b×x; −x+2×z+1≤0; x+(U+1)×b−U≤0.
   unfoldable pub linNotEqual : List (Term ℕ) → ℤ → Block
   linNotEqual asbs c =
       block (signed asbs c)
       (linked asbs c
       ∷ product (aux 2) (aux 1) (aux 0)
       ∷ sum≤0 (-1 · aux 0 ∷ +2 · aux 2 ∷ []) +1
+      ∷ onlyNegative (aux 0) (aux 1) (U β asbs c)
       ∷ [])
 
-  -- 13 int_lin_eq_reif(as,bs,c,r), aux as 12: Σ−x−c=0; z:=b×x; x−2×z+W×r−W≤0; −x+2×z−r+1≤0; W=max(|L|,|U|).
-  -- 32 int_lin_ne_reif is code 13 with the last two rows x−2×z−W×r≤0 and −x+2×z+r≤0.
+  -- 13 int_lin_eq_reif(as,bs,c,r), aux as 12: Σ−x−c=0; z:=b×x; x−2×z+W×r−W≤0; −x+2×z−r+1≤0; x+(U+1)×b−U≤0; W=max(|L|,|U|).
+  -- 32 int_lin_ne_reif is code 13 with x−2×z−W×r≤0 and −x+2×z+r≤0 for the third and fourth row.
   unfoldable pub zeroReified : Bool → List (Term ℕ) → ℤ → ℕ → Block
   zeroReified equal asbs c r =
       let W = maxZ (absZ (L β asbs c)) (absZ (U β asbs c)) in
-      block (signed asbs c) (linked asbs c ∷ product (aux 2) (aux 1) (aux 0) ∷ zeroRows equal W r)
+      block (signed asbs c)
+      (linked asbs c ∷ product (aux 2) (aux 1) (aux 0) ∷ (zeroRows equal W r ++ (onlyNegative (aux 0) (aux 1) (U β asbs c) ∷ [])))
 
   -- 15 int_lin_le_reif, aux x in L..U: Σ−x−c=0; x+U×r−U≤0; −x+(L−1)×r+1≤0.
   unfoldable pub linLessEqualReified : List (Term ℕ) → ℤ → ℕ → Block
@@ -133,12 +141,23 @@ module _ (β : ℕ → Bounds) where
       block (bits js ++ map (λ j. Z (β (nth 0 xs j))) js)
       (oneBit js ∷ chosen (λ j. j) js 0 i ∷ (products (nth 0 xs) js 0 (length js) ++ (chosen one js (length js) c ∷ [])))
 
-  -- 26 array_int_maximum(m,xs), aux all b_j, all z_j in Z(x_j): Σb−1=0; z_j:=x_j×b_j; Σz−m=0; each x_j−m≤0.
+  -- 02, wish 10, last in 26 and 33: "for each k below n, x_k−m+K×(sum of b_j for j above k)+1−K≤0, K=hi x_k−lo m+1, the K×b_j being terms. The
+  -- minima take .. m−x_k, K=hi m−lo x_k+1." u and v of x_k are x_k and m, or m and x_k; b_k is the auxiliary k.
+  unfoldable pub firstOnly : (ℕ → ℕ) → (ℕ → ℕ) → List ℕ → ℕ → List (Row Ref)
+  firstOnly u v [] k = []
+  firstOnly u v (x ∷ []) k = []
+  firstOnly u v (x ∷ (y ∷ ys)) k =
+      let K = hi (u x) ⊖ lo (v x) ⊕ +1 in
+      sum≤0 (+1 · source (u x) ∷ -1 · source (v x) ∷ weighted (λ l. K) (y ∷ ys) (suc k)) (+1 ⊖ K) ∷ firstOnly u v (y ∷ ys) (suc k)
+
+  -- 26 array_int_maximum(m,xs), aux all b_j, all z_j in Z(x_j): Σb−1=0; z_j:=x_j×b_j; Σz−m=0; each x_j−m≤0; the rows of wish 10.
   -- 33 array_int_minimum is code 26 with m−x_j≤0.
-  unfoldable pub oneOf : (ℕ → Row Ref) → ℕ → List ℕ → Block
-  oneOf last m xs =
+  unfoldable pub oneOf : (ℕ → ℕ) → (ℕ → ℕ) → ℕ → List ℕ → Block
+  oneOf u v m xs =
       block (bits xs ++ map (λ x. Z (β x)) xs)
-      (oneBit xs ∷ (products (λ x. x) xs 0 (length xs) ++ (chosen one xs (length xs) m ∷ map last xs)))
+      (oneBit xs
+      ∷ (products (λ x. x) xs 0 (length xs)
+      ++ (chosen one xs (length xs) m ∷ (map (λ x. source (u x) ─ source (v x) ≤0) xs ++ firstOnly u v xs 0))))
 
   -- 27 set_in(x,S), S numbers, repeats counted once; aux b_v for the members v inside x's bounds, rising: Σb−1=0; Σv×b_v−x=0.
   unfoldable pub inSet : ℕ → List ℤ → Block
@@ -194,7 +213,7 @@ module _ (β : ℕ → Bounds) where
   -- 7 int_times(a,b,c), aux p (least and largest of the four end products): p:=a×b; p−c=0.
   rule (int-times a b c) = block (endProducts (β a) (β b) ∷ []) (product (aux 0) (source a) (source b) ∷ aux 0 ─ source c =0 ∷ [])
   rule (int-abs x y) = absolute x y
-  -- 9 int_max(a,b,c), aux r: a−c≤0; b−c≤0; c−a−P×r≤0; c−b+Q×r−Q≤0; P=hi c−lo a, Q=hi c−lo b.
+  -- 9 int_max(a,b,c), aux r: a−c≤0; b−c≤0; c−a−P×r≤0; c−b+Q×r−Q≤0; a−c+K×r+1−K≤0; P=hi c−lo a, Q=hi c−lo b, K=hi a−lo c+1.
   rule (int-max a b c) = touching a c b c
   -- 10 int_lin_eq(as,bs,c): Σ−c=0. 11 int_lin_le: Σ−c≤0.
   rule (int-lin-eq asbs c) = block [] (sum=0 (sources asbs) (neg c) ∷ [])
@@ -230,17 +249,17 @@ module _ (β : ℕ → Bounds) where
   rule (array-bool-xor xs) = block ((+0 to pos (halfLess (length xs))) ∷ []) (sum=0 (each +1 xs ++ (-2 · aux 0 ∷ [])) -1 ∷ [])
   rule (array-int-element i ns c) = numberElement i ns c
   rule (array-var-int-element i xs c) = variableElement i xs c
-  rule (array-int-maximum m xs) = oneOf (λ x. source x ─ source m ≤0) m xs
+  rule (array-int-maximum m xs) = oneOf (λ x. x) (λ x. m) m xs
   rule (set-in x S) = inSet x S
   rule (set-in-reif x S r) = inSetReified x S r
-  -- 29 int_min(a,b,c), aux r: c−a≤0; c−b≤0; a−c−P×r≤0; b−c+Q×r−Q≤0; P=hi a−lo c, Q=hi b−lo c.
+  -- 29 int_min(a,b,c), aux r: c−a≤0; c−b≤0; a−c−P×r≤0; b−c+Q×r−Q≤0; c−a+K×r+1−K≤0; P=hi a−lo c, Q=hi b−lo c, K=hi c−lo a+1.
   rule (int-min a b c) = touching c a c b
   -- 30 int_lt_reif(a,b,r): a−b+P×r+1−P≤0; b−a−Q×r≤0; P=hi a−lo b+1, Q=hi b−lo a.
   rule (int-lt-reif a b r) = orderReified +1 +0 a b r
   -- 31 int_ne_reif is 32 with 1, −1, c=0.
   rule (int-ne-reif a b r) = zeroReified false (+1 · a ∷ -1 · b ∷ []) +0 r
   rule (int-lin-ne-reif asbs c r) = zeroReified false asbs c r
-  rule (array-int-minimum m xs) = oneOf (λ x. source m ─ source x ≤0) m xs
+  rule (array-int-minimum m xs) = oneOf (λ x. m) (λ x. x) m xs
   rule (bool-eq-reif a b r) = sameReified true a b r
   -- 35 bool_le_reif(a,b,r): −a−r+1≤0; b−r≤0; a−b+r−1≤0.
   rule (bool-le-reif a b r) =

@@ -4,7 +4,7 @@ use Prim.Native.Nat.{ℕ}
 abbrev pub none : ℕ
 none = 0
 
--- "More than 8,192 model words, or 131,072 row words"
+-- "More than 8,192 model words, or 131,072 row words", with 02 262,144 row words
 abbrev pub tooManyWords : ℕ
 tooManyWords = 1
 

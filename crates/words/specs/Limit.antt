@@ -18,12 +18,12 @@ range = lowest to highest
 abbrev pub half : ℕ
 half = 134217728
 
--- Numbered faults, 1: "More than 8,192 model words, or 131,072 row words"
+-- Numbered faults, 1: "More than 8,192 model words, or 131,072 row words"; 02, wish 10: "the limit on row words rises to 262,144"
 abbrev pub modelWords : ℕ
 modelWords = 8192
 
 abbrev pub rowWords : ℕ
-rowWords = 131072
+rowWords = 262144
 
 -- 6: "A 257th variable starts in a model." 7: "A 257th constraint starts."
 abbrev pub variables : ℕ

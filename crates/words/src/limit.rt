@@ -9,7 +9,7 @@ pub const HALF: u32 = 134217728;
 // words of a model and of a row system
 pub const MODEL_WORDS: usize = 8192;
 
-pub const ROW_WORDS: usize = 131072;
+pub const ROW_WORDS: usize = 262144;
 // variables and constraints of a model
 pub const VARIABLES: usize = 256;
 
