@@ -1,6 +1,6 @@
 -- Codes 6 to 9 and 29, sum, product, absolute value, maximum and minimum; first the auxiliaries b and z of 8, 12 to 14, 31 and 32, and the bounds of a
 -- product.
-use mathlib.Core.Path.{_≡_, refl, sym, _∙_}
+use mathlib.Core.Path.{_≡_, refl, sym, ap, _∙_}
 use mathlib.Core.Logic.{_⊎_, inl, inr}
 use mathlib.Core.Bool.{Bool, true}
 use mathlib.Core.List.{List, [], _∷_, _++_}
@@ -8,23 +8,23 @@ use Prim.Native.Nat.{ℕ}
 use native.Mathlib.Omega.{arith}
 use lib.IntN.{ℤ}
 use lib.Signed.{ltZ}
-use Rattle.integers.specs.Number.{_⊕_, _⊖_, _⊗_, minZ, maxZ, absZ, _==_, +0, +1}
+use Rattle.integers.specs.Number.{_⊕_, _⊖_, _⊗_, neg, minZ, maxZ, absZ, _==_, +0, +1}
 use Rattle.integers.specs.Bounds.{bit}
 use Rattle.integers.specs.Terms.{Valuation, value}
 use Rattle.integers.specs.declared.Bounds.{Bounds}
-use Rattle.integers.proofs.Linear.{_⊑_, _⊏_, rep, linear, from₁, from₂}
+use Rattle.integers.proofs.Linear.{_⊑_, _⊏_, rep, linear, from₁, from₂, from₃}
 use Rattle.integers.proofs.Bits.{to-bit, bit-case}
 use Rattle.integers.proofs.Product.{between, ⊗-comm}
 use Rattle.integers.proofs.Tests.{Says, In, says-lt, says-equal, says-not}
 use Rattle.models.specs.Builtin.{int-plus, int-times, int-abs, int-max, int-min}
 use Rattle.models.specs.Meaning.{meaning}
 use Rattle.models.proofs.Arguments.{integerArguments}
-use Rattle.rules.specs.Block.{source, aux}
+use Rattle.rules.specs.Block.{Ref, source, aux}
 use Rattle.rules.specs.Parts.{Z, endProducts, _─_≤0}
-use Rattle.rules.specs.Rule.{rule, whereOne, whereZero, absolute, touching}
+use Rattle.rules.specs.Rule.{rule, onlyNegative, whereOne, whereZero, absolute, touching}
 use Rattle.rules.specs.Pick.{pick, bitOf, signPick}
-use Rattle.sharing.proofs.Good.{Good, Keeps, see}
-use Rattle.sharing.proofs.Basics.{Sound, Complete, Exact, agree, says-as, equal-row, by-test, Decides, decides-sound, decides-complete, not-not}
+use Rattle.sharing.proofs.Good.{Good, Keeps, Are, Sat, see}
+use Rattle.sharing.proofs.Basics.{Sound, Complete, Determined, Exact, agree, says-as, equal-row, by-test, is-one, is-zero, Decides, decides-sound, decides-complete, decides-bit, not-not}
 
 -- ---- 8, 12 to 14, 31, 32: b is 0 or 1, z := b×x
 
@@ -55,6 +55,38 @@ sign-kept B x h rest = (
   by-test (says-lt x +0) (λ b. In bit b) (λ n. simp linear (omega arith)) (λ n. simp linear (omega arith)),
   (from₁ h (rw (sign-product x, rep x, rep (B .lower), rep (B .upper)) (simp linear (omega arith))), tt),
 )
+
+-- the row of the sign bit: the bit that is picked satisfies it, and a bit that does is 1 only for a negative x
+module _ (ρ : Ref → ℤ) (x b : Ref) (u : ℤ) where
+  pub sign-row : ρ x ⊑ u → ρ b ≡ bitOf (ltZ (ρ x) +0) → Sat ρ (onlyNegative x b u)
+  unfolding onlyNegative
+  sign-row h e = rw e (by-test (says-lt (ρ x) +0) (λ c. +1 ⊗ ρ x ⊕ ((u ⊕ +1) ⊗ c ⊕ +0) ⊕ neg u ⊑ +0) (negative (ρ x) u) (λ n. other (ρ x) u h))
+    where
+      negative : (x u : ℤ) → x ⊏ +0 → +1 ⊗ x ⊕ ((u ⊕ +1) ⊗ +1 ⊕ +0) ⊕ neg u ⊑ +0
+      negative = simp linear (omega arith)
+
+      other : (x u : ℤ) → x ⊑ u → +1 ⊗ x ⊕ ((u ⊕ +1) ⊗ +0 ⊕ +0) ⊕ neg u ⊑ +0
+      other = simp linear (omega arith)
+
+  pub sign-negative : Sat ρ (onlyNegative x b u) → ρ b ≡ +1 → ρ x ⊏ +0
+  unfolding onlyNegative
+  sign-negative s e = negative (ρ x) u (rw e at s)
+    where
+      negative : (x u : ℤ) → +1 ⊗ x ⊕ ((u ⊕ +1) ⊗ +1 ⊕ +0) ⊕ neg u ⊑ +0 → x ⊏ +0
+      negative = simp linear (omega arith)
+
+-- so b and z are those that are picked, where the other rows do not leave z at 0 for a negative x
+pub sign-are : (x : ℤ) (α : Valuation) → In bit (α 0) → α 1 ≡ α 0 ⊗ x → (α 0 ≡ +1 → x ⊏ +0) → (α 1 ≡ +0 → ¬ (x ⊏ +0)) → Are (signPick x) α
+unfolding signPick
+sign-are x α h e f g = (picked, (e ∙ ap (λ b. b ⊗ x) picked, tt))
+  where
+    nothing : (x : ℤ) → +0 ⊗ x ≡ +0
+    nothing = simp linear (omega arith)
+
+    picked : α 0 ≡ bitOf (ltZ x +0)
+    picked =
+        bit-case (to-bit (α 0) (h .0) (h .1)) (λ p. p ∙ is-zero (says-lt x +0) (g (e ∙ ap (λ b. b ⊗ x) p ∙ nothing x)))
+        (λ p. p ∙ is-one (says-lt x +0) (f p))
 
 -- ---- 7: a product stays between the end products of its factors' bounds
 
@@ -98,23 +130,41 @@ module _ (β : ℕ → Bounds) (σ : Valuation) where
     (refl, (equal-row _ (aux 0) (source c) .1 (says-equal (σ a ⊗ σ b) (σ c) .0 m), tt)),
   )
 
+  pub int-times-determined : (a b c : ℕ) → Determined β σ (int-times a b c)
+  unfolding rule pick
+  int-times-determined a b c α f g = (g .1 .0, tt)
+
   -- ---- 8 int_abs
 
   pub int-abs-sound : (α : Valuation) (x y : ℕ) → Sound β σ α (int-abs x y)
   unfolding rule absolute meaning
   int-abs-sound α x y f g =
       says-equal (absZ (σ x)) (σ y) .1
-      (from₂ (bit-product (α 0) (σ x) (α 1) (g .0 .0) (g .1 .0)) (g .1 .1) (rw (rep (σ x), rep (σ y), rep (α 1)) (simp linear (omega arith))))
+      (from₃ (bit-product (α 0) (σ x) (α 1) (g .0 .0) (g .1 .0)) (g .1 .1 .0) (g .1 .1 .1 .0)
+      (rw (rep (σ x), rep (σ y), rep (α 1)) (simp linear (omega arith))))
 
   pub int-abs-complete : (x y : ℕ) → Complete β σ (int-abs x y)
   unfolding rule absolute meaning integerArguments pick signPick value
-  int-abs-complete x y f m rest = (
-    sign-kept (β x) (σ x) (f .kept .0) rest,
-    (
-      refl,
-      from₁ (says-equal (absZ (σ x)) (σ y) .0 m) (rw (sign-product (σ x), rep (σ x), rep (σ y)) (simp linear (omega arith))),
-    ),
-  )
+  int-abs-complete x y f m rest =
+      let e = says-equal (absZ (σ x)) (σ y) .0 m in (
+        sign-kept (β x) (σ x) (f .kept .0) rest,
+        (
+          refl,
+          (
+            from₁ e (rw (sign-product (σ x), rep (σ x), rep (σ y)) (simp linear (omega arith))),
+            (
+              from₁ e (rw (rep (σ x), rep (σ y)) (simp linear (omega arith))),
+              (sign-row (see σ (value (signPick (σ x) ++ rest))) (source x) (aux 0) (β x .upper) (f .kept .0 .1) refl, tt),
+            ),
+          ),
+        ),
+      )
+
+  pub int-abs-determined : (x y : ℕ) → Determined β σ (int-abs x y)
+  unfolding rule absolute pick
+  int-abs-determined x y α f g =
+      sign-are (σ x) α (g .0 .0) (g .1 .0) (sign-negative (see σ α) (source x) (aux 0) (β x .upper) (g .1 .1 .1 .1 .0))
+      (λ z. from₂ (rw z at (g .1 .1 .0)) (g .1 .1 .1 .0) (rw (rep (σ x), rep (σ y)) (simp linear (omega arith))))
 
   -- ---- 9 int_max, 29 int_min: the least of y − x and v − u is 0; r is 0 where x = y
 
@@ -135,6 +185,10 @@ module _ (β : ℕ → Bounds) (σ : Valuation) where
     unfolding touching whereOne whereZero _─_≤0 value
     touching-complete s m rest = decides-complete (λ r. Good (touching β x y u v) σ (value (r ∷ []))) (touching-rows x y u v h) s (says .0 m)
 
+    touching-determined : {s : Bool} → Says s (¬ (σ x ≡ σ y)) → (α : Valuation) → Good (touching β x y u v) σ α → Are (bitOf s ∷ []) α
+    unfolding touching whereOne whereZero _─_≤0 value
+    touching-determined s α g = (decides-bit (λ r. Good (touching β x y u v) σ (value (r ∷ []))) (touching-rows x y u v h) s (α 0) (g .0 .0) g, tt)
+
   says-larger : (a b c : ℕ) → Says (maxZ (σ a) (σ b) == σ c) (minZ (σ c ⊖ σ a) (σ c ⊖ σ b) ≡ +0)
   says-larger a b c = says-as (says-equal (maxZ (σ a) (σ b)) (σ c)) (rw (rep (σ a), rep (σ b), rep (σ c)) (simp linear (omega arith)))
 
@@ -146,6 +200,11 @@ module _ (β : ℕ → Bounds) (σ : Valuation) where
   unfolding rule meaning integerArguments pick
   int-max-complete a b c f =
       touching-complete a c b c (f .kept .0, f .kept .1 .1 .0, f .kept .1 .0, f .kept .1 .1 .0) (says-larger a b c) (says-not (says-equal (σ a) (σ c)))
+
+  pub int-max-determined : (a b c : ℕ) → Determined β σ (int-max a b c)
+  unfolding rule integerArguments pick
+  int-max-determined a b c α f =
+      touching-determined a c b c (f .kept .0, f .kept .1 .1 .0, f .kept .1 .0, f .kept .1 .1 .0) (says-larger a b c) (says-not (says-equal (σ a) (σ c))) α
 
   says-smaller : (a b c : ℕ) → Says (minZ (σ a) (σ b) == σ c) (minZ (σ a ⊖ σ c) (σ b ⊖ σ c) ≡ +0)
   says-smaller a b c = says-as (says-equal (minZ (σ a) (σ b)) (σ c)) (rw (rep (σ a), rep (σ b), rep (σ c)) (simp linear (omega arith)))
@@ -159,3 +218,9 @@ module _ (β : ℕ → Bounds) (σ : Valuation) where
   int-min-complete a b c f =
       touching-complete c a c b (f .kept .1 .1 .0, f .kept .0, f .kept .1 .1 .0, f .kept .1 .0) (says-smaller a b c)
       (says-not (says-as (says-equal (σ a) (σ c)) (sym, sym)))
+
+  pub int-min-determined : (a b c : ℕ) → Determined β σ (int-min a b c)
+  unfolding rule integerArguments pick
+  int-min-determined a b c α f =
+      touching-determined c a c b (f .kept .1 .1 .0, f .kept .0, f .kept .1 .1 .0, f .kept .1 .0) (says-smaller a b c)
+      (says-not (says-as (says-equal (σ a) (σ c)) (sym, sym))) α

@@ -1,4 +1,4 @@
--- What the proofs of the builtins share: the three statements on a builtin, tests, rows of two variables, and values 0 and 1.
+-- What the proofs of the builtins share: the four statements on a builtin, tests, rows of two variables, and values 0 and 1.
 use mathlib.Core.Path.{_≡_, refl}
 use mathlib.Core.Logic.{_↔_}
 use mathlib.Core.Bool.{Bool, true, false}
@@ -21,10 +21,10 @@ use Rattle.rules.specs.Block.{Ref}
 use Rattle.rules.specs.Parts.{_─_≤0, _─_=0}
 use Rattle.rules.specs.Rule.{rule}
 use Rattle.rules.specs.Pick.{pick, bitOf}
-use Rattle.sharing.proofs.Good.{Good, Sat}
+use Rattle.sharing.proofs.Good.{Good, Are, Sat}
 use Rattle.sharing.proofs.Fits.{Fits}
 
--- ---- the three statements
+-- ---- the four statements
 
 -- values that make the block good make the builtin true
 abbrev pub Sound : (ℕ → Bounds) → Valuation → Valuation → Builtin → Type 0
@@ -37,6 +37,10 @@ Complete β σ b = Fits β σ b → meaning σ b ≡ true → (rest : List ℤ) 
 -- there is a pick for each auxiliary
 abbrev pub Filled : (ℕ → Bounds) → Valuation → Builtin → Type 0
 Filled β σ b = length (pick β σ b) ≡ length (rule β b .auxiliaries)
+
+-- auxiliaries that make the block good are the picks
+abbrev pub Determined : (ℕ → Bounds) → Valuation → Builtin → Type 0
+Determined β σ b = (α : Valuation) → Fits β σ b → Good (rule β b) σ α → Are (pick β σ b) α
 
 -- both directions at once, for a block that has no auxiliaries
 abbrev pub Exact : (ℕ → Bounds) → Valuation → Builtin → Type 0
@@ -89,15 +93,24 @@ by-test {t} {A} s Q f g = go t s
     go true s = f (s .0 refl)
     go false s = g (λ a. false-true (s .1 a))
 
--- R r, the rows with an auxiliary r: they give A for both values of r, and A gives them for 1 where C holds, for 0 where it does not
+pub is-one : {t : Bool} {A : Type 0} → Says t A → A → +1 ≡ bitOf t
+is-one s a = by-test s (λ b. +1 ≡ b) (λ x. refl) (λ n. absurd (n a))
+
+pub is-zero : {t : Bool} {A : Type 0} → Says t A → ¬ A → +0 ≡ bitOf t
+is-zero s n = by-test s (λ b. +0 ≡ b) (λ a. absurd (n a)) (λ x. refl)
+
+-- R r, the rows with an auxiliary r: they say A, and that C holds where r is 1, and does not where r is 0
 abbrev pub Decides : (ℤ → Type 0) → Type 0 → Type 0 → Type 0
-Decides R A C = (R +0 → A) × (R +1 → A) × (A → C → R +1) × (A → ¬ C → R +0)
+Decides R A C = (R +1 ↔ (A × C)) × (R +0 ↔ (A × ¬ C))
 
 pub decides-sound : {A C : Type 0} (R : ℤ → Type 0) → Decides R A C → (r : ℤ) → In bit r → R r → A
-decides-sound {A} R d r h = bit-of (λ b. R b → A) (d .0) (d .1) (to-bit r (h .0) (h .1))
+decides-sound {A} R d r h = bit-of (λ b. R b → A) (λ x. d .1 .0 x .0) (λ x. d .0 .0 x .0) (to-bit r (h .0) (h .1))
 
 pub decides-complete : {A C : Type 0} {t : Bool} (R : ℤ → Type 0) → Decides R A C → Says t C → A → R (bitOf t)
-decides-complete R d s a = by-test s R (d .2 a) (d .3 a)
+decides-complete R d s a = by-test s R (λ c. d .0 .1 (a, c)) (λ n. d .1 .1 (a, n))
+
+pub decides-bit : {A C : Type 0} {t : Bool} (R : ℤ → Type 0) → Decides R A C → Says t C → (r : ℤ) → In bit r → R r → r ≡ bitOf t
+decides-bit {A} {C} {t} R d s r h = bit-of (λ b. R b → b ≡ bitOf t) (λ x. is-zero s (d .1 .0 x .1)) (λ x. is-one s (d .0 .0 x .1)) (to-bit r (h .0) (h .1))
 
 -- two values are equal, or are not
 abbrev pub Same : Bool → ℤ → ℤ → Type 0

@@ -26,7 +26,7 @@ use Rattle.rules.specs.Parts.{halfLess, _─_≤0, each}
 use Rattle.rules.specs.Rule.{rule}
 use Rattle.rules.specs.Pick.{pick}
 use Rattle.sharing.proofs.Good.{Sat, dot, see}
-use Rattle.sharing.proofs.Basics.{Sound, Complete, Filled, Exact, complete, agree, says-as, says-reified, not-above-row, one-row, in-bit}
+use Rattle.sharing.proofs.Basics.{Sound, Complete, Filled, Determined, Exact, complete, agree, says-as, says-reified, not-above-row, one-row, in-bit}
 
 -- ---- how many elements pass a test
 
@@ -136,6 +136,13 @@ row-odd n e = row n ((n - 1) / 2) (omega arith)
     row : (n k : ℕ) → n ≡ 2 * k + 1 → +1 ⊗ pos n ⊕ (-2 ⊗ pos k ⊕ +0) ⊕ -1 ≡ +0
     row = simp linear (omega arith)
 
+half-only : (n : ℕ) (t : ℤ) → +1 ⊗ pos n ⊕ (-2 ⊗ t ⊕ +0) ⊕ -1 ≡ +0 → t ≡ pos (halfLess n)
+unfolding halfLess
+half-only n t e = half n t ((n - 1) / 2) (omega (arith, odd-row n t e)) e
+  where
+    half : (n : ℕ) (t : ℤ) (k : ℕ) → n ≡ 2 * k + 1 → +1 ⊗ pos n ⊕ (-2 ⊗ t ⊕ +0) ⊕ -1 ≡ +0 → t ≡ pos k
+    half = simp linear (omega arith)
+
 half-in : (n m : ℕ) → n ≤ m → In (+0 to pos (halfLess m)) (pos (halfLess n))
 unfolding halfLess
 half-in n m h = let l : (n - 1) / 2 ≤ (m - 1) / 2 = omega arith in omega arithZ
@@ -211,3 +218,7 @@ module _ (β : ℕ → Bounds) (σ : Valuation) where
   pub array-bool-xor-filled : (as₁ : List ℕ) → Filled β σ (array-bool-xor as₁)
   unfolding rule pick
   array-bool-xor-filled xs = refl
+
+  pub array-bool-xor-determined : (as₁ : List ℕ) → Determined β σ (array-bool-xor as₁)
+  unfolding rule booleanArguments pick
+  array-bool-xor-determined xs α f g = (half-only (ones σ xs) (α 0) (rw (dot-each σ α +1 xs (f .zero-one) (-2 · aux 0 ∷ [])) at (g .1 .0)), tt)

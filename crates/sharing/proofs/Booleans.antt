@@ -20,7 +20,7 @@ use Rattle.rules.specs.Parts.{_─_≤0, _─_=0}
 use Rattle.rules.specs.Rule.{rule, sameRows, sameReified}
 use Rattle.rules.specs.Pick.{pick}
 use Rattle.sharing.proofs.Good.{Good, Sat, see}
-use Rattle.sharing.proofs.Basics.{Sound, Complete, Exact, agree, says-as, says-reified, in-bit, Same, not-not}
+use Rattle.sharing.proofs.Basics.{Sound, Complete, Determined, Exact, agree, says-as, says-reified, in-bit, Same, not-not}
 use Rattle.sharing.proofs.Comparisons.{equal-block}
 
 module _ (β : ℕ → Bounds) (σ : Valuation) where
@@ -142,6 +142,15 @@ module _ (β : ℕ → Bounds) (σ : Valuation) where
   unfolding rule meaning booleanArguments pick
   bool-eq-reif-complete a b r f =
       same-reified-complete true a b r (f .zero-one .0) (f .zero-one .1 .0) (f .zero-one .1 .1 .0) (says-equal (σ a) (σ b))
+
+  -- the products are the picks
+  pub bool-xor-determined : (a b r : ℕ) → Determined β σ (bool-xor a b r)
+  unfolding rule sameReified pick
+  bool-xor-determined a b r α f g = (g .1 .0, (g .1 .1 .0, tt))
+
+  pub bool-eq-reif-determined : (a b r : ℕ) → Determined β σ (bool-eq-reif a b r)
+  unfolding rule sameReified pick
+  bool-eq-reif-determined a b r α f g = (g .1 .0, (g .1 .1 .0, tt))
 
   -- ---- 35 bool_le_reif, 36 bool_lt_reif
 

@@ -1,6 +1,6 @@
 -- Codes 37 int_div and 38 int_mod. The ten rows say which of 000's four cases holds of n, d and p; a multiple d×q of which one holds is that of the
 -- quotient cut towards zero.
-use mathlib.Core.Path.{_≡_, refl, sym, ap, _∙_, subst}
+use mathlib.Core.Path.{_≡_, refl, sym, ap, ap₂, _∙_, subst}
 use mathlib.Core.Logic.{_⊎_, inl, inr, _↔_}
 use mathlib.Core.Bool.{Bool, true, false}
 use mathlib.Core.List.{List, [], _∷_, _++_, map, zipWith}
@@ -27,7 +27,7 @@ use Rattle.rules.specs.Division.{M, divisionTable, tableRow, divisionRows, quot
 use Rattle.rules.specs.Rule.{rule, division, leftOver}
 use Rattle.rules.specs.Pick.{pick, bitOf, divisionPick, leftOverPick}
 use Rattle.sharing.proofs.Good.{Keeps, Sat, see}
-use Rattle.sharing.proofs.Basics.{Sound, Complete}
+use Rattle.sharing.proofs.Basics.{Sound, Complete, Determined, is-one, is-zero}
 use Rattle.sharing.proofs.Arithmetic.{product-kept}
 
 -- ---- the ten rows
@@ -162,6 +162,23 @@ rows-divided _ _ b1 b0 n d p m N D r = case-divided true false n d p (rows-case 
 rows-divided _ _ b0 b1 n d p m N D r = case-divided false true n d p (rows-case false true n d p m _ _ _ _ r)
 rows-divided _ _ b0 b0 n d p m N D r = case-divided false false n d p (rows-case false false n d p m _ _ _ _ r)
 
+-- the bits are those of the signs
+rows-bits : (α β : ℤ) → Bit α → Bit β → (n d p m : ℤ) (N D : Bounds) → Rows n d p α β (α ⊗ β) N D m → (α ≡ bitOf (leZ +0 n)) × (β ≡ bitOf (ltZ +0 d))
+unfolding bitOf
+rows-bits α β u v n d p m N D = go u v
+  where
+    not-least : (n : ℤ) → n ⊏ +0 → ¬ (+0 ⊑ n)
+    not-least = simp linear (omega arith)
+
+    not-positive : (d : ℤ) → d ⊏ +0 → ¬ (+0 ⊏ d)
+    not-positive = simp linear (omega arith)
+
+    go : {α β : ℤ} → Bit α → Bit β → Rows n d p α β (α ⊗ β) N D m → (α ≡ bitOf (leZ +0 n)) × (β ≡ bitOf (ltZ +0 d))
+    go b1 b1 r = let c = rows-case true true n d p m _ _ _ _ r in (is-one (says-le +0 n) (c .0), is-one (says-lt +0 d) (c .1))
+    go b1 b0 r = let c = rows-case true false n d p m _ _ _ _ r in (is-one (says-le +0 n) (c .0), is-zero (says-lt +0 d) (not-positive d (c .1)))
+    go b0 b1 r = let c = rows-case false true n d p m _ _ _ _ r in (is-zero (says-le +0 n) (not-least n (c .0)), is-one (says-lt +0 d) (c .1))
+    go b0 b0 r = let c = rows-case false false n d p m _ _ _ _ r in (is-zero (says-le +0 n) (not-least n (c .0)), is-zero (says-lt +0 d) (not-positive d (c .1)))
+
 divided-rows : (n d p : ℤ) (N D P : Bounds) → In N n → In D d → In P p → Divided n d p →
     let α = bitOf (leZ +0 n) in let β = bitOf (ltZ +0 d) in Rows n d p α β (α ⊗ β) N D (M N D P)
 divided-rows n d p N D P hn hd hp h =
@@ -257,6 +274,15 @@ division-sound ρ N D P n d q α β p γ h k g =
     (rows-divided (ρ α) (ρ β) (to-bit _ (h .0) (h .1)) (to-bit _ (k .0) (k .1)) (ρ n) (ρ d) (ρ p) (M N D P) N D
     (subst (λ c. Rows (ρ n) (ρ d) (ρ p) (ρ α) (ρ β) c N D (M N D P)) (g .1 .0) (g .1 .1)))
 
+-- and the auxiliaries are the picks
+division-are : (ρ : Ref → ℤ) (N D P : Bounds) (n d q α β p γ : Ref) → In bit (ρ α) → In bit (ρ β) → All (Sat ρ) (divisionRows N D P n d q α β p γ) →
+    let a = bitOf (leZ +0 (ρ n)) in let b = bitOf (ltZ +0 (ρ d)) in (ρ α ≡ a) × (ρ β ≡ b) × (ρ p ≡ ρ d ⊗ ρ q) × (ρ γ ≡ a ⊗ b)
+unfolding divisionRows Rows tableRow divisionTable value zipWith
+division-are ρ N D P n d q α β p γ h k g =
+    let b = rows-bits (ρ α) (ρ β) (to-bit _ (h .0) (h .1)) (to-bit _ (k .0) (k .1)) (ρ n) (ρ d) (ρ p) (M N D P) N D
+    (subst (λ c. Rows (ρ n) (ρ d) (ρ p) (ρ α) (ρ β) c N D (M N D P)) (g .1 .0) (g .1 .1)) in
+    (b .0, b .1, g .0, g .1 .0 ∙ ap₂ _⊗_ (b .0) (b .1))
+
 -- the bits that are picked, and their product, are bits
 bits-kept : (a b : Bool) → In bit (bitOf a) × In bit (bitOf b) × In bit (bitOf a ⊗ bitOf b)
 unfolding bitOf
@@ -298,6 +324,12 @@ module _ (β : ℕ → Bounds) (σ : Valuation) where
         ),
       )
 
+  pub int-div-determined : (n d q : ℕ) → Determined β σ (int-div n d q)
+  unfolding rule pick division divisionPick
+  int-div-determined n d q α f g =
+      let a = division-are (see σ α) (β n) (β d) (endProducts (β d) (β q)) (source n) (source d) (source q) (aux 0) (aux 1) (aux 2) (aux 3) (g .0 .0) (g .0 .1 .0) (g .1) in
+      (a .0, (a .1, (a .2, (a .3, tt))))
+
   -- ---- 38 int_mod
 
   last-row : (p r n : ℤ) → (+1 ⊗ p ⊕ (+1 ⊗ r ⊕ (-1 ⊗ n ⊕ +0)) ⊕ +0 ≡ +0) ↔ (n ⊖ p ≡ r)
@@ -338,3 +370,14 @@ module _ (β : ℕ → Bounds) (σ : Valuation) where
           ),
         ),
       )
+
+  pub int-mod-determined : (n d r : ℕ) → Determined β σ (int-mod n d r)
+  unfolding rule pick leftOver leftOverPick divisionPick
+  int-mod-determined n d r α f g =
+      let P = endProducts (β d) (quotientBounds (β n)) in
+      let rows = divisionRows (β n) (β d) P (source n) (source d) (aux 0) (aux 1) (aux 2) (aux 3) (aux 4) in
+      let s = all-append (Sat (see σ α)) rows (remainderRow (aux 3) (source r) (source n) ∷ []) .0 (g .1) .0 in
+      let h = division-sound (see σ α) (β n) (β d) P (source n) (source d) (aux 0) (aux 1) (aux 2) (aux 3) (aux 4) (g .0 .1 .0) (g .0 .1 .1 .0) s in
+      let a = division-are (see σ α) (β n) (β d) P (source n) (source d) (aux 0) (aux 1) (aux 2) (aux 3) (aux 4) (g .0 .1 .0) (g .0 .1 .1 .0) s in
+      let q : α 0 ≡ quotZ (σ n) (σ d) = sym (near-quotient (σ n) (σ d) (α 0) (h .0) (h .1)) in
+      (q, (a .0, (a .1, (a .2 ∙ ap (λ x. σ d ⊗ x) q, (a .3, tt)))))

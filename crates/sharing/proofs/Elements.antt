@@ -4,7 +4,7 @@ use mathlib.Core.Logic.{_↔_}
 use mathlib.Core.Bool.{true}
 use mathlib.Core.List.{List, [], _∷_, _++_, map}
 use native.Mathlib.Omega.{arith}
-use Prim.Native.Nat.{ℕ, zero, suc, _-_, _<_}
+use Prim.Native.Nat.{ℕ, zero, suc, _+_, _-_, _<_}
 use lib.IntN.{ℤ, pos, negsuc}
 use lib.ListN.{length, length-map, getD}
 use Rattle.integers.specs.Number.{_==_, count, +0, +1}
@@ -22,9 +22,11 @@ use Rattle.rules.specs.Rule.{rule, numberElement, variableElement}
 use Rattle.rules.specs.Pick.{pick}
 use Rattle.sharing.proofs.Good.{Good, Sat, see}
 use Rattle.sharing.proofs.Fits.{Fits}
+use Rattle.sharing.proofs.Basics.{Determined}
 use Rattle.sharing.proofs.OneHot.{chosen-one, chosen-at, one-hot-sound, one-hot-complete, chosen-value, picked-value, bits-filled}
-use Rattle.sharing.proofs.Members.{member-passes, values-member}
-use Rattle.sharing.proofs.Gates.{gates-at, gates-sound, gates-complete, gates-filled}
+use Rattle.sharing.proofs.Members.{member-passes, values-member, values-distinct}
+use Rattle.sharing.proofs.Gates.{gates-at, gates-keep, gates-sound, gates-complete, gates-filled, gates-are}
+use Rattle.sharing.proofs.FirstOnly.{value-bits}
 
 -- ---- an element by its place
 
@@ -103,6 +105,10 @@ pub array-int-element-filled : (β : ℕ → Bounds) (σ : Valuation) (i : ℕ) 
 unfolding rule numberElement pick
 array-int-element-filled β σ i ns c = bits-filled (λ j. j == σ i) _
 
+pub array-int-element-determined : (β : ℕ → Bounds) (σ : Valuation) (i : ℕ) (ns : List ℤ) (c : ℕ) → Determined β σ (array-int-element i ns c)
+unfolding rule numberElement pick
+array-int-element-determined β σ i ns c α f g = value-bits _ σ α i (values-distinct _) (g .0) (g .1 .0) (g .1 .1 .0)
+
 -- ---- 25
 
 pub array-var-int-element-sound : (β : ℕ → Bounds) (σ α : Valuation) (i : ℕ) (xs : List ℕ) (c : ℕ) → Fits β σ (array-var-int-element i xs c) →
@@ -136,3 +142,11 @@ pub array-var-int-element-filled : (β : ℕ → Bounds) (σ : Valuation) (i : �
     length (pick β σ (array-var-int-element i xs c)) ≡ length (rule β (array-var-int-element i xs c) .auxiliaries)
 unfolding rule variableElement pick
 array-var-int-element-filled β σ i xs c = gates-filled (λ j. σ (nth 0 xs j)) (λ j. j == σ i) (λ j. β (nth 0 xs j)) _
+
+pub array-var-int-element-determined : (β : ℕ → Bounds) (σ : Valuation) (i : ℕ) (xs : List ℕ) (c : ℕ) → Determined β σ (array-var-int-element i xs c)
+unfolding rule variableElement pick
+array-var-int-element-determined β σ i xs c α f g =
+    let js = values (places (β i) (length xs)) in
+    let k = gates-keep (λ j. β (nth 0 xs j)) js α (λ j. α (length js + j)) (λ j. refl) .0 (g .0) in
+    let s = all-append (Sat (see σ α)) (products (nth 0 xs) js 0 (length js)) (chosen one js (length js) c ∷ []) .0 (g .1 .1 .1) in
+    gates-are (nth 0 xs) (λ j. j == σ i) js σ α (s .0) (value-bits js σ α i (values-distinct _) (k .0) (g .1 .0) (g .1 .1 .0))

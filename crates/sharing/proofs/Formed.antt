@@ -11,16 +11,16 @@ use Rattle.integers.specs.Bounds.{_to_, bit}
 use Rattle.integers.specs.Terms.{Term, _·_}
 use Rattle.integers.specs.declared.Bounds.{Bounds}
 use Rattle.integers.proofs.Linear.{_⊑_, linear, arithZ}
-use Rattle.integers.proofs.Lists.{all-append, all-mapped, all-made}
+use Rattle.integers.proofs.Lists.{all-append, all-implies, all-mapped, all-made}
 use Rattle.integers.proofs.Tests.{All}
 use Rattle.words.specs.Limit as Limit
 use Rattle.models.specs.Model.{terms}
 use Rattle.models.proofs.Arguments.{variablesIn}
 use Rattle.rowsystems.specs.Row.{Row, sum≤0, sum=0, product, renameTerms}
 use Rattle.rules.specs.Block.{Ref, source, aux, Block}
-use Rattle.rules.specs.Parts.{Z, endProducts, extreme, L, U, sources, each, bits, weighted, one, oneBit, chosen, products}
+use Rattle.rules.specs.Parts.{Z, endProducts, extreme, L, U, _─_≤0, sources, each, bits, weighted, one, oneBit, chosen, products}
 use Rattle.rules.specs.Division.{M, divisionTable, tableRow, divisionRows, quotientBounds, remainderRow}
-use Rattle.rules.specs.Rule.{linked, signed, zeroRows, zeroReified, oneOf, division, leftOver}
+use Rattle.rules.specs.Rule.{linked, signed, onlyNegative, zeroRows, zeroReified, firstOnly, oneOf, division, leftOver}
 use Rattle.rules.proofs.Lengths.{sources-length, weighted-length}
 use Rattle.sharing.proofs.OneHot.{bits-length}
 
@@ -156,6 +156,17 @@ module _ (n m : ℕ) where
   products-in x [] k z l s h = tt
   products-in x (y ∷ ls) k z l s h = ((omega arith, h .0, omega arith), products-in x ls (suc k) (suc z) (omega arith) (omega arith) (h .1))
 
+  -- the last rows of 26 and 33
+  firstOnly-in : (β : ℕ → Bounds) (u v : ℕ → ℕ) (xs : List ℕ) (k : ℕ) → All (λ x. (u x < n) × (v x < n)) xs → k + length xs ≤ m → Short xs →
+      All (RowIn n m) (firstOnly β u v xs k)
+  unfolding firstOnly
+  firstOnly-in β u v [] k h l s = tt
+  firstOnly-in β u v (x ∷ []) k h l s = tt
+  firstOnly-in β u v (x ∷ (y ∷ ys)) k h l s = (
+    (rw weighted-length (omega arith), (h .0 .0, (h .0 .1, weighted-in _ (y ∷ ys) (suc k) (omega arith)))),
+    firstOnly-in β u v (y ∷ ys) (suc k) (h .1) (omega arith) (omega arith),
+  )
+
   -- the rows of a table of numbers
   table-in : (xs : List Ref) (table : List (List ℤ)) → length xs ≤ Limit.terms → All (RefIn n m) xs → All (RowIn n m) (map (tableRow xs) table)
   unfolding tableRow zipWith
@@ -185,24 +196,29 @@ module _ (n : ℕ) (β : ℕ → Bounds) where
   -- 13, 14, 31, 32
   pub zeroReified-formed : (equal : Bool) (asbs : List (Term ℕ)) (c : ℤ) (r : ℕ) → Short asbs → All (λ v. v < n) (variablesIn asbs) → r < n →
       Formed n (zeroReified β equal asbs c r)
-  unfolding zeroReified zeroRows signed
+  unfolding zeroReified zeroRows signed onlyNegative
   zeroReified-formed true asbs c r s h k = (signed-ordered β asbs c, (linked-in 3 asbs c (omega arith) s h, omega arith))
   zeroReified-formed false asbs c r s h k = (signed-ordered β asbs c, (linked-in 3 asbs c (omega arith) s h, omega arith))
 
   -- 26, 33
-  pub oneOf-formed : (last : ℕ → Row Ref) (m : ℕ) (xs : List ℕ) → Short xs → m < n → All (λ v. v < n) xs →
-      ((k v : ℕ) → v < n → RowIn n k (last v)) → Formed n (oneOf β last m xs)
-  unfolding oneOf
-  oneOf-formed last m xs s g h f =
-      let k = length xs + length xs in (
+  pub oneOf-formed : (u v : ℕ → ℕ) (m : ℕ) (xs : List ℕ) → Short xs → m < n → All (λ x. x < n) xs → ((x : ℕ) → x < n → (u x < n) × (v x < n)) →
+      Formed n (oneOf β u v m xs)
+  unfolding oneOf _─_≤0
+  oneOf-formed u v m xs s g h f =
+      let k = length xs + length xs in
+      let both = all-implies (λ x. x < n) (λ x. (u x < n) × (v x < n)) f xs h in
+      let each : ℕ → Row Ref = λ x. source (u x) ─ source (v x) ≤0 in (
         gated-ordered β (λ x. x) xs,
         rw (length-append, bits-length, length-map) (
           oneBit-in n k xs (omega arith) (omega arith),
-          all-append (RowIn n k) (products (λ x. x) xs 0 (length xs)) (chosen one xs (length xs) m ∷ map last xs) .1 (
+          all-append (RowIn n k) (products (λ x. x) xs 0 (length xs)) (chosen one xs (length xs) m ∷ (map each xs ++ firstOnly β u v xs 0)) .1 (
             products-in n k (λ x. x) xs 0 (length xs) (omega arith) (omega arith) h,
             (
               chosen-in n k one xs (length xs) m (omega arith) (omega arith) g,
-              all-mapped last (λ v. v < n) (RowIn n k) (f k) xs h,
+              all-append (RowIn n k) (map each xs) (firstOnly β u v xs 0) .1 (
+                all-mapped each (λ x. (u x < n) × (v x < n)) (RowIn n k) (λ x b. omega arith) xs both,
+                firstOnly-in n k β u v xs 0 both (omega arith) s,
+              ),
             ),
           ),
         ),

@@ -17,18 +17,25 @@ use Rattle.integers.proofs.Bits.{Bit, to-bit, bits as zero-one}
 use Rattle.integers.proofs.Tests.{In, All, Any}
 use Rattle.rules.specs.Parts.{Z, bits, one, oneBit, chosen, products}
 use Rattle.rules.specs.Pick.{firstBit, gatedPick}
-use Rattle.sharing.proofs.Good.{Sat, see, Keeps}
+use Rattle.sharing.proofs.Good.{Sat, see, Each, Keeps, Are}
 use Rattle.sharing.proofs.OneHot.{bitSum, From, from-zero, from-head, from-tail, chosen-law, Chooses, one-hot-sound, firstBit-length, bits-length, one-hot-complete}
 
 -- ---- lists in two parts
 
-pub keeps-append : (Bs Cs : List Bounds) (α γ : Valuation) → From (length Bs) α γ → Keeps (Bs ++ Cs) α ↔ (Keeps Bs α × Keeps Cs γ)
-keeps-append [] Cs α γ h =
+pub each-append : {A : Type 0} (P : A → ℤ → Type 0) (xs ys : List A) (α γ : Valuation) → From (length xs) α γ →
+    Each P (xs ++ ys) α ↔ (Each P xs α × Each P ys γ)
+each-append P [] ys α γ h =
     let e : α ≡ γ = fun-ext (λ j. let z : j ≡ 0 + j = omega arith in ap α z ∙ h j) in
-    (λ k. (tt, subst (Keeps Cs) e k), λ k. subst (Keeps Cs) (sym e) (k .1))
-keeps-append (B ∷ Bs) Cs α γ h =
-    let r = keeps-append Bs Cs (λ j. α (suc j)) γ (λ j. let z : suc (length Bs + j) ≡ suc (length Bs) + j = omega arith in ap α z ∙ h j) in
+    (λ k. (tt, subst (Each P ys) e k), λ k. subst (Each P ys) (sym e) (k .1))
+each-append P (x ∷ xs) ys α γ h =
+    let r = each-append P xs ys (λ j. α (suc j)) γ (λ j. let z : suc (length xs + j) ≡ suc (length xs) + j = omega arith in ap α z ∙ h j) in
     (λ k. ((k .0, r .0 (k .1) .0), r .0 (k .1) .1), λ k. (k .0 .0, r .1 (k .0 .1, k .1)))
+
+pub keeps-append : (Bs Cs : List Bounds) (α γ : Valuation) → From (length Bs) α γ → Keeps (Bs ++ Cs) α ↔ (Keeps Bs α × Keeps Cs γ)
+keeps-append = each-append (λ B v. In B v)
+
+pub are-append : (xs ys : List ℤ) (α γ : Valuation) → From (length xs) α γ → Are (xs ++ ys) α ↔ (Are xs α × Are ys γ)
+are-append = each-append (λ x v. v ≡ x)
 
 pub from-append : (vs ws : List ℤ) (n : ℕ) → length vs ≡ n → From n (value (vs ++ ws)) (value ws)
 unfolding value
@@ -41,7 +48,7 @@ abbrev Gated : {A : Type 0} → (A → ℤ) → List A → Valuation → Valuati
 Gated f [] γ δ = Unit {0}
 Gated f (l ∷ ls) γ δ = (δ zero ≡ f l ⊗ γ zero) × Gated f ls (λ j. γ (suc j)) (λ j. δ (suc j))
 
-products-law : {A : Type 0} (x : A → ℕ) (ls : List A) (k n : ℕ) (σ α γ δ : Valuation) → From k α γ → From n α δ →
+pub products-law : {A : Type 0} (x : A → ℕ) (ls : List A) (k n : ℕ) (σ α γ δ : Valuation) → From k α γ → From n α δ →
     All (Sat (see σ α)) (products x ls k n) ↔ Gated (λ l. σ (x l)) ls γ δ
 unfolding products
 products-law x [] k n σ α γ δ p q = (λ u. u, λ u. u)
@@ -49,7 +56,7 @@ products-law x (l ∷ ls) k n σ α γ δ p q =
     let r = products-law x ls (suc k) (suc n) σ α (λ j. γ (suc j)) (λ j. δ (suc j)) (from-tail k α γ p) (from-tail n α δ q) in
     rw (from-head k α γ p, from-head n α δ q) (λ g. (g .0, r .0 (g .1)), λ g. (g .0, r .1 (g .1)))
 
-gated-sum : {A : Type 0} (f : A → ℤ) (ls : List A) (γ δ : Valuation) → Gated f ls γ δ → bitSum one ls δ ≡ bitSum f ls γ
+pub gated-sum : {A : Type 0} (f : A → ℤ) (ls : List A) (γ δ : Valuation) → Gated f ls γ δ → bitSum one ls δ ≡ bitSum f ls γ
 gated-sum f [] γ δ g = refl
 gated-sum f (l ∷ ls) γ δ g = step _ _ _ _ (g .0) (gated-sum f ls (λ j. γ (suc j)) (λ j. δ (suc j)) (g .1))
   where
@@ -70,7 +77,7 @@ module _ {A : Type 0} (B : A → Bounds) (ls : List A) where
   abbrev pub gateBounds : List Bounds
   gateBounds = bits ls ++ map (λ l. Z (B l)) ls
 
-  gates-keep : (α γ : Valuation) → From (length ls) α γ → Keeps gateBounds α ↔ (Keeps (bits ls) α × Keeps (map (λ l. Z (B l)) ls) γ)
+  pub gates-keep : (α γ : Valuation) → From (length ls) α γ → Keeps gateBounds α ↔ (Keeps (bits ls) α × Keeps (map (λ l. Z (B l)) ls) γ)
   gates-keep α γ h = keeps-append (bits ls) (map (λ l. Z (B l)) ls) α γ (λ j. ap (λ n. α (n + j)) (bits-length ls) ∙ h j)
 
   pub gates-sound : (σ α : Valuation) → Keeps gateBounds α → Sat (see σ α) (oneBit ls) → (l : A) × Chooses ls α l
@@ -118,3 +125,21 @@ unfolding gatedPick
 gates-filled f t B ls =
     let z = zipWith-length (λ l b. f l ⊗ b) ls (firstBit t ls) (firstBit-length t ls) in
     simp (length-append, firstBit-length, bits-length, length-map, z)
+
+-- the products of bits that are the picks are the picks
+gated-are : {A : Type 0} (f : A → ℤ) (ls : List A) (bs : List ℤ) (γ δ : Valuation) → length bs ≡ length ls → Gated f ls γ δ → Are bs γ →
+    Are (zipWith (λ l b. f l ⊗ b) ls bs) δ
+unfolding zipWith
+gated-are f [] bs γ δ e g h = tt
+gated-are f (l ∷ ls) [] γ δ e g h = absurd (omega arith)
+gated-are f (l ∷ ls) (b ∷ bs) γ δ e g h =
+    (g .0 ∙ ap (λ x. f l ⊗ x) (h .0), gated-are f ls bs (λ j. γ (suc j)) (λ j. δ (suc j)) (omega arith) (g .1) (h .1))
+
+pub gates-are : {A : Type 0} (x : A → ℕ) (t : A → Bool) (ls : List A) (σ α : Valuation) → All (Sat (see σ α)) (products x ls 0 (length ls)) →
+    Are (firstBit t ls) α → Are (gatedPick (λ l. σ (x l)) t ls) α
+unfolding gatedPick
+gates-are x t ls σ α g h =
+    let δ : Valuation = λ j. α (length ls + j) in
+    let p = products-law x ls 0 (length ls) σ α α δ (from-zero α) (λ j. refl) .0 g in
+    are-append (firstBit t ls) _ α δ (λ j. ap (λ n. α (n + j)) (firstBit-length t ls)) .1
+    (h, gated-are (λ l. σ (x l)) ls (firstBit t ls) α δ (firstBit-length t ls) p h)

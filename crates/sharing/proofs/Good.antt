@@ -39,10 +39,18 @@ abbrev pub see : Valuation → Valuation → Ref → ℤ
 see σ α (source v) = σ v
 see σ α (aux k) = α k
 
--- the values from 0 on keep the bounds
+-- the values from 0 on, each with the list's element of its place
+abbrev pub Each : {A : Type 0} → (A → ℤ → Type 0) → List A → Valuation → Type 0
+Each P [] α = Unit {0}
+Each P (x ∷ xs) α = P x (α zero) × Each P xs (λ k. α (suc k))
+
+-- they keep the bounds
 abbrev pub Keeps : List Bounds → Valuation → Type 0
-Keeps [] α = Unit {0}
-Keeps (B ∷ Bs) α = In B (α zero) × Keeps Bs (λ k. α (suc k))
+Keeps Bs α = Each (λ B v. In B v) Bs α
+
+-- they are those of the list
+abbrev pub Are : List ℤ → Valuation → Type 0
+Are xs α = Each (λ x v. v ≡ x) xs α
 
 -- the auxiliaries keep their bounds, and every row and product is satisfied
 abbrev pub Good : Block → Valuation → Valuation → Type 0

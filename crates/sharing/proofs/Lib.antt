@@ -12,6 +12,7 @@ pub mod BooleanLists
 pub mod OneHot
 pub mod Gates
 pub mod Members
+pub mod FirstOnly
 pub mod Elements
 pub mod Maximum
 pub mod Sets

@@ -4,27 +4,29 @@ use mathlib.Core.Path.{_≡_, refl}
 use mathlib.Core.Logic.{_⊎_, _↔_}
 use mathlib.Core.Bool.{Bool, true, false}
 use mathlib.Core.List.{List, [], _∷_, _++_}
-use Prim.Native.Nat.{ℕ}
+use Prim.Native.Nat.{ℕ, suc}
 use native.Mathlib.Omega.{arith}
 use lib.IntN.{ℤ}
 use lib.Signed.{leZ}
-use Rattle.integers.specs.Number.{_⊖_, neg, minZ, maxZ, absZ, _==_, +0, +1, -1}
-use Rattle.integers.specs.Bounds.{_to_}
+use Rattle.integers.specs.Number.{_⊖_, _⊗_, neg, minZ, maxZ, absZ, _==_, +0, +1, -1}
+use Rattle.integers.specs.Bounds.{_to_, bit}
 use Rattle.integers.specs.Terms.{Valuation, Term, _·_, sum, value}
 use Rattle.integers.specs.declared.Bounds.{Bounds}
-use Rattle.integers.proofs.Linear.{_⊑_, rep, linear, from₁, from₂}
+use Rattle.integers.proofs.Linear.{_⊑_, _⊏_, rep, linear, from₁, from₂}
 use Rattle.integers.proofs.Bits.{Bit, bits, Reified}
+use Rattle.integers.proofs.Lists.{all-append}
 use Rattle.integers.proofs.Tests.{Says, In, All, says-le, says-equal, says-not}
 use Rattle.models.specs.Builtin.{int-lin-eq, int-lin-le, int-lin-ne, int-lin-eq-reif, int-eq-reif, int-lin-le-reif, int-ne-reif, int-lin-ne-reif}
 use Rattle.models.specs.Meaning.{meaning, on, _iff_}
 use Rattle.models.proofs.Arguments.{variablesIn, integerArguments, booleanArguments}
 use Rattle.rowsystems.specs.Row.{Row, sum≤0}
+use Rattle.rules.specs.Block.{Ref, aux}
 use Rattle.rules.specs.Parts.{L, U}
-use Rattle.rules.specs.Rule.{rule, signed, linNotEqual, zeroRows, zeroReified, linLessEqualReified}
+use Rattle.rules.specs.Rule.{rule, linked, signed, onlyNegative, linNotEqual, zeroRows, zeroReified, linLessEqualReified}
 use Rattle.rules.specs.Pick.{pick, signPick, signedPick}
-use Rattle.sharing.proofs.Good.{Good, Keeps, Sat, see}
-use Rattle.sharing.proofs.Basics.{Sound, Complete, Exact, agree, says-as, says-reified, Same, not-not}
-use Rattle.sharing.proofs.Arithmetic.{bit-product, sign-product, sign-kept}
+use Rattle.sharing.proofs.Good.{Good, Keeps, Are, Sat, see}
+use Rattle.sharing.proofs.Basics.{Sound, Complete, Determined, Exact, agree, says-as, says-reified, Same, not-not}
+use Rattle.sharing.proofs.Arithmetic.{bit-product, sign-product, sign-kept, sign-row, sign-negative, sign-are}
 use Rattle.sharing.proofs.Sums.{dot-sources-only, linked-row, sum-kept}
 
 -- ---- comparisons with c are comparisons of Σ − c with 0
@@ -49,6 +51,14 @@ signed-kept : (β : ℕ → Bounds) (σ : Valuation) (ts : List (Term ℕ)) (c :
 unfolding signed signedPick value
 signed-kept β σ ts c h rest = let k = sum-kept β σ ts c h in (k, sign-kept (L β ts c to U β ts c) (sum σ ts ⊖ c) k rest)
 
+-- auxiliaries that satisfy the rows are the picks, where the other rows do not leave z at 0 for a negative x
+signed-are : (β : ℕ → Bounds) (σ : Valuation) (ts : List (Term ℕ)) (c : ℤ) (α : Valuation) → Sat (see σ α) (linked β ts c) → In bit (α 1) →
+    α 2 ≡ α 1 ⊗ α 0 → Sat (see σ α) (onlyNegative (aux 0) (aux 1) (U β ts c)) → (α 2 ≡ +0 → ¬ (α 0 ⊏ +0)) → Are (signedPick (sum σ ts ⊖ c)) α
+unfolding signedPick
+signed-are β σ ts c α l h e s g =
+    let x = linked-row σ α β ts c .0 l in
+    (x, rw (← x) (sign-are (α 0) (λ k. α (suc k)) h e (sign-negative (see σ α) (aux 0) (aux 1) (U β ts c) s) g))
+
 -- ---- 13, 14, 31, 32
 
 -- the two rows after the product, where W is at least |x|: they give the meaning for both values of b, and it gives them for the b that is picked
@@ -71,18 +81,38 @@ unfolding zeroRows value
 zero-rows true σ α r W w = equal-rows (σ r) w (α 0) (α 2) W
 zero-rows false σ α r W w = unequal-rows (σ r) w (α 0) (α 2) W
 
+-- they do not leave z at 0 for a negative x
+not-left : (equal : Bool) (σ α : Valuation) (r : ℕ) (W : ℤ) → Bit (σ r) → All (Sat (see σ α)) (zeroRows equal W r) → α 2 ≡ +0 → ¬ (α 0 ⊏ +0)
+unfolding zeroRows value
+not-left true σ α r W w = core (σ r) w (α 0) (α 2) W
+  where
+    core : (r : ℤ) → Bit r → (x z W : ℤ) → All (Sat (see (value (r ∷ [])) (value (x ∷ +0 ∷ z ∷ [])))) (zeroRows true W 0) → z ≡ +0 → ¬ (x ⊏ +0)
+    core = simp bits (simp linear (omega arith))
+not-left false σ α r W w = core (σ r) w (α 0) (α 2) W
+  where
+    core : (r : ℤ) → Bit r → (x z W : ℤ) → All (Sat (see (value (r ∷ [])) (value (x ∷ +0 ∷ z ∷ [])))) (zeroRows false W 0) → z ≡ +0 → ¬ (x ⊏ +0)
+    core = simp bits (simp linear (omega arith))
+
 -- W = max(|L|,|U|) is at least |x|
 in-widest : (l u x : ℤ) → In (l to u) x → let W = maxZ (absZ l) (absZ u) in In (neg W to W) x
 in-widest = simp linear (omega arith)
 
 -- t is the test of the builtin: Σ = c in 13, a = b in 14, and their denials in 32 and 31
 module _ (equal : Bool) (β : ℕ → Bounds) (σ : Valuation) (ts : List (Term ℕ)) (c : ℤ) (r : ℕ) (t : Bool) (s : Says t (Same equal (sum σ ts ⊖ c) +0)) (w : Bit (σ r)) where
+  -- the two rows, and the last one
+  abbrev lastRow : Row Ref
+  lastRow = onlyNegative (aux 0) (aux 1) (U β ts c)
+
+  last-row : (α : Valuation) → let rows = zeroRows equal (maxZ (absZ (L β ts c)) (absZ (U β ts c))) r in
+      All (Sat (see σ α)) (rows ++ (lastRow ∷ [])) ↔ (All (Sat (see σ α)) rows × All (Sat (see σ α)) (lastRow ∷ []))
+  last-row α = all-append (Sat (see σ α)) (zeroRows equal (maxZ (absZ (L β ts c)) (absZ (U β ts c))) r) (lastRow ∷ [])
+
   zero-reified-sound : (α : Valuation) → Good (zeroReified β equal ts c r) σ α → (on σ r iff t) ≡ true
   unfolding zeroReified signed
   zero-reified-sound α g =
       says-reified σ r s .1
       (rw (linked-row σ α β ts c .0 (g .1 .0)) at
-      (zero-rows equal σ α r _ w (in-widest _ _ _ (g .0 .0)) (bit-product (α 1) (α 0) (α 2) (g .0 .1 .0) (g .1 .1 .0)) .0 (g .1 .1 .1)))
+      (zero-rows equal σ α r _ w (in-widest _ _ _ (g .0 .0)) (bit-product (α 1) (α 0) (α 2) (g .0 .1 .0) (g .1 .1 .0)) .0 (last-row α .0 (g .1 .1 .1) .0)))
 
   zero-reified-complete : All (λ v. In (β v) (σ v)) (variablesIn ts) → (on σ r iff t) ≡ true → (rest : List ℤ) →
       Good (zeroReified β equal ts c r) σ (value (signedPick (sum σ ts ⊖ c) ++ rest))
@@ -95,10 +125,19 @@ module _ (equal : Bool) (β : ℕ → Bounds) (σ : Valuation) (ts : List (Term 
           linked-row σ α β ts c .1 refl,
           (
             refl,
-            zero-rows equal σ α r _ w (in-widest _ _ _ (k .0)) (bit-product _ _ _ (k .1 .0) refl) .1 (sign-product (sum σ ts ⊖ c)) (says-reified σ r s .0 m),
+            last-row α .1 (
+              zero-rows equal σ α r _ w (in-widest _ _ _ (k .0)) (bit-product _ _ _ (k .1 .0) refl) .1 (sign-product (sum σ ts ⊖ c)) (says-reified σ r s .0 m),
+              (sign-row (see σ α) (aux 0) (aux 1) (U β ts c) (k .0 .1) refl, tt),
+            ),
           ),
         ),
       )
+
+  zero-reified-determined : (α : Valuation) → Good (zeroReified β equal ts c r) σ α → Are (signedPick (sum σ ts ⊖ c)) α
+  unfolding zeroReified signed
+  zero-reified-determined α g =
+      let rows = last-row α .0 (g .1 .1 .1) in
+      signed-are β σ ts c α (g .1 .0) (g .0 .1 .0) (g .1 .1 .0) (rows .1 .0) (not-left equal σ α r _ w (rows .0))
 
 -- ---- 15
 
@@ -132,18 +171,29 @@ module _ (β : ℕ → Bounds) (σ : Valuation) where
       says-not (says-zero (sum σ ts) c) .1 (rw (linked-row σ α β ts c .0 (g .1 .0)) at n)
 
   pub int-lin-ne-complete : (asbs : List (Term ℕ)) (c : ℤ) → Complete β σ (int-lin-ne asbs c)
-  unfolding rule linNotEqual meaning integerArguments pick signedPick signPick value
+  unfolding rule linNotEqual signed meaning integerArguments pick signedPick signPick value
   int-lin-ne-complete ts c f m rest =
-      let x = sum σ ts ⊖ c in (
-        signed-kept β σ ts c (f .kept) rest,
+      let x = sum σ ts ⊖ c in
+      let α = value (signedPick x ++ rest) in
+      let k = signed-kept β σ ts c (f .kept) rest in (
+        k,
         (
-          linked-row σ (value (signedPick x ++ rest)) β ts c .1 refl,
+          linked-row σ α β ts c .1 refl,
           (
             refl,
-            (from₁ (says-not (says-zero (sum σ ts) c) .0 m) (rw (sign-product x, rep x) (simp linear (omega arith))), tt),
+            (
+              from₁ (says-not (says-zero (sum σ ts) c) .0 m) (rw (sign-product x, rep x) (simp linear (omega arith))),
+              (sign-row (see σ α) (aux 0) (aux 1) (U β ts c) (k .0 .1) refl, tt),
+            ),
           ),
         ),
       )
+
+  pub int-lin-ne-determined : (asbs : List (Term ℕ)) (c : ℤ) → Determined β σ (int-lin-ne asbs c)
+  unfolding rule linNotEqual signed pick
+  int-lin-ne-determined ts c α f g =
+      signed-are β σ ts c α (g .1 .0) (g .0 .1 .0) (g .1 .1 .0) (g .1 .1 .1 .1 .0)
+      (λ z. from₁ (rw z at (g .1 .1 .1 .0)) (rw (rep (α 0)) (simp linear (omega arith))))
 
   -- ---- 13 int_lin_eq_reif, 32 int_lin_ne_reif
 
@@ -155,6 +205,10 @@ module _ (β : ℕ → Bounds) (σ : Valuation) where
   unfolding rule meaning integerArguments booleanArguments pick
   int-lin-eq-reif-complete ts c r f = zero-reified-complete true β σ ts c r _ (says-zero (sum σ ts) c) (f .zero-one .0) (f .kept)
 
+  pub int-lin-eq-reif-determined : (asbs : List (Term ℕ)) (c : ℤ) (r : ℕ) → Determined β σ (int-lin-eq-reif asbs c r)
+  unfolding rule booleanArguments pick
+  int-lin-eq-reif-determined ts c r α f = zero-reified-determined true β σ ts c r _ (says-zero (sum σ ts) c) (f .zero-one .0) α
+
   pub int-lin-ne-reif-sound : (α : Valuation) (asbs : List (Term ℕ)) (c : ℤ) (r : ℕ) → Sound β σ α (int-lin-ne-reif asbs c r)
   unfolding rule meaning booleanArguments
   int-lin-ne-reif-sound α ts c r f = zero-reified-sound false β σ ts c r _ (says-not (says-zero (sum σ ts) c)) (f .zero-one .0) α
@@ -162,6 +216,10 @@ module _ (β : ℕ → Bounds) (σ : Valuation) where
   pub int-lin-ne-reif-complete : (asbs : List (Term ℕ)) (c : ℤ) (r : ℕ) → Complete β σ (int-lin-ne-reif asbs c r)
   unfolding rule meaning integerArguments booleanArguments pick
   int-lin-ne-reif-complete ts c r f = zero-reified-complete false β σ ts c r _ (says-not (says-zero (sum σ ts) c)) (f .zero-one .0) (f .kept)
+
+  pub int-lin-ne-reif-determined : (asbs : List (Term ℕ)) (c : ℤ) (r : ℕ) → Determined β σ (int-lin-ne-reif asbs c r)
+  unfolding rule booleanArguments pick
+  int-lin-ne-reif-determined ts c r α f = zero-reified-determined false β σ ts c r _ (says-not (says-zero (sum σ ts) c)) (f .zero-one .0) α
 
   -- ---- 14 int_eq_reif, 31 int_ne_reif
 
@@ -180,6 +238,10 @@ module _ (β : ℕ → Bounds) (σ : Valuation) where
   unfolding rule meaning integerArguments booleanArguments pick
   int-eq-reif-complete a b r f = zero-reified-complete true β σ (difference a b) +0 r _ (says-difference a b) (f .zero-one .0) (f .kept)
 
+  pub int-eq-reif-determined : (a b r : ℕ) → Determined β σ (int-eq-reif a b r)
+  unfolding rule booleanArguments pick
+  int-eq-reif-determined a b r α f = zero-reified-determined true β σ (difference a b) +0 r _ (says-difference a b) (f .zero-one .0) α
+
   pub int-ne-reif-sound : (α : Valuation) (a b r : ℕ) → Sound β σ α (int-ne-reif a b r)
   unfolding rule meaning booleanArguments
   int-ne-reif-sound α a b r f = zero-reified-sound false β σ (difference a b) +0 r _ (says-not (says-difference a b)) (f .zero-one .0) α
@@ -187,6 +249,10 @@ module _ (β : ℕ → Bounds) (σ : Valuation) where
   pub int-ne-reif-complete : (a b r : ℕ) → Complete β σ (int-ne-reif a b r)
   unfolding rule meaning integerArguments booleanArguments pick
   int-ne-reif-complete a b r f = zero-reified-complete false β σ (difference a b) +0 r _ (says-not (says-difference a b)) (f .zero-one .0) (f .kept)
+
+  pub int-ne-reif-determined : (a b r : ℕ) → Determined β σ (int-ne-reif a b r)
+  unfolding rule booleanArguments pick
+  int-ne-reif-determined a b r α f = zero-reified-determined false β σ (difference a b) +0 r _ (says-not (says-difference a b)) (f .zero-one .0) α
 
   -- ---- 15 int_lin_le_reif
 
@@ -207,3 +273,7 @@ module _ (β : ℕ → Bounds) (σ : Valuation) where
           le-reif-rows (σ r) (f .zero-one .0) x _ _ k .1 (says-reified σ r (says-not-above-zero (sum σ ts) c) .0 m),
         ),
       )
+
+  pub int-lin-le-reif-determined : (asbs : List (Term ℕ)) (c : ℤ) (r : ℕ) → Determined β σ (int-lin-le-reif asbs c r)
+  unfolding rule linLessEqualReified pick
+  int-lin-le-reif-determined ts c r α f g = (linked-row σ α β ts c .0 (g .1 .0), tt)

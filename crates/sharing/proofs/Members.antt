@@ -265,3 +265,35 @@ members-member S B v =
     let b = values-member B v in
     let s = says-member v S in
     rw (members-values S B) (λ h. (b .0 (k .0 h .0), s .0 (k .0 h .1)), λ h. k .1 (b .1 (h .0), s .1 (h .1)))
+
+-- ---- each stands once
+
+abbrev pub Distinct : {A : Type 0} → List A → Type 0
+Distinct [] = Unit {0}
+Distinct (x ∷ xs) = ¬ (Member x xs) × Distinct xs
+
+listOf-distinct : {A : Type 0} (f : ℕ → A) → ((i j : ℕ) → i < j → ¬ (f i ≡ f j)) → (n : ℕ) → Distinct (listOf f n)
+unfolding listOf
+listOf-distinct f h zero = tt
+listOf-distinct f h (suc n) = (
+  λ m. let r = listOf-member (f 0) (λ k. f (suc k)) n .0 m in h 0 (suc (r .0)) (omega arith) (r .1 .1),
+  listOf-distinct (λ k. f (suc k)) (λ i j l. h (suc i) (suc j) (omega arith)) n,
+)
+
+pub values-distinct : (B : Bounds) → Distinct (values B)
+unfolding values
+values-distinct B = listOf-distinct (λ k. B .lower ⊕ pos k) (apart (B .lower)) (width B)
+  where
+    apart : (l : ℤ) (i j : ℕ) → i < j → ¬ (l ⊕ pos i ≡ l ⊕ pos j)
+    apart = simp linear (omega arith)
+
+keep-distinct : {A : Type 0} (t : A → Bool) (xs : List A) → Distinct xs → Distinct (keep t xs)
+keep-distinct t [] d = tt
+keep-distinct t (x ∷ xs) d = go (t x) (keep-distinct t xs (d .1))
+  where
+    go : (b : Bool) → Distinct (keep t xs) → Distinct (x ∷ keep t xs if b else keep t xs)
+    go true r = (λ m. d .0 (keep-member t x xs .0 m .0), r)
+    go false r = r
+
+pub members-distinct : (S : List ℤ) (B : Bounds) → Distinct (members S B)
+members-distinct S B = rw (members-values S B) (keep-distinct (λ v. member v S) (values B) (values-distinct B))

@@ -49,7 +49,7 @@ from-head k α γ h = let e : k ≡ k + 0 = omega arith in ap α e ∙ h 0
 pub from-tail : (k : ℕ) (α γ : Valuation) → From k α γ → From (suc k) α (λ j. γ (suc j))
 from-tail k α γ h j = let e : suc k + j ≡ k + suc j = omega arith in ap α e ∙ h (suc j)
 
-dot-weighted : {A : Type 0} (w : A → ℤ) (ls : List A) (k : ℕ) (σ α γ : Valuation) → From k α γ → dot (see σ α) (weighted w ls k) ≡ bitSum w ls γ
+pub dot-weighted : {A : Type 0} (w : A → ℤ) (ls : List A) (k : ℕ) (σ α γ : Valuation) → From k α γ → dot (see σ α) (weighted w ls k) ≡ bitSum w ls γ
 unfolding weighted
 dot-weighted w [] k σ α γ h = refl
 dot-weighted w (l ∷ ls) k σ α γ h =
@@ -63,7 +63,7 @@ less-one = simp linear (omega arith)
 pub less-variable : (s x : ℤ) → (s ⊕ (negsuc 0 ⊗ x ⊕ pos 0) ⊕ pos 0 ≡ pos 0) ↔ (s ≡ x)
 less-variable = simp linear (omega arith)
 
-oneBit-law : {A : Type 0} (ls : List A) (σ α : Valuation) → Sat (see σ α) (oneBit ls) ↔ (bitSum one ls α ≡ pos 1)
+pub oneBit-law : {A : Type 0} (ls : List A) (σ α : Valuation) → Sat (see σ α) (oneBit ls) ↔ (bitSum one ls α ≡ pos 1)
 unfolding oneBit
 oneBit-law ls σ α = rw (dot-weighted one ls 0 σ α α (from-zero α)) (less-one _)
 
@@ -78,16 +78,16 @@ chosen-law w ls k x σ α γ h = rw (dot-append (see σ α) (weighted w ls k), d
 abbrev pub Chooses : {A : Type 0} → List A → Valuation → A → Type 0
 Chooses {A} ls γ l = Member l ls × ((w : A → ℤ) → bitSum w ls γ ≡ w l)
 
-keeps-bit : (x : ℤ) → In bit x → Bit x
+pub keeps-bit : (x : ℤ) → In bit x → Bit x
 keeps-bit x h = to-bit x (h .0) (h .1)
 
-skip : (a s t : ℤ) → s ≡ t → a ⊗ pos 0 ⊕ s ≡ t
+pub skip : (a s t : ℤ) → s ≡ t → a ⊗ pos 0 ⊕ s ≡ t
 skip = simp linear (omega arith)
 
-take : (a s : ℤ) → s ≡ pos 0 → a ⊗ pos 1 ⊕ s ≡ a
+pub take : (a s : ℤ) → s ≡ pos 0 → a ⊗ pos 1 ⊕ s ≡ a
 take = simp linear (omega arith)
 
-not-negative : {A : Type 0} (ls : List A) (γ : Valuation) → Keeps (bits ls) γ → pos 0 ⊑ bitSum one ls γ
+pub not-negative : {A : Type 0} (ls : List A) (γ : Valuation) → Keeps (bits ls) γ → pos 0 ⊑ bitSum one ls γ
 unfolding bits
 not-negative [] γ h = omega arithZ
 not-negative (l ∷ ls) γ h = step (γ 0) (keeps-bit _ (h .0)) _ (not-negative ls (λ j. γ (suc j)) (h .1))
@@ -95,7 +95,7 @@ not-negative (l ∷ ls) γ h = step (γ 0) (keeps-bit _ (h .0)) _ (not-negative 
     step : (x : ℤ) → Bit x → (s : ℤ) → pos 0 ⊑ s → pos 0 ⊑ pos 1 ⊗ x ⊕ s
     step = simp zero-one (simp linear (omega arith))
 
-all-zero : {A : Type 0} (w : A → ℤ) (ls : List A) (γ : Valuation) → Keeps (bits ls) γ → bitSum one ls γ ≡ pos 0 → bitSum w ls γ ≡ pos 0
+pub all-zero : {A : Type 0} (w : A → ℤ) (ls : List A) (γ : Valuation) → Keeps (bits ls) γ → bitSum one ls γ ≡ pos 0 → bitSum w ls γ ≡ pos 0
 unfolding bits
 all-zero w [] γ h e = refl
 all-zero w (l ∷ ls) γ h e =
@@ -105,7 +105,7 @@ all-zero w (l ∷ ls) γ h e =
     step : (x : ℤ) → Bit x → (s : ℤ) → pos 0 ⊑ s → pos 1 ⊗ x ⊕ s ≡ pos 0 → (x ≡ pos 0) × (s ≡ pos 0)
     step = simp zero-one (simp linear (omega arith))
 
-chooses : {A : Type 0} (ls : List A) (γ : Valuation) → Keeps (bits ls) γ → bitSum one ls γ ≡ pos 1 → (l : A) × Chooses ls γ l
+pub chooses : {A : Type 0} (ls : List A) (γ : Valuation) → Keeps (bits ls) γ → bitSum one ls γ ≡ pos 1 → (l : A) × Chooses ls γ l
 unfolding bits
 chooses [] γ h e = absurd (omega arithZ)
 chooses {A} (l ∷ ls) γ h e = bit-case (keeps-bit _ (h .0)) (later (chooses ls (λ j. γ (suc j)) (h .1))) here
@@ -151,7 +151,7 @@ bits-length ls = length-map ls (λ l. bit)
 pub bits-filled : {A : Type 0} (t : A → Bool) (ls : List A) → length (firstBit t ls) ≡ length (bits ls)
 bits-filled t ls = firstBit-length t ls ∙ sym (bits-length ls)
 
-zeros : {A : Type 0} (ls : List A) (rest : List ℤ) → let γ = value (map (λ l. pos 0) ls ++ rest) in
+pub zeros : {A : Type 0} (ls : List A) (rest : List ℤ) → let γ = value (map (λ l. pos 0) ls ++ rest) in
     Keeps (bits ls) γ × ((w : A → ℤ) → bitSum w ls γ ≡ pos 0)
 unfolding bits value
 zeros [] rest = (tt, λ w. refl)

@@ -1,4 +1,4 @@
--- Code 39: the chain of products holds the power, by one induction for every exponent; its block is sound and complete, filled and well formed.
+-- Code 39: the chain of products holds the power, by one induction for every exponent; its block is sound and complete, filled, determined and well formed.
 use mathlib.Core.Path.{_≡_, refl, sym, ap, ap₂, _∙_, subst}
 use mathlib.Core.Logic.{_↔_}
 use mathlib.Core.List.{List, [], _∷_, _++_, append-assoc}
@@ -23,10 +23,10 @@ use Rattle.rules.specs.Power.{Chain, next, noProduct, squared, multiplied, chai
 use Rattle.rules.specs.Rule.{rule, powered}
 use Rattle.rules.specs.Pick.{pick, powerPick}
 use Rattle.rules.proofs.Power.{by-halves, kept-by-halves}
-use Rattle.sharing.proofs.Good.{Keeps, Sat, see}
-use Rattle.sharing.proofs.Basics.{Sound, Complete, Filled, equal-row}
+use Rattle.sharing.proofs.Good.{Keeps, Are, Sat, see}
+use Rattle.sharing.proofs.Basics.{Sound, Complete, Filled, Determined, equal-row}
 use Rattle.sharing.proofs.OneHot.{From, from-head}
-use Rattle.sharing.proofs.Gates.{keeps-append, from-append}
+use Rattle.sharing.proofs.Gates.{keeps-append, are-append, from-append}
 use Rattle.sharing.proofs.Arithmetic.{product-kept}
 use Rattle.sharing.proofs.Formed.{RefIn, RowIn, Ordered, Formed, endProducts-ordered}
 use Rattle.sharing.proofs.Sizes.{total, rowSize, total-append}
@@ -38,12 +38,14 @@ unfolding value
 first-of y rest = refl
 
 module _ (σ : Valuation) where
-  -- the power keeps its bounds; the picks, followed by anything, satisfy the chain; and where the chain is satisfied its result is the power
+  -- the power keeps its bounds; the picks, followed by anything, satisfy the chain; and where the chain is satisfied its result is the power, and the
+  -- auxiliaries are the picks
   record Works (c : Chain) (v : Values) : Type 0 where
     kept : In (c .range) (v .held)
     filled : length (v .picked) ≡ length (c .auxiliaries)
     complete : (rest : List ℤ) → let α = value (v .picked ++ rest) in Keeps (c .auxiliaries) α × All (Sat (see σ α)) (c .products)
     sound : (α : Valuation) → All (Sat (see σ α)) (c .products) → see σ α (c .result) ≡ v .held
+    determined : (α : Valuation) → All (Sat (see σ α)) (c .products) → Are (v .picked) α
 
   -- one product more
   next-works : (c : Chain) (v : Values) (f : Ref) (F : Bounds) (w : ℤ) → Works c v → In F w →
@@ -70,6 +72,11 @@ module _ (σ : Valuation) where
         sound = λ α g.
             let s = all-append (Sat (see σ α)) (c .products) (p ∷ []) .0 g in
             s .1 .0 ∙ ap₂ _⊗_ (factor α (s .0)) (h .sound α (s .0));
+        determined = λ α g.
+            let s = all-append (Sat (see σ α)) (c .products) (p ∷ []) .0 g in
+            let γ : Valuation = λ j. α (length (v .picked) + j) in
+            let last : γ 0 ≡ y = let e : length (v .picked) + 0 ≡ n = omega (arith, h .filled) in ap α e ∙ s .1 .0 ∙ ap₂ _⊗_ (factor α (s .0)) (h .sound α (s .0)) in
+            are-append (v .picked) (y ∷ []) α γ (λ j. refl) .1 (h .determined α (s .0), (last, tt));
       }
 
   module _ (B : Bounds) (x : ℕ) (i : In B (σ x)) where
@@ -79,7 +86,7 @@ module _ (σ : Valuation) where
 
     one : Holds 1 (noProduct B x) (noValue (σ x))
     unfolding noProduct noValue
-    one = (record { kept = i; filled = refl; complete = λ rest. (tt, tt); sound = λ α g. refl }, sym (power-one (σ x)))
+    one = (record { kept = i; filled = refl; complete = λ rest. (tt, tt); sound = λ α g. refl; determined = λ α g. tt }, sym (power-one (σ x)))
 
     twice : (k : ℕ) (c : Chain) (v : Values) → Holds k c v → Holds (k + k) (squared B x c) (squaredValue (σ x) v)
     unfolding squared squaredValue nextValue
@@ -188,3 +195,11 @@ module _ (β : ℕ → Bounds) (σ : Valuation) where
   unfolding rule pick powered powerPick
   int-pow-filled x zero z = refl
   int-pow-filled x (suc k) z = values-length (β x) x (σ x) (suc k) (omega arith)
+
+  pub int-pow-determined : (x k z : ℕ) → Determined β σ (int-pow x k z)
+  unfolding rule pick integerArguments powered powerPick
+  int-pow-determined x zero z α f g = tt
+  int-pow-determined x (suc k) z α f g =
+      let c = chain (β x) x (suc k) in
+      let h = chain-holds σ (β x) x (f .kept .0) (suc k) (omega arith) in
+      h .0 .determined α (all-append (Sat (see σ α)) (c .products) (c .result ─ source z =0 ∷ []) .0 (g .1) .0)

@@ -26,8 +26,10 @@ use Rattle.rules.specs.Rule.{rule, inSet, inSetReified}
 use Rattle.rules.specs.Pick.{bitOf, pick}
 use Rattle.sharing.proofs.Good.{dot, Good, Sat, see}
 use Rattle.sharing.proofs.Fits.{Fits}
+use Rattle.sharing.proofs.Basics.{Determined}
 use Rattle.sharing.proofs.OneHot.{dot-append, bitSum, less-variable, Chooses, chosen-one, chosen-at, one-hot-sound, one-hot-complete, chosen-value, picked-value, bits-filled}
-use Rattle.sharing.proofs.Members.{keep, member-passes, says-member, values-member, members-values, members-member}
+use Rattle.sharing.proofs.Members.{keep, member-passes, says-member, values-member, members-values, members-member, values-distinct, members-distinct}
+use Rattle.sharing.proofs.FirstOnly.{value-bits}
 
 -- ---- 27
 
@@ -54,6 +56,10 @@ pub set-in-filled : (β : ℕ → Bounds) (σ : Valuation) (x : ℕ) (S : List �
     length (pick β σ (set-in x S)) ≡ length (rule β (set-in x S) .auxiliaries)
 unfolding rule inSet pick
 set-in-filled β σ x S = bits-filled (λ v. v == σ x) _
+
+pub set-in-determined : (β : ℕ → Bounds) (σ : Valuation) (x : ℕ) (S : List ℤ) → Determined β σ (set-in x S)
+unfolding rule inSet pick
+set-in-determined β σ x S α f g = value-bits _ σ α x (members-distinct S (β x)) (g .0) (g .1 .0) (g .1 .1 .0)
 
 -- ---- 28
 
@@ -127,3 +133,7 @@ pub set-in-reif-filled : (β : ℕ → Bounds) (σ : Valuation) (x : ℕ) (S : L
     length (pick β σ (set-in-reif x S r)) ≡ length (rule β (set-in-reif x S r) .auxiliaries)
 unfolding rule inSetReified pick
 set-in-reif-filled β σ x S r = bits-filled (λ v. v == σ x) _
+
+pub set-in-reif-determined : (β : ℕ → Bounds) (σ : Valuation) (x : ℕ) (S : List ℤ) (r : ℕ) → Determined β σ (set-in-reif x S r)
+unfolding rule inSetReified pick
+set-in-reif-determined β σ x S r α f g = value-bits _ σ α x (values-distinct (β x)) (g .0) (g .1 .0) (g .1 .1 .0)

@@ -1,16 +1,20 @@
 -- The number of words of a block, by its auxiliaries and rows.
 use mathlib.Core.Path.{_≡_, refl, _∙_}
 use mathlib.Core.List.{List, [], _∷_, _++_, flatMap, map}
-use Prim.Native.Nat.{ℕ, suc, _+_, _*_}
+use Prim.Native.Nat.{ℕ, suc, _+_, _*_, _≤_}
 use native.Mathlib.Omega.{arith}
 use lib.IntN.{ℤ}
 use lib.ListN.{length, length-append, length-map}
 use Rattle.integers.specs.Terms.{Term}
+use Rattle.integers.specs.declared.Bounds.{Bounds}
 use Rattle.words.specs.Kind as Kind
+use Rattle.words.specs.Limit as Limit
 use Rattle.rowsystems.specs.Row.{Row, sum≤0, sum=0, product, rename, renameTerms}
 use Rattle.rowsystems.specs.RowWords.{boundWords, termWords, sumWords, rowWords}
 use Rattle.rules.specs.Block.{Block, blockWords, numbered}
 use Rattle.rules.specs.Parts.{products}
+use Rattle.rules.specs.Rule.{firstOnly}
+use Rattle.rules.proofs.Lengths.{weighted-length}
 
 -- ---- the words of a block, by its auxiliaries and rows
 
@@ -67,3 +71,11 @@ pub products-size : {A : Type 0} (x : A → ℕ) (ls : List A) (k z : ℕ) → t
 unfolding products
 products-size x [] k z = omega arith
 products-size x (l ∷ ls) k z = omega (arith, products-size x ls (suc k) (suc z))
+
+-- the last rows of 26 and 33, of a list of at most 32: at most 68 words a row
+pub firstOnly-size : (β : ℕ → Bounds) (u v : ℕ → ℕ) (xs : List ℕ) (k : ℕ) → length xs ≤ Limit.listLength → total rowSize (firstOnly β u v xs k) ≤ 68 * length xs
+unfolding firstOnly
+firstOnly-size β u v [] k l = omega arith
+firstOnly-size β u v (x ∷ []) k l = omega arith
+firstOnly-size β u v (x ∷ (y ∷ ys)) k l =
+    rw weighted-length (omega (arith, firstOnly-size β u v (y ∷ ys) (suc k) (omega arith)))

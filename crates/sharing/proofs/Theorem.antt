@@ -84,7 +84,7 @@ module _ (ws : List ℕ) (passes : Passes ws) where
   unfolding systemWords bounds after-sources
   words-are = ap (λ l. l ++ (blocksWords (boundsIn Vs) (length Vs) (constraints ws) ++ (word Kind.rowsEnd 0 ∷ []))) (Accepted.sources-are parts)
 
-  -- "the words never pass 131,072"
+  -- 02, wish 10: "the limit on row words rises to 262,144"; the words never pass it
   pub never-too-many : length (systemWords ws) ≤ Limit.rowWords
   unfolding after-sources
   never-too-many =
@@ -94,7 +94,7 @@ module _ (ws : List ℕ) (passes : Passes ws) where
         arith,
         length-append (parts .src) after-sources,
         length-append (blocksWords (boundsIn Vs) (length Vs) (constraints ws)) (word Kind.rowsEnd 0 ∷ []),
-        few-words ws r (boundsIn Vs) (length Vs) few,
+        few-words ws r (boundsIn Vs) (length Vs) fine few,
         Accepted.few-words ws r,
         ap length (parts .whole),
         length-append (parts .src) (parts .rest),
