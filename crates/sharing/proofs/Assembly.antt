@@ -1,4 +1,5 @@
--- Block after block, the auxiliaries numbered on: the values satisfy all blocks' rows exactly where they make every builtin true.
+-- Block after block, the auxiliaries numbered on: the values satisfy all blocks' rows exactly where they make every builtin true, and the auxiliaries are
+-- the picks.
 use mathlib.Core.Path.{_≡_, refl, sym, ap, ap₂, _∙_, subst, fun-ext}
 use mathlib.Core.Logic.{_↔_}
 use mathlib.Core.Bool.{true}
@@ -17,10 +18,10 @@ use Rattle.rowsystems.specs.Row.{Row, rename}
 use Rattle.rules.specs.Block.{numbered}
 use Rattle.rules.specs.Pick.{pick}
 use Rattle.rules.specs.Translation.{blockOf}
-use Rattle.sharing.proofs.Good.{Sat, Keeps, Good}
+use Rattle.sharing.proofs.Good.{Sat, Keeps, Are, Good}
 use Rattle.sharing.proofs.Fits.{Fits}
 use Rattle.sharing.proofs.Formed.{Formed}
-use Rattle.sharing.proofs.Gates.{keeps-append, from-append}
+use Rattle.sharing.proofs.Gates.{keeps-append, are-append, from-append}
 use Rattle.sharing.proofs.Numbering.{Agrees, rows-agree}
 use Rattle.sharing.proofs.Codes.{laws}
 
@@ -83,6 +84,14 @@ module _ (β : ℕ → Bounds) where
         subst (AllGood σ cs) (sym (fun-ext (from-append (pick β σ (builtin c)) (picksOf σ cs ++ rest) (size c) (laws β (builtin c) .filled σ)))) (complete-all σ cs (f .1) (m .1) rest),
       )
 
+  -- the auxiliaries of good blocks are the picks
+  only-all : (σ α : Valuation) (cs : List Constraint) → AllFit σ cs → AllGood σ cs α → Are (picksOf σ cs) α
+  unfolding blockOf
+  only-all σ α [] f g = tt
+  only-all σ α (c ∷ cs) f g =
+      are-append (pick β σ (builtin c)) (picksOf σ cs) α (λ k. α (size c + k)) (λ j. ap (λ n. α (n + j)) (laws β (builtin c) .filled σ)) .1
+      (laws β (builtin c) .determined σ α (f .0) (g .0), only-all σ _ cs (f .1) (g .1))
+
   pub picks-length : (σ : Valuation) (cs : List Constraint) → length (picksOf σ cs) ≡ length (auxiliariesOf cs)
   unfolding blockOf
   picks-length σ [] = refl
@@ -100,3 +109,6 @@ module _ (β : ℕ → Bounds) where
     pub rows-complete : (ρ σ : Valuation) (rest : List ℤ) → Agrees n first ρ σ (value (picksOf σ cs ++ rest)) → AllFit σ cs → AllTrue σ cs →
         Keeps (auxiliariesOf cs) (value (picksOf σ cs ++ rest)) × All (Sat ρ) (rowsFrom first cs)
     rows-complete ρ σ rest a f m = blocks n first ρ σ (value (picksOf σ cs ++ rest)) cs formed a .1 (complete-all σ cs f m rest)
+
+    pub rows-only : (ρ σ α : Valuation) → Agrees n first ρ σ α → AllFit σ cs → Keeps (auxiliariesOf cs) α → All (Sat ρ) (rowsFrom first cs) → Are (picksOf σ cs) α
+    rows-only ρ σ α a f k s = only-all σ α cs f (blocks n first ρ σ α cs formed a .0 (k, s))

@@ -1,5 +1,5 @@
 -- Products of a variable and a one-hot bit for each label: their sum is the value of the chosen label's variable.
-use mathlib.Core.Path.{_≡_, refl, sym, ap, _∙_, fun-ext, subst}
+use mathlib.Core.Path.{_≡_, refl, sym, ap, ap₂, _∙_, fun-ext, subst}
 use mathlib.Core.Logic.{_↔_}
 use mathlib.Core.Bool.{Bool, true}
 use mathlib.Core.List.{List, [], _∷_, _++_, map, zipWith, append-assoc}
@@ -36,6 +36,14 @@ keeps-append = each-append (λ B v. In B v)
 
 pub are-append : (xs ys : List ℤ) (α γ : Valuation) → From (length xs) α γ → Are (xs ++ ys) α ↔ (Are xs α × Are ys γ)
 are-append = each-append (λ x v. v ≡ x)
+
+-- a list of as many values that are those of the other is the other
+pub are-value : (xs ys : List ℤ) → length xs ≡ length ys → Are xs (value ys) → ys ≡ xs
+unfolding value
+are-value [] [] e h = refl
+are-value [] (y ∷ ys) e h = absurd (omega arith)
+are-value (x ∷ xs) [] e h = absurd (omega arith)
+are-value (x ∷ xs) (y ∷ ys) e h = ap₂ (λ z zs. z ∷ zs) (h .0) (are-value xs ys (omega arith) (h .1))
 
 pub from-append : (vs ws : List ℤ) (n : ℕ) → length vs ≡ n → From n (value (vs ++ ws)) (value ws)
 unfolding value

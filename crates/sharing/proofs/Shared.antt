@@ -1,4 +1,4 @@
--- A list satisfies a model exactly where some auxiliaries make it satisfy rows that are the model's blocks, numbered on; and the picks do.
+-- A list satisfies a model exactly where some auxiliaries make it satisfy rows that are the model's blocks, numbered on; the picks do, and no others.
 use mathlib.Core.Path.{_≡_, sym, ap₂, _∙_, subst}
 use mathlib.Core.Logic.{_↔_}
 use mathlib.Core.Bool.{true}
@@ -24,9 +24,9 @@ use Rattle.sharing.specs.SharedSolutions.{SatisfiesModel, SatisfiesRows}
 use Rattle.sharing.proofs.Good.{Sat, says-satisfied, Keeps}
 use Rattle.sharing.proofs.Fits.{Fits}
 use Rattle.sharing.proofs.Formed.{Formed}
-use Rattle.sharing.proofs.Gates.{keeps-append, from-append}
+use Rattle.sharing.proofs.Gates.{keeps-append, are-value, from-append}
 use Rattle.sharing.proofs.Numbering.{Agrees}
-use Rattle.sharing.proofs.Assembly.{auxiliariesOf, rowsFrom, picksOf, AllTrue, AllFit, picks-length, rows-sound, rows-complete}
+use Rattle.sharing.proofs.Assembly.{auxiliariesOf, rowsFrom, picksOf, AllTrue, AllFit, picks-length, rows-sound, rows-complete, rows-only}
 use Rattle.sharing.proofs.Satisfied.{keeps-bounds, keeps-agree, satisfies}
 
 -- ---- values that keep the bounds fit every builtin
@@ -104,9 +104,16 @@ module _ (model system : List ℕ) (typed : All (Typed (variables model)) (const
       let d = rw (append-nil xs) at c in
       of-system (vs ++ xs) .1 (length-append vs xs ∙ ap₂ _+_ (m .0) l ∙ sym (length-append Vs As), both-kept Vs As vs xs (m .0) .1 (m .1, d .0), d .1)
 
-  pub system-sound : (vs xs : List ℤ) → length xs ≡ length As → SatisfiesRows system (vs ++ xs) → SatisfiesModel model vs
-  system-sound vs xs l s =
+  -- auxiliaries that satisfy the system with the values: the values satisfy the model, and they are the picks
+  pub system-only : (vs xs : List ℤ) → length xs ≡ length As → SatisfiesRows system (vs ++ xs) →
+      SatisfiesModel model vs × (xs ≡ picksOf (boundsIn Vs) (value vs) cs)
+  system-only vs xs l s =
       let m = of-system (vs ++ xs) .0 s in
       let e : length vs ≡ length Vs = left-length (length vs) (length xs) (length Vs) (length As) (sym (length-append vs xs) ∙ m .0 ∙ length-append Vs As) l in
       let k = both-kept Vs As vs xs e .0 (m .1) in
-      of-model vs .1 (e, k .0, rows-sound (boundsIn Vs) (length Vs) (length Vs) cs formed (value (vs ++ xs)) (value vs) (value xs) (agrees (length Vs) vs xs e) (all-fit (value vs) (k .0)) (k .1) (m .2))
+      let a = agrees (length Vs) vs xs e in
+      let f = all-fit (value vs) (k .0) in (
+        of-model vs .1 (e, k .0, rows-sound (boundsIn Vs) (length Vs) (length Vs) cs formed (value (vs ++ xs)) (value vs) (value xs) a f (k .1) (m .2)),
+        are-value (picksOf (boundsIn Vs) (value vs) cs) xs (picks-length (boundsIn Vs) (value vs) cs ∙ sym l)
+            (rows-only (boundsIn Vs) (length Vs) (length Vs) cs formed (value (vs ++ xs)) (value vs) (value xs) a f (k .1) (m .2)),
+      )

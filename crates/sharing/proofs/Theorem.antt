@@ -1,11 +1,11 @@
 -- THE THEOREM: a model that passes the check and the words that translate writes for it share their solutions (specs/SharedSolutions.antt); fill's
--- picks are such auxiliaries; judge-rows accepts the words, and says "holds" of what fill writes exactly where judge-model says it of the values.
-use mathlib.Core.Path.{_≡_, refl, sym, ap, _∙_}
+-- picks are such auxiliaries, and no others are (specs/ExactlyOne.antt); judge-rows accepts the words, and says "holds" of what fill writes exactly where judge-model says it of the values.
+use mathlib.Core.Path.{_≡_, refl, sym, ap, _∙_, subst}
 use mathlib.Core.List.{List, [], _∷_, _++_, flatMap}
-use Prim.Native.Nat.{ℕ, _+_, _≤_, _<_}
+use Prim.Native.Nat.{ℕ, _+_, _-_, _≤_, _<_}
 use native.Mathlib.Omega.{arith}
 use lib.IntN.{ℤ}
-use lib.ListN.{length, length-append}
+use lib.ListN.{length, length-append, take, drop, take-append-drop, length-drop}
 use Rattle.integers.specs.Bounds.{bit, boundsIn}
 use Rattle.integers.specs.Terms.{Valuation, value}
 use Rattle.integers.specs.declared.Bounds.{Bounds}
@@ -23,11 +23,12 @@ use Rattle.rowsystems.specs.Reading.{readRows}
 use Rattle.rowsystems.proofs.ReadBack.{System, read-back}
 use Rattle.rules.specs.Translation.{bounds, blockOf, blocksWords, systemWords, auxiliaries, picks}
 use Rattle.rules.specs.Pick.{pick}
-use Rattle.sharing.specs.SharedSolutions.{Passes, SatisfiesModel, SatisfiesRows, SharedSolutions}
+use Rattle.sharing.specs.SharedSolutions.{Passes, SatisfiesModel, SatisfiesRows, Completes, SharedSolutions}
+use Rattle.sharing.specs.ExactlyOne.{ExactlyOne, AsManySolutions}
 use Rattle.sharing.proofs.Formed.{Formed}
 use Rattle.sharing.proofs.Codes.{laws, sized}
 use Rattle.sharing.proofs.Assembly.{auxiliariesOf, rowsFrom, picksOf, picks-length}
-use Rattle.sharing.proofs.Shared.{Typed, picks-satisfy, system-sound}
+use Rattle.sharing.proofs.Shared.{Typed, picks-satisfy, system-only}
 use Rattle.sharing.proofs.Accepts.{Fine, passes-read, passes-fine}
 use Rattle.sharing.proofs.Written.{items}
 use Rattle.sharing.proofs.Few.{few-words, fine-count}
@@ -136,8 +137,39 @@ module _ (ws : List ℕ) (passes : Passes ws) where
   pub fill-satisfies : (vs : List ℤ) → SatisfiesModel ws vs → SatisfiesRows (systemWords ws) (vs ++ picks ws vs)
   fill-satisfies vs s = rw (picks-count vs) (picks-satisfy ws (systemWords ws) typed well-formed (system .the-bounds) (system .the-rows) vs s)
 
+  pub fill-completes : (vs : List ℤ) → SatisfiesModel ws vs → Completes ws (systemWords ws) vs (picks ws vs)
+  fill-completes vs s = (fill-counts vs, fill-satisfies vs s)
+
+  -- and no others do
+  pub only-fill : (vs xs : List ℤ) → Completes ws (systemWords ws) vs xs → SatisfiesModel ws vs × (xs ≡ picks ws vs)
+  only-fill vs xs c =
+      let r = system-only ws (systemWords ws) typed well-formed (system .the-bounds) (system .the-rows) vs xs (c .0 ∙ auxiliaries-count) (c .1) in
+      (r .0, r .1 ∙ sym (picks-count vs))
+
   pub shared-solutions : SharedSolutions ws (systemWords ws)
-  shared-solutions vs = (
-    λ s. (picks ws vs, (fill-counts vs, fill-satisfies vs s)),
-    λ x. system-sound ws (systemWords ws) typed well-formed (system .the-bounds) (system .the-rows) vs (x .0) (x .1 .0 ∙ auxiliaries-count) (x .1 .1),
+  shared-solutions vs = (λ s. (picks ws vs, fill-completes vs s), λ x. only-fill vs (x .0) (x .1) .0)
+
+  pub exactly-one : ExactlyOne ws (systemWords ws)
+  exactly-one vs s = (picks ws vs, (fill-completes vs s, λ ys c. only-fill vs ys c .1))
+
+  -- a solution of the row system is in two parts: one value for each variable of the model, and the auxiliaries
+  pub as-many-solutions : AsManySolutions ws (systemWords ws)
+  as-many-solutions zs = (
+    λ s.
+        let parts = take-append-drop n zs in
+        let r = only-fill (take n zs) (drop n zs) (counted s, subst (SatisfiesRows (systemWords ws)) (sym parts) s) in
+        (take n zs, (r .0, sym parts ∙ ap (λ xs. take n zs ++ xs) (r .1))),
+    λ h. subst (SatisfiesRows (systemWords ws)) (sym (h .1 .1)) (fill-satisfies (h .0) (h .1 .0)),
   )
+    where
+      n : ℕ
+      n = length (variables ws)
+
+      less : (n k : ℕ) → n + k - n ≡ k
+      less n k = omega arith
+
+      counted : SatisfiesRows (systemWords ws) zs → length (drop n zs) ≡ length (auxiliaries ws)
+      counted s =
+          length-drop n zs
+          ∙ ap (λ k. k - n) (s .one-each ∙ ap length same-bounds ∙ length-append (variables ws) As ∙ ap (λ k. n + k) (sym auxiliaries-count))
+          ∙ less n (length (auxiliaries ws))

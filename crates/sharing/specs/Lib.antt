@@ -1,2 +1,3 @@
 -- Demand 3, stated.
 pub mod SharedSolutions
+pub mod ExactlyOne

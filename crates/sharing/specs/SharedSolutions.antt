@@ -37,10 +37,11 @@ SatisfiesModel model vs = Satisfies (variables model) (λ c. meaning (value vs) 
 abbrev pub SatisfiesRows : List ℕ → List ℤ → Type 0
 SatisfiesRows system xs = Satisfies (variables system) (satisfied (value xs)) (rows system) xs
 
+-- a list of auxiliary values: one for each, and with the values it satisfies the row system
+abbrev pub Completes : List ℕ → List ℕ → List ℤ → List ℤ → Type 0
+Completes model system vs xs = (length xs ≡ length (auxiliaries model)) × SatisfiesRows system (vs ++ xs)
+
 -- "for EVERY list of whole numbers .. the list satisfies the model exactly when some list of auxiliary values makes both together satisfy the
 -- row system"
 abbrev pub SharedSolutions : List ℕ → List ℕ → Type 0
-SharedSolutions model system =
-    (vs : List ℤ) →
-    SatisfiesModel model vs
-    ↔ ((xs : List ℤ) × ((length xs ≡ length (auxiliaries model)) × SatisfiesRows system (vs ++ xs)))
+SharedSolutions model system = (vs : List ℤ) → SatisfiesModel model vs ↔ ((xs : List ℤ) × Completes model system vs xs)
