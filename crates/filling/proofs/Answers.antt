@@ -17,7 +17,7 @@ use Rattle.rules.specs.Translate.{roomFault}
 use Rattle.rules.specs.Fill.{filledCount, fillFault, fillFaultIn, fill, fillIn, filled, filledIn}
 use Rattle.sharing.specs.SharedSolutions.{Passes, SatisfiesModel}
 use Rattle.sharing.proofs.Accepts.{passes-read}
-use Rattle.sharing.proofs.Theorem.{fill-counts, fill-satisfies}
+use Rattle.sharing.proofs.Theorem.{fill-counts, fill-satisfies, fill-completes, only-fill}
 use Rattle.sharing.proofs.Judged.{judge-model-says}
 use Rattle.translation.proofs.Over.{front-over}
 use Rattle.translation.proofs.Refusals.{clash}
@@ -79,7 +79,7 @@ pub hands-over : (ws : List ℕ) (vs out : List ℤ) {answer : Answer} {out′ :
 hands-over ws vs out g passes s room =
     let h = held ws passes vs out (s .one-each) room (judge-model-says ws (passes-read ws passes) vs .1 s) in
     let n : length (vs ++ picks ws vs) ≡ length (variables ws) + length (auxiliaries ws) = omega (arith, length-append vs (picks ws vs), s .one-each, fill-counts ws passes vs) in
-    (picks ws vs, fill-counts ws passes vs, fill-satisfies ws passes vs s, g .0 ∙ sym (h .0) ∙ ap written (sym n), g .1 .0 ∙ sym (h .1 .0))
+    (picks ws vs, fill-completes ws passes vs s, λ ys c. only-fill ws passes vs ys c .1, g .0 ∙ sym (h .0) ∙ ap written (sym n), g .1 .0 ∙ sym (h .1 .0))
 
 -- fill's promises: the three that each way of ending shows, and that one
 pub with-hands-over : (ws : List ℕ) (vs out : List ℤ) {answer : Answer} {out′ : List ℤ} → Gives ws vs out answer out′ →

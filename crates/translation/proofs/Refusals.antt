@@ -21,9 +21,10 @@ use Rattle.modelreading.specs.declared.Read.{Read}
 use Rattle.rules.specs.Translation.{bounds, blockOf, systemWords}
 use Rattle.rules.specs.Check.{blockFault, blocksFault, blocksFaultIn, checkFault, checkFaultIn, check, checkIn}
 use Rattle.rules.specs.Translate.{roomFault, translateFault, translateFaultIn, translate, translateIn, translated, translatedIn}
-use Rattle.sharing.specs.SharedSolutions.{Passes}
+use Rattle.sharing.specs.SharedSolutions.{Passes, SharedSolutions}
+use Rattle.sharing.specs.ExactlyOne.{ExactlyOne, AsManySolutions}
 use Rattle.sharing.proofs.Accepts.{no-fault}
-use Rattle.sharing.proofs.Theorem.{shared-solutions}
+use Rattle.sharing.proofs.Theorem.{shared-solutions, exactly-one, as-many-solutions}
 use Rattle.translation.specs.Walk.{allBlocks}
 use Rattle.translation.specs.Shares.{Shares}
 use Rattle.translation.proofs.Over.{three-over, front-over}
@@ -113,4 +114,5 @@ module _ (ws out : List ℕ) where
   unfolding translateIn translatedIn translateFaultIn roomFault _else-refuse_ _else-answer_
   writes h l =
       let f = le-ltb (length out) (length (systemWords ws)) l in
-      (rw (h, f), (rw (h, f), λ m g. let e : m ≡ length (systemWords ws) = cc in rw (e, front-over out (systemWords ws) l) (shared-solutions ws h)))
+      let shares : SharedSolutions ws (systemWords ws) × ExactlyOne ws (systemWords ws) × AsManySolutions ws (systemWords ws) = (shared-solutions ws h, exactly-one ws h, as-many-solutions ws h) in
+      (rw (h, f), (rw (h, f), λ m g. let e : m ≡ length (systemWords ws) = cc in rw (e, front-over out (systemWords ws) l) shares))

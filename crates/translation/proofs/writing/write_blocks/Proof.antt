@@ -9,6 +9,7 @@ use Rattle.words.specs.Word.{wordAt}
 use Rattle.words.proofs.Reading.{tail-is}
 use Rattle.models.specs.Model.{headed, constraints}
 use Rattle.rules.specs.Translation.{blockOf}
+use Rattle.words.specs.Limit as Limit
 use Rattle.sharing.proofs.Theorem.{never-too-many}
 use Rattle.laying.specs.Part.{blockParts}
 use Rattle.laying.specs.Went.{WentFitting, nothing}
@@ -34,7 +35,7 @@ fits c =
     let m = s .pre .0 in
     omega (arith, c .loop .inv .total, c .loop .inv .same, ap length (blocks-are m), m .seen .sources-counted, s .pre .3)
 
-small : (c : tie.At-loop Inv-loop μ-loop) → c .loop .at ≤ 131072
+small : (c : tie.At-loop Inv-loop μ-loop) → c .loop .at ≤ Limit.rowWords
 small c =
     let s = c .before .before .before in
     let m = s .pre .0 in
