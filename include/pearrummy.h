@@ -1,7 +1,8 @@
 /* The calls of pearrummy for C. Link with target/staticlib/libhost.a, which `rt staticlib host` proves and writes.
  *
  * A list is lent as a pointer and its number of elements; a pointer to an empty list may be null. No call keeps a pointer, and none reads or
- * writes outside what it was lent. The answers are those of the scope document. `Stack` is what a call takes of it, measured and rounded up. */
+ * writes outside what it was lent. A model has at most 8,192 words, a row system at most 262,144. The answers are those of the scope document and the change
+ * requests. `Stack` is what a call takes of it, measured and rounded up. */
 #ifndef PEARRUMMY_H
 #define PEARRUMMY_H
 

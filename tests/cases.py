@@ -85,7 +85,7 @@ def long_system(words, last):
 
 
 def limits():
-    """Cases at the limits of length; their answers follow from document 01 at sight."""
+    """Cases at the limits of length; their answers follow from documents 01 and 02 at sight."""
     yield 'judge_model', long_model(8192), [1] * 16, 0, 'holds'
     yield 'judge_model', long_model(8192), [1] * 15 + [2], 0, 'bound 15'
     yield 'judge_model', long_model(8193), [1] * 16, 0, 'refused 1 0'
@@ -96,10 +96,10 @@ def limits():
     written = 'words ' + ' '.join('%08X' % w for w in rows)
     for room, answer in (len(rows), written), (len(rows) - 1, 'refused 16 0'):
         yield 'translate', model, [], room, answer
-    yield 'translate', above, [], 131072, 'refused 1 0'
+    yield 'translate', above, [], 262144, 'refused 1 0'
     yield 'fill', model, [1] * 16, 16, 'filled' + ' 1' * 16
     yield 'fill', above, [1] * 16, 16, 'refused 1 0'
-    whole = [0x30000000] + long_system(131071, 1)
+    whole = [0x30000000] + long_system(262143, 1)
     rows = sum(w >> 28 == 0xB for w in whole)
     yield 'judge_rows', whole, [0] * 17, 0, f'false {rows - 1}'
     yield 'judge_rows', [0x30000000] + whole, [0] * 18, 0, 'refused 1 0'

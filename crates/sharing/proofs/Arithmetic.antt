@@ -28,13 +28,13 @@ use Rattle.sharing.proofs.Basics.{Sound, Complete, Determined, Exact, a
 
 -- ---- 8, 12 to 14, 31, 32: b is 0 or 1, z := b×x
 
+zero-times : (x : ℤ) → +0 ⊗ x ≡ +0
+zero-times = simp linear (omega arith)
+
 -- a product with 0 or 1 is 0 or the other factor
 pub bit-product : (b x z : ℤ) → In bit b → z ≡ b ⊗ x → (z ≡ +0) ⊎ (z ≡ x)
-bit-product b x z h e = bit-case (to-bit b (h .0) (h .1)) (λ p. inl (e ∙ rw p (nothing x))) (λ p. inr (e ∙ rw p (whole x)))
+bit-product b x z h e = bit-case (to-bit b (h .0) (h .1)) (λ p. inl (e ∙ rw p (zero-times x))) (λ p. inr (e ∙ rw p (whole x)))
   where
-    nothing : (x : ℤ) → +0 ⊗ x ≡ +0
-    nothing = simp linear (omega arith)
-
     whole : (x : ℤ) → +1 ⊗ x ≡ x
     whole = simp linear (omega arith)
 
@@ -80,12 +80,9 @@ pub sign-are : (x : ℤ) (α : Valuation) → In bit (α 0) → α 1 ≡ α 0 �
 unfolding signPick
 sign-are x α h e f g = (picked, (e ∙ ap (λ b. b ⊗ x) picked, tt))
   where
-    nothing : (x : ℤ) → +0 ⊗ x ≡ +0
-    nothing = simp linear (omega arith)
-
     picked : α 0 ≡ bitOf (ltZ x +0)
     picked =
-        bit-case (to-bit (α 0) (h .0) (h .1)) (λ p. p ∙ is-zero (says-lt x +0) (g (e ∙ ap (λ b. b ⊗ x) p ∙ nothing x)))
+        bit-case (to-bit (α 0) (h .0) (h .1)) (λ p. p ∙ is-zero (says-lt x +0) (g (e ∙ ap (λ b. b ⊗ x) p ∙ zero-times x)))
         (λ p. p ∙ is-one (says-lt x +0) (f p))
 
 -- ---- 7: a product stays between the end products of its factors' bounds

@@ -110,7 +110,7 @@ fn answer(head: Head, model: &mut [u32], rows: &mut [u32], values: &mut [i32], f
 // At most a million cases.
 fn main() {
     let mut model = [0u32; 8200];
-    let mut rows = [0u32; 131200];
+    let mut rows = [0u32; 262200];
     let mut values = [0i32; 4200];
     let mut filled = [0i32; 4200];
     let mut left: usize = 1000000;
