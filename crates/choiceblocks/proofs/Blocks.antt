@@ -21,14 +21,15 @@ use Rattle.arguments.proofs.Walk.{getD-listOf}
 use Rattle.rowsystems.specs.Row.{Row, sum=0}
 use Rattle.rules.specs.Block.{Ref, source, aux}
 use Rattle.rules.specs.Parts.{_─_≤0, bits, oneBit, chosen, products, one, nth, places, members}
-use Rattle.rules.specs.Rule.{block, rule, numberElement, variableElement, oneOf, inSet, inSetReified}
+use Rattle.rules.specs.Rule.{block, rule, numberElement, variableElement, firstOnly, oneOf, inSet, inSetReified}
 use Rattle.laying.specs.Part.{blockParts, rowParts}
 use Rattle.laying.specs.Lists.{many, bitAt, belowAt, aboveAt}
 use Rattle.rules.proofs.Lengths.{values-length}
+use Rattle.laying.proofs.Parts.{flatMap-append}
 use Rattle.laying.proofs.Lists.{length-vars, length-nums, bits-parts, weighted-many, below-parts, above-parts}
 use Rattle.extremes.specs.Bounded.{boundsOf}
-use Rattle.choiceblocks.specs.Rows.{numberAt, valueAt, memberAt, oneRow, sumRow, choiceRows, gates, gatedRows, oneOfParts, extremeOf}
-use Rattle.choiceblocks.proofs.OneHot.{many-below, one-row, sum-row, chosen-row, choice-rows, gates-parts, gated-rows}
+use Rattle.choiceblocks.specs.Rows.{numberAt, valueAt, memberAt, oneRow, sumRow, choiceRows, gates, gatedRows, firstAt, oneOfParts, extremeOf}
+use Rattle.choiceblocks.proofs.OneHot.{many-below, one-row, sum-row, chosen-row, choice-rows, gates-parts, gated-rows, first-only-many}
 use Rattle.choiceblocks.proofs.Members.{value-terms, member-terms}
 
 -- the k-th of the places that an index can have: where the element at it stands among the arguments, whose list begins at place 2
@@ -83,19 +84,27 @@ module _ (first : ℕ) where
         (choice-rows first B i (products x (values B) 0 (length (values B)) ++ (chosen one (values B) (length (values B)) c ∷ []))
         ∙ ap (λ ps. choiceRows (B .lower) first (width B) i ++ ps) (gated-rows first ls us args (1 + count (B .lower)) x f (width B) same c [] ∙ append-nil _)))
 
-    -- the parts of the row of each x, then those of the block
-    last-parts : (up : Bool) (m : ℕ) → flatMap (rowParts first) (map (λ x. source x ─ source m ≤0 if up else source m ─ source x ≤0) (vars args 1))
+    -- the parts of the row of each x, those of the rows over later bits, then those of the block
+    order-parts : (up : Bool) (m : ℕ) → flatMap (rowParts first) (map (λ x. source (x if up else m) ─ source (m if up else x) ≤0) (vars args 1))
         ≡ many (belowAt args 2 m if up else aboveAt args m 2) (size args 1)
-    last-parts true m = below-parts first args 1 m
-    last-parts false m = above-parts first args m 1
+    order-parts true m = below-parts first args 1 m
+    order-parts false m = above-parts first args m 1
+
+    first-only-parts : (up : Bool) (m : ℕ) → flatMap (rowParts first) (firstOnly (boundsOf ls us) (λ x. x if up else m) (λ x. m if up else x) (vars args 1) 0)
+        ≡ many (firstAt ls us args 2 m up first (size args 1)) (size args 1 - 1)
+    unfolding vars
+    first-only-parts up m =
+        rw (add-zero first) at (first-only-many first ls us (λ x. x if up else m) (λ x. m if up else x) (λ k. var args (1 + 1 + k)) (size args 1) 0)
 
     pub extreme-parts : (up : Bool) → let m = var args 0 in
-        blockParts first (extremeOf (boundsOf ls us) up m (vars args 1)) ≡ oneOfParts ls us args first ++ many (belowAt args 2 m if up else aboveAt args m 2) (size args 1)
+        blockParts first (extremeOf (boundsOf ls us) up m (vars args 1))
+        ≡ oneOfParts ls us args first ++ (many (belowAt args 2 m if up else aboveAt args m 2) (size args 1) ++ many (firstAt ls us args 2 m up first (size args 1)) (size args 1 - 1))
     unfolding oneOf oneOfParts blockParts flatMap vars
     extreme-parts up =
         ap₂ (λ a b. a ++ b) (gates-parts first ls us args 2 (λ x. x) f n (λ k h. refl))
         (ap₂ (λ a b. a ++ b) (one-row first (listOf f n) ∙ ap (oneRow first) (listOf-length f n))
-        (gated-rows first ls us args 2 (λ x. x) f n (λ k h. refl) (var args 0) (map last (listOf f n)) ∙ ap (λ ps. gatedRows args 2 first n (var args 0) ++ ps) (last-parts up (var args 0))))
+        (gated-rows first ls us args 2 (λ x. x) f n (λ k h. refl) m (order ++ first-only)
+        ∙ ap (λ ps. gatedRows args 2 first n m ++ ps) (flatMap-append (rowParts first) order first-only ∙ ap₂ (λ a b. a ++ b) (order-parts up m) (first-only-parts up m))))
         ∙ ap (λ ps. gates ls us args 2 n ++ ps) (sym (append-assoc (oneRow first n) _ _))
         ∙ sym (append-assoc (gates ls us args 2 n) _ _)
       where
@@ -105,8 +114,14 @@ module _ (first : ℕ) where
         n : ℕ
         n = size args 1
 
-        last : ℕ → Row Ref
-        last x = source x ─ source (var args 0) ≤0 if up else source (var args 0) ─ source x ≤0
+        m : ℕ
+        m = var args 0
+
+        order : List (Row Ref)
+        order = map (λ x. source (x if up else m) ─ source (m if up else x) ≤0) (listOf f n)
+
+        first-only : List (Row Ref)
+        first-only = firstOnly (boundsOf ls us) (λ x. x if up else m) (λ x. m if up else x) (listOf f n) 0
 
   -- the members of a set, in a list that reads as they do
   module _ (β : ℕ → Bounds) (S out : List ℤ) (x : ℕ) (same : (k : ℕ) → getD out k +0 ≡ getD (members S (β x)) k +0) where

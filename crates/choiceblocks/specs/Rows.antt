@@ -1,19 +1,18 @@
 -- What the loops lay, turn by turn, and the rows over one-hot bits.
 use mathlib.Core.Bool.{Bool}
 use mathlib.Core.List.{List, [], _∷_, _++_}
-use Prim.Native.Nat.{ℕ, _+_}
+use Prim.Native.Nat.{ℕ, _+_, _-_}
 use lib.IntN.{ℤ}
 use lib.ListN.{getD}
 use Rattle.integers.specs.Choice.{_if_else_}
 use Rattle.integers.specs.declared.Bounds.{Bounds}
-use Rattle.integers.specs.Number.{_⊖_, minZ, maxZ, count, +0, +1, -1}
+use Rattle.integers.specs.Number.{_⊕_, _⊖_, minZ, maxZ, count, +0, +1, -1}
 use Rattle.words.specs.Kind as Kind
 use Rattle.models.specs.Model.{var, num, size}
-use Rattle.rules.specs.Block.{source, Block}
-use Rattle.rules.specs.Parts.{_─_≤0}
+use Rattle.rules.specs.Block.{Block}
 use Rattle.rules.specs.Rule.{oneOf}
 use Rattle.laying.specs.Part.{Part, bound, head, term, constant}
-use Rattle.laying.specs.Lists.{many, oneAt, labelAt, bitAt, productAt}
+use Rattle.laying.specs.Lists.{many, sameAt, labelAt, bitAt, productAt}
 
 -- Z(x), the variables x from a place on
 abbrev pub zeroAt : List ℤ → List ℤ → List ℕ → ℕ → ℕ → List Part
@@ -32,7 +31,7 @@ memberAt vs from v k = term +1 (v + count (getD vs k +0 ⊖ from)) ∷ []
 
 -- Σ − 1 = 0 over n consecutive variables; Σ − x = 0 over n terms
 unfoldable pub oneRow : ℕ → ℕ → List Part
-oneRow v n = head Kind.equal n ∷ (many (oneAt v) n ++ (constant -1 ∷ []))
+oneRow v n = head Kind.equal n ∷ (many (sameAt +1 v) n ++ (constant -1 ∷ []))
 
 unfoldable pub sumRow : (ℕ → List Part) → ℕ → ℕ → List Part
 sumRow f n x = head Kind.equal (n + 1) ∷ (many f n ++ (term -1 x ∷ constant +0 ∷ []))
@@ -46,7 +45,19 @@ unfoldable pub gates : List ℤ → List ℤ → List ℕ → ℕ → ℕ → Li
 gates ls us args base n = many bitAt n ++ many (zeroAt ls us args base) n
 
 unfoldable pub gatedRows : List ℕ → ℕ → ℕ → ℕ → ℕ → List Part
-gatedRows args base v n m = many (productAt args base (v + n) v) n ++ sumRow (oneAt (v + n)) n m
+gatedRows args base v n m = many (productAt args base (v + n) v) n ++ sumRow (sameAt +1 (v + n)) n m
+
+-- x − y + K×Σ + 1 − K ≤ 0 over n consecutive variables, K = hi x − lo y + 1
+unfoldable pub laterRow : List ℤ → List ℤ → ℕ → ℕ → ℕ → ℕ → List Part
+laterRow ls us x y v n =
+    let K = getD us x +0 ⊖ getD ls y +0 ⊕ +1 in
+    head Kind.atMost (n + 2) ∷ term +1 x ∷ term -1 y ∷ (many (sameAt K v) n ++ (constant (+1 ⊖ K) ∷ []))
+
+-- such a row of x and m or of m and x, the variables x from a place on, over the bits after the one of x; the n bits from v on
+abbrev pub firstAt : List ℤ → List ℤ → List ℕ → ℕ → ℕ → Bool → ℕ → ℕ → ℕ → List Part
+firstAt ls us args base m up v n k =
+    let x = var args (base + k) in
+    laterRow ls us (x if up else m) (m if up else x) (v + (k + 1)) (n - (k + 1))
 
 -- 26 and 33 with the arguments' m and list: what stands before the row of each x; the block, with x − m ≤ 0 or m − x ≤ 0
 unfoldable pub oneOfParts : List ℤ → List ℤ → List ℕ → ℕ → List Part
@@ -55,4 +66,4 @@ oneOfParts ls us args first =
     gates ls us args 2 n ++ (oneRow first n ++ gatedRows args 2 first n (var args 0))
 
 abbrev pub extremeOf : (ℕ → Bounds) → Bool → ℕ → List ℕ → Block
-extremeOf β up m xs = oneOf β (λ x. source x ─ source m ≤0 if up else source m ─ source x ≤0) m xs
+extremeOf β up m xs = oneOf β (λ x. x if up else m) (λ x. m if up else x) m xs

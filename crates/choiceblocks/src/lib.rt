@@ -16,11 +16,13 @@ ghost use Rattle.extremes.specs.Bounded.{boundsOf, Bounded};
 ghost use Rattle.choiceblocks.specs.Listed.{Listed};
 ghost use Rattle.choiceblocks.specs.Rows.{oneOfParts, extremeOf};
 use crate::rows::lay_choice;
+use crate::rows::lay_first_only;
 use crate::rows::lay_gated;
 use crate::rows::lay_gates;
 use crate::rows::lay_member_row;
 use crate::rows::lay_number_row;
 use crate::rows::lay_one_bit;
+use crate::rows::lay_order;
 use crate::rows::lay_value_row;
 use arguments::count_of;
 use arguments::past_at;
@@ -32,8 +34,6 @@ use extremes::last_place;
 use extremes::members;
 use extremes::width_of;
 use laying::Laid;
-use laying::lay_above;
-use laying::lay_below;
 use laying::lay_bits;
 
 mod rows;
@@ -149,16 +149,14 @@ pub fn array_int_extreme(
     first: usize,
     up: bool,
 ) -> Laid
-    requires { ⌜ (total s < 1000000000) × (first < 10000) ⌝ }
+    requires { ⌜ (total s < 1000000000) × (first < 10000) × Bounded (now ls) × Bounded (now us) ⌝ }
     ensures { λ r. ⌜ Went s r (now (out .entry)) (now (out .exit)) (blockParts first (extremeOf (boundsOf (now (ls .entry)) (now (us .entry))) up (var (now (args .entry)) 0) (vars (now (args .entry)) 1))) × Near 1000000 s r ⌝ }
 {
     let m = var_at(args, 0);
     let n = size_at(args, 1);
     let t = lay_one_of(out, s, args, ls, us, first);
-    if up {
-        return lay_below(out, t, args, 2, m, n);
-    }
-    lay_above(out, t, args, m, 2, n)
+    let u = lay_order(out, t, args, 2, m, n, up);
+    lay_first_only(out, u, args, 2, m, up, first, n, ls, us)
 }
 
 // The block of set_in.

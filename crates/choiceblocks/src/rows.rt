@@ -2,33 +2,38 @@
 ghost use mathlib.Core.Path.{_≡_};
 ghost use mathlib.Core.Bool.{true};
 ghost use mathlib.Core.List.{[], _∷_};
-ghost use Prim.Native.Nat.{ℕ, _+_, _<_, _≤_};
+ghost use Prim.Native.Nat.{ℕ, _+_, _-_, _<_, _≤_};
 ghost use lib.IntN.{natAbs};
 ghost use lib.ListN.{getD};
-ghost use Rattle.integers.specs.Number.{+0, -1};
+ghost use Rattle.integers.specs.Choice.{_if_else_};
+ghost use Rattle.integers.specs.Number.{+0, +1, -1};
 ghost use Rattle.integers.specs.Lists.{all, listOf};
 ghost use Rattle.words.specs.Word.{inRange};
 ghost use Rattle.laying.specs.Part.{term, constant, numbersIn};
-ghost use Rattle.laying.specs.Lists.{many, oneAt, labelAt};
+ghost use Rattle.laying.specs.Lists.{many, sameAt, labelAt, belowAt, aboveAt};
 ghost use Rattle.laying.specs.Went.{Went, Near, total};
-ghost use Rattle.choiceblocks.specs.Rows.{zeroAt, numberAt, valueAt, memberAt, oneRow, sumRow, choiceRows, gates, gatedRows};
+ghost use Rattle.extremes.specs.Bounded.{Bounded};
+ghost use Rattle.choiceblocks.specs.Rows.{zeroAt, numberAt, valueAt, memberAt, oneRow, sumRow, choiceRows, gates, gatedRows, laterRow, firstAt};
 use arguments::count_of;
 use arguments::num_at;
 use arguments::test::both;
 use arguments::var_at;
 use extremes::bound_at;
+use extremes::gap_plus;
 use extremes::zero_lower;
 use extremes::zero_upper;
 use integers::minus;
 use laying::Laid;
 use laying::counted;
+use laying::lay_above;
+use laying::lay_below;
 use laying::lay_bits;
 use laying::lay_bound;
 use laying::lay_constant;
 use laying::lay_head;
 use laying::lay_labels;
-use laying::lay_ones;
 use laying::lay_products;
+use laying::lay_same;
 use laying::lay_term;
 use laying::numbers_in_range;
 use words::in_range;
@@ -160,17 +165,17 @@ pub fn lay_one_bit(out: &mut [u32], s: Laid, v: usize, n: usize) -> Laid
     ensures { λ r. ⌜ Went s r (now (out .entry)) (now (out .exit)) (oneRow v n) × Near 2000 s r ⌝ }
 {
     let t = lay_head(out, s, kind::EQUAL, n);
-    let u = lay_ones(out, t, v, n);
+    let u = lay_same(out, t, 1, v, n);
     lay_constant(out, u, -1)
 }
 
 // Σz − m = 0 over n consecutive variables.
 fn lay_one_row(out: &mut [u32], s: Laid, v: usize, n: usize, m: usize) -> Laid
     requires { ⌜ (total s < 800000000000) × (n ≤ 66) × (v < 1000000000) ⌝ }
-    ensures { λ r. ⌜ Went s r (now (out .entry)) (now (out .exit)) (sumRow (oneAt v) n m) × Near 2000 s r ⌝ }
+    ensures { λ r. ⌜ Went s r (now (out .entry)) (now (out .exit)) (sumRow (sameAt +1 v) n m) × Near 2000 s r ⌝ }
 {
     let t = lay_head(out, s, kind::EQUAL, n + 1);
-    let u = lay_ones(out, t, v, n);
+    let u = lay_same(out, t, 1, v, n);
     lay_last(out, u, m)
 }
 
@@ -271,4 +276,93 @@ pub fn lay_gated(
 {
     let t = lay_products(out, s, args, base, v + n, v, n);
     lay_one_row(out, t, v + n, n, m)
+}
+
+// x − m ≤ 0 for each of n variables x from place base on; m − x ≤ 0, where it is not `up`.
+pub fn lay_order(
+    out: &mut [u32],
+    s: Laid,
+    args: &[u32],
+    base: usize,
+    m: usize,
+    n: usize,
+    up: bool,
+) -> Laid
+    requires { ⌜ (total s < 700000000000) × (n ≤ 66) × (base < 1000000000000) ⌝ }
+    ensures { λ r. ⌜ Went s r (now (out .entry)) (now (out .exit)) (many (belowAt (now (args .entry)) base m if up else aboveAt (now (args .entry)) m base) n) × Near 200000 s r ⌝ }
+{
+    if up {
+        return lay_below(out, s, args, base, m, n);
+    }
+    lay_above(out, s, args, m, base, n)
+}
+
+// x − y + 1 ≤ 0 where one of n consecutive bits is 1: x − y + K×(their sum) + 1 − K ≤ 0, K = hi x − lo y + 1.
+fn lay_later(
+    out: &mut [u32],
+    s: Laid,
+    x: usize,
+    y: usize,
+    v: usize,
+    n: usize,
+    ls: &[i64],
+    us: &[i64],
+) -> Laid
+    requires { ⌜ (total s < 800000000000) × (n ≤ 66) × (v < 1000000000) × Bounded (now ls) × Bounded (now us) ⌝ }
+    ensures { λ r. ⌜ Went s r (now (out .entry)) (now (out .exit)) (laterRow (now (ls .entry)) (now (us .entry)) x y v n) × Near 2000 s r ⌝ }
+{
+    let p = gap_plus(ls, us, x, y, 1);
+    let t = lay_head(out, s, kind::AT_MOST, n + 2);
+    let a = lay_term(out, t, 1, x);
+    let b = lay_term(out, a, -1, y);
+    let c = lay_same(out, b, p, v, n);
+    lay_constant(out, c, minus(1, p))
+}
+
+// The row of x and m; of m and x, where it is not `up`.
+fn lay_later_of(
+    out: &mut [u32],
+    s: Laid,
+    x: usize,
+    m: usize,
+    up: bool,
+    v: usize,
+    n: usize,
+    ls: &[i64],
+    us: &[i64],
+) -> Laid
+    requires { ⌜ (total s < 800000000000) × (n ≤ 66) × (v < 1000000000) × Bounded (now ls) × Bounded (now us) ⌝ }
+    ensures { λ r. ⌜ Went s r (now (out .entry)) (now (out .exit)) (laterRow (now (ls .entry)) (now (us .entry)) (x if up else m) (m if up else x) v n) × Near 2000 s r ⌝ }
+{
+    if up {
+        return lay_later(out, s, x, m, v, n, ls, us);
+    }
+    lay_later(out, s, m, x, v, n, ls, us)
+}
+
+// For each but the last of n variables from place base on the row over the bits after its own, the bits from v on.
+pub fn lay_first_only(
+    out: &mut [u32],
+    s: Laid,
+    args: &[u32],
+    base: usize,
+    m: usize,
+    up: bool,
+    v: usize,
+    n: usize,
+    ls: &[i64],
+    us: &[i64],
+) -> Laid
+    requires { ⌜ (total s < 700000000000) × (n ≤ 66) × (base < 1000000000000) × (v < 100000000) × Bounded (now ls) × Bounded (now us) ⌝ }
+    ensures { λ r. ⌜ Went s r (now (out .entry)) (now (out .exit)) (many (firstAt (now (ls .entry)) (now (us .entry)) (now (args .entry)) base m up v n) (n - 1)) × Near 200000 s r ⌝ }
+{
+    let mut t = s;
+    let mut k = 0;
+    while k + 1 < n {
+        let x = var_at(args, base + k);
+        let later = k + 1;
+        t = lay_later_of(out, t, x, m, up, v + later, n - later, ls, us);
+        k += 1;
+    }
+    t
 }

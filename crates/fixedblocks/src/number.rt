@@ -18,6 +18,7 @@ use extremes::zero_lower;
 use extremes::zero_upper;
 use laying::Laid;
 use laying::lay_bound;
+use laying::lay_only_negative;
 use laying::lay_row;
 use laying::lay_times;
 use words::kind;
@@ -53,7 +54,7 @@ fn lay_zero_bound(out: &mut [u32], s: Laid, x: usize, ls: &[i64], us: &[i64]) ->
     lay_bound(out, s, lower, upper)
 }
 
-// 8 int_abs: y is x where the bit is 0 and −x where it is 1, and not negative.
+// 8 int_abs: y is x where the bit is 0 and −x where it is 1, and not negative; the bit is 1 only where x is negative.
 pub fn int_abs(
     out: &mut [u32],
     s: Laid,
@@ -63,7 +64,7 @@ pub fn int_abs(
     us: &[i64],
     first: usize,
 ) -> Laid
-    requires { ⌜ (total s < 1000000000) × (first < 10000) ⌝ }
+    requires { ⌜ (total s < 1000000000) × (first < 10000) × Bounded (now us) ⌝ }
     ensures { λ r. ⌜ Went s r (now (out .entry)) (now (out .exit)) (blockParts first (rule (boundsOf (now (ls .entry)) (now (us .entry))) (int-abs x y))) × Near 10000 s r ⌝ }
 {
     let t = lay_bound(out, s, 0, 1);
@@ -73,10 +74,11 @@ pub fn int_abs(
     let w = three_terms(out, v, kind::EQUAL, y, -1, x, 2, z, 0);
     let xs = [y];
     let cs = [-1];
-    lay_row(out, w, kind::AT_MOST, &xs, &cs, 0)
+    let n = lay_row(out, w, kind::AT_MOST, &xs, &cs, 0);
+    lay_only_negative(out, n, x, first, bound_at(us, x))
 }
 
-// 9 int_max and 29 int_min: x is at most y and u at most v; y is at most x where the auxiliary is 0, v at most u where it is 1.
+// 9 int_max and 29 int_min: x is at most y and u at most v; y is at most x where the auxiliary is 0, v at most u where it is 1, and there x is below y.
 pub fn touching(
     out: &mut [u32],
     s: Laid,
@@ -89,11 +91,12 @@ pub fn touching(
     first: usize,
 ) -> Laid
     requires { ⌜ (total s < 1000000000) × Bounded (now ls) × Bounded (now us) ⌝ }
-    ensures { λ r. ⌜ Went s r (now (out .entry)) (now (out .exit)) (blockParts first (touching (boundsOf (now (ls .entry)) (now (us .entry))) x y u v)) × Near 10000 s r ⌝ }
+    ensures { λ r. ⌜ Went s r (now (out .entry)) (now (out .exit)) (blockParts first (touching (boundsOf (now (ls .entry)) (now (us .entry))) x y u v)) × Near 20000 s r ⌝ }
 {
     let bit = lay_bound(out, s, 0, 1);
     let one = two_terms(out, bit, kind::AT_MOST, x, -1, y, 0);
     let two = two_terms(out, one, kind::AT_MOST, u, -1, v, 0);
     let three = where_zero(out, two, first, y, x, 0, ls, us);
-    where_one(out, three, first, v, u, 0, ls, us)
+    let four = where_one(out, three, first, v, u, 0, ls, us);
+    where_one(out, four, first, x, y, 1, ls, us)
 }

@@ -17,7 +17,7 @@ use Rattle.words.specs.Word.{inRange}
 use Rattle.words.specs.Overlay.{overlay}
 use Rattle.words.proofs.Word.{says-range}
 use Rattle.laying.specs.Part.{Part, bound, head, term, constant, times, partWords, partNumbers, partAuxiliaries, partRows, wordsIn, numbersIn, auxiliariesIn, rowsIn}
-use Rattle.laying.specs.Lists.{many, termAt, rowOf, bitAt, oneAt, labelAt}
+use Rattle.laying.specs.Lists.{many, termAt, rowOf, bitAt, labelAt}
 use Rattle.laying.specs.Went.{Went, Counted, Near}
 use Rattle.laying.specs.declared.Laid.{Laid}
 use Rattle.laying.proofs.Parts.{words-append, numbers-append, auxiliaries-append, rows-append, all-append, and-true, many-more}
@@ -76,9 +76,9 @@ pub sized-bit : (k : ℕ) → Sized (bitAt k) 2 1 0 true
 unfolding within numbersIn flatMap all partNumbers
 sized-bit k = sized-bound +0 +1
 
-pub sized-one : (v k : ℕ) → Sized (oneAt v k) 2 0 0 true
+pub sized-one : (v : ℕ) → Sized (term +1 v ∷ []) 2 0 0 true
 unfolding within
-sized-one v k = sized-term +1 (v + k) refl
+sized-one v = sized-term +1 v refl
 
 -- a number between two of the range
 between : (from : ℤ) (k n : ℕ) → k < n → (Limit.lowest ⊑ from) × (from ⊑ Limit.highest) → (Limit.lowest ⊑ from ⊕ pos n) × (from ⊕ pos n ⊑ Limit.highest) →

@@ -15,9 +15,9 @@ use Rattle.words.specs.Kind as Kind
 use Rattle.models.specs.Model.{size, past, vars, nums, terms}
 use Rattle.rowsystems.specs.Row.{Row, sum≤0, sum=0, renameTerms}
 use Rattle.rules.specs.Block.{Ref, source, numbered}
-use Rattle.rules.specs.Parts.{_─_≤0, sources, each, bits, weighted, one, products}
+use Rattle.rules.specs.Parts.{_─_≤0, sources, each, bits, weighted, products}
 use Rattle.laying.specs.Part.{bound, head, term, constant, times, boundParts, termParts, rowParts}
-use Rattle.laying.specs.Lists.{many, termAt, rowOf, sumAt, eachAt, oneAt, labelAt, bitAt, productAt, belowAt, aboveAt}
+use Rattle.laying.specs.Lists.{many, termAt, rowOf, sumAt, eachAt, sameAt, labelAt, bitAt, productAt, belowAt, aboveAt}
 use Rattle.laying.proofs.Parts.{many-same}
 
 -- ---- how long they are
@@ -90,12 +90,12 @@ module _ (first : ℕ) where
   unfolding values
   labels-parts B k = weighted-many (λ j. j) _ (width B) k
 
-  pub ones-parts : {A : Type 0} (ls : List A) (k : ℕ) → termParts first (weighted one ls k) ≡ many (oneAt (first + k)) (length ls)
+  pub same-parts : {A : Type 0} (c : ℤ) (ls : List A) (k : ℕ) → termParts first (weighted (λ l. c) ls k) ≡ many (sameAt c (first + k)) (length ls)
   unfolding termParts weighted numbered many
-  ones-parts [] k = refl
-  ones-parts (l ∷ ls) k =
-      ap₂ (λ (v : ℕ) ps. term +1 v ∷ ps) (here first k)
-      (ones-parts ls (suc k) ∙ many-same _ _ (λ j. ap (λ (v : ℕ). term +1 v ∷ []) (further first k j)) (length ls))
+  same-parts c [] k = refl
+  same-parts c (l ∷ ls) k =
+      ap₂ (λ (v : ℕ) ps. term c v ∷ ps) (here first k)
+      (same-parts c ls (suc k) ∙ many-same _ _ (λ j. ap (λ (v : ℕ). term c v ∷ []) (further first k j)) (length ls))
 
   -- ---- products
 

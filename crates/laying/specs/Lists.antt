@@ -27,9 +27,9 @@ sumAt args a x k = term (num args (a + k)) (var args (x + k)) ∷ []
 abbrev pub eachAt : List ℕ → ℤ → ℕ → ℕ → List Part
 eachAt args c x k = term c (var args (x + k)) ∷ []
 
--- over consecutive variables: coefficient 1; consecutive coefficients
-abbrev pub oneAt : ℕ → ℕ → List Part
-oneAt v k = term +1 (v + k) ∷ []
+-- over consecutive variables: one coefficient for all; consecutive coefficients
+abbrev pub sameAt : ℤ → ℕ → ℕ → List Part
+sameAt c v k = term c (v + k) ∷ []
 
 abbrev pub labelAt : ℤ → ℕ → ℕ → List Part
 labelAt from v k = term (from ⊕ pos k) (v + k) ∷ []

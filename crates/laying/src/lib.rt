@@ -4,11 +4,13 @@ ghost use mathlib.Core.List.{[], _∷_};
 ghost use Prim.Native.Nat.{_+_, _<_, _≤_};
 ghost use lib.IntN.{natAbs};
 ghost use lib.ListN.{length};
+ghost use Rattle.integers.specs.Number.{_⊕_, neg, +1};
 ghost use Rattle.integers.specs.Lists.{all, listOf};
+ghost use Rattle.words.specs.Kind as Kind;
 ghost use Rattle.words.specs.Word.{inRange};
 ghost use Rattle.models.specs.Model.{num, size, past};
 ghost use Rattle.laying.specs.Part.{bound, head, term, constant, times};
-ghost use Rattle.laying.specs.Lists.{many, rowOf, termAt, sumAt, eachAt, oneAt, labelAt, bitAt, productAt, belowAt, aboveAt};
+ghost use Rattle.laying.specs.Lists.{many, rowOf, termAt, sumAt, eachAt, sameAt, labelAt, bitAt, productAt, belowAt, aboveAt};
 ghost use Rattle.laying.specs.Went.{Went, Over, Counted, Near, total, nothing};
 use arguments::num_at;
 use arguments::past_at;
@@ -16,6 +18,7 @@ use arguments::size_at;
 use arguments::test::both;
 use arguments::test::either;
 use arguments::var_at;
+use integers::opposite;
 use integers::plus;
 use words::in_range;
 use words::kind;
@@ -174,6 +177,16 @@ pub fn lay_row(out: &mut [u32], s: Laid, kind: u32, xs: &[usize], cs: &[i64], c:
     lay_constant(out, t, c)
 }
 
+// For the sign bit b of x, which is at most u: x + (u+1)×b − u ≤ 0.
+pub fn lay_only_negative(out: &mut [u32], s: Laid, x: usize, b: usize, u: i64) -> Laid
+    requires { ⌜ (total s < 800000000000) × (natAbs u ≤ 1152921504606846976) ⌝ }
+    ensures { λ r. ⌜ Went s r (now (out .entry)) (now (out .exit)) (rowOf Kind.atMost (x ∷ b ∷ []) (+1 ∷ (u ⊕ +1) ∷ []) (neg u)) × Near 2000 s r ⌝ }
+{
+    let xs = [x, b];
+    let cs = [1, plus(u, 1)];
+    lay_row(out, s, kind::AT_MOST, &xs, &cs, opposite(u))
+}
+
 // Whether n numbers from a place on are in the range.
 pub fn numbers_in_range(args: &[u32], base: usize, n: usize) -> bool
     requires { ⌜ (n ≤ 66) × (base < 1000000000001) ⌝ }
@@ -242,18 +255,18 @@ pub fn lay_bits(out: &mut [u32], s: Laid, n: usize) -> Laid
     t
 }
 
-// Σ of n consecutive variables from v on.
-pub fn lay_ones(out: &mut [u32], s: Laid, v: usize, n: usize) -> Laid
+// c × each of n consecutive variables from v on.
+pub fn lay_same(out: &mut [u32], s: Laid, c: i64, v: usize, n: usize) -> Laid
     requires { ⌜ (total s < 900000000000) × (n ≤ 66) × (v < 1000000000000) ⌝ }
-    ensures { λ r. ⌜ Went s r (now (out .entry)) (now (out .exit)) (many (oneAt v) n) × Near 1000 s r ⌝ }
+    ensures { λ r. ⌜ Went s r (now (out .entry)) (now (out .exit)) (many (sameAt c v) n) × Near 1000 s r ⌝ }
 {
-    if out.len() <= s.words {
+    if both(out.len() <= s.words, in_range(c)) {
         return counted(s, 2 * n, 0, 0, true);
     }
     let mut t = s;
     let mut k = 0;
     while k < n {
-        t = lay_term(out, t, 1, v + k);
+        t = lay_term(out, t, c, v + k);
         k += 1;
     }
     t

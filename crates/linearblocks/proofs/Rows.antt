@@ -2,20 +2,23 @@
 use mathlib.Core.Path.{_≡_, refl, sym, _∙_}
 use mathlib.Core.Bool.{Bool}
 use mathlib.Core.List.{List, [], _∷_, _++_, append-assoc, append-nil, flatMap}
-use Prim.Native.Nat.{ℕ}
+use Prim.Native.Nat.{ℕ, _+_}
+use native.Mathlib.Nat.{add-zero}
 use lib.IntN.{ℤ}
 use lib.ListN.{length}
 use Rattle.integers.specs.Lists.{listOf}
-use Rattle.integers.specs.Number.{+0, +1, -1}
+use Rattle.integers.specs.Number.{_⊕_, neg, +0, +1, -1}
 use Rattle.integers.specs.Terms.{Term, _·_}
 use Rattle.integers.specs.declared.Bounds.{Bounds}
+use Rattle.words.specs.Kind as Kind
 use Rattle.words.specs.Word.{payload, signed, wordAt}
 use Rattle.models.specs.Model.{var, num, size, past, terms, pastTerms}
 use Rattle.rowsystems.specs.Row.{Row}
-use Rattle.rules.specs.Block.{Ref, Block, numbered}
-use Rattle.rules.specs.Rule.{block, zeroReified}
+use Rattle.rules.specs.Block.{Ref, aux, Block, numbered}
+use Rattle.rules.specs.Rule.{block, onlyNegative, zeroReified}
 use Rattle.linearsums.specs.Sum.{linearSum, equalSum}
 use Rattle.laying.specs.Part.{Part, head, term, constant, boundParts, termParts, rowParts, blockParts}
+use Rattle.laying.specs.Lists.{many, rowOf}
 use Rattle.laying.specs.Went.{Went}
 use Rattle.laying.specs.declared.Laid.{Laid}
 use Rattle.laying.proofs.Parts.{flatMap-append, went-then}
@@ -43,6 +46,11 @@ module _ (first : ℕ) where
       termParts first (ts ++ (t ∷ [])) ≡ ps ++ (term (t .coefficient) (numbered first (t .variable)) ∷ [])
   unfolding termParts
   last-term ts t e = terms-append first ts (t ∷ []) ∙ rw e
+
+  -- the row of the sign bit
+  pub sign-row : (u : ℤ) → rowOf Kind.atMost (first ∷ (first + 1) ∷ []) (+1 ∷ (u ⊕ +1) ∷ []) (neg u) ≡ flatMap (rowParts first) (onlyNegative (aux 0) (aux 1) u ∷ [])
+  unfolding onlyNegative flatMap rowParts termParts numbered rowOf many
+  sign-row u = rw (add-zero first)
 
 -- the words that `two_reif` lends for its three variables
 pub two-terms : (β : ℕ → Bounds) (equal : Bool) (a b r : ℕ) →

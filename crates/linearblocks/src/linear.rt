@@ -20,6 +20,7 @@ use integers::Bounds;
 use integers::minus;
 use integers::opposite;
 use laying::Laid;
+use laying::lay_only_negative;
 use laying::lay_row;
 use words::kind;
 use words::word_at;
@@ -40,7 +41,7 @@ pub fn int_lin_le(out: &mut [u32], s: Laid, args: &[u32]) -> Laid
     lay_sum(out, s, kind::AT_MOST, args)
 }
 
-// int_lin_ne: x in L..U, b, z in Z(x): Σ−x−c=0; z:=b×x; −x+2×z+1≤0.
+// int_lin_ne: x in L..U, b, z in Z(x): Σ−x−c=0; z:=b×x; −x+2×z+1≤0; x+(U+1)×b−U≤0.
 pub fn int_lin_ne(out: &mut [u32], s: Laid, args: &[u32], sum: Bounds, first: usize) -> Laid
     requires { ⌜ (total s < 1000000000) × (first < 10000) × Fits sum ⌝ }
     ensures { λ r. ⌜ ((β : ℕ → Bounds) → sum ≡ linearSum β (now (args .entry)) → Went s r (now (out .entry)) (now (out .exit)) (blockParts first (rule β (linear int-lin-ne (now (args .entry)))))) × Near 1000000 s r ⌝ }
@@ -50,7 +51,8 @@ pub fn int_lin_ne(out: &mut [u32], s: Laid, args: &[u32], sum: Bounds, first: us
     let t = lay_split(out, s, args, lower, upper, first);
     let xs = [first, first + 2];
     let cs = [-1, 2];
-    lay_row(out, t, kind::AT_MOST, &xs, &cs, 1)
+    let u = lay_row(out, t, kind::AT_MOST, &xs, &cs, 1);
+    lay_only_negative(out, u, first, first + 1, upper)
 }
 
 // x−2×z+p×r+q≤0; −x+2×z+u×r+v≤0, x and z from `first` on.
@@ -86,7 +88,7 @@ fn lay_zero(out: &mut [u32], s: Laid, w: i64, r: usize, first: usize, equal: boo
     lay_size(out, s, r, less, 0, 1, 0, first)
 }
 
-// int_lin_eq_reif: the auxiliaries and the first two rows of int_lin_ne; two rows with W=max(|L|,|U|). int_lin_ne_reif, where it is not `equal`.
+// int_lin_eq_reif: the auxiliaries, the first two rows and the last one of int_lin_ne; before that two rows with W=max(|L|,|U|). int_lin_ne_reif, where it is not `equal`.
 pub fn zero_reif(
     out: &mut [u32],
     s: Laid,
@@ -103,7 +105,8 @@ pub fn zero_reif(
     let w = larger_size(lower, upper);
     let r = var_at(args, past_terms_at(args, 0) + 1);
     let t = lay_split(out, s, args, lower, upper, first);
-    lay_zero(out, t, w, r, first, equal)
+    let u = lay_zero(out, t, w, r, first, equal);
+    lay_only_negative(out, u, first, first + 1, upper)
 }
 
 // int_eq_reif: int_lin_eq_reif of the two terms 1×a and −1×b, with the constant 0. int_ne_reif, where it is not `equal`.

@@ -23,7 +23,7 @@ abbrev μ-loop : tie.MeasureT-loop
 μ-loop out₀ vs from v n t₀ k₀ out t k = n - k
 
 returns : tie.Need-returns Inv-loop μ-loop
-returns c = many-counted 2 0 0 1000 (λ k h. sized-one _ _) (omega arith, omega arith, omega arith, omega arith) (c .before .if1 .taken) (c .counted .ensures)
+returns c = many-counted 2 0 0 1000 (λ k h. sized-one _) (omega arith, omega arith, omega arith, omega arith) (c .before .if1 .taken) (c .counted .ensures)
 
 loop-holds : tie.Need-loop-holds Inv-loop μ-loop
 loop-holds c = begun 10 _ _ _ _

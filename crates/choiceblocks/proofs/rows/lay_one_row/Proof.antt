@@ -9,10 +9,10 @@ use Rattle.choiceblocks.proofs.rows.lay_one_row.Tie as tie
 returns : tie.Need-returns
 unfolding sumRow
 returns c =
-    let at-lay-ones = c .before .before .before .before .before .before in
-    let at-lay-head = at-lay-ones .before .before .before .before in
+    let at-lay-same = c .before .before .before .before .before .before in
+    let at-lay-head = at-lay-same .before .before .before .before in
     let a = at-lay-head .lay-head .ensures in
-    let b = at-lay-ones .lay-ones .ensures in
+    let b = at-lay-same .lay-same .ensures in
     let d = c .before .before .lay-last .ensures in
     (went-then (a .0) (went-then (b .0) (d .0)), omega (arith, a .1, b .1, d .1))
 

@@ -1,4 +1,4 @@
--- Two rows more after the shared part.
+-- Three rows more after the shared part.
 use mathlib.Core.Path.{ap, _∙_}
 use native.Mathlib.Omega.{arith}
 use borrow.Author.Needs.{needs}
@@ -7,9 +7,10 @@ use Rattle.integers.proofs.Fits.{back}
 use Rattle.models.specs.Model.{past, pastTerms}
 use Rattle.arguments.proofs.Size.{read, size-le}
 use Rattle.rules.specs.Rule.{linked, signed, zeroReified}
+use Rattle.laying.proofs.Parts.{went-as}
 use Rattle.linearsums.specs.Sum.{linearSum}
 use Rattle.linearblocks.specs.Rows.{link, split}
-use Rattle.linearblocks.proofs.Rows.{rows-then}
+use Rattle.linearblocks.proofs.Rows.{rows-then, sign-row}
 use Rattle.linearblocks.proofs.linear.zero_reif.Statement.{statement}
 use Rattle.linearblocks.proofs.linear.zero_reif.Tie as tie
 
@@ -22,18 +23,28 @@ add-var-at : tie.Need-add-var-at
 unfolding past pastTerms
 add-var-at c = rw (c .past-terms-at .ensures) (omega (arith, size-le (c .before .before .before .before .before .before .args .args .now) 0))
 
+lay-only-negative-requires : tie.Need-lay-only-negative-requires
+lay-only-negative-requires c κs =
+    let s = c .before .before .before .before .before .before .before .before .before .before .before .before .before .before .before .before in
+    let upper = back (s .args .sum .upper) (c .before .before .before .before .before .before .before .before .before .before .before .before .struct-told2 .given .1 .0 .1) in
+    (omega (arith, s .pre .0, c .before .before .before .before .before .before .before .lay-split .ensures .1, c .before .before .before .lay-zero .ensures .1), rw upper (s .pre .2 .1))
+
 returns : tie.Need-returns
 unfolding zeroReified signed linked split link linearSum
 returns c =
-    let s = c .before .before .before .before .before .before .before .before .before .before .before .before .before .before .before in
-    let struct-told = c .before .before .before .before .before .before .before .before .before .before .before .before .struct-told in
-    let struct-told2 = c .before .before .before .before .before .before .before .before .before .before .before .struct-told2 in
-    let larger-size = c .before .before .before .before .before .before .before .before .before .before .larger-size in
-    let past-terms-at = c .before .before .before .before .before .before .before .before .before .past-terms-at in
-    let var-at = c .before .before .before .before .before .before .before .before .var-at in
-    let lay-split = c .before .before .before .before .before .before .lay-split in
-    let lay-zero = c .before .before .lay-zero in
-    let a = s .args in (λ β e. let l = back (a .sum .lower) (struct-told .given .0 .1) ∙ ap (λ (S : Bounds). S .lower) e in let u = back (a .sum .upper) (struct-told2 .given .1 .0 .1) ∙ ap (λ (S : Bounds). S .upper) e in rows-then (a .first) _ _ (rw (l, u) at (lay-split .ensures .0)) (rw (read (larger-size .ok) (larger-size .ensures .0), l, u, var-at .ensures, past-terms-at .ensures) at (lay-zero .ensures .0)), omega (arith, lay-split .ensures .1, lay-zero .ensures .1))
+    let s = c .before .before .before .before .before .before .before .before .before .before .before .before .before .before .before .before .before .before .before in
+    let a = s .args in
+    let larger-size = c .before .before .before .before .before .before .before .before .before .before .before .before .before .before .larger-size in
+    let lay-split = c .before .before .before .before .before .before .before .before .before .before .lay-split in
+    let lay-zero = c .before .before .before .before .before .before .lay-zero in
+    let lay-only-negative = c .before .before .lay-only-negative in (
+      λ β e.
+          let l = back (a .sum .lower) (c .before .before .before .before .before .before .before .before .before .before .before .before .before .before .before .before .struct-told .given .0 .1) ∙ ap (λ (S : Bounds). S .lower) e in
+          let u = back (a .sum .upper) (c .before .before .before .before .before .before .before .before .before .before .before .before .before .before .before .struct-told2 .given .1 .0 .1) ∙ ap (λ (S : Bounds). S .upper) e in
+          let zero = rw (read (larger-size .ok) (larger-size .ensures .0), l, u, c .before .before .before .before .before .before .before .before .before .before .before .before .var-at .ensures, c .before .before .before .before .before .before .before .before .before .before .before .before .before .past-terms-at .ensures) at (lay-zero .ensures .0) in
+          rows-then (a .first) _ _ (rows-then (a .first) _ _ (rw (l, u) at (lay-split .ensures .0)) zero) (went-as (sign-row (a .first) _) (rw u at (lay-only-negative .ensures .0))),
+      omega (arith, lay-split .ensures .1, lay-zero .ensures .1, lay-only-negative .ensures .1),
+    )
 
 pub zero-reif-spec : {M : Type 1} → statement M
 zero-reif-spec =
@@ -45,5 +56,7 @@ zero-reif-spec =
     (λ c κs. search needs)
     (λ c κs. search needs)
     (λ c κs. search needs)
+    (λ c. search needs)
+    lay-only-negative-requires
     (λ c. search needs)
     returns)
