@@ -17,7 +17,9 @@ loop-holds : tie.Need-loop-holds Inv-loop μ-loop
 loop-holds c = begun 2000 _ _ _ _
 
 add-loop : tie.Need-add-loop Inv-loop μ-loop
-add-loop c = omega (arith, c .loop .inv .below, c .before .before .before .pre .1)
+add-loop c =
+    let pre = c .before .before .before .pre in
+    omega (arith, c .loop .inv .below, pre .1)
 
 lay-later-of-requires : tie.Need-lay-later-of-requires Inv-loop μ-loop
 lay-later-of-requires c κs =
@@ -26,13 +28,19 @@ lay-later-of-requires c κs =
     (omega (arith, s .pre .0, s .pre .1, loop .inv .near, loop .inv .below), omega (arith, s .pre .1), omega (arith, s .pre .1, s .pre .3, loop .inv .below), s .pre .4, s .pre .5)
 
 loop-again : tie.Need-loop-again Inv-loop μ-loop
-loop-again c = more (omega (arith, c .before .before .before .before .before .loop-test .taken)) (c .before .before .before .before .before .before .loop .inv) (rw (c .before .before .before .before .var-at .ensures) at (c .before .before .lay-later-of .ensures))
+loop-again c =
+    let loop = c .before .before .before .before .before .before .loop in
+    let loop-test = c .before .before .before .before .before .loop-test in
+    let var-at = c .before .before .before .before .var-at in
+    more (omega (arith, loop-test .taken)) (loop .inv) (rw (var-at .ensures) at (c .before .before .lay-later-of .ensures))
 
 same-length : tie.Need-same-length Inv-loop μ-loop
 same-length c = went-length (c .before .loop .inv .went)
 
 returns : tie.Need-returns Inv-loop μ-loop
-returns c = done 200000 (omega (arith, c .before .before .before .before .pre .1)) (omega (arith, c .loop-test .left)) (c .before .loop .inv)
+returns c =
+    let pre = c .before .before .before .before .pre in
+    done 200000 (omega (arith, pre .1)) (omega (arith, c .loop-test .left)) (c .before .loop .inv)
 
 pub lay-first-only-spec : {M : Type 1} → statement M
 lay-first-only-spec =
