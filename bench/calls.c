@@ -6,7 +6,7 @@
 #include <time.h>
 #include <ucontext.h>
 
-enum { MODEL = 8192, ROWS = 131072, IN_ALL = 4096, ROUNDS = 9 };
+enum { MODEL = 8192, ROWS = 262144, IN_ALL = 4096, ROUNDS = 9 };
 
 static uint32_t words[MODEL + 68], rows[ROWS]; /* a constraint that does not fit is put and taken back */
 static uint8_t bytes[4 * MODEL];
@@ -236,7 +236,7 @@ int main(int count, char **arguments) {
         return 0;
     }
     static const struct { size_t words; int elements; } models[] = {{64, 2}, {1024, 32}, {8192, 32}};
-    static const size_t systems[] = {16384, 65536, 131072};
+    static const size_t systems[] = {16384, 65536, 262144};
     printf("| Words | Constraints | Auxiliaries | Rows | Row words |\n|---|---|---|---|---|\n");
     for (int k = 0; k < 3; k++) {
         struct pearrummy_counts c = begin_model(models[k].words, models[k].elements);

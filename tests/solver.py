@@ -8,9 +8,9 @@ system that translate writes, all from FlatZinc text. Of each model are compared
 
     check         the counts, with the words that translate writes; a room of one word less is refused
     judge_model   every value list in the bounds, with the solutions of the constraints: holds, or the first false constraint
-    translate     the row system's solutions, cut down to the source variables, with the model's solutions
-    fill          every value list in the bounds: judge_model's answer, or the values and the auxiliaries, a solution of the row system
-    judge_rows    what fill writes, other solutions of the row system, and what fill writes with one value changed
+    translate     the row system's solutions, cut down to the source variables, with the model's solutions: no two of them cut down to the same
+    fill          every value list in the bounds: judge_model's answer, or the values and the auxiliaries, the one solution of the row system
+    judge_rows    what fill writes, and that with one value changed
 
 Where Gecode is missing, Debian's package `flatzinc` is installed if that can be done; if not, one line says so and nothing is compared.
 Exit status 1 at the first difference, which is printed with the model's words and FlatZinc texts."""
@@ -20,8 +20,7 @@ ROOT = os.path.dirname(os.path.dirname(os.path.abspath(__file__)))
 SUITE = os.path.join(ROOT, 'target', 'bin', 'suite')
 CHECK, TRANSLATE, JUDGE_MODEL, JUDGE_ROWS, FILL = 1, 2, 3, 4, 5
 LISTS = 2000    # the most value lists of a model
-CHOICES = 8000  # the most solutions of a row system
-SAMPLE = 60     # so many other solutions of a row system, and so many changed ones, are judged at most
+SAMPLE = 100    # so many changed solutions of a row system are judged at most
 CHUNK = 8       # models of one run of suite
 LARGEST = 2 ** 27 - 1
 
@@ -179,18 +178,13 @@ def some_constraint(rng, code, variables, values):
     return next((constraint for constraint in tries if is_true(*constraint, values)), None)
 
 
-def rows_per_solution(constraints):
-    """At most so many solutions of the row system belong to one of the model: some auxiliaries are free in 8, 9, 13, 14, 26, 29 and 31 to 33."""
-    return math.prod(2 if code in (8, 9, 13, 14, 29, 31, 32) else max(1, len(arguments[1])) if code in (26, 33) else 1 for code, arguments in constraints)
-
-
 def some_model(rng, codes):
     """A model with these codes, most often one with a solution."""
     while True:
         variables = some_variables(rng, codes)
         values = [rng.randint(*bounds(v)) for v in variables]
         constraints = [some_constraint(rng, code, variables, values) for code in codes]
-        if None not in constraints and rows_per_solution(constraints) * math.prod(map(width, variables)) <= CHOICES:
+        if None not in constraints:
             return variables, constraints
 
 
@@ -433,6 +427,8 @@ class Case:
                 raise Difference(f'judge_model of {values}: {said}, by Gecode: {self.said[values]}')
         self.solved = solutions(self.texts[1])
         same('translate: the solutions of its rows', {values[:len(sources)] for values in self.solved}, self.solutions)
+        if len(self.solved) != len(self.solutions):
+            raise Difference(f'translate: its rows have {len(self.solved)} solutions, the model has {len(self.solutions)}')
         self.filled = []
         for values, said, answer in zip(self.lists, judged, filled):
             got = values_of(answer)
@@ -444,11 +440,9 @@ class Case:
                 self.filled.append(got)
 
     def ask_rows(self):
-        """Values of the row system to judge: those of fill, other solutions, and those of fill with one value changed."""
+        """Values of the row system to judge: those of fill, and these with one value changed."""
         rng = random.Random(self.number)
         self.judged = list(self.filled)
-        others = sorted(self.solved - set(self.filled))
-        self.judged += rng.sample(others, min(SAMPLE, len(others)))
         for values in rng.sample(self.filled, min(SAMPLE, len(self.filled))) if self.bounds else []:
             k = rng.randrange(len(values))
             others = {values[k] - 1, values[k] + 1, *self.bounds[k]} - {values[k]}

@@ -224,6 +224,12 @@ impl Comparer {
                 if self.judge_rows(&rows, filled, true).said != HOLDS {
                     self.differ(Call::JudgeRows, &rows, filled, None, "fill's values must satisfy translate's rows".into());
                 }
+                for _ in 0..4 {
+                    let other = inputs::other_auxiliaries(random, &rows, counts.variables, filled);
+                    if other != *filled && self.judge_rows(&rows, &other, false).said == HOLDS {
+                        self.differ(Call::JudgeRows, &rows, &other, None, "no other auxiliaries than fill's may satisfy translate's rows".into());
+                    }
+                }
             }
             self.rows(random, &rows, filled.as_deref().unwrap_or(&input.values));
         }

@@ -80,7 +80,7 @@ pub fn input(random: &mut Random) -> Input {
         770..=859 => ("rows", true, small_rows(random)),
         860..=864 => ("rows near 66 terms", true, many_terms(random)),
         865..=868 => ("rows near 4,096 variables", true, many_row_variables(random)),
-        869 => ("rows near 131,072 words", true, near_row_words(random)),
+        869 => ("rows near 262,144 words", true, near_row_words(random)),
         870..=935 => ("damaged rows", true, damaged(random, small_rows)),
         936..=939 => ("damaged rows near a limit", true, damaged(random, limit_rows)),
         940..=979 => ("damaged rows of a model", true, damaged(random, model_rows)),
@@ -232,15 +232,16 @@ impl Builder<'_> {
         self.declare_integer(lower, upper, value);
     }
 
-    /// An integer variable whose value is the sum, product, absolute value, a power or the maximum of earlier ones.
+    /// An integer variable whose value is the sum, product, absolute value, a power or the maximum of earlier ones, or that of one of them.
     fn derived_integer(&mut self) {
         let [one, other] = [0; 2].map(|_| i64::from(self.values[self.random.pick(&self.integers)]));
-        let value = match self.random.below(5) {
+        let value = match self.random.below(7) {
             0 => one + other,
             1 => one * other,
             2 => one.abs(),
             3 => one.checked_pow(exponent(self.random) as u32).unwrap_or(0),
-            _ => one.max(other),
+            4 => one.max(other),
+            _ => one,
         };
         if in_range(value) {
             let (below, above) = match self.random.below(4) {
@@ -619,7 +620,7 @@ fn edge_model(random: &mut Random) -> Pair {
     if builder.random.one_in(2) {
         builder.some_variables(1, 1, &SMALL_BOUNDS);
     }
-    let code = builder.random.pick(&[4, 5, 7, 9, 10, 11, 12, 13, 14, 15, 29, 30, 31, 32, 37, 38, 39, 39]);
+    let code = builder.random.pick(&[4, 5, 7, 8, 9, 10, 11, 12, 13, 14, 15, 26, 29, 30, 31, 32, 33, 37, 38, 39, 39]);
     builder.add(code, None, false);
     let (mut words, values) = builder.finish();
     let fault = |words: &[u32]| twin::check(words).fault;
@@ -695,6 +696,9 @@ fn many_constraints(random: &mut Random) -> Pair {
 
 /// Blocks of code 28 with 64 auxiliaries and of codes 26 and 33 with up to 64, then blocks of any code with few, sometimes in another order.
 fn many_auxiliaries(random: &mut Random) -> Pair {
+    if random.one_in(3) {
+        return many_row_words(random);
+    }
     let mut builder = Builder::new(random);
     builder.some_variables(3, 2, &[Bounds::Tiny, Bounds::Index]);
     let wide = builder.bounds.len() as i64;
@@ -734,6 +738,28 @@ fn many_auxiliaries(random: &mut Random) -> Pair {
     if builder.random.one_in(2) {
         builder.random.shuffle(&mut builder.constraints);
     }
+    builder.finish()
+}
+
+/// Maxima and minima of 32 elements, as many as the auxiliaries allow, and conjunctions of 32 up to about 8,192 words or 256 constraints: the row
+/// system passes 131,072 words.
+fn many_row_words(random: &mut Random) -> Pair {
+    let mut builder = Builder::new(random);
+    builder.some_variables(6, 4, &[Bounds::Tiny]);
+    builder.declare_integer(-3, 3, 1);
+    builder.boolean();
+    let wanted_true = builder.random.one_in(2);
+    let extremes = 62 + builder.random.below(2);
+    let all = MODEL_CONSTRAINTS - builder.random.below(3);
+    let before = builder.bounds.len();
+    while builder.constraints.len() < all && builder.size() + 40 < MODEL_WORDS {
+        let count = builder.constraints.len();
+        let code = if count < extremes && before + 64 * (count + 1) <= ALL_VARIABLES { builder.random.pick(&[26, 33]) } else { 22 };
+        if !builder.add(code, Some(LIST_LENGTH as usize), wanted_true) {
+            builder.add(code, Some(LIST_LENGTH as usize), false);
+        }
+    }
+    builder.random.shuffle(&mut builder.constraints);
     builder.finish()
 }
 
@@ -1204,6 +1230,33 @@ pub fn value_lists(random: &mut Random, words: &[u32], values: &[i32]) -> Vec<Ve
         _ => (),
     }
     lists
+}
+
+/// What fill writes, with some auxiliaries changed inside their bounds: the bit of a list moved with what hangs on it, or other values.
+pub fn other_auxiliaries(random: &mut Random, words: &[u32], sources: usize, filled: &[i32]) -> Vec<i32> {
+    let bounds = declared(words);
+    let mut values = filled.to_vec();
+    let auxiliaries = values.len().saturating_sub(sources);
+    if auxiliaries == 0 {
+        return values;
+    }
+    let place = |random: &mut Random| sources + random.below(auxiliaries);
+    if random.one_in(2) {
+        let (one, apart, behind) = (place(random), 1 + random.below(4), 1 + random.below(6));
+        let other = one + apart;
+        for (one, other) in [(one, other), (one + behind, other + behind)] {
+            if other < values.len() {
+                values.swap(one, other);
+            }
+        }
+    } else {
+        for _ in 0..1 + random.below(2) {
+            let at = place(random);
+            let (lower, upper) = bounds[at];
+            values[at] = if upper == lower + 1 { lower + upper - values[at] } else { random.between(i64::from(lower), i64::from(upper)) as i32 };
+        }
+    }
+    values
 }
 
 /// Values inside the bounds that a model holds of, found by trying.

@@ -4,10 +4,11 @@
 //! index is tested by the reading that comes first, and numbers that may leave 32 bits are 64 bits wide (the largest is 33 × 2^54).
 
 use crate::answers::{Counts, Judgement, Refusal, Written, FALSE, HOLDS, OUT_OF_BOUNDS};
+use std::ops::Range;
 
-// The limits (01, Numbered faults).
+// The limits (01, Numbered faults; 02, wishes 10 and 13).
 pub const MODEL_WORDS: usize = 8_192;
-pub const ROW_WORDS: usize = 131_072;
+pub const ROW_WORDS: usize = 262_144;
 pub const MODEL_VARIABLES: usize = 256;
 pub const MODEL_CONSTRAINTS: usize = 256;
 pub const LIST_LENGTH: i32 = 32;
@@ -487,6 +488,11 @@ trait Sink {
     fn constant(&mut self, constant: i64);
     fn product(&mut self, result: usize, first: usize, second: usize);
 
+    /// Terms with one coefficient.
+    fn terms(&mut self, variables: Range<usize>, coefficient: i64) {
+        variables.for_each(|variable| self.term(variable, coefficient));
+    }
+
     /// A row of few terms.
     fn whole_row<const N: usize>(&mut self, kind: u32, terms: [(usize, i64); N], constant: i64) {
         self.row(kind, N);
@@ -507,7 +513,7 @@ trait Sink {
     }
 }
 
-/// The block of a constraint (01, Rules of the 28 codes; 02, wishes 1, 5, 6 and 13); `n` is the number of its first auxiliary.
+/// The block of a constraint (01, Rules of the 28 codes; 02, wishes 1, 5, 6, 10 and 13); `n` is the number of its first auxiliary.
 fn block(constraint: &Constraint, variables: &[Variable], n: usize, sink: &mut impl Sink) {
     let [a, b, c] = constraint.single;
     let bound = |variable: usize, upper: bool| variables.get(variable).map_or(0, |v| i64::from(if upper { v.upper } else { v.lower }));
@@ -542,6 +548,7 @@ fn block(constraint: &Constraint, variables: &[Variable], n: usize, sink: &mut i
             sink.product(z, bit, x);
             sink.whole_row(EQUAL, [(y, 1), (x, -1), (z, 2)], 0);
             sink.whole_row(AT_MOST, [(y, -1)], 0);
+            sign_row(x, bit, hi(x), sink);
         }
         9 => {
             let (p, q, r) = (hi(c) - lo(a), hi(c) - lo(b), n);
@@ -550,6 +557,7 @@ fn block(constraint: &Constraint, variables: &[Variable], n: usize, sink: &mut i
             sink.whole_row(AT_MOST, [(b, 1), (c, -1)], 0);
             sink.whole_row(AT_MOST, [(c, 1), (a, -1), (r, -p)], 0);
             sink.whole_row(AT_MOST, [(c, 1), (b, -1), (r, q)], -q);
+            first_row((a, c), hi(a) - lo(c) + 1, r..r + 1, sink);
         }
         10 => sum_row(constraint, EQUAL, None, sink),
         11 => sum_row(constraint, AT_MOST, None, sink),
@@ -560,6 +568,7 @@ fn block(constraint: &Constraint, variables: &[Variable], n: usize, sink: &mut i
             sum_row(constraint, EQUAL, Some(x), sink);
             sink.product(z, bit, x);
             sink.whole_row(AT_MOST, [(x, -1), (z, 2)], 1);
+            sign_row(x, bit, largest, sink);
         }
         13 => {
             let (least, largest) = constraint.least_and_largest(variables);
@@ -663,9 +672,15 @@ fn block(constraint: &Constraint, variables: &[Variable], n: usize, sink: &mut i
             list.iter().for_each(|&word| sink.with_zero(lo(number(word)), hi(number(word))));
             sum_of_bits_row(n, list.len(), sink);
             chosen_value_rows(n, list, m, sink);
+            let in_order = |word: u32| if constraint.code == 26 { (number(word), m) } else { (m, number(word)) };
             for &word in list {
-                let (below, above) = if constraint.code == 26 { (number(word), m) } else { (m, number(word)) };
+                let (below, above) = in_order(word);
                 sink.whole_row(AT_MOST, [(below, 1), (above, -1)], 0);
+            }
+            // The last element has none: no bit stands behind its own.
+            for (k, &word) in list.iter().enumerate().take(list.len().saturating_sub(1)) {
+                let (below, above) = in_order(word);
+                first_row((below, above), hi(below) - lo(above) + 1, n + k + 1..n + list.len(), sink);
             }
         }
         27 => {
@@ -691,6 +706,7 @@ fn block(constraint: &Constraint, variables: &[Variable], n: usize, sink: &mut i
             sink.whole_row(AT_MOST, [(c, 1), (b, -1)], 0);
             sink.whole_row(AT_MOST, [(a, 1), (c, -1), (r, -p)], 0);
             sink.whole_row(AT_MOST, [(b, 1), (c, -1), (r, q)], -q);
+            first_row((c, a), hi(c) - lo(a) + 1, r..r + 1, sink);
         }
         30 => {
             let (p, q, r) = (hi(a) - lo(b) + 1, hi(b) - lo(a), c);
@@ -769,20 +785,36 @@ fn absolute_auxiliaries(least: i64, largest: i64, sink: &mut impl Sink) {
     sink.with_zero(least, largest);
 }
 
-/// The rows of codes 13 and 14 behind the first: z:=b×x; x−2×z+W×r−W≤0; −x+2×z−r+1≤0.
+/// The rows of codes 13 and 14 behind the first: z:=b×x; x−2×z+W×r−W≤0; −x+2×z−r+1≤0; the row of the sign.
 fn reified_zero_rows(least: i64, largest: i64, x: usize, r: usize, sink: &mut impl Sink) {
     let (bit, z, w) = (x + 1, x + 2, least.abs().max(largest.abs()));
     sink.product(z, bit, x);
     sink.whole_row(AT_MOST, [(x, 1), (z, -2), (r, w)], -w);
     sink.whole_row(AT_MOST, [(x, -1), (z, 2), (r, -1)], 1);
+    sign_row(x, bit, largest, sink);
 }
 
-/// The rows of codes 31 and 32 behind the first: z:=b×x; x−2×z−W×r≤0; −x+2×z+r≤0.
+/// The rows of codes 31 and 32 behind the first: z:=b×x; x−2×z−W×r≤0; −x+2×z+r≤0; the row of the sign.
 fn reified_not_zero_rows(least: i64, largest: i64, x: usize, r: usize, sink: &mut impl Sink) {
     let (bit, z, w) = (x + 1, x + 2, least.abs().max(largest.abs()));
     sink.product(z, bit, x);
     sink.whole_row(AT_MOST, [(x, 1), (z, -2), (r, -w)], 0);
     sink.whole_row(AT_MOST, [(x, -1), (z, 2), (r, 1)], 0);
+    sign_row(x, bit, largest, sink);
+}
+
+/// x+(U+1)×b−U≤0: b is 1 only for a negative x, U being the largest x (02, wish 10).
+fn sign_row(x: usize, bit: usize, largest: i64, sink: &mut impl Sink) {
+    sink.whole_row(AT_MOST, [(x, 1), (bit, largest + 1)], -largest);
+}
+
+/// below−above+K×(sum of bits)+1−K≤0: one of the bits is 1 only where the two differ, so that of equal elements the first is taken (02, wish 10).
+fn first_row((below, above): (usize, usize), k: i64, bits: Range<usize>, sink: &mut impl Sink) {
+    sink.row(AT_MOST, 2 + bits.len());
+    sink.term(below, 1);
+    sink.term(above, -1);
+    sink.terms(bits, k);
+    sink.constant(1 - k);
 }
 
 /// The least and the largest of the four end products of two variables, each with its lower and upper bound.
@@ -928,6 +960,12 @@ impl Sink for Measure {
 
     fn term(&mut self, _variable: usize, coefficient: i64) {
         self.number(coefficient);
+    }
+
+    fn terms(&mut self, variables: Range<usize>, coefficient: i64) {
+        if !variables.is_empty() {
+            self.number(coefficient);
+        }
     }
 
     fn constant(&mut self, constant: i64) {
