@@ -40,7 +40,8 @@ use Rattle.rules.specs.Power.{byHalves, next, noProduct, squared, multip
 use Rattle.rules.specs.Rule as Rule
 use Rattle.rules.specs.Rule.{rule}
 use Rattle.rules.specs.Pick.{bitOf, signPick, signedPick, firstBit, gatedPick, divisionPick, leftOverPick, powerPick, pick}
-use Rattle.rules.specs.Translation.{bounds, blockOf, blocksWords, systemWords, auxiliaries, blockRows, picks}
+use Rattle.rules.specs.Shared.{choice, encodes, sharedIn, shares, encodedAfter, bitProducts, valueBit, newBits, newRows, kept, leftOut, keptSum, sharedRule, ruleAfter, newPick, sharedPick, pickAfter}
+use Rattle.rules.specs.Translation.{bounds, shared, blockOf, eachBlock, blocksWords, systemWords, auxiliaries, blockRows, picks}
 use Rattle.rules.specs.Check.{tooWide, blockFaultIn, blocksFaultIn, checkFault, checkFaultIn, check, checkIn}
 use Rattle.rules.specs.Translate.{roomFault, translateFaultIn, translate, translateIn, translated, translatedIn}
 use Rattle.rules.specs.Fill.{filledCount, fillFaultIn, fill, fillIn, filled, filledIn}
@@ -236,6 +237,32 @@ of39 lower upper k = lower ∷ upper ∷ 0x1FFFFFE5 ∷ 0x2000001B ∷ 0x4000002
 of9 : List ℕ
 of9 = three 0x40000009 (0x10000003 ∷ 0x20000005 ∷ [])
 
+-- 02, Wish 7: i from the word given to 2 and c in 5..6, shared by 24 of the list 5, 6 and 27 of the set given
+shared24and27 : ℕ → List ℕ → List ℕ
+shared24and27 lower set =
+    lower ∷ 0x20000002 ∷ 0x10000005 ∷ 0x20000006 ∷
+    0x40000018 ∷ 0x50000000 ∷ 0x60000002 ∷ 0x60000005 ∷ 0x60000006 ∷ 0x50000001 ∷ 0x4000001B ∷ 0x50000000 ∷ (set ++ (0x70000000 ∷ []))
+
+-- the value 0 left out at the first, the value 2 at the later
+outAtFirst : List ℕ
+outAtFirst = shared24and27 0x10000000 (0x60000003 ∷ 0x60000000 ∷ 0x60000001 ∷ 0x60000002 ∷ [])
+
+outAtLater : List ℕ
+outAtLater = shared24and27 0x10000001 (0x60000001 ∷ 0x60000001 ∷ [])
+
+-- i in 0..1, y and c in −3..3, shared by 28 of the set 1 and 25 of the list y
+shared28and25 : List ℕ
+shared28and25 =
+    0x10000000 ∷ 0x20000001 ∷ 0x1FFFFFFD ∷ 0x20000003 ∷ 0x1FFFFFFD ∷ 0x20000003 ∷ 0x30000000 ∷
+    0x4000001C ∷ 0x50000000 ∷ 0x60000001 ∷ 0x60000001 ∷ 0x50000003 ∷
+    0x40000019 ∷ 0x50000000 ∷ 0x60000001 ∷ 0x50000001 ∷ 0x50000002 ∷ 0x70000000 ∷ []
+
+-- x from 0 to the word given, shared by 27 and 27 of the set 3
+twice27 : ℕ → List ℕ
+twice27 upper =
+    0x10000000 ∷ upper ∷
+    0x4000001B ∷ 0x50000000 ∷ 0x60000001 ∷ 0x60000003 ∷ 0x4000001B ∷ 0x50000000 ∷ 0x60000001 ∷ 0x60000003 ∷ 0x70000000 ∷ []
+
 pub table : List Line
 table =
     translates (0x70000000 ∷ []) (0xF0000000 ∷ []) ∷
@@ -318,10 +345,30 @@ table =
     fillsOnly of29 (pos 2 ∷ pos 2 ∷ pos 2 ∷ []) (pos 0 ∷ []) ∷
     fillsOnly (ofTwo 0x4000001A 0x1FFFFFFE 0x20000000) (negsuc 1 ∷ negsuc 1 ∷ negsuc 1 ∷ []) (pos 1 ∷ pos 0 ∷ negsuc 1 ∷ pos 0 ∷ []) ∷
     fillsOnly (ofTwo 0x40000021 0x1FFFFFFA 0x2FFFFFFC) (negsuc 3 ∷ negsuc 3 ∷ negsuc 3 ∷ []) (pos 1 ∷ pos 0 ∷ negsuc 3 ∷ pos 0 ∷ []) ∷
+    translates outAtFirst
+    (0x10000000 ∷ 0x20000002 ∷ 0x10000005 ∷ 0x20000006 ∷ 0x80000000 ∷ 0x90000001 ∷ 0x80000000 ∷ 0x90000001 ∷ 0x80000000 ∷ 0x90000001 ∷
+    0xB0000003 ∷ 0x50000002 ∷ 0x60000001 ∷ 0x50000003 ∷ 0x60000001 ∷ 0x50000004 ∷ 0x60000001 ∷ 0x6FFFFFFF ∷
+    0xB0000004 ∷ 0x50000002 ∷ 0x60000000 ∷ 0x50000003 ∷ 0x60000001 ∷ 0x50000004 ∷ 0x60000002 ∷ 0x50000000 ∷ 0x6FFFFFFF ∷ 0x60000000 ∷
+    0xB0000001 ∷ 0x50000002 ∷ 0x60000001 ∷ 0x60000000 ∷
+    0xB0000003 ∷ 0x50000003 ∷ 0x60000005 ∷ 0x50000004 ∷ 0x60000006 ∷ 0x50000001 ∷ 0x6FFFFFFF ∷ 0x60000000 ∷ 0xF0000000 ∷ []) ∷
+    fillsOnly outAtFirst (pos 1 ∷ pos 5 ∷ []) (pos 0 ∷ pos 1 ∷ pos 0 ∷ []) ∷
+    denies outAtFirst (pos 0 ∷ pos 5 ∷ []) 0 ∷
+    translates outAtLater
+    (0x10000001 ∷ 0x20000002 ∷ 0x10000005 ∷ 0x20000006 ∷ 0x80000000 ∷ 0x90000001 ∷ 0x80000000 ∷ 0x90000001 ∷
+    0xB0000002 ∷ 0x50000002 ∷ 0x60000001 ∷ 0x50000003 ∷ 0x60000001 ∷ 0x6FFFFFFF ∷
+    0xB0000003 ∷ 0x50000002 ∷ 0x60000001 ∷ 0x50000003 ∷ 0x60000002 ∷ 0x50000000 ∷ 0x6FFFFFFF ∷ 0x60000000 ∷
+    0xB0000003 ∷ 0x50000002 ∷ 0x60000005 ∷ 0x50000003 ∷ 0x60000006 ∷ 0x50000001 ∷ 0x6FFFFFFF ∷ 0x60000000 ∷
+    0xB0000001 ∷ 0x50000003 ∷ 0x60000001 ∷ 0x60000000 ∷ 0xF0000000 ∷ []) ∷
+    fillsOnly outAtLater (pos 1 ∷ pos 5 ∷ []) (pos 1 ∷ pos 0 ∷ []) ∷
+    denies outAtLater (pos 2 ∷ pos 6 ∷ []) 1 ∷
+    fillsOnly shared28and25 (pos 1 ∷ negsuc 2 ∷ negsuc 2 ∷ pos 1 ∷ []) (pos 0 ∷ pos 1 ∷ negsuc 2 ∷ []) ∷
+    denies shared28and25 (pos 0 ∷ pos 0 ∷ pos 0 ∷ pos 0 ∷ []) 1 ∷
+    accepts (twice27 0x2000003F) 0xF0000000 ∷
+    refuses (twice27 0x20000040) 12 2 ∷
     []
 
 pub table-T : all isTrue table ≡ true
-unfolding sameList sameAnswer listsWithin isAccepted completions isDenied unusedWords unusedValues isFilled isTrue T3 ofTwo T5 T6 T7 T8 T9 T10 T11 T12 switches fourSwitches noSwitches booleans three of29 of30 of31 of32 of33 noneOf33 ofBits of37 of38 of39 of9 table within width values
+unfolding sameList sameAnswer listsWithin isAccepted completions isDenied unusedWords unusedValues isFilled isTrue T3 ofTwo T5 T6 T7 T8 T9 T10 T11 T12 switches fourSwitches noSwitches booleans three of29 of30 of31 of32 of33 noneOf33 ofBits of37 of38 of39 of9 shared24and27 outAtFirst outAtLater shared28and25 twice27 table within width values
     boundsIn listOf all any howMany _⊕_ _⊖_ _⊗_ neg minZ maxZ absZ _==_ count value sum _else-answer_ isHolds firstFalse firstOutOfBounds judge
     overlay _else-refuse_ firstFault countFault startsPair variables kind payload signed word complement numberWord wordAt
     JudgeModel.judgeAccepted JudgeRows.judgeAccepted judgeModel on off element maximum minimum member odd quotient remainder power meaning constraintsFrom constraints var num size exponentAt vars
@@ -334,5 +381,6 @@ unfolding sameList sameAnswer listsWithin isAccepted completions isDenied unused
     U halfLess _─_≤0 _─_=0 sources each bits weighted oneBit chosen products nth places leastFrom rising members bitOf signPick signedPick firstBit gatedPick
     divisionPick leftOverPick powerPick pick byHalves next noProduct squared multiplied chain nextValue noValue squaredValue multipliedValue powerValues M divisionTable tableRow divisionRows quotientBounds remainderRow Rule.linked Rule.signed Rule.whereOne Rule.whereZero Rule.orderReified Rule.onlyNegative Rule.absolute Rule.touching Rule.linNotEqual Rule.zeroRows
     Rule.zeroReified Rule.linLessEqualReified Rule.sameRows Rule.sameReified Rule.numberElement Rule.variableElement Rule.firstOnly Rule.oneOf Rule.inSet Rule.inSetReified Rule.division Rule.leftOver Rule.powered rule roomFault
-    translateFaultIn translateIn translatedIn bounds blockOf sourceWords blocksWords systemWords auxiliaries blockRows picks flatMap zipWith
+    translateFaultIn translateIn translatedIn choice encodes sharedIn shares encodedAfter bitProducts valueBit newBits newRows kept leftOut keptSum sharedRule ruleAfter newPick sharedPick pickAfter
+    bounds shared blockOf eachBlock sourceWords blocksWords systemWords auxiliaries blockRows picks flatMap zipWith
 table-T = refl

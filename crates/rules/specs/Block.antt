@@ -1,4 +1,5 @@
--- A block: its auxiliaries, then its rows. It speaks of source variables by their numbers and of its own auxiliaries from 0.
+-- A block: its auxiliaries, then its rows. It speaks of what stands before it, source variables and earlier blocks' auxiliaries, by their numbers,
+-- and of its own auxiliaries from 0.
 use mathlib.Core.Bool.{Bool, not}
 use mathlib.Core.List.{List, _++_, flatMap}
 use Prim.Native.Nat.{ℕ, _+_}

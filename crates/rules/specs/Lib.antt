@@ -5,6 +5,7 @@ pub mod Division
 pub mod Power
 pub mod Rule
 pub mod Pick
+pub mod Shared
 pub mod Translation
 pub mod Check
 pub mod Translate

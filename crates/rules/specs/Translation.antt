@@ -1,5 +1,6 @@
 -- The row system of a model's words: the sources' words, a block for each constraint, the end word; and what check counts in it.
-use mathlib.Core.List.{List, [], _∷_, _++_, flatMap}
+use mathlib.Core.Bool.{Bool}
+use mathlib.Core.List.{List, [], _∷_, _++_}
 use Prim.Native.Nat.{ℕ, _+_}
 use lib.IntN.{ℤ}
 use lib.ListN.{length}
@@ -12,33 +13,45 @@ use Rattle.words.specs.Variables.{variables}
 use Rattle.models.specs.Model.{Constraint, constraints, sourceWords, builtin}
 use Rattle.rowsystems.specs.Row.{Row}
 use Rattle.rules.specs.Block.{Ref, Block, blockWords}
-use Rattle.rules.specs.Rule.{rule}
-use Rattle.rules.specs.Pick.{pick}
+use Rattle.rules.specs.Shared.{Encoded, noneYet, choice, encodes, sharedIn, encodedAfter, ruleAfter, pickAfter}
 
--- the bounds of the model's variables, and the block of one of its constraints
+-- the bounds of the model's variables, and which of them are shared
 unfoldable pub bounds : List ℕ → ℕ → Bounds
 bounds ws = boundsIn (variables ws)
 
-unfoldable pub blockOf : (ℕ → Bounds) → Constraint → Block
-blockOf β c = rule β (builtin c)
+unfoldable pub shared : List ℕ → ℕ → Bool
+shared ws = sharedIn (constraints ws)
 
--- the blocks' words, their auxiliaries numbered from `first` on
-unfoldable pub blocksWords : (ℕ → Bounds) → ℕ → List Constraint → List ℕ
-blocksWords β first [] = []
-blocksWords β first (c ∷ cs) =
-    blockWords first (blockOf β c) ++ blocksWords β (first + length (blockOf β c .auxiliaries)) cs
+module _ (β : ℕ → Bounds) (s : ℕ → Bool) where
+  -- the block of a constraint, given the record of encoded variables
+  unfoldable pub blockOf : Encoded → Constraint → Block
+  blockOf e c = ruleAfter β s e (choice c) (builtin c)
+
+  -- what f makes of each block, its auxiliaries numbered from `first` on; 02, wish 7: "each block hands the record of encoded variables to the next"
+  unfoldable pub eachBlock : {A : Type 0} → (ℕ → Encoded → Constraint → List A) → ℕ → Encoded → List Constraint → List A
+  eachBlock f first e [] = []
+  eachBlock f first e (c ∷ cs) =
+      f first e c ++ eachBlock f (first + length (blockOf e c .auxiliaries)) (encodedAfter s first e (encodes (choice c))) cs
+
+  unfoldable pub blocksWords : ℕ → Encoded → List Constraint → List ℕ
+  blocksWords = eachBlock (λ first e c. blockWords first (blockOf e c))
+
+-- of all blocks of a model
+abbrev pub ofBlocks : {A : Type 0} → List ℕ → (ℕ → Encoded → Constraint → List A) → List A
+ofBlocks ws f = eachBlock (bounds ws) (shared ws) f (length (variables ws)) noneYet (constraints ws)
 
 -- 01, Words: "1, 2, 3 as above, copied"
 unfoldable pub systemWords : List ℕ → List ℕ
 systemWords ws =
-    sourceWords ws ++ (blocksWords (bounds ws) (length (variables ws)) (constraints ws) ++ (word Kind.rowsEnd 0 ∷ []))
+    sourceWords ws
+    ++ (blocksWords (bounds ws) (shared ws) (length (variables ws)) noneYet (constraints ws) ++ (word Kind.rowsEnd 0 ∷ []))
 
 -- all auxiliaries and all rows, products among them; what fill picks for all auxiliaries
 unfoldable pub auxiliaries : List ℕ → List Bounds
-auxiliaries ws = flatMap (λ c. blockOf (bounds ws) c .auxiliaries) (constraints ws)
+auxiliaries ws = ofBlocks ws (λ first e c. blockOf (bounds ws) (shared ws) e c .auxiliaries)
 
 unfoldable pub blockRows : List ℕ → List (Row Ref)
-blockRows ws = flatMap (λ c. blockOf (bounds ws) c .rows) (constraints ws)
+blockRows ws = ofBlocks ws (λ first e c. blockOf (bounds ws) (shared ws) e c .rows)
 
 unfoldable pub picks : List ℕ → List ℤ → List ℤ
-picks ws vs = flatMap (λ c. pick (bounds ws) (value vs) (builtin c)) (constraints ws)
+picks ws vs = ofBlocks ws (λ first e c. pickAfter (bounds ws) (shared ws) e (value vs) (choice c) (builtin c))
