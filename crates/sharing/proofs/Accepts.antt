@@ -17,7 +17,8 @@ use Rattle.words.specs.declared.Refusal.{Refusal}
 use Rattle.models.specs.Reading.{fault, after, ended, begin, readModel, readModelIn}
 use Rattle.models.specs.Model.{Constraint, constraints}
 use Rattle.rules.specs.Block.{outside}
-use Rattle.rules.specs.Translation.{bounds, blockOf}
+use Rattle.rules.specs.Shared.{choice, encodes, Encoded, noneYet, encodedAfter}
+use Rattle.rules.specs.Translation.{bounds, shared, blockOf}
 use Rattle.rules.specs.Check.{tooWide, blockFault, blockFaultIn, blocksFault, blocksFaultIn, checkFaultIn}
 use Rattle.sharing.specs.SharedSolutions.{Passes}
 
@@ -53,35 +54,36 @@ read-zero ws = go (ltb Limit.modelWords (length ws))
 -- ---- blocks without a fault
 
 -- of each block, the auxiliaries numbered from `first` on: 12, 13 and 14 do not hold
-abbrev pub Fine : (ℕ → Bounds) → ℕ → List Constraint → Type 0
-Fine β first [] = Unit {0}
-Fine β first (c ∷ cs) =
-    (tooWide β c ≡ false)
-    × (outside (blockOf β c) ≡ false)
-    × (first + length (blockOf β c .auxiliaries) ≤ Limit.inAll)
-    × Fine β (first + length (blockOf β c .auxiliaries)) cs
+abbrev pub Fine : (ℕ → Bounds) → (ℕ → Bool) → ℕ → Encoded → List Constraint → Type 0
+Fine β s first e [] = Unit {0}
+Fine β s first e (c ∷ cs) =
+    (tooWide β s c ≡ false)
+    × (outside (blockOf β s e c) ≡ false)
+    × (first + length (blockOf β s e c .auxiliaries) ≤ Limit.inAll)
+    × Fine β s (first + length (blockOf β s e c .auxiliaries)) (encodedAfter s first e (encodes (choice c))) cs
 
-pub one-fine : (β : ℕ → Bounds) (first : ℕ) (c : Constraint) → blockFault β first c ≡ 0 →
-    (tooWide β c ≡ false) × (outside (blockOf β c) ≡ false) × (first + length (blockOf β c .auxiliaries) ≤ Limit.inAll)
+pub one-fine : (β : ℕ → Bounds) (s : ℕ → Bool) (first : ℕ) (e : Encoded) (c : Constraint) → blockFault β s first e c ≡ 0 →
+    (tooWide β s c ≡ false) × (outside (blockOf β s e c) ≡ false) × (first + length (blockOf β s e c .auxiliaries) ≤ Limit.inAll)
 unfolding blockFaultIn
-one-fine β first c = go (tooWide β c) (outside (blockOf β c)) (ltb Limit.inAll (first + length (blockOf β c .auxiliaries))) refl
+one-fine β s first e c = go (tooWide β s c) (outside (blockOf β s e c)) (ltb Limit.inAll (first + length (blockOf β s e c .auxiliaries))) refl
   where
-    go : (t u v : Bool) → ltb Limit.inAll (first + length (blockOf β c .auxiliaries)) ≡ v →
+    go : (t u v : Bool) → ltb Limit.inAll (first + length (blockOf β s e c .auxiliaries)) ≡ v →
         _≡_ {A = ℕ} (Fault.setTooWide if t else Fault.numberOutside if u else Fault.tooManyInAll if v else Fault.none) 0 →
-        (t ≡ false) × (u ≡ false) × (first + length (blockOf β c .auxiliaries) ≤ Limit.inAll)
-    go true u v e f = absurd (omega (arith, f))
-    go false true v e f = absurd (omega (arith, f))
-    go false false true e f = absurd (omega (arith, f))
-    go false false false e f = (refl, refl, ltb-false _ _ e)
+        (t ≡ false) × (u ≡ false) × (first + length (blockOf β s e c .auxiliaries) ≤ Limit.inAll)
+    go true u v p f = absurd (omega (arith, f))
+    go false true v p f = absurd (omega (arith, f))
+    go false false true p f = absurd (omega (arith, f))
+    go false false false p f = (refl, refl, ltb-false _ _ p)
 
-pub all-fine : (β : ℕ → Bounds) (first : ℕ) (cs : List Constraint) → blocksFault β first cs .number ≡ 0 → Fine β first cs
+pub all-fine : (β : ℕ → Bounds) (s : ℕ → Bool) (first : ℕ) (e : Encoded) (cs : List Constraint) → blocksFault β s first e cs .number ≡ 0 → Fine β s first e cs
 unfolding blocksFaultIn
-all-fine β first [] e = tt
-all-fine β first (c ∷ cs) e =
-    let n = first + length (blockOf β c .auxiliaries) in
-    let f = no-fault (blockFault β first c) (c .place) (blocksFault β n cs) e in
-    let o = one-fine β first c (f .0) in
-    (o .0, o .1, o .2, all-fine β n cs (f .1))
+all-fine β s first e [] h = tt
+all-fine β s first e (c ∷ cs) h =
+    let n = first + length (blockOf β s e c .auxiliaries) in
+    let d = encodedAfter s first e (encodes (choice c)) in
+    let f = no-fault (blockFault β s first e c) (c .place) (blocksFault β s n d cs) h in
+    let o = one-fine β s first e c (f .0) in
+    (o .0, o .1, o .2, all-fine β s n d cs (f .1))
 
 -- ---- the whole
 
@@ -89,8 +91,8 @@ pub passes-read : (ws : List ℕ) → Passes ws → readModel ws ≡ accepted
 unfolding checkFaultIn _else-refuse_
 passes-read ws h = read-zero ws (no-fault (readModel ws .number) (readModel ws .place) _ (ap (λ (r : Refusal). r .number) h) .0)
 
-pub passes-fine : (ws : List ℕ) → Passes ws → Fine (bounds ws) (length (variables ws)) (constraints ws)
+pub passes-fine : (ws : List ℕ) → Passes ws → Fine (bounds ws) (shared ws) (length (variables ws)) noneYet (constraints ws)
 unfolding checkFaultIn _else-refuse_
 passes-fine ws h =
-    all-fine (bounds ws) (length (variables ws)) (constraints ws)
+    all-fine (bounds ws) (shared ws) (length (variables ws)) noneYet (constraints ws)
     (no-fault (readModel ws .number) (readModel ws .place) _ (ap (λ (r : Refusal). r .number) h) .1)

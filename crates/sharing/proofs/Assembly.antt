@@ -1,114 +1,197 @@
--- Block after block, the auxiliaries numbered on: the values satisfy all blocks' rows exactly where they make every builtin true, and the auxiliaries are
--- the picks.
+-- Block after block, the auxiliaries numbered on, each block handing the record of encoded variables to the next: the values satisfy all blocks'
+-- rows exactly where they make every builtin true and the auxiliaries are the picks.
 use mathlib.Core.Path.{_≡_, refl, sym, ap, ap₂, _∙_, subst, fun-ext}
-use mathlib.Core.Logic.{_↔_}
-use mathlib.Core.Bool.{true}
+use mathlib.Core.Bool.{Bool, true, false}
 use mathlib.Core.List.{List, [], _∷_, _++_, map, append-assoc}
-use Prim.Native.Nat.{ℕ, _+_}
+use Prim.Native.Nat.{ℕ, _+_, _<_}
 use native.Mathlib.Omega.{arith}
 use lib.IntN.{ℤ}
 use lib.ListN.{length, length-append}
+use Rattle.integers.specs.Choice.{_if_else_}
 use Rattle.integers.specs.Terms.{Valuation, value}
 use Rattle.integers.specs.declared.Bounds.{Bounds}
-use Rattle.integers.proofs.Lists.{all-append}
-use Rattle.integers.proofs.Tests.{All}
+use Rattle.integers.proofs.Bits.{Bit}
+use Rattle.integers.proofs.Lists.{all-append, all-both, all-implies}
+use Rattle.integers.proofs.Tests.{In, All, Member, false-true}
+use Rattle.models.specs.Builtin.{Builtin}
 use Rattle.models.specs.Meaning.{meaning}
 use Rattle.models.specs.Model.{Constraint, builtin}
+use Rattle.models.proofs.Arguments.{integerArguments, booleanArguments}
 use Rattle.rowsystems.specs.Row.{Row, rename}
 use Rattle.rules.specs.Block.{numbered}
+use Rattle.rules.specs.Rule.{rule}
 use Rattle.rules.specs.Pick.{pick}
-use Rattle.rules.specs.Translation.{blockOf}
+use Rattle.rules.specs.Shared.{Choice, choice, encodes, shares, Encoded, encodedAfter, sharedRule, ruleAfter, sharedPick, pickAfter}
+use Rattle.rules.specs.Translation.{blockOf, eachBlock}
 use Rattle.sharing.proofs.Good.{Sat, Keeps, Are, Good}
 use Rattle.sharing.proofs.Fits.{Fits}
 use Rattle.sharing.proofs.Formed.{Formed}
 use Rattle.sharing.proofs.Gates.{keeps-append, are-append, from-append}
+use Rattle.sharing.proofs.OneHot.{From}
+use Rattle.sharing.proofs.Encoding.{Held, held-after, Coded, coded-own}
+use Rattle.sharing.proofs.Choices.{View, view, shared-sound, shared-determined, shared-complete, shared-filled, same-meaning, same-pick}
+use Rattle.sharing.proofs.ChoicesFormed.{shares-any}
 use Rattle.sharing.proofs.Numbering.{Agrees, rows-agree}
 use Rattle.sharing.proofs.Codes.{laws}
 
-module _ (β : ℕ → Bounds) where
-  abbrev size : Constraint → ℕ
-  size c = length (blockOf β c .auxiliaries)
+-- ---- one builtin, whose block's auxiliaries are numbered from `first` on
+
+module _ (β : ℕ → Bounds) (s : ℕ → Bool) (n first : ℕ) (e : Encoded) (ρ σ : Valuation) (same : (v : ℕ) → v < n → ρ v ≡ σ v) (held : Held β ρ e) {ch : Choice} {b : Builtin} (seen : View ch b)
+    (ints : All (λ v. v < n) (integerArguments b)) (bools : All (λ v. v < n) (booleanArguments b)) (plain : Formed n (rule β b)) (fits : Fits β σ b) where
+  -- the block's auxiliaries
+  abbrev own : Valuation
+  own k = ρ (first + k)
+
+  fits-all : Fits β ρ b
+  fits-all = record {
+    kept = all-implies (λ v. In (β v) (σ v) × (v < n)) (λ v. In (β v) (ρ v)) (λ v h. subst (In (β v)) (sym (same v (h .1))) (h .0)) (integerArguments b) (all-both _ _ (integerArguments b) (fits .kept) ints);
+    zero-one = all-implies (λ v. Bit (σ v) × (v < n)) (λ v. Bit (ρ v)) (λ v h. subst Bit (sym (same v (h .1))) (h .0)) (booleanArguments b) (all-both _ _ (booleanArguments b) (fits .zero-one) bools);
+  }
+
+  -- over σ where the block names only the model's variables, over ρ where it names earlier auxiliaries too
+  agrees : Agrees n first ρ σ own
+  agrees = record { before = same; after = λ k. refl }
+
+  agrees-all : Agrees first first ρ ρ own
+  agrees-all = record { before = λ v h. refl; after = λ k. refl }
+
+  still-held : shares s ch ≡ false → Held β ρ (encodedAfter s first e (encodes ch))
+  still-held h = held-after β ρ s first e (encodes ch) held (λ t. false-true (sym h ∙ shares-any s ch t))
+
+  now-held : ((x : ℕ) → Member x (encodes ch) → Coded β e x ρ own) → Held β ρ (encodedAfter s first e (encodes ch))
+  now-held c = held-after β ρ s first e (encodes ch) held (λ t x m z. coded-own β e x ρ own z (c x m))
+
+  -- rows that are satisfied: the builtin is true, the auxiliaries are the picks, and the next record holds
+  pub one-only : Formed first (ruleAfter β s e ch b) → Keeps (ruleAfter β s e ch b .auxiliaries) own → All (Sat ρ) (map (rename (numbered first)) (ruleAfter β s e ch b .rows)) →
+      (meaning σ b ≡ true) × Are (pickAfter β s e σ ch b) own × Held β ρ (encodedAfter s first e (encodes ch))
+  unfolding ruleAfter pickAfter
+  one-only = go (shares s ch) refl
+    where
+      go : (t : Bool) → shares s ch ≡ t → let B = sharedRule β e ch if t else rule β b in
+          Formed first B → Keeps (B .auxiliaries) own → All (Sat ρ) (map (rename (numbered first)) (B .rows)) →
+          (meaning σ b ≡ true) × Are (sharedPick β e σ ch if t else pick β σ b) own × Held β ρ (encodedAfter s first e (encodes ch))
+      go true h f k r =
+          let B = sharedRule β e ch in
+          let g : Good B ρ own = (k, rows-agree agrees-all (length (B .auxiliaries)) (B .rows) (f .1) .0 r) in
+          let m = shared-sound β e ρ own held s seen h fits-all g in (
+            sym (same-meaning ρ σ n same s seen h ints bools) ∙ m .0,
+            subst (λ xs. Are xs own) (same-pick ρ σ n same β e s seen h ints) (shared-determined β e ρ own held s seen h g),
+            now-held (m .1),
+          )
+      go false h f k r =
+          let B = rule β b in
+          let g : Good B σ own = (k, rows-agree agrees (length (B .auxiliaries)) (B .rows) (plain .1) .0 r) in
+          (laws β b .sound σ own fits g, laws β b .determined σ own fits g, still-held h)
+
+  -- a builtin that is true, the auxiliaries being the picks: the rows are satisfied, and the next record holds
+  pub one-complete : Formed first (ruleAfter β s e ch b) → (rest : List ℤ) → own ≡ value (pickAfter β s e σ ch b ++ rest) → meaning σ b ≡ true →
+      Keeps (ruleAfter β s e ch b .auxiliaries) own × All (Sat ρ) (map (rename (numbered first)) (ruleAfter β s e ch b .rows)) × Held β ρ (encodedAfter s first e (encodes ch))
+  unfolding ruleAfter pickAfter
+  one-complete = go (shares s ch) refl
+    where
+      go : (t : Bool) → shares s ch ≡ t → let B = sharedRule β e ch if t else rule β b in
+          Formed first B → (rest : List ℤ) → own ≡ value ((sharedPick β e σ ch if t else pick β σ b) ++ rest) → meaning σ b ≡ true →
+          Keeps (B .auxiliaries) own × All (Sat ρ) (map (rename (numbered first)) (B .rows)) × Held β ρ (encodedAfter s first e (encodes ch))
+      go true h f rest p m =
+          let B = sharedRule β e ch in
+          let q : own ≡ value (sharedPick β e ρ ch ++ rest) = p ∙ ap (λ zs. value (zs ++ rest)) (sym (same-pick ρ σ n same β e s seen h ints)) in
+          let g = subst (λ α. Good B ρ α × ((x : ℕ) → Member x (encodes ch) → Coded β e x ρ α)) (sym q)
+          (shared-complete β e ρ held s seen h fits-all (same-meaning ρ σ n same s seen h ints bools ∙ m) rest) in
+          (g .0 .0, rows-agree agrees-all (length (B .auxiliaries)) (B .rows) (f .1) .1 (g .0 .1), now-held (g .1))
+      go false h f rest p m =
+          let B = rule β b in
+          let g = subst (Good B σ) (sym p) (laws β b .complete σ fits m rest) in
+          (g .0, rows-agree agrees (length (B .auxiliaries)) (B .rows) (plain .1) .1 (g .1), still-held h)
+
+-- a pick for each auxiliary
+pub picked : (β : ℕ → Bounds) (s : ℕ → Bool) (e : Encoded) (σ : Valuation) (ch : Choice) (b : Builtin) → length (pickAfter β s e σ ch b) ≡ length (ruleAfter β s e ch b .auxiliaries)
+unfolding ruleAfter pickAfter
+picked β s e σ ch b = go (shares s ch)
+  where
+    go : (t : Bool) → length (sharedPick β e σ ch if t else pick β σ b) ≡ length ((sharedRule β e ch if t else rule β b) .auxiliaries)
+    go true = shared-filled β e σ ch
+    go false = laws β b .filled σ
+
+-- ---- all builtins
+
+-- every builtin is true
+abbrev pub AllTrue : Valuation → List Constraint → Type 0
+AllTrue σ cs = All (λ c. meaning σ (builtin c) ≡ true) cs
+
+abbrev pub AllFit : (ℕ → Bounds) → Valuation → List Constraint → Type 0
+AllFit β σ cs = All (λ c. Fits β σ (builtin c)) cs
+
+-- the n variables of a model are declared, and 01's own block is well formed over them
+abbrev pub Plain : (ℕ → Bounds) → ℕ → Constraint → Type 0
+Plain β n c = All (λ v. v < n) (integerArguments (builtin c)) × All (λ v. v < n) (booleanArguments (builtin c)) × Formed n (rule β (builtin c))
+
+-- ---- block after block
+
+module _ (β : ℕ → Bounds) (s : ℕ → Bool) where
+  abbrev size : Encoded → Constraint → ℕ
+  size e c = length (blockOf β s e c .auxiliaries)
+
+  abbrev pub after : ℕ → Encoded → Constraint → Encoded
+  after first e c = encodedAfter s first e (encodes (choice c))
 
   -- all auxiliaries; all rows, their auxiliaries numbered from `first` on; all picks
-  abbrev pub auxiliariesOf : List Constraint → List Bounds
-  auxiliariesOf [] = []
-  auxiliariesOf (c ∷ cs) = blockOf β c .auxiliaries ++ auxiliariesOf cs
+  abbrev pub auxiliariesFrom : ℕ → Encoded → List Constraint → List Bounds
+  auxiliariesFrom first e cs = eachBlock β s (λ first e c. blockOf β s e c .auxiliaries) first e cs
 
-  abbrev pub rowsFrom : ℕ → List Constraint → List (Row ℕ)
-  rowsFrom first [] = []
-  rowsFrom first (c ∷ cs) = map (rename (numbered first)) (blockOf β c .rows) ++ rowsFrom (first + size c) cs
+  abbrev pub rowsFrom : ℕ → Encoded → List Constraint → List (Row ℕ)
+  rowsFrom first e cs = eachBlock β s (λ first e c. map (rename (numbered first)) (blockOf β s e c .rows)) first e cs
 
-  abbrev pub picksOf : Valuation → List Constraint → List ℤ
-  picksOf σ [] = []
-  picksOf σ (c ∷ cs) = pick β σ (builtin c) ++ picksOf σ cs
+  abbrev pub picksFrom : Valuation → ℕ → Encoded → List Constraint → List ℤ
+  picksFrom σ first e cs = eachBlock β s (λ first e c. pickAfter β s e σ (choice c) (builtin c)) first e cs
 
-  -- every block is good, each with its own part of the auxiliaries
-  abbrev AllGood : Valuation → List Constraint → Valuation → Type 0
-  AllGood σ [] α = Unit {0}
-  AllGood σ (c ∷ cs) α = Good (blockOf β c) σ α × AllGood σ cs (λ k. α (size c + k))
+  -- every block is well formed over what stands before it
+  abbrev pub AllFormed : ℕ → Encoded → List Constraint → Type 0
+  AllFormed first e [] = Unit {0}
+  AllFormed first e (c ∷ cs) = Formed first (blockOf β s e c) × AllFormed (first + size e c) (after first e c) cs
 
-  agrees-on : (n first k : ℕ) (ρ σ α : Valuation) → Agrees n first ρ σ α → Agrees n (first + k) ρ σ (λ j. α (k + j))
-  agrees-on n first k ρ σ α a = record { before = a .before; after = λ j. let e : first + k + j ≡ first + (k + j) = omega arith in ap ρ e ∙ a .after (k + j) }
+  module _ (n : ℕ) (ρ σ : Valuation) (same : (v : ℕ) → v < n → ρ v ≡ σ v) where
+    pub rows-only : (first : ℕ) (e : Encoded) (cs : List Constraint) → All (Plain β n) cs → AllFormed first e cs → AllFit β σ cs → Held β ρ e →
+        Keeps (auxiliariesFrom first e cs) (λ k. ρ (first + k)) → All (Sat ρ) (rowsFrom first e cs) →
+        AllTrue σ cs × Are (picksFrom σ first e cs) (λ k. ρ (first + k))
+    unfolding eachBlock blockOf
+    rows-only first e [] p f t h k r = (tt, tt)
+    rows-only first e (c ∷ cs) p f t h k r =
+        let B = blockOf β s e c in
+        let m = size e c in
+        let next = after first e c in
+        let on : (j : ℕ) → ρ (first + (m + j)) ≡ ρ (first + m + j) = λ j. let q : first + (m + j) ≡ first + m + j = omega arith in ap ρ q in
+        let ks = keeps-append (B .auxiliaries) (auxiliariesFrom (first + m) next cs) (λ k. ρ (first + k)) (λ k. ρ (first + m + k)) on .0 k in
+        let rs = all-append (Sat ρ) (map (rename (numbered first)) (B .rows)) (rowsFrom (first + m) next cs) .0 r in
+        let o = one-only β s n first e ρ σ same h (view c) (p .0 .0) (p .0 .1) (p .0 .2) (t .0) (f .0) (ks .0) (rs .0) in
+        let later = rows-only (first + m) next cs (p .1) (f .1) (t .1) (o .2) (ks .1) (rs .1) in
+        let mine = pickAfter β s e σ (choice c) (builtin c) in
+        let past : From (length mine) (λ k. ρ (first + k)) (λ k. ρ (first + m + k)) = λ j. ap (λ l. ρ (first + (l + j))) (picked β s e σ (choice c) (builtin c)) ∙ on j in
+        ((o .0, later .0), are-append mine (picksFrom σ (first + m) next cs) (λ k. ρ (first + k)) (λ k. ρ (first + m + k)) past .1 (o .1, later .1))
 
-  blocks : (n first : ℕ) (ρ σ α : Valuation) (cs : List Constraint) → All (λ c. Formed n (blockOf β c)) cs → Agrees n first ρ σ α →
-      (Keeps (auxiliariesOf cs) α × All (Sat ρ) (rowsFrom first cs)) ↔ AllGood σ cs α
-  blocks n first ρ σ α [] h a = (λ g. tt, λ g. (tt, tt))
-  blocks n first ρ σ α (c ∷ cs) h a =
-      let B = blockOf β c in
-      let k = keeps-append (B .auxiliaries) (auxiliariesOf cs) α (λ j. α (size c + j)) (λ j. refl) in
-      let s = all-append (Sat ρ) (map (rename (numbered first)) (B .rows)) (rowsFrom (first + size c) cs) in
-      let i = rows-agree a (size c) (B .rows) (h .0 .1) in
-      let r = blocks n (first + size c) ρ σ (λ j. α (size c + j)) cs (h .1) (agrees-on n first (size c) ρ σ α a) in (
-        λ g. ((k .0 (g .0) .0, i .0 (s .0 (g .1) .0)), r .0 (k .0 (g .0) .1, s .0 (g .1) .1)),
-        λ g. (k .1 (g .0 .0, r .1 (g .1) .0), s .1 (i .1 (g .0 .1), r .1 (g .1) .1)),
-      )
+    pub rows-complete : (first : ℕ) (e : Encoded) (cs : List Constraint) → All (Plain β n) cs → AllFormed first e cs → AllFit β σ cs → Held β ρ e → (rest : List ℤ) →
+        From first ρ (value (picksFrom σ first e cs ++ rest)) → AllTrue σ cs →
+        Keeps (auxiliariesFrom first e cs) (λ k. ρ (first + k)) × All (Sat ρ) (rowsFrom first e cs)
+    unfolding eachBlock blockOf
+    rows-complete first e [] p f t h rest a m = (tt, tt)
+    rows-complete first e (c ∷ cs) p f t h rest a m =
+        let B = blockOf β s e c in
+        let l = size e c in
+        let next = after first e c in
+        let more = picksFrom σ (first + l) next cs ++ rest in
+        let mine = pickAfter β s e σ (choice c) (builtin c) in
+        let b : From first ρ (value (mine ++ more)) = λ j. a j ∙ ap (λ zs. value zs j) (append-assoc mine (picksFrom σ (first + l) next cs) rest) in
+        let o = one-complete β s n first e ρ σ same h (view c) (p .0 .0) (p .0 .1) (p .0 .2) (t .0) (f .0) more (fun-ext b) (m .0) in
+        let on : (j : ℕ) → ρ (first + l + j) ≡ ρ (first + (l + j)) = λ j. let q : first + l + j ≡ first + (l + j) = omega arith in ap ρ q in
+        let r = rows-complete (first + l) next cs (p .1) (f .1) (t .1) (o .2) rest (λ j. on j ∙ b (l + j) ∙ from-append mine more l (picked β s e σ (choice c) (builtin c)) j) (m .1) in (
+          keeps-append (B .auxiliaries) (auxiliariesFrom (first + l) next cs) (λ k. ρ (first + k)) (λ k. ρ (first + l + k)) (λ j. sym (on j)) .1 (o .0, r .0),
+          all-append (Sat ρ) (map (rename (numbered first)) (B .rows)) (rowsFrom (first + l) next cs) .1 (o .1, r .1),
+        )
 
-  -- every builtin is true
-  abbrev pub AllTrue : Valuation → List Constraint → Type 0
-  AllTrue σ cs = All (λ c. meaning σ (builtin c) ≡ true) cs
-
-  abbrev pub AllFit : Valuation → List Constraint → Type 0
-  AllFit σ cs = All (λ c. Fits β σ (builtin c)) cs
-
-  sound-all : (σ α : Valuation) (cs : List Constraint) → AllFit σ cs → AllGood σ cs α → AllTrue σ cs
-  unfolding blockOf
-  sound-all σ α [] f g = tt
-  sound-all σ α (c ∷ cs) f g = (laws β (builtin c) .sound σ α (f .0) (g .0), sound-all σ _ cs (f .1) (g .1))
-
-  complete-all : (σ : Valuation) (cs : List Constraint) → AllFit σ cs → AllTrue σ cs → (rest : List ℤ) → AllGood σ cs (value (picksOf σ cs ++ rest))
-  unfolding blockOf
-  complete-all σ [] f m rest = tt
-  complete-all σ (c ∷ cs) f m rest =
-      subst (λ zs. AllGood σ (c ∷ cs) (value zs)) (sym (append-assoc (pick β σ (builtin c)) (picksOf σ cs) rest)) (
-        laws β (builtin c) .complete σ (f .0) (m .0) (picksOf σ cs ++ rest),
-        subst (AllGood σ cs) (sym (fun-ext (from-append (pick β σ (builtin c)) (picksOf σ cs ++ rest) (size c) (laws β (builtin c) .filled σ)))) (complete-all σ cs (f .1) (m .1) rest),
-      )
-
-  -- the auxiliaries of good blocks are the picks
-  only-all : (σ α : Valuation) (cs : List Constraint) → AllFit σ cs → AllGood σ cs α → Are (picksOf σ cs) α
-  unfolding blockOf
-  only-all σ α [] f g = tt
-  only-all σ α (c ∷ cs) f g =
-      are-append (pick β σ (builtin c)) (picksOf σ cs) α (λ k. α (size c + k)) (λ j. ap (λ n. α (n + j)) (laws β (builtin c) .filled σ)) .1
-      (laws β (builtin c) .determined σ α (f .0) (g .0), only-all σ _ cs (f .1) (g .1))
-
-  pub picks-length : (σ : Valuation) (cs : List Constraint) → length (picksOf σ cs) ≡ length (auxiliariesOf cs)
-  unfolding blockOf
-  picks-length σ [] = refl
-  picks-length σ (c ∷ cs) =
-      length-append (pick β σ (builtin c)) (picksOf σ cs)
-      ∙ ap₂ _+_ (laws β (builtin c) .filled σ) (picks-length σ cs)
-      ∙ sym (length-append (blockOf β c .auxiliaries) (auxiliariesOf cs))
-
-  -- ---- what the rest of the proof cites
-
-  module _ (n first : ℕ) (cs : List Constraint) (formed : All (λ c. Formed n (blockOf β c)) cs) where
-    pub rows-sound : (ρ σ α : Valuation) → Agrees n first ρ σ α → AllFit σ cs → Keeps (auxiliariesOf cs) α → All (Sat ρ) (rowsFrom first cs) → AllTrue σ cs
-    rows-sound ρ σ α a f k s = sound-all σ α cs f (blocks n first ρ σ α cs formed a .0 (k, s))
-
-    pub rows-complete : (ρ σ : Valuation) (rest : List ℤ) → Agrees n first ρ σ (value (picksOf σ cs ++ rest)) → AllFit σ cs → AllTrue σ cs →
-        Keeps (auxiliariesOf cs) (value (picksOf σ cs ++ rest)) × All (Sat ρ) (rowsFrom first cs)
-    rows-complete ρ σ rest a f m = blocks n first ρ σ (value (picksOf σ cs ++ rest)) cs formed a .1 (complete-all σ cs f m rest)
-
-    pub rows-only : (ρ σ α : Valuation) → Agrees n first ρ σ α → AllFit σ cs → Keeps (auxiliariesOf cs) α → All (Sat ρ) (rowsFrom first cs) → Are (picksOf σ cs) α
-    rows-only ρ σ α a f k s = only-all σ α cs f (blocks n first ρ σ α cs formed a .0 (k, s))
+  pub picks-length : (σ : Valuation) (first : ℕ) (e : Encoded) (cs : List Constraint) → length (picksFrom σ first e cs) ≡ length (auxiliariesFrom first e cs)
+  unfolding eachBlock blockOf
+  picks-length σ first e [] = refl
+  picks-length σ first e (c ∷ cs) =
+      let n = first + size e c in
+      length-append (pickAfter β s e σ (choice c) (builtin c)) (picksFrom σ n (after first e c) cs)
+      ∙ ap₂ _+_ (picked β s e σ (choice c) (builtin c)) (picks-length σ n (after first e c) cs)
+      ∙ sym (length-append (blockOf β s e c .auxiliaries) (auxiliariesFrom n (after first e c) cs))

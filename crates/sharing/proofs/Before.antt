@@ -29,11 +29,13 @@ use Rattle.models.proofs.Numbers.{Alike, reads-alike, numbers-in}
 use Rattle.rowsystems.specs.Row.{Row, sum≤0, sum=0, product, renameTerms, rename}
 use Rattle.rowsystems.specs.RowWords.{boundWords, termWords, sumWords, rowWords, boundNumbers, rowNumbers}
 use Rattle.rules.specs.Block.{Block, numbered, blockWords, blockNumbers, outside, outsideIn}
-use Rattle.rules.specs.Translation.{bounds, blockOf, blocksWords, systemWords}
+use Rattle.rules.specs.Shared.{Encoded, noneYet}
+use Rattle.rules.specs.Translation.{bounds, shared, blockOf, eachBlock, blocksWords, ofBlocks, systemWords}
 use Rattle.rules.specs.Check.{blockFaultIn, blocksFaultIn, checkFaultIn, checkIn}
 use Rattle.rules.specs.Translate.{translateFaultIn, translateIn, translatedIn}
 use Rattle.rules.specs.Fill.{fillFaultIn, fillIn, filledIn}
 use Rattle.sharing.specs.SharedSolutions.{Passes}
+use Rattle.sharing.proofs.Assembly.{after}
 use Rattle.sharing.proofs.Accepts.{Fine, passes-read, passes-fine}
 
 -- ---- two ranges
@@ -48,19 +50,24 @@ module _ (r r′ : Bounds) where
     pub fill : (vs : List ℤ) (room : ℕ) → fillIn r ws vs room ≡ fillIn r′ ws vs room
     pub filled : (vs out : List ℤ) → filledIn r ws vs out ≡ filledIn r′ ws vs out
 
-  abbrev BlockAlike : (ℕ → Bounds) → Constraint → Type 0
-  BlockAlike β c = outsideIn r (blockOf β c) ≡ outsideIn r′ (blockOf β c)
+  module _ (β : ℕ → Bounds) (s : ℕ → Bool) where
+    -- 13 says the same of every block
+    abbrev BlocksAlike : ℕ → Encoded → List Constraint → Type 0
+    BlocksAlike first e [] = Unit {0}
+    BlocksAlike first e (c ∷ cs) =
+        (outsideIn r (blockOf β s e c) ≡ outsideIn r′ (blockOf β s e c))
+        × BlocksAlike (first + length (blockOf β s e c .auxiliaries)) (after β s first e c) cs
 
-  blocks-alike : (β : ℕ → Bounds) (first : ℕ) (cs : List Constraint) → All (BlockAlike β) cs → blocksFaultIn r β first cs ≡ blocksFaultIn r′ β first cs
-  unfolding blocksFaultIn blockFaultIn
-  blocks-alike β first [] h = refl
-  blocks-alike β first (c ∷ cs) h = rw (h .0, blocks-alike β (first + length (blockOf β c .auxiliaries)) cs (h .1)) refl
+    blocks-alike : (first : ℕ) (e : Encoded) (cs : List Constraint) → BlocksAlike first e cs → blocksFaultIn r β s first e cs ≡ blocksFaultIn r′ β s first e cs
+    unfolding blocksFaultIn blockFaultIn
+    blocks-alike first e [] h = refl
+    blocks-alike first e (c ∷ cs) h = rw (h .0, blocks-alike (first + length (blockOf β s e c .auxiliaries)) (after β s first e c) cs (h .1)) refl
 
-  alike : (ws : List ℕ) → All (Alike r r′) ws → All (BlockAlike (bounds ws)) (constraints ws) → SameAnswers ws
+  alike : (ws : List ℕ) → All (Alike r r′) ws → BlocksAlike (bounds ws) (shared ws) (length (variables ws)) noneYet (constraints ws) → SameAnswers ws
   unfolding checkFaultIn checkIn translateFaultIn translateIn translatedIn fillFaultIn fillIn filledIn
   alike ws words blocks =
       let reads = reads-alike r r′ ws words in
-      let faults = blocks-alike (bounds ws) (length (variables ws)) (constraints ws) blocks in
+      let faults = blocks-alike (bounds ws) (shared ws) (length (variables ws)) noneYet (constraints ws) blocks in
       record {
         faults = rw (reads, faults) refl;
         check = rw (reads, faults) refl;
@@ -79,7 +86,7 @@ NotLowest w = isSigned (kind w) ≡ true → payload w ≢ Limit.half
 -- none of the model's words holds it, and none of the rows and auxiliary bounds that the rules lay down
 pub record WithoutLowest (ws : List ℕ) : Type 0 where
   pub words : All NotLowest ws
-  pub rows : All (λ c. All (λ z. z ≢ before .lower) (blockNumbers (blockOf (bounds ws) c))) (constraints ws)
+  pub rows : All (λ z. z ≢ before .lower) (ofBlocks ws (λ first e c. blockNumbers (blockOf (bounds ws) (shared ws) e c)))
 
 word-alike : (w : ℕ) → NotLowest w → Alike before Limit.range w
 word-alike w h s = never-too-low w ∙ sym (lowest-alone w ∙ ne-eqb _ _ (h s))
@@ -105,12 +112,19 @@ unfolding all
 numbers-alike [] h = refl
 numbers-alike (z ∷ zs) h = rw (number-alike z (h .0), numbers-alike zs (h .1)) refl
 
+numbers-blocks : (β : ℕ → Bounds) (s : ℕ → Bool) (first : ℕ) (e : Encoded) (cs : List Constraint) →
+    All (λ z. z ≢ before .lower) (eachBlock β s (λ first e c. blockNumbers (blockOf β s e c)) first e cs) → BlocksAlike before Limit.range β s first e cs
+unfolding eachBlock outsideIn
+numbers-blocks β s first e [] h = tt
+numbers-blocks β s first e (c ∷ cs) h =
+    let k = all-append (λ z. z ≢ before .lower) (blockNumbers (blockOf β s e c)) _ .0 h in
+    (rw (numbers-alike (blockNumbers (blockOf β s e c)) (k .0)) refl, numbers-blocks β s _ _ cs (k .1))
+
 pub as-before : (ws : List ℕ) → WithoutLowest ws → SameAnswers before Limit.range ws
-unfolding outsideIn
 as-before ws h =
     alike before Limit.range ws
     (all-implies NotLowest (Alike before Limit.range) word-alike ws (h .words))
-    (all-implies (λ c. All (λ z. z ≢ before .lower) (blockNumbers (blockOf (bounds ws) c))) (BlockAlike before Limit.range (bounds ws)) (λ c n. rw (numbers-alike (blockNumbers (blockOf (bounds ws) c)) n) refl) (constraints ws) (h .rows))
+    (numbers-blocks (bounds ws) (shared ws) (length (variables ws)) noneYet (constraints ws) (h .rows))
 
 -- ---- the same of the words that the rules lay down
 
@@ -159,19 +173,22 @@ block-other first B h =
       flat NotLowest Other (λ q. rowWords (rename (numbered first) q)) rowNumbers (row-other (numbered first)) (B .rows) (k .1),
     )
 
-blocks-other : (β : ℕ → Bounds) (first : ℕ) (cs : List Constraint) → All NotLowest (blocksWords β first cs) → All (λ c. All Other (blockNumbers (blockOf β c))) cs
-unfolding blocksWords
-blocks-other β first [] h = tt
-blocks-other β first (c ∷ cs) h =
-    let k = all-append NotLowest (blockWords first (blockOf β c)) (blocksWords β (first + length (blockOf β c .auxiliaries)) cs) .0 h in
-    (block-other first (blockOf β c) (k .0), blocks-other β _ cs (k .1))
+blocks-other : (β : ℕ → Bounds) (s : ℕ → Bool) (first : ℕ) (e : Encoded) (cs : List Constraint) → All NotLowest (blocksWords β s first e cs) →
+    All Other (eachBlock β s (λ first e c. blockNumbers (blockOf β s e c)) first e cs)
+unfolding blocksWords eachBlock
+blocks-other β s first e [] h = tt
+blocks-other β s first e (c ∷ cs) h =
+    let k = all-append NotLowest (blockWords first (blockOf β s e c)) _ .0 h in
+    all-append Other (blockNumbers (blockOf β s e c)) _ .1 (block-other first (blockOf β s e c) (k .0), blocks-other β s _ _ cs (k .1))
 
 -- no word of the model and of its row system holds the lowest number
 pub words-as-before : (ws : List ℕ) → All NotLowest ws → All NotLowest (systemWords ws) → SameAnswers before Limit.range ws
 unfolding systemWords
 words-as-before ws h k =
+    let n = length (variables ws) in
     let q = all-append NotLowest (sourceWords ws) _ .0 k .1 in
-    as-before ws (record { words = h; rows = blocks-other (bounds ws) (length (variables ws)) (constraints ws) (all-append NotLowest (blocksWords (bounds ws) (length (variables ws)) (constraints ws)) _ .0 q .0) })
+    let blocks = all-append NotLowest (blocksWords (bounds ws) (shared ws) n noneYet (constraints ws)) _ .0 q .0 in
+    as-before ws (record { words = h; rows = blocks-other (bounds ws) (shared ws) n noneYet (constraints ws) blocks })
 
 -- ---- models that pass the check
 
@@ -187,16 +204,16 @@ block-passes B e = let h : all inRange (blockNumbers B) ≡ true = not-false _ e
         (all-implies (λ z. inRange z ≡ true) (λ z. within before z ≡ true) (λ z i. let k = says-within Limit.range z .0 i in says-within before z .1 (omega (arithZ, k .0), k .1)) zs
         (says-all inRange (λ z. inRange z ≡ true) (λ z. (λ e. e, λ e. e)) zs .0 h))
 
-fine-alike : (β : ℕ → Bounds) (first : ℕ) (cs : List Constraint) → Fine β first cs → All (BlockAlike before Limit.range β) cs
-fine-alike β first [] f = tt
-fine-alike β first (c ∷ cs) f = (block-passes (blockOf β c) (f .1), fine-alike β _ cs (f .3))
+fine-alike : (β : ℕ → Bounds) (s : ℕ → Bool) (first : ℕ) (e : Encoded) (cs : List Constraint) → Fine β s first e cs → BlocksAlike before Limit.range β s first e cs
+fine-alike β s first e [] f = tt
+fine-alike β s first e (c ∷ cs) f = (block-passes (blockOf β s e c) (f .1), fine-alike β s _ _ cs (f .3))
 
 -- where check accepts, it accepted in 01's range, and every answer is the same
 pub passes-alike : (ws : List ℕ) → Passes ws → SameAnswers before Limit.range ws
 passes-alike ws passes =
     alike before Limit.range ws
     (all-implies NumberIn (Alike before Limit.range) word-passes ws (numbers-in ws (passes-read ws passes)))
-    (fine-alike (bounds ws) (length (variables ws)) (constraints ws) (passes-fine ws passes))
+    (fine-alike (bounds ws) (shared ws) (length (variables ws)) noneYet (constraints ws) (passes-fine ws passes))
 
 pub passed-before : (ws : List ℕ) → Passes ws → checkFaultIn before ws ≡ accepted
 passed-before ws passes = passes-alike ws passes .faults ∙ passes

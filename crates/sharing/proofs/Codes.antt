@@ -16,9 +16,9 @@ use Rattle.sharing.proofs.BooleanLists.{bool-clause-sound, bool-clause-
 use Rattle.sharing.proofs.Elements.{array-int-element-sound, array-int-element-complete, array-int-element-filled, array-int-element-determined, array-var-int-element-sound, array-var-int-element-complete, array-var-int-element-filled, array-var-int-element-determined}
 use Rattle.sharing.proofs.Maximum.{array-int-maximum-sound, array-int-maximum-complete, array-int-maximum-filled, array-int-maximum-determined, array-int-minimum-sound, array-int-minimum-complete, array-int-minimum-filled, array-int-minimum-determined}
 use Rattle.sharing.proofs.Sets.{set-in-sound, set-in-complete, set-in-filled, set-in-determined, set-in-reif-sound, set-in-reif-complete, set-in-reif-filled, set-in-reif-determined}
-use mathlib.Core.Path.{_≡_, refl}
+use mathlib.Core.Path.{_≡_, refl, sym, _∙_}
 use mathlib.Core.Logic.{_↔_}
-use mathlib.Core.Bool.{Bool, true, false}
+use mathlib.Core.Bool.{Bool, true, false, _||_}
 use mathlib.Core.List.{List, [], _∷_, map, zipWith}
 use native.Mathlib.Omega.{arith}
 use lib.IntN.{ℤ}
@@ -27,26 +27,28 @@ use lib.Dec.{leb}
 use borrow.Author.Tests.{ltb-false, leb-true}
 use Rattle.integers.specs.Choice.{_if_else_}
 use Rattle.integers.specs.Number.{_⊖_, count, +0, +1, -1, -2}
+use Rattle.integers.specs.Lists.{any}
 use Rattle.integers.specs.Bounds.{width, values}
 use Rattle.integers.proofs.Linear.{arithZ}
 use Rattle.integers.proofs.Lists.{all-append, all-mapped, listOf-length}
 use Rattle.integers.proofs.Tests.{In, All}
 use Rattle.models.specs.Model.{Constraint, var, size, vars, nums, terms, builtins, builtin}
 use Rattle.models.proofs.Arguments.{integerArguments, booleanArguments, builtinWords}
-use Rattle.rules.specs.Block.{Ref, source, aux, blockWords}
+use Rattle.rules.specs.Block.{Ref, source, aux}
 use Rattle.rules.specs.Parts.{_─_≤0, _─_=0, each, one, oneBit, chosen, products, nth, places, members}
+use Rattle.rules.specs.Shared.{choice, encodes}
 use Rattle.rules.specs.Check.{tooWide}
 use Rattle.rules.specs.Division.{divisionTable, tableRow, divisionRows, remainderRow}
 use Rattle.rules.specs.Rule.{rule, linked, signed, onlyNegative, whereOne, whereZero, orderReified, absolute, touching, linNotEqual, zeroRows, zeroReified, linLessEqualReified, sameRows, sameReified, numberElement, variableElement, oneOf, inSet, inSetReified, division, leftOver}
 use Rattle.rules.specs.Pick.{pick, signPick, signedPick, divisionPick, leftOverPick}
 use Rattle.sharing.proofs.OneHot.{bits-length}
-use Rattle.sharing.proofs.Members.{members-length}
+use Rattle.rules.proofs.Members.{members-length}
 use Rattle.rules.proofs.Lengths.{sources-length, each-length, weighted-length, values-length}
 use Rattle.sharing.proofs.Places.{value-place, places-length, all-nth, members-in}
 use Rattle.sharing.proofs.Formed.{TermIn, RowIn, Formed, Short, bit-ordered, Z-ordered, endProducts-ordered, L-U-ordered, bits-ordered, signed-ordered, gated-ordered, append-in, sources-terms, each-in, less-in, chosen-in, choice-in, products-in, linked-in, zeroReified-formed, oneOf-formed, division-formed, leftOver-formed}
-use Rattle.sharing.proofs.Sizes.{total, rowSize, total-append, total-map, total-same, products-size, firstOnly-size, block-length}
+use Rattle.sharing.proofs.Sizes.{total, rowSize, total-append, total-map, total-same, products-size, firstOnly-size}
 
-ruleset lengths = (length-append, length-map, sources-length, each-length, bits-length, weighted-length, total-append, total-map, products-size)
+pub ruleset lengths = (length-append, length-map, sources-length, each-length, bits-length, weighted-length, total-append, total-map, products-size)
 
 -- what is proved of a builtin over variables with these bounds
 pub record Laws (β : ℕ → Bounds) (b : Builtin) : Type 1 where
@@ -460,10 +462,6 @@ laws β (int-pow x k z) = record {
   formed = λ n h l s. powered-formed n β x k z (h .0) (h .1 .0);
 }
 
-pub block-size : (first : ℕ) (β : ℕ → Bounds) (b : Builtin) → laws β b .Sizes →
-    length (blockWords first (rule β b)) ≤ 8 * (1 + builtinWords b) + 40 * length (rule β b .auxiliaries)
-block-size first β b s = rw (block-length first (rule β b)) (laws β b .small s)
-
 -- ---- the builtins of constraints that are not too wide
 
 -- what holds of every place of a table and its entry
@@ -491,15 +489,25 @@ function-unit A = (λ h. tt, λ t a. tt)
 pair-unit : (A : Type 0) → (Unit {0} × A) ↔ A
 pair-unit A = (λ h. h .1, λ a. (tt, a))
 
-pub sized : (β : ℕ → Bounds) (c : Constraint) → tooWide β c ≡ false → laws β (builtin c) .Sizes
-unfolding tooWide builtin builtins laws vars nums terms
-sized β c e = entry Small builtins (λ ws. int-eq 0 0) table (λ k ws w. tt) (c .code) (c .arguments) narrow
+pub any-one : {A : Type 0} (t : A → Bool) (x : A) → any t (x ∷ []) ≡ t x
+unfolding any
+any-one t x = go (t x)
+  where
+    go : (b : Bool) → (b || false) ≡ b
+    go true = refl
+    go false = refl
+
+-- 28's x has at most 64 values
+narrow-28 : (β : ℕ → Bounds) (s : ℕ → Bool) (c : Constraint) → tooWide β s c ≡ false → c .code ≡ 28 → width (β (var (c .arguments) 0)) ≤ Limit.setBits
+unfolding tooWide choice encodes
+narrow-28 β s c e d = ltb-false _ _ (sym (any-one _ _) ∙ (rw d at e))
+
+pub sized : (β : ℕ → Bounds) (s : ℕ → Bool) (c : Constraint) → tooWide β s c ≡ false → laws β (builtin c) .Sizes
+unfolding builtin builtins laws vars nums terms
+sized β s c e = entry Small builtins (λ ws. int-eq 0 0) table (λ k ws w. tt) (c .code) (c .arguments) (narrow-28 β s c e)
   where
     Small : ℕ → (List ℕ → Builtin) → Type 0
     Small k f = (ws : List ℕ) → (k ≡ 28 → width (β (var ws 0)) ≤ Limit.setBits) → laws β (f ws) .Sizes
-
-    narrow : c .code ≡ 28 → width (β (var (c .arguments) 0)) ≤ Limit.setBits
-    narrow d = ltb-false _ _ (rw d at e)
 
     table : AllAt Small builtins
     table = simp (listOf-length, size-small, function-unit, pair-unit) (λ ws w. w refl, tt)

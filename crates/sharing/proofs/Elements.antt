@@ -24,17 +24,17 @@ use Rattle.sharing.proofs.Good.{Good, Sat, see}
 use Rattle.sharing.proofs.Fits.{Fits}
 use Rattle.sharing.proofs.Basics.{Determined}
 use Rattle.sharing.proofs.OneHot.{chosen-one, chosen-at, one-hot-sound, one-hot-complete, chosen-value, picked-value, bits-filled}
-use Rattle.sharing.proofs.Members.{member-passes, values-member, values-distinct}
+use Rattle.rules.proofs.Members.{member-passes, values-member, values-distinct}
 use Rattle.sharing.proofs.Gates.{gates-at, gates-keep, gates-sound, gates-complete, gates-filled, gates-are}
 use Rattle.sharing.proofs.FirstOnly.{value-bits}
 
 -- ---- an element by its place
 
 -- i is a place of a list of n elements
-abbrev Place : ℤ → ℕ → Type 0
+abbrev pub Place : ℤ → ℕ → Type 0
 Place i n = (+1 ⊑ i) × (i ⊑ pos n)
 
-says-element : (i : ℤ) (xs : List ℤ) (c : ℤ) → Says (element i xs c) (Place i (length xs) × (nth +0 xs i ≡ c))
+pub says-element : (i : ℤ) (xs : List ℤ) (c : ℤ) → Says (element i xs c) (Place i (length xs) × (nth +0 xs i ≡ c))
 unfolding element nth count
 says-element (pos i) xs c = says-and (says-and (says-le +1 (pos i)) (says-le (pos i) (pos (length xs)))) (says-equal (getD xs (i - 1) +0) c)
 says-element (negsuc i) xs c = (λ e. false-true e, λ h. absurd (h .0 .0 .le))
@@ -64,7 +64,7 @@ nth-map σ xs j p = go xs (count j - 1) (place-below (length xs) j p)
     go (x ∷ xs) zero l = refl
     go (x ∷ xs) (suc k) l = go xs k (omega arith)
 
-says-variable-element : (σ : Valuation) (i : ℤ) (xs : List ℕ) (c : ℤ) → Says (element i (map σ xs) c) (Place i (length xs) × (σ (nth 0 xs i) ≡ c))
+pub says-variable-element : (σ : Valuation) (i : ℤ) (xs : List ℕ) (c : ℤ) → Says (element i (map σ xs) c) (Place i (length xs) × (σ (nth 0 xs i) ≡ c))
 says-variable-element σ i xs c =
     let s = rw (length-map xs σ) at (says-element i (map σ xs) c) in
     (λ t. let h = s .0 t in (h .0, sym (nth-map σ xs i (h .0)) ∙ h .1), λ h. s .1 (h .0, nth-map σ xs i (h .0) ∙ h .1))

@@ -20,7 +20,7 @@ use Rattle.rules.specs.Rule.{firstOnly}
 use Rattle.rules.specs.Pick.{firstBit}
 use Rattle.sharing.proofs.Good.{dot, Sat, see, Keeps, Are}
 use Rattle.sharing.proofs.OneHot.{bitSum, From, from-zero, from-tail, dot-weighted, oneBit-law, chosen-law, keeps-bit, skip, take, not-negative, all-zero, chooses, zeros}
-use Rattle.sharing.proofs.Members.{Distinct}
+use Rattle.rules.proofs.Members.{Distinct}
 
 -- where a later bit is 1, P holds of the label
 abbrev pub FirstOnly : {A : Type 0} → (A → Type 0) → List A → Valuation → Type 0

@@ -91,7 +91,7 @@ module _ {A : Type 0} (B : A → Bounds) (ls : List A) where
   pub gates-sound : (σ α : Valuation) → Keeps gateBounds α → Sat (see σ α) (oneBit ls) → (l : A) × Chooses ls α l
   gates-sound σ α k s = one-hot-sound ls σ α (gates-keep α (λ j. α (length ls + j)) (λ j. refl) .0 k .0) s
 
-gate-in : (b : ℤ) → Bit b → (l u x : ℤ) → In (l to u) x → In (Z (l to u)) (x ⊗ b)
+pub gate-in : (b : ℤ) → Bit b → (l u x : ℤ) → In (l to u) x → In (Z (l to u)) (x ⊗ b)
 unfolding Z
 gate-in = simp zero-one (simp linear (omega arith))
 

@@ -11,7 +11,6 @@ pub mod Booleans
 pub mod BooleanLists
 pub mod OneHot
 pub mod Gates
-pub mod Members
 pub mod FirstOnly
 pub mod Elements
 pub mod Maximum
@@ -21,6 +20,10 @@ pub mod Formed
 pub mod Sizes
 pub mod Power
 pub mod Codes
+pub mod Encoding
+pub mod Choices
+pub mod ChoicesFormed
+pub mod ChoicesSizes
 pub mod Numbering
 pub mod Assembly
 pub mod Satisfied
@@ -28,8 +31,10 @@ pub mod Shared
 pub mod Accepts
 pub mod Written
 pub mod Few
+pub mod WellFormed
 pub mod Theorem
 pub mod Judged
 pub mod Ranges
 pub mod Opposites
 pub mod Before
+pub mod Saving

@@ -12,7 +12,7 @@ use Rattle.integers.proofs.Lists.{all-members}
 use Rattle.integers.proofs.Tests.{In, All}
 use Rattle.rules.specs.Parts.{nth, places, members}
 use Rattle.rules.proofs.Lengths.{values-length}
-use Rattle.sharing.proofs.Members.{members-member}
+use Rattle.rules.proofs.Members.{members-member}
 use Rattle.sharing.proofs.Elements.{nth-all, labels-place}
 
 pub places-length : (I : Bounds) (n : ℕ) → length (values (places I n)) ≤ n

@@ -1,4 +1,5 @@
--- Code 39: the chain of products holds the power, by one induction for every exponent; its block is sound and complete, filled, determined and well formed.
+-- Code 39: the chain of products holds the power, by one induction for every exponent; its block is sound and complete, filled, determined and well
+-- formed.
 use mathlib.Core.Path.{_≡_, refl, sym, ap, ap₂, _∙_, subst}
 use mathlib.Core.Logic.{_↔_}
 use mathlib.Core.List.{List, [], _∷_, _++_, append-assoc}
@@ -38,7 +39,7 @@ unfolding value
 first-of y rest = refl
 
 module _ (σ : Valuation) where
-  -- the power keeps its bounds; the picks, followed by anything, satisfy the chain; and where the chain is satisfied its result is the power, and the
+  -- the power keeps its bounds; the picks, followed by anything, satisfy the chain; and where the chain is satisfied its result is the power, and its
   -- auxiliaries are the picks
   record Works (c : Chain) (v : Values) : Type 0 where
     kept : In (c .range) (v .held)
@@ -74,9 +75,9 @@ module _ (σ : Valuation) where
             s .1 .0 ∙ ap₂ _⊗_ (factor α (s .0)) (h .sound α (s .0));
         determined = λ α g.
             let s = all-append (Sat (see σ α)) (c .products) (p ∷ []) .0 g in
-            let γ : Valuation = λ j. α (length (v .picked) + j) in
-            let last : γ 0 ≡ y = let e : length (v .picked) + 0 ≡ n = omega (arith, h .filled) in ap α e ∙ s .1 .0 ∙ ap₂ _⊗_ (factor α (s .0)) (h .sound α (s .0)) in
-            are-append (v .picked) (y ∷ []) α γ (λ j. refl) .1 (h .determined α (s .0), (last, tt));
+            let δ : Valuation = λ j. α (n + j) in
+            are-append (v .picked) (y ∷ []) α δ (λ j. ap (λ m. α (m + j)) (h .filled)) .1
+            (h .determined α (s .0), (sym (from-head n α δ (λ j. refl)) ∙ s .1 .0 ∙ ap₂ _⊗_ (factor α (s .0)) (h .sound α (s .0)), tt));
       }
 
   module _ (B : Bounds) (x : ℕ) (i : In B (σ x)) where

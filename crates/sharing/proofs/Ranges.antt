@@ -1,6 +1,6 @@
 -- What fill writes fits 32 bits: every value and every pick is in the range of signed payloads.
 use mathlib.Core.Path.{_≡_, sym, subst}
-use mathlib.Core.Bool.{true}
+use mathlib.Core.Bool.{Bool, true}
 use mathlib.Core.List.{List, [], _∷_, _++_, flatMap}
 use Prim.Native.Nat.{ℕ, _<_}
 use lib.IntN.{ℤ}
@@ -20,9 +20,10 @@ use Rattle.models.proofs.Accepted as Accepted
 use Rattle.rowsystems.specs.RowWords.{boundNumbers, rowNumbers}
 use Rattle.rowsystems.proofs.ReadBack.{Ranged}
 use Rattle.rules.specs.Block.{blockNumbers}
-use Rattle.rules.specs.Translation.{blockOf, systemWords, picks}
+use Rattle.rules.specs.Shared.{Encoded, noneYet}
+use Rattle.rules.specs.Translation.{shared, blockOf, eachBlock, systemWords, picks}
 use Rattle.sharing.specs.SharedSolutions.{Passes, SatisfiesModel, SatisfiesRows}
-use Rattle.sharing.proofs.Assembly.{auxiliariesOf}
+use Rattle.sharing.proofs.Assembly.{auxiliariesFrom}
 use Rattle.sharing.proofs.Accepts.{Fine, passes-read}
 use Rattle.sharing.proofs.Written.{in-range}
 use Rattle.sharing.proofs.Theorem.{fine, same-bounds, fill-satisfies}
@@ -37,14 +38,14 @@ unfolding flatMap boundNumbers
 bounds-in [] h = tt
 bounds-in (B ∷ Bs) h = ((h .0, h .1 .0), bounds-in Bs (h .1 .1))
 
-blocks-in : (β : ℕ → Bounds) (first : ℕ) (cs : List Constraint) → Fine β first cs → All BothIn (auxiliariesOf β cs)
-unfolding blockNumbers
-blocks-in β first [] f = tt
-blocks-in β first (c ∷ cs) f =
-    let B = blockOf β c in
-    all-append BothIn (B .auxiliaries) (auxiliariesOf β cs) .1 (
-      bounds-in (B .auxiliaries) (all-append (λ z. inRange z ≡ true) (flatMap boundNumbers (B .auxiliaries)) (flatMap rowNumbers (B .rows)) .0 (in-range β c (f .1)) .0),
-      blocks-in β _ cs (f .3),
+blocks-in : (β : ℕ → Bounds) (s : ℕ → Bool) (first : ℕ) (e : Encoded) (cs : List Constraint) → Fine β s first e cs → All BothIn (auxiliariesFrom β s first e cs)
+unfolding blockNumbers eachBlock
+blocks-in β s first e [] f = tt
+blocks-in β s first e (c ∷ cs) f =
+    let B = blockOf β s e c in
+    all-append BothIn (B .auxiliaries) (auxiliariesFrom β s _ _ cs) .1 (
+      bounds-in (B .auxiliaries) (all-append (λ z. inRange z ≡ true) (flatMap boundNumbers (B .auxiliaries)) (flatMap rowNumbers (B .rows)) .0 (in-range B (f .1)) .0),
+      blocks-in β s _ _ cs (f .3),
     )
 
 value-in : (B : Bounds) (x : ℤ) → BothIn B → In B x → inRange x ≡ true
@@ -66,6 +67,6 @@ fill-in-range ws passes vs s =
     (subst (All BothIn) (sym (same-bounds ws passes))
     (all-append BothIn (variables ws) _ .1 (
       all-implies Ordered BothIn (λ B o. (o .lower-in, o .upper-in)) (variables ws) (Accepted.ordered ws (passes-read ws passes)),
-      blocks-in (boundsIn (variables ws)) (length (variables ws)) (constraints ws) (fine ws passes),
+      blocks-in (boundsIn (variables ws)) (shared ws) (length (variables ws)) noneYet (constraints ws) (fine ws passes),
     )))
     (fill-satisfies ws passes vs s)

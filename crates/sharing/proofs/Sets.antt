@@ -20,15 +20,16 @@ use Rattle.models.specs.Builtin.{set-in, set-in-reif}
 use Rattle.models.specs.Meaning.{meaning, on, member}
 use Rattle.models.proofs.Arguments.{integerArguments, booleanArguments}
 use Rattle.rowsystems.specs.Row.{sum=0}
-use Rattle.rules.specs.Block.{Ref, source, aux}
-use Rattle.rules.specs.Parts.{members}
+use Rattle.rules.specs.Block.{source, aux}
+use Rattle.rules.specs.Parts.{one, members}
+use Rattle.rules.specs.Shared.{keep}
 use Rattle.rules.specs.Rule.{rule, inSet, inSetReified}
 use Rattle.rules.specs.Pick.{bitOf, pick}
 use Rattle.sharing.proofs.Good.{dot, Good, Sat, see}
 use Rattle.sharing.proofs.Fits.{Fits}
 use Rattle.sharing.proofs.Basics.{Determined}
 use Rattle.sharing.proofs.OneHot.{dot-append, bitSum, less-variable, Chooses, chosen-one, chosen-at, one-hot-sound, one-hot-complete, chosen-value, picked-value, bits-filled}
-use Rattle.sharing.proofs.Members.{keep, member-passes, says-member, values-member, members-values, members-member, values-distinct, members-distinct}
+use Rattle.rules.proofs.Members.{member-passes, says-member, values-member, members-values, members-member, values-distinct, members-distinct}
 use Rattle.sharing.proofs.FirstOnly.{value-bits}
 
 -- ---- 27
@@ -63,38 +64,38 @@ set-in-determined β σ x S α f g = value-bits _ σ α x (members-distinct S (�
 
 -- ---- 28
 
--- the bits of the labels that pass a test, the label of place k having its bit at the place g
-dot-keep : {A : Type 0} (t : A → Bool) (f : ℕ → A) (n : ℕ) (g : A → ℕ) (σ α γ : Valuation) → ((k : ℕ) → α (g (f k)) ≡ γ k) →
-    dot (see σ α) (map (λ v. +1 · aux (g v)) (keep t (listOf f n))) ≡ bitSum (λ v. bitOf (t v)) (listOf f n) γ
-unfolding listOf bitOf
-dot-keep t f zero g σ α γ h = refl
-dot-keep {A} t f (suc n) g σ α γ h = go (t (f 0)) (dot-keep t (λ k. f (suc k)) n g σ α (λ k. γ (suc k)) (λ k. h (suc k)))
+-- Σ w×bit over the labels that pass a test, the label of place k having its bit at g
+pub dot-kept : {A X : Type 0} (w : A → ℤ) (t : A → Bool) (f : ℕ → A) (n : ℕ) (g : A → X) (θ : X → ℤ) (γ : Valuation) → ((k : ℕ) → θ (g (f k)) ≡ γ k) →
+    dot θ (map (λ v. w v · g v) (keep t (listOf f n))) ≡ bitSum (λ v. w v if t v else +0) (listOf f n) γ
+unfolding listOf
+dot-kept w t f zero g θ γ h = refl
+dot-kept {A} {X} w t f (suc n) g θ γ h = go (t (f 0)) (dot-kept w t (λ k. f (suc k)) n g θ (λ k. γ (suc k)) (λ k. h (suc k)))
   where
-    row : List A → List (Term Ref)
-    row vs = map (λ v. +1 · aux (g v)) vs
+    row : List A → List (Term X)
+    row vs = map (λ v. w v · g v) vs
 
     K : List A
     K = keep t (listOf (λ k. f (suc k)) n)
 
     H : ℤ
-    H = bitSum (λ v. bitOf (t v)) (listOf (λ k. f (suc k)) n) (λ k. γ (suc k))
+    H = bitSum (λ v. w v if t v else +0) (listOf (λ k. f (suc k)) n) (λ k. γ (suc k))
 
     without : (s h x : ℤ) → s ≡ h → s ≡ pos 0 ⊗ x ⊕ h
     without = simp linear (omega arith)
 
-    go : (b : Bool) → dot (see σ α) (row K) ≡ H → dot (see σ α) (row (f 0 ∷ K if b else K)) ≡ bitOf b ⊗ γ 0 ⊕ H
+    go : (b : Bool) → dot θ (row K) ≡ H → dot θ (row (f 0 ∷ K if b else K)) ≡ (w (f 0) if b else +0) ⊗ γ 0 ⊕ H
     go true e = rw (h 0, e)
     go false e = without _ _ _ e
 
 -- the third row: r is 1 exactly where the chosen value is in the set
 third-row : (B : Bounds) (S : List ℤ) (r : ℕ) (σ α : Valuation) (v : ℤ) → Chooses (values B) α v →
     Sat (see σ α) (sum=0 (map (λ v. +1 · aux (count (v ⊖ B .lower))) (members S B) ++ (-1 · source r ∷ [])) +0) ↔ (bitOf (member v S) ≡ σ r)
-unfolding values width
+unfolding values width bitOf
 third-row B S r σ α v c =
     rw (
       dot-append (see σ α) (map (λ v. +1 · aux (count (v ⊖ B .lower))) (members S B)),
       members-values S B,
-      dot-keep (λ v. member v S) (λ k. B .lower ⊕ pos k) (count (B .upper ⊖ B .lower ⊕ +1)) (λ v. count (v ⊖ B .lower)) σ α α
+      dot-kept one (λ v. member v S) (λ k. B .lower ⊕ pos k) (count (B .upper ⊖ B .lower ⊕ +1)) (λ v. aux (count (v ⊖ B .lower))) (see σ α) α
           (λ k. ap α (place (B .lower) k)),
       c .1 (λ v. bitOf (member v S)),
     )
@@ -103,7 +104,7 @@ third-row B S r σ α v c =
     place : (l : ℤ) (k : ℕ) → count (l ⊕ pos k ⊖ l) ≡ k
     place = simp linear (omega arith)
 
-says-bit : (t : Bool) {r : ℤ} → Bit r → Says (Bool·beq (r == +1) t) (bitOf t ≡ r)
+pub says-bit : (t : Bool) {r : ℤ} → Bit r → Says (Bool·beq (r == +1) t) (bitOf t ≡ r)
 unfolding bitOf _==_
 says-bit true b0 = (λ e. false-true e, λ e. absurd (omega arithZ))
 says-bit true b1 = (λ e. refl, λ e. refl)

@@ -1,32 +1,36 @@
 -- A list satisfies a model exactly where some auxiliaries make it satisfy rows that are the model's blocks, numbered on; the picks do, and no others.
-use mathlib.Core.Path.{_≡_, sym, ap₂, _∙_, subst}
+use mathlib.Core.Path.{_≡_, refl, sym, ap₂, _∙_, subst, fun-ext}
 use mathlib.Core.Logic.{_↔_}
-use mathlib.Core.Bool.{true}
+use mathlib.Core.Bool.{Bool, true}
 use mathlib.Core.List.{List, [], _++_, append-nil}
-use Prim.Native.Nat.{ℕ, _+_, _<_}
+use Prim.Native.Nat.{ℕ, zero, suc, _+_, _<_}
 use native.Mathlib.Omega.{arith}
 use lib.IntN.{ℤ, pos}
-use lib.ListN.{length, length-append, List·getD-append}
+use lib.ListN.{length, getD, replicate, length-append, List·getD-append}
 use Rattle.integers.specs.Bounds.{bit, boundsIn}
 use Rattle.integers.specs.Terms.{Valuation, value}
 use Rattle.integers.specs.declared.Bounds.{Bounds}
 use Rattle.integers.proofs.Bits.{Bit, to-bit}
-use Rattle.integers.proofs.Lists.{all-implies}
+use Rattle.integers.proofs.Lists.{all-implies, all-both}
 use Rattle.integers.proofs.Tests.{In, All}
+use Rattle.words.specs.Limit as Limit
 use Rattle.words.specs.Variables.{variables}
 use Rattle.models.specs.Meaning.{meaning}
 use Rattle.models.specs.Model.{Constraint, constraints, builtin}
 use Rattle.models.proofs.Arguments.{integerArguments, booleanArguments}
-use Rattle.rowsystems.specs.Row.{satisfied}
+use Rattle.rowsystems.specs.Row.{Row, satisfied}
 use Rattle.rowsystems.specs.RowSystem.{rows}
-use Rattle.rules.specs.Translation.{blockOf}
+use Rattle.rules.specs.Rule.{rule}
+use Rattle.rules.specs.Shared.{firstOf, noneYet}
 use Rattle.sharing.specs.SharedSolutions.{SatisfiesModel, SatisfiesRows}
-use Rattle.sharing.proofs.Good.{Sat, says-satisfied, Keeps}
+use Rattle.sharing.proofs.Good.{Sat, says-satisfied, Keeps, Are}
 use Rattle.sharing.proofs.Fits.{Fits}
 use Rattle.sharing.proofs.Formed.{Formed}
 use Rattle.sharing.proofs.Gates.{keeps-append, are-value, from-append}
 use Rattle.sharing.proofs.Numbering.{Agrees}
-use Rattle.sharing.proofs.Assembly.{auxiliariesOf, rowsFrom, picksOf, AllTrue, AllFit, picks-length, rows-sound, rows-complete, rows-only}
+use Rattle.sharing.proofs.OneHot.{From}
+use Rattle.sharing.proofs.Encoding.{Held}
+use Rattle.sharing.proofs.Assembly.{auxiliariesFrom, rowsFrom, picksFrom, AllFormed, Plain, AllTrue, AllFit, picks-length, rows-only, rows-complete}
 use Rattle.sharing.proofs.Satisfied.{keeps-bounds, keeps-agree, satisfies}
 
 -- ---- values that keep the bounds fit every builtin
@@ -68,52 +72,82 @@ module _ (Vs As : List Bounds) (vs xs : List ℤ) (e : length vs ≡ length Vs) 
 left-length : (a b m n : ℕ) → a + b ≡ m + n → b ≡ n → a ≡ m
 left-length a b m n e f = omega arith
 
+-- nothing is recorded at first
+pub none-first : (x : ℕ) → firstOf noneYet x ≡ 0
+none-first x = zeros Limit.variables x
+  where
+    zeros : (n x : ℕ) → _≡_ {A = ℕ} (getD (replicate n 0) x 0) 0
+    zeros zero x = refl
+    zeros (suc n) zero = refl
+    zeros (suc n) (suc x) = zeros n x
+
 -- ---- the theorem over the variables and rows of the row system
 
-module _ (model system : List ℕ) (typed : All (Typed (variables model)) (constraints model))
-    (formed : All (λ c. Formed (length (variables model)) (blockOf (boundsIn (variables model)) c)) (constraints model))
-    (same-variables : variables system ≡ variables model ++ auxiliariesOf (boundsIn (variables model)) (constraints model))
-    (same-rows : rows system ≡ rowsFrom (boundsIn (variables model)) (length (variables model)) (constraints model)) where
+module _ (model system : List ℕ) (s : ℕ → Bool) (typed : All (Typed (variables model)) (constraints model))
+    (plain : All (λ c. Formed (length (variables model)) (rule (boundsIn (variables model)) (builtin c))) (constraints model))
+    (formed : AllFormed (boundsIn (variables model)) s (length (variables model)) noneYet (constraints model))
+    (same-variables : variables system ≡ variables model ++ auxiliariesFrom (boundsIn (variables model)) s (length (variables model)) noneYet (constraints model))
+    (same-rows : rows system ≡ rowsFrom (boundsIn (variables model)) s (length (variables model)) noneYet (constraints model)) where
   abbrev Vs : List Bounds
   Vs = variables model
+
+  abbrev n : ℕ
+  n = length Vs
 
   abbrev cs : List Constraint
   cs = constraints model
 
   abbrev As : List Bounds
-  As = auxiliariesOf (boundsIn Vs) cs
+  As = auxiliariesFrom (boundsIn Vs) s n noneYet cs
+
+  abbrev Rs : List (Row ℕ)
+  Rs = rowsFrom (boundsIn Vs) s n noneYet cs
 
   all-fit : (σ : Valuation) → Keeps Vs σ → AllFit (boundsIn Vs) σ cs
   all-fit σ h = all-implies (Typed Vs) (λ c. Fits (boundsIn Vs) σ (builtin c)) (fits Vs σ h) cs typed
 
+  all-plain : All (Plain (boundsIn Vs) n) cs
+  all-plain =
+      all-implies (λ c. Typed Vs c × Formed n (rule (boundsIn Vs) (builtin c))) (Plain (boundsIn Vs) n)
+      (λ c h. (h .0 .0, all-implies (λ v. (v < n) × (boundsIn Vs v ≡ bit)) (λ v. v < n) (λ v k. k .0) (booleanArguments (builtin c)) (h .0 .1), h .1)) cs
+      (all-both (Typed Vs) (λ c. Formed n (rule (boundsIn Vs) (builtin c))) cs typed plain)
+
+  none-held : (ρ : Valuation) → Held (boundsIn Vs) ρ noneYet
+  none-held ρ x h = absurd (h (none-first x))
+
   -- the model, and the system, as propositions
-  of-model : (vs : List ℤ) → SatisfiesModel model vs ↔ ((length vs ≡ length Vs) × Keeps Vs (value vs) × AllTrue (boundsIn Vs) (value vs) cs)
+  of-model : (vs : List ℤ) → SatisfiesModel model vs ↔ ((length vs ≡ n) × Keeps Vs (value vs) × AllTrue (value vs) cs)
   of-model vs = satisfies Vs (λ c. meaning (value vs) (builtin c)) (λ c. meaning (value vs) (builtin c) ≡ true) (λ c. (λ e. e, λ e. e)) cs vs
 
-  of-system : (ys : List ℤ) →
-      SatisfiesRows system ys
-      ↔ ((length ys ≡ length (Vs ++ As)) × Keeps (Vs ++ As) (value ys) × All (Sat (value ys)) (rowsFrom (boundsIn Vs) (length Vs) cs))
-  of-system ys = rw (same-variables, same-rows) (satisfies (Vs ++ As) (satisfied (value ys)) (Sat (value ys)) (says-satisfied (value ys)) (rowsFrom (boundsIn Vs) (length Vs) cs) ys)
+  of-system : (ys : List ℤ) → SatisfiesRows system ys ↔ ((length ys ≡ length (Vs ++ As)) × Keeps (Vs ++ As) (value ys) × All (Sat (value ys)) Rs)
+  of-system ys = rw (same-variables, same-rows) (satisfies (Vs ++ As) (satisfied (value ys)) (Sat (value ys)) (says-satisfied (value ys)) Rs ys)
 
-  pub picks-satisfy : (vs : List ℤ) → SatisfiesModel model vs → SatisfiesRows system (vs ++ picksOf (boundsIn Vs) (value vs) cs)
-  picks-satisfy vs s =
-      let m = of-model vs .0 s in
-      let xs = picksOf (boundsIn Vs) (value vs) cs in
-      let l = picks-length (boundsIn Vs) (value vs) cs in
-      let c = rows-complete (boundsIn Vs) (length Vs) (length Vs) cs formed (value (vs ++ (xs ++ []))) (value vs) [] (agrees (length Vs) vs (xs ++ []) (m .0)) (all-fit (value vs) (m .1)) (m .2) in
-      let d = rw (append-nil xs) at c in
-      of-system (vs ++ xs) .1 (length-append vs xs ∙ ap₂ _+_ (m .0) l ∙ sym (length-append Vs As), both-kept Vs As vs xs (m .0) .1 (m .1, d .0), d .1)
+  pub picks-satisfy : (vs : List ℤ) → SatisfiesModel model vs → SatisfiesRows system (vs ++ picksFrom (boundsIn Vs) s (value vs) n noneYet cs)
+  picks-satisfy vs h =
+      let m = of-model vs .0 h in
+      let xs = picksFrom (boundsIn Vs) s (value vs) n noneYet cs in
+      let ρ = value (vs ++ xs) in
+      let l = picks-length (boundsIn Vs) s (value vs) n noneYet cs in
+      let a = agrees n vs xs (m .0) in
+      let f : From n ρ (value (xs ++ [])) = rw (append-nil xs) (a .after) in
+      let c = rows-complete (boundsIn Vs) s n ρ (value vs) (a .before) n noneYet cs all-plain formed (all-fit (value vs) (m .1)) (none-held ρ) [] f (m .2) in
+      of-system (vs ++ xs) .1 (
+        length-append vs xs ∙ ap₂ _+_ (m .0) l ∙ sym (length-append Vs As),
+        both-kept Vs As vs xs (m .0) .1 (m .1, subst (Keeps As) (fun-ext (a .after)) (c .0)),
+        c .1,
+      )
 
   -- auxiliaries that satisfy the system with the values: the values satisfy the model, and they are the picks
   pub system-only : (vs xs : List ℤ) → length xs ≡ length As → SatisfiesRows system (vs ++ xs) →
-      SatisfiesModel model vs × (xs ≡ picksOf (boundsIn Vs) (value vs) cs)
-  system-only vs xs l s =
-      let m = of-system (vs ++ xs) .0 s in
-      let e : length vs ≡ length Vs = left-length (length vs) (length xs) (length Vs) (length As) (sym (length-append vs xs) ∙ m .0 ∙ length-append Vs As) l in
+      SatisfiesModel model vs × (xs ≡ picksFrom (boundsIn Vs) s (value vs) n noneYet cs)
+  system-only vs xs l h =
+      let m = of-system (vs ++ xs) .0 h in
+      let e : length vs ≡ n = left-length (length vs) (length xs) n (length As) (sym (length-append vs xs) ∙ m .0 ∙ length-append Vs As) l in
       let k = both-kept Vs As vs xs e .0 (m .1) in
-      let a = agrees (length Vs) vs xs e in
-      let f = all-fit (value vs) (k .0) in (
-        of-model vs .1 (e, k .0, rows-sound (boundsIn Vs) (length Vs) (length Vs) cs formed (value (vs ++ xs)) (value vs) (value xs) a f (k .1) (m .2)),
-        are-value (picksOf (boundsIn Vs) (value vs) cs) xs (picks-length (boundsIn Vs) (value vs) cs ∙ sym l)
-            (rows-only (boundsIn Vs) (length Vs) (length Vs) cs formed (value (vs ++ xs)) (value vs) (value xs) a f (k .1) (m .2)),
+      let ρ = value (vs ++ xs) in
+      let a = agrees n vs xs e in
+      let own = fun-ext (a .after) in
+      let r = rows-only (boundsIn Vs) s n ρ (value vs) (a .before) n noneYet cs all-plain formed (all-fit (value vs) (k .0)) (none-held ρ) (subst (Keeps As) (sym own) (k .1)) (m .2) in (
+        of-model vs .1 (e, k .0, r .0),
+        are-value (picksFrom (boundsIn Vs) s (value vs) n noneYet cs) xs (picks-length (boundsIn Vs) s (value vs) n noneYet cs ∙ sym l) (subst (Are (picksFrom (boundsIn Vs) s (value vs) n noneYet cs)) own (r .1)),
       )

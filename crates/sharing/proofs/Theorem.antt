@@ -1,13 +1,15 @@
 -- THE THEOREM: a model that passes the check and the words that translate writes for it share their solutions (specs/SharedSolutions.antt); fill's
--- picks are such auxiliaries, and no others are (specs/ExactlyOne.antt); judge-rows accepts the words, and says "holds" of what fill writes exactly where judge-model says it of the values.
+-- picks are such auxiliaries, and no others are (specs/ExactlyOne.antt); judge-rows accepts the words, and says "holds" of what fill writes exactly
+-- where judge-model says it of the values.
 use mathlib.Core.Path.{_≡_, refl, sym, ap, _∙_, subst}
-use mathlib.Core.List.{List, [], _∷_, _++_, flatMap}
-use Prim.Native.Nat.{ℕ, _+_, _-_, _≤_, _<_}
+use mathlib.Core.Bool.{Bool}
+use mathlib.Core.List.{List, [], _∷_, _++_}
+use Prim.Native.Nat.{ℕ, _+_, _-_, _≤_}
 use native.Mathlib.Omega.{arith}
 use lib.IntN.{ℤ}
 use lib.ListN.{length, length-append, take, drop, take-append-drop, length-drop}
-use Rattle.integers.specs.Bounds.{bit, boundsIn}
-use Rattle.integers.specs.Terms.{Valuation, value}
+use Rattle.integers.specs.Bounds.{boundsIn}
+use Rattle.integers.specs.Terms.{value}
 use Rattle.integers.specs.declared.Bounds.{Bounds}
 use Rattle.integers.proofs.Lists.{all-implies}
 use Rattle.integers.proofs.Tests.{All}
@@ -16,42 +18,22 @@ use Rattle.words.specs.Kind as Kind
 use Rattle.words.specs.Limit as Limit
 use Rattle.words.specs.Variables.{variables}
 use Rattle.words.specs.Refusal.{accepted}
-use Rattle.models.specs.Model.{Constraint, constraints, builtin}
-use Rattle.models.proofs.Arguments.{booleanArguments}
+use Rattle.models.specs.Model.{constraints, builtin}
 use Rattle.models.proofs.Accepted as Accepted
 use Rattle.rowsystems.specs.Reading.{readRows}
 use Rattle.rowsystems.proofs.ReadBack.{System, read-back}
-use Rattle.rules.specs.Translation.{bounds, blockOf, blocksWords, systemWords, auxiliaries, picks}
-use Rattle.rules.specs.Pick.{pick}
+use Rattle.rules.specs.Shared.{noneYet}
+use Rattle.rules.specs.Rule.{rule}
+use Rattle.rules.specs.Translation.{bounds, shared, blocksWords, systemWords, auxiliaries, picks}
 use Rattle.sharing.specs.SharedSolutions.{Passes, SatisfiesModel, SatisfiesRows, Completes, SharedSolutions}
 use Rattle.sharing.specs.ExactlyOne.{ExactlyOne, AsManySolutions}
 use Rattle.sharing.proofs.Formed.{Formed}
-use Rattle.sharing.proofs.Codes.{laws, sized}
-use Rattle.sharing.proofs.Assembly.{auxiliariesOf, rowsFrom, picksOf, picks-length}
-use Rattle.sharing.proofs.Shared.{Typed, picks-satisfy, system-only}
+use Rattle.sharing.proofs.Assembly.{auxiliariesFrom, rowsFrom, picksFrom, AllFormed, picks-length}
+use Rattle.sharing.proofs.Shared.{none-first, Typed, picks-satisfy, system-only}
+use Rattle.sharing.proofs.WellFormed.{plain-all, all-formed}
 use Rattle.sharing.proofs.Accepts.{Fine, passes-read, passes-fine}
 use Rattle.sharing.proofs.Written.{items}
-use Rattle.sharing.proofs.Few.{few-words, fine-count}
-
--- ---- the lists of all blocks, as the definitions name them
-
-auxiliaries-are : (β : ℕ → Bounds) (cs : List Constraint) → flatMap (λ c. blockOf β c .auxiliaries) cs ≡ auxiliariesOf β cs
-unfolding flatMap
-auxiliaries-are β [] = refl
-auxiliaries-are β (c ∷ cs) = ap (λ l. blockOf β c .auxiliaries ++ l) (auxiliaries-are β cs)
-
-picks-are : (β : ℕ → Bounds) (σ : Valuation) (cs : List Constraint) → flatMap (λ c. pick β σ (builtin c)) cs ≡ picksOf β σ cs
-unfolding flatMap
-picks-are β σ [] = refl
-picks-are β σ (c ∷ cs) = ap (λ l. pick β σ (builtin c) ++ l) (picks-are β σ cs)
-
-fine-formed : (Vs : List Bounds) (first : ℕ) (cs : List Constraint) → All (Typed Vs) cs → Fine (boundsIn Vs) first cs → All (λ c. Formed (length Vs) (blockOf (boundsIn Vs) c)) cs
-unfolding blockOf
-fine-formed Vs first [] t f = tt
-fine-formed Vs first (c ∷ cs) t f = (
-  laws (boundsIn Vs) (builtin c) .formed (length Vs) (t .0 .0) (all-implies (λ v. (v < length Vs) × (boundsIn Vs v ≡ bit)) (λ v. v < length Vs) (λ v h. h .0) (booleanArguments (builtin c)) (t .0 .1)) (sized (boundsIn Vs) c (f .0)),
-  fine-formed Vs (first + length (blockOf (boundsIn Vs) c .auxiliaries)) cs (t .1) (f .3),
-)
+use Rattle.sharing.proofs.Few.{few-words, fine-count, sources-short}
 
 -- ---- a model that passes the check
 
@@ -59,31 +41,37 @@ module _ (ws : List ℕ) (passes : Passes ws) where
   abbrev Vs : List Bounds
   Vs = variables ws
 
+  abbrev sh : ℕ → Bool
+  sh = shared ws
+
   abbrev As : List Bounds
-  As = auxiliariesOf (boundsIn Vs) (constraints ws)
+  As = auxiliariesFrom (boundsIn Vs) sh (length Vs) noneYet (constraints ws)
 
   typed : All (Typed Vs) (constraints ws)
   typed = all-implies (λ c. Accepted.TypedIn Vs (builtin c)) (Typed Vs) (λ c t. (t .integers, t .booleans)) (constraints ws) (Accepted.typed ws (passes-read ws passes))
 
-  pub fine : Fine (boundsIn Vs) (length Vs) (constraints ws)
+  pub fine : Fine (boundsIn Vs) sh (length Vs) noneYet (constraints ws)
   unfolding bounds
   fine = passes-fine ws passes
 
   few : length Vs + length As ≤ Limit.inAll
-  few = fine-count (boundsIn Vs) (length Vs) (constraints ws) fine (omega (arith, Accepted.few-variables ws (passes-read ws passes)))
+  few = fine-count (boundsIn Vs) sh (length Vs) noneYet (constraints ws) fine (omega (arith, Accepted.few-variables ws (passes-read ws passes)))
 
-  well-formed : All (λ c. Formed (length Vs) (blockOf (boundsIn Vs) c)) (constraints ws)
-  well-formed = fine-formed Vs (length Vs) (constraints ws) typed fine
+  plain : All (λ c. Formed (length Vs) (rule (boundsIn Vs) (builtin c))) (constraints ws)
+  plain = plain-all Vs sh (length Vs) noneYet (constraints ws) typed fine
+
+  well-formed : AllFormed (boundsIn Vs) sh (length Vs) noneYet (constraints ws)
+  well-formed = all-formed Vs sh (length Vs) noneYet (constraints ws) (omega arith) (λ x h. absurd (h (none-first x))) typed fine
 
   parts : Accepted.Split ws
   parts = Accepted.split ws (passes-read ws passes)
 
   after-sources : List ℕ
-  after-sources = blocksWords (boundsIn Vs) (length Vs) (constraints ws) ++ (word Kind.rowsEnd 0 ∷ [])
+  after-sources = blocksWords (boundsIn Vs) sh (length Vs) noneYet (constraints ws) ++ (word Kind.rowsEnd 0 ∷ [])
 
   words-are : systemWords ws ≡ parts .src ++ after-sources
   unfolding systemWords bounds after-sources
-  words-are = ap (λ l. l ++ (blocksWords (boundsIn Vs) (length Vs) (constraints ws) ++ (word Kind.rowsEnd 0 ∷ []))) (Accepted.sources-are parts)
+  words-are = ap (λ l. l ++ (blocksWords (boundsIn Vs) sh (length Vs) noneYet (constraints ws) ++ (word Kind.rowsEnd 0 ∷ []))) (Accepted.sources-are parts)
 
   -- 02, wish 10: "the limit on row words rises to 262,144"; the words never pass it
   pub never-too-many : length (systemWords ws) ≤ Limit.rowWords
@@ -94,20 +82,20 @@ module _ (ws : List ℕ) (passes : Passes ws) where
       (omega (
         arith,
         length-append (parts .src) after-sources,
-        length-append (blocksWords (boundsIn Vs) (length Vs) (constraints ws)) (word Kind.rowsEnd 0 ∷ []),
-        few-words ws r (boundsIn Vs) (length Vs) fine few,
+        length-append (blocksWords (boundsIn Vs) sh (length Vs) noneYet (constraints ws)) (word Kind.rowsEnd 0 ∷ []),
+        few-words ws r (boundsIn Vs) sh (length Vs) noneYet fine few,
         Accepted.few-words ws r,
-        ap length (parts .whole),
-        length-append (parts .src) (parts .rest),
+        sources-short (parts .sources),
+        Accepted.few-variables ws r,
       ))
 
-  system : System (systemWords ws) (Vs ++ As) (rowsFrom (boundsIn Vs) (length Vs) (constraints ws))
+  system : System (systemWords ws) (Vs ++ As) (rowsFrom (boundsIn Vs) sh (length Vs) noneYet (constraints ws))
   unfolding after-sources
   system =
       let few-sources : length Vs ≤ Limit.inAll = omega (arith, few) in
       rw words-are
       (read-back (parts .sources) few-sources
-      (items (boundsIn Vs) (length Vs) (length Vs) (constraints ws) (omega arith) well-formed fine)
+      (items (boundsIn Vs) sh (length Vs) noneYet (constraints ws) well-formed fine)
       (rw words-are at never-too-many))
 
   -- judge-rows refuses nothing that translate writes
@@ -115,27 +103,27 @@ module _ (ws : List ℕ) (passes : Passes ws) where
   written-read = system .read
 
   -- its variables are the sources and all auxiliaries
-  pub same-bounds : variables (systemWords ws) ≡ variables ws ++ auxiliariesOf (boundsIn (variables ws)) (constraints ws)
+  pub same-bounds : variables (systemWords ws) ≡ variables ws ++ auxiliariesFrom (boundsIn (variables ws)) (shared ws) (length (variables ws)) noneYet (constraints ws)
   same-bounds = system .the-bounds
 
   auxiliaries-count : length (auxiliaries ws) ≡ length As
   unfolding auxiliaries bounds
-  auxiliaries-count = ap length (auxiliaries-are (boundsIn Vs) (constraints ws))
+  auxiliaries-count = refl
 
   -- variables and auxiliaries together
   pub few-in-all : length (variables ws) + length (auxiliaries ws) ≤ Limit.inAll
   few-in-all = rw auxiliaries-count few
 
-  picks-count : (vs : List ℤ) → picks ws vs ≡ picksOf (boundsIn Vs) (value vs) (constraints ws)
+  picks-count : (vs : List ℤ) → picks ws vs ≡ picksFrom (boundsIn Vs) sh (value vs) (length Vs) noneYet (constraints ws)
   unfolding picks bounds
-  picks-count vs = picks-are (boundsIn Vs) (value vs) (constraints ws)
+  picks-count vs = refl
 
   -- fill's picks are one value for each auxiliary, and satisfy the row system with the values
   pub fill-counts : (vs : List ℤ) → length (picks ws vs) ≡ length (auxiliaries ws)
-  fill-counts vs = ap length (picks-count vs) ∙ picks-length (boundsIn Vs) (value vs) (constraints ws) ∙ sym auxiliaries-count
+  fill-counts vs = ap length (picks-count vs) ∙ picks-length (boundsIn Vs) sh (value vs) (length Vs) noneYet (constraints ws) ∙ sym auxiliaries-count
 
   pub fill-satisfies : (vs : List ℤ) → SatisfiesModel ws vs → SatisfiesRows (systemWords ws) (vs ++ picks ws vs)
-  fill-satisfies vs s = rw (picks-count vs) (picks-satisfy ws (systemWords ws) typed well-formed (system .the-bounds) (system .the-rows) vs s)
+  fill-satisfies vs s = rw (picks-count vs) (picks-satisfy ws (systemWords ws) sh typed plain well-formed (system .the-bounds) (system .the-rows) vs s)
 
   pub fill-completes : (vs : List ℤ) → SatisfiesModel ws vs → Completes ws (systemWords ws) vs (picks ws vs)
   fill-completes vs s = (fill-counts vs, fill-satisfies vs s)
@@ -143,7 +131,7 @@ module _ (ws : List ℕ) (passes : Passes ws) where
   -- and no others do
   pub only-fill : (vs xs : List ℤ) → Completes ws (systemWords ws) vs xs → SatisfiesModel ws vs × (xs ≡ picks ws vs)
   only-fill vs xs c =
-      let r = system-only ws (systemWords ws) typed well-formed (system .the-bounds) (system .the-rows) vs xs (c .0 ∙ auxiliaries-count) (c .1) in
+      let r = system-only ws (systemWords ws) sh typed plain well-formed (system .the-bounds) (system .the-rows) vs xs (c .0 ∙ auxiliaries-count) (c .1) in
       (r .0, r .1 ∙ sym (picks-count vs))
 
   pub shared-solutions : SharedSolutions ws (systemWords ws)

@@ -1,7 +1,7 @@
 -- The words that translate writes for a model that passes the check are read back, by judge-rows' own reader, as the model's variables, all
 -- auxiliaries and all rows.
 use mathlib.Core.Path.{_≡_}
-use mathlib.Core.Bool.{true, false}
+use mathlib.Core.Bool.{Bool, true, false}
 use mathlib.Core.List.{List, [], _∷_, _++_, append-assoc}
 use Prim.Native.Nat.{ℕ, _+_, _≤_, _<_}
 use native.Mathlib.Omega.{arith}
@@ -16,10 +16,11 @@ use Rattle.words.specs.Kind as Kind
 use Rattle.models.specs.Model.{Constraint}
 use Rattle.rowsystems.specs.Row.{Row, sum≤0, sum=0, product}
 use Rattle.rowsystems.proofs.ReadBack.{Items, Declared, Ranged, end, block}
-use Rattle.rules.specs.Block.{Ref, source, aux, numbered, blockWords, blockNumbers, outside, outsideIn}
-use Rattle.rules.specs.Translation.{blockOf, blocksWords}
-use Rattle.sharing.proofs.Formed.{RefIn, RowIn, Formed}
-use Rattle.sharing.proofs.Assembly.{auxiliariesOf, rowsFrom}
+use Rattle.rules.specs.Block.{Ref, source, aux, Block, numbered, blockWords, blockNumbers, outside, outsideIn}
+use Rattle.rules.specs.Shared.{choice, encodes, Encoded, encodedAfter}
+use Rattle.rules.specs.Translation.{blockOf, eachBlock, blocksWords}
+use Rattle.sharing.proofs.Formed.{RefIn, RowIn}
+use Rattle.sharing.proofs.Assembly.{auxiliariesFrom, rowsFrom, AllFormed}
 use Rattle.sharing.proofs.Accepts.{Fine}
 
 -- ---- a well-formed row names only variables that are declared
@@ -42,17 +43,17 @@ module _ (n first : ℕ) (later : n ≤ first) where
 
 -- ---- block after block
 
-pub in-range : (β : ℕ → Bounds) (c : Constraint) → outside (blockOf β c) ≡ false → Ranged (blockNumbers (blockOf β c))
+pub in-range : (B : Block) → outside B ≡ false → Ranged (blockNumbers B)
 unfolding outsideIn
-in-range β c h = says-all inRange (λ z. inRange z ≡ true) (λ z. (λ e. e, λ e. e)) (blockNumbers (blockOf β c)) .0 (not-false _ h)
+in-range B h = says-all inRange (λ z. inRange z ≡ true) (λ z. (λ e. e, λ e. e)) (blockNumbers B) .0 (not-false _ h)
 
-pub items : (β : ℕ → Bounds) (n first : ℕ) (cs : List Constraint) → n ≤ first → All (λ c. Formed n (blockOf β c)) cs → Fine β first cs →
-    Items first (blocksWords β first cs ++ (word Kind.rowsEnd 0 ∷ [])) (auxiliariesOf β cs) (rowsFrom β first cs)
-unfolding blocksWords blockWords blockNumbers
-items β n first [] l h f = end first
-items β n first (c ∷ cs) l h f =
-    let B = blockOf β c in
+pub items : (β : ℕ → Bounds) (s : ℕ → Bool) (first : ℕ) (e : Encoded) (cs : List Constraint) → AllFormed β s first e cs → Fine β s first e cs →
+    Items first (blocksWords β s first e cs ++ (word Kind.rowsEnd 0 ∷ [])) (auxiliariesFrom β s first e cs) (rowsFrom β s first e cs)
+unfolding blocksWords eachBlock blockWords blockNumbers
+items β s first e [] h f = end first
+items β s first e (c ∷ cs) h f =
+    let B = blockOf β s e c in
     rw append-assoc
-    (block (numbered first) (B .auxiliaries) (B .rows) (f .2) (in-range β c (f .1)) (h .0 .0)
-    (all-implies (RowIn n (length (B .auxiliaries))) (Declared (numbered first) (first + length (B .auxiliaries))) (declared n first l (length (B .auxiliaries))) (B .rows) (h .0 .1))
-    (items β n (first + length (B .auxiliaries)) cs (omega arith) (h .1) (f .3)))
+    (block (numbered first) (B .auxiliaries) (B .rows) (f .2) (in-range B (f .1)) (h .0 .0)
+    (all-implies (RowIn first (length (B .auxiliaries))) (Declared (numbered first) (first + length (B .auxiliaries))) (declared first first (omega arith) (length (B .auxiliaries))) (B .rows) (h .0 .1))
+    (items β s (first + length (B .auxiliaries)) (encodedAfter s first e (encodes (choice c))) cs (h .1) (f .3)))

@@ -1,7 +1,7 @@
 -- The values of bounds are the numbers in them, and the members of a set are the values that the set has: they rise, each stands once.
 use mathlib.Core.Path.{_≡_, refl, sym, ap, ap₂, _∙_, fun-ext}
 use mathlib.Core.Logic.{_⊎_, inl, inr, _↔_}
-use mathlib.Core.Bool.{Bool, true, false, _&&_, _||_}
+use mathlib.Core.Bool.{Bool, true, false, not, _&&_, _||_}
 use mathlib.Core.List.{List, [], _∷_, _++_}
 use native.Mathlib.Omega.{arith}
 use Prim.Native.Nat.{ℕ, zero, suc, _+_, _≤_, _<_}
@@ -9,26 +9,22 @@ use lib.IntN.{ℤ, pos}
 use lib.Signed.{leZ, ltZ}
 use lib.ListN.{length}
 use Rattle.integers.specs.Choice.{_if_else_}
-use Rattle.integers.specs.Number.{_⊕_, _⊖_, _==_, count, +1}
+use Rattle.integers.specs.Number.{_⊕_, _⊖_, _==_, minZ, maxZ, count, +1}
 use Rattle.integers.specs.Lists.{listOf, any}
-use Rattle.integers.specs.Bounds.{_to_, width, values}
+use Rattle.integers.specs.Bounds.{_to_, within, width, values}
 use Rattle.integers.specs.declared.Bounds.{Bounds}
 use Rattle.integers.proofs.Linear.{_⊑_, _⊏_, linear, arithZ, dec⊑}
 use Rattle.integers.proofs.Lists.{any-map, all-members}
-use Rattle.integers.proofs.Tests.{Says, false-true, says-le, says-lt, says-and, says-equal, says-any, In, All, Any, Member}
+use Rattle.integers.proofs.Tests.{Says, false-true, says-le, says-lt, says-and, says-within, says-equal, says-any, In, All, Any, Member}
 use Rattle.models.specs.Meaning.{member}
-use Rattle.rules.specs.Parts.{leastFrom, rising, members}
+use Rattle.rules.specs.Parts.{places, leastFrom, rising, members}
+use Rattle.rules.specs.Shared.{keep}
 
 -- ---- lists
 
 -- a number of the list passes the test for it
 pub member-passes : (v : ℤ) (xs : List ℤ) → Member v xs → Any (λ x. (x == v) ≡ true) xs
 member-passes v xs m = any-map (λ x. v ≡ x) (λ x. (x == v) ≡ true) (λ x e. says-equal x v .1 (sym e)) xs m
-
--- the elements that pass a test
-abbrev pub keep : {A : Type 0} → (A → Bool) → List A → List A
-keep t [] = []
-keep t (x ∷ xs) = let rest = keep t xs in x ∷ rest if t x else rest
 
 pub keep-member : {A : Type 0} (t : A → Bool) (v : A) (xs : List A) → Member v (keep t xs) ↔ (Member v xs × (t v ≡ true))
 keep-member t v [] = (λ h. absurd h, λ h. h .0)
@@ -59,6 +55,16 @@ keep-none t (x ∷ xs) h = go (t x) (h x (inl refl)) (keep-none t xs (λ y m. h 
     go : (b : Bool) → ¬ (b ≡ true) → keep t xs ≡ [] → (x ∷ keep t xs if b else keep t xs) ≡ []
     go true n e = absurd (n refl)
     go false n e = e
+
+-- what passes a test and what does not is everything
+pub keep-both : {A : Type 0} (t : A → Bool) (xs : List A) → length (keep t xs) + length (keep (λ x. not (t x)) xs) ≡ length xs
+keep-both t [] = omega arith
+keep-both t (x ∷ xs) = go (t x) (keep-both t xs)
+  where
+    go : (b : Bool) → length (keep t xs) + length (keep (λ x. not (t x)) xs) ≡ length xs →
+        length (x ∷ keep t xs if b else keep t xs) + length (x ∷ keep (λ x. not (t x)) xs if not b else keep (λ x. not (t x)) xs) ≡ suc (length xs)
+    go true h = omega arith
+    go false h = omega arith
 
 -- what passes one of two tests is no more than what passes each
 keep-or : {A : Type 0} (t u : A → Bool) (xs : List A) → length (keep (λ x. t x || u x) xs) ≤ length (keep t xs) + length (keep u xs)
@@ -209,6 +215,17 @@ keep-once s B = go (dec⊑ (B .lower) s) (dec⊑ s (B .upper))
     go (no n) k = none (λ i. n (i .0))
     go (yes h) (no n) = none (λ i. n (i .1))
 
+-- the one value that is l
+pub keep-one : (B : Bounds) (l : ℤ) → In B l → keep (λ v. l == v) (values B) ≡ l ∷ []
+keep-one B l h =
+    rw (
+      values-first (λ v. l == v) (B .lower) (B .upper) l (h .0) (h .1) (says-equal l l .1 refl) (λ w i j e. let d : l ≡ w = says-equal l w .0 e in omega arithZ),
+      values-none (λ v. l == v) (l ⊕ +1 to B .upper) (λ w i e. after w l (i .0) (says-equal l w .0 e)),
+    )
+  where
+    after : (w s : ℤ) → s ⊕ +1 ⊑ w → s ≡ w → ⊥
+    after = simp linear (omega arith)
+
 keep-length : (S : List ℤ) (B : Bounds) → length (keep (λ v. member v S) (values B)) ≤ length S
 unfolding member any
 keep-length [] B = rw (values-none (λ v. false) B (λ w i e. false-true e)) (omega arith)
@@ -265,6 +282,76 @@ members-member S B v =
     let b = values-member B v in
     let s = says-member v S in
     rw (members-values S B) (λ h. (b .0 (k .0 h .0), s .0 (k .0 h .1)), λ h. k .1 (b .1 (h .0), s .1 (h .1)))
+
+-- ---- the values of bounds that lie in others: those of both
+
+values-empty : (l u : ℤ) → u ⊏ l → values (l to u) ≡ []
+unfolding values width listOf
+values-empty l u h = rw (none l u h)
+  where
+    none : (l u : ℤ) → u ⊏ l → count (u ⊖ l ⊕ +1) ≡ 0
+    none = simp linear (omega arith)
+
+values-first-one : (l u : ℤ) → l ⊑ u → values (l to u) ≡ l ∷ values (l ⊕ +1 to u)
+values-first-one l u h = values-split l u l (omega arithZ) h ∙ rw (values-empty l (l ⊖ +1) (less l))
+  where
+    less : (l : ℤ) → l ⊖ +1 ⊏ l
+    less = simp linear (omega arith)
+
+keep-within : (C : Bounds) (k : ℕ) (l u : ℤ) → count (u ⊖ l ⊕ +1) ≡ k → keep (within C) (values (l to u)) ≡ values (maxZ (C .lower) l to minZ (C .upper) u)
+keep-within C zero l u e = rw (values-empty l u (above l u e), values-empty (maxZ (C .lower) l) (minZ (C .upper) u) (still (C .lower) (C .upper) l u (above l u e)))
+  where
+    above : (l u : ℤ) → count (u ⊖ l ⊕ +1) ≡ 0 → u ⊏ l
+    above = simp linear (omega arith)
+
+    still : (c d l u : ℤ) → u ⊏ l → minZ d u ⊏ maxZ c l
+    still = simp linear (omega arith)
+keep-within C (suc k) l u e = rw (values-first-one l u (some l u k e)) (go (within C l) (says-within C l) (keep-within C k (l ⊕ +1) u (fewer l u k e)))
+  where
+    c : ℤ
+    c = C .lower
+
+    d : ℤ
+    d = C .upper
+
+    some : (l u : ℤ) (k : ℕ) → count (u ⊖ l ⊕ +1) ≡ suc k → l ⊑ u
+    some = simp linear (omega arith)
+
+    fewer : (l u : ℤ) (k : ℕ) → count (u ⊖ l ⊕ +1) ≡ suc k → count (u ⊖ (l ⊕ +1) ⊕ +1) ≡ k
+    fewer = simp linear (omega arith)
+
+    here : (c d l u : ℤ) → l ⊑ u → c ⊑ l → l ⊑ d → (maxZ c l ≡ l) × (maxZ c (l ⊕ +1) ≡ l ⊕ +1) × (l ⊑ minZ d u)
+    here = simp linear (omega arith)
+
+    early : (c l : ℤ) → l ⊏ c → maxZ c (l ⊕ +1) ≡ maxZ c l
+    early = simp linear (omega arith)
+
+    late : (c d l u : ℤ) → d ⊏ l → (minZ d u ⊏ maxZ c l) × (minZ d u ⊏ maxZ c (l ⊕ +1))
+    late = simp linear (omega arith)
+
+    not-below : (c l : ℤ) → ¬ (c ⊑ l) → l ⊏ c
+    not-below = simp linear (omega arith)
+
+    tail : List ℤ
+    tail = keep (within C) (values (l ⊕ +1 to u))
+
+    go : (b : Bool) → Says b (In C l) → tail ≡ values (maxZ c (l ⊕ +1) to minZ d u) → (l ∷ tail if b else tail) ≡ values (maxZ c l to minZ d u)
+    go true s r =
+        let h = here c d l u (some l u k e) (s .0 refl .0) (s .0 refl .1) in
+        ap {B = List ℤ} (λ xs. l ∷ xs) (rw (h .1) at r) ∙ sym (rw (h .0) (values-first-one l (minZ d u) (h .2)))
+    go false s r = outside (dec⊑ c l) (dec⊑ l d)
+      where
+        outside : Dec (c ⊑ l) → Dec (l ⊑ d) → tail ≡ values (maxZ c l to minZ d u)
+        outside (yes p) (yes q) = false-true (s .1 (p, q))
+        outside (no n) q = rw (early c l (not-below c l n)) at r
+        outside (yes p) (no n) =
+            let h = late c d l u (not-below l d n) in
+            r ∙ rw (values-empty (maxZ c (l ⊕ +1)) (minZ d u) (h .1), values-empty (maxZ c l) (minZ d u) (h .0))
+
+-- 24, 25: the places of a list that an index can have are its values that are places
+pub places-kept : (B : Bounds) (n : ℕ) → keep (within (+1 to pos n)) (values B) ≡ values (places B n)
+unfolding places
+places-kept B n = keep-within (+1 to pos n) _ (B .lower) (B .upper) refl
 
 -- ---- each stands once
 
