@@ -36,7 +36,7 @@ use Rattle.choiceblocks.proofs.Members.{value-terms, member-terms}
 place : (l u : ℤ) (n k : ℕ) → k < count (minZ (pos n) u ⊖ maxZ +1 l ⊕ +1) → (count (maxZ +1 l ⊕ pos k) - 1 < n) × (1 + 1 + (count (maxZ +1 l ⊕ pos k) - 1) ≡ 1 + count (maxZ +1 l) + k)
 place = simp linear (omega arith)
 
-element : {A : Type 0} (d : A) (g : ℕ → A) (I : Bounds) (n k : ℕ) → k < width (places I n) → nth d (listOf (λ j. g (1 + 1 + j)) n) (places I n .lower ⊕ pos k) ≡ g (1 + count (places I n .lower) + k)
+pub element : {A : Type 0} (d : A) (g : ℕ → A) (I : Bounds) (n k : ℕ) → k < width (places I n) → nth d (listOf (λ j. g (1 + 1 + j)) n) (places I n .lower ⊕ pos k) ≡ g (1 + count (places I n .lower) + k)
 unfolding places width nth
 element d g I n k h =
     let p = place (I .lower) (I .upper) n k h in

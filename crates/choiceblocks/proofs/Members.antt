@@ -47,7 +47,7 @@ by-places d (x ∷ xs) = ap (λ l. x ∷ l) (by-places d xs)
 
 -- a list that reads as the members do
 module _ (first : ℕ) (out vs : List ℤ) (same : (k : ℕ) → getD out k +0 ≡ getD vs k +0) where
-  front : vs ≡ listOf (λ k. getD out k +0) (length vs)
+  pub front : vs ≡ listOf (λ k. getD out k +0) (length vs)
   front = sym (by-places +0 vs) ∙ ap (λ f. listOf f (length vs)) (fun-ext (λ k. sym (same k)))
 
   pub value-terms : termParts first (weighted (λ v. v) vs 0) ≡ many (valueAt out first) (length vs)

@@ -32,7 +32,7 @@ unfolding many
 many-below f g zero h = refl
 many-below f g (suc n) h = ap₂ (λ a b. a ++ b) (h 0 (omega arith)) (many-below (λ k. f (suc k)) (λ k. g (suc k)) n (λ k l. h (suc k) (omega arith)))
 
-bounds-many : {A : Type 0} (q : A → Bounds) (f : ℕ → A) (n : ℕ) → boundParts (map q (listOf f n)) ≡ many (λ k. bound (q (f k) .lower) (q (f k) .upper) ∷ []) n
+pub bounds-many : {A : Type 0} (q : A → Bounds) (f : ℕ → A) (n : ℕ) → boundParts (map q (listOf f n)) ≡ many (λ k. bound (q (f k) .lower) (q (f k) .upper) ∷ []) n
 unfolding boundParts listOf many
 bounds-many q f zero = refl
 bounds-many q f (suc n) = ap (λ ps. bound (q (f 0) .lower) (q (f 0) .upper) ∷ ps) (bounds-many q (λ k. f (suc k)) n)

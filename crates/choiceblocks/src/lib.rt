@@ -36,10 +36,10 @@ use extremes::width_of;
 use laying::Laid;
 use laying::lay_bits;
 
-mod rows;
+pub mod rows;
 
 // The lower bound of the variable at place 0.
-fn lower_label(args: &[u32], ls: &[i64]) -> i64
+pub fn lower_label(args: &[u32], ls: &[i64]) -> i64
     requires { ⌜ Bounded (now ls) ⌝ }
     ensures { λ r. ⌜ (r ≡ getD (now (ls .entry)) (var (now (args .entry)) 0) +0) × (natAbs r ≤ Limit.half) ⌝ }
 {
@@ -47,7 +47,7 @@ fn lower_label(args: &[u32], ls: &[i64]) -> i64
 }
 
 // How many values its bounds leave.
-fn width_at(args: &[u32], ls: &[i64], us: &[i64]) -> usize
+pub fn width_at(args: &[u32], ls: &[i64], us: &[i64]) -> usize
     requires { ⌜ Bounded (now ls) × Bounded (now us) ⌝ }
     ensures { λ r. ⌜ r ≡ width (boundsOf (now (ls .entry)) (now (us .entry)) (var (now (args .entry)) 0)) ⌝ }
 {
@@ -56,7 +56,7 @@ fn width_at(args: &[u32], ls: &[i64], us: &[i64]) -> usize
 }
 
 // The first place of the list at place 1 that it can have as an index.
-fn first_label(args: &[u32], ls: &[i64]) -> i64
+pub fn first_label(args: &[u32], ls: &[i64]) -> i64
     requires { ⌜ Bounded (now ls) ⌝ }
     ensures { λ r. ⌜ (r ≡ maxZ +1 (getD (now (ls .entry)) (var (now (args .entry)) 0) +0)) × (natAbs r ≤ Limit.half) ⌝ }
 {
@@ -64,7 +64,7 @@ fn first_label(args: &[u32], ls: &[i64]) -> i64
 }
 
 // How many places of that list it can have.
-fn labels(args: &[u32], ls: &[i64], us: &[i64]) -> usize
+pub fn labels(args: &[u32], ls: &[i64], us: &[i64]) -> usize
     requires { ⌜ Bounded (now ls) × Bounded (now us) ⌝ }
     ensures { λ r. ⌜ (r ≡ width (places (boundsOf (now (ls .entry)) (now (us .entry)) (var (now (args .entry)) 0)) (size (now (args .entry)) 1))) × (r ≤ 32) ⌝ }
 {
@@ -73,7 +73,7 @@ fn labels(args: &[u32], ls: &[i64], us: &[i64]) -> usize
 }
 
 // Where the element at the first of these places stands.
-fn first_element(args: &[u32], ls: &[i64]) -> usize
+pub fn first_element(args: &[u32], ls: &[i64]) -> usize
     requires { ⌜ Bounded (now ls) ⌝ }
     ensures { λ r. ⌜ (r ≡ 1 + count (maxZ +1 (getD (now (ls .entry)) (var (now (args .entry)) 0) +0))) × (r < 1000000000) ⌝ }
 {
@@ -81,7 +81,7 @@ fn first_element(args: &[u32], ls: &[i64]) -> usize
 }
 
 // Puts the members of the set at place 1 that the bounds of the variable at place 0 leave into a list of zeros; how many there are.
-fn members_of(args: &[u32], ls: &[i64], us: &[i64], vs: &mut [i64]) -> usize
+pub fn members_of(args: &[u32], ls: &[i64], us: &[i64], vs: &mut [i64]) -> usize
     requires { ⌜ Bounded (now us) × (now vs ≡ replicate 32 +0) ⌝ }
     ensures { λ r. ⌜ Listed (members (nums (now (args .entry)) 1) (boundsOf (now (ls .entry)) (now (us .entry)) (var (now (args .entry)) 0))) r (now (vs .exit)) ⌝ }
 {

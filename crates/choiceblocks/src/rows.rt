@@ -57,7 +57,7 @@ fn zeros_in_range(args: &[u32], base: usize, n: usize, ls: &[i64], us: &[i64]) -
 }
 
 // Z of n variables, from place base on.
-fn lay_zeros(
+pub fn lay_zeros(
     out: &mut [u32],
     s: Laid,
     args: &[u32],
@@ -170,7 +170,7 @@ pub fn lay_one_bit(out: &mut [u32], s: Laid, v: usize, n: usize) -> Laid
 }
 
 // Σz − m = 0 over n consecutive variables.
-fn lay_one_row(out: &mut [u32], s: Laid, v: usize, n: usize, m: usize) -> Laid
+pub fn lay_one_row(out: &mut [u32], s: Laid, v: usize, n: usize, m: usize) -> Laid
     requires { ⌜ (total s < 800000000000) × (n ≤ 66) × (v < 1000000000) ⌝ }
     ensures { λ r. ⌜ Went s r (now (out .entry)) (now (out .exit)) (sumRow (sameAt +1 v) n m) × Near 2000 s r ⌝ }
 {

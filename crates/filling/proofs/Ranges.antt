@@ -12,11 +12,16 @@ use Rattle.words.specs.Word.{inRange}
 use Rattle.words.specs.Small.{Near}
 use Rattle.words.proofs.Word.{says-range}
 use Rattle.arguments.specs.Small.{Small}
-use Rattle.rules.specs.Translation.{picks}
+use Rattle.models.specs.Model.{Constraint, builtin}
+use Rattle.rules.specs.Shared.{Encoded, choice}
+use Rattle.rules.specs.Translation.{blockOf, picks}
 use Rattle.sharing.specs.SharedSolutions.{Passes, SatisfiesModel}
 use Rattle.sharing.proofs.Theorem.{few-in-all, fill-counts}
+use Rattle.sharing.proofs.Assembly.{picked}
 use Rattle.sharing.proofs.Ranges.{fill-in-range}
-use Rattle.picking.specs.Picked.{Ranged}
+use Rattle.extremes.specs.Bounded.{boundsOf}
+use Rattle.encodings.specs.Uses.{choiceOf, sharedBy}
+use Rattle.picking.specs.Picked.{Ranged, picksAfter}
 use Rattle.picking.proofs.Writing.{value-ranged, ranged-left, ranged-right}
 
 near : (z : ℤ) → inRange z ≡ true → Near z
@@ -36,3 +41,9 @@ module _ (ws : List ℕ) (passes : Passes ws) (vs : List ℤ) (s : SatisfiesMode
 
   pub picks-fit : length vs + length (picks ws vs) < 1099511627776
   picks-fit = omega (arith, s .one-each, fill-counts ws passes vs, few-in-all ws passes)
+
+-- a block's picks are as many as its auxiliaries
+pub block-picks : (ls us : List ℤ) (uses : List ℕ) (e : Encoded) (vs : List ℤ) (c : Constraint) →
+    length (picksAfter ls us uses e vs (c .code) (c .arguments)) ≡ length (blockOf (boundsOf ls us) (sharedBy uses) e c .auxiliaries)
+unfolding blockOf builtin choiceOf choice
+block-picks ls us uses e vs c = picked (boundsOf ls us) (sharedBy uses) e (value vs) (choice c) (builtin c)

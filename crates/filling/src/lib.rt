@@ -4,6 +4,7 @@ ghost use mathlib.Core.List.{_++_};
 ghost use Prim.Native.Nat.{_+_, _<_};
 ghost use lib.ListN.{length};
 ghost use Rattle.words.specs.Overlay.{overlay};
+ghost use Rattle.words.specs.Variables.{variables};
 ghost use Rattle.arguments.specs.Small.{Small};
 ghost use Rattle.rules.specs.Translation.{auxiliaries, picks};
 ghost use Rattle.rules.specs.Fill.{fill as fillAnswer, filled};
@@ -13,10 +14,11 @@ ghost use Rattle.picking.specs.Picked.{Ranged};
 ghost use Rattle.filling.specs.Filled.{handed};
 ghost use Rattle.filling.specs.Satisfied.{Satisfied};
 ghost use Rattle.filling.specs.HandsOver.{HandsOver};
+use encodings::record_encoding;
 use modeljudge::judge_read;
 use modelreading::Read;
 use modelreading::read_model;
-use picking::pick_block;
+use picking::pick_constraint;
 use translation::Checked;
 use translation::checking::check_read;
 use translation::checking::model_bounds;
@@ -47,27 +49,41 @@ fn lay_values(out: &mut [i32], values: &[i32])
     }
 }
 
-// The auxiliaries of each constraint go into the lent list one after another, from a place on.
+// The auxiliaries of each constraint go into the lent list one after another, after the values, so that the place of each is its number.
 fn write_picks(
     ws: &[u32],
     heads: &[usize; 256],
     read: Read,
     ls: &[i64],
     us: &[i64],
+    uses: &[usize],
     values: &[i32],
     out: &mut [i32],
     start: usize,
 )
-    requires { ⌜ ModelBounds (now ws) (now heads) read (now ls) (now us) × Small (now values) × Ranged (picks (now ws) (now values)) × (start + length (picks (now ws) (now values)) < 1099511627776) ⌝ }
+    requires { ⌜ ModelBounds (now ws) (now heads) read (now ls) (now us) (now uses) × Small (now values) × Ranged (picks (now ws) (now values)) × (start ≡ length (variables (now ws))) × (start + length (picks (now ws) (now values)) < 1099511627776) ⌝ }
     ensures { λ r. ⌜ now (out .exit) ≡ overlay (now (out .entry)) start (picks (now (ws .entry)) (now (values .entry))) ⌝ }
 {
     let n = read.constraints;
     let mut k = 0;
     let mut at = start;
+    let mut encoded = [0usize; 256];
     while k < n {
         let place = heads[k];
         let code = payload_of(ws[place]);
-        at = pick_block(out, at, code, &ws[place + 1..], ls, us, values);
+        let first = at;
+        at = pick_constraint(
+            out,
+            first,
+            code,
+            &ws[place + 1..],
+            ls,
+            us,
+            uses,
+            &encoded,
+            values,
+        );
+        record_encoding(&mut encoded, code, &ws[place + 1..], uses, first);
         k += 1;
     }
 }
@@ -79,14 +95,15 @@ fn write_filled(
     read: Read,
     ls: &[i64],
     us: &[i64],
+    uses: &[usize],
     values: &[i32],
     out: &mut [i32],
 )
-    requires { ⌜ ModelBounds (now ws) (now heads) read (now ls) (now us) × Passes (now ws) × SatisfiesModel (now ws) (now values) ⌝ }
+    requires { ⌜ ModelBounds (now ws) (now heads) read (now ls) (now us) (now uses) × Passes (now ws) × SatisfiesModel (now ws) (now values) ⌝ }
     ensures { λ r. ⌜ now (out .exit) ≡ overlay (now (out .entry)) 0 (now (values .entry) ++ picks (now (ws .entry)) (now (values .entry))) ⌝ }
 {
     lay_values(out, values);
-    write_picks(ws, heads, read, ls, us, values, out, values.len());
+    write_picks(ws, heads, read, ls, us, uses, values, out, values.len());
 }
 
 // Of a model that passes the check, with this number of auxiliaries.
@@ -96,11 +113,12 @@ fn fill_passed(
     read: Read,
     ls: &[i64],
     us: &[i64],
+    uses: &[usize],
     values: &[i32],
     out: &mut [i32],
     added: usize,
 ) -> Filled
-    requires { ⌜ ModelBounds (now ws) (now heads) read (now ls) (now us) × Passes (now ws) × (added ≡ length (auxiliaries (now ws))) ⌝ }
+    requires { ⌜ ModelBounds (now ws) (now heads) read (now ls) (now us) (now uses) × Passes (now ws) × (added ≡ length (auxiliaries (now ws))) ⌝ }
     ensures answer { λ r. ⌜ handed r ≡ fillAnswer (now (ws .entry)) (now (values .entry)) (length (now (out .entry))) ⌝ }
     ensures output { λ r. ⌜ now (out .exit) ≡ filled (now (ws .entry)) (now (values .entry)) (now (out .entry)) ⌝ }
     ensures satisfied { λ r. ⌜ Satisfied (now (ws .entry)) (handed r) (now (out .exit)) ⌝ }
@@ -121,7 +139,7 @@ fn fill_passed(
     match judge_read(read, ws, heads, values) {
         Verdict::Refused(refusal) => Filled::Refused(refusal),
         Verdict::Holds => {
-            write_filled(ws, heads, read, ls, us, values, out);
+            write_filled(ws, heads, read, ls, us, uses, values, out);
             Filled::Values(sources + added)
         }
         Verdict::OutOfBounds(i) => Filled::OutOfBounds(i),
@@ -146,8 +164,9 @@ pub fn fill(ws: &[u32], values: &[i32], out: &mut [i32]) -> Filled
     }
     let mut lowers = [0i64; 256];
     let mut uppers = [0i64; 256];
-    let sums = model_bounds(ws, &heads, read, &mut lowers, &mut uppers);
-    match check_read(ws, &heads, read, &lowers, &uppers, sums) {
+    let mut uses = [0usize; 256];
+    let sums = model_bounds(ws, &heads, read, &mut lowers, &mut uppers, &mut uses);
+    match check_read(ws, &heads, read, &lowers, &uppers, &uses, sums) {
         Checked::Refused(refusal) => Filled::Refused(refusal),
         Checked::Counts {
             variables: _,
@@ -155,6 +174,16 @@ pub fn fill(ws: &[u32], values: &[i32], out: &mut [i32]) -> Filled
             auxiliaries,
             rows: _,
             words: _,
-        } => fill_passed(ws, &heads, read, &lowers, &uppers, values, out, auxiliaries),
+        } => fill_passed(
+            ws,
+            &heads,
+            read,
+            &lowers,
+            &uppers,
+            &uses,
+            values,
+            out,
+            auxiliaries,
+        ),
     }
 }

@@ -1,17 +1,18 @@
 -- Laws of labels that rise by 1 from a first one: how many they are, and the place of a value among them.
-use mathlib.Core.Path.{_≡_, refl, sym, _∙_}
+use mathlib.Core.Path.{_≡_, refl, sym, ap, _∙_}
 use mathlib.Core.Bool.{Bool, true, false}
 use Prim.Native.Nat.{ℕ, _<_}
 use native.Mathlib.Omega.{arith}
 use lib.IntN.{ℤ, pos}
 use lib.Signed.{ltZ}
+use lib.ListN.{length}
 use Rattle.integers.specs.Number.{_⊕_, _⊖_, _==_, count, +1}
 use Rattle.integers.specs.Bounds.{_to_, width, values}
 use Rattle.integers.proofs.Linear.{_⊑_, _⊏_, linear, rep}
 use Rattle.integers.proofs.Tests.{says-equal, says-lt, false-true}
 use Rattle.rules.specs.Pick.{firstBit}
 use Rattle.picking.specs.Only.{onlyAt, FirstAt}
-use Rattle.picking.proofs.Only.{first-bit}
+use Rattle.picking.proofs.Only.{only-length, first-bit}
 
 pub not-equal : (a b : ℤ) → ¬ (a ≡ b) → (a == b) ≡ false
 not-equal a b n = by (a == b) refl
@@ -49,8 +50,28 @@ label-none v first n l = record {
   here = λ m. absurd (omega arith);
 }
 
+-- every value has a place, or none
+pub some-place : (v first : ℤ) (n : ℕ) → (h : ℕ) × FirstAt (λ k. first ⊕ pos k == v) n h
+some-place v first n = by (ltZ v first) refl
+  where
+    by : (t : Bool) → ltZ v first ≡ t → (h : ℕ) × FirstAt (λ k. first ⊕ pos k == v) n h
+    by true e = (n, label-none v first n (says-lt v first .0 e))
+    by false e = (count (v ⊖ first), label-at v first n (not-below v first e))
+
+-- and only one
+pub no-later : (v first : ℤ) {n h : ℕ} → FirstAt (λ k. first ⊕ pos k == v) n h → (k : ℕ) → k < n → h < k → (first ⊕ pos k == v) ≡ false
+no-later v first {n} {h} w k l m = not-equal _ _ (λ e. apart first v h k (says-equal _ _ .0 (w .here (omega arith))) e m)
+  where
+    apart : (first v : ℤ) (h k : ℕ) → first ⊕ pos h ≡ v → first ⊕ pos k ≡ v → h < k → ⊥
+    apart first v = rw (rep first, rep v) (simp linear (omega arith))
+
 -- the bits of the values that bounds leave
 pub label-bits : (lower upper v : ℤ) (h : ℕ) → FirstAt (λ k. lower ⊕ pos k == v) (width (lower to upper)) h →
     firstBit (λ j. j == v) (values (lower to upper)) ≡ onlyAt (width (lower to upper)) h +1
 unfolding values
 label-bits lower upper v h w = first-bit (λ j. j == v) (λ k. lower ⊕ pos k) (width (lower to upper)) h w
+
+pub bits-length : (lower upper v : ℤ) → length (firstBit (λ j. j == v) (values (lower to upper))) ≡ width (lower to upper)
+bits-length lower upper v =
+    let p = some-place v lower (width (lower to upper)) in
+    ap length (label-bits lower upper v (p .0) (p .1)) ∙ only-length (width (lower to upper)) (p .0) +1

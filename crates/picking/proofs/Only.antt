@@ -107,6 +107,22 @@ module _ {A : Type 0} (x : A → ℤ) where
   unfolding gatedPick
   gated t f n h w = rw (first-bit t f n h w, times-only f n h)
 
+  -- where no label after the first passes
+  pub times-bits : (t : A → Bool) (f : ℕ → A) (n h : ℕ) → FirstAt (λ k. t (f k)) n h → ((k : ℕ) → k < n → h < k → t (f k) ≡ false) →
+      map (λ l. x l ⊗ bitOf (t l)) (listOf f n) ≡ onlyAt n h (x (f h))
+  unfolding listOf onlyAt bitOf
+  times-bits t f zero h w later = refl
+  times-bits t f (suc n) zero w later =
+      rw (w .here (omega arith), times-one)
+      (ap (λ zs. x (f 0) ∷ zs)
+      (times-bits t (λ i. f (suc i)) n n (record { before = λ k l m. later (suc k) (omega arith) (omega arith); here = λ l. absurd (omega arith) }) (λ k l m. absurd (omega arith))
+      ∙ only-none n n n _ _ (omega arith) (omega arith)))
+  times-bits t f (suc n) (suc h) w later =
+      rw (w .before 0 (omega arith) (omega arith), zero-times)
+      (ap (λ zs. +0 ∷ zs)
+      (times-bits t (λ i. f (suc i)) n h (record { before = λ k l m. w .before (suc k) (omega arith) (omega arith); here = λ l. w .here (omega arith) })
+      (λ k l m. later (suc k) (omega arith) (omega arith))))
+
 pub sign-pick : (x : ℤ) → signPick x ≡ (+1 if ltZ x +0 else +0) ∷ (x if ltZ x +0 else +0) ∷ []
 unfolding signPick bitOf
 sign-pick x = ap (λ z. (+1 if ltZ x +0 else +0) ∷ z ∷ []) (bit-times (ltZ x +0) x)

@@ -1,17 +1,22 @@
 -- Writing numbers over a list from a place on, and the numbers that fill writes for one constraint and for all.
 use mathlib.Core.Path.{_≡_}
 use mathlib.Core.Bool.{true}
-use mathlib.Core.List.{List, flatMap}
+use mathlib.Core.List.{List, map}
 use Prim.Native.Nat.{ℕ, _+_, _<_}
-use lib.IntN.{ℤ}
+use lib.IntN.{ℤ, pos}
 use lib.ListN.{length, getD}
-use Rattle.integers.specs.Number.{+0}
+use Rattle.integers.specs.Number.{_⊗_, _==_, +0, +1}
+use Rattle.integers.specs.Bounds.{_to_, within, values}
 use Rattle.integers.specs.Terms.{value}
 use Rattle.words.specs.Word.{inRange}
 use Rattle.words.specs.Overlay.{overlay}
-use Rattle.models.specs.Model.{Constraint, builtin}
+use Rattle.models.specs.Model.{Constraint, var, vars, builtin}
 use Rattle.arguments.specs.Small.{Small}
-use Rattle.rules.specs.Pick.{pick}
+use Rattle.rules.specs.Parts.{nth}
+use Rattle.rules.specs.Pick.{bitOf, pick}
+use Rattle.rules.specs.Shared.{choice, Encoded, keep, pickAfter}
+use Rattle.rules.specs.Translation.{eachBlock}
+use Rattle.encodings.specs.Uses.{choiceOf, sharedBy}
 use Rattle.extremes.specs.Bounded.{boundsOf, Bounded}
 
 -- the numbers went over the list, and r is the place after them
@@ -27,9 +32,22 @@ Ranged ps = (k : ℕ) → inRange (getD ps k +0) ≡ true
 abbrev pub picksOf : List ℤ → List ℤ → List ℤ → ℕ → List ℕ → List ℤ
 picksOf ls us vs code args = pick (boundsOf ls us) (value vs) (builtin (record { place = 0; code = code; arguments = args }))
 
--- for constraints, one after another
-unfoldable pub picksFor : List ℤ → List ℤ → List ℤ → List Constraint → List ℤ
-picksFor ls us vs cs = flatMap (λ c. pick (boundsOf ls us) (value vs) (builtin c)) cs
+-- 25: the z of the places that its i can have
+unfoldable pub productPicks : List ℤ → List ℤ → List ℤ → List ℕ → List ℤ
+productPicks ls us vs args =
+    let i = var args 0 in
+    let xs = vars args 1 in
+    map (λ j. value vs (nth 0 xs j) ⊗ bitOf (j == value vs i)) (keep (within (+1 to pos (length xs))) (values (boundsOf ls us i)))
+
+-- for the same constraint, given the counted uses and the record of encoded variables
+abbrev pub picksAfter : List ℤ → List ℤ → List ℕ → Encoded → List ℤ → ℕ → List ℕ → List ℤ
+picksAfter ls us uses e vs code args =
+    pickAfter (boundsOf ls us) (sharedBy uses) e (value vs) (choiceOf code args) (builtin (record { place = 0; code = code; arguments = args }))
+
+-- for constraints, one after another, the first auxiliary numbered `first`
+unfoldable pub picksFrom : List ℤ → List ℤ → List ℕ → List ℤ → ℕ → Encoded → List Constraint → List ℤ
+picksFrom ls us uses vs first e cs =
+    eachBlock (boundsOf ls us) (sharedBy uses) (λ n d c. pickAfter (boundsOf ls us) (sharedBy uses) d (value vs) (choice c) (builtin c)) first e cs
 
 -- what writing them wants: a place that does not wrap, bounds and values near 0, and numbers of the range
 pub record Ready (at : ℕ) (ls us vs ps : List ℤ) : Type 0 where

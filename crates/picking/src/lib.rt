@@ -16,10 +16,12 @@ ghost use Rattle.models.specs.Model.{var, num, size, exponentAt, vars, terms, p
 ghost use Rattle.models.specs.Meaning.{on};
 ghost use Rattle.arguments.specs.Small.{Small};
 ghost use Rattle.rules.specs.Parts.{halfLess};
+ghost use Rattle.rules.specs.Shared.{newPick, sharedPick};
 ghost use Rattle.rules.specs.Pick.{bitOf, signPick, signedPick, firstBit, gatedPick, divisionPick, leftOverPick, powerPick};
 ghost use Rattle.rules.specs.Power.{powerValues};
-ghost use Rattle.extremes.specs.Bounded.{Near, Bounded};
-ghost use Rattle.picking.specs.Picked.{Picked, Ranged, Ready, picksOf};
+ghost use Rattle.encodings.specs.Uses.{choiceOf};
+ghost use Rattle.extremes.specs.Bounded.{Near, boundsOf, Bounded};
+ghost use Rattle.picking.specs.Picked.{Picked, Ranged, Ready, picksOf, productPicks, picksAfter};
 ghost use Rattle.picking.specs.Powered.{NextPower, PowersPut};
 ghost use Rattle.picking.specs.Only.{onlyAt, FirstAt};
 use arguments::count_of;
@@ -34,6 +36,8 @@ use arguments::test::below;
 use arguments::test::both;
 use arguments::value_of;
 use arguments::var_at;
+use encodings::entry_of;
+use encodings::is_shared;
 use extremes::bound_at;
 use extremes::first_place;
 use extremes::half_less;
@@ -278,6 +282,25 @@ fn pick_element(
     )
 }
 
+// 25: the products of the bits and the elements.
+fn pick_products(
+    out: &mut [i32],
+    at: usize,
+    args: &[u32],
+    ls: &[i64],
+    us: &[i64],
+    values: &[i32],
+) -> usize
+    requires { ⌜ (at < 2199023255552) × Bounded (now ls) × Bounded (now us) × Small (now values) × Ranged (productPicks (now ls) (now us) (now values) (now args)) ⌝ }
+    ensures { λ r. ⌜ Picked at r (now (out .entry)) (now (out .exit)) (productPicks (now (ls .entry)) (now (us .entry)) (now (values .entry)) (now (args .entry))) ⌝ }
+{
+    let first = first_label(args, ls);
+    let n = width_of(first, last_label(args, us));
+    let i = value_of(args, 0, values);
+    let h = place_of(i, first, n);
+    put_only(out, at, n, h, value_of(args, 1 + count_of(i), values))
+}
+
 // 25: a bit for each label, 1 for i; the products of the bits and the elements.
 fn pick_var_element(
     out: &mut [i32],
@@ -290,11 +313,8 @@ fn pick_var_element(
     requires { ⌜ (at < 1099511627776) × Bounded (now ls) × Bounded (now us) × Small (now values) × Ranged (picksOf (now ls) (now us) (now values) 25 (now args)) ⌝ }
     ensures { λ r. ⌜ Picked at r (now (out .entry)) (now (out .exit)) (picksOf (now (ls .entry)) (now (us .entry)) (now (values .entry)) 25 (now (args .entry))) ⌝ }
 {
-    let first = first_label(args, ls);
-    let n = width_of(first, last_label(args, us));
-    let i = value_of(args, 0, values);
-    let h = place_of(i, first, n);
-    put_gated(out, at, n, h, value_of(args, 1 + count_of(i), values))
+    let next = pick_element(out, at, args, ls, us, values);
+    pick_products(out, next, args, ls, us, values)
 }
 
 // 26, 33: a bit for each element, 1 for the first that is m; the products of the bits and the elements.
@@ -459,8 +479,8 @@ fn pick_pow(out: &mut [i32], at: usize, args: &[u32], values: &[i32]) -> usize
     p.at
 }
 
-// What fill writes for the auxiliaries of a constraint of a code; the place after it.
-pub fn pick_block(
+// What fill writes for the auxiliaries of a constraint over no shared variable; the place after it.
+fn pick_block(
     out: &mut [i32],
     at: usize,
     code: usize,
@@ -498,4 +518,84 @@ pub fn pick_block(
         39 => pick_pow(out, at, args, values),
         _ => at,
     }
+}
+
+// A bit for each value of a shared variable, 1 for its value, where the bits are new.
+fn pick_new_bits(
+    out: &mut [i32],
+    at: usize,
+    args: &[u32],
+    ls: &[i64],
+    us: &[i64],
+    encoded: &[usize],
+    values: &[i32],
+) -> usize
+    requires { ⌜ (at < 1099511627776) × Bounded (now ls) × Bounded (now us) × Small (now values) ⌝ }
+    ensures { λ r. ⌜ Picked at r (now (out .entry)) (now (out .exit)) (newPick (boundsOf (now (ls .entry)) (now (us .entry))) (now (encoded .entry)) (value (now (values .entry))) (var (now (args .entry)) 0)) ⌝ }
+{
+    if entry_of(encoded, var_at(args, 0)) == 0 {
+        return pick_set_reif(out, at, args, ls, us, values);
+    }
+    at
+}
+
+// 25 over a shared variable: the new bits, then the products.
+fn pick_shared_var_element(
+    out: &mut [i32],
+    at: usize,
+    args: &[u32],
+    ls: &[i64],
+    us: &[i64],
+    encoded: &[usize],
+    values: &[i32],
+) -> usize
+    requires { ⌜ (at < 1099511627776) × Bounded (now ls) × Bounded (now us) × Small (now values) × Ranged (sharedPick (boundsOf (now ls) (now us)) (now encoded) (value (now values)) (choiceOf 25 (now args))) ⌝ }
+    ensures { λ r. ⌜ Picked at r (now (out .entry)) (now (out .exit)) (sharedPick (boundsOf (now (ls .entry)) (now (us .entry))) (now (encoded .entry)) (value (now (values .entry))) (choiceOf 25 (now (args .entry)))) ⌝ }
+{
+    let next = pick_new_bits(out, at, args, ls, us, encoded, values);
+    pick_products(out, next, args, ls, us, values)
+}
+
+// What fill writes for the auxiliaries of a constraint over a shared variable; the place after it.
+fn pick_shared(
+    out: &mut [i32],
+    at: usize,
+    code: usize,
+    args: &[u32],
+    ls: &[i64],
+    us: &[i64],
+    encoded: &[usize],
+    values: &[i32],
+) -> usize
+    requires { ⌜ Ready at (now ls) (now us) (now values) (sharedPick (boundsOf (now ls) (now us)) (now encoded) (value (now values)) (choiceOf code (now args))) ⌝ }
+    ensures { λ r. ⌜ Picked at r (now (out .entry)) (now (out .exit)) (sharedPick (boundsOf (now (ls .entry)) (now (us .entry))) (now (encoded .entry)) (value (now (values .entry))) (choiceOf code (now (args .entry)))) ⌝ }
+{
+    match code {
+        24 => pick_new_bits(out, at, args, ls, us, encoded, values),
+        25 => pick_shared_var_element(out, at, args, ls, us, encoded, values),
+        27 => pick_new_bits(out, at, args, ls, us, encoded, values),
+        28 => pick_new_bits(out, at, args, ls, us, encoded, values),
+        _ => at,
+    }
+}
+
+// What fill writes for the auxiliaries of a constraint, given the counted uses and the record of encoded variables; the place after it.
+pub fn pick_constraint(
+    out: &mut [i32],
+    at: usize,
+    code: usize,
+    args: &[u32],
+    ls: &[i64],
+    us: &[i64],
+    uses: &[usize],
+    encoded: &[usize],
+    values: &[i32],
+) -> usize
+    requires { ⌜ Ready at (now ls) (now us) (now values) (picksAfter (now ls) (now us) (now uses) (now encoded) (now values) code (now args)) ⌝ }
+    ensures { λ r. ⌜ Picked at r (now (out .entry)) (now (out .exit)) (picksAfter (now (ls .entry)) (now (us .entry)) (now (uses .entry)) (now (encoded .entry)) (now (values .entry)) code (now (args .entry))) ⌝ }
+{
+    if is_shared(code, args, uses) {
+        return pick_shared(out, at, code, args, ls, us, encoded, values);
+    }
+    pick_block(out, at, code, args, ls, us, values)
 }

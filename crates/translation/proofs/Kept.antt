@@ -51,7 +51,7 @@ kept {ws} {hs} {r} {n} {ls} {us} s k =
 
 -- ---- the walks
 
-module _ {ws hs : List ℕ} {r : Read} {ls us : List ℤ} (m : ModelBounds ws hs r ls us) where
+module _ {ws hs : List ℕ} {r : Read} {ls us : List ℤ} {uses : List ℕ} (m : ModelBounds ws hs r ls us uses) where
   pub few-words : length ws ≤ 8192
   few-words = Accepted.few-words ws (m .seen .accepts)
 

@@ -1,5 +1,6 @@
 -- Laws for proofs about check and translate.
 pub mod OneBlock
+pub mod Uses
 pub mod Kept
 pub mod CheckWalk
 pub mod Tail

@@ -1,5 +1,6 @@
 -- What check's answer says of translate's: a refusal that stands, fault 16, or the words of the row system, which share the model's solutions.
 use mathlib.Core.Path.{_≡_, refl, sym, _∙_}
+use mathlib.Core.Bool.{Bool}
 use mathlib.Core.List.{List, [], _∷_, _++_}
 use Prim.Native.Nat.{ℕ, zero, suc, _+_, _≤_, _<_}
 use native.Mathlib.Omega.{arith}
@@ -18,7 +19,8 @@ use Rattle.models.specs.Model.{Constraint, constraints, sourceWords}
 use Rattle.models.specs.Reading.{readModel}
 use Rattle.modelreading.specs.Seen.{Kept}
 use Rattle.modelreading.specs.declared.Read.{Read}
-use Rattle.rules.specs.Translation.{bounds, blockOf, systemWords}
+use Rattle.rules.specs.Shared.{Encoded, noneYet, choice, encodes, encodedAfter}
+use Rattle.rules.specs.Translation.{bounds, shared, blockOf, systemWords}
 use Rattle.rules.specs.Check.{blockFault, blocksFault, blocksFaultIn, checkFault, checkFaultIn, check, checkIn}
 use Rattle.rules.specs.Translate.{roomFault, translateFault, translateFaultIn, translate, translateIn, translated, translatedIn}
 use Rattle.sharing.specs.SharedSolutions.{Passes, SharedSolutions}
@@ -31,18 +33,19 @@ use Rattle.translation.proofs.Over.{three-over, front-over}
 
 -- ---- a refusal whose number is 0 is `accepted`
 
-blocks-zero : (β : ℕ → Bounds) (first : ℕ) (cs : List Constraint) → blocksFault β first cs .number ≡ 0 → blocksFault β first cs ≡ accepted
+blocks-zero : (β : ℕ → Bounds) (s : ℕ → Bool) (first : ℕ) (e : Encoded) (cs : List Constraint) → blocksFault β s first e cs .number ≡ 0 → blocksFault β s first e cs ≡ accepted
 unfolding blocksFaultIn
-blocks-zero β first [] e = refl
-blocks-zero β first (c ∷ cs) e =
-    let h = no-fault (blockFault β first c) (c .place) _ e in
-    sym (Reading.no-fault (blockFault β first c) (c .place) _ (h .0)) ∙ blocks-zero β (first + length (blockOf β c .auxiliaries)) cs (h .1)
+blocks-zero β s first e [] z = refl
+blocks-zero β s first e (c ∷ cs) z =
+    let h = no-fault (blockFault β s first e c) (c .place) _ z in
+    sym (Reading.no-fault (blockFault β s first e c) (c .place) _ (h .0))
+    ∙ blocks-zero β s (first + length (blockOf β s e c .auxiliaries)) (encodedAfter s first e (encodes (choice c))) cs (h .1)
 
 check-zero : (ws : List ℕ) → checkFault ws .number ≡ 0 → Passes ws
 unfolding checkFaultIn _else-refuse_
 check-zero ws e =
     let h = no-fault (readModel ws .number) (readModel ws .place) _ e in
-    sym (Reading.no-fault (readModel ws .number) (readModel ws .place) _ (h .0)) ∙ blocks-zero (bounds ws) (length (variables ws)) (constraints ws) (h .1)
+    sym (Reading.no-fault (readModel ws .number) (readModel ws .place) _ (h .0)) ∙ blocks-zero (bounds ws) (shared ws) (length (variables ws)) noneYet (constraints ws) (h .1)
 
 -- ---- how the words of the row system are made up
 
@@ -80,7 +83,7 @@ some-refusal v c a r w (suc m) q e = (cc, cc, λ z. omega arith)
 pub read-refused : {ws hs : List ℕ} {r : Read} → Kept ws hs r → (r .number ≡ 0 → ⊥) → refused (r .number) (r .place) ≡ check ws
 unfolding checkIn checkFaultIn
 read-refused {ws} {hs} {r} k f =
-    rw (← k .refusal) (first-answers (r .number) (r .place) (blocksFault (bounds ws) (length (variables ws)) (constraints ws)) _ f)
+    rw (← k .refusal) (first-answers (r .number) (r .place) (blocksFault (bounds ws) (shared ws) (length (variables ws)) noneYet (constraints ws)) _ f)
 
 -- counts: no fault, and the words that are needed
 pub counted : (ws : List ℕ) {v c a r w : ℕ} → counts v c a r w ≡ check ws → Passes ws × (w ≡ length (systemWords ws))

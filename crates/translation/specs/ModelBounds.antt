@@ -1,4 +1,5 @@
--- What check, translate and fill have of a model that was read without a fault: what the reading kept, the bounds of the variables; and L and U of the constraints.
+-- What check, translate and fill have of a model that was read without a fault: what the reading kept, the bounds of the variables, which of them are
+-- shared; and L and U of the constraints.
 use mathlib.Core.Path.{_≡_}
 use mathlib.Core.List.{List}
 use Prim.Native.Nat.{ℕ}
@@ -8,20 +9,22 @@ use Rattle.integers.specs.Number.{+0}
 use Rattle.integers.specs.declared.Bounds.{Bounds}
 use Rattle.modelreading.specs.Seen.{Seen, Kept}
 use Rattle.modelreading.specs.declared.Read.{Read}
-use Rattle.rules.specs.Translation.{bounds}
+use Rattle.rules.specs.Translation.{bounds, shared}
 use Rattle.extremes.specs.Bounded.{boundsOf, Bounded}
 use Rattle.linearsums.specs.Places.{sumsUpTo}
+use Rattle.encodings.specs.Uses.{sharedBy}
 
 -- a list for the bounds of 256 variables
 abbrev pub noBounds : List ℤ
 noBounds = replicate 256 +0
 
-pub record ModelBounds (ws hs : List ℕ) (r : Read) (ls us : List ℤ) : Type 0 where
+pub record ModelBounds (ws hs : List ℕ) (r : Read) (ls us : List ℤ) (uses : List ℕ) : Type 0 where
   pub kept : Kept ws hs r
   pub seen : Seen ws hs r
   pub same : boundsOf ls us ≡ bounds ws
   pub lowers : Bounded ls
   pub uppers : Bounded us
+  pub shares : sharedBy uses ≡ shared ws
 
 -- L and U of each constraint
 abbrev pub modelSums : List ℕ → List ℕ → Read → List ℤ → List ℤ → List Bounds

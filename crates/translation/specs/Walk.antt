@@ -1,41 +1,53 @@
 -- What check says of the constraints that are left, and what it finds of one of them.
 use mathlib.Core.Path.{_≡_}
-use mathlib.Core.List.{List, flatMap}
+use mathlib.Core.Bool.{Bool, false, _&&_, _||_}
+use mathlib.Core.List.{List}
 use Prim.Native.Nat.{ℕ, _+_, _≤_}
+use lib.Dec.{eqb}
 use lib.ListN.{length}
 use Rattle.integers.specs.declared.Bounds.{Bounds}
 use Rattle.words.specs.Answer.{Answer, counts, _else-answer_}
 use Rattle.words.specs.Variables.{variables}
-use Rattle.models.specs.Model.{Constraint, constraints}
+use Rattle.models.specs.Model.{Constraint, constraints, var}
 use Rattle.rules.specs.Block.{blockWords}
-use Rattle.rules.specs.Translation.{bounds, blockOf, blocksWords}
+use Rattle.rules.specs.Shared.{Encoded, noneYet}
+use Rattle.rules.specs.Translation.{bounds, shared, blockOf, eachBlock, blocksWords}
 use Rattle.rules.specs.Check.{blockFault, blocksFault}
+use Rattle.encodings.specs.Uses.{choosing}
 use Rattle.translation.specs.declared.Cost.{Cost}
 
 -- the constraint of a code and the words after its head; its place plays no part in its block
 abbrev pub constraintOf : ℕ → List ℕ → Constraint
 constraintOf code ws = record { place = 0; code = code; arguments = ws }
 
+-- no variable is shared
+abbrev pub noneShared : ℕ → Bool
+noneShared v = false
+
+-- whether the constraint has an auxiliary for each value of its first argument
+unfoldable pub hasAll : (ℕ → Bool) → ℕ → List ℕ → Bool
+hasAll s code ws = choosing code && (eqb code 28 || s (var ws 0))
+
 -- the words of all blocks
 abbrev pub allBlocks : List ℕ → List ℕ
-allBlocks ws = blocksWords (bounds ws) (length (variables ws)) (constraints ws)
+allBlocks ws = blocksWords (bounds ws) (shared ws) (length (variables ws)) noneYet (constraints ws)
 
--- after k constraints with a auxiliaries, r rows and w words: v variables
-unfoldable pub countsFrom : (ℕ → Bounds) → (v k a r w : ℕ) → List Constraint → Answer
-countsFrom β v k a r w cs =
-    blocksFault β (v + a) cs
+-- after k constraints with a auxiliaries, r rows and w words: v variables, of which e are encoded
+unfoldable pub countsFrom : (ℕ → Bounds) → (ℕ → Bool) → (v k a r w : ℕ) → Encoded → List Constraint → Answer
+countsFrom β s v k a r w e cs =
+    blocksFault β s (v + a) e cs
     else-answer counts v (k + length cs)
-    (a + length (flatMap (λ c. blockOf β c .auxiliaries) cs))
-    (r + length (flatMap (λ c. blockOf β c .rows) cs))
-    (w + length (blocksWords β (v + a) cs))
+    (a + length (eachBlock β s (λ first d c. blockOf β s d c .auxiliaries) (v + a) e cs))
+    (r + length (eachBlock β s (λ first d c. blockOf β s d c .rows) (v + a) e cs))
+    (w + length (blocksWords β s (v + a) e cs))
 
 -- what a constraint costs that has no fault
-pub record Counted (β : ℕ → Bounds) (first : ℕ) (c : Constraint) (r : Cost) : Type 0 where
-  pub auxiliaries : r .auxiliaries ≡ length (blockOf β c .auxiliaries)
-  pub rows : r .rows ≡ length (blockOf β c .rows)
-  pub words : r .words ≡ length (blockWords first (blockOf β c))
+pub record Counted (β : ℕ → Bounds) (s : ℕ → Bool) (first : ℕ) (e : Encoded) (c : Constraint) (r : Cost) : Type 0 where
+  pub auxiliaries : r .auxiliaries ≡ length (blockOf β s e c .auxiliaries)
+  pub rows : r .rows ≡ length (blockOf β s e c .rows)
+  pub words : r .words ≡ length (blockWords first (blockOf β s e c))
 
-pub record Costs (β : ℕ → Bounds) (first : ℕ) (c : Constraint) (r : Cost) : Type 0 where
-  pub fault : r .fault ≡ blockFault β first c
-  pub counted : r .fault ≡ 0 → Counted β first c r
+pub record Costs (β : ℕ → Bounds) (s : ℕ → Bool) (first : ℕ) (e : Encoded) (c : Constraint) (r : Cost) : Type 0 where
+  pub fault : r .fault ≡ blockFault β s first e c
+  pub counted : r .fault ≡ 0 → Counted β s first e c r
   pub small : r .words + r .auxiliaries + r .rows ≤ 1000000

@@ -1,14 +1,17 @@
 // The block of a constraint, by its code.
 ghost use mathlib.Core.Path.{_≡_};
-ghost use Prim.Native.Nat.{_<_, _≤_};
-ghost use Rattle.integers.specs.Bounds.{width};
-ghost use Rattle.models.specs.Model.{var};
+ghost use mathlib.Core.Bool.{false};
+ghost use Prim.Native.Nat.{_<_};
 ghost use Rattle.builtins.specs.Coded.{builtinOf};
 ghost use Rattle.rules.specs.Rule.{rule};
+ghost use Rattle.rules.specs.Translation.{blockOf};
+ghost use Rattle.rules.specs.Check.{tooWide};
+ghost use Rattle.encodings.specs.Uses.{sharedBy, Recorded};
 ghost use Rattle.laying.specs.Part.{blockParts};
 ghost use Rattle.laying.specs.Went.{WentFitting, Near, nothing, total};
 ghost use Rattle.extremes.specs.Bounded.{boundsOf, Bounded};
 ghost use Rattle.linearsums.specs.Sum.{Summed};
+ghost use Rattle.translation.specs.Walk.{constraintOf, noneShared};
 use arguments::exponent_at;
 use arguments::var_at;
 use choiceblocks::array_int_element;
@@ -18,6 +21,7 @@ use choiceblocks::set_in;
 use choiceblocks::set_in_reif;
 use divisionblocks::int_div;
 use divisionblocks::int_mod;
+use encodings::is_shared;
 use fixedblocks::boolean;
 use fixedblocks::compare;
 use fixedblocks::number;
@@ -29,9 +33,10 @@ use laying::none_yet;
 use linearblocks::clause;
 use linearblocks::linear;
 use powerblocks::int_pow;
+use sharedblocks::shared_block;
 use words::kind;
 
-// Lays the block of a constraint after what is laid; its auxiliaries are numbered from `first` on, and `sum` is L and U where its rule has these.
+// Lays the block of a constraint over no shared variable after what is laid; its auxiliaries are numbered from `first` on, and `sum` is L and U where its rule has these.
 fn lay_block(
     out: &mut [u32],
     s: Laid,
@@ -42,7 +47,7 @@ fn lay_block(
     sum: Bounds,
     first: usize,
 ) -> Laid
-    requires { ⌜ (total s < 1000000000) × (first < 10000) × Bounded (now ls) × Bounded (now us) × (code ≡ 28 → width (boundsOf (now ls) (now us) (var (now args) 0)) ≤ 64) × Summed (boundsOf (now ls) (now us)) code (now args) sum ⌝ }
+    requires { ⌜ (total s < 1000000000) × (first < 10000) × Bounded (now ls) × Bounded (now us) × (tooWide (boundsOf (now ls) (now us)) noneShared (constraintOf code (now args)) ≡ false) × Summed (boundsOf (now ls) (now us)) code (now args) sum ⌝ }
     ensures { λ r. ⌜ WentFitting s r (now (out .entry)) (now (out .exit)) (blockParts first (rule (boundsOf (now (ls .entry)) (now (us .entry))) (builtinOf code (now (args .entry))))) × Near 1000000 s r ⌝ }
 {
     let a = var_at(args, 0);
@@ -99,12 +104,17 @@ pub fn block(
     args: &[u32],
     ls: &[i64],
     us: &[i64],
+    uses: &[usize],
+    encoded: &[usize],
     sum: Bounds,
     first: usize,
 ) -> Laid
-    requires { ⌜ (first < 10000) × Bounded (now ls) × Bounded (now us) × (code ≡ 28 → width (boundsOf (now ls) (now us) (var (now args) 0)) ≤ 64) × Summed (boundsOf (now ls) (now us)) code (now args) sum ⌝ }
-    ensures { λ r. ⌜ WentFitting nothing r (now (out .entry)) (now (out .exit)) (blockParts first (rule (boundsOf (now (ls .entry)) (now (us .entry))) (builtinOf code (now (args .entry))))) × Near 1000000 nothing r ⌝ }
+    requires { ⌜ (first < 10000) × Bounded (now ls) × Bounded (now us) × (tooWide (boundsOf (now ls) (now us)) (sharedBy (now uses)) (constraintOf code (now args)) ≡ false) × Recorded (now encoded) × Summed (boundsOf (now ls) (now us)) code (now args) sum ⌝ }
+    ensures { λ r. ⌜ WentFitting nothing r (now (out .entry)) (now (out .exit)) (blockParts first (blockOf (boundsOf (now (ls .entry)) (now (us .entry))) (sharedBy (now (uses .entry))) (now (encoded .entry)) (constraintOf code (now (args .entry))))) × Near 1000000 nothing r ⌝ }
 {
     let s = none_yet();
+    if is_shared(code, args, uses) {
+        return shared_block(out, s, code, args, ls, us, encoded, first);
+    }
     lay_block(out, s, code, args, ls, us, sum, first)
 }

@@ -4,16 +4,21 @@ ghost use Prim.Native.Nat.{_+_, _<_, _≤_};
 ghost use lib.Dec.{ltb};
 ghost use Rattle.integers.specs.Choice.{_if_else_};
 ghost use Rattle.modelreading.specs.Seen.{Kept};
+ghost use Rattle.rules.specs.Shared.{noneYet};
 ghost use Rattle.rules.specs.Check.{tooWide, check as checkAnswer};
 ghost use Rattle.extremes.specs.Bounded.{boundsOf, Bounded};
 ghost use Rattle.linearsums.specs.Sum.{Summed};
+ghost use Rattle.encodings.specs.Uses.{sharedBy, Recorded};
 ghost use Rattle.translation.specs.Checked.{checked};
-ghost use Rattle.translation.specs.Walk.{constraintOf, Costs};
+ghost use Rattle.translation.specs.Walk.{constraintOf, hasAll, Costs};
 ghost use Rattle.translation.specs.ModelBounds.{ModelBounds, noBounds, modelSums};
 use crate::Checked;
 use crate::Cost;
 use crate::blocks::block;
 use arguments::var_at;
+use encodings::count_uses;
+use encodings::is_shared;
+use encodings::record_encoding;
 use extremes::bound_at;
 use extremes::keep_bounds;
 use extremes::width_of;
@@ -26,31 +31,43 @@ use words::fault;
 use words::limit;
 use words::payload_of;
 
-// The code of set_in_reif, which has an auxiliary for each value of its first argument.
+// The code of set_in_reif, which has an auxiliary for each value of its first argument, shared or not.
 const SET_IN_REIF: usize = 28;
 
-// The bounds of the variables of a model that was read without a fault go into two lists of 256 zeros; L and U of its constraints.
+// The bounds and the uses of the variables of a model that was read without a fault go into three lists of 256 zeros; L and U of its constraints.
 pub fn model_bounds(
     ws: &[u32],
     heads: &[usize; 256],
     read: Read,
     lowers: &mut [i64],
     uppers: &mut [i64],
+    uses: &mut [usize],
 ) -> [Bounds; 256]
-    requires { ⌜ Kept (now ws) (now heads) read × (read .number ≡ 0) × (now lowers ≡ noBounds) × (now uppers ≡ noBounds) ⌝ }
-    ensures { λ r. ⌜ ModelBounds (now (ws .entry)) (now (heads .entry)) read (now (lowers .exit)) (now (uppers .exit)) × (r ≡ modelSums (now (ws .entry)) (now (heads .entry)) read (now (lowers .exit)) (now (uppers .exit))) ⌝ }
+    requires { ⌜ Kept (now ws) (now heads) read × (read .number ≡ 0) × (now lowers ≡ noBounds) × (now uppers ≡ noBounds) × (now uses ≡ noneYet) ⌝ }
+    ensures { λ r. ⌜ ModelBounds (now (ws .entry)) (now (heads .entry)) read (now (lowers .exit)) (now (uppers .exit)) (now (uses .exit)) × (r ≡ modelSums (now (ws .entry)) (now (heads .entry)) read (now (lowers .exit)) (now (uppers .exit))) ⌝ }
 {
     let sources = read.sources;
     keep_bounds(&ws[..sources], lowers, uppers);
+    count_uses(ws, heads, read.constraints, uses);
     model_sums(ws, heads, read.constraints, lowers, uppers, read.variables)
 }
 
-// Whether a constraint needs more than 64 auxiliaries for the values of its first argument.
-fn too_wide(code: usize, args: &[u32], ls: &[i64], us: &[i64]) -> bool
-    requires { ⌜ Bounded (now ls) × Bounded (now us) ⌝ }
-    ensures { λ r. ⌜ r ≡ tooWide (boundsOf (now (ls .entry)) (now (us .entry))) (constraintOf code (now (args .entry))) ⌝ }
+// Whether a constraint has an auxiliary for each value of its first argument.
+fn has_all(code: usize, args: &[u32], uses: &[usize]) -> bool
+    ensures { λ r. ⌜ r ≡ hasAll (sharedBy (now (uses .entry))) code (now (args .entry)) ⌝ }
 {
     if code == SET_IN_REIF {
+        return true;
+    }
+    is_shared(code, args, uses)
+}
+
+// Whether it needs more than 64 of them.
+fn too_wide(code: usize, args: &[u32], ls: &[i64], us: &[i64], uses: &[usize]) -> bool
+    requires { ⌜ Bounded (now ls) × Bounded (now us) ⌝ }
+    ensures { λ r. ⌜ r ≡ tooWide (boundsOf (now (ls .entry)) (now (us .entry))) (sharedBy (now (uses .entry))) (constraintOf code (now (args .entry))) ⌝ }
+{
+    if has_all(code, args, uses) {
         let x = var_at(args, 0);
         return limit::SET_BITS < width_of(bound_at(ls, x), bound_at(us, x));
     }
@@ -72,11 +89,20 @@ fn fault_of(block: Laid, first: usize) -> u32
 }
 
 // The fault of one constraint, 0 for none, and what its block counts: it is laid into nothing.
-fn cost_of(code: usize, args: &[u32], ls: &[i64], us: &[i64], sum: Bounds, first: usize) -> Cost
-    requires { ⌜ (first < 10000) × Bounded (now ls) × Bounded (now us) × Summed (boundsOf (now ls) (now us)) code (now args) sum ⌝ }
-    ensures { λ r. ⌜ Costs (boundsOf (now (ls .entry)) (now (us .entry))) first (constraintOf code (now (args .entry))) r ⌝ }
+fn cost_of(
+    code: usize,
+    args: &[u32],
+    ls: &[i64],
+    us: &[i64],
+    uses: &[usize],
+    encoded: &[usize],
+    sum: Bounds,
+    first: usize,
+) -> Cost
+    requires { ⌜ (first < 10000) × Bounded (now ls) × Bounded (now us) × Recorded (now encoded) × Summed (boundsOf (now ls) (now us)) code (now args) sum ⌝ }
+    ensures { λ r. ⌜ Costs (boundsOf (now (ls .entry)) (now (us .entry))) (sharedBy (now (uses .entry))) first (now (encoded .entry)) (constraintOf code (now (args .entry))) r ⌝ }
 {
-    if too_wide(code, args, ls, us) {
+    if too_wide(code, args, ls, us, uses) {
         return Cost {
             fault: fault::SET_TOO_WIDE,
             auxiliaries: 0,
@@ -85,7 +111,7 @@ fn cost_of(code: usize, args: &[u32], ls: &[i64], us: &[i64], sum: Bounds, first
         };
     }
     let mut none = [0u32; 0];
-    let laid = block(&mut none, code, args, ls, us, sum, first);
+    let laid = block(&mut none, code, args, ls, us, uses, encoded, sum, first);
     Cost {
         fault: fault_of(laid, first),
         auxiliaries: laid.auxiliaries,
@@ -101,9 +127,10 @@ pub fn check_read(
     read: Read,
     ls: &[i64],
     us: &[i64],
+    uses: &[usize],
     sums: [Bounds; 256],
 ) -> Checked
-    requires { ⌜ ModelBounds (now ws) (now heads) read (now ls) (now us) × (sums ≡ modelSums (now ws) (now heads) read (now ls) (now us)) ⌝ }
+    requires { ⌜ ModelBounds (now ws) (now heads) read (now ls) (now us) (now uses) × (sums ≡ modelSums (now ws) (now heads) read (now ls) (now us)) ⌝ }
     ensures { λ r. ⌜ checked r ≡ checkAnswer (now (ws .entry)) ⌝ }
 {
     let variables = read.variables;
@@ -112,18 +139,20 @@ pub fn check_read(
     let mut auxiliaries = 0;
     let mut rows = 0;
     let mut words = read.sources + 1;
+    let mut encoded = [0usize; 256];
     while constraints < n {
         let place = heads[constraints];
         let code = payload_of(ws[place]);
         let sum = sums[constraints];
         let first = variables + auxiliaries;
-        let cost = cost_of(code, &ws[place + 1..], ls, us, sum, first);
+        let cost = cost_of(code, &ws[place + 1..], ls, us, uses, &encoded, sum, first);
         if cost.fault != fault::NONE {
             return Checked::Refused(Refusal {
                 number: cost.fault,
                 place,
             });
         }
+        record_encoding(&mut encoded, code, &ws[place + 1..], uses, first);
         constraints += 1;
         auxiliaries += cost.auxiliaries;
         rows += cost.rows;

@@ -59,8 +59,9 @@ pub fn check(ws: &[u32]) -> Checked
     }
     let mut lowers = [0i64; 256];
     let mut uppers = [0i64; 256];
-    let sums = model_bounds(ws, &heads, read, &mut lowers, &mut uppers);
-    check_read(ws, &heads, read, &lowers, &uppers, sums)
+    let mut uses = [0usize; 256];
+    let sums = model_bounds(ws, &heads, read, &mut lowers, &mut uppers, &mut uses);
+    check_read(ws, &heads, read, &lowers, &uppers, &uses, sums)
 }
 
 // Writes the words of the row system to the front of the output; a refusal changes nothing.
@@ -79,8 +80,9 @@ pub fn translate(ws: &[u32], out: &mut [u32]) -> Written
     }
     let mut lowers = [0i64; 256];
     let mut uppers = [0i64; 256];
-    let sums = model_bounds(ws, &heads, read, &mut lowers, &mut uppers);
-    match check_read(ws, &heads, read, &lowers, &uppers, sums) {
+    let mut uses = [0usize; 256];
+    let sums = model_bounds(ws, &heads, read, &mut lowers, &mut uppers, &mut uses);
+    match check_read(ws, &heads, read, &lowers, &uppers, &uses, sums) {
         Checked::Refused(refusal) => Written::Refused(refusal),
         Checked::Counts {
             variables: _,
@@ -95,7 +97,7 @@ pub fn translate(ws: &[u32], out: &mut [u32]) -> Written
                     place: 0,
                 });
             }
-            write_system(ws, &heads, read, &lowers, &uppers, sums, out);
+            write_system(ws, &heads, read, &lowers, &uppers, &uses, sums, out);
             Written::Words(words)
         }
     }

@@ -9,6 +9,7 @@ ghost use Rattle.sharing.specs.SharedSolutions.{Passes};
 ghost use Rattle.translation.specs.Walk.{allBlocks};
 ghost use Rattle.translation.specs.ModelBounds.{ModelBounds, modelSums};
 use crate::blocks::block;
+use encodings::record_encoding;
 use integers::Bounds;
 use modelreading::Read;
 use words::kind;
@@ -23,21 +24,34 @@ fn write_blocks(
     read: Read,
     ls: &[i64],
     us: &[i64],
+    uses: &[usize],
     sums: [Bounds; 256],
     out: &mut [u32],
 ) -> usize
-    requires { ⌜ ModelBounds (now ws) (now heads) read (now ls) (now us) × (sums ≡ modelSums (now ws) (now heads) read (now ls) (now us)) × Passes (now ws) × (length (sourceWords (now ws)) + length (allBlocks (now ws)) ≤ length (now out)) ⌝ }
+    requires { ⌜ ModelBounds (now ws) (now heads) read (now ls) (now us) (now uses) × (sums ≡ modelSums (now ws) (now heads) read (now ls) (now us)) × Passes (now ws) × (length (sourceWords (now ws)) + length (allBlocks (now ws)) ≤ length (now out)) ⌝ }
     ensures { λ r. ⌜ (r ≡ length (sourceWords (now (ws .entry))) + length (allBlocks (now (ws .entry)))) × (now (out .exit) ≡ overlay (now (out .entry)) (length (sourceWords (now (ws .entry)))) (allBlocks (now (ws .entry)))) ⌝ }
 {
     let n = read.constraints;
     let mut k = 0;
     let mut first = read.variables;
     let mut at = read.sources;
+    let mut encoded = [0usize; 256];
     while k < n {
         let place = heads[k];
         let code = payload_of(ws[place]);
         let sum = sums[k];
-        let laid = block(&mut out[at..], code, &ws[place + 1..], ls, us, sum, first);
+        let laid = block(
+            &mut out[at..],
+            code,
+            &ws[place + 1..],
+            ls,
+            us,
+            uses,
+            &encoded,
+            sum,
+            first,
+        );
+        record_encoding(&mut encoded, code, &ws[place + 1..], uses, first);
         k += 1;
         first += laid.auxiliaries;
         at += laid.words;
@@ -52,15 +66,16 @@ pub fn write_system(
     read: Read,
     ls: &[i64],
     us: &[i64],
+    uses: &[usize],
     sums: [Bounds; 256],
     out: &mut [u32],
 )
-    requires { ⌜ ModelBounds (now ws) (now heads) read (now ls) (now us) × (sums ≡ modelSums (now ws) (now heads) read (now ls) (now us)) × Passes (now ws) × (length (systemWords (now ws)) ≤ length (now out)) ⌝ }
+    requires { ⌜ ModelBounds (now ws) (now heads) read (now ls) (now us) (now uses) × (sums ≡ modelSums (now ws) (now heads) read (now ls) (now us)) × Passes (now ws) × (length (systemWords (now ws)) ≤ length (now out)) ⌝ }
     ensures { λ r. ⌜ now (out .exit) ≡ overlay (now (out .entry)) 0 (systemWords (now (ws .entry))) ⌝ }
 {
     let sources = read.sources;
     lay(out, 0, &ws[..sources]);
-    let at = write_blocks(ws, heads, read, ls, us, sums, out);
+    let at = write_blocks(ws, heads, read, ls, us, uses, sums, out);
     let end = [word_of(kind::ROWS_END, 0)];
     lay(out, at, &end);
 }

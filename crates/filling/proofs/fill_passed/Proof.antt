@@ -21,52 +21,52 @@ counted c = c .pre .0 .seen .variables-counted
 returns : tie.Need-returns
 unfolding handed
 returns c =
-    let s = c .before .before in
+    let s = c .before .before .before in
     wrong-count (s .args .ws .now) (s .pre .1) (s .args .values .now) (s .args .out .now) (λ e. c .if1 .taken (e ∙ sym (counted s)))
 
 add-if2 : tie.Need-add-if2
-add-if2 c = let s = c .before .before in record { fits = omega (arith, counted s, s .pre .2, few-in-all (s .args .ws .now) (s .pre .1)) }
+add-if2 c = let s = c .before .before .before in record { fits = omega (arith, counted s, s .pre .2, few-in-all (s .args .ws .now) (s .pre .1)) }
 
 returns-2 : tie.Need-returns-2
 unfolding handed
 returns-2 c =
-    let s = c .before .before .before in
+    let s = c .before .before .before .before in
     too-short (s .args .ws .now) (s .pre .1) (s .args .values .now) (s .args .out .now) (c .before .if1 .left ∙ counted s) (rw (counted s, s .pre .2) at (c .if2 .taken))
 
 judge-read-requires : tie.Need-judge-read-requires
-judge-read-requires c κs = c .before .before .before .pre .0 .kept
+judge-read-requires c κs = c .before .before .before .before .pre .0 .kept
 
 write-filled-requires : tie.Need-write-filled-requires
 unfolding verdict
 write-filled-requires c κs =
-    let s = c .before .before .before .before .before .before .before in
+    let s = c .before .before .before .before .before .before .before .before in
     (s .pre .0, s .pre .1, judge-model-says (s .args .ws .now) (passes-read (s .args .ws .now) (s .pre .1)) (s .args .values .now) .0 (sym (c .before .before .before .judge-read .ensures) ∙ rw (c .before .enum-told .given .1)))
 
-add-t23 : tie.Need-add-t23
-add-t23 c = let s = c .before .before .before .before .before .before .before .before .before in record { fits = omega (arith, counted s, s .pre .2, few-in-all (s .args .ws .now) (s .pre .1)) }
+add-t24 : tie.Need-add-t24
+add-t24 c = let s = c .before .before .before .before .before .before .before .before .before .before in record { fits = omega (arith, counted s, s .pre .2, few-in-all (s .args .ws .now) (s .pre .1)) }
 
 returns-3 : tie.Need-returns-3
 unfolding handed verdict isHolds
 returns-3 c =
-    let s = c .before .before .before .before .before .before .before in
+    let s = c .before .before .before .before .before .before .before .before in
     not-held (s .args .ws .now) (s .pre .1) (s .args .values .now) (s .args .out .now) (c .before .before .before .before .before .if1 .left ∙ counted s) (rw (counted s, s .pre .2) at (c .before .before .before .before .if2 .left)) _ (rw (c .before .refusal .given .1) at (c .before .before .before .judge-read .ensures)) refl (λ n e. clash (cc))
 
 returns-4 : tie.Need-returns-4
 unfolding handed verdict
 returns-4 c =
-    let s = c .before .before .before .before .before .before .before .before .before in
+    let s = c .before .before .before .before .before .before .before .before .before .before in
     rw (counted s, s .pre .2, c .before .write-filled .ensures) (held (s .args .ws .now) (s .pre .1) (s .args .values .now) (s .args .out .now) (c .before .before .before .before .before .before .before .if1 .left ∙ counted s) (rw (counted s, s .pre .2) at (c .before .before .before .before .before .before .if2 .left)) (sym (c .before .before .before .before .before .judge-read .ensures) ∙ rw (c .before .before .before .enum-told .given .1)))
 
 returns-5 : tie.Need-returns-5
 unfolding handed verdict isHolds
 returns-5 c =
-    let s = c .before .before .before .before .before .before .before in
+    let s = c .before .before .before .before .before .before .before .before in
     not-held (s .args .ws .now) (s .pre .1) (s .args .values .now) (s .args .out .now) (c .before .before .before .before .before .if1 .left ∙ counted s) (rw (counted s, s .pre .2) at (c .before .before .before .before .if2 .left)) _ (rw (c .before .i .given .1) at (c .before .before .before .judge-read .ensures)) refl (λ n e. clash (cc))
 
 returns-6 : tie.Need-returns-6
 unfolding handed verdict isHolds
 returns-6 c =
-    let s = c .before .before .before .before .before .before .before in
+    let s = c .before .before .before .before .before .before .before .before in
     not-held (s .args .ws .now) (s .pre .1) (s .args .values .now) (s .args .out .now) (c .before .before .before .before .before .if1 .left ∙ counted s) (rw (counted s, s .pre .2) at (c .before .before .before .before .if2 .left)) _ (rw (c .before .i2 .given .1) at (c .before .before .before .judge-read .ensures)) refl (λ n e. clash (cc))
 
 pub fill-passed-spec : {M : Type 1} → statement M
@@ -80,7 +80,7 @@ fill-passed-spec =
     (λ c. search needs)
     (λ c. search needs)
     write-filled-requires
-    add-t23
+    add-t24
     (λ c. search needs)
     (λ c. search needs)
     returns-3

@@ -8,13 +8,15 @@ use Rattle.filling.proofs.write_filled.Tie as tie
 
 write-picks-requires : tie.Need-write-picks-requires
 write-picks-requires c κs =
-    let s = c .before .before .before .before .before in
+    let s = c .before .before .before .before .before .before in
     let ws = s .args .ws .now in
     let vs = s .args .values .now in
-    (s .pre .0, values-small ws (s .pre .1) vs (s .pre .2), picks-ranged ws (s .pre .1) vs (s .pre .2), picks-fit ws (s .pre .1) vs (s .pre .2))
+    (s .pre .0, values-small ws (s .pre .1) vs (s .pre .2), picks-ranged ws (s .pre .1) vs (s .pre .2), s .pre .2 .one-each, picks-fit ws (s .pre .1) vs (s .pre .2))
 
 returns : tie.Need-returns
-returns c = rw (c .before .before .before .before .lay-values .ensures) at (c .before .write-picks .ensures) ∙ values-then (c .before .before .before .before .before .before .before .args .out .now) (c .before .before .before .before .before .before .before .args .values .now) _
+returns c =
+    let a = c .before .before .before .before .before .before .before .before .args in
+    rw (c .before .before .before .before .lay-values .ensures) at (c .before .write-picks .ensures) ∙ values-then (a .out .now) (a .values .now) _
 
 pub write-filled-spec : {M : Type 1} → statement M
 write-filled-spec =

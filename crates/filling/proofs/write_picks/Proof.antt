@@ -1,5 +1,5 @@
 -- The invariant: writing the picks of the constraints that are left gives what writing those of all gives.
-use mathlib.Core.Path.{_≡_, ap, _∙_}
+use mathlib.Core.Path.{_≡_, sym, ap, _∙_}
 use Prim.Native.Nat.{_+_, _-_, _<_}
 use native.Mathlib.Omega.{arith}
 use lib.ListN.{length, getD}
@@ -7,35 +7,49 @@ use borrow.Author.Needs.{needs}
 use Rattle.words.specs.Word.{wordAt}
 use Rattle.words.proofs.Overlay.{length-overlay}
 use Rattle.words.proofs.Reading.{tail-is}
-use Rattle.models.specs.Model.{constraints}
+use Rattle.models.specs.Model.{headed, constraints}
+use Rattle.rules.specs.Shared.{noneYet, choice, encodes, encodedAfter}
 use Rattle.rules.specs.Translation.{picks}
-use Rattle.picking.specs.Picked.{picksFor}
-use Rattle.picking.proofs.Picks.{Filling, begun, here-ranged, picked, place-le, ended, picks-for}
+use Rattle.encodings.specs.Uses.{sharedBy}
+use Rattle.picking.specs.Picked.{picksFrom}
+use Rattle.picking.proofs.Picks.{Filling, begun, here-ranged, picked, place-le, ended, picks-from}
 use Rattle.translation.proofs.Kept.{few-constraints, none-left, head-inside, head-at}
+use Rattle.translation.proofs.OneBlock.{placed-record}
+use Rattle.filling.proofs.Ranges.{block-picks}
 use Rattle.filling.proofs.write_picks.Statement.{statement}
 use Rattle.filling.proofs.write_picks.Tie as tie
 
 abbrev Inv-loop : tie.InvT-loop
-Inv-loop ws heads ls us values out₀ start n k₀ at₀ out k at = Filling ls us values (constraints ws) start out₀ out k at
+Inv-loop ws heads ls us uses values out₀ start n k₀ at₀ e₀ out k at e = Filling ls us uses values (constraints ws) start out₀ out k at e
 
 abbrev μ-loop : tie.MeasureT-loop
-μ-loop ws heads ls us values out₀ start n k₀ at₀ out k at = n - k
+μ-loop ws heads ls us uses values out₀ start n k₀ at₀ e₀ out k at e = n - k
 
 -- the picks are those of the definition
-same : (c : tie.Start Inv-loop μ-loop) → let a = c .args in picks (a .ws .now) (a .values .now) ≡ picksFor (a .ls .now) (a .us .now) (a .values .now) (constraints (a .ws .now))
-same c = picks-for _ _ _ _ (c .pre .0 .same)
+same : (c : tie.Start Inv-loop μ-loop) → let a = c .args in picks (a .ws .now) (a .values .now) ≡ picksFrom (a .ls .now) (a .us .now) (a .uses .now) (a .values .now) (a .start) noneYet (constraints (a .ws .now))
+same c = let a = c .args in rw (c .pre .3) (picks-from (a .ls .now) (a .us .now) (a .uses .now) (a .values .now) (a .ws .now) (c .pre .0 .same) (c .pre .0 .shares))
 
 -- the constraint has a place in the list of heads, and its head among the words
 few : (c : tie.In-loop Inv-loop μ-loop) → c .before .loop .k < 256
-few c = omega (arith, c .loop-test .taken, few-constraints (c .before .before .before .pre .0))
+few c = omega (arith, c .loop-test .taken, few-constraints (c .before .before .before .before .pre .0))
 
-inside : (c : tie.In-loop Inv-loop μ-loop) → let a = c .before .before .before .args in getD (a .heads .now) (c .before .loop .k) 0 < length (a .ws .now)
-inside c = head-inside (c .before .before .before .pre .0) (c .before .loop .k) (c .loop-test .taken)
+inside : (c : tie.In-loop Inv-loop μ-loop) → let a = c .before .before .before .before .args in getD (a .heads .now) (c .before .loop .k) 0 < length (a .ws .now)
+inside c = head-inside (c .before .before .before .before .pre .0) (c .before .loop .k) (c .loop-test .taken)
+
+-- the record after it
+recorded : (c : tie.After-record-encoding Inv-loop μ-loop) →
+    let a = c .before .before .before .before .before .before .before .before .before .before .before .before .before .before .before .args in
+    let l = c .before .before .before .before .before .before .before .before .before .before .before .before .loop in
+    c .record-encoding .last .0 ≡ encodedAfter (sharedBy (a .uses .now)) (l .at) (l .encoded) (encodes (choice (headed (a .ws .now) (getD (a .heads .now) (l .k) 0))))
+unfolding wordAt
+recorded c =
+    let a = c .before .before .before .before .before .before .before .before .before .before .before .before .before .before .before .args in
+    let l = c .before .before .before .before .before .before .before .before .before .before .before .before .loop in
+    let at = getD (a .heads .now) (l .k) 0 in
+    placed-record (sharedBy (a .uses .now)) (l .at) (l .encoded) (headed (a .ws .now) at) (rw (c .before .before .before .before .before .before .before .before .payload-of .ensures, tail-is (a .ws .now) (at + 1)) at (c .record-encoding .ensures))
 
 loop-holds : tie.Need-loop-holds Inv-loop μ-loop
-loop-holds c =
-    let s = c .before in
-    begun _ _ _ _ _ _ (rw (← same s) (s .pre .2))
+loop-holds c = let s = c .before .before in begun _ _ _ _ _ _ _ (rw (← same s) (s .pre .2))
 
 mul-place : tie.Need-mul-place Inv-loop μ-loop
 mul-place c = record { fits = omega (arith, few c) }
@@ -49,49 +63,70 @@ mul-payload-of c = let h = inside (c .before) in search needs
 shared-slice-read-payload-of : tie.Need-shared-slice-read-payload-of Inv-loop μ-loop
 shared-slice-read-payload-of c = inside (c .before .before)
 
-add-pick-block : tie.Need-add-pick-block Inv-loop μ-loop
-add-pick-block c = let h = inside (c .before .before .before .before) in search needs
+add-pick-constraint : tie.Need-add-pick-constraint Inv-loop μ-loop
+add-pick-constraint c = let h = inside (c .before .before .before .before) in search needs
 
-mul-pick-block : tie.Need-mul-pick-block Inv-loop μ-loop
-mul-pick-block c = let h = inside (c .before .before .before .before) in search needs
+mul-pick-constraint : tie.Need-mul-pick-constraint Inv-loop μ-loop
+mul-pick-constraint c = let h = inside (c .before .before .before .before) in search needs
 
-sub-pick-block : tie.Need-sub-pick-block Inv-loop μ-loop
-sub-pick-block c = let h = inside (c .before .before .before .before) in search needs
+sub-pick-constraint : tie.Need-sub-pick-constraint Inv-loop μ-loop
+sub-pick-constraint c = let h = inside (c .before .before .before .before) in search needs
 
-part-pick-block-start : tie.Need-part-pick-block-start Inv-loop μ-loop
-part-pick-block-start c = omega (arith, inside (c .before .before .before .before))
+part-pick-constraint-start : tie.Need-part-pick-constraint-start Inv-loop μ-loop
+part-pick-constraint-start c = omega (arith, inside (c .before .before .before .before))
 
-pick-block-requires : tie.Need-pick-block-requires Inv-loop μ-loop
+slice-aggregate-pick-constraint : tie.Need-slice-aggregate-pick-constraint Inv-loop μ-loop
+slice-aggregate-pick-constraint c = sym (c .before .before .before .before .before .before .before .loop .inv .length-is)
+
+pick-constraint-requires : tie.Need-pick-constraint-requires Inv-loop μ-loop
 unfolding wordAt
-pick-block-requires c κs =
-    let s = c .before .before .before .before .before .before .before .before in
-    let l = c .before .before .before .before .before .before .loop in
+pick-constraint-requires c κs =
+    let s = c .before .before .before .before .before .before .before .before .before .before in
+    let a = s .args in
+    let l = c .before .before .before .before .before .before .before .loop in
     let m = s .pre .0 in
+    let at = getD (a .heads .now) (l .k) 0 in
     record {
-      place = omega (arith, place-le (l .inv), ap length (same s), s .pre .3);
+      place = omega (arith, place-le (l .inv), ap length (same s), s .pre .4);
       lowers = m .lowers;
       uppers = m .uppers;
       small = s .pre .1;
-      ranged = rw (c .before .before .payload-of .ensures, tail-is (s .args .ws .now) (getD (s .args .heads .now) (l .k) 0 + 1)) (here-ranged (l .inv) (head-at m (l .k) (c .before .before .before .before .before .loop-test .taken)));
+      ranged = rw (c .before .before .before .payload-of .ensures, tail-is (a .ws .now) (at + 1)) (here-ranged (l .inv) (head-at m (l .k) (c .before .before .before .before .before .before .loop-test .taken)) (block-picks (a .ls .now) (a .us .now) (a .uses .now) (l .encoded) (a .values .now) (headed (a .ws .now) at)));
     }
 
+slice-aggregate-record-encoding : tie.Need-slice-aggregate-record-encoding Inv-loop μ-loop
+slice-aggregate-record-encoding c = sym (c .before .before .before .before .before .before .before .before .before .before .loop .inv .length-is)
+
+add-record-encoding : tie.Need-add-record-encoding Inv-loop μ-loop
+add-record-encoding c = let h = inside (c .before .before .before .before .before .before .before .before .before) in search needs
+
+mul-record-encoding : tie.Need-mul-record-encoding Inv-loop μ-loop
+mul-record-encoding c = let h = inside (c .before .before .before .before .before .before .before .before .before) in search needs
+
+sub-record-encoding : tie.Need-sub-record-encoding Inv-loop μ-loop
+sub-record-encoding c = let h = inside (c .before .before .before .before .before .before .before .before .before) in search needs
+
+part-record-encoding-start : tie.Need-part-record-encoding-start Inv-loop μ-loop
+part-record-encoding-start c = omega (arith, inside (c .before .before .before .before .before .before .before .before .before))
+
 add-k : tie.Need-add-k Inv-loop μ-loop
-add-k c = omega (arith, few (c .before .before .before .before .before .before .before))
+add-k c = omega (arith, few (c .before .before .before .before .before .before .before .before .before .before .before .before))
 
 loop-again : tie.Need-loop-again Inv-loop μ-loop
 unfolding wordAt
 loop-again c =
-    let s = c .before .before .before .before .before .before .before .before .before .before in
-    let l = c .before .before .before .before .before .before .before .before .loop in
-    picked (l .inv) (head-at (s .pre .0) (l .k) (c .before .before .before .before .before .before .before .loop-test .taken)) (rw (c .before .before .before .before .payload-of .ensures, tail-is (s .args .ws .now) (getD (s .args .heads .now) (l .k) 0 + 1)) at (c .before .pick-block .ensures))
+    let s = c .before .before .before .before .before .before .before .before .before .before .before .before .before .before .before .before in
+    let a = s .args in
+    let l = c .before .before .before .before .before .before .before .before .before .before .before .before .before .loop in
+    let at = getD (a .heads .now) (l .k) 0 in
+    picked (l .inv) (head-at (s .pre .0) (l .k) (c .before .before .before .before .before .before .before .before .before .before .before .before .loop-test .taken)) (block-picks (a .ls .now) (a .us .now) (a .uses .now) (l .encoded) (a .values .now) (headed (a .ws .now) at))
+    (rw (c .before .before .before .before .before .before .before .before .before .payload-of .ensures, tail-is (a .ws .now) (at + 1)) at (c .before .before .before .before .before .pick-constraint .ensures)) (recorded (c .before))
 
 same-length : tie.Need-same-length Inv-loop μ-loop
-same-length c = ap length (ended (c .before .loop .inv) (none-left (c .before .before .before .pre .0) (c .loop-test .left))) ∙ simp length-overlay
+same-length c = ap length (ended (c .before .loop .inv) (none-left (c .before .before .before .before .pre .0) (c .loop-test .left))) ∙ simp length-overlay
 
 returns : tie.Need-returns Inv-loop μ-loop
-returns c =
-    let s = c .before .before .before in
-    rw (same s) (ended (c .before .loop .inv) (none-left (s .pre .0) (c .loop-test .left)))
+returns c = let s = c .before .before .before .before in rw (same s) (ended (c .before .loop .inv) (none-left (s .pre .0) (c .loop-test .left)))
 
 pub write-picks-spec : {M : Type 1} → statement M
 write-picks-spec =
@@ -105,12 +140,20 @@ write-picks-spec =
     mul-payload-of
     shared-slice-read-payload-of
     (λ c κs. search needs)
-    add-pick-block
-    mul-pick-block
-    sub-pick-block
-    part-pick-block-start
+    add-pick-constraint
+    mul-pick-constraint
+    sub-pick-constraint
+    part-pick-constraint-start
     (λ c. search needs)
-    pick-block-requires
+    slice-aggregate-pick-constraint
+    pick-constraint-requires
+    slice-aggregate-record-encoding
+    add-record-encoding
+    mul-record-encoding
+    sub-record-encoding
+    part-record-encoding-start
+    (λ c. search needs)
+    (λ c κs. search needs)
     add-k
     (λ c. search needs)
     loop-again

@@ -1,92 +1,31 @@
--- The label of the place is i, so its element is the i-th.
-use mathlib.Core.Path.{_≡_, _∙_}
-use mathlib.Core.List.{_++_}
-use Prim.Native.Nat.{_+_}
+-- The bits of 24, then the products.
 use native.Mathlib.Omega.{arith}
-use mir.Syntax.{w64}
-use mir.Val.{toZ, ofZ}
 use borrow.Author.Needs.{needs}
-use Rattle.integers.specs.Number.{count, +1}
-use Rattle.integers.specs.Bounds.{_to_, width}
-use Rattle.integers.specs.Terms.{value}
-use Rattle.integers.proofs.Fits.{back}
-use Rattle.models.specs.Model.{var}
-use Rattle.extremes.specs.Bounded.{Near}
-use Rattle.extremes.proofs.Size.{width-size}
-use Rattle.picking.specs.Picked.{picksOf}
-use Rattle.picking.specs.Only.{onlyAt}
-use Rattle.picking.proofs.Sizes.{labels-near, count-le}
-use Rattle.picking.proofs.Codes.{var-element-picks, firstLabel, lastLabel}
+use Rattle.picking.specs.Picked.{picksOf, productPicks}
+use Rattle.picking.proofs.Writing.{picked-then, ranged-right}
+use Rattle.picking.proofs.Codes.{var-element-both, element-length}
 use Rattle.picking.proofs.pick_var_element.Statement.{statement}
 use Rattle.picking.proofs.pick_var_element.Tie as tie
 
-near : (c : tie.After-last-label) → Near (toZ w64 (ofZ w64 (c .before .first-label .result))) × Near (toZ w64 (ofZ w64 (c .last-label .result)))
-near c =
-    let s = c .before .before .before in (
-      rw (back (c .before .first-label .result) (c .before .first-label .ok), c .before .first-label .ensures) (labels-near (s .args .ls .now) (s .args .us .now) (s .args .args .now) (s .pre .1) (s .pre .2) .0),
-      rw (back (c .last-label .result) (c .last-label .ok), c .last-label .ensures) (labels-near (s .args .ls .now) (s .args .us .now) (s .args .args .now) (s .pre .1) (s .pre .2) .1),
-    )
-
-wide : (c : tie.After-width-of) → let a = c .before .before .before .before .args in c .width-of .result ≡ width (firstLabel (a .ls .now) (a .us .now) (a .values .now) (a .args .now) to lastLabel (a .ls .now) (a .us .now) (a .values .now) (a .args .now))
-wide c =
-    let first-label = c .before .before .first-label in
-    c .width-of .ensures ∙ rw (back (first-label .result) (first-label .ok), first-label .ensures, back (c .before .last-label .result) (c .before .last-label .ok), c .before .last-label .ensures)
-
-picks : (c : tie.After-place-of) → let a = c .before .before .before .before .before .before .args in let σ = value (a .values .now) in let ws = a .args .now in
-    picksOf (a .ls .now) (a .us .now) (a .values .now) 25 ws ≡ onlyAt (c .before .before .width-of .result) (c .place-of .result) +1 ++ onlyAt (c .before .before .width-of .result) (c .place-of .result) (σ (var ws (1 + count (σ (var ws 0)))))
-picks c =
-    let s = c .before .before .before .before .before .before in
-    let first-label = c .before .before .before .before .first-label in
+pick-products-requires : tie.Need-pick-products-requires
+pick-products-requires c κs =
+    let s = c .before .before .before .before .before in
     let a = s .args in
-    rw (wide (c .before .before)) (var-element-picks (a .ls .now) (a .us .now) (a .values .now) (a .args .now) (c .place-of .result) (rw (back (c .before .value-of .result) (c .before .value-of .ok), c .before .value-of .ensures, back (first-label .result) (first-label .ok), first-label .ensures, wide (c .before .before)) at (c .place-of .ensures)))
-
-counted : (c : tie.After-count-of) → c .count-of .result ≡ count (value (c .before .before .before .before .before .before .before .before .args .values .now) (var (c .before .before .before .before .before .before .before .before .args .args .now) 0))
-counted c =
-    let value-of = c .before .before .before .value-of in
-    c .count-of .ensures ∙ rw (back (value-of .result) (value-of .ok), value-of .ensures)
-
-width-of-requires : tie.Need-width-of-requires
-width-of-requires c κs = near c
-
-place-of-requires : tie.Need-place-of-requires
-place-of-requires c κs = (
-  rw (back (c .value-of .result) (c .value-of .ok), c .value-of .ensures) (c .before .before .before .before .before .pre .3 (var (c .before .before .before .before .before .args .args .now) 0)),
-  near (c .before .before) .0,
-)
-
-add-value-of : tie.Need-add-value-of
-add-value-of c =
-    let s = c .before .before .before .before .before .before .before .before in
-    omega (arith, counted c, count-le (value (s .args .values .now) (var (s .args .args .now) 0)), s .pre .3 (var (s .args .args .now) 0))
-
-put-gated-requires : tie.Need-put-gated-requires
-put-gated-requires c κs =
-    let s = c .before .before .before .before .before .before .before .before .before in
-    let first-label = c .before .before .before .before .before .before .before .first-label in
-    let last-label = c .before .before .before .before .before .before .last-label in
-    let width-of = c .before .before .before .before .before .width-of in (
-      search needs,
-      omega (arith, width-of .ensures, width-size (toZ w64 (ofZ w64 (first-label .result))) (toZ w64 (ofZ w64 (last-label .result))) (near (c .before .before .before .before .before .before) .0) (near (c .before .before .before .before .before .before) .1)),
-      rw (back (c .value-of2 .result) (c .value-of2 .ok), c .value-of2 .ensures, counted (c .before)) (rw (picks (c .before .before .before)) at (s .pre .4)),
-    )
+    let p = s .pre in
+    let l = element-length (a .ls .now) (a .us .now) (a .values .now) (a .args .now) (p .1) (p .2) in
+    let q = rw (var-element-both (a .ls .now) (a .us .now) (a .values .now) (a .args .now)) at (p .4) in
+    (omega (arith, p .0, c .before .before .pick-element .ensures .next, l), p .1, p .2, p .3, ranged-right (picksOf (a .ls .now) (a .us .now) (a .values .now) 24 (a .args .now)) (productPicks (a .ls .now) (a .us .now) (a .values .now) (a .args .now)) q)
 
 returns : tie.Need-returns
 returns c =
-    let value-of2 = c .before .before .value-of2 in
-    rw (picks (c .before .before .before .before .before)) (rw (back (value-of2 .result) (value-of2 .ok), value-of2 .ensures, counted (c .before .before .before)) at (c .before .put-gated .ensures))
+    let a = c .before .before .before .before .before .before .before .args in
+    rw (var-element-both (a .ls .now) (a .us .now) (a .values .now) (a .args .now)) (picked-then (c .before .before .before .before .pick-element .ensures) (c .before .pick-products .ensures))
 
 pub pick-var-element-spec : {M : Type 1} → statement M
 pick-var-element-spec =
     tie.close
     (tie.spec
     (λ c κs. search needs)
-    (λ c κs. search needs)
-    width-of-requires
-    (λ c κs. search needs)
-    place-of-requires
-    (λ c κs. search needs)
-    add-value-of
-    (λ c κs. search needs)
-    put-gated-requires
+    pick-products-requires
     (λ c. search needs)
     returns)

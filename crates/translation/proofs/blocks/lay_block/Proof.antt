@@ -15,13 +15,18 @@ use Rattle.laying.specs.Lists.{many, rowOf}
 use Rattle.laying.proofs.Alike.{went-fitting}
 use Rattle.extremes.specs.Bounded.{boundsOf}
 use Rattle.linearsums.specs.Sum.{formOf, sumOf}
+use Rattle.translation.specs.Walk.{constraintOf, noneShared}
+use Rattle.translation.proofs.OneBlock.{narrow, all-28}
 use Rattle.translation.proofs.blocks.lay_block.Statement.{statement}
 use Rattle.translation.proofs.blocks.lay_block.Tie as tie
 
 set-in-reif-requires : tie.Need-set-in-reif-requires
 set-in-reif-requires c κs =
-    let p = c .before .before .before .before .before .before .before .pre in
-    (p .0, p .1, p .2, p .3, p .4 (c .before .match .keys28))
+    let s = c .before .before .before .before .before .before .before in
+    let a = s .args in
+    let p = s .pre in
+    let b = constraintOf (a .code) (a .args .now) in
+    (p .0, p .1, p .2, p .3, narrow (boundsOf (a .ls .now) (a .us .now)) noneShared b (p .4) (all-28 noneShared (a .args .now) (c .before .match .keys28)))
 
 returns : tie.Need-returns
 unfolding builtin builtins

@@ -1,5 +1,5 @@
 -- The loop's invariant is `Checking`: what the constraints that are left give is what all give, check's answer.
-use mathlib.Core.Path.{_∙_}
+use mathlib.Core.Path.{_≡_, sym, _∙_}
 use Prim.Native.Nat.{_+_, _-_, _<_, _≤_}
 use native.Mathlib.Omega.{arith}
 use lib.ListN.{length, getD}
@@ -7,49 +7,64 @@ use borrow.Author.Needs.{needs}
 use Rattle.words.specs.Word.{wordAt}
 use Rattle.words.proofs.Reading.{tail-is}
 use Rattle.models.specs.Model.{headed, constraints}
+use Rattle.rules.specs.Shared.{choice, encodes, encodedAfter}
 use Rattle.extremes.specs.Bounded.{boundsOf}
+use Rattle.encodings.specs.Uses.{sharedBy}
 use Rattle.translation.specs.Checked.{checked}
 use Rattle.translation.specs.Walk.{Costs}
 use Rattle.translation.proofs.Kept.{few-variables, few-sources, few-constraints, none-left, head-inside, head-at, summed-at}
-use Rattle.translation.proofs.OneBlock.{placed}
+use Rattle.translation.proofs.OneBlock.{placed-costs, placed-record}
 use Rattle.translation.proofs.CheckWalk.{Checking, begun, more, stop, done, all-checked}
 use Rattle.translation.proofs.checking.check_read.Statement.{statement}
 use Rattle.translation.proofs.checking.check_read.Tie as tie
 
 abbrev Inv-loop : tie.InvT-loop
-Inv-loop ws heads ls us sums variables n k₀ a₀ r₀ w₀ k a r w = Checking (boundsOf ls us) variables (constraints ws) w₀ k a r w
+Inv-loop ws heads ls us uses sums variables n k₀ a₀ r₀ w₀ e₀ k a r w e = Checking (boundsOf ls us) (sharedBy uses) variables (constraints ws) w₀ k a r w e
 
 abbrev μ-loop : tie.MeasureT-loop
-μ-loop ws heads ls us sums variables n k₀ a₀ r₀ w₀ k a r w = n - k
+μ-loop ws heads ls us uses sums variables n k₀ a₀ r₀ w₀ e₀ k a r w e = n - k
 
 -- the constraint has a place in the lists, and its head among the words
 few : (c : tie.In-loop Inv-loop μ-loop) → c .before .loop .constraints < 256
-few c = omega (arith, c .loop-test .taken, few-constraints (c .before .before .before .before .pre .0))
+few c = omega (arith, c .loop-test .taken, few-constraints (c .before .before .before .before .before .pre .0))
 
-inside : (c : tie.In-loop Inv-loop μ-loop) → let a = c .before .before .before .before .args in getD (a .heads .now) (c .before .loop .constraints) 0 < length (a .ws .now)
-inside c = head-inside (c .before .before .before .before .pre .0) (c .before .loop .constraints) (c .loop-test .taken)
+inside : (c : tie.In-loop Inv-loop μ-loop) → let a = c .before .before .before .before .before .args in getD (a .heads .now) (c .before .loop .constraints) 0 < length (a .ws .now)
+inside c = head-inside (c .before .before .before .before .before .pre .0) (c .before .loop .constraints) (c .loop-test .taken)
 
 -- what it costs; with that the counts do not wrap
 costs : (c : tie.After-cost-of Inv-loop μ-loop) →
-    let a = c .before .before .before .before .before .before .before .before .before .before .args in
-    let l = c .before .before .before .before .before .before .before .loop in
-    Costs (boundsOf (a .ls .now) (a .us .now)) (a .read .variables + l .auxiliaries) (headed (a .ws .now) (getD (a .heads .now) (l .constraints) 0)) (c .cost-of .result)
+    let a = c .before .before .before .before .before .before .before .before .before .before .before .before .args in
+    let l = c .before .before .before .before .before .before .before .before .loop in
+    Costs (boundsOf (a .ls .now) (a .us .now)) (sharedBy (a .uses .now)) (a .read .variables + l .auxiliaries) (l .encoded) (headed (a .ws .now) (getD (a .heads .now) (l .constraints) 0)) (c .cost-of .result)
 unfolding wordAt
 costs c =
-    let a = c .before .before .before .before .before .before .before .before .before .before .args in
-    let l = c .before .before .before .before .before .before .before .loop in
-    placed (rw (c .before .before .before .payload-of .ensures, tail-is (a .ws .now) (getD (a .heads .now) (l .constraints) 0 + 1)) at (c .cost-of .ensures))
+    let a = c .before .before .before .before .before .before .before .before .before .before .before .before .args in
+    let l = c .before .before .before .before .before .before .before .before .loop in
+    let at = getD (a .heads .now) (l .constraints) 0 in
+    placed-costs (boundsOf (a .ls .now) (a .us .now)) (sharedBy (a .uses .now)) (headed (a .ws .now) at) _ (l .encoded) (rw (c .before .before .before .before .payload-of .ensures, tail-is (a .ws .now) (at + 1)) at (c .cost-of .ensures))
 
 fit : (c : tie.After-cost-of Inv-loop μ-loop) →
-    let l = c .before .before .before .before .before .before .before .loop in
+    let l = c .before .before .before .before .before .before .before .before .loop in
     l .auxiliaries + l .rows + l .words + c .cost-of .result .auxiliaries + c .cost-of .result .rows + c .cost-of .result .words ≤ 300000000
-fit c = omega (arith, c .before .before .before .before .before .before .before .loop .inv .small, few (c .before .before .before .before .before .before), few-sources (c .before .before .before .before .before .before .before .before .before .before .pre .0), c .cost-of .ensures .small)
+fit c = omega (arith, c .before .before .before .before .before .before .before .before .loop .inv .small, few (c .before .before .before .before .before .before .before), few-sources (c .before .before .before .before .before .before .before .before .before .before .before .before .pre .0), c .cost-of .ensures .small)
+
+-- the record after it
+recorded : (c : tie.After-record-encoding Inv-loop μ-loop) →
+    let a = c .before .before .before .before .before .before .before .before .before .before .before .before .before .before .before .before .before .args in
+    let l = c .before .before .before .before .before .before .before .before .before .before .before .before .before .loop in
+    c .record-encoding .last .0 ≡ encodedAfter (sharedBy (a .uses .now)) (a .read .variables + l .auxiliaries) (l .encoded) (encodes (choice (headed (a .ws .now) (getD (a .heads .now) (l .constraints) 0))))
+unfolding wordAt
+recorded c =
+    let a = c .before .before .before .before .before .before .before .before .before .before .before .before .before .before .before .before .before .args in
+    let l = c .before .before .before .before .before .before .before .before .before .before .before .before .before .loop in
+    let at = getD (a .heads .now) (l .constraints) 0 in
+    placed-record (sharedBy (a .uses .now)) (a .read .variables + l .auxiliaries) (l .encoded) (headed (a .ws .now) at) (rw (c .before .before .before .before .before .before .before .before .before .payload-of .ensures, tail-is (a .ws .now) (at + 1)) at (c .record-encoding .ensures))
 
 add-words : tie.Need-add-words Inv-loop μ-loop
-add-words c = omega (arith, few-sources (c .before .before .pre .0))
+add-words c = omega (arith, few-sources (c .before .before .before .pre .0))
 
 loop-holds : tie.Need-loop-holds Inv-loop μ-loop
-loop-holds c = begun _ _ _ _ (few-variables (c .before .before .pre .0))
+loop-holds c = begun _ _ _ _ _ (few-variables (c .before .before .before .pre .0))
 
 mul-place : tie.Need-mul-place Inv-loop μ-loop
 mul-place c = record { fits = omega (arith, few c) }
@@ -84,43 +99,61 @@ sub-cost-of c = let h = inside (c .before .before .before .before) in search nee
 part-cost-of-start : tie.Need-part-cost-of-start Inv-loop μ-loop
 part-cost-of-start c = omega (arith, inside (c .before .before .before .before))
 
+slice-aggregate-cost-of : tie.Need-slice-aggregate-cost-of Inv-loop μ-loop
+slice-aggregate-cost-of c = sym (c .before .before .before .before .before .before .before .loop .inv .many)
+
 cost-of-requires : tie.Need-cost-of-requires Inv-loop μ-loop
 unfolding wordAt
 cost-of-requires c κs =
-    let s = c .before .before .before .before .before .before .before .before .before in
-    let l = c .before .before .before .before .before .before .loop in
+    let s = c .before .before .before .before .before .before .before .before .before .before .before in
+    let l = c .before .before .before .before .before .before .before .loop in
     let m = s .pre .0 in
-    (omega (arith, l .inv .room), m .lowers, m .uppers, rw (c .before .before .payload-of .ensures, tail-is (s .args .ws .now) (getD (s .args .heads .now) (l .constraints) 0 + 1)) (summed-at m (l .constraints) (c .before .before .before .before .before .loop-test .taken) _ (s .pre .1)))
+    (omega (arith, l .inv .room), m .lowers, m .uppers, l .inv .recorded, rw (c .before .before .before .payload-of .ensures, tail-is (s .args .ws .now) (getD (s .args .heads .now) (l .constraints) 0 + 1)) (summed-at m (l .constraints) (c .before .before .before .before .before .before .loop-test .taken) _ (s .pre .1)))
 
 returns : tie.Need-returns Inv-loop μ-loop
 unfolding checked
 returns c =
-    let m = c .before .before .before .before .before .before .before .before .before .before .before .before .pre .0 in
-    let l = c .before .before .before .before .before .before .before .before .before .loop in
-    stop (l .inv) (head-at m (l .constraints) (c .before .before .before .before .before .before .before .before .loop-test .taken)) (costs (c .before .before)) (c .if1 .taken) ∙ all-checked m
+    let m = c .before .before .before .before .before .before .before .before .before .before .before .before .before .before .pre .0 in
+    let l = c .before .before .before .before .before .before .before .before .before .before .loop in
+    stop (l .inv) (head-at m (l .constraints) (c .before .before .before .before .before .before .before .before .before .loop-test .taken)) (costs (c .before .before)) (c .if1 .taken) ∙ all-checked m
+
+slice-aggregate-record-encoding : tie.Need-slice-aggregate-record-encoding Inv-loop μ-loop
+slice-aggregate-record-encoding c = sym (c .before .before .before .before .before .before .before .before .before .before .before .loop .inv .many)
+
+add-record-encoding : tie.Need-add-record-encoding Inv-loop μ-loop
+add-record-encoding c = let h = inside (c .before .before .before .before .before .before .before .before .before .before) in search needs
+
+mul-record-encoding : tie.Need-mul-record-encoding Inv-loop μ-loop
+mul-record-encoding c = let h = inside (c .before .before .before .before .before .before .before .before .before .before) in search needs
+
+sub-record-encoding : tie.Need-sub-record-encoding Inv-loop μ-loop
+sub-record-encoding c = let h = inside (c .before .before .before .before .before .before .before .before .before .before) in search needs
+
+part-record-encoding-start : tie.Need-part-record-encoding-start Inv-loop μ-loop
+part-record-encoding-start c = omega (arith, inside (c .before .before .before .before .before .before .before .before .before .before))
 
 add-constraints : tie.Need-add-constraints Inv-loop μ-loop
-add-constraints c = omega (arith, few (c .before .before .before .before .before .before .before .before))
+add-constraints c = omega (arith, few (c .before .before .before .before .before .before .before .before .before .before .before .before .before))
 
 add-auxiliaries : tie.Need-add-auxiliaries Inv-loop μ-loop
-add-auxiliaries c = omega (arith, fit (c .before .before .before))
+add-auxiliaries c = omega (arith, fit (c .before .before .before .before .before .before .before))
 
 add-rows : tie.Need-add-rows Inv-loop μ-loop
-add-rows c = omega (arith, fit (c .before .before .before .before))
+add-rows c = omega (arith, fit (c .before .before .before .before .before .before .before .before))
 
 add-words-2 : tie.Need-add-words-2 Inv-loop μ-loop
-add-words-2 c = omega (arith, fit (c .before .before .before .before .before))
+add-words-2 c = omega (arith, fit (c .before .before .before .before .before .before .before .before .before))
 
 loop-again : tie.Need-loop-again Inv-loop μ-loop
 loop-again c =
-    let m = c .before .before .before .before .before .before .before .before .before .before .before .before .before .before .before .pre .0 in
-    let l = c .before .before .before .before .before .before .before .before .before .before .before .before .loop in
-    more (l .inv) (head-at m (l .constraints) (c .before .before .before .before .before .before .before .before .before .before .before .loop-test .taken)) (costs (c .before .before .before .before .before)) (c .before .before .before .if1 .left)
+    let m = c .before .before .before .before .before .before .before .before .before .before .before .before .before .before .before .before .before .before .before .before .before .pre .0 in
+    let l = c .before .before .before .before .before .before .before .before .before .before .before .before .before .before .before .before .before .loop in
+    more (l .inv) (head-at m (l .constraints) (c .before .before .before .before .before .before .before .before .before .before .before .before .before .before .before .before .loop-test .taken)) (costs (c .before .before .before .before .before .before .before .before .before)) (c .before .before .before .before .before .before .before .if1 .left) (recorded (c .before .before .before .before))
 
 returns-2 : tie.Need-returns-2 Inv-loop μ-loop
 unfolding checked
 returns-2 c =
-    let m = c .before .before .before .before .pre .0 in
+    let m = c .before .before .before .before .before .pre .0 in
     done (c .before .loop .inv) (none-left m (c .loop-test .left)) ∙ all-checked m
 
 pub check-read-spec : {M : Type 1} → statement M
@@ -144,8 +177,16 @@ check-read-spec =
     sub-cost-of
     part-cost-of-start
     (λ c. search needs)
+    slice-aggregate-cost-of
     cost-of-requires
     returns
+    slice-aggregate-record-encoding
+    add-record-encoding
+    mul-record-encoding
+    sub-record-encoding
+    part-record-encoding-start
+    (λ c. search needs)
+    (λ c κs. search needs)
     add-constraints
     add-auxiliaries
     add-rows

@@ -1,32 +1,34 @@
--- The width of the first argument's bounds, for code 28 alone.
-use borrow.Author.Tests.{eq-eqb, ne-eqb}
+-- The width of the first argument's bounds, where each value has an auxiliary.
+use mathlib.Core.Path.{sym, _∙_}
 use borrow.Author.Needs.{needs}
 use Rattle.integers.proofs.Fits.{back}
-use Rattle.rules.specs.Check.{tooWide}
+use Rattle.extremes.specs.Bounded.{boundsOf}
+use Rattle.encodings.specs.Uses.{sharedBy}
+use Rattle.translation.specs.Walk.{constraintOf}
+use Rattle.translation.proofs.OneBlock.{wide-by}
 use Rattle.translation.proofs.checking.too_wide.Statement.{statement}
 use Rattle.translation.proofs.checking.too_wide.Tie as tie
 
 width-of-requires : tie.Need-width-of-requires
-width-of-requires c κs =
-    let s = c .before .before .before .before .before in
-    rw (back (c .before .bound-at .result) (c .before .bound-at .ok), c .before .bound-at .ensures, back (c .bound-at2 .result) (c .bound-at2 .ok), c .bound-at2 .ensures) (s .pre .0 _, s .pre .1 _)
+width-of-requires c κs = rw (back (c .before .bound-at .result) (c .before .bound-at .ok), c .before .bound-at .ensures, back (c .bound-at2 .result) (c .bound-at2 .ok), c .bound-at2 .ensures) (c .before .before .before .before .before .before .before .pre .0 _, c .before .before .before .before .before .before .before .pre .1 _)
 
 returns : tie.Need-returns
-unfolding tooWide
 returns c =
-    let if1 = c .before .before .before .before .if1 in
-    let var-at = c .before .before .before .var-at in
-    let bound-at = c .before .before .bound-at in
-    rw (eq-eqb _ _ (if1 .taken), c .width-of .ensures, back (bound-at .result) (bound-at .ok), bound-at .ensures, back (c .before .bound-at2 .result) (c .before .bound-at2 .ok), c .before .bound-at2 .ensures, var-at .ensures)
+    let a = c .before .before .before .before .before .before .before .before .args in
+    let e = sym (c .before .before .before .before .before .has-all .ensures) ∙ c .before .before .before .before .if1 .taken in
+    rw (wide-by (boundsOf (a .ls .now) (a .us .now)) (sharedBy (a .uses .now)) (constraintOf (a .code) (a .args .now)), e, c .width-of .ensures, back (c .before .before .bound-at .result) (c .before .before .bound-at .ok), c .before .before .bound-at .ensures, back (c .before .bound-at2 .result) (c .before .bound-at2 .ok), c .before .bound-at2 .ensures, c .before .before .before .var-at .ensures)
 
 returns-2 : tie.Need-returns-2
-unfolding tooWide
-returns-2 c = rw (ne-eqb _ _ (c .if1 .left))
+returns-2 c =
+    let a = c .before .before .before .before .args in
+    let e = sym (c .before .has-all .ensures) ∙ c .if1 .left in
+    rw (wide-by (boundsOf (a .ls .now) (a .us .now)) (sharedBy (a .uses .now)) (constraintOf (a .code) (a .args .now)), e)
 
 pub too-wide-spec : {M : Type 1} → statement M
 too-wide-spec =
     tie.close
     (tie.spec
+    (λ c κs. search needs)
     (λ c κs. search needs)
     (λ c κs. search needs)
     (λ c κs. search needs)

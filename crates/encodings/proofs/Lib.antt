@@ -1,0 +1,3 @@
+-- What a constraint encodes and the record after its block; the uses of each variable.
+pub mod Record
+pub mod Uses

@@ -1,0 +1,52 @@
+-- The pieces of the blocks over a shared variable, for a constraint given by the words after its head.
+use mathlib.Core.List.{List, [], _∷_, _++_, map, flatMap}
+use Prim.Native.Nat.{ℕ, _+_, _<_, _≤_}
+use lib.Dec.{eqb}
+use lib.ListN.{length}
+use lib.IntN.{ℤ, pos}
+use Rattle.integers.specs.Choice.{_if_else_}
+use Rattle.integers.specs.Number.{_⊖_, maxZ, count, +0, +1}
+use Rattle.integers.specs.Bounds.{_to_, within, width, values}
+use Rattle.integers.specs.declared.Bounds.{Bounds}
+use Rattle.models.specs.Meaning.{member}
+use Rattle.models.specs.Model.{var, vars, nums, past}
+use Rattle.rules.specs.Parts.{Z, one, nth, chosen}
+use Rattle.rules.specs.Shared.{keep, Encoded, firstOf, valueBit, newBits, bitProducts, keptSum}
+use Rattle.laying.specs.Part.{Part, boundParts, rowParts}
+use Rattle.extremes.specs.Bounded.{boundsOf, Bounded}
+use Rattle.encodings.specs.Uses.{Recorded}
+
+-- the number of x's first bit: the block's own bits are numbered from `first` on
+abbrev pub bitsFrom : Encoded → ℕ → ℕ → ℕ
+bitsFrom e first x = first if eqb (firstOf e x) 0 else firstOf e x
+
+-- the number of the bit of the first place of a list that x can have, x's lower bound being l
+abbrev pub placeBit : Encoded → ℕ → ℕ → ℤ → ℕ
+placeBit e first x l = bitsFrom e first x + count (maxZ +1 l ⊖ l)
+
+-- what laying a block wants: numbers of auxiliaries that do not wrap, bounds near 0, a variable of at most 64 values
+abbrev pub Encodable : List ℤ → List ℤ → Encoded → ℕ → List ℕ → Type 0
+Encodable ls us e first args = (first < 10000) × Bounded ls × Bounded us × (width (boundsOf ls us (var args 0)) ≤ 64) × Recorded e
+
+module _ (β : ℕ → Bounds) (args : List ℕ) where
+  -- 25: the places that its i can have, and the bounds of their z
+  abbrev pub kept : List ℤ
+  kept = keep (within (+1 to pos (length (vars args 1)))) (values (β (var args 0)))
+
+  unfoldable pub keptZeros : List Part
+  keptZeros = boundParts (map (λ j. Z (β (nth 0 (vars args 1) j))) kept)
+
+  module _ (e : Encoded) (first : ℕ) where
+    -- 24: the row of the numbers
+    unfoldable pub numbersRow : List Part
+    numbersRow = rowParts first (keptSum β e (nth +0 (nums args 1)) (within (+1 to pos (length (nums args 1)))) (var args 0) (var args (past args 1)))
+
+    -- 25: the products, and their row
+    unfoldable pub productRows : List Part
+    productRows =
+        let n = length (newBits β e (var args 0)) in
+        flatMap (rowParts first) (bitProducts (nth 0 (vars args 1)) (valueBit β e (var args 0)) kept n ++ (chosen one kept n (var args (past args 1)) ∷ []))
+
+    -- 28: the row of the members
+    unfoldable pub membersRow : List Part
+    membersRow = rowParts first (keptSum β e one (λ v. member v (nums args 1)) (var args 0) (var args (past args 1)))

@@ -1,0 +1,302 @@
+// The blocks of codes 24, 25, 27 and 28 over a shared variable: its bits are the block's own or an earlier block's.
+ghost use mathlib.Core.Path.{_≡_};
+ghost use mathlib.Core.List.{flatMap};
+ghost use Prim.Native.Nat.{_+_, _<_, _≤_};
+ghost use lib.ListN.{length, getD};
+ghost use Rattle.integers.specs.Number.{+0};
+ghost use Rattle.integers.specs.Bounds.{width};
+ghost use Rattle.models.specs.Model.{var};
+ghost use Rattle.rules.specs.Shared.{newBits, newRows, leftOut, sharedRule};
+ghost use Rattle.laying.specs.Part.{boundParts, rowParts, blockParts};
+ghost use Rattle.laying.specs.Went.{Went, Near, total};
+ghost use Rattle.extremes.specs.Bounded.{boundsOf, Bounded};
+ghost use Rattle.encodings.specs.Uses.{choiceOf, Recorded};
+ghost use Rattle.sharedblocks.specs.LeftOut.{keeps};
+ghost use Rattle.sharedblocks.specs.Pieces.{bitsFrom, placeBit, Encodable, keptZeros, numbersRow, productRows, membersRow};
+use crate::left_out::lay_left_row;
+use arguments::count_of;
+use arguments::past_at;
+use arguments::var_at;
+use choiceblocks::first_element;
+use choiceblocks::first_label;
+use choiceblocks::labels;
+use choiceblocks::lower_label;
+use choiceblocks::members_of;
+use choiceblocks::rows::lay_choice;
+use choiceblocks::rows::lay_member_row;
+use choiceblocks::rows::lay_number_row;
+use choiceblocks::rows::lay_one_row;
+use choiceblocks::rows::lay_zeros;
+use choiceblocks::width_at;
+use encodings::entry_of;
+use integers::minus;
+use laying::Laid;
+use laying::lay_bits;
+use laying::lay_products;
+
+mod left_out;
+
+// The number of the first bit of the variable at place 0: the block's own bits are numbered from `first` on.
+fn first_bit(args: &[u32], encoded: &[usize], first: usize) -> usize
+    requires { ⌜ (first < 10000) × Recorded (now encoded) ⌝ }
+    ensures { λ r. ⌜ (r ≡ bitsFrom (now (encoded .entry)) first (var (now (args .entry)) 0)) × (r < 10000) ⌝ }
+{
+    let known = entry_of(encoded, var_at(args, 0));
+    if known == 0 {
+        return first;
+    }
+    known
+}
+
+// The number of the bit of the first place of the list at place 1 that the variable at place 0 can have.
+fn place_bit(args: &[u32], ls: &[i64], encoded: &[usize], first: usize) -> usize
+    requires { ⌜ (first < 10000) × Bounded (now ls) × Recorded (now encoded) ⌝ }
+    ensures { λ r. ⌜ (r ≡ placeBit (now (encoded .entry)) first (var (now (args .entry)) 0) (getD (now (ls .entry)) (var (now (args .entry)) 0) +0)) × (r < 1000000000) ⌝ }
+{
+    first_bit(args, encoded, first) + count_of(minus(first_label(args, ls), lower_label(args, ls)))
+}
+
+// How many bits the block adds.
+fn new_bits(args: &[u32], ls: &[i64], us: &[i64], encoded: &[usize]) -> usize
+    requires { ⌜ Bounded (now ls) × Bounded (now us) × (width (boundsOf (now ls) (now us) (var (now args) 0)) ≤ 64) ⌝ }
+    ensures { λ r. ⌜ (r ≡ length (newBits (boundsOf (now (ls .entry)) (now (us .entry))) (now (encoded .entry)) (var (now (args .entry)) 0))) × (r ≤ 64) ⌝ }
+{
+    if entry_of(encoded, var_at(args, 0)) == 0 {
+        return width_at(args, ls, us);
+    }
+    0
+}
+
+// The bounds of the new bits.
+fn lay_new_bits(
+    out: &mut [u32],
+    s: Laid,
+    args: &[u32],
+    ls: &[i64],
+    us: &[i64],
+    encoded: &[usize],
+) -> Laid
+    requires { ⌜ (total s < 800000000000) × Bounded (now ls) × Bounded (now us) × (width (boundsOf (now ls) (now us) (var (now args) 0)) ≤ 64) ⌝ }
+    ensures { λ r. ⌜ Went s r (now (out .entry)) (now (out .exit)) (boundParts (newBits (boundsOf (now (ls .entry)) (now (us .entry))) (now (encoded .entry)) (var (now (args .entry)) 0))) × Near 2000 s r ⌝ }
+{
+    lay_bits(out, s, new_bits(args, ls, us, encoded))
+}
+
+// The two rows of the new bits.
+fn lay_new_rows(
+    out: &mut [u32],
+    s: Laid,
+    args: &[u32],
+    ls: &[i64],
+    us: &[i64],
+    encoded: &[usize],
+    first: usize,
+) -> Laid
+    requires { ⌜ (total s < 600000000000) × Encodable (now ls) (now us) (now encoded) first (now args) ⌝ }
+    ensures { λ r. ⌜ Went s r (now (out .entry)) (now (out .exit)) (flatMap (rowParts first) (newRows (boundsOf (now (ls .entry)) (now (us .entry))) (now (encoded .entry)) (var (now (args .entry)) 0))) × Near 5000 s r ⌝ }
+{
+    let x = var_at(args, 0);
+    if entry_of(encoded, x) == 0 {
+        return lay_choice(
+            out,
+            s,
+            lower_label(args, ls),
+            first,
+            width_at(args, ls, us),
+            x,
+        );
+    }
+    s
+}
+
+// The row of the bits left out.
+fn lay_left_out(
+    out: &mut [u32],
+    s: Laid,
+    code: usize,
+    args: &[u32],
+    ls: &[i64],
+    us: &[i64],
+    encoded: &[usize],
+    first: usize,
+) -> Laid
+    requires { ⌜ (total s < 600000000000) × Encodable (now ls) (now us) (now encoded) first (now args) ⌝ }
+    ensures { λ r. ⌜ Went s r (now (out .entry)) (now (out .exit)) (flatMap (rowParts first) (leftOut (boundsOf (now (ls .entry)) (now (us .entry))) (now (encoded .entry)) (keeps code (now (args .entry))) (var (now (args .entry)) 0))) × Near 5000 s r ⌝ }
+{
+    lay_left_row(
+        out,
+        s,
+        code,
+        args,
+        lower_label(args, ls),
+        first_bit(args, encoded, first),
+        width_at(args, ls, us),
+    )
+}
+
+// The row of the numbers: array_int_element.
+fn lay_numbers_row(
+    out: &mut [u32],
+    s: Laid,
+    args: &[u32],
+    ls: &[i64],
+    us: &[i64],
+    encoded: &[usize],
+    first: usize,
+) -> Laid
+    requires { ⌜ (total s < 600000000000) × Encodable (now ls) (now us) (now encoded) first (now args) ⌝ }
+    ensures { λ r. ⌜ Went s r (now (out .entry)) (now (out .exit)) (numbersRow (boundsOf (now (ls .entry)) (now (us .entry))) (now (args .entry)) (now (encoded .entry)) first) × Near 5000 s r ⌝ }
+{
+    let n = labels(args, ls, us);
+    let at = first_element(args, ls);
+    let v = place_bit(args, ls, encoded, first);
+    lay_number_row(out, s, args, at, v, n, var_at(args, past_at(args, 1)))
+}
+
+// The bounds of the products: array_var_int_element.
+fn lay_kept_zeros(out: &mut [u32], s: Laid, args: &[u32], ls: &[i64], us: &[i64]) -> Laid
+    requires { ⌜ (total s < 600000000000) × Bounded (now ls) × Bounded (now us) ⌝ }
+    ensures { λ r. ⌜ Went s r (now (out .entry)) (now (out .exit)) (keptZeros (boundsOf (now (ls .entry)) (now (us .entry))) (now (args .entry))) × Near 5000 s r ⌝ }
+{
+    let n = labels(args, ls, us);
+    lay_zeros(out, s, args, first_element(args, ls), n, ls, us)
+}
+
+// The products and their row: array_var_int_element.
+fn lay_product_rows(
+    out: &mut [u32],
+    s: Laid,
+    args: &[u32],
+    ls: &[i64],
+    us: &[i64],
+    encoded: &[usize],
+    first: usize,
+) -> Laid
+    requires { ⌜ (total s < 600000000000) × Encodable (now ls) (now us) (now encoded) first (now args) ⌝ }
+    ensures { λ r. ⌜ Went s r (now (out .entry)) (now (out .exit)) (productRows (boundsOf (now (ls .entry)) (now (us .entry))) (now (args .entry)) (now (encoded .entry)) first) × Near 5000 s r ⌝ }
+{
+    let n = labels(args, ls, us);
+    let at = first_element(args, ls);
+    let b = place_bit(args, ls, encoded, first);
+    let z = first + new_bits(args, ls, us, encoded);
+    let t = lay_products(out, s, args, at, z, b, n);
+    lay_one_row(out, t, z, n, var_at(args, past_at(args, 1)))
+}
+
+// The row of the members: set_in_reif.
+fn lay_members_row(
+    out: &mut [u32],
+    s: Laid,
+    args: &[u32],
+    ls: &[i64],
+    us: &[i64],
+    encoded: &[usize],
+    first: usize,
+) -> Laid
+    requires { ⌜ (total s < 600000000000) × Encodable (now ls) (now us) (now encoded) first (now args) ⌝ }
+    ensures { λ r. ⌜ Went s r (now (out .entry)) (now (out .exit)) (membersRow (boundsOf (now (ls .entry)) (now (us .entry))) (now (args .entry)) (now (encoded .entry)) first) × Near 5000 s r ⌝ }
+{
+    let lower = lower_label(args, ls);
+    let mut vs = [0i64; 32];
+    let n = members_of(args, ls, us, &mut vs);
+    let v = first_bit(args, encoded, first);
+    lay_member_row(out, s, &vs, lower, v, n, var_at(args, past_at(args, 1)))
+}
+
+// The block of array_int_element over a shared variable.
+fn shared_element(
+    out: &mut [u32],
+    s: Laid,
+    args: &[u32],
+    ls: &[i64],
+    us: &[i64],
+    encoded: &[usize],
+    first: usize,
+) -> Laid
+    requires { ⌜ (total s < 1000000000) × Encodable (now ls) (now us) (now encoded) first (now args) ⌝ }
+    ensures { λ r. ⌜ Went s r (now (out .entry)) (now (out .exit)) (blockParts first (sharedRule (boundsOf (now (ls .entry)) (now (us .entry))) (now (encoded .entry)) (choiceOf 24 (now (args .entry))))) × Near 1000000 s r ⌝ }
+{
+    let t = lay_new_bits(out, s, args, ls, us, encoded);
+    let u = lay_new_rows(out, t, args, ls, us, encoded, first);
+    let w = lay_left_out(out, u, 24, args, ls, us, encoded, first);
+    lay_numbers_row(out, w, args, ls, us, encoded, first)
+}
+
+// The block of array_var_int_element over a shared variable.
+fn shared_var_element(
+    out: &mut [u32],
+    s: Laid,
+    args: &[u32],
+    ls: &[i64],
+    us: &[i64],
+    encoded: &[usize],
+    first: usize,
+) -> Laid
+    requires { ⌜ (total s < 1000000000) × Encodable (now ls) (now us) (now encoded) first (now args) ⌝ }
+    ensures { λ r. ⌜ Went s r (now (out .entry)) (now (out .exit)) (blockParts first (sharedRule (boundsOf (now (ls .entry)) (now (us .entry))) (now (encoded .entry)) (choiceOf 25 (now (args .entry))))) × Near 1000000 s r ⌝ }
+{
+    let t = lay_new_bits(out, s, args, ls, us, encoded);
+    let z = lay_kept_zeros(out, t, args, ls, us);
+    let u = lay_new_rows(out, z, args, ls, us, encoded, first);
+    let w = lay_left_out(out, u, 25, args, ls, us, encoded, first);
+    lay_product_rows(out, w, args, ls, us, encoded, first)
+}
+
+// The block of set_in over a shared variable.
+fn shared_set_in(
+    out: &mut [u32],
+    s: Laid,
+    args: &[u32],
+    ls: &[i64],
+    us: &[i64],
+    encoded: &[usize],
+    first: usize,
+) -> Laid
+    requires { ⌜ (total s < 1000000000) × Encodable (now ls) (now us) (now encoded) first (now args) ⌝ }
+    ensures { λ r. ⌜ Went s r (now (out .entry)) (now (out .exit)) (blockParts first (sharedRule (boundsOf (now (ls .entry)) (now (us .entry))) (now (encoded .entry)) (choiceOf 27 (now (args .entry))))) × Near 1000000 s r ⌝ }
+{
+    let t = lay_new_bits(out, s, args, ls, us, encoded);
+    let u = lay_new_rows(out, t, args, ls, us, encoded, first);
+    lay_left_out(out, u, 27, args, ls, us, encoded, first)
+}
+
+// The block of set_in_reif over a shared variable.
+fn shared_set_in_reif(
+    out: &mut [u32],
+    s: Laid,
+    args: &[u32],
+    ls: &[i64],
+    us: &[i64],
+    encoded: &[usize],
+    first: usize,
+) -> Laid
+    requires { ⌜ (total s < 1000000000) × Encodable (now ls) (now us) (now encoded) first (now args) ⌝ }
+    ensures { λ r. ⌜ Went s r (now (out .entry)) (now (out .exit)) (blockParts first (sharedRule (boundsOf (now (ls .entry)) (now (us .entry))) (now (encoded .entry)) (choiceOf 28 (now (args .entry))))) × Near 1000000 s r ⌝ }
+{
+    let t = lay_new_bits(out, s, args, ls, us, encoded);
+    let u = lay_new_rows(out, t, args, ls, us, encoded, first);
+    lay_members_row(out, u, args, ls, us, encoded, first)
+}
+
+// The block over a shared variable, of a code that chooses a value of it.
+pub fn shared_block(
+    out: &mut [u32],
+    s: Laid,
+    code: usize,
+    args: &[u32],
+    ls: &[i64],
+    us: &[i64],
+    encoded: &[usize],
+    first: usize,
+) -> Laid
+    requires { ⌜ (total s < 1000000000) × Encodable (now ls) (now us) (now encoded) first (now args) ⌝ }
+    ensures { λ r. ⌜ Went s r (now (out .entry)) (now (out .exit)) (blockParts first (sharedRule (boundsOf (now (ls .entry)) (now (us .entry))) (now (encoded .entry)) (choiceOf code (now (args .entry))))) × Near 1000000 s r ⌝ }
+{
+    match code {
+        24 => shared_element(out, s, args, ls, us, encoded, first),
+        25 => shared_var_element(out, s, args, ls, us, encoded, first),
+        27 => shared_set_in(out, s, args, ls, us, encoded, first),
+        28 => shared_set_in_reif(out, s, args, ls, us, encoded, first),
+        _ => s,
+    }
+}
