@@ -23,6 +23,7 @@ LISTS = 2000    # the most value lists of a model
 SAMPLE = 100    # so many changed solutions of a row system are judged at most
 CHUNK = 8       # models of one run of suite
 LARGEST = 2 ** 27 - 1
+ENCODING = (24, 25, 27, 28)  # the codes whose first variable is encoded, once for all of them
 
 # Of each builtin: its FlatZinc name (Gecode says gecode_int_pow), its arguments, and whether it is true of their values, by which arguments are chosen and nothing is judged.
 # I is an integer variable, B a Boolean one, N a number, K an exponent, LI, LB, LN are lists of them, P is a list of numbers and one of integer variables.
@@ -146,7 +147,9 @@ def some_arguments(rng, code, variables):
     some = lambda of: [rng.choice(of) for _ in range(some_length(rng) if of else 0)]
     arguments = []
     for kind in BUILTINS[code][1].split():
-        if kind in ('I', 'B'):
+        if code in ENCODING and not arguments and rng.random() < 0.6:
+            arguments.append(integers[0])
+        elif kind in ('I', 'B'):
             arguments.append(rng.choice(integers if kind == 'I' else booleans))
         elif kind in ('LI', 'LB'):
             arguments.append(some(integers if kind == 'LI' else booleans))
@@ -189,12 +192,13 @@ def some_model(rng, codes):
 
 
 def some_models(count, seed):
-    """The models; the codes are dealt from a shuffled deck, so that each comes about as often as the others."""
+    """The models; the codes are dealt from a shuffled deck, so that each comes about as often as the others. In one of four models several constraints
+    encode a variable."""
     rng = random.Random(seed)
     deck, models = [], []
     while len(models) < count:
-        codes = []
-        for _ in range(rng.choice([1, 1, 2, 2, 3, 4])):
+        codes = [rng.choice(ENCODING) for _ in range(rng.randint(2, 4))] if rng.random() < 0.25 else []
+        for _ in range(rng.choice([1, 1, 2, 2, 3, 4]) if not codes else 0):
             if not deck:
                 deck = rng.sample(list(BUILTINS), len(BUILTINS))
             codes.append(deck.pop())

@@ -66,14 +66,16 @@ pub struct Input {
 /// The input of a seed and an index.
 pub fn input(random: &mut Random) -> Input {
     let (family, rows, (words, values)) = match random.below(1_000) {
-        0..=349 => ("model", false, small_model(random)),
+        0..=299 => ("model", false, small_model(random)),
+        300..=349 => ("model with shared encodings", false, shared_model(random)),
         350..=409 => ("model near the range", false, range_model(random)),
         410..=469 => ("model at the edge of the range", false, edge_model(random)),
         470..=479 => ("model near 256 variables", false, many_variables(random)),
         480..=484 => ("model near 256 constraints", false, many_constraints(random)),
         485..=495 => ("model near 4,096 auxiliaries", false, many_auxiliaries(random)),
         496..=499 => ("model near 8,192 words", false, near_model_words(random)),
-        500..=699 => ("damaged model", false, damaged(random, small_model)),
+        500..=679 => ("damaged model", false, damaged(random, small_model)),
+        680..=699 => ("damaged model with shared encodings", false, damaged(random, shared_model)),
         700..=719 => ("damaged model near the range", false, damaged(random, range_model)),
         720..=724 => ("damaged model near a limit", false, damaged(random, limit_model)),
         725..=769 => ("random words", false, random_words(random)),
@@ -194,6 +196,8 @@ struct Builder<'a> {
     integers: Vec<usize>,
     booleans: Vec<usize>,
     constraints: Vec<Vec<u32>>,
+    /// The variables that are i of 24, 25 or x of 27, 28 so far.
+    encoded: Vec<usize>,
     /// Whether Σ as×bs − c is led to the ends of the range.
     near_range: bool,
     /// Whether all numbers are small, so that check accepts every constraint.
@@ -210,6 +214,7 @@ impl Builder<'_> {
             integers: vec![],
             booleans: vec![],
             constraints: vec![],
+            encoded: vec![],
             near_range: false,
             modest: false,
         }
@@ -302,6 +307,14 @@ impl Builder<'_> {
         }
     }
 
+    /// A variable to be encoded: often one that is already.
+    fn encoded(&mut self) -> usize {
+        let from = if self.encoded.is_empty() || self.random.one_in(2) { &self.integers } else { &self.encoded };
+        let variable = self.random.pick(from);
+        self.encoded.push(variable);
+        variable
+    }
+
     fn list(&mut self, from: &[usize], length: usize) -> Vec<usize> {
         let length = if from.is_empty() { 0 } else { length };
         (0..length).map(|_| self.random.pick(from)).collect()
@@ -355,7 +368,7 @@ impl Builder<'_> {
                 push_list(&mut words, &list);
             }
             24 => {
-                let (i, c) = (int(self.random), int(self.random));
+                let (i, c) = (self.encoded(), int(self.random));
                 let mut numbers: Vec<i64> = (0..length).map(|_| self.number()).collect();
                 let index = self.value(i);
                 if aimed && (1..=length as i64).contains(&index) {
@@ -366,7 +379,7 @@ impl Builder<'_> {
                 push_variables(&mut words, &[c]);
             }
             25 => {
-                let (i, c) = (int(self.random), int(self.random));
+                let (i, c) = (self.encoded(), int(self.random));
                 let mut list = self.list(&integers, length);
                 let index = self.value(i);
                 if aimed && self.random.one_in(2) && (1..=length as i64).contains(&index) {
@@ -392,7 +405,7 @@ impl Builder<'_> {
                 push_list(&mut words, &list);
             }
             _ => {
-                let x = int(self.random);
+                let x = self.encoded();
                 let (lower, upper) = self.bounds[x];
                 let mut numbers: Vec<i64> = (0..length).map(|_| self.number()).collect();
                 for number in &mut numbers {
@@ -511,9 +524,20 @@ impl Builder<'_> {
         twin::judge_model(&self.alone(constraint), &self.values).said == HOLDS
     }
 
-    /// How many auxiliaries a constraint needs, 0 where it is refused.
-    fn auxiliaries(&self, constraint: &[u32]) -> usize {
-        twin::check(&self.alone(constraint)).auxiliaries
+    /// How many variables and auxiliaries there are with the constraints that are accepted by themselves, the last one only where it is accepted
+    /// with the others; `otherwise` where these are refused.
+    fn all_variables(&mut self, accepted: &mut Vec<Vec<u32>>, otherwise: usize) -> usize {
+        let Some(last) = self.constraints.last() else { return self.bounds.len() };
+        if twin::check(&self.alone(last)).fault > 0 {
+            return otherwise;
+        }
+        accepted.push(last.clone());
+        let counts = twin::check(&self.alone(&accepted.concat()));
+        if counts.fault > 0 {
+            accepted.pop();
+            return if counts.fault == 14 { ALL_VARIABLES + 1 } else { otherwise };
+        }
+        counts.variables + counts.auxiliaries
     }
 
     /// Adds a constraint of a code; where a true one is wanted, several are tried. Answers whether one was added.
@@ -592,6 +616,29 @@ fn small_model(random: &mut Random) -> Pair {
     let mut builder = Builder::new(random);
     builder.some_variables(integers, booleans, &SMALL_BOUNDS);
     some_constraints(&mut builder);
+    builder.finish()
+}
+
+/// Several constraints of codes 24, 25, 27 and 28 over few variables, some of them 64 values wide or a little more.
+fn shared_model(random: &mut Random) -> Pair {
+    let mut builder = Builder::new(random);
+    let bounds = builder.random.pick(&[Bounds::Tiny, Bounds::Index, Bounds::Index, Bounds::Index, Bounds::Bit, Bounds::Width64, Bounds::Medium]);
+    let (encoded, booleans) = (1 + builder.random.below(3), 1 + builder.random.below(2));
+    (0..encoded).for_each(|_| builder.integer(bounds));
+    (0..booleans).for_each(|_| builder.boolean());
+    if builder.random.one_in(2) {
+        builder.integer(Bounds::Tiny);
+        builder.derived_integer();
+    }
+    if builder.random.one_in(4) {
+        builder.integer(Bounds::Width64);
+    }
+    let wanted_true = builder.random.below(4) > 0;
+    for _ in 0..2 + builder.random.below(6) {
+        let code = if builder.random.one_in(8) { code(builder.random) } else { builder.random.pick(&[24, 25, 27, 27, 28, 28]) };
+        let wanted_true = wanted_true && builder.random.below(8) > 0;
+        builder.add(code, None, wanted_true);
+    }
     builder.finish()
 }
 
@@ -694,34 +741,36 @@ fn many_constraints(random: &mut Random) -> Pair {
     (words, values)
 }
 
-/// Blocks of code 28 with 64 auxiliaries and of codes 26 and 33 with up to 64, then blocks of any code with few, sometimes in another order.
+/// Encodings with 64 auxiliaries and blocks of codes 26 and 33 with up to 64, then blocks of any code with few, sometimes in another order.
 fn many_auxiliaries(random: &mut Random) -> Pair {
     if random.one_in(3) {
         return many_row_words(random);
     }
     let mut builder = Builder::new(random);
+    builder.modest = true;
     builder.some_variables(3, 2, &[Bounds::Tiny, Bounds::Index]);
-    let wide = builder.bounds.len() as i64;
-    builder.declare_integer(-20, 43, 7);
+    builder.modest = false;
+    let wide = builder.bounds.len();
+    (0..24).for_each(|at| builder.declare_integer(at - 20, at + 43, 7 + at));
     builder.declare_integer(1, 32, 9);
     builder.declare_integer(3, 5, 4);
     let wanted = ALL_VARIABLES - 2 + builder.random.below(5);
+    let mut accepted = vec![];
     let mut count = builder.bounds.len();
-    while count + 90 < wanted {
+    while count + 90 < wanted && builder.constraints.len() < MODEL_CONSTRAINTS {
         if builder.random.one_in(2) {
-            // set_in_reif over the variable of width 64; r is the first Boolean.
-            let length = builder.random.below(6) as i64;
-            let mut words = vec![word(CONSTRAINT, 28), word(VARIABLE, wide), word(NUMBER, length)];
+            // set_in_reif over a variable of width 64, shared or not; r is the first Boolean.
+            let (x, length) = (wide + builder.random.below(24), builder.random.below(6) as i64);
+            let mut words = vec![word(CONSTRAINT, 28), word(VARIABLE, x as i64), word(NUMBER, length)];
             words.extend((0..length).map(|_| word(NUMBER, builder.random.between(-22, 45))));
             words.push(word(VARIABLE, builder.booleans[0] as i64));
             builder.constraints.push(words);
-            count += 64;
         } else {
             let length = LIST_LENGTH as usize - builder.random.below(8);
             let code = builder.random.pick(&[26, 33]);
             builder.add(code, Some(length), false);
-            count += 2 * length;
         }
+        count = builder.all_variables(&mut accepted, count);
     }
     // With these some blocks have a number outside the range, or need more than 64 auxiliaries.
     if builder.random.one_in(3) {
@@ -729,11 +778,12 @@ fn many_auxiliaries(random: &mut Random) -> Pair {
         builder.declare_integer(1, 70, 3);
         count += 2;
     }
-    while count < wanted {
+    while count < wanted && builder.constraints.len() < MODEL_CONSTRAINTS {
         let code = builder.random.pick(&[1, 4, 4, 4, 7, 8, 9, 9, 12, 13, 14, 15, 15, 18, 20, 23, 24, 25, 26, 27, 28, 29, 31, 32, 33, 34, 37, 38, 39]);
         let length = builder.random.below(3);
-        builder.add(code, Some(length), false);
-        count += builder.constraints.last().map_or(0, |constraint| builder.auxiliaries(constraint));
+        if builder.add(code, Some(length), false) {
+            count = builder.all_variables(&mut accepted, count);
+        }
     }
     if builder.random.one_in(2) {
         builder.random.shuffle(&mut builder.constraints);

@@ -14,7 +14,7 @@ pub const MODEL_CONSTRAINTS: usize = 256;
 pub const LIST_LENGTH: i32 = 32;
 pub const ROW_TERMS: u32 = 66;
 pub const ALL_VARIABLES: usize = 4_096;
-pub const REIFIED_SET_WIDTH: i64 = 64;
+pub const ENCODING_WIDTH: i64 = 64;
 pub const EXPONENT: i32 = 27;
 
 // The kinds (01, Words).
@@ -218,6 +218,11 @@ struct Constraint<'a> {
 }
 
 impl Constraint<'_> {
+    /// Whether its first variable is i of 24, 25 or x of 27, 28.
+    fn encodes(&self) -> bool {
+        matches!(self.code, 24 | 25 | 27 | 28)
+    }
+
     /// The terms of Σ as×bs: number and variable.
     fn terms(&self) -> impl Iterator<Item = (i64, usize)> + '_ {
         self.numbers.iter().zip(self.list).map(|(&a, &b)| (i64::from(signed(a)), number(b)))
@@ -513,8 +518,146 @@ trait Sink {
     }
 }
 
-/// The block of a constraint (01, Rules of the 28 codes; 02, wishes 1, 5, 6, 10 and 13); `n` is the number of its first auxiliary.
-fn block(constraint: &Constraint, variables: &[Variable], n: usize, sink: &mut impl Sink) {
+/// The variables that 24, 25, 27 and 28 encode by bits (02, wish 7).
+struct Encodings {
+    /// In how many constraints each variable is i of 24, 25 or x of 27, 28.
+    uses: [u16; MODEL_VARIABLES],
+    /// The number of the first bit of each shared variable that is encoded so far, 0 before.
+    first: [u16; MODEL_VARIABLES],
+}
+
+impl Encodings {
+    fn new() -> Self {
+        Encodings { uses: [0; MODEL_VARIABLES], first: [0; MODEL_VARIABLES] }
+    }
+
+    fn count(&mut self, constraint: &Constraint) {
+        self.uses[constraint.single[0]] += u16::from(constraint.encodes());
+    }
+
+    /// The same uses, and nothing encoded.
+    fn restart(&mut self) {
+        self.first = [0; MODEL_VARIABLES];
+    }
+
+    fn shared(&self, variable: usize) -> bool {
+        self.uses[variable] > 1
+    }
+
+    /// Whether a constraint that encodes a variable brings bits of its own.
+    fn brings_bits(&self, variable: usize) -> bool {
+        !self.shared(variable) || self.first[variable] == 0
+    }
+
+    /// Where the bits of a variable begin for a constraint whose first auxiliary is given; a shared one keeps them. No auxiliary has number 0.
+    fn enter(&mut self, variable: usize, auxiliary: usize) -> usize {
+        if self.brings_bits(variable) {
+            self.first[variable] = auxiliary as u16;
+        }
+        usize::from(self.first[variable])
+    }
+}
+
+/// What a constraint of code 24, 25, 27 or 28 says of its encoded variable.
+struct Choice<'a> {
+    code: u32,
+    lower: i64,
+    upper: i64,
+    /// Whether every declared value has a bit: in 28, and where the variable is shared.
+    whole: bool,
+    /// The elements of 24 and 25 whose index is inside the bounds, and the first such index.
+    elements: &'a [u32],
+    start: i64,
+    /// The members of 27 and 28 inside the bounds, rising.
+    members: [i64; LIST_LENGTH as usize],
+    members_count: usize,
+}
+
+impl<'a> Choice<'a> {
+    fn new(constraint: &Constraint<'a>, variables: &[Variable], encodings: &Encodings) -> Self {
+        let (code, x) = (constraint.code, constraint.single[0]);
+        let (lower, upper) = (i64::from(variables[x].lower), i64::from(variables[x].upper));
+        let whole = code == 28 || encodings.shared(x);
+        let (start, elements) = inside(if code == 24 { constraint.numbers } else { constraint.list }, lower, upper);
+        let (members, members_count) = members(if code < 27 { &[] } else { constraint.numbers }, lower, upper);
+        Choice { code, lower, upper, whole, elements, start, members, members_count }
+    }
+
+    fn members(&self) -> &[i64] {
+        &self.members[..self.members_count]
+    }
+
+    /// The values that have bits, rising.
+    fn values(&self) -> impl Iterator<Item = i64> + Clone + '_ {
+        let count = match self.code {
+            _ if self.whole => (self.upper - self.lower + 1) as usize,
+            27 => self.members_count,
+            _ => self.elements.len(),
+        };
+        (0..count).map(|at| match self.code {
+            _ if self.whole => self.lower + at as i64,
+            27 => self.members[at],
+            _ => self.start + at as i64,
+        })
+    }
+
+    /// Whether a value of the variable is left out: an index that no element has, or no member of 27.
+    fn leaves_out(&self, value: i64) -> bool {
+        match self.code {
+            28 => false,
+            27 => !self.members().contains(&value),
+            _ => !(self.start..self.start + self.elements.len() as i64).contains(&value),
+        }
+    }
+}
+
+/// The block of codes 24, 25, 27 and 28 (02, wish 7); `n` is the number of its first auxiliary.
+fn choice_block(constraint: &Constraint, variables: &[Variable], n: usize, encodings: &mut Encodings, sink: &mut impl Sink) {
+    let [x, result, _] = constraint.single;
+    let choice = Choice::new(constraint, variables, encodings);
+    let own = encodings.brings_bits(x);
+    let first = encodings.enter(x, n);
+    let z = if own { n + choice.values().count() } else { n };
+    if own {
+        choice.values().for_each(|_| sink.bit());
+    }
+    if constraint.code == 25 {
+        for &word in choice.elements {
+            let element = variables[number(word)];
+            sink.with_zero(i64::from(element.lower), i64::from(element.upper));
+        }
+    }
+    if own {
+        one_of_rows(first, choice.values(), x, sink);
+    }
+    let left_out = choice.values().filter(|&value| choice.leaves_out(value));
+    let bit = |value: i64| first + (value - if choice.whole { choice.lower } else { choice.start }) as usize;
+    let count = left_out.clone().count();
+    if count > 0 {
+        sink.row(EQUAL, count);
+        left_out.for_each(|value| sink.term(bit(value), 1));
+        sink.constant(0);
+    }
+    match constraint.code {
+        24 => {
+            sink.row(EQUAL, choice.elements.len() + 1);
+            (choice.start..).zip(choice.elements).for_each(|(index, &word)| sink.term(bit(index), i64::from(signed(word))));
+            sink.term(result, -1);
+            sink.constant(0);
+        }
+        25 => chosen_value_rows(z, choice.elements, (choice.start..).map(bit), result, sink),
+        28 => {
+            sink.row(EQUAL, choice.members().len() + 1);
+            choice.members().iter().for_each(|&member| sink.term(bit(member), 1));
+            sink.term(result, -1);
+            sink.constant(0);
+        }
+        _ => (),
+    }
+}
+
+/// The block of a constraint (01, Rules of the 28 codes; 02, wishes 1, 5, 6, 7, 10 and 13); `n` is the number of its first auxiliary.
+fn block(constraint: &Constraint, variables: &[Variable], n: usize, encodings: &mut Encodings, sink: &mut impl Sink) {
     let [a, b, c] = constraint.single;
     let bound = |variable: usize, upper: bool| variables.get(variable).map_or(0, |v| i64::from(if upper { v.upper } else { v.lower }));
     let lo = |variable| bound(variable, false);
@@ -648,30 +791,13 @@ fn block(constraint: &Constraint, variables: &[Variable], n: usize, sink: &mut i
             sink.term(t, -2);
             sink.constant(-1);
         }
-        24 => {
-            let (i, result) = (a, b);
-            let (start, chosen) = inside(constraint.numbers, lo(i), hi(i));
-            chosen.iter().for_each(|_| sink.bit());
-            one_of_rows(n, (start..).take(chosen.len()), i, sink);
-            sink.row(EQUAL, chosen.len() + 1);
-            chosen.iter().zip(n..).for_each(|(&word, bit)| sink.term(bit, i64::from(signed(word))));
-            sink.term(result, -1);
-            sink.constant(0);
-        }
-        25 => {
-            let (i, result) = (a, b);
-            let (start, chosen) = inside(constraint.list, lo(i), hi(i));
-            chosen.iter().for_each(|_| sink.bit());
-            chosen.iter().for_each(|&word| sink.with_zero(lo(number(word)), hi(number(word))));
-            one_of_rows(n, (start..).take(chosen.len()), i, sink);
-            chosen_value_rows(n, chosen, result, sink);
-        }
+        24 | 25 | 27 | 28 => choice_block(constraint, variables, n, encodings, sink),
         26 | 33 => {
             let (list, m) = (constraint.list, a);
             list.iter().for_each(|_| sink.bit());
             list.iter().for_each(|&word| sink.with_zero(lo(number(word)), hi(number(word))));
             sum_of_bits_row(n, list.len(), sink);
-            chosen_value_rows(n, list, m, sink);
+            chosen_value_rows(n + list.len(), list, n.., m, sink);
             let in_order = |word: u32| if constraint.code == 26 { (number(word), m) } else { (m, number(word)) };
             for &word in list {
                 let (below, above) = in_order(word);
@@ -682,22 +808,6 @@ fn block(constraint: &Constraint, variables: &[Variable], n: usize, sink: &mut i
                 let (below, above) = in_order(word);
                 first_row((below, above), hi(below) - lo(above) + 1, n + k + 1..n + list.len(), sink);
             }
-        }
-        27 => {
-            let (members, count) = members(constraint.numbers, lo(a), hi(a));
-            let members = &members[..count];
-            members.iter().for_each(|_| sink.bit());
-            one_of_rows(n, members.iter().copied(), a, sink);
-        }
-        28 => {
-            let (x, r) = (a, b);
-            let (members, count) = members(constraint.numbers, lo(x), hi(x));
-            (lo(x)..=hi(x)).for_each(|_| sink.bit());
-            one_of_rows(n, lo(x)..hi(x) + 1, x, sink);
-            sink.row(EQUAL, count + 1);
-            members[..count].iter().for_each(|member| sink.term(n + (member - lo(x)) as usize, 1));
-            sink.term(r, -1);
-            sink.constant(0);
         }
         29 => {
             let (p, q, r) = (hi(a) - lo(c), hi(b) - lo(c), n);
@@ -886,11 +996,10 @@ fn one_of_rows(first: usize, numbers: impl Iterator<Item = i64> + Clone, variabl
     sink.constant(0);
 }
 
-/// z_j:=v_j×b_j for each variable of the list; Σz−result=0. The bits stand before the z.
-fn chosen_value_rows(first: usize, list: &[u32], result: usize, sink: &mut impl Sink) {
-    let z = first + list.len();
-    for (j, &word) in list.iter().enumerate() {
-        sink.product(z + j, number(word), first + j);
+/// z_j:=v_j×b_j for each variable of the list and its bit, the z numbered from `z` on; Σz−result=0.
+fn chosen_value_rows(z: usize, list: &[u32], bits: impl Iterator<Item = usize>, result: usize, sink: &mut impl Sink) {
+    for ((z, &word), bit) in (z..).zip(list).zip(bits) {
+        sink.product(z, number(word), bit);
     }
     sink.row(EQUAL, list.len() + 1);
     (z..z + list.len()).for_each(|z| sink.term(z, 1));
@@ -1020,20 +1129,29 @@ impl Sink for Writer<'_> {
 // ----------------------------------------------------------------------------------------------------------------------------------- calls
 
 /// Reads a model and measures its blocks: faults 1 to 11 and 18, then the first constraint's fault of 12 to 14. Gives each constraint to `visit`.
-fn measure<'a>(words: &'a [u32], variables: &mut Variables, mut visit: impl FnMut(&Variables, &Constraint<'a>)) -> Result<Counts, Refusal> {
+/// Afterwards the encodings have the uses of the variables and nothing encoded.
+fn measure<'a>(
+    words: &'a [u32],
+    variables: &mut Variables,
+    encodings: &mut Encodings,
+    mut visit: impl FnMut(&Variables, &Constraint<'a>),
+) -> Result<Counts, Refusal> {
     read_variables(words, variables)?;
     let variables = &*variables;
-    let mut total = Measure::default();
-    let mut fault = None;
-    let constraints = read_constraints(words, variables, |head, constraint| {
+    let constraints = read_constraints(words, variables, |_, constraint| {
         visit(variables, constraint);
-        if fault.is_none() {
-            fault = measure_block(constraint, variables, &mut total).map(|fault| Refusal { fault, place: head });
-        }
+        encodings.count(constraint);
     })?;
-    if let Some(refusal) = fault {
-        return Err(refusal);
+    let mut total = Measure::default();
+    let mut at = variables.end;
+    for _ in 0..constraints {
+        let (constraint, next) = arguments(words, at);
+        if let Some(fault) = measure_block(&constraint, variables, encodings, &mut total) {
+            return refusal(fault, at);
+        }
+        at = next;
     }
+    encodings.restart();
     Ok(Counts {
         variables: variables.count,
         constraints,
@@ -1045,14 +1163,16 @@ fn measure<'a>(words: &'a [u32], variables: &mut Variables, mut visit: impl FnMu
 }
 
 /// Adds a constraint's block to the measure: its fault of 12 to 14.
-fn measure_block(constraint: &Constraint, variables: &Variables, total: &mut Measure) -> Option<u32> {
-    if constraint.code == 28 {
-        let x = variables.list()[constraint.single[0]];
-        if i64::from(x.upper) - i64::from(x.lower) + 1 > REIFIED_SET_WIDTH {
+fn measure_block(constraint: &Constraint, variables: &Variables, encodings: &mut Encodings, total: &mut Measure) -> Option<u32> {
+    let encoded = constraint.single[0];
+    let all_values = constraint.encodes() && (constraint.code == 28 || encodings.shared(encoded));
+    if all_values && encodings.brings_bits(encoded) {
+        let x = variables.list()[encoded];
+        if i64::from(x.upper) - i64::from(x.lower) + 1 > ENCODING_WIDTH {
             return Some(12);
         }
     }
-    block(constraint, variables.list(), variables.count + total.auxiliaries, total);
+    block(constraint, variables.list(), variables.count + total.auxiliaries, encodings, total);
     if total.outside {
         return Some(13);
     }
@@ -1061,7 +1181,7 @@ fn measure_block(constraint: &Constraint, variables: &Variables, total: &mut Mea
 
 /// Check: the counts of a model, or its fault.
 pub fn check(words: &[u32]) -> Counts {
-    measure(words, &mut Variables::new(), |_, _| ()).unwrap_or_else(Counts::from)
+    measure(words, &mut Variables::new(), &mut Encodings::new(), |_, _| ()).unwrap_or_else(Counts::from)
 }
 
 /// Check over bytes, four to a word, lowest first: the refusal number, 0 if accepted; 1 to 3 spare bytes are left off.
@@ -1075,8 +1195,8 @@ pub fn check_bytes(bytes: &[u8]) -> u32 {
 
 /// Translate: writes a model's row system to the front of the output.
 pub fn translate(words: &[u32], out: &mut [u32]) -> Written {
-    let mut variables = Variables::new();
-    let counts = match measure(words, &mut variables, |_, _| ()) {
+    let (mut variables, mut encodings) = (Variables::new(), Encodings::new());
+    let counts = match measure(words, &mut variables, &mut encodings, |_, _| ()) {
         Ok(counts) => counts,
         Err(refusal) => return refusal.into(),
     };
@@ -1089,7 +1209,7 @@ pub fn translate(words: &[u32], out: &mut [u32]) -> Written {
     for _ in 0..counts.constraints {
         let (constraint, next) = arguments(words, at);
         let first = variables.count + writer.auxiliaries;
-        block(&constraint, variables.list(), first, &mut writer);
+        block(&constraint, variables.list(), first, &mut encodings, &mut writer);
         at = next;
     }
     writer.write([word(ROWS_END, 0)]);
@@ -1155,8 +1275,8 @@ pub fn fill(words: &[u32], values: &[i32], out: &mut [i32]) -> Judgement {
 fn try_fill(words: &[u32], values: &[i32], out: &mut [i32]) -> Result<Judgement, Refusal> {
     let mut judge = Judge { values, seen: 0, first_false: None };
     let mut judging = None;
-    let mut variables = Variables::new();
-    let counts = measure(words, &mut variables, |variables, constraint| {
+    let (mut variables, mut encodings) = (Variables::new(), Encodings::new());
+    let counts = measure(words, &mut variables, &mut encodings, |variables, constraint| {
         if *judging.get_or_insert_with(|| values.len() == variables.count && first_out_of_bounds(variables.list(), values).is_none()) {
             judge.constraint(constraint);
         }
@@ -1176,7 +1296,7 @@ fn try_fill(words: &[u32], values: &[i32], out: &mut [i32]) -> Result<Judgement,
     let mut at = variables.end;
     for _ in 0..counts.constraints {
         let (constraint, next) = arguments(words, at);
-        fill_block(&constraint, variables.list(), values, &mut auxiliaries);
+        fill_block(&constraint, variables.list(), values, counts.variables, &mut encodings, &mut auxiliaries);
         at = next;
     }
     Ok(Judgement { said: HOLDS, fault: 0, at: count })
@@ -1220,13 +1340,9 @@ impl Auxiliaries<'_> {
     }
 }
 
-/// The auxiliaries of a constraint that is true of the values (01, Five calls; 02, wishes 1, 5, 6 and 13).
-fn fill_block(constraint: &Constraint, variables: &[Variable], values: &[i32], out: &mut Auxiliaries) {
+/// The auxiliaries of a constraint that is true of the values (01, Five calls; 02, wishes 1, 5, 6, 7 and 13); `sources` is their number.
+fn fill_block(constraint: &Constraint, variables: &[Variable], values: &[i32], sources: usize, encodings: &mut Encodings, out: &mut Auxiliaries) {
     let [a, b, c] = constraint.single.map(|variable| values.get(variable).map_or(0, |&value| i64::from(value)));
-    let bounds = || {
-        let first = variables[constraint.single[0]];
-        (i64::from(first.lower), i64::from(first.upper))
-    };
     match constraint.code {
         4 => out.push(i64::from(a > b)),
         7 => out.push(a * b),
@@ -1261,31 +1377,22 @@ fn fill_block(constraint: &Constraint, variables: &[Variable], values: &[i32], o
             let sum: i64 = constraint.list.iter().map(|&word| i64::from(values[number(word)])).sum();
             out.push((sum - 1) / 2);
         }
-        24 => {
-            let (lower, upper) = bounds();
-            let (start, chosen) = inside(constraint.numbers, lower, upper);
-            out.one_of(chosen.len(), (a - start) as usize);
-        }
-        25 => {
-            let (lower, upper) = bounds();
-            let (start, chosen) = inside(constraint.list, lower, upper);
-            out.one_of(chosen.len(), (a - start) as usize);
-            out.value_at(chosen.len(), (a - start) as usize, b);
+        24 | 25 | 27 | 28 => {
+            let x = constraint.single[0];
+            let choice = Choice::new(constraint, variables, encodings);
+            if encodings.brings_bits(x) {
+                encodings.enter(x, sources + out.used);
+                choice.values().for_each(|value| out.push(i64::from(value == a)));
+            }
+            if constraint.code == 25 {
+                out.value_at(choice.elements.len(), (a - choice.start) as usize, b);
+            }
         }
         26 | 33 => {
             let list = constraint.list;
             let first = list.iter().position(|&word| i64::from(values[number(word)]) == a).unwrap_or(0);
             out.one_of(list.len(), first);
             out.value_at(list.len(), first, a);
-        }
-        27 => {
-            let (lower, upper) = bounds();
-            let (members, count) = members(constraint.numbers, lower, upper);
-            members[..count].iter().for_each(|&member| out.push(i64::from(member == a)));
-        }
-        28 => {
-            let (lower, upper) = bounds();
-            out.one_of((upper - lower + 1) as usize, (a - lower) as usize);
         }
         _ => (),
     }
