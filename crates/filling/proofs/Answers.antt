@@ -9,17 +9,16 @@ use lib.ListN.{length, length-append}
 use borrow.Author.Tests.{eq-eqb, ne-eqb, lt-ltb, le-ltb}
 use Rattle.words.specs.Variables.{variables}
 use Rattle.words.specs.Overlay.{overlay}
-use Rattle.words.specs.Refusal.{accepted, _else-refuse_, countFault}
+use Rattle.words.proofs.Overlay.{front-over}
+use Rattle.words.specs.Refusal.{accepted, _else-refuse_, countFault, roomFault}
 use Rattle.words.specs.Answer.{Answer, refused, written, holds, isHolds, _else-answer_}
 use Rattle.models.specs.JudgeModel.{judgeModel, judgeAccepted}
 use Rattle.rules.specs.Translation.{picks, auxiliaries}
-use Rattle.rules.specs.Translate.{roomFault}
 use Rattle.rules.specs.Fill.{filledCount, fillFault, fillFaultIn, fill, fillIn, filled, filledIn}
 use Rattle.sharing.specs.SharedSolutions.{Passes, SatisfiesModel}
 use Rattle.sharing.proofs.Accepts.{passes-read}
 use Rattle.sharing.proofs.Theorem.{fill-counts, fill-satisfies, fill-completes, only-fill}
 use Rattle.sharing.proofs.Judged.{judge-model-says}
-use Rattle.translation.proofs.Over.{front-over}
 use Rattle.translation.proofs.Refusals.{clash}
 use Rattle.filling.specs.Satisfied.{Satisfied}
 use Rattle.filling.specs.HandsOver.{HandsOver}

@@ -36,9 +36,9 @@ use Rattle.rowreading.specs.Onward.{startsKind, Plain, onward, stopped, resumed
 use Rattle.rowreading.specs.declared.items.Step.{Step}
 use Rattle.rowreading.proofs.Counts.{along, plain-variables, count-plain}
 use Rattle.rowreading.proofs.Steps.{or-false}
-use Rattle.rowjudge.specs.OneWord.{startsRow, rowOf}
+use Rattle.rowsystems.specs.OneWord.{startsRow, rowOf}
 use Rattle.rowjudge.specs.Passing.{Known, Passes}
-use Rattle.rowjudge.proofs.Walk.{starts-none, starts-one, none-left}
+use Rattle.rowsystems.proofs.Walk.{starts-none, starts-one, none-left}
 
 -- ---- the rows so far: whether all k are true, else the first wrong one
 

@@ -1,5 +1,4 @@
 -- Laws for the proofs of judge-rows.
 pub mod Sums
-pub mod Walk
 pub mod Passing
 pub mod Judging

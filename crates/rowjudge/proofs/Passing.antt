@@ -30,7 +30,7 @@ use Rattle.rowreading.specs.Onward.{startsKind, Plain, isEnded, resumed, stepOv
 use Rattle.rowreading.specs.declared.items.Step.{Step}
 use Rattle.rowreading.proofs.Heads.{head-here, head-halted, head-on}
 use Rattle.rowreading.proofs.Steps.{or-false, or-halted}
-use Rattle.rowjudge.specs.OneWord.{startsSum, startsRow, rowOf}
+use Rattle.rowsystems.specs.OneWord.{startsSum, startsRow, rowOf}
 use Rattle.rowjudge.specs.Passing.{isTrue, Passes}
 use Rattle.rowjudge.proofs.Sums.{one-more}
 

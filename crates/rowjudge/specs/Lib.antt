@@ -1,3 +1,2 @@
--- What the contracts cite: the row of one word, and reading and judging an item at once.
-pub mod OneWord
+-- What the contracts cite: reading and judging an item at once.
 pub mod Passing

@@ -16,7 +16,7 @@ ghost use Rattle.rowsystems.specs.Row.{product, satisfied};
 ghost use Rattle.rowsystems.specs.RowSystem.{variableAt, termsIn, constantIn};
 ghost use Rattle.rowreading.specs.Item.{startDue};
 ghost use Rattle.rowreading.specs.Onward.{Placed, Went, stepOver};
-ghost use Rattle.rowjudge.specs.OneWord.{startsSum, startsRow, rowOf};
+ghost use Rattle.rowsystems.specs.OneWord.{startsSum, startsRow, rowOf};
 ghost use Rattle.rowjudge.specs.Passing.{stepOf, Known, isTrue, Passes};
 use integers::equal;
 use integers::plus;

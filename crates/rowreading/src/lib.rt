@@ -21,6 +21,7 @@ use words::word_at;
 
 pub mod faults;
 pub mod items;
+pub mod rows;
 
 // How many variables start at a word: one at a word of kind 1, 3 or 8.
 pub fn started_of(w: u32) -> usize

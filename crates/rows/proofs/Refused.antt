@@ -8,13 +8,12 @@ use lib.ListN.{length, take}
 use lib.Seq.{length-take-le}
 use borrow.Author.Tests.{lt-ltb}
 use Rattle.words.specs.Overlay.{overlay}
-use Rattle.words.proofs.Overlay.{length-overlay}
+use Rattle.words.proofs.Overlay.{length-overlay, front-over}
 use Rattle.words.specs.Answer.{refused, _else-answer_}
 use Rattle.words.specs.Refusal.{_else-refuse_}
 use Rattle.models.specs.Reading.{readModelIn}
 use Rattle.rules.specs.Check.{checkFaultIn}
 use Rattle.rules.specs.Translate.{translateFaultIn, translate, translateIn, translated, translatedIn}
-use Rattle.translation.proofs.Over.{front-over}
 
 module _ (ws : List ℕ) (l : 8192 < length ws) where
   long-answer : (room : ℕ) → translate ws room ≡ refused 1 0

@@ -1,3 +1,5 @@
 -- Laws for proofs about row systems.
 pub mod ReadBack
 pub mod Numbers
+pub mod Walk
+pub mod Sizes

@@ -3,4 +3,5 @@ pub mod Row
 pub mod RowWords
 pub mod Reading
 pub mod RowSystem
+pub mod OneWord
 pub mod JudgeRows

@@ -16,7 +16,7 @@ use Rattle.integers.specs.declared.Bounds.{Bounds}
 use Rattle.words.specs.Word.{kind, payload, signed, tooLow, word, complement, numberWord, wordAt}
 use Rattle.words.specs.Variables.{variables, startsPair}
 use Rattle.words.specs.Overlay.{overlay}
-use Rattle.words.specs.Refusal.{_else-refuse_, firstFault, countFault}
+use Rattle.words.specs.Refusal.{_else-refuse_, firstFault, countFault, roomFault}
 use Rattle.words.specs.Answer.{Answer, refused, counts, written, holds, outOfBounds, isFalse, _else-answer_, isHolds}
 use Rattle.words.specs.Judge.{firstFalse, firstOutOfBounds, judge}
 use Rattle.models.specs.Meaning.{on, off, element, maximum, minimum, member, odd, quotient, remainder, power, meaning}
@@ -43,7 +43,7 @@ use Rattle.rules.specs.Pick.{bitOf, signPick, signedPick, firstBit, gate
 use Rattle.rules.specs.Shared.{choice, encodes, sharedIn, shares, encodedAfter, bitProducts, valueBit, newBits, newRows, kept, leftOut, keptSum, sharedRule, ruleAfter, newPick, sharedPick, pickAfter}
 use Rattle.rules.specs.Translation.{bounds, shared, blockOf, eachBlock, blocksWords, systemWords, auxiliaries, blockRows, picks}
 use Rattle.rules.specs.Check.{tooWide, blockFaultIn, blocksFaultIn, checkFault, checkFaultIn, check, checkIn}
-use Rattle.rules.specs.Translate.{roomFault, translateFaultIn, translate, translateIn, translated, translatedIn}
+use Rattle.rules.specs.Translate.{translateFaultIn, translate, translateIn, translated, translatedIn}
 use Rattle.rules.specs.Fill.{filledCount, fillFaultIn, fill, fillIn, filled, filledIn}
 
 -- What a line of the table says of a model's words.

@@ -11,13 +11,12 @@ use Rattle.words.specs.Limit as Limit
 use Rattle.words.specs.Fault as Fault
 use Rattle.words.specs.Variables.{variables}
 use Rattle.words.specs.Overlay.{overlay}
-use Rattle.words.specs.Refusal.{_else-refuse_, countFault}
+use Rattle.words.specs.Refusal.{_else-refuse_, countFault, roomFault}
 use Rattle.words.specs.Answer.{Answer, written, isHolds, _else-answer_}
 use Rattle.words.specs.declared.Refusal.{Refusal}
 use Rattle.models.specs.JudgeModel.{judgeAccepted}
 use Rattle.rules.specs.Translation.{auxiliaries, picks}
 use Rattle.rules.specs.Check.{checkFaultIn}
-use Rattle.rules.specs.Translate.{roomFault}
 
 -- how many values fill writes: "for variables and auxiliaries together"
 unfoldable pub filledCount : List ℕ → ℕ

@@ -1,22 +1,18 @@
 -- Translate: 1 to 14 and 18, then 16; else the words of the row system, laid over the lent output.
 use mathlib.Core.List.{List}
 use Prim.Native.Nat.{ℕ}
-use lib.Dec.{ltb, eqb}
+use lib.Dec.{eqb}
 use lib.ListN.{length}
 use Rattle.integers.specs.Choice.{_if_else_}
 use Rattle.integers.specs.declared.Bounds.{Bounds}
 use Rattle.words.specs.Limit as Limit
 use Rattle.words.specs.Fault as Fault
 use Rattle.words.specs.Overlay.{overlay}
-use Rattle.words.specs.Refusal.{_at-place_, accepted, _else-refuse_}
+use Rattle.words.specs.Refusal.{_else-refuse_, roomFault}
 use Rattle.words.specs.Answer.{Answer, written, _else-answer_}
 use Rattle.words.specs.declared.Refusal.{Refusal}
 use Rattle.rules.specs.Translation.{systemWords}
 use Rattle.rules.specs.Check.{checkFaultIn}
-
--- 16: "The lent output is too short": it has `room` places and n are needed
-unfoldable pub roomFault : ℕ → ℕ → Refusal
-roomFault room n = Fault.outputTooShort at-place 0 if ltb room n else accepted
 
 -- in a range of numbers
 module _ (range : Bounds) where

@@ -10,8 +10,9 @@ use Rattle.integers.specs.declared.Bounds.{Bounds}
 use Rattle.words.specs.Word.{word}
 use Rattle.words.specs.Kind as Kind
 use Rattle.words.specs.Overlay.{overlay}
+use Rattle.words.proofs.Overlay.{front-over}
 use Rattle.words.specs.Variables.{variables}
-use Rattle.words.specs.Refusal.{_at-place_, accepted, _else-refuse_}
+use Rattle.words.specs.Refusal.{_at-place_, accepted, _else-refuse_, roomFault}
 use Rattle.words.specs.Answer.{Answer, refused, counts, written, refusedOr, _else-answer_}
 use Rattle.words.proofs.Answers.{first-answers}
 use Rattle.words.proofs.Reading as Reading
@@ -22,14 +23,14 @@ use Rattle.modelreading.specs.declared.Read.{Read}
 use Rattle.rules.specs.Shared.{Encoded, noneYet, choice, encodes, encodedAfter}
 use Rattle.rules.specs.Translation.{bounds, shared, blockOf, systemWords}
 use Rattle.rules.specs.Check.{blockFault, blocksFault, blocksFaultIn, checkFault, checkFaultIn, check, checkIn}
-use Rattle.rules.specs.Translate.{roomFault, translateFault, translateFaultIn, translate, translateIn, translated, translatedIn}
+use Rattle.rules.specs.Translate.{translateFault, translateFaultIn, translate, translateIn, translated, translatedIn}
 use Rattle.sharing.specs.SharedSolutions.{Passes, SharedSolutions}
 use Rattle.sharing.specs.ExactlyOne.{ExactlyOne, AsManySolutions}
 use Rattle.sharing.proofs.Accepts.{no-fault}
 use Rattle.sharing.proofs.Theorem.{shared-solutions, exactly-one, as-many-solutions}
 use Rattle.translation.specs.Walk.{allBlocks}
 use Rattle.translation.specs.Shares.{Shares}
-use Rattle.translation.proofs.Over.{three-over, front-over}
+use Rattle.translation.proofs.Over.{three-over}
 
 -- ---- a refusal whose number is 0 is `accepted`
 

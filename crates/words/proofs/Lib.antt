@@ -5,6 +5,7 @@ pub mod Choices
 pub mod Sources
 pub mod Machine
 pub mod Overlay
+pub mod Rest
 pub mod Reading
 pub mod Judge
 pub mod Answers

@@ -1,10 +1,11 @@
--- Laws of laying a list over another one: its length, one list after another, one element at a time.
-use mathlib.Core.Path.{_≡_, refl, ap, _∙_}
-use mathlib.Core.List.{List, [], _∷_, _++_}
-use Prim.Native.Nat.{ℕ, suc, _+_, _<_}
+-- Laws of laying a list over another one: its length, one list after another, one element at a time, the last element first; the front afterwards.
+use mathlib.Core.Path.{_≡_, refl, sym, ap, _∙_}
+use mathlib.Core.List.{List, [], _∷_, _++_, append-nil, append-assoc}
+use Prim.Native.Nat.{ℕ, suc, _+_, _≤_, _<_}
 use native.Mathlib.Omega.{arith}
-use lib.ListN.{set, getD, drop, length, length-set}
-use lib.Seq.{drop-cons}
+use native.Mathlib.Nat.{add-zero, zero-add}
+use lib.ListN.{set, getD, take, drop, length, length-set}
+use lib.Seq.{drop-cons, set-comm, take-suc-set}
 use Rattle.words.specs.Overlay.{overlay}
 
 module _ {A : Type 0} where
@@ -34,3 +35,27 @@ module _ {A : Type 0} where
       ap (overlay out (at + i)) (drop-cons xs i d h)
       ∙ ap (λ (n : ℕ). overlay (set out (at + i) (getD xs i d)) n (drop (suc i) xs)) e
       ∙ ap (λ (n : ℕ). overlay (set out (at + i) (getD xs i d)) (at + (i + 1)) (drop n xs)) f
+
+  -- the last element first, then those before it
+  pub last-first : (out : List A) (at : ℕ) (xs : List A) (x : A) → overlay out at (xs ++ (x ∷ [])) ≡ overlay (set out (at + length xs) x) at xs
+  unfolding overlay
+  last-first out at [] x = let e : at ≡ at + 0 = omega arith in ap (λ (n : ℕ). set out n x) e
+  last-first out at (y ∷ xs) x =
+      let e : suc at + length xs ≡ at + suc (length xs) = omega arith in
+      last-first (set out at y) (suc at) xs x
+      ∙ ap (λ (n : ℕ). overlay (set (set out at y) n x) (suc at) xs) e
+      ∙ ap (λ (l : List A). overlay l (suc at) xs) (set-comm out at (at + suc (length xs)) y x (λ e. omega arith))
+
+  from : (out : List A) (at : ℕ) (xs : List A) → at + length xs ≤ length out → take (at + length xs) (overlay out at xs) ≡ take at out ++ xs
+  unfolding overlay
+  from out at [] h = rw (add-zero at) (sym (append-nil (take at out)))
+  from out at (x ∷ xs) h =
+      let e : at + suc (length xs) ≡ suc at + length xs = omega arith in
+      let n = length-set out at x in
+      ap (λ (k : ℕ). take k (overlay (set out at x) (suc at) xs)) e
+      ∙ from (set out at x) (suc at) xs (omega arith)
+      ∙ rw (take-suc-set out at x (omega arith)) (append-assoc (take at out) (x ∷ []) xs)
+
+  -- what fits is then the front
+  pub front-over : (out xs : List A) → length xs ≤ length out → take (length xs) (overlay out 0 xs) ≡ xs
+  front-over out xs h = ap (λ (k : ℕ). take k (overlay out 0 xs)) (sym (zero-add (length xs))) ∙ from out 0 xs (omega arith)

@@ -32,6 +32,11 @@ pub payload-word : (k p : ℕ) → p < 268435456 → payload (word k p) ≡ p
 unfolding payload word
 payload-word k p h = omega arith
 
+-- no payload has more than 28 bits
+pub payload-below : (w : ℕ) → payload w < 268435456
+unfolding payload
+payload-below w = omega arith
+
 -- the test of the range as a proposition, for `omega arithZ`
 pub says-range : (z : ℤ) → Says (inRange z) ((Limit.lowest ⊑ z) × (z ⊑ Limit.highest))
 says-range z = says-within Limit.range z

@@ -6,6 +6,7 @@ pub mod Word
 pub mod Small
 pub mod Variables
 pub mod Overlay
+pub mod Laid
 pub mod Refusal
 pub mod Answer
 pub mod Judge

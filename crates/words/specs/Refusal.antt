@@ -1,7 +1,7 @@
 -- A refusal: the number of a fault and its place; number 0 is no fault. And how a reader finds the first one.
 use mathlib.Core.List.{List, [], _∷_}
 use Prim.Native.Nat.{ℕ, zero, suc, _+_}
-use lib.Dec.{eqb}
+use lib.Dec.{eqb, ltb}
 use lib.IntN.{ℤ}
 use lib.ListN.{length}
 use Rattle.integers.specs.Choice.{_if_else_}
@@ -39,3 +39,7 @@ module _ {S : Type 0} (fault : S → ℕ → List ℕ → ℕ) (next : S → ℕ
 -- 15: "The number of values is not that of the variables, in rows with the auxiliaries."
 unfoldable pub countFault : List ℕ → List ℤ → Refusal
 countFault ws vs = accepted if eqb (length vs) (length (variables ws)) else Fault.wrongValueCount at-place 0
+
+-- 16: "The lent output is too short": it has `room` places and n are needed
+unfoldable pub roomFault : ℕ → ℕ → Refusal
+roomFault room n = Fault.outputTooShort at-place 0 if ltb room n else accepted

@@ -31,7 +31,7 @@ use Rattle.rowreading.specs.Item.{startDue}
 use Rattle.rowreading.specs.Onward.{onward, Placed}
 use Rattle.rowreading.proofs.Counts.{count-plain}
 use Rattle.rowreading.proofs.Onward.{at-the-end}
-use Rattle.rowjudge.specs.OneWord.{rowOf}
+use Rattle.rowsystems.specs.OneWord.{rowOf}
 use Rattle.rowjudge.proofs.Judging.{tells, row-holds, row-fails, Judging, begun, variable-judged, row-judged, goes, Exit, exit, all-counted, all-judged, first-refusal, none-first, same-answer, outside-first}
 use Rattle.rowjudge.proofs.judge_rows.Statement.{statement}
 use Rattle.rowjudge.proofs.judge_rows.Tie as tie

@@ -2,7 +2,7 @@
 use mathlib.Core.Path.{_≡_, sym, _∙_}
 use mathlib.Core.Bool.{true}
 use borrow.Author.Tests.{ne-eqb}
-use Rattle.rowjudge.specs.OneWord.{startsSum}
+use Rattle.rowsystems.specs.OneWord.{startsSum}
 use Rattle.rowjudge.proofs.Passing.{sum-row}
 use borrow.Author.Needs.{needs}
 use Rattle.rowjudge.proofs.items.see_item.Statement.{statement}

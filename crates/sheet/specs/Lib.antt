@@ -1,0 +1,2 @@
+-- What the contract cites: sheet over bytes.
+pub mod Bytes
