@@ -1,4 +1,4 @@
-/* How long the calls take, as a table: `make bench`; with the argument `stack`, how many bytes of stack each takes. Every answer is "accepted" or "holds", so that every word is worked on; the program exits with 1 if one is not. */
+/* How long the calls take, as tables: `make bench`; with the argument `stack`, how many bytes of stack each takes. Every answer is "accepted" or "holds", so that every word is worked on; the program exits with 1 if one is not. */
 #include "../include/pearrummy.h"
 #include <stdio.h>
 #include <stdlib.h>
@@ -9,7 +9,7 @@
 enum { MODEL = 8192, ROWS = 262144, IN_ALL = 4096, ROUNDS = 9 };
 
 static uint32_t words[MODEL + 68], rows[ROWS]; /* a constraint that does not fit is put and taken back */
-static uint8_t bytes[4 * MODEL];
+static uint8_t bytes[4 * MODEL], page[81 * ROWS]; /* no row system prints more than a line for each of its words */
 static int32_t filled[IN_ALL];
 static size_t length, row_words, row_values;
 
@@ -148,6 +148,13 @@ static void make_rows(size_t total) {
     for (size_t k = 0; k < 17; k++) filled[k] = 0;
 }
 
+/* A row system of `total` words, an odd number, that prints as much as so many words can: rows without terms. */
+static void make_short_rows(size_t total) {
+    for (size_t at = 0; at < total; at++) rows[at] = at % 2 ? 0x6FFFFFFF : 0xA0000000;
+    rows[total - 1] = 0xF0000000;
+    row_words = total;
+}
+
 /* ---- The calls; each says whether it accepts. */
 
 static int check_bytes(void) { return pearrummy_check_bytes(bytes, 4 * length) == 0; }
@@ -156,6 +163,7 @@ static int translate(void) { return pearrummy_translate(words, length, rows, ROW
 static int judge_model(void) { return pearrummy_judge_model(words, length, values, VARIABLES).said == PEARRUMMY_HOLDS; }
 static int fill(void) { return pearrummy_fill(words, length, values, VARIABLES, filled, IN_ALL).said == PEARRUMMY_HOLDS; }
 static int judge_rows(void) { return pearrummy_judge_rows(rows, row_words, filled, row_values).said == PEARRUMMY_HOLDS; }
+static int sheet(void) { return pearrummy_sheet(rows, row_words, page, sizeof page).fault == 0; }
 
 static double now(void) {
     struct timespec t;
@@ -164,7 +172,7 @@ static double now(void) {
 }
 
 /* Processor time of one call: the best of rounds that last about a hundredth of a second each. */
-static void measure(const char *name, int (*call)(void), size_t n) {
+static double best_time(const char *name, int (*call)(void), size_t n) {
     double best = 0;
     int repeats = 1, round = 0;
     while (round < ROUNDS) {
@@ -182,7 +190,18 @@ static void measure(const char *name, int (*call)(void), size_t n) {
         if (round == 0 || each < best) best = each;
         round++;
     }
+    return best;
+}
+
+static void measure(const char *name, int (*call)(void), size_t n) {
+    double best = best_time(name, call, n);
     printf("| %s | %zu | %.1f µs | %.1f |\n", name, n, best * 1e6, best * 1e9 / n);
+}
+
+static void measure_sheet(const char *name) {
+    size_t printed = pearrummy_sheet(rows, row_words, page, sizeof page).bytes;
+    double best = best_time(name, sheet, row_words);
+    printf("| %s | %zu | %zu | %.1f µs | %.0f |\n", name, row_words, printed, best * 1e6, printed / best / 1e6);
 }
 
 /* Makes a model, and says how many values and words its row system has. */
@@ -223,7 +242,7 @@ static size_t stack_of(int (*call)(void)) {
 static void measure_stack(void) {
     static const struct { const char *name; int (*call)(void); } calls[] = {
         {"pearrummy_check_bytes", check_bytes}, {"pearrummy_check", check}, {"pearrummy_translate", translate},
-        {"pearrummy_judge_model", judge_model}, {"pearrummy_judge_rows", judge_rows}, {"pearrummy_fill", fill}};
+        {"pearrummy_judge_model", judge_model}, {"pearrummy_judge_rows", judge_rows}, {"pearrummy_fill", fill}, {"pearrummy_sheet", sheet}};
     begin_model(MODEL, 32);
     if (!translate() || !fill()) exit(1);
     size_t none = stack_of(nothing);
@@ -255,6 +274,18 @@ int main(int count, char **arguments) {
     for (int k = 0; k < 3; k++) {
         make_rows(systems[k]);
         measure("judge-rows", judge_rows, row_words);
+    }
+    printf("\n| Sheet of | Row words | Bytes | Time | Megabytes a second |\n|---|---|---|---|---|\n");
+    begin_model(models[2].words, models[2].elements);
+    if (!translate()) return 1;
+    measure_sheet("what translate wrote");
+    for (int k = 0; k < 3; k++) {
+        make_rows(systems[k]);
+        measure_sheet("rows of 62 terms");
+    }
+    for (int k = 0; k < 3; k++) {
+        make_short_rows(systems[k] - 1);
+        measure_sheet("rows without terms");
     }
     return 0;
 }

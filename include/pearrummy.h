@@ -42,15 +42,22 @@ struct pearrummy_written {
     size_t words;
 };
 
+/* What sheet answers: `fault` 0 and how many bytes it wrote, or a fault, its place, and 0 bytes. */
+struct pearrummy_printed {
+    uint32_t fault;
+    size_t place;
+    size_t bytes;
+};
+
 /* Check over bytes, four to a word, lowest first, 1 to 3 spare bytes left off: the number of the refusal, 0 if accepted.
- * Stack: 57 KiB. */
+ * Stack: 55 KiB. */
 uint32_t pearrummy_check_bytes(const uint8_t *bytes, size_t bytes_count);
 
-/* Checks a model; faults 1 to 14 and 18. Stack: 25 KiB. */
+/* Checks a model; faults 1 to 14 and 18. Stack: 23 KiB. */
 struct pearrummy_counts pearrummy_check(const uint32_t *words, size_t words_count);
 
 /* Writes the row system of a model to the front of `out`; faults 1 to 14, 16 and 18. Words past the end keep their values; a refusal changes nothing.
- * Stack: 31 KiB. */
+ * Stack: 27 KiB. */
 struct pearrummy_written pearrummy_translate(const uint32_t *words, size_t words_count, uint32_t *out, size_t out_count);
 
 /* Judges values of a model's variables; faults 1 to 11, 15 and 18. Stack: 4 KiB. */
@@ -60,7 +67,11 @@ struct pearrummy_judgement pearrummy_judge_model(const uint32_t *words, size_t w
 struct pearrummy_judgement pearrummy_judge_rows(const uint32_t *words, size_t words_count, const int32_t *values, size_t values_count);
 
 /* Judges values of a model's variables and, where they hold, writes them and the auxiliaries to the front of `out` and puts into `at` how many
- * there are; faults 1 to 16 and 18. Values past the end keep theirs; any other answer changes nothing. Stack: 27 KiB. */
+ * there are; faults 1 to 16 and 18. Values past the end keep theirs; any other answer changes nothing. Stack: 23 KiB. */
 struct pearrummy_judgement pearrummy_fill(const uint32_t *words, size_t words_count, const int32_t *values, size_t values_count, int32_t *out, size_t out_count);
+
+/* Prints a row system to the front of `page`, in lines of 80 columns and a line feed; faults 1 to 5, 9 to 11, 14 and 16 to 18. Bytes past the end
+ * keep their values; a refusal changes nothing. Stack: 1 KiB. */
+struct pearrummy_printed pearrummy_sheet(const uint32_t *words, size_t words_count, uint8_t *page, size_t page_count);
 
 #endif

@@ -5,13 +5,13 @@ the calls that write with other rooms, and a few cases at the limits.
     tests/cases.py           write both files
     tests/cases.py --check   only say whether they are up to date
 
-stdin: one case after the other, all numbers 32 bits, lowest byte first: the call (1 check, 2 translate, 3 judge_model, 4 judge_rows, 5 fill),
-the room, the number of words, the number of values, the words, the values (signed). stdout: the answer of each case, a line each."""
+stdin: one case after the other, all numbers 32 bits, lowest byte first: the call (1 check, 2 translate, 3 judge_model, 4 judge_rows, 5 fill,
+6 sheet), the room, the number of words, the number of values, the words, the values (signed). stdout: the answer of each case, a line each."""
 import glob, os, struct, sys
 
 HERE = os.path.dirname(os.path.abspath(__file__))
 SUITE = os.path.join(os.path.dirname(HERE), 'crates', 'suite')
-CALLS = {'check': 1, 'translate': 2, 'judge_model': 3, 'judge_rows': 4, 'fill': 5}
+CALLS = {'check': 1, 'translate': 2, 'judge_model': 3, 'judge_rows': 4, 'fill': 5, 'sheet': 6}
 MORE = 3  # how much longer than wanted a list is lent, so that what stands past the end is seen
 
 
@@ -26,11 +26,12 @@ def recorded():
 def rooms(call, words, values, room, answer):
     """The same call with a list one too short, of the wanted length and longer; what is wanted is what the recorded answer writes."""
     kind, *written = answer.split()
-    if kind not in ('words', 'filled'):
+    if kind not in ('words', 'filled', 'bytes'):
         return
-    for other in (len(written) - 1, len(written), len(written) + MORE):
+    wanted = len(''.join(written)) // 2 if kind == 'bytes' else len(written)
+    for other in (wanted - 1, wanted, wanted + MORE):
         if other >= 0 and other != room:
-            yield call, words, values, other, answer if other >= len(written) else 'refused 16 0'
+            yield call, words, values, other, answer if other >= wanted else 'refused 16 0'
 
 
 def long_model(words):
@@ -103,6 +104,8 @@ def limits():
     rows = sum(w >> 28 == 0xB for w in whole)
     yield 'judge_rows', whole, [0] * 17, 0, f'false {rows - 1}'
     yield 'judge_rows', [0x30000000] + whole, [0] * 18, 0, 'refused 1 0'
+    yield 'sheet', whole, [], 8192, 'refused 16 0'
+    yield 'sheet', [0x30000000] + whole, [], 8192, 'refused 1 0'
 
 
 def cases():

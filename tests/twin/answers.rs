@@ -36,6 +36,15 @@ pub struct Written {
     pub words: usize,
 }
 
+/// What sheet answers.
+#[repr(C)]
+#[derive(Clone, Copy, Debug, PartialEq, Eq, Default)]
+pub struct Printed {
+    pub fault: u32,
+    pub place: usize,
+    pub bytes: usize,
+}
+
 /// A numbered fault and its place.
 #[derive(Clone, Copy, Debug, PartialEq, Eq)]
 pub struct Refusal {
@@ -58,5 +67,11 @@ impl From<Refusal> for Counts {
 impl From<Refusal> for Written {
     fn from(refusal: Refusal) -> Self {
         Written { fault: refusal.fault, place: refusal.place, words: 0 }
+    }
+}
+
+impl From<Refusal> for Printed {
+    fn from(refusal: Refusal) -> Self {
+        Printed { fault: refusal.fault, place: refusal.place, bytes: 0 }
     }
 }

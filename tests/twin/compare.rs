@@ -16,13 +16,14 @@ pub enum Call {
     JudgeModel,
     JudgeRows,
     Fill,
+    Sheet,
 }
 
-const CALLS: [Call; 6] = [Call::CheckBytes, Call::Check, Call::Translate, Call::JudgeModel, Call::JudgeRows, Call::Fill];
+const CALLS: [Call; 7] = [Call::CheckBytes, Call::Check, Call::Translate, Call::JudgeModel, Call::JudgeRows, Call::Fill, Call::Sheet];
 
 impl Call {
     fn name(self) -> &'static str {
-        ["check-bytes", "check", "translate", "judge-model", "judge-rows", "fill"][self as usize]
+        ["check-bytes", "check", "translate", "judge-model", "judge-rows", "fill", "sheet"][self as usize]
     }
 
     /// The faults that the call meets (01, below the numbered faults; 02, 18 "in all five calls").
@@ -33,6 +34,7 @@ impl Call {
             Call::JudgeModel => matches!(fault, 1..=11 | 15 | 18),
             Call::JudgeRows => matches!(fault, 1..=5 | 9..=11 | 14 | 15 | 17 | 18),
             Call::Fill => matches!(fault, 1..=16 | 18),
+            Call::Sheet => matches!(fault, 1..=5 | 9..=11 | 14 | 16..=18),
         }
     }
 
@@ -135,10 +137,11 @@ pub struct Comparer {
     values: Guarded<i32>,
     out_words: [Guarded<u32>; 2],
     out_values: [Guarded<i32>; 2],
+    out_bytes: [Guarded<u8>; 2],
     calls: u64,
     families: BTreeMap<&'static str, u64>,
-    faults: [[u64; FAULTS + 1]; 6],
-    answers: [[u64; 4]; 6],
+    faults: [[u64; FAULTS + 1]; CALLS.len()],
+    answers: [[u64; 4]; CALLS.len()],
     /// For each code: its constraints in accepted models, in models that hold, and those named as false.
     codes: [[u64; 3]; CODES + 1],
 }
@@ -154,10 +157,11 @@ impl Comparer {
             values: Guarded::new(),
             out_words: [Guarded::new(), Guarded::new()],
             out_values: [Guarded::new(), Guarded::new()],
+            out_bytes: [Guarded::new(), Guarded::new()],
             calls: 0,
             families: BTreeMap::new(),
-            faults: [[0; FAULTS + 1]; 6],
-            answers: [[0; 4]; 6],
+            faults: [[0; FAULTS + 1]; CALLS.len()],
+            answers: [[0; 4]; CALLS.len()],
             codes: [[0; 3]; CODES + 1],
         }
     }
@@ -170,7 +174,7 @@ impl Comparer {
         self.family = input.family;
         let null = index % 2 == 1;
         (self.words.null, self.bytes.null, self.values.null) = (null, null, null);
-        (self.out_words[0].null, self.out_values[0].null) = (null, null);
+        (self.out_words[0].null, self.out_values[0].null, self.out_bytes[0].null) = (null, null, null);
         *self.families.entry(input.family).or_default() += 1;
         // Some words go to the calls of the other form as well.
         let both = random.one_in(16);
@@ -239,6 +243,9 @@ impl Comparer {
         let lists = inputs::value_lists(random, words, values);
         for (at, values) in lists.iter().enumerate() {
             self.judge_rows(words, values, at == 0);
+        }
+        if words.len() < 5_000 || words.len() > twin::ROW_WORDS || random.one_in(4) {
+            self.sheet(random, words);
         }
     }
 
@@ -323,6 +330,22 @@ impl Comparer {
         }
         self.count(Call::Fill, twin.fault, twin.said);
         twin
+    }
+
+    /// Sheet into a page that is too short, of the right length or longer; the words are lent.
+    fn sheet(&mut self, random: &mut Random, words: &[u32]) {
+        let needed = twin::printed(words).map_or(0, |page| page.len());
+        let room = random.pick(&[needed, needed, needed + 1, needed + 81, needed.saturating_sub(1), needed.saturating_sub(81), 0]);
+        let [ours, theirs] = &mut self.out_bytes;
+        ours.set_room(room);
+        theirs.set_room(room);
+        let library = library::sheet(self.words.lend(), ours.lend());
+        let twin = twin::sheet(words, theirs.list_mut());
+        if library != twin || ours.all != theirs.all || !self.words.unchanged(words) {
+            let outputs = first_difference(&ours.all, &theirs.all);
+            self.differ(Call::Sheet, words, &[], Some(room), self.told(&library, &twin, words, &[]) + &outputs);
+        }
+        self.count(Call::Sheet, twin.fault, u32::from(twin.fault == 0));
     }
 
     fn told(&self, library: &impl Debug, twin: &impl Debug, words: &[u32], values: &[i32]) -> String {

@@ -995,7 +995,7 @@ fn small_rows(random: &mut Random) -> Pair {
             0 => rows.variable(AUX_LOWER),
             1 => rows.product(aimed || rows.values.is_empty()),
             _ => {
-                let terms = rows.random.below(5);
+                let terms = if rows.random.one_in(4) { rows.random.below(14) } else { rows.random.below(5) };
                 rows.row(terms, aimed);
             }
         }
@@ -1062,11 +1062,12 @@ fn limit_rows(random: &mut Random) -> Pair {
 
 fn near_row_words(random: &mut Random) -> Pair {
     let size = ROW_WORDS - 1 + random.below(3);
-    sized_rows(random, size)
+    let short = random.one_in(2);
+    sized_rows(random, size, if short { 1 } else { ROW_TERMS as usize })
 }
 
-/// A row system of exactly so many words, at least 16, with rows of up to 66 terms that its values satisfy.
-fn sized_rows(random: &mut Random, size: usize) -> Pair {
+/// A row system of exactly so many words, at least 16, with rows of up to so many terms that its values satisfy.
+fn sized_rows(random: &mut Random, size: usize, longest: usize) -> Pair {
     let mut rows = Rows { random, words: vec![], values: vec![] };
     for _ in 0..4 {
         let (lower, upper) = Bounds::Index.choose(rows.random);
@@ -1078,7 +1079,7 @@ fn sized_rows(random: &mut Random, size: usize) -> Pair {
         rows.boolean();
     }
     while rows.words.len() + 1 < size {
-        let most = ((size - 1 - rows.words.len()) / 2 - 1).min(ROW_TERMS as usize);
+        let most = ((size - 1 - rows.words.len()) / 2 - 1).min(longest);
         let terms = if most == ROW_TERMS as usize && rows.random.below(8) > 0 { most } else { rows.random.below(most + 1) };
         small_satisfied_row(&mut rows, terms);
     }

@@ -1,11 +1,11 @@
 //! The calls of include/pearrummy.h, linked from target/staticlib/libhost.a.
 
-use crate::answers::{Counts, Judgement, Written};
+use crate::answers::{Counts, Judgement, Printed, Written};
 use std::marker::PhantomData;
 use std::ptr::null_mut;
 
 mod raw {
-    use super::{Counts, Judgement, Written};
+    use super::{Counts, Judgement, Printed, Written};
 
     extern "C" {
         pub fn pearrummy_check_bytes(bytes: *const u8, bytes_count: usize) -> u32;
@@ -21,6 +21,7 @@ mod raw {
             out: *mut i32,
             out_count: usize,
         ) -> Judgement;
+        pub fn pearrummy_sheet(words: *const u32, words_count: usize, page: *mut u8, page_count: usize) -> Printed;
     }
 }
 
@@ -67,4 +68,8 @@ pub fn judge_rows(words: Lent<u32>, values: Lent<i32>) -> Judgement {
 
 pub fn fill(words: Lent<u32>, values: Lent<i32>, out: Lent<i32>) -> Judgement {
     unsafe { raw::pearrummy_fill(words.pointer, words.count, values.pointer, values.count, out.pointer, out.count) }
+}
+
+pub fn sheet(words: Lent<u32>, page: Lent<u8>) -> Printed {
+    unsafe { raw::pearrummy_sheet(words.pointer, words.count, page.pointer, page.count) }
 }

@@ -1,9 +1,9 @@
-//! Documents 01 and 02 in plain Rust: check over words and over bytes, translate, judge-model, judge-rows and fill.
+//! Documents 01 and 02 in plain Rust: check over words and over bytes, translate, judge-model, judge-rows, fill and sheet.
 //!
 //! It is written from the documents alone and shares nothing with the proved code, so that the two can be compared. Nothing here panics: every
 //! index is tested by the reading that comes first, and numbers that may leave 32 bits are 64 bits wide (the largest is 33 × 2^54).
 
-use crate::answers::{Counts, Judgement, Refusal, Written, FALSE, HOLDS, OUT_OF_BOUNDS};
+use crate::answers::{Counts, Judgement, Printed, Refusal, Written, FALSE, HOLDS, OUT_OF_BOUNDS};
 use std::ops::Range;
 
 // The limits (01, Numbered faults; 02, wishes 10 and 13).
@@ -485,9 +485,10 @@ fn element(list: &[u32], index: i64) -> Option<&u32> {
 
 // ------------------------------------------------------------------------------------------------------------------------------ row blocks
 
-/// What takes the parts of a block in order: `Measure` counts them, `Writer` writes them.
+/// What takes the parts of a block, or of a row system, in order: `Measure` counts them, `Writer` writes them, `RowJudge` judges them.
 trait Sink {
-    fn auxiliary(&mut self, lower: i64, upper: i64);
+    /// An auxiliary; of a row system also a source.
+    fn variable(&mut self, lower: i64, upper: i64);
     fn row(&mut self, kind: u32, terms: usize);
     fn term(&mut self, variable: usize, coefficient: i64);
     fn constant(&mut self, constant: i64);
@@ -509,12 +510,12 @@ trait Sink {
 
     /// An auxiliary in 0..1.
     fn bit(&mut self) {
-        self.auxiliary(0, 1);
+        self.variable(0, 1);
     }
 
     /// An auxiliary in Z(v), v having the bounds given.
     fn with_zero(&mut self, lower: i64, upper: i64) {
-        self.auxiliary(lower.min(0), upper.max(0));
+        self.variable(lower.min(0), upper.max(0));
     }
 }
 
@@ -680,7 +681,7 @@ fn block(constraint: &Constraint, variables: &[Variable], n: usize, encodings: &
         6 => sink.whole_row(EQUAL, [(a, 1), (b, 1), (c, -1)], 0),
         7 => {
             let (least, largest) = end_products((lo(a), hi(a)), (lo(b), hi(b)));
-            sink.auxiliary(least, largest);
+            sink.variable(least, largest);
             sink.product(n, a, b);
             sink.whole_row(EQUAL, [(n, 1), (c, -1)], 0);
         }
@@ -740,7 +741,7 @@ fn block(constraint: &Constraint, variables: &[Variable], n: usize, encodings: &
         15 => {
             let (x, r) = (n, a);
             let (least, largest) = constraint.least_and_largest(variables);
-            sink.auxiliary(least, largest);
+            sink.variable(least, largest);
             sum_row(constraint, EQUAL, Some(x), sink);
             sink.whole_row(AT_MOST, [(x, 1), (r, largest)], -largest);
             sink.whole_row(AT_MOST, [(x, -1), (r, least - 1)], 1);
@@ -785,7 +786,7 @@ fn block(constraint: &Constraint, variables: &[Variable], n: usize, encodings: &
         }
         23 => {
             let (list, t) = (constraint.list, n);
-            sink.auxiliary(0, if list.is_empty() { 0 } else { (list.len() as i64 - 1) / 2 });
+            sink.variable(0, if list.is_empty() { 0 } else { (list.len() as i64 - 1) / 2 });
             sink.row(EQUAL, list.len() + 1);
             list.iter().for_each(|&word| sink.term(number(word), 1));
             sink.term(t, -2);
@@ -850,7 +851,7 @@ fn block(constraint: &Constraint, variables: &[Variable], n: usize, encodings: &
         }
         38 => {
             let largest = lo(a).abs().max(hi(a).abs());
-            sink.auxiliary(-largest, largest);
+            sink.variable(-largest, largest);
             let bounds = [(lo(a), hi(a)), (lo(b), hi(b)), (-largest, largest)];
             division(a, b, n, bounds, n + 1, sink);
             let p = n + 3;
@@ -865,7 +866,7 @@ fn block(constraint: &Constraint, variables: &[Variable], n: usize, encodings: &
             let cut = |bound: i64| bound.clamp(2 * LEAST, 2 * LARGEST);
             power((lo(x), hi(x)), k, &mut |first, second| {
                 let (least, largest) = end_products(first, second);
-                sink.auxiliary(least, largest);
+                sink.variable(least, largest);
                 (cut(least), cut(largest))
             });
             let mut results = n..;
@@ -890,7 +891,7 @@ fn sum_row(constraint: &Constraint, kind: u32, x: Option<usize>, sink: &mut impl
 
 /// The auxiliaries of codes 12 to 14, 31 and 32: x in L..U, b, z in Z(x).
 fn absolute_auxiliaries(least: i64, largest: i64, sink: &mut impl Sink) {
-    sink.auxiliary(least, largest);
+    sink.variable(least, largest);
     sink.bit();
     sink.with_zero(least, largest);
 }
@@ -942,7 +943,7 @@ fn division(n: usize, d: usize, q: usize, bounds: [(i64, i64); 3], first: usize,
     let (alpha, beta, p, gamma) = (first, first + 1, first + 2, first + 3);
     sink.bit();
     sink.bit();
-    sink.auxiliary(p_lo, p_hi);
+    sink.variable(p_lo, p_hi);
     sink.bit();
     sink.product(p, d, q);
     sink.product(gamma, alpha, beta);
@@ -1055,7 +1056,7 @@ impl Measure {
 }
 
 impl Sink for Measure {
-    fn auxiliary(&mut self, lower: i64, upper: i64) {
+    fn variable(&mut self, lower: i64, upper: i64) {
         self.auxiliaries += 1;
         self.words += 2;
         self.number(lower);
@@ -1104,7 +1105,7 @@ impl Writer<'_> {
 }
 
 impl Sink for Writer<'_> {
-    fn auxiliary(&mut self, lower: i64, upper: i64) {
+    fn variable(&mut self, lower: i64, upper: i64) {
         self.auxiliaries += 1;
         self.write([word(AUX_LOWER, lower), word(AUX_UPPER, upper)]);
     }
@@ -1400,22 +1401,14 @@ fn fill_block(constraint: &Constraint, variables: &[Variable], values: &[i32], s
 
 // ------------------------------------------------------------------------------------------------------------------------------ row systems
 
-/// Judge-rows: whether the values keep the bounds and satisfy every row and product.
-pub fn judge_rows(words: &[u32], values: &[i32]) -> Judgement {
-    try_judge_rows(words, values).unwrap_or_else(Judgement::from)
-}
-
-/// Reads and judges in one pass: a number that is not lent counts as 0, since fault 15 follows.
-fn try_judge_rows(words: &[u32], values: &[i32]) -> Result<Judgement, Refusal> {
+/// Reads a row system: faults 1 to 5, 9 to 11, 14, 17 and 18. Gives its parts to a sink as they are read; answers the number of variables.
+fn read_rows(words: &[u32], sink: &mut impl Sink) -> Result<usize, Refusal> {
     if words.len() > ROW_WORDS {
         return refusal(1, 0);
     }
     let mut at = 0;
     let mut declared = 0;
-    let mut rows = 0;
     let mut sources = true;
-    let mut out_of_bounds = None;
-    let mut first_false = None;
     loop {
         let Some(&word) = words.get(at) else { return refusal(2, at) };
         match kind(word) {
@@ -1434,65 +1427,46 @@ fn try_judge_rows(words: &[u32], values: &[i32]) -> Result<Judgement, Refusal> {
                     AUX_LOWER => bound_pair(words, at, AUX_UPPER)?,
                     _ => (0, 1),
                 };
-                let value = value_of(values, declared);
-                if out_of_bounds.is_none() && !(i64::from(lower)..=i64::from(upper)).contains(&value) {
-                    out_of_bounds = Some(declared);
-                }
+                sink.variable(i64::from(lower), i64::from(upper));
                 sources &= first != AUX_LOWER;
                 declared += 1;
                 at += if first == BOOLEAN { 1 } else { 2 };
             }
             form @ (AT_MOST | EQUAL | PRODUCT) => {
-                let (satisfied, next) = if form == PRODUCT { product(words, at, declared, values)? } else { row(words, at, declared, values)? };
-                if first_false.is_none() && !satisfied {
-                    first_false = Some(rows);
-                }
+                at = if form == PRODUCT { read_product(words, at, declared, sink)? } else { read_row(words, at, declared, sink)? };
                 sources = false;
-                rows += 1;
-                at = next;
             }
             ROWS_END => {
                 end(words, at)?;
-                break;
+                return Ok(declared);
             }
             _ => return refusal(3, at),
         }
     }
-    if values.len() != declared {
-        return refusal(15, 0);
-    }
-    Ok(judgement(out_of_bounds, first_false))
 }
 
-/// The value of a variable, 0 where none is lent.
-fn value_of(values: &[i32], variable: usize) -> i64 {
-    values.get(variable).map_or(0, |&value| i64::from(value))
-}
-
-/// Whether the row at a place is satisfied, and the place behind it: faults 2, 3, 9, 10 and 18.
-fn row(words: &[u32], head: usize, declared: usize, values: &[i32]) -> Result<(bool, usize), Refusal> {
+/// Reads the row at a place: faults 2, 3, 9, 10 and 18. Answers the place behind it.
+fn read_row(words: &[u32], head: usize, declared: usize, sink: &mut impl Sink) -> Result<usize, Refusal> {
     let terms = payload(words[head]);
     if terms > ROW_TERMS {
         return refusal(9, head);
     }
+    sink.row(kind(words[head]), terms as usize);
     let mut at = head + 1;
-    let mut sum = 0i64;
     for _ in 0..terms {
         let variable = number(expect(words, at, VARIABLE)?);
         if variable >= declared {
             return refusal(10, at);
         }
-        let coefficient = i64::from(expect_signed(words, at + 1, NUMBER)?);
-        // It wraps only where a value is far out of its bounds; then no row is named.
-        sum = sum.wrapping_add(coefficient * value_of(values, variable));
+        sink.term(variable, i64::from(expect_signed(words, at + 1, NUMBER)?));
         at += 2;
     }
-    sum = sum.wrapping_add(i64::from(expect_signed(words, at, NUMBER)?));
-    Ok((if kind(words[head]) == EQUAL { sum == 0 } else { sum <= 0 }, at + 1))
+    sink.constant(i64::from(expect_signed(words, at, NUMBER)?));
+    Ok(at + 1)
 }
 
-/// Whether the product at a place is satisfied, and the place behind it: faults 2, 3, 5, 10 and 17.
-fn product(words: &[u32], head: usize, declared: usize, values: &[i32]) -> Result<(bool, usize), Refusal> {
+/// Reads the product at a place: faults 2, 3, 5, 10 and 17. Answers the place behind it.
+fn read_product(words: &[u32], head: usize, declared: usize, sink: &mut impl Sink) -> Result<usize, Refusal> {
     if payload(words[head]) > 0 {
         return refusal(5, head);
     }
@@ -1505,13 +1479,149 @@ fn product(words: &[u32], head: usize, declared: usize, values: &[i32]) -> Resul
             return refusal(17, head + 1);
         }
     }
-    let mut factors = [0i64; 2];
+    let mut factors = [0; 2];
     for (at, factor) in (head + 2..).zip(&mut factors) {
-        let variable = number(expect(words, at, VARIABLE)?);
-        if variable >= declared {
+        *factor = number(expect(words, at, VARIABLE)?);
+        if *factor >= declared {
             return refusal(10, at);
         }
-        *factor = value_of(values, variable);
     }
-    Ok((value_of(values, result) == factors[0] * factors[1], head + 4))
+    sink.product(result, factors[0], factors[1]);
+    Ok(head + 4)
+}
+
+/// Judges variables, rows and products as they come. A value that is not lent counts as 0, since fault 15 follows.
+struct RowJudge<'a> {
+    values: &'a [i32],
+    variables: usize,
+    rows: usize,
+    out_of_bounds: Option<usize>,
+    first_false: Option<usize>,
+    kind: u32,
+    sum: i64,
+}
+
+impl RowJudge<'_> {
+    fn value(&self, variable: usize) -> i64 {
+        self.values.get(variable).map_or(0, |&value| i64::from(value))
+    }
+
+    fn judged(&mut self, satisfied: bool) {
+        if self.first_false.is_none() && !satisfied {
+            self.first_false = Some(self.rows);
+        }
+        self.rows += 1;
+    }
+}
+
+impl Sink for RowJudge<'_> {
+    fn variable(&mut self, lower: i64, upper: i64) {
+        if self.out_of_bounds.is_none() && !(lower..=upper).contains(&self.value(self.variables)) {
+            self.out_of_bounds = Some(self.variables);
+        }
+        self.variables += 1;
+    }
+
+    fn row(&mut self, kind: u32, _terms: usize) {
+        (self.kind, self.sum) = (kind, 0);
+    }
+
+    fn term(&mut self, variable: usize, coefficient: i64) {
+        // It wraps only where a value is far out of its bounds; then no row is named.
+        self.sum = self.sum.wrapping_add(coefficient * self.value(variable));
+    }
+
+    fn constant(&mut self, constant: i64) {
+        let sum = self.sum.wrapping_add(constant);
+        self.judged(if self.kind == EQUAL { sum == 0 } else { sum <= 0 });
+    }
+
+    fn product(&mut self, result: usize, first: usize, second: usize) {
+        self.judged(self.value(result) == self.value(first) * self.value(second));
+    }
+}
+
+/// Judge-rows: whether the values keep the bounds and satisfy every row and product.
+pub fn judge_rows(words: &[u32], values: &[i32]) -> Judgement {
+    let mut judge = RowJudge { values, variables: 0, rows: 0, out_of_bounds: None, first_false: None, kind: EQUAL, sum: 0 };
+    match read_rows(words, &mut judge) {
+        Err(refusal) => refusal.into(),
+        Ok(variables) if variables != values.len() => Refusal { fault: 15, place: 0 }.into(),
+        Ok(_) => judgement(judge.out_of_bounds, judge.first_false),
+    }
+}
+
+// ---------------------------------------------------------------------------------------------------------------------------------- sheet
+
+/// The lines of a printed row system (02, wish 3).
+#[derive(Default)]
+struct Page {
+    text: String,
+    /// The line that is begun, without the blanks at its end.
+    line: String,
+    rows: usize,
+    terms: usize,
+}
+
+impl Page {
+    fn begin(&mut self, sign: &str) {
+        self.line = format!("{:>6}{sign}", self.rows);
+        self.rows += 1;
+        self.terms = 0;
+    }
+
+    /// Closes the line that is begun with blanks up to 80 columns and a line feed.
+    fn close(&mut self) {
+        self.text += &format!("{:<80}\n", self.line);
+    }
+}
+
+impl Sink for Page {
+    fn variable(&mut self, _lower: i64, _upper: i64) {}
+
+    fn row(&mut self, kind: u32, _terms: usize) {
+        self.begin(if kind == EQUAL { "= " } else { "<=" });
+    }
+
+    fn term(&mut self, variable: usize, coefficient: i64) {
+        if self.terms == 3 {
+            self.close();
+            (self.line, self.terms) = (" ".repeat(8), 0);
+        }
+        self.line += &format!("{coefficient:>10} v{variable:<11}");
+        self.terms += 1;
+    }
+
+    fn constant(&mut self, constant: i64) {
+        self.close();
+        self.line = format!("{constant:>80}");
+        self.close();
+    }
+
+    fn product(&mut self, result: usize, first: usize, second: usize) {
+        self.begin(":=");
+        [result, first, second].into_iter().for_each(|variable| self.term(variable, 1));
+        self.constant(0);
+    }
+}
+
+/// The sheet of a row system, or its fault of those that judge-rows meets but 15.
+pub fn printed(words: &[u32]) -> Result<String, Refusal> {
+    let mut page = Page::default();
+    read_rows(words, &mut page)?;
+    Ok(page.text)
+}
+
+/// Sheet: prints a row system to the front of a page.
+pub fn sheet(words: &[u32], page: &mut [u8]) -> Printed {
+    match printed(words) {
+        Err(refusal) => refusal.into(),
+        Ok(text) => match page.get_mut(..text.len()) {
+            None => Refusal { fault: 16, place: 0 }.into(),
+            Some(front) => {
+                front.copy_from_slice(text.as_bytes());
+                Printed { fault: 0, place: 0, bytes: text.len() }
+            }
+        },
+    }
 }

@@ -39,7 +39,16 @@ fn answer(call: &str, words: &mut [u32], values: &mut [i32], room: usize, librar
         }
         "judge_model" => judged(if library { library::judge_model(Lent::new(words), Lent::new(values)) } else { twin::judge_model(words, values) }),
         "judge_rows" => judged(if library { library::judge_rows(Lent::new(words), Lent::new(values)) } else { twin::judge_rows(words, values) }),
-        _ => {
+        "sheet" => {
+            let mut page = vec![0; room];
+            let printed = if library { library::sheet(Lent::new(words), Lent::new(&mut page)) } else { twin::sheet(words, &mut page) };
+            match (printed.fault, printed.bytes) {
+                (0, 0) => "bytes".into(),
+                (0, bytes) => listed("bytes", [page[..bytes].iter().map(|byte| format!("{byte:02X}")).collect::<String>()]),
+                (fault, _) => format!("refused {fault} {}", printed.place),
+            }
+        }
+        "fill" => {
             let mut out = vec![0; room];
             let filled =
                 if library { library::fill(Lent::new(words), Lent::new(values), Lent::new(&mut out)) } else { twin::fill(words, values, &mut out) };
@@ -49,6 +58,7 @@ fn answer(call: &str, words: &mut [u32], values: &mut [i32], room: usize, librar
                 judged(filled)
             }
         }
+        _ => "an unknown call".into(),
     }
 }
 

@@ -1,8 +1,9 @@
--- The struct that a call hands a host for each answer of 01. Fields without a use are 0, and so are all of an answer that the call never gives.
+-- The struct that a call hands a host for each answer of 01 and 02. Fields without a use are 0, and so are all of an answer that the call never gives.
 use Prim.Native.Nat.{ℕ}
 use Rattle.words.specs.Answer.{Answer, refused, counts, written, holds, outOfBounds, isFalse}
 use Rattle.host.specs.declared.Counts.{Counts}
 use Rattle.host.specs.declared.Judgement.{Judgement}
+use Rattle.host.specs.declared.Printed.{Printed}
 use Rattle.host.specs.declared.Written.{Written}
 
 -- Of the judges and of fill, by what is said: 0 refused, 1 holds (in fill, `at` is how many values it wrote), 2 out of bounds, 3 false.
@@ -37,3 +38,15 @@ writtenOf (counts v c a r w) = noWords 0 0
 writtenOf holds = noWords 0 0
 writtenOf (outOfBounds i) = noWords 0 0
 writtenOf (isFalse i) = noWords 0 0
+
+-- Of sheet.
+abbrev pub noBytes : ℕ → ℕ → Printed
+noBytes n p = record { fault = n; place = p; bytes = 0 }
+
+unfoldable pub printedOf : Answer → Printed
+printedOf (refused n p) = noBytes n p
+printedOf (written n) = record { fault = 0; place = 0; bytes = n }
+printedOf (counts v c a r w) = noBytes 0 0
+printedOf holds = noBytes 0 0
+printedOf (outOfBounds i) = noBytes 0 0
+printedOf (isFalse i) = noBytes 0 0

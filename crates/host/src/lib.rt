@@ -1,4 +1,4 @@
-// Calls for a host written in C: the five calls over lists of words and values, and check over bytes.
+// Calls for a host written in C: the calls over lists of words, values and bytes, and check over bytes.
 ghost use mathlib.Core.Path.{_≡_};
 ghost use lib.ListN.{length};
 ghost use Rattle.words.specs.Answer.{refusalNumber};
@@ -8,6 +8,8 @@ ghost use Rattle.rowsystems.specs.JudgeRows.{judgeRows};
 ghost use Rattle.rules.specs.Check.{check as checkAnswer};
 ghost use Rattle.rules.specs.Translate.{translate as translateAnswer, translated};
 ghost use Rattle.rules.specs.Fill.{fill as fillAnswer, filled};
+ghost use Rattle.sheets.specs.Printed.{printed};
+ghost use Rattle.sheets.specs.Sheet.{sheet as sheetAnswer, sheetPage};
 ghost use Rattle.translation.specs.Checked.{checked};
 ghost use Rattle.translation.specs.Shares.{Shares};
 ghost use Rattle.translation.specs.Written.{wrote};
@@ -15,12 +17,13 @@ ghost use Rattle.filling.specs.Filled.{handed};
 ghost use Rattle.filling.specs.HandsOver.{HandsOver};
 ghost use Rattle.filling.specs.Satisfied.{Satisfied};
 ghost use Rattle.host.specs.Bytes.{checkBytes};
-ghost use Rattle.host.specs.Structs.{countsOf, judgementOf, writtenOf};
+ghost use Rattle.host.specs.Structs.{countsOf, judgementOf, printedOf, writtenOf};
 use encoding::words_of_bytes;
 use filling::Filled;
 use filling::fill;
 use modeljudge::judge_model;
 use rowjudge::judge_rows;
+use sheets::sheet;
 use translation::Checked;
 use translation::check;
 use translation::translate;
@@ -54,6 +57,14 @@ pub struct Written {
     pub fault: u32,
     pub place: usize,
     pub words: usize,
+}
+
+// What sheet answers a host: how many bytes it wrote, or a fault and its place.
+#[repr(C)]
+pub struct Printed {
+    pub fault: u32,
+    pub place: usize,
+    pub bytes: usize,
 }
 
 // A judge's answer for a host.
@@ -178,6 +189,24 @@ fn written_of(w: translation::Written) -> Written
     }
 }
 
+// Sheet's answer for a host.
+fn printed_of(p: sheets::Printed) -> Printed
+    ensures { λ r. ⌜ r ≡ printedOf (printed p) ⌝ }
+{
+    match p {
+        sheets::Printed::Refused(r) => Printed {
+            fault: r.number,
+            place: r.place,
+            bytes: 0,
+        },
+        sheets::Printed::Bytes(n) => Printed {
+            fault: 0,
+            place: 0,
+            bytes: n,
+        },
+    }
+}
+
 // Check over bytes, four to a word, the lowest first, 1 to 3 spare bytes left off: the number of the refusal, 0 if accepted.
 #[no_mangle]
 pub extern "C" fn pearrummy_check_bytes(bytes: &[u8]) -> u32
@@ -234,4 +263,13 @@ pub extern "C" fn pearrummy_fill(words: &[u32], values: &[i32], out: &mut [i32])
     ensures completes { λ r. ⌜ HandsOver (now (words .entry)) (now (values .entry)) (fillAnswer (now (words .entry)) (now (values .entry)) (length (now (out .entry)))) (now (out .entry)) (now (out .exit)) ⌝ }
 {
     filled_of(fill(words, values, out))
+}
+
+// Sheet; the lines of the rows go to the front of the page.
+#[no_mangle]
+pub extern "C" fn pearrummy_sheet(words: &[u32], page: &mut [u8]) -> Printed
+    ensures answer { λ r. ⌜ r ≡ printedOf (sheetAnswer (now (words .entry)) (length (now (page .entry)))) ⌝ }
+    ensures page { λ r. ⌜ now (page .exit) ≡ sheetPage (now (words .entry)) (now (page .entry)) ⌝ }
+{
+    printed_of(sheet(words, page))
 }

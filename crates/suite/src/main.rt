@@ -1,4 +1,4 @@
-// Runs recorded cases of the five calls, one after the other, from standard input, and prints the answer of each on a line.
+// Runs recorded cases of the calls, one after the other, from standard input, and prints the answer of each on a line.
 // A case is numbers of 32 bits, the lowest byte first: the call, the room, how many words, how many values, the words, the values.
 // A call that writes is lent the front of a longer list, as long as the room; what it may not write is looked at afterwards.
 ghost use Prim.Native.Nat.{_≤_};
@@ -7,14 +7,17 @@ use input::Head;
 use input::next_head;
 use input::read_values;
 use input::read_words;
+use lent::mark_bytes;
 use lent::mark_values;
 use lent::mark_words;
 use modeljudge::judge_model;
 use output::print_checked;
 use output::print_filled;
+use output::print_printed;
 use output::print_verdict;
 use output::print_written;
 use rowjudge::judge_rows;
+use sheets::sheet;
 use translation::check;
 use translation::translate;
 
@@ -33,6 +36,8 @@ const JUDGE_ROWS: u32 = 4;
 
 const FILL: u32 = 5;
 
+const SHEET: u32 = 6;
+
 // The lesser of two counts.
 fn at_most(n: usize, most: usize) -> usize
     ensures { λ r. ⌜ r ≤ most ⌝ }
@@ -45,6 +50,20 @@ fn answer_rows(rows: &[u32], n: usize, values: &[i32], m: usize) {
     let k = at_most(n, rows.len());
     let l = at_most(m, values.len());
     print_verdict(judge_rows(&rows[..k], &values[..l]));
+}
+
+// Sheet to the front of a page.
+fn answer_page(words: &[u32], page: &mut [u8], room: usize) {
+    mark_bytes(page);
+    let k = at_most(room, page.len());
+    let answer = sheet(words, &mut page[..k]);
+    print_printed(answer, page);
+}
+
+// The same, the words at the front of a list.
+fn answer_sheet(rows: &[u32], n: usize, page: &mut [u8], room: usize) {
+    let k = at_most(n, rows.len());
+    answer_page(&rows[..k], page, room);
 }
 
 // Translate into the front of a list.
@@ -93,13 +112,25 @@ fn answer_model(head: Head, model: &[u32], values: &[i32], rows: &mut [u32], fil
 }
 
 // Reads the rest of a case and answers it. The list of row words is read to or written to, as the call asks.
-fn answer(head: Head, model: &mut [u32], rows: &mut [u32], values: &mut [i32], filled: &mut [i32]) {
+fn answer(
+    head: Head,
+    model: &mut [u32],
+    rows: &mut [u32],
+    values: &mut [i32],
+    filled: &mut [i32],
+    page: &mut [u8],
+) {
     let n = head.words;
     let m = head.values;
     if head.call == JUDGE_ROWS {
         read_words(rows, n);
         read_values(values, m);
         answer_rows(rows, n, values, m);
+        return;
+    }
+    if head.call == SHEET {
+        read_words(rows, n);
+        answer_sheet(rows, n, page, head.room);
         return;
     }
     read_words(model, n);
@@ -113,13 +144,21 @@ fn main() {
     let mut rows = [0u32; 262200];
     let mut values = [0i32; 4200];
     let mut filled = [0i32; 4200];
+    let mut page = [0u8; 8192];
     let mut left: usize = 1000000;
     while 0 < left {
         let head = next_head();
         if !head.there {
             return;
         }
-        answer(head, &mut model, &mut rows, &mut values, &mut filled);
+        answer(
+            head,
+            &mut model,
+            &mut rows,
+            &mut values,
+            &mut filled,
+            &mut page,
+        );
         left -= 1;
     }
 }

@@ -1,8 +1,10 @@
 // Prints answers, each on a line; a line ends in " changed" where a call wrote what it may not write.
+use crate::lent::marked_bytes;
 use crate::lent::marked_values;
 use crate::lent::marked_words;
 use filling::Filled;
 use hexadecimal::digits_of;
+use sheets::Printed;
 use translation::Checked;
 use translation::Written;
 use words::Refusal;
@@ -41,6 +43,32 @@ fn print_words(words: &[u32], n: usize) {
     while i < n {
         print_word(word_at(words, i));
         i += 1;
+    }
+}
+
+// A byte, as two hexadecimal digits.
+fn print_byte(b: u8) {
+    let digits = digits_of(b as u32);
+    let pair = [digits[6], digits[7]];
+    io::write_all(1, &pair);
+}
+
+// The first n bytes of a page.
+fn print_bytes(page: &[u8], n: usize) {
+    let mut i = 0;
+    while i < n {
+        if i < page.len() {
+            print_byte(page[i]);
+        }
+        i += 1;
+    }
+}
+
+// What stands before so many bytes: a blank where there are any.
+fn print_before(n: usize) {
+    io::write_all(1, b"bytes");
+    if 0 < n {
+        io::write_all(1, b" ");
     }
 }
 
@@ -133,6 +161,21 @@ pub fn print_filled(answer: Filled, out: &[i32]) {
         Filled::False(i) => {
             print_one(b"false ", i);
             print_end(marked_values(out, 0));
+        }
+    }
+}
+
+// Sheet's answer; the page whose front was lent.
+pub fn print_printed(answer: Printed, page: &[u8]) {
+    match answer {
+        Printed::Refused(r) => {
+            print_refusal(r);
+            print_end(marked_bytes(page, 0));
+        }
+        Printed::Bytes(n) => {
+            print_before(n);
+            print_bytes(page, n);
+            print_end(marked_bytes(page, n));
         }
     }
 }

@@ -8,7 +8,7 @@ use Rattle.words.specs.Answer.{refusalNumber}
 use Rattle.encoding.specs.Bytes.{bytesWords}
 use Rattle.encoding.proofs.Words.{quarter}
 use Rattle.rules.specs.Check.{check}
-use Rattle.translation.proofs.Over.{front-over}
+use Rattle.words.proofs.Overlay.{front-over}
 use Rattle.host.specs.Bytes.{checkBytes}
 use Rattle.host.proofs.Refused.{too-many}
 use Rattle.host.proofs.pearrummy_check_bytes.Statement.{statement}

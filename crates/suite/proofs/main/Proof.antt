@@ -6,11 +6,11 @@ use Rattle.suite.proofs.main.Statement.{statement}
 use Rattle.suite.proofs.main.Tie as tie
 
 abbrev Inv-loop : tie.InvT-loop
-Inv-loop model₀ rows₀ values₀ filled₀ left₀ model rows values filled left =
-    (length model ≡ 8200) × (length rows ≡ 262200) × (length values ≡ 4200) × (length filled ≡ 4200)
+Inv-loop model₀ rows₀ values₀ filled₀ page₀ left₀ model rows values filled page left =
+    (length model ≡ 8200) × (length rows ≡ 262200) × (length values ≡ 4200) × (length filled ≡ 4200) × (length page ≡ 8192)
 
 abbrev μ-loop : tie.MeasureT-loop
-μ-loop model₀ rows₀ values₀ filled₀ left₀ model rows values filled left = left
+μ-loop model₀ rows₀ values₀ filled₀ page₀ left₀ model rows values filled page left = left
 
 pub main-spec : {M : Type 1} → statement M
 main-spec =
@@ -20,6 +20,7 @@ main-spec =
     μ-loop
     (λ c. search needs)
     (λ c κs. search needs)
+    (λ c. search needs)
     (λ c. search needs)
     (λ c. search needs)
     (λ c. search needs)
