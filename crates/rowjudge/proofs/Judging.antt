@@ -68,7 +68,7 @@ pub begun : (ws : List ℕ) (vs : List ℤ) → Judging ws vs 0 0 true 0 0
 begun ws vs = record { few = omega arith; kept = record { few = omega arith; rest = refl }; counted = record { few = omega arith; number = omega arith }; known = (omega arith, λ x h. absurd (omega arith)); told = refl }
 
 -- words that start nothing start no row
-plain-rows : (ws : List ℕ) (a b : ℕ) → Plain ws a b → a ≤ b → b ≤ length ws → rows (drop a ws) ≡ rows (drop b ws)
+pub plain-rows : (ws : List ℕ) (a b : ℕ) → Plain ws a b → a ≤ b → b ≤ length ws → rows (drop a ws) ≡ rows (drop b ws)
 unfolding wordAt startsKind startsRow
 plain-rows ws = along ws rows (λ a h e. let k = kind (wordAt ws a) in starts-none ws a h (or-false ((eqb k Kind.lower || eqb k Kind.auxiliaryLower) || eqb k Kind.boolean) ((eqb k Kind.atMost || eqb k Kind.equal) || eqb k Kind.product) e .1))
 

@@ -23,7 +23,7 @@ use words::limit;
 use words::value_at;
 use words::word_at;
 
-mod items;
+pub mod items;
 
 // The refusal of the words, else of the number of values, else what is judged.
 fn answer(read: Refusal, as_many: bool, judged: Verdict) -> Verdict

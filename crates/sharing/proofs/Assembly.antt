@@ -29,7 +29,7 @@ use Rattle.sharing.proofs.Formed.{Formed}
 use Rattle.sharing.proofs.Gates.{keeps-append, are-append, from-append}
 use Rattle.sharing.proofs.OneHot.{From}
 use Rattle.sharing.proofs.Encoding.{Held, held-after, Coded, coded-own}
-use Rattle.sharing.proofs.Choices.{View, view, shared-sound, shared-determined, shared-complete, shared-filled, same-meaning, same-pick}
+use Rattle.sharing.proofs.Choices.{View, view, shared-sound, shared-determined, shared-complete, shared-coded, shared-filled, same-meaning, same-pick}
 use Rattle.sharing.proofs.ChoicesFormed.{shares-any}
 use Rattle.sharing.proofs.Numbering.{Agrees, rows-agree}
 use Rattle.sharing.proofs.Codes.{laws}
@@ -103,6 +103,18 @@ module _ (β : ℕ → Bounds) (s : ℕ → Bool) (n first : ℕ) (e : Encoded) 
           let g = subst (Good B σ) (sym p) (laws β b .complete σ fits m rest) in
           (g .0, rows-agree agrees (length (B .auxiliaries)) (B .rows) (plain .1) .1 (g .1), still-held h)
 
+  -- the auxiliaries being the picks: the next record holds, whether the builtin is true or not
+  pub one-held : (rest : List ℤ) → own ≡ value (pickAfter β s e σ ch b ++ rest) → Held β ρ (encodedAfter s first e (encodes ch))
+  unfolding pickAfter
+  one-held = go (shares s ch) refl
+    where
+      go : (t : Bool) → shares s ch ≡ t → (rest : List ℤ) → own ≡ value ((sharedPick β e σ ch if t else pick β σ b) ++ rest) →
+          Held β ρ (encodedAfter s first e (encodes ch))
+      go true h rest p =
+          let q : own ≡ value (sharedPick β e ρ ch ++ rest) = p ∙ ap (λ zs. value (zs ++ rest)) (sym (same-pick ρ σ n same β e s seen h ints)) in
+          now-held (λ x m. subst (Coded β e x ρ) (sym q) (shared-coded β e ρ held s seen h fits-all rest x m))
+      go false h rest p = still-held h
+
 -- a pick for each auxiliary
 pub picked : (β : ℕ → Bounds) (s : ℕ → Bool) (e : Encoded) (σ : Valuation) (ch : Choice) (b : Builtin) → length (pickAfter β s e σ ch b) ≡ length (ruleAfter β s e ch b .auxiliaries)
 unfolding ruleAfter pickAfter
@@ -149,6 +161,20 @@ module _ (β : ℕ → Bounds) (s : ℕ → Bool) where
   AllFormed first e [] = Unit {0}
   AllFormed first e (c ∷ cs) = Formed first (blockOf β s e c) × AllFormed (first + size e c) (after first e c) cs
 
+  -- values that are all picks: the first block's, then those of the others
+  pub picks-split : (σ ρ : Valuation) (first : ℕ) (e : Encoded) (c : Constraint) (cs : List Constraint) (rest : List ℤ) →
+      From first ρ (value (picksFrom σ first e (c ∷ cs) ++ rest)) →
+      let more = picksFrom σ (first + size e c) (after first e c) cs ++ rest in
+      _≡_ {A = Valuation} (λ k. ρ (first + k)) (value (pickAfter β s e σ (choice c) (builtin c) ++ more)) × From (first + size e c) ρ (value more)
+  unfolding eachBlock blockOf
+  picks-split σ ρ first e c cs rest a =
+      let l = size e c in
+      let mine = pickAfter β s e σ (choice c) (builtin c) in
+      let later = picksFrom σ (first + l) (after first e c) cs in
+      let b : From first ρ (value (mine ++ (later ++ rest))) = λ j. a j ∙ ap (λ zs. value zs j) (append-assoc mine later rest) in
+      let on : (j : ℕ) → ρ (first + l + j) ≡ ρ (first + (l + j)) = λ j. let q : first + l + j ≡ first + (l + j) = omega arith in ap ρ q in
+      (fun-ext b, λ j. on j ∙ b (l + j) ∙ from-append mine (later ++ rest) l (picked β s e σ (choice c) (builtin c)) j)
+
   module _ (n : ℕ) (ρ σ : Valuation) (same : (v : ℕ) → v < n → ρ v ≡ σ v) where
     pub rows-only : (first : ℕ) (e : Encoded) (cs : List Constraint) → All (Plain β n) cs → AllFormed first e cs → AllFit β σ cs → Held β ρ e →
         Keeps (auxiliariesFrom first e cs) (λ k. ρ (first + k)) → All (Sat ρ) (rowsFrom first e cs) →
@@ -178,11 +204,10 @@ module _ (β : ℕ → Bounds) (s : ℕ → Bool) where
         let l = size e c in
         let next = after first e c in
         let more = picksFrom σ (first + l) next cs ++ rest in
-        let mine = pickAfter β s e σ (choice c) (builtin c) in
-        let b : From first ρ (value (mine ++ more)) = λ j. a j ∙ ap (λ zs. value zs j) (append-assoc mine (picksFrom σ (first + l) next cs) rest) in
-        let o = one-complete β s n first e ρ σ same h (view c) (p .0 .0) (p .0 .1) (p .0 .2) (t .0) (f .0) more (fun-ext b) (m .0) in
+        let q = picks-split σ ρ first e c cs rest a in
+        let o = one-complete β s n first e ρ σ same h (view c) (p .0 .0) (p .0 .1) (p .0 .2) (t .0) (f .0) more (q .0) (m .0) in
         let on : (j : ℕ) → ρ (first + l + j) ≡ ρ (first + (l + j)) = λ j. let q : first + l + j ≡ first + (l + j) = omega arith in ap ρ q in
-        let r = rows-complete (first + l) next cs (p .1) (f .1) (t .1) (o .2) rest (λ j. on j ∙ b (l + j) ∙ from-append mine more l (picked β s e σ (choice c) (builtin c)) j) (m .1) in (
+        let r = rows-complete (first + l) next cs (p .1) (f .1) (t .1) (o .2) rest (q .1) (m .1) in (
           keeps-append (B .auxiliaries) (auxiliariesFrom (first + l) next cs) (λ k. ρ (first + k)) (λ k. ρ (first + l + k)) (λ j. sym (on j)) .1 (o .0, r .0),
           all-append (Sat ρ) (map (rename (numbered first)) (B .rows)) (rowsFrom (first + l) next cs) .1 (o .1, r .1),
         )

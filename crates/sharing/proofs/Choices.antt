@@ -303,6 +303,18 @@ module _ (β : ℕ → Bounds) (e : Encoded) (ρ : Valuation) (held : Held β ρ
   shared-complete s (is-set-reif x S r) h f m rest = set-reif-complete x S r f m rest
   shared-complete s (other b) h f m rest = not-shared s h
 
+  -- the picked bits say the variable's value, whether the builtin is true or not
+  pub shared-coded : (s : ℕ → Bool) {ch : Choice} {b : Builtin} → View ch b → shares s ch ≡ true → Fits β ρ b → (rest : List ℤ) →
+      (x : ℕ) → Member x (encodes ch) → Coded β e x ρ (value (sharedPick β e ρ ch ++ rest))
+  unfolding sharedPick encodes integerArguments
+  shared-coded s (is-element i ns c) h f rest = only β e ρ _ held i (coded-complete β e i ρ (held i) (f .kept .0) rest .2)
+  shared-coded s (is-var-element i xs c) h f rest =
+      let zs = map (λ j. ρ (nth 0 xs j) ⊗ bitOf (j == ρ i)) (keep (within (+1 to pos (length xs))) (values (β i))) in
+      rw append-assoc (only β e ρ (value (newPick β e ρ i ++ (zs ++ rest))) held i (coded-complete β e i ρ (held i) (f .kept .0) (zs ++ rest) .2))
+  shared-coded s (is-set x S) h f rest = only β e ρ _ held x (coded-complete β e x ρ (held x) (f .kept .0) rest .2)
+  shared-coded s (is-set-reif x S r) h f rest = only β e ρ _ held x (coded-complete β e x ρ (held x) (f .kept .0) rest .2)
+  shared-coded s (other b) h f rest = not-shared s h
+
 -- ---- a pick for each auxiliary
 
 pub shared-filled : (β : ℕ → Bounds) (e : Encoded) (σ : Valuation) (ch : Choice) → length (sharedPick β e σ ch) ≡ length (sharedRule β e ch .auxiliaries)

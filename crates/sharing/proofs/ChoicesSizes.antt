@@ -41,6 +41,14 @@ module _ (β : ℕ → Bounds) (e : Encoded) (x : ℕ) where
       go true = simp lengths (omega arith)
       go false = omega arith
 
+  newBits-few : length (newBits β e x) ≤ length (values (β x))
+  unfolding newBits
+  newBits-few = go (eqb (firstOf e x) 0)
+    where
+      go : (b : Bool) → length (bits (values (β x)) if b else []) ≤ length (values (β x))
+      go true = simp lengths (omega arith)
+      go false = omega arith
+
   leftOut-size : (t : ℤ → Bool) → total rowSize (leftOut β e t x) ≤ 2 + 2 * length (keep (λ v. not (t v)) (values (β x)))
   unfolding leftOut kept
   leftOut-size t = go (all t (values (β x)))
@@ -88,3 +96,31 @@ block-size first β s e c n = rw (block-length first (blockOf β s e c)) (go (sh
         2 * length (B .auxiliaries) + total rowSize (B .rows) ≤ 8 * (1 + builtinWords b) + 40 * length (B .auxiliaries) + 112
     go true h = omega (arith, shared-small β e s (view c) h (narrow β s c n h))
     go false h = omega (arith, laws β b .small (sized β s c n))
+
+-- ---- no block has more than 2,800 words
+
+shared-short : (β : ℕ → Bounds) (e : Encoded) (s : ℕ → Bool) {ch : Choice} {b : Builtin} → View ch b → shares s ch ≡ true → Narrow β ch →
+    2 * length (sharedRule β e ch .auxiliaries) + total rowSize (sharedRule β e ch .rows) ≤ 2800
+unfolding sharedRule encodes keptSum chosen
+shared-short β e s (is-element i ns c) h w =
+    let t = within (+1 to pos (length ns)) in
+    simp (lengths, kept-length) (omega (arith, newRows-size β e i, newBits-few β e i, leftOut-size β e i t, keep-both t (values (β i)), values-length (β i), w i (inl refl)))
+shared-short β e s (is-var-element i xs c) h w =
+    let t = within (+1 to pos (length xs)) in
+    simp (lengths, bitProducts-size) (omega (arith, newRows-size β e i, newBits-few β e i, leftOut-size β e i t, keep-both t (values (β i)), values-length (β i), w i (inl refl)))
+shared-short β e s (is-set x S) h w =
+    let t : ℤ → Bool = λ v. member v S in
+    simp lengths (omega (arith, newRows-size β e x, newBits-few β e x, leftOut-size β e x t, keep-both t (values (β x)), values-length (β x), w x (inl refl)))
+shared-short β e s (is-set-reif x S r) h w =
+    let t : ℤ → Bool = λ v. member v S in
+    simp (lengths, kept-length) (omega (arith, newRows-size β e x, newBits-few β e x, keep-both t (values (β x)), values-length (β x), w x (inl refl)))
+shared-short β e s (other b) h w = not-shared s h
+
+pub block-short : (first : ℕ) (β : ℕ → Bounds) (s : ℕ → Bool) (e : Encoded) (c : Constraint) → tooWide β s c ≡ false → length (blockWords first (blockOf β s e c)) ≤ 2800
+unfolding blockOf ruleAfter
+block-short first β s e c n = rw (block-length first (blockOf β s e c)) (go (shares s (choice c)) refl)
+  where
+    go : (t : Bool) → shares s (choice c) ≡ t → let B = sharedRule β e (choice c) if t else rule β (builtin c) in
+        2 * length (B .auxiliaries) + total rowSize (B .rows) ≤ 2800
+    go true h = shared-short β e s (view c) h (narrow β s c n h)
+    go false h = laws β (builtin c) .short (sized β s c n)

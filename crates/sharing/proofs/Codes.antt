@@ -9,7 +9,7 @@ use Rattle.sharing.proofs.Basics.{Sound, Complete, Filled, Determined, 
 use Rattle.sharing.proofs.Comparisons.{int-eq-exact, int-le-exact, int-lt-exact, int-ne-sound, int-ne-complete, int-ne-determined, int-le-reif-exact, int-lt-reif-exact}
 use Rattle.sharing.proofs.Arithmetic.{int-plus-exact, int-times-sound, int-times-complete, int-times-determined, int-abs-sound, int-abs-complete, int-abs-determined, int-max-sound, int-max-complete, int-max-determined, int-min-sound, int-min-complete, int-min-determined}
 use Rattle.sharing.proofs.Division.{int-div-sound, int-div-complete, int-div-determined, int-mod-sound, int-mod-complete, int-mod-determined}
-use Rattle.sharing.proofs.Power.{powered-size, powered-formed, int-pow-sound, int-pow-complete, int-pow-filled, int-pow-determined}
+use Rattle.sharing.proofs.Power.{powered-size, powered-few, powered-formed, int-pow-sound, int-pow-complete, int-pow-filled, int-pow-determined}
 use Rattle.sharing.proofs.Linear.{int-lin-eq-exact, int-lin-le-exact, int-lin-ne-sound, int-lin-ne-complete, int-lin-ne-determined, int-lin-eq-reif-sound, int-lin-eq-reif-complete, int-lin-eq-reif-determined, int-eq-reif-sound, int-eq-reif-complete, int-eq-reif-determined, int-lin-le-reif-sound, int-lin-le-reif-complete, int-lin-le-reif-determined, int-ne-reif-sound, int-ne-reif-complete, int-ne-reif-determined, int-lin-ne-reif-sound, int-lin-ne-reif-complete, int-lin-ne-reif-determined}
 use Rattle.sharing.proofs.Booleans.{bool2int-exact, bool-not-exact, bool-and-exact, bool-or-exact, bool-xor-sound, bool-xor-complete, bool-xor-determined, bool-eq-reif-sound, bool-eq-reif-complete, bool-eq-reif-determined, bool-le-reif-exact, bool-lt-reif-exact}
 use Rattle.sharing.proofs.BooleanLists.{bool-clause-sound, bool-clause-complete, bool-clause-filled, array-bool-and-sound, array-bool-and-complete, array-bool-and-filled, array-bool-xor-sound, array-bool-xor-complete, array-bool-xor-filled, array-bool-xor-determined}
@@ -32,7 +32,7 @@ use Rattle.integers.specs.Bounds.{width, values}
 use Rattle.integers.proofs.Linear.{arithZ}
 use Rattle.integers.proofs.Lists.{all-append, all-mapped, listOf-length}
 use Rattle.integers.proofs.Tests.{In, All}
-use Rattle.models.specs.Model.{Constraint, var, size, vars, nums, terms, builtins, builtin}
+use Rattle.models.specs.Model.{Constraint, var, size, exponentAt, vars, nums, terms, builtins, builtin}
 use Rattle.models.proofs.Arguments.{integerArguments, booleanArguments, builtinWords}
 use Rattle.rules.specs.Block.{Ref, source, aux}
 use Rattle.rules.specs.Parts.{_─_≤0, _─_=0, each, one, oneBit, chosen, products, nth, places, members}
@@ -63,6 +63,8 @@ pub record Laws (β : ℕ → Bounds) (b : Builtin) : Type 1 where
   pub determined : (σ : Valuation) → Determined β σ b
   -- at most 8 words for each word of its constraint and 40 for each of its auxiliaries
   pub small : Sizes → 2 * length (rule β b .auxiliaries) + total rowSize (rule β b .rows) ≤ 8 * (1 + builtinWords b) + 40 * length (rule β b .auxiliaries)
+  -- and never more than 2,800
+  pub short : Sizes → 2 * length (rule β b .auxiliaries) + total rowSize (rule β b .rows) ≤ 2800
   pub formed : (n : ℕ) → All (λ v. v < n) (integerArguments b) → All (λ v. v < n) (booleanArguments b) → Sizes → Formed n (rule β b)
 
 unfoldable pub laws : (β : ℕ → Bounds) (b : Builtin) → Laws β b
@@ -74,6 +76,7 @@ laws β (int-eq a b) = record {
   filled = λ σ. refl;
   determined = λ σ α f g. tt;
   small = λ s. omega arith;
+  short = λ s. omega arith;
   formed = λ n h k s. omega arith;
 }
 laws β (int-le a b) = record {
@@ -83,6 +86,7 @@ laws β (int-le a b) = record {
   filled = λ σ. refl;
   determined = λ σ α f g. tt;
   small = λ s. omega arith;
+  short = λ s. omega arith;
   formed = λ n h k s. omega arith;
 }
 laws β (int-lt a b) = record {
@@ -92,6 +96,7 @@ laws β (int-lt a b) = record {
   filled = λ σ. refl;
   determined = λ σ α f g. tt;
   small = λ s. omega arith;
+  short = λ s. omega arith;
   formed = λ n h k s. omega arith;
 }
 laws β (int-ne a b) = record {
@@ -101,6 +106,7 @@ laws β (int-ne a b) = record {
   filled = λ σ. refl;
   determined = λ σ. int-ne-determined β σ a b;
   small = λ s. omega arith;
+  short = λ s. omega arith;
   formed = λ n h k s. omega arithZ;
 }
 laws β (int-le-reif a b r) = record {
@@ -110,6 +116,7 @@ laws β (int-le-reif a b r) = record {
   filled = λ σ. refl;
   determined = λ σ α f g. tt;
   small = λ s. omega arith;
+  short = λ s. omega arith;
   formed = λ n h k s. omega arith;
 }
 laws β (int-plus a b c) = record {
@@ -119,6 +126,7 @@ laws β (int-plus a b c) = record {
   filled = λ σ. refl;
   determined = λ σ α f g. tt;
   small = λ s. omega arith;
+  short = λ s. omega arith;
   formed = λ n h k s. omega arith;
 }
 laws β (int-times a b c) = record {
@@ -128,6 +136,7 @@ laws β (int-times a b c) = record {
   filled = λ σ. refl;
   determined = λ σ. int-times-determined β σ a b c;
   small = λ s. omega arith;
+  short = λ s. omega arith;
   formed = λ n h k s. ((endProducts-ordered (β a) (β b), tt), omega arith);
 }
 laws β (int-abs x y) = record {
@@ -137,6 +146,7 @@ laws β (int-abs x y) = record {
   filled = λ σ. refl;
   determined = λ σ. int-abs-determined β σ x y;
   small = λ s. omega arith;
+  short = λ s. omega arith;
   formed = λ n h k s. ((bit-ordered, (Z-ordered (β x), tt)), omega arith);
 }
 laws β (int-max a b c) = record {
@@ -146,6 +156,7 @@ laws β (int-max a b c) = record {
   filled = λ σ. refl;
   determined = λ σ. int-max-determined β σ a b c;
   small = λ s. omega arith;
+  short = λ s. omega arith;
   formed = λ n h k s. omega arithZ;
 }
 laws β (int-lin-eq asbs c) = record {
@@ -155,6 +166,7 @@ laws β (int-lin-eq asbs c) = record {
   filled = λ σ. refl;
   determined = λ σ α f g. tt;
   small = λ s. simp lengths (omega arith);
+  short = λ s. simp lengths (omega (arith, s));
   formed = λ n h k s. (tt, (sources-terms n 0 asbs s h, tt));
 }
 laws β (int-lin-le asbs c) = record {
@@ -164,6 +176,7 @@ laws β (int-lin-le asbs c) = record {
   filled = λ σ. refl;
   determined = λ σ α f g. tt;
   small = λ s. simp lengths (omega arith);
+  short = λ s. simp lengths (omega (arith, s));
   formed = λ n h k s. (tt, (sources-terms n 0 asbs s h, tt));
 }
 laws β (int-lin-ne asbs c) = record {
@@ -173,6 +186,7 @@ laws β (int-lin-ne asbs c) = record {
   filled = λ σ. refl;
   determined = λ σ. int-lin-ne-determined β σ asbs c;
   small = λ s. simp lengths (omega arith);
+  short = λ s. simp lengths (omega (arith, s));
   formed = λ n h k s. (signed-ordered β asbs c, (linked-in n β 3 asbs c (omega arith) s h, omega arith));
 }
 laws β (int-lin-eq-reif asbs c r) = record {
@@ -182,6 +196,7 @@ laws β (int-lin-eq-reif asbs c r) = record {
   filled = λ σ. refl;
   determined = λ σ. int-lin-eq-reif-determined β σ asbs c r;
   small = λ s. simp lengths (omega arith);
+  short = λ s. simp lengths (omega (arith, s));
   formed = λ n h k s. zeroReified-formed n β true asbs c r s h (k .0);
 }
 laws β (int-eq-reif a b r) = record {
@@ -191,6 +206,7 @@ laws β (int-eq-reif a b r) = record {
   filled = λ σ. refl;
   determined = λ σ. int-eq-reif-determined β σ a b r;
   small = λ s. simp lengths (omega arith);
+  short = λ s. simp lengths (omega arith);
   formed = λ n h k s. zeroReified-formed n β true (+1 · a ∷ -1 · b ∷ []) +0 r (omega arith) h (k .0);
 }
 laws β (int-lin-le-reif asbs c r) = record {
@@ -200,6 +216,7 @@ laws β (int-lin-le-reif asbs c r) = record {
   filled = λ σ. refl;
   determined = λ σ. int-lin-le-reif-determined β σ asbs c r;
   small = λ s. simp lengths (omega arith);
+  short = λ s. simp lengths (omega (arith, s));
   formed = λ n h k s. ((L-U-ordered β asbs c, tt), (linked-in n β 1 asbs c (omega arith) s h, omega arith));
 }
 laws β (bool2int a b) = record {
@@ -209,6 +226,7 @@ laws β (bool2int a b) = record {
   filled = λ σ. refl;
   determined = λ σ α f g. tt;
   small = λ s. omega arith;
+  short = λ s. omega arith;
   formed = λ n h k s. omega arith;
 }
 laws β (bool-not a b) = record {
@@ -218,6 +236,7 @@ laws β (bool-not a b) = record {
   filled = λ σ. refl;
   determined = λ σ α f g. tt;
   small = λ s. omega arith;
+  short = λ s. omega arith;
   formed = λ n h k s. omega arith;
 }
 laws β (bool-and a b r) = record {
@@ -227,6 +246,7 @@ laws β (bool-and a b r) = record {
   filled = λ σ. refl;
   determined = λ σ α f g. tt;
   small = λ s. omega arith;
+  short = λ s. omega arith;
   formed = λ n h k s. omega arith;
 }
 laws β (bool-or a b r) = record {
@@ -236,6 +256,7 @@ laws β (bool-or a b r) = record {
   filled = λ σ. refl;
   determined = λ σ α f g. tt;
   small = λ s. omega arith;
+  short = λ s. omega arith;
   formed = λ n h k s. omega arith;
 }
 laws β (bool-xor a b r) = record {
@@ -245,6 +266,7 @@ laws β (bool-xor a b r) = record {
   filled = λ σ. refl;
   determined = λ σ. bool-xor-determined β σ a b r;
   small = λ s. omega arith;
+  short = λ s. omega arith;
   formed = λ n h k s. omega arithZ;
 }
 laws β (bool-clause xs ys) = record {
@@ -254,6 +276,7 @@ laws β (bool-clause xs ys) = record {
   filled = λ σ. bool-clause-filled β σ xs ys;
   determined = λ σ α f g. tt;
   small = λ s. simp lengths (omega arith);
+  short = λ s. simp lengths (omega (arith, s .0, s .1));
   formed = λ n h k s.
       let q = all-append (λ v. v < n) xs ys .0 k in
       (tt, (append-in n 0 (each -1 xs) (each +1 ys) (simp each-length (omega arith)) (each-in n 0 -1 xs (q .0)) (each-in n 0 +1 ys (q .1)), tt));
@@ -265,6 +288,7 @@ laws β (array-bool-and xs r) = record {
   filled = λ σ. array-bool-and-filled β σ xs r;
   determined = λ σ α f g. tt;
   small = λ s. simp (lengths, total-same (λ x. rowSize (source r ─ source x ≤0)) 6 (λ x. refl)) (omega arith);
+  short = λ s. simp (lengths, total-same (λ x. rowSize (source r ─ source x ≤0)) 6 (λ x. refl)) (omega (arith, s));
   formed = λ n h k s. (
     tt,
     all-append (RowIn n 0) (map (λ x. source r ─ source x ≤0) xs) _ .1 (
@@ -280,6 +304,7 @@ laws β (array-bool-xor xs) = record {
   filled = λ σ. array-bool-xor-filled β σ xs;
   determined = λ σ. array-bool-xor-determined β σ xs;
   small = λ s. simp lengths (omega arith);
+  short = λ s. simp lengths (omega (arith, s));
   formed = λ n h k s. (
     (omega arithZ, tt),
     (append-in n 1 (each +1 xs) (-2 · aux 0 ∷ []) (simp each-length (omega arith)) (each-in n 1 +1 xs k) (omega arith, tt), tt),
@@ -292,6 +317,7 @@ laws β (array-int-element i ns c) = record {
   filled = λ σ. array-int-element-filled β σ i ns c;
   determined = λ σ. array-int-element-determined β σ i ns c;
   small = λ s. simp lengths (omega (arith, places-length (β i) (length ns)));
+  short = λ s. simp lengths (omega (arith, s, places-length (β i) (length ns)));
   formed = λ n h k s.
       let js = values (places (β i) (length ns)) in
       let l : length js ≤ length ns = places-length (β i) (length ns) in
@@ -308,6 +334,7 @@ laws β (array-var-int-element i xs c) = record {
   filled = λ σ. array-var-int-element-filled β σ i xs c;
   determined = λ σ. array-var-int-element-determined β σ i xs c;
   small = λ s. simp lengths (omega (arith, places-length (β i) (length xs)));
+  short = λ s. simp lengths (omega (arith, s, places-length (β i) (length xs)));
   formed = λ n h k s.
       let js = values (places (β i) (length xs)) in
       let l : length js ≤ length xs = places-length (β i) (length xs) in
@@ -327,6 +354,7 @@ laws β (array-int-maximum m xs) = record {
   filled = λ σ. array-int-maximum-filled β σ m xs;
   determined = λ σ. array-int-maximum-determined β σ m xs;
   small = λ s. simp (lengths, total-same (λ x. rowSize (source x ─ source m ≤0)) 6 (λ x. refl)) (omega (arith, firstOnly-size β (λ x. x) (λ x. m) xs 0 s));
+  short = λ s. simp (lengths, total-same (λ x. rowSize (source x ─ source m ≤0)) 6 (λ x. refl)) (omega (arith, s, firstOnly-size β (λ x. x) (λ x. m) xs 0 s));
   formed = λ n h k s. oneOf-formed n β (λ x. x) (λ x. m) m xs s (h .0) (h .1) (λ x l. (l, h .0));
 }
 laws β (set-in x S) = record {
@@ -336,6 +364,7 @@ laws β (set-in x S) = record {
   filled = λ σ. set-in-filled β σ x S;
   determined = λ σ. set-in-determined β σ x S;
   small = λ s. simp lengths (omega arith);
+  short = λ s. simp lengths (omega (arith, s, members-length S (β x)));
   formed = λ n h k s.
       let vs = members S (β x) in
       let l : length vs ≤ length S = members-length S (β x) in
@@ -348,6 +377,7 @@ laws β (set-in-reif x S r) = record {
   filled = λ σ. set-in-reif-filled β σ x S r;
   determined = λ σ. set-in-reif-determined β σ x S r;
   small = λ s. simp lengths (omega (arith, members-length S (β x)));
+  short = λ s. simp lengths (omega (arith, s .0, s .1, values-length (β x), members-length S (β x)));
   formed = λ n h k s.
       let vs = values (β x) in
       let ms = members S (β x) in
@@ -369,6 +399,7 @@ laws β (int-min a b c) = record {
   filled = λ σ. refl;
   determined = λ σ. int-min-determined β σ a b c;
   small = λ s. omega arith;
+  short = λ s. omega arith;
   formed = λ n h k s. omega arithZ;
 }
 laws β (int-lt-reif a b r) = record {
@@ -378,6 +409,7 @@ laws β (int-lt-reif a b r) = record {
   filled = λ σ. refl;
   determined = λ σ α f g. tt;
   small = λ s. omega arith;
+  short = λ s. omega arith;
   formed = λ n h k s. omega arith;
 }
 laws β (int-ne-reif a b r) = record {
@@ -387,6 +419,7 @@ laws β (int-ne-reif a b r) = record {
   filled = λ σ. refl;
   determined = λ σ. int-ne-reif-determined β σ a b r;
   small = λ s. simp lengths (omega arith);
+  short = λ s. simp lengths (omega arith);
   formed = λ n h k s. zeroReified-formed n β false (+1 · a ∷ -1 · b ∷ []) +0 r (omega arith) h (k .0);
 }
 laws β (int-lin-ne-reif asbs c r) = record {
@@ -396,6 +429,7 @@ laws β (int-lin-ne-reif asbs c r) = record {
   filled = λ σ. refl;
   determined = λ σ. int-lin-ne-reif-determined β σ asbs c r;
   small = λ s. simp lengths (omega arith);
+  short = λ s. simp lengths (omega (arith, s));
   formed = λ n h k s. zeroReified-formed n β false asbs c r s h (k .0);
 }
 laws β (array-int-minimum m xs) = record {
@@ -405,6 +439,7 @@ laws β (array-int-minimum m xs) = record {
   filled = λ σ. array-int-minimum-filled β σ m xs;
   determined = λ σ. array-int-minimum-determined β σ m xs;
   small = λ s. simp (lengths, total-same (λ x. rowSize (source m ─ source x ≤0)) 6 (λ x. refl)) (omega (arith, firstOnly-size β (λ x. m) (λ x. x) xs 0 s));
+  short = λ s. simp (lengths, total-same (λ x. rowSize (source m ─ source x ≤0)) 6 (λ x. refl)) (omega (arith, s, firstOnly-size β (λ x. m) (λ x. x) xs 0 s));
   formed = λ n h k s. oneOf-formed n β (λ x. m) (λ x. x) m xs s (h .0) (h .1) (λ x l. (h .0, l));
 }
 laws β (bool-eq-reif a b r) = record {
@@ -414,6 +449,7 @@ laws β (bool-eq-reif a b r) = record {
   filled = λ σ. refl;
   determined = λ σ. bool-eq-reif-determined β σ a b r;
   small = λ s. omega arith;
+  short = λ s. omega arith;
   formed = λ n h k s. omega arithZ;
 }
 laws β (bool-le-reif a b r) = record {
@@ -423,6 +459,7 @@ laws β (bool-le-reif a b r) = record {
   filled = λ σ. refl;
   determined = λ σ α f g. tt;
   small = λ s. omega arith;
+  short = λ s. omega arith;
   formed = λ n h k s. omega arith;
 }
 laws β (bool-lt-reif a b r) = record {
@@ -432,6 +469,7 @@ laws β (bool-lt-reif a b r) = record {
   filled = λ σ. refl;
   determined = λ σ α f g. tt;
   small = λ s. omega arith;
+  short = λ s. omega arith;
   formed = λ n h k s. omega arith;
 }
 laws β (int-div n d q) = record {
@@ -441,6 +479,7 @@ laws β (int-div n d q) = record {
   filled = λ σ. refl;
   determined = λ σ. int-div-determined β σ n d q;
   small = λ s. omega arith;
+  short = λ s. omega arith;
   formed = λ v h k s. division-formed v β n d q (h .0) (h .1 .0) (h .1 .1 .0);
 }
 laws β (int-mod n d r) = record {
@@ -450,15 +489,17 @@ laws β (int-mod n d r) = record {
   filled = λ σ. refl;
   determined = λ σ. int-mod-determined β σ n d r;
   small = λ s. omega arith;
+  short = λ s. omega arith;
   formed = λ v h k s. leftOver-formed v β n d r (h .0) (h .1 .0) (h .1 .1 .0);
 }
 laws β (int-pow x k z) = record {
-  Sizes = Unit {0};
+  Sizes = k ≤ Limit.exponent;
   sound = λ σ α. int-pow-sound β σ α x k z;
   complete = λ σ. int-pow-complete β σ x k z;
   filled = λ σ. int-pow-filled β σ x k z;
   determined = λ σ. int-pow-determined β σ x k z;
   small = λ s. omega (arith, powered-size β x k z);
+  short = λ s. omega (arith, powered-size β x k z, powered-few β x k z, s);
   formed = λ n h l s. powered-formed n β x k z (h .0) (h .1 .0);
 }
 
@@ -474,13 +515,21 @@ entry P [] d h p k = p k
 entry P (x ∷ xs) d h p zero = h .0
 entry P (x ∷ xs) d h p (suc k) = entry (λ k. P (suc k)) xs d (h .1) (λ k. p (suc k)) k
 
--- rules of `simp` that take away what is plain: a length that is read is at most 32
+-- rules of `simp` that take away what is plain: a length that is read is at most 32, an exponent at most 27
 size-small : (ws : List ℕ) (i : ℕ) → (size ws i ≤ Limit.listLength) ↔ Unit {0}
 unfolding size
 size-small ws i = (λ h. tt, λ t. go (leb (var ws i) Limit.listLength) refl)
   where
     go : (b : Bool) → leb (var ws i) Limit.listLength ≡ b → (var ws i if b else Limit.listLength) ≤ Limit.listLength
     go true e = leb-true (var ws i) Limit.listLength e
+    go false e = omega arith
+
+exponent-small : (ws : List ℕ) (i : ℕ) → (exponentAt ws i ≤ Limit.exponent) ↔ Unit {0}
+unfolding exponentAt
+exponent-small ws i = (λ h. tt, λ t. go (leb (var ws i) Limit.exponent) refl)
+  where
+    go : (b : Bool) → leb (var ws i) Limit.exponent ≡ b → (var ws i if b else Limit.exponent) ≤ Limit.exponent
+    go true e = leb-true (var ws i) Limit.exponent e
     go false e = omega arith
 
 function-unit : (A : Type 0) → (A → Unit {0}) ↔ Unit {0}
@@ -510,4 +559,4 @@ sized β s c e = entry Small builtins (λ ws. int-eq 0 0) table (λ k ws w. tt) 
     Small k f = (ws : List ℕ) → (k ≡ 28 → width (β (var ws 0)) ≤ Limit.setBits) → laws β (f ws) .Sizes
 
     table : AllAt Small builtins
-    table = simp (listOf-length, size-small, function-unit, pair-unit) (λ ws w. w refl, tt)
+    table = simp (listOf-length, size-small, exponent-small, function-unit, pair-unit) (λ ws w. w refl, tt)

@@ -124,6 +124,18 @@ unfolding powered _─_=0
 powered-size β x zero z = omega arith
 powered-size β x (suc k) z = simp total-append (omega (arith, chain-size (β x) x (suc k) (omega arith)))
 
+-- fewer products than the exponent says
+chain-few : (B : Bounds) (x k : ℕ) → 1 ≤ k → length (chain B x k .auxiliaries) + 1 ≤ k
+unfolding chain noProduct squared multiplied next
+chain-few B x k l =
+    by-halves (λ k (c : Chain) (d : Chain). length (c .auxiliaries) + 1 ≤ k) {s′ = noProduct B x} {f′ = squared B x} {g′ = multiplied B x} (omega arith)
+    (λ k c d h. simp length-append (omega arith)) (λ k c d h. simp length-append (omega arith)) k l
+
+pub powered-few : (β : ℕ → Bounds) (x k z : ℕ) → length (powered β x k z .auxiliaries) ≤ k
+unfolding powered
+powered-few β x zero z = omega arith
+powered-few β x (suc k) z = omega (arith, chain-few (β x) x (suc k) (omega arith))
+
 module _ (n : ℕ) where
   -- for any number of auxiliaries that has room for those of the chain
   record ChainIn (c : Chain) : Type 0 where

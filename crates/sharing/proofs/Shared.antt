@@ -44,7 +44,7 @@ Typed Vs c =
 is-bit : (B : Bounds) (x : ℤ) → B ≡ bit → In B x → Bit x
 is-bit B x e h = let k : In bit x = subst (λ C. In C x) e h in to-bit x (k .0) (k .1)
 
-fits : (Vs : List Bounds) (σ : Valuation) → Keeps Vs σ → (c : Constraint) → Typed Vs c → Fits (boundsIn Vs) σ (builtin c)
+pub fits : (Vs : List Bounds) (σ : Valuation) → Keeps Vs σ → (c : Constraint) → Typed Vs c → Fits (boundsIn Vs) σ (builtin c)
 fits Vs σ h c t =
     let k = keeps-bounds Vs σ .0 h in
     record {
@@ -52,9 +52,20 @@ fits Vs σ h c t =
       zero-one = all-implies (λ v. (v < length Vs) × (boundsIn Vs v ≡ bit)) (λ v. Bit (σ v)) (λ v l. is-bit (boundsIn Vs v) (σ v) (l .1) (k v (l .0))) (booleanArguments (builtin c)) (t .1);
     }
 
+-- every builtin, where the model's constraints are typed
+pub all-fit : (Vs : List Bounds) (cs : List Constraint) → All (Typed Vs) cs → (σ : Valuation) → Keeps Vs σ → AllFit (boundsIn Vs) σ cs
+all-fit Vs cs typed σ h = all-implies (Typed Vs) (λ c. Fits (boundsIn Vs) σ (builtin c)) (fits Vs σ h) cs typed
+
+pub all-plain : (Vs : List Bounds) (cs : List Constraint) → All (Typed Vs) cs → All (λ c. Formed (length Vs) (rule (boundsIn Vs) (builtin c))) cs → All (Plain (boundsIn Vs) (length Vs)) cs
+all-plain Vs cs typed plain =
+    let n = length Vs in
+    all-implies (λ c. Typed Vs c × Formed n (rule (boundsIn Vs) (builtin c))) (Plain (boundsIn Vs) n)
+    (λ c h. (h .0 .0, all-implies (λ v. (v < n) × (boundsIn Vs v ≡ bit)) (λ v. v < n) (λ v k. k .0) (booleanArguments (builtin c)) (h .0 .1), h .1)) cs
+    (all-both (Typed Vs) (λ c. Formed n (rule (boundsIn Vs) (builtin c))) cs typed plain)
+
 -- ---- the two lists one after the other
 
-agrees : (n : ℕ) (vs xs : List ℤ) → length vs ≡ n → Agrees n n (value (vs ++ xs)) (value vs) (value xs)
+pub agrees : (n : ℕ) (vs xs : List ℤ) → length vs ≡ n → Agrees n n (value (vs ++ xs)) (value vs) (value xs)
 unfolding value
 agrees n vs xs e = record { before = λ v h. List·getD-append vs xs (pos 0) v (subst (λ (m : ℕ). v < m) (sym e) h); after = from-append vs xs n e }
 
@@ -81,6 +92,9 @@ none-first x = zeros Limit.variables x
     zeros (suc n) zero = refl
     zeros (suc n) (suc x) = zeros n x
 
+pub none-held : (β : ℕ → Bounds) (ρ : Valuation) → Held β ρ noneYet
+none-held β ρ x h = absurd (h (none-first x))
+
 -- ---- the theorem over the variables and rows of the row system
 
 module _ (model system : List ℕ) (s : ℕ → Bool) (typed : All (Typed (variables model)) (constraints model))
@@ -103,18 +117,6 @@ module _ (model system : List ℕ) (s : ℕ → Bool) (typed : All (Typed (varia
   abbrev Rs : List (Row ℕ)
   Rs = rowsFrom (boundsIn Vs) s n noneYet cs
 
-  all-fit : (σ : Valuation) → Keeps Vs σ → AllFit (boundsIn Vs) σ cs
-  all-fit σ h = all-implies (Typed Vs) (λ c. Fits (boundsIn Vs) σ (builtin c)) (fits Vs σ h) cs typed
-
-  all-plain : All (Plain (boundsIn Vs) n) cs
-  all-plain =
-      all-implies (λ c. Typed Vs c × Formed n (rule (boundsIn Vs) (builtin c))) (Plain (boundsIn Vs) n)
-      (λ c h. (h .0 .0, all-implies (λ v. (v < n) × (boundsIn Vs v ≡ bit)) (λ v. v < n) (λ v k. k .0) (booleanArguments (builtin c)) (h .0 .1), h .1)) cs
-      (all-both (Typed Vs) (λ c. Formed n (rule (boundsIn Vs) (builtin c))) cs typed plain)
-
-  none-held : (ρ : Valuation) → Held (boundsIn Vs) ρ noneYet
-  none-held ρ x h = absurd (h (none-first x))
-
   -- the model, and the system, as propositions
   of-model : (vs : List ℤ) → SatisfiesModel model vs ↔ ((length vs ≡ n) × Keeps Vs (value vs) × AllTrue (value vs) cs)
   of-model vs = satisfies Vs (λ c. meaning (value vs) (builtin c)) (λ c. meaning (value vs) (builtin c) ≡ true) (λ c. (λ e. e, λ e. e)) cs vs
@@ -130,7 +132,7 @@ module _ (model system : List ℕ) (s : ℕ → Bool) (typed : All (Typed (varia
       let l = picks-length (boundsIn Vs) s (value vs) n noneYet cs in
       let a = agrees n vs xs (m .0) in
       let f : From n ρ (value (xs ++ [])) = rw (append-nil xs) (a .after) in
-      let c = rows-complete (boundsIn Vs) s n ρ (value vs) (a .before) n noneYet cs all-plain formed (all-fit (value vs) (m .1)) (none-held ρ) [] f (m .2) in
+      let c = rows-complete (boundsIn Vs) s n ρ (value vs) (a .before) n noneYet cs (all-plain Vs cs typed plain) formed (all-fit Vs cs typed (value vs) (m .1)) (none-held (boundsIn Vs) ρ) [] f (m .2) in
       of-system (vs ++ xs) .1 (
         length-append vs xs ∙ ap₂ _+_ (m .0) l ∙ sym (length-append Vs As),
         both-kept Vs As vs xs (m .0) .1 (m .1, subst (Keeps As) (fun-ext (a .after)) (c .0)),
@@ -147,7 +149,7 @@ module _ (model system : List ℕ) (s : ℕ → Bool) (typed : All (Typed (varia
       let ρ = value (vs ++ xs) in
       let a = agrees n vs xs e in
       let own = fun-ext (a .after) in
-      let r = rows-only (boundsIn Vs) s n ρ (value vs) (a .before) n noneYet cs all-plain formed (all-fit (value vs) (k .0)) (none-held ρ) (subst (Keeps As) (sym own) (k .1)) (m .2) in (
+      let r = rows-only (boundsIn Vs) s n ρ (value vs) (a .before) n noneYet cs (all-plain Vs cs typed plain) formed (all-fit Vs cs typed (value vs) (k .0)) (none-held (boundsIn Vs) ρ) (subst (Keeps As) (sym own) (k .1)) (m .2) in (
         of-model vs .1 (e, k .0, r .0),
         are-value (picksFrom (boundsIn Vs) s (value vs) n noneYet cs) xs (picks-length (boundsIn Vs) s (value vs) n noneYet cs ∙ sym l) (subst (Are (picksFrom (boundsIn Vs) s (value vs) n noneYet cs)) own (r .1)),
       )

@@ -21,6 +21,7 @@ use Rattle.words.specs.Refusal.{accepted}
 use Rattle.models.specs.Model.{constraints, builtin}
 use Rattle.models.proofs.Accepted as Accepted
 use Rattle.rowsystems.specs.Reading.{readRows}
+use Rattle.rowsystems.specs.RowSystem.{rows}
 use Rattle.rowsystems.proofs.ReadBack.{System, read-back}
 use Rattle.rules.specs.Shared.{noneYet}
 use Rattle.rules.specs.Rule.{rule}
@@ -47,7 +48,7 @@ module _ (ws : List ℕ) (passes : Passes ws) where
   abbrev As : List Bounds
   As = auxiliariesFrom (boundsIn Vs) sh (length Vs) noneYet (constraints ws)
 
-  typed : All (Typed Vs) (constraints ws)
+  pub typed : All (Typed (variables ws)) (constraints ws)
   typed = all-implies (λ c. Accepted.TypedIn Vs (builtin c)) (Typed Vs) (λ c t. (t .integers, t .booleans)) (constraints ws) (Accepted.typed ws (passes-read ws passes))
 
   pub fine : Fine (boundsIn Vs) sh (length Vs) noneYet (constraints ws)
@@ -57,10 +58,10 @@ module _ (ws : List ℕ) (passes : Passes ws) where
   few : length Vs + length As ≤ Limit.inAll
   few = fine-count (boundsIn Vs) sh (length Vs) noneYet (constraints ws) fine (omega (arith, Accepted.few-variables ws (passes-read ws passes)))
 
-  plain : All (λ c. Formed (length Vs) (rule (boundsIn Vs) (builtin c))) (constraints ws)
+  pub plain : All (λ c. Formed (length (variables ws)) (rule (boundsIn (variables ws)) (builtin c))) (constraints ws)
   plain = plain-all Vs sh (length Vs) noneYet (constraints ws) typed fine
 
-  well-formed : AllFormed (boundsIn Vs) sh (length Vs) noneYet (constraints ws)
+  pub well-formed : AllFormed (boundsIn (variables ws)) (shared ws) (length (variables ws)) noneYet (constraints ws)
   well-formed = all-formed Vs sh (length Vs) noneYet (constraints ws) (omega arith) (λ x h. absurd (h (none-first x))) typed fine
 
   parts : Accepted.Split ws
@@ -105,6 +106,10 @@ module _ (ws : List ℕ) (passes : Passes ws) where
   -- its variables are the sources and all auxiliaries
   pub same-bounds : variables (systemWords ws) ≡ variables ws ++ auxiliariesFrom (boundsIn (variables ws)) (shared ws) (length (variables ws)) noneYet (constraints ws)
   same-bounds = system .the-bounds
+
+  -- and its rows those of all blocks, numbered on
+  pub same-rows : rows (systemWords ws) ≡ rowsFrom (boundsIn (variables ws)) (shared ws) (length (variables ws)) noneYet (constraints ws)
+  same-rows = system .the-rows
 
   auxiliaries-count : length (auxiliaries ws) ≡ length As
   unfolding auxiliaries bounds

@@ -34,7 +34,7 @@ module _ (n first : ℕ) (later : n ≤ first) where
   terms-below : (m : ℕ) (ts : List (Term Ref)) → All (λ t. RefIn n m (t .variable)) ts → All (λ t. numbered first (t .variable) < first + m) ts
   terms-below m ts h = all-implies (λ t. RefIn n m (t .variable)) (λ t. numbered first (t .variable) < first + m) (λ t. ref-below m (t .variable)) ts h
 
-  declared : (m : ℕ) (r : Row Ref) → RowIn n m r → Declared (numbered first) (first + m) r
+  pub declared : (m : ℕ) (r : Row Ref) → RowIn n m r → Declared (numbered first) (first + m) r
   unfolding numbered
   declared m (sum≤0 ts c) h = (h .0, terms-below m ts (h .1))
   declared m (sum=0 ts c) h = (h .0, terms-below m ts (h .1))

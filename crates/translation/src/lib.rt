@@ -13,7 +13,7 @@ use words::Refusal;
 use words::fault;
 use writing::write_system;
 
-mod blocks;
+pub mod blocks;
 pub mod checking;
 mod writing;
 

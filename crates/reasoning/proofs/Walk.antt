@@ -1,0 +1,242 @@
+-- The walks over the constraints: what is known of the block that is due; the bounds and the rows that are left.
+use mathlib.Core.Path.{_≡_, refl, ap, sym, _∙_, subst}
+use mathlib.Core.Bool.{Bool, true, false}
+use mathlib.Core.List.{List, _∷_, _++_}
+use Prim.Native.Nat.{ℕ, _+_, _*_, _≤_, _<_}
+use native.Mathlib.Omega.{arith}
+use lib.Dec.{ltb}
+use lib.IntN.{ℤ, pos}
+use lib.ListN.{length, length-append, length-map, getD, take, drop, drop-of-length-le, List·getD-eq-default}
+use lib.Seq.{length-take-le, getD-take}
+use borrow.Author.Tests.{ltb-true, ltb-false}
+use Rattle.integers.specs.Terms.{Valuation, value}
+use Rattle.integers.specs.declared.Bounds.{Bounds}
+use Rattle.words.specs.Word.{payload, wordAt}
+use Rattle.words.specs.Variables.{variables}
+use Rattle.words.specs.Answer.{Answer, holds, isHolds}
+use Rattle.words.specs.Judge.{firstFalse, firstOutOfBounds}
+use Rattle.words.specs.Verdict.{verdict}
+use Rattle.words.specs.Small.{Near, Small}
+use Rattle.words.proofs.Answers.{is-holds}
+use Rattle.variables.proofs.After.{next}
+use Rattle.models.specs.Meaning.{meaning}
+use Rattle.models.specs.Model.{Constraint, constraints, headed, builtin}
+use Rattle.models.proofs.Accepted as Accepted
+use Rattle.modelreading.specs.declared.Read.{Read}
+use Rattle.rowsystems.specs.Row.{rename, satisfied}
+use Rattle.rules.specs.Block.{numbered}
+use Rattle.rules.specs.Shared.{Encoded, noneYet, choice, encodes, encodedAfter}
+use Rattle.rules.specs.Translation.{bounds, shared, blockOf, eachBlock, auxiliaries}
+use Rattle.rules.specs.Check.{tooWide}
+use Rattle.extremes.specs.Bounded.{boundsOf}
+use Rattle.encodings.specs.Uses.{sharedBy, Recorded}
+use Rattle.encodings.proofs.Record.{recorded-none, recorded-after, none-many, length-after}
+use Rattle.sharing.specs.SharedSolutions.{Passes}
+use Rattle.sharing.proofs.Accepts.{Fine, passes-fine, passes-read}
+use Rattle.sharing.proofs.Assembly.{auxiliariesFrom, AllFormed}
+use Rattle.sharing.proofs.Theorem.{well-formed}
+use Rattle.translation.proofs.Kept.{head-at, summed-at}
+use Rattle.reasons.specs.Reason.{Reason, none, explained, inBlock, firstFailing}
+use Rattle.reasons.proofs.Judged.{explainedFrom}
+use Rattle.reasoning.specs.Ready.{Ready, Reads, Layable, Outside, Failing, rowsAt}
+use Rattle.reasoning.specs.declared.Said.{Said}
+use Rattle.reasoning.proofs.OneBlock as OneBlock
+use Rattle.reasoning.proofs.Counted.{fails-here, outside-here, outside-then}
+
+-- the constraints cs are left, the next auxiliary is `first`, and d is the record
+pub record Due (β : ℕ → Bounds) (s : ℕ → Bool) (cs : List Constraint) (first : ℕ) (d : Encoded) : Type 0 where
+  pub room : first ≤ 4096
+  pub recorded : Recorded d
+  pub many : length d ≡ 256
+  pub fine : Fine β s first d cs
+  pub formed : AllFormed β s first d cs
+
+module _ {β : ℕ → Bounds} {s : ℕ → Bool} {c : Constraint} {cs : List Constraint} {first : ℕ} {d : Encoded} (l : Due β s (c ∷ cs) first d) where
+  pub reads : Reads first (blockOf β s d c)
+  reads = OneBlock.reads β s first d c (l .fine .0) (l .fine .1) (l .fine .2) (l .formed .0)
+
+  pub due-after : Due β s cs (first + length (blockOf β s d c .auxiliaries)) (encodedAfter s first d (encodes (choice c)))
+  due-after = record {
+    room = l .fine .2;
+    recorded = recorded-after s first d (encodes (choice c)) (omega (arith, l .room)) (l .recorded);
+    many = length-after s first d (encodes (choice c)) ∙ l .many;
+    fine = l .fine .3;
+    formed = l .formed .1;
+  }
+
+start : (ws : List ℕ) → Passes ws → Due (bounds ws) (shared ws) (constraints ws) (length (variables ws)) noneYet
+unfolding bounds
+start ws h = record { room = omega (arith, Accepted.few-variables ws (passes-read ws h)); recorded = recorded-none; many = none-many; fine = passes-fine ws h; formed = well-formed ws h }
+
+module _ {ws hs : List ℕ} {r : Read} {ls us : List ℤ} {uses : List ℕ} {sums : List Bounds} {vs : List ℤ} (y : Ready ws hs r ls us uses sums vs) where
+  abbrev β : ℕ → Bounds
+  β = boundsOf ls us
+
+  abbrev s : ℕ → Bool
+  s = sharedBy uses
+
+  begun : Due (boundsOf ls us) (sharedBy uses) (constraints ws) (r .variables) noneYet
+  begun = rw (y .model .same, y .model .shares, y .model .seen .variables-counted) (start ws (y .passes))
+
+  -- the k-th constraint: its block can be laid and read
+  module _ {k first : ℕ} {d : Encoded} (l : Due (boundsOf ls us) (sharedBy uses) (drop k (constraints ws)) first d) (h : k < r .constraints) where
+    abbrev c : Constraint
+    c = headed ws (getD hs k 0)
+
+    pub here : Due (boundsOf ls us) (sharedBy uses) (headed ws (getD hs k 0) ∷ drop (k + 1) (constraints ws)) first d
+    here = subst (λ cs. Due β s cs first d) (head-at (y .model) k h) l
+
+    pub layable : (o : Bounds) → Layable ls us uses d (payload (wordAt ws (getD hs k 0))) (drop (getD hs k 0 + 1) ws) (getD sums k o) first
+    unfolding blockOf builtin choice tooWide
+    layable o = record {
+      near = l .room;
+      lowers = y .model .lowers;
+      uppers = y .model .uppers;
+      narrow = here .fine .0;
+      recorded = l .recorded;
+      summed = summed-at (y .model) k h o (y .sums-are);
+      reads = reads here;
+    }
+
+    pub room-after : first + length (blockOf (boundsOf ls us) (sharedBy uses) d (headed ws (getD hs k 0)) .auxiliaries) ≤ 4096
+    room-after = here .fine .2
+
+-- ---- the values of a block are there, where those of all that are left are
+
+pub record There (β : ℕ → Bounds) (s : ℕ → Bool) (ws : List ℕ) (vs : List ℤ) (k first : ℕ) (d : Encoded) : Type 0 where
+  pub count : first + length (auxiliariesFrom β s first d (drop k (constraints ws))) ≡ length vs
+
+module _ {β : ℕ → Bounds} {s : ℕ → Bool} {ws : List ℕ} {vs : List ℤ} {k first : ℕ} {d : Encoded} {c : Constraint} (h : There β s ws vs k first d)
+    (e : drop k (constraints ws) ≡ c ∷ drop (k + 1) (constraints ws)) where
+  abbrev own : List Bounds
+  own = blockOf β s d c .auxiliaries
+
+  abbrev later : List Bounds
+  later = auxiliariesFrom β s (first + length (blockOf β s d c .auxiliaries)) (encodedAfter s first d (encodes (choice c))) (drop (k + 1) (constraints ws))
+
+  own-and-later : auxiliariesFrom β s first d (drop k (constraints ws)) ≡ own ++ later
+  unfolding eachBlock
+  own-and-later = ap (auxiliariesFrom β s first d) e
+
+  pub own-there : first + length (blockOf β s d c .auxiliaries) ≤ length vs
+  own-there = omega (arith, h .count, ap length own-and-later, length-append own later)
+
+  later-there : There β s ws vs (k + 1) (first + length (blockOf β s d c .auxiliaries)) (encodedAfter s first d (encodes (choice c)))
+  later-there = record { count = omega (arith, h .count, ap length own-and-later, length-append own later) }
+
+-- ---- the bounds that are left
+
+pub record Bounding (β : ℕ → Bounds) (s : ℕ → Bool) (ws : List ℕ) (vs : List ℤ) (k first : ℕ) (d : Encoded) : Type 0 where
+  pub walk : Due β s (drop k (constraints ws)) first d
+  pub there : There β s ws vs k first d
+  pub left : firstOutOfBounds (value vs) first (auxiliariesFrom β s first d (drop k (constraints ws))) holds ≡ firstOutOfBounds (value vs) (length (variables ws)) (auxiliaries ws) holds
+
+module _ {ws hs : List ℕ} {r : Read} {ls us : List ℤ} {uses : List ℕ} {sums : List Bounds} {vs : List ℤ} (y : Ready ws hs r ls us uses sums vs) where
+  all-auxiliaries : auxiliariesFrom (boundsOf ls us) (sharedBy uses) (r .variables) noneYet (constraints ws) ≡ auxiliaries ws
+  unfolding auxiliaries
+  all-auxiliaries = rw (y .model .same, y .model .shares, y .model .seen .variables-counted)
+
+  pub bounding : Bounding (boundsOf ls us) (sharedBy uses) ws vs 0 (r .variables) noneYet
+  bounding = record {
+    walk = begun y;
+    there = record { count = omega (arith, ap length all-auxiliaries, y .model .seen .variables-counted, y .counted) };
+    left = rw (all-auxiliaries, y .model .seen .variables-counted);
+  }
+
+module _ {β : ℕ → Bounds} {s : ℕ → Bool} {ws : List ℕ} {vs : List ℤ} {k first : ℕ} {d : Encoded} (b : Bounding β s ws vs k first d) where
+  pub bounded-all : length (constraints ws) ≤ k → holds ≡ firstOutOfBounds (value vs) (length (variables ws)) (auxiliaries ws) holds
+  unfolding firstOutOfBounds eachBlock
+  bounded-all h = rw (drop-of-length-le (constraints ws) h) at (b .left)
+
+  module _ {c : Constraint} (e : drop k (constraints ws) ≡ c ∷ drop (k + 1) (constraints ws)) where
+    abbrev A : List Bounds
+    A = blockOf β s d c .auxiliaries
+
+    abbrev As : List Bounds
+    As = auxiliariesFrom β s (first + length (blockOf β s d c .auxiliaries)) (encodedAfter s first d (encodes (choice c))) (drop (k + 1) (constraints ws))
+
+    joined : firstOutOfBounds (value vs) first A (firstOutOfBounds (value vs) (first + length A) As holds) ≡ firstOutOfBounds (value vs) (length (variables ws)) (auxiliaries ws) holds
+    joined = sym (outside-then (value vs) first A As holds) ∙ ap (λ (l : List Bounds). firstOutOfBounds (value vs) first l holds) (sym (own-and-later (b .there) e)) ∙ b .left
+
+    module _ {r : Said} (o : Outside vs first (blockOf β s d c) r) where
+      pub bounding-stop : isHolds (verdict (r .said)) ≡ false → verdict (r .said) ≡ firstOutOfBounds (value vs) (length (variables ws)) (auxiliaries ws) holds
+      bounding-stop f = o .says ∙ outside-here (value vs) first A (firstOutOfBounds (value vs) (first + length A) As holds) (rw (o .says) at f) ∙ joined
+
+      pub bounding-more : {d′ : Encoded} → isHolds (verdict (r .said)) ≡ true → d′ ≡ encodedAfter s first d (encodes (choice c)) → Bounding β s ws vs (k + 1) (first + r .auxiliaries) d′
+      bounding-more t m =
+          rw (o .auxiliaries, m)
+          record {
+            walk = due-after (subst (λ cs. Due β s cs first d) e (b .walk));
+            there = later-there (b .there) e;
+            left = next (value vs) (firstOutOfBounds (value vs) (first + length A) As holds) first A (is-holds _ (rw (o .says) at t)) ∙ joined;
+          }
+
+-- ---- the rows that are left
+
+pub record Seeking (β : ℕ → Bounds) (s : ℕ → Bool) (σ : Valuation) (ws : List ℕ) (vs : List ℤ) (k first rows : ℕ) (d : Encoded) : Type 0 where
+  pub walk : Due β s (drop k (constraints ws)) first d
+  pub there : There β s ws vs k first d
+  pub small : rows ≤ 1000000 * k
+  pub left : firstFailing σ (value vs) rows k (explainedFrom β s first d (drop k (constraints ws))) ≡ firstFailing σ (value vs) 0 0 (explained ws)
+
+module _ {ws hs : List ℕ} {r : Read} {ls us : List ℤ} {uses : List ℕ} {sums : List Bounds} {vs : List ℤ} (y : Ready ws hs r ls us uses sums vs) where
+  all-explained : explainedFrom (boundsOf ls us) (sharedBy uses) (r .variables) noneYet (constraints ws) ≡ explained ws
+  unfolding explained
+  all-explained = rw (y .model .same, y .model .shares, y .model .seen .variables-counted)
+
+  pub seeking : (σ : Valuation) → Seeking (boundsOf ls us) (sharedBy uses) σ ws vs 0 (r .variables) 0 noneYet
+  seeking σ = record { walk = begun y; there = bounding y .there; small = omega arith; left = ap (firstFailing σ (value vs) 0 0) all-explained }
+
+module _ {β : ℕ → Bounds} {s : ℕ → Bool} {σ : Valuation} {ws : List ℕ} {vs : List ℤ} {k first rows : ℕ} {d : Encoded} (b : Seeking β s σ ws vs k first rows d) where
+  pub sought-all : length (constraints ws) ≤ k → none ≡ firstFailing σ (value vs) 0 0 (explained ws)
+  unfolding firstFailing eachBlock
+  sought-all h = rw (drop-of-length-le (constraints ws) h) at (b .left)
+
+  module _ {c : Constraint} (e : drop k (constraints ws) ≡ c ∷ drop (k + 1) (constraints ws)) where
+    abbrev R : Answer
+    R = firstFalse (satisfied (value vs)) rows (rowsAt first (blockOf β s d c))
+
+    abbrev after : Reason
+    after = firstFailing σ (value vs) (rows + length (rowsAt first (blockOf β s d c))) (k + 1)
+        (explainedFrom β s (first + length (blockOf β s d c .auxiliaries)) (encodedAfter s first d (encodes (choice c))) (drop (k + 1) (constraints ws)))
+
+    joined-rows : inBlock R k (meaning σ (builtin c)) after ≡ firstFailing σ (value vs) 0 0 (explained ws)
+    unfolding firstFailing eachBlock
+    joined-rows = rw e at (b .left)
+
+    module _ {r : Said} (o : Failing vs first rows (blockOf β s d c) r) where
+      pub seeking-stop : isHolds (verdict (r .said)) ≡ false → inBlock (verdict (r .said)) k (meaning σ (builtin c)) none ≡ firstFailing σ (value vs) 0 0 (explained ws)
+      seeking-stop f = rw (o .says) (fails-here (satisfied (value vs)) rows (rowsAt first (blockOf β s d c)) k _ none after (rw (o .says) at f) ∙ joined-rows)
+
+      pub seeking-more : {d′ : Encoded} → isHolds (verdict (r .said)) ≡ true → d′ ≡ encodedAfter s first d (encodes (choice c)) → Seeking β s σ ws vs (k + 1) (first + r .auxiliaries) (rows + r .rows) d′
+      seeking-more t q =
+          let n : R ≡ holds = sym (o .says) ∙ is-holds (verdict (r .said)) t in
+          let m : length (rowsAt first (blockOf β s d c)) ≡ length (blockOf β s d c .rows) = length-map (blockOf β s d c .rows) (rename (numbered first)) in
+          let z : rows + r .rows ≤ 1000000 * (k + 1) = omega (arith, b .small, o .few) in
+          let p : r .rows ≡ length (rowsAt first (blockOf β s d c)) = o .rows ∙ sym m in
+          record {
+            walk = rw (o .auxiliaries, q) (due-after (subst (λ cs. Due β s cs first d) e (b .walk)));
+            there = rw (o .auxiliaries, q) (later-there (b .there) e);
+            small = z;
+            left = rw (o .auxiliaries, p, q) (rw n at joined-rows);
+          }
+
+-- ---- the source values
+
+module _ {ws hs : List ℕ} {r : Read} {ls us : List ℤ} {uses : List ℕ} {sums : List Bounds} {vs : List ℤ} (y : Ready ws hs r ls us uses sums vs) where
+  enough-values : r .variables ≤ length vs
+  enough-values = omega (arith, y .model .seen .variables-counted, y .counted)
+
+  pub sources-length : r .variables ≡ length (take (r .variables) vs)
+  sources-length = sym (length-take-le (r .variables) vs enough-values)
+
+  pub sources-small : Small vs → Small (take (r .variables) vs)
+  unfolding value
+  sources-small h x = go (ltb x (r .variables)) refl
+    where
+      n : ℕ
+      n = r .variables
+
+      go : (b : Bool) → ltb x n ≡ b → Near (getD (take n vs) x (pos 0))
+      go true t = rw (getD-take n vs x (pos 0) (ltb-true x n t)) (h x)
+      go false t = rw (List·getD-eq-default (take n vs) (pos 0) {n = x} (omega (arith, sources-length, ltb-false x n t))) (omega arith)

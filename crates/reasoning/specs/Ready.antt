@@ -1,0 +1,107 @@
+-- What the walks over the blocks stand on, and what one block says.
+use mathlib.Core.Path.{_≡_}
+use mathlib.Core.Bool.{false}
+use mathlib.Core.List.{List, [], _∷_, _++_, map}
+use Prim.Native.Nat.{ℕ, _+_, _*_, _≤_}
+use lib.IntN.{ℤ}
+use lib.ListN.{length, take, drop}
+use Rattle.integers.specs.Terms.{value}
+use Rattle.integers.specs.declared.Bounds.{Bounds}
+use Rattle.words.specs.Word.{word}
+use Rattle.words.specs.Kind as Kind
+use Rattle.words.specs.Variables.{variables}
+use Rattle.words.specs.Answer.{Answer, refused, counts, written, holds, outOfBounds, isFalse}
+use Rattle.words.specs.Refusal.{accepted}
+use Rattle.words.specs.Judge.{firstFalse, firstOutOfBounds}
+use Rattle.words.specs.Verdict.{verdict}
+use Rattle.modelreading.specs.declared.Read.{Read}
+use Rattle.rowsystems.specs.Row.{Row, rename, satisfied}
+use Rattle.rowsystems.specs.RowSystem.{rows}
+use Rattle.rowsystems.specs.declared.Due.the-variants.{Item}
+use Rattle.rowreading.specs.Onward.{onward}
+use Rattle.rules.specs.Block.{Block, blockWords, numbered, outside}
+use Rattle.rules.specs.Shared.{Encoded}
+use Rattle.rules.specs.Translation.{blockOf, auxiliaries}
+use Rattle.rules.specs.Check.{tooWide}
+use Rattle.sharing.specs.SharedSolutions.{Passes}
+use Rattle.laying.specs.declared.Laid.{Laid}
+use Rattle.extremes.specs.Bounded.{boundsOf, Bounded}
+use Rattle.linearsums.specs.Sum.{Summed}
+use Rattle.encodings.specs.Uses.{sharedBy, Recorded}
+use Rattle.translation.specs.Walk.{constraintOf}
+use Rattle.translation.specs.ModelBounds.{ModelBounds, modelSums}
+use Rattle.reasoning.specs.declared.Said.{Said}
+
+-- a block's words and an end word; its rows, numbered
+abbrev pub ended : ℕ → Block → List ℕ
+ended first B = blockWords first B ++ (word Kind.rowsEnd 0 ∷ [])
+
+abbrev pub rowsAt : ℕ → Block → List (Row ℕ)
+rowsAt first B = map (rename (numbered first)) (B .rows)
+
+-- they are few, all numbers are in the range, the bounds are read first, then the rows
+pub record Reads (first : ℕ) (B : Block) : Type 0 where
+  pub few : length (blockWords first B) ≤ 2800
+  pub fits : outside B ≡ false
+  pub the-bounds : variables (ended first B) ≡ B .auxiliaries
+  pub bounds-first : 2 * length (B .auxiliaries) ≤ length (blockWords first B)
+  pub no-more : variables (drop (2 * length (B .auxiliaries)) (ended first B)) ≡ []
+  pub the-rows : rows (drop (2 * length (B .auxiliaries)) (ended first B)) ≡ rowsAt first B
+  pub accepts : onward Item (first + length (B .auxiliaries)) (2 * length (B .auxiliaries)) (ended first B) ≡ accepted
+
+-- the block of a code and the words after its head
+abbrev pub blockAt : List ℤ → List ℤ → List ℕ → Encoded → ℕ → List ℕ → Block
+blockAt ls us uses e code args = blockOf (boundsOf ls us) (sharedBy uses) e (constraintOf code args)
+
+-- what the writer of a block needs
+pub record Layable (ls us : List ℤ) (uses : List ℕ) (e : Encoded) (code : ℕ) (args : List ℕ) (sum : Bounds) (first : ℕ) : Type 0 where
+  pub near : first ≤ 4096
+  pub lowers : Bounded ls
+  pub uppers : Bounded us
+  pub narrow : tooWide (boundsOf ls us) (sharedBy uses) (constraintOf code args) ≡ false
+  pub recorded : Recorded e
+  pub summed : Summed (boundsOf ls us) code args sum
+  pub reads : Reads first (blockAt ls us uses e code args)
+
+-- the words of a block at the front of a list, and what they count
+pub record Front (first : ℕ) (B : Block) (r : Laid) (out : List ℕ) : Type 0 where
+  pub words : r .words ≡ length (blockWords first B)
+  pub auxiliaries : r .auxiliaries ≡ length (B .auxiliaries)
+  pub rows : r .rows ≡ length (B .rows)
+  pub small : r .words + r .auxiliaries + r .rows ≤ 1000000
+  pub front : take (r .words + 1) out ≡ ended first B
+
+-- the number of a variable counted on from k; it is at most n
+abbrev pub shift : ℕ → Answer → Answer
+shift k (refused n p) = refused n p
+shift k (counts v c a r w) = counts v c a r w
+shift k (written n) = written n
+shift k holds = holds
+shift k (outOfBounds i) = outOfBounds (k + i)
+shift k (isFalse i) = isFalse i
+
+abbrev pub Below : ℕ → Answer → Type 0
+Below n (refused m p) = Unit {0}
+Below n (counts v c a r w) = Unit {0}
+Below n (written m) = Unit {0}
+Below n holds = Unit {0}
+Below n (outOfBounds i) = i ≤ n
+Below n (isFalse i) = Unit {0}
+
+-- what is said of a block's bounds, and of its rows, counted from k
+pub record Outside (vs : List ℤ) (first : ℕ) (B : Block) (r : Said) : Type 0 where
+  pub says : verdict (r .said) ≡ firstOutOfBounds (value vs) first (B .auxiliaries) holds
+  pub auxiliaries : r .auxiliaries ≡ length (B .auxiliaries)
+
+pub record Failing (vs : List ℤ) (first k : ℕ) (B : Block) (r : Said) : Type 0 where
+  pub says : verdict (r .said) ≡ firstFalse (satisfied (value vs)) k (rowsAt first B)
+  pub auxiliaries : r .auxiliaries ≡ length (B .auxiliaries)
+  pub rows : r .rows ≡ length (B .rows)
+  pub few : r .rows ≤ 1000000
+
+-- a model that passes the check, with its bounds, its sums, and as many values as its row system has variables
+pub record Ready (ws hs : List ℕ) (r : Read) (ls us : List ℤ) (uses : List ℕ) (sums : List Bounds) (vs : List ℤ) : Type 0 where
+  pub passes : Passes ws
+  pub model : ModelBounds ws hs r ls us uses
+  pub sums-are : sums ≡ modelSums ws hs r ls us
+  pub counted : length vs ≡ length (variables ws) + length (auxiliaries ws)

@@ -1,0 +1,111 @@
+// One block, laid into a lent list and judged there by itself.
+ghost use mathlib.Core.Path.{_≡_};
+ghost use Prim.Native.Nat.{_+_, _≤_};
+ghost use lib.ListN.{length};
+ghost use Rattle.words.specs.Small.{Small};
+ghost use Rattle.words.specs.Verdict.{verdict};
+ghost use Rattle.reasoning.specs.Ready.{Layable, Front, Outside, Failing, blockAt, shift, Below};
+use crate::Said;
+use crate::rows::first_false;
+use integers::Bounds;
+use laying::Laid;
+use translation::blocks::block;
+use variables::first_out_of_bounds;
+use words::Verdict;
+use words::kind;
+use words::lay;
+use words::word_of;
+
+// Lays the block of a constraint and an end word to the front of the list.
+fn lay_block(
+    words: &mut [u32],
+    code: usize,
+    args: &[u32],
+    ls: &[i64],
+    us: &[i64],
+    uses: &[usize],
+    encoded: &[usize],
+    sum: Bounds,
+    first: usize,
+) -> Laid
+    requires { ⌜ Layable (now ls) (now us) (now uses) (now encoded) code (now args) sum first × (2801 ≤ length (now words)) ⌝ }
+    ensures { λ r. ⌜ Front first (blockAt (now (ls .entry)) (now (us .entry)) (now (uses .entry)) (now (encoded .entry)) code (now (args .entry))) r (now (words .exit)) ⌝ }
+{
+    let laid = block(words, code, args, ls, us, uses, encoded, sum, first);
+    let end = [word_of(kind::ROWS_END, 0)];
+    lay(words, laid.words, &end);
+    laid
+}
+
+// The number of a variable counted on from k.
+fn counted_on(answer: Verdict, k: usize) -> Verdict
+    requires { ⌜ Below 1000000 (verdict answer) × (k ≤ 4096) ⌝ }
+    ensures { λ r. ⌜ verdict r ≡ shift k (verdict answer) ⌝ }
+{
+    match answer {
+        Verdict::Refused(refusal) => Verdict::Refused(refusal),
+        Verdict::Holds => Verdict::Holds,
+        Verdict::OutOfBounds(i) => Verdict::OutOfBounds(k + i),
+        Verdict::False(i) => Verdict::False(i),
+    }
+}
+
+// The first auxiliary of a block whose value is out of its bounds.
+pub fn outside_in_block(
+    words: &mut [u32],
+    code: usize,
+    args: &[u32],
+    ls: &[i64],
+    us: &[i64],
+    uses: &[usize],
+    encoded: &[usize],
+    sum: Bounds,
+    first: usize,
+    values: &[i32],
+) -> Said
+    requires { ⌜ Layable (now ls) (now us) (now uses) (now encoded) code (now args) sum first × (2801 ≤ length (now words)) × (first + length (blockAt (now ls) (now us) (now uses) (now encoded) code (now args) .auxiliaries) ≤ length (now values)) ⌝ }
+    ensures { λ r. ⌜ Outside (now (values .entry)) first (blockAt (now (ls .entry)) (now (us .entry)) (now (uses .entry)) (now (encoded .entry)) code (now (args .entry))) r ⌝ }
+{
+    let laid = lay_block(words, code, args, ls, us, uses, encoded, sum, first);
+    let found = first_out_of_bounds(
+        &words[..laid.words + 1],
+        &values[first..first + laid.auxiliaries],
+    );
+    Said {
+        said: counted_on(found, first),
+        auxiliaries: laid.auxiliaries,
+        rows: laid.rows,
+    }
+}
+
+// The first row of a block that fails, counted from k.
+pub fn failing_in_block(
+    words: &mut [u32],
+    code: usize,
+    args: &[u32],
+    ls: &[i64],
+    us: &[i64],
+    uses: &[usize],
+    encoded: &[usize],
+    sum: Bounds,
+    first: usize,
+    values: &[i32],
+    k: usize,
+) -> Said
+    requires { ⌜ Layable (now ls) (now us) (now uses) (now encoded) code (now args) sum first × (2801 ≤ length (now words)) × Small (now values) × (first + length (blockAt (now ls) (now us) (now uses) (now encoded) code (now args) .auxiliaries) ≤ length (now values)) × (k ≤ 1000000000) ⌝ }
+    ensures { λ r. ⌜ Failing (now (values .entry)) first k (blockAt (now (ls .entry)) (now (us .entry)) (now (uses .entry)) (now (encoded .entry)) code (now (args .entry))) r ⌝ }
+{
+    let laid = lay_block(words, code, args, ls, us, uses, encoded, sum, first);
+    let found = first_false(
+        &words[..laid.words + 1],
+        values,
+        first + laid.auxiliaries,
+        2 * laid.auxiliaries,
+        k,
+    );
+    Said {
+        said: found,
+        auxiliaries: laid.auxiliaries,
+        rows: laid.rows,
+    }
+}

@@ -1,0 +1,129 @@
+// Which builtin lies behind a failed row.
+ghost use mathlib.Core.Path.{_≡_};
+ghost use lib.ListN.{length};
+ghost use Rattle.words.specs.Verdict.{verdict};
+ghost use Rattle.rules.specs.Translation.{auxiliaries};
+ghost use Rattle.sharing.specs.SharedSolutions.{Passes};
+ghost use Rattle.translation.specs.ModelBounds.{ModelBounds, modelSums};
+ghost use Rattle.reasons.specs.Reason.{reason as reasonAnswer, answerOr, none};
+ghost use Rattle.reasoning.specs.Told.{told};
+use integers::Bounds;
+use modelreading::Read;
+use modelreading::read_model;
+use translation::Checked;
+use translation::checking::check_read;
+use translation::checking::model_bounds;
+use variables::first_out_of_bounds;
+use walks::first_failing;
+use walks::outside_in_blocks;
+use words::Refusal;
+use words::Verdict;
+use words::fault;
+use words::is_holds;
+
+mod blocks;
+mod rows;
+mod walks;
+
+// The reason that is named.
+pub enum Reasoned {
+    Refused(Refusal),
+    OutOfBounds(usize),
+    Nothing,
+    // the first failing row, the constraint whose block holds it, whether that builtin is true of the source values
+    Because {
+        row: usize,
+        constraint: usize,
+        holds: bool,
+    },
+}
+
+// What is said of one block, and what it counts.
+pub struct Said {
+    pub said: Verdict,
+    pub auxiliaries: usize,
+    pub rows: usize,
+}
+
+// What is answered before the rows.
+fn before_rows(answer: Verdict) -> Reasoned
+    ensures { λ r. ⌜ told r ≡ answerOr (verdict answer) none ⌝ }
+{
+    match answer {
+        Verdict::Refused(refusal) => Reasoned::Refused(refusal),
+        Verdict::Holds => Reasoned::Nothing,
+        Verdict::OutOfBounds(i) => Reasoned::OutOfBounds(i),
+        Verdict::False(_) => Reasoned::Nothing,
+    }
+}
+
+// Of a model that passes the check, with this number of auxiliaries.
+fn reason_passed(
+    ws: &[u32],
+    heads: &[usize; 256],
+    read: Read,
+    ls: &[i64],
+    us: &[i64],
+    uses: &[usize],
+    sums: [Bounds; 256],
+    values: &[i32],
+    added: usize,
+) -> Reasoned
+    requires { ⌜ ModelBounds (now ws) (now heads) read (now ls) (now us) (now uses) × (sums ≡ modelSums (now ws) (now heads) read (now ls) (now us)) × Passes (now ws) × (added ≡ length (auxiliaries (now ws))) ⌝ }
+    ensures { λ r. ⌜ told r ≡ reasonAnswer (now (ws .entry)) (now (values .entry)) ⌝ }
+{
+    let sources = read.variables;
+    if values.len() != sources + added {
+        return Reasoned::Refused(Refusal {
+            number: fault::WRONG_VALUE_COUNT,
+            place: 0,
+        });
+    }
+    let outside = first_out_of_bounds(ws, &values[..sources]);
+    if !is_holds(outside) {
+        return before_rows(outside);
+    }
+    let added_outside = outside_in_blocks(ws, heads, read, ls, us, uses, sums, values);
+    if !is_holds(added_outside) {
+        return before_rows(added_outside);
+    }
+    first_failing(ws, heads, read, ls, us, uses, sums, values)
+}
+
+// The first failing row, the constraint whose block holds it, and whether its builtin is true; faults and bounds come first.
+pub fn reason(ws: &[u32], values: &[i32]) -> Reasoned
+    ensures { λ r. ⌜ told r ≡ reasonAnswer (now (ws .entry)) (now (values .entry)) ⌝ }
+{
+    let mut heads = [0usize; 256];
+    let read = read_model(ws, &mut heads);
+    if read.number != fault::NONE {
+        return Reasoned::Refused(Refusal {
+            number: read.number,
+            place: read.place,
+        });
+    }
+    let mut lowers = [0i64; 256];
+    let mut uppers = [0i64; 256];
+    let mut uses = [0usize; 256];
+    let sums = model_bounds(ws, &heads, read, &mut lowers, &mut uppers, &mut uses);
+    match check_read(ws, &heads, read, &lowers, &uppers, &uses, sums) {
+        Checked::Refused(refusal) => Reasoned::Refused(refusal),
+        Checked::Counts {
+            variables: _,
+            constraints: _,
+            auxiliaries,
+            rows: _,
+            words: _,
+        } => reason_passed(
+            ws,
+            &heads,
+            read,
+            &lowers,
+            &uppers,
+            &uses,
+            sums,
+            values,
+            auxiliaries,
+        ),
+    }
+}

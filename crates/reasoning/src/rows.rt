@@ -1,0 +1,40 @@
+// The rows of words from a place on.
+ghost use mathlib.Core.Path.{_≡_};
+ghost use mathlib.Core.List.{[]};
+ghost use Prim.Native.Nat.{_≤_};
+ghost use lib.ListN.{drop};
+ghost use Rattle.integers.specs.Terms.{value};
+ghost use Rattle.words.specs.Refusal.{accepted};
+ghost use Rattle.words.specs.Judge.{firstFalse};
+ghost use Rattle.words.specs.Variables.{variables};
+ghost use Rattle.words.specs.Verdict.{verdict};
+ghost use Rattle.rowsystems.specs.Row.{satisfied};
+ghost use Rattle.rowsystems.specs.RowSystem.{rows};
+ghost use Rattle.rowreading.specs.Onward.{onward, Placed};
+ghost use Rattle.rowjudge.specs.Passing.{Known};
+use rowjudge::items::see_item;
+use rowsystems::Due;
+use words::Verdict;
+use words::fault;
+use words::word_at;
+
+// The first row or product from a place on that is false, counted from k; the words from there on are rows, products and the end, over n variables.
+pub fn first_false(ws: &[u32], values: &[i32], n: usize, start: usize, k: usize) -> Verdict
+    requires { ⌜ Placed (now ws) start × Known (now values) n × (onward Due.Item n start (now ws) ≡ accepted) × (variables (drop start (now ws)) ≡ []) × (k ≤ 1000000000) ⌝ }
+    ensures { λ r. ⌜ verdict r ≡ firstFalse (satisfied (value (now (values .entry)))) k (rows (drop start (now (ws .entry)))) ⌝ }
+{
+    let mut at = start;
+    let mut row = k;
+    loop {
+        let head = word_at(ws, at);
+        let seen = see_item(ws, false, head, n, at, values);
+        if seen.number != fault::NONE {
+            return Verdict::Holds;
+        }
+        if !seen.holds {
+            return Verdict::False(row);
+        }
+        at = seen.at;
+        row += 1;
+    }
+}
