@@ -14,7 +14,7 @@ use words::Verdict;
 use words::fault;
 
 // The first false constraint, else "holds"; the first n of heads are the places of the constraints.
-fn first_false(ws: &[u32], heads: &[usize; 256], n: usize, values: &[i32]) -> Verdict
+pub fn first_false(ws: &[u32], heads: &[usize; 256], n: usize, values: &[i32]) -> Verdict
     requires { ⌜ Heads (now ws) (now heads) n × Small (now values) ⌝ }
     ensures { λ r. ⌜ verdict r ≡ firstFalse (λ c. meaning (value (now (values .entry))) (builtin c)) 0 (constraints (now (ws .entry))) ⌝ }
 {

@@ -1,0 +1,126 @@
+-- The lists from a list on: that list, then those from the next one on; from the first list on they are all.
+use mathlib.Core.Path.{_≡_, refl, sym, ap, _∙_, fun-ext}
+use mathlib.Core.Bool.{Bool, true, false, not, _&&_}
+use mathlib.Core.List.{List, [], _∷_, _++_, flatMap}
+use Prim.Native.Nat.{ℕ, suc}
+use native.Mathlib.Omega.{arith}
+use lib.IntN.{ℤ, pos}
+use lib.Signed.{ltZ}
+use Rattle.integers.specs.Choice.{_if_else_}
+use Rattle.integers.specs.Number.{_⊕_, _⊖_, count, +1}
+use Rattle.integers.specs.Lists.{listOf}
+use Rattle.integers.specs.Bounds.{_to_, within, width, values}
+use Rattle.integers.specs.declared.Bounds.{Bounds}
+use Rattle.integers.proofs.Linear.{_⊑_, _⊏_, linear}
+use Rattle.integers.proofs.Tests.{says-lt, says-within, false-true}
+use Rattle.solutions.specs.Lists.{begun, valueLists}
+use Rattle.solutions.specs.Inside.{Inside, lowest}
+use Rattle.solutions.specs.Odometer.{isLast, turned, next, listsFrom}
+
+-- ---- the values from a number on
+
+values-step : (l u : ℤ) → l ⊑ u → values (l to u) ≡ l ∷ values (l ⊕ +1 to u)
+unfolding values width listOf
+values-step l u h =
+    let e : count (u ⊖ l ⊕ +1) ≡ suc (count (u ⊖ (l ⊕ +1) ⊕ +1)) = wider l u h in
+    ap (listOf (λ k. l ⊕ pos k)) e ∙ ap (λ z. z ∷ listOf (λ k. l ⊕ pos (suc k)) (count (u ⊖ (l ⊕ +1) ⊕ +1))) (plain l)
+    ∙ ap (λ (f : ℕ → ℤ). l ∷ listOf f (count (u ⊖ (l ⊕ +1) ⊕ +1))) (fun-ext (moved l))
+  where
+    wider : (l u : ℤ) → l ⊑ u → count (u ⊖ l ⊕ +1) ≡ suc (count (u ⊖ (l ⊕ +1) ⊕ +1))
+    wider = simp linear (omega arith)
+
+    plain : (l : ℤ) → l ⊕ pos 0 ≡ l
+    plain = simp linear (omega arith)
+
+    moved : (l : ℤ) (k : ℕ) → l ⊕ pos (suc k) ≡ l ⊕ +1 ⊕ pos k
+    moved = simp linear (omega arith)
+
+values-none : (l u : ℤ) → u ⊏ l → values (l to u) ≡ []
+unfolding values width listOf
+values-none l u h = ap (listOf (λ k. l ⊕ pos k)) (none l u h)
+  where
+    none : (l u : ℤ) → u ⊏ l → count (u ⊖ l ⊕ +1) ≡ 0
+    none = simp linear (omega arith)
+
+-- ---- tests
+
+below : (v u : ℤ) → ltZ v u ≡ true → v ⊕ +1 ⊑ u
+below v u e = at v u (says-lt v u .0 e)
+  where
+    at : (v u : ℤ) → v ⊏ u → v ⊕ +1 ⊑ u
+    at = simp linear (omega arith)
+
+not-below : (v u : ℤ) → ltZ v u ≡ false → u ⊏ v ⊕ +1
+not-below v u e = at v u (λ h. false-true (sym e ∙ says-lt v u .1 h))
+  where
+    at : (v u : ℤ) → ¬ (v ⊏ u) → u ⊏ v ⊕ +1
+    at = simp linear (omega arith)
+
+ordered : (B : Bounds) (v : ℤ) → within B v ≡ true → B .lower ⊑ B .upper
+ordered B v h = at (B .lower) v (B .upper) (says-within B v .0 h)
+  where
+    at : (l v u : ℤ) → (l ⊑ v) × (v ⊑ u) → l ⊑ u
+    at = simp linear (omega arith)
+
+and-true : (a b : Bool) → (a && b) ≡ true → (a ≡ true) × (b ≡ true)
+and-true true b e = (refl, e)
+and-true false b e = false-true e
+
+-- ---- the first list
+
+pub from-lowest : (Bs : List Bounds) (vs : List ℤ) → Inside Bs vs → listsFrom Bs (lowest Bs) ≡ valueLists Bs
+unfolding listsFrom valueLists lowest flatMap
+from-lowest [] [] h = refl
+from-lowest [] (v ∷ vs) h = refl
+from-lowest (B ∷ Bs) [] h = absurd h
+from-lowest (B ∷ Bs) (v ∷ vs) h =
+    rw (from-lowest Bs vs (h .1), values-step (B .lower) (B .upper) (ordered B v (h .0)))
+
+-- after the last list comes the first
+next-lowest : (Bs : List Bounds) (vs : List ℤ) → Inside Bs vs → isLast Bs vs ≡ true → next Bs vs ≡ lowest Bs
+unfolding isLast next turned lowest
+next-lowest [] vs h e = refl
+next-lowest (B ∷ Bs) [] h e = absurd h
+next-lowest (B ∷ Bs) (v ∷ vs) h e =
+    let f = and-true (isLast Bs vs) _ e in
+    rw (f .0, flip (ltZ v (B .upper)) (f .1)) (ap (λ l. B .lower ∷ l) (next-lowest Bs vs (h .1) (f .0)))
+  where
+    flip : (b : Bool) → not b ≡ true → b ≡ false
+    flip true e = sym e
+    flip false e = refl
+
+-- ---- THE LAW: that list, then those from the next one on
+abbrev pub left : Bool → List Bounds → List ℤ → List (List ℤ)
+left more Bs vs = listsFrom Bs vs if more else []
+
+pub from-next : (Bs : List Bounds) (vs : List ℤ) → Inside Bs vs → listsFrom Bs vs ≡ vs ∷ left (not (isLast Bs vs)) Bs (next Bs vs)
+unfolding listsFrom isLast next begun turned flatMap
+from-next [] [] h = refl
+from-next [] (v ∷ vs) h = absurd h
+from-next (B ∷ Bs) [] h = absurd h
+from-next (B ∷ Bs) (v ∷ vs) h = go (isLast Bs vs) refl (ltZ v (B .upper)) refl (from-next Bs vs (h .1))
+  where
+    go : (l : Bool) → isLast Bs vs ≡ l → (t : Bool) → ltZ v (B .upper) ≡ t → listsFrom Bs vs ≡ vs ∷ left (not l) Bs (next Bs vs) →
+        begun (listsFrom Bs vs) v ++ flatMap (begun (valueLists Bs)) (values (v ⊕ +1 to B .upper))
+        ≡ (v ∷ vs) ∷ (begun (listsFrom Bs (next Bs vs)) (turned B v if l else v) ++ flatMap (begun (valueLists Bs)) (values ((turned B v if l else v) ⊕ +1 to B .upper)) if not (l && not t) else [])
+    go false e t f r = rw r
+    go true e true f r =
+        rw (r, f, next-lowest Bs vs (h .1) e, from-lowest Bs vs (h .1), values-step (v ⊕ +1) (B .upper) (below v (B .upper) f))
+    go true e false f r = rw (r, values-none (v ⊕ +1) (B .upper) (not-below v (B .upper) f))
+
+pub next-inside : (Bs : List Bounds) (vs : List ℤ) → Inside Bs vs → Inside Bs (next Bs vs)
+unfolding next turned
+next-inside [] vs h = tt
+next-inside (B ∷ Bs) [] h = absurd h
+next-inside (B ∷ Bs) (v ∷ vs) h = (go (isLast Bs vs) (ltZ v (B .upper)) refl, next-inside Bs vs (h .1))
+  where
+    at-lower : (l v u : ℤ) → (l ⊑ v) × (v ⊑ u) → (l ⊑ l) × (l ⊑ u)
+    at-lower = simp linear (omega arith)
+
+    one-up : (l v u : ℤ) → (l ⊑ v) × (v ⊑ u) → v ⊕ +1 ⊑ u → (l ⊑ v ⊕ +1) × (v ⊕ +1 ⊑ u)
+    one-up = simp linear (omega arith)
+
+    go : (l t : Bool) → ltZ v (B .upper) ≡ t → within B (turned B v if l else v) ≡ true
+    go false t e = h .0
+    go true true e = rw e (says-within B (v ⊕ +1) .1 (one-up (B .lower) v (B .upper) (says-within B v .0 (h .0)) (below v (B .upper) e)))
+    go true false e = rw e (says-within B (B .lower) .1 (at-lower (B .lower) v (B .upper) (says-within B v .0 (h .0))))

@@ -1,0 +1,41 @@
+-- What the walk through the value lists wants of the bounds of the first variables, which stand in two lists, and what it finds.
+use mathlib.Core.List.{List}
+use Prim.Native.Nat.{ℕ, _≤_}
+use lib.IntN.{ℤ}
+use lib.ListN.{length}
+use Rattle.integers.specs.Lists.{listOf}
+use Rattle.integers.specs.declared.Bounds.{Bounds}
+use Rattle.extremes.specs.Bounded.{boundsOf, Bounded}
+use Rattle.rules.specs.Shared.{keep}
+use Rattle.solutions.specs.Lists.{valueLists, listCount}
+use Rattle.solutions.specs.Inside.{Inside, lowest}
+use Rattle.solutions.specs.Odometer.{listsFrom}
+use Rattle.solutions.specs.Solutions.{listedVariables, mostLists, allTrue}
+
+-- the bounds of the first n variables
+abbrev pub boundsTo : List ℤ → List ℤ → ℕ → List Bounds
+boundsTo ls us n = listOf (boundsOf ls us) n
+
+-- the solutions from a list on
+abbrev pub solutionsFrom : List ℕ → List ℤ → List ℤ → List ℤ → List (List ℤ)
+solutionsFrom ws ls us vs = keep (allTrue ws) (listsFrom (boundsTo ls us (length vs)) vs)
+
+-- what the walk from the list vs on wants
+pub record Ready (ls us vs : List ℤ) : Type 0 where
+  pub lowers : Bounded ls
+  pub uppers : Bounded us
+  pub inside : Inside (boundsTo ls us (length vs)) vs
+  pub few : length (listsFrom (boundsTo ls us (length vs)) vs) ≤ mostLists
+  pub short : length vs ≤ listedVariables
+
+-- what the walk through all lists wants
+pub record Sized (ls us : List ℤ) (n : ℕ) : Type 0 where
+  pub lowers : Bounded ls
+  pub uppers : Bounded us
+  pub inside : Inside (boundsTo ls us n) (lowest (boundsTo ls us n))
+  pub few : listCount (boundsTo ls us n) ≤ mostLists
+  pub short : n ≤ listedVariables
+
+-- the solutions within these bounds
+abbrev pub solutionsIn : List ℕ → List ℤ → List ℤ → ℕ → List (List ℤ)
+solutionsIn ws ls us n = keep (allTrue ws) (valueLists (boundsTo ls us n))

@@ -1,0 +1,348 @@
+// Every solution of a small model: the value lists within its bounds, one after another, each judged by the places of the model's constraints.
+ghost use mathlib.Core.Path.{_≡_};
+ghost use mathlib.Core.Bool.{not};
+ghost use mathlib.Core.List.{flatten};
+ghost use Prim.Native.Nat.{min, _+_, _*_, _<_};
+ghost use lib.Dec.{ltb};
+ghost use lib.IntN.{natAbs};
+ghost use lib.ListN.{length, set};
+ghost use Rattle.words.specs.Overlay.{overlay};
+ghost use Rattle.words.specs.Variables.{variables};
+ghost use Rattle.arguments.specs.Small.{Small};
+ghost use Rattle.modelreading.specs.Seen.{Heads};
+ghost use Rattle.extremes.specs.Bounded.{Bounded};
+ghost use Rattle.sharing.specs.SharedSolutions.{Passes};
+ghost use Rattle.solutions.specs.Lists.{listCount};
+ghost use Rattle.solutions.specs.Inside.{lowest};
+ghost use Rattle.solutions.specs.Odometer.{isLast, next};
+ghost use Rattle.solutions.specs.Solutions.{allTrue, solutionsAnswer, listed};
+ghost use Rattle.solutions.specs.Found.{found};
+ghost use Rattle.solutions.specs.Walk.{boundsTo, solutionsFrom, solutionsIn, Ready, Sized};
+use arguments::test::below;
+use extremes::bound_at;
+use extremes::keep_bounds;
+use extremes::width_of;
+use integers::plus;
+use modeljudge::first_false;
+use modelreading::read_model;
+use translation::Checked;
+use translation::check;
+use words::Refusal;
+use words::fault;
+use words::is_holds;
+use words::value_at;
+
+// The most variables and value lists of a model whose solutions are listed; one more than these lists.
+const LISTED_VARIABLES: usize = 8;
+
+const VALUE_LISTS: usize = 65536;
+
+const CAP: usize = 65537;
+
+// The number of the fault of a model that passes either limit.
+const TOO_MANY_LISTS: u32 = 22;
+
+// What listing the solutions answers.
+pub enum Found {
+    Refused(Refusal),
+    // how many there are
+    Solutions(usize),
+}
+
+// A count, or 65,537 if it is more.
+fn capped(n: usize) -> usize
+    ensures { λ r. ⌜ r ≡ min n 65537 ⌝ }
+{
+    if n < CAP { n } else { CAP }
+}
+
+// How many value lists the bounds of n variables leave, capped.
+fn list_count(ls: &[i64], us: &[i64], n: usize) -> usize
+    requires { ⌜ Bounded (now ls) × Bounded (now us) ⌝ }
+    ensures { λ r. ⌜ r ≡ min (listCount (boundsTo (now (ls .entry)) (now (us .entry)) n)) 65537 ⌝ }
+{
+    let mut count = 1;
+    let mut i = 0;
+    while i < n {
+        let width = capped(width_of(bound_at(ls, i), bound_at(us, i)));
+        count = capped(count * width);
+        i += 1;
+    }
+    count
+}
+
+// Puts a value into a list, if the place is one of its places.
+fn put_value(values: &mut [i32], at: usize, v: i64)
+    requires { ⌜ natAbs v < 2147483648 ⌝ }
+    ensures { λ r. ⌜ now (values .exit) ≡ set (now (values .entry)) at v ⌝ }
+{
+    if at < values.len() {
+        values[at] = v as i32;
+    }
+}
+
+// Puts the first value list into a list.
+fn set_lowest(ls: &[i64], us: &[i64], values: &mut [i32])
+    requires { ⌜ Bounded (now ls) ⌝ }
+    ensures { λ r. ⌜ now (values .exit) ≡ lowest (boundsTo (now (ls .entry)) (now (us .entry)) (length (now (values .entry)))) ⌝ }
+{
+    let mut i = 0;
+    while i < values.len() {
+        put_value(values, i, bound_at(ls, i));
+        i += 1;
+    }
+}
+
+// Puts the next value list there, the first one after the last; whether it is not the first one.
+fn step(ls: &[i64], us: &[i64], values: &mut [i32]) -> bool
+    requires { ⌜ Bounded (now ls) × Bounded (now us) × Small (now values) ⌝ }
+    ensures more { λ r. ⌜ r ≡ not (isLast (boundsTo (now (ls .entry)) (now (us .entry)) (length (now (values .entry)))) (now (values .entry))) ⌝ }
+    ensures list { λ r. ⌜ now (values .exit) ≡ next (boundsTo (now (ls .entry)) (now (us .entry)) (length (now (values .entry)))) (now (values .entry)) ⌝ }
+{
+    let mut k = values.len();
+    while 0 < k {
+        k -= 1;
+        let v = value_at(values, k);
+        if below(v, bound_at(us, k)) {
+            put_value(values, k, plus(v, 1));
+            return true;
+        }
+        put_value(values, k, bound_at(ls, k));
+    }
+    false
+}
+
+// Whether every builtin is true of the values; the first m of heads are the places of the constraints.
+fn all_true(ws: &[u32], heads: &[usize; 256], m: usize, values: &[i32]) -> bool
+    requires { ⌜ Heads (now ws) (now heads) m × Small (now values) ⌝ }
+    ensures { λ r. ⌜ r ≡ allTrue (now (ws .entry)) (now (values .entry)) ⌝ }
+{
+    is_holds(first_false(ws, heads, m, values))
+}
+
+// How many solutions there are from a value list on.
+fn count_from(
+    ws: &[u32],
+    heads: &[usize; 256],
+    m: usize,
+    ls: &[i64],
+    us: &[i64],
+    values: &mut [i32],
+) -> usize
+    requires { ⌜ Heads (now ws) (now heads) m × Ready (now ls) (now us) (now values) ⌝ }
+    ensures { λ r. ⌜ r ≡ length (solutionsFrom (now (ws .entry)) (now (ls .entry)) (now (us .entry)) (now (values .entry))) ⌝ }
+{
+    let mut count = 0;
+    let mut more = true;
+    while more {
+        if all_true(ws, heads, m, values) {
+            count += 1;
+        }
+        more = step(ls, us, values);
+    }
+    count
+}
+
+// Lays values over a list from a place on, those that fit.
+fn lay_values(out: &mut [i32], at: usize, values: &[i32])
+    requires { ⌜ at + length (now values) < 1099511627776 ⌝ }
+    ensures { λ r. ⌜ now (out .exit) ≡ overlay (now (out .entry)) at (now (values .entry)) ⌝ }
+{
+    let mut i = 0;
+    while i < values.len() {
+        let place = at + i;
+        if place < out.len() {
+            out[place] = values[i];
+        }
+        i += 1;
+    }
+}
+
+// Lays the solutions from a value list on over the front of a list, one after another; how many there are.
+fn write_from(
+    ws: &[u32],
+    heads: &[usize; 256],
+    m: usize,
+    ls: &[i64],
+    us: &[i64],
+    values: &mut [i32],
+    out: &mut [i32],
+) -> usize
+    requires { ⌜ Heads (now ws) (now heads) m × Ready (now ls) (now us) (now values) ⌝ }
+    ensures count { λ r. ⌜ r ≡ length (solutionsFrom (now (ws .entry)) (now (ls .entry)) (now (us .entry)) (now (values .entry))) ⌝ }
+    ensures output { λ r. ⌜ now (out .exit) ≡ overlay (now (out .entry)) 0 (flatten (solutionsFrom (now (ws .entry)) (now (ls .entry)) (now (us .entry)) (now (values .entry)))) ⌝ }
+{
+    let mut count = 0;
+    let mut at = 0;
+    let mut more = true;
+    while more {
+        if all_true(ws, heads, m, values) {
+            lay_values(out, at, values);
+            at += values.len();
+            count += 1;
+        }
+        more = step(ls, us, values);
+    }
+    count
+}
+
+// How many solutions there are; the list holds the value lists that are gone through.
+fn count_all(
+    ws: &[u32],
+    heads: &[usize; 256],
+    m: usize,
+    ls: &[i64],
+    us: &[i64],
+    values: &mut [i32],
+) -> usize
+    requires { ⌜ Heads (now ws) (now heads) m × Sized (now ls) (now us) (length (now values)) ⌝ }
+    ensures { λ r. ⌜ r ≡ length (solutionsIn (now (ws .entry)) (now (ls .entry)) (now (us .entry)) (length (now (values .entry)))) ⌝ }
+{
+    set_lowest(ls, us, values);
+    count_from(ws, heads, m, ls, us, values)
+}
+
+// Lays all solutions over the front of a list; how many there are.
+fn write_all(
+    ws: &[u32],
+    heads: &[usize; 256],
+    m: usize,
+    ls: &[i64],
+    us: &[i64],
+    values: &mut [i32],
+    out: &mut [i32],
+) -> usize
+    requires { ⌜ Heads (now ws) (now heads) m × Sized (now ls) (now us) (length (now values)) ⌝ }
+    ensures count { λ r. ⌜ r ≡ length (solutionsIn (now (ws .entry)) (now (ls .entry)) (now (us .entry)) (length (now (values .entry)))) ⌝ }
+    ensures output { λ r. ⌜ now (out .exit) ≡ overlay (now (out .entry)) 0 (flatten (solutionsIn (now (ws .entry)) (now (ls .entry)) (now (us .entry)) (length (now (values .entry))))) ⌝ }
+{
+    set_lowest(ls, us, values);
+    write_from(ws, heads, m, ls, us, values, out)
+}
+
+// How many solutions there are within the bounds of n variables.
+fn count_in(ws: &[u32], heads: &[usize; 256], m: usize, ls: &[i64], us: &[i64], n: usize) -> usize
+    requires { ⌜ Heads (now ws) (now heads) m × Sized (now ls) (now us) n ⌝ }
+    ensures { λ r. ⌜ r ≡ length (solutionsIn (now (ws .entry)) (now (ls .entry)) (now (us .entry)) n) ⌝ }
+{
+    let mut values = [0i32; LISTED_VARIABLES];
+    count_all(ws, heads, m, ls, us, &mut values[..n])
+}
+
+// Lays the solutions within the bounds of n variables over the front of a list; how many there are.
+fn write_in(
+    ws: &[u32],
+    heads: &[usize; 256],
+    m: usize,
+    ls: &[i64],
+    us: &[i64],
+    n: usize,
+    out: &mut [i32],
+) -> usize
+    requires { ⌜ Heads (now ws) (now heads) m × Sized (now ls) (now us) n ⌝ }
+    ensures count { λ r. ⌜ r ≡ length (solutionsIn (now (ws .entry)) (now (ls .entry)) (now (us .entry)) n) ⌝ }
+    ensures output { λ r. ⌜ now (out .exit) ≡ overlay (now (out .entry)) 0 (flatten (solutionsIn (now (ws .entry)) (now (ls .entry)) (now (us .entry)) n)) ⌝ }
+{
+    let mut values = [0i32; LISTED_VARIABLES];
+    write_all(ws, heads, m, ls, us, &mut values[..n], out)
+}
+
+// Whether so many places are too few for the solutions; these are counted only where not all of the value lists would fit.
+fn too_short(
+    ws: &[u32],
+    heads: &[usize; 256],
+    m: usize,
+    ls: &[i64],
+    us: &[i64],
+    n: usize,
+    lists: usize,
+    room: usize,
+) -> bool
+    requires { ⌜ Heads (now ws) (now heads) m × Sized (now ls) (now us) n × (lists ≡ listCount (boundsTo (now ls) (now us) n)) ⌝ }
+    ensures { λ r. ⌜ r ≡ ltb room (length (solutionsIn (now (ws .entry)) (now (ls .entry)) (now (us .entry)) n) * n) ⌝ }
+{
+    if lists * n <= room {
+        return false;
+    }
+    let needed = count_in(ws, heads, m, ls, us, n) * n;
+    room < needed
+}
+
+// Lists the solutions where the output has room.
+fn list_solutions(
+    ws: &[u32],
+    heads: &[usize; 256],
+    m: usize,
+    ls: &[i64],
+    us: &[i64],
+    n: usize,
+    lists: usize,
+    out: &mut [i32],
+) -> Found
+    requires { ⌜ Heads (now ws) (now heads) m × Sized (now ls) (now us) n × (lists ≡ listCount (boundsTo (now ls) (now us) n)) × Passes (now ws) × (boundsTo (now ls) (now us) n ≡ variables (now ws)) ⌝ }
+    ensures answer { λ r. ⌜ found r ≡ solutionsAnswer (now (ws .entry)) (length (now (out .entry))) ⌝ }
+    ensures output { λ r. ⌜ now (out .exit) ≡ listed (now (ws .entry)) (now (out .entry)) ⌝ }
+{
+    if too_short(ws, heads, m, ls, us, n, lists, out.len()) {
+        return Found::Refused(Refusal {
+            number: fault::OUTPUT_TOO_SHORT,
+            place: 0,
+        });
+    }
+    Found::Solutions(write_in(ws, heads, m, ls, us, n, out))
+}
+
+// Of a model that passes the check.
+fn solutions_passed(ws: &[u32], out: &mut [i32]) -> Found
+    requires { ⌜ Passes (now ws) ⌝ }
+    ensures answer { λ r. ⌜ found r ≡ solutionsAnswer (now (ws .entry)) (length (now (out .entry))) ⌝ }
+    ensures output { λ r. ⌜ now (out .exit) ≡ listed (now (ws .entry)) (now (out .entry)) ⌝ }
+{
+    let mut heads = [0usize; 256];
+    let read = read_model(ws, &mut heads);
+    let n = read.variables;
+    let sources = read.sources;
+    if LISTED_VARIABLES < n {
+        return Found::Refused(Refusal {
+            number: TOO_MANY_LISTS,
+            place: 0,
+        });
+    }
+    let mut lowers = [0i64; 256];
+    let mut uppers = [0i64; 256];
+    keep_bounds(&ws[..sources], &mut lowers, &mut uppers);
+    let lists = list_count(&lowers, &uppers, n);
+    if VALUE_LISTS < lists {
+        return Found::Refused(Refusal {
+            number: TOO_MANY_LISTS,
+            place: 0,
+        });
+    }
+    list_solutions(
+        ws,
+        &heads,
+        read.constraints,
+        &lowers,
+        &uppers,
+        n,
+        lists,
+        out,
+    )
+}
+
+// Lists every solution to the front of the output; a refusal changes nothing.
+pub fn solutions(ws: &[u32], out: &mut [i32]) -> Found
+    ensures answer { λ r. ⌜ found r ≡ solutionsAnswer (now (ws .entry)) (length (now (out .entry))) ⌝ }
+    ensures output { λ r. ⌜ now (out .exit) ≡ listed (now (ws .entry)) (now (out .entry)) ⌝ }
+{
+    match check(ws) {
+        Checked::Refused(refusal) => Found::Refused(refusal),
+        Checked::Counts {
+            variables: _,
+            constraints: _,
+            auxiliaries: _,
+            rows: _,
+            words: _,
+        } => solutions_passed(ws, out),
+    }
+}
