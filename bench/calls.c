@@ -6,12 +6,13 @@
 #include <time.h>
 #include <ucontext.h>
 
-enum { MODEL = 8192, ROWS = 262144, IN_ALL = 4096, ROUNDS = 9 };
+enum { MODEL = 8192, ROWS = 262144, IN_ALL = 4096, LISTS = 65536, LISTED = 8, ROUNDS = 9 };
 
 static uint32_t words[MODEL + 68], rows[ROWS]; /* a constraint that does not fit is put and taken back */
 static uint8_t bytes[4 * MODEL], page[81 * ROWS]; /* no row system prints more than a line for each of its words */
-static int32_t filled[IN_ALL];
-static size_t length, row_words, row_values;
+static int32_t filled[IN_ALL], listed[LISTS * LISTED];
+static uint32_t pair[MODEL + 69];
+static size_t length, row_words, row_values, room;
 
 /* ---- A model over nine variables: I an index, A, B, their sum, product and maximum, the absolute value of A, true and false. */
 
@@ -129,6 +130,24 @@ static void make_model(size_t total, int n) {
     for (size_t k = 0; k < 4 * total; k++) bytes[k] = words[k / 4] >> 8 * (k % 4);
 }
 
+/* A model of at most `total` words whose every value list is a solution: 8 variables of 0 to 3, 65,536 lists, and sums of 32 terms, one of them shorter, below a constant. */
+static void make_small(size_t total) {
+    length = 0;
+    for (int x = 0; x < LISTED; x++) {
+        put(1, 0);
+        put(2, 3);
+    }
+    while (length + 1 + 5 <= total) {
+        int left = (total - length - 1 - 3) / 2, n = left < 32 ? left : 32;
+        put(4, 11);
+        number(n);
+        for (int k = 0; k < n; k++) number(k % 5 - 2);
+        for (int k = 0; k < n; k++) variable(k % LISTED);
+        number(1000);
+    }
+    put(7, 0);
+}
+
 /* A row system of `total` words: 17 Boolean variables, and rows of up to 62 terms that are 0 of all zeros. */
 static void make_rows(size_t total) {
     size_t at = 0;
@@ -164,6 +183,15 @@ static int judge_model(void) { return pearrummy_judge_model(words, length, value
 static int fill(void) { return pearrummy_fill(words, length, values, VARIABLES, filled, IN_ALL).said == PEARRUMMY_HOLDS; }
 static int judge_rows(void) { return pearrummy_judge_rows(rows, row_words, filled, row_values).said == PEARRUMMY_HOLDS; }
 static int sheet(void) { return pearrummy_sheet(rows, row_words, page, sizeof page).fault == 0; }
+
+static int solutions(void) { return pearrummy_solutions(words, length, listed, room).solutions == LISTS; }
+
+/* The same of the model as the second candidate's. */
+static int pair_check(void) { return pearrummy_pair_check(pair, length + 1, 2).fault == 0; }
+static int pair_translate(void) { return pearrummy_pair_translate(pair, length + 1, 2, rows, ROWS).fault == 0; }
+static int pair_judge_model(void) { return pearrummy_pair_judge_model(pair, length + 1, 2, values, VARIABLES).said == PEARRUMMY_HOLDS; }
+static int pair_fill(void) { return pearrummy_pair_fill(pair, length + 1, 2, values, VARIABLES, filled, IN_ALL).said == PEARRUMMY_HOLDS; }
+static int reason(void) { return pearrummy_reason(words, length, filled, row_values).reason == PEARRUMMY_NO_ROW_FAILS; }
 
 static double now(void) {
     struct timespec t;
@@ -204,12 +232,17 @@ static void measure_sheet(const char *name) {
     printf("| %s | %zu | %zu | %.1f µs | %.0f |\n", name, row_words, printed, best * 1e6, printed / best / 1e6);
 }
 
-/* Makes a model, and says how many values and words its row system has. */
+/* Makes a model, and the pair whose first candidate wrote nothing and whose second wrote its constraints; says how many values and words its row system has. */
 static struct pearrummy_counts begin_model(size_t total, int n) {
     make_model(total, n);
     struct pearrummy_counts c = pearrummy_check(words, length);
     row_words = c.words;
     row_values = c.variables + c.auxiliaries;
+    size_t table = 0;
+    while (words[table] >> 28 != 4) table++;
+    memcpy(pair, words, table * sizeof *pair);
+    pair[table] = 0xD0000000;
+    memcpy(pair + table + 1, words + table, (length - table) * sizeof *pair);
     return c;
 }
 
@@ -242,11 +275,17 @@ static size_t stack_of(int (*call)(void)) {
 static void measure_stack(void) {
     static const struct { const char *name; int (*call)(void); } calls[] = {
         {"pearrummy_check_bytes", check_bytes}, {"pearrummy_check", check}, {"pearrummy_translate", translate},
-        {"pearrummy_judge_model", judge_model}, {"pearrummy_judge_rows", judge_rows}, {"pearrummy_fill", fill}, {"pearrummy_sheet", sheet}};
+        {"pearrummy_judge_model", judge_model}, {"pearrummy_judge_rows", judge_rows}, {"pearrummy_fill", fill}, {"pearrummy_sheet", sheet},
+        {"pearrummy_reason", reason},
+        {"pearrummy_pair_check", pair_check}, {"pearrummy_pair_translate", pair_translate},
+        {"pearrummy_pair_judge_model", pair_judge_model}, {"pearrummy_pair_fill", pair_fill}};
     begin_model(MODEL, 32);
     if (!translate() || !fill()) exit(1);
     size_t none = stack_of(nothing);
     for (size_t k = 0; k < sizeof calls / sizeof *calls; k++) printf("%s %zu\n", calls[k].name, stack_of(calls[k].call) - none);
+    make_small(MODEL);
+    room = LISTS * LISTED;
+    printf("pearrummy_solutions %zu\n", stack_of(solutions) - none);
 }
 
 int main(int count, char **arguments) {
@@ -269,7 +308,12 @@ int main(int count, char **arguments) {
         measure("translate", translate, length);
         measure("judge-model", judge_model, length);
         measure("fill", fill, length);
+        measure("pair-check", pair_check, length);
+        measure("pair-translate", pair_translate, length);
+        measure("pair-judge-model", pair_judge_model, length);
+        measure("pair-fill", pair_fill, length);
         measure("judge-rows, of what translate and fill wrote", judge_rows, row_words);
+        measure("reason, of what fill wrote", reason, length);
     }
     for (int k = 0; k < 3; k++) {
         make_rows(systems[k]);
@@ -286,6 +330,13 @@ int main(int count, char **arguments) {
     for (int k = 0; k < 3; k++) {
         make_short_rows(systems[k] - 1);
         measure_sheet("rows without terms");
+    }
+    printf("\n| Solutions, of words | Lists | Time | Nanoseconds a list | Lists a second |\n|---|---|---|---|---|\n");
+    for (int k = 0; k < 3; k++) {
+        make_small(models[k].words);
+        room = LISTS * LISTED;
+        double best = best_time("solutions", solutions, length);
+        printf("| %zu | %d | %.1f ms | %.0f | %.0f |\n", length, LISTS, best * 1e3, best * 1e9 / LISTS, LISTS / best);
     }
     return 0;
 }

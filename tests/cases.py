@@ -5,13 +5,13 @@ the calls that write with other rooms, and a few cases at the limits.
     tests/cases.py           write both files
     tests/cases.py --check   only say whether they are up to date
 
-stdin: one case after the other, all numbers 32 bits, lowest byte first: the call (1 check, 2 translate, 3 judge_model, 4 judge_rows, 5 fill,
-6 sheet), the room, the number of words, the number of values, the words, the values (signed). stdout: the answer of each case, a line each."""
+stdin: one case after the other, all numbers 32 bits, lowest byte first: the call (CALLS), the room, the number of words, the number of values, the words, the values (signed). stdout: the answer of each case, a line each."""
 import glob, os, struct, sys
 
 HERE = os.path.dirname(os.path.abspath(__file__))
 SUITE = os.path.join(os.path.dirname(HERE), 'crates', 'suite')
-CALLS = {'check': 1, 'translate': 2, 'judge_model': 3, 'judge_rows': 4, 'fill': 5, 'sheet': 6}
+CALLS = {'check': 1, 'translate': 2, 'judge_model': 3, 'judge_rows': 4, 'fill': 5, 'sheet': 6, 'reason': 8, 'solutions': 9,
+         'pair_check': 11, 'pair_translate': 12, 'pair_judge_model': 13, 'pair_fill': 14}
 MORE = 3  # how much longer than wanted a list is lent, so that what stands past the end is seen
 
 
@@ -26,8 +26,10 @@ def recorded():
 def rooms(call, words, values, room, answer):
     """The same call with a list one too short, of the wanted length and longer; what is wanted is what the recorded answer writes."""
     kind, *written = answer.split()
-    if kind not in ('words', 'filled', 'bytes'):
+    if kind not in ('words', 'filled', 'bytes', 'solutions'):
         return
+    if kind == 'solutions':
+        written = written[1:]
     wanted = len(''.join(written)) // 2 if kind == 'bytes' else len(written)
     for other in (wanted - 1, wanted, wanted + MORE):
         if other >= 0 and other != room:
@@ -106,6 +108,14 @@ def limits():
     yield 'judge_rows', [0x30000000] + whole, [0] * 18, 0, 'refused 1 0'
     yield 'sheet', whole, [], 8192, 'refused 16 0'
     yield 'sheet', [0x30000000] + whole, [], 8192, 'refused 1 0'
+    for upper, answer in (65535, 'solutions 0'), (65536, 'refused 22 0'):  # one variable that is not itself
+        yield 'solutions', [0x10000000, 0x20000000 + upper, 0x40000004, 0x50000000, 0x50000000, 0x70000000], [], 0, answer
+    # a model of 8,192 words, and one of a word more, as each candidate's; the other wrote one constraint, or nothing but the end
+    for first, second, answers in (model, [0x70000000], ('holds', 'holds')), (above, [0x70000000], ('refused 1 0', 'holds')):
+        for candidate, answer in enumerate(answers, 1):
+            yield 'pair_judge_model', first[:-1] + [0xD0000000] + second, [candidate] + [1] * 16, 0, answer
+    for second, answer in (model, 'holds'), (above, 'refused 1 0'):
+        yield 'pair_judge_model', model[:16] + [0xD0000000] + second[16:], [2] + [1] * 16, 0, answer
 
 
 def cases():

@@ -9,11 +9,15 @@ import glob, os, re, shutil, subprocess, sys, time
 HERE = os.path.dirname(os.path.abspath(__file__))
 ROOT = os.path.dirname(HERE)
 SCRATCH = os.path.join(ROOT, 'target', 'definitions')
-CRATES = ['integers', 'words', 'models', 'rowsystems', 'rules', 'decimals', 'sheets']
-BELOW = ['rowreading']  # what the code of these needs beside them
+CRATES = ['integers', 'words', 'models', 'rowsystems', 'rules', 'decimals', 'sheets', 'sharing', 'reasons', 'solutions', 'pairs']
 MOST = int(sys.argv[1]) if len(sys.argv) > 1 else 2000
 SHEET_MOST = 24
 UNUSED, UNUSED_BYTE = 0x5A5A5A5A, 0x5A  # what a lent word or value, and a lent byte, holds before the call
+# the definition of what each call answers, and of what a lent list holds afterwards
+ANSWERS = {'check': 'check', 'translate': 'translate', 'judge_model': 'judgeModel', 'judge_rows': 'judgeRows', 'fill': 'fill', 'sheet': 'sheet', 'reason': 'reason', 'solutions': 'solutionsAnswer',
+           'pair_check': 'pairCheck', 'pair_translate': 'pairTranslate', 'pair_judge_model': 'pairJudge', 'pair_fill': 'pairFill'}
+LATER = {'translate': 'translated', 'fill': 'filled', 'sheet': 'sheetPage', 'solutions': 'listed', 'pair_translate': 'pairTranslated', 'pair_fill': 'pairFilled'}
+JUDGED = ('judge_model', 'judge_rows', 'fill', 'reason', 'pair_judge_model', 'pair_fill')  # the calls that take values
 
 
 def listed(items):
@@ -40,29 +44,42 @@ def answer_term(kind, rest):
     return {'holds': 'holds', 'bound': 'outOfBounds ' + ' '.join(rest), 'false': 'isFalse ' + ' '.join(rest)}[kind]
 
 
+def reason_term(kind, rest):
+    if kind == 'refused':
+        return f'refuse {rest[0]} {rest[1]}'
+    if kind == 'row':
+        return f'because {rest[0]} {rest[1]} ' + {'builtin': 'false', 'auxiliaries': 'true'}[rest[2]]
+    return {'none': 'none', 'bound': 'outside ' + ' '.join(rest)}[kind]
+
+
+def written(kind, rest):
+    """What a call wrote and what it says of it."""
+    if kind == 'words':
+        return [int(w, 16) for w in rest], f'written {len(rest)}'
+    if kind == 'filled':
+        return [int(v) for v in rest], f'written {len(rest)}'
+    if kind == 'bytes':
+        page = list(bytes.fromhex(''.join(rest)))
+        return page, f'written {len(page)}'
+    if kind == 'solutions':
+        return [int(v) for v in rest[1:]], f'written {rest[0]}'
+    return [], answer_term(kind, rest)
+
+
 def statement(call, words, values, room, answer):
     kind, rest = answer[0], answer[1:]
-    ws, vs = words_term(words), values_term(values)
-    if call == 'check':
-        return f'check {ws} ≡ {answer_term(kind, rest)}'
-    if call == 'judge_model':
-        return f'judgeModel {ws} {vs} ≡ {answer_term(kind, rest)}'
-    if call == 'judge_rows':
-        return f'judgeRows {ws} {vs} ≡ {answer_term(kind, rest)}'
-    if call == 'translate':
-        new = [int(w, 16) for w in rest] if kind == 'words' else []
-        said = f'written {len(new)}' if kind == 'words' else answer_term(kind, rest)
-        later = new + [UNUSED] * (room - len(new))
-        return f'(translate {ws} {room} ≡ {said}) × (translated {ws} {words_term([UNUSED] * room)} ≡ {words_term(later)})'
-    if call == 'sheet':
-        new = list(bytes.fromhex(''.join(rest))) if kind == 'bytes' else []
-        said = f'written {len(new)}' if kind == 'bytes' else answer_term(kind, rest)
-        later = new + [UNUSED_BYTE] * (room - len(new))
-        return f'(sheet {ws} {room} ≡ {said}) × (sheetPage {ws} {words_term([UNUSED_BYTE] * room)} ≡ {words_term(later)})'
-    new = [int(v) for v in rest] if kind == 'filled' else []
-    said = f'written {len(new)}' if kind == 'filled' else answer_term(kind, rest)
-    later = new + [UNUSED] * (room - len(new))
-    return f'(fill {ws} {vs} {room} ≡ {said}) × (filled {ws} {vs} {values_term([UNUSED] * room)} ≡ {values_term(later)})'
+    given = words_term(words)
+    if call.startswith('pair_'):  # the first value is the candidate
+        given, values = f'{values[0]} {given}', values[1:]
+    if call in JUDGED:
+        given += ' ' + values_term(values)
+    if call not in LATER:
+        said = reason_term(kind, rest) if call == 'reason' else answer_term(kind, rest)
+        return f'{ANSWERS[call]} {given} ≡ {said}'
+    new, said = written(kind, rest)
+    term = words_term if call == 'sheet' or call.endswith('translate') else values_term
+    before = [UNUSED_BYTE if call == 'sheet' else UNUSED] * room
+    return f'({ANSWERS[call]} {given} {room} ≡ {said}) × ({LATER[call]} {given} {term(before)} ≡ {term(new + before[len(new):])})'
 
 
 def vectors():
@@ -86,11 +103,11 @@ def write_crate(cases):
     shutil.rmtree(SCRATCH, ignore_errors=True)
     os.makedirs(os.path.join(SCRATCH, 'crates', 'vectors', 'specs'))
     os.makedirs(os.path.join(SCRATCH, 'crates', 'vectors', 'src'))
-    for crate in CRATES + BELOW:
+    listing = open(os.path.join(ROOT, 'crates.txt')).read()
+    for crate in re.findall(r'^(\w+):', listing, flags=re.M):
         os.symlink(os.path.join(ROOT, 'crates', crate), os.path.join(SCRATCH, 'crates', crate))
-    listing = [line for line in open(os.path.join(ROOT, 'crates.txt')) if line.split(':')[0] in CRATES + BELOW]
     with open(os.path.join(SCRATCH, 'crates.txt'), 'w') as f:
-        f.write(''.join(listing) + 'vectors: ' + ' '.join(CRATES) + '\n')
+        f.write(listing + 'vectors: ' + ' '.join(CRATES) + '\n')
     built = os.path.join(ROOT, 'target')
     for folder in ('rlib', 'stamp'):  # what is proved already is not proved again
         if os.path.isdir(os.path.join(built, folder)):
@@ -108,18 +125,19 @@ def write_crate(cases):
             uses.append(f'use Rattle.{crate}.specs.{module}.{{{", ".join(plain)}}}')
         opened += plain + [f'Rattle.{crate}.specs.{module}.{n}' for n in shared]
     head = '\n'.join([
-        'use mathlib.Core.Path.{_≡_, refl}', 'use mathlib.Core.List.{List, [], _∷_, flatMap, zipWith}', 'use lib.IntN.{ℤ, pos, negsuc}',
+        'use mathlib.Core.Path.{_≡_, refl}', 'use mathlib.Core.List.{List, [], _∷_, flatMap, flatten, zipWith}', 'use lib.IntN.{ℤ, pos, negsuc}',
         'use Rattle.words.specs.Answer.{Answer, refused, counts, written, holds, outOfBounds, isFalse}',
         'use Rattle.rules.specs.Check.{check}', 'use Rattle.rules.specs.Translate.{translate, translated}',
-        'use Rattle.rules.specs.Fill.{fill, filled}'] + uses)
+        'use Rattle.rules.specs.Fill.{fill, filled}', 'use mathlib.Core.Bool.{true, false}',
+        'use Rattle.reasons.specs.Reason.{Reason, refuse, outside, none, because}'] + uses)
     with open(os.path.join(SCRATCH, 'crates', 'vectors', 'specs', 'Lib.antt'), 'w') as f:
         f.write('pub mod Vectors\n')
     lines = []
     with open(os.path.join(SCRATCH, 'crates', 'vectors', 'specs', 'Vectors.antt'), 'w') as f:
         f.write(head + '\n\n')
         for k, (name, call, words, values, room, answer) in enumerate(cases):
-            proof = '(refl, refl)' if call in ('translate', 'fill', 'sheet') else 'refl'
-            f.write(f'v{k} : {statement(call, words, values, room, answer)}\nunfolding flatMap zipWith {" ".join(opened)}\nv{k} = {proof}\n\n')
+            proof = '(refl, refl)' if call in LATER else 'refl'
+            f.write(f'v{k} : {statement(call, words, values, room, answer)}\nunfolding flatMap flatten zipWith {" ".join(opened)}\nv{k} = {proof}\n\n')
 
 
 def main():

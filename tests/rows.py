@@ -45,19 +45,20 @@ T3_ROWS = [int(w, 16) for w in (
 
 
 def sets(count, booleans):
-    """A model of set_in_reif(x, {}, r), so often, x in 0..63; after x and r more Boolean variables."""
-    return integer(0, 63) + [BOOLEAN] * (1 + booleans) + [head(28), variable(0), number(0), variable(1)] * count + [END]
+    """A model of set_in_reif(x, {}, r), each with an x of its own in 0..63; after these and r more Boolean variables."""
+    constraints = [w for x in range(count) for w in (head(28), variable(x), number(0), variable(count))]
+    return integer(0, 63) * count + [BOOLEAN] * (1 + booleans) + constraints + [END]
 
 
 def sets_rows(count, booleans):
     """Its row system by the rule of code 28: Σb−1=0, Σv×b_v−x=0, and of no members −r=0."""
-    system = integer(0, 63) + [BOOLEAN] * (1 + booleans)
-    for block in range(count):
-        bits = [variable(2 + booleans + 64 * block + v) for v in range(64)]
+    system = integer(0, 63) * count + [BOOLEAN] * (1 + booleans)
+    for x in range(count):
+        bits = [variable(count + 1 + booleans + 64 * x + v) for v in range(64)]
         system += [payload(8, 0), payload(9, 1)] * 64
         system += [payload(11, 64)] + [w for b in bits for w in (b, number(1))] + [number(-1)]
-        system += [payload(11, 65)] + [w for v, b in enumerate(bits) for w in (b, number(v))] + [variable(0), number(-1), number(0)]
-        system += [payload(11, 1), variable(1), number(-1), number(0)]
+        system += [payload(11, 65)] + [w for v, b in enumerate(bits) for w in (b, number(v))] + [variable(x), number(-1), number(0)]
+        system += [payload(11, 1), variable(count), number(-1), number(0)]
     return system + [payload(15, 0)]
 
 
@@ -83,9 +84,9 @@ def refusals():
     yield [END, END], 11, 1
     yield integer(0, 64) + [BOOLEAN, head(28), variable(0), number(0), variable(1), END], 12, 3
     yield integer(0, 2 ** 27 - 1) + integer(-1, 2 ** 27 - 1) + [BOOLEAN, head(5), variable(0), variable(1), variable(2), END], 13, 5
-    yield sets(64, 0), 14, 3 + 4 * 63  # 2 + 64 × 64 variables and auxiliaries
+    yield sets(63, 1), 14, 128 + 4 * 62  # 65 + 63 × 64 variables and auxiliaries
     yield sets(63, 0), 16, 0
-    yield sets(41, 227), 16, 0  # 16,385 row words
+    yield sets(41, 147), 16, 0  # 16,385 row words
 
 
 def accepted():
@@ -95,7 +96,7 @@ def accepted():
     blocks = ([payload(8, 0), payload(9, 0), payload(11, 1), variable(t), number(-2), number(-1)] for t in range(256))
     yield FALSE_CLAUSE * 256 + [END], [w for block in blocks for w in block] + [payload(15, 0)]
     yield sets(1, 0), sets_rows(1, 0)
-    yield sets(41, 226), sets_rows(41, 226)  # 16,384 row words
+    yield sets(41, 146), sets_rows(41, 146)  # 16,384 row words
 
 
 def recorded():

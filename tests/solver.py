@@ -1,5 +1,5 @@
 #!/usr/bin/env python3
-"""Compares the five calls with a second solver, Gecode, on random models over all 39 codes.
+"""Compares the calls with a second solver, Gecode, on random models over all 39 codes.
 
     tests/solver.py [COUNT [SEED]]
 
@@ -11,6 +11,7 @@ system that translate writes, all from FlatZinc text. Of each model are compared
     translate     the row system's solutions, cut down to the source variables, with the model's solutions: no two of them cut down to the same
     fill          every value list in the bounds: judge_model's answer, or the values and the auxiliaries, the one solution of the row system
     judge_rows    what fill writes, and that with one value changed
+    solutions     Gecode's solutions, in its order: the first variable changes slowest, values rise
 
 Where Gecode is missing, Debian's package `flatzinc` is installed if that can be done; if not, one line says so and nothing is compared.
 Exit status 1 at the first difference, which is printed with the model's words and FlatZinc texts."""
@@ -18,10 +19,11 @@ import collections, concurrent.futures, itertools, math, os, random, shutil, str
 
 ROOT = os.path.dirname(os.path.dirname(os.path.abspath(__file__)))
 SUITE = os.path.join(ROOT, 'target', 'bin', 'suite')
-CHECK, TRANSLATE, JUDGE_MODEL, JUDGE_ROWS, FILL = 1, 2, 3, 4, 5
+CHECK, TRANSLATE, JUDGE_MODEL, JUDGE_ROWS, FILL, SOLUTIONS = 1, 2, 3, 4, 5, 9
 LISTS = 2000    # the most value lists of a model
 SAMPLE = 100    # so many changed solutions of a row system are judged at most
 CHUNK = 8       # models of one run of suite
+LENT = 4200     # so many values suite lends at most
 LARGEST = 2 ** 27 - 1
 ENCODING = (24, 25, 27, 28)  # the codes whose first variable is encoded, once for all of them
 
@@ -335,7 +337,7 @@ def rows_text(all_bounds, rows):
 
 
 def solutions(text):
-    """All solutions of a FlatZinc text, by Gecode."""
+    """All solutions of a FlatZinc text, by Gecode, in its order."""
     try:
         run = subprocess.run(['fzn-gecode', '-a', '-'], input=text, capture_output=True, text=True, timeout=100)
     except subprocess.TimeoutExpired:
@@ -343,7 +345,7 @@ def solutions(text):
     *blocks, end = run.stdout.split('----------\n')
     if run.returncode or end.strip() not in ('==========', '=====UNSATISFIABLE====='):
         raise Difference(f'Gecode does not solve this, it says {run.stderr.strip() or end.strip()}:\n{text}')
-    return {tuple(map(int, block[block.index('[') + 1:block.index(']')].split(','))) if block else () for block in blocks}
+    return [tuple(map(int, block[block.index('[') + 1:block.index(']')].split(','))) if block else () for block in blocks]
 
 
 # The product.
@@ -390,8 +392,9 @@ class Case:
     def solve(self):
         """Gecode's solutions of the model, and of each list of values the first false constraint."""
         variables, constraints = self.model
-        self.solutions = solutions(self.texts[0])
-        parts = [solutions(model_text(variables, [c])) for c in constraints]
+        self.in_order = solutions(self.texts[0])
+        self.solutions = set(self.in_order)
+        parts = [set(solutions(model_text(variables, [c]))) for c in constraints]
         self.said = {values: next((f'false {i}' for i, part in enumerate(parts) if values not in part), 'holds') for values in self.lists}
         if {values for values, said in self.said.items() if said == 'holds'} != self.solutions:
             raise Difference('Gecode contradicts itself: the constraints one by one have other solutions than the model')
@@ -407,13 +410,17 @@ class Case:
     def ask_model(self):
         """What is asked of the model after check."""
         variables, _, auxiliaries, _, needed = self.counts
-        return ([(TRANSLATE, needed, self.words, ()), (TRANSLATE, needed - 1, self.words, ())]
+        places = len(self.in_order) * variables
+        return ([(TRANSLATE, needed, self.words, ()), (TRANSLATE, needed - 1, self.words, ()),
+                 (SOLUTIONS, places, self.words, ()), (SOLUTIONS, max(0, places - 1), self.words, ())]
                 + [(JUDGE_MODEL, 0, self.words, values) for values in self.lists]
                 + [(FILL, variables + auxiliaries, self.words, values) for values in self.lists])
 
     def take_model(self, lines):
-        """Compares check, translate, judge_model and fill."""
-        written, refused, *rest = lines
+        """Compares check, translate, solutions, judge_model and fill."""
+        written, refused, *listed_answers = lines[:4]
+        rest = lines[4:]
+        self.take_solutions(*listed_answers)
         judged, filled = rest[:len(self.lists)], rest[len(self.lists):]
         kind, *words = written.split()
         if kind != 'words' or refused != 'refused 16 0':
@@ -429,10 +436,11 @@ class Case:
         for values, said in zip(self.lists, judged):
             if said != self.said[values]:
                 raise Difference(f'judge_model of {values}: {said}, by Gecode: {self.said[values]}')
-        self.solved = solutions(self.texts[1])
+        found = solutions(self.texts[1])
+        self.solved = set(found)
         same('translate: the solutions of its rows', {values[:len(sources)] for values in self.solved}, self.solutions)
-        if len(self.solved) != len(self.solutions):
-            raise Difference(f'translate: its rows have {len(self.solved)} solutions, the model has {len(self.solutions)}')
+        if len(found) != len(self.in_order):
+            raise Difference(f'translate: its rows have {len(found)} solutions, the model has {len(self.in_order)}')
         self.filled = []
         for values, said, answer in zip(self.lists, judged, filled):
             got = values_of(answer)
@@ -442,6 +450,19 @@ class Case:
                 if got[:len(values)] != values or got not in self.solved:
                     raise Difference(f'fill of {values}: {answer}, no solution of the rows')
                 self.filled.append(got)
+
+    def take_solutions(self, answer, short):
+        """Compares solutions, into a list that is long enough and into one that is too short."""
+        places = [value for values in self.in_order for value in values]
+        whole = ' '.join(map(str, ['solutions', len(self.in_order), *places]))
+        if len(self.model[0]) > 8:
+            expected = ['refused 22 0'] * 2
+        elif len(places) > LENT:
+            expected = ['refused 16 0'] * 2
+        else:
+            expected = [whole, 'refused 16 0' if places else whole]
+        if [answer, short] != expected:
+            raise Difference(f'solutions: {answer}, into one place less: {short}, by Gecode: {expected}')
 
     def ask_rows(self):
         """Values of the row system to judge: those of fill, and these with one value changed."""

@@ -5,6 +5,10 @@ pub const HOLDS: u32 = 1;
 pub const OUT_OF_BOUNDS: u32 = 2;
 pub const FALSE: u32 = 3;
 
+/// Why a row fails, which only reason says: its builtin is false, or its auxiliaries are wrong.
+pub const BUILTIN: u32 = 3;
+pub const AUXILIARIES: u32 = 4;
+
 /// What a judge or fill says.
 #[repr(C)]
 #[derive(Clone, Copy, Debug, PartialEq, Eq)]
@@ -45,6 +49,26 @@ pub struct Printed {
     pub bytes: usize,
 }
 
+/// What reason answers: a fault's place or the variable out of bounds in `place`.
+#[repr(C)]
+#[derive(Clone, Copy, Debug, PartialEq, Eq, Default)]
+pub struct Reason {
+    pub said: u32,
+    pub fault: u32,
+    pub place: usize,
+    pub row: usize,
+    pub constraint: usize,
+}
+
+/// What solutions answers.
+#[repr(C)]
+#[derive(Clone, Copy, Debug, PartialEq, Eq, Default)]
+pub struct Listed {
+    pub fault: u32,
+    pub place: usize,
+    pub solutions: usize,
+}
+
 /// A numbered fault and its place.
 #[derive(Clone, Copy, Debug, PartialEq, Eq)]
 pub struct Refusal {
@@ -73,5 +97,17 @@ impl From<Refusal> for Written {
 impl From<Refusal> for Printed {
     fn from(refusal: Refusal) -> Self {
         Printed { fault: refusal.fault, place: refusal.place, bytes: 0 }
+    }
+}
+
+impl From<Refusal> for Reason {
+    fn from(refusal: Refusal) -> Self {
+        Reason { said: REFUSED, fault: refusal.fault, place: refusal.place, ..Reason::default() }
+    }
+}
+
+impl From<Refusal> for Listed {
+    fn from(refusal: Refusal) -> Self {
+        Listed { fault: refusal.fault, place: refusal.place, solutions: 0 }
     }
 }

@@ -1,7 +1,7 @@
 //! Calls the library and the twin on the same input and compares all that can be seen afterwards.
 
-use crate::answers::{Counts, Judgement, FALSE, HOLDS, OUT_OF_BOUNDS, REFUSED};
-use crate::inputs::{self, Input, Random};
+use crate::answers::{Counts, Judgement, AUXILIARIES, FALSE, HOLDS, OUT_OF_BOUNDS, REFUSED};
+use crate::inputs::{self, Form, Input, Random};
 use crate::library::{self, Lent};
 use crate::twin::{self, kind, payload, CODES, CONSTRAINT};
 use std::collections::BTreeMap;
@@ -17,30 +17,70 @@ pub enum Call {
     JudgeRows,
     Fill,
     Sheet,
+    Reason,
+    Solutions,
+    PairCheck,
+    PairTranslate,
+    PairJudgeModel,
+    PairFill,
 }
 
-const CALLS: [Call; 7] = [Call::CheckBytes, Call::Check, Call::Translate, Call::JudgeModel, Call::JudgeRows, Call::Fill, Call::Sheet];
+const CALLS: [Call; 13] = [
+    Call::CheckBytes,
+    Call::Check,
+    Call::Translate,
+    Call::JudgeModel,
+    Call::JudgeRows,
+    Call::Fill,
+    Call::Sheet,
+    Call::Reason,
+    Call::Solutions,
+    Call::PairCheck,
+    Call::PairTranslate,
+    Call::PairJudgeModel,
+    Call::PairFill,
+];
 
 impl Call {
     fn name(self) -> &'static str {
-        ["check-bytes", "check", "translate", "judge-model", "judge-rows", "fill", "sheet"][self as usize]
+        [
+            "check-bytes",
+            "check",
+            "translate",
+            "judge-model",
+            "judge-rows",
+            "fill",
+            "sheet",
+            "reason",
+            "solutions",
+            "pair-check",
+            "pair-translate",
+            "pair-judge",
+            "pair-fill",
+        ][self as usize]
     }
 
     /// The faults that the call meets (01, below the numbered faults; 02, 18 "in all five calls").
     fn meets(self, fault: usize) -> bool {
         match self {
-            Call::CheckBytes | Call::Check => matches!(fault, 1..=14 | 18),
-            Call::Translate => matches!(fault, 1..=14 | 16 | 18),
-            Call::JudgeModel => matches!(fault, 1..=11 | 15 | 18),
+            Call::CheckBytes | Call::Check | Call::PairCheck => matches!(fault, 1..=14 | 18),
+            Call::Translate | Call::PairTranslate => matches!(fault, 1..=14 | 16 | 18),
+            Call::JudgeModel | Call::PairJudgeModel => matches!(fault, 1..=11 | 15 | 18),
             Call::JudgeRows => matches!(fault, 1..=5 | 9..=11 | 14 | 15 | 17 | 18),
-            Call::Fill => matches!(fault, 1..=16 | 18),
+            Call::Fill | Call::PairFill => matches!(fault, 1..=16 | 18),
+            Call::Reason => matches!(fault, 1..=15 | 18),
+            Call::Solutions => matches!(fault, 1..=14 | 16 | 18 | 22),
             Call::Sheet => matches!(fault, 1..=5 | 9..=11 | 14 | 16..=18),
         }
     }
 
-    /// Whether the call gives an answer: the judges and fill all of them, the others only refusals and acceptance.
+    /// Whether the call gives an answer: the judges and fill all of them, reason one more, the others only refusals and acceptance.
     fn says(self, answer: u32) -> bool {
-        answer <= HOLDS || matches!(self, Call::JudgeModel | Call::JudgeRows | Call::Fill)
+        match self {
+            Call::Reason => true,
+            Call::JudgeModel | Call::JudgeRows | Call::Fill | Call::PairJudgeModel | Call::PairFill => answer <= FALSE,
+            _ => answer <= HOLDS,
+        }
     }
 }
 
@@ -56,7 +96,7 @@ struct Guarded<T> {
 const GUARD: usize = 16;
 
 /// The highest number of a fault.
-const FAULTS: usize = 18;
+const FAULTS: usize = 22;
 
 /// The pattern of guard elements and of outputs before a call.
 trait Pattern: Copy + PartialEq + Debug {
@@ -141,7 +181,7 @@ pub struct Comparer {
     calls: u64,
     families: BTreeMap<&'static str, u64>,
     faults: [[u64; FAULTS + 1]; CALLS.len()],
-    answers: [[u64; 4]; CALLS.len()],
+    answers: [[u64; 5]; CALLS.len()],
     /// For each code: its constraints in accepted models, in models that hold, and those named as false.
     codes: [[u64; 3]; CODES + 1],
 }
@@ -161,7 +201,7 @@ impl Comparer {
             calls: 0,
             families: BTreeMap::new(),
             faults: [[0; FAULTS + 1]; CALLS.len()],
-            answers: [[0; 4]; CALLS.len()],
+            answers: [[0; 5]; CALLS.len()],
             codes: [[0; 3]; CODES + 1],
         }
     }
@@ -176,13 +216,16 @@ impl Comparer {
         (self.words.null, self.bytes.null, self.values.null) = (null, null, null);
         (self.out_words[0].null, self.out_values[0].null, self.out_bytes[0].null) = (null, null, null);
         *self.families.entry(input.family).or_default() += 1;
-        // Some words go to the calls of the other form as well.
+        // Some words go to the calls of the other forms as well.
         let both = random.one_in(16);
-        if !input.rows || both {
+        if input.form == Form::Model || both {
             self.model(&mut random, &input);
         }
-        if input.rows || both {
+        if input.form == Form::Rows || both {
             self.rows(&mut random, &input.words, &input.values);
+        }
+        if input.form == Form::Pair || both {
+            self.pair(&mut random, &input.words, &input.values);
         }
     }
 
@@ -202,6 +245,7 @@ impl Comparer {
         for room in [short, room] {
             self.translate(words, room);
         }
+        self.solutions(random, words);
         let mut lists = inputs::value_lists(random, words, &input.values);
         if words.len() < 200 && random.one_in(4) {
             lists.extend(inputs::solution(random, words, 10));
@@ -224,6 +268,7 @@ impl Comparer {
         if accepted && (counts.words < 5_000 || random.one_in(8)) {
             self.translate(words, counts.words);
             let rows = self.out_words[0].list().to_vec();
+            self.reasons(random, words, &rows, counts.variables, filled.as_deref());
             if let Some(filled) = &filled {
                 if self.judge_rows(&rows, filled, true).said != HOLDS {
                     self.differ(Call::JudgeRows, &rows, filled, None, "fill's values must satisfy translate's rows".into());
@@ -236,7 +281,59 @@ impl Comparer {
                 }
             }
             self.rows(random, &rows, filled.as_deref().unwrap_or(&input.values));
+        } else {
+            self.reason(words, &input.values);
         }
+    }
+
+    /// Solutions into a list that is too short, of the right length or longer; long searches are made seldom. The words are lent.
+    fn solutions(&mut self, random: &mut Random, words: &[u32]) {
+        let lists = inputs::declared(words).iter().fold(1.0, |lists, &(lower, upper)| lists * (f64::from(upper) - f64::from(lower) + 1.0));
+        if (1_000.0..=65_536.0).contains(&lists) && !random.one_in(16) {
+            return;
+        }
+        let needed = twin::all_solutions(words).map_or(0, |(values, _)| values.len());
+        let room = random.pick(&[needed, needed, needed + 1, needed + 9, needed.saturating_sub(1), needed / 2, 0]);
+        let [ours, theirs] = &mut self.out_values;
+        ours.set_room(room);
+        theirs.set_room(room);
+        let library = library::solutions(self.words.lend(), ours.lend());
+        let twin = twin::solutions(words, theirs.list_mut());
+        if library != twin || ours.all != theirs.all || !self.words.unchanged(words) {
+            let outputs = first_difference(&ours.all, &theirs.all);
+            self.differ(Call::Solutions, words, &[], Some(room), self.told(&library, &twin, words, &[]) + &outputs);
+        }
+        self.count(Call::Solutions, twin.fault, u32::from(twin.fault == 0));
+    }
+
+    /// Reasons of a model and its row system: of what fill wrote, if it holds, of that with auxiliaries or one source changed, and of other values.
+    fn reasons(&mut self, random: &mut Random, words: &[u32], rows: &[u32], sources: usize, filled: Option<&[i32]>) {
+        let bounds = inputs::declared(rows);
+        let inside = |random: &mut Random, at: usize| random.between(i64::from(bounds[at].0), i64::from(bounds[at].1)) as i32;
+        let some: Vec<i32> = (0..bounds.len()).map(|at| inside(random, at)).collect();
+        let values = filled.unwrap_or(&some);
+        let mut lists = inputs::value_lists(random, rows, values);
+        for _ in 0..3 {
+            lists.push(inputs::other_auxiliaries(random, rows, sources, values));
+            if sources > 0 {
+                let mut other = values.to_vec();
+                let at = random.below(sources);
+                other[at] = inside(random, at);
+                lists.push(other);
+            }
+        }
+        lists.iter().for_each(|values| self.reason(words, values));
+    }
+
+    /// The words are lent.
+    fn reason(&mut self, words: &[u32], values: &[i32]) {
+        self.values.set(values, 0);
+        let library = library::reason(self.words.lend(), self.values.lend());
+        let twin = twin::reason(words, values);
+        if library != twin || !self.words.unchanged(words) || !self.values.unchanged(values) {
+            self.differ(Call::Reason, words, values, None, self.told(&library, &twin, words, values));
+        }
+        self.count(Call::Reason, twin.fault, twin.said);
     }
 
     fn rows(&mut self, random: &mut Random, words: &[u32], values: &[i32]) {
@@ -247,6 +344,74 @@ impl Comparer {
         if words.len() < 5_000 || words.len() > twin::ROW_WORDS || random.one_in(4) {
             self.sheet(random, words);
         }
+    }
+
+    /// The calls for each candidate of a pair.
+    fn pair(&mut self, random: &mut Random, words: &[u32], values: &[i32]) {
+        self.words.set(words, 0);
+        for candidate in [1, 2] {
+            let counts = self.pair_check(words, candidate);
+            let room = room(random, counts.words, counts.fault == 0);
+            for room in [room, counts.words.saturating_sub(1)] {
+                self.pair_translate(words, candidate, room);
+            }
+            let model = twin::candidate(words, candidate).unwrap_or_default();
+            let all = counts.variables + counts.auxiliaries;
+            for values in &inputs::value_lists(random, &model, values) {
+                let room = random.pick(&[all, all, all + 3, all.saturating_sub(1)]);
+                self.pair_judge_model(words, candidate, values);
+                self.pair_fill(words, candidate, values, room);
+            }
+        }
+    }
+
+    fn pair_check(&mut self, words: &[u32], candidate: u32) -> Counts {
+        let library = library::pair_check(self.words.lend(), candidate);
+        let twin = twin::pair_check(words, candidate);
+        if library != twin || !self.words.unchanged(words) {
+            self.differ(Call::PairCheck, words, &[candidate as i32], None, self.told(&library, &twin, words, &[]));
+        }
+        self.count(Call::PairCheck, twin.fault, u32::from(twin.fault == 0));
+        twin
+    }
+
+    fn pair_translate(&mut self, words: &[u32], candidate: u32, room: usize) {
+        let [ours, theirs] = &mut self.out_words;
+        ours.set_room(room);
+        theirs.set_room(room);
+        let library = library::pair_translate(self.words.lend(), candidate, ours.lend());
+        let twin = twin::pair_translate(words, candidate, theirs.list_mut());
+        if library != twin || ours.all != theirs.all || !self.words.unchanged(words) {
+            let outputs = first_difference(&ours.all, &theirs.all);
+            self.differ(Call::PairTranslate, words, &[candidate as i32], Some(room), self.told(&library, &twin, words, &[]) + &outputs);
+        }
+        self.count(Call::PairTranslate, twin.fault, u32::from(twin.fault == 0));
+    }
+
+    fn pair_judge_model(&mut self, words: &[u32], candidate: u32, values: &[i32]) {
+        self.values.set(values, 0);
+        let library = library::pair_judge_model(self.words.lend(), candidate, self.values.lend());
+        let twin = twin::pair_judge_model(words, candidate, values);
+        if library != twin || !self.words.unchanged(words) || !self.values.unchanged(values) {
+            let values = [&[candidate as i32], values].concat();
+            self.differ(Call::PairJudgeModel, words, &values, None, format!("library {library:?}\ntwin    {twin:?}"));
+        }
+        self.count(Call::PairJudgeModel, twin.fault, twin.said);
+    }
+
+    fn pair_fill(&mut self, words: &[u32], candidate: u32, values: &[i32], room: usize) {
+        self.values.set(values, 0);
+        let [ours, theirs] = &mut self.out_values;
+        ours.set_room(room);
+        theirs.set_room(room);
+        let library = library::pair_fill(self.words.lend(), candidate, self.values.lend(), ours.lend());
+        let twin = twin::pair_fill(words, candidate, values, theirs.list_mut());
+        if library != twin || ours.all != theirs.all || !self.words.unchanged(words) || !self.values.unchanged(values) {
+            let outputs = first_difference(&ours.all, &theirs.all);
+            let values = [&[candidate as i32], values].concat();
+            self.differ(Call::PairFill, words, &values, Some(room), format!("library {library:?}\ntwin    {twin:?}") + &outputs);
+        }
+        self.count(Call::PairFill, twin.fault, twin.said);
     }
 
     fn check_bytes(&mut self, random: &mut Random, words: &[u32]) {
@@ -390,29 +555,29 @@ impl Comparer {
         println!("calls of each side: {}", self.calls);
         println!("faults, a line each, by call (- where the call never meets it):");
         print!("{:>15}", "");
-        CALLS.iter().for_each(|call| print!("{:>13}", call.name()));
+        CALLS.iter().for_each(|call| print!("{:>15}", call.name()));
         println!();
         for fault in 1..=FAULTS {
             print!("{fault:>15}");
             for call in CALLS {
                 let count = self.faults[call as usize][fault];
                 if call.meets(fault) {
-                    print!("{count:>13}")
+                    print!("{count:>15}")
                 } else {
-                    print!("{:>13}", if count == 0 { "-" } else { "WRONG" })
+                    print!("{:>15}", if count == 0 { "-" } else { "WRONG" })
                 }
                 complete &= (count > 0) == call.meets(fault);
             }
             println!();
         }
-        for (answer, name) in [(HOLDS, "accepted, holds"), (OUT_OF_BOUNDS, "out of bounds"), (FALSE, "false")] {
+        for (answer, name) in [(HOLDS, "accepted, holds"), (OUT_OF_BOUNDS, "out of bounds"), (FALSE, "false"), (AUXILIARIES, "auxiliaries")] {
             print!("{name:>15}");
             for call in CALLS {
                 let count = self.answers[call as usize][answer as usize];
                 if call.says(answer) {
-                    print!("{count:>13}")
+                    print!("{count:>15}")
                 } else {
-                    print!("{:>13}", "-")
+                    print!("{:>15}", "-")
                 }
                 complete &= (count > 0) == call.says(answer);
             }

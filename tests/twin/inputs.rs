@@ -3,8 +3,8 @@
 use crate::answers::HOLDS;
 use crate::twin::{self, kind, payload, signed, word};
 use crate::twin::{
-    ALL_VARIABLES, AT_MOST, AUX_LOWER, AUX_UPPER, BOOLEAN, CODES, CONSTRAINT, EQUAL, EXPONENT, LARGEST, LEAST, LIST_LENGTH, LOWER, MODEL_CONSTRAINTS,
-    MODEL_END, MODEL_VARIABLES, MODEL_WORDS, NUMBER, PRODUCT, ROWS_END, ROW_TERMS, ROW_WORDS, UPPER, VARIABLE,
+    ALL_VARIABLES, AT_MOST, AUX_LOWER, AUX_UPPER, BETWEEN, BOOLEAN, CODES, CONSTRAINT, EQUAL, EXPONENT, LARGEST, LEAST, LIST_LENGTH, LOWER,
+    MODEL_CONSTRAINTS, MODEL_END, MODEL_VARIABLES, MODEL_WORDS, NUMBER, PRODUCT, ROWS_END, ROW_TERMS, ROW_WORDS, UPPER, VARIABLE,
 };
 
 /// A xorshift generator.
@@ -55,40 +55,51 @@ impl Random {
     }
 }
 
-/// Words, a model's or a row system's, and values made for them (damage may come between).
+/// What words are made as.
+#[derive(Clone, Copy, PartialEq)]
+pub enum Form {
+    Model,
+    Rows,
+    Pair,
+}
+
+/// Words, a model's, a row system's or a pair's, and values made for them (damage may come between).
 pub struct Input {
     pub family: &'static str,
-    pub rows: bool,
+    pub form: Form,
     pub words: Vec<u32>,
     pub values: Vec<i32>,
 }
 
 /// The input of a seed and an index.
 pub fn input(random: &mut Random) -> Input {
-    let (family, rows, (words, values)) = match random.below(1_000) {
-        0..=299 => ("model", false, small_model(random)),
-        300..=349 => ("model with shared encodings", false, shared_model(random)),
-        350..=409 => ("model near the range", false, range_model(random)),
-        410..=469 => ("model at the edge of the range", false, edge_model(random)),
-        470..=479 => ("model near 256 variables", false, many_variables(random)),
-        480..=484 => ("model near 256 constraints", false, many_constraints(random)),
-        485..=495 => ("model near 4,096 auxiliaries", false, many_auxiliaries(random)),
-        496..=499 => ("model near 8,192 words", false, near_model_words(random)),
-        500..=679 => ("damaged model", false, damaged(random, small_model)),
-        680..=699 => ("damaged model with shared encodings", false, damaged(random, shared_model)),
-        700..=719 => ("damaged model near the range", false, damaged(random, range_model)),
-        720..=724 => ("damaged model near a limit", false, damaged(random, limit_model)),
-        725..=769 => ("random words", false, random_words(random)),
-        770..=859 => ("rows", true, small_rows(random)),
-        860..=864 => ("rows near 66 terms", true, many_terms(random)),
-        865..=868 => ("rows near 4,096 variables", true, many_row_variables(random)),
-        869 => ("rows near 262,144 words", true, near_row_words(random)),
-        870..=935 => ("damaged rows", true, damaged(random, small_rows)),
-        936..=939 => ("damaged rows near a limit", true, damaged(random, limit_rows)),
-        940..=979 => ("damaged rows of a model", true, damaged(random, model_rows)),
-        _ => ("random words as rows", true, random_words(random)),
+    let (family, form, (words, values)) = match random.below(1_000) {
+        0..=229 => ("model", Form::Model, small_model(random)),
+        230..=259 => ("pair", Form::Pair, pair(random)),
+        260..=269 => ("damaged pair", Form::Pair, damaged(random, pair)),
+        270..=299 => ("model with few value lists", Form::Model, listed_model(random)),
+        300..=349 => ("model with shared encodings", Form::Model, shared_model(random)),
+        350..=409 => ("model near the range", Form::Model, range_model(random)),
+        410..=469 => ("model at the edge of the range", Form::Model, edge_model(random)),
+        470..=479 => ("model near 256 variables", Form::Model, many_variables(random)),
+        480..=484 => ("model near 256 constraints", Form::Model, many_constraints(random)),
+        485..=495 => ("model near 4,096 auxiliaries", Form::Model, many_auxiliaries(random)),
+        496..=499 => ("model near 8,192 words", Form::Model, near_model_words(random)),
+        500..=679 => ("damaged model", Form::Model, damaged(random, small_model)),
+        680..=699 => ("damaged model with shared encodings", Form::Model, damaged(random, shared_model)),
+        700..=719 => ("damaged model near the range", Form::Model, damaged(random, range_model)),
+        720..=724 => ("damaged model near a limit", Form::Model, damaged(random, limit_model)),
+        725..=769 => ("random words", Form::Model, random_words(random)),
+        770..=859 => ("rows", Form::Rows, small_rows(random)),
+        860..=864 => ("rows near 66 terms", Form::Rows, many_terms(random)),
+        865..=868 => ("rows near 4,096 variables", Form::Rows, many_row_variables(random)),
+        869 => ("rows near 262,144 words", Form::Rows, near_row_words(random)),
+        870..=935 => ("damaged rows", Form::Rows, damaged(random, small_rows)),
+        936..=939 => ("damaged rows near a limit", Form::Rows, damaged(random, limit_rows)),
+        940..=979 => ("damaged rows of a model", Form::Rows, damaged(random, model_rows)),
+        _ => ("random words as rows", Form::Rows, random_words(random)),
     };
-    Input { family, rows, words, values }
+    Input { family, form, words, values }
 }
 
 type Pair = (Vec<u32>, Vec<i32>);
@@ -642,6 +653,56 @@ fn shared_model(random: &mut Random) -> Pair {
     builder.finish()
 }
 
+/// Numbers of values of variables: 65,536 value lists and a little more, 8 variables and 9, and products that are 0 or small where all but the low
+/// 32 or 64 bits are lost.
+const WIDTHS: [&[i64]; 18] = [
+    &[],
+    &[1],
+    &[65_536],
+    &[65_537],
+    &[256, 256],
+    &[256, 257],
+    &[4, 4, 4, 4, 4, 4, 4, 4],
+    &[4, 4, 4, 4, 4, 4, 4, 5],
+    &[1, 1, 1, 1, 1, 1, 1, 1, 1],
+    &[1, 1, 1, 1, 1, 1, 1, 2],
+    &[65_536, 65_536],
+    &[65_536, 65_536, 65_536, 65_536],
+    &[1 << 22, 1 << 21, 1 << 21],
+    &[65_537, 65_535, 1],
+    &[268_435_455],
+    &[2, 3, 5, 7],
+    &[3, 1, 4, 1, 5],
+    &[9, 9, 2],
+];
+
+/// A model with few value lists, or with about as many as can be listed.
+fn listed_model(random: &mut Random) -> Pair {
+    let mut builder = Builder::new(random);
+    if builder.random.one_in(2) {
+        let (integers, booleans) = (builder.random.below(4), builder.random.below(4));
+        builder.modest = true;
+        builder.some_variables(integers, booleans, &[Bounds::Tiny, Bounds::Bit]);
+    } else {
+        let mut widths = builder.random.pick(&WIDTHS).to_vec();
+        builder.random.shuffle(&mut widths);
+        for width in widths {
+            let lower = if width > 100_000 { LEAST } else { builder.random.pick(&[0, 1, -1, -2, -width, 1 - width, LARGEST + 1 - width]) };
+            if width == 2 && builder.random.one_in(2) {
+                builder.boolean();
+            } else {
+                builder.declare_integer(lower, lower + width - 1, lower);
+            }
+        }
+    }
+    let count = builder.random.below(4);
+    for _ in 0..count {
+        let (code, wanted_true) = (code(builder.random), builder.random.one_in(2));
+        builder.add(code, None, wanted_true);
+    }
+    builder.finish()
+}
+
 fn range_model(random: &mut Random) -> Pair {
     let (integers, booleans) = (1 + random.below(4), random.below(3));
     let mut builder = Builder::new(random);
@@ -893,6 +954,62 @@ fn limit_model(random: &mut Random) -> Pair {
         2 => many_auxiliaries(random),
         _ => near_model_words(random),
     }
+}
+
+/// Two candidates over the variables of a model, each with a part of its constraints; at times the word between them is missing, damaged, in the
+/// table or there twice, or one candidate passes a limit that the other keeps.
+fn pair(random: &mut Random) -> Pair {
+    let (mut words, values) = match random.below(8) {
+        0 => range_model(random),
+        1 => shared_model(random),
+        2 if random.one_in(4) => limit_model(random),
+        _ => small_model(random),
+    };
+    let table = words.iter().position(|&word| matches!(kind(word), CONSTRAINT | MODEL_END)).unwrap_or(words.len());
+    let starts: Vec<usize> = (table..words.len()).filter(|&at| matches!(kind(words[at]), CONSTRAINT | MODEL_END)).collect();
+    let between = if starts.is_empty() { words.len() } else { random.pick(&starts) };
+    words.insert(between, BETWEEN);
+    let anywhere = random.below(words.len());
+    match random.below(24) {
+        0 => words.insert(anywhere, BETWEEN),
+        1 => words.insert(random.below(table + 1), BETWEEN),
+        2 => words[between] += 1 + random.below(3) as u32,
+        3 => {
+            words.remove(between);
+        }
+        4 => words[between] = word(MODEL_END, 0),
+        5 => words.insert(random.below(table + 1), word(MODEL_END, 0)),
+        6 => {
+            // Constraints without a fault, more of them or more words than a model may have.
+            let clause = [word(CONSTRAINT, 21), word(NUMBER, 0), word(NUMBER, 0)];
+            let count = random.pick(&[255, 256, 257, MODEL_WORDS / 3, MODEL_WORDS / 3 + 1]);
+            let at = random.pick(&[between, between + 1]);
+            words.splice(at..at, clause.repeat(count));
+        }
+        7 => words.insert(between, likely_word(random)),
+        8 => {
+            // The maximum of 32 times the first integer variable, 64 auxiliaries each.
+            let x = words[..table].iter().filter(|&&word| kind(word) != UPPER).position(|&word| kind(word) == LOWER).unwrap_or(0);
+            let mut maximum = vec![word(CONSTRAINT, 26), word(VARIABLE, x as i64)];
+            push_list(&mut maximum, &[x; LIST_LENGTH as usize]);
+            let count = random.pick(&[62, 64]);
+            let at = random.pick(&[between, between + 1]);
+            words.splice(at..at, maximum.repeat(count));
+        }
+        9 => {
+            let booleans = MODEL_VARIABLES + 1 - random.below(3);
+            words.splice(table..table, [word(BOOLEAN, 0)].repeat(booleans));
+        }
+        10 => {
+            let lowers: Vec<usize> = (0..table).filter(|&at| kind(words[at]) == LOWER).collect();
+            if !lowers.is_empty() {
+                let at = random.pick(&lowers);
+                words[at + 1] = word(UPPER, i64::from(signed(words[at])) - 1);
+            }
+        }
+        _ => (),
+    }
+    (words, values)
 }
 
 // ------------------------------------------------------------------------------------------------------------------------------ row systems

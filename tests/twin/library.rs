@@ -1,11 +1,11 @@
 //! The calls of include/pearrummy.h, linked from target/staticlib/libhost.a.
 
-use crate::answers::{Counts, Judgement, Printed, Written};
+use crate::answers::{Counts, Judgement, Listed, Printed, Reason, Written};
 use std::marker::PhantomData;
 use std::ptr::null_mut;
 
 mod raw {
-    use super::{Counts, Judgement, Printed, Written};
+    use super::{Counts, Judgement, Listed, Printed, Reason, Written};
 
     extern "C" {
         pub fn pearrummy_check_bytes(bytes: *const u8, bytes_count: usize) -> u32;
@@ -22,6 +22,26 @@ mod raw {
             out_count: usize,
         ) -> Judgement;
         pub fn pearrummy_sheet(words: *const u32, words_count: usize, page: *mut u8, page_count: usize) -> Printed;
+        pub fn pearrummy_reason(words: *const u32, words_count: usize, values: *const i32, values_count: usize) -> Reason;
+        pub fn pearrummy_solutions(words: *const u32, words_count: usize, out: *mut i32, out_count: usize) -> Listed;
+        pub fn pearrummy_pair_check(words: *const u32, words_count: usize, candidate: u32) -> Counts;
+        pub fn pearrummy_pair_translate(words: *const u32, words_count: usize, candidate: u32, out: *mut u32, out_count: usize) -> Written;
+        pub fn pearrummy_pair_judge_model(
+            words: *const u32,
+            words_count: usize,
+            candidate: u32,
+            values: *const i32,
+            values_count: usize,
+        ) -> Judgement;
+        pub fn pearrummy_pair_fill(
+            words: *const u32,
+            words_count: usize,
+            candidate: u32,
+            values: *const i32,
+            values_count: usize,
+            out: *mut i32,
+            out_count: usize,
+        ) -> Judgement;
     }
 }
 
@@ -72,4 +92,28 @@ pub fn fill(words: Lent<u32>, values: Lent<i32>, out: Lent<i32>) -> Judgement {
 
 pub fn sheet(words: Lent<u32>, page: Lent<u8>) -> Printed {
     unsafe { raw::pearrummy_sheet(words.pointer, words.count, page.pointer, page.count) }
+}
+
+pub fn reason(words: Lent<u32>, values: Lent<i32>) -> Reason {
+    unsafe { raw::pearrummy_reason(words.pointer, words.count, values.pointer, values.count) }
+}
+
+pub fn solutions(words: Lent<u32>, out: Lent<i32>) -> Listed {
+    unsafe { raw::pearrummy_solutions(words.pointer, words.count, out.pointer, out.count) }
+}
+
+pub fn pair_check(words: Lent<u32>, candidate: u32) -> Counts {
+    unsafe { raw::pearrummy_pair_check(words.pointer, words.count, candidate) }
+}
+
+pub fn pair_translate(words: Lent<u32>, candidate: u32, out: Lent<u32>) -> Written {
+    unsafe { raw::pearrummy_pair_translate(words.pointer, words.count, candidate, out.pointer, out.count) }
+}
+
+pub fn pair_judge_model(words: Lent<u32>, candidate: u32, values: Lent<i32>) -> Judgement {
+    unsafe { raw::pearrummy_pair_judge_model(words.pointer, words.count, candidate, values.pointer, values.count) }
+}
+
+pub fn pair_fill(words: Lent<u32>, candidate: u32, values: Lent<i32>, out: Lent<i32>) -> Judgement {
+    unsafe { raw::pearrummy_pair_fill(words.pointer, words.count, candidate, values.pointer, values.count, out.pointer, out.count) }
 }

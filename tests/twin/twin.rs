@@ -1,12 +1,13 @@
-//! Documents 01 and 02 in plain Rust: check over words and over bytes, translate, judge-model, judge-rows, fill and sheet.
+//! Documents 01 and 02 in plain Rust: check over words and over bytes, translate, judge-model, judge-rows, fill, sheet,
+//! reason, solutions, and the calls for a pair.
 //!
 //! It is written from the documents alone and shares nothing with the proved code, so that the two can be compared. Nothing here panics: every
 //! index is tested by the reading that comes first, and numbers that may leave 32 bits are 64 bits wide (the largest is 33 × 2^54).
 
-use crate::answers::{Counts, Judgement, Printed, Refusal, Written, FALSE, HOLDS, OUT_OF_BOUNDS};
+use crate::answers::{Counts, Judgement, Listed, Printed, Reason, Refusal, Written, AUXILIARIES, BUILTIN, FALSE, HOLDS, OUT_OF_BOUNDS};
 use std::ops::Range;
 
-// The limits (01, Numbered faults; 02, wishes 10 and 13).
+// The limits (01, Numbered faults; 02, wishes 10, 11 and 13).
 pub const MODEL_WORDS: usize = 8_192;
 pub const ROW_WORDS: usize = 262_144;
 pub const MODEL_VARIABLES: usize = 256;
@@ -16,6 +17,8 @@ pub const ROW_TERMS: u32 = 66;
 pub const ALL_VARIABLES: usize = 4_096;
 pub const ENCODING_WIDTH: i64 = 64;
 pub const EXPONENT: i32 = 27;
+pub const LISTED_VARIABLES: usize = 8;
+pub const VALUE_LISTS: u64 = 65_536;
 
 // The kinds (01, Words).
 pub const LOWER: u32 = 0x1;
@@ -31,6 +34,8 @@ pub const AT_MOST: u32 = 0xA;
 pub const EQUAL: u32 = 0xB;
 pub const PRODUCT: u32 = 0xC;
 pub const ROWS_END: u32 = 0xF;
+/// The word between the candidates of a pair (02, wish 12).
+pub const BETWEEN: u32 = 0xD000_0000;
 
 /// "The range" (02, wish 2).
 pub const LEAST: i64 = -134_217_727;
@@ -1624,4 +1629,110 @@ pub fn sheet(words: &[u32], page: &mut [u8]) -> Printed {
             }
         },
     }
+}
+
+// --------------------------------------------------------------------------------------------------------------------------------- reason
+
+/// Reason: the first row that fails of values inside all bounds, the constraint whose block holds it, and whether its builtin is false (02, wish 9).
+pub fn reason(words: &[u32], values: &[i32]) -> Reason {
+    try_reason(words, values).unwrap_or_else(Reason::from)
+}
+
+fn try_reason(words: &[u32], values: &[i32]) -> Result<Reason, Refusal> {
+    let (mut variables, mut encodings) = (Variables::new(), Encodings::new());
+    let counts = measure(words, &mut variables, &mut encodings, |_, _| ())?;
+    if values.len() != counts.variables + counts.auxiliaries {
+        return refusal(15, 0);
+    }
+    let mut judge = RowJudge { values, variables: 0, rows: 0, out_of_bounds: None, first_false: None, kind: EQUAL, sum: 0 };
+    variables.list().iter().for_each(|variable| judge.variable(i64::from(variable.lower), i64::from(variable.upper)));
+    let mut failing = None;
+    let mut at = variables.end;
+    for place in 0..counts.constraints {
+        let (constraint, next) = arguments(words, at);
+        let first = judge.variables;
+        block(&constraint, variables.list(), first, &mut encodings, &mut judge);
+        if failing.is_none() && judge.first_false.is_some() {
+            failing = Some((place, constraint));
+        }
+        at = next;
+    }
+    Ok(match (judge.out_of_bounds, judge.first_false.zip(failing)) {
+        (Some(variable), _) => Reason { said: OUT_OF_BOUNDS, place: variable, ..Reason::default() },
+        (None, None) => Reason { said: HOLDS, ..Reason::default() },
+        (None, Some((row, (place, constraint)))) => {
+            let said = if is_true(&constraint, &values[..counts.variables]) { AUXILIARIES } else { BUILTIN };
+            Reason { said, row, constraint: place, ..Reason::default() }
+        }
+    })
+}
+
+// ------------------------------------------------------------------------------------------------------------------------------ solutions
+
+/// The solutions of a model, one after another in rising order (02, wish 11), and their number; or the model's fault.
+pub fn all_solutions(words: &[u32]) -> Result<(Vec<i32>, usize), Refusal> {
+    let mut variables = Variables::new();
+    let mut constraints = vec![];
+    measure(words, &mut variables, &mut Encodings::new(), |_, constraint| constraints.push(*constraint))?;
+    let mut value_lists = 1u64;
+    for variable in variables.list() {
+        // It is cut above the limit, so that nothing is lost.
+        value_lists = (value_lists * (i64::from(variable.upper) - i64::from(variable.lower) + 1) as u64).min(VALUE_LISTS + 1);
+    }
+    if variables.count > LISTED_VARIABLES || value_lists > VALUE_LISTS {
+        return refusal(22, 0);
+    }
+    let (mut solutions, mut count) = (vec![], 0);
+    let mut values: Vec<i32> = variables.list().iter().map(|variable| variable.lower).collect();
+    loop {
+        if constraints.iter().all(|constraint| is_true(constraint, &values)) {
+            solutions.extend_from_slice(&values);
+            count += 1;
+        }
+        // The next list: the last value that can rise does, those behind it start again.
+        let Some(at) = (0..values.len()).rev().find(|&at| values[at] < variables.list()[at].upper) else { return Ok((solutions, count)) };
+        values[at] += 1;
+        (at + 1..values.len()).for_each(|behind| values[behind] = variables.list()[behind].lower);
+    }
+}
+
+/// Solutions: lists all solutions of a small model to the front of the output.
+pub fn solutions(words: &[u32], out: &mut [i32]) -> Listed {
+    match all_solutions(words) {
+        Err(refusal) => refusal.into(),
+        Ok((solutions, count)) => match out.get_mut(..solutions.len()) {
+            None => Refusal { fault: 16, place: 0 }.into(),
+            Some(front) => {
+                front.copy_from_slice(&solutions);
+                Listed { fault: 0, place: 0, solutions: count }
+            }
+        },
+    }
+}
+
+// ----------------------------------------------------------------------------------------------------------------------------------- pair
+
+/// The model of a pair's first or second candidate (02, wish 12): fault 2 where no word stands between them.
+pub fn candidate(words: &[u32], candidate: u32) -> Result<Vec<u32>, Refusal> {
+    let Some(between) = words.iter().position(|&word| word == BETWEEN) else { return refusal(2, words.len()) };
+    let ends_table = |&word: &u32| matches!(kind(word), CONSTRAINT | MODEL_END) || word == BETWEEN;
+    let table = words.iter().position(ends_table).unwrap_or(between);
+    let (table, first, second) = (&words[..table], &words[table..between], &words[between + 1..]);
+    Ok(if candidate == 1 { [table, first, &[word(MODEL_END, 0)]].concat() } else { [table, second].concat() })
+}
+
+pub fn pair_check(words: &[u32], number: u32) -> Counts {
+    candidate(words, number).map_or_else(Counts::from, |model| check(&model))
+}
+
+pub fn pair_translate(words: &[u32], number: u32, out: &mut [u32]) -> Written {
+    candidate(words, number).map_or_else(Written::from, |model| translate(&model, out))
+}
+
+pub fn pair_judge_model(words: &[u32], number: u32, values: &[i32]) -> Judgement {
+    candidate(words, number).map_or_else(Judgement::from, |model| judge_model(&model, values))
+}
+
+pub fn pair_fill(words: &[u32], number: u32, values: &[i32], out: &mut [i32]) -> Judgement {
+    candidate(words, number).map_or_else(Judgement::from, |model| fill(&model, values, out))
 }

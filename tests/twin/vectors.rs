@@ -1,6 +1,6 @@
 //! Recorded answers, tests/vectors: a line is CALL | words | values or - | room or - | answer.
 
-use crate::answers::{Judgement, FALSE, HOLDS, OUT_OF_BOUNDS};
+use crate::answers::{Counts, Judgement, Written, AUXILIARIES, BUILTIN, FALSE, HOLDS, OUT_OF_BOUNDS};
 use crate::library::{self, Lent};
 use crate::twin;
 use std::collections::HashSet;
@@ -19,23 +19,52 @@ fn judged(judgement: Judgement) -> String {
     }
 }
 
+fn counted(counts: Counts) -> String {
+    match counts.fault {
+        0 => listed("counts", [counts.variables, counts.constraints, counts.auxiliaries, counts.rows, counts.words]),
+        fault => format!("refused {fault} {}", counts.place),
+    }
+}
+
+fn written(written: Written, out: &[u32]) -> String {
+    match written.fault {
+        0 => listed("words", out[..written.words].iter().map(|word| format!("{word:08X}"))),
+        fault => format!("refused {fault} {}", written.place),
+    }
+}
+
+fn filled(filled: Judgement, out: &[i32]) -> String {
+    if filled.said == HOLDS {
+        listed("filled", &out[..filled.at])
+    } else {
+        judged(filled)
+    }
+}
+
+/// The answer of a side to a call for a pair; the candidate stands before the values.
+fn pair_answer(call: &str, words: &mut [u32], values: &mut [i32], room: usize, library: bool) -> String {
+    let Some((&mut candidate, values)) = values.split_first_mut() else { return "no candidate".into() };
+    let candidate = candidate as u32;
+    let (mut out, mut out_values) = (vec![0; room], vec![0; room]);
+    match (call, library) {
+        ("pair_check", true) => counted(library::pair_check(Lent::new(words), candidate)),
+        ("pair_check", false) => counted(twin::pair_check(words, candidate)),
+        ("pair_translate", true) => written(library::pair_translate(Lent::new(words), candidate, Lent::new(&mut out)), &out),
+        ("pair_translate", false) => written(twin::pair_translate(words, candidate, &mut out), &out),
+        ("pair_judge_model", true) => judged(library::pair_judge_model(Lent::new(words), candidate, Lent::new(values))),
+        ("pair_judge_model", false) => judged(twin::pair_judge_model(words, candidate, values)),
+        (_, true) => filled(library::pair_fill(Lent::new(words), candidate, Lent::new(values), Lent::new(&mut out_values)), &out_values),
+        (_, false) => filled(twin::pair_fill(words, candidate, values, &mut out_values), &out_values),
+    }
+}
+
 /// The answer of a side, in the form of the record. `library`: the library's, else the twin's.
 fn answer(call: &str, words: &mut [u32], values: &mut [i32], room: usize, library: bool) -> String {
     match call {
-        "check" => {
-            let counts = if library { library::check(Lent::new(words)) } else { twin::check(words) };
-            match counts.fault {
-                0 => listed("counts", [counts.variables, counts.constraints, counts.auxiliaries, counts.rows, counts.words]),
-                fault => format!("refused {fault} {}", counts.place),
-            }
-        }
+        "check" => counted(if library { library::check(Lent::new(words)) } else { twin::check(words) }),
         "translate" => {
             let mut out = vec![0; room];
-            let written = if library { library::translate(Lent::new(words), Lent::new(&mut out)) } else { twin::translate(words, &mut out) };
-            match written.fault {
-                0 => listed("words", out[..written.words].iter().map(|word| format!("{word:08X}"))),
-                fault => format!("refused {fault} {}", written.place),
-            }
+            written(if library { library::translate(Lent::new(words), Lent::new(&mut out)) } else { twin::translate(words, &mut out) }, &out)
         }
         "judge_model" => judged(if library { library::judge_model(Lent::new(words), Lent::new(values)) } else { twin::judge_model(words, values) }),
         "judge_rows" => judged(if library { library::judge_rows(Lent::new(words), Lent::new(values)) } else { twin::judge_rows(words, values) }),
@@ -48,16 +77,32 @@ fn answer(call: &str, words: &mut [u32], values: &mut [i32], room: usize, librar
                 (fault, _) => format!("refused {fault} {}", printed.place),
             }
         }
-        "fill" => {
-            let mut out = vec![0; room];
-            let filled =
-                if library { library::fill(Lent::new(words), Lent::new(values), Lent::new(&mut out)) } else { twin::fill(words, values, &mut out) };
-            if filled.said == HOLDS {
-                listed("filled", &out[..filled.at])
-            } else {
-                judged(filled)
+        "reason" => {
+            let reason = if library { library::reason(Lent::new(words), Lent::new(values)) } else { twin::reason(words, values) };
+            match reason.said {
+                HOLDS => "none".into(),
+                OUT_OF_BOUNDS => format!("bound {}", reason.place),
+                BUILTIN => format!("row {} {} builtin", reason.row, reason.constraint),
+                AUXILIARIES => format!("row {} {} auxiliaries", reason.row, reason.constraint),
+                _ => format!("refused {} {}", reason.fault, reason.place),
             }
         }
+        "solutions" => {
+            let mut out = vec![0; room];
+            let found = if library { library::solutions(Lent::new(words), Lent::new(&mut out)) } else { twin::solutions(words, &mut out) };
+            let variables = twin::check(words).variables;
+            match found.fault {
+                0 => listed(&format!("solutions {}", found.solutions), &out[..found.solutions * variables]),
+                fault => format!("refused {fault} {}", found.place),
+            }
+        }
+        "fill" => {
+            let mut out = vec![0; room];
+            let said =
+                if library { library::fill(Lent::new(words), Lent::new(values), Lent::new(&mut out)) } else { twin::fill(words, values, &mut out) };
+            filled(said, &out)
+        }
+        "pair_check" | "pair_translate" | "pair_judge_model" | "pair_fill" => pair_answer(call, words, values, room, library),
         _ => "an unknown call".into(),
     }
 }

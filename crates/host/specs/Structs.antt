@@ -1,9 +1,13 @@
 -- The struct that a call hands a host for each answer of 01 and 02. Fields without a use are 0, and so are all of an answer that the call never gives.
 use Prim.Native.Nat.{ℕ}
+use Rattle.integers.specs.Choice.{_if_else_}
 use Rattle.words.specs.Answer.{Answer, refused, counts, written, holds, outOfBounds, isFalse}
+use Rattle.reasons.specs.Reason.{Reason, refuse, outside, none, because}
 use Rattle.host.specs.declared.Counts.{Counts}
+use Rattle.host.specs.declared.Explanation.{Explanation}
 use Rattle.host.specs.declared.Judgement.{Judgement}
 use Rattle.host.specs.declared.Printed.{Printed}
+use Rattle.host.specs.declared.Listed.{Listed}
 use Rattle.host.specs.declared.Written.{Written}
 
 -- Of the judges and of fill, by what is said: 0 refused, 1 holds (in fill, `at` is how many values it wrote), 2 out of bounds, 3 false.
@@ -50,3 +54,22 @@ printedOf (counts v c a r w) = noBytes 0 0
 printedOf holds = noBytes 0 0
 printedOf (outOfBounds i) = noBytes 0 0
 printedOf (isFalse i) = noBytes 0 0
+
+-- Of solutions.
+abbrev pub noSolutions : ℕ → ℕ → Listed
+noSolutions n p = record { fault = n; place = p; solutions = 0 }
+
+unfoldable pub listedOf : Answer → Listed
+listedOf (refused n p) = noSolutions n p
+listedOf (written n) = record { fault = 0; place = 0; solutions = n }
+listedOf (counts v c a r w) = noSolutions 0 0
+listedOf holds = noSolutions 0 0
+listedOf (outOfBounds i) = noSolutions 0 0
+listedOf (isFalse i) = noSolutions 0 0
+
+-- Of reason, by the reason: 0 refused, 1 none, 2 out of bounds, 3 the builtin is false, 4 it is true and auxiliaries in the row are wrong.
+unfoldable pub explanationOf : Reason → Explanation
+explanationOf (refuse n p) = record { reason = 0; fault = n; place = p; row = 0; constraint = 0 }
+explanationOf none = record { reason = 1; fault = 0; place = 0; row = 0; constraint = 0 }
+explanationOf (outside i) = record { reason = 2; fault = 0; place = i; row = 0; constraint = 0 }
+explanationOf (because k j true-of-sources) = record { reason = 4 if true-of-sources else 3; fault = 0; place = 0; row = k; constraint = j }

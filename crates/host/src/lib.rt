@@ -16,14 +16,30 @@ ghost use Rattle.translation.specs.Written.{wrote};
 ghost use Rattle.filling.specs.Filled.{handed};
 ghost use Rattle.filling.specs.HandsOver.{HandsOver};
 ghost use Rattle.filling.specs.Satisfied.{Satisfied};
+ghost use Rattle.pairs.specs.Calls.{pairCheck, pairTranslate, pairTranslated, pairJudge, pairFill, pairFilled};
+ghost use Rattle.pairs.specs.HandsOver.{PairHandsOver};
+ghost use Rattle.pairs.specs.Pair.{modelOf};
+ghost use Rattle.solutions.specs.Found.{found};
+ghost use Rattle.solutions.specs.Solutions.{solutionsAnswer, listed};
+ghost use Rattle.integers.specs.Choice.{_if_else_};
+ghost use Rattle.reasons.specs.Reason.{reason as reasonAnswer};
+ghost use Rattle.reasoning.specs.Told.{told};
 ghost use Rattle.host.specs.Bytes.{checkBytes};
-ghost use Rattle.host.specs.Structs.{countsOf, judgementOf, printedOf, writtenOf};
+ghost use Rattle.host.specs.Structs.{countsOf, explanationOf, judgementOf, listedOf, printedOf, writtenOf};
 use encoding::words_of_bytes;
 use filling::Filled;
 use filling::fill;
 use modeljudge::judge_model;
+use pairs::pair_check;
+use pairs::pair_fill;
+use pairs::pair_judge_model;
+use pairs::pair_translate;
+use reasoning::Reasoned;
+use reasoning::reason;
 use rowjudge::judge_rows;
 use sheets::sheet;
+use solutions::Found;
+use solutions::solutions;
 use translation::Checked;
 use translation::check;
 use translation::translate;
@@ -65,6 +81,24 @@ pub struct Printed {
     pub fault: u32,
     pub place: usize,
     pub bytes: usize,
+}
+
+// What listing the solutions answers a host: how many there are, or a fault and its place.
+#[repr(C)]
+pub struct Listed {
+    pub fault: u32,
+    pub place: usize,
+    pub solutions: usize,
+}
+
+// What reason answers a host, by the reason: 0 refused, with the fault and its place; 1 no row fails; 2 the variable out of bounds, in `place`; 3 the row fails and the constraint's builtin is false of the source values; 4 it is true, and auxiliaries in the row are wrong.
+#[repr(C)]
+pub struct Explanation {
+    pub reason: u32,
+    pub fault: u32,
+    pub place: usize,
+    pub row: usize,
+    pub constraint: usize,
 }
 
 // A judge's answer for a host.
@@ -119,6 +153,56 @@ fn filled_of(f: Filled) -> Judgement
             said: 3,
             fault: 0,
             at: i,
+        },
+    }
+}
+
+// The reason of a failing row, by whether its builtin is true.
+fn reason_of(holds: bool) -> u32
+    ensures { λ r. ⌜ r ≡ (4 if holds else 3) ⌝ }
+{
+    if holds {
+        return 4;
+    }
+    3
+}
+
+// Reason's answer for a host.
+fn explanation_of(r: Reasoned) -> Explanation
+    ensures { λ e. ⌜ e ≡ explanationOf (told r) ⌝ }
+{
+    match r {
+        Reasoned::Refused(refusal) => Explanation {
+            reason: 0,
+            fault: refusal.number,
+            place: refusal.place,
+            row: 0,
+            constraint: 0,
+        },
+        Reasoned::OutOfBounds(i) => Explanation {
+            reason: 2,
+            fault: 0,
+            place: i,
+            row: 0,
+            constraint: 0,
+        },
+        Reasoned::Nothing => Explanation {
+            reason: 1,
+            fault: 0,
+            place: 0,
+            row: 0,
+            constraint: 0,
+        },
+        Reasoned::Because {
+            row,
+            constraint,
+            holds,
+        } => Explanation {
+            reason: reason_of(holds),
+            fault: 0,
+            place: 0,
+            row: row,
+            constraint: constraint,
         },
     }
 }
@@ -207,6 +291,24 @@ fn printed_of(p: sheets::Printed) -> Printed
     }
 }
 
+// The answer of listing the solutions for a host.
+fn listed_of(f: Found) -> Listed
+    ensures { λ r. ⌜ r ≡ listedOf (found f) ⌝ }
+{
+    match f {
+        Found::Refused(r) => Listed {
+            fault: r.number,
+            place: r.place,
+            solutions: 0,
+        },
+        Found::Solutions(n) => Listed {
+            fault: 0,
+            place: 0,
+            solutions: n,
+        },
+    }
+}
+
 // Check over bytes, four to a word, the lowest first, 1 to 3 spare bytes left off: the number of the refusal, 0 if accepted.
 #[no_mangle]
 pub extern "C" fn pearrummy_check_bytes(bytes: &[u8]) -> u32
@@ -272,4 +374,71 @@ pub extern "C" fn pearrummy_sheet(words: &[u32], page: &mut [u8]) -> Printed
     ensures page { λ r. ⌜ now (page .exit) ≡ sheetPage (now (words .entry)) (now (page .entry)) ⌝ }
 {
     printed_of(sheet(words, page))
+}
+
+// Every solution of a small model goes to the front of the output, one after another.
+#[no_mangle]
+pub extern "C" fn pearrummy_solutions(words: &[u32], out: &mut [i32]) -> Listed
+    ensures answer { λ r. ⌜ r ≡ listedOf (solutionsAnswer (now (words .entry)) (length (now (out .entry)))) ⌝ }
+    ensures output { λ r. ⌜ now (out .exit) ≡ listed (now (words .entry)) (now (out .entry)) ⌝ }
+{
+    listed_of(solutions(words, out))
+}
+
+// Check of a candidate's model; candidate 1 is the first, every other number the second.
+#[no_mangle]
+pub extern "C" fn pearrummy_pair_check(words: &[u32], candidate: u32) -> Counts
+    ensures { λ r. ⌜ r ≡ countsOf (pairCheck candidate (now (words .entry))) ⌝ }
+{
+    counts_of(pair_check(words, candidate))
+}
+
+// Translate of a candidate's model.
+#[no_mangle]
+pub extern "C" fn pearrummy_pair_translate(
+    words: &[u32],
+    candidate: u32,
+    out: &mut [u32],
+) -> Written
+    ensures answer { λ r. ⌜ r ≡ writtenOf (pairTranslate candidate (now (words .entry)) (length (now (out .entry)))) ⌝ }
+    ensures output { λ r. ⌜ now (out .exit) ≡ pairTranslated candidate (now (words .entry)) (now (out .entry)) ⌝ }
+    ensures shared { λ r. ⌜ Shares (modelOf candidate (now (words .entry))) (pairTranslate candidate (now (words .entry)) (length (now (out .entry)))) (now (out .exit)) ⌝ }
+{
+    written_of(pair_translate(words, candidate, out))
+}
+
+// Judge-model of a candidate's model.
+#[no_mangle]
+pub extern "C" fn pearrummy_pair_judge_model(
+    words: &[u32],
+    candidate: u32,
+    values: &[i32],
+) -> Judgement
+    ensures { λ r. ⌜ r ≡ judgementOf (pairJudge candidate (now (words .entry)) (now (values .entry))) ⌝ }
+{
+    judgement_of(pair_judge_model(words, candidate, values))
+}
+
+// Fill of a candidate's model.
+#[no_mangle]
+pub extern "C" fn pearrummy_pair_fill(
+    words: &[u32],
+    candidate: u32,
+    values: &[i32],
+    out: &mut [i32],
+) -> Judgement
+    ensures answer { λ r. ⌜ r ≡ judgementOf (pairFill candidate (now (words .entry)) (now (values .entry)) (length (now (out .entry)))) ⌝ }
+    ensures output { λ r. ⌜ now (out .exit) ≡ pairFilled candidate (now (words .entry)) (now (values .entry)) (now (out .entry)) ⌝ }
+    ensures satisfied { λ r. ⌜ Satisfied (modelOf candidate (now (words .entry))) (pairFill candidate (now (words .entry)) (now (values .entry)) (length (now (out .entry)))) (now (out .exit)) ⌝ }
+    ensures completes { λ r. ⌜ PairHandsOver candidate (now (words .entry)) (now (values .entry)) (pairFill candidate (now (words .entry)) (now (values .entry)) (length (now (out .entry)))) (now (out .entry)) (now (out .exit)) ⌝ }
+{
+    filled_of(pair_fill(words, candidate, values, out))
+}
+
+// Reason; the first failing row of a model's row system, the constraint whose block holds it, and why.
+#[no_mangle]
+pub extern "C" fn pearrummy_reason(words: &[u32], values: &[i32]) -> Explanation
+    ensures { λ r. ⌜ r ≡ explanationOf (reasonAnswer (now (words .entry)) (now (values .entry))) ⌝ }
+{
+    explanation_of(reason(words, values))
 }

@@ -69,3 +69,15 @@ pub fn marked_bytes(page: &[u8], from: usize) -> bool {
     }
     true
 }
+
+// The place of the first value that is as it was before the call; the number of values where there is none.
+pub fn first_marked(out: &[i32]) -> usize {
+    let mut i = 0;
+    while i < out.len() {
+        if out[i] == VALUE_MARK {
+            return i;
+        }
+        i += 1;
+    }
+    i
+}

@@ -13,11 +13,19 @@ use lent::mark_words;
 use modeljudge::judge_model;
 use output::print_checked;
 use output::print_filled;
+use output::print_found;
 use output::print_printed;
+use output::print_reasoned;
 use output::print_verdict;
 use output::print_written;
+use pairs::pair_check;
+use pairs::pair_fill;
+use pairs::pair_judge_model;
+use pairs::pair_translate;
+use reasoning::reason;
 use rowjudge::judge_rows;
 use sheets::sheet;
+use solutions::solutions;
 use translation::check;
 use translation::translate;
 
@@ -37,6 +45,19 @@ const JUDGE_ROWS: u32 = 4;
 const FILL: u32 = 5;
 
 const SHEET: u32 = 6;
+
+const REASON: u32 = 8;
+
+const SOLUTIONS: u32 = 9;
+
+// The calls of a candidate, in the order of those of a model.
+const PAIR_CHECK: u32 = 11;
+
+const PAIR_TRANSLATE: u32 = 12;
+
+const PAIR_JUDGE_MODEL: u32 = 13;
+
+const PAIR_FILL: u32 = 14;
 
 // The lesser of two counts.
 fn at_most(n: usize, most: usize) -> usize
@@ -82,6 +103,71 @@ fn answer_fill(words: &[u32], values: &[i32], out: &mut [i32], room: usize) {
     print_filled(answer, out);
 }
 
+// Every solution into the front of a list.
+fn answer_solutions(words: &[u32], out: &mut [i32], room: usize) {
+    mark_values(out);
+    let k = at_most(room, out.len());
+    let answer = solutions(words, &mut out[..k]);
+    print_found(answer, out);
+}
+
+// Translate of a candidate's model into the front of a list.
+fn answer_pair_translate(words: &[u32], candidate: u32, out: &mut [u32], room: usize) {
+    mark_words(out);
+    let k = at_most(room, out.len());
+    let answer = pair_translate(words, candidate, &mut out[..k]);
+    print_written(answer, out);
+}
+
+// Fill of a candidate's model into the front of a list.
+fn answer_pair_fill(words: &[u32], candidate: u32, values: &[i32], out: &mut [i32], room: usize) {
+    mark_values(out);
+    let k = at_most(room, out.len());
+    let answer = pair_fill(words, candidate, values, &mut out[..k]);
+    print_filled(answer, out);
+}
+
+// The answer of a call on a pair, for a candidate.
+fn answer_candidate(
+    head: Head,
+    words: &[u32],
+    candidate: u32,
+    values: &[i32],
+    rows: &mut [u32],
+    filled: &mut [i32],
+) {
+    let call = head.call;
+    if call == PAIR_CHECK {
+        print_checked(pair_check(words, candidate));
+        return;
+    }
+    if call == PAIR_TRANSLATE {
+        answer_pair_translate(words, candidate, rows, head.room);
+        return;
+    }
+    if call == PAIR_JUDGE_MODEL {
+        print_verdict(pair_judge_model(words, candidate, values));
+        return;
+    }
+    if call == PAIR_FILL {
+        answer_pair_fill(words, candidate, values, filled, head.room);
+        return;
+    }
+    io::write_all(1, b"unknown\n");
+}
+
+// The same, the candidate being the first of the values.
+fn answer_pair(head: Head, words: &[u32], values: &[i32], rows: &mut [u32], filled: &mut [i32]) {
+    if 0 < values.len() {
+        let candidate = values[0];
+        if candidate == 1 {
+            answer_candidate(head, words, 1, &values[1..], rows, filled);
+            return;
+        }
+        answer_candidate(head, words, 2, &values[1..], rows, filled);
+    }
+}
+
 // The answer of a call on a model.
 fn answer_call(head: Head, words: &[u32], values: &[i32], rows: &mut [u32], filled: &mut [i32]) {
     let call = head.call;
@@ -101,7 +187,15 @@ fn answer_call(head: Head, words: &[u32], values: &[i32], rows: &mut [u32], fill
         answer_fill(words, values, filled, head.room);
         return;
     }
-    io::write_all(1, b"unknown\n");
+    if call == REASON {
+        print_reasoned(reason(words, values));
+        return;
+    }
+    if call == SOLUTIONS {
+        answer_solutions(words, filled, head.room);
+        return;
+    }
+    answer_pair(head, words, values, rows, filled);
 }
 
 // The same, the words and values at the fronts of two lists.

@@ -1,10 +1,13 @@
 // Prints answers, each on a line; a line ends in " changed" where a call wrote what it may not write.
+use crate::lent::first_marked;
 use crate::lent::marked_bytes;
 use crate::lent::marked_values;
 use crate::lent::marked_words;
 use filling::Filled;
 use hexadecimal::digits_of;
+use reasoning::Reasoned;
 use sheets::Printed;
+use solutions::Found;
 use translation::Checked;
 use translation::Written;
 use words::Refusal;
@@ -178,4 +181,45 @@ pub fn print_printed(answer: Printed, page: &[u8]) {
             print_end(marked_bytes(page, n));
         }
     }
+}
+
+// The answer of listing the solutions; the list whose front was lent. What was written ends where the first mark stands, which is no value of a model.
+pub fn print_found(answer: Found, out: &[i32]) {
+    match answer {
+        Found::Refused(r) => {
+            print_refusal(r);
+            print_end(marked_values(out, 0));
+        }
+        Found::Solutions(n) => {
+            let end = first_marked(out);
+            print_one(b"solutions ", n);
+            print_values(out, end);
+            print_end(marked_values(out, end));
+        }
+    }
+}
+
+// The reason of a failed row.
+pub fn print_reasoned(r: Reasoned) {
+    match r {
+        Reasoned::Refused(refusal) => print_refusal(refusal),
+        Reasoned::OutOfBounds(i) => print_one(b"bound ", i),
+        Reasoned::Nothing => {
+            io::write_all(1, b"none");
+        }
+        Reasoned::Because {
+            row,
+            constraint,
+            holds,
+        } => {
+            print_one(b"row ", row);
+            print_one(b" ", constraint);
+            if holds {
+                io::write_all(1, b" auxiliaries");
+            } else {
+                io::write_all(1, b" builtin");
+            }
+        }
+    }
+    io::write_all(1, b"\n");
 }
