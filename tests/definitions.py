@@ -12,6 +12,7 @@ SCRATCH = os.path.join(ROOT, 'target', 'definitions')
 CRATES = ['integers', 'words', 'models', 'rowsystems', 'rules', 'decimals', 'sheets', 'sharing', 'reasons', 'solutions', 'pairs']
 MOST = int(sys.argv[1]) if len(sys.argv) > 1 else 2000
 SHEET_MOST = 24
+PARTS = ['firsts', 'seconds']  # the crates of the vectors
 UNUSED, UNUSED_BYTE = 0x5A5A5A5A, 0x5A  # what a lent word or value, and a lent byte, holds before the call
 # the definition of what each call answers, and of what a lent list holds afterwards
 ANSWERS = {'check': 'check', 'translate': 'translate', 'judge_model': 'judgeModel', 'judge_rows': 'judgeRows', 'fill': 'fill', 'sheet': 'sheet', 'reason': 'reason', 'solutions': 'solutionsAnswer',
@@ -99,21 +100,19 @@ def definitions():
                 yield crate, os.path.basename(path)[:-5], names
 
 
-def write_crate(cases):
+def write_crates(cases):
+    """Writes PARTS crates, which are checked side by side, with every PARTS-th case each."""
     shutil.rmtree(SCRATCH, ignore_errors=True)
-    os.makedirs(os.path.join(SCRATCH, 'crates', 'vectors', 'specs'))
-    os.makedirs(os.path.join(SCRATCH, 'crates', 'vectors', 'src'))
+    os.makedirs(os.path.join(SCRATCH, 'crates'))
     listing = open(os.path.join(ROOT, 'crates.txt')).read()
     for crate in re.findall(r'^(\w+):', listing, flags=re.M):
         os.symlink(os.path.join(ROOT, 'crates', crate), os.path.join(SCRATCH, 'crates', crate))
     with open(os.path.join(SCRATCH, 'crates.txt'), 'w') as f:
-        f.write(listing + 'vectors: ' + ' '.join(CRATES) + '\n')
+        f.write(listing + ''.join(f'{name}: {" ".join(CRATES)}\n' for name in PARTS))
     built = os.path.join(ROOT, 'target')
     for folder in ('rlib', 'stamp'):  # what is proved already is not proved again
         if os.path.isdir(os.path.join(built, folder)):
             shutil.copytree(os.path.join(built, folder), os.path.join(SCRATCH, 'target', folder), symlinks=True)
-    with open(os.path.join(SCRATCH, 'crates', 'vectors', 'src', 'lib.rt'), 'w') as f:
-        f.write('pub fn none() -> u32 {\n    0\n}\n')
     modules = list(definitions())
     seen, uses, opened = set(), [], []
     for crate, module, names in modules:
@@ -130,22 +129,31 @@ def write_crate(cases):
         'use Rattle.rules.specs.Check.{check}', 'use Rattle.rules.specs.Translate.{translate, translated}',
         'use Rattle.rules.specs.Fill.{fill, filled}', 'use mathlib.Core.Bool.{true, false}',
         'use Rattle.reasons.specs.Reason.{Reason, refuse, outside, none, because}'] + uses)
-    with open(os.path.join(SCRATCH, 'crates', 'vectors', 'specs', 'Lib.antt'), 'w') as f:
+    for part, name in enumerate(PARTS):
+        of = {k: case for k, case in enumerate(cases) if k % len(PARTS) == part}
+        write_crate(os.path.join(SCRATCH, 'crates', name), head, 'flatMap flatten zipWith ' + ' '.join(opened), of)
+
+
+def write_crate(folder, head, opened, cases):
+    os.makedirs(os.path.join(folder, 'specs'))
+    os.makedirs(os.path.join(folder, 'src'))
+    with open(os.path.join(folder, 'src', 'lib.rt'), 'w') as f:
+        f.write('pub fn none() -> u32 {\n    0\n}\n')
+    with open(os.path.join(folder, 'specs', 'Lib.antt'), 'w') as f:
         f.write('pub mod Vectors\n')
-    lines = []
-    with open(os.path.join(SCRATCH, 'crates', 'vectors', 'specs', 'Vectors.antt'), 'w') as f:
+    with open(os.path.join(folder, 'specs', 'Vectors.antt'), 'w') as f:
         f.write(head + '\n\n')
-        for k, (name, call, words, values, room, answer) in enumerate(cases):
+        for k, (_, call, words, values, room, answer) in cases.items():
             proof = '(refl, refl)' if call in LATER else 'refl'
-            f.write(f'v{k} : {statement(call, words, values, room, answer)}\nunfolding flatMap flatten zipWith {" ".join(opened)}\nv{k} = {proof}\n\n')
+            f.write(f'v{k} : {statement(call, words, values, room, answer)}\nunfolding {opened}\nv{k} = {proof}\n\n')
 
 
 def main():
     every = list(vectors())
     cases = [case for case in every if len(case[2]) <= (min(MOST, SHEET_MOST) if case[1] == 'sheet' else MOST)]
-    write_crate(cases)
+    write_crates(cases)
     begun = time.time()
-    run = subprocess.run(['rt', 'check', 'vectors'], cwd=SCRATCH, capture_output=True, text=True, env=dict(os.environ, RT_CUT='0'))
+    run = subprocess.run(['rt', 'check', *PARTS], cwd=SCRATCH, capture_output=True, text=True, env=dict(os.environ, RT_CUT='0'))
     said = run.stdout + run.stderr
     wrong = sorted({int(n) for n in re.findall(r'error: `v(\d+)`', said)})
     for k in wrong:
