@@ -63,6 +63,11 @@ record-by s first e code args = rw (encodes-by (record { place = 0; code = code;
     go true = shared-or-not (s x)
     go false = refl
 
+-- the place of a constraint plays no part
+pub placed-record : (s : ℕ → Bool) (first : ℕ) (e : Encoded) (c : Constraint) {d : Encoded} → d ≡ encodedAfter s first e (encodes (choiceOf (c .code) (c .arguments))) → d ≡ encodedAfter s first e (encodes (choice c))
+unfolding choiceOf choice
+placed-record s first e c h = h
+
 -- ---- the record holds numbers of auxiliaries, and keeps its length
 
 -- nothing is recorded yet

@@ -4,7 +4,7 @@ ghost use Prim.Native.Nat.{ℕ, _+_, _<_, _≤_};
 ghost use lib.Dec.{eqb};
 ghost use lib.ListN.{length, getD, set};
 ghost use Rattle.integers.specs.Choice.{_if_else_};
-ghost use Rattle.models.specs.Model.{constraints};
+ghost use Rattle.models.specs.Model.{constraints, var};
 ghost use Rattle.modelreading.specs.Seen.{Heads};
 ghost use Rattle.rules.specs.Shared.{encodes, shares, noneYet, encodedAfter};
 ghost use Rattle.encodings.specs.Uses.{choiceOf, choosing, counted, usesFrom, sharedBy};
@@ -69,12 +69,19 @@ pub fn count_uses(ws: &[u32], heads: &[usize; 256], n: usize, uses: &mut [usize]
     }
 }
 
+// Whether the variable at place 0 is shared, for a constraint that chooses by it.
+pub fn first_shared(args: &[u32], uses: &[usize]) -> bool
+    ensures { λ r. ⌜ r ≡ sharedBy (now (uses .entry)) (var (now (args .entry)) 0) ⌝ }
+{
+    1 < entry_of(uses, var_at(args, 0))
+}
+
 // Whether a constraint chooses by a variable that is shared.
 pub fn is_shared(code: usize, args: &[u32], uses: &[usize]) -> bool
     ensures { λ r. ⌜ r ≡ shares (sharedBy (now (uses .entry))) (choiceOf code (now (args .entry))) ⌝ }
 {
     if chooses(code) {
-        return 1 < entry_of(uses, var_at(args, 0));
+        return first_shared(args, uses);
     }
     false
 }

@@ -29,7 +29,7 @@ use Rattle.laying.specs.Part.{blockParts}
 use Rattle.laying.specs.Went.{WentFitting, Near, nothing}
 use Rattle.laying.specs.declared.Laid.{Laid}
 use Rattle.laying.proofs.Blocks.{block-words, block-outside}
-use Rattle.translation.proofs.OneBlock.{told}
+use Rattle.blocks.proofs.OneBlock.{told}
 use Rattle.words.proofs.Overlay.{front-over}
 use Rattle.reasoning.specs.Ready.{ended, Reads, Front, Outside, Failing, Below, shift}
 use Rattle.reasoning.proofs.Counted.{outside-part, outside-below}

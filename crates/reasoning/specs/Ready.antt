@@ -28,7 +28,7 @@ use Rattle.laying.specs.declared.Laid.{Laid}
 use Rattle.extremes.specs.Bounded.{boundsOf, Bounded}
 use Rattle.linearsums.specs.Sum.{Summed}
 use Rattle.encodings.specs.Uses.{sharedBy, Recorded}
-use Rattle.translation.specs.Walk.{constraintOf}
+use Rattle.blocks.specs.Coded.{constraintOf}
 use Rattle.translation.specs.ModelBounds.{ModelBounds, modelSums}
 use Rattle.reasoning.specs.declared.Said.{Said}
 

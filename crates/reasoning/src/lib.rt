@@ -21,7 +21,7 @@ use words::Verdict;
 use words::fault;
 use words::is_holds;
 
-mod blocks;
+mod one_block;
 mod rows;
 mod walks;
 

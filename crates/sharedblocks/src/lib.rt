@@ -204,7 +204,7 @@ fn lay_members_row(
 }
 
 // The block of array_int_element over a shared variable.
-fn shared_element(
+pub fn shared_element(
     out: &mut [u32],
     s: Laid,
     args: &[u32],
@@ -223,7 +223,7 @@ fn shared_element(
 }
 
 // The block of array_var_int_element over a shared variable.
-fn shared_var_element(
+pub fn shared_var_element(
     out: &mut [u32],
     s: Laid,
     args: &[u32],
@@ -243,7 +243,7 @@ fn shared_var_element(
 }
 
 // The block of set_in over a shared variable.
-fn shared_set_in(
+pub fn shared_set_in(
     out: &mut [u32],
     s: Laid,
     args: &[u32],
@@ -261,7 +261,7 @@ fn shared_set_in(
 }
 
 // The block of set_in_reif over a shared variable.
-fn shared_set_in_reif(
+pub fn shared_set_in_reif(
     out: &mut [u32],
     s: Laid,
     args: &[u32],
@@ -276,27 +276,4 @@ fn shared_set_in_reif(
     let t = lay_new_bits(out, s, args, ls, us, encoded);
     let u = lay_new_rows(out, t, args, ls, us, encoded, first);
     lay_members_row(out, u, args, ls, us, encoded, first)
-}
-
-// The block over a shared variable, of a code that chooses a value of it.
-pub fn shared_block(
-    out: &mut [u32],
-    s: Laid,
-    code: usize,
-    args: &[u32],
-    ls: &[i64],
-    us: &[i64],
-    encoded: &[usize],
-    first: usize,
-) -> Laid
-    requires { ⌜ (total s < 1000000000) × Encodable (now ls) (now us) (now encoded) first (now args) ⌝ }
-    ensures { λ r. ⌜ Went s r (now (out .entry)) (now (out .exit)) (blockParts first (sharedRule (boundsOf (now (ls .entry)) (now (us .entry))) (now (encoded .entry)) (choiceOf code (now (args .entry))))) × Near 1000000 s r ⌝ }
-{
-    match code {
-        24 => shared_element(out, s, args, ls, us, encoded, first),
-        25 => shared_var_element(out, s, args, ls, us, encoded, first),
-        27 => shared_set_in(out, s, args, ls, us, encoded, first),
-        28 => shared_set_in_reif(out, s, args, ls, us, encoded, first),
-        _ => s,
-    }
 }

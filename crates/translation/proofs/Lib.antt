@@ -1,5 +1,5 @@
 -- Laws for proofs about check and translate.
-pub mod OneBlock
+pub mod Costs
 pub mod Uses
 pub mod Kept
 pub mod CheckWalk

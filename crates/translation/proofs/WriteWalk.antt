@@ -23,7 +23,7 @@ use Rattle.sharing.specs.SharedSolutions.{Passes}
 use Rattle.sharing.proofs.Accepts.{Fine, passes-fine}
 use Rattle.translation.specs.Walk.{allBlocks}
 use Rattle.translation.specs.ModelBounds.{ModelBounds}
-use Rattle.translation.proofs.OneBlock.{Told}
+use Rattle.blocks.proofs.OneBlock.{Told}
 
 -- the blocks of the first k constraints are written, up to place `at` of the output; the next auxiliary is `first`, and d is the record
 pub record Writing (β : ℕ → Bounds) (s : ℕ → Bool) (v : ℕ) (cs : List Constraint) (o₀ : List ℕ) (start : ℕ) (o : List ℕ) (k first at : ℕ) (d : Encoded) : Type 0 where

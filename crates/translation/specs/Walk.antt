@@ -1,32 +1,18 @@
 -- What check says of the constraints that are left, and what it finds of one of them.
 use mathlib.Core.Path.{_≡_}
-use mathlib.Core.Bool.{Bool, false, _&&_, _||_}
+use mathlib.Core.Bool.{Bool}
 use mathlib.Core.List.{List}
 use Prim.Native.Nat.{ℕ, _+_, _≤_}
-use lib.Dec.{eqb}
 use lib.ListN.{length}
 use Rattle.integers.specs.declared.Bounds.{Bounds}
 use Rattle.words.specs.Answer.{Answer, counts, _else-answer_}
 use Rattle.words.specs.Variables.{variables}
-use Rattle.models.specs.Model.{Constraint, constraints, var}
+use Rattle.models.specs.Model.{Constraint, constraints}
 use Rattle.rules.specs.Block.{blockWords}
 use Rattle.rules.specs.Shared.{Encoded, noneYet}
 use Rattle.rules.specs.Translation.{bounds, shared, blockOf, eachBlock, blocksWords}
 use Rattle.rules.specs.Check.{blockFault, blocksFault}
-use Rattle.encodings.specs.Uses.{choosing}
 use Rattle.translation.specs.declared.Cost.{Cost}
-
--- the constraint of a code and the words after its head; its place plays no part in its block
-abbrev pub constraintOf : ℕ → List ℕ → Constraint
-constraintOf code ws = record { place = 0; code = code; arguments = ws }
-
--- no variable is shared
-abbrev pub noneShared : ℕ → Bool
-noneShared v = false
-
--- whether the constraint has an auxiliary for each value of its first argument
-unfoldable pub hasAll : (ℕ → Bool) → ℕ → List ℕ → Bool
-hasAll s code ws = choosing code && (eqb code 28 || s (var ws 0))
 
 -- the words of all blocks
 abbrev pub allBlocks : List ℕ → List ℕ

@@ -13,7 +13,6 @@ use words::Refusal;
 use words::fault;
 use writing::write_system;
 
-pub mod blocks;
 pub mod checking;
 mod writing;
 

@@ -8,7 +8,7 @@ ghost use Rattle.rules.specs.Translation.{systemWords};
 ghost use Rattle.sharing.specs.SharedSolutions.{Passes};
 ghost use Rattle.translation.specs.Walk.{allBlocks};
 ghost use Rattle.translation.specs.ModelBounds.{ModelBounds, modelSums};
-use crate::blocks::block;
+use blocks::block;
 use encodings::record_encoding;
 use integers::Bounds;
 use modelreading::Read;

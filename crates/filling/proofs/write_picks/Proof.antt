@@ -14,7 +14,7 @@ use Rattle.encodings.specs.Uses.{sharedBy}
 use Rattle.picking.specs.Picked.{picksFrom}
 use Rattle.picking.proofs.Picks.{Filling, begun, here-ranged, picked, place-le, ended, picks-from}
 use Rattle.translation.proofs.Kept.{few-constraints, none-left, head-inside, head-at}
-use Rattle.translation.proofs.OneBlock.{placed-record}
+use Rattle.encodings.proofs.Record.{placed-record}
 use Rattle.filling.proofs.Ranges.{block-picks}
 use Rattle.filling.proofs.write_picks.Statement.{statement}
 use Rattle.filling.proofs.write_picks.Tie as tie

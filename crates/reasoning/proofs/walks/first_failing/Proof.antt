@@ -12,7 +12,7 @@ use Rattle.rules.specs.Translation.{blockOf}
 use Rattle.extremes.specs.Bounded.{boundsOf}
 use Rattle.encodings.specs.Uses.{sharedBy}
 use Rattle.translation.proofs.Kept.{few-constraints, none-left, head-inside, head-at}
-use Rattle.translation.proofs.OneBlock.{placed-record}
+use Rattle.encodings.proofs.Record.{placed-record}
 use Rattle.integers.specs.Terms.{value}
 use Rattle.reasoning.specs.Told.{told}
 use Rattle.reasoning.proofs.Walk.{layable, room-after, own-there, Seeking, seeking, sought-all, seeking-stop, seeking-more, sources-length, sources-small}

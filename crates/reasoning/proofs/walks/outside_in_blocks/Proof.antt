@@ -13,7 +13,7 @@ use Rattle.rules.specs.Translation.{blockOf}
 use Rattle.extremes.specs.Bounded.{boundsOf}
 use Rattle.encodings.specs.Uses.{sharedBy}
 use Rattle.translation.proofs.Kept.{few-constraints, none-left, head-inside, head-at}
-use Rattle.translation.proofs.OneBlock.{placed-record}
+use Rattle.encodings.proofs.Record.{placed-record}
 use Rattle.reasoning.proofs.Walk.{layable, room-after, Bounding, bounding, bounded-all, own-there, bounding-stop, bounding-more}
 use borrow.Author.Needs.{needs}
 use Rattle.reasoning.proofs.walks.outside_in_blocks.Statement.{statement}

@@ -13,7 +13,8 @@ use Rattle.encodings.specs.Uses.{sharedBy}
 use Rattle.translation.specs.Checked.{checked}
 use Rattle.translation.specs.Walk.{Costs}
 use Rattle.translation.proofs.Kept.{few-variables, few-sources, few-constraints, none-left, head-inside, head-at, summed-at}
-use Rattle.translation.proofs.OneBlock.{placed-costs, placed-record}
+use Rattle.encodings.proofs.Record.{placed-record}
+use Rattle.translation.proofs.Costs.{placed-costs}
 use Rattle.translation.proofs.CheckWalk.{Checking, begun, more, stop, done, all-checked}
 use Rattle.translation.proofs.checking.check_read.Statement.{statement}
 use Rattle.translation.proofs.checking.check_read.Tie as tie

@@ -1,7 +1,8 @@
 -- Fault 12 before the block is laid, then 13 and 14 by what the block counts.
 use mathlib.Core.Path.{sym, _∙_}
 use borrow.Author.Needs.{needs}
-use Rattle.translation.proofs.OneBlock.{told, wide-costs, laid-costs}
+use Rattle.blocks.proofs.OneBlock.{told}
+use Rattle.translation.proofs.Costs.{wide-costs, laid-costs}
 use Rattle.translation.proofs.checking.cost_of.Statement.{statement}
 use Rattle.translation.proofs.checking.cost_of.Tie as tie
 

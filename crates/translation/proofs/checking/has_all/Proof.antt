@@ -7,8 +7,8 @@ use Rattle.integers.specs.Choice.{_if_else_}
 use Rattle.models.specs.Model.{var}
 use Rattle.encodings.specs.Uses.{choosing, sharedBy}
 use Rattle.encodings.proofs.Record.{shares-by}
-use Rattle.translation.specs.Walk.{hasAll}
-use Rattle.translation.proofs.OneBlock.{all-28}
+use Rattle.blocks.specs.Coded.{hasAll}
+use Rattle.blocks.proofs.OneBlock.{all-28}
 use Rattle.translation.proofs.checking.has_all.Statement.{statement}
 use Rattle.translation.proofs.checking.has_all.Tie as tie
 

@@ -4,8 +4,8 @@ use borrow.Author.Needs.{needs}
 use Rattle.integers.proofs.Fits.{back}
 use Rattle.extremes.specs.Bounded.{boundsOf}
 use Rattle.encodings.specs.Uses.{sharedBy}
-use Rattle.translation.specs.Walk.{constraintOf}
-use Rattle.translation.proofs.OneBlock.{wide-by}
+use Rattle.blocks.specs.Coded.{constraintOf}
+use Rattle.blocks.proofs.OneBlock.{wide-by}
 use Rattle.translation.proofs.checking.too_wide.Statement.{statement}
 use Rattle.translation.proofs.checking.too_wide.Tie as tie
 

@@ -18,7 +18,8 @@ use Rattle.laying.specs.Part.{blockParts}
 use Rattle.laying.specs.Went.{WentFitting, nothing}
 use Rattle.translation.proofs.Refusals.{system-length}
 use Rattle.translation.proofs.Kept.{few-variables, few-constraints, none-left, head-inside, head-at, summed-at}
-use Rattle.translation.proofs.OneBlock.{told, placed-wide, placed-block, placed-record}
+use Rattle.encodings.proofs.Record.{placed-record}
+use Rattle.blocks.proofs.OneBlock.{told, placed-wide, placed-block}
 use Rattle.translation.proofs.Tail.{block-back}
 use Rattle.translation.proofs.WriteWalk.{Writing, begun, not-wide, not-outside, more, done, blocks-are, all-fine}
 use Rattle.translation.proofs.writing.write_blocks.Statement.{statement}

@@ -2,8 +2,6 @@
 ghost use mathlib.Core.Path.{_≡_};
 ghost use mathlib.Core.Bool.{false};
 ghost use Prim.Native.Nat.{_<_};
-ghost use Rattle.builtins.specs.Coded.{builtinOf};
-ghost use Rattle.rules.specs.Rule.{rule};
 ghost use Rattle.rules.specs.Translation.{blockOf};
 ghost use Rattle.rules.specs.Check.{tooWide};
 ghost use Rattle.encodings.specs.Uses.{sharedBy, Recorded};
@@ -11,17 +9,12 @@ ghost use Rattle.laying.specs.Part.{blockParts};
 ghost use Rattle.laying.specs.Went.{WentFitting, Near, nothing, total};
 ghost use Rattle.extremes.specs.Bounded.{boundsOf, Bounded};
 ghost use Rattle.linearsums.specs.Sum.{Summed};
-ghost use Rattle.translation.specs.Walk.{constraintOf, noneShared};
+ghost use Rattle.blocks.specs.Coded.{constraintOf};
 use arguments::exponent_at;
 use arguments::var_at;
-use choiceblocks::array_int_element;
 use choiceblocks::array_int_extreme;
-use choiceblocks::array_var_int_element;
-use choiceblocks::set_in;
-use choiceblocks::set_in_reif;
 use divisionblocks::int_div;
 use divisionblocks::int_mod;
-use encodings::is_shared;
 use fixedblocks::boolean;
 use fixedblocks::compare;
 use fixedblocks::number;
@@ -33,23 +26,33 @@ use laying::none_yet;
 use linearblocks::clause;
 use linearblocks::linear;
 use powerblocks::int_pow;
-use sharedblocks::shared_block;
 use words::kind;
 
-// Lays the block of a constraint over no shared variable after what is laid; its auxiliaries are numbered from `first` on, and `sum` is L and U where its rule has these.
-fn lay_block(
+mod choices;
+
+// Nothing is laid yet, which is far below what would wrap.
+fn from_nothing() -> Laid
+    ensures { λ r. ⌜ (r ≡ nothing) × (total r < 1000000000) ⌝ }
+{
+    none_yet()
+}
+
+// Lays the block of a constraint to the front of the output; its auxiliaries are numbered from `first` on, and `sum` is L and U where its rule has these.
+pub fn block(
     out: &mut [u32],
-    s: Laid,
     code: usize,
     args: &[u32],
     ls: &[i64],
     us: &[i64],
+    uses: &[usize],
+    encoded: &[usize],
     sum: Bounds,
     first: usize,
 ) -> Laid
-    requires { ⌜ (total s < 1000000000) × (first < 10000) × Bounded (now ls) × Bounded (now us) × (tooWide (boundsOf (now ls) (now us)) noneShared (constraintOf code (now args)) ≡ false) × Summed (boundsOf (now ls) (now us)) code (now args) sum ⌝ }
-    ensures { λ r. ⌜ WentFitting s r (now (out .entry)) (now (out .exit)) (blockParts first (rule (boundsOf (now (ls .entry)) (now (us .entry))) (builtinOf code (now (args .entry))))) × Near 1000000 s r ⌝ }
+    requires { ⌜ (first < 10000) × Bounded (now ls) × Bounded (now us) × (tooWide (boundsOf (now ls) (now us)) (sharedBy (now uses)) (constraintOf code (now args)) ≡ false) × Recorded (now encoded) × Summed (boundsOf (now ls) (now us)) code (now args) sum ⌝ }
+    ensures { λ r. ⌜ WentFitting nothing r (now (out .entry)) (now (out .exit)) (blockParts first (blockOf (boundsOf (now (ls .entry)) (now (us .entry))) (sharedBy (now (uses .entry))) (now (encoded .entry)) (constraintOf code (now (args .entry))))) × Near 1000000 nothing r ⌝ }
 {
+    let s = from_nothing();
     let a = var_at(args, 0);
     let b = var_at(args, 1);
     let c = var_at(args, 2);
@@ -77,11 +80,11 @@ fn lay_block(
         21 => clause::bool_clause(out, s, args),
         22 => clause::array_bool_and(out, s, args),
         23 => clause::array_bool_xor(out, s, args, first),
-        24 => array_int_element(out, s, args, ls, us, first),
-        25 => array_var_int_element(out, s, args, ls, us, first),
+        24 => choices::array_int_element(out, s, args, ls, us, uses, encoded, first),
+        25 => choices::array_var_int_element(out, s, args, ls, us, uses, encoded, first),
         26 => array_int_extreme(out, s, args, ls, us, first, true),
-        27 => set_in(out, s, args, ls, us, first),
-        28 => set_in_reif(out, s, args, ls, us, first),
+        27 => choices::set_in(out, s, args, ls, us, uses, encoded, first),
+        28 => choices::set_in_reif(out, s, args, ls, us, uses, encoded, first),
         29 => number::touching(out, s, c, a, c, b, ls, us, first),
         30 => compare::order_reif(out, s, a, b, c, 1, 0, ls, us),
         31 => linear::two_reif(out, s, args, sum, first, false),
@@ -95,26 +98,4 @@ fn lay_block(
         39 => int_pow(out, s, a, exponent_at(args, 1), c, ls, us, first),
         _ => compare::int_eq(out, s, 0, 0),
     }
-}
-
-// Lays the block of a constraint to the front of the output; its auxiliaries are numbered from `first` on, and `sum` is L and U where its rule has these.
-pub fn block(
-    out: &mut [u32],
-    code: usize,
-    args: &[u32],
-    ls: &[i64],
-    us: &[i64],
-    uses: &[usize],
-    encoded: &[usize],
-    sum: Bounds,
-    first: usize,
-) -> Laid
-    requires { ⌜ (first < 10000) × Bounded (now ls) × Bounded (now us) × (tooWide (boundsOf (now ls) (now us)) (sharedBy (now uses)) (constraintOf code (now args)) ≡ false) × Recorded (now encoded) × Summed (boundsOf (now ls) (now us)) code (now args) sum ⌝ }
-    ensures { λ r. ⌜ WentFitting nothing r (now (out .entry)) (now (out .exit)) (blockParts first (blockOf (boundsOf (now (ls .entry)) (now (us .entry))) (sharedBy (now (uses .entry))) (now (encoded .entry)) (constraintOf code (now (args .entry))))) × Near 1000000 nothing r ⌝ }
-{
-    let s = none_yet();
-    if is_shared(code, args, uses) {
-        return shared_block(out, s, code, args, ls, us, encoded, first);
-    }
-    lay_block(out, s, code, args, ls, us, sum, first)
 }

@@ -3,8 +3,8 @@ use native.Mathlib.Omega.{arith}
 use native.Mathlib.Omega.{arith}
 use Rattle.words.specs.Verdict.{verdict}
 use borrow.Author.Needs.{needs}
-use Rattle.reasoning.proofs.blocks.counted_on.Statement.{statement}
-use Rattle.reasoning.proofs.blocks.counted_on.Tie as tie
+use Rattle.reasoning.proofs.one_block.counted_on.Statement.{statement}
+use Rattle.reasoning.proofs.one_block.counted_on.Tie as tie
 
 add-t7 : tie.Need-add-t7
 unfolding verdict

@@ -1,8 +1,8 @@
 -- The words are read as the block's auxiliaries, and the part of the values as theirs, counted on from `first`.
 use Rattle.reasoning.proofs.Fronted.{prefix-length, part-length, outside-few, outside-said}
 use borrow.Author.Needs.{needs}
-use Rattle.reasoning.proofs.blocks.outside_in_block.Statement.{statement}
-use Rattle.reasoning.proofs.blocks.outside_in_block.Tie as tie
+use Rattle.reasoning.proofs.one_block.outside_in_block.Statement.{statement}
+use Rattle.reasoning.proofs.one_block.outside_in_block.Tie as tie
 
 slice-aggregate-first-out-of-bounds : tie.Need-slice-aggregate-first-out-of-bounds
 slice-aggregate-first-out-of-bounds c = prefix-length (c .before .before .before .before .before .before .before .before .before .before .pre .0 .reads) (c .before .before .before .before .lay-block .ensures)

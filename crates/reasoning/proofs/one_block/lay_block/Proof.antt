@@ -1,8 +1,8 @@
 -- The block and the end word are the front of the list, by `fronted`.
 use Rattle.reasoning.proofs.Fronted.{fronted}
 use borrow.Author.Needs.{needs}
-use Rattle.reasoning.proofs.blocks.lay_block.Statement.{statement}
-use Rattle.reasoning.proofs.blocks.lay_block.Tie as tie
+use Rattle.reasoning.proofs.one_block.lay_block.Statement.{statement}
+use Rattle.reasoning.proofs.one_block.lay_block.Tie as tie
 
 returns : tie.Need-returns
 returns c =

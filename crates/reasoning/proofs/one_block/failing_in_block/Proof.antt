@@ -2,8 +2,8 @@
 use Rattle.reasoning.proofs.Fronted.{prefix-length, after-bounds, rows-accepted, no-variables, failing-said}
 use native.Mathlib.Omega.{arith}
 use borrow.Author.Needs.{needs}
-use Rattle.reasoning.proofs.blocks.failing_in_block.Statement.{statement}
-use Rattle.reasoning.proofs.blocks.failing_in_block.Tie as tie
+use Rattle.reasoning.proofs.one_block.failing_in_block.Statement.{statement}
+use Rattle.reasoning.proofs.one_block.failing_in_block.Tie as tie
 
 slice-aggregate-first-false : tie.Need-slice-aggregate-first-false
 slice-aggregate-first-false c = prefix-length (c .before .before .before .before .before .before .before .before .before .before .pre .0 .reads) (c .before .before .before .before .lay-block .ensures)
