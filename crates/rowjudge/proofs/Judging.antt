@@ -1,5 +1,5 @@
 -- The one pass: what it knows at a place, past an item, and where it stops.
-use mathlib.Core.Path.{_≡_, refl, sym, ap, _∙_}
+use mathlib.Core.Path.{_≡_, refl, sym, _∙_}
 use mathlib.Core.Bool.{Bool, true, false, _||_}
 use mathlib.Core.List.{List, _∷_}
 use Prim.Native.Nat.{ℕ, zero, suc, _+_, _<_, _≤_}
@@ -12,9 +12,9 @@ use Rattle.integers.specs.Choice.{_if_else_}
 use Rattle.integers.specs.Bounds.{_to_, bit, within}
 use Rattle.integers.specs.Terms.{value}
 use Rattle.integers.proofs.Tests.{false-true, says-within}
-use Rattle.words.specs.Answer.{Answer, holds, outOfBounds, isFalse, isHolds, refusedOr, _else-answer_}
+use Rattle.words.specs.Answer.{Answer, holds, outOfBounds, isFalse, refusedOr, _else-answer_}
 use Rattle.words.specs.Fault as Fault
-use Rattle.words.specs.Judge.{firstFalse, firstOutOfBounds, judge}
+use Rattle.words.specs.Judge.{firstFalse, firstOutOfBounds}
 use Rattle.words.specs.Kind as Kind
 use Rattle.words.specs.Refusal.{_at-place_, accepted, faultOr, _else-refuse_, countFault}
 use Rattle.words.specs.Small.{Near}
@@ -23,10 +23,7 @@ use Rattle.words.specs.Word.{kind, signed, wordAt}
 use Rattle.words.specs.declared.Refusal.{Refusal}
 use Rattle.words.proofs.Word.{between-near, signed-near}
 use Rattle.variables.specs.Start.{starts, boundsOf}
-use Rattle.variables.proofs.After.{next, found}
-use Rattle.variables.specs.Counted.{Counted}
-use Rattle.variables.proofs.Walk.{at-last, count-none, count-one, counted, Kept, keep-none, keep-one, keep-all}
-use Rattle.rowsystems.specs.JudgeRows.{judgeAccepted}
+use Rattle.variables.proofs.Walk.{at-none, at-one, at-last}
 use Rattle.rowsystems.specs.Row.{Row, satisfied}
 use Rattle.rowsystems.specs.RowSystem.{rows}
 use Rattle.rowsystems.specs.declared.Due.{Due}
@@ -34,10 +31,10 @@ use Rattle.rowsystems.specs.declared.Due.the-variants as due
 use Rattle.rowreading.specs.Item.{startDue}
 use Rattle.rowreading.specs.Onward.{startsKind, Plain, onward, stopped, resumed}
 use Rattle.rowreading.specs.declared.items.Step.{Step}
-use Rattle.rowreading.proofs.Counts.{along, plain-variables, count-plain}
+use Rattle.rowreading.proofs.Counts.{CountedFrom, none-counted, count-none, count-one, count-plain, counted, along, plain-variables}
 use Rattle.rowreading.proofs.Steps.{or-false}
 use Rattle.rowsystems.specs.OneWord.{startsRow, rowOf}
-use Rattle.rowjudge.specs.Passing.{Known, Passes}
+use Rattle.rowjudge.specs.Passing.{Known, Passes, judgedOn}
 use Rattle.rowsystems.proofs.Walk.{starts-none, starts-one, none-left}
 
 -- ---- the rows so far: whether all k are true, else the first wrong one
@@ -57,29 +54,29 @@ module _ (t : Row ℕ → Bool) (k wrong : ℕ) (x : Row ℕ) (xs : List (Row �
 
 -- ---- what the pass knows at a place, past n variables and k rows and products
 
-pub record Judging (ws : List ℕ) (vs : List ℤ) (n k : ℕ) (all : Bool) (wrong at : ℕ) : Type 0 where
-  pub few : k ≤ at
-  pub kept : Kept ws vs n at
-  pub counted : Counted ws n at
+pub record Judging (ws : List ℕ) (vs : List ℤ) (before start first n k : ℕ) (all : Bool) (wrong at : ℕ) : Type 0 where
+  pub few : k ≤ first + at
+  pub counted : CountedFrom ws before start n at
   pub known : Known vs n
-  pub told : tells (satisfied (value vs)) k all wrong (rows (drop at ws)) ≡ firstFalse (satisfied (value vs)) 0 (rows ws)
+  pub told : firstOutOfBounds (value vs) n (variables (drop at ws)) (tells (satisfied (value vs)) k all wrong (rows (drop at ws))) ≡ judgedOn ws vs before start first
 
-pub begun : (ws : List ℕ) (vs : List ℤ) → Judging ws vs 0 0 true 0 0
-begun ws vs = record { few = omega arith; kept = record { few = omega arith; rest = refl }; counted = record { few = omega arith; number = omega arith }; known = (omega arith, λ x h. absurd (omega arith)); told = refl }
+pub begun : (ws : List ℕ) (vs : List ℤ) (before start first : ℕ) → Known vs before → Judging ws vs before start first before first true 0 start
+unfolding judgedOn
+begun ws vs before start first f = record { few = omega arith; counted = none-counted ws before start; known = f; told = refl }
 
 -- words that start nothing start no row
 pub plain-rows : (ws : List ℕ) (a b : ℕ) → Plain ws a b → a ≤ b → b ≤ length ws → rows (drop a ws) ≡ rows (drop b ws)
 unfolding wordAt startsKind startsRow
 plain-rows ws = along ws rows (λ a h e. let k = kind (wordAt ws a) in starts-none ws a h (or-false ((eqb k Kind.lower || eqb k Kind.auxiliaryLower) || eqb k Kind.boolean) ((eqb k Kind.atMost || eqb k Kind.equal) || eqb k Kind.product) e .1))
 
-plain-to : {ws : List ℕ} {vs : List ℤ} {n k : ℕ} {all : Bool} {wrong a b : ℕ} → Judging ws vs n k all wrong a → Plain ws a b → a ≤ b → b ≤ length ws → Judging ws vs n k all wrong b
-plain-to {ws} {vs} {n} {k} {all} {wrong} {a} {b} j p l h =
+plain-to : {ws : List ℕ} {vs : List ℤ} {before start first n k : ℕ} {all : Bool} {wrong a b : ℕ} → Judging ws vs before start first n k all wrong a → Plain ws a b → a ≤ b → b ≤ length ws →
+    Judging ws vs before start first n k all wrong b
+plain-to {ws} {a = a} {b} j p l h =
     record {
       few = omega (arith, j .few);
-      kept = record { few = omega (arith, j .kept .few); rest = rw (plain-variables ws a b p l h) at (j .kept .rest) };
       counted = count-plain (j .counted) p l h;
       known = j .known;
-      told = rw (plain-rows ws a b p l h) at (j .told);
+      told = rw (plain-variables ws a b p l h, plain-rows ws a b p l h) at (j .told);
     }
 
 -- ---- past an item
@@ -115,36 +112,39 @@ known-more vs n f l h = (l, λ x b. go x b (ltb x n) refl)
     go x b true e = f .1 x (ltb-true x n e)
     go x b false e = let q : n ≡ x = omega (arith, ltb-false x n e) in rw (← q) h
 
-module _ {ws : List ℕ} {vs : List ℤ} {n k : ℕ} {all : Bool} {wrong at : ℕ} (j : Judging ws vs n k all wrong at) (h : at < length ws) where
+module _ {ws : List ℕ} {vs : List ℤ} {before start first n k : ℕ} {all : Bool} {wrong at : ℕ} (j : Judging ws vs before start first n k all wrong at) (h : at < length ws) where
   abbrev w : ℕ
   w = wordAt ws at
 
   pub variable-judged : {b : ℕ} → starts w ≡ true → n + 1 ≤ length vs → within (boundsOf w (wordAt ws (at + 1))) (value vs n) ≡ true →
-      Plain ws (at + 1) b → at + 1 ≤ b → b ≤ length ws → Judging ws vs (n + 1) k all wrong b
-  unfolding wordAt
+      Plain ws (at + 1) b → at + 1 ≤ b → b ≤ length ws → Judging ws vs before start first (n + 1) k all wrong b
+  unfolding wordAt firstOutOfBounds
   variable-judged s f e p l m =
       plain-to
       (record {
         few = omega (arith, j .few);
-        kept = keep-one (j .kept) h s e;
         counted = count-one (j .counted) h s;
         known = known-more vs n (j .known) f (kept-near w (wordAt ws (at + 1)) (value vs n) e);
-        told = rw (starts-none ws at h (variable-no-row w s)) at (j .told);
+        told = rw (at-one ws at h s, e, starts-none ws at h (variable-no-row w s)) at (j .told);
       })
       p l m
 
-  pub row-judged : {more : Bool} {first b : ℕ} → starts w ≡ false → startsRow w ≡ true →
-      tells (satisfied (value vs)) (k + 1) more first (rows (drop (at + 1) ws)) ≡ tells (satisfied (value vs)) k all wrong (rowOf w (drop (at + 1) ws) ∷ rows (drop (at + 1) ws)) →
-      Plain ws (at + 1) b → at + 1 ≤ b → b ≤ length ws → Judging ws vs n (k + 1) more first b
+  -- a value out of its bounds is what is named
+  pub outside : starts w ≡ true → within (boundsOf w (wordAt ws (at + 1))) (value vs n) ≡ false → outOfBounds n ≡ judgedOn ws vs before start first
+  unfolding wordAt firstOutOfBounds
+  outside s e = rw (at-one ws at h s, e) at (j .told)
+
+  pub row-judged : {more : Bool} {wrong' b : ℕ} → starts w ≡ false → startsRow w ≡ true →
+      tells (satisfied (value vs)) (k + 1) more wrong' (rows (drop (at + 1) ws)) ≡ tells (satisfied (value vs)) k all wrong (rowOf w (drop (at + 1) ws) ∷ rows (drop (at + 1) ws)) →
+      Plain ws (at + 1) b → at + 1 ≤ b → b ≤ length ws → Judging ws vs before start first n (k + 1) more wrong' b
   unfolding wordAt
   row-judged s r q p l m =
       plain-to
       (record {
         few = omega (arith, j .few);
-        kept = keep-none (j .kept) h s;
         counted = count-none (j .counted) h s;
         known = j .known;
-        told = q ∙ rw (starts-one ws at h r) at (j .told);
+        told = rw (at-none ws at h s, starts-one ws at h r, ← q) at (j .told);
       })
       p l m
 
@@ -159,22 +159,23 @@ module _ {ws : List ℕ} {s : Bool} {n at m : ℕ} {d : Due} {r : Step} (g : Pas
   unfolding resumed
   halts z = g .reads ∙ rw (ne-eqb (r .number) 0 z)
 
-pub record Exit (ws : List ℕ) (vs : List ℤ) (n k : ℕ) (all : Bool) (wrong number at : ℕ) : Type 0 where
+pub record Exit (ws : List ℕ) (vs : List ℤ) (sources : Bool) (before start first n k : ℕ) (all : Bool) (wrong number at : ℕ) : Type 0 where
   pub some : number ≡ 0 → ⊥
-  pub reads : stopped ws number at ≡ onward due.Source 0 0 ws
-  pub judged : number ≡ Fault.wordAfterEnd → Judging ws vs n k all wrong at
+  pub reads : stopped ws number at ≡ onward (startDue sources) before start ws
+  pub judged : number ≡ Fault.wordAfterEnd → Judging ws vs before start first n k all wrong at
 
-pub exit : {ws : List ℕ} {vs : List ℤ} {n k : ℕ} {all : Bool} {wrong at : ℕ} {s : Bool} {m : ℕ} {d : Due} {r : Step} → Judging ws vs n k all wrong at →
-    Passes ws s n at d m r → (r .number ≡ 0 → ⊥) → onward (startDue s) n at ws ≡ onward due.Source 0 0 ws → Exit ws vs n k all wrong (r .number) (r .at)
+pub exit : {ws : List ℕ} {vs : List ℤ} {sources : Bool} {before start first n k : ℕ} {all : Bool} {wrong at : ℕ} {s : Bool} {m : ℕ} {d : Due} {r : Step} →
+    Judging ws vs before start first n k all wrong at → Passes ws s n at d m r → (r .number ≡ 0 → ⊥) → onward (startDue s) n at ws ≡ onward (startDue sources) before start ws →
+    Exit ws vs sources before start first n k all wrong (r .number) (r .at)
 exit j g z e = record { some = z; reads = sym (halts g z) ∙ e; judged = λ i. plain-to j (g .last i) (g .on) (g .inside) }
 
-module _ {ws : List ℕ} {vs : List ℤ} {n k : ℕ} {all : Bool} {wrong at : ℕ} (j : Judging ws vs n k all wrong at) (h : length ws ≤ at) where
-  pub all-counted : n ≡ length (variables ws)
+module _ {ws : List ℕ} {vs : List ℤ} {before start first n k : ℕ} {all : Bool} {wrong at : ℕ} (j : Judging ws vs before start first n k all wrong at) (h : length ws ≤ at) where
+  pub all-counted : n ≡ before + length (variables (drop start ws))
   all-counted = counted (j .counted) h
 
-  pub all-judged : (holds if all else isFalse wrong) ≡ judgeAccepted ws vs
-  unfolding judgeAccepted judge firstFalse
-  all-judged = (rw (none-left ws at h) at (j .told)) ∙ next (value vs) (firstFalse (satisfied (value vs)) 0 (rows ws)) 0 (variables ws) (sym (keep-all (j .kept) (at-last ws at h)))
+  pub all-judged : (holds if all else isFalse wrong) ≡ judgedOn ws vs before start first
+  unfolding firstFalse firstOutOfBounds
+  all-judged = rw (at-last ws at h, none-left ws at h) at (j .told)
 
 -- 15, by a count of the variables that is right where the words are accepted
 pub first-refusal : (read : Refusal) (ws : List ℕ) (vs : List ℤ) (n : ℕ) → (read .number ≡ 0 → n ≡ length (variables ws)) →
@@ -199,8 +200,3 @@ same-answer r a b f = go (r .number) (r .place) f
     go : (k p : ℕ) → (k ≡ 0 → a ≡ b) → refusedOr k p a ≡ refusedOr k p b
     go zero p f = f refl
     go (suc k) p f = refl
-
--- a value out of its bounds is what the judge names
-pub outside-first : (ws : List ℕ) (vs : List ℤ) (x : ℕ) → outOfBounds x ≡ firstOutOfBounds (value vs) 0 (variables ws) holds → outOfBounds x ≡ judgeAccepted ws vs
-unfolding judgeAccepted judge isHolds
-outside-first ws vs x e = e ∙ found (value vs) (firstFalse (satisfied (value vs)) 0 (rows ws)) 0 (variables ws) (ap isHolds (sym e))

@@ -98,10 +98,6 @@ pub none-started : (w : ℕ) → starts w ≡ false → started w ≡ 0
 unfolding starts started
 none-started w e = rw e
 
-pub boolean-kind : (w : ℕ) → starts w ≡ true → (kind w ≡ Kind.lower → ⊥) → (kind w ≡ Kind.auxiliaryLower → ⊥) → kind w ≡ Kind.boolean
-unfolding starts startsPair
-boolean-kind w s f g = eqb-true (kind w) Kind.boolean (rw (ne-eqb (kind w) Kind.lower f, ne-eqb (kind w) Kind.auxiliaryLower g) at s)
-
 sum-kind : (w : ℕ) → startsSum w ≡ true → (kind w ≡ Kind.atMost) ⊎ (kind w ≡ Kind.equal)
 unfolding startsSum
 sum-kind w s = go (eqb (kind w) Kind.atMost) (eqb (kind w) Kind.equal) refl refl s
@@ -110,6 +106,14 @@ sum-kind w s = go (eqb (kind w) Kind.atMost) (eqb (kind w) Kind.equal) refl refl
     go true b e f t = inl (eqb-true _ _ e)
     go false true e f t = inr (eqb-true _ _ f)
     go false false e f t = false-true t
+
+-- no more terms than the limit
+pub sum-few : (w : ℕ) → 0 ≡ (Fault.lengthOutside if ltb Limit.terms (payload w) else Fault.none) → payload w ≤ Limit.terms
+sum-few w = go (ltb Limit.terms (payload w)) refl
+  where
+    go : (long : Bool) → ltb Limit.terms (payload w) ≡ long → 0 ≡ (Fault.lengthOutside if long else Fault.none) → payload w ≤ Limit.terms
+    go true q e = absurd (omega arith)
+    go false q e = ltb-false Limit.terms (payload w) q
 
 module _ (w : ℕ) (t : startsSum w ≡ true) where
   pub sum-due : afterDue due.Source w ≡ due.Terms (payload w)
@@ -124,15 +128,10 @@ module _ (w : ℕ) (t : startsSum w ≡ true) where
   unfolding startsRow
   sum-row = ⊎-elim (λ k. rw k) (λ k. rw k) (sum-kind w t)
 
-  short : (long : Bool) → ltb Limit.terms (payload w) ≡ long → 0 ≡ (Fault.lengthOutside if long else Fault.none) → payload w ≤ Limit.terms
-  short true q e = absurd (omega arith)
-  short false q e = ltb-false Limit.terms (payload w) q
-
-  -- no more terms than the limit
-  pub sum-few : (s : Bool) (n : ℕ) → 0 ≡ faultHead s n w → payload w ≤ Limit.terms
+  pub sum-fault : (s : Bool) (n : ℕ) → faultHead s n w ≡ (Fault.lengthOutside if ltb Limit.terms (payload w) else Fault.none)
   unfolding faultHead faultSource faultItem
-  sum-few true n e = ⊎-elim (λ k. short (ltb Limit.terms (payload w)) refl (rw k at e)) (λ k. short (ltb Limit.terms (payload w)) refl (rw k at e)) (sum-kind w t)
-  sum-few false n e = ⊎-elim (λ k. short (ltb Limit.terms (payload w)) refl (rw k at e)) (λ k. short (ltb Limit.terms (payload w)) refl (rw k at e)) (sum-kind w t)
+  sum-fault true n = ⊎-elim (λ k. rw k) (λ k. rw k) (sum-kind w t)
+  sum-fault false n = ⊎-elim (λ k. rw k) (λ k. rw k) (sum-kind w t)
 
   pub sum-true : (σ : Valuation) (ws : List ℕ) → payload w ≤ Limit.terms →
       isTrue w (sum σ (termsIn ws (payload w)) ⊕ constantIn ws (payload w)) ≡ satisfied σ (rowOf w ws)

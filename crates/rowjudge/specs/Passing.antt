@@ -5,19 +5,26 @@ use mathlib.Core.List.{List}
 use Prim.Native.Nat.{ℕ, _+_, _<_, _≤_}
 use lib.Dec.{eqb}
 use lib.IntN.{ℤ}
-use lib.ListN.{length}
+use lib.ListN.{length, drop}
 use lib.Signed.{leZ}
 use Rattle.integers.specs.Choice.{_if_else_}
 use Rattle.integers.specs.Number.{_==_, +0}
 use Rattle.integers.specs.Terms.{value}
+use Rattle.words.specs.Answer.{Answer}
 use Rattle.words.specs.Fault as Fault
+use Rattle.words.specs.Judge.{firstFalse, firstOutOfBounds}
 use Rattle.words.specs.Kind as Kind
 use Rattle.words.specs.Small.{Near}
+use Rattle.words.specs.Variables.{variables}
+use Rattle.words.specs.Verdict.{verdict}
 use Rattle.words.specs.Word.{kind}
+use Rattle.rowsystems.specs.Row.{satisfied}
+use Rattle.rowsystems.specs.RowSystem.{rows}
 use Rattle.rowsystems.specs.declared.Due.{Due}
 use Rattle.rowreading.specs.Item.{startDue}
 use Rattle.rowreading.specs.Onward.{onward, resumed, Plain}
 use Rattle.rowreading.specs.declared.items.Step.{Step}
+use Rattle.rowjudge.specs.declared.Judged.{Judged}
 use Rattle.rowjudge.specs.declared.items.Seen.{Seen}
 
 -- where reading goes on
@@ -41,3 +48,13 @@ pub record Passes (ws : List ℕ) (sources : Bool) (n at : ℕ) (to : Due) (m : 
   pub inside : r .at ≤ length ws
   pub plain : Plain ws (at + 1) (r .at)
   pub last : r .number ≡ Fault.wordAfterEnd → Plain ws at (r .at)
+
+-- what the values say of the words from a place on, with n variables and k rows before it
+unfoldable pub judgedOn : List ℕ → List ℤ → ℕ → ℕ → ℕ → Answer
+judgedOn ws vs n at k = firstOutOfBounds (value vs) n (variables (drop at ws)) (firstFalse (satisfied (value vs)) k (rows (drop at ws)))
+
+-- a judge from a place on tells the refusal, else the number of variables, else, where their values are there, what these say
+pub record JudgedOn (ws : List ℕ) (vs : List ℤ) (sources : Bool) (n at k : ℕ) (r : Judged) : Type 0 where
+  pub reads : r .refusal ≡ onward (startDue sources) n at ws
+  pub counts : r .refusal .number ≡ 0 → r .variables ≡ n + length (variables (drop at ws))
+  pub says : r .refusal .number ≡ 0 → r .variables ≤ length vs → verdict (r .said) ≡ judgedOn ws vs n at k

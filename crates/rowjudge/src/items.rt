@@ -24,10 +24,15 @@ use integers::times;
 use rowreading::faults::fault_head;
 use rowreading::faults::fault_number;
 use rowreading::faults::fault_result;
+use rowreading::faults::fault_row;
+use rowreading::faults::fault_start;
 use rowreading::faults::fault_upper;
 use rowreading::faults::fault_variable;
+use rowreading::faults::is_number;
+use rowreading::faults::is_variable;
 use rowreading::items::number_at;
 use rowreading::items::read_term;
+use rowreading::rows::starts_sum;
 use rowsystems::Due;
 use variables::between;
 use words::fault;
@@ -78,7 +83,7 @@ pub fn see_variable(ws: &[u32], sources: bool, head: u32, n: usize, at: usize, v
     requires { ⌜ Placed (now ws) at × (head ≡ wordAt (now ws) at) × (starts head ≡ true) ⌝ }
     ensures { λ r. ⌜ Passes (now (ws .entry)) sources n at (startDue (not (eqb (kind head) Kind.auxiliaryLower))) (n + 1) (stepOf r) × (r .number ≡ 0 → r .holds ≡ within (boundsOf head (wordAt (now (ws .entry)) (at + 1))) v) ⌝ }
 {
-    let number = fault_head(sources, n, head);
+    let number = fault_start(sources, n, head);
     if number != fault::NONE {
         return faulty(number, at);
     }
@@ -126,14 +131,12 @@ fn see_terms(ws: &[u32], head: u32, n: usize, start: usize, values: &[i32]) -> S
     let mut total: i64 = 0;
     while 0 < left {
         let x = ws[at];
-        let variable = fault_variable(n, x);
-        if variable != fault::NONE {
-            return faulty(variable, at);
+        if !is_variable(n, x) {
+            return faulty(fault_variable(n, x), at);
         }
         let c = ws[at + 1];
-        let coefficient = fault_number(c);
-        if coefficient != fault::NONE {
-            return faulty(coefficient, at + 1);
+        if !is_number(c) {
+            return faulty(fault_number(c), at + 1);
         }
         total = plus(
             total,
@@ -143,9 +146,8 @@ fn see_terms(ws: &[u32], head: u32, n: usize, start: usize, values: &[i32]) -> S
         left -= 1;
     }
     let c = ws[at];
-    let constant = fault_number(c);
-    if constant != fault::NONE {
-        return faulty(constant, at);
+    if !is_number(c) {
+        return faulty(fault_number(c), at);
     }
     let holds = is_true(head, plus(total, signed_of(c)));
     Seen {
@@ -179,7 +181,7 @@ fn see_row(ws: &[u32], sources: bool, head: u32, n: usize, at: usize, values: &[
     requires { ⌜ Placed (now ws) at × (head ≡ wordAt (now ws) at) × Known (now values) n × (startsSum head ≡ true) ⌝ }
     ensures { λ r. ⌜ Passes (now (ws .entry)) sources n at Due.Item n (stepOf r) × (r .number ≡ 0 → r .holds ≡ satisfied (value (now (values .entry))) (rowOf head (drop (at + 1) (now (ws .entry))))) ⌝ }
 {
-    let number = fault_head(sources, n, head);
+    let number = fault_row(head);
     if number != fault::NONE {
         return faulty(number, at);
     }
@@ -242,11 +244,7 @@ pub fn see_item(ws: &[u32], sources: bool, head: u32, n: usize, at: usize, value
     requires { ⌜ Placed (now ws) at × (head ≡ wordAt (now ws) at) × Known (now values) n × (starts head ≡ false) ⌝ }
     ensures { λ r. ⌜ Passes (now (ws .entry)) sources n at Due.Item n (stepOf r) × (r .number ≡ 0 → (startsRow head ≡ true) × (r .holds ≡ satisfied (value (now (values .entry))) (rowOf head (drop (at + 1) (now (ws .entry)))))) ⌝ }
 {
-    let k = kind_of(head);
-    if k == kind::AT_MOST {
-        return see_row(ws, sources, head, n, at, values);
-    }
-    if k == kind::EQUAL {
+    if starts_sum(head) {
         return see_row(ws, sources, head, n, at, values);
     }
     see_other(ws, sources, head, n, at, values)

@@ -1,14 +1,17 @@
 // Judge-rows in one pass: each item is read, and its bounds, its row or its product judged, before the next.
 ghost use mathlib.Core.Path.{_≡_};
+ghost use Prim.Native.Nat.{_+_, _≤_};
+ghost use lib.ListN.{length, drop};
 ghost use Rattle.integers.specs.Choice.{_if_else_};
 ghost use Rattle.words.specs.Answer.{holds, outOfBounds, isFalse, _else-answer_};
 ghost use Rattle.words.specs.Fault as Fault;
-ghost use Rattle.words.specs.Refusal.{_at-place_, accepted, _else-refuse_, countFault};
+ghost use Rattle.words.specs.Refusal.{_at-place_, accepted, _else-refuse_};
+ghost use Rattle.words.specs.Variables.{variables};
 ghost use Rattle.words.specs.Verdict.{verdict};
-ghost use Rattle.variables.specs.Counted.{Counted};
 ghost use Rattle.rowsystems.specs.JudgeRows.{judgeRows};
 ghost use Rattle.rowreading.specs.Item.{startDue};
 ghost use Rattle.rowreading.specs.Onward.{onward, Placed};
+ghost use Rattle.rowjudge.specs.Passing.{JudgedOn, Known};
 use items::see_item;
 use items::see_variable;
 use rowreading::read_on;
@@ -51,33 +54,43 @@ fn told(all: bool, wrong: usize) -> Verdict
     Verdict::False(wrong)
 }
 
-// Where the value of variable x is missing or out of its bounds, the rest is read and not judged: what such values add up to may pass 64 bits.
-fn judge_rest(ws: &[u32], values: &[i32], sources: bool, n: usize, at: usize, x: usize) -> Verdict
-    requires { ⌜ Placed (now ws) at × Counted (now ws) n at ⌝ }
-    ensures { λ r. ⌜ verdict r ≡ ((onward (startDue sources) n at (now (ws .entry)) else-refuse countFault (now (ws .entry)) (now (values .entry))) else-answer outOfBounds x) ⌝ }
-{
-    let read = read_on(ws, sources, n, at);
-    answer(
-        read.refusal,
-        values.len() == read.variables,
-        Verdict::OutOfBounds(x),
-    )
+// What is judged from a place on: the refusal of the words, how many variables are counted, and what the values say.
+pub struct Judged {
+    pub refusal: Refusal,
+    pub variables: usize,
+    pub said: Verdict,
 }
 
-// "Holds", else the first variable out of bounds, else the first false row or product; a refusal comes first.
-pub fn judge_rows(ws: &[u32], values: &[i32]) -> Verdict
-    ensures { λ r. ⌜ verdict r ≡ judgeRows (now (ws .entry)) (now (values .entry)) ⌝ }
+// Where the value of variable x is missing or out of its bounds, the rest is read and not judged: what such values add up to may pass 64 bits.
+fn judge_rest(ws: &[u32], sources: bool, n: usize, at: usize, x: usize) -> Judged
+    requires { ⌜ Placed (now ws) at × (n ≤ 2000000000) ⌝ }
+    ensures { λ r. ⌜ (r .refusal ≡ onward (startDue sources) n at (now (ws .entry))) × (r .refusal .number ≡ 0 → r .variables ≡ n + length (variables (drop at (now (ws .entry))))) × (verdict (r .said) ≡ outOfBounds x) ⌝ }
 {
-    if limit::ROW_WORDS < ws.len() {
-        return Verdict::Refused(Refusal {
-            number: fault::TOO_MANY_WORDS,
-            place: 0,
-        });
+    let read = read_on(ws, sources, n, at);
+    let refusal = read.refusal;
+    Judged {
+        refusal,
+        variables: read.variables,
+        said: Verdict::OutOfBounds(x),
     }
-    let mut sources = true;
-    let mut n = 0;
-    let mut at = 0;
-    let mut rows = 0;
+}
+
+// The items from a place on, with so many variables and k rows before it, whose values are known.
+pub fn judge_on(
+    ws: &[u32],
+    values: &[i32],
+    first: bool,
+    before: usize,
+    start: usize,
+    k: usize,
+) -> Judged
+    requires { ⌜ Placed (now ws) start × Known (now values) before × (before ≤ 1000000000) × (k ≤ 1000000000) ⌝ }
+    ensures { λ r. ⌜ JudgedOn (now (ws .entry)) (now (values .entry)) first before start k r ⌝ }
+{
+    let mut sources = first;
+    let mut n = before;
+    let mut at = start;
+    let mut rows = k;
     let mut all = true;
     let mut wrong = 0;
     let mut number = fault::NONE;
@@ -94,10 +107,10 @@ pub fn judge_rows(ws: &[u32], values: &[i32]) -> Verdict
             n += 1;
             sources = kind_of(head) != kind::AUXILIARY_LOWER;
             if values.len() < n {
-                return judge_rest(ws, values, sources, n, at, x);
+                return judge_rest(ws, sources, n, at, x);
             }
             if !seen.holds {
-                return judge_rest(ws, values, sources, n, at, x);
+                return judge_rest(ws, sources, n, at, x);
             }
         } else {
             let seen = see_item(ws, sources, head, n, at, values);
@@ -116,9 +129,26 @@ pub fn judge_rows(ws: &[u32], values: &[i32]) -> Verdict
             sources = false;
         }
     }
-    answer(
-        refusal_at(ws, number, at),
-        values.len() == n,
-        told(all, wrong),
-    )
+    let refusal = refusal_at(ws, number, at);
+    Judged {
+        refusal,
+        variables: n,
+        said: told(all, wrong),
+    }
+}
+
+// "Holds", else the first variable out of bounds, else the first false row or product; a refusal comes first.
+pub fn judge_rows(ws: &[u32], values: &[i32]) -> Verdict
+    ensures { λ r. ⌜ verdict r ≡ judgeRows (now (ws .entry)) (now (values .entry)) ⌝ }
+{
+    if limit::ROW_WORDS < ws.len() {
+        return Verdict::Refused(Refusal {
+            number: fault::TOO_MANY_WORDS,
+            place: 0,
+        });
+    }
+    let judged = judge_on(ws, values, true, 0, 0, 0);
+    let refusal = judged.refusal;
+    let said = judged.said;
+    answer(refusal, values.len() == judged.variables, said)
 }

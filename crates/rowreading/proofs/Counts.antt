@@ -9,9 +9,8 @@ use lib.ListN.{length, drop}
 use Rattle.words.specs.Kind as Kind
 use Rattle.words.specs.Variables.{startsPair, variables}
 use Rattle.words.specs.Word.{kind, wordAt}
-use Rattle.variables.specs.Counted.{Counted}
 use Rattle.variables.specs.Start.{starts}
-use Rattle.variables.proofs.Walk.{at-none, count-none, count-one}
+use Rattle.variables.proofs.Walk.{at-none, at-one, at-last}
 use Rattle.rowsystems.specs.Reading.{started}
 use Rattle.rowreading.specs.Onward.{startsKind, Plain}
 use Rattle.rowreading.proofs.Steps.{or-false}
@@ -37,14 +36,33 @@ pub plain-variables : (ws : List ℕ) (a b : ℕ) → Plain ws a b → a ≤ b �
 unfolding wordAt
 plain-variables ws = along ws variables (λ a h e. at-none ws a h (none-starts (wordAt ws a) e))
 
-module _ {ws : List ℕ} {n at : ℕ} (k : Counted ws n at) where
-  pub count-plain : {b : ℕ} → Plain ws at b → at ≤ b → b ≤ length ws → Counted ws n b
+-- n variables are counted at a place by a reading that starts at another, with so many before it
+pub record CountedFrom (ws : List ℕ) (before start n at : ℕ) : Type 0 where
+  pub few : n ≤ before + at
+  pub number : n + length (variables (drop at ws)) ≡ before + length (variables (drop start ws))
+
+pub none-counted : (ws : List ℕ) (before start : ℕ) → CountedFrom ws before start before start
+none-counted ws before start = record { few = omega arith; number = refl }
+
+module _ {ws : List ℕ} {before start n at : ℕ} (k : CountedFrom ws before start n at) where
+  pub count-none : at < length ws → starts (wordAt ws at) ≡ false → CountedFrom ws before start n (at + 1)
+  unfolding wordAt
+  count-none h e = record { few = omega (arith, k .few); number = rw (at-none ws at h e) at (k .number) }
+
+  pub count-one : at < length ws → starts (wordAt ws at) ≡ true → CountedFrom ws before start (n + 1) (at + 1)
+  unfolding wordAt
+  count-one h e = record { few = omega (arith, k .few); number = omega (arith, rw (at-one ws at h e) at (k .number)) }
+
+  pub count-plain : {b : ℕ} → Plain ws at b → at ≤ b → b ≤ length ws → CountedFrom ws before start n b
   count-plain {b} p l h = record { few = omega (arith, k .few); number = rw (plain-variables ws at b p l h) at (k .number) }
 
-  pub count-head : at < length ws → Counted ws (n + started (wordAt ws at)) (at + 1)
-  unfolding wordAt started starts
+  pub count-head : at < length ws → CountedFrom ws before start (n + started (wordAt ws at)) (at + 1)
+  unfolding started starts
   count-head h = go (starts (wordAt ws at)) refl
     where
-      go : (b : Bool) → starts (wordAt ws at) ≡ b → Counted ws (n + started (wordAt ws at)) (at + 1)
-      go true e = rw e (count-one k h e)
-      go false e = let z : n + 0 ≡ n = omega arith in rw (e, z) (count-none k h e)
+      go : (b : Bool) → starts (wordAt ws at) ≡ b → CountedFrom ws before start (n + started (wordAt ws at)) (at + 1)
+      go true e = rw e (count-one h e)
+      go false e = let z : n + 0 ≡ n = omega arith in rw (e, z) (count-none h e)
+
+  pub counted : length ws ≤ at → n ≡ before + length (variables (drop start ws))
+  counted h = omega (arith, rw (at-last ws at h) at (k .number))

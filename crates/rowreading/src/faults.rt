@@ -1,7 +1,12 @@
 // The fault of a word by what is due there, 0 for none.
 ghost use mathlib.Core.Path.{_≡_};
+ghost use mathlib.Core.Bool.{true};
+ghost use lib.Dec.{eqb, ltb};
 ghost use Rattle.integers.specs.Choice.{_if_else_};
 ghost use Rattle.words.specs.Fault as Fault;
+ghost use Rattle.words.specs.Limit as Limit;
+ghost use Rattle.words.specs.Word.{payload};
+ghost use Rattle.variables.specs.Start.{starts};
 ghost use Rattle.rowsystems.specs.Reading.{faultLower, faultItem, faultSource, faultUpper, faultVariable, faultNumber, notAbove, faultResult};
 ghost use Rattle.rowreading.specs.Item.{faultHead};
 use words::fault;
@@ -82,6 +87,34 @@ pub fn fault_head(sources: bool, n: usize, w: u32) -> u32
     fault_item(n, w)
 }
 
+// Of a word that starts a variable.
+pub fn fault_start(sources: bool, n: usize, w: u32) -> u32
+    requires { ⌜ starts w ≡ true ⌝ }
+    ensures { λ r. ⌜ r ≡ faultHead sources n w ⌝ }
+{
+    let k = kind_of(w);
+    if k == kind::AUXILIARY_LOWER {
+        return fault_lower(n, w);
+    }
+    if !sources {
+        return fault::WRONG_KIND;
+    }
+    if k == kind::LOWER {
+        return fault_lower(n, w);
+    }
+    if 0 < payload_of(w) {
+        return fault::PAYLOAD_ABOVE_ZERO;
+    }
+    fault_if(limit::IN_ALL <= n, fault::TOO_MANY_IN_ALL)
+}
+
+// Of a word that starts a row.
+pub fn fault_row(w: u32) -> u32
+    ensures { λ r. ⌜ r ≡ (Fault.lengthOutside if ltb Limit.terms (payload w) else Fault.none) ⌝ }
+{
+    fault_if(limit::TERMS < payload_of(w), fault::LENGTH_OUTSIDE)
+}
+
 // Of an upper bound, whose kind is k, after the word of its lower one.
 pub fn fault_upper(k: u32, lower: u32, w: u32) -> u32
     ensures { λ r. ⌜ r ≡ faultUpper k lower w ⌝ }
@@ -108,6 +141,16 @@ pub fn fault_variable(n: usize, w: u32) -> u32
     fault_if(n <= payload_of(w), fault::NOT_DECLARED)
 }
 
+// Whether a word has no fault as a variable.
+pub fn is_variable(n: usize, w: u32) -> bool
+    ensures { λ r. ⌜ r ≡ eqb (faultVariable n w) Fault.none ⌝ }
+{
+    if kind_of(w) != kind::VARIABLE {
+        return false;
+    }
+    payload_of(w) < n
+}
+
 // Of a coefficient or a constant.
 pub fn fault_number(w: u32) -> u32
     ensures { λ r. ⌜ r ≡ faultNumber w ⌝ }
@@ -116,6 +159,16 @@ pub fn fault_number(w: u32) -> u32
         return fault::WRONG_KIND;
     }
     fault_if(is_lowest(w), fault::LOWEST_NUMBER)
+}
+
+// Whether a word has no fault as a coefficient or a constant.
+pub fn is_number(w: u32) -> bool
+    ensures { λ r. ⌜ r ≡ eqb (faultNumber w) Fault.none ⌝ }
+{
+    if kind_of(w) != kind::NUMBER {
+        return false;
+    }
+    !is_lowest(w)
 }
 
 // Whether a product's factor words f and g have kind 5 and its result word r is not above both.

@@ -1,8 +1,8 @@
 // Reading a row system: the first faulty word and its fault.
 ghost use mathlib.Core.Path.{_≡_};
-ghost use lib.ListN.{length};
+ghost use Prim.Native.Nat.{_+_, _≤_};
+ghost use lib.ListN.{length, drop};
 ghost use Rattle.words.specs.Variables.{variables};
-ghost use Rattle.variables.specs.Counted.{Counted};
 ghost use Rattle.rowsystems.specs.Reading.{readRows, started};
 ghost use Rattle.rowreading.specs.Item.{startDue};
 ghost use Rattle.rowreading.specs.Onward.{onward, stopped, Placed};
@@ -59,7 +59,7 @@ pub fn refusal_at(ws: &[u32], number: u32, place: usize) -> Refusal
     }
 }
 
-// What reading finds, and how many variables the words have where they are accepted.
+// What reading finds, and how many variables are counted where the words are accepted.
 pub struct Read {
     pub refusal: Refusal,
     pub variables: usize,
@@ -67,8 +67,8 @@ pub struct Read {
 
 // The first fault of the items from a place on, with so many variables before it.
 pub fn read_on(ws: &[u32], first: bool, before: usize, start: usize) -> Read
-    requires { ⌜ Placed (now ws) start × Counted (now ws) before start ⌝ }
-    ensures { λ r. ⌜ (r .refusal ≡ onward (startDue first) before start (now (ws .entry))) × (r .refusal .number ≡ 0 → r .variables ≡ length (variables (now (ws .entry)))) ⌝ }
+    requires { ⌜ Placed (now ws) start × (before ≤ 2000000000) ⌝ }
+    ensures { λ r. ⌜ (r .refusal ≡ onward (startDue first) before start (now (ws .entry))) × (r .refusal .number ≡ 0 → r .variables ≡ before + length (variables (drop start (now (ws .entry))))) ⌝ }
 {
     let mut sources = first;
     let mut n = before;

@@ -1,11 +1,22 @@
 // The head words of rows and products.
 ghost use mathlib.Core.Path.{_≡_};
-ghost use Rattle.rowsystems.specs.OneWord.{startsRow};
+ghost use Rattle.rowsystems.specs.OneWord.{startsSum, startsRow};
 ghost use Rattle.rowsystems.specs.RowSystem.{termCount};
 use words::kind;
 use words::kind_of;
 use words::limit;
 use words::payload_of;
+
+// Whether a row starts at a word.
+pub fn starts_sum(w: u32) -> bool
+    ensures { λ r. ⌜ r ≡ startsSum w ⌝ }
+{
+    let k = kind_of(w);
+    if k == kind::AT_MOST {
+        return true;
+    }
+    k == kind::EQUAL
+}
 
 // Whether a row or a product starts at a word.
 pub fn starts_row(w: u32) -> bool

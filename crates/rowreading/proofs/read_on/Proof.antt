@@ -9,11 +9,9 @@ use borrow.Author.Needs.{needs}
 use lib.ListN.{length}
 use Rattle.words.specs.Word.{wordAt}
 use Rattle.words.specs.declared.Refusal.{Refusal}
-use Rattle.variables.specs.Counted.{Counted}
-use Rattle.variables.proofs.Walk.{counted}
 use Rattle.rowreading.specs.Item.{faultHead, startDue, dueWith, itemTerms, dueAfter}
 use Rattle.rowreading.specs.Onward.{onward, stopped, Placed}
-use Rattle.rowreading.proofs.Counts.{count-plain, count-head}
+use Rattle.rowreading.proofs.Counts.{CountedFrom, none-counted, count-plain, count-head, counted}
 use Rattle.rowreading.proofs.Heads.{started-few, head-here, head-halted, head-gone, term-gone}
 use Rattle.rowreading.proofs.Onward.{at-the-end}
 use Rattle.rowreading.proofs.Steps.{gone, halted}
@@ -21,13 +19,13 @@ use Rattle.rowreading.proofs.read_on.Statement.{statement}
 use Rattle.rowreading.proofs.read_on.Tie as tie
 
 abbrev Inv-loop : tie.InvT-loop
-Inv-loop ws first before start sources n at₀ number₀ head item left₀ at number left = Placed ws at × Counted ws n at × (at₀ ≤ at) × (left ≤ itemTerms item) × (onward (dueWith item left) n at ws ≡ onward (startDue first) before start ws)
+Inv-loop ws first before start sources n at₀ number₀ head item left₀ at number left = Placed ws at × CountedFrom ws before start n at × (at₀ ≤ at) × (left ≤ itemTerms item) × (onward (dueWith item left) n at ws ≡ onward (startDue first) before start ws)
 
 abbrev μ-loop : tie.MeasureT-loop
 μ-loop ws first before start sources n at₀ number₀ head item left₀ at number left = left
 
 abbrev Inv-items : tie.InvT-items
-Inv-items ws first before start sources₀ n₀ at₀ sources n at = Placed ws at × Counted ws n at × (onward (startDue sources) n at ws ≡ onward (startDue first) before start ws)
+Inv-items ws first before start sources₀ n₀ at₀ sources n at = Placed ws at × CountedFrom ws before start n at × (onward (startDue sources) n at ws ≡ onward (startDue first) before start ws)
 
 abbrev μ-items : tie.MeasureT-items
 μ-items ws first before start sources₀ n₀ at₀ sources n at = length ws - at
@@ -40,7 +38,7 @@ head c = c .fault-head .ensures ∙ rw (c .before .word-at .ensures)
 pub record Out (ws : List ℕ) (first : Bool) (before start n number at : ℕ) : Type 0 where
   pub some : number ≡ 0 → ⊥
   pub reads : stopped ws number at ≡ onward (startDue first) before start ws
-  pub counted : Counted ws n at
+  pub all : CountedFrom ws before start n at
 
 out : (c : tie.Joined1 Inv-loop μ-loop Inv-items μ-items) → let a = c .before .before .before .before .before .args in Out (a .ws .now) (a .first) (a .before) (a .start) (c .if1 .n) (c .if1 .number) (c .if1 .at)
 out c =
@@ -51,29 +49,29 @@ out c =
     (λ w. rw (w .1, w .2, w .3) (record {
       some = w .0 .taken;
       reads = sym (head-halted ws (items .sources) (items .n) (items .at) (c .before .fault-head .result) (head (c .before)) (w .0 .taken)) ∙ items .inv .2;
-      counted = items .inv .1;
+      all = items .inv .1;
     }))
     (⊎-elim
     (λ w. rw (w .8, w .9, w .10) (record {
       some = w .7 .taken;
       reads = sym (halted (term-gone (w .2 .result) (w .4 .left) (w .5 .taken) (w .4 .inv .3) (w .6 .ensures .0)) (w .7 .taken)) ∙ w .4 .inv .4;
-      counted = count-plain (w .4 .inv .1) (w .6 .ensures .0 0 .plain) (w .6 .ensures .0 0 .on) (w .6 .ensures .0 0 .inside);
+      all = count-plain (w .4 .inv .1) (w .6 .ensures .0 0 .plain) (w .6 .ensures .0 0 .on) (w .6 .ensures .0 0 .inside);
     }))
     (λ w. rw (w .8, w .9, w .10) (record {
       some = w .7 .taken;
       reads = let z : w .4 .left ≡ 0 = omega (arith, w .5 .left) in sym (halted (w .6 .ensures) (w .7 .taken)) ∙ rw z at (w .4 .inv .4);
-      counted = count-plain (w .4 .inv .1) (w .6 .ensures .plain) (w .6 .ensures .on) (w .6 .ensures .inside);
+      all = count-plain (w .4 .inv .1) (w .6 .ensures .plain) (w .6 .ensures .on) (w .6 .ensures .inside);
     })))
     (c .if1 .came)
 
 items-holds : tie.Need-items-holds Inv-loop μ-loop Inv-items μ-items
-items-holds c = (c .before .pre .0, c .before .pre .1, refl)
+items-holds c = (c .before .pre .0, none-counted _ _ _, refl)
 
 add-n : tie.Need-add-n Inv-loop μ-loop Inv-items μ-items
 add-n c =
     let items = c .before .before .before .before .items in
     let word-at = c .before .before .before .word-at in
-    record { fits = omega (arith, c .started-of .ensures, started-few (word-at .result), items .inv .1 .few, items .inv .0 .within, items .inv .0 .few) }
+    record { fits = omega (arith, c .started-of .ensures, started-few (word-at .result), items .inv .1 .few, items .inv .0 .within, items .inv .0 .few, c .before .before .before .before .before .before .pre .1) }
 
 loop-holds : tie.Need-loop-holds Inv-loop μ-loop Inv-items μ-items
 unfolding dueAfter
@@ -128,7 +126,7 @@ returns c =
     let o = out (c .before) in
     let e = c .refusal-at .ensures in (
       e ∙ o .reads,
-      λ z. counted (o .counted) (at-the-end _ (c .before .if1 .number) (c .before .if1 .at) (o .some) (ap (λ (r : Refusal). r .number) (sym e) ∙ z) .1),
+      λ z. counted (o .all) (at-the-end _ (c .before .if1 .number) (c .before .if1 .at) (o .some) (ap (λ (r : Refusal). r .number) (sym e) ∙ z) .1),
     )
 
 pub read-on-spec : {M : Type 1} → statement M

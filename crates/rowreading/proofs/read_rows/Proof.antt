@@ -13,7 +13,7 @@ unfolding readRows
 returns c = rw (lt-ltb _ _ (c .if1 .taken))
 
 read-on-requires : tie.Need-read-on-requires
-read-on-requires c κs = (record { within = omega arith; few = omega arith }, record { few = omega arith; number = omega arith })
+read-on-requires c κs = (record { within = omega arith; few = omega arith }, omega arith)
 
 returns-2 : tie.Need-returns-2
 unfolding readRows onward startDue

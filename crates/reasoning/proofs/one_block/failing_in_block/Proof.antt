@@ -19,7 +19,7 @@ first-false-requires c κs =
     let s = c .before .before .before .before .before .before .before .before .before .before .before .before in
     let d = s .pre .0 .reads in
     let f = c .before .before .before .before .before .before .lay-block .ensures in
-    (after-bounds d f, (omega (arith, f .auxiliaries, s .pre .3), λ x l. s .pre .2 x), rows-accepted d f, no-variables d f, s .pre .4)
+    (after-bounds d f, (omega (arith, f .auxiliaries, s .pre .3), λ x l. s .pre .2 x), rows-accepted d f, no-variables d f, omega (arith, f .small, s .pre .0 .near), s .pre .4)
 
 returns : tie.Need-returns
 returns c =

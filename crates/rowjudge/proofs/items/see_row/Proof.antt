@@ -7,16 +7,23 @@ use Rattle.integers.specs.Terms.{value}
 use Rattle.words.specs.Limit as Limit
 use Rattle.words.specs.Word.{payload}
 use Rattle.rowsystems.specs.Reading.{started}
-use Rattle.rowjudge.proofs.Passing.{head-there, head-stops, head-then, none-started, sum-due, sum-starts, sum-few, sum-true}
+use Rattle.rowreading.specs.Item.{faultHead}
+use Rattle.rowjudge.proofs.Passing.{head-there, head-stops, head-then, none-started, sum-due, sum-starts, sum-fault, sum-few, sum-true}
 use borrow.Author.Needs.{needs}
 use Rattle.rowjudge.proofs.items.see_row.Statement.{statement}
 use Rattle.rowjudge.proofs.items.see_row.Tie as tie
+
+-- the fault of the head
+fault : (c : tie.After-fault-row) → let a = c .before .before .args in c .fault-row .result ≡ faultHead (a .sources) (a .n) (a .head)
+fault c =
+    let a = c .before .before .args in
+    c .fault-row .ensures ∙ sym (sum-fault (a .head) (c .before .before .pre .3) (a .sources) (a .n))
 
 -- there is a word
 there : (c : tie.Else1) → let a = c .before .before .before .args in a .at + 1 ≤ length (a .ws .now)
 there c =
     let a = c .before .before .before .args in
-    omega (arith, head-there (a .ws .now) (a .sources) (a .n) (a .at) (a .head) (c .before .fault-head .result) (c .before .before .before .pre .1) (c .before .fault-head .ensures) (c .if1 .left))
+    omega (arith, head-there (a .ws .now) (a .sources) (a .n) (a .at) (a .head) (c .before .fault-row .result) (c .before .before .before .pre .1) (fault (c .before)) (c .if1 .left))
 
 -- the head starts no variable
 none : (c : tie.Else1) → let a = c .before .before .before .args in a .n ≡ a .n + started (a .head)
@@ -28,12 +35,12 @@ none c =
 few : (c : tie.Else1) → payload (c .before .before .before .args .head) ≤ Limit.terms
 few c =
     let a = c .before .before .before .args in
-    sum-few (a .head) (c .before .before .before .pre .3) (a .sources) (a .n) (sym (c .if1 .left) ∙ c .before .fault-head .ensures)
+    sum-few (a .head) (sym (c .if1 .left) ∙ c .before .fault-row .ensures)
 
 returns : tie.Need-returns
 returns c =
     let a = c .before .before .before .before .args in
-    rw (c .faulty .ensures) (head-stops (a .ws .now) (a .sources) (a .n) (a .at) (a .head) (c .before .before .fault-head .result) (c .before .before .before .before .pre .1) (c .before .before .fault-head .ensures) (c .before .before .before .before .pre .0 .within) (c .before .if1 .taken), λ z. absurd (c .before .if1 .taken z))
+    rw (c .faulty .ensures) (head-stops (a .ws .now) (a .sources) (a .n) (a .at) (a .head) (c .before .before .fault-row .result) (c .before .before .before .before .pre .1) (fault (c .before .before)) (c .before .before .before .before .pre .0 .within) (c .before .if1 .taken), λ z. absurd (c .before .if1 .taken z))
 
 add-if2 : tie.Need-add-if2
 add-if2 c = let h = there (c .before) in let k = c .before .before .before .before .pre .0 .few in search needs
@@ -53,7 +60,7 @@ see-terms-requires c κs = (record { within = there (c .before .before); few = c
 returns-2 : tie.Need-returns-2
 returns-2 c =
     let a = c .before .before .before .before .before .before .args in (
-      head-then (a .ws .now) (a .sources) (a .n) (a .at) (a .head) (c .before .before .before .before .fault-head .result) (c .before .before .before .before .before .before .pre .1) (c .before .before .before .before .fault-head .ensures) (c .before .before .before .if1 .left) (none (c .before .before .before)) (rw (sum-due (a .head) (c .before .before .before .before .before .before .pre .3)) (c .see-terms .ensures .0)),
+      head-then (a .ws .now) (a .sources) (a .n) (a .at) (a .head) (c .before .before .before .before .fault-row .result) (c .before .before .before .before .before .before .pre .1) (fault (c .before .before .before .before)) (c .before .before .before .if1 .left) (none (c .before .before .before)) (rw (sum-due (a .head) (c .before .before .before .before .before .before .pre .3)) (c .see-terms .ensures .0)),
       λ z. c .see-terms .ensures .1 z ∙ sum-true (a .head) (c .before .before .before .before .before .before .pre .3) (value (a .values .now)) (drop (a .at + 1) (a .ws .now)) (few (c .before .before .before)),
     )
 
@@ -66,7 +73,7 @@ see-cut-requires c κs = (record { within = there (c .before .before); few = c .
 returns-3 : tie.Need-returns-3
 returns-3 c =
     let a = c .before .before .before .before .before .before .args in (
-      head-then (a .ws .now) (a .sources) (a .n) (a .at) (a .head) (c .before .before .before .before .fault-head .result) (c .before .before .before .before .before .before .pre .1) (c .before .before .before .before .fault-head .ensures) (c .before .before .before .if1 .left) (none (c .before .before .before)) (rw (sum-due (a .head) (c .before .before .before .before .before .before .pre .3), ← c .before .before .payload-of .ensures) (c .see-cut .ensures .0)),
+      head-then (a .ws .now) (a .sources) (a .n) (a .at) (a .head) (c .before .before .before .before .fault-row .result) (c .before .before .before .before .before .before .pre .1) (fault (c .before .before .before .before)) (c .before .before .before .if1 .left) (none (c .before .before .before)) (rw (sum-due (a .head) (c .before .before .before .before .before .before .pre .3), ← c .before .before .payload-of .ensures) (c .see-cut .ensures .0)),
       λ z. absurd (c .see-cut .ensures .1 z),
     )
 

@@ -2,6 +2,7 @@
 use mathlib.Core.Path.{_≡_, refl, sym, _∙_}
 use native.Mathlib.Omega.{arith}
 use borrow.Author.Needs.{needs}
+use borrow.Author.Tests.{eqb-true, eqb-false, not-true, not-false}
 use Prim.Native.Nat.{suc, _+_, _-_, _*_, _<_, _≤_}
 use lib.IntN.{natAbs}
 use lib.ListN.{length, drop}
@@ -13,6 +14,7 @@ use Rattle.integers.proofs.Fits.{back, plus-size}
 use Rattle.words.specs.Small.{Near}
 use Rattle.words.specs.Word.{payload, wordAt}
 use Rattle.words.proofs.Word.{factors-fit, product-size}
+use Rattle.rowsystems.specs.Reading.{faultVariable, faultNumber}
 use Rattle.rowsystems.specs.RowSystem.{numberAt, variableAt, termsIn}
 use Rattle.rowsystems.specs.declared.Due.the-variants.{Terms, Coefficient, Item}
 use Rattle.rowreading.specs.Onward.{Went, stepOver}
@@ -41,31 +43,39 @@ last-there c =
     omega (arith, l .inv .0, l .inv .1, c .loop-test .left, c .before .before .payload-of .ensures, c .before .before .before .before .pre .3)
 
 -- reading on past the variable, past the coefficient, past the constant
-variable : (c : tie.After-fault-variable Inv-loop μ-loop) → let a = c .before .before .before .before .before .before .args in let l = c .before .before .before .loop in Went (a .ws .now) (a .n) (Terms (c .before .before .before .before .payload-of .result)) (a .start) (Coefficient (l .left - 1)) (stepOver (c .fault-variable .result) (l .at))
-unfolding wordAt
+variable : (c : tie.After-is-variable Inv-loop μ-loop) → let a = c .before .before .before .before .before .before .args in let l = c .before .before .before .loop in Went (a .ws .now) (a .n) (Terms (c .before .before .before .before .payload-of .result)) (a .start) (Coefficient (l .left - 1)) (stepOver (faultVariable (a .n) (wordAt (a .ws .now) (l .at))) (l .at))
 variable c =
     let a = c .before .before .before .before .before .before .args in
     let l = c .before .before .before .loop in
-    let e : suc (l .left - 1) ≡ l .left = omega (arith, c .before .before .loop-test .taken) in and-then (l .inv .2) refl refl (rw (c .fault-variable .ensures) (rw e at (term-variable (a .ws .now) (a .n) (l .at) (l .inv .2 .inside) (l .left - 1))))
+    let e : suc (l .left - 1) ≡ l .left = omega (arith, c .before .before .loop-test .taken) in and-then (l .inv .2) refl refl (rw e at (term-variable (a .ws .now) (a .n) (l .at) (l .inv .2 .inside) (l .left - 1)))
 
-coefficient : (c : tie.After-fault-number Inv-loop μ-loop) → let a = c .before .before .before .before .before .before .before .before .before .args in let l = c .before .before .before .before .before .before .loop in Went (a .ws .now) (a .n) (Terms (c .before .before .before .before .before .before .before .payload-of .result)) (a .start) (Terms (l .left - 1)) (stepOver (c .fault-number .result) (l .at + 1))
+fits : (c : tie.Else1 Inv-loop μ-loop) → let a = c .before .before .before .before .before .before .before .args in faultVariable (a .n) (wordAt (a .ws .now) (c .before .before .before .before .loop .at)) ≡ 0
 unfolding wordAt
+fits c = eqb-true _ _ (sym (c .before .is-variable .ensures) ∙ not-false _ (c .if1 .left))
+
+coefficient : (c : tie.After-is-number Inv-loop μ-loop) → let a = c .before .before .before .before .before .before .before .before .before .args in let l = c .before .before .before .before .before .before .loop in Went (a .ws .now) (a .n) (Terms (c .before .before .before .before .before .before .before .payload-of .result)) (a .start) (Terms (l .left - 1)) (stepOver (faultNumber (wordAt (a .ws .now) (l .at + 1))) (l .at + 1))
 coefficient c =
     let a = c .before .before .before .before .before .before .before .before .before .args in
     let l = c .before .before .before .before .before .before .loop in
-    and-then (step-goes (l .at) (variable (c .before .before .before)) (c .before .before .if1 .left)) refl refl (rw (c .fault-number .ensures) (term-coefficient (a .ws .now) (a .n) (l .at + 1) (omega (arith, there (c .before .before .before .before .before))) (l .left - 1)))
+    and-then (step-goes (l .at) (variable (c .before .before .before)) (fits (c .before .before))) refl refl (term-coefficient (a .ws .now) (a .n) (l .at + 1) (omega (arith, there (c .before .before .before .before .before))) (l .left - 1))
 
-constant : (c : tie.After-fault-number2 Inv-loop μ-loop) → let a = c .before .before .before .before .before .before .args in Went (a .ws .now) (a .n) (Terms (c .before .before .before .before .payload-of .result)) (a .start) Item (stepOver (c .fault-number2 .result) (c .before .before .before .loop .at))
-unfolding wordAt
+constant : (c : tie.After-is-number2 Inv-loop μ-loop) → let a = c .before .before .before .before .before .before .args in Went (a .ws .now) (a .n) (Terms (c .before .before .before .before .payload-of .result)) (a .start) Item (stepOver (faultNumber (wordAt (a .ws .now) (c .before .before .before .loop .at))) (c .before .before .before .loop .at))
 constant c =
     let a = c .before .before .before .before .before .before .args in
     let l = c .before .before .before .loop in
-    let z : l .left ≡ 0 = omega (arith, c .before .before .loop-test .left) in and-then (rw z at (l .inv .2)) refl refl (rw (c .fault-number2 .ensures) (row-constant (a .ws .now) (a .n) (l .at) (l .inv .2 .inside)))
+    let z : l .left ≡ 0 = omega (arith, c .before .before .loop-test .left) in and-then (rw z at (l .inv .2)) refl refl (row-constant (a .ws .now) (a .n) (l .at) (l .inv .2 .inside))
+
+sound : (c : tie.Else2 Inv-loop μ-loop) → faultNumber (wordAt (c .before .before .before .before .before .before .before .before .before .before .args .ws .now) (c .before .before .before .before .before .before .before .loop .at + 1)) ≡ 0
+unfolding wordAt
+sound c = eqb-true _ _ (sym (c .before .is-number .ensures) ∙ not-false _ (c .if2 .left))
+
+last-sound : (c : tie.Else3 Inv-loop μ-loop) → faultNumber (wordAt (c .before .before .before .before .before .before .before .args .ws .now) (c .before .before .before .before .loop .at)) ≡ 0
+unfolding wordAt
+last-sound c = eqb-true _ _ (sym (c .before .is-number2 .ensures) ∙ not-false _ (c .if3 .left))
 
 -- the term's variable is declared, so that its value is there and known
 here : (c : tie.After-payload-of2 Inv-loop μ-loop) → payload (wordAt (c .before .before .before .before .before .before .before .before .before .before .before .before .args .ws .now) (c .before .before .before .before .before .before .before .before .before .loop .at)) < c .before .before .before .before .before .before .before .before .before .before .before .before .args .n
-unfolding wordAt
-here c = declared (c .before .before .before .before .before .before .before .before .before .before .before .before .args .n) (wordAt (c .before .before .before .before .before .before .before .before .before .before .before .before .args .ws .now) (c .before .before .before .before .before .before .before .before .before .loop .at)) (sym (c .before .before .before .before .before .if1 .left) ∙ c .before .before .before .before .before .before .fault-variable .ensures)
+here c = declared (c .before .before .before .before .before .before .before .before .before .before .before .before .args .n) (wordAt (c .before .before .before .before .before .before .before .before .before .before .before .before .args .ws .now) (c .before .before .before .before .before .before .before .before .before .loop .at)) (sym (fits (c .before .before .before .before .before)))
 
 known-value-requires : tie.Need-known-value-requires Inv-loop μ-loop
 unfolding wordAt
@@ -107,7 +117,10 @@ shared-slice-read-x : tie.Need-shared-slice-read-x Inv-loop μ-loop
 shared-slice-read-x c = let h = there (c .before) in search needs
 
 returns : tie.Need-returns Inv-loop μ-loop
-returns c = rw (c .faulty .ensures, ← c .before .before .before .before .before .before .payload-of .ensures) (step-halts (variable (c .before .before)) (c .before .if1 .taken), λ z. absurd (c .before .if1 .taken z))
+unfolding wordAt
+returns c =
+    let some = eqb-false _ _ (sym (c .before .before .before .is-variable .ensures) ∙ not-true _ (c .before .before .if1 .taken)) in
+    rw (c .faulty .ensures, c .before .fault-variable .ensures, ← c .before .before .before .before .before .before .before .payload-of .ensures) (step-halts (variable (c .before .before .before)) some, λ z. absurd (some z))
 
 add-c : tie.Need-add-c Inv-loop μ-loop
 add-c c = let h = there (c .before .before .before) in let k = c .before .before .before .before .before .before .before .pre .0 .few in search needs
@@ -119,10 +132,13 @@ shared-slice-read-c : tie.Need-shared-slice-read-c Inv-loop μ-loop
 shared-slice-read-c c = let h = there (c .before .before .before .before) in search needs
 
 add-faulty : tie.Need-add-faulty Inv-loop μ-loop
-add-faulty c = let h = there (c .before .before .before .before .before .before) in let k = c .before .before .before .before .before .before .before .before .before .before .pre .0 .few in search needs
+add-faulty c = let h = there (c .before .before .before .before .before .before .before) in let k = c .before .before .before .before .before .before .before .before .before .before .before .pre .0 .few in search needs
 
 returns-2 : tie.Need-returns-2 Inv-loop μ-loop
-returns-2 c = rw (c .faulty2 .ensures, ← c .before .before .before .before .before .before .before .before .before .payload-of .ensures) (step-halts (coefficient (c .before .before)) (c .before .if2 .taken), λ z. absurd (c .before .if2 .taken z))
+unfolding wordAt
+returns-2 c =
+    let some = eqb-false _ _ (sym (c .before .before .before .is-number .ensures) ∙ not-true _ (c .before .before .if2 .taken)) in
+    rw (c .faulty2 .ensures, c .before .fault-number .ensures, ← c .before .before .before .before .before .before .before .before .before .before .payload-of .ensures) (step-halts (coefficient (c .before .before .before)) some, λ z. absurd (some z))
 
 times-requires : tie.Need-times-requires Inv-loop μ-loop
 times-requires c κs =
@@ -149,7 +165,7 @@ loop-again c =
     let e = back (c .plus .result) (c .plus .ok) ∙ c .plus .ensures in (
       omega (arith, l .inv .0, z),
       omega (arith, l .inv .1),
-      rw next at (step-goes (l .at + 1) (coefficient (c .before .before .before .before .before .before)) (c .before .before .before .before .before .if2 .left)),
+      rw next at (step-goes (l .at + 1) (coefficient (c .before .before .before .before .before .before)) (sound (c .before .before .before .before .before))),
       e ∙ rw (term (c .before), z) (term-added ws (a .values .now) (a .start) d (l .at) (toZ w64 (l .total)) (l .inv .0) (l .inv .3)),
       rw (e, z) (omega (arith, plus-size (toZ w64 (l .total)) (toZ w64 (ofZ w64 (c .before .times .result))), l .inv .4, small (c .before))),
     )
@@ -161,7 +177,10 @@ shared-slice-read-c-2 : tie.Need-shared-slice-read-c-2 Inv-loop μ-loop
 shared-slice-read-c-2 c = let h = last-there (c .before) in search needs
 
 returns-3 : tie.Need-returns-3 Inv-loop μ-loop
-returns-3 c = rw (c .faulty3 .ensures, ← c .before .before .before .before .before .before .payload-of .ensures) (step-halts (constant (c .before .before)) (c .before .if3 .taken), λ z. absurd (c .before .if3 .taken z))
+unfolding wordAt
+returns-3 c =
+    let some = eqb-false _ _ (sym (c .before .before .before .is-number2 .ensures) ∙ not-true _ (c .before .before .if3 .taken)) in
+    rw (c .faulty3 .ensures, c .before .fault-number2 .ensures, ← c .before .before .before .before .before .before .before .payload-of .ensures) (step-halts (constant (c .before .before .before)) some, λ z. absurd (some z))
 
 plus-requires-2 : tie.Need-plus-requires-2 Inv-loop μ-loop
 plus-requires-2 c κs =
@@ -177,7 +196,7 @@ returns-4 c =
     let l = c .before .before .before .before .before .before .before .loop in
     let z : l .left ≡ 0 = omega (arith, c .before .before .before .before .before .before .loop-test .left) in
     let d : c .before .before .before .before .before .before .before .before .payload-of .result - l .left ≡ payload (a .head) = omega (arith, z, c .before .before .before .before .before .before .before .before .payload-of .ensures) in (
-      rw (← c .before .before .before .before .before .before .before .before .payload-of .ensures) (step-goes (l .at) (constant (c .before .before .before .before)) (c .before .before .before .if3 .left)),
+      rw (← c .before .before .before .before .before .before .before .before .payload-of .ensures) (step-goes (l .at) (constant (c .before .before .before .before)) (last-sound (c .before .before .before))),
       λ i. c .is-true .ensures ∙ rw (back (c .before .plus2 .result) (c .before .plus2 .ok), c .before .plus2 .ensures, number (c .before .before), rw d at (l .inv .3), constant-from (a .ws .now) (a .start) (payload (a .head)) (l .at) (omega (arith, l .inv .0, d))),
     )
 
@@ -193,10 +212,12 @@ see-terms-spec =
     shared-slice-read-x
     (λ c κs. search needs)
     (λ c κs. search needs)
+    (λ c κs. search needs)
     returns
     add-c
     mul-c
     shared-slice-read-c
+    (λ c κs. search needs)
     (λ c κs. search needs)
     add-faulty
     (λ c κs. search needs)
@@ -212,6 +233,7 @@ see-terms-spec =
     loop-again
     mul-c-2
     shared-slice-read-c-2
+    (λ c κs. search needs)
     (λ c κs. search needs)
     (λ c κs. search needs)
     returns-3
