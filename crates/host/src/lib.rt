@@ -1,8 +1,10 @@
 // Calls for a host written in C: the calls over lists of words, values and bytes, and check over bytes.
 ghost use mathlib.Core.Path.{_≡_};
+ghost use Prim.Native.Nat.{_≤_};
 ghost use lib.ListN.{length};
 ghost use Rattle.words.specs.Answer.{refusalNumber};
 ghost use Rattle.words.specs.Verdict.{verdict};
+ghost use Rattle.encoding.specs.Bytes.{bytesWords};
 ghost use Rattle.models.specs.JudgeModel.{judgeModel};
 ghost use Rattle.rowsystems.specs.JudgeRows.{judgeRows};
 ghost use Rattle.rules.specs.Check.{check as checkAnswer};
@@ -309,6 +311,18 @@ fn listed_of(f: Found) -> Listed
     }
 }
 
+// Models of so many words are copied to a short list: a list is cleared first.
+const SHORT: usize = 512;
+
+// Check over bytes whose words fit the list that they are copied to.
+fn check_in(bytes: &[u8], words: &mut [u32]) -> u32
+    requires { ⌜ length (bytesWords (now bytes)) ≤ length (now words) ⌝ }
+    ensures { λ r. ⌜ r ≡ checkBytes (now (bytes .entry)) ⌝ }
+{
+    let n = words_of_bytes(bytes, words);
+    number_of(check(&words[..n]))
+}
+
 // Check over bytes, four to a word, the lowest first, 1 to 3 spare bytes left off: the number of the refusal, 0 if accepted.
 #[no_mangle]
 pub extern "C" fn pearrummy_check_bytes(bytes: &[u8]) -> u32
@@ -317,9 +331,12 @@ pub extern "C" fn pearrummy_check_bytes(bytes: &[u8]) -> u32
     if limit::MODEL_WORDS < bytes.len() / 4 {
         return fault::TOO_MANY_WORDS;
     }
+    if bytes.len() / 4 <= SHORT {
+        let mut words = [0u32; SHORT];
+        return check_in(bytes, &mut words);
+    }
     let mut words = [0u32; limit::MODEL_WORDS];
-    let n = words_of_bytes(bytes, &mut words);
-    number_of(check(&words[..n]))
+    check_in(bytes, &mut words)
 }
 
 // Check.
