@@ -1,0 +1,32 @@
+use borrow.Author.Needs.{needs}
+use Rattle.grammar.proofs.Table.{rule, past-codes, past-arguments}
+use Rattle.grammar.proofs.argument_of.Statement.{statement}
+use Rattle.grammar.proofs.argument_of.Tie as tie
+
+mul-result : tie.Need-mul-result
+mul-result c = search needs
+
+mul-result-2 : tie.Need-mul-result-2
+mul-result-2 c = search needs
+
+index-1-result : tie.Need-index-1-result
+index-1-result c = search needs
+
+index-2-result : tie.Need-index-2-result
+index-2-result c = search needs
+
+returns : tie.Need-returns
+returns c =
+    let s = c .before .before .before in
+    rw (s .pre) (rule (s .args .code) (s .args .k) (c .before .before .if1 .taken) (c .before .if2 .taken))
+
+returns-2 : tie.Need-returns-2
+returns-2 c = past-arguments (c .before .before .args .code) (c .before .before .args .k) (c .if2 .left)
+
+returns-3 : tie.Need-returns-3
+returns-3 c = past-codes (c .before .args .code) (c .before .args .k) (c .if1 .left)
+
+pub argument-of-spec : {M : Type 1} → statement M
+argument-of-spec =
+    tie.close
+    (tie.spec mul-result mul-result-2 index-1-result index-2-result returns returns-2 returns-3)

@@ -1,0 +1,71 @@
+use mathlib.Core.Path.{_≡_, refl, sym, ap, _∙_}
+use Prim.Native.Nat.{ℕ, _+_, _-_, _*_, _≤_}
+use native.Mathlib.Omega.{arith}
+use borrow.Author.Needs.{needs}
+use lib.ListN.{length, drop}
+use Rattle.grammar.specs.Grammar.{cap, decimal}
+use Rattle.grammar.proofs.Numbers.{cap-most, cap-again, decimal-on, decimal-end}
+use Rattle.grammar.proofs.decimal_of.Statement.{statement}
+use Rattle.grammar.proofs.decimal_of.Tie as tie
+
+abbrev Inv-loop : tie.InvT-loop
+Inv-loop digits v₀ i₀ v i = (i ≤ length digits) × (v ≡ cap v) × (cap (decimal 0 digits) ≡ cap (decimal v (drop i digits)))
+
+abbrev μ-loop : tie.MeasureT-loop
+μ-loop digits v₀ i₀ v i = length digits - i
+
+loop-holds : tie.Need-loop-holds Inv-loop μ-loop
+unfolding cap
+loop-holds c = (omega arith, refl, refl)
+
+mul-capped : tie.Need-mul-capped Inv-loop μ-loop
+mul-capped c = omega (arith, cap-most (c .before .loop .v), c .before .loop .inv .1)
+
+shared-slice-read-digit-of : tie.Need-shared-slice-read-digit-of Inv-loop μ-loop
+shared-slice-read-digit-of c = search needs
+
+digit-of-requires : tie.Need-digit-of-requires Inv-loop μ-loop
+digit-of-requires c κs = search needs
+
+add-capped : tie.Need-add-capped Inv-loop μ-loop
+add-capped c = omega (arith, cap-most (c .before .before .before .loop .v), c .before .before .before .loop .inv .1, c .digit-of .ensures, c .before .shared-slice-known2 .given (c .before .before .before .loop .i))
+
+capped-requires : tie.Need-capped-requires Inv-loop μ-loop
+capped-requires c κs = search needs
+
+add-i : tie.Need-add-i Inv-loop μ-loop
+add-i c = search needs
+
+loop-less : tie.Need-loop-less Inv-loop μ-loop
+loop-less c = search needs
+
+loop-again : tie.Need-loop-again Inv-loop μ-loop
+loop-again c =
+    let ds = c .before .before .before .before .before .before .args .digits .now in
+    let v = c .before .before .before .before .loop .v in
+    let i = c .before .before .before .before .loop .i in
+    let e = c .capped .ensures ∙ ap (λ (d : ℕ). cap (v * 10 + d)) (c .before .digit-of .ensures) in (
+      omega (arith, c .before .before .before .loop-test .taken),
+      c .capped .ensures ∙ sym (cap-again _) ∙ ap cap (sym (c .capped .ensures)),
+      c .before .before .before .before .loop .inv .2 ∙ decimal-on ds i v (c .before .before .before .loop-test .taken) ∙ ap (λ (n : ℕ). cap (decimal n (drop (i + 1) ds))) (sym e),
+    )
+
+returns : tie.Need-returns Inv-loop μ-loop
+returns c = c .before .loop .inv .1 ∙ sym (c .before .loop .inv .2 ∙ decimal-end (c .before .before .before .args .digits .now) (c .before .loop .i) (c .before .loop .v) (c .loop-test .left))
+
+pub decimal-of-spec : {M : Type 1} → statement M
+decimal-of-spec =
+    tie.close
+    (tie.spec
+    Inv-loop
+    μ-loop
+    loop-holds
+    mul-capped
+    shared-slice-read-digit-of
+    digit-of-requires
+    add-capped
+    capped-requires
+    add-i
+    loop-less
+    loop-again
+    returns)

@@ -1,0 +1,130 @@
+-- Comparing names byte by byte, and looking one up token by token. For `same_bytes` and `variable_of`.
+use mathlib.Core.Path.{_≡_, refl, sym, ap, _∙_}
+use mathlib.Core.Bool.{Bool, true, false}
+use mathlib.Core.List.{List, [], _∷_, _++_}
+use Prim.Native.Nat.{ℕ, suc, _+_, _<_, _≤_}
+use native.Mathlib.Numerals.{add-one}
+use native.Mathlib.Nat.{add-zero}
+use native.Mathlib.Omega.{arith}
+use lib.Dec.{eqb, ltb}
+use lib.Seq.{drop-cons}
+use lib.ListN.{length, getD, drop, drop-of-length-le}
+use borrow.Author.Tests.{eq-eqb, ne-eqb, lt-ltb, le-ltb, ltb-true, ltb-false}
+use Rattle.integers.specs.Choice.{_if_else_}
+use Rattle.integers.proofs.Tests.{false-true}
+use Rattle.tokens.specs.Token.{Token}
+use Rattle.names.specs.Name.{same, lookUp, declaredFrom}
+
+-- ---- two lists of bytes from a place on
+
+module _ (a b : List ℕ) (i : ℕ) where
+  cons : (l : List ℕ) → i < length l → drop i l ≡ getD l i 0 ∷ drop (i + 1) l
+  cons l h = rw (add-one i) (drop-cons l i 0 h)
+
+  pub same-on : i < length a → i < length b → getD a i 0 ≡ getD b i 0 → same (drop i a) (drop i b) ≡ same (drop (i + 1) a) (drop (i + 1) b)
+  unfolding same
+  same-on h k e = rw (cons a h, cons b k, eq-eqb (getD a i 0) (getD b i 0) e)
+
+  pub same-off : i < length a → i < length b → (getD a i 0 ≡ getD b i 0 → ⊥) → same (drop i a) (drop i b) ≡ false
+  unfolding same
+  same-off h k e = rw (cons a h, cons b k, ne-eqb (getD a i 0) (getD b i 0) e)
+
+  pub same-short : i < length a → length b ≤ i → same (drop i a) (drop i b) ≡ false
+  unfolding same
+  same-short h k = rw (cons a h, drop-of-length-le b k)
+
+  pub same-end : length a ≤ i → i ≤ length a → i ≤ length b → same (drop i a) (drop i b) ≡ eqb (length a) (length b)
+  unfolding same
+  same-end h g k = rw (drop-of-length-le a h) (go (ltb i (length b)) refl)
+    where
+      go : (t : Bool) → ltb i (length b) ≡ t → same [] (drop i b) ≡ eqb (length a) (length b)
+      go true q = rw (cons b (ltb-true i (length b) q), ne-eqb (length a) (length b) (λ e. omega (arith, ltb-true i (length b) q, e, h, g)))
+      go false q = rw (drop-of-length-le b (ltb-false i (length b) q), eq-eqb (length a) (length b) (omega (arith, ltb-false i (length b) q, h, g, k)))
+
+-- ---- a name among names: counted from another place, before others, at most as many as there are
+
+shift : (x : List ℕ) (j k : ℕ) (ys : List (List ℕ)) → lookUp x (j + k) ys ≡ (0 if eqb (lookUp x j ys) 0 else lookUp x j ys + k)
+unfolding lookUp
+shift x j k [] = refl
+shift x j k (y ∷ ys) = go (same x y) (shift x (j + 1) k ys)
+  where
+    go : (b : Bool) → lookUp x (j + 1 + k) ys ≡ (0 if eqb (lookUp x (j + 1) ys) 0 else lookUp x (j + 1) ys + k) → (j + k + 1 if b else lookUp x (j + k + 1) ys) ≡ (0 if eqb (j + 1 if b else lookUp x (j + 1) ys) 0 else (j + 1 if b else lookUp x (j + 1) ys) + k)
+    go true i = rw (ne-eqb (j + 1) 0 (λ e. omega (arith, e))) (omega arith)
+    go false i = let e : j + k + 1 ≡ j + 1 + k = omega arith in ap (λ (n : ℕ). lookUp x n ys) e ∙ i
+
+append : (x : List ℕ) (k : ℕ) (xs ys : List (List ℕ)) → lookUp x k (xs ++ ys) ≡ (lookUp x (k + length xs) ys if eqb (lookUp x k xs) 0 else lookUp x k xs)
+unfolding lookUp
+append x k [] ys = ap (λ (n : ℕ). lookUp x n ys) (sym (add-zero k))
+append x k (y ∷ xs) ys = go (same x y) (append x (k + 1) xs ys)
+  where
+    go : (b : Bool) → lookUp x (k + 1) (xs ++ ys) ≡ (lookUp x (k + 1 + length xs) ys if eqb (lookUp x (k + 1) xs) 0 else lookUp x (k + 1) xs) → (k + 1 if b else lookUp x (k + 1) (xs ++ ys)) ≡ (lookUp x (k + suc (length xs)) ys if eqb (k + 1 if b else lookUp x (k + 1) xs) 0 else (k + 1 if b else lookUp x (k + 1) xs))
+    go true i = rw (ne-eqb (k + 1) 0 (λ e. omega (arith, e)))
+    go false i =
+        let e : k + 1 + length xs ≡ k + suc (length xs) = omega arith in
+        i ∙ ap (λ (n : ℕ). lookUp x n ys if eqb (lookUp x (k + 1) xs) 0 else lookUp x (k + 1) xs) e
+
+pub at-most : (x : List ℕ) (k : ℕ) (ys : List (List ℕ)) → lookUp x k ys ≤ k + length ys
+unfolding lookUp
+at-most x k [] = omega arith
+at-most x k (y ∷ ys) = go (same x y) (at-most x (k + 1) ys)
+  where
+    go : (b : Bool) → lookUp x (k + 1) ys ≤ k + 1 + length ys → (k + 1 if b else lookUp x (k + 1) ys) ≤ k + suc (length ys)
+    go true i = omega arith
+    go false i = omega (arith, i)
+
+module _ (x : List ℕ) (k : ℕ) (xs : List (List ℕ)) where
+  pub last-here : (lookUp x 0 xs ≡ 0 → ⊥) → lookUp x k xs ≡ lookUp x 0 xs + k
+  last-here q = let e : k ≡ 0 + k = omega arith in ap (λ (n : ℕ). lookUp x n xs) e ∙ shift x 0 k xs ∙ rw (ne-eqb (lookUp x 0 xs) 0 q)
+
+  pub last-none : lookUp x 0 xs ≡ 0 → lookUp x k xs ≡ 0
+  last-none q = let e : k ≡ 0 + k = omega arith in ap (λ (n : ℕ). lookUp x n xs) e ∙ shift x 0 k xs ∙ rw (eq-eqb (lookUp x 0 xs) 0 q)
+
+  pub among-here : (ys : List (List ℕ)) → (lookUp x 0 xs ≡ 0 → ⊥) → lookUp x k (xs ++ ys) ≡ lookUp x 0 xs + k
+  among-here ys q = append x k xs ys ∙ rw (ne-eqb (lookUp x k xs) 0 (λ e. q (omega (arith, e, last-here q)))) (last-here q)
+
+  pub among-past : (ys : List (List ℕ)) → lookUp x 0 xs ≡ 0 → lookUp x k (xs ++ ys) ≡ lookUp x (k + length xs) ys
+  among-past ys q = append x k xs ys ∙ rw (eq-eqb (lookUp x k xs) 0 (last-none q))
+
+-- ---- a name among the declared ones
+
+pub one-at-most : (b : Bool) → (1 if b else 0) ≤ 1
+one-at-most true = omega arith
+one-at-most false = omega arith
+
+module _ (x : List ℕ) (k p : ℕ) (t : Token) {ts us : List Token} (q : ts ≡ t ∷ us) (h : t .place < p) where
+  here : same x (t .spelling) ≡ true → lookUp x k (declaredFrom true p ts) ≡ k + 1
+  unfolding lookUp declaredFrom
+  here s = rw (q, lt-ltb (t .place) p h, s)
+
+  on-true : same x (t .spelling) ≡ false → lookUp x k (declaredFrom true p ts) ≡ lookUp x (k + 1) (declaredFrom (eqb (t .sort) 58) p us)
+  unfolding lookUp declaredFrom
+  on-true s = rw (q, lt-ltb (t .place) p h, s)
+
+  on-false : lookUp x k (declaredFrom false p ts) ≡ lookUp x (k + 0) (declaredFrom (eqb (t .sort) 58) p us)
+  unfolding declaredFrom
+  on-false = rw (q, lt-ltb (t .place) p h, add-zero k)
+
+module _ (x : List ℕ) (k p : ℕ) (afterColon : Bool) where
+  pub look-end : {ts : List Token} → ts ≡ [] → lookUp x k (declaredFrom afterColon p ts) ≡ 0
+  unfolding lookUp declaredFrom
+  look-end q = rw q
+
+  module _ (t : Token) {ts us : List Token} (q : ts ≡ t ∷ us) where
+    pub look-past : p ≤ t .place → lookUp x k (declaredFrom afterColon p ts) ≡ 0
+    unfolding lookUp declaredFrom
+    look-past h = rw (q, le-ltb (t .place) p h)
+
+    module _ (h : t .place < p) {found : Bool} (d : found ≡ (same x (t .spelling) if afterColon else false)) where
+      pub look-here : found ≡ true → lookUp x k (declaredFrom afterColon p ts) ≡ k + 1
+      look-here e = go afterColon (sym d ∙ e)
+        where
+          go : (c : Bool) → (same x (t .spelling) if c else false) ≡ true → lookUp x k (declaredFrom c p ts) ≡ k + 1
+          go true s = here x k p t q h s
+          go false s = false-true s
+
+      pub look-on : found ≡ false → lookUp x k (declaredFrom afterColon p ts) ≡ lookUp x (k + (1 if afterColon else 0)) (declaredFrom (eqb (t .sort) 58) p us)
+      look-on e = go afterColon (sym d ∙ e)
+        where
+          go : (c : Bool) → (same x (t .spelling) if c else false) ≡ false → lookUp x k (declaredFrom c p ts) ≡ lookUp x (k + (1 if c else 0)) (declaredFrom (eqb (t .sort) 58) p us)
+          go true s = on-true x k p t q h s
+          go false s = on-false x k p t q h

@@ -1,0 +1,40 @@
+-- The tokens from a place on, and what finding the next one says of them.
+use mathlib.Core.Bool.{false}
+use mathlib.Core.List.{List, [], _∷_}
+use mathlib.Core.Path.{_≡_}
+use Prim.Native.Nat.{ℕ, _+_, _-_, _<_, _≤_}
+use lib.Dec.{eqb}
+use lib.ListN.{length, getD, take, drop}
+use Rattle.integers.specs.Choice.{_if_else_}
+use Rattle.tokens.specs.Token as Token
+use Rattle.tokens.specs.Token.{Token, tokenLength, sortOf, isGap, tokensFrom}
+use Rattle.tokens.specs.declared.Span.{Span}
+
+unfoldable pub unread : List ℕ → ℕ → List Token
+unread bs i = tokensFrom 0 i (drop i bs)
+
+-- where the token that begins at a place stops, and its sort
+unfoldable pub stopAt : List ℕ → ℕ → ℕ
+stopAt bs i = i + tokenLength (getD bs i 0) (drop (i + 1) bs)
+
+unfoldable pub sortAt : List ℕ → ℕ → ℕ
+sortAt bs i = sortOf (getD bs i 0) (drop (i + 1) bs)
+
+-- the token between two places
+unfoldable pub spanned : List ℕ → Span → Token
+spanned bs s = record { sort = s .sort; place = s .place; spelling = take (s .stop - s .place) (drop (s .place) bs) }
+
+-- blanks and comments between two places
+pub record Skipped (bs : List ℕ) (i j : ℕ) : Type 0 where
+  pub onward : i ≤ j
+  pub inside : j ≤ length bs
+  pub same : unread bs i ≡ unread bs j
+  pub no-gap : j < length bs → isGap (getD bs j 0) ≡ false
+
+-- the next token from a place on, or the end
+pub record Met (bs : List ℕ) (i : ℕ) (s : Span) : Type 0 where
+  pub onward : i ≤ s .place
+  pub inside : s .stop ≤ length bs
+  pub further : s .sort ≡ Token.end → s .stop ≡ length bs
+  pub longer : (s .sort ≡ Token.end → ⊥) → s .place < s .stop
+  pub found : unread bs i ≡ ([] if eqb (s .sort) Token.end else spanned bs s ∷ unread bs (s .stop))
