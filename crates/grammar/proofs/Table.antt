@@ -1,7 +1,7 @@
 -- The table of arguments: its entries are the definition's; no code above 39 has an argument, and no code a fifth. For `argument_of`.
 use mathlib.Core.Path.{_≡_, refl, sym, ap, _∙_}
 use mathlib.Core.Bool.{Bool, true, false}
-use mathlib.Core.List.{List, [], _∷_}
+use mathlib.Core.List.{List, [], _∷_, map, flatMap, flatten}
 use Prim.Native.Nat.{ℕ, zero, suc, _<_, _≤_}
 use native.Mathlib.Omega.{arith}
 use native.Mathlib.Nat.{le-trans}
@@ -11,9 +11,8 @@ use borrow.Author.Tests.{leb-true, leb-false, le-leb}
 use Rattle.integers.specs.Lists.{listOf, all}
 use Rattle.integers.proofs.Places.{getD-listOf}
 use Rattle.integers.proofs.Tests.{All, says-all}
-use Rattle.models.specs.Shape.{shapes}
-use Rattle.names.specs.Name.{firstNames, secondNames, thirdNames, fourthNames, builtinNames}
-use Rattle.grammar.specs.Argument.{takesSet, sortsOf, argumentsOf, argument, filled, table}
+use Rattle.models.specs.Table.{Code, codes}
+use Rattle.grammar.specs.Argument.{inText, argumentsOf, argument, filled, table}
 
 entry : (n : ℕ) (xs : List ℕ) (k : ℕ) → k < n → getD (filled n xs) k 0 ≡ getD xs k 0
 entry zero xs k h = absurd (omega arith)
@@ -27,8 +26,8 @@ unfolding table argument
 rule code k h g = ap (λ (r : List ℕ). getD r k 0) (getD-listOf (λ c. filled 4 (argumentsOf c)) 40 code [] (omega arith)) ∙ entry 4 (argumentsOf code) k g
 
 no-arguments : (code : ℕ) → 39 < code → argumentsOf code ≡ []
-unfolding argumentsOf sortsOf shapes
-no-arguments code h = ap (sortsOf (takesSet code)) (List·getD-eq-default shapes [] {n = code} h)
+unfolding argumentsOf
+no-arguments code h = List·getD-eq-default ([] ∷ map (λ (c : Code). flatMap inText (c .sorts)) codes) [] {n = code} h
 
 pub past-codes : (code k : ℕ) → 39 < code → 0 ≡ argument code k
 unfolding argument
@@ -43,7 +42,7 @@ abbrev Short : List ℕ → Type 0
 Short r = length r ≤ 4
 
 all-short : All Short (listOf argumentsOf 40)
-unfolding all listOf argumentsOf sortsOf takesSet shapes
+unfolding all listOf argumentsOf inText flatMap flatten
 all-short = says-all (λ r. leb (length r) 4) Short (λ r. (leb-true (length r) 4, le-leb (length r) 4)) (listOf argumentsOf 40) .0 refl
 
 short : (code : ℕ) → length (argumentsOf code) ≤ 4
@@ -58,8 +57,3 @@ short code = go (leb code 39) refl
 pub past-arguments : (code k : ℕ) → 4 ≤ k → 0 ≡ argument code k
 unfolding argument
 past-arguments code k h = sym (List·getD-eq-default (argumentsOf code) 0 {n = k} (le-trans (short code) h))
-
--- every code has a name and a list of arguments
-pub every-code : (suc (length builtinNames) ≡ 40) × (length shapes ≡ 40)
-unfolding builtinNames firstNames secondNames thirdNames fourthNames shapes
-every-code = (refl, refl)

@@ -1,12 +1,13 @@
 -- The arguments of each builtin in a text; 02, wish 8: "sort (number, variable, list, set) of arguments".
-use mathlib.Core.Bool.{Bool, _||_}
-use mathlib.Core.List.{List, [], _∷_}
+use mathlib.Core.Bool.{_||_}
+use mathlib.Core.List.{List, [], _∷_, map, flatMap}
 use Prim.Native.Nat.{ℕ, zero, suc}
-use lib.Dec.{eqb, leb}
+use lib.Dec.{eqb}
 use lib.ListN.{getD}
 use Rattle.integers.specs.Choice.{_if_else_}
 use Rattle.integers.specs.Lists.{listOf}
-use Rattle.models.specs.Shape as Shape
+use Rattle.models.specs.Table as Table
+use Rattle.models.specs.Table.{Sort, Code, codes}
 use Rattle.tokens.specs.Byte as Byte
 use Rattle.tokens.specs.Token as Token
 
@@ -32,23 +33,21 @@ set = 5
 abbrev pub second : ℕ
 second = 6
 
--- 01, 27 and 28: "set_in(x,S), S numbers"
-unfoldable pub takesSet : ℕ → Bool
-takesSet code = eqb code 27 || eqb code 28
+-- an argument of the table of codes in a text: one, of parallel lists two
+unfoldable pub inText : Sort → List ℕ
+inText Table.integer = variable ∷ []
+inText Table.boolean = variable ∷ []
+inText Table.number = number ∷ []
+inText Table.exponent = number ∷ []
+inText Table.numbers = numbers ∷ []
+inText Table.set = set ∷ []
+inText Table.integers = variables ∷ []
+inText Table.booleans = variables ∷ []
+inText Table.parallel = numbers ∷ second ∷ []
 
-unfoldable pub sortsOf : Bool → List ℕ → List ℕ
-sortsOf isSet [] = []
-sortsOf isSet (a ∷ as′) =
-    let rest = sortsOf isSet as′ in
-    variable ∷ rest if leb a Shape.boolean
-    else number ∷ rest if leb a Shape.exponent
-    else (set if isSet else numbers) ∷ rest if eqb a Shape.numbers
-    else numbers ∷ second ∷ rest if eqb a Shape.parallel
-    else variables ∷ rest
-
--- the arguments of a code in a text, and the k-th of them
+-- the arguments of a code in a text, none for 0, which is no code; the k-th of them
 unfoldable pub argumentsOf : ℕ → List ℕ
-argumentsOf code = sortsOf (takesSet code) (getD Shape.shapes code [])
+argumentsOf code = getD ([] ∷ map (λ (c : Code). flatMap inText (c .sorts)) codes) code []
 
 unfoldable pub argument : ℕ → ℕ → ℕ
 argument code k = getD (argumentsOf code) k none

@@ -6,7 +6,7 @@ use lib.Dec.{eqb}
 use lib.ListN.{length}
 use Rattle.integers.specs.Choice.{_if_else_}
 use Rattle.integers.specs.Terms.{Term}
-use Rattle.models.specs.Table.{Sort, integer, boolean, number, exponent, numbers, integers, booleans, parallel, Argument}
+use Rattle.models.specs.Table.{Sort, integer, boolean, number, exponent, numbers, set, integers, booleans, parallel, Argument}
 use Rattle.models.specs.Shape as Shape
 use Rattle.models.specs.Builtin.{Builtin, int-eq, int-le, int-lt, int-ne, int-le-reif, int-plus, int-times, int-abs, int-max, int-lin-eq, int-lin-le, int-lin-ne, int-lin-eq-reif, int-eq-reif, int-lin-le-reif, bool2int, bool-not, bool-and, bool-or, bool-xor, bool-clause, array-bool-and, array-bool-xor, array-int-element, array-var-int-element, array-int-maximum, set-in, set-in-reif, int-min, int-lt-reif, int-ne-reif, int-lin-ne-reif, array-int-minimum, bool-eq-reif, bool-le-reif, bool-lt-reif, int-div, int-mod, int-pow}
 
@@ -46,8 +46,8 @@ argumentsOf (array-bool-xor xs) = booleans ! xs ∷ []
 argumentsOf (array-int-element i ns c) = integer ! i ∷ numbers ! ns ∷ integer ! c ∷ []
 argumentsOf (array-var-int-element i xs c) = integer ! i ∷ integers ! xs ∷ integer ! c ∷ []
 argumentsOf (array-int-maximum m xs) = integer ! m ∷ integers ! xs ∷ []
-argumentsOf (set-in x S) = integer ! x ∷ numbers ! S ∷ []
-argumentsOf (set-in-reif x S r) = integer ! x ∷ numbers ! S ∷ boolean ! r ∷ []
+argumentsOf (set-in x S) = integer ! x ∷ set ! S ∷ []
+argumentsOf (set-in-reif x S r) = integer ! x ∷ set ! S ∷ boolean ! r ∷ []
 argumentsOf (int-min a b c) = integer ! a ∷ integer ! b ∷ integer ! c ∷ []
 argumentsOf (int-lt-reif a b r) = integer ! a ∷ integer ! b ∷ boolean ! r ∷ []
 argumentsOf (int-ne-reif a b r) = integer ! a ∷ integer ! b ∷ boolean ! r ∷ []
@@ -72,6 +72,7 @@ namedIn boolean v = v ∷ []
 namedIn number c = []
 namedIn exponent k = []
 namedIn numbers ns = []
+namedIn set ns = []
 namedIn integers vs = vs
 namedIn booleans vs = vs
 namedIn parallel ts = variablesIn ts
@@ -82,6 +83,7 @@ typeOf boolean = Shape.boolean
 typeOf number = Shape.none
 typeOf exponent = Shape.none
 typeOf numbers = Shape.none
+typeOf set = Shape.none
 typeOf integers = Shape.integer
 typeOf booleans = Shape.boolean
 typeOf parallel = Shape.integer
@@ -92,6 +94,7 @@ isList boolean = false
 isList number = false
 isList exponent = false
 isList numbers = true
+isList set = true
 isList integers = true
 isList booleans = true
 isList parallel = true
@@ -102,6 +105,7 @@ wordsIn boolean v = 1
 wordsIn number c = 1
 wordsIn exponent k = 1
 wordsIn numbers ns = 1 + length ns
+wordsIn set ns = 1 + length ns
 wordsIn integers vs = 1 + length vs
 wordsIn booleans vs = 1 + length vs
 wordsIn parallel ts = 1 + 2 * length ts

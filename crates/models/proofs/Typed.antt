@@ -14,7 +14,7 @@ use Rattle.integers.specs.Lists.{listOf}
 use Rattle.integers.specs.Terms.{_·_}
 use Rattle.integers.proofs.Lists.{all-implies, listOf-length}
 use Rattle.integers.proofs.Tests.{All}
-use Rattle.models.specs.Table.{Sort, integer, boolean, number, exponent, numbers, integers, booleans, parallel, Code, codes, last}
+use Rattle.models.specs.Table.{Sort, integer, boolean, number, exponent, numbers, set, integers, booleans, parallel, Code, codes, last}
 use Rattle.models.specs.Shape as Shape
 use Rattle.models.specs.Shape.{shapeOf, shapes}
 use Rattle.models.specs.Builtin.{Builtin, int-eq}
@@ -73,6 +73,7 @@ module _ (ws : List ℕ) where
   same-place i number = refl
   same-place i exponent = refl
   same-place i numbers = refl
+  same-place i set = refl
   same-place i integers = refl
   same-place i booleans = refl
   same-place i parallel = refl
@@ -84,6 +85,7 @@ module _ (ws : List ℕ) where
   words-in i number = omega arith
   words-in i exponent = omega arith
   words-in i numbers = simp listOf-length (omega arith)
+  words-in i set = simp listOf-length (omega arith)
   words-in i integers = simp listOf-length (omega arith)
   words-in i booleans = simp listOf-length (omega arith)
   words-in i parallel = simp listOf-length (omega arith)
@@ -100,6 +102,7 @@ module _ (ws : List ℕ) where
     named i number h = tt
     named i exponent h = tt
     named i numbers h = tt
+    named i set h = tt
     named i integers h = h .1
     named i booleans h = h .1
     named i parallel h = rw (term-variables (λ k. num ws (i + 1 + k)) (λ k. var ws (past ws i + k)) (size ws i)) (h .1)

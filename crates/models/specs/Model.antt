@@ -11,7 +11,7 @@ use Rattle.words.specs.Word.{kind, payload, signed, wordAt}
 use Rattle.words.specs.Kind as Kind
 use Rattle.words.specs.Limit as Limit
 use Rattle.models.specs.Builtin.{Builtin, int-eq}
-use Rattle.models.specs.Table.{Sort, integer, boolean, number, exponent, numbers, integers, booleans, parallel, Argument, Takes, Code, codes}
+use Rattle.models.specs.Table.{Sort, integer, boolean, number, exponent, numbers, set, integers, booleans, parallel, Argument, Takes, Code, codes}
 
 -- a constraint: the place of its head word, its code, and the words after its head
 pub record Constraint : Type 0 where
@@ -80,6 +80,7 @@ module _ (ws : List ℕ) where
   argumentAt i number = num i
   argumentAt i exponent = exponentAt i
   argumentAt i numbers = nums i
+  argumentAt i set = nums i
   argumentAt i integers = vars i
   argumentAt i booleans = vars i
   argumentAt i parallel = terms i
@@ -90,6 +91,7 @@ module _ (ws : List ℕ) where
   placeAfter i number = i + 1
   placeAfter i exponent = i + 1
   placeAfter i numbers = past i
+  placeAfter i set = past i
   placeAfter i integers = past i
   placeAfter i booleans = past i
   placeAfter i parallel = pastTerms i

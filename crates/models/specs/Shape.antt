@@ -5,7 +5,7 @@ use lib.ListN.{getD}
 use Rattle.models.specs.Table as Table
 use Rattle.models.specs.Table.{Sort, Code, codes}
 
--- one argument: none is left, a variable of a type, a number, an exponent, a list with its length word.
+-- one argument: none is left, a variable of a type, a number, an exponent, a list or a set with its length word.
 -- The first three are also the types of a variable that a number names: not declared, integer, Boolean.
 abbrev pub none : ℕ
 none = 0
@@ -41,6 +41,7 @@ shapeOf Table.boolean = boolean
 shapeOf Table.number = number
 shapeOf Table.exponent = exponent
 shapeOf Table.numbers = numbers
+shapeOf Table.set = numbers
 shapeOf Table.integers = integers
 shapeOf Table.booleans = booleans
 shapeOf Table.parallel = parallel

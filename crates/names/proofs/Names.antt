@@ -1,8 +1,8 @@
 -- Comparing names byte by byte, and looking one up token by token. For `same_bytes` and `variable_of`.
-use mathlib.Core.Path.{_≡_, refl, sym, ap, _∙_}
+use mathlib.Core.Path.{_≡_, refl, sym, _∙_}
 use mathlib.Core.Bool.{Bool, true, false}
-use mathlib.Core.List.{List, [], _∷_, _++_}
-use Prim.Native.Nat.{ℕ, suc, _+_, _<_, _≤_}
+use mathlib.Core.List.{List, [], _∷_}
+use Prim.Native.Nat.{ℕ, _+_, _<_, _≤_}
 use native.Mathlib.Numerals.{add-one}
 use native.Mathlib.Nat.{add-zero}
 use native.Mathlib.Omega.{arith}
@@ -13,7 +13,7 @@ use borrow.Author.Tests.{eq-eqb, ne-eqb, lt-ltb, le-ltb, ltb-true, ltb-false}
 use Rattle.integers.specs.Choice.{_if_else_}
 use Rattle.integers.proofs.Tests.{false-true}
 use Rattle.tokens.specs.Token.{Token}
-use Rattle.names.specs.Name.{same, lookUp, declaredFrom}
+use Rattle.names.specs.Name.{same, lookUp, spellings, declaredFrom}
 
 -- ---- two lists of bytes from a place on
 
@@ -41,49 +41,21 @@ module _ (a b : List ℕ) (i : ℕ) where
       go true q = rw (cons b (ltb-true i (length b) q), ne-eqb (length a) (length b) (λ e. omega (arith, ltb-true i (length b) q, e, h, g)))
       go false q = rw (drop-of-length-le b (ltb-false i (length b) q), eq-eqb (length a) (length b) (omega (arith, ltb-false i (length b) q, h, g, k)))
 
--- ---- a name among names: counted from another place, before others, at most as many as there are
+-- ---- a name among the spellings of tokens
 
-shift : (x : List ℕ) (j k : ℕ) (ys : List (List ℕ)) → lookUp x (j + k) ys ≡ (0 if eqb (lookUp x j ys) 0 else lookUp x j ys + k)
-unfolding lookUp
-shift x j k [] = refl
-shift x j k (y ∷ ys) = go (same x y) (shift x (j + 1) k ys)
-  where
-    go : (b : Bool) → lookUp x (j + 1 + k) ys ≡ (0 if eqb (lookUp x (j + 1) ys) 0 else lookUp x (j + 1) ys + k) → (j + k + 1 if b else lookUp x (j + k + 1) ys) ≡ (0 if eqb (j + 1 if b else lookUp x (j + 1) ys) 0 else (j + 1 if b else lookUp x (j + 1) ys) + k)
-    go true i = rw (ne-eqb (j + 1) 0 (λ e. omega (arith, e))) (omega arith)
-    go false i = let e : j + k + 1 ≡ j + 1 + k = omega arith in ap (λ (n : ℕ). lookUp x n ys) e ∙ i
+module _ (x : List ℕ) (k : ℕ) where
+  pub none-spelled : {ts : List Token} → ts ≡ [] → lookUp x k (spellings ts) ≡ 0
+  unfolding lookUp spellings
+  none-spelled q = rw q
 
-append : (x : List ℕ) (k : ℕ) (xs ys : List (List ℕ)) → lookUp x k (xs ++ ys) ≡ (lookUp x (k + length xs) ys if eqb (lookUp x k xs) 0 else lookUp x k xs)
-unfolding lookUp
-append x k [] ys = ap (λ (n : ℕ). lookUp x n ys) (sym (add-zero k))
-append x k (y ∷ xs) ys = go (same x y) (append x (k + 1) xs ys)
-  where
-    go : (b : Bool) → lookUp x (k + 1) (xs ++ ys) ≡ (lookUp x (k + 1 + length xs) ys if eqb (lookUp x (k + 1) xs) 0 else lookUp x (k + 1) xs) → (k + 1 if b else lookUp x (k + 1) (xs ++ ys)) ≡ (lookUp x (k + suc (length xs)) ys if eqb (k + 1 if b else lookUp x (k + 1) xs) 0 else (k + 1 if b else lookUp x (k + 1) xs))
-    go true i = rw (ne-eqb (k + 1) 0 (λ e. omega (arith, e)))
-    go false i =
-        let e : k + 1 + length xs ≡ k + suc (length xs) = omega arith in
-        i ∙ ap (λ (n : ℕ). lookUp x n ys if eqb (lookUp x (k + 1) xs) 0 else lookUp x (k + 1) xs) e
+  module _ (t : Token) {ts us : List Token} (q : ts ≡ t ∷ us) where
+    pub spelled-here : same x (t .spelling) ≡ true → lookUp x k (spellings ts) ≡ k + 1
+    unfolding lookUp spellings
+    spelled-here s = rw (q, s)
 
-pub at-most : (x : List ℕ) (k : ℕ) (ys : List (List ℕ)) → lookUp x k ys ≤ k + length ys
-unfolding lookUp
-at-most x k [] = omega arith
-at-most x k (y ∷ ys) = go (same x y) (at-most x (k + 1) ys)
-  where
-    go : (b : Bool) → lookUp x (k + 1) ys ≤ k + 1 + length ys → (k + 1 if b else lookUp x (k + 1) ys) ≤ k + suc (length ys)
-    go true i = omega arith
-    go false i = omega (arith, i)
-
-module _ (x : List ℕ) (k : ℕ) (xs : List (List ℕ)) where
-  pub last-here : (lookUp x 0 xs ≡ 0 → ⊥) → lookUp x k xs ≡ lookUp x 0 xs + k
-  last-here q = let e : k ≡ 0 + k = omega arith in ap (λ (n : ℕ). lookUp x n xs) e ∙ shift x 0 k xs ∙ rw (ne-eqb (lookUp x 0 xs) 0 q)
-
-  pub last-none : lookUp x 0 xs ≡ 0 → lookUp x k xs ≡ 0
-  last-none q = let e : k ≡ 0 + k = omega arith in ap (λ (n : ℕ). lookUp x n xs) e ∙ shift x 0 k xs ∙ rw (eq-eqb (lookUp x 0 xs) 0 q)
-
-  pub among-here : (ys : List (List ℕ)) → (lookUp x 0 xs ≡ 0 → ⊥) → lookUp x k (xs ++ ys) ≡ lookUp x 0 xs + k
-  among-here ys q = append x k xs ys ∙ rw (ne-eqb (lookUp x k xs) 0 (λ e. q (omega (arith, e, last-here q)))) (last-here q)
-
-  pub among-past : (ys : List (List ℕ)) → lookUp x 0 xs ≡ 0 → lookUp x k (xs ++ ys) ≡ lookUp x (k + length xs) ys
-  among-past ys q = append x k xs ys ∙ rw (eq-eqb (lookUp x k xs) 0 (last-none q))
+    pub spelled-on : same x (t .spelling) ≡ false → lookUp x k (spellings ts) ≡ lookUp x (k + 1) (spellings us)
+    unfolding lookUp spellings
+    spelled-on s = rw (q, s)
 
 -- ---- a name among the declared ones
 

@@ -2,11 +2,11 @@ use Rattle.grammar.specs.Grammar.{argumentPlace}
 use mathlib.Core.Path.{refl}
 use Prim.Native.Nat.{_-_, _<_}
 use native.Mathlib.Omega.{arith}
+use mathlib.Core.List.{flatMap, flatten}
 use borrow.Author.Needs.{needs}
 use lib.ListN.{length}
-use Rattle.models.specs.Shape.{shapes}
 use Rattle.integers.specs.Lists.{listOf}
-use Rattle.grammar.specs.Argument.{table, argumentsOf, sortsOf, takesSet}
+use Rattle.grammar.specs.Argument.{table, argumentsOf, inText}
 use Rattle.tokens.proofs.Places.{none-left, met-end}
 use Rattle.texts.proofs.Loop.{Left, begin, again, stop-reads, end-reads, same-room, fault-seen, word-seen, after-seen}
 use Rattle.texts.proofs.read_tokens.Statement.{statement}
@@ -38,7 +38,7 @@ returns : tie.Need-returns Inv-loop μ-loop
 returns c = end-reads (c .before .before .before .before .before .loop .inv) (met-end (c .before .before .before .next-token .ensures) (c .before .if1 .taken)) (c .ended .ensures)
 
 see-requires : tie.Need-see-requires Inv-loop μ-loop
-unfolding table listOf argumentsOf sortsOf takesSet shapes
+unfolding table listOf argumentsOf inText flatMap flatten
 see-requires c κs =
     let m = c .before .before .before .next-token .ensures in
     (refl, omega (arith, c .before .before .before .before .before .loop .inv .argument, c .before .before .before .before .loop-test .taken), m .longer (c .before .if1 .left), m .inside)

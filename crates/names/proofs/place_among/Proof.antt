@@ -1,0 +1,101 @@
+-- The invariant: the tokens passed are not the name. The measure: the bytes left.
+use mathlib.Core.Path.{_≡_, refl, sym, _∙_}
+use Prim.Native.Nat.{_-_, _≤_}
+use native.Mathlib.Omega.{arith}
+use borrow.Author.Needs.{needs}
+use lib.ListN.{length}
+use Rattle.tokens.specs.Unread.{unread, spanned}
+use Rattle.tokens.proofs.Places.{none-left, met-token, met-end}
+use Rattle.names.specs.Name.{lookUp, spellings}
+use Rattle.names.proofs.Names.{none-spelled, spelled-here, spelled-on}
+use Rattle.names.proofs.place_among.Statement.{statement}
+use Rattle.names.proofs.place_among.Tie as tie
+
+abbrev Inv-loop : tie.InvT-loop
+Inv-loop name names i₀ k₀ i k =
+    (i ≤ length names) ×
+    (k ≤ i) ×
+    (lookUp name 0 (spellings (unread names 0)) ≡ lookUp name k (spellings (unread names i)))
+
+abbrev μ-loop : tie.MeasureT-loop
+μ-loop name names i₀ k₀ i k = length names - i
+
+loop-holds : tie.Need-loop-holds Inv-loop μ-loop
+loop-holds c = (omega arith, omega arith, refl)
+
+next-token-requires : tie.Need-next-token-requires Inv-loop μ-loop
+next-token-requires c κs = omega (arith, c .loop-test .taken)
+
+returns : tie.Need-returns Inv-loop μ-loop
+returns c =
+    let s = c .before .before .before .before in
+    sym (s .loop .inv .2 ∙ none-spelled (s .before .before .before .args .name .now) (s .loop .k) (met-end (c .before .before .next-token .ensures) (c .if1 .taken)))
+
+sub-same-bytes : tie.Need-sub-same-bytes Inv-loop μ-loop
+sub-same-bytes c = let m = c .before .before .next-token .ensures in omega (arith, m .longer (c .if1 .left))
+
+part-same-bytes-start : tie.Need-part-same-bytes-start Inv-loop μ-loop
+part-same-bytes-start c = let m = c .before .before .next-token .ensures in omega (arith, m .longer (c .if1 .left))
+
+part-same-bytes-end : tie.Need-part-same-bytes-end Inv-loop μ-loop
+part-same-bytes-end c = c .before .before .next-token .ensures .inside
+
+same-bytes-requires : tie.Need-same-bytes-requires Inv-loop μ-loop
+same-bytes-requires c κs = search needs
+
+add-result : tie.Need-add-result Inv-loop μ-loop
+add-result c = search needs
+
+returns-2 : tie.Need-returns-2 Inv-loop μ-loop
+unfolding spanned
+returns-2 c =
+    let t = c .before .before .before .before .before in
+    let s = t .before .before in
+    let names = s .before .before .before .args .names .now in
+    let m = met-token (t .next-token .ensures) (c .before .before .before .if1 .left) in
+    sym (s .loop .inv .2 ∙ spelled-here (s .before .before .before .args .name .now) (s .loop .k) (spanned names (t .next-token .result)) m (sym (c .before .same-bytes .ensures) ∙ c .if2 .taken))
+
+add-k : tie.Need-add-k Inv-loop μ-loop
+add-k c = search needs
+
+loop-less : tie.Need-loop-less Inv-loop μ-loop
+loop-less c =
+    let t = c .before .before .before .before .before in
+    let m = t .next-token .ensures in
+    omega (arith, m .longer (c .before .before .before .if1 .left), m .onward, m .inside, t .before .loop-test .taken)
+
+loop-again : tie.Need-loop-again Inv-loop μ-loop
+unfolding spanned
+loop-again c =
+    let t = c .before .before .before .before .before in
+    let s = t .before .before in
+    let names = s .before .before .before .args .names .now in
+    let n = t .next-token .ensures in
+    let m = met-token n (c .before .before .before .if1 .left) in (
+      n .inside,
+      omega (arith, s .loop .inv .1, n .longer (c .before .before .before .if1 .left), n .onward),
+      s .loop .inv .2 ∙ spelled-on (s .before .before .before .args .name .now) (s .loop .k) (spanned names (t .next-token .result)) m (sym (c .before .same-bytes .ensures) ∙ c .if2 .left),
+    )
+
+returns-3 : tie.Need-returns-3 Inv-loop μ-loop
+returns-3 c = sym (c .before .loop .inv .2 ∙ none-spelled (c .before .before .before .before .args .name .now) (c .before .loop .k) (none-left (c .before .before .before .before .args .names .now) (c .before .loop .i) (c .loop-test .left)))
+
+pub place-among-spec : {M : Type 1} → statement M
+place-among-spec =
+    tie.close
+    (tie.spec
+    Inv-loop
+    μ-loop
+    loop-holds
+    next-token-requires
+    returns
+    sub-same-bytes
+    part-same-bytes-start
+    part-same-bytes-end
+    same-bytes-requires
+    add-result
+    returns-2
+    add-k
+    loop-less
+    loop-again
+    returns-3)
