@@ -9,9 +9,11 @@ use Rattle.integers.specs.Choice.{_if_else_}
 use Rattle.words.specs.Word.{word}
 use Rattle.words.specs.Kind as Kind
 use Rattle.words.specs.Fault as Fault
+use Rattle.words.specs.Limit as Limit
 use Rattle.tokens.specs.Byte as Byte
 use Rattle.tokens.specs.Token as Token
 use Rattle.tokens.specs.Token.{Token}
+use Rattle.names.specs.Keyword as Keyword
 use Rattle.names.specs.Name.{keywordOf, codeOf, variableOf}
 use Rattle.grammar.specs.Argument as Argument
 use Rattle.grammar.specs.Argument.{argument, opens, element, closes}
@@ -27,6 +29,16 @@ wrongName = 20
 
 abbrev pub outsideRange : ℕ
 outsideRange = 21
+
+-- the stages of a text: a declaration may stand, only a constraint or the end may, the end was read
+abbrev pub declarations : ℕ
+declarations = 0
+
+abbrev pub constraints : ℕ
+constraints = 1
+
+abbrev pub ended : ℕ
+ended = 2
 
 -- ---- Numbers: "decimal, a hyphen directly before a negative one, leading zeros and -0 allowed"
 
@@ -44,7 +56,7 @@ isNegative (b ∷ bs) = eqb b Byte.hyphen
 
 -- a number, or 134,217,728 where it is above the range
 unfoldable pub cap : ℕ → ℕ
-cap n = n if leb n 134217727 else 134217728
+cap n = n if leb n 134217727 else Limit.half
 
 unfoldable pub isOutside : Token → Bool
 isOutside t = ltb 134217727 (magnitude (t .spelling))
@@ -129,8 +141,12 @@ unfoldable pub isEqual : ℕ → ℕ → ℕ → Bool
 isEqual x n a = (true if eqb a 0 else eqb (a - 1) n) if eqb x Argument.second else true
 
 unfoldable pub fits : Due → ℕ → ℕ → ℕ → ℕ → Bool
-fits (Item stage) x s w a = eqb stage 0 if eqb w 1 else leb stage 1 if eqb w 2 else leb stage 1 if eqb w 3 else false
-fits Domain x s w a = true if eqb s Token.number else eqb w 4
+fits (Item stage) x s w a =
+    eqb stage declarations if eqb w Keyword.var
+    else leb stage constraints if eqb w Keyword.constraint
+    else leb stage constraints if eqb w Keyword.solve
+    else false
+fits Domain x s w a = true if eqb s Token.number else eqb w Keyword.bool
 fits Dots x s w a = eqb s Token.dots
 fits Upper x s w a = eqb s Token.number
 fits Colon x s w a = eqb s Byte.colon
@@ -141,7 +157,7 @@ fits (Opening code) x s w a = eqb s Byte.opening
 fits (Argument code k n) x s w a = isEqual x n a if eqb s (opens x) else false
 fits (Next code k n) x s w a = true if eqb s Byte.comma else eqb x Argument.none if eqb s Byte.closing else false
 fits (Inside code k n stand) x s w a = not (eqb (listStep (element x) (closes x) stand s) brokenList)
-fits Satisfy x s w a = eqb w 5
+fits Satisfy x s w a = eqb w Keyword.satisfy
 
 -- a name in its place is known, or new where it is declared; b is its code, v the number of its variable, each 1 more, 0 if there is none
 unfoldable pub isRightName : Due → ℕ → ℕ → Bool
@@ -202,19 +218,19 @@ afterArgument code k n x a =
     else Inside code k (a - 1) atFirst
 
 unfoldable pub afterDue : Due → ℕ → ℕ → ℕ → ℕ → ℕ → Due
-afterDue (Item stage) x s w a b = Domain if eqb w 1 else Builtin if eqb w 2 else Satisfy
+afterDue (Item stage) x s w a b = Domain if eqb w Keyword.var else Builtin if eqb w Keyword.constraint else Satisfy
 afterDue Domain x s w a b = Dots if eqb s Token.number else Colon
 afterDue Dots x s w a b = Upper
 afterDue Upper x s w a b = Colon
 afterDue Colon x s w a b = Name
-afterDue Name x s w a b = Semicolon 0
+afterDue Name x s w a b = Semicolon declarations
 afterDue (Semicolon stage) x s w a b = Item stage
 afterDue Builtin x s w a b = Opening b
 afterDue (Opening code) x s w a b = Argument code 0 0
 afterDue (Argument code k n) x s w a b = afterArgument code k n x a
-afterDue (Next code k n) x s w a b = Argument code (k + 1) n if eqb s Byte.comma else Semicolon 1
+afterDue (Next code k n) x s w a b = Argument code (k + 1) n if eqb s Byte.comma else Semicolon constraints
 afterDue (Inside code k n stand) x s w a b = afterStep code k n (listStep (element x) (closes x) stand s)
-afterDue Satisfy x s w a b = Semicolon 2
+afterDue Satisfy x s w a b = Semicolon ended
 
 unfoldable pub after : Due → Token → List Token → Due
 after due t ts = afterDue due (argumentDue due) (t .sort) (keywordOf t) (lengthAhead (argumentDue due) ts) (codeOf t)
@@ -239,7 +255,7 @@ wordDue Dots x s a b v p = 0
 wordDue Upper x s a b v p = word Kind.upper p
 wordDue Colon x s a b v p = 0
 wordDue Name x s a b v p = 0
-wordDue (Semicolon stage) x s a b v p = word Kind.modelEnd 0 if eqb stage 2 else 0
+wordDue (Semicolon stage) x s a b v p = word Kind.modelEnd 0 if eqb stage ended else 0
 wordDue Builtin x s a b v p = word Kind.constraint b
 wordDue (Opening code) x s a b v p = 0
 wordDue (Argument code k n) x s a b v p = argumentStart x s a v p
@@ -252,7 +268,7 @@ written all due t ts = wordDue due (argumentDue due) (t .sort) (lengthAhead (arg
 
 -- where the text may end
 unfoldable pub mayEnd : Due → Bool
-mayEnd (Item stage) = eqb stage 2
+mayEnd (Item stage) = eqb stage ended
 mayEnd Domain = false
 mayEnd Dots = false
 mayEnd Upper = false
