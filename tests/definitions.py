@@ -3,7 +3,7 @@
 
     tests/definitions.py [MOST]
 
-A vector of more than MOST words (default 2,000) is left out, one of sheet with more than 24, and one of text with more than 400 bytes: a page of bytes and a long text take long to compute. The last line says how many agree. Exit status 0 if all do."""
+A vector of more than MOST words (default 2,000) is left out, one of sheet with more than 24, and one of text with more than 600 bytes: a page of bytes and a long text take long to compute. The last line says how many agree. Exit status 0 if all do."""
 import glob, os, re, shutil, subprocess, sys, time
 
 HERE = os.path.dirname(os.path.abspath(__file__))
@@ -11,7 +11,7 @@ ROOT = os.path.dirname(HERE)
 SCRATCH = os.path.join(ROOT, 'target', 'definitions')
 CRATES = ['integers', 'words', 'models', 'rowsystems', 'rules', 'decimals', 'sheets', 'sharing', 'reasons', 'solutions', 'pairs', 'tokens', 'names', 'grammar', 'texts']
 MOST = int(sys.argv[1]) if len(sys.argv) > 1 else 2000
-SHEET_MOST, TEXT_MOST = 24, 400
+SHEET_MOST, TEXT_MOST = 24, 600
 PARTS = ['firsts', 'seconds']  # the crates of the vectors
 UNUSED, UNUSED_BYTE = 0x5A5A5A5A, 0x5A  # what a lent word or value, and a lent byte, holds before the call
 # the definition of what each call answers, and of what a lent list holds afterwards
