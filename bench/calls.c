@@ -12,7 +12,7 @@ static uint32_t words[MODEL + 68], rows[ROWS]; /* a constraint that does not fit
 static uint8_t bytes[4 * MODEL], page[81 * ROWS]; /* no row system prints more than a line for each of its words */
 static int32_t filled[IN_ALL], listed[LISTS * LISTED];
 static uint32_t pair[MODEL + 69];
-static size_t length, row_words, row_values, room;
+static size_t length, row_words, row_values, room, text_bytes;
 
 /* ---- A model over nine variables: I an index, A, B, their sum, product and maximum, the absolute value of A, true and false. */
 
@@ -174,6 +174,21 @@ static void make_short_rows(size_t total) {
     row_words = total;
 }
 
+/* A text of 256 variables, one of them Boolean, and 256 constraints, sums of 13 and 14 terms in turn: 8,192 words. */
+static void make_text(void) {
+    text_bytes = 0;
+    for (int x = 0; x < 255; x++) text_bytes += sprintf((char *)page + text_bytes, "var %d..%d: x%d;\n", -x, x, x);
+    text_bytes += sprintf((char *)page + text_bytes, "var bool: b;\n");
+    for (int c = 0; c < 256; c++) {
+        text_bytes += sprintf((char *)page + text_bytes, "constraint int_lin_le([");
+        for (int k = 0; k < 13 + c % 2; k++) text_bytes += sprintf((char *)page + text_bytes, "%s%d", k ? "," : "", k % 5 - 2);
+        text_bytes += sprintf((char *)page + text_bytes, "],[");
+        for (int k = 0; k < 13 + c % 2; k++) text_bytes += sprintf((char *)page + text_bytes, "%sx%d", k ? "," : "", (31 * c + 7 * k) % 255);
+        text_bytes += sprintf((char *)page + text_bytes, "],%d);\n", c);
+    }
+    text_bytes += sprintf((char *)page + text_bytes, "solve satisfy;\n");
+}
+
 /* ---- The calls; each says whether it accepts. */
 
 static int check_bytes(void) { return pearrummy_check_bytes(bytes, 4 * length) == 0; }
@@ -184,6 +199,7 @@ static int fill(void) { return pearrummy_fill(words, length, values, VARIABLES, 
 static int judge_rows(void) { return pearrummy_judge_rows(rows, row_words, filled, row_values).said == PEARRUMMY_HOLDS; }
 static int sheet(void) { return pearrummy_sheet(rows, row_words, page, sizeof page).fault == 0; }
 
+static int text(void) { return pearrummy_text(page, text_bytes, words, MODEL).words == MODEL; }
 static int solutions(void) { return pearrummy_solutions(words, length, listed, room).solutions == LISTS; }
 
 /* The same of the model as the second candidate's. */
@@ -283,6 +299,8 @@ static void measure_stack(void) {
     if (!translate() || !fill()) exit(1);
     size_t none = stack_of(nothing);
     for (size_t k = 0; k < sizeof calls / sizeof *calls; k++) printf("%s %zu\n", calls[k].name, stack_of(calls[k].call) - none);
+    make_text();
+    printf("pearrummy_text %zu\n", stack_of(text) - none);
     make_small(MODEL);
     room = LISTS * LISTED;
     printf("pearrummy_solutions %zu\n", stack_of(solutions) - none);
@@ -331,6 +349,10 @@ int main(int count, char **arguments) {
         make_short_rows(systems[k] - 1);
         measure_sheet("rows without terms");
     }
+    make_text();
+    double best_text = best_time("text", text, MODEL);
+    printf("\n| Text of | Words | Bytes | Time | Megabytes a second |\n|---|---|---|---|---|\n");
+    printf("| 256 variables, 256 constraints | %d | %zu | %.1f µs | %.1f |\n", MODEL, text_bytes, best_text * 1e6, text_bytes / best_text / 1e6);
     printf("\n| Solutions, of words | Lists | Time | Nanoseconds a list | Lists a second |\n|---|---|---|---|---|\n");
     for (int k = 0; k < 3; k++) {
         make_small(models[k].words);

@@ -35,7 +35,7 @@ struct pearrummy_counts {
     size_t words;
 };
 
-/* What translate answers: `fault` 0 and how many words it wrote, or a fault, its place, and 0 words. */
+/* What translate and text answer: `fault` 0 and how many words they wrote, or a fault, its place, and 0 words. */
 struct pearrummy_written {
     uint32_t fault;
     size_t place;
@@ -98,6 +98,12 @@ struct pearrummy_judgement pearrummy_fill(const uint32_t *words, size_t words_co
 /* Prints a row system to the front of `page`, in lines of 80 columns and a line feed; faults 1 to 5, 9 to 11, 14 and 16 to 18. Bytes past the end
  * keep their values; a refusal changes nothing. Stack: 1 KiB. */
 struct pearrummy_printed pearrummy_sheet(const uint32_t *words, size_t words_count, uint8_t *page, size_t page_count);
+
+/* Reads FlatZinc, items "var lo..hi: name;" or "var bool: name;", then items "constraint builtin(arguments);", then "solve satisfy;", and writes the
+ * words of the model to the front of `out`, for check to read; 19 where the text breaks the grammar, 20 where a variable or builtin name is unknown
+ * or a variable is declared twice, 21 where a number is outside the range, their place a byte of the text; then faults 1 and 16. Words past the end
+ * keep their values; a refusal changes nothing. No model has more than 8,192 words, so that much room is always enough. Stack: 1 KiB. */
+struct pearrummy_written pearrummy_text(const uint8_t *text, size_t text_count, uint32_t *out, size_t out_count);
 
 /* Names the first row of a model's row system that values of its variables and auxiliaries fail, the constraint whose block holds it, and why;
  * faults 1 to 15 and 18. Stack: 43 KiB. */

@@ -5,12 +5,12 @@ the calls that write with other rooms, and a few cases at the limits.
     tests/cases.py           write both files
     tests/cases.py --check   only say whether they are up to date
 
-stdin: one case after the other, all numbers 32 bits, lowest byte first: the call (CALLS), the room, the number of words, the number of values, the words, the values (signed). stdout: the answer of each case, a line each."""
+stdin: one case after the other, all numbers 32 bits, lowest byte first: the call (CALLS), the room, the number of words, the number of values, the words, the values (signed); of a text each word is a byte. stdout: the answer of each case, a line each."""
 import glob, os, struct, sys
 
 HERE = os.path.dirname(os.path.abspath(__file__))
 SUITE = os.path.join(os.path.dirname(HERE), 'crates', 'suite')
-CALLS = {'check': 1, 'translate': 2, 'judge_model': 3, 'judge_rows': 4, 'fill': 5, 'sheet': 6, 'reason': 8, 'solutions': 9,
+CALLS = {'check': 1, 'translate': 2, 'judge_model': 3, 'judge_rows': 4, 'fill': 5, 'sheet': 6, 'text': 7, 'reason': 8, 'solutions': 9,
          'pair_check': 11, 'pair_translate': 12, 'pair_judge_model': 13, 'pair_fill': 14}
 MORE = 3  # how much longer than wanted a list is lent, so that what stands past the end is seen
 
@@ -87,6 +87,16 @@ def long_system(words, last):
     return system + [0xF0000000]
 
 
+def long_text(words):
+    """A text of so many words, 16 Boolean variables and clauses over them, with its words."""
+    model = long_model(words)
+    items = [f'var bool:b{i};' for i in range(16)]
+    for lists in clauses(model):
+        first, second = ('[' + ','.join(f'b{x - 0x50000000}' for x in xs) + ']' for xs in lists)
+        items.append(f'constraint bool_clause({first},{second});')
+    return list(''.join(items + ['solve satisfy;']).encode()), model
+
+
 def limits():
     """Cases at the limits of length; their answers follow from documents 01 and 02 at sight."""
     yield 'judge_model', long_model(8192), [1] * 16, 0, 'holds'
@@ -108,6 +118,11 @@ def limits():
     yield 'judge_rows', [0x30000000] + whole, [0] * 18, 0, 'refused 1 0'
     yield 'sheet', whole, [], 8192, 'refused 16 0'
     yield 'sheet', [0x30000000] + whole, [], 8192, 'refused 1 0'
+    text, words = long_text(8192)
+    for room, answer in (8192, 'words ' + ' '.join('%08X' % w for w in words)), (8191, 'refused 16 0'):
+        yield 'text', text, [], room, answer
+    yield 'text', long_text(8193)[0], [], 8191, 'refused 1 0'
+    yield 'text', long_text(8193)[0] + [64], [], 8191, f'refused 19 {len(long_text(8193)[0])}'
     for upper, answer in (65535, 'solutions 0'), (65536, 'refused 22 0'):  # one variable that is not itself
         yield 'solutions', [0x10000000, 0x20000000 + upper, 0x40000004, 0x50000000, 0x50000000, 0x70000000], [], 0, answer
     # a model of 8,192 words, and one of a word more, as each candidate's; the other wrote one constraint, or nothing but the end

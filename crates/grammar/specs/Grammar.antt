@@ -54,14 +54,18 @@ unfoldable pub isNegative : List ℕ → Bool
 isNegative [] = false
 isNegative (b ∷ bs) = eqb b Byte.hyphen
 
--- a number, or 134,217,728 where it is above the range
+-- 02, wish 2: "The range becomes −134,217,727 to 134,217,727"
+abbrev pub largest : ℕ
+largest = 134217727
+
+-- a number, or one above the range where it is above it
 unfoldable pub cap : ℕ → ℕ
-cap n = n if leb n 134217727 else Limit.half
+cap n = n if leb n largest else Limit.half
 
 unfoldable pub isOutside : Token → Bool
-isOutside t = ltb 134217727 (magnitude (t .spelling))
+isOutside t = ltb largest (magnitude (t .spelling))
 
--- the payload of the number of the range that a token spells
+-- the payload of the number of the range that a token spells; 01, Words: "Signed payloads are two's complement"
 unfoldable pub payloadOf : Token → ℕ
 payloadOf t = 0 if isOutside t else 268435456 - magnitude (t .spelling) if isNegative (t .spelling) else magnitude (t .spelling)
 

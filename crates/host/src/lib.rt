@@ -21,6 +21,8 @@ ghost use Rattle.filling.specs.Satisfied.{Satisfied};
 ghost use Rattle.pairs.specs.Calls.{pairCheck, pairTranslate, pairTranslated, pairJudge, pairFill, pairFilled};
 ghost use Rattle.pairs.specs.HandsOver.{PairHandsOver};
 ghost use Rattle.pairs.specs.Pair.{modelOf};
+ghost use Rattle.texts.specs.Answered.{answered};
+ghost use Rattle.texts.specs.Text.{readText, textRead};
 ghost use Rattle.solutions.specs.Found.{found};
 ghost use Rattle.solutions.specs.Solutions.{solutionsAnswer, listed};
 ghost use Rattle.integers.specs.Choice.{_if_else_};
@@ -42,6 +44,8 @@ use rowjudge::judge_rows;
 use sheets::sheet;
 use solutions::Found;
 use solutions::solutions;
+use texts::Read;
+use texts::read_text;
 use translation::Checked;
 use translation::check;
 use translation::translate;
@@ -69,7 +73,7 @@ pub struct Counts {
     pub words: usize,
 }
 
-// What translate answers a host: how many words it wrote, or a fault and its place.
+// What translate or text answers a host: how many words it wrote, or a fault and its place.
 #[repr(C)]
 pub struct Written {
     pub fault: u32,
@@ -275,6 +279,24 @@ fn written_of(w: translation::Written) -> Written
     }
 }
 
+// Text's answer for a host.
+fn read_of(r: Read) -> Written
+    ensures { λ w. ⌜ w ≡ writtenOf (answered r) ⌝ }
+{
+    match r {
+        Read::Refused(refusal) => Written {
+            fault: refusal.number,
+            place: refusal.place,
+            words: 0,
+        },
+        Read::Words(n) => Written {
+            fault: 0,
+            place: 0,
+            words: n,
+        },
+    }
+}
+
 // Sheet's answer for a host.
 fn printed_of(p: sheets::Printed) -> Printed
     ensures { λ r. ⌜ r ≡ printedOf (printed p) ⌝ }
@@ -391,6 +413,15 @@ pub extern "C" fn pearrummy_sheet(words: &[u32], page: &mut [u8]) -> Printed
     ensures page { λ r. ⌜ now (page .exit) ≡ sheetPage (now (words .entry)) (now (page .entry)) ⌝ }
 {
     printed_of(sheet(words, page))
+}
+
+// Text; the words of the model that a text of FlatZinc writes go to the front of the output.
+#[no_mangle]
+pub extern "C" fn pearrummy_text(text: &[u8], out: &mut [u32]) -> Written
+    ensures answer { λ r. ⌜ r ≡ writtenOf (readText (now (text .entry)) (length (now (out .entry)))) ⌝ }
+    ensures output { λ r. ⌜ now (out .exit) ≡ textRead (now (text .entry)) (now (out .entry)) ⌝ }
+{
+    read_of(read_text(text, out))
 }
 
 // Every solution of a small model goes to the front of the output, one after another.

@@ -58,6 +58,23 @@ pub fn read_words(out: &mut [u32], n: usize) {
     }
 }
 
+// Puts a byte to a place of a page, if it has that place.
+fn put_byte(page: &mut [u8], i: usize, b: u8) {
+    if i < page.len() {
+        page[i] = b;
+    }
+}
+
+// Reads n numbers to the front of a page, the lowest byte of each; those that do not fit are dropped.
+pub fn read_bytes(page: &mut [u8], n: usize) {
+    let mut i = 0;
+    while i < n {
+        let got = next();
+        put_byte(page, i, (got.number % 256) as u8);
+        i += 1;
+    }
+}
+
 // A number of 32 bits as a signed one.
 fn as_signed(w: u32) -> i32 {
     if w < 2147483648 {

@@ -1,10 +1,12 @@
 // Runs recorded cases of the calls, one after the other, from standard input, and prints the answer of each on a line.
 // A case is numbers of 32 bits, the lowest byte first: the call, the room, how many words, how many values, the words, the values.
+// Of a text each word is a byte; of a word above 255 the lowest byte counts.
 // A call that writes is lent the front of a longer list, as long as the room; what it may not write is looked at afterwards.
 ghost use Prim.Native.Nat.{_≤_};
 use filling::fill;
 use input::Head;
 use input::next_head;
+use input::read_bytes;
 use input::read_values;
 use input::read_words;
 use lent::mark_bytes;
@@ -15,6 +17,7 @@ use output::print_checked;
 use output::print_filled;
 use output::print_found;
 use output::print_printed;
+use output::print_read;
 use output::print_reasoned;
 use output::print_verdict;
 use output::print_written;
@@ -26,6 +29,7 @@ use reasoning::reason;
 use rowjudge::judge_rows;
 use sheets::sheet;
 use solutions::solutions;
+use texts::read_text;
 use translation::check;
 use translation::translate;
 
@@ -45,6 +49,8 @@ const JUDGE_ROWS: u32 = 4;
 const FILL: u32 = 5;
 
 const SHEET: u32 = 6;
+
+const TEXT: u32 = 7;
 
 const REASON: u32 = 8;
 
@@ -85,6 +91,20 @@ fn answer_page(words: &[u32], page: &mut [u8], room: usize) {
 fn answer_sheet(rows: &[u32], n: usize, page: &mut [u8], room: usize) {
     let k = at_most(n, rows.len());
     answer_page(&rows[..k], page, room);
+}
+
+// Text into the front of a list.
+fn answer_words(text: &[u8], out: &mut [u32], room: usize) {
+    mark_words(out);
+    let k = at_most(room, out.len());
+    let answer = read_text(text, &mut out[..k]);
+    print_read(answer, out);
+}
+
+// The same, the text at the front of a page.
+fn answer_text(page: &[u8], n: usize, out: &mut [u32], room: usize) {
+    let k = at_most(n, page.len());
+    answer_words(&page[..k], out, room);
 }
 
 // Translate into the front of a list.
@@ -227,6 +247,11 @@ fn answer(
         answer_sheet(rows, n, page, head.room);
         return;
     }
+    if head.call == TEXT {
+        read_bytes(page, n);
+        answer_text(page, n, rows, head.room);
+        return;
+    }
     read_words(model, n);
     read_values(values, m);
     answer_model(head, model, values, rows, filled);
@@ -238,7 +263,7 @@ fn main() {
     let mut rows = [0u32; 262200];
     let mut values = [0i32; 4200];
     let mut filled = [0i32; 4200];
-    let mut page = [0u8; 8192];
+    let mut page = [0u8; 32768];
     let mut left: usize = 1000000;
     while 0 < left {
         let head = next_head();

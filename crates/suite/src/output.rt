@@ -8,6 +8,7 @@ use hexadecimal::digits_of;
 use reasoning::Reasoned;
 use sheets::Printed;
 use solutions::Found;
+use texts::Read;
 use translation::Checked;
 use translation::Written;
 use words::Refusal;
@@ -138,6 +139,21 @@ pub fn print_written(answer: Written, out: &[u32]) {
             print_end(marked_words(out, 0));
         }
         Written::Words(n) => {
+            io::write_all(1, b"words");
+            print_words(out, n);
+            print_end(marked_words(out, n));
+        }
+    }
+}
+
+// Text's answer; the list whose front was lent.
+pub fn print_read(answer: Read, out: &[u32]) {
+    match answer {
+        Read::Refused(r) => {
+            print_refusal(r);
+            print_end(marked_words(out, 0));
+        }
+        Read::Words(n) => {
             io::write_all(1, b"words");
             print_words(out, n);
             print_end(marked_words(out, n));

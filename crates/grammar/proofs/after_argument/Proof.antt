@@ -1,3 +1,4 @@
+-- Test by test.
 use Prim.Native.Nat.{_-_}
 use mathlib.Core.Path.{_≡_}
 use native.Mathlib.Omega.{arith}
@@ -15,9 +16,6 @@ returns-2 : tie.Need-returns-2
 unfolding afterArgument
 returns-2 c = rw (lt-leb _ _ (c .before .if1 .left), eq-eqb _ _ (c .if2 .taken))
 
-sub-t7 : tie.Need-sub-t7
-sub-t7 c = search needs
-
 returns-3 : tie.Need-returns-3
 unfolding afterArgument
 returns-3 c = rw (lt-leb _ _ (c .before .before .if1 .left), ne-eqb _ _ (c .before .if2 .left))
@@ -29,4 +27,4 @@ returns-4 c =
     rw (lt-leb _ _ (c .before .before .if1 .left), ne-eqb _ _ (c .before .if2 .left), e)
 
 pub after-argument-spec : {M : Type 1} → statement M
-after-argument-spec = tie.close (tie.spec returns returns-2 sub-t7 returns-3 returns-4)
+after-argument-spec = tie.close (tie.spec returns returns-2 (λ c. search needs) returns-3 returns-4)

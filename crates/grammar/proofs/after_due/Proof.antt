@@ -1,12 +1,10 @@
+-- Case by case.
 use Rattle.grammar.specs.Grammar.{argumentPlace, afterDue}
 use native.Mathlib.Omega.{arith}
 use borrow.Author.Needs.{needs}
 use borrow.Author.Tests.{eq-eqb, ne-eqb}
 use Rattle.grammar.proofs.after_due.Statement.{statement}
 use Rattle.grammar.proofs.after_due.Tie as tie
-
-enum-told : tie.Need-enum-told
-enum-told c = search needs
 
 returns : tie.Need-returns
 unfolding afterDue
@@ -16,42 +14,9 @@ returns-2 : tie.Need-returns-2
 unfolding afterDue
 returns-2 c = rw (c .before .before .enum-told .given .1, ne-eqb _ _ (c .before .if1 .left), eq-eqb _ _ (c .if2 .taken))
 
-enum-told-2 : tie.Need-enum-told-2
-enum-told-2 c = search needs
-
 returns-3 : tie.Need-returns-3
 unfolding afterDue
 returns-3 c = rw (c .before .enum-told2 .given .1, eq-eqb _ _ (c .if3 .taken))
-
-enum-told-3 : tie.Need-enum-told-3
-enum-told-3 c = search needs
-
-enum-told-4 : tie.Need-enum-told-4
-enum-told-4 c = search needs
-
-enum-told-5 : tie.Need-enum-told-5
-enum-told-5 c = search needs
-
-enum-told-6 : tie.Need-enum-told-6
-enum-told-6 c = search needs
-
-enum-known-due : tie.Need-enum-known-due
-enum-known-due c = search needs
-
-enum-told-7 : tie.Need-enum-told-7
-enum-told-7 c = search needs
-
-enum-known-due-2 : tie.Need-enum-known-due-2
-enum-known-due-2 c = search needs
-
-enum-known-due-3 : tie.Need-enum-known-due-3
-enum-known-due-3 c = search needs
-
-after-argument-requires : tie.Need-after-argument-requires
-after-argument-requires c κs = search needs
-
-enum-known-due-4 : tie.Need-enum-known-due-4
-enum-known-due-4 c = search needs
 
 add-t23 : tie.Need-add-t23
 unfolding argumentPlace
@@ -62,18 +27,6 @@ add-t23 c =
 returns-4 : tie.Need-returns-4
 unfolding afterDue
 returns-4 c = rw (c .before .before .due4 .given .1, eq-eqb _ _ (c .if4 .taken))
-
-enum-known-due-5 : tie.Need-enum-known-due-5
-enum-known-due-5 c = search needs
-
-inside-step-requires : tie.Need-inside-step-requires
-inside-step-requires c κs = search needs
-
-after-step-requires : tie.Need-after-step-requires
-after-step-requires c κs = search needs
-
-enum-told-8 : tie.Need-enum-told-8
-enum-told-8 c = search needs
 
 returns-5 : tie.Need-returns-5
 unfolding afterDue
@@ -131,27 +84,27 @@ pub after-due-spec : {M : Type 1} → statement M
 after-due-spec =
     tie.close
     (tie.spec
-    enum-told
+    (λ c. search needs)
     returns
     returns-2
-    enum-told-2
+    (λ c. search needs)
     returns-3
-    enum-told-3
-    enum-told-4
-    enum-told-5
-    enum-told-6
-    enum-known-due
-    enum-told-7
-    enum-known-due-2
-    enum-known-due-3
-    after-argument-requires
-    enum-known-due-4
+    (λ c. search needs)
+    (λ c. search needs)
+    (λ c. search needs)
+    (λ c. search needs)
+    (λ c. search needs)
+    (λ c. search needs)
+    (λ c. search needs)
+    (λ c. search needs)
+    (λ c κs. search needs)
+    (λ c. search needs)
     add-t23
     returns-4
-    enum-known-due-5
-    inside-step-requires
-    after-step-requires
-    enum-told-8
+    (λ c. search needs)
+    (λ c κs. search needs)
+    (λ c κs. search needs)
+    (λ c. search needs)
     returns-5
     returns-6
     returns-7

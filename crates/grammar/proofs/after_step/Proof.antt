@@ -1,3 +1,4 @@
+-- Test by test.
 use borrow.Author.Tests.{eq-eqb, ne-eqb}
 use Rattle.grammar.specs.Grammar.{afterStep}
 use Rattle.grammar.proofs.after_step.Statement.{statement}

@@ -1,62 +1,15 @@
+-- Case by case.
 use Rattle.grammar.specs.Grammar.{argumentPlace, argumentDue}
 use native.Mathlib.Omega.{arith}
 use borrow.Author.Needs.{needs}
 use Rattle.grammar.proofs.argument_due.Statement.{statement}
 use Rattle.grammar.proofs.argument_due.Tie as tie
 
-enum-told : tie.Need-enum-told
-enum-told c = search needs
-
-enum-told-2 : tie.Need-enum-told-2
-enum-told-2 c = search needs
-
-enum-told-3 : tie.Need-enum-told-3
-enum-told-3 c = search needs
-
-enum-told-4 : tie.Need-enum-told-4
-enum-told-4 c = search needs
-
-enum-told-5 : tie.Need-enum-told-5
-enum-told-5 c = search needs
-
-enum-told-6 : tie.Need-enum-told-6
-enum-told-6 c = search needs
-
-enum-told-7 : tie.Need-enum-told-7
-enum-told-7 c = search needs
-
-enum-told-8 : tie.Need-enum-told-8
-enum-told-8 c = search needs
-
-enum-told-9 : tie.Need-enum-told-9
-enum-told-9 c = search needs
-
-enum-known-due : tie.Need-enum-known-due
-enum-known-due c = search needs
-
-argument-of-requires : tie.Need-argument-of-requires
-argument-of-requires c κs = search needs
-
-enum-known-due-2 : tie.Need-enum-known-due-2
-enum-known-due-2 c = search needs
-
 add-argument-of : tie.Need-add-argument-of
 unfolding argumentPlace
 add-argument-of c =
     let e = rw (c .before .due2 .given .1) at (c .before .before .before .pre .1) in
     record { fits = omega (arith, e) }
-
-argument-of-requires-2 : tie.Need-argument-of-requires-2
-argument-of-requires-2 c κs = search needs
-
-enum-known-due-3 : tie.Need-enum-known-due-3
-enum-known-due-3 c = search needs
-
-argument-of-requires-3 : tie.Need-argument-of-requires-3
-argument-of-requires-3 c κs = search needs
-
-enum-told-10 : tie.Need-enum-told-10
-enum-told-10 c = search needs
 
 returns : tie.Need-returns
 unfolding argumentDue
@@ -114,23 +67,23 @@ pub argument-due-spec : {M : Type 1} → statement M
 argument-due-spec =
     tie.close
     (tie.spec
-    enum-told
-    enum-told-2
-    enum-told-3
-    enum-told-4
-    enum-told-5
-    enum-told-6
-    enum-told-7
-    enum-told-8
-    enum-told-9
-    enum-known-due
-    argument-of-requires
-    enum-known-due-2
+    (λ c. search needs)
+    (λ c. search needs)
+    (λ c. search needs)
+    (λ c. search needs)
+    (λ c. search needs)
+    (λ c. search needs)
+    (λ c. search needs)
+    (λ c. search needs)
+    (λ c. search needs)
+    (λ c. search needs)
+    (λ c κs. search needs)
+    (λ c. search needs)
     add-argument-of
-    argument-of-requires-2
-    enum-known-due-3
-    argument-of-requires-3
-    enum-told-10
+    (λ c κs. search needs)
+    (λ c. search needs)
+    (λ c κs. search needs)
+    (λ c. search needs)
     returns
     returns-2
     returns-3

@@ -1,19 +1,8 @@
+-- Inside the table its entry; past it no argument is left.
 use borrow.Author.Needs.{needs}
 use Rattle.grammar.proofs.Table.{rule, past-codes, past-arguments}
 use Rattle.grammar.proofs.argument_of.Statement.{statement}
 use Rattle.grammar.proofs.argument_of.Tie as tie
-
-mul-result : tie.Need-mul-result
-mul-result c = search needs
-
-mul-result-2 : tie.Need-mul-result-2
-mul-result-2 c = search needs
-
-index-1-result : tie.Need-index-1-result
-index-1-result c = search needs
-
-index-2-result : tie.Need-index-2-result
-index-2-result c = search needs
 
 returns : tie.Need-returns
 returns c =
@@ -29,4 +18,4 @@ returns-3 c = past-codes (c .before .args .code) (c .before .args .k) (c .if1 .l
 pub argument-of-spec : {M : Type 1} → statement M
 argument-of-spec =
     tie.close
-    (tie.spec mul-result mul-result-2 index-1-result index-2-result returns returns-2 returns-3)
+    (tie.spec (λ c. search needs) (λ c. search needs) (λ c. search needs) (λ c. search needs) returns returns-2 returns-3)

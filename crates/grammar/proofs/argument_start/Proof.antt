@@ -1,11 +1,9 @@
+-- Test by test.
 use borrow.Author.Needs.{needs}
 use borrow.Author.Tests.{eq-eqb, le-leb, lt-leb, ne-eqb}
 use Rattle.grammar.specs.Grammar.{argumentStart}
 use Rattle.grammar.proofs.argument_start.Statement.{statement}
 use Rattle.grammar.proofs.argument_start.Tie as tie
-
-argument-word-requires : tie.Need-argument-word-requires
-argument-word-requires c κs = search needs
 
 returns : tie.Need-returns
 unfolding argumentStart
@@ -15,12 +13,6 @@ returns-2 : tie.Need-returns-2
 unfolding argumentStart
 returns-2 c = rw (lt-leb _ _ (c .before .if1 .left), eq-eqb _ _ (c .if2 .taken))
 
-less-one-requires : tie.Need-less-one-requires
-less-one-requires c κs = search needs
-
-word-of-requires : tie.Need-word-of-requires
-word-of-requires c κs = search needs
-
 returns-3 : tie.Need-returns-3
 unfolding argumentStart
 returns-3 c = rw (lt-leb _ _ (c .before .before .before .if1 .left), ne-eqb _ _ (c .before .before .if2 .left), ← c .before .less-one .ensures) (c .word-of .ensures)
@@ -29,9 +21,9 @@ pub argument-start-spec : {M : Type 1} → statement M
 argument-start-spec =
     tie.close
     (tie.spec
-    argument-word-requires
+    (λ c κs. search needs)
     returns
     returns-2
-    less-one-requires
-    word-of-requires
+    (λ c κs. search needs)
+    (λ c κs. search needs)
     returns-3)

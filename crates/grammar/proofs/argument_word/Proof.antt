@@ -1,21 +1,13 @@
+-- Test by test.
 use borrow.Author.Needs.{needs}
 use borrow.Author.Tests.{eq-eqb, ne-eqb}
 use Rattle.grammar.specs.Grammar.{argumentWord}
 use Rattle.grammar.proofs.argument_word.Statement.{statement}
 use Rattle.grammar.proofs.argument_word.Tie as tie
 
-word-of-requires : tie.Need-word-of-requires
-word-of-requires c κs = search needs
-
 returns : tie.Need-returns
 unfolding argumentWord
 returns c = rw (eq-eqb _ _ (c .before .if1 .taken)) (c .word-of .ensures)
-
-less-one-requires : tie.Need-less-one-requires
-less-one-requires c κs = search needs
-
-word-of-requires-2 : tie.Need-word-of-requires-2
-word-of-requires-2 c κs = search needs
 
 returns-2 : tie.Need-returns-2
 unfolding argumentWord
@@ -28,4 +20,4 @@ returns-3 c = rw (ne-eqb _ _ (c .before .if1 .left), ne-eqb _ _ (c .if2 .left))
 pub argument-word-spec : {M : Type 1} → statement M
 argument-word-spec =
     tie.close
-    (tie.spec word-of-requires returns less-one-requires word-of-requires-2 returns-2 returns-3)
+    (tie.spec (λ c κs. search needs) returns (λ c κs. search needs) (λ c κs. search needs) returns-2 returns-3)

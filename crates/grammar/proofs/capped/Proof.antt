@@ -1,3 +1,4 @@
+-- Test by test.
 use borrow.Author.Tests.{le-leb, lt-leb}
 use Rattle.grammar.specs.Grammar.{cap}
 use Rattle.grammar.proofs.capped.Statement.{statement}

@@ -1,3 +1,4 @@
+-- Test by test.
 use borrow.Author.Tests.{eq-eqb, ne-eqb}
 use Rattle.grammar.specs.Argument.{closes}
 use Rattle.grammar.proofs.closes_of.Statement.{statement}

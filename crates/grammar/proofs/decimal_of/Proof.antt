@@ -1,3 +1,4 @@
+-- The invariant: the digits left, after the number so far, spell the number, both capped. The measure: the digits left.
 use mathlib.Core.Path.{_≡_, refl, sym, ap, _∙_}
 use Prim.Native.Nat.{ℕ, _+_, _-_, _*_, _≤_}
 use native.Mathlib.Omega.{arith}
@@ -21,23 +22,8 @@ loop-holds c = (omega arith, refl, refl)
 mul-capped : tie.Need-mul-capped Inv-loop μ-loop
 mul-capped c = omega (arith, cap-most (c .before .loop .v), c .before .loop .inv .1)
 
-shared-slice-read-digit-of : tie.Need-shared-slice-read-digit-of Inv-loop μ-loop
-shared-slice-read-digit-of c = search needs
-
-digit-of-requires : tie.Need-digit-of-requires Inv-loop μ-loop
-digit-of-requires c κs = search needs
-
 add-capped : tie.Need-add-capped Inv-loop μ-loop
 add-capped c = omega (arith, cap-most (c .before .before .before .loop .v), c .before .before .before .loop .inv .1, c .digit-of .ensures, c .before .shared-slice-known2 .given (c .before .before .before .loop .i))
-
-capped-requires : tie.Need-capped-requires Inv-loop μ-loop
-capped-requires c κs = search needs
-
-add-i : tie.Need-add-i Inv-loop μ-loop
-add-i c = search needs
-
-loop-less : tie.Need-loop-less Inv-loop μ-loop
-loop-less c = search needs
 
 loop-again : tie.Need-loop-again Inv-loop μ-loop
 loop-again c =
@@ -61,11 +47,11 @@ decimal-of-spec =
     μ-loop
     loop-holds
     mul-capped
-    shared-slice-read-digit-of
-    digit-of-requires
+    (λ c. search needs)
+    (λ c κs. search needs)
     add-capped
-    capped-requires
-    add-i
-    loop-less
+    (λ c κs. search needs)
+    (λ c. search needs)
+    (λ c. search needs)
     loop-again
     returns)

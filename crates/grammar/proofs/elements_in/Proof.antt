@@ -1,3 +1,4 @@
+-- Test by test.
 use borrow.Author.Tests.{eq-eqb, ne-eqb}
 use Rattle.grammar.proofs.elements_in.Statement.{statement}
 use Rattle.grammar.proofs.elements_in.Tie as tie

@@ -1,14 +1,9 @@
+-- Test by test, over whether the token fits and its name is right.
 use borrow.Author.Needs.{needs}
 use borrow.Author.Tests.{eq-eqb, ne-eqb}
 use Rattle.grammar.specs.Grammar.{faultDue}
 use Rattle.grammar.proofs.fault_due.Statement.{statement}
 use Rattle.grammar.proofs.fault_due.Tie as tie
-
-fits-due-requires : tie.Need-fits-due-requires
-fits-due-requires c κs = search needs
-
-is-right-name-requires : tie.Need-is-right-name-requires
-is-right-name-requires c κs = search needs
 
 returns : tie.Need-returns
 unfolding faultDue
@@ -38,8 +33,8 @@ pub fault-due-spec : {M : Type 1} → statement M
 fault-due-spec =
     tie.close
     (tie.spec
-    fits-due-requires
-    is-right-name-requires
+    (λ c κs. search needs)
+    (λ c κs. search needs)
     returns
     returns-2
     returns-3

@@ -1,3 +1,4 @@
+-- Test by test.
 use borrow.Author.Tests.{eq-eqb, ne-eqb}
 use Rattle.grammar.proofs.fits_item.Statement.{statement}
 use Rattle.grammar.proofs.fits_item.Tie as tie

@@ -1,3 +1,4 @@
+-- Test by test.
 use borrow.Author.Needs.{needs}
 use borrow.Author.Tests.{eq-eqb, ne-eqb}
 use Rattle.grammar.specs.Grammar.{isEqual}
@@ -8,9 +9,6 @@ returns : tie.Need-returns
 unfolding isEqual
 returns c = rw (eq-eqb _ _ (c .before .if1 .taken), eq-eqb _ _ (c .if2 .taken))
 
-sub-result : tie.Need-sub-result
-sub-result c = search needs
-
 returns-2 : tie.Need-returns-2
 unfolding isEqual
 returns-2 c = rw (eq-eqb _ _ (c .before .if1 .taken), ne-eqb _ _ (c .if2 .left))
@@ -20,4 +18,4 @@ unfolding isEqual
 returns-3 c = rw (ne-eqb _ _ (c .if1 .left))
 
 pub is-equal-spec : {M : Type 1} → statement M
-is-equal-spec = tie.close (tie.spec returns sub-result returns-2 returns-3)
+is-equal-spec = tie.close (tie.spec returns (λ c. search needs) returns-2 returns-3)

@@ -1,46 +1,8 @@
+-- Case by case.
 use borrow.Author.Needs.{needs}
 use Rattle.grammar.specs.Grammar.{isRightName}
 use Rattle.grammar.proofs.is_right_name.Statement.{statement}
 use Rattle.grammar.proofs.is_right_name.Tie as tie
-
-enum-told : tie.Need-enum-told
-enum-told c = search needs
-
-enum-told-2 : tie.Need-enum-told-2
-enum-told-2 c = search needs
-
-enum-told-3 : tie.Need-enum-told-3
-enum-told-3 c = search needs
-
-enum-told-4 : tie.Need-enum-told-4
-enum-told-4 c = search needs
-
-enum-told-5 : tie.Need-enum-told-5
-enum-told-5 c = search needs
-
-enum-told-6 : tie.Need-enum-told-6
-enum-told-6 c = search needs
-
-enum-told-7 : tie.Need-enum-told-7
-enum-told-7 c = search needs
-
-enum-told-8 : tie.Need-enum-told-8
-enum-told-8 c = search needs
-
-enum-told-9 : tie.Need-enum-told-9
-enum-told-9 c = search needs
-
-enum-told-10 : tie.Need-enum-told-10
-enum-told-10 c = search needs
-
-enum-told-11 : tie.Need-enum-told-11
-enum-told-11 c = search needs
-
-enum-told-12 : tie.Need-enum-told-12
-enum-told-12 c = search needs
-
-enum-told-13 : tie.Need-enum-told-13
-enum-told-13 c = search needs
 
 returns : tie.Need-returns
 unfolding isRightName
@@ -98,19 +60,19 @@ pub is-right-name-spec : {M : Type 1} → statement M
 is-right-name-spec =
     tie.close
     (tie.spec
-    enum-told
-    enum-told-2
-    enum-told-3
-    enum-told-4
-    enum-told-5
-    enum-told-6
-    enum-told-7
-    enum-told-8
-    enum-told-9
-    enum-told-10
-    enum-told-11
-    enum-told-12
-    enum-told-13
+    (λ c. search needs)
+    (λ c. search needs)
+    (λ c. search needs)
+    (λ c. search needs)
+    (λ c. search needs)
+    (λ c. search needs)
+    (λ c. search needs)
+    (λ c. search needs)
+    (λ c. search needs)
+    (λ c. search needs)
+    (λ c. search needs)
+    (λ c. search needs)
+    (λ c. search needs)
     returns
     returns-2
     returns-3

@@ -1,3 +1,4 @@
+-- The invariant: the length from here on, with the elements passed, is that of the whole list. The measure: the bytes left.
 use mathlib.Core.Path.{_≡_, refl, sym, ap, _∙_}
 use Prim.Native.Nat.{ℕ, _+_, _-_, _≤_}
 use native.Mathlib.Omega.{arith}
@@ -33,12 +34,6 @@ returns c =
     let m = c .before .before .next-token .ensures in
     sym (inv ∙ length-end e cl stand n (met-end m (c .if1 .taken)))
 
-list-step-requires : tie.Need-list-step-requires Inv-loop μ-loop
-list-step-requires c κs = search needs
-
-add-result : tie.Need-add-result Inv-loop μ-loop
-add-result c = search needs
-
 returns-2 : tie.Need-returns-2 Inv-loop μ-loop
 unfolding spanned
 returns-2 c =
@@ -62,9 +57,6 @@ returns-3 c =
     let inv = c .before .before .before .before .before .before .before .loop .inv .2 in
     let m = c .before .before .before .before .before .next-token .ensures in
     sym (inv ∙ length-broken e cl stand n (spanned text (c .before .before .before .before .before .next-token .result)) (met-token m (c .before .before .before .if1 .left)) (c .before .before .list-step .ensures) (c .before .if2 .left) (c .if3 .taken))
-
-elements-in-requires : tie.Need-elements-in-requires Inv-loop μ-loop
-elements-in-requires c κs = search needs
 
 add-n : tie.Need-add-n Inv-loop μ-loop
 add-n c = omega (arith, at-most-one (c .before .before .before .list-step .result), c .elements-in .ensures, c .before .before .before .before .before .before .before .before .loop .inv .1, c .before .before .before .before .before .before .before .loop-test .taken)
@@ -107,11 +99,11 @@ length-ahead-spec =
     loop-holds
     next-token-requires
     returns
-    list-step-requires
-    add-result
+    (λ c κs. search needs)
+    (λ c. search needs)
     returns-2
     returns-3
-    elements-in-requires
+    (λ c κs. search needs)
     add-n
     loop-less
     loop-again

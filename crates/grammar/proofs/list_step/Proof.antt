@@ -1,3 +1,4 @@
+-- Test by test.
 use borrow.Author.Tests.{eq-eqb, ne-eqb}
 use Rattle.grammar.specs.Grammar.{listStep}
 use Rattle.grammar.proofs.list_step.Statement.{statement}

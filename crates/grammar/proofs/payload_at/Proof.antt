@@ -1,3 +1,4 @@
+-- Test by test.
 use borrow.Author.Needs.{needs}
 use borrow.Author.Tests.{eq-eqb, ne-eqb, le-ltb, lt-ltb}
 use Rattle.grammar.proofs.payload_at.Statement.{statement}
@@ -6,12 +7,6 @@ use Rattle.grammar.proofs.payload_at.Tie as tie
 returns : tie.Need-returns
 returns c = rw (lt-ltb _ _ (c .if1 .taken))
 
-shared-slice-read-if2 : tie.Need-shared-slice-read-if2
-shared-slice-read-if2 c = search needs
-
-sub-result : tie.Need-sub-result
-sub-result c = search needs
-
 returns-2 : tie.Need-returns-2
 returns-2 c = rw (le-ltb _ _ (c .before .before .if1 .left), eq-eqb _ _ (c .if2 .taken))
 
@@ -19,4 +14,4 @@ returns-3 : tie.Need-returns-3
 returns-3 c = rw (le-ltb _ _ (c .before .before .if1 .left), ne-eqb _ _ (c .if2 .left))
 
 pub payload-at-spec : {M : Type 1} → statement M
-payload-at-spec = tie.close (tie.spec returns shared-slice-read-if2 sub-result returns-2 returns-3)
+payload-at-spec = tie.close (tie.spec returns (λ c. search needs) (λ c. search needs) returns-2 returns-3)

@@ -1,76 +1,17 @@
+-- Case by case.
 use borrow.Author.Needs.{needs}
 use borrow.Author.Tests.{eq-eqb, ne-eqb}
 use Rattle.grammar.specs.Grammar.{wordDue}
 use Rattle.grammar.proofs.word_due.Statement.{statement}
 use Rattle.grammar.proofs.word_due.Tie as tie
 
-enum-told : tie.Need-enum-told
-enum-told c = search needs
-
-enum-told-2 : tie.Need-enum-told-2
-enum-told-2 c = search needs
-
-word-of-requires : tie.Need-word-of-requires
-word-of-requires c κs = search needs
-
 returns : tie.Need-returns
 unfolding wordDue
 returns c = rw (c .before .before .enum-told2 .given .1, eq-eqb _ _ (c .before .if1 .taken)) (c .word-of .ensures)
 
-word-of-requires-2 : tie.Need-word-of-requires-2
-word-of-requires-2 c κs = search needs
-
-enum-told-3 : tie.Need-enum-told-3
-enum-told-3 c = search needs
-
-enum-told-4 : tie.Need-enum-told-4
-enum-told-4 c = search needs
-
-word-of-requires-3 : tie.Need-word-of-requires-3
-word-of-requires-3 c κs = search needs
-
-enum-told-5 : tie.Need-enum-told-5
-enum-told-5 c = search needs
-
-enum-told-6 : tie.Need-enum-told-6
-enum-told-6 c = search needs
-
-enum-known-due : tie.Need-enum-known-due
-enum-known-due c = search needs
-
-word-of-requires-4 : tie.Need-word-of-requires-4
-word-of-requires-4 c κs = search needs
-
 returns-2 : tie.Need-returns-2
 unfolding wordDue
 returns-2 c = rw (c .before .before .before .due .given .1, eq-eqb _ _ (c .before .if2 .taken)) (c .word-of4 .ensures)
-
-enum-told-7 : tie.Need-enum-told-7
-enum-told-7 c = search needs
-
-word-of-requires-5 : tie.Need-word-of-requires-5
-word-of-requires-5 c κs = search needs
-
-enum-told-8 : tie.Need-enum-told-8
-enum-told-8 c = search needs
-
-enum-told-9 : tie.Need-enum-told-9
-enum-told-9 c = search needs
-
-argument-start-requires : tie.Need-argument-start-requires
-argument-start-requires c κs = search needs
-
-enum-told-10 : tie.Need-enum-told-10
-enum-told-10 c = search needs
-
-enum-told-11 : tie.Need-enum-told-11
-enum-told-11 c = search needs
-
-argument-word-requires : tie.Need-argument-word-requires
-argument-word-requires c κs = search needs
-
-enum-told-12 : tie.Need-enum-told-12
-enum-told-12 c = search needs
 
 returns-3 : tie.Need-returns-3
 unfolding wordDue
@@ -128,28 +69,28 @@ pub word-due-spec : {M : Type 1} → statement M
 word-due-spec =
     tie.close
     (tie.spec
-    enum-told
-    enum-told-2
-    word-of-requires
+    (λ c. search needs)
+    (λ c. search needs)
+    (λ c κs. search needs)
     returns
-    word-of-requires-2
-    enum-told-3
-    enum-told-4
-    word-of-requires-3
-    enum-told-5
-    enum-told-6
-    enum-known-due
-    word-of-requires-4
+    (λ c κs. search needs)
+    (λ c. search needs)
+    (λ c. search needs)
+    (λ c κs. search needs)
+    (λ c. search needs)
+    (λ c. search needs)
+    (λ c. search needs)
+    (λ c κs. search needs)
     returns-2
-    enum-told-7
-    word-of-requires-5
-    enum-told-8
-    enum-told-9
-    argument-start-requires
-    enum-told-10
-    enum-told-11
-    argument-word-requires
-    enum-told-12
+    (λ c. search needs)
+    (λ c κs. search needs)
+    (λ c. search needs)
+    (λ c. search needs)
+    (λ c κs. search needs)
+    (λ c. search needs)
+    (λ c. search needs)
+    (λ c κs. search needs)
+    (λ c. search needs)
     returns-3
     returns-4
     returns-5

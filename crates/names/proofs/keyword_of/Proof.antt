@@ -8,15 +8,9 @@ use Rattle.names.specs.Name.{keywords, spellings}
 use Rattle.names.proofs.keyword_of.Statement.{statement}
 use Rattle.names.proofs.keyword_of.Tie as tie
 
-slice-aggregate-place-among : tie.Need-slice-aggregate-place-among
-slice-aggregate-place-among c = search needs
-
-place-among-requires : tie.Need-place-among-requires
-place-among-requires c κs = search needs
-
 returns : tie.Need-returns
 unfolding spellings unread tokensFrom tokenLength isGap isBlank isLetter between isDigit inName startsNumber startsDots run inComment front keywords bytes listOf
 returns c = c .place-among .ensures
 
 pub keyword-of-spec : {M : Type 1} → statement M
-keyword-of-spec = tie.close (tie.spec slice-aggregate-place-among place-among-requires returns)
+keyword-of-spec = tie.close (tie.spec (λ c. search needs) (λ c κs. search needs) returns)

@@ -40,12 +40,6 @@ part-same-bytes-start c = let m = c .before .before .next-token .ensures in omeg
 part-same-bytes-end : tie.Need-part-same-bytes-end Inv-loop μ-loop
 part-same-bytes-end c = c .before .before .next-token .ensures .inside
 
-same-bytes-requires : tie.Need-same-bytes-requires Inv-loop μ-loop
-same-bytes-requires c κs = search needs
-
-add-result : tie.Need-add-result Inv-loop μ-loop
-add-result c = search needs
-
 returns-2 : tie.Need-returns-2 Inv-loop μ-loop
 unfolding spanned
 returns-2 c =
@@ -54,9 +48,6 @@ returns-2 c =
     let names = s .before .before .before .args .names .now in
     let m = met-token (t .next-token .ensures) (c .before .before .before .if1 .left) in
     sym (s .loop .inv .2 ∙ spelled-here (s .before .before .before .args .name .now) (s .loop .k) (spanned names (t .next-token .result)) m (sym (c .before .same-bytes .ensures) ∙ c .if2 .taken))
-
-add-k : tie.Need-add-k Inv-loop μ-loop
-add-k c = search needs
 
 loop-less : tie.Need-loop-less Inv-loop μ-loop
 loop-less c =
@@ -92,10 +83,10 @@ place-among-spec =
     sub-same-bytes
     part-same-bytes-start
     part-same-bytes-end
-    same-bytes-requires
-    add-result
+    (λ c κs. search needs)
+    (λ c. search needs)
     returns-2
-    add-k
+    (λ c. search needs)
     loop-less
     loop-again
     returns-3)

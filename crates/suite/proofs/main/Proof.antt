@@ -7,7 +7,7 @@ use Rattle.suite.proofs.main.Tie as tie
 
 abbrev Inv-loop : tie.InvT-loop
 Inv-loop model₀ rows₀ values₀ filled₀ page₀ left₀ model rows values filled page left =
-    (length model ≡ 8200) × (length rows ≡ 262200) × (length values ≡ 4200) × (length filled ≡ 4200) × (length page ≡ 8192)
+    (length model ≡ 8200) × (length rows ≡ 262200) × (length values ≡ 4200) × (length filled ≡ 4200) × (length page ≡ 32768)
 
 abbrev μ-loop : tie.MeasureT-loop
 μ-loop model₀ rows₀ values₀ filled₀ page₀ left₀ model rows values filled page left = left

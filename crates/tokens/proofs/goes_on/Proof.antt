@@ -1,18 +1,13 @@
+-- Class by class.
 use borrow.Author.Needs.{needs}
 use borrow.Author.Tests.{eq-eqb, ne-eqb}
 use Rattle.tokens.specs.Byte.{goesOn, inComment}
 use Rattle.tokens.proofs.goes_on.Statement.{statement}
 use Rattle.tokens.proofs.goes_on.Tie as tie
 
-is-in-name-requires : tie.Need-is-in-name-requires
-is-in-name-requires c κs = search needs
-
 returns : tie.Need-returns
 unfolding goesOn inComment
 returns c = rw (eq-eqb _ _ (c .before .if1 .taken)) (c .is-in-name .ensures)
-
-is-digit-requires : tie.Need-is-digit-requires
-is-digit-requires c κs = search needs
 
 returns-2 : tie.Need-returns-2
 unfolding goesOn inComment
@@ -24,4 +19,4 @@ returns-3 c = rw (ne-eqb _ _ (c .before .if1 .left), ne-eqb _ _ (c .if2 .left))
 
 pub goes-on-spec : {M : Type 1} → statement M
 goes-on-spec =
-    tie.close (tie.spec is-in-name-requires returns is-digit-requires returns-2 returns-3)
+    tie.close (tie.spec (λ c κs. search needs) returns (λ c κs. search needs) returns-2 returns-3)

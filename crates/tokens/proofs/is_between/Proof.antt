@@ -1,3 +1,4 @@
+-- By both comparisons.
 use borrow.Author.Tests.{le-leb, lt-leb}
 use Rattle.tokens.specs.Byte.{between}
 use Rattle.tokens.proofs.is_between.Statement.{statement}

@@ -1,14 +1,12 @@
+-- One call.
 use borrow.Author.Needs.{needs}
 use Rattle.tokens.specs.Byte.{isDigit}
 use Rattle.tokens.proofs.is_digit.Statement.{statement}
 use Rattle.tokens.proofs.is_digit.Tie as tie
-
-is-between-requires : tie.Need-is-between-requires
-is-between-requires c κs = search needs
 
 returns : tie.Need-returns
 unfolding isDigit
 returns c = c .is-between .ensures
 
 pub is-digit-spec : {M : Type 1} → statement M
-is-digit-spec = tie.close (tie.spec is-between-requires returns)
+is-digit-spec = tie.close (tie.spec (λ c κs. search needs) returns)

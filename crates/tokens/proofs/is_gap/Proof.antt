@@ -1,3 +1,4 @@
+-- Test by test.
 use borrow.Author.Tests.{eq-eqb, ne-eqb}
 use Rattle.tokens.specs.Token.{isGap}
 use Rattle.tokens.specs.Byte.{isBlank}

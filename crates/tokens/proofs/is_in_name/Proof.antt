@@ -1,17 +1,12 @@
+-- Test by test.
 use borrow.Author.Needs.{needs}
 use Rattle.tokens.specs.Byte.{inName}
 use Rattle.tokens.proofs.is_in_name.Statement.{statement}
 use Rattle.tokens.proofs.is_in_name.Tie as tie
 
-is-letter-requires : tie.Need-is-letter-requires
-is-letter-requires c κs = search needs
-
 returns : tie.Need-returns
 unfolding inName
 returns c = rw (← c .before .is-letter .ensures, c .if1 .taken)
-
-is-digit-requires : tie.Need-is-digit-requires
-is-digit-requires c κs = search needs
 
 returns-2 : tie.Need-returns-2
 unfolding inName
@@ -23,4 +18,4 @@ returns-3 c = rw (← c .before .before .before .is-letter .ensures, c .before .
 
 pub is-in-name-spec : {M : Type 1} → statement M
 is-in-name-spec =
-    tie.close (tie.spec is-letter-requires returns is-digit-requires returns-2 returns-3)
+    tie.close (tie.spec (λ c κs. search needs) returns (λ c κs. search needs) returns-2 returns-3)

@@ -1,21 +1,16 @@
+-- Test by test.
 use borrow.Author.Needs.{needs}
 use Rattle.tokens.specs.Byte.{isLetter}
 use Rattle.tokens.proofs.is_letter.Statement.{statement}
 use Rattle.tokens.proofs.is_letter.Tie as tie
 
-is-between-requires : tie.Need-is-between-requires
-is-between-requires c κs = search needs
-
 returns : tie.Need-returns
 unfolding isLetter
 returns c = rw (← c .before .is-between .ensures, c .if1 .taken)
-
-is-between-requires-2 : tie.Need-is-between-requires-2
-is-between-requires-2 c κs = search needs
 
 returns-2 : tie.Need-returns-2
 unfolding isLetter
 returns-2 c = rw (← c .before .before .is-between .ensures, c .before .if1 .left) (c .is-between2 .ensures)
 
 pub is-letter-spec : {M : Type 1} → statement M
-is-letter-spec = tie.close (tie.spec is-between-requires returns is-between-requires-2 returns-2)
+is-letter-spec = tie.close (tie.spec (λ c κs. search needs) returns (λ c κs. search needs) returns-2)

@@ -1,3 +1,4 @@
+-- The invariant: the run from here on, with the bytes passed, is the whole one. The measure: the bytes left.
 use mathlib.Core.Path.{_≡_, refl, sym, _∙_}
 use Prim.Native.Nat.{_+_, _-_, _≤_}
 use native.Mathlib.Omega.{arith}
@@ -17,20 +18,8 @@ abbrev μ-loop : tie.MeasureT-loop
 loop-holds : tie.Need-loop-holds Inv-loop μ-loop
 loop-holds c = (c .before .pre, refl)
 
-shared-slice-read-goes-on : tie.Need-shared-slice-read-goes-on Inv-loop μ-loop
-shared-slice-read-goes-on c = search needs
-
-goes-on-requires : tie.Need-goes-on-requires Inv-loop μ-loop
-goes-on-requires c κs = search needs
-
 returns : tie.Need-returns Inv-loop μ-loop
 returns c = sym (c .before .before .before .before .loop .inv .1 ∙ run-off (c .before .before .before .before .before .before .args .text .now) (goesOn (c .before .before .before .before .before .before .args .class)) (c .before .before .before .before .loop .i) (c .before .before .before .loop-test .taken) (sym (c .before .goes-on .ensures) ∙ c .if1 .left))
-
-add-i : tie.Need-add-i Inv-loop μ-loop
-add-i c = search needs
-
-loop-less : tie.Need-loop-less Inv-loop μ-loop
-loop-less c = search needs
 
 loop-again : tie.Need-loop-again Inv-loop μ-loop
 loop-again c = (omega (arith, c .before .before .before .loop-test .taken), c .before .before .before .before .loop .inv .1 ∙ run-on (c .before .before .before .before .before .before .args .text .now) (goesOn (c .before .before .before .before .before .before .args .class)) (c .before .before .before .before .loop .i) (c .before .before .before .loop-test .taken) (sym (c .before .goes-on .ensures) ∙ c .if1 .taken))
@@ -45,10 +34,10 @@ run-of-spec =
     Inv-loop
     μ-loop
     loop-holds
-    shared-slice-read-goes-on
-    goes-on-requires
-    add-i
-    loop-less
+    (λ c. search needs)
+    (λ c κs. search needs)
+    (λ c. search needs)
+    (λ c. search needs)
     loop-again
     returns
     returns-2)

@@ -1,3 +1,4 @@
+-- The invariant: the tokens from here on are those from the start on. The measure: the bytes left.
 use mathlib.Core.Path.{_≡_, refl, sym, _∙_}
 use Prim.Native.Nat.{_-_, _≤_}
 use native.Mathlib.Omega.{arith}
@@ -16,12 +17,6 @@ abbrev μ-loop : tie.MeasureT-loop
 
 loop-holds : tie.Need-loop-holds Inv-loop μ-loop
 loop-holds c = (omega arith, c .before .pre, refl)
-
-shared-slice-read-is-gap : tie.Need-shared-slice-read-is-gap Inv-loop μ-loop
-shared-slice-read-is-gap c = search needs
-
-is-gap-requires : tie.Need-is-gap-requires Inv-loop μ-loop
-is-gap-requires c κs = search needs
 
 returns : tie.Need-returns Inv-loop μ-loop
 returns c = record { onward = c .before .before .before .before .loop .inv .0; inside = c .before .before .before .before .loop .inv .1; same = c .before .before .before .before .loop .inv .2; no-gap = λ _. sym (c .before .is-gap .ensures) ∙ c .if1 .left }
@@ -53,8 +48,8 @@ skip-gaps-spec =
     Inv-loop
     μ-loop
     loop-holds
-    shared-slice-read-is-gap
-    is-gap-requires
+    (λ c. search needs)
+    (λ c κs. search needs)
     stop-at-requires
     loop-less
     loop-again

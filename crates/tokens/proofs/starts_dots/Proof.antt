@@ -1,3 +1,4 @@
+-- Test by test.
 use Rattle.tokens.proofs.Places.{front-drop}
 use borrow.Author.Needs.{needs}
 use borrow.Author.Tests.{eq-eqb, ne-eqb}
@@ -5,15 +6,6 @@ use Rattle.tokens.specs.Token.{startsDots}
 use Prim.Native.Nat.{_+_}
 use Rattle.tokens.proofs.starts_dots.Statement.{statement}
 use Rattle.tokens.proofs.starts_dots.Tie as tie
-
-byte-at-requires : tie.Need-byte-at-requires
-byte-at-requires c κs = search needs
-
-add-byte-at : tie.Need-add-byte-at
-add-byte-at c = search needs
-
-byte-at-requires-2 : tie.Need-byte-at-requires-2
-byte-at-requires-2 c κs = search needs
 
 returns : tie.Need-returns
 unfolding startsDots
@@ -25,4 +17,4 @@ returns-2 c = rw (← c .before .byte-at .ensures, ne-eqb _ _ (c .if1 .left))
 
 pub starts-dots-spec : {M : Type 1} → statement M
 starts-dots-spec =
-    tie.close (tie.spec byte-at-requires add-byte-at byte-at-requires-2 returns returns-2)
+    tie.close (tie.spec (λ c κs. search needs) (λ c. search needs) (λ c κs. search needs) returns returns-2)

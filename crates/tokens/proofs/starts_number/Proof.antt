@@ -1,3 +1,4 @@
+-- Test by test.
 use Rattle.tokens.proofs.Places.{front-drop}
 use borrow.Author.Needs.{needs}
 use borrow.Author.Tests.{eq-eqb, ne-eqb}
@@ -6,24 +7,9 @@ use Prim.Native.Nat.{_+_}
 use Rattle.tokens.proofs.starts_number.Statement.{statement}
 use Rattle.tokens.proofs.starts_number.Tie as tie
 
-byte-at-requires : tie.Need-byte-at-requires
-byte-at-requires c κs = search needs
-
-is-digit-requires : tie.Need-is-digit-requires
-is-digit-requires c κs = search needs
-
 returns : tie.Need-returns
 unfolding startsNumber
 returns c = rw (← c .before .before .byte-at .ensures, ← c .before .is-digit .ensures, c .if1 .taken)
-
-add-byte-at : tie.Need-add-byte-at
-add-byte-at c = search needs
-
-byte-at-requires-2 : tie.Need-byte-at-requires-2
-byte-at-requires-2 c κs = search needs
-
-is-digit-requires-2 : tie.Need-is-digit-requires-2
-is-digit-requires-2 c κs = search needs
 
 returns-2 : tie.Need-returns-2
 unfolding startsNumber
@@ -37,11 +23,11 @@ pub starts-number-spec : {M : Type 1} → statement M
 starts-number-spec =
     tie.close
     (tie.spec
-    byte-at-requires
-    is-digit-requires
+    (λ c κs. search needs)
+    (λ c κs. search needs)
     returns
-    add-byte-at
-    byte-at-requires-2
-    is-digit-requires-2
+    (λ c. search needs)
+    (λ c κs. search needs)
+    (λ c κs. search needs)
     returns-2
     returns-3)
