@@ -7,7 +7,7 @@ use Rattle.suite.proofs.answer_words.Tie as tie
 
 slice-aggregate-read-text : tie.Need-slice-aggregate-read-text
 slice-aggregate-read-text c =
-    sym (length-take-le (c .before .at-most .result) (c .before .before .before .mark-words .last .0) (c .before .at-most .ensures))
+    sym (length-take-le (c .before .at-most .result) (c .before .before .before .before .mark-words .last .0) (c .before .at-most .ensures))
 
 pub answer-words-spec : {M : Type 1} → statement M
 answer-words-spec =
