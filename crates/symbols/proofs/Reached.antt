@@ -1,0 +1,88 @@
+-- The names declared up to the place that a reader has reached, from token to token. For `read_tokens`.
+use mathlib.Core.Path.{_≡_, refl, sym, ap, _∙_}
+use mathlib.Core.Bool.{Bool, true, false}
+use mathlib.Core.List.{List, [], _∷_, _++_, append-nil, append-assoc}
+use Prim.Native.Nat.{ℕ, zero, suc, _+_, _-_, _<_, _≤_}
+use native.Mathlib.Nat.{add-zero}
+use native.Mathlib.Omega.{arith}
+use lib.Dec.{eqb}
+use lib.ListN.{length, take, drop, length-append}
+use borrow.Author.Tests.{lt-ltb, le-ltb}
+use Rattle.integers.specs.Choice.{_if_else_}
+use Rattle.tokens.specs.Token.{tokensFrom, tokenLength, sortOf, isGap}
+use Rattle.tokens.specs.Unread.{unread, spanned, Met}
+use Rattle.tokens.specs.declared.Span.{Span}
+use Rattle.tokens.proofs.Places.{met-token}
+use Rattle.names.specs.Name.{lookUp, declaredFrom}
+use Rattle.symbols.specs.Symbol.{declared, between, Declares, Indexed}
+
+-- no token from a place on stands before it
+none-before : (c : Bool) (p q left : ℕ) (l : List ℕ) → p ≤ q → declaredFrom c p (tokensFrom left q l) ≡ []
+unfolding declaredFrom tokensFrom
+none-before c p q left [] h = refl
+none-before c p q (suc left) (b ∷ bs) h = none-before c p (q + 1) left bs (omega arith)
+none-before c p q zero (b ∷ bs) h = go (isGap b) (none-before c p (q + 1) (tokenLength b bs - 1) bs (omega arith))
+  where
+    go : (gap : Bool) → declaredFrom c p (tokensFrom (tokenLength b bs - 1) (q + 1) bs) ≡ []
+        → declaredFrom c p (tokensFrom (tokenLength b bs - 1) (q + 1) bs if gap else record { sort = sortOf b bs; place = q; spelling = take (tokenLength b bs) (b ∷ bs) } ∷ tokensFrom (tokenLength b bs - 1) (q + 1) bs) ≡ []
+    go true e = e
+    go false e = rw (le-ltb q p h)
+
+none-here : (c : Bool) (bs : List ℕ) (p : ℕ) → declaredFrom c p (unread bs p) ≡ []
+unfolding unread
+none-here c bs p = none-before c p p 0 (drop p bs) (omega arith)
+
+-- Before place i there are k declared names, and the names declared before a later place are these and those from i on, the first of which may stand after a colon.
+pub record Reached (bs : List ℕ) (i k : ℕ) (colon : Bool) : Type 0 where
+  pub count : length (declared bs i) ≡ k
+  pub on : (p : ℕ) → i ≤ p → declared bs p ≡ declared bs i ++ declaredFrom colon p (unread bs i)
+
+pub begin : (bs : List ℕ) → Reached bs 0 0 false
+unfolding declared
+begin bs = record { count = rw (none-here false bs 0); on = λ p h. rw (none-here false bs 0) }
+
+one-more : (c : Bool) (xs ys : List (List ℕ)) (y : List ℕ) → xs ++ (y ∷ ys if c else ys) ≡ (xs ++ (y ∷ [] if c else [])) ++ ys
+one-more true xs ys y = sym (append-assoc xs (y ∷ []) ys)
+one-more false xs ys y = ap (λ (l : List (List ℕ)). l ++ ys) (sym (append-nil xs))
+
+many : (c : Bool) (k : ℕ) (y : List ℕ) → k + length (y ∷ [] if c else []) ≡ (k + 1 if c else k)
+many true k y = refl
+many false k y = add-zero k
+
+module _ {bs : List ℕ} {i k : ℕ} {colon : Bool} (r : Reached bs i k colon) {t : Span} (m : Met bs i t) (some : t .sort ≡ 257 → ⊥) where
+  abbrev name : List ℕ
+  name = between bs (t .place) (t .stop)
+
+  -- the names declared before the token
+  none : declaredFrom colon (t .place) (unread bs i) ≡ []
+  unfolding declaredFrom spanned
+  none = rw (met-token m some, le-ltb (t .place) (t .place) (omega arith))
+
+  pub at-token : declared bs (t .place) ≡ declared bs i
+  at-token = r .on (t .place) (m .onward) ∙ ap (λ (l : List (List ℕ)). declared bs i ++ l) none ∙ append-nil (declared bs i)
+
+  past : (p : ℕ) → t .place < p → declaredFrom colon p (unread bs i) ≡ (name ∷ declaredFrom (eqb (t .sort) 58) p (unread bs (t .stop)) if colon else declaredFrom (eqb (t .sort) 58) p (unread bs (t .stop)))
+  unfolding declaredFrom spanned between
+  past p h = rw (met-token m some, lt-ltb (t .place) p h)
+
+  all-past : (p : ℕ) → t .place < p → declared bs p ≡ (declared bs (t .place) ++ (name ∷ [] if colon else [])) ++ declaredFrom (eqb (t .sort) 58) p (unread bs (t .stop))
+  all-past p h =
+      r .on p (omega (arith, m .onward, h)) ∙ ap (λ (l : List (List ℕ)). declared bs i ++ l) (past p h) ∙ ap (λ (l : List (List ℕ)). l ++ (name ∷ declaredFrom (eqb (t .sort) 58) p (unread bs (t .stop)) if colon else declaredFrom (eqb (t .sort) 58) p (unread bs (t .stop)))) (sym at-token)
+      ∙ one-more colon (declared bs (t .place)) (declaredFrom (eqb (t .sort) 58) p (unread bs (t .stop))) name
+
+  pub declares : Declares bs (t .place) (t .stop) colon
+  declares = record { names = all-past (t .stop) (m .longer some) ∙ ap (λ (l : List (List ℕ)). (declared bs (t .place) ++ (name ∷ [] if colon else [])) ++ l) (none-here (eqb (t .sort) 58) bs (t .stop)) ∙ append-nil (declared bs (t .place) ++ (name ∷ [] if colon else [])) }
+
+  pub next : Reached bs (t .stop) (k + 1 if colon else k) (eqb (t .sort) 58)
+  next = record {
+    count = ap length (declares .names) ∙ length-append (declared bs (t .place)) (name ∷ [] if colon else []) ∙ ap (λ (l : List (List ℕ)). length l + length (name ∷ [] if colon else [])) at-token ∙ ap (λ (n : ℕ). n + length (name ∷ [] if colon else [])) (r .count) ∙ many colon k name;
+    on = λ p h. all-past p (omega (arith, h, m .longer some)) ∙ ap (λ (l : List (List ℕ)). l ++ declaredFrom (eqb (t .sort) 58) p (unread bs (t .stop))) (sym (declares .names));
+  }
+
+-- a symbol table at one of two places with the same names before them is one at the other
+pub same-index : {bs : List ℕ} {p q : ℕ} {filter slots : List ℕ} → declared bs q ≡ declared bs p → Indexed bs p filter slots → Indexed bs q filter slots
+same-index {bs} {p} {q} {filter} {slots} e x = record {
+  size = x .size;
+  marks = λ y h. x .marks y (λ z. h (ap (lookUp y 0) e ∙ z));
+  right = record { right = λ s h. let r = x .right .right s h in record { inside = r .inside; number = rw e (r .number) } };
+}

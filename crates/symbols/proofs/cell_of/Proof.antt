@@ -1,0 +1,12 @@
+-- The code computes as the definition does.
+use Rattle.symbols.specs.Hash.{cell}
+use borrow.Author.Needs.{needs}
+use Rattle.symbols.proofs.cell_of.Statement.{statement}
+use Rattle.symbols.proofs.cell_of.Tie as tie
+
+returns : tie.Need-returns
+unfolding cell
+returns c = search needs
+
+pub cell-of-spec : {M : Type 1} → statement M
+cell-of-spec = tie.close (tie.spec (λ c. search needs) returns)

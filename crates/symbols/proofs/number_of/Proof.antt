@@ -1,0 +1,49 @@
+-- Every slot is right, so the first that has the name gives its number.
+use mathlib.Core.Path.{refl}
+use Prim.Native.Nat.{_+_, _-_, _%_, _≤_}
+use native.Mathlib.Omega.{arith}
+use borrow.Author.Needs.{needs}
+use Rattle.symbols.proofs.number_of.Statement.{statement}
+use Rattle.symbols.proofs.number_of.Tie as tie
+
+abbrev Inv-loop : tie.InvT-loop
+Inv-loop text slots h place stop j₀ j = j ≤ 8
+
+abbrev μ-loop : tie.MeasureT-loop
+μ-loop text slots h place stop j₀ j = 8 - j
+
+loop-holds : tie.Need-loop-holds Inv-loop μ-loop
+loop-holds c = omega arith
+
+returns : tie.Need-returns Inv-loop μ-loop
+returns c = λ n. absurd (n refl)
+
+number-in-requires : tie.Need-number-in-requires Inv-loop μ-loop
+number-in-requires c κs = (c .before .before .before .before .before .pre .1, c .before .before .before .before .before .pre .2, λ n. c .before .before .before .before .before .pre .3 .right ((c .before .before .before .before .before .args .h + c .before .before .before .loop .j) % 4096) n)
+
+returns-2 : tie.Need-returns-2 Inv-loop μ-loop
+returns-2 c = c .before .number-in .ensures
+
+loop-again : tie.Need-loop-again Inv-loop μ-loop
+loop-again c = omega (arith, c .before .before .before .before .loop-test .taken)
+
+returns-3 : tie.Need-returns-3 Inv-loop μ-loop
+returns-3 c = λ n. absurd (n refl)
+
+pub number-of-spec : {M : Type 1} → statement M
+number-of-spec =
+    tie.close
+    (tie.spec
+    Inv-loop
+    μ-loop
+    loop-holds
+    (λ c. search needs)
+    (λ c. search needs)
+    (λ c. search needs)
+    returns
+    number-in-requires
+    returns-2
+    (λ c. search needs)
+    (λ c. search needs)
+    loop-again
+    returns-3)

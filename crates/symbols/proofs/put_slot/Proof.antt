@@ -1,0 +1,47 @@
+-- The slots stay as they are until one is set.
+use mathlib.Core.Path.{_≡_, refl, ap}
+use mathlib.Core.Logic.{inl}
+use mathlib.Core.List.{List}
+use Prim.Native.Nat.{ℕ, _+_, _-_, _%_, _≤_}
+use lib.ListN.{getD}
+use Rattle.symbols.proofs.Entries.{set-either}
+use native.Mathlib.Omega.{arith}
+use borrow.Author.Needs.{needs}
+use Rattle.symbols.proofs.put_slot.Statement.{statement}
+use Rattle.symbols.proofs.put_slot.Tie as tie
+
+abbrev Inv-loop : tie.InvT-loop
+Inv-loop slots₀ h e j₀ slots j = (j ≤ 8) × (slots ≡ slots₀)
+
+abbrev μ-loop : tie.MeasureT-loop
+μ-loop slots₀ h e j₀ slots j = 8 - j
+
+loop-holds : tie.Need-loop-holds Inv-loop μ-loop
+loop-holds c = (omega arith, refl)
+
+returns : tie.Need-returns Inv-loop μ-loop
+returns c = λ s. rw (← c .before .before .before .loop .inv .1) (set-either (c .before .before .before .loop .slots) ((c .before .before .before .before .args .h + c .before .before .before .loop .j) % 4096) (c .before .before .before .before .args .e) s)
+
+loop-again : tie.Need-loop-again Inv-loop μ-loop
+loop-again c = (omega (arith, c .before .before .loop-test .taken), c .before .before .before .loop .inv .1)
+
+returns-2 : tie.Need-returns-2 Inv-loop μ-loop
+returns-2 c = λ s. inl (ap (λ (l : List ℕ). getD l s 0) (c .before .loop .inv .1))
+
+pub put-slot-spec : {M : Type 1} → statement M
+put-slot-spec =
+    tie.close
+    (tie.spec
+    Inv-loop
+    μ-loop
+    loop-holds
+    (λ c. search needs)
+    (λ c. search needs)
+    (λ c. search needs)
+    (λ c. search needs)
+    (λ c. search needs)
+    returns
+    (λ c. search needs)
+    (λ c. search needs)
+    loop-again
+    returns-2)

@@ -1,0 +1,37 @@
+-- The hash of a name, and the bits of a Bloom filter that stand for it. That a name is found rests on none of these numbers: only on the same name having the same hash.
+use mathlib.Core.Bool.{Bool}
+use mathlib.Core.List.{List, [], _∷_}
+use Prim.Native.Nat.{ℕ, _+_, _*_, _/_, _%_, _^_}
+use lib.Bits.{bitOr}
+use lib.Dec.{eqb}
+use lib.ListN.{getD, set}
+
+-- the middle bits of a product; the multiplier is 2^32 over the golden ratio, which is odd
+unfoldable pub mix : ℕ → ℕ → ℕ
+mix h b = (h + b) * 2654435769 / 65536 % 4294967296
+
+unfoldable pub hashFrom : ℕ → List ℕ → ℕ
+hashFrom h [] = mix h 0
+hashFrom h (b ∷ bs) = hashFrom (mix h b) bs
+
+unfoldable pub hash : List ℕ → ℕ
+hash = hashFrom 0
+
+-- the word of the filter that has the four bits of a hash, and these bits
+unfoldable pub cell : ℕ → ℕ
+cell h = h * 2654435769 / 1125899906842624
+
+unfoldable pub bit : ℕ → ℕ
+bit g = 1 * 2 ^ (g % 64) % 18446744073709551616
+
+unfoldable pub mask : ℕ → ℕ
+mask h =
+    let g = h * 2654435769 in
+    bitOr (bitOr (bitOr (bit (g / 17592186044416)) (bit (g / 274877906944))) (bit (g / 4294967296))) (bit (g / 67108864))
+
+-- whether the bits of a hash are set; a filter with them set
+unfoldable pub isMarked : List ℕ → ℕ → Bool
+isMarked filter h = eqb (bitOr (getD filter (cell h) 0) (mask h)) (getD filter (cell h) 0)
+
+unfoldable pub withMark : List ℕ → ℕ → List ℕ
+withMark filter h = set filter (cell h) (bitOr (getD filter (cell h) 0) (mask h))
