@@ -6,7 +6,7 @@ use Prim.Native.Nat.{ℕ, zero, suc, _+_, _-_, _<_, _≤_}
 use native.Mathlib.Nat.{add-zero}
 use native.Mathlib.Omega.{arith}
 use lib.Dec.{eqb}
-use lib.ListN.{length, take, drop, length-append}
+use lib.ListN.{replicate, length-replicate, getD, length, take, drop, length-append}
 use borrow.Author.Tests.{lt-ltb, le-ltb}
 use Rattle.integers.specs.Choice.{_if_else_}
 use Rattle.tokens.specs.Token.{tokensFrom, tokenLength, sortOf, isGap}
@@ -14,7 +14,7 @@ use Rattle.tokens.specs.Unread.{unread, spanned, Met}
 use Rattle.tokens.specs.declared.Span.{Span}
 use Rattle.tokens.proofs.Places.{met-token}
 use Rattle.names.specs.Name.{lookUp, declaredFrom}
-use Rattle.symbols.specs.Symbol.{declared, between, Declares, Indexed}
+use Rattle.symbols.specs.Symbol.{declared, between, numberIn, Declares, Indexed}
 
 -- no token from a place on stands before it
 none-before : (c : Bool) (p q left : ℕ) (l : List ℕ) → p ≤ q → declaredFrom c p (tokensFrom left q l) ≡ []
@@ -35,11 +35,12 @@ none-here c bs p = none-before c p p 0 (drop p bs) (omega arith)
 -- Before place i there are k declared names, and the names declared before a later place are these and those from i on, the first of which may stand after a colon.
 pub record Reached (bs : List ℕ) (i k : ℕ) (colon : Bool) : Type 0 where
   pub count : length (declared bs i) ≡ k
+  pub few : k ≤ i
   pub on : (p : ℕ) → i ≤ p → declared bs p ≡ declared bs i ++ declaredFrom colon p (unread bs i)
 
 pub begin : (bs : List ℕ) → Reached bs 0 0 false
 unfolding declared
-begin bs = record { count = rw (none-here false bs 0); on = λ p h. rw (none-here false bs 0) }
+begin bs = record { count = rw (none-here false bs 0); few = omega arith; on = λ p h. rw (none-here false bs 0) }
 
 one-more : (c : Bool) (xs ys : List (List ℕ)) (y : List ℕ) → xs ++ (y ∷ ys if c else ys) ≡ (xs ++ (y ∷ [] if c else [])) ++ ys
 one-more true xs ys y = sym (append-assoc xs (y ∷ []) ys)
@@ -73,16 +74,52 @@ module _ {bs : List ℕ} {i k : ℕ} {colon : Bool} (r : Reached bs i k colon) {
   pub declares : Declares bs (t .place) (t .stop) colon
   declares = record { names = all-past (t .stop) (m .longer some) ∙ ap (λ (l : List (List ℕ)). (declared bs (t .place) ++ (name ∷ [] if colon else [])) ++ l) (none-here (eqb (t .sort) 58) bs (t .stop)) ∙ append-nil (declared bs (t .place) ++ (name ∷ [] if colon else [])) }
 
+  fewer : (c : Bool) → (k + 1 if c else k) ≤ t .stop
+  fewer true = omega (arith, r .few, m .onward, m .longer some)
+  fewer false = omega (arith, r .few, m .onward, m .longer some)
+
   pub next : Reached bs (t .stop) (k + 1 if colon else k) (eqb (t .sort) 58)
   next = record {
     count = ap length (declares .names) ∙ length-append (declared bs (t .place)) (name ∷ [] if colon else []) ∙ ap (λ (l : List (List ℕ)). length l + length (name ∷ [] if colon else [])) at-token ∙ ap (λ (n : ℕ). n + length (name ∷ [] if colon else [])) (r .count) ∙ many colon k name;
+    few = fewer colon;
     on = λ p h. all-past p (omega (arith, h, m .longer some)) ∙ ap (λ (l : List (List ℕ)). l ++ declaredFrom (eqb (t .sort) 58) p (unread bs (t .stop))) (sym (declares .names));
   }
 
 -- a symbol table at one of two places with the same names before them is one at the other
-pub same-index : {bs : List ℕ} {p q : ℕ} {filter slots : List ℕ} → declared bs q ≡ declared bs p → Indexed bs p filter slots → Indexed bs q filter slots
+same-index : {bs : List ℕ} {p q : ℕ} {filter slots : List ℕ} → declared bs q ≡ declared bs p → Indexed bs p filter slots → Indexed bs q filter slots
 same-index {bs} {p} {q} {filter} {slots} e x = record {
   size = x .size;
   marks = λ y h. x .marks y (λ z. h (ap (lookUp y 0) e ∙ z));
   right = record { right = λ s h. let r = x .right .right s h in record { inside = r .inside; number = rw e (r .number) } };
 }
+
+zeros : (m s : ℕ) → _≡_ {A = ℕ} (getD (replicate m 0) s 0) 0
+zeros zero s = refl
+zeros (suc m) zero = refl
+zeros (suc m) (suc s) = zeros m s
+
+-- The names declared up to a place, and the table that has them.
+pub record Tabled (bs : List ℕ) (i k : ℕ) (colon : Bool) (filter slots : List ℕ) : Type 0 where
+  pub reached : Reached bs i k colon
+  pub index : Indexed bs i filter slots
+
+pub empty : (bs : List ℕ) (m : ℕ) → Tabled bs 0 0 false (replicate 16384 0) (replicate m 0)
+unfolding declared lookUp numberIn
+empty bs m = record {
+  reached = begin bs;
+  index = record {
+    size = length-replicate {A = ℕ} 16384 0;
+    marks = λ x h. absurd (h (rw (none-here false bs 0)));
+    right = record { right = λ s h. absurd (h (rw (zeros m s))) };
+  };
+}
+
+module _ {bs : List ℕ} {i k : ℕ} {colon : Bool} {filter slots : List ℕ} (b : Tabled bs i k colon filter slots) {t : Span} (m : Met bs i t) (some : t .sort ≡ 257 → ⊥) where
+  pub index-here : Indexed bs (t .place) filter slots
+  index-here = same-index (at-token (b .reached) m some) (b .index)
+
+  pub count-here : length (declared bs (t .place)) ≡ k
+  count-here = ap length (at-token (b .reached) m some) ∙ b .reached .count
+
+  pub next-table : {after taken : List ℕ} {n : ℕ} → n ≡ (k + 1 if colon else k) → Indexed bs (t .stop) after taken → Tabled bs (t .stop) n (eqb (t .sort) 58) after taken
+  next-table e x = record { reached = rw e (next (b .reached) m some); index = x }

@@ -14,10 +14,10 @@ use Rattle.words.specs.Refusal.{_at-place_, faultOr, accepted}
 use Rattle.words.specs.declared.Refusal.{Refusal}
 use Rattle.tokens.specs.Token.{Token, tokens}
 use Rattle.tokens.specs.Unread.{unread, spanned, Met}
-use Rattle.grammar.specs.Grammar.{fault, faultDue, after, afterDue, afterArgument, afterStep, written, wordDue, mayEnd, argumentPlace, argumentDue, lengthAhead, listStep}
+use Rattle.grammar.specs.Grammar.{fault, namesVariable, faultDue, fits, isRightName, after, afterDue, afterArgument, afterStep, written, wordDue, mayEnd, argumentPlace, argumentDue, lengthAhead, listStep}
 use Rattle.grammar.specs.Argument.{element, closes}
 use Rattle.names.specs.Name.{keywordOf, codeOf}
-use Rattle.texts.specs.Seen.{Known}
+use Rattle.texts.specs.Seen.{sought, Known}
 use Rattle.texts.specs.Reading.{Gives, Reads}
 use Rattle.texts.specs.declared.Seen.{Seen}
 use Rattle.texts.specs.declared.Reading.{Reading}
@@ -163,16 +163,92 @@ module _ {bs before out : List ℕ} {i n : ℕ} {due : Due} (l : Left bs before 
   pub same-room : length out ≡ length before
   same-room = sym (length-overlay out n (wordsFrom (tokens bs) due (unread bs i))) ∙ ap length (l .words) ∙ length-overlay before 0 (wordsIn (tokens bs))
 
+-- a variable is sought where the grammar names one
+pub variable-sought : (due : Due) → namesVariable due ≡ leb 3 (sought due)
+unfolding namesVariable sought
+variable-sought (Item stage) = refl
+variable-sought Domain = refl
+variable-sought Dots = refl
+variable-sought Upper = refl
+variable-sought Colon = refl
+variable-sought Name = refl
+variable-sought (Semicolon stage) = refl
+variable-sought Builtin = refl
+variable-sought (Opening code) = refl
+variable-sought (Argument code k n) = refl
+variable-sought (Next code k n) = refl
+variable-sought (Inside code k n stand) = refl
+variable-sought Satisfy = refl
+
+-- what is not sought of a token changes nothing
+module _ (x s w a b : ℕ) where
+  abbrev w′ : Due → ℕ
+  w′ due = w if eqb (sought due) 1 else 0
+
+  abbrev a′ : Due → ℕ
+  a′ due = a if eqb (sought due) 3 else 0
+
+  abbrev b′ : Due → ℕ
+  b′ due = b if eqb (sought due) 2 else 0
+
+  fault-sought : (due : Due) (v : ℕ) (d : Bool) → faultDue due x s (w′ due) (a′ due) (b′ due) v d ≡ faultDue due x s w a b v d
+  unfolding sought faultDue fits isRightName
+  fault-sought (Item stage) y d = refl
+  fault-sought Domain y d = refl
+  fault-sought Dots y d = refl
+  fault-sought Upper y d = refl
+  fault-sought Colon y d = refl
+  fault-sought Name y d = refl
+  fault-sought (Semicolon stage) y d = refl
+  fault-sought Builtin y d = refl
+  fault-sought (Opening code) y d = refl
+  fault-sought (Argument code k n) y d = refl
+  fault-sought (Next code k n) y d = refl
+  fault-sought (Inside code k n stand) y d = refl
+  fault-sought Satisfy y d = refl
+
+  word-sought : (due : Due) (v p : ℕ) → wordDue due x s (a′ due) (b′ due) v p ≡ wordDue due x s a b v p
+  unfolding sought wordDue
+  word-sought (Item stage) y p = refl
+  word-sought Domain y p = refl
+  word-sought Dots y p = refl
+  word-sought Upper y p = refl
+  word-sought Colon y p = refl
+  word-sought Name y p = refl
+  word-sought (Semicolon stage) y p = refl
+  word-sought Builtin y p = refl
+  word-sought (Opening code) y p = refl
+  word-sought (Argument code k n) y p = refl
+  word-sought (Next code k n) y p = refl
+  word-sought (Inside code k n stand) y p = refl
+  word-sought Satisfy y p = refl
+
+  after-sought : (due : Due) → afterDue due x s (w′ due) (a′ due) (b′ due) ≡ afterDue due x s w a b
+  unfolding sought afterDue
+  after-sought (Item stage) = refl
+  after-sought Domain = refl
+  after-sought Dots = refl
+  after-sought Upper = refl
+  after-sought Colon = refl
+  after-sought Name = refl
+  after-sought (Semicolon stage) = refl
+  after-sought Builtin = refl
+  after-sought (Opening code) = refl
+  after-sought (Argument code k n) = refl
+  after-sought (Next code k n) = refl
+  after-sought (Inside code k n stand) = refl
+  after-sought Satisfy = refl
+
 -- what is seen of a token gives its fault, its word and what is due after it
 module _ {bs : List ℕ} {due : Due} {t : Span} {s : Seen} (k : Known bs due t s) where
   pub fault-seen : {number : ℕ} → number ≡ faultDue due (s .x) (t .sort) (s .w) (s .a) (s .b) (s .v) (s .d) → number ≡ fault (tokens bs) due (spanned bs t) (unread bs (t .stop))
   unfolding fault spanned
-  fault-seen e = e ∙ (rw (k .argument, k .keyword, k .ahead, k .code, k .variable, k .outside))
+  fault-seen e = e ∙ (rw (k .sort, k .word, k .ahead, k .code, k .variable, k .outside) (fault-sought _ _ _ _ _ due _ _))
 
   pub word-seen : {w : ℕ} → w ≡ wordDue due (s .x) (t .sort) (s .a) (s .b) (s .v) (s .p) → w ≡ written (tokens bs) due (spanned bs t) (unread bs (t .stop))
   unfolding written spanned
-  word-seen e = e ∙ (rw (k .argument, k .ahead, k .code, k .variable, k .payload))
+  word-seen e = e ∙ (rw (k .sort, k .ahead, k .code, k .variable, k .payload) (word-sought _ _ 0 _ _ due _ _))
 
   pub after-seen : {next : Due} → next ≡ afterDue due (s .x) (t .sort) (s .w) (s .a) (s .b) → next ≡ after due (spanned bs t) (unread bs (t .stop))
   unfolding after spanned
-  after-seen e = e ∙ (rw (k .argument, k .keyword, k .ahead, k .code))
+  after-seen e = e ∙ (rw (k .sort, k .word, k .ahead, k .code) (after-sought _ _ _ _ _ due))
