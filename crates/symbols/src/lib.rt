@@ -10,13 +10,13 @@ ghost use Rattle.symbols.specs.Symbol.{declared, between, numberIn, plac
 use names::same_bytes;
 use names::variable_of;
 
-// the words of the filter, of 64 bits, and the slots
+// the words of the filter, of 64 bits, and the slots: one for each name of the longest model
 pub const FILTER: usize = 16384;
 
-pub const SLOTS: usize = 4096;
+pub const SLOTS: usize = 8192;
 
 // how many slots a name may stand in
-const PROBES: usize = 8;
+const PROBES: usize = 32;
 
 // A byte as a number.
 fn wide(b: u8) -> u64

@@ -7,10 +7,10 @@ use Rattle.symbols.proofs.number_of.Statement.{statement}
 use Rattle.symbols.proofs.number_of.Tie as tie
 
 abbrev Inv-loop : tie.InvT-loop
-Inv-loop text slots h place stop j₀ j = j ≤ 8
+Inv-loop text slots h place stop j₀ j = j ≤ 32
 
 abbrev μ-loop : tie.MeasureT-loop
-μ-loop text slots h place stop j₀ j = 8 - j
+μ-loop text slots h place stop j₀ j = 32 - j
 
 loop-holds : tie.Need-loop-holds Inv-loop μ-loop
 loop-holds c = omega arith
@@ -19,7 +19,7 @@ returns : tie.Need-returns Inv-loop μ-loop
 returns c = λ n. absurd (n refl)
 
 number-in-requires : tie.Need-number-in-requires Inv-loop μ-loop
-number-in-requires c κs = (c .before .before .before .before .before .pre .1, c .before .before .before .before .before .pre .2, λ n. c .before .before .before .before .before .pre .3 .right ((c .before .before .before .before .before .args .h + c .before .before .before .loop .j) % 4096) n)
+number-in-requires c κs = (c .before .before .before .before .before .pre .1, c .before .before .before .before .before .pre .2, λ n. c .before .before .before .before .before .pre .3 .right ((c .before .before .before .before .before .args .h + c .before .before .before .loop .j) % 8192) n)
 
 returns-2 : tie.Need-returns-2 Inv-loop μ-loop
 returns-2 c = c .before .number-in .ensures

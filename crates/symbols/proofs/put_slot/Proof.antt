@@ -11,16 +11,16 @@ use Rattle.symbols.proofs.put_slot.Statement.{statement}
 use Rattle.symbols.proofs.put_slot.Tie as tie
 
 abbrev Inv-loop : tie.InvT-loop
-Inv-loop slots₀ h e j₀ slots j = (j ≤ 8) × (slots ≡ slots₀)
+Inv-loop slots₀ h e j₀ slots j = (j ≤ 32) × (slots ≡ slots₀)
 
 abbrev μ-loop : tie.MeasureT-loop
-μ-loop slots₀ h e j₀ slots j = 8 - j
+μ-loop slots₀ h e j₀ slots j = 32 - j
 
 loop-holds : tie.Need-loop-holds Inv-loop μ-loop
 loop-holds c = (omega arith, refl)
 
 returns : tie.Need-returns Inv-loop μ-loop
-returns c = λ s. rw (← c .before .before .before .loop .inv .1) (set-either (c .before .before .before .loop .slots) ((c .before .before .before .before .args .h + c .before .before .before .loop .j) % 4096) (c .before .before .before .before .args .e) s)
+returns c = λ s. rw (← c .before .before .before .loop .inv .1) (set-either (c .before .before .before .loop .slots) ((c .before .before .before .before .args .h + c .before .before .before .loop .j) % 8192) (c .before .before .before .before .args .e) s)
 
 loop-again : tie.Need-loop-again Inv-loop μ-loop
 loop-again c = (omega (arith, c .before .before .loop-test .taken), c .before .before .before .loop .inv .1)

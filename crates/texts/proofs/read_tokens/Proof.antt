@@ -31,7 +31,7 @@ few : (c : tie.In-loop Inv-loop μ-loop) → c .before .loop .k < 18446744073709
 few c = omega (arith, c .before .loop .inv .1 .reached .few, c .loop-test .taken)
 
 loop-holds : tie.Need-loop-holds Inv-loop μ-loop
-loop-holds c = (begin (c .before .before .args .text .now) (c .before .before .args .out .now), empty (c .before .before .args .text .now) 4096)
+loop-holds c = (begin (c .before .before .args .text .now) (c .before .before .args .out .now), empty (c .before .before .args .text .now) 8192)
 
 next-token-requires : tie.Need-next-token-requires Inv-loop μ-loop
 next-token-requires c κs = omega (arith, c .loop-test .taken)
