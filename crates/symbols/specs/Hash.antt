@@ -6,9 +6,13 @@ use lib.Bits.{bitOr}
 use lib.Dec.{eqb}
 use lib.ListN.{getD, set}
 
--- the middle bits of a product; the multiplier is 2^32 over the golden ratio, which is odd
+-- 2^32 over the golden ratio
+abbrev pub multiplier : ℕ
+multiplier = 2654435769
+
+-- the middle bits of a product
 unfoldable pub mix : ℕ → ℕ → ℕ
-mix h b = (h + b) * 2654435769 / 65536 % 4294967296
+mix h b = (h + b) * multiplier / 2 ^ 16 % 2 ^ 32
 
 unfoldable pub hashFrom : ℕ → List ℕ → ℕ
 hashFrom h [] = mix h 0
@@ -19,15 +23,15 @@ hash = hashFrom 0
 
 -- the word of the filter that has the four bits of a hash, and these bits
 unfoldable pub cell : ℕ → ℕ
-cell h = h * 2654435769 / 1125899906842624
+cell h = h * multiplier / 2 ^ 50
 
 unfoldable pub bit : ℕ → ℕ
-bit g = 1 * 2 ^ (g % 64) % 18446744073709551616
+bit g = 1 * 2 ^ (g % 64) % 2 ^ 64
 
 unfoldable pub mask : ℕ → ℕ
 mask h =
-    let g = h * 2654435769 in
-    bitOr (bitOr (bitOr (bit (g / 17592186044416)) (bit (g / 274877906944))) (bit (g / 4294967296))) (bit (g / 67108864))
+    let g = h * multiplier in
+    bitOr (bitOr (bitOr (bit (g / 2 ^ 44)) (bit (g / 2 ^ 38))) (bit (g / 2 ^ 32))) (bit (g / 2 ^ 26))
 
 -- whether the bits of a hash are set; a filter with them set
 unfoldable pub isMarked : List ℕ → ℕ → Bool

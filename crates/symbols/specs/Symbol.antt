@@ -2,7 +2,7 @@
 use mathlib.Core.Bool.{Bool, true, false}
 use mathlib.Core.List.{List, [], _∷_, _++_}
 use mathlib.Core.Path.{_≡_}
-use Prim.Native.Nat.{ℕ, _+_, _-_, _/_, _%_, _≤_}
+use Prim.Native.Nat.{ℕ, _+_, _-_, _/_, _%_, _^_, _≤_}
 use lib.ListN.{length, getD, take, drop}
 use Rattle.integers.specs.Choice.{_if_else_}
 use Rattle.tokens.specs.Unread.{unread}
@@ -18,10 +18,10 @@ between bs place stop = take (stop - place) (drop place bs)
 
 -- the word of a slot: 1 more than the number of a variable, the place of its name where it is declared, the name's length; 0 for an empty slot
 unfoldable pub numberIn : ℕ → ℕ
-numberIn e = e / 274877906944
+numberIn e = e / 64 / 2 ^ 32
 
 unfoldable pub placeIn : ℕ → ℕ
-placeIn e = e / 64 % 4294967296
+placeIn e = e / 64 % 2 ^ 32
 
 unfoldable pub lengthIn : ℕ → ℕ
 lengthIn e = e % 64

@@ -18,6 +18,20 @@ pub const SLOTS: usize = 8192;
 // how many slots a name may stand in
 const PROBES: usize = 32;
 
+// a hash is below HASHES; MULTIPLIER is that over the golden ratio, and a product's middle bits begin at MIDDLE, those that choose a word of the filter at TOP
+const HASHES: u64 = 4294967296;
+
+const MULTIPLIER: u64 = 2654435769;
+
+const MIDDLE: u64 = 65536;
+
+const TOP: u64 = 1125899906842624;
+
+// a slot has a number, a place below PLACES and a length below LENGTHS
+const PLACES: u64 = 4294967296;
+
+const LENGTHS: u64 = 64;
+
 // A byte as a number.
 fn wide(b: u8) -> u64
     ensures { λ r. ⌜ (r ≡ b) × (r < 256) ⌝ }
@@ -30,7 +44,7 @@ fn mixed(h: u64, b: u64) -> u64
     requires { ⌜ (h < 4294967296) × (b < 256) ⌝ }
     ensures { λ r. ⌜ (r ≡ mix h b) × (r < 4294967296) ⌝ }
 {
-    (h + b) * 2654435769 / 65536 % 4294967296
+    (h + b) * MULTIPLIER / MIDDLE % HASHES
 }
 
 // The hash of a name.
@@ -51,7 +65,7 @@ fn cell_of(h: u64) -> usize
     requires { ⌜ h < 4294967296 ⌝ }
     ensures { λ r. ⌜ (r ≡ cell h) × (r < 16384) ⌝ }
 {
-    (h * 2654435769 / 1125899906842624) as usize
+    (h * MULTIPLIER / TOP) as usize
 }
 
 // One bit of a word.
@@ -66,11 +80,8 @@ fn mask_of(h: u64) -> u64
     requires { ⌜ h < 4294967296 ⌝ }
     ensures { λ r. ⌜ r ≡ mask h ⌝ }
 {
-    let g = h * 2654435769;
-    bit_of(g / 17592186044416)
-        | bit_of(g / 274877906944)
-        | bit_of(g / 4294967296)
-        | bit_of(g / 67108864)
+    let g = h * MULTIPLIER;
+    bit_of(g >> 44) | bit_of(g >> 38) | bit_of(g >> 32) | bit_of(g >> 26)
 }
 
 // Whether the bits of a hash are set.
@@ -98,12 +109,12 @@ fn number_in(text: &[u8], e: u64, place: usize, stop: usize) -> usize
     requires { ⌜ (place ≤ stop) × (stop ≤ length (now text)) × ((numberIn e ≡ 0 → ⊥) → Right (now text) place e) ⌝ }
     ensures { λ r. ⌜ ((r ≡ 0 → ⊥) → lookUp (between (now (text .entry)) place stop) 0 (declared (now (text .entry)) place) ≡ r) ⌝ }
 {
-    let n = (e / 274877906944) as usize;
+    let n = (e / LENGTHS / PLACES) as usize;
     if n == 0 {
         return 0;
     }
-    let from = (e / 64 % 4294967296) as usize;
-    let to = from + (e % 64) as usize;
+    let from = (e / LENGTHS % PLACES) as usize;
+    let to = from + (e % LENGTHS) as usize;
     if same_bytes(&text[place..stop], &text[from..to]) {
         return n;
     }
@@ -160,7 +171,7 @@ fn slot_word(k: usize, place: usize, len: usize) -> u64
     if k < 67108863 {
         if place < 4294967296 {
             if len < 64 {
-                return ((k as u64 + 1) * 4294967296 + place as u64) * 64 + len as u64;
+                return ((k as u64 + 1) * PLACES + place as u64) * LENGTHS + len as u64;
             }
         }
     }

@@ -16,7 +16,10 @@ part-same-bytes-end-2 c = let right = c .before .before .before .pre .2 (c .befo
 
 returns-2 : tie.Need-returns-2
 unfolding between numberIn placeIn lengthIn
-returns-2 c = let a = c .before .before .before .before .before .before .args in let from = a .e / 64 % 4294967296 in λ n. ap (λ (x : List ℕ). lookUp x 0 (declared (a .text .now) (a .place))) (same-equal (take (a .stop - a .place) (drop (a .place) (a .text .now))) (take (from + a .e % 64 - from) (drop from (a .text .now))) (sym (c .before .same-bytes .ensures) ∙ c .if2 .taken)) ∙ c .before .before .before .before .before .before .pre .2 (c .before .before .before .before .if1 .left) .number
+returns-2 c =
+    let a = c .before .before .before .before .before .before .args in
+    let from = a .e / 64 % 4294967296 in
+    λ n. ap (λ (x : List ℕ). lookUp x 0 (declared (a .text .now) (a .place))) (same-equal (take (a .stop - a .place) (drop (a .place) (a .text .now))) (take (from + a .e % 64 - from) (drop from (a .text .now))) (sym (c .before .same-bytes .ensures) ∙ c .if2 .taken)) ∙ c .before .before .before .before .before .before .pre .2 (c .before .before .before .before .if1 .left) .number
 
 pub number-in-spec : {M : Type 1} → statement M
 number-in-spec =
