@@ -191,64 +191,35 @@ module _ (x s w a b : ℕ) where
   abbrev b′ : Due → ℕ
   b′ due = b if eqb (sought due) 2 else 0
 
-  fault-sought : (due : Due) (v : ℕ) (d : Bool) → faultDue due x s (w′ due) (a′ due) (b′ due) v d ≡ faultDue due x s w a b v d
-  unfolding sought faultDue fits isRightName
-  fault-sought (Item stage) y d = refl
-  fault-sought Domain y d = refl
-  fault-sought Dots y d = refl
-  fault-sought Upper y d = refl
-  fault-sought Colon y d = refl
-  fault-sought Name y d = refl
-  fault-sought (Semicolon stage) y d = refl
-  fault-sought Builtin y d = refl
-  fault-sought (Opening code) y d = refl
-  fault-sought (Argument code k n) y d = refl
-  fault-sought (Next code k n) y d = refl
-  fault-sought (Inside code k n stand) y d = refl
-  fault-sought Satisfy y d = refl
-
-  word-sought : (due : Due) (v p : ℕ) → wordDue due x s (a′ due) (b′ due) v p ≡ wordDue due x s a b v p
-  unfolding sought wordDue
-  word-sought (Item stage) y p = refl
-  word-sought Domain y p = refl
-  word-sought Dots y p = refl
-  word-sought Upper y p = refl
-  word-sought Colon y p = refl
-  word-sought Name y p = refl
-  word-sought (Semicolon stage) y p = refl
-  word-sought Builtin y p = refl
-  word-sought (Opening code) y p = refl
-  word-sought (Argument code k n) y p = refl
-  word-sought (Next code k n) y p = refl
-  word-sought (Inside code k n stand) y p = refl
-  word-sought Satisfy y p = refl
-
-  after-sought : (due : Due) → afterDue due x s (w′ due) (a′ due) (b′ due) ≡ afterDue due x s w a b
-  unfolding sought afterDue
-  after-sought (Item stage) = refl
-  after-sought Domain = refl
-  after-sought Dots = refl
-  after-sought Upper = refl
-  after-sought Colon = refl
-  after-sought Name = refl
-  after-sought (Semicolon stage) = refl
-  after-sought Builtin = refl
-  after-sought (Opening code) = refl
-  after-sought (Argument code k n) = refl
-  after-sought (Next code k n) = refl
-  after-sought (Inside code k n stand) = refl
-  after-sought Satisfy = refl
+  enough : (due : Due) (v p : ℕ) (d : Bool) →
+      (faultDue due x s (w′ due) (a′ due) (b′ due) v d ≡ faultDue due x s w a b v d)
+      × (wordDue due x s (a′ due) (b′ due) v p ≡ wordDue due x s a b v p)
+      × (afterDue due x s (w′ due) (a′ due) (b′ due) ≡ afterDue due x s w a b)
+  unfolding sought faultDue fits isRightName wordDue afterDue
+  enough (Item stage) y p d = (refl, refl, refl)
+  enough Domain y p d = (refl, refl, refl)
+  enough Dots y p d = (refl, refl, refl)
+  enough Upper y p d = (refl, refl, refl)
+  enough Colon y p d = (refl, refl, refl)
+  enough Name y p d = (refl, refl, refl)
+  enough (Semicolon stage) y p d = (refl, refl, refl)
+  enough Builtin y p d = (refl, refl, refl)
+  enough (Opening code) y p d = (refl, refl, refl)
+  enough (Argument code k n) y p d = (refl, refl, refl)
+  enough (Next code k n) y p d = (refl, refl, refl)
+  enough (Inside code k n stand) y p d = (refl, refl, refl)
+  enough Satisfy y p d = (refl, refl, refl)
 
 -- what is seen of a token gives its fault, its word and what is due after it
 module _ {bs : List ℕ} {due : Due} {t : Span} {s : Seen} (k : Known bs due t s) where
   pub fault-seen : {number : ℕ} → number ≡ faultDue due (s .x) (t .sort) (s .w) (s .a) (s .b) (s .v) (s .d) → number ≡ fault (tokens bs) due (spanned bs t) (unread bs (t .stop))
   unfolding fault spanned
-  fault-seen e = e ∙ (rw (k .sort, k .word, k .ahead, k .code, k .variable, k .outside) (fault-sought _ _ _ _ _ due _ _))
+  fault-seen e = e ∙ (rw (k .sort, k .word, k .ahead, k .code, k .variable, k .outside) (enough _ _ _ _ _ due _ 0 _ .0))
 
   pub word-seen : {w : ℕ} → w ≡ wordDue due (s .x) (t .sort) (s .a) (s .b) (s .v) (s .p) → w ≡ written (tokens bs) due (spanned bs t) (unread bs (t .stop))
   unfolding written spanned
-  word-seen e = e ∙ (rw (k .sort, k .ahead, k .code, k .variable, k .payload) (word-sought _ _ 0 _ _ due _ _))
+  word-seen e = e ∙ (rw (k .sort, k .ahead, k .code, k .variable, k .payload) (enough _ _ 0 _ _ due _ _ false .1))
 
   pub after-seen : {next : Due} → next ≡ afterDue due (s .x) (t .sort) (s .w) (s .a) (s .b) → next ≡ after due (spanned bs t) (unread bs (t .stop))
   unfolding after spanned
-  after-seen e = e ∙ (rw (k .sort, k .word, k .ahead, k .code) (after-sought _ _ _ _ _ due))
+  after-seen e = e ∙ (rw (k .sort, k .word, k .ahead, k .code) (enough _ _ _ _ _ due 0 0 false .2))
