@@ -1,0 +1,225 @@
+-- Numbers in decimal are read as the numbers that they were, and names of variables as their numbers.
+use mathlib.Core.Path.{_≡_, refl, sym, ap, _∙_}
+use mathlib.Core.Bool.{Bool, true, false, _&&_, _||_}
+use mathlib.Core.List.{List, [], _∷_, _++_}
+use Prim.Native.Nat.{ℕ, zero, suc, _+_, _-_, _*_, _/_, _%_, _<_, _≤_}
+use native.Mathlib.Nat.{add-zero}
+use native.Mathlib.Omega.{arith}
+use lib.Dec.{eqb, ltb}
+use lib.IntN.{ℤ, pos, negsuc}
+use lib.ListN.{length, length-append}
+use borrow.Author.Tests.{le-leb, eq-eqb, ne-eqb, eqb-true, ltb-true, ltb-false, le-ltb}
+use Rattle.integers.specs.Choice.{_if_else_}
+use Rattle.integers.specs.Lists.{all}
+use Rattle.integers.proofs.Linear.{arithZ}
+use Rattle.words.specs.Word.{payload, signed, inRange}
+use Rattle.words.specs.Limit as Limit
+use Rattle.words.proofs.Word.{says-range, payload-below}
+use Rattle.decimals.specs.Decimal as Decimal
+use Rattle.decimals.specs.Decimal.{digits, numeral}
+use Rattle.decimals.proofs.Digits.{decimal-length}
+use Rattle.tokens.specs.Byte.{front, between, isLetter, inName, isDigit, isBlank}
+use Rattle.tokens.specs.Token.{isGap, tokensFrom}
+use Rattle.names.specs.Name.{same, lookUp}
+use Rattle.grammar.specs.Grammar.{decimal, magnitude, isNegative, isOutside, payloadOf}
+use Rattle.printing.specs.ModelText.{variableName}
+use Rattle.printing.proofs.Spelled.{token, both-true, digit-range, spelled-name, spelled-digits, spelled-minus}
+
+-- ---- digits
+
+all-append : (t : ℕ → Bool) (xs ys : List ℕ) → all t xs ≡ true → all t ys ≡ true → all t (xs ++ ys) ≡ true
+unfolding all
+all-append t [] ys h k = k
+all-append t (x ∷ xs) ys h k = let q = both-true (t x) (all t xs) h in rw (q .0) (all-append t xs ys (q .1) k)
+
+one-digit : (d : ℕ) → d < 10 → all isDigit ((48 + d) ∷ []) ≡ true
+unfolding all isDigit between
+one-digit d h = rw (le-leb 48 (48 + d) (omega arith), le-leb (48 + d) 57 (omega arith))
+
+digits-are : (k n : ℕ) → all isDigit (digits k n) ≡ true
+unfolding digits all
+digits-are zero n = refl
+digits-are (suc k) n = go (ltb 9 n) (digits-are k (n / 10))
+  where
+    go : (b : Bool) → all isDigit (digits k (n / 10)) ≡ true → all isDigit ((digits k (n / 10) if b else []) ++ ((48 + n % 10) ∷ [])) ≡ true
+    go true h = all-append isDigit (digits k (n / 10)) _ h (one-digit (n % 10) (omega arith))
+    go false h = one-digit (n % 10) (omega arith)
+
+pub decimal-digits : (n : ℕ) → all isDigit (Decimal.decimal n) ≡ true
+unfolding Decimal.decimal
+decimal-digits n = digits-are (suc n) n
+
+pub decimal-some : (n : ℕ) → 1 ≤ length (Decimal.decimal n)
+unfolding Decimal.decimal digits
+decimal-some n = omega (arith, length-append (digits n (n / 10) if ltb 9 n else []) ((48 + n % 10) ∷ []))
+
+pub numeral-some : (z : ℤ) → 1 ≤ length (numeral z)
+unfolding numeral
+numeral-some (pos n) = decimal-some n
+numeral-some (negsuc n) = omega arith
+
+-- ---- read as a number
+
+decimal-append : (n : ℕ) (xs ys : List ℕ) → decimal n (xs ++ ys) ≡ decimal (decimal n xs) ys
+unfolding decimal
+decimal-append n [] ys = refl
+decimal-append n (x ∷ xs) ys = decimal-append (n * 10 + (x - 48)) xs ys
+
+digit-back : (n d : ℕ) → decimal n ((48 + d) ∷ []) ≡ n * 10 + d
+unfolding decimal
+digit-back n d = omega arith
+
+digits-back : (k n : ℕ) → n < k → decimal 0 (digits k n) ≡ n
+unfolding digits
+digits-back zero n h = absurd (omega arith)
+digits-back (suc k) n h = by (ltb 9 n) refl (digits-back k (n / 10))
+  where
+    by : (t : Bool) → ltb 9 n ≡ t → (n / 10 < k → decimal 0 (digits k (n / 10)) ≡ n / 10) → decimal 0 ((digits k (n / 10) if t else []) ++ ((48 + n % 10) ∷ [])) ≡ n
+    by true e more =
+        decimal-append 0 (digits k (n / 10)) ((48 + n % 10) ∷ [])
+        ∙ rw (more (omega (arith, ltb-true))) (digit-back (n / 10) (n % 10) ∙ omega arith)
+    by false e more = digit-back 0 (n % 10) ∙ omega (arith, ltb-false)
+
+pub decimal-back : (n : ℕ) → decimal 0 (Decimal.decimal n) ≡ n
+unfolding Decimal.decimal
+decimal-back n = digits-back (suc n) n (omega arith)
+
+-- ---- a number's token
+
+plain : (ds : List ℕ) → all isDigit ds ≡ true → (magnitude ds ≡ decimal 0 ds) × (isNegative ds ≡ false)
+unfolding all magnitude isNegative decimal
+plain [] h = (refl, refl)
+plain (d ∷ ds) h =
+    let r = digit-range d (both-true (isDigit d) (all isDigit ds) h .0) in
+    let n : eqb d 45 ≡ false = ne-eqb d 45 (λ e. omega arith) in
+    (rw n, n)
+
+inside-payload : (m : ℕ) (b : Bool) → m ≤ 134217727 → (0 if ltb 134217727 m else 268435456 - m if b else m) ≡ (268435456 - m if b else m)
+inside-payload m b h = rw (le-ltb 134217727 m h)
+
+module _ (p : ℕ) where
+  of-pos : (n : ℕ) → n ≤ 134217727 → (isOutside (token 1 p (numeral (pos n))) ≡ false) × (payloadOf (token 1 p (numeral (pos n))) ≡ n)
+  unfolding isOutside payloadOf numeral
+  of-pos n h =
+      let q = plain (Decimal.decimal n) (decimal-digits n) in
+      let m : magnitude (Decimal.decimal n) ≡ n = q .0 ∙ decimal-back n in
+      rw (m, q .1) (le-ltb 134217727 n h, inside-payload n false h)
+
+  of-neg : (n : ℕ) → n < 134217727 → (isOutside (token 1 p (numeral (negsuc n))) ≡ false) × (payloadOf (token 1 p (numeral (negsuc n))) ≡ 268435455 - n)
+  unfolding isOutside payloadOf numeral magnitude isNegative
+  of-neg n h =
+      let m : decimal 0 (Decimal.decimal (suc n)) ≡ suc n = decimal-back (suc n) in
+      rw m (le-ltb 134217727 (suc n) (omega arith), inside-payload (suc n) true (omega arith) ∙ omega arith)
+
+  pub of-signed : (w : ℕ) → inRange (signed w) ≡ true → (isOutside (token 1 p (numeral (signed w))) ≡ false) × (payloadOf (token 1 p (numeral (signed w))) ≡ payload w)
+  unfolding signed
+  of-signed w h = go (ltb (payload w) Limit.half) refl h
+    where
+      go : (b : Bool) → ltb (payload w) Limit.half ≡ b → inRange (pos (payload w) if b else negsuc (268435455 - payload w)) ≡ true →
+          (isOutside (token 1 p (numeral (pos (payload w) if b else negsuc (268435455 - payload w)))) ≡ false) × (payloadOf (token 1 p (numeral (pos (payload w) if b else negsuc (268435455 - payload w)))) ≡ payload w)
+      go true e r = of-pos (payload w) (omega (arith, ltb-true))
+      go false e r =
+          let l : 268435455 - payload w < 134217727 = omega (arithZ, says-range (negsuc (268435455 - payload w)) .0 r .0) in
+          let q = of-neg (268435455 - payload w) l in
+          (q .0, q .1 ∙ omega (arith, payload-below w))
+
+-- ---- the names of variables
+
+same-refl : (xs : List ℕ) → same xs xs ≡ true
+unfolding same
+same-refl [] = refl
+same-refl (x ∷ xs) = rw (eq-eqb x x refl) (same-refl xs)
+
+same-onward : (xs ys : List ℕ) (n : ℕ) → same xs ys ≡ true → decimal n xs ≡ decimal n ys
+unfolding same decimal
+same-onward [] [] n h = refl
+same-onward [] (y ∷ ys) n h = absurd (let z : _≡_ {A = ℕ} 0 1 = cc in omega arith)
+same-onward (x ∷ xs) [] n h = absurd (let z : _≡_ {A = ℕ} 0 1 = cc in omega arith)
+same-onward (x ∷ xs) (y ∷ ys) n h = by (eqb x y) refl h (same-onward xs ys (n * 10 + (x - 48)))
+  where
+    by : (b : Bool) → eqb x y ≡ b → (same xs ys if b else false) ≡ true → (same xs ys ≡ true → decimal (n * 10 + (x - 48)) xs ≡ decimal (n * 10 + (x - 48)) ys) → decimal (n * 10 + (x - 48)) xs ≡ decimal (n * 10 + (y - 48)) ys
+    by true e q more = more q ∙ ap (λ (z : ℕ). decimal (n * 10 + (z - 48)) ys) (eqb-true x y e)
+    by false e q more = absurd (let z : _≡_ {A = ℕ} 0 1 = cc in omega arith)
+
+name-same : (i : ℕ) → same (variableName i) (variableName i) ≡ true
+name-same i = same-refl (variableName i)
+
+name-other : (i j : ℕ) → (i ≡ j → ⊥) → same (variableName i) (variableName j) ≡ false
+unfolding same variableName
+name-other i j h = by (same (Decimal.decimal i) (Decimal.decimal j)) refl
+  where
+    by : (b : Bool) → same (Decimal.decimal i) (Decimal.decimal j) ≡ b → b ≡ false
+    by true e = absurd (h (sym (decimal-back i) ∙ same-onward (Decimal.decimal i) (Decimal.decimal j) 0 e ∙ decimal-back j))
+    by false e = refl
+
+-- the names of the first n variables
+abbrev pub named : ℕ → List (List ℕ)
+named zero = []
+named (suc n) = named n ++ (variableName n ∷ [])
+
+named-length : (n : ℕ) → length (named n) ≡ n
+named-length zero = refl
+named-length (suc n) = length-append (named n) (variableName n ∷ []) ∙ omega (arith, named-length n)
+
+-- a name among names before others
+look-append : (x : List ℕ) (k : ℕ) (xs ys : List (List ℕ)) → lookUp x k (xs ++ ys) ≡ (lookUp x (k + length xs) ys if eqb (lookUp x k xs) 0 else lookUp x k xs)
+unfolding lookUp
+look-append x k [] ys = ap (λ (n : ℕ). lookUp x n ys) (sym (add-zero k))
+look-append x k (y ∷ xs) ys = go (same x y) (look-append x (k + 1) xs ys)
+  where
+    go : (b : Bool) → lookUp x (k + 1) (xs ++ ys) ≡ (lookUp x (k + 1 + length xs) ys if eqb (lookUp x (k + 1) xs) 0 else lookUp x (k + 1) xs) → (k + 1 if b else lookUp x (k + 1) (xs ++ ys)) ≡ (lookUp x (k + suc (length xs)) ys if eqb (k + 1 if b else lookUp x (k + 1) xs) 0 else (k + 1 if b else lookUp x (k + 1) xs))
+    go true i = rw (ne-eqb (k + 1) 0 (λ e. omega (arith, e)))
+    go false i =
+        let e : k + 1 + length xs ≡ k + suc (length xs) = omega arith in
+        i ∙ ap (λ (n : ℕ). lookUp x n ys if eqb (lookUp x (k + 1) xs) 0 else lookUp x (k + 1) xs) e
+
+pub not-found : (n i : ℕ) → n ≤ i → lookUp (variableName i) 0 (named n) ≡ 0
+unfolding lookUp
+not-found zero i h = refl
+not-found (suc n) i h =
+    look-append (variableName i) 0 (named n) (variableName n ∷ []) ∙ rw (not-found n i (omega arith), name-other i n (λ e. omega arith))
+
+pub found : (n i : ℕ) → i < n → lookUp (variableName i) 0 (named n) ≡ i + 1
+unfolding lookUp
+found zero i h = absurd (omega arith)
+found (suc n) i h = by (ltb i n) refl (found n i)
+  where
+    by : (b : Bool) → ltb i n ≡ b → (i < n → lookUp (variableName i) 0 (named n) ≡ i + 1) → lookUp (variableName i) 0 (named (suc n)) ≡ i + 1
+    by true e more =
+        let q : lookUp (variableName i) 0 (named n) ≡ i + 1 = more (ltb-true i n e) in
+        look-append (variableName i) 0 (named n) (variableName n ∷ []) ∙ rw (q, ne-eqb (i + 1) 0 (λ z. omega arith))
+    by false e more =
+        let same-number : i ≡ n = omega (arith, ltb-false i n e) in
+        look-append (variableName i) 0 (named n) (variableName n ∷ [])
+        ∙ rw (not-found n i (omega (arith, ltb-false i n e)), same-number, name-same n) (omega (arith, named-length n))
+
+-- a name has letters and digits, at most 4
+digit-in-name : (ds : List ℕ) → all isDigit ds ≡ true → all inName ds ≡ true
+unfolding all inName
+digit-in-name [] h = refl
+digit-in-name (d ∷ ds) h =
+    let q = both-true (isDigit d) (all isDigit ds) h in
+    rw (q .0, digit-in-name ds (q .1)) (by (isLetter d))
+  where
+    by : (b : Bool) → (b || true || eqb d 95) && true ≡ true
+    by true = refl
+    by false = refl
+
+x-letter : isLetter 120 ≡ true
+unfolding isLetter between
+x-letter = refl
+
+x-no-gap : isGap 120 ≡ false
+unfolding isGap isBlank
+x-no-gap = refl
+
+pub name-token : (p i : ℕ) (ys : List ℕ) → i < 256 → inName (front ys) ≡ false → tokensFrom 0 p (variableName i ++ ys) ≡ token 2 p (variableName i) ∷ tokensFrom 0 (p + length (variableName i)) ys
+unfolding variableName
+name-token p i ys l e =
+    let n : 1 + length (Decimal.decimal i) ≡ suc (length (Decimal.decimal i)) = omega arith in
+    rw n at (spelled-name 120 (Decimal.decimal i) ys x-letter (digit-in-name (Decimal.decimal i) (decimal-digits i)) e (omega (arith, decimal-length 2 i (omega arith))) x-no-gap p)
+
+pub number-token : (p : ℕ) (z : ℤ) (ys : List ℕ) → isDigit (front ys) ≡ false → tokensFrom 0 p (numeral z ++ ys) ≡ token 1 p (numeral z) ∷ tokensFrom 0 (p + length (numeral z)) ys
+unfolding numeral
+number-token p (pos n) ys e = spelled-digits (Decimal.decimal n) ys (decimal-some n) (decimal-digits n) e p
+number-token p (negsuc n) ys e = spelled-minus (Decimal.decimal (suc n)) ys (decimal-some (suc n)) (decimal-digits (suc n)) e p

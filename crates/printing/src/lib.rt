@@ -1,0 +1,1 @@
+// The FlatZinc text of a model's words.
