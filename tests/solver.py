@@ -4,8 +4,10 @@
     tests/solver.py [COUNT [SEED]]
 
 COUNT models (default 400) are made from SEED (default 1). Gecode lists the solutions of each model, of each constraint by itself and of the row
-system that translate writes, all from FlatZinc text. Of each model are compared:
+system that translate writes, all from FlatZinc text. A model is printed with any names, blanks and comments; the items that text reads are the
+items that Gecode reads, where Gecode only gets besides what it is to print and in which order it searches. Of each model are compared:
 
+    text          the words that it writes for the printed model, with the model's; a room of one word less is refused
     check         the counts, with the words that translate writes; a room of one word less is refused
     judge_model   every value list in the bounds, with the solutions of the constraints: holds, or the first false constraint
     translate     the row system's solutions, cut down to the source variables, with the model's solutions: no two of them cut down to the same
@@ -15,11 +17,11 @@ system that translate writes, all from FlatZinc text. Of each model are compared
 
 Where Gecode is missing, Debian's package `flatzinc` is installed if that can be done; if not, one line says so and nothing is compared.
 Exit status 1 at the first difference, which is printed with the model's words and FlatZinc texts."""
-import collections, concurrent.futures, itertools, math, os, random, shutil, struct, subprocess, sys
+import collections, concurrent.futures, itertools, math, os, random, re, shutil, struct, subprocess, sys
 
 ROOT = os.path.dirname(os.path.dirname(os.path.abspath(__file__)))
 SUITE = os.path.join(ROOT, 'target', 'bin', 'suite')
-CHECK, TRANSLATE, JUDGE_MODEL, JUDGE_ROWS, FILL, SOLUTIONS = 1, 2, 3, 4, 5, 9
+CHECK, TRANSLATE, JUDGE_MODEL, JUDGE_ROWS, FILL, TEXT, SOLUTIONS = 1, 2, 3, 4, 5, 7, 9
 LISTS = 2000    # the most value lists of a model
 SAMPLE = 100    # so many changed solutions of a row system are judged at most
 CHUNK = 8       # models of one run of suite
@@ -27,7 +29,7 @@ LENT = 4200     # so many values suite lends at most
 LARGEST = 2 ** 27 - 1
 ENCODING = (24, 25, 27, 28)  # the codes whose first variable is encoded, once for all of them
 
-# Of each builtin: its FlatZinc name (Gecode says gecode_int_pow), its arguments, and whether it is true of their values, by which arguments are chosen and nothing is judged.
+# Of each builtin: its FlatZinc name, its arguments, and whether it is true of their values, by which arguments are chosen and nothing is judged.
 # I is an integer variable, B a Boolean one, N a number, K an exponent, LI, LB, LN are lists of them, P is a list of numbers and one of integer variables.
 BUILTINS = {
     1: ('int_eq', 'I I', lambda a, b: a == b),
@@ -270,56 +272,82 @@ def listed(items):
     return '[' + ', '.join(map(str, items)) + ']'
 
 
-def constraint_text(code, arguments):
-    """A constraint by Gecode's builtin of the same name, but where there is no maximum or minimum of an empty list."""
+def constraint_text(code, arguments, names):
     name, kinds, _ = BUILTINS[code]
-    if code in (26, 33) and not arguments[1]:
-        return 'constraint bool_clause([], []);'
     texts, rest = [], list(arguments)
     for kind in kinds.split():
         if kind in ('I', 'B'):
-            texts.append(f'x{rest.pop(0)}')
+            texts.append(names[rest.pop(0)])
         elif kind in ('N', 'K'):
             texts.append(str(rest.pop(0)))
         elif kind == 'LN':
-            numbers = rest.pop(0)
-            texts.append(listed(numbers) if code == 24 else '{' + ', '.join(map(str, sorted(set(numbers)))) + '}')
+            numbers = listed(rest.pop(0))
+            texts.append(numbers if code == 24 else '{' + numbers[1:-1] + '}')
         else:
             if kind == 'P':
                 texts.append(listed(rest.pop(0)))
-            texts.append(listed(f'x{v}' for v in rest.pop(0)))
-    return f'constraint {"gecode_" if code == 39 else ""}{name}({", ".join(texts)});'
+            texts.append(listed(names[v] for v in rest.pop(0)))
+    return f'constraint {name}({", ".join(texts)});'
 
 
-def text_of(declarations, names, constraints):
-    """A FlatZinc text; a solution prints the values of the names, and they are searched in their order."""
-    array = f'array [1..{len(names)}] of var int: values :: output_array([1..{len(names)}]) = {listed(names)};'
-    search = ':: int_search(values, input_order, indomain_min, complete) '
-    lines = declarations + [array if names else ''] + constraints + [f'solve {search if names else ""}satisfy;']
-    return '\n'.join(filter(None, lines)) + '\n'
+def some_names(rng, count):
+    """Different names of variables, of up to 32 bytes; no keyword and no int_pow, which Gecode does not take as it stands."""
+    builtins = [name for name, _, _ in BUILTINS.values() if name != 'int_pow']
+    style = rng.randrange(4)
+    if style == 3 and count <= len(builtins):
+        return rng.sample(builtins, count)
+    return [(f'x{i}', f'X{i}_'.ljust(32, 'x'), f'a{"b" * 29}{i:02}')[style % 3] for i in range(count)]
 
 
-def with_copies(variables, constraints):
-    """The same model where no division has a variable twice, but an equal one behind the others: of int_mod(x, x, x) Gecode has wrong
-    solutions, also where int_eq makes them equal."""
-    variables, equal = list(variables), []
+def spread(rng, text):
+    """The same tokens with other blanks and comments between them. No number has leading zeros: to Gecode 011 is nine."""
+    tokens, spread = re.findall(r'[A-Za-z]\w*|-?\d+|\.\.|[^\s\w]', text), ''
+    for token in tokens:
+        between = rng.choice(['', '', '', '', '', ' ', ' ', '\n', '  \n ', ' % var bool: x;\n'])
+        if re.search(r'\w$', spread) and re.match(r'\w', token) and not between:
+            between = ' '
+        spread += between + token
+    return spread + '\n'
+
+
+def items(rng, variables, constraints, names):
+    """The variable items and the constraint items of a model, as text."""
+    declared = ''.join(f'var {v[0]}..{v[1]}: {name};' if v else f'var bool: {name};' for v, name in zip(variables, names))
+    return spread(rng, declared), spread(rng, ''.join(constraint_text(*c, names) for c in constraints))
+
+
+def gecode_knows(variables, constraints):
+    """The same model where Gecode is not asked for the maximum or minimum of an empty list, and where no division has a variable twice, but an equal
+    one behind the others: of int_mod(x, x, x) Gecode has wrong solutions, also where int_eq makes them equal."""
+    variables, known = list(variables), []
     for code, arguments in constraints:
         arguments = list(arguments)
+        if code in (26, 33) and not arguments[1]:
+            code, arguments = 21, [[], []]
         for k in (1, 2) if code in (37, 38) else ():
             if arguments[k] in arguments[:k]:
                 variables.append(variables[arguments[k]])
-                equal.append((10, [[1, -1], [arguments[k], len(variables) - 1], 0]))
+                known.append((10, [[1, -1], [arguments[k], len(variables) - 1], 0]))
                 arguments[k] = len(variables) - 1
-        equal.append((code, arguments))
-    return variables, equal
+        known.append((code, arguments))
+    return variables, known
 
 
-def model_text(variables, constraints):
-    """A model as FlatZinc; a Boolean variable x3 has the value n3."""
-    declared, constraints = with_copies(variables, constraints)
-    return text_of([f'var {v[0]}..{v[1]}: x{i};' if v else f'var bool: x{i}; var 0..1: n{i};' for i, v in enumerate(declared)],
-                   [f'x{i}' if v else f'n{i}' for i, v in enumerate(variables)],
-                   [f'constraint bool2int(x{i}, n{i});' for i, v in enumerate(variables) if not v] + [constraint_text(*c) for c in constraints])
+def text_of(declared, names, stated):
+    """A FlatZinc text for Gecode; a solution prints the values of the names, and they are searched in their order."""
+    array = f'array [1..{len(names)}] of var int: values :: output_array([1..{len(names)}]) = {listed(names)};'
+    search = ':: int_search(values, input_order, indomain_min, complete) '
+    lines = [declared, array if names else '', stated, f'solve {search if names else ""}satisfy;']
+    return '\n'.join(filter(None, lines)) + '\n'
+
+
+def gecode_text(variables, declared, stated, names):
+    """The items of a model as Gecode reads them; a Boolean variable, the fourth, has the value n3. Gecode's name of int_pow is gecode_int_pow."""
+    booleans = [i for i, v in enumerate(variables) if not v]
+    values = ''.join(f'var 0..1: n{i};\n' for i in booleans)
+    equal = ''.join(f'constraint bool2int({names[i]}, n{i});\n' for i in booleans)
+    return text_of(declared + values, [name if v else f'n{i}' for i, (v, name) in enumerate(zip(variables, names))],
+                   equal + re.sub(r'\bint_pow\b', 'gecode_int_pow', stated))
 
 
 def row_text(kind, terms, constant):
@@ -332,8 +360,8 @@ def row_text(kind, terms, constant):
 
 def rows_text(all_bounds, rows):
     """A row system as FlatZinc, every variable an integer one."""
-    return text_of([f'var {low}..{high}: x{i};' for i, (low, high) in enumerate(all_bounds)], [f'x{i}' for i in range(len(all_bounds))],
-                   [row_text(*row) for row in rows])
+    return text_of('\n'.join(f'var {low}..{high}: x{i};' for i, (low, high) in enumerate(all_bounds)), [f'x{i}' for i in range(len(all_bounds))],
+                   '\n'.join(row_text(*row) for row in rows))
 
 
 def solutions(text):
@@ -387,20 +415,39 @@ class Case:
         self.model = model
         self.words = model_words(model)
         self.lists = list(itertools.product(*(range(low, high + 1) for low, high in map(bounds, model[0]))))
-        self.texts = [model_text(*model)]
+        self.rng = random.Random(number)
+        self.names = some_names(self.rng, len(model[0]))
+        declared, stated = items(self.rng, *model, self.names)
+        self.text = declared + stated + 'solve satisfy;\n'
+        # The very items go to Gecode, too, unless it does not take them.
+        self.known = gecode_knows(*model) == (list(model[0]), [(code, list(arguments)) for code, arguments in model[1]])
+        self.texts = [gecode_text(model[0], declared, stated, self.names) if self.known else self.printed(*model)]
+
+    def printed(self, variables, constraints):
+        """A model for Gecode, with names of its own for equal variables behind the others."""
+        known, constraints = gecode_knows(variables, constraints)
+        names = self.names + [f'equal{i}' for i in range(len(variables), len(known))]
+        return gecode_text(variables, *items(self.rng, known, constraints, names), names)
 
     def solve(self):
         """Gecode's solutions of the model, and of each list of values the first false constraint."""
         variables, constraints = self.model
         self.in_order = solutions(self.texts[0])
         self.solutions = set(self.in_order)
-        parts = [set(solutions(model_text(variables, [c]))) for c in constraints]
+        parts = [set(solutions(self.printed(variables, [c]))) for c in constraints]
         self.said = {values: next((f'false {i}' for i, part in enumerate(parts) if values not in part), 'holds') for values in self.lists}
         if {values for values, said in self.said.items() if said == 'holds'} != self.solutions:
             raise Difference('Gecode contradicts itself: the constraints one by one have other solutions than the model')
 
+    def ask_check(self):
+        """What is asked first: the model's words of its text, and check."""
+        text = self.text.encode()
+        return [(CHECK, 0, self.words, ()), (TEXT, len(self.words), text, ()), (TEXT, len(self.words) - 1, text, ())]
+
     def take_check(self, lines):
-        """Takes check's answer, and Gecode's."""
+        """Takes check's answer, and Gecode's; compares text."""
+        if lines[1:] != [' '.join(['words'] + [f'{w:08X}' for w in self.words]), 'refused 16 0']:
+            raise Difference(f'text: {lines[1]}, into one word less: {lines[2]}, of:\n{self.text}')
         kind, *counts = lines[0].split()
         if kind != 'counts' or len(counts) != 5:
             raise Difference(f'check: {lines[0]}')
@@ -498,15 +545,17 @@ def ask(cases, questions, take):
 
 
 def compare(job):
-    """Compares some models: the first difference or None, how many value lists, how many models have no solution, how many nothing else."""
+    """Compares some models: the first difference or None, how many value lists, how many models have no solution, how many nothing else, and how
+    many have the same items for text and for Gecode."""
     cases = [Case(number, model) for number, model in job]
     try:
-        ask(cases, lambda case: [(CHECK, 0, case.words, ())], Case.take_check)
+        ask(cases, Case.ask_check, Case.take_check)
         ask(cases, Case.ask_model, Case.take_model)
         ask(cases, Case.ask_rows, Case.take_rows)
     except Difference as difference:
-        return str(difference), 0, 0, 0
-    return None, sum(len(c.lists) for c in cases), sum(not c.solutions for c in cases), sum(len(c.solutions) == len(c.lists) for c in cases)
+        return str(difference), 0, 0, 0, 0
+    return (None, sum(len(c.lists) for c in cases), sum(not c.solutions for c in cases), sum(len(c.solutions) == len(c.lists) for c in cases),
+            sum(c.known for c in cases))
 
 
 def gecode():
@@ -534,15 +583,16 @@ def main():
     models = list(enumerate(some_models(count, seed)))
     used = collections.Counter(code for _, (_, constraints) in models for code, _ in constraints)
     print(f'solver: seed {seed}, each code so often: ' + ', '.join(f'{code}: {used[code]}' for code in BUILTINS))
-    lists = without = only = 0
+    totals = [0, 0, 0, 0]
     with concurrent.futures.ProcessPoolExecutor(2) as pool:
         for difference, *counts in pool.map(compare, [models[i:i + CHUNK] for i in range(0, count, CHUNK)]):
             if difference:
                 pool.shutdown(cancel_futures=True)
                 print(f'solver: {difference}')
                 return 1
-            lists, without, only = lists + counts[0], without + counts[1], only + counts[2]
-    print(f'solver: {without} models have no solution, {only} have nothing else')
+            totals = [one + other for one, other in zip(totals, counts)]
+    lists, without, only, known = totals
+    print(f'solver: {without} models have no solution, {only} have nothing else; {known} texts go to both sides as they are')
     print(f'solver: {count} models, {lists} value lists, codes 1 to 39 at least {min(used[code] for code in BUILTINS)} times each, 0 differences')
     return 0
 

@@ -3,6 +3,7 @@
 use crate::answers::HOLDS;
 use crate::inputs::{self, Random};
 use crate::library::{self, Lent};
+use crate::texts;
 use crate::twin;
 use std::hint::black_box;
 use std::process::exit;
@@ -61,7 +62,7 @@ fn case(random: &mut Random, size: usize) -> Case {
     }
 }
 
-/// Runs both sides in turn; answers a line with the medians of nanoseconds a word.
+/// Runs both sides in turn over inputs of a size; answers a line with the medians of nanoseconds a word, or a byte, whatever the size counts.
 fn measure(name: &str, size: usize, mut library: impl FnMut(usize), mut twin: impl FnMut(usize)) -> String {
     // About a millisecond a side and round for a call of 5 nanoseconds a word.
     let repeats = (200_000 / (size * MODELS)).max(1);
@@ -164,6 +165,42 @@ fn lines(size: usize) -> Vec<String> {
     ]
 }
 
+/// The line of text over plain texts of models of so many words.
+fn text_line(size: usize) -> String {
+    let mut random = Random::new(7, size as u64);
+    let mut texts: Vec<Vec<u8>> = (0..MODELS).map(|_| texts::plain(&case(&mut random, size).model)).collect();
+    let others = texts.clone();
+    let mut out = vec![0u32; twin::MODEL_WORDS];
+    let mut other_out = out.clone();
+    let bytes = texts.iter().map(Vec::len).sum::<usize>() / MODELS;
+    measure(
+        &format!("text of {size} words"),
+        bytes,
+        |at| _ = black_box(library::text(Lent::new(&mut texts[at]), Lent::new(&mut out))),
+        |at| _ = black_box(twin::text(black_box(&others[at]), &mut other_out)),
+    )
+}
+
+/// The line of one call over a megabyte of declarations, whose last name is declared twice.
+fn declarations_line() -> String {
+    let mut text = vec![];
+    let mut names = 0;
+    while text.len() < 1_000_000 {
+        text.extend(format!("var 0..1: x{names};\n").into_bytes());
+        names += 1;
+    }
+    text.extend(format!("var bool: x{};\nsolve satisfy;\n", names - 1).into_bytes());
+    let size = text.len() as f64;
+    let start = now();
+    let twin = black_box(twin::text(black_box(&text), &mut []));
+    let middle = now();
+    let library = black_box(library::text(Lent::new(&mut text), Lent::new(&mut [])));
+    let end = now();
+    assert_eq!(library, twin);
+    let (ours, theirs) = ((end - middle) as f64 / size, (middle - start) as f64 / size);
+    format!("| text of {names} declarations, once | {size} | {ours:.2} | {theirs:.2} | {:.2} |", ours / theirs)
+}
+
 pub fn run() {
     println!("processor time, medians of {ROUNDS} rounds over {MODELS} models of each size, both sides in turn");
     println!("| Call | Words | Library, ns a word | Twin, ns a word | Ratio |");
@@ -172,4 +209,9 @@ pub fn run() {
     for call in 0..sizes[0].len() {
         sizes.iter().for_each(|lines| println!("{}", lines[call]));
     }
+    println!();
+    println!("| Call | Bytes | Library, ns a byte | Twin, ns a byte | Ratio |");
+    println!("|---|---|---|---|---|");
+    SIZES.map(text_line).iter().for_each(|line| println!("{line}"));
+    println!("{}", declarations_line());
 }

@@ -23,9 +23,10 @@ pub enum Call {
     PairTranslate,
     PairJudgeModel,
     PairFill,
+    Text,
 }
 
-const CALLS: [Call; 13] = [
+const CALLS: [Call; 14] = [
     Call::CheckBytes,
     Call::Check,
     Call::Translate,
@@ -39,6 +40,7 @@ const CALLS: [Call; 13] = [
     Call::PairTranslate,
     Call::PairJudgeModel,
     Call::PairFill,
+    Call::Text,
 ];
 
 impl Call {
@@ -57,6 +59,7 @@ impl Call {
             "pair-translate",
             "pair-judge",
             "pair-fill",
+            "text",
         ][self as usize]
     }
 
@@ -71,6 +74,7 @@ impl Call {
             Call::Reason => matches!(fault, 1..=15 | 18),
             Call::Solutions => matches!(fault, 1..=14 | 16 | 18 | 22),
             Call::Sheet => matches!(fault, 1..=5 | 9..=11 | 14 | 16..=18),
+            Call::Text => matches!(fault, 1 | 16 | 19..=21),
         }
     }
 
@@ -226,6 +230,9 @@ impl Comparer {
         }
         if input.form == Form::Pair || both {
             self.pair(&mut random, &input.words, &input.values);
+        }
+        if input.form == Form::Text {
+            self.text(&mut random, &input.words);
         }
     }
 
@@ -412,6 +419,31 @@ impl Comparer {
             self.differ(Call::PairFill, words, &values, Some(room), format!("library {library:?}\ntwin    {twin:?}") + &outputs);
         }
         self.count(Call::PairFill, twin.fault, twin.said);
+    }
+
+    /// Text into a list that is too short, of the right length or longer, and check of what it writes; the words are bytes.
+    fn text(&mut self, random: &mut Random, words: &[u32]) {
+        let text: Vec<u8> = words.iter().map(|&byte| byte as u8).collect();
+        self.bytes.set(&text, random.below(4));
+        let model = twin::text_words(&text);
+        let needed = model.as_ref().map_or(0, Vec::len);
+        let room = random.pick(&[needed, needed, needed + 1, needed + 40, needed.saturating_sub(1), needed / 2, 0]);
+        let [ours, theirs] = &mut self.out_words;
+        ours.set_room(room);
+        theirs.set_room(room);
+        let library = library::text(self.bytes.lend(), ours.lend());
+        let twin = twin::text(&text, theirs.list_mut());
+        let unchanged = self.bytes.unchanged(&text);
+        if library != twin || ours.all != theirs.all || !unchanged {
+            let outputs = first_difference(&ours.all, &theirs.all);
+            let told = format!("library {library:?}\ntwin    {twin:?}\nbytes unchanged: {unchanged}{outputs}\ntext: {}", text.escape_ascii());
+            self.differ(Call::Text, words, &[], Some(room), told);
+        }
+        self.count(Call::Text, twin.fault, u32::from(twin.fault == 0));
+        if let Ok(model) = model {
+            self.words.set(&model, 0);
+            self.check(&model);
+        }
     }
 
     fn check_bytes(&mut self, random: &mut Random, words: &[u32]) {

@@ -1,6 +1,7 @@
 //! Random, damaged and limit inputs. Every input follows from a seed and an index.
 
 use crate::answers::HOLDS;
+use crate::texts;
 use crate::twin::{self, kind, payload, signed, word};
 use crate::twin::{
     ALL_VARIABLES, AT_MOST, AUX_LOWER, AUX_UPPER, BETWEEN, BOOLEAN, CODES, CONSTRAINT, EQUAL, EXPONENT, LARGEST, LEAST, LIST_LENGTH, LOWER,
@@ -61,9 +62,10 @@ pub enum Form {
     Model,
     Rows,
     Pair,
+    Text,
 }
 
-/// Words, a model's, a row system's or a pair's, and values made for them (damage may come between).
+/// Words, a model's, a row system's or a pair's, and values made for them (damage may come between); or a text, each byte as a word.
 pub struct Input {
     pub family: &'static str,
     pub form: Form,
@@ -74,7 +76,12 @@ pub struct Input {
 /// The input of a seed and an index.
 pub fn input(random: &mut Random) -> Input {
     let (family, form, (words, values)) = match random.below(1_000) {
-        0..=229 => ("model", Form::Model, small_model(random)),
+        0..=119 => ("model", Form::Model, small_model(random)),
+        120..=144 => ("text", Form::Text, text(random)),
+        145..=194 => ("damaged text", Form::Text, damaged_text(random)),
+        195..=214 => ("damaged text of a sum", Form::Text, damaged_sum(random)),
+        215..=228 => ("random tokens as text", Form::Text, as_words(texts::random_text(random))),
+        229 => ("text near 8,192 words", Form::Text, text_near_model_words(random)),
         230..=259 => ("pair", Form::Pair, pair(random)),
         260..=269 => ("damaged pair", Form::Pair, damaged(random, pair)),
         270..=299 => ("model with few value lists", Form::Model, listed_model(random)),
@@ -1242,6 +1249,53 @@ pub fn cut_rows(words: &[u32], values: &[i32], size: usize) -> Option<Pair> {
     }
     cut.push(word(ROWS_END, 0));
     (cut.len() == size).then(|| (cut, values[..declared].to_vec()))
+}
+
+// ----------------------------------------------------------------------------------------------------------------------------------- text
+
+/// A text, each byte as a word.
+fn as_words(text: Vec<u8>) -> Pair {
+    (text.into_iter().map(u32::from).collect(), vec![])
+}
+
+fn text(random: &mut Random) -> Pair {
+    let (model, _) = match random.below(8) {
+        0 => range_model(random),
+        1 => shared_model(random),
+        2 if random.one_in(8) => many_names(random),
+        _ => small_model(random),
+    };
+    as_words(texts::some_text(random, &model))
+}
+
+/// More variables than a model may have, or not quite so many.
+fn many_names(random: &mut Random) -> Pair {
+    let count = MODEL_VARIABLES - 4 + random.below(8);
+    let mut builder = Builder::new(random);
+    builder.some_variables(count / 2, count / 2, &SMALL_BOUNDS);
+    some_constraints(&mut builder);
+    builder.finish()
+}
+
+fn damaged_text(random: &mut Random) -> Pair {
+    let (model, _) = small_model(random);
+    as_words(texts::damaged_text(random, &model, 2))
+}
+
+/// One constraint with parallel lists: several faults meet in them.
+fn damaged_sum(random: &mut Random) -> Pair {
+    let mut builder = Builder::new(random);
+    builder.some_variables(2, 1, &SMALL_BOUNDS);
+    let code = builder.random.pick(&[10, 11, 12, 13, 15, 32]);
+    let length = 1 + builder.random.below(4);
+    builder.add(code, Some(length), false);
+    let (model, _) = builder.finish();
+    as_words(texts::damaged_text(random, &model, 4))
+}
+
+fn text_near_model_words(random: &mut Random) -> Pair {
+    let (model, _) = near_model_words(random);
+    as_words(texts::some_text(random, &model))
 }
 
 // ---------------------------------------------------------------------------------------------------------------------------------- damage

@@ -42,6 +42,7 @@ mod raw {
             out: *mut i32,
             out_count: usize,
         ) -> Judgement;
+        pub fn pearrummy_text(text: *const u8, text_count: usize, out: *mut u32, out_count: usize) -> Written;
     }
 }
 
@@ -116,4 +117,8 @@ pub fn pair_judge_model(words: Lent<u32>, candidate: u32, values: Lent<i32>) -> 
 
 pub fn pair_fill(words: Lent<u32>, candidate: u32, values: Lent<i32>, out: Lent<i32>) -> Judgement {
     unsafe { raw::pearrummy_pair_fill(words.pointer, words.count, candidate, values.pointer, values.count, out.pointer, out.count) }
+}
+
+pub fn text(text: Lent<u8>, out: Lent<u32>) -> Written {
+    unsafe { raw::pearrummy_text(text.pointer, text.count, out.pointer, out.count) }
 }

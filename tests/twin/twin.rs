@@ -1,10 +1,11 @@
 //! Documents 01 and 02 in plain Rust: check over words and over bytes, translate, judge-model, judge-rows, fill, sheet,
-//! reason, solutions, and the calls for a pair.
+//! reason, solutions, the calls for a pair, and text.
 //!
 //! It is written from the documents alone and shares nothing with the proved code, so that the two can be compared. Nothing here panics: every
 //! index is tested by the reading that comes first, and numbers that may leave 32 bits are 64 bits wide (the largest is 33 × 2^54).
 
 use crate::answers::{Counts, Judgement, Listed, Printed, Reason, Refusal, Written, AUXILIARIES, BUILTIN, FALSE, HOLDS, OUT_OF_BOUNDS};
+use std::collections::HashMap;
 use std::ops::Range;
 
 // The limits (01, Numbered faults; 02, wishes 10, 11 and 13).
@@ -19,6 +20,7 @@ pub const ENCODING_WIDTH: i64 = 64;
 pub const EXPONENT: i32 = 27;
 pub const LISTED_VARIABLES: usize = 8;
 pub const VALUE_LISTS: u64 = 65_536;
+pub const NAME_BYTES: usize = 32;
 
 // The kinds (01, Words).
 pub const LOWER: u32 = 0x1;
@@ -205,6 +207,49 @@ const SHAPES: [&[Argument]; CODES] = {
         &[I, E, I],  // 39 int_pow
     ]
 };
+
+/// The names of the codes (01, Rules of the 28 codes; 02, wishes 1, 6 and 13).
+pub const NAMES: [&str; CODES] = [
+    "int_eq",
+    "int_le",
+    "int_lt",
+    "int_ne",
+    "int_le_reif",
+    "int_plus",
+    "int_times",
+    "int_abs",
+    "int_max",
+    "int_lin_eq",
+    "int_lin_le",
+    "int_lin_ne",
+    "int_lin_eq_reif",
+    "int_eq_reif",
+    "int_lin_le_reif",
+    "bool2int",
+    "bool_not",
+    "bool_and",
+    "bool_or",
+    "bool_xor",
+    "bool_clause",
+    "array_bool_and",
+    "array_bool_xor",
+    "array_int_element",
+    "array_var_int_element",
+    "array_int_maximum",
+    "set_in",
+    "set_in_reif",
+    "int_min",
+    "int_lt_reif",
+    "int_ne_reif",
+    "int_lin_ne_reif",
+    "array_int_minimum",
+    "bool_eq_reif",
+    "bool_le_reif",
+    "bool_lt_reif",
+    "int_div",
+    "int_mod",
+    "int_pow",
+];
 
 /// A constraint whose words passed the reading. Absent arguments are 0 or empty.
 #[derive(Clone, Copy)]
@@ -1735,4 +1780,294 @@ pub fn pair_judge_model(words: &[u32], number: u32, values: &[i32]) -> Judgement
 
 pub fn pair_fill(words: &[u32], number: u32, values: &[i32], out: &mut [i32]) -> Judgement {
     candidate(words, number).map_or_else(Judgement::from, |model| fill(&model, values, out))
+}
+
+// ----------------------------------------------------------------------------------------------------------------------------------- text
+
+/// A token of a FlatZinc text (02, wish 8).
+#[derive(Clone, Copy, PartialEq)]
+enum Token<'a> {
+    Name(&'a [u8]),
+    /// A number, none where it is outside the range.
+    Number(Option<i64>),
+    Dots,
+    /// One of : ; , ( ) [ ] { }.
+    Sign(u8),
+    Broken,
+    End,
+}
+
+/// The length of the longest front of a text whose bytes are all of one sort.
+fn run(text: &[u8], sort: impl Fn(&u8) -> bool) -> usize {
+    text.iter().take_while(|&byte| sort(byte)).count()
+}
+
+/// The number that digits write, if it is inside the range.
+fn decimal(digits: &[u8], negative: bool) -> Option<i64> {
+    // It is cut above the range, so that nothing is lost.
+    let size = digits.iter().fold(0, |size, digit| (10 * size + i64::from(digit - b'0')).min(LARGEST + 1));
+    (size <= LARGEST).then_some(if negative { -size } else { size })
+}
+
+/// The token that a text begins with, and its length; no blank or comment stands before it.
+fn first_token(text: &[u8]) -> (Token<'_>, usize) {
+    match *text {
+        [] => (Token::End, 0),
+        [b'a'..=b'z' | b'A'..=b'Z', ..] => {
+            let length = run(text, |byte| byte.is_ascii_alphanumeric() || *byte == b'_');
+            (if length > NAME_BYTES { Token::Broken } else { Token::Name(&text[..length]) }, length)
+        }
+        [b'0'..=b'9', ..] => {
+            let length = run(text, u8::is_ascii_digit);
+            (Token::Number(decimal(&text[..length], false)), length)
+        }
+        [b'-', b'0'..=b'9', ..] => {
+            let length = 1 + run(&text[1..], u8::is_ascii_digit);
+            (Token::Number(decimal(&text[1..length], true)), length)
+        }
+        [b'.', b'.', ..] => (Token::Dots, 2),
+        [sign @ (b':' | b';' | b',' | b'(' | b')' | b'[' | b']' | b'{' | b'}'), ..] => (Token::Sign(sign), 1),
+        _ => (Token::Broken, 1),
+    }
+}
+
+/// Reads a text token by token. The fault given is the leftmost: all that stands before a token has none.
+struct Text<'a> {
+    text: &'a [u8],
+    /// The place behind the last token, and that of its first byte.
+    at: usize,
+    place: usize,
+    /// The declared names, each with its variable's number.
+    names: HashMap<&'a [u8], usize>,
+    words: Vec<u32>,
+}
+
+impl<'a> Text<'a> {
+    fn token(&mut self) -> Token<'a> {
+        loop {
+            let rest = &self.text[self.at..];
+            match rest.first() {
+                Some(b' ' | b'\n') => self.at += 1,
+                Some(b'%') => self.at += run(rest, |&byte| byte != b'\n'),
+                _ => break,
+            }
+        }
+        let (token, length) = first_token(&self.text[self.at..]);
+        self.place = self.at;
+        self.at += length;
+        token
+    }
+
+    /// Fault 19 at the last token.
+    fn broken<T>(&self) -> Result<T, Refusal> {
+        refusal(19, self.place)
+    }
+
+    fn expect(&mut self, wanted: Token) -> Result<(), Refusal> {
+        if self.token() == wanted {
+            Ok(())
+        } else {
+            self.broken()
+        }
+    }
+
+    fn sign(&mut self, sign: u8) -> Result<(), Refusal> {
+        self.expect(Token::Sign(sign))
+    }
+
+    fn name(&mut self) -> Result<&'a [u8], Refusal> {
+        match self.token() {
+            Token::Name(name) => Ok(name),
+            _ => self.broken(),
+        }
+    }
+
+    /// The number that a token is, the last one read: fault 19, then 21.
+    fn number(&self, token: Token) -> Result<i64, Refusal> {
+        match token {
+            Token::Number(Some(number)) => Ok(number),
+            Token::Number(None) => refusal(21, self.place),
+            _ => self.broken(),
+        }
+    }
+
+    /// The word of the variable that a token names, the last one read: fault 19, then 20.
+    fn variable(&self, token: Token) -> Result<u32, Refusal> {
+        match token {
+            Token::Name(name) => self.names.get(name).map_or(refusal(20, self.place), |&variable| Ok(word(VARIABLE, variable as i64))),
+            _ => self.broken(),
+        }
+    }
+
+    /// The rest of a variable item.
+    fn declaration(&mut self) -> Result<(), Refusal> {
+        match self.token() {
+            Token::Name(b"bool") => self.words.push(word(BOOLEAN, 0)),
+            lower => {
+                let lower = self.number(lower)?;
+                self.expect(Token::Dots)?;
+                let upper = self.token();
+                let upper = self.number(upper)?;
+                self.words.extend([word(LOWER, lower), word(UPPER, upper)]);
+            }
+        }
+        self.sign(b':')?;
+        let name = self.name()?;
+        let count = self.names.len();
+        if self.names.insert(name, count).is_some() {
+            return refusal(20, self.place);
+        }
+        self.sign(b';')
+    }
+
+    /// The rest of a constraint item.
+    fn constraint(&mut self) -> Result<(), Refusal> {
+        let name = self.name()?;
+        let Some(at) = NAMES.iter().position(|known| known.as_bytes() == name) else { return refusal(20, self.place) };
+        self.words.push(word(CONSTRAINT, at as i64 + 1));
+        self.sign(b'(')?;
+        for (place, &argument) in SHAPES[at].iter().enumerate() {
+            if place > 0 {
+                self.sign(b',')?;
+            }
+            self.argument(argument, matches!(at + 1, 27 | 28))?;
+        }
+        match self.token() {
+            Token::Sign(b')') => (),
+            // The first argument too many.
+            Token::Sign(b',') => {
+                self.token();
+                return self.broken();
+            }
+            _ => return self.broken(),
+        }
+        self.sign(b';')
+    }
+
+    /// An argument; parallel lists are two in the text. `set`: numbers stand in braces.
+    fn argument(&mut self, argument: Argument, set: bool) -> Result<(), Refusal> {
+        match argument {
+            Argument::Integer | Argument::Boolean => {
+                let token = self.token();
+                let variable = self.variable(token)?;
+                self.words.push(variable);
+            }
+            Argument::Number | Argument::Exponent => {
+                let token = self.token();
+                let number = self.number(token)?;
+                self.words.push(word(NUMBER, number));
+            }
+            Argument::Numbers => {
+                self.numbers(if set { (b'{', b'}') } else { (b'[', b']') })?;
+            }
+            Argument::Integers | Argument::Booleans => {
+                let length = self.words.len();
+                self.words.push(0);
+                let count = self.variables(None)?;
+                self.words[length] = word(NUMBER, count as i64);
+            }
+            Argument::Parallel => {
+                let count = self.numbers((b'[', b']'))?;
+                self.sign(b',')?;
+                self.variables(Some(count))?;
+            }
+        }
+        Ok(())
+    }
+
+    /// The rest of a list or set up to a closing sign, each element read by `element`. Answers their number.
+    fn list(&mut self, close: u8, mut element: impl FnMut(&mut Self, Token<'a>) -> Result<(), Refusal>) -> Result<usize, Refusal> {
+        let mut token = self.token();
+        if token == Token::Sign(close) {
+            return Ok(0);
+        }
+        for count in 1.. {
+            element(self, token)?;
+            match self.token() {
+                Token::Sign(sign) if sign == close => return Ok(count),
+                Token::Sign(b',') => token = self.token(),
+                _ => break,
+            }
+        }
+        self.broken()
+    }
+
+    /// The length of a list or set of numbers, and these.
+    fn numbers(&mut self, (open, close): (u8, u8)) -> Result<usize, Refusal> {
+        self.sign(open)?;
+        let length = self.words.len();
+        self.words.push(0);
+        let count = self.list(close, |text, token| {
+            let number = text.number(token)?;
+            text.words.push(word(NUMBER, number));
+            Ok(())
+        })?;
+        self.words[length] = word(NUMBER, count as i64);
+        Ok(count)
+    }
+
+    /// A list of variables. One beside another list must be as long as that: fault 19 at its bracket, unless the grammar breaks inside it.
+    fn variables(&mut self, beside: Option<usize>) -> Result<usize, Refusal> {
+        self.sign(b'[')?;
+        let bracket = self.place;
+        let mut unknown = None;
+        let read = self.list(b']', |text, token| {
+            match text.variable(token) {
+                Ok(variable) => text.words.push(variable),
+                Err(Refusal { fault: 20, place }) => _ = unknown.get_or_insert(place),
+                Err(refusal) => return Err(refusal),
+            }
+            Ok(())
+        });
+        match (read, unknown) {
+            (Ok(count), _) if beside.is_some_and(|length| length != count) => refusal(19, bracket),
+            (_, Some(place)) => refusal(20, place),
+            (read, None) => read,
+        }
+    }
+
+    /// The items of the text.
+    fn items(&mut self) -> Result<(), Refusal> {
+        let mut token = self.token();
+        while token == Token::Name(b"var") {
+            self.declaration()?;
+            token = self.token();
+        }
+        while token == Token::Name(b"constraint") {
+            self.constraint()?;
+            token = self.token();
+        }
+        if token != Token::Name(b"solve") {
+            return self.broken();
+        }
+        self.expect(Token::Name(b"satisfy"))?;
+        self.sign(b';')?;
+        self.expect(Token::End)?;
+        self.words.push(word(MODEL_END, 0));
+        Ok(())
+    }
+}
+
+/// The model words of a FlatZinc text: faults 19 to 21, then 1.
+pub fn text_words(text: &[u8]) -> Result<Vec<u32>, Refusal> {
+    let mut reader = Text { text, at: 0, place: 0, names: HashMap::new(), words: vec![] };
+    reader.items()?;
+    if reader.words.len() > MODEL_WORDS {
+        return refusal(1, 0);
+    }
+    Ok(reader.words)
+}
+
+/// Text: writes the model words of a FlatZinc text to the front of the output.
+pub fn text(text: &[u8], out: &mut [u32]) -> Written {
+    match text_words(text) {
+        Err(refusal) => refusal.into(),
+        Ok(words) => match out.get_mut(..words.len()) {
+            None => Refusal { fault: 16, place: 0 }.into(),
+            Some(front) => {
+                front.copy_from_slice(&words);
+                Written { fault: 0, place: 0, words: words.len() }
+            }
+        },
+    }
 }

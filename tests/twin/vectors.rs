@@ -1,4 +1,4 @@
-//! Recorded answers, tests/vectors: a line is CALL | words | values or - | room or - | answer.
+//! Recorded answers, tests/vectors: a line is CALL | words | values or - | room or - | answer. The words of text are bytes.
 
 use crate::answers::{Counts, Judgement, Written, AUXILIARIES, BUILTIN, FALSE, HOLDS, OUT_OF_BOUNDS};
 use crate::library::{self, Lent};
@@ -101,6 +101,11 @@ fn answer(call: &str, words: &mut [u32], values: &mut [i32], room: usize, librar
             let said =
                 if library { library::fill(Lent::new(words), Lent::new(values), Lent::new(&mut out)) } else { twin::fill(words, values, &mut out) };
             filled(said, &out)
+        }
+        "text" => {
+            let mut text: Vec<u8> = words.iter().map(|&byte| byte as u8).collect();
+            let mut out = vec![0; room];
+            written(if library { library::text(Lent::new(&mut text), Lent::new(&mut out)) } else { twin::text(&text, &mut out) }, &out)
         }
         "pair_check" | "pair_translate" | "pair_judge_model" | "pair_fill" => pair_answer(call, words, values, room, library),
         _ => "an unknown call".into(),
