@@ -3,3 +3,4 @@ pub mod ReadBack
 pub mod Numbers
 pub mod Walk
 pub mod Sizes
+pub mod Ordered

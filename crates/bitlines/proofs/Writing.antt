@@ -1,0 +1,100 @@
+-- Entries written one after another.
+use mathlib.Core.Path.{_≡_, refl, sym, ap, ap₂, _∙_}
+use mathlib.Core.Bool.{Bool, true, false}
+use mathlib.Core.List.{List, [], _∷_, _++_, flatMap, append-assoc}
+use Prim.Native.Nat.{ℕ, zero, suc, _+_, _*_, _≤_, _<_}
+use native.Mathlib.Nat.{add-zero}
+use native.Mathlib.Numerals.{add-one}
+use native.Mathlib.Omega.{arith}
+use lib.IntN.{ℤ}
+use lib.ListN.{length, getD, length-append}
+use Rattle.integers.specs.Choice.{_if_else_}
+use Rattle.integers.specs.Number.{_==_, +0}
+use Rattle.integers.specs.Lists.{listOf}
+use Rattle.words.specs.Word.{word, numberWord}
+use Rattle.words.specs.Kind as Kind
+use Rattle.words.specs.Overlay.{overlay}
+use Rattle.words.specs.Laid.{Laid}
+use Rattle.words.proofs.Rest.{all-left, lay-part, lay-last, none-left}
+use Rattle.bitforms.specs.Matrix.{Entry, notZero}
+use Rattle.bitforms.specs.FormWords.{entryWords}
+use Rattle.bitlines.specs.Line.{entry, lineEntries, entriesWords}
+
+-- ---- words after words
+
+laid-then : {a b c : ℕ} {o p q us vs : List ℕ} → Laid o a us p b → Laid p b vs q c → Laid o a (us ++ vs) q c
+laid-then {a} {b} {c} {o} {p} {q} {us} {vs} x y = lay-last (lay-part (all-left o a (us ++ vs)) x) y
+
+laid-none : {a : ℕ} {o : List ℕ} → Laid o a [] o a
+laid-none {a} {o} = none-left (all-left o a [])
+
+-- ---- entries after entries
+
+flat-append : (xs ys : List Entry) → flatMap entryWords (xs ++ ys) ≡ flatMap entryWords xs ++ flatMap entryWords ys
+unfolding flatMap
+flat-append [] ys = refl
+flat-append (x ∷ xs) ys = ap (λ l. entryWords x ++ l) (flat-append xs ys) ∙ sym (append-assoc (entryWords x) (flatMap entryWords xs) (flatMap entryWords ys))
+
+zero-append : (xs ys : List Entry) → notZero (xs ++ ys) ≡ notZero xs ++ notZero ys
+unfolding notZero
+zero-append [] ys = refl
+zero-append (x ∷ xs) ys = go (x .number == +0) (zero-append xs ys)
+  where
+    go : (t : Bool) → notZero (xs ++ ys) ≡ notZero xs ++ notZero ys →
+        (notZero (xs ++ ys) if t else x ∷ notZero (xs ++ ys)) ≡ (notZero xs if t else x ∷ notZero xs) ++ notZero ys
+    go true e = e
+    go false e = ap (λ l. x ∷ l) e
+
+pub words-append : (xs ys : List Entry) → entriesWords (xs ++ ys) ≡ entriesWords xs ++ entriesWords ys
+unfolding entriesWords
+words-append xs ys = ap (flatMap entryWords) (zero-append xs ys) ∙ flat-append (notZero xs) (notZero ys)
+
+-- ---- one entry more
+
+places-more : (f : ℕ → Entry) (d : ℕ) → listOf f (d + 1) ≡ listOf f d ++ (f d ∷ [])
+unfolding listOf
+places-more f d = rw add-one (go f d)
+  where
+    go : (f : ℕ → Entry) (d : ℕ) → listOf f (suc d) ≡ listOf f d ++ (f d ∷ [])
+    go f zero = refl
+    go f (suc d) = ap (λ l. f 0 ∷ l) (go (λ k. f (suc k)) d)
+
+-- the entries of the first d bits are written
+pub record Writing (at i m : ℕ) (o : List ℕ) (line : List ℤ) (p : List ℕ) (next d : ℕ) : Type 0 where
+  pub done : Laid o at (entriesWords (lineEntries line i d)) p next
+  pub place : d ≤ m
+  pub small : next ≤ at + 3 * d
+
+pub writing-begun : (at i m : ℕ) (o : List ℕ) (line : List ℤ) → Writing at i m o line o at 0
+unfolding lineEntries listOf entriesWords notZero flatMap
+writing-begun at i m o line = record { done = laid-none; place = omega arith; small = omega arith }
+
+one-size : (i j : ℕ) (v : ℤ) → length (entriesWords (entry i j v ∷ [])) ≤ 3
+unfolding entriesWords notZero flatMap entryWords
+one-size i j v = go (v == +0)
+  where
+    go : (t : Bool) → length (flatMap entryWords ([] if t else entry i j v ∷ [])) ≤ 3
+    go true = omega arith
+    go false = omega arith
+
+pub writing-more : {at i m next r d : ℕ} {o p q : List ℕ} {line : List ℤ} → d < m → Writing at i m o line p next d →
+    Laid p next (entriesWords (entry i (i + d) (getD line (i + d) +0) ∷ [])) q r → Writing at i m o line q r (d + 1)
+unfolding lineEntries
+writing-more {at} {i} {m} {next} {r} {d} {o} {p} {q} {line} l w e = record {
+  done =
+      let f : ℕ → Entry = λ k. entry i (i + k) (getD line (i + k) +0) in
+      rw (places-more f d, words-append (listOf f d) (f d ∷ [])) (laid-then (w .done) e);
+  place = omega arith;
+  small = let s = w .small in let n = e .ends in let z = one-size i (i + d) (getD line (i + d) +0) in omega arith;
+}
+
+-- ---- one entry
+
+pub laid-zero : {at : ℕ} {o : List ℕ} (i j : ℕ) (v : ℤ) → (v == +0) ≡ true → Laid o at (entriesWords (entry i j v ∷ [])) o at
+unfolding entriesWords notZero flatMap
+laid-zero i j v e = rw e laid-none
+
+pub laid-entry : {at : ℕ} {o p : List ℕ} (i j : ℕ) (v : ℤ) → (v == +0) ≡ false →
+    p ≡ overlay o at (word Kind.variable i ∷ word Kind.variable j ∷ numberWord Kind.number v ∷ []) → Laid o at (entriesWords (entry i j v ∷ [])) p (at + 3)
+unfolding entriesWords notZero flatMap entryWords
+laid-entry i j v e f = rw e (record { over = f; ends = refl })
