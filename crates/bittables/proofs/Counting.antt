@@ -1,0 +1,43 @@
+-- How wide a variable is, and how many weights a width has at most.
+use mathlib.Core.List.{List}
+use Prim.Native.Nat.{ℕ, zero, suc, _+_, _*_, _-_, _≤_, _<_, _^_}
+use native.Mathlib.Nat.{pow-suc, mul-le-mul-right}
+use native.Mathlib.Omega.{arith}
+use lib.IntN.{ℤ, pos, negsuc, natAbs}
+use lib.ListN.{length, getD}
+use Rattle.integers.specs.Number.{_⊖_, count, +0}
+use Rattle.integers.proofs.Fits.{minus-size}
+use Rattle.extremes.specs.Bounded.{Bounded}
+use Rattle.bitforms.specs.Weights.{weightsFrom, weights}
+use Rattle.bittables.specs.Tables.{spanIn}
+
+one-power : (b : ℕ) → 1 ≤ 2 ^ b
+one-power zero = omega arith
+one-power (suc b) = omega (arith, one-power b, pow-suc 2 b)
+
+-- b weights reach 2^b − 1 times the first one
+few-from : (b most k w : ℕ) → w + k ≤ 2 ^ b * k → length (weightsFrom most k w) ≤ b
+unfolding weightsFrom
+few-from b zero k w h = omega arith
+few-from b (suc most) k zero h = omega arith
+few-from zero (suc most) k (suc w) h = absurd (omega arith)
+few-from (suc b) (suc most) k (suc w) h =
+    let g = rw (pow-suc 2 b) at h in
+    let d = mul-le-mul-right (2 * k) (one-power b) in
+    let r = few-from b most (2 * k) (suc w - k) (omega arith) in
+    omega arith
+
+pub few-weights : (w : ℕ) → w < 4611686018427387904 → length (weights w) ≤ 62
+unfolding weights
+few-weights w h = few-from 62 w 1 w (omega arith)
+
+-- ---- the width of a variable
+
+count-size : (z : ℤ) → count z ≤ natAbs z
+unfolding count
+count-size (pos n) = omega arith
+count-size (negsuc n) = omega arith
+
+pub span-size : (ls us : List ℤ) (v : ℕ) → Bounded ls → Bounded us → spanIn ls us v ≤ 268435456
+unfolding spanIn
+span-size ls us v l u = omega (arith, count-size (getD us v +0 ⊖ getD ls v +0), minus-size (getD us v +0) (getD ls v +0), l v, u v)

@@ -1,0 +1,2 @@
+-- What the contracts cite: the lists of the variables' bits.
+pub mod Tables
