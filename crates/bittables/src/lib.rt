@@ -1,7 +1,9 @@
-// The bits of the variables as lists: lower and upper bounds, the number of the first bit, how many bits.
+// The bits of the variables as lists: lower and upper bounds, the number of the first bit, how many bits; and the words of a row by their places.
 ghost use mathlib.Core.Path.{_≡_};
 ghost use Prim.Native.Nat.{_<_, _≤_};
+ghost use lib.IntN.{natAbs};
 ghost use lib.ListN.{length, getD};
+ghost use Rattle.rowsystems.specs.RowSystem.{variableAt, numberAt};
 ghost use Rattle.extremes.specs.Bounded.{Bounded};
 ghost use Rattle.bitforms.specs.Weights.{weights};
 ghost use Rattle.bittables.specs.Tables.{spanIn};
@@ -9,6 +11,9 @@ use arguments::count_of;
 use bitlines::add_weights;
 use extremes::bound_at;
 use integers::minus;
+use words::payload_of;
+use words::signed_of;
+use words::word_at;
 
 // How many weights a width has: they are added to no bits.
 pub fn weight_count(width: usize) -> usize
@@ -35,4 +40,18 @@ pub fn span_at(ls: &[i64], us: &[i64], v: usize) -> usize
     ensures { λ r. ⌜ (r ≡ spanIn (now (ls .entry)) (now (us .entry)) v) × (r ≤ 268435456) ⌝ }
 {
     count_of(minus(bound_at(us, v), bound_at(ls, v)))
+}
+
+// The variable at place i of the words after a head.
+pub fn variable_at(args: &[u32], i: usize) -> usize
+    ensures { λ r. ⌜ r ≡ variableAt (now (args .entry)) i ⌝ }
+{
+    payload_of(word_at(args, i))
+}
+
+// The number there.
+pub fn signed_at(args: &[u32], i: usize) -> i64
+    ensures { λ r. ⌜ (r ≡ numberAt (now (args .entry)) i) × (natAbs r ≤ 134217728) ⌝ }
+{
+    signed_of(word_at(args, i))
 }
