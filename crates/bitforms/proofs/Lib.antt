@@ -10,3 +10,4 @@ pub mod Matrix
 pub mod Theorem
 pub mod Inside
 pub mod ReadBack
+pub mod Written

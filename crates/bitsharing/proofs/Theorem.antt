@@ -23,10 +23,10 @@ use Rattle.sharing.proofs.Theorem.{written-read, same-bounds, shared-solutions}
 use Rattle.rowsystems.proofs.Ordered.{accepted-ordered}
 use Rattle.bitforms.specs.OverBits.{valueAt}
 use Rattle.bitforms.specs.BitForm.{encoding}
-use Rattle.bitforms.specs.SameSolutions.{AreBits, Inside, ReadAs, formOf}
-use Rattle.bitforms.proofs.Theorem.{value-bits, all-bits, zero-sound, zero-complete}
+use Rattle.bitforms.specs.SameSolutions.{Inside, ReadAs, SomeBits}
+use Rattle.bitforms.proofs.Theorem.{formOf, value-bits, all-bits, zero-sound, zero-complete}
 use Rattle.bitforms.proofs.Inside.{bits-inside}
-use Rattle.bitsharing.specs.ModelSolutions.{ReadAsModel, ModelSolutions}
+use Rattle.bitsharing.specs.ModelSolutions.{ModelSolutions}
 
 module _ (model : List ℕ) (passes : Passes model) where
   abbrev system : List ℕ
@@ -37,8 +37,7 @@ module _ (model : List ℕ) (passes : Passes model) where
   in-all =
       ap length (same-bounds model passes) ∙ length-append (variables model) _
 
-  forth : (vs : List ℤ) → length vs ≡ length (variables model) → SatisfiesModel model vs →
-      (bs : List ℤ) × (AreBits system bs × ReadAsModel model bs vs × (formOf system bs ≡ pos 0))
+  forth : (vs : List ℤ) → length vs ≡ length (variables model) → SatisfiesModel model vs → SomeBits system (length (variables model)) vs (formOf system)
   unfolding value
   forth vs l s =
       let x = shared-solutions model passes vs .0 s in
@@ -48,8 +47,7 @@ module _ (model : List ℕ) (passes : Passes model) where
       let n = in-all in
       (b .0, (b .1 .0, λ v h. b .1 .1 v (omega arith) ∙ List·getD-append vs xs (pos 0) v (omega arith), b .1 .2))
 
-  back : (vs : List ℤ) → length vs ≡ length (variables model) →
-      (bs : List ℤ) × (AreBits system bs × ReadAsModel model bs vs × (formOf system bs ≡ pos 0)) → SatisfiesModel model vs
+  back : (vs : List ℤ) → length vs ≡ length (variables model) → SomeBits system (length (variables model)) vs (formOf system) → SatisfiesModel model vs
   unfolding value encoding
   back vs l (bs, (a, r, z)) = shared-solutions model passes vs .1 (xs, (listOf-length _ (length (auxiliaries model)), all-of))
     where
@@ -59,7 +57,7 @@ module _ (model : List ℕ) (passes : Passes model) where
       total-length : length (vs ++ xs) ≡ length (variables system)
       total-length = length-append vs xs ∙ (let e = listOf-length (λ k. valueAt (value bs) (encoding system (length vs + k))) (length (auxiliaries model)) in let n = in-all in omega arith)
 
-      reads : ReadAs system bs (vs ++ xs)
+      reads : ReadAs system (length (variables system)) bs (vs ++ xs)
       reads v h = go (decLe (length vs) v)
         where
           go : Dec (length vs ≤ v) → valueAt (value bs) (encoding system v) ≡ value (vs ++ xs) v
@@ -81,5 +79,5 @@ module _ (model : List ℕ) (passes : Passes model) where
       all-of : SatisfiesRows system (vs ++ xs)
       all-of = record { one-each = inside .one-each; in-bounds = inside .in-bounds; all-true = zero-sound system (vs ++ xs) bs inside a reads z }
 
-  pub model-solutions : ModelSolutions model
+  pub model-solutions : ModelSolutions model (formOf system)
   model-solutions vs l = (forth vs l, back vs l)

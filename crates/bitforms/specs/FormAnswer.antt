@@ -1,0 +1,64 @@
+-- 02, wish 14: the faults, the answer, and what the lent output holds afterwards.
+use mathlib.Core.Bool.{Bool, _&&_}
+use mathlib.Core.List.{List}
+use Prim.Native.Nat.{ℕ}
+use lib.Dec.{ltb, eqb}
+use lib.IntN.{ℤ, pos}
+use lib.Signed.{leZ}
+use lib.ListN.{length}
+use Rattle.integers.specs.Choice.{_if_else_}
+use Rattle.integers.specs.Number.{absZ}
+use Rattle.integers.specs.Lists.{listOf, all}
+use Rattle.words.specs.Word.{inRange}
+use Rattle.words.specs.Fault as Fault
+use Rattle.words.specs.Overlay.{overlay}
+use Rattle.words.specs.Refusal.{accepted, _at-place_, _else-refuse_, roomFault}
+use Rattle.words.specs.Answer.{Answer, written, _else-answer_}
+use Rattle.words.specs.declared.Refusal.{Refusal}
+use Rattle.rowsystems.specs.Reading.{readRows}
+use Rattle.bitforms.specs.BitRow.{BitRow}
+use Rattle.bitforms.specs.Matrix.{coefficientOf}
+use Rattle.bitforms.specs.BitForm.{bitRowsOf, bitCount, formConstant, formEntries}
+use Rattle.bitforms.specs.FormWords.{formWords}
+
+-- "23 when more than 1,024 bits are needed"
+abbrev pub mostBits : ℕ
+mostBits = 1024
+
+abbrev pub tooManyBits : ℕ
+tooManyBits = 23
+
+unfoldable pub sizeFault : List ℕ → Refusal
+sizeFault ws = tooManyBits at-place 0 if ltb mostBits (bitCount ws) else accepted
+
+-- "24 when a row over bits, like bits added, has a coefficient or constant beyond plus or minus 16,384", n bits in all
+abbrev pub mostInRow : ℤ
+mostInRow = pos 16384
+
+abbrev pub formTooLarge : ℕ
+formTooLarge = 24
+
+unfoldable pub rowFits : ℕ → BitRow → Bool
+rowFits n r =
+    leZ (absZ (r .whole .constant)) mostInRow
+    && all (λ i. leZ (absZ (coefficientOf (r .whole .terms) i)) mostInRow) (listOf (λ i. i) n)
+
+-- "or an entry or the form's constant is outside the range"
+unfoldable pub formFits : List ℕ → Bool
+formFits ws =
+    all (rowFits (bitCount ws)) (bitRowsOf ws) && (inRange (formConstant ws) && all (λ x. inRange (x .number)) (formEntries ws))
+
+unfoldable pub numberFault : List ℕ → Refusal
+numberFault ws = accepted if formFits ws else formTooLarge at-place 0
+
+-- judge-rows' faults but 15; "both after 17, place 0, then 16 for a short output"
+unfoldable pub bitFormFault : List ℕ → ℕ → Refusal
+bitFormFault ws room =
+    readRows ws else-refuse (sizeFault ws else-refuse (numberFault ws else-refuse roomFault room (length (formWords ws))))
+
+-- "The answer is the number of words; those past them stay."
+unfoldable pub bitForm : List ℕ → ℕ → Answer
+bitForm ws room = bitFormFault ws room else-answer written (length (formWords ws))
+
+unfoldable pub bitFormed : List ℕ → List ℕ → List ℕ
+bitFormed ws out = overlay out 0 (formWords ws) if eqb (bitFormFault ws (length out) .number) Fault.none else out
