@@ -3,21 +3,22 @@
 
     tests/definitions.py [MOST]
 
-A vector of more than MOST words (default 2,000) is left out, one of sheet with more than 24, and one of text with more than 600 bytes: a page of bytes and a long text take long to compute. The last line says how many agree. Exit status 0 if all do."""
+A vector of more than MOST words (default 2,000) is left out, one of sheet with more than 24, one of text with more than 600 bytes, and one of bits with more than 60 words or a lent list of more than 100: a page of bytes, a long text and a form of many bits take long to compute. The last line says how many agree. Exit status 0 if all do."""
 import glob, os, re, shutil, subprocess, sys, time
 
 HERE = os.path.dirname(os.path.abspath(__file__))
 ROOT = os.path.dirname(HERE)
 SCRATCH = os.path.join(ROOT, 'target', 'definitions')
-CRATES = ['integers', 'words', 'models', 'rowsystems', 'rules', 'decimals', 'sheets', 'sharing', 'reasons', 'solutions', 'pairs', 'tokens', 'names', 'grammar', 'texts']
+CRATES = ['integers', 'words', 'models', 'rowsystems', 'rules', 'decimals', 'sheets', 'sharing', 'reasons', 'solutions', 'pairs', 'tokens', 'names', 'grammar', 'texts', 'bitforms']
 MOST = int(sys.argv[1]) if len(sys.argv) > 1 else 2000
 SHEET_MOST, TEXT_MOST = 24, 600
+BITS_MOST, BITS_ROOM = 60, 100
 PARTS = ['firsts', 'seconds']  # the crates of the vectors
 UNUSED, UNUSED_BYTE = 0x5A5A5A5A, 0x5A  # what a lent word or value, and a lent byte, holds before the call
 # the definition of what each call answers, and of what a lent list holds afterwards
-ANSWERS = {'check': 'check', 'translate': 'translate', 'judge_model': 'judgeModel', 'judge_rows': 'judgeRows', 'fill': 'fill', 'sheet': 'sheet', 'text': 'readText', 'reason': 'reason', 'solutions': 'solutionsAnswer',
+ANSWERS = {'check': 'check', 'translate': 'translate', 'judge_model': 'judgeModel', 'judge_rows': 'judgeRows', 'fill': 'fill', 'sheet': 'sheet', 'text': 'readText', 'reason': 'reason', 'solutions': 'solutionsAnswer', 'bits': 'bitForm',
            'pair_check': 'pairCheck', 'pair_translate': 'pairTranslate', 'pair_judge_model': 'pairJudge', 'pair_fill': 'pairFill'}
-LATER = {'translate': 'translated', 'fill': 'filled', 'sheet': 'sheetPage', 'text': 'textRead', 'solutions': 'listed', 'pair_translate': 'pairTranslated', 'pair_fill': 'pairFilled'}
+LATER = {'translate': 'translated', 'fill': 'filled', 'sheet': 'sheetPage', 'text': 'textRead', 'solutions': 'listed', 'bits': 'bitFormed', 'pair_translate': 'pairTranslated', 'pair_fill': 'pairFilled'}
 JUDGED = ('judge_model', 'judge_rows', 'fill', 'reason', 'pair_judge_model', 'pair_fill')  # the calls that take values
 
 
@@ -78,7 +79,7 @@ def statement(call, words, values, room, answer):
         said = reason_term(kind, rest) if call == 'reason' else answer_term(kind, rest)
         return f'{ANSWERS[call]} {given} ≡ {said}'
     new, said = written(kind, rest)
-    term = words_term if call in ('sheet', 'text') or call.endswith('translate') else values_term
+    term = words_term if call in ('sheet', 'text', 'bits') or call.endswith('translate') else values_term
     before = [UNUSED_BYTE if call == 'sheet' else UNUSED] * room
     return f'({ANSWERS[call]} {given} {room} ≡ {said}) × ({LATER[call]} {given} {term(before)} ≡ {term(new + before[len(new):])})'
 
@@ -148,10 +149,15 @@ def write_crate(folder, head, opened, cases):
             f.write(f'v{k} : {statement(call, words, values, room, answer)}\nunfolding {opened}\nv{k} = {proof}\n\n')
 
 
+def is_short(case):
+    _, call, words, _, room, _ = case
+    most = {'sheet': SHEET_MOST, 'text': TEXT_MOST, 'bits': BITS_MOST}.get(call, MOST)
+    return len(words) <= min(MOST, most) and (call != 'bits' or room <= BITS_ROOM)
+
+
 def main():
     every = list(vectors())
-    most = {'sheet': min(MOST, SHEET_MOST), 'text': min(MOST, TEXT_MOST)}
-    cases = [case for case in every if len(case[2]) <= most.get(case[1], MOST)]
+    cases = [case for case in every if is_short(case)]
     write_crates(cases)
     begun = time.time()
     run = subprocess.run(['rt', 'check', *PARTS], cwd=SCRATCH, capture_output=True, text=True, env=dict(os.environ, RT_CUT='0'))
