@@ -3,13 +3,14 @@ use mathlib.Core.List.{List}
 use Prim.Native.Nat.{ℕ, zero, suc, _+_, _*_, _-_, _≤_, _<_, _^_}
 use native.Mathlib.Nat.{pow-suc, mul-le-mul-right}
 use native.Mathlib.Omega.{arith}
-use lib.IntN.{ℤ, pos, negsuc, natAbs}
+use lib.IntN.{ℤ}
 use lib.ListN.{length, getD}
-use Rattle.integers.specs.Number.{_⊖_, count, +0}
+use Rattle.integers.specs.Number.{_⊖_, +0}
 use Rattle.integers.proofs.Fits.{minus-size}
 use Rattle.extremes.specs.Bounded.{Bounded}
+use Rattle.extremes.proofs.Size.{count-le}
 use Rattle.bitforms.specs.Weights.{weightsFrom, weights}
-use Rattle.bittables.specs.Tables.{spanIn}
+use Rattle.bittables.specs.Tables.{spanIn, Counted}
 
 one-power : (b : ℕ) → 1 ≤ 2 ^ b
 one-power zero = omega arith
@@ -33,11 +34,11 @@ few-weights w h = few-from 62 w 1 w (omega arith)
 
 -- ---- the width of a variable
 
-count-size : (z : ℤ) → count z ≤ natAbs z
-unfolding count
-count-size (pos n) = omega arith
-count-size (negsuc n) = omega arith
-
 pub span-size : (ls us : List ℤ) (v : ℕ) → Bounded ls → Bounded us → spanIn ls us v ≤ 268435456
 unfolding spanIn
-span-size ls us v l u = omega (arith, count-size (getD us v +0 ⊖ getD ls v +0), minus-size (getD us v +0) (getD ls v +0), l v, u v)
+span-size ls us v l u = omega (arith, count-le (getD us v +0 ⊖ getD ls v +0), minus-size (getD us v +0) (getD ls v +0), l v, u v)
+
+-- ---- the number of a variable's bits
+
+pub counts-few : (ls us : List ℤ) (counts : List ℕ) → Bounded ls → Bounded us → Counted ls us counts → (v : ℕ) → getD counts v 0 ≤ 62
+counts-few ls us counts l u k v = omega (arith, k v, few-weights (spanIn ls us v) (omega (arith, span-size ls us v l u)))

@@ -1,7 +1,7 @@
 -- The bits of the variables by four lists: lower bounds, upper bounds, the number of the first bit, how many bits.
 use mathlib.Core.Path.{_≡_}
 use mathlib.Core.List.{List, [], _∷_}
-use Prim.Native.Nat.{ℕ, _+_, _<_}
+use Prim.Native.Nat.{ℕ, _+_, _≤_}
 use lib.IntN.{ℤ}
 use lib.ListN.{length, getD}
 use Rattle.integers.specs.Number.{_⊖_, count, +0}
@@ -40,7 +40,7 @@ firstsFrom first (B ∷ Bs) = first ∷ firstsFrom (first + length (weightsOf B)
 
 -- limits of the lists, and what the fourth has in it
 abbrev pub Placed : List ℕ → Type 0
-Placed firsts = (v : ℕ) → getD firsts v 0 < 1099511627776
+Placed firsts = (v : ℕ) → getD firsts v 0 ≤ 262144
 
 abbrev pub Counted : List ℤ → List ℤ → List ℕ → Type 0
 Counted ls us counts = (v : ℕ) → getD counts v 0 ≡ length (weights (spanIn ls us v))
