@@ -1,0 +1,2 @@
+-- What the contracts cite: whether terms mention a bit.
+pub mod Mentions
