@@ -106,16 +106,15 @@ module _ {A : Type 0} (d : A) where
       let n = length-set out at x in
       rw e (laid xs (set out at x) (suc at) (omega arith) (λ w l. getD-set-other out at w x d (λ e. omega arith) ∙ z w (omega arith)) v)
 
--- over zeros
-pub over-zeros : (n : ℕ) (xs : List ℤ) → length xs ≤ n → (v : ℕ) → getD (overlay (replicate n +0) 0 xs) v +0 ≡ getD xs v +0
-over-zeros n xs few v =
-    let e : v ≡ 0 + v = omega arith in
-    ap (λ (w : ℕ). getD (overlay (replicate n +0) 0 xs) w +0) e ∙ laid +0 xs (replicate n +0) 0 (omega (arith, length-replicate n +0)) (λ w l. zeros n w) v
-  where
-    zeros : (n w : ℕ) → getD (replicate n +0) w +0 ≡ +0
-    zeros zero w = refl
-    zeros (suc n) zero = refl
-    zeros (suc n) (suc w) = zeros n w
+  pub over-zeros : (n : ℕ) (xs : List A) → length xs ≤ n → (v : ℕ) → getD (overlay (replicate n d) 0 xs) v d ≡ getD xs v d
+  over-zeros n xs few v =
+      let e : v ≡ 0 + v = omega arith in
+      ap (λ (w : ℕ). getD (overlay (replicate n d) 0 xs) w d) e ∙ laid xs (replicate n d) 0 (omega (arith, length-replicate n d)) (λ w l. zeros n w) v
+    where
+      zeros : (n w : ℕ) → getD (replicate n d) w d ≡ d
+      zeros zero w = refl
+      zeros (suc n) zero = refl
+      zeros (suc n) (suc w) = zeros n w
 
 mapped : (f : Bounds → ℤ) → f (+0 to +0) ≡ +0 → (Bs : List Bounds) (v : ℕ) → getD (map f Bs) v +0 ≡ f (boundsIn Bs v)
 unfolding boundsIn
@@ -126,7 +125,7 @@ mapped f z (B ∷ Bs) (suc v) = mapped f z Bs v
 -- no list of at most n variables is cut
 module _ (f : Bounds → ℤ) (z : f (+0 to +0) ≡ +0) (Bs : List Bounds) (n : ℕ) (few : length Bs ≤ n) where
   kept-at : (v : ℕ) → getD (overlay (replicate n +0) 0 (map f Bs)) v +0 ≡ f (boundsIn Bs v)
-  kept-at v = over-zeros n (map f Bs) (omega (arith, length-map Bs f)) v ∙ mapped f z Bs v
+  kept-at v = over-zeros +0 n (map f Bs) (omega (arith, length-map Bs f)) v ∙ mapped f z Bs v
 
 -- THE LAWS, of what `keep_bounds` leaves in two lists of n zeros
 abbrev pub lowersKept : List ℕ → ℕ → List ℤ

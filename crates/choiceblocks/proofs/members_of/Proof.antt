@@ -29,7 +29,7 @@ returns c =
     let B = boundsOf (a .ls .now) (a .us .now) (var ws 0) in
     let e = rw (read (at-bound-at .bound-at .ok) (at-bound-at .bound-at .ensures), read (bound-at2 .ok) (bound-at2 .ensures), at-var-at .var-at .ensures, start .pre .1) at (c .before .members .ensures) in
     let l = members-length ws 1 B in
-    let same = over-zeros 32 (members (nums ws 1) B) l in
+    let same = over-zeros +0 32 (members (nums ws 1) B) l in
     record {
       many = e .0;
       few = omega (arith, e .0, l);

@@ -1,0 +1,3 @@
+-- Laws of the lists of the variables' bits.
+pub mod Keeping
+pub mod Kept
