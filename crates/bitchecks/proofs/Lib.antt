@@ -1,0 +1,3 @@
+-- Laws of the walk over rows that counts bits and tests numbers.
+pub mod Walk
+pub mod Limits
