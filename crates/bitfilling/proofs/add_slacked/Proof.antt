@@ -1,0 +1,33 @@
+-- The terms, then the slack's weights; the row stays below 2^63.
+use mathlib.Core.Path.{_∙_}
+use native.Mathlib.Omega.{arith}
+use borrow.Author.Needs.{needs}
+use Rattle.bitfilling.proofs.Filling.{slacked-added}
+use Rattle.bitfilling.proofs.add_slacked.Statement.{statement}
+use Rattle.bitfilling.proofs.add_slacked.Tie as tie
+
+add-terms-requires : tie.Need-add-terms-requires
+add-terms-requires c κs = let s = c .before .before .before in (s .pre .0, s .pre .1, s .pre .2, s .pre .3, s .pre .5)
+
+slack-of-requires : tie.Need-slack-of-requires
+slack-of-requires c κs = let s = c .before .before .before .before .before .before in (s .pre .0, s .pre .1, s .pre .3)
+
+add-weights-requires : tie.Need-add-weights-requires
+add-weights-requires c κs =
+    let s = c .before .before .before .before .before .before .before in
+    (omega (arith, s .pre .4), omega (arith, c .slack-of .ensures .1), omega (arith, c .before .before .before .add-terms .ensures .1, c .slack-of .ensures .1, s .pre .3, s .pre .5))
+
+returns : tie.Need-returns
+returns c =
+    let s = c .before .before .before .before .before .before .before .before .before in
+    c .before .add-weights .ensures .1 ∙ rw (c .before .before .slack-of .ensures .0, c .before .before .before .before .before .add-terms .ensures .0) (slacked-added (s .args .row .now) (s .args .ls .now) (s .args .us .now) (s .args .firsts .now) (s .args .first) _ _)
+
+pub add-slacked-spec : {M : Type 1} → statement M
+add-slacked-spec =
+    tie.close
+    (tie.spec
+    add-terms-requires
+    slack-of-requires
+    add-weights-requires
+    (λ c. search needs)
+    returns)
