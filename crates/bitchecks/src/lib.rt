@@ -3,6 +3,7 @@ ghost use mathlib.Core.Path.{_≡_};
 ghost use mathlib.Core.Bool.{true};
 ghost use mathlib.Core.List.{List};
 ghost use Prim.Native.Nat.{ℕ, _<_, _≤_};
+ghost use lib.IntN.{natAbs};
 ghost use lib.Signed.{leZ};
 ghost use lib.ListN.{length};
 ghost use Rattle.integers.specs.Number.{absZ};
@@ -10,9 +11,15 @@ ghost use Rattle.integers.specs.Lists.{all};
 ghost use Rattle.words.specs.Limit as Limit;
 ghost use Rattle.extremes.specs.Bounded.{Bounded};
 ghost use Rattle.bitforms.specs.BitRow.{bitsWith};
-ghost use Rattle.bitforms.specs.FormAnswer.{mostInRow};
-ghost use Rattle.bittables.specs.Tables.{rowsBy, Counted};
+ghost use Rattle.bitforms.specs.Energy.{square};
+ghost use Rattle.bitforms.specs.Matrix.{constantOf};
+ghost use Rattle.bitforms.specs.FormAnswer.{mostInRow, rowFits};
+ghost use Rattle.bittables.specs.Tables.{rowBy, rowsBy, Placed, Counted, Tables};
+use bitfilling::fill_row;
 use bitslack::own_bits;
+use bitslack::row_constant;
+use integers::plus;
+use integers::times;
 use rowreading::rows::starts_row;
 
 // Whether rows over bits fit, and then the sum of their constants' squares.
@@ -60,4 +67,71 @@ fn all_within(row: &[i64]) -> bool
         i += 1;
     }
     true
+}
+
+// Whether the row or product with this head fits, and then the square of its constant; the list is used for its row over bits.
+fn check_row(
+    row: &mut [i64],
+    head: u32,
+    args: &[u32],
+    ls: &[i64],
+    us: &[i64],
+    firsts: &[usize],
+    first: usize,
+) -> Checked
+    requires { ⌜ Bounded (now ls) × Bounded (now us) × Placed (now firsts) × (first < 1099511627776) ⌝ }
+    ensures { λ r. ⌜ (r .fits ≡ rowFits (length (now (row .entry))) (rowBy (now (ls .entry)) (now (us .entry)) (now (firsts .entry)) first head (now (args .entry)))) × (r .fits ≡ true → (r .constant ≡ square (rowBy (now (ls .entry)) (now (us .entry)) (now (firsts .entry)) first head (now (args .entry)) .whole .constant)) × (natAbs (r .constant) ≤ 268435456)) × (length (now (row .exit)) ≡ length (now (row .entry))) ⌝ }
+{
+    let c = row_constant(head, args, ls);
+    if !within_limit(c) {
+        return Checked {
+            fits: false,
+            constant: 0,
+        };
+    }
+    fill_row(row, head, args, ls, us, firsts, first);
+    if !all_within(row) {
+        return Checked {
+            fits: false,
+            constant: 0,
+        };
+    }
+    Checked {
+        fits: true,
+        constant: times(c, c),
+    }
+}
+
+// Of all rows and products.
+pub fn check_rows(
+    ws: &[u32],
+    ls: &[i64],
+    us: &[i64],
+    firsts: &[usize],
+    counts: &[usize],
+    start: usize,
+    row: &mut [i64],
+) -> Checked
+    requires { ⌜ (length (now ws) ≤ Limit.rowWords) × Tables (now ls) (now us) (now firsts) (now counts) × (start ≤ 262144) ⌝ }
+    ensures { λ r. ⌜ (r .fits ≡ all (rowFits (length (now (row .entry)))) (rowsBy (now (ls .entry)) (now (us .entry)) (now (firsts .entry)) start (now (ws .entry)))) × (r .fits ≡ true → r .constant ≡ constantOf (rowsBy (now (ls .entry)) (now (us .entry)) (now (firsts .entry)) start (now (ws .entry)))) ⌝ }
+{
+    let mut constant: i64 = 0;
+    let mut first = start;
+    let mut at = 0;
+    while at < ws.len() {
+        let head = ws[at];
+        at += 1;
+        if starts_row(head) {
+            let checked = check_row(row, head, &ws[at..], ls, us, firsts, first);
+            if !checked.fits {
+                return checked;
+            }
+            constant = plus(constant, checked.constant);
+            first += own_bits(head, &ws[at..], ls, us, counts);
+        }
+    }
+    Checked {
+        fits: true,
+        constant,
+    }
 }

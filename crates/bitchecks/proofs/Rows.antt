@@ -1,0 +1,128 @@
+-- What is said of one row over bits, and of all rows, one row more.
+use mathlib.Core.Path.{_≡_, refl, sym, ap, ap₂, _∙_}
+use mathlib.Core.Bool.{Bool, true, false, _&&_}
+use mathlib.Core.List.{List}
+use Prim.Native.Nat.{ℕ, _+_, _*_, _≤_, _<_}
+use native.Mathlib.Omega.{arith}
+use lib.IntN.{ℤ, pos, natAbs}
+use lib.ListN.{length, getD, drop}
+use Rattle.integers.specs.Number.{_⊕_, _⊗_}
+use Rattle.integers.specs.Lists.{all}
+use Rattle.integers.proofs.Fits.{plus-size, times-size, mul-le}
+use Rattle.integers.proofs.Linear.{linear}
+use Rattle.integers.proofs.Tests.{false-true}
+use Rattle.rowsystems.specs.OneWord.{startsRow}
+use Rattle.rowsystems.proofs.Walk.{starts-none, starts-one, none-left}
+use Rattle.extremes.specs.Bounded.{boundsOf}
+use Rattle.bitforms.specs.Total.{total}
+use Rattle.bitforms.specs.BitRow.{BitRow, bitRows}
+use Rattle.bitforms.specs.Energy.{square}
+use Rattle.bitforms.specs.Matrix.{constantOf}
+use Rattle.bitforms.specs.FormAnswer.{rowFits}
+use Rattle.bittables.specs.Tables.{encodingBy, rowBy, rowsBy}
+use Rattle.bitfilling.specs.Filled.{dense}
+use Rattle.bitfilling.proofs.Filling.{limit-size, row-fits}
+use Rattle.bitchecks.proofs.Limits.{fits}
+
+-- ---- one row
+
+-- whether it fits, and then the square of its constant
+abbrev pub Said : ℕ → BitRow → Bool → ℤ → Type 0
+Said n r f k = (f ≡ rowFits n r) × (f ≡ true → (k ≡ square (r .whole .constant)) × (natAbs k ≤ 268435456))
+
+module _ (n : ℕ) (r : BitRow) {c : ℤ} (e : c ≡ r .whole .constant) where
+  pub constant-out : (k : ℤ) → fits c ≡ false → Said n r false k
+  constant-out k h = (sym (row-fits n r ∙ rw (← e, h) refl), λ z. false-true z)
+
+  module _ (h : fits c ≡ true) {row : List ℤ} (g : row ≡ dense n (r .whole .terms)) where
+    pub terms-out : (k : ℤ) → all fits row ≡ false → Said n r false k
+    terms-out k l = (sym (row-fits n r ∙ rw (← e, h, ← g, l) refl), λ z. false-true z)
+
+    pub row-in : (k : ℤ) → k ≡ c ⊗ c → all fits row ≡ true → Said n r true k
+    unfolding square
+    row-in k m l =
+        let s = limit-size c h in
+        (sym (row-fits n r ∙ rw (← e, h, ← g, l) refl), λ z. (m ∙ ap (λ x. x ⊗ x) e, rw m (omega (arith, times-size c c, mul-le s s))))
+
+-- ---- all rows
+
+pub record Checking (ws : List ℕ) (ls us : List ℤ) (firsts : List ℕ) (start n : ℕ) (row : List ℤ) (constant : ℤ) (first at : ℕ) : Type 0 where
+  pub place : at ≤ length ws
+  pub small : first ≤ start + 3844 * at
+  pub size : natAbs constant ≤ 268435456 * at
+  pub long : length row ≡ n
+  pub left : all (rowFits n) (rowsBy ls us firsts first (drop at ws)) ≡ all (rowFits n) (rowsBy ls us firsts start ws)
+  pub sum : constant ⊕ constantOf (rowsBy ls us firsts first (drop at ws)) ≡ constantOf (rowsBy ls us firsts start ws)
+
+nothing : (x : ℤ) → pos 0 ⊕ x ≡ x
+nothing = simp linear (omega arith)
+
+pub checking-begun : (ws : List ℕ) (ls us : List ℤ) (firsts : List ℕ) (start : ℕ) (row : List ℤ) → Checking ws ls us firsts start (length row) row (pos 0) start 0
+checking-begun ws ls us firsts start row = record {
+  place = omega arith;
+  small = omega arith;
+  size = omega arith;
+  long = refl;
+  left = refl;
+  sum = nothing _;
+}
+
+module _ {ws : List ℕ} {ls us : List ℤ} {firsts : List ℕ} {start n : ℕ} {row : List ℤ} {constant : ℤ} {first at : ℕ} (k : Checking ws ls us firsts start n row constant first at) where
+  pub checking-none : at < length ws → startsRow (getD ws at 0) ≡ false → Checking ws ls us firsts start n row constant first (at + 1)
+  checking-none h z =
+      let e = starts-none ws at h z in
+      record {
+        place = omega arith;
+        small = omega (arith, k .small);
+        size = omega (arith, k .size);
+        long = k .long;
+        left = ap (λ qs. all (rowFits n) (bitRows (boundsOf ls us) (encodingBy ls us firsts) first qs)) (sym e) ∙ k .left;
+        sum = ap (λ qs. constant ⊕ constantOf (bitRows (boundsOf ls us) (encodingBy ls us firsts) first qs)) (sym e) ∙ k .sum;
+      }
+
+  module _ (h : at < length ws) (z : startsRow (getD ws at 0) ≡ true) where
+    abbrev this : BitRow
+    this = rowBy ls us firsts first (getD ws at 0) (drop (at + 1) ws)
+
+    abbrev others : List BitRow
+    others = rowsBy ls us firsts (first + this .own) (drop (at + 1) ws)
+
+    fits-both : all (rowFits n) (rowsBy ls us firsts first (drop at ws)) ≡ (rowFits n this && all (rowFits n) others)
+    unfolding bitRows all
+    fits-both = ap (λ qs. all (rowFits n) (bitRows (boundsOf ls us) (encodingBy ls us firsts) first qs)) (starts-one ws at h z)
+
+    sums-both : constantOf (rowsBy ls us firsts first (drop at ws)) ≡ square (this .whole .constant) ⊕ constantOf others
+    unfolding bitRows constantOf total
+    sums-both = ap (λ qs. constantOf (bitRows (boundsOf ls us) (encodingBy ls us firsts) first qs)) (starts-one ws at h z)
+
+    pub checking-fails : {f : Bool} → f ≡ rowFits n this → f ≡ false → f ≡ all (rowFits n) (rowsBy ls us firsts start ws)
+    checking-fails s e = e ∙ sym (fits-both ∙ rw (← s, e) refl) ∙ k .left
+
+    pub checking-one : {f : Bool} {c d : ℤ} {own : ℕ} {after : List ℤ} → f ≡ true → Said n this f c → own ≤ 3844 → own ≡ this .own → length after ≡ length row →
+        d ≡ constant ⊕ c → Checking ws ls us firsts start n after d (first + own) (at + 1)
+    checking-one {f} {c} {d} {own} {after} t s l o g p =
+        let q = s .1 t in
+        record {
+          place = omega arith;
+          small = omega (arith, k .small);
+          size = rw p (omega (arith, plus-size constant c, k .size, q .1));
+          long = g ∙ k .long;
+          left = ap (λ m. all (rowFits n) (rowsBy ls us firsts (first + m) (drop (at + 1) ws))) o ∙ sym (fits-both ∙ rw (← (s .0), t) refl) ∙ k .left;
+          sum =
+              ap₂ (λ x m. x ⊕ constantOf (rowsBy ls us firsts (first + m) (drop (at + 1) ws))) (p ∙ ap (λ y. constant ⊕ y) (q .0)) o
+              ∙ grouped constant (square (this .whole .constant)) (constantOf others) ∙ ap (λ y. constant ⊕ y) (sym sums-both) ∙ k .sum;
+        }
+      where
+        grouped : (a b c : ℤ) → a ⊕ b ⊕ c ≡ a ⊕ (b ⊕ c)
+        grouped = simp linear (omega arith)
+
+  pub checking-done : length ws ≤ at → (true ≡ all (rowFits n) (rowsBy ls us firsts start ws)) × (constant ≡ constantOf (rowsBy ls us firsts start ws))
+  unfolding bitRows all constantOf total
+  checking-done h =
+      let e = none-left ws at h in (
+        ap (λ qs. all (rowFits n) (bitRows (boundsOf ls us) (encodingBy ls us firsts) first qs)) (sym e) ∙ k .left,
+        last constant ∙ ap (λ qs. constant ⊕ constantOf (bitRows (boundsOf ls us) (encodingBy ls us firsts) first qs)) (sym e) ∙ k .sum,
+      )
+    where
+      last : (x : ℤ) → x ≡ x ⊕ pos 0
+      last = simp linear (omega arith)
