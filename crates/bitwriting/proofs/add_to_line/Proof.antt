@@ -1,0 +1,49 @@
+-- A row that does not mention the bit adds nothing.
+use mathlib.Core.Path.{_≡_, refl, sym, ap, _∙_}
+use Prim.Native.Nat.{_+_}
+use native.Mathlib.Omega.{arith}
+use borrow.Author.Needs.{needs}
+use Rattle.bitwriting.proofs.Lining.{none-added}
+use Rattle.bitwriting.proofs.add_to_line.Statement.{statement}
+use Rattle.bitwriting.proofs.add_to_line.Tie as tie
+
+own-bits-requires : tie.Need-own-bits-requires
+own-bits-requires c κs = let t = c .before .before .before .pre .0 in (t .near-lower, t .near-upper, t .counted)
+
+add-row-requires : tie.Need-add-row-requires
+add-row-requires c κs = c .before .before .before .before .before .before .before .before .pre
+
+add-result : tie.Need-add-result
+add-result c = record { fits = omega (arith, c .before .before .before .before .before .before .before .before .before .before .before .pre .1, c .before .before .before .before .before .before .before .own-bits .ensures .1) }
+
+returns : tie.Need-returns
+returns c =
+    let a = c .before .before .before .before .before .before .before .before .before .before .before .args in
+    let o = c .before .before .before .before .before .before .before .own-bits .ensures in
+    let r = c .before .before .add-row .ensures in
+    (r .0, r .1, ap (λ n. a .first + n) (o .0 (a .firsts .now) (a .first)), omega (arith, o .1))
+
+add-result-2 : tie.Need-add-result-2
+add-result-2 c = record { fits = omega (arith, c .before .before .before .before .before .before .pre .1, c .before .before .own-bits .ensures .1) }
+
+returns-2 : tie.Need-returns-2
+returns-2 c =
+    let s = c .before .before .before .before .before .before in
+    let a = s .args in
+    let o = c .before .before .own-bits .ensures in
+    let e = o .0 (a .firsts .now) (a .first) in
+    (none-added (a .ls .now) (a .us .now) (a .firsts .now) (a .first) (a .head) (a .args .now) (a .i) (a .line .now) (sym (c .before .holds-bit .ensures (a .ls .now) (a .us .now) (s .pre .0 .counted) e) ∙ c .if1 .left), refl, ap (λ n. a .first + n) e, omega (arith, o .1))
+
+pub add-to-line-spec : {M : Type 1} → statement M
+add-to-line-spec =
+    tie.close
+    (tie.spec
+    own-bits-requires
+    (λ c κs. search needs)
+    add-row-requires
+    add-result
+    (λ c. search needs)
+    (λ c. search needs)
+    returns
+    add-result-2
+    returns-2)

@@ -1,0 +1,80 @@
+-- The invariant is `Lining`: with what the rows left add, the line's numbers are the entries.
+use mathlib.Core.Path.{_≡_, refl, sym, _∙_}
+use Prim.Native.Nat.{_+_, _-_}
+use native.Mathlib.Omega.{arith}
+use lib.ListN.{length}
+use borrow.Author.Needs.{needs}
+use Rattle.words.proofs.Reading.{tail-is}
+use Rattle.bitwriting.proofs.Lining.{Lining, lining-begun, row-here, lining-one, lining-none, lining-done}
+use Rattle.bitwriting.proofs.fill_line.Statement.{statement}
+use Rattle.bitwriting.proofs.fill_line.Tie as tie
+
+abbrev Inv-loop : tie.InvT-loop
+Inv-loop line₀ row₀ ws ls us firsts counts start i m first₀ at₀ line row first at = Lining ws ls us firsts start i (length row₀) line row first at
+
+abbrev μ-loop : tie.MeasureT-loop
+μ-loop line₀ row₀ ws ls us firsts counts start i m first₀ at₀ line row first at = length ws - at
+
+loop-holds : tie.Need-loop-holds Inv-loop μ-loop
+loop-holds c =
+    let s = c .before .before .before .before .before .before in
+    rw (c .before .clear .ensures, ← s .pre .6) (lining-begun (s .args .ws .now) (s .args .ls .now) (s .args .us .now) (s .args .firsts .now) (s .args .start) (s .args .i) (length (s .args .row .now)) (s .args .row .now) (s .pre .7) refl)
+
+add-to-line-requires : tie.Need-add-to-line-requires Inv-loop μ-loop
+add-to-line-requires c κs =
+    let s = c .before .before .before .before .before .before .before .before .before .before .before .before .before .before in
+    let l = c .before .before .before .before .before .before .before .loop in (
+      s .pre .1,
+      omega (arith, l .inv .near, l .inv .place, s .pre .0, s .pre .2),
+      s .pre .3,
+      s .pre .4,
+      omega (arith, l .inv .same-line, s .pre .5, s .pre .6),
+      l .inv .same-row ∙ sym (l .inv .same-line),
+      rw (tail-is (s .args .ws .now) (l .at + 1), l .inv .same-row) (row-here (l .inv) (c .before .before .before .before .before .before .loop-test .taken) (sym (c .before .before .before .before .starts-row .ensures) ∙ c .before .before .before .if1 .taken)),
+      omega (arith, l .inv .small, l .inv .place, s .pre .0),
+    )
+
+loop-again : tie.Need-loop-again Inv-loop μ-loop
+loop-again c =
+    let s = c .before .before .before .before .before .before .before .before .before .before .before .before .before .before .before .before .before in
+    let l = c .before .before .before .before .before .before .before .before .before .before .loop in
+    let e = c .before .before .add-to-line .ensures in
+    let t = tail-is (s .args .ws .now) (l .at + 1) in
+    lining-one (l .inv) (c .before .before .before .before .before .before .before .before .before .loop-test .taken) (sym (c .before .before .before .before .before .before .before .starts-row .ensures) ∙ c .before .before .before .before .before .before .if1 .taken) (rw t at (e .0)) (e .1) (rw t at (e .2)) (e .3)
+
+loop-again-2 : tie.Need-loop-again-2 Inv-loop μ-loop
+loop-again-2 c = lining-none (c .before .before .before .before .loop .inv) (c .before .before .before .loop-test .taken) (sym (c .before .starts-row .ensures) ∙ c .if1 .left)
+
+same-length : tie.Need-same-length Inv-loop μ-loop
+same-length c = c .before .loop .inv .same-line ∙ c .before .before .before .before .before .before .before .before .pre .6
+
+same-length-2 : tie.Need-same-length-2 Inv-loop μ-loop
+same-length-2 c = c .before .loop .inv .same-row
+
+returns : tie.Need-returns Inv-loop μ-loop
+returns c = let l = c .before .loop in (lining-done (l .inv) (c .loop-test .left), l .inv .same-line ∙ c .before .before .before .before .before .before .before .before .pre .6, l .inv .same-row)
+
+pub fill-line-spec : {M : Type 1} → statement M
+fill-line-spec =
+    tie.close
+    (tie.spec
+    Inv-loop
+    μ-loop
+    (λ c κs. search needs)
+    loop-holds
+    (λ c. search needs)
+    (λ c. search needs)
+    (λ c. search needs)
+    (λ c κs. search needs)
+    (λ c. search needs)
+    (λ c. search needs)
+    (λ c. search needs)
+    (λ c. search needs)
+    add-to-line-requires
+    (λ c. search needs)
+    loop-again
+    (λ c. search needs)
+    loop-again-2
+    same-length
+    same-length-2
+    returns)

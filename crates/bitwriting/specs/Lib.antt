@@ -1,0 +1,2 @@
+-- What the contracts cite: a line of the form.
+pub mod Lined

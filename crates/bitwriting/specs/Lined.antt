@@ -1,0 +1,18 @@
+-- A list that holds the line of bit i: from bit i on the entries of rows over bits.
+use mathlib.Core.Path.{_≡_}
+use mathlib.Core.List.{List}
+use Prim.Native.Nat.{ℕ, _+_, _<_, _≤_}
+use lib.IntN.{ℤ}
+use lib.ListN.{length, getD}
+use Rattle.integers.specs.Number.{+0}
+use Rattle.bitforms.specs.BitRow.{BitRow}
+use Rattle.integers.specs.Lists.{listOf}
+use Rattle.bitforms.specs.Matrix.{Entry, entryOf}
+use Rattle.bitlines.specs.Line.{entry}
+
+abbrev pub LineOf : List BitRow → ℕ → List ℤ → Type 0
+LineOf rs i line = (j : ℕ) → i ≤ j → j < length line → getD line j +0 ≡ entryOf rs i j
+
+-- the entries of bit i and the m bits from i on
+unfoldable pub lineOf : (ℕ → ℕ → ℤ) → ℕ → ℕ → List Entry
+lineOf e i m = listOf (λ d. entry i (i + d) (e i (i + d))) m
