@@ -11,3 +11,4 @@ pub mod Theorem
 pub mod Inside
 pub mod ReadBack
 pub mod Written
+pub mod Table
