@@ -1,5 +1,5 @@
 -- What the lists give, where they had zeros before and no variable is cut: the bits of the row system's variables.
-use mathlib.Core.Path.{_≡_, refl, sym, ap, _∙_, fun-ext}
+use mathlib.Core.Path.{_≡_, refl, sym, ap, ap₂, _∙_, fun-ext}
 use mathlib.Core.List.{List, [], _∷_, map}
 use Prim.Native.Nat.{ℕ, zero, suc, _+_, _≤_}
 use native.Mathlib.Omega.{arith}
@@ -11,14 +11,16 @@ use Rattle.integers.specs.Bounds.{_to_, boundsIn}
 use Rattle.integers.specs.declared.Bounds.{Bounds}
 use Rattle.words.specs.Overlay.{overlay}
 use Rattle.words.specs.Variables.{variables}
+use Rattle.rowsystems.specs.RowSystem.{rows}
 use Rattle.extremes.specs.Bounded.{boundsOf}
 use Rattle.extremes.proofs.Kept.{over-zeros, lowersKept, uppersKept, kept-bounds, lowers-bounded, uppers-bounded}
 use Rattle.bitforms.specs.Weights.{weightsFrom, weights}
 use Rattle.bitforms.specs.OverBits.{OverBits, weighted}
 use Rattle.bitforms.specs.Encoding.{weightsOf, encodings, encodingIn, bitsAfter}
-use Rattle.bitforms.specs.BitForm.{encoding}
+use Rattle.bitforms.specs.BitRow.{bitRows}
+use Rattle.bitforms.specs.BitForm.{encoding, bitRowsOf}
 use Rattle.bitforms.proofs.Numbers.{after-grows}
-use Rattle.bittables.specs.Tables.{spanIn, bitsOf, encodingBy, firstsFrom, Tables}
+use Rattle.bittables.specs.Tables.{spanIn, bitsOf, encodingBy, rowsBy, firstsFrom, Tables}
 use Rattle.bitnumbers.proofs.Keeping.{bitsIn, firsts-length, weights-by, few-after}
 
 -- ---- variable by variable, 0 past the last one
@@ -100,3 +102,8 @@ module _ (ws : List ℕ) (few : length (variables ws) ≤ 4096) where
       same : (v : ℕ) → _≡_ {A = OverBits} (record { constant = boundsIn (variables ws) v .lower; terms = weighted (getD (firstsFrom 0 (variables ws)) v 0) (weightsOf (boundsIn (variables ws) v)) })
           (encodingBy ls us (firstsKept ws) v)
       same v = rw (weights-kept v, first-kept v) (ap (λ β. record { constant = β v .lower; terms = weighted (getD (firstsFrom 0 (variables ws)) v 0) (weights (spanIn ls us v)) }) (sym (kept-bounds ws 4096 few)))
+
+  -- and the rows over bits by them are the row system's
+  pub kept-rows : rowsBy (lowersKept ws 4096) (uppersKept ws 4096) (firstsKept ws) (bitsAfter 0 (variables ws)) ws ≡ bitRowsOf ws
+  unfolding bitRowsOf
+  kept-rows = ap₂ (λ β E. bitRows β E (bitsAfter 0 (variables ws)) (rows ws)) (kept-bounds ws 4096 few) kept-encoding

@@ -1,24 +1,21 @@
 -- A model that passes the check, and the form over bits of the row system that translate writes for it, share their solutions.
-use mathlib.Core.Path.{_≡_, refl, sym, ap, _∙_, subst}
-use mathlib.Core.Logic.{_↔_}
-use mathlib.Core.Bool.{true}
+use mathlib.Core.Path.{_≡_, sym, ap, _∙_, subst}
 use mathlib.Core.List.{List, _++_}
-use Prim.Native.Nat.{ℕ, _+_, _-_, _≤_, _<_}
+use Prim.Native.Nat.{ℕ, _+_, _-_, _≤_}
 use native.Mathlib.Decide.{decLe}
 use native.Mathlib.Omega.{arith}
 use lib.IntN.{ℤ, pos}
-use lib.ListN.{length, getD, length-append, List·getD-append}
+use lib.ListN.{length, length-append, List·getD-append}
 use lib.Seq.{getD-append-add}
 use Rattle.integers.specs.Lists.{listOf}
-use Rattle.integers.specs.Bounds.{within, boundsIn}
+use Rattle.integers.specs.Bounds.{boundsIn}
 use Rattle.integers.specs.Terms.{value}
-use Rattle.integers.specs.declared.Bounds.{Bounds}
 use Rattle.integers.proofs.Lists.{listOf-length}
 use Rattle.integers.proofs.Places.{getD-listOf}
 use Rattle.integers.proofs.Tests.{says-within}
 use Rattle.words.specs.Variables.{variables}
 use Rattle.rules.specs.Translation.{bounds, systemWords, auxiliaries}
-use Rattle.sharing.specs.SharedSolutions.{Passes, Satisfies, SatisfiesModel, SatisfiesRows}
+use Rattle.sharing.specs.SharedSolutions.{Passes, SatisfiesModel, SatisfiesRows}
 use Rattle.sharing.proofs.Theorem.{written-read, same-bounds, shared-solutions}
 use Rattle.rowsystems.proofs.Ordered.{accepted-ordered}
 use Rattle.bitforms.specs.OverBits.{valueAt}

@@ -3,7 +3,7 @@ use mathlib.Core.Path.{_≡_, sym, ap, _∙_, subst, fun-ext}
 use mathlib.Core.List.{List}
 use Prim.Native.Nat.{ℕ}
 use lib.ListN.{length}
-use Rattle.rules.specs.Translation.{systemWords}
+use Rattle.words.specs.Answer.{Answer}
 use Rattle.bitforms.specs.FormAnswer.{bitForm, bitFormed}
 use Rattle.bitforms.proofs.Theorem.{formOf}
 use Rattle.bitforms.proofs.Written.{says-form, written-shares}
@@ -17,3 +17,7 @@ shares ws out n e = (
   λ model passes system.
       subst (ModelSolutions model) (fun-ext (λ bs. ap (λ us. formOf us bs) (sym system) ∙ sym (says-form ws out n e bs))) (model-solutions model passes),
 )
+
+-- of an answer and an output that are the definitions'
+pub shares-of : (ws before : List ℕ) {after : List ℕ} {answer : Answer} → answer ≡ bitForm ws (length before) → after ≡ bitFormed ws before → Shares ws answer after
+shares-of ws before e f = rw (e, f) (shares ws before)
