@@ -1,4 +1,5 @@
 -- The form over bits: never below 0, and 0 exactly where the row system is satisfied.
+pub mod AtTheEdges
 pub mod Sums
 pub mod Bits
 pub mod Weights
@@ -11,4 +12,3 @@ pub mod Theorem
 pub mod Inside
 pub mod ReadBack
 pub mod Written
-pub mod Table

@@ -1,5 +1,5 @@
--- 02, wish 14, at its edges, as a table of computed equations: a product of a variable with itself, width 0, a row that no values satisfy, a last weight
--- that is cut, 1,024 bits and 1,025, a coefficient of 16,384 and 16,385.
+-- 02, wish 14, at its edges, as a table of computed equations: a product of a variable with itself, width 0, a row that no values satisfy, a slack, a
+-- last weight that is cut, 1,024 bits and 1,025, a coefficient of 16,384 and 16,385.
 use mathlib.Core.Path.{_≡_, refl}
 use mathlib.Core.List.{List, [], _∷_, _++_, flatMap, map}
 use Prim.Native.Nat.{ℕ, zero, suc, _+_}
@@ -67,13 +67,13 @@ neverRows = 0x30000000 ∷ 0xA0000001 ∷ 0x50000000 ∷ 0x60000001 ∷ 0x600000
 abbrev neverForm : List ℕ
 neverForm = 0x60000001 ∷ 0x50000000 ∷ 0x50000000 ∷ 0x60000003 ∷ 0xF0000000 ∷ []
 
--- a Boolean x, x−1≤0: slack 0..1, and 0 for x=1, slack 0 and for x=0, slack 1
+-- a Boolean x, −x≤0: slack 0..1, as the least sum is −1, and (slack−x)²
 abbrev slackRows : List ℕ
-slackRows = 0x30000000 ∷ 0xA0000001 ∷ 0x50000000 ∷ 0x60000001 ∷ 0x6FFFFFFF ∷ 0xF0000000 ∷ []
+slackRows = 0x30000000 ∷ 0xA0000001 ∷ 0x50000000 ∷ 0x6FFFFFFF ∷ 0x60000000 ∷ 0xF0000000 ∷ []
 
 abbrev slackForm : List ℕ
 slackForm =
-    0x60000001 ∷ 0x50000000 ∷ 0x50000000 ∷ 0x6FFFFFFF ∷ 0x50000000 ∷ 0x50000001 ∷ 0x60000002 ∷ 0x50000001 ∷ 0x50000001 ∷ 0x6FFFFFFF ∷
+    0x60000000 ∷ 0x50000000 ∷ 0x50000000 ∷ 0x60000001 ∷ 0x50000000 ∷ 0x50000001 ∷ 0x6FFFFFFE ∷ 0x50000001 ∷ 0x50000001 ∷ 0x60000001 ∷
     0xF0000000 ∷ []
 
 -- x in 0..4: weights 1, 2 and 1, the last cut; x−4=0
