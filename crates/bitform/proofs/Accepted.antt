@@ -1,0 +1,112 @@
+-- Accepted words: the reader's number says so, and the lists of the variables' bits are the row system's.
+use mathlib.Core.Path.{_≡_, refl, ap, _∙_}
+use mathlib.Core.Bool.{Bool, true, false}
+use mathlib.Core.List.{List, [], _∷_, map}
+use Prim.Native.Nat.{ℕ, zero, suc, _+_, _≤_}
+use native.Mathlib.Omega.{arith}
+use lib.Dec.{ltb}
+use lib.IntN.{ℤ}
+use lib.ListN.{length, replicate}
+use Rattle.integers.specs.Choice.{_if_else_}
+use Rattle.integers.specs.Lists.{listOf}
+use Rattle.words.specs.Fault as Fault
+use Rattle.words.specs.Limit as Limit
+use Rattle.words.specs.Overlay.{overlay}
+use Rattle.words.specs.Variables.{variables}
+use Rattle.words.specs.Refusal.{accepted, faultOr, firstFault, _at-place_}
+use Rattle.words.specs.declared.Refusal.{Refusal}
+use Rattle.rowsystems.proofs.Sizes.{few-words}
+use Rattle.rowsystems.specs.Reading.{State, fault, after, ended, begin, readRows}
+use Rattle.extremes.specs.Bounded.{boundsOf, Bounded}
+use Rattle.extremes.proofs.Kept.{lowersKept, uppersKept, lowers-bounded, uppers-bounded}
+use Rattle.bitforms.specs.Encoding.{weightsOf, bitsAfter}
+use Rattle.bitforms.specs.BitRow.{bitsWith}
+use Rattle.bitforms.specs.BitForm.{bitCount}
+use Rattle.bittables.specs.Tables.{rowsBy, firstsFrom, Counted, Tables}
+use Rattle.bitnumbers.proofs.Kept.{firstsKept, countsKept, kept-variables, kept-few, kept-tables, kept-rows}
+use Rattle.bitnumbers.proofs.Few.{few-variables}
+use Rattle.bitform.specs.Answered.{Listed}
+
+-- ---- the reader
+
+none-or : (n p : ℕ) (rest : Refusal) → faultOr n p rest .number ≡ 0 → (n ≡ 0) × (rest .number ≡ 0)
+none-or zero p rest e = (refl, e)
+none-or (suc n) p rest e = absurd (omega arith)
+
+reading-accepts : (s : State) (p : ℕ) (ws : List ℕ) → firstFault fault after ended s p ws .number ≡ 0 → firstFault fault after ended s p ws ≡ accepted
+unfolding firstFault
+reading-accepts s p [] e = let k = none-or (ended s) p accepted e .0 in rw k refl
+reading-accepts s p (w ∷ ws) e =
+    let k = none-or (fault s w ws) p (firstFault fault after ended (after s w) (p + 1) ws) e in
+    rw (k .0) (reading-accepts (after s w) (p + 1) ws (k .1))
+
+pub accepts : (ws : List ℕ) → readRows ws .number ≡ 0 → readRows ws ≡ accepted
+unfolding readRows
+accepts ws e = go (ltb Limit.rowWords (length ws)) e
+  where
+    go : (t : Bool) → (Fault.tooManyWords at-place 0 if t else firstFault fault after ended begin 0 ws) .number ≡ 0 →
+        (Fault.tooManyWords at-place 0 if t else firstFault fault after ended begin 0 ws) ≡ accepted
+    go true e = absurd (omega arith)
+    go false e = reading-accepts begin 0 ws e
+
+-- ---- the lists
+
+module _ (ws : List ℕ) (read : readRows ws ≡ accepted) where
+  pub few : length (variables ws) ≤ 4096
+  few = few-variables ws read
+
+  pub start-is : bitsAfter 0 (listOf (boundsOf (lowersKept ws 4096) (uppersKept ws 4096)) (length (variables ws))) ≡ bitsAfter 0 (variables ws)
+  start-is = ap (bitsAfter 0) (kept-variables ws few)
+
+  pub firsts-are : overlay (replicate 4096 0) 0 (firstsFrom 0 (listOf (boundsOf (lowersKept ws 4096) (uppersKept ws 4096)) (length (variables ws)))) ≡ firstsKept ws
+  firsts-are = ap (λ Bs. overlay (replicate 4096 0) 0 (firstsFrom 0 Bs)) (kept-variables ws few)
+
+  pub counts-are : overlay (replicate 4096 0) 0 (map (λ B. length (weightsOf B)) (listOf (boundsOf (lowersKept ws 4096) (uppersKept ws 4096)) (length (variables ws)))) ≡ countsKept ws
+  counts-are = ap (λ Bs. overlay (replicate 4096 0) 0 (map (λ B. length (weightsOf B)) Bs)) (kept-variables ws few)
+
+  pub count-is : {n : ℕ} → n ≡ bitsWith (bitsAfter 0 (variables ws)) (rowsBy (lowersKept ws 4096) (uppersKept ws 4096) (firstsKept ws) (bitsAfter 0 (variables ws)) ws) → n ≡ bitCount ws
+  unfolding bitCount
+  count-is e = e ∙ ap (bitsWith (bitsAfter 0 (variables ws))) (kept-rows ws few)
+
+  pub listed : {n : ℕ} → n ≡ bitCount ws → n ≤ 1024 → Listed ws (lowersKept ws 4096) (uppersKept ws 4096) (firstsKept ws) (countsKept ws) (bitsAfter 0 (variables ws)) n
+  listed e l = record { read = read; tables = kept-tables ws few; rows-are = kept-rows ws few; near = omega (arith, kept-few ws few); count = e; few = l }
+
+-- ---- what the parts of the call need of them
+
+pub record Kept (ws : List ℕ) (ls us : List ℤ) (firsts counts : List ℕ) (start : ℕ) : Type 0 where
+  pub lowers : ls ≡ lowersKept ws 4096
+  pub uppers : us ≡ uppersKept ws 4096
+  pub numbers : firsts ≡ firstsKept ws
+  pub sizes : counts ≡ countsKept ws
+  pub begins : start ≡ bitsAfter 0 (variables ws)
+
+pub bounds-kept : (ws : List ℕ) {ls us : List ℤ} {n : ℕ} → readRows ws ≡ accepted → ls ≡ lowersKept ws 4096 → us ≡ uppersKept ws 4096 → n ≡ length (variables ws) →
+    Bounded ls × Bounded us × (n ≤ 4096)
+bounds-kept ws r e f g = (rw e (lowers-bounded ws 4096 (few ws r)), rw f (uppers-bounded ws 4096 (few ws r)), rw g (few ws r))
+
+pub all-kept : (ws : List ℕ) {ls us : List ℤ} {firsts counts : List ℕ} {start n : ℕ} → readRows ws ≡ accepted → ls ≡ lowersKept ws 4096 → us ≡ uppersKept ws 4096 → n ≡ length (variables ws) →
+    start ≡ bitsAfter 0 (listOf (boundsOf ls us) n) →
+    firsts ≡ overlay (replicate 4096 0) 0 (firstsFrom 0 (listOf (boundsOf ls us) n)) →
+    counts ≡ overlay (replicate 4096 0) 0 (map (λ B. length (weightsOf B)) (listOf (boundsOf ls us) n)) → Kept ws ls us firsts counts start
+all-kept ws r e f g h i j = record {
+  lowers = e;
+  uppers = f;
+  numbers = rw (e, f, g) at i ∙ firsts-are ws r;
+  sizes = rw (e, f, g) at j ∙ counts-are ws r;
+  begins = rw (e, f, g) at h ∙ start-is ws r;
+}
+
+module _ (ws : List ℕ) (r : readRows ws ≡ accepted) {ls us : List ℤ} {firsts counts : List ℕ} {start : ℕ} (k : Kept ws ls us firsts counts start) where
+  pub tables-kept : Tables ls us firsts counts
+  tables-kept = rw (k .lowers, k .uppers, k .numbers, k .sizes) (kept-tables ws (few ws r))
+
+  pub counting-needs : (length ws ≤ Limit.rowWords) × Bounded ls × Bounded us × Counted ls us counts × (start ≤ 262144)
+  counting-needs =
+      let t = tables-kept in
+      (few-words ws (ap (λ x. x .number) r), t .near-lower, t .near-upper, t .counted, omega (arith, k .begins, kept-few ws (few ws r)))
+
+  pub counted-is : {n : ℕ} → ((fs : List ℕ) → n ≡ bitsWith start (rowsBy ls us fs start ws)) → n ≡ bitCount ws
+  counted-is h = count-is ws r (rw (k .lowers, k .uppers, k .begins) at (h (firstsKept ws)))
+
+  pub listed-kept : {n : ℕ} → n ≡ bitCount ws → n ≤ 1024 → Listed ws ls us firsts counts start n
+  listed-kept e l = rw (k .lowers, k .uppers, k .numbers, k .sizes, k .begins) (listed ws r e l)

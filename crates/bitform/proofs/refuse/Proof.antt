@@ -1,0 +1,11 @@
+use mathlib.Core.Path.{refl}
+use Rattle.bitform.specs.Formed.{formed}
+use Rattle.bitform.proofs.refuse.Statement.{statement}
+use Rattle.bitform.proofs.refuse.Tie as tie
+
+returns : tie.Need-returns
+unfolding formed
+returns c = refl
+
+pub refuse-spec : {M : Type 1} → statement M
+refuse-spec = tie.close (tie.spec returns)

@@ -1,0 +1,223 @@
+// The quadratic form over bits of a row system.
+ghost use mathlib.Core.Path.{_≡_};
+ghost use mathlib.Core.Bool.{true};
+ghost use mathlib.Core.List.{[], _∷_};
+ghost use Prim.Native.Nat.{_<_};
+ghost use lib.ListN.{length};
+ghost use Rattle.integers.specs.Lists.{all};
+ghost use Rattle.words.specs.Answer.{refused};
+ghost use Rattle.words.specs.Refusal.{accepted};
+ghost use Rattle.words.specs.Kind as Kind;
+ghost use Rattle.words.specs.Overlay.{overlay};
+ghost use Rattle.words.specs.Word.{word, numberWord, inRange};
+ghost use Rattle.rowsystems.specs.Reading.{readRows};
+ghost use Rattle.bitforms.specs.BitForm.{bitRowsOf, formConstant};
+ghost use Rattle.bitforms.specs.FormAnswer.{rowFits, formFits, bitForm, bitFormed};
+ghost use Rattle.bitforms.specs.FormWords.{formWords};
+ghost use Rattle.bitsharing.specs.Shares.{Shares};
+ghost use Rattle.bitform.specs.Formed.{formed};
+ghost use Rattle.bitform.specs.Answered.{Answered, Listed};
+use bitchecks::check_rows;
+use bitchecks::count_bits;
+use bitnumbers::keep_bits;
+use bitwriting::put_lines;
+use extremes::keep_bounds;
+use rowreading::read_rows;
+use words::Refusal;
+use words::fault;
+use words::in_range;
+use words::kind;
+use words::lay;
+use words::number_word;
+use words::word_of;
+
+// The fault of too many bits, and their limit; the fault of a number that does not fit.
+const TOO_MANY_BITS: u32 = 23;
+
+const BITS: usize = 1024;
+
+const FORM_TOO_LARGE: u32 = 24;
+
+// What bit_form answers.
+pub enum Formed {
+    Refused(Refusal),
+    // how many words it wrote
+    Words(usize),
+}
+
+// A refusal at place 0.
+fn refuse(number: u32) -> Formed
+    ensures { λ r. ⌜ formed r ≡ refused number 0 ⌝ }
+{
+    Formed::Refused(Refusal { number, place: 0 })
+}
+
+// Writes the form's constant.
+fn put_constant(out: &mut [u32], c: i64)
+    ensures { λ r. ⌜ now (out .exit) ≡ overlay (now (out .entry)) 0 (numberWord Kind.number c ∷ []) ⌝ }
+{
+    let constant = [number_word(kind::NUMBER, c)];
+    lay(out, 0, &constant)
+}
+
+// Writes the end word.
+fn put_end(out: &mut [u32], end: usize)
+    requires { ⌜ end < 549755813888 ⌝ }
+    ensures { λ r. ⌜ now (out .exit) ≡ overlay (now (out .entry)) end (word Kind.rowsEnd 0 ∷ []) ⌝ }
+{
+    let last = [word_of(kind::ROWS_END, 0)];
+    lay(out, end, &last)
+}
+
+// Writes the words of a form that fits; the number of words.
+fn write_form(
+    ws: &[u32],
+    out: &mut [u32],
+    ls: &[i64],
+    us: &[i64],
+    firsts: &[usize],
+    counts: &[usize],
+    start: usize,
+    row: &mut [i64],
+    line: &mut [i64],
+    n: usize,
+    c: i64,
+) -> usize
+    requires { ⌜ Listed (now ws) (now ls) (now us) (now firsts) (now counts) start n × (length (now row) ≡ n) × (length (now line) ≡ n) × (c ≡ formConstant (now ws)) × (formFits (now ws) ≡ true) ⌝ }
+    ensures { λ r. ⌜ (r ≡ length (formWords (now (ws .entry)))) × (now (out .exit) ≡ overlay (now (out .entry)) 0 (formWords (now (ws .entry)))) ⌝ }
+{
+    put_constant(out, c);
+    let put = put_lines(out, 1, n, line, row, ws, ls, us, firsts, counts, start);
+    let end = put.at;
+    put_end(out, end);
+    end + 1
+}
+
+// Of rows and a constant that fit: 24 for an entry, 16, or the words. The words are counted by writing to an empty list.
+fn form_lines(
+    ws: &[u32],
+    out: &mut [u32],
+    ls: &[i64],
+    us: &[i64],
+    firsts: &[usize],
+    counts: &[usize],
+    start: usize,
+    row: &mut [i64],
+    line: &mut [i64],
+    n: usize,
+    c: i64,
+) -> Formed
+    requires { ⌜ Listed (now ws) (now ls) (now us) (now firsts) (now counts) start n × (length (now row) ≡ n) × (length (now line) ≡ n) × (all (rowFits n) (bitRowsOf (now ws)) ≡ true) × (c ≡ formConstant (now ws)) × (inRange c ≡ true) ⌝ }
+    ensures { λ r. ⌜ Answered (now (ws .entry)) (now (out .entry)) (now (out .exit)) (formed r) ⌝ }
+{
+    let mut nothing = [0u32; 0];
+    let counted = put_lines(
+        &mut nothing,
+        1,
+        n,
+        line,
+        row,
+        ws,
+        ls,
+        us,
+        firsts,
+        counts,
+        start,
+    );
+    if !counted.fits {
+        return refuse(FORM_TOO_LARGE);
+    }
+    let end = counted.at;
+    if out.len() <= end {
+        return refuse(fault::OUTPUT_TOO_SHORT);
+    }
+    Formed::Words(write_form(ws, out, ls, us, firsts, counts, start, row, line, n, c))
+}
+
+// Of at most 1,024 bits: 24 for a row or the constant, or what comes after.
+fn form_checked(
+    ws: &[u32],
+    out: &mut [u32],
+    ls: &[i64],
+    us: &[i64],
+    firsts: &[usize],
+    counts: &[usize],
+    start: usize,
+    row: &mut [i64],
+    line: &mut [i64],
+    n: usize,
+) -> Formed
+    requires { ⌜ Listed (now ws) (now ls) (now us) (now firsts) (now counts) start n × (length (now row) ≡ n) × (length (now line) ≡ n) ⌝ }
+    ensures { λ r. ⌜ Answered (now (ws .entry)) (now (out .entry)) (now (out .exit)) (formed r) ⌝ }
+{
+    let checked = check_rows(ws, ls, us, firsts, counts, start, row);
+    if !checked.fits {
+        return refuse(FORM_TOO_LARGE);
+    }
+    let c = checked.constant;
+    if !in_range(c) {
+        return refuse(FORM_TOO_LARGE);
+    }
+    form_lines(ws, out, ls, us, firsts, counts, start, row, line, n, c)
+}
+
+// The same, with a row over bits and a line of the form to work with.
+fn form_rows(
+    ws: &[u32],
+    out: &mut [u32],
+    ls: &[i64],
+    us: &[i64],
+    firsts: &[usize],
+    counts: &[usize],
+    start: usize,
+    n: usize,
+) -> Formed
+    requires { ⌜ Listed (now ws) (now ls) (now us) (now firsts) (now counts) start n ⌝ }
+    ensures { λ r. ⌜ Answered (now (ws .entry)) (now (out .entry)) (now (out .exit)) (formed r) ⌝ }
+{
+    let mut row = [0i64; 1024];
+    let mut line = [0i64; 1024];
+    form_checked(
+        ws,
+        out,
+        ls,
+        us,
+        firsts,
+        counts,
+        start,
+        &mut row[..n],
+        &mut line[..n],
+        n,
+    )
+}
+
+// Of accepted words: 23, or what comes after.
+fn form_accepted(ws: &[u32], out: &mut [u32]) -> Formed
+    requires { ⌜ readRows (now ws) ≡ accepted ⌝ }
+    ensures { λ r. ⌜ Answered (now (ws .entry)) (now (out .entry)) (now (out .exit)) (formed r) ⌝ }
+{
+    let mut ls = [0i64; 4096];
+    let mut us = [0i64; 4096];
+    let variables = keep_bounds(ws, &mut ls, &mut us);
+    let mut firsts = [0usize; 4096];
+    let mut counts = [0usize; 4096];
+    let start = keep_bits(&ls, &us, variables, &mut firsts, &mut counts);
+    let n = count_bits(ws, &ls, &us, &counts, start);
+    if BITS < n {
+        return refuse(TOO_MANY_BITS);
+    }
+    form_rows(ws, out, &ls, &us, &firsts, &counts, start, n)
+}
+
+// Writes the form to the front of the output; a refusal changes nothing.
+pub fn bit_form(ws: &[u32], out: &mut [u32]) -> Formed
+    ensures answer { λ r. ⌜ formed r ≡ bitForm (now (ws .entry)) (length (now (out .entry))) ⌝ }
+    ensures output { λ r. ⌜ now (out .exit) ≡ bitFormed (now (ws .entry)) (now (out .entry)) ⌝ }
+    ensures shared { λ r. ⌜ Shares (now (ws .entry)) (formed r) (now (out .exit)) ⌝ }
+{
+    let read = read_rows(ws);
+    if read.number != fault::NONE {
+        return Formed::Refused(read);
+    }
+    form_accepted(ws, out)
+}
