@@ -35,7 +35,7 @@ struct pearrummy_counts {
     size_t words;
 };
 
-/* What translate and text answer: `fault` 0 and how many words they wrote, or a fault, its place, and 0 words. */
+/* What translate, text and bits answer: `fault` 0 and how many words they wrote, or a fault, its place, and 0 words. */
 struct pearrummy_written {
     uint32_t fault;
     size_t place;

@@ -31,7 +31,7 @@ countsOf holds = noCounts 0 0
 countsOf (outOfBounds i) = noCounts 0 0
 countsOf (isFalse i) = noCounts 0 0
 
--- Of translate and text.
+-- Of translate, text and bits.
 abbrev pub noWords : ℕ → ℕ → Written
 noWords n p = record { fault = n; place = p; words = 0 }
 

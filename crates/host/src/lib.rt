@@ -23,6 +23,9 @@ ghost use Rattle.pairs.specs.HandsOver.{PairHandsOver};
 ghost use Rattle.pairs.specs.Pair.{modelOf};
 ghost use Rattle.texts.specs.Answered.{answered};
 ghost use Rattle.texts.specs.Text.{readText, textRead};
+ghost use Rattle.bitforms.specs.FormAnswer.{bitForm, bitFormed};
+ghost use Rattle.bitsharing.specs.Shares.{Shares as FormShares};
+ghost use Rattle.bitform.specs.Formed.{formed};
 ghost use Rattle.solutions.specs.Found.{found};
 ghost use Rattle.solutions.specs.Solutions.{solutionsAnswer, listed};
 ghost use Rattle.integers.specs.Choice.{_if_else_};
@@ -30,6 +33,8 @@ ghost use Rattle.reasons.specs.Reason.{reason as reasonAnswer};
 ghost use Rattle.reasoning.specs.Told.{told};
 ghost use Rattle.host.specs.Bytes.{checkBytes};
 ghost use Rattle.host.specs.Structs.{countsOf, explanationOf, judgementOf, listedOf, printedOf, writtenOf};
+use bitform::Formed;
+use bitform::bit_form;
 use encoding::words_of_bytes;
 use filling::Filled;
 use filling::fill;
@@ -73,7 +78,7 @@ pub struct Counts {
     pub words: usize,
 }
 
-// What translate or text answers a host: how many words it wrote, or a fault and its place.
+// What translate, text or bits answers a host: how many words it wrote, or a fault and its place.
 #[repr(C)]
 pub struct Written {
     pub fault: u32,
@@ -297,6 +302,24 @@ fn read_of(r: Read) -> Written
     }
 }
 
+// The answer of bits for a host.
+fn formed_of(f: Formed) -> Written
+    ensures { λ w. ⌜ w ≡ writtenOf (formed f) ⌝ }
+{
+    match f {
+        Formed::Refused(r) => Written {
+            fault: r.number,
+            place: r.place,
+            words: 0,
+        },
+        Formed::Words(n) => Written {
+            fault: 0,
+            place: 0,
+            words: n,
+        },
+    }
+}
+
 // Sheet's answer for a host.
 fn printed_of(p: sheets::Printed) -> Printed
     ensures { λ r. ⌜ r ≡ printedOf (printed p) ⌝ }
@@ -489,4 +512,14 @@ pub extern "C" fn pearrummy_reason(words: &[u32], values: &[i32]) -> Explanation
     ensures { λ r. ⌜ r ≡ explanationOf (reasonAnswer (now (words .entry)) (now (values .entry))) ⌝ }
 {
     explanation_of(reason(words, values))
+}
+
+// Bits; the words of the form of a row system go to the front of the output.
+#[no_mangle]
+pub extern "C" fn pearrummy_bits(words: &[u32], out: &mut [u32]) -> Written
+    ensures answer { λ r. ⌜ r ≡ writtenOf (bitForm (now (words .entry)) (length (now (out .entry)))) ⌝ }
+    ensures output { λ r. ⌜ now (out .exit) ≡ bitFormed (now (words .entry)) (now (out .entry)) ⌝ }
+    ensures shared { λ r. ⌜ FormShares (now (words .entry)) (bitForm (now (words .entry)) (length (now (out .entry)))) (now (out .exit)) ⌝ }
+{
+    formed_of(bit_form(words, out))
 }

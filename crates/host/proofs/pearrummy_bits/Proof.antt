@@ -1,0 +1,13 @@
+-- The answer of bits, as a host gets it, and its output.
+use mathlib.Core.Path.{ap, _∙_}
+use borrow.Author.Needs.{needs}
+use Rattle.host.specs.Structs.{writtenOf}
+use Rattle.host.proofs.pearrummy_bits.Statement.{statement}
+use Rattle.host.proofs.pearrummy_bits.Tie as tie
+
+returns : tie.Need-returns
+returns c = let e = c .before .before .before .bit-form .ensures in (c .formed-of .ensures ∙ ap writtenOf (e .0), (e .1 .0, rw (e .0) at (e .1 .1)))
+
+pub pearrummy-bits-spec : {M : Type 1} → statement M
+pearrummy-bits-spec =
+    tie.close (tie.spec (λ c κs. search needs) (λ c κs. search needs) (λ c. search needs) returns)
