@@ -1,0 +1,2 @@
+-- What the contract cites: bits over bytes.
+pub mod Bytes
