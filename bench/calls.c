@@ -6,12 +6,12 @@
 #include <time.h>
 #include <ucontext.h>
 
-enum { MODEL = 8192, ROWS = 262144, IN_ALL = 4096, LISTS = 65536, LISTED = 8, ROUNDS = 9 };
+enum { MODEL = 8192, ROWS = 262144, IN_ALL = 4096, LISTS = 65536, LISTED = 8, FORM = 524288, FEW_ROWS = 1024, ROUNDS = 9 };
 
 static uint32_t words[MODEL + 68], rows[ROWS]; /* a constraint that does not fit is put and taken back */
 static uint8_t bytes[4 * MODEL], page[81 * ROWS]; /* no row system prints more than a line for each of its words */
 static int32_t filled[IN_ALL], listed[LISTS * LISTED];
-static uint32_t pair[MODEL + 69];
+static uint32_t pair[MODEL + 69], form[FORM];
 static size_t length, row_words, row_values, room, text_bytes;
 
 /* ---- A model over nine variables: I an index, A, B, their sum, product and maximum, the absolute value of A, true and false. */
@@ -174,6 +174,25 @@ static void make_short_rows(size_t total) {
     row_words = total;
 }
 
+/* A row system of at most `total` words: 66 variables of 8 bits, and rows in which each has the coefficient 1 or -1; 528 bits. */
+static void make_bits_rows(size_t total) {
+    size_t at = 0;
+    for (int x = 0; x < 66; x++) {
+        rows[at++] = 0x10000000;
+        rows[at++] = 0x200000FF;
+    }
+    for (size_t r = 0; at + 135 <= total; r++) {
+        rows[at++] = 0xB0000000 + 66;
+        for (size_t k = 0; k < 66; k++) {
+            rows[at++] = 0x50000000 + k;
+            rows[at++] = (r + 1) * (k + 1) % 67 % 2 ? 0x60000001 : 0x6FFFFFFF;
+        }
+        rows[at++] = 0x60000000;
+    }
+    rows[at++] = 0xF0000000;
+    row_words = at;
+}
+
 /* A text of 256 variables, one of them Boolean, and 256 constraints, sums of 13 and 14 terms in turn: 8,192 words. */
 static void make_text(void) {
     text_bytes = 0;
@@ -199,6 +218,7 @@ static int fill(void) { return pearrummy_fill(words, length, values, VARIABLES, 
 static int judge_rows(void) { return pearrummy_judge_rows(rows, row_words, filled, row_values).said == PEARRUMMY_HOLDS; }
 static int sheet(void) { return pearrummy_sheet(rows, row_words, page, sizeof page).fault == 0; }
 
+static int bits(void) { return pearrummy_bits(rows, row_words, form, FORM).fault == 0; }
 static int text(void) { return pearrummy_text(page, text_bytes, words, MODEL).words == MODEL; }
 static int solutions(void) { return pearrummy_solutions(words, length, listed, room).solutions == LISTS; }
 
@@ -246,6 +266,12 @@ static void measure_sheet(const char *name) {
     size_t printed = pearrummy_sheet(rows, row_words, page, sizeof page).bytes;
     double best = best_time(name, sheet, row_words);
     printf("| %s | %zu | %zu | %.1f µs | %.0f |\n", name, row_words, printed, best * 1e6, printed / best / 1e6);
+}
+
+static void measure_bits(const char *name) {
+    size_t written = pearrummy_bits(rows, row_words, form, FORM).words;
+    double best = best_time(name, bits, row_words);
+    printf("| %s | %zu | %zu | %.1f µs | %.1f |\n", name, row_words, written, best * 1e6, best * 1e9 / row_words);
 }
 
 /* Makes a model, and the pair whose first candidate wrote nothing and whose second wrote its constraints; says how many values and words its row system has. */
@@ -301,6 +327,8 @@ static void measure_stack(void) {
     for (size_t k = 0; k < sizeof calls / sizeof *calls; k++) printf("%s %zu\n", calls[k].name, stack_of(calls[k].call) - none);
     make_text();
     printf("pearrummy_text %zu\n", stack_of(text) - none);
+    make_bits_rows(FEW_ROWS);
+    printf("pearrummy_bits %zu\n", stack_of(bits) - none);
     make_small(MODEL);
     room = LISTS * LISTED;
     printf("pearrummy_solutions %zu\n", stack_of(solutions) - none);
@@ -353,6 +381,18 @@ int main(int count, char **arguments) {
     double best_text = best_time("text", text, MODEL);
     printf("\n| Text of | Words | Bytes | Time | Megabytes a second |\n|---|---|---|---|---|\n");
     printf("| 256 variables, 256 constraints | %d | %zu | %.1f µs | %.1f |\n", MODEL, text_bytes, best_text * 1e6, text_bytes / best_text / 1e6);
+    printf("\n| Bits of | Row words | Words of the form | Time | Nanoseconds a row word |\n|---|---|---|---|---|\n");
+    begin_model(models[0].words, models[0].elements);
+    if (!translate()) return 1;
+    measure_bits("what translate wrote");
+    for (int k = 0; k < 3; k++) {
+        make_rows(systems[k]);
+        measure_bits("rows of 62 terms, 17 bits");
+    }
+    make_bits_rows(FEW_ROWS);
+    measure_bits("rows of 66 terms, 528 bits");
+    make_bits_rows(systems[0]);
+    measure_bits("rows of 66 terms, 528 bits");
     printf("\n| Solutions, of words | Lists | Time | Nanoseconds a list | Lists a second |\n|---|---|---|---|---|\n");
     for (int k = 0; k < 3; k++) {
         make_small(models[k].words);

@@ -1,13 +1,78 @@
-/* The calls of pearrummy for C. Link with target/staticlib/libhost.a, which `rt staticlib host` proves and writes.
+/* The calls of pearrummy for C and C++. Link with libpearrummy.a, which `make library` proves and builds, or with `pkg-config --libs pearrummy`.
  *
- * A list is lent as a pointer and its number of elements; a pointer to an empty list may be null. No call keeps a pointer, and none reads or
- * writes outside what it was lent. A model has at most 8,192 words, a row system at most 262,144. The answers are those of the scope document and the change
- * requests. `Stack` is what a call takes of it, measured and rounded up. */
+ * A list is lent as a pointer and its number of elements; a pointer to an empty list may be null. Lists must not overlap: a list that a call writes
+ * to shares no byte with one that it reads. A pointer is aligned for its type, as C asks. A list that a call reads is never changed; no call keeps a
+ * pointer, uses the heap or has a state, so that calls may run side by side; none reads or writes outside what it was lent. A list that a call writes
+ * to holds its answer in front, and its rest keeps its values; a refusal changes nothing. Any words, bytes, values and numbers of these may be lent.
+ *
+ * The words, the codes, the faults and the limits are explained in FORMAT.md. `Stack` is what a call takes of it, measured and rounded up. */
 #ifndef PEARRUMMY_H
 #define PEARRUMMY_H
 
 #include <stddef.h>
 #include <stdint.h>
+
+#ifdef __cplusplus
+extern "C" {
+#endif
+
+/* The second number rises with every change of an answer: a builtin, a call, a row or a limit more. */
+#define PEARRUMMY_VERSION "1.14.0"
+#define PEARRUMMY_VERSION_MAJOR 1
+#define PEARRUMMY_VERSION_MINOR 14
+#define PEARRUMMY_VERSION_PATCH 0
+
+/* Limits; what passes one is refused. */
+#define PEARRUMMY_MODEL_WORDS 8192
+#define PEARRUMMY_ROW_WORDS 262144 /* so many are always enough room for translate */
+#define PEARRUMMY_CODES 39
+#define PEARRUMMY_VARIABLES 256
+#define PEARRUMMY_CONSTRAINTS 256
+#define PEARRUMMY_LIST_LENGTH 32
+#define PEARRUMMY_EXPONENT 27
+#define PEARRUMMY_TERMS 66
+#define PEARRUMMY_ENCODED_VALUES 64
+#define PEARRUMMY_VALUES 4096 /* variables and auxiliaries; so many values are always enough room for fill */
+#define PEARRUMMY_LOWEST (-134217727)
+#define PEARRUMMY_HIGHEST 134217727
+#define PEARRUMMY_NAME_BYTES 32
+#define PEARRUMMY_LISTED_VARIABLES 8
+#define PEARRUMMY_LISTED_LISTS 65536 /* 8 times as many values are always enough room for solutions */
+#define PEARRUMMY_BITS 1024
+#define PEARRUMMY_BIT_NUMBERS 16384
+#define PEARRUMMY_FORM_WORDS 1574402 /* so many are always enough room for bits */
+
+/* The faults; 0 is none. */
+enum pearrummy_fault {
+    PEARRUMMY_NO_FAULT = 0,
+    PEARRUMMY_TOO_MANY_WORDS = 1,
+    PEARRUMMY_WORDS_END = 2,
+    PEARRUMMY_WRONG_KIND = 3,
+    PEARRUMMY_UPPER_BELOW_LOWER = 4,
+    PEARRUMMY_PAYLOAD_ABOVE_ZERO = 5,
+    PEARRUMMY_TOO_MANY_VARIABLES = 6,
+    PEARRUMMY_TOO_MANY_CONSTRAINTS = 7,
+    PEARRUMMY_UNKNOWN_CODE = 8,
+    PEARRUMMY_LENGTH_OUTSIDE = 9,
+    PEARRUMMY_NOT_DECLARED = 10,
+    PEARRUMMY_WORD_AFTER_END = 11,
+    PEARRUMMY_SET_TOO_WIDE = 12,
+    PEARRUMMY_NUMBER_OUTSIDE = 13,
+    PEARRUMMY_TOO_MANY_IN_ALL = 14,
+    PEARRUMMY_WRONG_VALUE_COUNT = 15,
+    PEARRUMMY_OUTPUT_TOO_SHORT = 16,
+    PEARRUMMY_RESULT_NOT_ABOVE = 17,
+    PEARRUMMY_LOWEST_NUMBER = 18,
+    PEARRUMMY_BREAKS_GRAMMAR = 19,
+    PEARRUMMY_WRONG_NAME = 20,
+    PEARRUMMY_OUTSIDE_RANGE = 21,
+    PEARRUMMY_TOO_MANY_LISTS = 22,
+    PEARRUMMY_TOO_MANY_BITS = 23,
+    PEARRUMMY_FORM_TOO_LARGE = 24
+};
+
+/* A fault in words, in English and ASCII; for a number that is no fault's, a text that says so. Never null. */
+const char *pearrummy_fault_text(uint32_t fault);
 
 /* What a judge or fill says. */
 enum {
@@ -102,7 +167,7 @@ struct pearrummy_printed pearrummy_sheet(const uint32_t *words, size_t words_cou
 /* Reads FlatZinc, items "var lo..hi: name;" or "var bool: name;", then items "constraint builtin(arguments);", then "solve satisfy;", and writes the
  * words of the model to the front of `out`, for check to read; 19 where the text breaks the grammar, 20 where a variable or builtin name is unknown
  * or a variable is declared twice, 21 where a number is outside the range, their place a byte of the text; then faults 1 and 16. Words past the end
- * keep their values; a refusal changes nothing. No model has more than 8,192 words, so that much room is always enough. Stack: 2 KiB. */
+ * keep their values; a refusal changes nothing. No model has more than 8,192 words, so that much room is always enough. Stack: 194 KiB. */
 struct pearrummy_written pearrummy_text(const uint8_t *text, size_t text_count, uint32_t *out, size_t out_count);
 
 /* Names the first row of a model's row system that values of its variables and auxiliaries fail, the constraint whose block holds it, and why;
@@ -132,5 +197,15 @@ struct pearrummy_judgement pearrummy_pair_judge_model(const uint32_t *words, siz
 /* Judges values of the variables of a candidate's model and, where they hold, writes them and the auxiliaries to the front of `out`.
  * Stack: 59 KiB. */
 struct pearrummy_judgement pearrummy_pair_fill(const uint32_t *words, size_t words_count, uint32_t candidate, const int32_t *values, size_t values_count, int32_t *out, size_t out_count);
+
+/* Writes the words of the quadratic form over bits of a row system to the front of `out`: the constant, then for each pair of bits whose entry is
+ * not 0 both bits and the entry, then F0000000. Faults 1 to 5, 9 to 11, 14, 17 and 18, then 23 above 1,024 bits, 24 where a number of a row over
+ * bits is beyond 16,384 or an entry or the constant is outside the range, and 16; the last three have place 0. Words past the end keep their
+ * values; a refusal changes nothing. Stack: 145 KiB. */
+struct pearrummy_written pearrummy_bits(const uint32_t *words, size_t words_count, uint32_t *out, size_t out_count);
+
+#ifdef __cplusplus
+}
+#endif
 
 #endif
