@@ -10,7 +10,7 @@ import glob, os, struct, sys
 
 HERE = os.path.dirname(os.path.abspath(__file__))
 SUITE = os.path.join(os.path.dirname(HERE), 'crates', 'suite')
-CALLS = {'check': 1, 'translate': 2, 'judge_model': 3, 'judge_rows': 4, 'fill': 5, 'sheet': 6, 'text': 7, 'reason': 8, 'solutions': 9,
+CALLS = {'check': 1, 'translate': 2, 'judge_model': 3, 'judge_rows': 4, 'fill': 5, 'sheet': 6, 'text': 7, 'reason': 8, 'solutions': 9, 'bits': 10,
          'pair_check': 11, 'pair_translate': 12, 'pair_judge_model': 13, 'pair_fill': 14}
 MORE = 3  # how much longer than wanted a list is lent, so that what stands past the end is seen
 
@@ -87,6 +87,22 @@ def long_system(words, last):
     return system + [0xF0000000]
 
 
+def long_form(system):
+    """The words of the form of such a system over bits, a bit for each variable: the rows' squares."""
+    rows, at = [], 0
+    while system[at] != 0xF0000000:
+        n = system[at] - 0xB0000000 if system[at] >> 28 == 0xB else -1
+        if n >= 0:
+            rows.append(([system[at + 1:at + 2 * n:2].count(0x50000000 + i) for i in range(16)], system[at + 2 * n + 1] - 0x60000000))
+        at += 2 * n + 2 if n >= 0 else 1
+    words = [0x60000000 + sum(c * c for _, c in rows)]
+    for i in range(16):
+        for j in range(i, 16):
+            entry = sum((2 - (i == j)) * a[i] * a[j] + 2 * (i == j) * a[i] * c for a, c in rows)
+            words += [0x50000000 + i, 0x50000000 + j, 0x60000000 + entry] if entry else []
+    return words + [0xF0000000]
+
+
 def long_text(words):
     """A text of so many words, 16 Boolean variables and clauses over them, with its words."""
     model = long_model(words)
@@ -118,6 +134,9 @@ def limits():
     yield 'judge_rows', [0x30000000] + whole, [0] * 18, 0, 'refused 1 0'
     yield 'sheet', whole, [], 8192, 'refused 16 0'
     yield 'sheet', [0x30000000] + whole, [], 8192, 'refused 1 0'
+    form = long_form(whole)
+    yield 'bits', whole, [], len(form), 'words ' + ' '.join('%08X' % w for w in form)
+    yield 'bits', [0x30000000] + whole, [], 0, 'refused 1 0'
     text, words = long_text(8192)
     for room, answer in (8192, 'words ' + ' '.join('%08X' % w for w in words)), (8191, 'refused 16 0'):
         yield 'text', text, [], room, answer

@@ -3,6 +3,7 @@
 // Of a text each word is a byte; of a word above 255 the lowest byte counts.
 // A call that writes is lent the front of a longer list, as long as the room; what it may not write is looked at afterwards.
 ghost use Prim.Native.Nat.{_≤_};
+use bitform::bit_form;
 use filling::fill;
 use input::Head;
 use input::next_head;
@@ -15,6 +16,7 @@ use lent::mark_words;
 use modeljudge::judge_model;
 use output::print_checked;
 use output::print_filled;
+use output::print_formed;
 use output::print_found;
 use output::print_printed;
 use output::print_read;
@@ -55,6 +57,8 @@ const TEXT: u32 = 7;
 const REASON: u32 = 8;
 
 const SOLUTIONS: u32 = 9;
+
+const BITS: u32 = 10;
 
 // The calls of a candidate, in the order of those of a model.
 const PAIR_CHECK: u32 = 11;
@@ -105,6 +109,20 @@ fn answer_words(text: &[u8], out: &mut [u32], room: usize) {
 fn answer_text(page: &[u8], n: usize, out: &mut [u32], room: usize) {
     let k = at_most(n, page.len());
     answer_words(&page[..k], out, room);
+}
+
+// The form over bits into the front of a list.
+fn answer_form(words: &[u32], out: &mut [u32], room: usize) {
+    mark_words(out);
+    let k = at_most(room, out.len());
+    let answer = bit_form(words, &mut out[..k]);
+    print_formed(answer, out);
+}
+
+// The same, the words at the front of a list.
+fn answer_bits(rows: &[u32], n: usize, out: &mut [u32], room: usize) {
+    let k = at_most(n, rows.len());
+    answer_form(&rows[..k], out, room);
 }
 
 // Translate into the front of a list.
@@ -225,7 +243,7 @@ fn answer_model(head: Head, model: &[u32], values: &[i32], rows: &mut [u32], fil
     answer_call(head, &model[..k], &values[..l], rows, filled);
 }
 
-// Reads the rest of a case and answers it. The list of row words is read to or written to, as the call asks.
+// Reads the rest of a case and answers it. The lists of model words and of row words are read to or written to, as the call asks.
 fn answer(
     head: Head,
     model: &mut [u32],
@@ -252,6 +270,11 @@ fn answer(
         answer_text(page, n, rows, head.room);
         return;
     }
+    if head.call == BITS {
+        read_words(rows, n);
+        answer_bits(rows, n, model, head.room);
+        return;
+    }
     read_words(model, n);
     read_values(values, m);
     answer_model(head, model, values, rows, filled);
@@ -259,7 +282,7 @@ fn answer(
 
 // At most a million cases.
 fn main() {
-    let mut model = [0u32; 8200];
+    let mut model = [0u32; 12288];
     let mut rows = [0u32; 262200];
     let mut values = [0i32; 4200];
     let mut filled = [0i32; 4200];

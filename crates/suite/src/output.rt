@@ -3,6 +3,7 @@ use crate::lent::first_marked;
 use crate::lent::marked_bytes;
 use crate::lent::marked_values;
 use crate::lent::marked_words;
+use bitform::Formed;
 use filling::Filled;
 use hexadecimal::digits_of;
 use reasoning::Reasoned;
@@ -154,6 +155,21 @@ pub fn print_read(answer: Read, out: &[u32]) {
             print_end(marked_words(out, 0));
         }
         Read::Words(n) => {
+            io::write_all(1, b"words");
+            print_words(out, n);
+            print_end(marked_words(out, n));
+        }
+    }
+}
+
+// The answer of bits; the list whose front was lent.
+pub fn print_formed(answer: Formed, out: &[u32]) {
+    match answer {
+        Formed::Refused(r) => {
+            print_refusal(r);
+            print_end(marked_words(out, 0));
+        }
+        Formed::Words(n) => {
             io::write_all(1, b"words");
             print_words(out, n);
             print_end(marked_words(out, n));

@@ -1,13 +1,13 @@
 -- The invariant: the lists keep their lengths. The measure: how many cases may come.
 use borrow.Author.Needs.{needs}
-use mathlib.Core.Path.{_≡_}
+use mathlib.Core.Path.{_≡_, refl}
 use lib.ListN.{length}
 use Rattle.suite.proofs.main.Statement.{statement}
 use Rattle.suite.proofs.main.Tie as tie
 
 abbrev Inv-loop : tie.InvT-loop
 Inv-loop model₀ rows₀ values₀ filled₀ page₀ left₀ model rows values filled page left =
-    (length model ≡ 8200) × (length rows ≡ 262200) × (length values ≡ 4200) × (length filled ≡ 4200) × (length page ≡ 32768)
+    (length model ≡ 12288) × (length rows ≡ 262200) × (length values ≡ 4200) × (length filled ≡ 4200) × (length page ≡ 32768)
 
 abbrev μ-loop : tie.MeasureT-loop
 μ-loop model₀ rows₀ values₀ filled₀ page₀ left₀ model rows values filled page left = left
@@ -18,7 +18,7 @@ main-spec =
     (tie.spec
     Inv-loop
     μ-loop
-    (λ c. search needs)
+    (λ c. (refl, refl, refl, refl, refl))
     (λ c κs. search needs)
     (λ c. search needs)
     (λ c. search needs)
