@@ -558,23 +558,23 @@ def compare(job):
             sum(c.known for c in cases))
 
 
-def gecode():
-    """Whether Gecode's FlatZinc interpreter is here, after an attempt to install it if it is not."""
-    install = ['apt-get', '-qq', '-y', '--no-install-recommends', 'install', 'flatzinc']
+def installed(program, package):
+    """Whether a program is here, after an attempt to install its Debian package if it is not."""
+    install = ['apt-get', '-qq', '-y', '--no-install-recommends', 'install', package]
     for command in (install, ['apt-get', '-qq', 'update'], install):
-        if shutil.which('fzn-gecode') or not shutil.which('apt-get') or os.geteuid():
+        if shutil.which(program) or not shutil.which('apt-get') or os.geteuid():
             break
         try:
             subprocess.run(command + ['-o', 'Acquire::Retries=0', '-o', 'Acquire::http::Timeout=10'], stdin=subprocess.DEVNULL, capture_output=True,
                            env=dict(os.environ, DEBIAN_FRONTEND='noninteractive'), timeout=120)
         except subprocess.TimeoutExpired:
             break
-    return shutil.which('fzn-gecode')
+    return shutil.which(program)
 
 
 def main():
     count, seed = [int(a) for a in sys.argv[1:]] + [400, 1][len(sys.argv) - 1:]
-    if not gecode():
+    if not installed('fzn-gecode', 'flatzinc'):
         print('solver: Gecode is not here, skipped')
         return 0
     if not os.path.exists(SUITE):

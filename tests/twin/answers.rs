@@ -31,7 +31,7 @@ pub struct Counts {
     pub words: usize,
 }
 
-/// What translate and text answer.
+/// What translate, text and bits answer.
 #[repr(C)]
 #[derive(Clone, Copy, Debug, PartialEq, Eq, Default)]
 pub struct Written {

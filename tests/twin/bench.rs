@@ -1,6 +1,7 @@
 //! Measures the library and the twin on the same models in one run.
 
 use crate::answers::HOLDS;
+use crate::forms;
 use crate::inputs::{self, Random};
 use crate::library::{self, Lent};
 use crate::texts;
@@ -201,6 +202,26 @@ fn declarations_line() -> String {
     format!("| text of {names} declarations, once | {size} | {ours:.2} | {theirs:.2} | {:.2} |", ours / theirs)
 }
 
+/// The line of bits over row systems of one sort, each measured a few times on both sides in turn: microseconds a call.
+fn bits_line(name: &str, count: usize, rounds: usize, build: fn(&mut Random) -> Vec<u32>) -> String {
+    let mut random = Random::new(7, 0);
+    let mut systems: Vec<Vec<u32>> = (0..).map(|_| build(&mut random)).filter(|system| twin::form_words(system).is_ok()).take(count).collect();
+    let words = systems.iter().map(Vec::len).sum::<usize>() / count;
+    let mut out = vec![0u32; 3 * twin::BITS * (twin::BITS + 1) / 2 + 2];
+    let mut other_out = out.clone();
+    let (mut ours, mut theirs) = (vec![], vec![]);
+    for _ in 0..rounds {
+        let start = now();
+        systems.iter_mut().for_each(|system| _ = black_box(library::bits(Lent::new(system), Lent::new(&mut out))));
+        let middle = now();
+        systems.iter().for_each(|system| _ = black_box(twin::bits(black_box(system), &mut other_out)));
+        ours.push((middle - start) as f64 / 1_000.0 / count as f64);
+        theirs.push((now() - middle) as f64 / 1_000.0 / count as f64);
+    }
+    let (ours, theirs) = (median(ours), median(theirs));
+    format!("| {name} | {words} | {ours:.2} | {theirs:.2} | {:.2} |", ours / theirs)
+}
+
 pub fn run() {
     println!("processor time, medians of {ROUNDS} rounds over {MODELS} models of each size, both sides in turn");
     println!("| Call | Words | Library, ns a word | Twin, ns a word | Ratio |");
@@ -214,4 +235,10 @@ pub fn run() {
     println!("|---|---|---|---|---|");
     SIZES.map(text_line).iter().for_each(|line| println!("{line}"));
     println!("{}", declarations_line());
+    println!();
+    println!("| Call | Words | Library, µs a call | Twin, µs a call | Ratio |");
+    println!("|---|---|---|---|---|");
+    println!("{}", bits_line("bits of small row systems", 1_000, 11, forms::small));
+    println!("{}", bits_line("bits, 1,024 of them, few rows", 10, 3, forms::of_all_bits));
+    println!("{}", bits_line("bits, 1,024 of them, 1,954 rows of 66 terms", 1, 1, forms::largest));
 }

@@ -24,9 +24,10 @@ pub enum Call {
     PairJudgeModel,
     PairFill,
     Text,
+    Bits,
 }
 
-const CALLS: [Call; 14] = [
+const CALLS: [Call; 15] = [
     Call::CheckBytes,
     Call::Check,
     Call::Translate,
@@ -41,6 +42,7 @@ const CALLS: [Call; 14] = [
     Call::PairJudgeModel,
     Call::PairFill,
     Call::Text,
+    Call::Bits,
 ];
 
 impl Call {
@@ -60,6 +62,7 @@ impl Call {
             "pair-judge",
             "pair-fill",
             "text",
+            "bits",
         ][self as usize]
     }
 
@@ -75,6 +78,7 @@ impl Call {
             Call::Solutions => matches!(fault, 1..=14 | 16 | 18 | 22),
             Call::Sheet => matches!(fault, 1..=5 | 9..=11 | 14 | 16..=18),
             Call::Text => matches!(fault, 1 | 16 | 19..=21),
+            Call::Bits => matches!(fault, 1..=5 | 9..=11 | 14 | 16..=18 | 23 | 24),
         }
     }
 
@@ -100,7 +104,7 @@ struct Guarded<T> {
 const GUARD: usize = 16;
 
 /// The highest number of a fault.
-const FAULTS: usize = 22;
+const FAULTS: usize = 24;
 
 /// The pattern of guard elements and of outputs before a call.
 trait Pattern: Copy + PartialEq + Debug {
@@ -350,6 +354,7 @@ impl Comparer {
         }
         if words.len() < 5_000 || words.len() > twin::ROW_WORDS || random.one_in(4) {
             self.sheet(random, words);
+            self.bits(random, words);
         }
     }
 
@@ -543,6 +548,22 @@ impl Comparer {
             self.differ(Call::Sheet, words, &[], Some(room), self.told(&library, &twin, words, &[]) + &outputs);
         }
         self.count(Call::Sheet, twin.fault, u32::from(twin.fault == 0));
+    }
+
+    /// Bits into a list that is too short, of the right length or longer; the words are lent.
+    fn bits(&mut self, random: &mut Random, words: &[u32]) {
+        let needed = twin::form_words(words).map_or(0, |form| form.len());
+        let room = random.pick(&[needed, needed, needed + 1, needed + 40, needed.saturating_sub(1), needed / 2, 0]);
+        let [ours, theirs] = &mut self.out_words;
+        ours.set_room(room);
+        theirs.set_room(room);
+        let library = library::bits(self.words.lend(), ours.lend());
+        let twin = twin::bits(words, theirs.list_mut());
+        if library != twin || ours.all != theirs.all || !self.words.unchanged(words) {
+            let outputs = first_difference(&ours.all, &theirs.all);
+            self.differ(Call::Bits, words, &[], Some(room), self.told(&library, &twin, words, &[]) + &outputs);
+        }
+        self.count(Call::Bits, twin.fault, u32::from(twin.fault == 0));
     }
 
     fn told(&self, library: &impl Debug, twin: &impl Debug, words: &[u32], values: &[i32]) -> String {

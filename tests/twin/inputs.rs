@@ -1,6 +1,7 @@
 //! Random, damaged and limit inputs. Every input follows from a seed and an index.
 
 use crate::answers::HOLDS;
+use crate::forms;
 use crate::texts;
 use crate::twin::{self, kind, payload, signed, word};
 use crate::twin::{
@@ -97,7 +98,11 @@ pub fn input(random: &mut Random) -> Input {
         700..=719 => ("damaged model near the range", Form::Model, damaged(random, range_model)),
         720..=724 => ("damaged model near a limit", Form::Model, damaged(random, limit_model)),
         725..=769 => ("random words", Form::Model, random_words(random)),
-        770..=859 => ("rows", Form::Rows, small_rows(random)),
+        770..=824 => ("rows", Form::Rows, small_rows(random)),
+        825..=844 => ("rows for bits", Form::Rows, with_values(random, forms::small)),
+        845..=856 => ("rows at a limit of bits", Form::Rows, with_values(random, forms::near_limits)),
+        857..=858 => ("damaged rows for bits", Form::Rows, damaged(random, |random| with_values(random, forms::small))),
+        859 => ("rows near 1,024 bits", Form::Rows, with_values(random, forms::near_bits)),
         860..=864 => ("rows near 66 terms", Form::Rows, many_terms(random)),
         865..=868 => ("rows near 4,096 variables", Form::Rows, many_row_variables(random)),
         869 => ("rows near 262,144 words", Form::Rows, near_row_words(random)),
@@ -1125,6 +1130,13 @@ fn small_rows(random: &mut Random) -> Pair {
         }
     }
     rows.finish()
+}
+
+/// A row system and values in its bounds.
+fn with_values(random: &mut Random, build: fn(&mut Random) -> Vec<u32>) -> Pair {
+    let words = build(random);
+    let values = declared(&words).iter().map(|&(lower, upper)| random.between(i64::from(lower), i64::from(upper)) as i32).collect();
+    (words, values)
 }
 
 /// What translate writes for a model, and what fill writes for its values.

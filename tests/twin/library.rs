@@ -43,6 +43,7 @@ mod raw {
             out_count: usize,
         ) -> Judgement;
         pub fn pearrummy_text(text: *const u8, text_count: usize, out: *mut u32, out_count: usize) -> Written;
+        pub fn pearrummy_bits(words: *const u32, words_count: usize, out: *mut u32, out_count: usize) -> Written;
     }
 }
 
@@ -121,4 +122,8 @@ pub fn pair_fill(words: Lent<u32>, candidate: u32, values: Lent<i32>, out: Lent<
 
 pub fn text(text: Lent<u8>, out: Lent<u32>) -> Written {
     unsafe { raw::pearrummy_text(text.pointer, text.count, out.pointer, out.count) }
+}
+
+pub fn bits(words: Lent<u32>, out: Lent<u32>) -> Written {
+    unsafe { raw::pearrummy_bits(words.pointer, words.count, out.pointer, out.count) }
 }

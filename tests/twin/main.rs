@@ -9,6 +9,7 @@
 mod answers;
 mod bench;
 mod compare;
+mod forms;
 mod inputs;
 mod library;
 mod texts;

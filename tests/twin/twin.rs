@@ -1,5 +1,5 @@
 //! Documents 01 and 02 in plain Rust: check over words and over bytes, translate, judge-model, judge-rows, fill, sheet,
-//! reason, solutions, the calls for a pair, and text.
+//! reason, solutions, the calls for a pair, text, and bits.
 //!
 //! It is written from the documents alone and shares nothing with the proved code, so that the two can be compared. Nothing here panics: every
 //! index is tested by the reading that comes first, and numbers that may leave 32 bits are 64 bits wide (the largest is 33 × 2^54).
@@ -8,7 +8,7 @@ use crate::answers::{Counts, Judgement, Listed, Printed, Reason, Refusal, Writte
 use std::collections::HashMap;
 use std::ops::Range;
 
-// The limits (01, Numbered faults; 02, wishes 10, 11 and 13).
+// The limits (01, Numbered faults; 02, wishes 8, 10, 11, 13 and 14).
 pub const MODEL_WORDS: usize = 8_192;
 pub const ROW_WORDS: usize = 262_144;
 pub const MODEL_VARIABLES: usize = 256;
@@ -21,6 +21,9 @@ pub const EXPONENT: i32 = 27;
 pub const LISTED_VARIABLES: usize = 8;
 pub const VALUE_LISTS: u64 = 65_536;
 pub const NAME_BYTES: usize = 32;
+pub const BITS: usize = 1_024;
+/// The largest coefficient or constant of a row over bits.
+pub const LARGEST_OVER_BITS: i64 = 16_384;
 
 // The kinds (01, Words).
 pub const LOWER: u32 = 0x1;
@@ -2061,6 +2064,223 @@ pub fn text_words(text: &[u8]) -> Result<Vec<u32>, Refusal> {
 /// Text: writes the model words of a FlatZinc text to the front of the output.
 pub fn text(text: &[u8], out: &mut [u32]) -> Written {
     match text_words(text) {
+        Err(refusal) => refusal.into(),
+        Ok(words) => match out.get_mut(..words.len()) {
+            None => Refusal { fault: 16, place: 0 }.into(),
+            Some(front) => {
+                front.copy_from_slice(&words);
+                Written { fault: 0, place: 0, words: words.len() }
+            }
+        },
+    }
+}
+
+// ----------------------------------------------------------------------------------------------------------------------------------- bits
+
+/// A row or a product of a row system.
+enum Part {
+    Row { kind: u32, terms: Vec<(usize, i64)>, constant: i64 },
+    Product { result: usize, first: usize, second: usize },
+}
+
+/// A row system as it was read.
+#[derive(Default)]
+struct RowSystem {
+    bounds: Vec<(i64, i64)>,
+    parts: Vec<Part>,
+}
+
+impl Sink for RowSystem {
+    fn variable(&mut self, lower: i64, upper: i64) {
+        self.bounds.push((lower, upper));
+    }
+
+    fn row(&mut self, kind: u32, _terms: usize) {
+        self.parts.push(Part::Row { kind, terms: vec![], constant: 0 });
+    }
+
+    fn term(&mut self, variable: usize, coefficient: i64) {
+        if let Some(Part::Row { terms, .. }) = self.parts.last_mut() {
+            terms.push((variable, coefficient));
+        }
+    }
+
+    fn constant(&mut self, number: i64) {
+        if let Some(Part::Row { constant, .. }) = self.parts.last_mut() {
+            *constant = number;
+        }
+    }
+
+    fn product(&mut self, result: usize, first: usize, second: usize) {
+        self.parts.push(Part::Product { result, first, second });
+    }
+}
+
+impl RowSystem {
+    fn width(&self, variable: usize) -> i64 {
+        let (lower, upper) = self.bounds[variable];
+        upper - lower
+    }
+
+    /// The largest slack of a row: 0 where it is an equation.
+    fn slack(&self, kind: u32, terms: &[(usize, i64)], constant: i64) -> i64 {
+        let least = |&(variable, coefficient): &(usize, i64)| {
+            let (lower, upper) = self.bounds[variable];
+            (coefficient * lower).min(coefficient * upper)
+        };
+        if kind == EQUAL {
+            0
+        } else {
+            (-(constant + terms.iter().map(least).sum::<i64>())).max(0)
+        }
+    }
+
+    /// How many bits a row or a product brings.
+    fn bits(&self, part: &Part) -> usize {
+        match part {
+            Part::Row { kind, terms, constant } => weights(self.slack(*kind, terms, *constant)).count(),
+            Part::Product { first, second, .. } => weights(self.width(*first)).count() * weights(self.width(*second)).count(),
+        }
+    }
+}
+
+/// The weights of a width: 1, 2, 4 and so on, the last cut so that they sum to it.
+fn weights(width: i64) -> impl Iterator<Item = i64> + Clone {
+    let sum_before = |place: u32| (1i64 << place) - 1;
+    (0..62).take_while(move |&place| sum_before(place) < width).map(move |place| (1 << place).min(width - sum_before(place)))
+}
+
+/// A quadratic form over bits, its entries i≤j in a square.
+struct QuadraticForm {
+    bits: usize,
+    constant: i64,
+    entries: Vec<i64>,
+}
+
+impl QuadraticForm {
+    fn add(&mut self, one: usize, other: usize, number: i64) {
+        self.entries[one.min(other) * self.bits + one.max(other)] += number;
+    }
+
+    /// Adds the square of a row over bits, like bits added: fault 24 where a coefficient or the constant is too large.
+    fn add_square(&mut self, row: &mut RowOverBits) -> Result<(), Refusal> {
+        let constant = row.constant;
+        let terms = row.terms();
+        if terms.iter().map(|&(_, coefficient)| coefficient).chain([constant]).any(|number| number.abs() > LARGEST_OVER_BITS) {
+            return refusal(24, 0);
+        }
+        self.constant += constant * constant;
+        for (at, &(bit, coefficient)) in terms.iter().enumerate() {
+            self.add(bit, bit, coefficient * (coefficient + 2 * constant));
+            for &(other, factor) in &terms[at + 1..] {
+                self.entries[bit * self.bits + other] += 2 * coefficient * factor;
+            }
+        }
+        Ok(())
+    }
+
+    /// The words of the form: fault 24 where a number is outside the range.
+    fn words(&self) -> Result<Vec<u32>, Refusal> {
+        let mut words = vec![word(NUMBER, self.constant)];
+        if self.entries.iter().chain([&self.constant]).any(|number| !(LEAST..=LARGEST).contains(number)) {
+            return refusal(24, 0);
+        }
+        for one in 0..self.bits {
+            for other in one..self.bits {
+                let entry = self.entries[one * self.bits + other];
+                if entry != 0 {
+                    words.extend([word(VARIABLE, one as i64), word(VARIABLE, other as i64), word(NUMBER, entry)]);
+                }
+            }
+        }
+        words.push(word(ROWS_END, 0));
+        Ok(words)
+    }
+}
+
+/// A row over bits while it is put together.
+#[derive(Default)]
+struct RowOverBits {
+    constant: i64,
+    terms: Vec<(usize, i64)>,
+}
+
+impl RowOverBits {
+    /// Adds a variable's bits and its lower bound, all times a coefficient.
+    fn add_variable(&mut self, system: &RowSystem, first_bits: &[usize], variable: usize, coefficient: i64) {
+        self.constant += coefficient * system.bounds[variable].0;
+        self.add_bits(first_bits[variable], system.width(variable), coefficient);
+    }
+
+    fn add_bits(&mut self, first: usize, width: i64, coefficient: i64) {
+        self.terms.extend((first..).zip(weights(width)).map(|(bit, weight)| (bit, coefficient * weight)));
+    }
+
+    /// The terms by rising bits, like bits added.
+    fn terms(&mut self) -> &[(usize, i64)] {
+        self.terms.sort_unstable();
+        self.terms.dedup_by(|next, kept| {
+            let alike = next.0 == kept.0;
+            kept.1 += if alike { next.1 } else { 0 };
+            alike
+        });
+        &self.terms
+    }
+}
+
+/// The words of the quadratic form of a row system (02, wish 14): judge-rows' faults but 15, then 23, then 24.
+pub fn form_words(words: &[u32]) -> Result<Vec<u32>, Refusal> {
+    let mut system = RowSystem::default();
+    read_rows(words, &mut system)?;
+    let mut bits = 0;
+    let mut first_bits = vec![];
+    for variable in 0..system.bounds.len() {
+        first_bits.push(bits);
+        bits += weights(system.width(variable)).count();
+    }
+    let mut next = bits;
+    bits += system.parts.iter().map(|part| system.bits(part)).sum::<usize>();
+    if bits > BITS {
+        return refusal(23, 0);
+    }
+    let mut form = QuadraticForm { bits, constant: 0, entries: vec![0; bits * bits] };
+    for part in &system.parts {
+        let mut row = RowOverBits::default();
+        match part {
+            Part::Row { kind, terms, constant } => {
+                row.constant = *constant;
+                terms.iter().for_each(|&(variable, coefficient)| row.add_variable(&system, &first_bits, variable, coefficient));
+                row.add_bits(next, system.slack(*kind, terms, *constant), 1);
+            }
+            Part::Product { result, first, second } => {
+                let (first_lower, second_lower) = (system.bounds[*first].0, system.bounds[*second].0);
+                row.add_variable(&system, &first_bits, *result, 1);
+                row.constant -= first_lower * second_lower;
+                row.add_bits(first_bits[*first], system.width(*first), -second_lower);
+                row.add_bits(first_bits[*second], system.width(*second), -first_lower);
+                let mut t = next;
+                for (u, one) in (first_bits[*first]..).zip(weights(system.width(*first))) {
+                    for (v, other) in (first_bits[*second]..).zip(weights(system.width(*second))) {
+                        row.terms.push((t, -one * other));
+                        // 3×t + u×v − 2×u×t − 2×v×t
+                        form.add(t, t, 3);
+                        form.add(u, v, 1);
+                        form.add(u, t, -2);
+                        form.add(v, t, -2);
+                        t += 1;
+                    }
+                }
+            }
+        }
+        next += system.bits(part);
+        form.add_square(&mut row)?;
+    }
+    form.words()
+}
+
+/// Bits: writes the quadratic form of a row system to the front of the output.
+pub fn bits(words: &[u32], out: &mut [u32]) -> Written {
+    match form_words(words) {
         Err(refusal) => refusal.into(),
         Ok(words) => match out.get_mut(..words.len()) {
             None => Refusal { fault: 16, place: 0 }.into(),

@@ -107,6 +107,10 @@ fn answer(call: &str, words: &mut [u32], values: &mut [i32], room: usize, librar
             let mut out = vec![0; room];
             written(if library { library::text(Lent::new(&mut text), Lent::new(&mut out)) } else { twin::text(&text, &mut out) }, &out)
         }
+        "bits" => {
+            let mut out = vec![0; room];
+            written(if library { library::bits(Lent::new(words), Lent::new(&mut out)) } else { twin::bits(words, &mut out) }, &out)
+        }
         "pair_check" | "pair_translate" | "pair_judge_model" | "pair_fill" => pair_answer(call, words, values, room, library),
         _ => "an unknown call".into(),
     }
