@@ -3,6 +3,7 @@ ghost use mathlib.Core.Path.{_≡_};
 ghost use Prim.Native.Nat.{_+_, _<_, _≤_};
 ghost use lib.IntN.{natAbs};
 ghost use lib.ListN.{length, set};
+ghost use Rattle.words.specs.Laid.{Laid};
 ghost use Rattle.words.specs.Overlay.{overlay};
 ghost use Rattle.decimals.specs.Ahead.{byteOf, minusAfter, ahead};
 ghost use Rattle.decimals.specs.Column.{blanks, right, left};
@@ -107,12 +108,21 @@ fn digits_of(n: usize) -> usize
     count
 }
 
+// A number; answers where it ends.
+pub fn put_decimal(page: &mut [u8], at: usize, n: usize) -> usize
+    requires { ⌜ at + length (decimal n) < 1099511627776 ⌝ }
+    ensures { λ r. ⌜ Laid (now (page .entry)) at (decimal n) (now (page .exit)) r ⌝ }
+{
+    let digits = digits_of(n);
+    put_right(page, at, digits, false, n);
+    at + digits
+}
+
 // A number left in so many columns.
 pub fn put_left(page: &mut [u8], at: usize, columns: usize, n: usize)
     requires { ⌜ (at + columns < 1099511627776) × (length (decimal n) ≤ columns) ⌝ }
     ensures { λ r. ⌜ now (page .exit) ≡ overlay (now (page .entry)) at (left columns (decimal n)) ⌝ }
 {
-    let digits = digits_of(n);
-    put_right(page, at, digits, false, n);
-    put_blanks(page, at + digits, columns - digits)
+    let end = put_decimal(page, at, n);
+    put_blanks(page, end, at + columns - end)
 }

@@ -1,0 +1,28 @@
+-- A number right in its own length.
+use native.Mathlib.Omega.{arith}
+use Rattle.words.proofs.Rest.{laid-part}
+use Rattle.decimals.specs.Decimal.{decimal}
+use Rattle.decimals.proofs.Ahead.{alone}
+use Rattle.decimals.proofs.Columns.{right-self}
+use borrow.Author.Needs.{needs}
+use Rattle.decimals.proofs.put_decimal.Statement.{statement}
+use Rattle.decimals.proofs.put_decimal.Tie as tie
+
+put-right-requires : tie.Need-put-right-requires
+put-right-requires c κs = (omega (arith, c .before .before .before .pre, c .before .digits-of .ensures), rw (alone, c .before .digits-of .ensures) (omega arith))
+
+returns : tie.Need-returns
+returns c =
+    let s = c .before .before .before .before .before .before in
+    rw (c .before .before .put-right .ensures, c .before .before .before .before .digits-of .ensures, alone, right-self)
+    (laid-part (s .args .page .now) (s .args .at) (decimal (s .args .n)) _ (omega arith))
+
+pub put-decimal-spec : {M : Type 1} → statement M
+put-decimal-spec =
+    tie.close
+    (tie.spec
+    (λ c κs. search needs)
+    put-right-requires
+    (λ c. search needs)
+    (λ c. search needs)
+    returns)

@@ -1,0 +1,61 @@
+// The lines that the programs print, laid over a page of bytes; each function answers where they end.
+ghost use mathlib.Core.Path.{_≡_};
+ghost use Prim.Native.Nat.{_+_, _*_, _<_, _≤_};
+ghost use lib.ListN.{length};
+ghost use Rattle.words.specs.Laid.{Laid};
+ghost use Rattle.lines.specs.Lines.{wordLine, wordLines, refusalLine};
+use decimals::put_byte;
+use decimals::put_decimal;
+use hexadecimal::digits_of;
+use words::Refusal;
+
+// Bytes.
+fn put_bytes(page: &mut [u8], at: usize, bytes: &[u8]) -> usize
+    requires { ⌜ at + length (now bytes) < 1099511627776 ⌝ }
+    ensures { λ r. ⌜ Laid (now (page .entry)) at (now (bytes .entry)) (now (page .exit)) r ⌝ }
+{
+    let mut i = 0;
+    while i < bytes.len() {
+        put_byte(page, at + i, bytes[i]);
+        i += 1;
+    }
+    at + i
+}
+
+// A word, on a line.
+fn put_word(page: &mut [u8], at: usize, w: u32) -> usize
+    requires { ⌜ at + 9 < 1099511627776 ⌝ }
+    ensures { λ r. ⌜ Laid (now (page .entry)) at (wordLine w) (now (page .exit)) r ⌝ }
+{
+    let end = put_bytes(page, at, &digits_of(w));
+    put_byte(page, end, 10);
+    end + 1
+}
+
+// Words, each on a line.
+pub fn put_words(page: &mut [u8], words: &[u32]) -> usize
+    requires { ⌜ length (now words) < 1073741824 ⌝ }
+    ensures text { λ r. ⌜ Laid (now (page .entry)) 0 (wordLines (now (words .entry))) (now (page .exit)) r ⌝ }
+    ensures end { λ r. ⌜ r ≡ 9 * length (now (words .entry)) ⌝ }
+{
+    let mut to = 0;
+    let mut k = 0;
+    while k < words.len() {
+        to = put_word(page, to, words[k]);
+        k += 1;
+    }
+    to
+}
+
+// "refused", the fault's number and its place, on a line.
+pub fn put_refusal(page: &mut [u8], r: Refusal) -> usize
+    ensures text { λ e. ⌜ Laid (now (page .entry)) 0 (refusalLine (r .number) (r .place)) (now (page .exit)) e ⌝ }
+    ensures end { λ e. ⌜ e ≤ 40 ⌝ }
+{
+    let start = put_bytes(page, 0, b"refused ");
+    let blank = put_decimal(page, start, r.number as usize);
+    put_byte(page, blank, 32);
+    let end = put_decimal(page, blank + 1, r.place);
+    put_byte(page, end, 10);
+    end + 1
+}
