@@ -52,10 +52,12 @@ pub fn put_refusal(page: &mut [u8], r: Refusal) -> usize
     ensures text { λ e. ⌜ Laid (now (page .entry)) 0 (refusalLine (r .number) (r .place)) (now (page .exit)) e ⌝ }
     ensures end { λ e. ⌜ e ≤ 40 ⌝ }
 {
+    let number = r.number as usize;
+    let place = r.place;
     let start = put_bytes(page, 0, b"refused ");
-    let blank = put_decimal(page, start, r.number as usize);
+    let blank = put_decimal(page, start, number);
     put_byte(page, blank, 32);
-    let end = put_decimal(page, blank + 1, r.place);
+    let end = put_decimal(page, blank + 1, place);
     put_byte(page, end, 10);
     end + 1
 }

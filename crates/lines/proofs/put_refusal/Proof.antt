@@ -7,19 +7,19 @@ use Rattle.lines.proofs.put_refusal.Statement.{statement}
 use Rattle.lines.proofs.put_refusal.Tie as tie
 
 number-ends : (c : tie.After-put-decimal) → c .put-decimal .result ≤ 18
-number-ends c = omega (arith, number-fits (c .before .before .before .before .before .before .before .before .before .args .r .number) (c .before .struct-known .given .0 .fits), c .put-decimal .ensures .ends, c .before .before .before .before .before .put-bytes .ensures .ends)
+number-ends c = omega (arith, number-fits (c .before .before .before .before .before .before .before .before .before .args .r .number) (c .before .before .before .before .before .before .before .struct-known .given .0 .fits), c .put-decimal .ensures .ends, c .before .before .before .before .put-bytes .ensures .ends)
 
 place-ends : (c : tie.After-put-decimal2) → c .put-decimal2 .result ≤ 39
-place-ends c = omega (arith, place-fits (c .before .before .before .before .before .before .before .before .before .before .before .before .before .before .before .before .before .args .r .place) (c .before .before .before .before .before .before .before .before .before .struct-known .given .1 .0 .fits), c .put-decimal2 .ensures .ends, number-ends (c .before .before .before .before .before .before .before .before))
+place-ends c = omega (arith, place-fits (c .before .before .before .before .before .before .before .before .before .before .before .before .before .before .before .before .before .args .r .place) (c .before .before .before .before .before .before .before .before .before .before .before .before .before .before .before .struct-known .given .1 .0 .fits), c .put-decimal2 .ensures .ends, number-ends (c .before .before .before .before .before .before .before .before))
 
 put-decimal-requires : tie.Need-put-decimal-requires
-put-decimal-requires c κs = omega (arith, number-fits (c .before .before .before .before .before .before .before .before .args .r .number) (c .struct-known .given .0 .fits), c .before .before .before .before .put-bytes .ensures .ends)
+put-decimal-requires c κs = omega (arith, number-fits (c .before .before .before .before .before .before .before .before .args .r .number) (c .before .before .before .before .before .before .struct-known .given .0 .fits), c .before .before .before .put-bytes .ensures .ends)
 
 add-put-decimal : tie.Need-add-put-decimal
 add-put-decimal c = omega (arith, number-ends (c .before .before .before .before .before .before .before))
 
 put-decimal-requires-2 : tie.Need-put-decimal-requires-2
-put-decimal-requires-2 c κs = omega (arith, place-fits (c .before .before .before .before .before .before .before .before .before .before .before .before .before .before .before .before .args .r .place) (c .before .before .before .before .before .before .before .before .struct-known .given .1 .0 .fits), number-ends (c .before .before .before .before .before .before .before))
+put-decimal-requires-2 c κs = omega (arith, place-fits (c .before .before .before .before .before .before .before .before .before .before .before .before .before .before .before .before .args .r .place) (c .before .before .before .before .before .before .before .before .before .before .before .before .before .before .struct-known .given .1 .0 .fits), number-ends (c .before .before .before .before .before .before .before))
 
 add-result : tie.Need-add-result
 add-result c = omega (arith, place-ends (c .before .before .before .before .before .before))
@@ -27,7 +27,7 @@ add-result c = omega (arith, place-ends (c .before .before .before .before .befo
 returns : tie.Need-returns
 returns c =
     let s = c .before .before .before .before .before .before .before .before .before .before .before .before .before .before .before .before .before .before .before .before .before .before .before in
-    let start = c .before .before .before .before .before .before .before .before .before .before .before .before .before .before .before .before .before .before .before .put-bytes in
+    let start = c .before .before .before .before .before .before .before .before .before .before .before .before .before .before .before .before .before .before .put-bytes in
     let number = c .before .before .before .before .before .before .before .before .before .before .before .before .before .before .put-decimal in
     let blank = c .before .before .before .before .before .before .before .before .before .before .put-byte in
     let place = c .before .before .before .before .before .before .put-decimal2 in (
@@ -42,8 +42,8 @@ put-refusal-spec =
     tie.close
     (tie.spec
     (λ c. search needs)
-    (λ c κs. search needs)
     (λ c. search needs)
+    (λ c κs. search needs)
     put-decimal-requires
     (λ c κs. search needs)
     add-put-decimal
