@@ -1,12 +1,13 @@
 -- Lines, part after part, and how long they are.
-use mathlib.Core.Path.{_≡_, refl, ap, _∙_}
+use mathlib.Core.Path.{_≡_, refl, sym, ap, _∙_}
 use mathlib.Core.List.{List, [], _∷_, _++_}
 use Prim.Native.Nat.{ℕ, suc, _+_, _<_, _≤_}
 use native.Mathlib.Omega.{arith}
-use lib.ListN.{length, getD, drop, set, drop-of-length-le}
-use lib.Seq.{drop-cons}
+use lib.ListN.{length, getD, take, drop, set, drop-of-length-le}
+use lib.Seq.{drop-cons, length-take-le}
 use Rattle.words.specs.Laid.{Laid}
-use Rattle.words.proofs.Rest.{all-left, lay-part, lay-last, laid-one}
+use Rattle.words.proofs.Overlay.{front-over}
+use Rattle.words.proofs.Rest.{all-left, lay-part, lay-last, laid-one, laid-length}
 use Rattle.decimals.specs.Decimal.{decimal}
 use Rattle.decimals.proofs.Digits.{decimal-length}
 use Rattle.hexadecimal.specs.Digits.{digits}
@@ -45,3 +46,10 @@ number-fits n h = decimal-length 9 n (omega arith)
 
 pub place-fits : (n : ℕ) → n < 18446744073709551616 → length (decimal n) ≤ 20
 place-fits n h = decimal-length 19 n (omega arith)
+
+-- what is laid over the front of a page that is long enough is the front
+pub front-is : {page text later : List ℕ} {end : ℕ} → Laid page 0 text later end → end ≤ length page → (take end later ≡ text) × ((end ≤ length later) × (end ≡ length (take end later)))
+front-is {page} {text} {later} {end} l h =
+    let n = laid-length l in
+    let e : end ≡ length text = omega (arith, l .ends) in
+    (rw (e, l .over) (front-over page text (omega arith)), (omega arith, sym (length-take-le end later (omega arith))))

@@ -1,24 +1,27 @@
 // Reads the bytes of a model's words from standard input and prints the words of its row system, one a line, or the refusal.
 ghost use mathlib.Core.Path.{_≡_};
-ghost use Prim.Native.Nat.{min};
-ghost use lib.ListN.{length};
+ghost use Prim.Native.Nat.{min, _≤_};
+ghost use lib.ListN.{length, take};
+ghost use Rattle.io.specs.Counts.{Counts};
 ghost use Rattle.encoding.specs.Bytes.{bytesWords};
 ghost use Rattle.rules.specs.Translate.{translate as translateAnswer, translated};
 ghost use Rattle.translation.specs.Written.{wrote};
+ghost use Rattle.rows.specs.Text.{rowsText};
 use encoding::words_of_bytes;
-use output::print_answer;
+use lines::put_refusal;
+use lines::put_words;
 use translation::Written;
 use translation::translate;
-
-mod output;
 
 // One word more than a model may have, and the bytes of so many words.
 const WORDS: usize = 8193;
 
 const BYTES: usize = 32772;
 
-// The row words that are printed at most.
+// The row words that are printed at most, and the bytes of their lines.
 const ROOM: usize = 16384;
+
+const PAGE: usize = 147456;
 
 // The lesser of two counts.
 fn at_most(n: usize, most: usize) -> usize
@@ -37,11 +40,25 @@ fn translate_bytes(bytes: &[u8], out: &mut [u32]) -> Written
     translate(&words[..n], out)
 }
 
-// The bytes of 8,193 words are read at most. A row system of more than 16,384 words does not fit, and translate refuses it.
+// Writes what the program prints to the front of a page; answers how many bytes it has.
+fn rows_page(bytes: &[u8], page: &mut [u8]) -> usize
+    requires { ⌜ 147456 ≤ length (now page) ⌝ }
+    ensures text { λ r. ⌜ take r (now (page .exit)) ≡ rowsText (now (bytes .entry)) ⌝ }
+    ensures count { λ r. ⌜ Counts r (now (page .exit)) ⌝ }
+{
+    let mut out = [0u32; ROOM];
+    match translate_bytes(bytes, &mut out) {
+        Written::Refused(r) => put_refusal(page, r),
+        Written::Words(n) => put_words(page, &out[..n]),
+    }
+}
+
+// The bytes of 8,193 words are read at most. The promises go from the bytes that read_full filled to the bytes that are handed to write_all: neither
+// promises what it does with the file.
 fn main() {
     let mut bytes = [0u8; BYTES];
     let n = io::read_full(0, &mut bytes);
-    let mut out = [0u32; ROOM];
-    let answer = translate_bytes(&bytes[..n], &mut out);
-    print_answer(answer, &out);
+    let mut page = [0u8; PAGE];
+    let end = rows_page(&bytes[..n], &mut page);
+    io::write_all(1, &page[..end]);
 }

@@ -1,0 +1,2 @@
+-- What the contract cites: what the program prints.
+pub mod Text
