@@ -1,2 +1,3 @@
--- What the contract cites: bits over bytes.
+-- What the contracts cite: bits over bytes, and what the program prints.
 pub mod Bytes
+pub mod Text
