@@ -1,6 +1,6 @@
 -- A row over bits as a list: its numbers are the coefficients of the definition, and a row that fits has none beyond 16,384.
 use mathlib.Core.Path.{_≡_, refl, sym, ap, ap₂, _∙_}
-use mathlib.Core.Bool.{Bool, true, false, _&&_}
+use mathlib.Core.Bool.{true, _&&_}
 use mathlib.Core.List.{List, [], _∷_, _++_, map}
 use Prim.Native.Nat.{ℕ, zero, suc, _+_, _<_, _≤_}
 use native.Mathlib.Omega.{arith}
@@ -19,7 +19,7 @@ use Rattle.integers.proofs.Places.{getD-listOf, map-listOf, all-map}
 use Rattle.rowsystems.specs.Row.{sum≤0, sum=0, product}
 use Rattle.extremes.specs.Bounded.{boundsOf}
 use Rattle.bitforms.specs.Weights.{weights}
-use Rattle.bitforms.specs.OverBits.{OverBits, scaled, over, weighted}
+use Rattle.bitforms.specs.OverBits.{scaled, weighted}
 use Rattle.bitforms.specs.BitRow.{BitRow, least, slackWeights, productWhole, bitRow}
 use Rattle.bitforms.specs.Matrix.{coefficientOf}
 use Rattle.bitforms.specs.FormAnswer.{mostInRow, rowFits}

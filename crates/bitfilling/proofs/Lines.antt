@@ -1,15 +1,14 @@
 -- What a row over bits adds to a line: its square's entries, then those of its products of bits.
-use mathlib.Core.Path.{_≡_, refl, sym, ap, ap₂, _∙_}
+use mathlib.Core.Path.{_≡_, refl, sym, ap, _∙_}
 use mathlib.Core.Bool.{true}
-use mathlib.Core.List.{List, [], _∷_, flatMap}
-use Prim.Native.Nat.{ℕ, _+_, _-_, _*_, _<_, _≤_}
+use mathlib.Core.List.{List, [], flatMap}
+use Prim.Native.Nat.{ℕ, _+_, _-_, _*_, _≤_}
 use native.Mathlib.Omega.{arith}
 use lib.IntN.{ℤ, natAbs}
 use lib.ListN.{length, getD}
 use lib.Signed.{leZ}
-use Rattle.integers.specs.Number.{_⊕_, absZ, +0}
+use Rattle.integers.specs.Number.{absZ, +0}
 use Rattle.integers.specs.Lists.{all}
-use Rattle.integers.specs.Terms.{Term}
 use Rattle.integers.proofs.Tests.{says-and}
 use Rattle.rowsystems.specs.Row.{product}
 use Rattle.rowsystems.specs.RowSystem.{variableAt}

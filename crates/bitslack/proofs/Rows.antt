@@ -1,30 +1,28 @@
 -- The least sum and the constant of a row term by term, and what a row's head says of both and of its own bits.
 use mathlib.Core.Path.{_≡_, refl, sym, ap, ap₂, _∙_}
-use mathlib.Core.Bool.{Bool, true, false}
-use mathlib.Core.List.{List, [], _∷_, _++_, map}
-use Prim.Native.Nat.{ℕ, zero, suc, _+_, _*_, _≤_, _<_}
+use mathlib.Core.Bool.{true, false}
+use mathlib.Core.List.{List, [], _∷_}
+use Prim.Native.Nat.{ℕ, suc, _+_, _*_}
 use native.Mathlib.Numerals.{add-one}
 use native.Mathlib.Omega.{arith}
 use lib.Dec.{eqb}
-use lib.IntN.{ℤ, pos, natAbs}
-use lib.ListN.{length, getD, length-append}
-use Rattle.integers.specs.Choice.{_if_else_}
-use Rattle.integers.specs.Number.{_⊕_, _⊖_, _⊗_, neg, minZ, count, +0}
+use lib.IntN.{ℤ, pos}
+use lib.ListN.{length, length-append}
+use Rattle.integers.specs.Number.{_⊕_, _⊗_, +0}
 use Rattle.integers.specs.Lists.{listOf}
-use Rattle.integers.specs.Terms.{Term, _·_, sum}
+use Rattle.integers.specs.Terms.{Term, sum}
 use Rattle.integers.specs.declared.Bounds.{Bounds}
-use Rattle.integers.proofs.Fits.{plus-size}
 use Rattle.integers.proofs.Linear.{linear}
 use Rattle.integers.proofs.Places.{one-more, ⊕-assoc, ⊕-zero, sum-more}
 use Rattle.words.specs.Kind as Kind
 use Rattle.words.specs.Word.{kind}
-use Rattle.rowsystems.specs.Row.{Row, sum≤0, sum=0, product}
-use Rattle.rowsystems.specs.RowSystem.{termCount, termsIn, constantIn, variableAt, numberAt}
+use Rattle.rowsystems.specs.Row.{sum≤0, sum=0, product}
+use Rattle.rowsystems.specs.RowSystem.{termCount, termsIn, constantIn, variableAt}
 use Rattle.rowsystems.specs.OneWord.{rowOf}
 use Rattle.bitforms.specs.Total.{total}
 use Rattle.bitforms.specs.Weights.{weights}
 use Rattle.bitforms.specs.OverBits.{OverBits, over, weighted}
-use Rattle.bitforms.specs.BitRow.{BitRow, Pair, least, slackWeights, pairsWith, pairsOf, productWhole, bitRow}
+use Rattle.bitforms.specs.BitRow.{least, pairsWith, pairsOf}
 use Rattle.bittables.specs.Tables.{spanIn, bitsOf}
 use Rattle.bitslack.specs.Least.{termIn, leastOf}
 

@@ -1,8 +1,8 @@
 -- The line of a bit, row after row: with what the rows left add, the list's numbers are the entries.
-use mathlib.Core.Path.{_≡_, refl, sym, ap, ap₂, _∙_}
-use mathlib.Core.Bool.{Bool, true, false, _&&_}
+use mathlib.Core.Path.{_≡_, refl, sym, ap, _∙_}
+use mathlib.Core.Bool.{true, false}
 use mathlib.Core.List.{List, [], _∷_}
-use Prim.Native.Nat.{ℕ, zero, suc, _+_, _*_, _<_, _≤_}
+use Prim.Native.Nat.{ℕ, _+_, _*_, _<_, _≤_}
 use native.Mathlib.Omega.{arith}
 use lib.IntN.{ℤ, pos}
 use lib.ListN.{length, getD, drop, replicate, length-replicate, getD-replicate}
@@ -11,13 +11,12 @@ use Rattle.integers.specs.Lists.{all}
 use Rattle.integers.proofs.Linear.{linear}
 use Rattle.integers.proofs.Places.{⊕-assoc}
 use Rattle.integers.proofs.Tests.{says-and}
-use Rattle.rowsystems.specs.RowSystem.{rows}
 use Rattle.rowsystems.specs.OneWord.{startsRow, rowOf}
 use Rattle.rowsystems.proofs.Walk.{starts-none, starts-one, none-left}
 use Rattle.extremes.specs.Bounded.{boundsOf}
 use Rattle.bitforms.specs.Total.{total}
-use Rattle.bitforms.specs.BitRow.{BitRow, bitRow, bitRows}
-use Rattle.bitforms.specs.Matrix.{rowEntry, entryOf}
+use Rattle.bitforms.specs.BitRow.{BitRow, bitRows}
+use Rattle.bitforms.specs.Matrix.{entryOf}
 use Rattle.bitforms.specs.FormAnswer.{rowFits}
 use Rattle.bitlines.specs.Dense.{peak}
 use Rattle.bittables.specs.Tables.{encodingBy, rowBy, rowsBy}

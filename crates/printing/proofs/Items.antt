@@ -11,7 +11,6 @@ use Rattle.integers.specs.Lists.{listOf}
 use Rattle.words.specs.Word.{kind, payload, signed}
 use Rattle.decimals.specs.Decimal.{numeral}
 use Rattle.models.specs.Shape as Shape
-use Rattle.models.specs.Table as Table
 use Rattle.models.specs.Reading.{faultHead, faultArgumentIn, faultDueIn, faultIn, afterHead, afterDue}
 use Rattle.models.specs.declared.Due.{Due as WordsDue}
 use Rattle.models.specs.declared.Due.the-variants as Words

@@ -27,7 +27,6 @@ use Rattle.variables.proofs.Walk.{at-none, at-one, at-last}
 use Rattle.rowsystems.specs.Row.{Row, satisfied}
 use Rattle.rowsystems.specs.RowSystem.{rows}
 use Rattle.rowsystems.specs.declared.Due.{Due}
-use Rattle.rowsystems.specs.declared.Due.the-variants as due
 use Rattle.rowreading.specs.Item.{startDue}
 use Rattle.rowreading.specs.Onward.{startsKind, Plain, onward, stopped, resumed}
 use Rattle.rowreading.specs.declared.items.Step.{Step}

@@ -7,8 +7,6 @@ use lib.ListN.{length}
 use Rattle.bitchecks.proofs.Limits.{Testing, testing-begun, testing-more, fails, passes}
 use Rattle.bitchecks.proofs.all_within.Statement.{statement}
 use Rattle.bitchecks.proofs.all_within.Tie as tie
-use Rattle.bitchecks.proofs.all_within.Reads as reads
-use Rattle.bitchecks.proofs.all_within.Lts as lts
 use Rattle.bitchecks.proofs.within_limit.Reads as within-limit-reads
 
 abbrev Inv-loop : tie.InvT-loop

@@ -11,8 +11,6 @@ use Rattle.bitchecks.proofs.Limits.{fits}
 use Rattle.bitchecks.proofs.Rows.{constant-out, terms-out, row-in}
 use Rattle.bitchecks.proofs.check_row.Statement.{statement}
 use Rattle.bitchecks.proofs.check_row.Tie as tie
-use Rattle.bitchecks.proofs.check_row.Reads as reads
-use Rattle.bitchecks.proofs.check_row.Lts as lts
 use Rattle.bitchecks.proofs.all_within.Reads as all-within-reads
 use Rattle.bitchecks.proofs.within_limit.Reads as within-limit-reads
 use Rattle.bitfilling.proofs.fill_row.Reads as fill-row-reads

@@ -12,8 +12,6 @@ use Rattle.words.proofs.Reading.{tail-is}
 use Rattle.bitchecks.proofs.Rows.{Checking, checking-begun, checking-none, checking-fails, checking-one, checking-done}
 use Rattle.bitchecks.proofs.check_rows.Statement.{statement}
 use Rattle.bitchecks.proofs.check_rows.Tie as tie
-use Rattle.bitchecks.proofs.check_rows.Reads as reads
-use Rattle.bitchecks.proofs.check_rows.Lts as lts
 use Rattle.bitchecks.proofs.check_row.Reads as check-row-reads
 use Rattle.bitslack.proofs.own_bits.Reads as own-bits-reads
 use Rattle.integers.proofs.plus.Reads as plus-reads

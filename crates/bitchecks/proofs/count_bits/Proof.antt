@@ -6,8 +6,6 @@ use Rattle.words.proofs.Reading.{tail-is}
 use Rattle.bitchecks.proofs.Walk.{Counting, counting-begun, counting-none, counting-one, counting-done}
 use Rattle.bitchecks.proofs.count_bits.Statement.{statement}
 use Rattle.bitchecks.proofs.count_bits.Tie as tie
-use Rattle.bitchecks.proofs.count_bits.Reads as reads
-use Rattle.bitchecks.proofs.count_bits.Lts as lts
 use Rattle.bitslack.proofs.own_bits.Reads as own-bits-reads
 use Rattle.rowreading.proofs.rows.starts_row.Reads as starts-row-reads
 

@@ -2,8 +2,6 @@ use mir.Facts.{toZ-ofZ}
 use Rattle.bitchecks.proofs.Limits.{below-limit, above-limit}
 use Rattle.bitchecks.proofs.within_limit.Statement.{statement}
 use Rattle.bitchecks.proofs.within_limit.Tie as tie
-use Rattle.bitchecks.proofs.within_limit.Reads as reads
-use Rattle.bitchecks.proofs.within_limit.Lts as lts
 
 -- src/lib.rt:49:9
 returns : tie.Need-returns

@@ -1,5 +1,4 @@
 -- By the widths of both variables.
-use native.Mathlib.Omega.{arith}
 use borrow.Author.Needs.{needs}
 use Rattle.bitfilling.proofs.add_crossed.Statement.{statement}
 use Rattle.bitfilling.proofs.add_crossed.Tie as tie

@@ -1,9 +1,8 @@
 -- A lower bound's opposite is as near to 0 as the bound.
-use mathlib.Core.Path.{_≡_}
 use native.Mathlib.Omega.{arith}
 use borrow.Author.Needs.{needs}
 use lib.ListN.{getD}
-use Rattle.integers.specs.Number.{neg, +0}
+use Rattle.integers.specs.Number.{+0}
 use Rattle.integers.proofs.Fits.{neg-size}
 use Rattle.arguments.proofs.Size.{read}
 use Rattle.bitfilling.proofs.add_less_lower.Statement.{statement}

@@ -1,8 +1,6 @@
 -- By the first bits and the numbers of bits of both factors.
-use mathlib.Core.Path.{_≡_}
 use Prim.Native.Nat.{_*_, _≤_}
 use native.Mathlib.Omega.{arith}
-use lib.ListN.{getD}
 use borrow.Author.Needs.{needs}
 use Rattle.integers.proofs.Fits.{mul-le}
 use Rattle.bitfilling.specs.Added.{productPairs}

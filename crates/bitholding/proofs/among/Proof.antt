@@ -1,8 +1,6 @@
 use Rattle.bitholding.proofs.Mentions.{among-before, among-from}
 use Rattle.bitholding.proofs.among.Statement.{statement}
 use Rattle.bitholding.proofs.among.Tie as tie
-use Rattle.bitholding.proofs.among.Reads as reads
-use Rattle.bitholding.proofs.among.Lts as lts
 
 -- src/lib.rt:25:9
 returns : tie.Need-returns

@@ -4,8 +4,6 @@ use Rattle.rowsystems.proofs.Sizes.{count-few}
 use Rattle.bitholding.proofs.Rows.{own-bit, at-most-bit, equal-bit, product-bit}
 use Rattle.bitholding.proofs.holds_bit.Statement.{statement}
 use Rattle.bitholding.proofs.holds_bit.Tie as tie
-use Rattle.bitholding.proofs.holds_bit.Reads as reads
-use Rattle.bitholding.proofs.holds_bit.Lts as lts
 use Rattle.bitholding.proofs.among.Reads as among-reads
 use Rattle.bitholding.proofs.holds_product.Reads as holds-product-reads
 use Rattle.bitholding.proofs.holds_terms.Reads as holds-terms-reads

@@ -2,8 +2,6 @@ use mathlib.Core.Path.{refl}
 use borrow.Author.Needs.{needs}
 use Rattle.bitholding.proofs.holds_product.Statement.{statement}
 use Rattle.bitholding.proofs.holds_product.Tie as tie
-use Rattle.bitholding.proofs.holds_product.Reads as reads
-use Rattle.bitholding.proofs.holds_product.Lts as lts
 use Rattle.bitholding.proofs.holds_variable.Reads as holds-variable-reads
 use Rattle.bittables.proofs.variable_at.Reads as variable-at-reads
 

@@ -5,8 +5,6 @@ use borrow.Author.Needs.{needs}
 use Rattle.bitholding.proofs.Terms.{NotYet, not-begun, not-more, found, not-found}
 use Rattle.bitholding.proofs.holds_terms.Statement.{statement}
 use Rattle.bitholding.proofs.holds_terms.Tie as tie
-use Rattle.bitholding.proofs.holds_terms.Reads as reads
-use Rattle.bitholding.proofs.holds_terms.Lts as lts
 use Rattle.bitholding.proofs.holds_variable.Reads as holds-variable-reads
 use Rattle.bittables.proofs.variable_at.Reads as variable-at-reads
 

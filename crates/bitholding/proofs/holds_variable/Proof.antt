@@ -3,8 +3,6 @@ use borrow.Author.Needs.{needs}
 use Rattle.bitholding.proofs.Terms.{variable-mentions}
 use Rattle.bitholding.proofs.holds_variable.Statement.{statement}
 use Rattle.bitholding.proofs.holds_variable.Tie as tie
-use Rattle.bitholding.proofs.holds_variable.Reads as reads
-use Rattle.bitholding.proofs.holds_variable.Lts as lts
 use Rattle.bitholding.proofs.among.Reads as among-reads
 use Rattle.bittables.proofs.size_at.Reads as size-at-reads
 

@@ -1,11 +1,9 @@
-use mathlib.Core.Path.{_≡_, refl, sym, ap, _∙_}
+use mathlib.Core.Path.{refl, sym, _∙_}
 use mir.Facts.{toZ-ofZ}
 use Rattle.bitlines.proofs.Writing.{laid-zero, laid-entry}
 use borrow.Author.Needs.{needs}
 use Rattle.bitlines.proofs.put_entry.Statement.{statement}
 use Rattle.bitlines.proofs.put_entry.Tie as tie
-use Rattle.bitlines.proofs.put_entry.Reads as reads
-use Rattle.bitlines.proofs.put_entry.Lts as lts
 use Rattle.integers.proofs.equal.Reads as equal-reads
 use Rattle.words.proofs.lay.Reads as lay-reads
 use Rattle.words.proofs.number_word.Reads as number-word-reads

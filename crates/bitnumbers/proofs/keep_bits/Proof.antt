@@ -8,8 +8,6 @@ use Rattle.bitforms.specs.Weights.{weights}
 use Rattle.bitnumbers.proofs.Keeping.{Keeping, keeping-begun, keeping-more, few-after}
 use Rattle.bitnumbers.proofs.keep_bits.Statement.{statement}
 use Rattle.bitnumbers.proofs.keep_bits.Tie as tie
-use Rattle.bitnumbers.proofs.keep_bits.Reads as reads
-use Rattle.bitnumbers.proofs.keep_bits.Lts as lts
 use Rattle.bitnumbers.proofs.put_size.Reads as put-size-reads
 use Rattle.bittables.proofs.span_at.Reads as span-at-reads
 use Rattle.bittables.proofs.weight_count.Reads as weight-count-reads

@@ -1,6 +1,6 @@
 -- The invariant: the sum of what each term passed is at least, each at most 2^54 from 0.
 use mathlib.Core.Path.{_≡_, sym, _∙_}
-use Prim.Native.Nat.{_+_, _-_, _*_, _≤_}
+use Prim.Native.Nat.{_-_, _*_, _≤_}
 use native.Mathlib.Omega.{arith}
 use lib.IntN.{natAbs}
 use mir.Syntax.{w64}
@@ -11,7 +11,6 @@ use Rattle.rowsystems.specs.RowSystem.{termsIn, constantIn}
 use Rattle.arguments.proofs.Size.{read}
 use Rattle.extremes.specs.Bounded.{boundsOf}
 use Rattle.bitforms.specs.Total.{total}
-use Rattle.bitforms.specs.BitRow.{least}
 use Rattle.bitslack.specs.Least.{leastOf}
 use Rattle.bitslack.proofs.Rows.{least-none, least-more, least-sum}
 use Rattle.bitslack.proofs.least_of.Statement.{statement}

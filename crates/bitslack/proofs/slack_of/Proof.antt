@@ -4,11 +4,8 @@ use native.Mathlib.Omega.{arith}
 use borrow.Author.Needs.{needs}
 use Rattle.integers.specs.Number.{neg, count}
 use Rattle.integers.proofs.Fits.{back, neg-size}
-use Rattle.rowsystems.specs.RowSystem.{termsIn, constantIn}
 use Rattle.arguments.proofs.Size.{read}
-use Rattle.extremes.specs.Bounded.{boundsOf}
 use Rattle.extremes.proofs.Size.{count-le}
-use Rattle.bitforms.specs.BitRow.{least}
 use Rattle.bitslack.proofs.slack_of.Statement.{statement}
 use Rattle.bitslack.proofs.slack_of.Tie as tie
 

@@ -1,5 +1,4 @@
 -- No number stands in the list, so none is too large; a width below 2^62 has at most 62 weights.
-use mathlib.Core.Path.{_≡_, refl, sym, ap, _∙_}
 use native.Mathlib.Omega.{arith}
 use borrow.Author.Needs.{needs}
 use Rattle.bitlines.specs.Dense.{peak}

@@ -1,5 +1,5 @@
 -- The invariant is `Lining`: with what the rows left add, the line's numbers are the entries.
-use mathlib.Core.Path.{_≡_, refl, sym, _∙_}
+use mathlib.Core.Path.{refl, sym, _∙_}
 use Prim.Native.Nat.{_+_, _-_}
 use native.Mathlib.Omega.{arith}
 use lib.ListN.{length}

@@ -1,6 +1,7 @@
 -- The members over zeros, and how many and how large they are.
 use native.Mathlib.Omega.{arith}
 use borrow.Author.Needs.{needs}
+use Rattle.integers.specs.Number.{+0}
 use Rattle.models.specs.Model.{var, nums}
 use Rattle.arguments.proofs.Size.{read}
 use Rattle.rules.specs.Parts.{members}

@@ -1,5 +1,4 @@
 -- The digits, then the line feed.
-use native.Mathlib.Omega.{arith}
 use borrow.Author.Needs.{needs}
 use Rattle.lines.proofs.Lines.{laid-word}
 use Rattle.lines.proofs.put_word.Statement.{statement}
