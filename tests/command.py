@@ -1,0 +1,46 @@
+#!/usr/bin/env python3
+"""Runs the command `pearrummy` as tests/command/runs.txt records it, in that folder, and compares what it prints and its exit status; where
+MiniZinc is installed also those of minizinc.txt.
+
+A run is a line `$ pearrummy ..`, perhaps with `< FILE`, then what stands on standard output, what stands on standard error behind `! `, and
+`[STATUS]`. --write records what the command prints now. The command, target/pearrummy, is there already."""
+import difflib, os, re, shlex, shutil, subprocess, sys
+
+TOP = os.path.dirname(os.path.dirname(os.path.abspath(__file__)))
+FOLDER = os.path.join(TOP, 'tests', 'command')
+COMMAND = os.path.join(TOP, 'target', 'pearrummy')
+
+
+def output(line):
+    words, stdin = shlex.split(line[2:]), b''
+    if '<' in words:
+        stdin = open(os.path.join(FOLDER, words[words.index('<') + 1]), 'rb').read()
+        words = words[:words.index('<')]
+    run = subprocess.run([COMMAND] + words[1:], cwd=FOLDER, input=stdin, capture_output=True, timeout=60)
+    text, said = (out.decode('utf-8', 'backslashreplace') for out in (run.stdout, run.stderr))
+    text += '' if text.endswith('\n') or not text else '\n(no line feed)\n'
+    said = re.sub(r'\S*/mznfile\w+', 'FILE', said)  # MiniZinc's own file, which has another name each time
+    return text + ''.join(f'! {e}\n' for e in said.splitlines()) + f'[{run.returncode}]\n'
+
+
+failed = 0
+for name in ['runs.txt'] + ['minizinc.txt'] * bool(shutil.which('minizinc')):
+    path = os.path.join(FOLDER, name)
+    recorded = open(path).read()
+    printed, count = '', 0
+    for line in recorded.splitlines():
+        if line.startswith('$ '):
+            printed += line + '\n' + output(line) + '\n'
+            count += 1
+        elif line.startswith('# '):
+            printed += line + '\n'
+    if '--write' in sys.argv:
+        open(path, 'w').write(printed)
+        recorded = printed
+    changes = list(difflib.unified_diff(recorded.splitlines(), printed.splitlines(), 'recorded', 'printed', lineterm=''))
+    for line in changes[:40]:
+        print(line)
+    statuses = {s: printed.count(f'\n[{s}]\n') for s in (0, 1, 2, 64)}
+    print(f'command: {name}: {count} runs, {"none differs" if not changes else "some differ"}; by exit status {statuses}')
+    failed += bool(changes) or count == 0
+sys.exit(failed)
