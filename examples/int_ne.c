@@ -1,6 +1,6 @@
 /* A model of two integer variables that are to differ, x in 0..3 and y in 0..2, goes through check, translate, fill and both judges: `make example`.
  * The top 4 bits of a word are its kind, the low 28 its payload. The program exits with 1 if an answer is not the expected one. */
-#include "../include/pearrummy.h"
+#include <pearrummy.h>
 #include <stdio.h>
 
 static const uint32_t model[] = {

@@ -1,12 +1,14 @@
 #!/usr/bin/env bash
-# Builds the example in C with the proved library and runs it: it must exit with 0 and print what is recorded. --write records what it prints.
+# Builds the examples in C with the proved library and runs them: each must exit with 0 and print what is recorded. --write records what they print.
 set -euo pipefail
 cd "$(dirname "$0")/.."
 
 mkdir -p target
-rt staticlib host >target/staticlib.log 2>&1 || { cat target/staticlib.log; exit 1; }
-gcc -std=c11 -O2 -Wall -Wextra -Werror -o target/int_ne examples/int_ne.c target/staticlib/libhost.a
-target/int_ne >target/int_ne.out || { cat target/int_ne.out; echo 'example: int_ne has an answer that is not the expected one'; exit 1; }
-[ "${1-}" != --write ] || cp target/int_ne.out examples/int_ne.out
-diff examples/int_ne.out target/int_ne.out || { echo 'example: int_ne does not print examples/int_ne.out'; exit 1; }
-cat target/int_ne.out
+make -s library >target/library.log 2>&1 || { cat target/library.log; exit 1; }
+for example in int_ne reasons; do
+    gcc -std=c11 -O2 -Wall -Wextra -Werror -Iinclude -o "target/$example" "examples/$example.c" target/libpearrummy.a
+    "target/$example" >"target/$example.out" || { cat "target/$example.out"; echo "example: $example has an answer that is not the expected one"; exit 1; }
+    [ "${1-}" != --write ] || cp "target/$example.out" "examples/$example.out"
+    diff "examples/$example.out" "target/$example.out" || { echo "example: $example does not print examples/$example.out"; exit 1; }
+    cat "target/$example.out"
+done
