@@ -1,6 +1,6 @@
 # make run        proves every crate, runs the programs, and prints the row system of a small model
 # make test       runs the gate
-# make try        runs the program rows on a small model in seconds, with nothing proved
+# make try        runs the program rows on a small model in seconds, with nothing proved, and prints what it wrote
 # make library    proves the calls and builds target/libpearrummy.a
 # make command    builds target/pearrummy, the command, with that library
 # make install    installs header, library, command, man page and pkg-config file under PREFIX, /usr/local if none is given; DESTDIR is kept
@@ -25,6 +25,7 @@ test:
 
 try:
 	rt try rows
+	cat crates/rows/stdout
 
 library:
 	rt staticlib host

@@ -33,14 +33,14 @@ def file_of(crate, name):
 
 
 def believed():
-    """Every file of specs/ that a contract of the calls stands on."""
-    found, left = set(), []
+    """Every file of specs/ that a contract of the calls stands on; those of the kit's own crates are the kit's."""
+    found, left, own = set(), [], set(crates())
     for crate in CONTRACTS:
         for path in glob.glob(os.path.join(TOP, 'crates', crate, 'src', '*.rt')):
             left += cited(path)
     while left:
         one = left.pop()
-        if one not in found:
+        if one not in found and one[0] in own:
             found.add(one)
             left += cited(file_of(*one))
     return found
