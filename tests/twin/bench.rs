@@ -241,4 +241,5 @@ pub fn run() {
     println!("{}", bits_line("bits of small row systems", 1_000, 11, forms::small));
     println!("{}", bits_line("bits, 1,024 of them, few rows", 10, 3, forms::of_all_bits));
     println!("{}", bits_line("bits, 1,024 of them, 1,954 rows of 66 terms", 1, 1, forms::largest));
+    println!("{}", bits_line("bits, 1,008 of them, 1,955 rows of 66 terms with coefficient 0", 1, 1, forms::of_zeros));
 }

@@ -331,3 +331,12 @@ pub fn largest(random: &mut Random) -> Vec<u32> {
     }
     system.finish()
 }
+
+/// 1,008 bits of 36 variables over the whole range, and as many rows of 66 terms with coefficient 0 as the words allow: every row has every bit.
+pub fn of_zeros(_random: &mut Random) -> Vec<u32> {
+    let mut system = System::new();
+    (0..36).for_each(|_| _ = system.variable(-134_217_727, 134_217_727));
+    let terms: Vec<(usize, i64)> = (0..66).map(|at| (at % 36, 0)).collect();
+    (0..1_955).for_each(|_| system.equal(&terms, 0));
+    system.finish()
+}
