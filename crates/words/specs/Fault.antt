@@ -1,4 +1,5 @@
--- 01, Numbered faults, and those of 02: the numbers, each named once. 0 is no fault.
+-- 01, Numbered faults, and 18 of 02: the numbers, each named once. 0 is no fault. 19 to 24 stand with the calls that give them:
+-- 19 to 21 in grammar/specs, 22 in solutions/specs, 23 and 24 in bitforms/specs.
 use Prim.Native.Nat.{ℕ}
 
 abbrev pub none : ℕ

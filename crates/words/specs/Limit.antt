@@ -1,4 +1,4 @@
--- The limits of 01 and 02, each named once.
+-- The limits of 01 and 02, each named once; those of one call alone stand with it (tokens, solutions, bitforms).
 use Prim.Native.Nat.{ℕ}
 use lib.IntN.{ℤ, pos, negsuc}
 use Rattle.integers.specs.Bounds.{_to_}
