@@ -13,6 +13,8 @@ CC = gcc
 CFLAGS = -std=c11 -O2 -Wall -Wextra -Wpedantic -Werror
 PREFIX = /usr/local
 VERSION = $(shell sed -n 's/^.define PEARRUMMY_VERSION "\(.*\)"/\1/p' include/pearrummy.h)
+# what the library is made of: it is proved and built again only where one of these is newer
+SOURCES = crates.txt include/pearrummy.h library/fault_text.c $(shell find crates -name '*.rt' -o -name '*.antt')
 INSTALLED = include/pearrummy.h lib/libpearrummy.a lib/pkgconfig/pearrummy.pc bin/pearrummy share/man/man1/pearrummy.1 share/doc/pearrummy/FORMAT.md
 
 run:
@@ -27,7 +29,9 @@ try:
 	rt try rows
 	cat crates/rows/stdout
 
-library:
+library: target/libpearrummy.a
+
+target/libpearrummy.a: $(SOURCES)
 	rt staticlib host
 	$(CC) $(CFLAGS) -c -o target/fault_text.o library/fault_text.c
 	cp target/staticlib/libhost.a target/libpearrummy.a
