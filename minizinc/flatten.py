@@ -2,13 +2,15 @@
 """Carries the FlatZinc that MiniZinc writes over to the FlatZinc that the call text reads.
 
     flatten.py [FILE.fzn] > FILE.txt
-    minizinc --solver minizinc/rows.msc --no-half-reifications MODEL.mzn [DATA.dzn] > FILE.txt
+    minizinc --solver minizinc/rows.msc --no-half-reifications --keep-paths MODEL.mzn [DATA.dzn] > FILE.txt
 
 Arrays are written out where they are used, annotations and predicates are left out, a constant that stands for a variable becomes a variable with
 one value, a domain that is a set becomes bounds and set_in, names that are too long get others, and lists of more than 32 are cut. After each
-variable a comment gives its number and its names in the model, so that the text is its own table. What has no rows is a fault: one line,
-"FILE:LINE: what", and status 1. This script and the library mznlib are tested, not proved."""
-import re, sys
+variable a comment gives its number and its names in the model, so that the text is its own table. With --keep-paths MiniZinc says in annotations
+mzn_path("..") where in the model an item comes from: then a comment "FILE:LINE" stands behind each variable, after "%", and each constraint. FILE is
+the first that is not of a library. What has no rows is a fault: one line, "FILE:LINE: what", of the model where a path says it, else of the FlatZinc,
+and status 1. This script and the library mznlib are tested, not proved."""
+import os, re, sys
 
 # The arguments of the builtins with a code: I an integer variable, B a Boolean one, N a number, K a number from 0 to 27, LI, LB, LN lists of these,
 # S a set; LN LI side by side are parallel.
@@ -30,20 +32,54 @@ REWRITTEN = {
     'array_bool_or': lambda xs, r: ([('bool_or', *xs, r)] if len(xs) == 2 and isinstance(r, str)
                                     else [('bool_clause', xs, [r])] + [('bool_clause', [r], [x]) for x in xs])}
 LONGEST, HIGHEST = 32, 134217727
+DIGITS = 30     # more than any number that MiniZinc writes has
 TOKEN = re.compile(r'(?P<skip>[ \t\r\n]+|%[^\n]*)|(?P<float>-?\d+(?:\.\d+(?:[eE][-+]?\d+)?|[eE][-+]?\d+))|(?P<number>-?\d+)|(?P<name>[A-Za-z_]\w*)'
-                   r'|(?P<text>"[^"]*")|(?P<sign>\.\.|::|[][(){},:;=])|(?P<bad>.)', re.A)
+                   r'|(?P<text>"(?:[^"\\]|\\.)*")|(?P<sign>\.\.|::|[][(){},:;=])|(?P<bad>.)', re.A | re.S)
+# An element of a path: file, line, three more numbers, and what stands there.
+ELEMENT = re.compile(r';*(.*?)\|(\d+)\|\d+\|\d+\|\d+\|[^;]*', re.A | re.S)
+LIBRARIES = ('/share/minizinc/', os.path.join(os.path.dirname(os.path.realpath(__file__)), 'mznlib', ''))
+# What is no item of a model: comments, strings, quoted names.
+HIDDEN = re.compile(r'%[^\n]*|/\*.*?\*/|"(?:[^"\\]|\\.)*"|\'[^\'\n]*\'', re.S)
+OBJECTIVE = re.compile(r'\bsolve\b(?=[^;]*\b(?:minimize|maximize)\b)')
+LARGEST = 1 << 24   # so many characters of a model are read at most
 
 
 class Fault(Exception):
-    """The line of the FlatZinc file and what cannot be carried over."""
+    """Where, "FILE:LINE" of the model or a line of the FlatZinc, and what cannot be carried over."""
 
 
 class Own(str):
     """A variable's name in the text, where str is its name in FlatZinc."""
 
 
+def model_line(path):
+    """The file and the line of the first element of a path that is of no library, or None."""
+    element = ELEMENT.match(path)
+    while element:
+        file, line = element[1], element[2]
+        if file and len(line) < 10 and int(line) and not any(library in file for library in LIBRARIES):
+            return file, int(line)
+        element = ELEMENT.match(path, element.end())
+    return None
+
+
+def objective_line(files):
+    """The file and the line of the one solve item with an objective in a model's files, or None."""
+    found = []
+    for file in filter(os.path.isfile, files):
+        try:
+            with open(file, encoding='utf-8', errors='replace', newline='\n') as opened:
+                text = HIDDEN.sub(lambda hidden: '\n' * hidden[0].count('\n') or ' ', opened.read(LARGEST))
+        except OSError:
+            continue
+        found += [(file, 1 + text.count('\n', 0, solve.start())) for solve in OBJECTIVE.finditer(text)]
+    return found[0] if len(found) == 1 else None
+
+
 class Flattener:
-    def __init__(self, text):
+    def __init__(self, text, folder=''):
+        """Files of the model are named as seen from the folder where that is shorter."""
+        self.folder = folder
         self.tokens, line = [], 1
         for t in TOKEN.finditer(text):
             if t.lastgroup != 'skip':
@@ -51,17 +87,40 @@ class Flattener:
             line += t[0].count('\n')
         self.tokens.append(('end', '', line))
         self.at, self.line = 0, 1
+        self.place = None       # "FILE:LINE" in the model, of the item that is read, where its path says it
+        self.files = {}         # the files of the model, as paths name them
         self.parameters = {}    # the values of FlatZinc's parameters and arrays
         self.names = {}         # of each variable of FlatZinc, and of each constant, its name in the text
         self.bounds = {}        # of each name in the text, in order
         self.types = {}
         self.labels = {}        # its names in the model
-        self.constraints = []
+        self.places = {}        # where in the model it comes from
+        self.introduced = {}    # that of each variable of FlatZinc that MiniZinc introduced
+        self.constraints = []   # name, arguments and place of each
 
     # Tokens.
 
     def fault(self, what):
-        raise Fault(self.line, what)
+        raise Fault(self.place or self.line, what)
+
+    def find_place(self):
+        """The place of the item that begins here, by the first of its paths that says one."""
+        self.place, at = None, self.at
+        while not self.place and self.tokens[at][1] not in (';', ''):
+            if self.tokens[at][1] == 'mzn_path' and self.tokens[at + 1][1] == '(' and self.tokens[at + 2][0] == 'text':
+                found = model_line(re.sub(r'\\(.)', r'\1', self.tokens[at + 2][1][1:-1], flags=re.S))
+                self.place = self.spelt_place(found)
+                self.files.update({found[0]: None} if found else {})
+            at += 1
+
+    def spelt_place(self, found):
+        """A place as it is written: FILE:LINE in one line, or None."""
+        if not found:
+            return None
+        file, line = found
+        if self.folder and os.path.isabs(file):
+            file = min(os.path.relpath(file, self.folder), file, key=len)
+        return ''.join(c if c.isprintable() else '?' for c in file) + f':{line}'
 
     def see(self, *wanted):
         return self.tokens[self.at][1] in wanted and self.tokens[self.at][0] != 'text'
@@ -85,21 +144,28 @@ class Flattener:
             found.append(self.step()[1])
         return found
 
-    def value(self):
-        """A number, True or False, a list, a set (a Python set or range), or a variable's name (str)."""
+    def number(self, spelt):
+        if len(spelt) > DIGITS:
+            self.fault(f'a number of {len(spelt.removeprefix("-"))} digits, the range is -{HIGHEST} to {HIGHEST}')
+        return int(spelt)
+
+    def value(self, deep=0):
+        """A number, True or False, a float, a list, a set (a Python set or range), or a variable's name (str)."""
         sort, spelt = self.step()
         if sort == 'number':
             if not self.see('..'):
-                return int(spelt)
+                return self.number(spelt)
             self.step()
             sort, last = self.step()
             if sort != 'number':
                 self.fault(f'"{last}" where a range ends')
-            return range(int(spelt), int(last) + 1)
-        if spelt in ('[', '{'):
+            return range(self.number(spelt), self.number(last) + 1)
+        if sort == 'float':
+            return float(spelt)
+        if spelt in ('[', '{') and deep < 2:
             close, found = {'[': ']', '{': '}'}[spelt], []
             while not self.see(close):
-                found.append(self.value())
+                found.append(self.value(deep + 1))
                 if not self.see(close):
                     self.take(',')
             self.step()
@@ -125,7 +191,7 @@ class Flattener:
     def declare(self, name, lo, hi, sort):
         if not -HIGHEST <= lo <= hi <= HIGHEST:
             self.fault(f'{name} reaches from {lo} to {hi}, the range is -{HIGHEST} to {HIGHEST}')
-        self.types[name], self.bounds[name] = sort, (lo, hi)
+        self.types[name], self.bounds[name], self.places[name] = sort, (lo, hi), self.place
         return Own(name)
 
     def variable(self, value, sort):
@@ -144,12 +210,13 @@ class Flattener:
             name = self.fresh(str(value).lower() + '_' if sort == 'B' else f'c{value}'.replace('-', 'm'))
             self.names['constant', value, sort] = self.declare(name, int(value), int(value), sort)
             if sort == 'B':
-                self.constraints.append(('bool_clause', [[name], []] if value else [[], [name]]))
+                self.constraints.append(('bool_clause', [[name], []] if value else [[], [name]], self.place))
         return self.names['constant', value, sort]
 
     # Items.
 
     def item(self):
+        self.find_place()
         _, first = self.step()
         if first == 'predicate':
             while self.step()[1] not in (';', ''):
@@ -177,14 +244,20 @@ class Flattener:
         self.step()
         self.annotations()
         self.take(';')
-        self.line = line
+        self.line, self.place = line, self.place or self.common_place(arguments)
         # The library's rows_NAME is the builtin NAME, which it cannot both redefine and use.
         self.constraint(name.removeprefix('rows_'), arguments)
+
+    def common_place(self, arguments):
+        """Of a constraint without a path the place that all its variables come from, where MiniZinc introduced them: so are the clauses that it makes
+        of conjunctions."""
+        found = {self.introduced.get(v) for a in arguments for v in (a if isinstance(a, list) else [a]) if isinstance(v, str)}
+        return found.pop() if len(found) == 1 else None
 
     def solve_item(self):
         self.annotations()
         if not self.see('satisfy'):
-            self.line = self.tokens[self.at][2]
+            self.line, self.place = self.tokens[self.at][2], self.spelt_place(objective_line(self.files))
             self.fault('an objective: only "solve satisfy" has rows')
         self.step()
         self.take(';')
@@ -202,12 +275,14 @@ class Flattener:
 
     def label(self, name, notes):
         """Model names of an output array's elements, from output_array([1..2,1..3])."""
-        ends, at = [int(x) for x in notes if re.fullmatch(r'-?\d+', x)], [()]
-        for lo, hi in zip(ends[::2], ends[1::2]):
-            at = [a + (i,) for a in at for i in range(lo, hi + 1)]
-        for element, place in zip(self.parameters[name] if isinstance(self.parameters[name], list) else [], at):
-            if isinstance(element, str) and element in self.names:
-                self.labels.setdefault(self.names[element], []).append(f'{name}[{",".join(map(str, place))}]')
+        ends = [self.number(x) for x in notes if re.fullmatch(r'-?\d+', x)]
+        for at, element in enumerate(self.parameters[name] if isinstance(self.parameters[name], list) else []):
+            place = []
+            for lo, hi in reversed(list(zip(ends[::2], ends[1::2]))):
+                at, beyond = divmod(at, max(1, hi - lo + 1))
+                place.insert(0, str(lo + beyond))
+            if at == 0 and isinstance(element, str) and element in self.names:
+                self.labels.setdefault(self.names[element], []).append(f'{name}[{",".join(place)}]')
 
     def variable_item(self):
         sort, spelt = self.tokens[self.at][:2]
@@ -224,8 +299,11 @@ class Flattener:
             self.fault(f'{given} {"is declared twice" if domain else "has an empty domain"}')
         lo, hi = (0, 1) if domain == 'bool' else (domain[0], domain[-1]) if isinstance(domain, range) else (min(domain), max(domain))
         name = self.names[given] = self.declare(self.fresh(given), lo, hi, 'B' if domain == 'bool' else 'I')
-        if 'output_var' in self.annotations() or given != name:
+        notes = self.annotations()
+        if 'output_var' in notes or given != name:
             self.labels.setdefault(name, []).append(given)
+        if 'var_is_introduced' in notes:
+            self.introduced[given] = self.place
         if isinstance(domain, set) and len(domain) < hi - lo + 1:
             self.constraint('set_in', [given, domain])
         if self.see('='):
@@ -242,10 +320,10 @@ class Flattener:
             for new, *arguments in REWRITTEN[name](*given):
                 self.constraint(new, arguments)
             return
-        if name == 'bool_xor' and given[2:] in ([], [True]):
+        if name == 'bool_xor' and (len(given) == 2 or len(given) == 3 and given[2] is True):
             name, given = 'bool_not', given[:2]
         if name == 'bool_clause' and [type(g) for g in given] == [list, list]:
-            if True in given[0] or False in given[1]:
+            if any(v is True for v in given[0]) or any(v is False for v in given[1]):
                 return
             given = [[v for v in g if not isinstance(v, bool)] for g in given]
         if name not in SHAPES:
@@ -253,7 +331,7 @@ class Flattener:
         shape = SHAPES[name].split()
         if len(given) != len(shape):
             self.fault(f'{name} takes {len(shape)} arguments')
-        if name == 'set_in' and isinstance(given[1], range) and len(given[1]) > LONGEST:
+        if name == 'set_in' and isinstance(given[1], range) and size(given[1]) > LONGEST:
             self.constraint('int_le', [given[1][0], given[0]])
             return self.constraint('int_le', [given[0], given[1][-1]])
         arguments = [self.argument(name, sort, value) for sort, value in zip(shape, given)]
@@ -263,7 +341,7 @@ class Flattener:
         for a in arguments:
             if isinstance(a, list) and len(a) > LONGEST:
                 self.fault(f'{name}: a list of {len(a)}, {LONGEST} is the limit')
-        self.constraints.append((name, arguments))
+        self.constraints.append((name, arguments, self.place))
 
     def argument(self, name, sort, value):
         """An argument of a sort: a number, a set, a variable's name in the text, or a list."""
@@ -273,8 +351,8 @@ class Flattener:
             if not isinstance(value, int) or isinstance(value, bool) or sort == 'K' and not 0 <= value <= 27:
                 self.fault(f'{name}: {value} where a number{" from 0 to 27" * (sort == "K")} is due')
         elif sort == 'S':
-            if not isinstance(value, (set, range)) or len(value) > LONGEST:
-                found = f'{len(value)} members' if isinstance(value, (set, range)) else value
+            if not isinstance(value, (set, range)) or size(value) > LONGEST:
+                found = f'{size(value)} members' if isinstance(value, (set, range)) else value
                 self.fault(f'{name}: {found} where a set of at most {LONGEST} numbers is due')
         else:
             if not isinstance(value, list):
@@ -329,13 +407,24 @@ class Flattener:
             solved |= self.see('solve')
             self.item()
         if not solved:
+            self.place = None
             self.fault('no solve item')
         out = []
         for k, (name, (lo, hi)) in enumerate(self.bounds.items()):
             domain = 'bool' if self.types[name] == 'B' else f'{lo}..{hi}'
-            out.append(f'var {domain}: {name}; % {k} ' + ' '.join(self.labels.get(name, [])))
-        out += [f'constraint {name}({",".join(map(spelt, arguments))});' for name, arguments in self.constraints]
-        return '\n'.join(line.rstrip() for line in out + ['solve satisfy;']) + '\n'
+            out.append(' '.join([f'var {domain}: {name}; % {k}', *self.labels.get(name, []), *noted(self.places[name])]))
+        out += [' '.join([f'constraint {name}({",".join(map(spelt, arguments))});', *noted(place)]) for name, arguments, place in self.constraints]
+        return '\n'.join(out + ['solve satisfy;']) + '\n'
+
+
+def noted(place):
+    """A place as a comment, where there is one."""
+    return ['%', place] if place else []
+
+
+def size(numbers):
+    """How many numbers a set has; a range may have more than len counts."""
+    return len(numbers) if isinstance(numbers, set) else max(0, numbers.stop - numbers.start)
 
 
 def spelt(argument):
@@ -345,9 +434,20 @@ def spelt(argument):
     return str(argument) if isinstance(argument, (int, str)) else '{' + ','.join(map(str, sorted(argument))) + '}'
 
 
-if __name__ == '__main__':
+def main():
     files = [a for a in sys.argv[1:] if not a.startswith('-')]
+    name = files[0] if files else 'standard input'
     try:
-        sys.stdout.write(Flattener(open(files[0]).read() if files else sys.stdin.read()).text())
+        with open(files[0] if files else 0, encoding='utf-8', errors='replace') as opened:
+            text = Flattener(opened.read(), os.getcwd()).text()
+    except OSError as error:
+        return f'{name}: {error.strerror}'
     except Fault as fault:
-        sys.exit('%s:%d: %s' % (files[0] if files else 'standard input', *fault.args))
+        place, what = fault.args
+        return f'{place if isinstance(place, str) else f"{name}:{place}"}: {what}'
+    sys.stdout.buffer.write(text.encode())
+    return 0
+
+
+if __name__ == '__main__':
+    sys.exit(main())

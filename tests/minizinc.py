@@ -10,10 +10,10 @@ Always, with the recorded FlatZinc of each model (NAME.fzn, by `minizinc -c --so
                   give a text or a fault of one line
     text, check   read each text, the damaged ones' too; check accepts it, or refuses it as expected.json says
 
-Where minizinc and fzn-gecode are here, or Debian's packages minizinc and flatzinc can be installed: each model is flattened anew, and the
-solutions of its text, cut down to the names of the model, are those that Gecode has of the model by MiniZinc's own library, as many as
-expected.json says. fill and judge_rows take the first solutions. A library that has array_bool_or by `clause`, so that MiniZinc drops constraints,
-must be seen. expected.json names the model of which Gecode is wrong, with the count by hand, and those whose text has more solutions than the
+Where minizinc and fzn-gecode are here, or Debian's packages minizinc and flatzinc can be installed: each model is flattened anew, with the paths of
+its items, every constraint of its text names a line of the model, and the solutions of its text, cut down to the names of the model, are those that
+Gecode has of the model by MiniZinc's own library, as many as expected.json says. fill and judge_rows take the first solutions. A library that has
+array_bool_or by `clause`, so that MiniZinc drops constraints, must be seen by its 10 solutions for 3. expected.json names the model of which Gecode is wrong, with the count by hand, and those whose text has more solutions than the
 model, since MiniZinc's own decompositions leave variables free."""
 import concurrent.futures, glob, json, os, random, re, subprocess, sys, tempfile
 
@@ -50,7 +50,24 @@ FAULTS = {
     'var bool: b;\nconstraint array_bool_xor([' + 'b,' * 32 + 'b]);\nsolve satisfy;': '2: array_bool_xor: a list of 33, 32 is the limit',
     'var 1..3: x;': '1: no solve item',
     'var 1..3 x;': '1: a domain that is no range, set of numbers, or bool',
-    'output [x];': '1: "output" begins no item known here'}
+    'output [x];': '1: "output" begins no item known here',
+    'var 1..3: x solve satisfy;': '1: ";" expected, not "satisfy"',
+    'array [1..1] of int: a = [1..x];': '1: "x" where a range ends',
+    'array [1..1] of int: a:: output_array([5..4]) = [1];': '1: no solve item',
+    'set of int: s = {1,true};': '1: a set of other things than numbers',
+    'array [1..1] of int: a = [[[1]]];': '1: "[" is no whole number, Boolean, list, set or name',
+    'var 1..1' + '0' * 30 + ': x; solve satisfy;': '1: a number of 31 digits, the range is -134217727 to 134217727',
+    'var bool: b;\nconstraint bool_not(b,1);\nsolve satisfy;': '2: 1 stands where a Boolean is due',
+    'var bool: b;\nconstraint bool_clause([1],[b]);\nsolve satisfy;': '2: 1 stands where a Boolean is due',
+    'var bool: b;\nconstraint bool_xor(b,b,1);\nsolve satisfy;': '2: 1 stands where a Boolean is due',
+    'var 1..3: x;\nconstraint int_eq(x,1.5);\nsolve satisfy;': '2: 1.5 stands where an integer is due',
+    'array [1..1] of float: a = [1.5];\nvar 1..3: x;\nconstraint float_lin_le(a,[x],2.0);\nsolve satisfy;':
+        '3: float_lin_le has no rows; flatten with the library mznlib',
+    'var 1..3: x;\nconstraint int_lin_eq([1],x,0);\nsolve satisfy;': '2: int_lin_eq: x where a list is due',
+    'var 1..3: x;\nconstraint int_lin_eq([x],[x],0);\nsolve satisfy;': '2: int_lin_eq: a list of numbers is due',
+    'var 1..3: x;\nconstraint int_lin_eq([1],[x],x);\nsolve satisfy;': '2: int_lin_eq: x where a number is due',
+    'var 1..3: x;\nvar bool: b;\nconstraint set_in_reif(x,0..99999999999999999999,b);\nsolve satisfy;':
+        '3: set_in_reif: 100000000000000000000 members where a set of at most 32 numbers is due'}
 # This redefinition is what must be seen: MiniZinc takes the clause for array_bool_or again and drops it.
 DROPPED = 'predicate array_bool_or(array[int] of var bool: as, var bool: r) = clause(as, [r]) /\\ forall (a in as) (a -> r);\n'
 
@@ -59,12 +76,12 @@ def fail(what):
     raise solver.Difference(what)
 
 
-def flattened(fzn):
-    """The text of a FlatZinc file's contents, or None and the fault."""
+def flattened(fzn, folder=''):
+    """The text of a FlatZinc file's contents, or None and the fault; files of the model are named from a folder."""
     try:
-        return flatten.Flattener(fzn).text(), None
+        return flatten.Flattener(fzn, folder).text(), None
     except flatten.Fault as fault:
-        return None, '%d: %s' % fault.args
+        return None, '%s: %s' % fault.args
 
 
 def read(path):
@@ -113,7 +130,7 @@ def damage(rng, text):
 def damaged(names):
     """Damaged files give a fault of one line, or a text that text reads."""
     rng, texts = random.Random(1), []
-    files = [read(os.path.join(HERE, name + '.fzn')) for name in names]
+    files = [read(os.path.join(HERE, name + '.fzn')) for name in names] + [read(path) for path in sorted(glob.glob(os.path.join(HERE, 'places', '*.fzn')))]
     for _ in range(DAMAGED):
         fzn = damage(rng, rng.choice([f for f in files if len(f) < 6000] or files))
         try:
@@ -143,12 +160,13 @@ def compiled(model, *options):
     """MiniZinc's FlatZinc of a model."""
     with tempfile.TemporaryDirectory() as folder:
         path = os.path.join(folder, 'model.fzn')
-        run('minizinc', '-c', *options, '--output-fzn-to-file', path, '--output-ozn-to-file', os.path.join(folder, 'model.ozn'), model)
+        run('minizinc', '-c', *options, '--output-fzn-to-file', path, '--output-ozn-to-file', os.path.join(folder, 'model.ozn'),
+            '--output-paths-to-file', os.path.join(folder, 'model.paths'), model)
         return read(path)
 
 
-def rows_fzn(model, configuration=SOLVER):
-    return compiled(model, '--solver', configuration, '--no-half-reifications')
+def rows_fzn(model, *options, configuration=SOLVER):
+    return compiled(model, '--solver', configuration, '--no-half-reifications', *options)
 
 
 def number(text):
@@ -183,7 +201,7 @@ def gecode(fzn):
 
 def solved(text):
     """Gecode's solutions of a text, and the names of the model with those of the text."""
-    labels = {label: name for name, listed in re.findall(r'^var [^:]*: (\w+); % \d+ ?(.*)$', text, re.M) for label in listed.split()}
+    labels = {label: name for name, listed in re.findall(r'^var [^:]*: (\w+); % \d+((?: [^ %]+)*)', text, re.M) for label in listed.split()}
     fzn = re.sub(r'^(var [^:]*: \w+);', r'\1 :: output_var;', text, flags=re.M)
     return gecode(fzn), labels
 
@@ -195,9 +213,10 @@ def cut_down(solutions, names):
 def compare(name, expected, configuration=SOLVER, folder=HERE):
     """A model by both ways; answers how many solutions."""
     model = os.path.join(folder, name + '.mzn')
-    text, fault = flattened(rows_fzn(model, configuration))
+    text, fault = flattened(rows_fzn(model, '--keep-paths', configuration=configuration), folder)
     if fault:
         return fail(f'{name}: {fault}')
+    places_known(name, text, len(read(model).splitlines()))
     ours, labels = solved(text)
     # MiniZinc's own library, but where it has a builtin that Gecode lacks.
     theirs = gecode(compiled(model, *(('--solver', 'gecode') if expected.get("Gecode's library") else ('-G', 'std'))))
@@ -213,6 +232,14 @@ def compare(name, expected, configuration=SOLVER, folder=HERE):
         fail(f'{name}: {len(theirs)} solutions by Gecode, {wanted} expected')
     through_calls(name, text, ours[:FILLED])
     return len(ours)
+
+
+def places_known(name, text, lines):
+    """Every constraint of a text names a line of the model, but the one that is never true, which MiniZinc writes of a model without solutions."""
+    for constraint in re.findall(r'^constraint .*', text, re.M):
+        place = re.fullmatch(rf'constraint .*; % {name}\.mzn:(\d+)', constraint)
+        if constraint != 'constraint bool_clause([],[]);' and not (place and 1 <= int(place[1]) <= lines):
+            fail(f'{name}: no line of the model: {constraint}')
 
 
 def some_integer(rng, depth):
@@ -280,10 +307,15 @@ def dropped(expected):
         run('cp', '-r', os.path.dirname(SOLVER), folder)
         with open(os.path.join(folder, 'minizinc', 'mznlib', 'redefinitions.mzn'), 'a') as library:
             library.write(DROPPED)
+        configuration = os.path.join(folder, 'minizinc', 'rows.msc')
+        lost, _ = flattened(rows_fzn(os.path.join(HERE, 'm06_boollogic.mzn'), configuration=configuration))
+        if len(solved(lost)[0]) != 10 or expected['m06_boollogic']['solutions'] != 3:
+            fail(f'a library that loses constraints gives {len(solved(lost)[0])} solutions of m06_boollogic, not 10 for 3')
         try:
-            compare('m06_boollogic', expected['m06_boollogic'], os.path.join(folder, 'minizinc', 'rows.msc'))
-        except solver.Difference:
-            return
+            compare('m06_boollogic', expected['m06_boollogic'], configuration)
+        except solver.Difference as difference:
+            if str(difference).startswith('m06_boollogic: solutions over'):
+                return
     fail('a library that loses constraints is not seen')
 
 
