@@ -45,7 +45,7 @@ static void run_minizinc(const char *model, const char *data, int out) {
     static char solver[4096];
     snprintf(solver, sizeof solver, "%s/rows.msc", folder ? folder : MINIZINC_FOLDER);
     dup2(out, 1);
-    execlp("minizinc", "minizinc", "--solver", solver, "--no-half-reifications", model, data, (char *)NULL);
+    execlp("minizinc", "minizinc", "--solver", solver, "--no-half-reifications", "--keep-paths", model, data, (char *)NULL);
     fprintf(stderr, "pearrummy: %s: minizinc cannot be run: %s\n", model, strerror(errno));
     _exit(127);
 }
@@ -173,6 +173,8 @@ struct position position_of(const struct input *in, size_t byte) {
     return p;
 }
 
+static char *copy_of(const struct input *in, size_t from, size_t to) { return memcpy(reserve(to - from + 1, 1), in->bytes + from, to - from); }
+
 /* The first of the model's names in the comment `; % NUMBER NAME..` that flatten.py writes behind a declaration, or null. */
 static char *label_behind(const struct input *in, size_t i) {
     while (i < in->size && in->bytes[i] != ';') i++;
@@ -180,10 +182,32 @@ static char *label_behind(const struct input *in, size_t i) {
     for (i += 4; i < in->size && is_digit(in->bytes[i]);) i++;
     size_t from = i + 1, to = from;
     while (to < in->size && in->bytes[to] != ' ' && in->bytes[to] != '\n') to++;
-    if (to <= from || in->bytes[i] != ' ') return NULL;
-    char *label = reserve(to - from + 1, 1);
-    memcpy(label, in->bytes + from, to - from);
-    return label;
+    if (to <= from || in->bytes[i] != ' ' || in->bytes[from] == '%') return NULL;
+    return copy_of(in, from, to);
+}
+
+/* The byte behind the first place of a text between two bytes, the second of them where it is not there. */
+static size_t behind(const struct input *in, size_t from, size_t to, const char *text) {
+    size_t length = strlen(text);
+    for (; from + length <= to; from++)
+        if (!memcmp(in->bytes + from, text, length)) return from + length;
+    return to;
+}
+
+/* flatten.py writes an item a line, `constraint ..; % FILE:LINE` and `var ..; % NUMBER NAME.. % FILE:LINE`. */
+struct place place_of(const struct input *in, size_t byte) {
+    struct place place = {NULL, 0};
+    size_t start = byte < in->size ? byte : in->size, end = start;
+    while (start > 0 && in->bytes[start - 1] != '\n') start--;
+    while (end < in->size && in->bytes[end] != '\n') end++;
+    if (!in->flattened || start == end) return place;
+    size_t from = behind(in, start, end, "; % "), colon = end;
+    if (in->bytes[start] == 'v') from = behind(in, from, end, " % ");
+    while (colon > from && is_digit(in->bytes[colon - 1])) colon--;
+    if (colon == end || end - colon > 9 || colon < from + 2 || in->bytes[colon - 1] != ':') return place;
+    for (size_t i = colon; i < end; i++) place.line = 10 * place.line + (size_t)digit_of(in->bytes[i]);
+    place.file = copy_of(in, from, colon - 1);
+    return place;
 }
 
 /* A token that says a word: a bound or `bool`, the name of a builtin, an argument, the bracket that opens a list, but not the second of parallel
@@ -191,7 +215,7 @@ static char *label_behind(const struct input *in, size_t i) {
 void find_places(struct input *in) {
     in->names = reserve(in->count, sizeof *in->names);
     in->labels = reserve(in->count, sizeof *in->labels);
-    in->lines = reserve(in->count, sizeof *in->lines);
+    in->places = reserve(in->count, sizeof *in->places);
     in->tokens = reserve(in->count, sizeof *in->tokens);
     char before = ';';
     int in_item = 0, in_constraint = 0, is_linear = 0, lists = 0;
@@ -208,9 +232,13 @@ void find_places(struct input *in) {
             is_linear = in_constraint && end - i > 8 && !memcmp(in->bytes + i, "int_lin_", 8);
             lists = 0;
             in_item = 2;
-            if (in_constraint && in->lines_count < in->count) in->lines[in->lines_count++] = position_of(in, i).line;
+            if (in_constraint && in->places_count < in->count) {
+                struct place place = place_of(in, i);
+                if (!place.file) place.line = position_of(in, i).line;
+                in->places[in->places_count++] = place;
+            }
         } else if (before == ':' && in->names_count < in->count) {
-            char *name = memcpy(reserve(end - i + 1, 1), in->bytes + i, end - i), *label = in->flattened ? label_behind(in, end) : NULL;
+            char *name = copy_of(in, i, end), *label = in->flattened ? label_behind(in, end) : NULL;
             in->names[in->names_count] = name;
             in->labels[in->names_count++] = label ? label : name;
         } else if (is_digit(c) || c == '-' || (in_constraint && is_letter(c))) {

@@ -25,7 +25,8 @@ static const char help[] =
     "\n"
     "FILE holds FlatZinc text where its name ends in .fzn, a MiniZinc model where it ends in .mzn and MiniZinc is installed, bytes, four to a word, the\n"
     "lowest first, where it ends in .bin, else hexadecimal words of eight digits with # comments; - is standard input. A VALUE is a number, or\n"
-    "NAME=NUMBER where variables have names, as many as there are variables.\n"
+    "NAME=NUMBER where variables have names, as many as there are variables. Answers name the variables and lines of a MiniZinc model, which is flattened\n"
+    "by `minizinc --solver rows.msc --no-half-reifications --keep-paths`.\n"
     "\n"
     "  --text, --hex, --bytes   how FILE is read, whatever its name\n"
     "  --model, --rows          what its words are; else a row system is what ends in F0000000\n"
@@ -62,15 +63,25 @@ static int wrong_usage(const char *what, const char *which) {
     return USAGE;
 }
 
-static void json_text(const char *text, size_t length) {
+/* Bytes above 126 are written as they are where the text is UTF-8, else as characters of these numbers. */
+static void json_string(const char *text, size_t length, int is_utf8) {
     putchar('"');
     for (size_t i = 0; i < length; i++) {
         unsigned char c = (unsigned char)text[i];
         if (c == '"' || c == '\\') printf("\\%c", c);
-        else if (c < 32 || c > 126) printf("\\u%04X", c);
+        else if (c < 32 || c == 127 || (c > 127 && !is_utf8)) printf("\\u%04X", c);
         else putchar(c);
     }
     putchar('"');
+}
+
+static void json_text(const char *text, size_t length) { json_string(text, length, 0); }
+
+/* The fields of a place in a model; flatten.py writes its file in UTF-8. */
+static void json_place(struct place place) {
+    printf(",\"file\":");
+    json_string(place.file, strlen(place.file), 1);
+    printf(",\"line\":%zu", place.line);
 }
 
 /* The byte of the text that a place speaks of: of faults in a text the place itself, of faults in its words the token that says that word. */
@@ -87,18 +98,23 @@ static int refuse(uint32_t fault, size_t place) {
     size_t byte = 0;
     int has_byte = byte_of(fault, place, &byte);
     struct position p = position_of(&in, byte);
+    struct place in_model = {NULL, 0};
+    if (has_byte) in_model = place_of(&in, byte);
     if (option.json) {
         printf("{\"answer\":\"refused\",\"fault\":%" PRIu32 ",\"place\":%zu,\"text\":", fault, place);
         json_text(pearrummy_fault_text(fault), strlen(pearrummy_fault_text(fault)));
+        if (in_model.file) json_place(in_model);
+        else if (has_byte) printf(",\"line\":%zu,\"column\":%zu", p.line, p.column);
         if (has_byte) {
-            printf(",\"line\":%zu,\"column\":%zu,\"token\":", p.line, p.column);
+            printf(",\"token\":");
             json_text(in.bytes + byte, p.length);
         }
         printf("}\n");
         return REFUSED;
     }
     fprintf(stderr, "pearrummy: %s: fault %" PRIu32, in.name, fault);
-    if (has_byte) fprintf(stderr, " at line %zu, column %zu", p.line, p.column);
+    if (in_model.file) fprintf(stderr, " at %s line %zu", in_model.file, in_model.line);
+    else if (has_byte) fprintf(stderr, " at line %zu, column %zu%s", p.line, p.column, in.flattened ? " of its FlatZinc" : "");
     else if (!placeless) fprintf(stderr, " at word %zu", place);
     if (has_byte && p.length) fprintf(stderr, ", '%.*s'", (int)p.length, in.bytes + byte);
     if (has_byte && !p.length) fprintf(stderr, ", the end of the text");
@@ -168,11 +184,15 @@ static void say_constraint(size_t constraint) {
     }
     size_t code = in.words[head] & 0xFFFFFFF;
     const char *builtin = code >= 1 && code <= sizeof builtins / sizeof builtins[0] ? builtins[code - 1] : "?";
+    struct place place = {NULL, 0};
+    if (constraint < in.places_count) place = in.places[constraint];
     if (option.candidate) printf(option.json ? "\"constraint\":%zu" : "constraint %zu", constraint);
     else if (option.json) {
         printf("\"constraint\":%zu,\"builtin\":\"%s\"", constraint, builtin);
-        if (constraint < in.lines_count) printf(",\"line\":%zu", in.lines[constraint]);
-    } else if (constraint < in.lines_count) printf("constraint %zu (%s, line %zu%s)", constraint, builtin, in.lines[constraint], in.flattened ? " of its FlatZinc" : "");
+        if (place.file) json_place(place);
+        else if (place.line) printf(",\"line\":%zu", place.line);
+    } else if (place.file) printf("constraint %zu (%s, %s line %zu)", constraint, builtin, place.file, place.line);
+    else if (place.line) printf("constraint %zu (%s, line %zu%s)", constraint, builtin, place.line, in.flattened ? " of its FlatZinc" : "");
     else printf("constraint %zu (%s)", constraint, builtin);
 }
 

@@ -4,7 +4,7 @@ MiniZinc is installed also those of minizinc.txt.
 
 A run is a line `$ pearrummy ..`, perhaps with `< FILE`, then what stands on standard output, what stands on standard error behind `! `, and
 `[STATUS]`. --write records what the command prints now. The command, target/pearrummy, is there already."""
-import difflib, os, re, shlex, shutil, subprocess, sys
+import difflib, os, shlex, shutil, subprocess, sys
 
 TOP = os.path.dirname(os.path.dirname(os.path.abspath(__file__)))
 FOLDER = os.path.join(TOP, 'tests', 'command')
@@ -19,7 +19,6 @@ def output(line):
     run = subprocess.run([COMMAND] + words[1:], cwd=FOLDER, input=stdin, capture_output=True, timeout=60)
     text, said = (out.decode('utf-8', 'backslashreplace') for out in (run.stdout, run.stderr))
     text += '' if text.endswith('\n') or not text else '\n(no line feed)\n'
-    said = re.sub(r'\S*/mznfile\w+', 'FILE', said)  # MiniZinc's own file, which has another name each time
     return text + ''.join(f'! {e}\n' for e in said.splitlines()) + f'[{run.returncode}]\n'
 
 
