@@ -34,7 +34,7 @@ REWRITTEN = {
 LONGEST, HIGHEST = 32, 134217727
 DIGITS = 30     # more than any number that MiniZinc writes has
 TOKEN = re.compile(r'(?P<skip>[ \t\r\n]+|%[^\n]*)|(?P<float>-?\d+(?:\.\d+(?:[eE][-+]?\d+)?|[eE][-+]?\d+))|(?P<number>-?\d+)|(?P<name>[A-Za-z_]\w*)'
-                   r'|(?P<text>"(?:[^"\\]|\\.)*")|(?P<sign>\.\.|::|[][(){},:;=])|(?P<bad>.)', re.A | re.S)
+                   r'|(?P<text>"(?:[^"\\\n]|\\[^\n])*")|(?P<sign>\.\.|::|[][(){},:;=])|(?P<bad>.)', re.A)
 # An element of a path: file, line, three more numbers, and what stands there.
 ELEMENT = re.compile(r';*(.*?)\|(\d+)\|\d+\|\d+\|\d+\|[^;]*', re.A | re.S)
 LIBRARIES = ('/share/minizinc/', os.path.join(os.path.dirname(os.path.realpath(__file__)), 'mznlib', ''))

@@ -13,9 +13,9 @@ Always, with the recorded FlatZinc of each model (NAME.fzn, by `minizinc -c --so
 Where minizinc and fzn-gecode are here, or Debian's packages minizinc and flatzinc can be installed: each model is flattened anew, with the paths of
 its items, every constraint of its text names a line of the model, and the solutions of its text, cut down to the names of the model, are those that
 Gecode has of the model by MiniZinc's own library, as many as expected.json says. fill and judge_rows take the first solutions. A library that has
-array_bool_or by `clause`, so that MiniZinc drops constraints, must be seen by its 10 solutions for 3. expected.json names the model of which Gecode is wrong, with the count by hand, and those whose text has more solutions than the
+array_bool_or by `clause`, so that MiniZinc drops constraints, must be seen by its 10 solutions for 3. expected.json names the models of which Gecode is wrong, with the count by hand, and those whose text has more solutions than the
 model, since MiniZinc's own decompositions leave variables free."""
-import concurrent.futures, glob, json, os, random, re, subprocess, sys, tempfile
+import concurrent.futures, glob, itertools, json, os, random, re, subprocess, sys, tempfile
 
 sys.dont_write_bytecode = True
 import solver
@@ -54,6 +54,7 @@ FAULTS = {
     'var 1..3: x solve satisfy;': '1: ";" expected, not "satisfy"',
     'array [1..1] of int: a = [1..x];': '1: "x" where a range ends',
     'array [1..1] of int: a:: output_array([5..4]) = [1];': '1: no solve item',
+    '"\n";': '1: """ begins no item known here',
     'set of int: s = {1,true};': '1: a set of other things than numbers',
     'array [1..1] of int: a = [[[1]]];': '1: "[" is no whole number, Boolean, list, set or name',
     'var 1..1' + '0' * 30 + ': x; solve satisfy;': '1: a number of 31 digits, the range is -134217727 to 134217727',
@@ -206,6 +207,15 @@ def solved(text):
     return gecode(fzn), labels
 
 
+def judged(text):
+    """The solutions of a text by judge_model, of all values in its bounds."""
+    (words, _), = texts_read([text])
+    variables = re.findall(r'^var (?:bool|(-?\d+)\.\.(-?\d+)): (\w+);', text, re.M)
+    lists = list(itertools.product(*(range(int(low or 0), int(high or 1) + 1) for low, high, _ in variables)))
+    said = solver.answers([(solver.JUDGE_MODEL, 0, words, values) for values in lists])
+    return [dict(zip((name for *_, name in variables), values)) for values, answer in zip(lists, said) if answer == 'holds']
+
+
 def cut_down(solutions, names):
     return {tuple(solution[name] for name in names) for solution in solutions}
 
@@ -218,6 +228,8 @@ def compare(name, expected, configuration=SOLVER, folder=HERE):
         return fail(f'{name}: {fault}')
     places_known(name, text, len(read(model).splitlines()))
     ours, labels = solved(text)
+    if expected.get('by judge_model'):
+        ours = judged(text)
     # MiniZinc's own library, but where it has a builtin that Gecode lacks.
     theirs = gecode(compiled(model, *(('--solver', 'gecode') if expected.get("Gecode's library") else ('-G', 'std'))))
     if not expected.get('gecode is wrong'):

@@ -45,6 +45,7 @@ ANSWERS = {
     'reason shop.mzn 1 2 1 3 0': 'row 2 fails: constraint 1 (int_lin_le, rules.mzn line 6) is false',
     'reason shop.mzn 1 2 1 2 1': 'row 1 fails: constraint 0 (int_ne, shop.mzn line 5) is true, but auxiliaries in the row are wrong',
     'judge --json tasks.mzn hour[1]=1 hour[2]=3 hour[3]=3': '{"answer":"false","constraint":3,"builtin":"int_ne","file":"tasks.mzn","line":7}',
+    'reason --json shop.mzn 1 2 1 3 0': '{"answer":"builtin","row":2,"constraint":1,"builtin":"int_lin_le","file":"rules.mzn","line":6}',
     'check wide.mzn': "pearrummy: wide.mzn: fault 13 at wide.mzn line 4, 'int_lin_ne': "
                       'a coefficient, constant or auxiliary bound of the rows is outside the range',
     'check --json wide.mzn': '{"answer":"refused","fault":13,"place":7,"text":"a coefficient, constant or auxiliary bound of the rows is outside the '
