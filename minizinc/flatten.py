@@ -7,9 +7,9 @@
 Arrays are written out where they are used, annotations and predicates are left out, a constant that stands for a variable becomes a variable with
 one value, a domain that is a set becomes bounds and set_in, names that are too long get others, and lists of more than 32 are cut. After each
 variable a comment gives its number and its names in the model, so that the text is its own table. With --keep-paths MiniZinc says in annotations
-mzn_path("..") where in the model an item comes from: then a comment "FILE:LINE" stands behind each variable, after "%", and each constraint. FILE is
-the first that is not of a library. What has no rows is a fault: one line, "FILE:LINE: what", of the model where a path says it, else of the FlatZinc,
-and status 1. This script and the library mznlib are tested, not proved."""
+mzn_path("..") where in the model an item comes from: then a comment "FILE:LINE" stands behind each variable, after "%", and each constraint, of the
+first place in the path that is in no library. What has no rows is a fault: one line, "FILE:LINE: what", of the model where a path says it, else of
+the FlatZinc, and status 1. This script and the library mznlib are tested, not proved."""
 import os, re, sys
 
 # The arguments of the builtins with a code: I an integer variable, B a Boolean one, N a number, K a number from 0 to 27, LI, LB, LN lists of these,
@@ -35,8 +35,8 @@ LONGEST, HIGHEST = 32, 134217727
 DIGITS = 30     # more than any number that MiniZinc writes has
 TOKEN = re.compile(r'(?P<skip>[ \t\r\n]+|%[^\n]*)|(?P<float>-?\d+(?:\.\d+(?:[eE][-+]?\d+)?|[eE][-+]?\d+))|(?P<number>-?\d+)|(?P<name>[A-Za-z_]\w*)'
                    r'|(?P<text>"(?:[^"\\\n]|\\[^\n])*")|(?P<sign>\.\.|::|[][(){},:;=])|(?P<bad>.)', re.A)
-# An element of a path: file, line, three more numbers, and what stands there.
-ELEMENT = re.compile(r';*(.*?)\|(\d+)\|\d+\|\d+\|\d+\|[^;]*', re.A | re.S)
+# An element of a path: file, line, three more numbers, and what stands there; that of a declaration is `id|NAME` or `vd`.
+ELEMENT = re.compile(r';*(.*?)\|(\d+)\|\d+\|\d+\|\d+\|(?P<declared>id\||vd)?[^;]*', re.A | re.S)
 LIBRARIES = ('/share/minizinc/', os.path.join(os.path.dirname(os.path.realpath(__file__)), 'mznlib', ''))
 # What is no item of a model: comments, strings, quoted names.
 HIDDEN = re.compile(r'%[^\n]*|/\*.*?\*/|"(?:[^"\\]|\\.)*"|\'[^\'\n]*\'', re.S)
@@ -53,14 +53,17 @@ class Own(str):
 
 
 def model_line(path):
-    """The file and the line of the first element of a path that is of no library, or None."""
-    element = ELEMENT.match(path)
+    """The file and the line of the first element of a path that is of no library, or None; a declaration only where nothing else follows: what a
+    variable is equal to has its path behind that of the variable."""
+    element, declared = ELEMENT.match(path), None
     while element:
         file, line = element[1], element[2]
         if file and len(line) < 10 and int(line) and not any(library in file for library in LIBRARIES):
-            return file, int(line)
+            if not element['declared']:
+                return file, int(line)
+            declared = declared or (file, int(line))
         element = ELEMENT.match(path, element.end())
-    return None
+    return declared
 
 
 def objective_line(files):
@@ -104,14 +107,16 @@ class Flattener:
         raise Fault(self.place or self.line, what)
 
     def find_place(self):
-        """The place of the item that begins here, by the first of its paths that says one."""
-        self.place, at = None, self.at
-        while not self.place and self.tokens[at][1] not in (';', ''):
+        """The place of the item that begins here, by the longest of its paths that says one: it goes down to the item itself, where MiniZinc leaves
+        on some items, in any order, shorter paths of others that use the same line of a library."""
+        at, paths = self.at, []
+        while self.tokens[at][1] not in (';', ''):
             if self.tokens[at][1] == 'mzn_path' and self.tokens[at + 1][1] == '(' and self.tokens[at + 2][0] == 'text':
-                found = model_line(re.sub(r'\\(.)', r'\1', self.tokens[at + 2][1][1:-1], flags=re.S))
-                self.place = self.spelt_place(found)
-                self.files.update({found[0]: None} if found else {})
+                paths.append(re.sub(r'\\(.)', r'\1', self.tokens[at + 2][1][1:-1]))
             at += 1
+        found = model_line(max(filter(model_line, paths), key=lambda path: (len(path), path), default=''))
+        self.place = self.spelt_place(found)
+        self.files.update({found[0]: None} if found else {})
 
     def spelt_place(self, found):
         """A place as it is written: FILE:LINE in one line, or None."""

@@ -21,7 +21,7 @@ from minizinc import fail, flattened, read
 PLACES = os.path.join(minizinc.HERE, 'places')
 SCRIPT = os.path.join(solver.ROOT, 'minizinc', 'flatten.py')
 COMMAND = os.path.join(solver.ROOT, 'target', 'pearrummy')
-TEXTS = ['apart', 'price', 'shop', 'sums', 'tasks', 'wide', 'words']
+TEXTS = ['apart', 'members', 'price', 'shop', 'sums', 'tasks', 'wide', 'words']
 FAULTS = {
     'objective': 'objective.mzn:7: an objective: only "solve satisfy" has rows',
     'unbounded': 'unbounded.mzn:3: y has no bounds: give it some in the model',
@@ -58,6 +58,8 @@ PATHS = {
     STD + '|0|0|0|0|il|0;/models/m.mzn|7|1|7|2|id|x;': 'm.mzn:7',
     os.path.join(solver.ROOT, 'minizinc', 'mznlib', 'redefinitions.mzn') + '|42|3|48|7|l;/models/m.mzn|7|1|7|2|id|x;': 'm.mzn:7',
     STD: None,
+    '/models/m.mzn|1|50|1|50|id|p;/models/m.mzn|1|40|1|50|vd;;/models/m.mzn|7|12|7|23|bin|': 'm.mzn:7',
+    '/models/m.mzn|7|50|7|50|id|p;/models/m.mzn|8|40|8|50|vd;;' + STD: 'm.mzn:7',
     ';;/models/m.mzn|7|1|7|2|id|x;;': 'm.mzn:7',
     '/other/m.mzn|7|1|7|2|id|x;': '/other/m.mzn:7',
     'stdin|3|12|3|20|bin|': 'stdin:3',
@@ -129,6 +131,10 @@ def paths():
         text, fault = flattened(f'var 1..3: x:: {broken};\nconstraint int_le(x,x):: {broken};\nsolve satisfy;\n')
         if text and '%' in text.replace('; % 0', '') or fault and not re.fullmatch('[0-9]+: .*', fault):
             fail(f'{broken} gives {fault or text}')
+    long, short = (f'mzn_path("/models/m.mzn|{line}|1|7|2|bin|;{rest}")' for line, rest in ((7, STD), (3, '')))
+    for notes in f'{long}:: {short}', f'{short}:: {long}', f'{short}:: {long}:: {short}', f'{long}:: mzn_path("{STD * 9}")':
+        if flattened(f'var int: x:: {notes};', '/models')[1] != 'm.mzn:7: x has no bounds: give it some in the model':
+            fail(f'of several paths: {flattened(f"var int: x:: {notes};")}')
     item = 'var bool: {}:: {}:: mzn_path("/models/m.mzn|{}|1|7|2|id|x;");\n'
     for notes, line, place in ('var_is_introduced', 7, ' % m.mzn:7'), ('var_is_introduced', 8, ''), ('output_var', 7, ''):
         fzn = item.format('a', 'var_is_introduced', 7) + item.format('b', notes, line) + 'constraint bool_clause([a],[b]);\nsolve satisfy;\n'
