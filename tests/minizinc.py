@@ -226,7 +226,7 @@ def compare(name, expected, configuration=SOLVER, folder=HERE):
     text, fault = flattened(rows_fzn(model, '--keep-paths', configuration=configuration), folder)
     if fault:
         return fail(f'{name}: {fault}')
-    places_known(name, text, len(read(model).splitlines()))
+    places_known(name, text, read(model).splitlines())
     ours, labels = solved(text)
     if expected.get('by judge_model'):
         ours = judged(text)
@@ -247,11 +247,17 @@ def compare(name, expected, configuration=SOLVER, folder=HERE):
 
 
 def places_known(name, text, lines):
-    """Every constraint of a text names a line of the model, but the one that is never true, which MiniZinc writes of a model without solutions."""
+    """Every constraint of a text names a line of the model, but the one that is never true, which MiniZinc writes of a model without solutions. In a
+    random model that line has the variables of the constraint, unless MiniZinc made one variable of two."""
+    whole = name.startswith('random') and set('xyzbc') <= set(re.findall(r'^var [^:]*: (\w+);', text, re.M))
     for constraint in re.findall(r'^constraint .*', text, re.M):
-        place = re.fullmatch(rf'constraint .*; % {name}\.mzn:(\d+)', constraint)
-        if constraint != 'constraint bool_clause([],[]);' and not (place and 1 <= int(place[1]) <= lines):
+        place = re.fullmatch(rf'constraint (.*); % {name}\.mzn:(\d+)', constraint)
+        if constraint == 'constraint bool_clause([],[]);':
+            continue
+        if not place or not 1 <= int(place[2]) <= len(lines):
             fail(f'{name}: no line of the model: {constraint}')
+        if whole and not set(re.findall(r'\b[xyzbc]\b', place[1])) <= set(re.findall(r'\b[xyzbc]\b', lines[int(place[2]) - 1])):
+            fail(f'{name}: not the line {lines[int(place[2]) - 1]}: {constraint}')
 
 
 def some_integer(rng, depth):
