@@ -64,7 +64,9 @@ pub struct Judged {
 // Where the value of variable x is missing or out of its bounds, the rest is read and not judged: what such values add up to may pass 64 bits.
 fn judge_rest(ws: &[u32], sources: bool, n: usize, at: usize, x: usize) -> Judged
     requires { ⌜ Placed (now ws) at × (n ≤ 2000000000) ⌝ }
-    ensures { λ r. ⌜ (r .refusal ≡ onward (startDue sources) n at (now (ws .entry))) × (r .refusal .number ≡ 0 → r .variables ≡ n + length (variables (drop at (now (ws .entry))))) × (verdict (r .said) ≡ outOfBounds x) ⌝ }
+    ensures refusal { λ r. ⌜ r .refusal ≡ onward (startDue sources) n at (now (ws .entry)) ⌝ }
+    ensures variables { λ r. ⌜ (r .refusal .number ≡ 0 → r .variables ≡ n + length (variables (drop at (now (ws .entry))))) ⌝ }
+    ensures said { λ r. ⌜ verdict (r .said) ≡ outOfBounds x ⌝ }
 {
     let read = read_on(ws, sources, n, at);
     let refusal = read.refusal;

@@ -114,7 +114,7 @@ fn put_sum(
 // A product, as a row of three terms with coefficient 1 and the constant 0.
 fn put_product(page: &mut [u8], at: usize, k: usize, ws: &[u32]) -> usize
     requires { ⌜ (at + 2600 < 1099511627776) × (k < 1000000) ⌝ }
-    ensures { λ r. ⌜ Laid (now (page .entry)) at (rowLines k (product (variableAt (now (ws .entry)) 0) (variableAt (now (ws .entry)) 1) (variableAt (now (ws .entry)) 2))) (now (page .exit)) r × (r ≤ at + 2500) ⌝ }
+    ensures { λ r. let ws = now (ws .entry) in ⌜ Laid (now (page .entry)) at (rowLines k (product (variableAt ws 0) (variableAt ws 1) (variableAt ws 2))) (now (page .exit)) r × (r ≤ at + 2500) ⌝ }
 {
     let row = [word_at(ws, 0), 1, word_at(ws, 1), 1, word_at(ws, 2), 1, 0];
     put_sum(page, at, k, 58, 61, &row, 3)

@@ -126,8 +126,8 @@ returns c =
     let e = c .judge-rest .ensures in
     record {
       reads = e .0 ∙ read-past k;
-      counts = λ z. e .1 z ∙ counted-one (k .before) .number;
-      says = λ z h. absurd (omega (arith, e .1 z, h, c .before .if3 .taken));
+      counts = λ z. e .1 .0 z ∙ counted-one (k .before) .number;
+      says = λ z h. absurd (omega (arith, e .1 .0 z, h, c .before .if3 .taken));
     }
 
 judge-rest-requires-2 : tie.Need-judge-rest-requires-2 Inv-loop μ-loop
@@ -141,8 +141,8 @@ returns-2 c =
     let e = c .judge-rest2 .ensures in
     record {
       reads = e .0 ∙ read-past k;
-      counts = λ z. e .1 z ∙ counted-one (k .before) .number;
-      says = λ z h. e .2 ∙ outside (l .inv .2) (variable-there (k .before)) (variable (k .before .before .before .before)) (sym (kept (k .before)) ∙ not-true _ (c .before .if4 .taken));
+      counts = λ z. e .1 .0 z ∙ counted-one (k .before) .number;
+      says = λ z h. e .1 .1 ∙ outside (l .inv .2) (variable-there (k .before)) (variable (k .before .before .before .before)) (sym (kept (k .before)) ∙ not-true _ (c .before .if4 .taken));
     }
 
 add-n : tie.Need-add-n Inv-loop μ-loop

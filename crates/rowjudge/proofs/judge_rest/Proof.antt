@@ -7,7 +7,7 @@ use Rattle.rowjudge.proofs.judge_rest.Tie as tie
 
 returns : tie.Need-returns
 unfolding verdict
-returns c = (c .before .read-on .ensures .0, c .before .read-on .ensures .1, refl)
+returns c = (c .before .read-on .ensures .0, (c .before .read-on .ensures .1, refl))
 
 pub judge-rest-spec : {M : Type 1} → statement M
 judge-rest-spec = tie.close (tie.spec (λ c κs. search needs) returns)
