@@ -16,7 +16,8 @@ use Rattle.models.specs.Model.{Constraint, var, builtin}
 use Rattle.models.specs.Table as Table
 use Rattle.builtins.specs.Coded.{builtinOf}
 use Rattle.builtins.proofs.Coded.{None}
-use Rattle.rules.specs.Block.{Block, blockWords, outside}
+use Rattle.rules.specs.Block.{Block, blockWords}
+use Rattle.rules.specs.InRange.{outside}
 use Rattle.rules.specs.Rule.{rule}
 use Rattle.rules.specs.Shared.{Encoded, choice, sharedRule, ruleAfter}
 use Rattle.rules.specs.Translation.{blockOf}

@@ -14,7 +14,8 @@ use Rattle.words.specs.Refusal.{accepted, _else-refuse_, countFault, roomFault}
 use Rattle.words.specs.Answer.{Answer, refused, written, holds, isHolds, _else-answer_}
 use Rattle.models.specs.JudgeModel.{judgeModel, judgeAccepted}
 use Rattle.rules.specs.Translation.{picks, auxiliaries}
-use Rattle.rules.specs.Fill.{filledCount, fillFault, fillFaultIn, fill, fillIn, filled, filledIn}
+use Rattle.rules.specs.Fill.{filledCount, fillFaultIn, fill, fillIn, filled, filledIn}
+use Rattle.rules.specs.InRange.{fillFault}
 use Rattle.sharing.specs.SharedSolutions.{Passes, SatisfiesModel}
 use Rattle.sharing.proofs.Accepts.{passes-read}
 use Rattle.sharing.proofs.Theorem.{fill-counts, fill-satisfies, fill-completes, only-fill}

@@ -11,7 +11,8 @@ use Rattle.words.specs.Answer.{refused, counts, _else-answer_}
 use Rattle.words.proofs.Reading as Reading
 use Rattle.rules.specs.Translation.{auxiliaries}
 use Rattle.rules.specs.Check.{checkFault, check, checkIn}
-use Rattle.rules.specs.Fill.{fillFault, fillFaultIn, fillIn, filledIn}
+use Rattle.rules.specs.Fill.{fillFaultIn, fillIn, filledIn}
+use Rattle.rules.specs.InRange.{fillFault}
 use Rattle.sharing.specs.SharedSolutions.{Passes}
 use Rattle.translation.proofs.Refusals as Refusals
 use Rattle.translation.proofs.Refusals.{refused-first, some-refusal}

@@ -13,7 +13,8 @@ use Rattle.words.specs.Word.{word, numberWord, inRange}
 use Rattle.words.specs.Kind as Kind
 use Rattle.rowsystems.specs.Row.{Row, sum≤0, sum=0, product, rename, renameTerms}
 use Rattle.rowsystems.specs.RowWords.{boundWords, termWords, sumWords, rowWords, boundNumbers, rowNumbers}
-use Rattle.rules.specs.Block.{Ref, Block, numbered, blockWords, blockNumbers, outside, outsideIn}
+use Rattle.rules.specs.Block.{Ref, Block, numbered, blockWords, blockNumbers, outsideIn}
+use Rattle.rules.specs.InRange.{outside}
 use Rattle.laying.specs.Part.{head, constant, partWords, partNumbers, partAuxiliaries, partRows, wordsIn, numbersIn, auxiliariesIn, rowsIn, boundParts, termParts, rowParts, blockParts}
 use Rattle.laying.proofs.Parts.{words-append, numbers-append, auxiliaries-append, rows-append}
 

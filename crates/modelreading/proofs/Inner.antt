@@ -7,7 +7,8 @@ use borrow.Author.Tests.{lt-ltb, le-ltb, le-leb, ne-eqb}
 use lib.ListN.{length, getD, List·getD-eq-default}
 use Rattle.words.specs.Word.{kind, payload, wordAt}
 use Rattle.models.specs.Shape.{argument}
-use Rattle.models.specs.Reading.{faultNumber, faultNumberIn, faultVariable, faultCount, faultArgumentIn, faultEnd, faultDueIn, afterDue, afterArgument}
+use Rattle.models.specs.Reading.{faultNumberIn, faultVariable, faultArgumentIn, faultEnd, faultDueIn, afterDue, afterArgument}
+use Rattle.models.specs.InRange.{faultNumber, faultCount}
 use Rattle.models.specs.declared.Due.the-variants.{Arguments}
 use Rattle.models.proofs.Sound.{Plain, plain, is-number, is-variable, is-count}
 use Rattle.modelreading.specs.Onward.{Went, stepOver, argumentsFrom, NumbersRead, VariablesRead}

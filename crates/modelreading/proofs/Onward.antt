@@ -14,7 +14,8 @@ use Rattle.words.specs.Word.{kind, payload, wordAt}
 use Rattle.words.specs.Refusal.{_at-place_, faultOr, accepted, firstFault}
 use Rattle.words.proofs.Reading.{onward, refused, at-end, word-then}
 use Rattle.models.specs.Shape.{argument, shapes}
-use Rattle.models.specs.Reading.{faultHead, faultStartIn, faultUpperIn, faultNumberIn, faultVariable, faultCountIn, faultArgumentIn, faultDue, faultDueIn, faultEnd, fault, faultIn, afterHead, afterDue, declared, started, after, ended, State}
+use Rattle.models.specs.Reading.{faultHead, faultStartIn, faultUpperIn, faultNumberIn, faultVariable, faultCountIn, faultArgumentIn, faultDueIn, faultEnd, faultIn, afterHead, afterDue, declared, started, after, ended, State}
+use Rattle.models.specs.InRange.{faultDue, fault}
 use Rattle.models.specs.declared.Due.{Due}
 use Rattle.models.specs.declared.Due.the-variants.{Start, Upper, Arguments, Ended}
 use Rattle.modelreading.specs.Onward as Onward

@@ -13,7 +13,8 @@ use Rattle.words.specs.Fault as Fault
 use Rattle.words.specs.Word.{kind, wordAt}
 use Rattle.words.specs.Variables.{variables, startsPair}
 use Rattle.words.proofs.Reading.{word-then}
-use Rattle.models.specs.Reading.{faultStart, faultUpper, faultEnd, faultDueIn, afterDue, declared, started}
+use Rattle.models.specs.Reading.{faultEnd, faultDueIn, afterDue, declared, started}
+use Rattle.models.specs.InRange.{faultStart, faultUpper}
 use Rattle.models.specs.Model.{constraintsFrom, sourceWords}
 use Rattle.models.specs.declared.Due.the-variants.{Start, Upper}
 use Rattle.models.proofs.Sound.{is-start, at-lower, at-boolean, at-head, is-upper}

@@ -13,7 +13,8 @@ use Rattle.words.specs.Variables.{variables}
 use Rattle.words.specs.declared.Refusal.{Refusal}
 use Rattle.models.specs.Model.{constraintsFrom}
 use Rattle.models.specs.Shape.{argument}
-use Rattle.models.specs.Reading.{fault, after, ended, afterArgument}
+use Rattle.models.specs.Reading.{after, ended, afterArgument}
+use Rattle.models.specs.InRange.{fault}
 use Rattle.models.specs.declared.Due.{Due}
 use Rattle.models.specs.declared.Due.the-variants.{Arguments}
 use Rattle.modelreading.specs.declared.items.Step.{Step}

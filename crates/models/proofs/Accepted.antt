@@ -26,7 +26,8 @@ use Rattle.models.specs.Table as Table
 use Rattle.models.specs.Builtin.{Builtin}
 use Rattle.models.specs.Shape as Shape
 use Rattle.models.specs.Model.{Constraint, constraintsFrom, constraints, sourceWords, builtin}
-use Rattle.models.specs.Reading.{fault, after, ended, begin, readModel, readModelIn}
+use Rattle.models.specs.Reading.{after, ended, begin, readModel, readModelIn}
+use Rattle.models.specs.InRange.{fault}
 use Rattle.models.proofs.Arguments.{integerArguments, booleanArguments}
 use Rattle.models.proofs.Sound.{sound}
 use Rattle.models.proofs.Fits.{Named}

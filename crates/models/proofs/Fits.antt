@@ -16,7 +16,8 @@ use Rattle.words.specs.Word.{payload, wordAt}
 use Rattle.models.specs.Shape as Shape
 use Rattle.models.specs.Shape.{argument}
 use Rattle.models.specs.Model.{var, size, past}
-use Rattle.models.specs.Reading.{faultNumber, faultVariable, faultCount, faultArgumentIn, faultDue, faultDueIn, faultIn, afterArgument, afterDue, faultEnd, ended}
+use Rattle.models.specs.Reading.{faultVariable, faultArgumentIn, faultDueIn, faultIn, afterArgument, afterDue, faultEnd, ended}
+use Rattle.models.specs.InRange.{faultNumber, faultCount, faultDue}
 use Rattle.models.specs.declared.Due.{Due}
 use Rattle.models.specs.declared.Due.the-variants.{Arguments}
 use Rattle.models.proofs.Sound.{Sound, Plain, plain, after-plain, reading, turn, is-number, is-variable, is-count}

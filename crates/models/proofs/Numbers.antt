@@ -22,7 +22,8 @@ use Rattle.words.proofs.Choices.{either, of-kind, of-range}
 use Rattle.words.proofs.Reading.{not-too-many, each-word, same-reading}
 use Rattle.models.specs.Shape as Shape
 use Rattle.models.specs.Shape.{argument}
-use Rattle.models.specs.Reading.{faultHead, faultStart, faultStartIn, faultUpperIn, faultNumber, faultNumberIn, faultVariable, faultCount, faultCountIn, faultArgument, faultArgumentIn, faultDue, faultDueIn, fault, faultIn, after, ended, begin, readModel, readModelIn}
+use Rattle.models.specs.Reading.{faultHead, faultStartIn, faultUpperIn, faultNumberIn, faultVariable, faultCountIn, faultArgumentIn, faultDueIn, faultIn, after, ended, begin, readModel, readModelIn}
+use Rattle.models.specs.InRange.{faultStart, faultNumber, faultCount, faultArgument, faultDue, fault}
 use Rattle.models.specs.declared.Due.{Due}
 use Rattle.models.specs.declared.Due.the-variants.{Start, Upper, Arguments, Ended}
 use Rattle.models.proofs.Sound.{is-variable, is-upper, at-constraint, at-end, is-head, at-lower, at-boolean, at-head, is-start}

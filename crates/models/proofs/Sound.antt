@@ -20,7 +20,8 @@ use Rattle.words.specs.Refusal.{accepted, firstFault}
 use Rattle.words.proofs.Reading.{passed}
 use Rattle.words.proofs.Choices.{not-first, not-second, either, neither, of-kind, of-range}
 use Rattle.models.specs.Table as Table
-use Rattle.models.specs.Reading.{State, faultHead, faultStart, faultStartIn, faultUpper, faultUpperIn, faultNumber, faultNumberIn, faultVariable, faultCount, faultCountIn, fault, afterDue, declared, started, after, ended}
+use Rattle.models.specs.Reading.{State, faultHead, faultStartIn, faultUpperIn, faultNumberIn, faultVariable, faultCountIn, afterDue, declared, started, after, ended}
+use Rattle.models.specs.InRange.{faultStart, faultUpper, faultNumber, faultCount, fault}
 use Rattle.models.specs.declared.Due.{Due}
 
 -- ---- no fault in the words, from a state on

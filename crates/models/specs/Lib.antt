@@ -4,5 +4,6 @@ pub mod Meaning
 pub mod Table
 pub mod Shape
 pub mod Reading
+pub mod InRange
 pub mod Model
 pub mod JudgeModel

@@ -158,26 +158,5 @@ readModelIn range ws =
 
 -- ---- In the range of 02
 
-abbrev pub faultStart : ℕ → ℕ → ℕ → ℕ
-faultStart = faultStartIn Limit.range
-
-abbrev pub faultUpper : ℕ → ℕ → ℕ
-faultUpper = faultUpperIn Limit.range
-
-abbrev pub faultNumber : ℕ → ℕ
-faultNumber = faultNumberIn Limit.range
-
-abbrev pub faultCount : ℕ → ℕ → ℕ
-faultCount = faultCountIn Limit.range
-
-abbrev pub faultArgument : ℕ → ℕ → ℕ → ℕ → ℕ
-faultArgument = faultArgumentIn Limit.range
-
-abbrev pub faultDue : Due → ℕ → ℕ → ℕ → ℕ → ℕ
-faultDue = faultDueIn Limit.range
-
-abbrev pub fault : State → ℕ → List ℕ → ℕ
-fault = faultIn Limit.range
-
 abbrev pub readModel : List ℕ → Refusal
 readModel = readModelIn Limit.range

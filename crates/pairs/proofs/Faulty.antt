@@ -7,7 +7,8 @@ use lib.ListN.{length}
 use Rattle.integers.specs.Choice.{_if_else_}
 use Rattle.words.specs.declared.Refusal.{Refusal}
 use Rattle.words.specs.Refusal.{_at-place_, faultOr, firstFault}
-use Rattle.models.specs.Reading.{State, fault, faultIn, after, ended, begin, readModel, readModelIn}
+use Rattle.models.specs.Reading.{State, faultIn, after, ended, begin, readModel, readModelIn}
+use Rattle.models.specs.InRange.{fault}
 use Rattle.pairs.specs.Pair.{table, firstModel, secondModel}
 use Rattle.pairs.proofs.Models.{first-splits, second-splits}
 

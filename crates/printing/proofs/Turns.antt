@@ -13,7 +13,8 @@ use Rattle.words.specs.Word.{kind, payload, signed, inRange}
 use Rattle.words.proofs.Choices.{not-first, of-kind, of-range}
 use Rattle.decimals.specs.Decimal.{numeral}
 use Rattle.models.specs.Shape.{argument}
-use Rattle.models.specs.Reading.{State, faultHead, afterHead, declared, started, faultNumber, faultNumberIn, faultVariable, faultCount, faultCountIn, faultArgumentIn, faultDueIn, faultIn, afterArgument, afterDue, after, faultEnd, ended}
+use Rattle.models.specs.Reading.{State, faultHead, afterHead, declared, started, faultNumberIn, faultVariable, faultCountIn, faultArgumentIn, faultDueIn, faultIn, afterArgument, afterDue, after, faultEnd, ended}
+use Rattle.models.specs.InRange.{faultNumber, faultCount}
 use Rattle.models.specs.declared.Due.{Due}
 use Rattle.models.specs.declared.Due.the-variants.{Start, Upper, Arguments, Ended}
 use Rattle.models.proofs.Sound.{Sound, Plain, plain, after-plain, reading, is-variable}

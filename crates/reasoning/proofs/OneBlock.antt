@@ -20,7 +20,8 @@ use Rattle.rowsystems.specs.RowWords.{boundWords, rowWords, boundNumbers, rowNu
 use Rattle.rowsystems.specs.RowSystem.{rows}
 use Rattle.rowsystems.proofs.ReadBack.{Items, Ranged, Declared, end, block}
 use Rattle.rowreading.specs.Onward.{onward}
-use Rattle.rules.specs.Block.{Block, blockWords, blockNumbers, numbered, outside}
+use Rattle.rules.specs.Block.{Block, blockWords, blockNumbers, numbered}
+use Rattle.rules.specs.InRange.{outside}
 use Rattle.rules.specs.Shared.{Encoded}
 use Rattle.rules.specs.Translation.{blockOf}
 use Rattle.rules.specs.Check.{tooWide}

@@ -19,7 +19,8 @@ use Rattle.rowsystems.specs.Row.{Row, rename, satisfied}
 use Rattle.rowsystems.specs.RowSystem.{rows}
 use Rattle.rowsystems.specs.declared.Due.the-variants.{Item}
 use Rattle.rowreading.specs.Onward.{onward}
-use Rattle.rules.specs.Block.{Block, blockWords, numbered, outside}
+use Rattle.rules.specs.Block.{Block, blockWords, numbered}
+use Rattle.rules.specs.InRange.{outside}
 use Rattle.rules.specs.Shared.{Encoded}
 use Rattle.rules.specs.Translation.{blockOf, auxiliaries}
 use Rattle.rules.specs.Check.{tooWide}

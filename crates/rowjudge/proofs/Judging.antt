@@ -33,7 +33,7 @@ use Rattle.rowreading.specs.declared.items.Step.{Step}
 use Rattle.rowreading.proofs.Counts.{CountedFrom, none-counted, count-none, count-one, count-plain, counted, along, plain-variables}
 use Rattle.rowreading.proofs.Steps.{or-false}
 use Rattle.rowsystems.specs.OneWord.{startsRow, rowOf}
-use Rattle.rowjudge.specs.Passing.{Known, Passes, judgedOn}
+use Rattle.rowjudge.specs.Passing.{ValuesKnown, ItemPassed, judgedOn}
 use Rattle.rowsystems.proofs.Walk.{starts-none, starts-one, none-left}
 
 -- ---- the rows so far: whether all k are true, else the first wrong one
@@ -56,10 +56,10 @@ module _ (t : Row ℕ → Bool) (k wrong : ℕ) (x : Row ℕ) (xs : List (Row �
 pub record Judging (ws : List ℕ) (vs : List ℤ) (before start first n k : ℕ) (all : Bool) (wrong at : ℕ) : Type 0 where
   pub few : k ≤ first + at
   pub counted : CountedFrom ws before start n at
-  pub known : Known vs n
+  pub known : ValuesKnown vs n
   pub told : firstOutOfBounds (value vs) n (variables (drop at ws)) (tells (satisfied (value vs)) k all wrong (rows (drop at ws))) ≡ judgedOn ws vs before start first
 
-pub begun : (ws : List ℕ) (vs : List ℤ) (before start first : ℕ) → Known vs before → Judging ws vs before start first before first true 0 start
+pub begun : (ws : List ℕ) (vs : List ℤ) (before start first : ℕ) → ValuesKnown vs before → Judging ws vs before start first before first true 0 start
 unfolding judgedOn
 begun ws vs before start first f = record { few = omega arith; counted = none-counted ws before start; known = f; told = refl }
 
@@ -104,7 +104,7 @@ kept-near w u v e = go (startsPair w) e
     go true e = let i = says-within (signed w to signed u) v .0 e in between-near (signed w) v (signed u) (i .0) (i .1) (signed-near w) (signed-near u)
     go false e = let i = says-within bit v .0 e in between-near (bit .lower) v (bit .upper) (i .0) (i .1) (omega arith) (omega arith)
 
-known-more : (vs : List ℤ) (n : ℕ) → Known vs n → n + 1 ≤ length vs → Near (value vs n) → Known vs (n + 1)
+known-more : (vs : List ℤ) (n : ℕ) → ValuesKnown vs n → n + 1 ≤ length vs → Near (value vs n) → ValuesKnown vs (n + 1)
 known-more vs n f l h = (l, λ x b. go x b (ltb x n) refl)
   where
     go : (x : ℕ) → x < n + 1 → (t : Bool) → ltb x n ≡ t → Near (value vs x)
@@ -149,7 +149,7 @@ module _ {ws : List ℕ} {vs : List ℤ} {before start first n k : ℕ} {all : B
 
 -- ---- where the pass goes on, and where it stops
 
-module _ {ws : List ℕ} {s : Bool} {n at m : ℕ} {d : Due} {r : Step} (g : Passes ws s n at d m r) where
+module _ {ws : List ℕ} {s : Bool} {n at m : ℕ} {d : Due} {r : Step} (g : ItemPassed ws s n at d m r) where
   pub goes : r .number ≡ 0 → onward (startDue s) n at ws ≡ onward d m (r .at) ws
   unfolding resumed
   goes z = g .reads ∙ rw (eq-eqb (r .number) 0 z)
@@ -164,7 +164,7 @@ pub record Exit (ws : List ℕ) (vs : List ℤ) (sources : Bool) (before start f
   pub judged : number ≡ Fault.wordAfterEnd → Judging ws vs before start first n k all wrong at
 
 pub exit : {ws : List ℕ} {vs : List ℤ} {sources : Bool} {before start first n k : ℕ} {all : Bool} {wrong at : ℕ} {s : Bool} {m : ℕ} {d : Due} {r : Step} →
-    Judging ws vs before start first n k all wrong at → Passes ws s n at d m r → (r .number ≡ 0 → ⊥) → onward (startDue s) n at ws ≡ onward (startDue sources) before start ws →
+    Judging ws vs before start first n k all wrong at → ItemPassed ws s n at d m r → (r .number ≡ 0 → ⊥) → onward (startDue s) n at ws ≡ onward (startDue sources) before start ws →
     Exit ws vs sources before start first n k all wrong (r .number) (r .at)
 exit j g z e = record { some = z; reads = sym (halts g z) ∙ e; judged = λ i. plain-to j (g .last i) (g .on) (g .inside) }
 

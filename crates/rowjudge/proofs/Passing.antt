@@ -31,7 +31,7 @@ use Rattle.rowreading.specs.declared.items.Step.{Step}
 use Rattle.rowreading.proofs.Heads.{head-here, head-halted, head-on}
 use Rattle.rowreading.proofs.Steps.{or-false, or-halted}
 use Rattle.rowsystems.specs.OneWord.{startsSum, startsRow, rowOf}
-use Rattle.rowjudge.specs.Passing.{isTrue, Passes}
+use Rattle.rowjudge.specs.Passing.{isTrue, ItemPassed}
 use Rattle.rowjudge.proofs.Sums.{one-more}
 
 -- ---- reading on from the head
@@ -65,7 +65,7 @@ module _ (ws : List ℕ) (s : Bool) (n at w f : ℕ) (q : w ≡ wordAt ws at) (e
   pub head-there : f ≡ 0 → at < length ws
   head-there z = head-here ws s n at f head z
 
-  pub head-stops : {to : Due} {m : ℕ} → at ≤ length ws → (f ≡ 0 → ⊥) → Passes ws s n at to m (record { number = f; at = at })
+  pub head-stops : {to : Due} {m : ℕ} → at ≤ length ws → (f ≡ 0 → ⊥) → ItemPassed ws s n at to m (record { number = f; at = at })
   unfolding resumed
   head-stops h z =
       record {
@@ -77,7 +77,7 @@ module _ (ws : List ℕ) (s : Bool) (n at w f : ℕ) (q : w ≡ wordAt ws at) (e
         last = λ i j l k. absurd (omega arith);
       }
 
-  pub head-then : {to : Due} {m : ℕ} {r : Step} → f ≡ 0 → m ≡ n + started w → Went ws m (afterDue due.Source w) (at + 1) to r → Passes ws s n at to m r
+  pub head-then : {to : Due} {m : ℕ} {r : Step} → f ≡ 0 → m ≡ n + started w → Went ws m (afterDue due.Source w) (at + 1) to r → ItemPassed ws s n at to m r
   head-then {to} {m} {r} z k g =
       record {
         reads = head-on ws s n at f head z ∙ rw (← q, ← k) (g .reads);

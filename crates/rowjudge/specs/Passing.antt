@@ -32,8 +32,8 @@ abbrev pub stepOf : Seen → Step
 stepOf r = record { number = r .number; at = r .at }
 
 -- the values of the variables read so far are there, no farther from 0 than signed payloads are
-abbrev pub Known : List ℤ → ℕ → Type 0
-Known vs n = (n ≤ length vs) × ((x : ℕ) → x < n → Near (value vs x))
+abbrev pub ValuesKnown : List ℤ → ℕ → Type 0
+ValuesKnown vs n = (n ≤ length vs) × ((x : ℕ) → x < n → Near (value vs x))
 
 -- whether a row with this head is true whose terms and constant add up to a number
 unfoldable pub isTrue : ℕ → ℤ → Bool
@@ -41,7 +41,7 @@ isTrue w total = leZ total +0 if eqb (kind w) Kind.atMost else (total == +0)
 
 -- the step r leads from the head at a place, with n variables before it, to what is due after the item, with m variables before that,
 -- or to the first fault
-pub record Passes (ws : List ℕ) (sources : Bool) (n at : ℕ) (to : Due) (m : ℕ) (r : Step) : Type 0 where
+pub record ItemPassed (ws : List ℕ) (sources : Bool) (n at : ℕ) (to : Due) (m : ℕ) (r : Step) : Type 0 where
   pub reads : onward (startDue sources) n at ws ≡ resumed to m ws r
   pub on : at ≤ r .at
   pub past : r .number ≡ 0 → at < r .at

@@ -17,7 +17,7 @@ ghost use Rattle.rowsystems.specs.RowSystem.{variableAt, termsIn, constantIn};
 ghost use Rattle.rowreading.specs.Item.{startDue};
 ghost use Rattle.rowreading.specs.Onward.{Placed, Went, stepOver};
 ghost use Rattle.rowsystems.specs.OneWord.{startsSum, startsRow, rowOf};
-ghost use Rattle.rowjudge.specs.Passing.{stepOf, Known, isTrue, Passes};
+ghost use Rattle.rowjudge.specs.Passing.{stepOf, ValuesKnown, isTrue, ItemPassed};
 use integers::equal;
 use integers::plus;
 use integers::times;
@@ -81,7 +81,7 @@ fn see_upper(ws: &[u32], k: u32, lower: u32, at: usize, v: i64) -> Seen
 // A variable, and whether v is within its bounds.
 pub fn see_variable(ws: &[u32], sources: bool, head: u32, n: usize, at: usize, v: i64) -> Seen
     requires { ⌜ Placed (now ws) at × (head ≡ wordAt (now ws) at) × (starts head ≡ true) ⌝ }
-    ensures step { λ r. ⌜ Passes (now (ws .entry)) sources n at (startDue (not (eqb (kind head) Kind.auxiliaryLower))) (n + 1) (stepOf r) ⌝ }
+    ensures step { λ r. ⌜ ItemPassed (now (ws .entry)) sources n at (startDue (not (eqb (kind head) Kind.auxiliaryLower))) (n + 1) (stepOf r) ⌝ }
     ensures truth { λ r. ⌜ (r .number ≡ 0 → r .holds ≡ within (boundsOf head (wordAt (now (ws .entry)) (at + 1))) v) ⌝ }
 {
     let number = fault_start(sources, n, head);
@@ -123,7 +123,7 @@ fn known_value(values: &[i32], x: usize) -> i64
 
 // The terms and the constant of a row, all of which are there.
 fn see_terms(ws: &[u32], head: u32, n: usize, start: usize, values: &[i32]) -> Seen
-    requires { ⌜ Placed (now ws) start × Known (now values) n × (payload head ≤ Limit.terms) × (start + 2 * payload head < length (now ws)) ⌝ }
+    requires { ⌜ Placed (now ws) start × ValuesKnown (now values) n × (payload head ≤ Limit.terms) × (start + 2 * payload head < length (now ws)) ⌝ }
     ensures step { λ r. ⌜ Went (now (ws .entry)) n (Due.Terms (payload head)) start Due.Item (stepOf r) ⌝ }
     ensures truth { λ r. let row = drop start (now (ws .entry)) in ⌜ (r .number ≡ 0 → r .holds ≡ isTrue head (sum (value (now (values .entry))) (termsIn row (payload head)) ⊕ constantIn row (payload head))) ⌝ }
 {
@@ -180,8 +180,8 @@ fn see_cut(ws: &[u32], n: usize, start: usize, terms: usize) -> Seen
 
 // A row.
 fn see_row(ws: &[u32], sources: bool, head: u32, n: usize, at: usize, values: &[i32]) -> Seen
-    requires { ⌜ Placed (now ws) at × (head ≡ wordAt (now ws) at) × Known (now values) n × (startsSum head ≡ true) ⌝ }
-    ensures { λ r. ⌜ Passes (now (ws .entry)) sources n at Due.Item n (stepOf r) × (r .number ≡ 0 → r .holds ≡ satisfied (value (now (values .entry))) (rowOf head (drop (at + 1) (now (ws .entry))))) ⌝ }
+    requires { ⌜ Placed (now ws) at × (head ≡ wordAt (now ws) at) × ValuesKnown (now values) n × (startsSum head ≡ true) ⌝ }
+    ensures { λ r. ⌜ ItemPassed (now (ws .entry)) sources n at Due.Item n (stepOf r) × (r .number ≡ 0 → r .holds ≡ satisfied (value (now (values .entry))) (rowOf head (drop (at + 1) (now (ws .entry))))) ⌝ }
 {
     let number = fault_row(head);
     if number != fault::NONE {
@@ -196,7 +196,7 @@ fn see_row(ws: &[u32], sources: bool, head: u32, n: usize, at: usize, values: &[
 
 // The result and the two factors of a product.
 fn see_factors(ws: &[u32], n: usize, at: usize, values: &[i32]) -> Seen
-    requires { ⌜ Placed (now ws) at × Known (now values) n ⌝ }
+    requires { ⌜ Placed (now ws) at × ValuesKnown (now values) n ⌝ }
     ensures step { λ r. ⌜ Went (now (ws .entry)) n Due.Result at Due.Item (stepOf r) ⌝ }
     ensures truth { λ r. let v = variableAt (now (ws .entry)) in ⌜ (r .number ≡ 0 → r .holds ≡ satisfied (value (now (values .entry))) (product (v at) (v (at + 1)) (v (at + 2)))) ⌝ }
 {
@@ -229,8 +229,8 @@ fn see_factors(ws: &[u32], n: usize, at: usize, values: &[i32]) -> Seen
 
 // A product or the end.
 fn see_other(ws: &[u32], sources: bool, head: u32, n: usize, at: usize, values: &[i32]) -> Seen
-    requires { ⌜ Placed (now ws) at × (head ≡ wordAt (now ws) at) × Known (now values) n × (starts head ≡ false) × (startsSum head ≡ false) ⌝ }
-    ensures step { λ r. ⌜ Passes (now (ws .entry)) sources n at Due.Item n (stepOf r) ⌝ }
+    requires { ⌜ Placed (now ws) at × (head ≡ wordAt (now ws) at) × ValuesKnown (now values) n × (starts head ≡ false) × (startsSum head ≡ false) ⌝ }
+    ensures step { λ r. ⌜ ItemPassed (now (ws .entry)) sources n at Due.Item n (stepOf r) ⌝ }
     ensures truth { λ r. ⌜ (r .number ≡ 0 → (startsRow head ≡ true) × (r .holds ≡ satisfied (value (now (values .entry))) (rowOf head (drop (at + 1) (now (ws .entry)))))) ⌝ }
 {
     let number = fault_head(sources, n, head);
@@ -245,8 +245,8 @@ fn see_other(ws: &[u32], sources: bool, head: u32, n: usize, at: usize, values: 
 
 // A row, a product or the end.
 pub fn see_item(ws: &[u32], sources: bool, head: u32, n: usize, at: usize, values: &[i32]) -> Seen
-    requires { ⌜ Placed (now ws) at × (head ≡ wordAt (now ws) at) × Known (now values) n × (starts head ≡ false) ⌝ }
-    ensures step { λ r. ⌜ Passes (now (ws .entry)) sources n at Due.Item n (stepOf r) ⌝ }
+    requires { ⌜ Placed (now ws) at × (head ≡ wordAt (now ws) at) × ValuesKnown (now values) n × (starts head ≡ false) ⌝ }
+    ensures step { λ r. ⌜ ItemPassed (now (ws .entry)) sources n at Due.Item n (stepOf r) ⌝ }
     ensures truth { λ r. ⌜ (r .number ≡ 0 → (startsRow head ≡ true) × (r .holds ≡ satisfied (value (now (values .entry))) (rowOf head (drop (at + 1) (now (ws .entry)))))) ⌝ }
 {
     if starts_sum(head) {

@@ -11,7 +11,7 @@ ghost use Rattle.words.specs.Verdict.{verdict};
 ghost use Rattle.rowsystems.specs.JudgeRows.{judgeRows};
 ghost use Rattle.rowreading.specs.Item.{startDue};
 ghost use Rattle.rowreading.specs.Onward.{onward, Placed};
-ghost use Rattle.rowjudge.specs.Passing.{JudgedOn, Known};
+ghost use Rattle.rowjudge.specs.Passing.{JudgedOn, ValuesKnown};
 use items::see_item;
 use items::see_variable;
 use rowreading::read_on;
@@ -86,7 +86,7 @@ pub fn judge_on(
     start: usize,
     k: usize,
 ) -> Judged
-    requires { ⌜ Placed (now ws) start × Known (now values) before × (before ≤ 1000000000) × (k ≤ 1000000000) ⌝ }
+    requires { ⌜ Placed (now ws) start × ValuesKnown (now values) before × (before ≤ 1000000000) × (k ≤ 1000000000) ⌝ }
     ensures { λ r. ⌜ JudgedOn (now (ws .entry)) (now (values .entry)) first before start k r ⌝ }
 {
     let mut sources = first;

@@ -7,7 +7,6 @@ use lib.IntN.{ℤ}
 use Rattle.integers.specs.Lists.{all}
 use Rattle.integers.specs.Bounds.{within}
 use Rattle.integers.specs.declared.Bounds.{Bounds}
-use Rattle.words.specs.Limit as Limit
 use Rattle.rowsystems.specs.Row.{Row, rename}
 use Rattle.rowsystems.specs.RowWords.{boundWords, rowWords, boundNumbers, rowNumbers}
 
@@ -34,6 +33,3 @@ blockNumbers B = flatMap boundNumbers (B .auxiliaries) ++ flatMap rowNumbers (B 
 
 unfoldable pub outsideIn : Bounds → Block → Bool
 outsideIn range B = not (all (within range) (blockNumbers B))
-
-abbrev pub outside : Block → Bool
-outside = outsideIn Limit.range

@@ -53,12 +53,6 @@ module _ (range : Bounds) where
 
 -- ---- In the range of 02
 
-abbrev pub blockFault : (ℕ → Bounds) → (ℕ → Bool) → ℕ → Encoded → Constraint → ℕ
-blockFault = blockFaultIn Limit.range
-
-abbrev pub blocksFault : (ℕ → Bounds) → (ℕ → Bool) → ℕ → Encoded → List Constraint → Refusal
-blocksFault = blocksFaultIn Limit.range
-
 abbrev pub checkFault : List ℕ → Refusal
 checkFault = checkFaultIn Limit.range
 

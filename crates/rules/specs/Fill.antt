@@ -40,9 +40,6 @@ module _ (range : Bounds) where
 
 -- ---- In the range of 02
 
-abbrev pub fillFault : List ℕ → List ℤ → ℕ → Refusal
-fillFault = fillFaultIn Limit.range
-
 abbrev pub fill : List ℕ → List ℤ → ℕ → Answer
 fill = fillIn Limit.range
 

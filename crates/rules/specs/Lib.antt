@@ -10,3 +10,4 @@ pub mod Translation
 pub mod Check
 pub mod Translate
 pub mod Fill
+pub mod InRange

@@ -28,9 +28,6 @@ module _ (range : Bounds) where
 
 -- ---- In the range of 02
 
-abbrev pub translateFault : List ℕ → ℕ → Refusal
-translateFault = translateFaultIn Limit.range
-
 abbrev pub translate : List ℕ → ℕ → Answer
 translate = translateIn Limit.range
 

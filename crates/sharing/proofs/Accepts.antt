@@ -14,12 +14,14 @@ use Rattle.words.specs.Limit as Limit
 use Rattle.words.specs.Variables.{variables}
 use Rattle.words.specs.Refusal.{_at-place_, accepted, faultOr, _else-refuse_, firstFault}
 use Rattle.words.specs.declared.Refusal.{Refusal}
-use Rattle.models.specs.Reading.{fault, after, ended, begin, readModel, readModelIn}
+use Rattle.models.specs.Reading.{after, ended, begin, readModel, readModelIn}
+use Rattle.models.specs.InRange.{fault}
 use Rattle.models.specs.Model.{Constraint, constraints}
-use Rattle.rules.specs.Block.{outside}
+use Rattle.rules.specs.InRange.{outside}
 use Rattle.rules.specs.Shared.{choice, encodes, Encoded, noneYet, encodedAfter}
 use Rattle.rules.specs.Translation.{bounds, shared, blockOf}
-use Rattle.rules.specs.Check.{tooWide, blockFault, blockFaultIn, blocksFault, blocksFaultIn, checkFaultIn}
+use Rattle.rules.specs.Check.{tooWide, blockFaultIn, blocksFaultIn, checkFaultIn}
+use Rattle.rules.specs.InRange.{blockFault, blocksFault}
 use Rattle.sharing.specs.SharedSolutions.{Passes}
 
 -- a fault makes a refusal, whose number is not 0

@@ -28,7 +28,8 @@ use Rattle.models.specs.Model.{Constraint, constraints, sourceWords}
 use Rattle.models.proofs.Numbers.{Alike, reads-alike, numbers-in}
 use Rattle.rowsystems.specs.Row.{Row, sum≤0, sum=0, product, renameTerms, rename}
 use Rattle.rowsystems.specs.RowWords.{boundWords, termWords, sumWords, rowWords, boundNumbers, rowNumbers}
-use Rattle.rules.specs.Block.{Block, numbered, blockWords, blockNumbers, outside, outsideIn}
+use Rattle.rules.specs.Block.{Block, numbered, blockWords, blockNumbers, outsideIn}
+use Rattle.rules.specs.InRange.{outside}
 use Rattle.rules.specs.Shared.{Encoded, noneYet}
 use Rattle.rules.specs.Translation.{bounds, shared, blockOf, eachBlock, blocksWords, ofBlocks, systemWords}
 use Rattle.rules.specs.Check.{blockFaultIn, blocksFaultIn, checkFaultIn, checkIn}

@@ -16,7 +16,8 @@ use Rattle.words.specs.Kind as Kind
 use Rattle.models.specs.Model.{Constraint}
 use Rattle.rowsystems.specs.Row.{Row, sum≤0, sum=0, product}
 use Rattle.rowsystems.proofs.ReadBack.{Items, Declared, Ranged, end, block}
-use Rattle.rules.specs.Block.{Ref, source, aux, Block, numbered, blockWords, blockNumbers, outside, outsideIn}
+use Rattle.rules.specs.Block.{Ref, source, aux, Block, numbered, blockWords, blockNumbers, outsideIn}
+use Rattle.rules.specs.InRange.{outside}
 use Rattle.rules.specs.Shared.{choice, encodes, Encoded, encodedAfter}
 use Rattle.rules.specs.Translation.{blockOf, eachBlock, blocksWords}
 use Rattle.sharing.proofs.Formed.{RefIn, RowIn}

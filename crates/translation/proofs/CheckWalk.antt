@@ -19,7 +19,8 @@ use Rattle.modelreading.specs.declared.Read.{Read}
 use Rattle.rules.specs.Block.{blockWords}
 use Rattle.rules.specs.Shared.{Encoded, noneYet, choice, encodes, encodedAfter}
 use Rattle.rules.specs.Translation.{bounds, shared, blockOf, eachBlock, blocksWords, systemWords, auxiliaries, blockRows}
-use Rattle.rules.specs.Check.{blockFault, blocksFault, blocksFaultIn, checkFaultIn, check, checkIn}
+use Rattle.rules.specs.Check.{blocksFaultIn, checkFaultIn, check, checkIn}
+use Rattle.rules.specs.InRange.{blockFault, blocksFault}
 use Rattle.sharing.proofs.Accepts.{one-fine}
 use Rattle.extremes.specs.Bounded.{boundsOf}
 use Rattle.encodings.specs.Uses.{sharedBy, Recorded}

@@ -9,7 +9,8 @@ use Rattle.integers.specs.declared.Bounds.{Bounds}
 use Rattle.models.specs.Model.{Constraint, builtin}
 use Rattle.rules.specs.Shared.{Encoded, choice}
 use Rattle.rules.specs.Translation.{blockOf}
-use Rattle.rules.specs.Check.{tooWide, blockFault, blockFaultIn}
+use Rattle.rules.specs.Check.{tooWide, blockFaultIn}
+use Rattle.rules.specs.InRange.{blockFault}
 use Rattle.laying.specs.declared.Laid.{Laid}
 use Rattle.blocks.specs.Coded.{constraintOf}
 use Rattle.blocks.proofs.OneBlock.{Told}

@@ -22,8 +22,10 @@ use Rattle.modelreading.specs.Seen.{Kept}
 use Rattle.modelreading.specs.declared.Read.{Read}
 use Rattle.rules.specs.Shared.{Encoded, noneYet, choice, encodes, encodedAfter}
 use Rattle.rules.specs.Translation.{bounds, shared, blockOf, systemWords}
-use Rattle.rules.specs.Check.{blockFault, blocksFault, blocksFaultIn, checkFault, checkFaultIn, check, checkIn}
-use Rattle.rules.specs.Translate.{translateFault, translateFaultIn, translate, translateIn, translated, translatedIn}
+use Rattle.rules.specs.Check.{blocksFaultIn, checkFault, checkFaultIn, check, checkIn}
+use Rattle.rules.specs.InRange.{blockFault, blocksFault}
+use Rattle.rules.specs.Translate.{translateFaultIn, translate, translateIn, translated, translatedIn}
+use Rattle.rules.specs.InRange.{translateFault}
 use Rattle.sharing.specs.SharedSolutions.{Passes, SharedSolutions}
 use Rattle.sharing.specs.ExactlyOne.{ExactlyOne, AsManySolutions}
 use Rattle.sharing.proofs.Accepts.{no-fault}

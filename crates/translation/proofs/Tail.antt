@@ -9,7 +9,8 @@ use lib.ListN.{length, take, drop, set, take-append-drop, length-drop}
 use lib.Seq.{take-set-le, drop-set-add, take-all, drop-length}
 use borrow.Rule.Slice.PartMut.{putMid, midOf, post-is}
 use Rattle.words.specs.Overlay.{overlay}
-use Rattle.rules.specs.Block.{Block, blockWords, outside}
+use Rattle.rules.specs.Block.{Block, blockWords}
+use Rattle.rules.specs.InRange.{outside}
 use Rattle.laying.specs.Part.{blockParts}
 use Rattle.laying.specs.Went.{WentFitting, nothing}
 use Rattle.laying.specs.declared.Laid.{Laid}

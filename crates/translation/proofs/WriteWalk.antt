@@ -11,7 +11,8 @@ use Rattle.words.specs.Overlay.{overlay}
 use Rattle.words.proofs.Overlay.{length-overlay, overlay-none, overlay-append}
 use Rattle.models.specs.Model.{Constraint, constraints}
 use Rattle.modelreading.specs.declared.Read.{Read}
-use Rattle.rules.specs.Block.{blockWords, outside}
+use Rattle.rules.specs.Block.{blockWords}
+use Rattle.rules.specs.InRange.{outside}
 use Rattle.rules.specs.Shared.{Encoded, noneYet, choice, encodes, encodedAfter}
 use Rattle.rules.specs.Translation.{blockOf, eachBlock, blocksWords}
 use Rattle.rules.specs.Check.{tooWide}

@@ -11,7 +11,7 @@ use Rattle.models.specs.Model.{Constraint, constraints}
 use Rattle.rules.specs.Block.{blockWords}
 use Rattle.rules.specs.Shared.{Encoded, noneYet}
 use Rattle.rules.specs.Translation.{bounds, shared, blockOf, eachBlock, blocksWords}
-use Rattle.rules.specs.Check.{blockFault, blocksFault}
+use Rattle.rules.specs.InRange.{blockFault, blocksFault}
 use Rattle.translation.specs.declared.Cost.{Cost}
 
 -- the words of all blocks

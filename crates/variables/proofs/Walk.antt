@@ -19,7 +19,7 @@ use Rattle.words.specs.Variables.{startsPair, variables}
 use Rattle.words.specs.Word.{kind, signed, wordAt}
 use Rattle.words.proofs.Reading.{word-then, word-ahead}
 use Rattle.variables.specs.Start.{starts, boundsOf}
-use Rattle.variables.specs.Counted.{Counted}
+use Rattle.variables.specs.Counted.{VariablesBefore}
 
 -- the variables of a list that begins with a word
 first-none : (w : ℕ) (ws : List ℕ) → starts w ≡ false → variables (w ∷ ws) ≡ variables ws
@@ -57,11 +57,11 @@ module _ (ws : List ℕ) (at : ℕ) where
   at-last h = rw (drop-of-length-le ws h)
 
 -- ---- counting
-module _ {ws : List ℕ} {n at : ℕ} (k : Counted ws n at) where
-  pub count-none : at < length ws → starts (getD ws at 0) ≡ false → Counted ws n (at + 1)
+module _ {ws : List ℕ} {n at : ℕ} (k : VariablesBefore ws n at) where
+  pub count-none : at < length ws → starts (getD ws at 0) ≡ false → VariablesBefore ws n (at + 1)
   count-none h e = record { few = omega (arith, k .few); number = rw (at-none ws at h e) at (k .number) }
 
-  pub count-one : at < length ws → starts (getD ws at 0) ≡ true → Counted ws (n + 1) (at + 1)
+  pub count-one : at < length ws → starts (getD ws at 0) ≡ true → VariablesBefore ws (n + 1) (at + 1)
   count-one h e = record { few = omega (arith, k .few); number = omega (arith, rw (at-one ws at h e) at (k .number)) }
 
   pub counted : length ws ≤ at → n ≡ length (variables ws)

@@ -6,6 +6,6 @@ use lib.ListN.{length, drop}
 use Rattle.words.specs.Variables.{variables}
 
 -- n variables stand before the place
-pub record Counted (ws : List ℕ) (n at : ℕ) : Type 0 where
+pub record VariablesBefore (ws : List ℕ) (n at : ℕ) : Type 0 where
   pub few : n ≤ at
   pub number : n + length (variables (drop at ws)) ≡ length (variables ws)

@@ -4,13 +4,13 @@ use mathlib.Core.Logic.{⊎-elim}
 use Prim.Native.Nat.{_-_}
 use lib.ListN.{length}
 use borrow.Author.Needs.{needs}
-use Rattle.variables.specs.Counted.{Counted}
+use Rattle.variables.specs.Counted.{VariablesBefore}
 use Rattle.variables.proofs.Walk.{count-none, count-one, counted}
 use Rattle.variables.proofs.count_variables.Statement.{statement}
 use Rattle.variables.proofs.count_variables.Tie as tie
 
 abbrev Inv-loop : tie.InvT-loop
-Inv-loop ws count₀ at₀ count at = Counted ws count at
+Inv-loop ws count₀ at₀ count at = VariablesBefore ws count at
 
 abbrev μ-loop : tie.MeasureT-loop
 μ-loop ws count₀ at₀ count at = length ws - at

@@ -11,13 +11,13 @@ use Rattle.integers.specs.Terms.{value}
 use Rattle.words.specs.Verdict.{verdict}
 use Rattle.words.specs.Word.{wordAt}
 use Rattle.variables.specs.Start.{boundsOf}
-use Rattle.variables.specs.Counted.{Counted}
+use Rattle.variables.specs.Counted.{VariablesBefore}
 use Rattle.variables.proofs.Walk.{count-none, count-one, words-left, none-left, Kept, keep-none, keep-one, break-one, keep-all}
 use Rattle.variables.proofs.first_out_of_bounds.Statement.{statement}
 use Rattle.variables.proofs.first_out_of_bounds.Tie as tie
 
 abbrev Inv-loop : tie.InvT-loop
-Inv-loop ws values at₀ x₀ at x = Kept ws values x at × Counted ws x at
+Inv-loop ws values at₀ x₀ at x = Kept ws values x at × VariablesBefore ws x at
 
 abbrev μ-loop : tie.MeasureT-loop
 μ-loop ws values at₀ x₀ at x = length ws - at

@@ -6,7 +6,8 @@ use borrow.Author.Needs.{needs}
 use lib.ListN.{length, take}
 use Rattle.words.specs.Word.{payload, wordAt}
 use Rattle.models.specs.Shape.{argument}
-use Rattle.models.specs.Reading.{faultCount, afterArgument}
+use Rattle.models.specs.Reading.{afterArgument}
+use Rattle.models.specs.InRange.{faultCount}
 use Rattle.models.proofs.Sound.{is-count}
 use Rattle.modelreading.specs.Onward.{Went, argumentsFrom}
 use Rattle.modelreading.specs.declared.items.Step.{Step}

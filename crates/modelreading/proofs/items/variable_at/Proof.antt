@@ -2,7 +2,7 @@
 use mathlib.Core.Path.{_≡_, sym, ap, _∙_}
 use borrow.Author.Needs.{needs}
 use Rattle.words.specs.Word.{wordAt}
-use Rattle.models.specs.Reading.{faultStart}
+use Rattle.models.specs.InRange.{faultStart}
 use Rattle.modelreading.specs.declared.items.Step.{Step}
 use Rattle.modelreading.proofs.Steps.{stepped, over-none, over-fault}
 use Rattle.modelreading.proofs.Variable.{refused-first, pair, boolean}
