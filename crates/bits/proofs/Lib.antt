@@ -1,2 +1,2 @@
--- What the proofs need: what the program prints, by the answer of the call.
+-- What the proof needs: that a form that is not refused has room.
 pub mod Text

@@ -1,3 +1,2 @@
--- What the contracts cite: bits over bytes, and what the program prints.
-pub mod Bytes
+-- What the contract cites: what the program prints.
 pub mod Text

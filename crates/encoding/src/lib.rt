@@ -1,6 +1,7 @@
 // The words of bytes: four to a word, the lowest first; 1 to 3 spare bytes are left off.
 ghost use mathlib.Core.Path.{_≡_};
-ghost use lib.ListN.{length, set};
+ghost use Prim.Native.Nat.{_≤_};
+ghost use lib.ListN.{length, set, take};
 ghost use Rattle.words.specs.Overlay.{overlay};
 ghost use Rattle.encoding.specs.Bytes.{bytesWord, bytesWords};
 
@@ -34,4 +35,14 @@ pub fn words_of_bytes(bytes: &[u8], out: &mut [u32]) -> usize
         at += 4;
     }
     i
+}
+
+// The same where they all fit: they are then the front of the list.
+pub fn front_words(bytes: &[u8], out: &mut [u32]) -> usize
+    requires { ⌜ length (bytesWords (now bytes)) ≤ length (now out) ⌝ }
+    ensures words { λ r. ⌜ take r (now (out .exit)) ≡ bytesWords (now (bytes .entry)) ⌝ }
+    ensures fits { λ r. ⌜ r ≤ length (now (out .exit)) ⌝ }
+    ensures count { λ r. ⌜ r ≡ length (take r (now (out .exit))) ⌝ }
+{
+    words_of_bytes(bytes, out)
 }

@@ -1,13 +1,12 @@
 -- Lines, part after part, and how long they are.
-use mathlib.Core.Path.{_≡_, refl, sym, ap, _∙_}
+use mathlib.Core.Path.{_≡_, refl, ap, _∙_}
 use mathlib.Core.List.{List, [], _∷_, _++_}
-use Prim.Native.Nat.{ℕ, suc, _+_, _<_, _≤_}
+use Prim.Native.Nat.{ℕ, suc, _+_, _*_, _<_, _≤_}
 use native.Mathlib.Omega.{arith}
-use lib.ListN.{length, getD, take, drop, set, drop-of-length-le}
-use lib.Seq.{drop-cons, length-take-le}
+use lib.ListN.{length, getD, drop, set, drop-of-length-le, length-append}
+use lib.Seq.{drop-cons}
 use Rattle.words.specs.Laid.{Laid}
-use Rattle.words.proofs.Overlay.{front-over}
-use Rattle.words.proofs.Rest.{all-left, lay-part, lay-last, laid-one, laid-length}
+use Rattle.words.proofs.Rest.{all-left, lay-part, lay-last, laid-one}
 use Rattle.decimals.specs.Decimal.{decimal}
 use Rattle.decimals.proofs.Digits.{decimal-length}
 use Rattle.hexadecimal.specs.Digits.{digits}
@@ -26,6 +25,11 @@ laid-word page at w later end l = lay-last (lay-part {xs = digits w} {ys = 10 �
 pub words-then : (ws : List ℕ) (k : ℕ) → k < length ws → wordLines (drop k ws) ≡ wordLine (getD ws k 0) ++ wordLines (drop (k + 1) ws)
 unfolding wordLines
 words-then ws k h = let e : suc k ≡ k + 1 = omega arith in ap wordLines (drop-cons ws k 0 h) ∙ ap (λ (n : ℕ). wordLine (getD ws k 0) ++ wordLines (drop n ws)) e
+
+pub length-words : (ws : List ℕ) → length (wordLines ws) ≡ 9 * length ws
+unfolding wordLines
+length-words [] = refl
+length-words (w ∷ ws) = omega (arith, length-append (wordLine w) (wordLines ws), length-word w, length-words ws)
 
 pub words-none : (ws : List ℕ) (k : ℕ) → length ws ≤ k → wordLines (drop k ws) ≡ []
 unfolding wordLines
@@ -46,10 +50,3 @@ number-fits n h = decimal-length 9 n (omega arith)
 
 pub place-fits : (n : ℕ) → n < 18446744073709551616 → length (decimal n) ≤ 20
 place-fits n h = decimal-length 19 n (omega arith)
-
--- what is laid over the front of a page that is long enough is the front
-pub front-is : {page text later : List ℕ} {end : ℕ} → Laid page 0 text later end → end ≤ length page → (take end later ≡ text) × ((end ≤ length later) × (end ≡ length (take end later)))
-front-is {page} {text} {later} {end} l h =
-    let n = laid-length l in
-    let e : end ≡ length text = omega (arith, l .ends) in
-    (rw (e, l .over) (front-over page text (omega arith)), (omega arith, sym (length-take-le end later (omega arith))))

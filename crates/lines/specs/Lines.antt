@@ -1,7 +1,10 @@
 -- 01, the program "rows": the lines that it prints, in bytes of ASCII. The other programs print theirs alike.
 use mathlib.Core.List.{List, [], _∷_, _++_}
 use Prim.Native.Nat.{ℕ}
-use Rattle.words.specs.Answer.{Answer, refused, counts, written, holds, outOfBounds, isFalse}
+use lib.Dec.{eqb}
+use Rattle.integers.specs.Choice.{_if_else_}
+use Rattle.words.specs.Fault as Fault
+use Rattle.words.specs.declared.Refusal.{Refusal}
 use Rattle.decimals.specs.Decimal.{decimal}
 use Rattle.hexadecimal.specs.Digits.{digits}
 
@@ -21,11 +24,7 @@ refusedWord = 114 ∷ 101 ∷ 102 ∷ 117 ∷ 115 ∷ 101 ∷ 100 ∷ 32 ∷ []
 unfoldable pub refusalLine : ℕ → ℕ → List ℕ
 refusalLine number place = refusedWord ++ (decimal number ++ (32 ∷ (decimal place ++ (10 ∷ []))))
 
--- what a program prints of a call's answer: the refusal's line, or the text of what the call wrote
-unfoldable pub answerText : Answer → List ℕ → List ℕ
-answerText (refused number place) text = refusalLine number place
-answerText (counts v c a r w) text = []
-answerText (written n) text = text
-answerText holds text = []
-answerText (outOfBounds i) text = []
-answerText (isFalse i) text = []
+-- what a program prints: the refusal's line, or where there is none the text
+infixr 1 _else-print_
+unfoldable pub _else-print_ : Refusal → List ℕ → List ℕ
+r else-print text = text if eqb (r .number) Fault.none else refusalLine (r .number) (r .place)

@@ -1,7 +1,6 @@
 // The lines that the programs print, laid over a page of bytes; each function answers where they end.
-ghost use mathlib.Core.Path.{_≡_};
-ghost use Prim.Native.Nat.{_+_, _*_, _<_, _≤_};
-ghost use lib.ListN.{length};
+ghost use Prim.Native.Nat.{_+_, _<_, _≤_};
+ghost use lib.ListN.{length, take};
 ghost use Rattle.words.specs.Laid.{Laid};
 ghost use Rattle.lines.specs.Lines.{wordLine, wordLines, refusalLine};
 use decimals::put_byte;
@@ -33,10 +32,9 @@ fn put_word(page: &mut [u8], at: usize, w: u32) -> usize
 }
 
 // Words, each on a line.
-pub fn put_words(page: &mut [u8], words: &[u32]) -> usize
+fn put_words(page: &mut [u8], words: &[u32]) -> usize
     requires { ⌜ length (now words) < 1073741824 ⌝ }
-    ensures text { λ r. ⌜ Laid (now (page .entry)) 0 (wordLines (now (words .entry))) (now (page .exit)) r ⌝ }
-    ensures end { λ r. ⌜ r ≡ 9 * length (now (words .entry)) ⌝ }
+    ensures { λ r. ⌜ Laid (now (page .entry)) 0 (wordLines (now (words .entry))) (now (page .exit)) r ⌝ }
 {
     let mut to = 0;
     let mut k = 0;
@@ -45,6 +43,17 @@ pub fn put_words(page: &mut [u8], words: &[u32]) -> usize
         k += 1;
     }
     to
+}
+
+// The first n words of a list, each on a line.
+pub fn put_front(page: &mut [u8], words: &[u32], n: usize) -> usize
+    requires { ⌜ length (now words) < 1073741824 ⌝ }
+    ensures { λ r. ⌜ Laid (now (page .entry)) 0 (wordLines (take n (now (words .entry)))) (now (page .exit)) r ⌝ }
+{
+    if n < words.len() {
+        return put_words(page, &words[..n]);
+    }
+    put_words(page, words)
 }
 
 // "refused", the fault's number and its place, on a line.

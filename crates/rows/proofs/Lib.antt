@@ -1,3 +1,2 @@
--- What the proofs need: that a model of too many words is refused, whatever they are; and what the program prints, by the answer of translate.
-pub mod Refused
+-- What the proof needs: that a row system that is not refused has room, and that a model of too many words is refused.
 pub mod Text

@@ -1,20 +1,20 @@
 // Reads the bytes of a model's words from standard input and prints the words of its row system, one a line, or the refusal.
 ghost use mathlib.Core.Path.{_≡_};
-ghost use Prim.Native.Nat.{min, _≤_};
+ghost use Prim.Native.Nat.{_≤_};
 ghost use lib.ListN.{length, take};
 ghost use Rattle.io.specs.Counts.{Counts};
 ghost use Rattle.encoding.specs.Bytes.{bytesWords};
-ghost use Rattle.rules.specs.Translate.{translate as translateAnswer, translated};
-ghost use Rattle.translation.specs.Written.{wrote};
 ghost use Rattle.rows.specs.Text.{rowsText};
-use encoding::words_of_bytes;
+use encoding::front_words;
+use lines::put_front;
 use lines::put_refusal;
-use lines::put_words;
 use translation::Written;
 use translation::translate;
+use words::Refusal;
+use words::fault;
 
-// One word more than a model may have, and the bytes of so many words.
-const WORDS: usize = 8193;
+// The words of a model at most, and the bytes of one word more.
+const WORDS: usize = 8192;
 
 const BYTES: usize = 32772;
 
@@ -23,33 +23,27 @@ const ROOM: usize = 16384;
 
 const PAGE: usize = 147456;
 
-// The lesser of two counts.
-fn at_most(n: usize, most: usize) -> usize
-    ensures { λ r. ⌜ r ≡ min n most ⌝ }
-{
-    if n < most { n } else { most }
-}
-
-// Translate over bytes. The first 8,193 words tell all: a model of more than 8,192 words is refused.
-fn translate_bytes(bytes: &[u8], out: &mut [u32]) -> Written
-    ensures answer { λ r. ⌜ wrote r ≡ translateAnswer (bytesWords (now (bytes .entry))) (length (now (out .entry))) ⌝ }
-    ensures output { λ r. ⌜ now (out .exit) ≡ translated (bytesWords (now (bytes .entry))) (now (out .entry)) ⌝ }
-{
-    let mut words = [0u32; WORDS];
-    let n = at_most(words_of_bytes(bytes, &mut words), WORDS);
-    translate(&words[..n], out)
-}
-
 // Writes what the program prints to the front of a page; answers how many bytes it has.
 fn rows_page(bytes: &[u8], page: &mut [u8]) -> usize
     requires { ⌜ 147456 ≤ length (now page) ⌝ }
-    ensures text { λ r. ⌜ take r (now (page .exit)) ≡ rowsText (now (bytes .entry)) ⌝ }
+    ensures text { λ r. ⌜ take r (now (page .exit)) ≡ rowsText (bytesWords (now (bytes .entry))) ⌝ }
     ensures count { λ r. ⌜ Counts r (now (page .exit)) ⌝ }
 {
+    if WORDS < bytes.len() / 4 {
+        return put_refusal(
+            page,
+            Refusal {
+                number: fault::TOO_MANY_WORDS,
+                place: 0,
+            },
+        );
+    }
+    let mut words = [0u32; WORDS];
+    let n = front_words(bytes, &mut words);
     let mut out = [0u32; ROOM];
-    match translate_bytes(bytes, &mut out) {
+    match translate(&words[..n], &mut out) {
         Written::Refused(r) => put_refusal(page, r),
-        Written::Words(n) => put_words(page, &out[..n]),
+        Written::Words(k) => put_front(page, &out, k),
     }
 }
 

@@ -1,2 +1,2 @@
--- What the contract cites: sheet over bytes.
-pub mod Bytes
+-- What the contract cites: what the program prints.
+pub mod Text

@@ -1,9 +1,11 @@
 // Reads the bytes of a row system's words from standard input and prints its sheet, or the refusal.
 ghost use mathlib.Core.Path.{_≡_};
-ghost use lib.ListN.{length};
-ghost use Rattle.sheet.specs.Bytes.{sheetBytes, sheetBytesPage};
-ghost use Rattle.sheets.specs.Printed.{printed};
-use encoding::words_of_bytes;
+ghost use lib.ListN.{length, take};
+ghost use Rattle.io.specs.Counts.{Counts};
+ghost use Rattle.encoding.specs.Bytes.{bytesWords};
+ghost use Rattle.sheet.specs.Text.{printedSheet};
+use encoding::front_words;
+use lines::put_refusal;
 use sheets::Printed;
 use sheets::sheet;
 use words::Refusal;
@@ -15,53 +17,36 @@ const WORDS: usize = 16384;
 const BYTES: usize = 65540;
 
 // The bytes of the page.
-const ROOM: usize = 262144;
+const PAGE: usize = 262144;
 
-// Sheet over bytes; more than 16,384 words do not fit.
-fn sheet_bytes(bytes: &[u8], page: &mut [u8]) -> Printed
-    ensures answer { λ r. ⌜ printed r ≡ sheetBytes (now (bytes .entry)) (length (now (page .entry))) ⌝ }
-    ensures page { λ r. ⌜ now (page .exit) ≡ sheetBytesPage (now (bytes .entry)) (now (page .entry)) ⌝ }
+// Writes what the program prints to the front of a page; answers how many bytes it has.
+fn sheet_page(bytes: &[u8], page: &mut [u8]) -> usize
+    requires { ⌜ length (now page) ≡ 262144 ⌝ }
+    ensures text { λ r. ⌜ take r (now (page .exit)) ≡ printedSheet (bytesWords (now (bytes .entry))) ⌝ }
+    ensures count { λ r. ⌜ Counts r (now (page .exit)) ⌝ }
 {
     if WORDS < bytes.len() / 4 {
-        return Printed::Refused(Refusal {
-            number: fault::OUTPUT_TOO_SHORT,
-            place: 0,
-        });
+        return put_refusal(
+            page,
+            Refusal {
+                number: fault::OUTPUT_TOO_SHORT,
+                place: 0,
+            },
+        );
     }
     let mut words = [0u32; WORDS];
-    let n = words_of_bytes(bytes, &mut words);
-    sheet(&words[..n], page)
-}
-
-// "refused", the fault's number and its place, on a line.
-fn print_refusal(r: Refusal) {
-    io::write_all(1, b"refused ");
-    io::print_decimal(1, r.number as u64);
-    io::write_all(1, b" ");
-    io::print_decimal(1, r.place as u64);
-    io::write_all(1, b"\n");
-}
-
-// The answer; the page that sheet wrote to.
-fn print_answer(answer: Printed, page: &[u8]) {
-    match answer {
-        Printed::Refused(r) => print_refusal(r),
-        Printed::Bytes(n) => print_front(page, n),
+    let n = front_words(bytes, &mut words);
+    match sheet(&words[..n], page) {
+        Printed::Refused(r) => put_refusal(page, r),
+        Printed::Bytes(k) => k,
     }
 }
 
-// The first n bytes of a page.
-fn print_front(page: &[u8], n: usize) {
-    if n <= page.len() {
-        io::write_all(1, &page[..n]);
-    }
-}
-
-// The bytes of 16,385 words are read at most.
+// The bytes of 16,385 words are read at most. The promises go from the bytes that read_full filled to the bytes that are handed to write_all.
 fn main() {
     let mut bytes = [0u8; BYTES];
     let n = io::read_full(0, &mut bytes);
-    let mut page = [0u8; ROOM];
-    let answer = sheet_bytes(&bytes[..n], &mut page);
-    print_answer(answer, &page);
+    let mut page = [0u8; PAGE];
+    let end = sheet_page(&bytes[..n], &mut page);
+    io::write_all(1, &page[..end]);
 }

@@ -1,2 +1,2 @@
--- What the proofs need: what the program prints, by the answer of text.
+-- What the proof needs: that a model that is not refused has room.
 pub mod Text

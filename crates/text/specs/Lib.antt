@@ -1,3 +1,2 @@
--- What the contracts cite: text, of as many bytes as the program reads, and what the program prints.
-pub mod Words
+-- What the contract cites: what the program prints.
 pub mod Text

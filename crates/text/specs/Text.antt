@@ -1,12 +1,14 @@
 -- What the program prints: the words of the model, one a line, or the refusal's line.
 use mathlib.Core.List.{List}
 use Prim.Native.Nat.{ℕ}
+use lib.ListN.{length}
 use Rattle.words.specs.Limit as Limit
+use Rattle.words.specs.Refusal.{_else-refuse_, roomFault}
 use Rattle.tokens.specs.Token.{tokens}
-use Rattle.texts.specs.Text.{wordsIn}
-use Rattle.lines.specs.Lines.{wordLines, answerText}
-use Rattle.text.specs.Words.{textWords}
+use Rattle.texts.specs.Text.{refusalOf, wordsIn}
+use Rattle.lines.specs.Lines.{wordLines, _else-print_}
 
--- a model that is not refused has room
+-- above 524,288 bytes it says 16; a model that is not refused has room
 unfoldable pub printedText : List ℕ → List ℕ
-printedText text = answerText (textWords text Limit.modelWords) (wordLines (wordsIn (tokens text)))
+printedText text =
+    roomFault 524288 (length text) else-refuse refusalOf text Limit.modelWords else-print wordLines (wordsIn (tokens text))

@@ -3,11 +3,9 @@ ghost use mathlib.Core.Path.{_≡_};
 ghost use Prim.Native.Nat.{_≤_};
 ghost use lib.ListN.{length, take};
 ghost use Rattle.io.specs.Counts.{Counts};
-ghost use Rattle.texts.specs.Answered.{answered};
 ghost use Rattle.text.specs.Text.{printedText};
-ghost use Rattle.text.specs.Words.{textWords, textWordsRead};
+use lines::put_front;
 use lines::put_refusal;
-use lines::put_words;
 use texts::Read;
 use texts::read_text;
 use words::Refusal;
@@ -22,30 +20,25 @@ const ROOM: usize = 524289;
 // The bytes of the lines of as many words as a model may have.
 const PAGE: usize = 73728;
 
-// Text; more than 524,288 bytes do not fit.
-fn text_words(text: &[u8], out: &mut [u32]) -> Read
-    ensures answer { λ r. ⌜ answered r ≡ textWords (now (text .entry)) (length (now (out .entry))) ⌝ }
-    ensures output { λ r. ⌜ now (out .exit) ≡ textWordsRead (now (text .entry)) (now (out .entry)) ⌝ }
-{
-    if BYTES < text.len() {
-        return Read::Refused(Refusal {
-            number: fault::OUTPUT_TOO_SHORT,
-            place: 0,
-        });
-    }
-    read_text(text, out)
-}
-
 // Writes what the program prints to the front of a page; answers how many bytes it has. A model that is not refused has room.
 fn text_page(text: &[u8], page: &mut [u8]) -> usize
     requires { ⌜ 73728 ≤ length (now page) ⌝ }
     ensures text { λ r. ⌜ take r (now (page .exit)) ≡ printedText (now (text .entry)) ⌝ }
     ensures count { λ r. ⌜ Counts r (now (page .exit)) ⌝ }
 {
+    if BYTES < text.len() {
+        return put_refusal(
+            page,
+            Refusal {
+                number: fault::OUTPUT_TOO_SHORT,
+                place: 0,
+            },
+        );
+    }
     let mut out = [0u32; limit::MODEL_WORDS];
-    match text_words(text, &mut out) {
+    match read_text(text, &mut out) {
         Read::Refused(r) => put_refusal(page, r),
-        Read::Words(n) => put_words(page, &out[..n]),
+        Read::Words(k) => put_front(page, &out, k),
     }
 }
 

@@ -37,7 +37,7 @@ same-length : tie.Need-same-length Inv-loop μ-loop
 same-length c = laid-length (ended c)
 
 returns : tie.Need-returns Inv-loop μ-loop
-returns c = (ended c, omega (arith, c .loop-test .left, c .before .loop .inv .0 .0, c .before .loop .inv .0 .1))
+returns c = ended c
 
 pub put-words-spec : {M : Type 1} → statement M
 put-words-spec =

@@ -1,73 +1,70 @@
--- The refusal's line, or the lines of the row system's words; each fits the page.
-use mathlib.Core.Path.{_≡_, sym, ap, _∙_}
+-- The refusal's line, or the lines of the row system's words.
+use mathlib.Core.Path.{refl}
 use Prim.Native.Nat.{_≤_}
 use native.Mathlib.Omega.{arith}
-use lib.ListN.{length, take}
-use lib.Seq.{length-take-le}
+use lib.ListN.{length}
 use borrow.Author.Needs.{needs}
-use Rattle.words.specs.Answer.{written}
 use Rattle.encoding.specs.Bytes.{bytesWords}
-use Rattle.rules.specs.Translate.{translate}
-use Rattle.rules.specs.Translation.{systemWords}
+use Rattle.encoding.proofs.Words.{quarter}
+use Rattle.rules.specs.Translate.{translateIn, translatedIn}
 use Rattle.translation.specs.Written.{wrote}
-use Rattle.lines.specs.Lines.{wordLines}
-use Rattle.lines.proofs.Lines.{front-is}
-use Rattle.rows.proofs.Text.{text-refused, text-written, front}
+use Rattle.lines.proofs.Printed.{front-fault, front-refused, front-lines}
+use Rattle.rows.specs.Text.{rowsText}
+use Rattle.rows.proofs.Text.{fits, too-many}
 use Rattle.rows.proofs.rows_page.Statement.{statement}
 use Rattle.rows.proofs.rows_page.Tie as tie
 
--- the words that translate wrote are those of the row system
-says : (c : tie.After-n) → written (c .n .given .0 .0) ≡ translate (bytesWords (c .before .before .before .before .before .before .before .args .bytes .now)) 16384
-unfolding wrote
-says c = rw (c .n .given .1) at (c .before .before .before .translate-bytes .ensures .0)
-
-kept : (c : tie.After-n) →
-    let n = c .n .given .0 .0 in
-    let later = c .before .before .before .translate-bytes .last .1 .0 in
-    (n ≤ 16384) × ((n ≤ length later) × (take n later ≡ systemWords (bytesWords (c .before .before .before .before .before .before .before .args .bytes .now))))
-kept c = front (bytesWords (c .before .before .before .before .before .before .before .args .bytes .now)) _ (c .before .before .before .translate-bytes .last .1 .0) (c .n .given .0 .0) (c .before .before .before .translate-bytes .ensures .1) (says c)
-
-counted : (c : tie.After-n) → c .n .given .0 .0 ≡ length (take (c .n .given .0 .0) (c .before .before .before .translate-bytes .last .1 .0))
-counted c = sym (length-take-le (c .n .given .0 .0) (c .before .before .before .translate-bytes .last .1 .0) (kept c .1 .0))
-
-array-share-prefix-out : tie.Need-array-share-prefix-out
-array-share-prefix-out c = kept (c .before .before) .1 .0
-
-slice-aggregate-put-words : tie.Need-slice-aggregate-put-words
-slice-aggregate-put-words c = counted (c .before .before .before)
-
-put-words-requires : tie.Need-put-words-requires
-put-words-requires c κs = omega (arith, counted (c .before .before .before), kept (c .before .before .before) .0)
+few : (c : tie.Else1) → length (bytesWords (c .before .before .before .args .bytes .now)) ≤ 8192
+few c = rw (quarter (c .before .before .before .args .bytes .now)) at (c .if1 .left)
 
 returns : tie.Need-returns
-unfolding wrote
+unfolding rowsText
 returns c =
-    let s = c .before .before .before .before .before .before .before .before .before .before .before .before in
+    let s = c .before .before .before .before .before .before .before in
     let put = c .before .before .put-refusal in
-    let f = front-is (put .ensures .0) (omega (arith, put .ensures .1, s .pre)) in
-    (f .0 ∙ text-refused (s .args .bytes .now) _ _ (rw (c .before .before .before .before .before .r .given .1) at (c .before .before .before .before .before .before .before .before .translate-bytes .ensures .0)), f .1)
+    front-fault _ _ (put .ensures .0) (omega (arith, put .ensures .1, s .pre)) (omega arith)
+    (too-many (bytesWords (s .args .bytes .now)) 16384 (rw (quarter (s .args .bytes .now)) at (c .before .before .before .before .if1 .taken)))
+
+front-words-requires : tie.Need-front-words-requires
+front-words-requires c κs = few (c .before)
 
 returns-2 : tie.Need-returns-2
+unfolding rowsText wrote translateIn
 returns-2 c =
-    let s = c .before .before .before .before .before .before .before .before .before .before .before .before .before in
-    let put = c .before .before .put-words in
-    let w = c .before .before .before .before .before .before in
-    let f = front-is (put .ensures .0) (omega (arith, put .ensures .1, counted w, kept w .0, s .pre)) in
-    (f .0 ∙ ap wordLines (kept w .1 .1) ∙ text-written (s .args .bytes .now) (w .n .given .0 .0) (says w), f .1)
+    let w = c .before .before .before .before .before .before .before .before .before .before .before .before in
+    let s = w .before .before .before .before .before in
+    let put = c .before .before .put-refusal2 in
+    let says = rw (c .before .before .before .before .before .r .given .1, w .front-words .ensures .0) at (c .before .before .before .before .before .before .before .before .translate .ensures .0) in
+    front-refused _ _ (put .ensures .0) (omega (arith, put .ensures .1, s .pre)) _ says refl
+
+returns-3 : tie.Need-returns-3
+unfolding rowsText wrote translateIn translatedIn
+returns-3 c =
+    let w = c .before .before .before .before .before .before .before .before .before .before .before .before .before in
+    let s = w .before .before .before .before .before in
+    let ws = bytesWords (s .args .bytes .now) in
+    let system = rw (c .before .before .before .before .before .before .k .given .1, w .front-words .ensures .0) at (c .before .before .before .before .before .before .before .before .before .translate .ensures) in
+    front-lines (record { answer = system .0; output = system .1 .0; room = fits ws 16384 }) refl (c .before .before .put-front .ensures) (s .pre)
 
 pub rows-page-spec : {M : Type 1} → statement M
 rows-page-spec =
     tie.close
     (tie.spec
-    (λ c. search needs)
     (λ c κs. search needs)
-    (λ c. search needs)
-    (λ c κs. search needs)
-    (λ c. search needs)
-    array-share-prefix-out
-    slice-aggregate-put-words
-    put-words-requires
     (λ c. search needs)
     returns
     (λ c. search needs)
-    returns-2)
+    front-words-requires
+    (λ c. search needs)
+    (λ c. search needs)
+    (λ c. search needs)
+    (λ c κs. search needs)
+    (λ c. search needs)
+    (λ c κs. search needs)
+    (λ c. search needs)
+    (λ c. search needs)
+    (λ c κs. search needs)
+    (λ c. search needs)
+    returns-2
+    (λ c. search needs)
+    returns-3)

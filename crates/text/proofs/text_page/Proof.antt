@@ -1,73 +1,55 @@
--- The refusal's line, or the lines of the model's words; each fits the page.
-use mathlib.Core.Path.{_≡_, sym, ap, _∙_}
-use Prim.Native.Nat.{_≤_}
+-- The refusal's line, or the lines of the model's words.
 use native.Mathlib.Omega.{arith}
-use lib.ListN.{length, take}
-use lib.Seq.{length-take-le}
+use lib.ListN.{length}
 use borrow.Author.Needs.{needs}
-use Rattle.words.specs.Answer.{written}
-use Rattle.tokens.specs.Token.{tokens}
-use Rattle.texts.specs.Text.{wordsIn}
+use Rattle.texts.specs.Text.{readText, textRead}
 use Rattle.texts.specs.Answered.{answered}
-use Rattle.text.specs.Words.{textWords}
-use Rattle.lines.specs.Lines.{wordLines}
-use Rattle.lines.proofs.Lines.{front-is}
-use Rattle.text.proofs.Text.{text-refused, text-written, front}
+use Rattle.lines.proofs.Printed.{front-fault, front-refused, front-lines, too-long, short-enough}
+use Rattle.text.specs.Text.{printedText}
+use Rattle.text.proofs.Text.{fits}
 use Rattle.text.proofs.text_page.Statement.{statement}
 use Rattle.text.proofs.text_page.Tie as tie
 
--- the words that text wrote are those of the model
-says : (c : tie.After-n) → written (c .n .given .0 .0) ≡ textWords (c .before .before .before .before .before .before .before .args .text .now) 8192
-unfolding answered
-says c = rw (c .n .given .1) at (c .before .before .before .text-words .ensures .0)
-
-kept : (c : tie.After-n) →
-    let n = c .n .given .0 .0 in
-    let later = c .before .before .before .text-words .last .1 .0 in
-    (n ≤ 8192) × ((n ≤ length later) × (take n later ≡ wordsIn (tokens (c .before .before .before .before .before .before .before .args .text .now))))
-kept c = front (c .before .before .before .before .before .before .before .args .text .now) _ (c .before .before .before .text-words .last .1 .0) (c .n .given .0 .0) (c .before .before .before .text-words .ensures .1) (says c)
-
-counted : (c : tie.After-n) → c .n .given .0 .0 ≡ length (take (c .n .given .0 .0) (c .before .before .before .text-words .last .1 .0))
-counted c = sym (length-take-le (c .n .given .0 .0) (c .before .before .before .text-words .last .1 .0) (kept c .1 .0))
-
-array-share-prefix-out : tie.Need-array-share-prefix-out
-array-share-prefix-out c = kept (c .before .before) .1 .0
-
-slice-aggregate-put-words : tie.Need-slice-aggregate-put-words
-slice-aggregate-put-words c = counted (c .before .before .before)
-
-put-words-requires : tie.Need-put-words-requires
-put-words-requires c κs = omega (arith, counted (c .before .before .before), kept (c .before .before .before) .0)
-
 returns : tie.Need-returns
-unfolding answered
+unfolding printedText
 returns c =
-    let s = c .before .before .before .before .before .before .before .before .before .before .before .before in
+    let s = c .before .before .before .before .before .before .before in
     let put = c .before .before .put-refusal in
-    let f = front-is (put .ensures .0) (omega (arith, put .ensures .1, s .pre)) in
-    (f .0 ∙ text-refused (s .args .text .now) _ _ (rw (c .before .before .before .before .before .r .given .1) at (c .before .before .before .before .before .before .before .before .text-words .ensures .0)), f .1)
+    front-fault _ _ (put .ensures .0) (omega (arith, put .ensures .1, s .pre)) (omega arith) (too-long 524288 (length (s .args .text .now)) _ (c .before .before .before .before .if1 .taken))
 
 returns-2 : tie.Need-returns-2
+unfolding printedText answered readText
 returns-2 c =
-    let s = c .before .before .before .before .before .before .before .before .before .before .before .before .before in
-    let put = c .before .before .put-words in
-    let w = c .before .before .before .before .before .before in
-    let f = front-is (put .ensures .0) (omega (arith, put .ensures .1, counted w, kept w .0, s .pre)) in
-    (f .0 ∙ ap wordLines (kept w .1 .1) ∙ text-written (s .args .text .now) (w .n .given .0 .0) (says w), f .1)
+    let e = c .before .before .before .before .before .before .before .before .before .before in
+    let s = e .before .before .before in
+    let put = c .before .before .put-refusal2 in
+    let says = rw (c .before .before .before .before .before .r .given .1) at (c .before .before .before .before .before .before .before .before .read-text .ensures .0) in
+    front-refused _ _ (put .ensures .0) (omega (arith, put .ensures .1, s .pre)) _ says (short-enough 524288 (length (s .args .text .now)) _ (e .if1 .left))
+
+returns-3 : tie.Need-returns-3
+unfolding printedText answered readText textRead
+returns-3 c =
+    let e = c .before .before .before .before .before .before .before .before .before .before .before in
+    let s = e .before .before .before in
+    let text = rw (c .before .before .before .before .before .before .k .given .1) at (c .before .before .before .before .before .before .before .before .before .read-text .ensures) in
+    front-lines (record { answer = text .0; output = text .1; room = fits (s .args .text .now) 8192 }) (short-enough 524288 (length (s .args .text .now)) _ (e .if1 .left))
+    (c .before .before .put-front .ensures) (s .pre)
 
 pub text-page-spec : {M : Type 1} → statement M
 text-page-spec =
     tie.close
     (tie.spec
-    (λ c. search needs)
     (λ c κs. search needs)
-    (λ c. search needs)
-    (λ c κs. search needs)
-    (λ c. search needs)
-    array-share-prefix-out
-    slice-aggregate-put-words
-    put-words-requires
     (λ c. search needs)
     returns
     (λ c. search needs)
-    returns-2)
+    (λ c κs. search needs)
+    (λ c. search needs)
+    (λ c κs. search needs)
+    (λ c. search needs)
+    (λ c. search needs)
+    (λ c κs. search needs)
+    (λ c. search needs)
+    returns-2
+    (λ c. search needs)
+    returns-3)
