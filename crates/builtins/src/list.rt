@@ -33,7 +33,7 @@ fn index_of(args: &[u32], values: &[i32]) -> usize
 
 // Whether array_int_element is true.
 pub fn array_int_element(args: &[u32], values: &[i32]) -> bool
-    ensures { λ r. ⌜ r ≡ meaning (value (now (values .entry))) (array-int-element (var (now (args .entry)) 0) (nums (now (args .entry)) 1) (var (now (args .entry)) (past (now (args .entry)) 1))) ⌝ }
+    ensures { λ r. let ws = now (args .entry) in ⌜ r ≡ meaning (value (now (values .entry))) (array-int-element (var ws 0) (nums ws 1) (var ws (past ws 1))) ⌝ }
 {
     let k = index_of(args, values);
     if 1 <= k {
@@ -47,7 +47,7 @@ pub fn array_int_element(args: &[u32], values: &[i32]) -> bool
 
 // Whether array_var_int_element is true.
 pub fn array_var_int_element(args: &[u32], values: &[i32]) -> bool
-    ensures { λ r. ⌜ r ≡ meaning (value (now (values .entry))) (array-var-int-element (var (now (args .entry)) 0) (vars (now (args .entry)) 1) (var (now (args .entry)) (past (now (args .entry)) 1))) ⌝ }
+    ensures { λ r. let ws = now (args .entry) in ⌜ r ≡ meaning (value (now (values .entry))) (array-var-int-element (var ws 0) (vars ws 1) (var ws (past ws 1))) ⌝ }
 {
     let k = index_of(args, values);
     if 1 <= k {
@@ -61,7 +61,7 @@ pub fn array_var_int_element(args: &[u32], values: &[i32]) -> bool
 
 // Whether array_int_maximum is true; array_int_minimum, where it is not `up`.
 pub fn array_int_extreme(args: &[u32], values: &[i32], up: bool) -> bool
-    ensures { λ r. ⌜ r ≡ (maximum if up else minimum) (value (now (values .entry)) (var (now (args .entry)) 0)) (map (value (now (values .entry))) (vars (now (args .entry)) 1)) ⌝ }
+    ensures { λ r. let σ = value (now (values .entry)) in let ws = now (args .entry) in ⌜ r ≡ (maximum if up else minimum) (σ (var ws 0)) (map σ (vars ws 1)) ⌝ }
 {
     let m = value_of(args, 0, values);
     both(
@@ -79,7 +79,7 @@ pub fn set_in(args: &[u32], values: &[i32]) -> bool
 
 // Whether set_in_reif is true.
 pub fn set_in_reif(args: &[u32], values: &[i32]) -> bool
-    ensures { λ r. ⌜ r ≡ meaning (value (now (values .entry))) (set-in-reif (var (now (args .entry)) 0) (nums (now (args .entry)) 1) (var (now (args .entry)) (past (now (args .entry)) 1))) ⌝ }
+    ensures { λ r. let ws = now (args .entry) in ⌜ r ≡ meaning (value (now (values .entry))) (set-in-reif (var ws 0) (nums ws 1) (var ws (past ws 1))) ⌝ }
 {
     agree(is_on(args, past_at(args, 1), values), set_in(args, values))
 }

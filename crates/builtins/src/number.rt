@@ -50,7 +50,7 @@ pub fn int_abs(args: &[u32], values: &[i32]) -> bool
 
 // Whether int_max is true; int_min, where it is not `up`.
 pub fn int_extreme(args: &[u32], values: &[i32], up: bool) -> bool
-    ensures { λ r. ⌜ r ≡ ((maxZ if up else minZ) (value (now (values .entry)) (var (now (args .entry)) 0)) (value (now (values .entry)) (var (now (args .entry)) 1)) == value (now (values .entry)) (var (now (args .entry)) 2)) ⌝ }
+    ensures { λ r. let σ = value (now (values .entry)) in let ws = now (args .entry) in ⌜ r ≡ ((maxZ if up else minZ) (σ (var ws 0)) (σ (var ws 1)) == σ (var ws 2)) ⌝ }
 {
     equal(
         pick(value_of(args, 0, values), value_of(args, 1, values), up),
@@ -61,7 +61,7 @@ pub fn int_extreme(args: &[u32], values: &[i32], up: bool) -> bool
 // Whether int_div is true; int_mod, where it is the remainder that is asked. Neither is for d=0.
 pub fn int_divided(args: &[u32], values: &[i32], left: bool) -> bool
     requires { ⌜ Small (now values) ⌝ }
-    ensures { λ r. ⌜ r ≡ (remainder if left else quotient) (value (now (values .entry)) (var (now (args .entry)) 0)) (value (now (values .entry)) (var (now (args .entry)) 1)) (value (now (values .entry)) (var (now (args .entry)) 2)) ⌝ }
+    ensures { λ r. let σ = value (now (values .entry)) in let ws = now (args .entry) in ⌜ r ≡ (remainder if left else quotient) (σ (var ws 0)) (σ (var ws 1)) (σ (var ws 2)) ⌝ }
 {
     let n = value_of(args, 0, values);
     let d = value_of(args, 1, values);

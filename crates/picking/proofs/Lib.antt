@@ -9,3 +9,4 @@ pub mod Members
 pub mod Bare
 pub mod Picks
 pub mod Powers
+pub mod OfCode

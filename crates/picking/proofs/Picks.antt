@@ -17,7 +17,8 @@ use Rattle.rules.specs.Translation.{bounds, shared, blockOf, eachBlock, picks}
 use Rattle.encodings.specs.Uses.{choiceOf, sharedBy}
 use Rattle.encodings.proofs.Record.{none-many, length-after}
 use Rattle.extremes.specs.Bounded.{boundsOf}
-use Rattle.picking.specs.Picked.{Picked, Ranged, picksAfter, picksFrom}
+use Rattle.picking.specs.Overlaid.{Overlaid}
+use Rattle.picking.specs.Picked.{Ranged, picksAfter, picksFrom}
 use Rattle.picking.proofs.Writing.{ranged-left, ranged-right}
 
 -- of a model, where the lists hold the bounds of the variables and their uses
@@ -63,7 +64,7 @@ module _ {ls us : List ℤ} {uses : List ℕ} {vs : List ℤ} {cs : List Constra
       pub here-ranged : Ranged here
       here-ranged = ranged-left here rest (rw split at (f .ranged))
 
-      pub picked : {r : ℕ} {out′ : List ℤ} {d′ : Encoded} → Picked at r out out′ here → d′ ≡ next → Filling ls us uses vs cs start out₀ out′ (k + 1) r d′
+      pub picked : {r : ℕ} {out′ : List ℤ} {d′ : Encoded} → Overlaid at r out out′ here → d′ ≡ next → Filling ls us uses vs cs start out₀ out′ (k + 1) r d′
       picked w g =
           rw (g, w .next)
           record {

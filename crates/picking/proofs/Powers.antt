@@ -22,7 +22,8 @@ use Rattle.words.specs.Word.{inRange}
 use Rattle.rules.specs.Power.{Values, nextValue, noValue, squaredValue, multipliedValue, powerValues}
 use Rattle.rules.specs.Pick.{powerPick}
 use Rattle.rules.proofs.Power.{at-one, at-even, at-odd}
-use Rattle.picking.specs.Picked.{Picked, Ranged}
+use Rattle.picking.specs.Overlaid.{Overlaid}
+use Rattle.picking.specs.Picked.{Ranged}
 use Rattle.picking.specs.Powered.{NextPower, PowersPut}
 use Rattle.picking.specs.declared.Powered.{Powered}
 use Rattle.picking.proofs.Writing.{picked-then, picked-none, ranged-left, ranged-right}
@@ -37,7 +38,7 @@ range-near v e = core v (says-range v .0 e)
 pub near-back : (v : ℤ) → Small.Near v → toZ w64 (ofZ w64 v) ≡ v
 near-back v h = toZ-ofZ (fits64 v (omega arith))
 
-pub picked-length : {at r : ℕ} {o o′ ps : List ℤ} → Picked at r o o′ ps → length o′ ≡ length o
+pub picked-length : {at r : ℕ} {o o′ ps : List ℤ} → Overlaid at r o o′ ps → length o′ ≡ length o
 picked-length {at} {r} {o} {o′} {ps} w = ap length (w .over) ∙ length-overlay o at ps
 
 -- ---- one product more
@@ -47,7 +48,7 @@ next-put : {at : ℕ} {p r : Powered} {o o₁ o₂ : List ℤ} {v : Values} {m :
 unfolding nextValue
 next-put {at} {p} {r} {o} {o₁} {o₂} {v} f h e n =
     record {
-      picked = subst (λ y. Picked at (r .at) o o₂ (v .picked ++ (y ∷ []))) (ap₂ _⊗_ e (h .held)) (picked-then (h .picked) (n .picked));
+      picked = subst (λ y. Overlaid at (r .at) o o₂ (v .picked ++ (y ∷ []))) (ap₂ _⊗_ e (h .held)) (picked-then (h .picked) (n .picked));
       held = n .held ∙ ap₂ _⊗_ e (h .held);
       near = n .near;
       few = omega (arith, h .few, n .picked .next);

@@ -17,21 +17,22 @@ use Rattle.words.specs.Word.{inRange}
 use Rattle.words.specs.Overlay.{overlay}
 use Rattle.words.proofs.Word.{says-range}
 use Rattle.words.proofs.Overlay.{overlay-append, overlay-step}
-use Rattle.picking.specs.Picked.{Picked, Ranged}
+use Rattle.picking.specs.Overlaid.{Overlaid}
+use Rattle.picking.specs.Picked.{Ranged}
 
-module _ {at r : ℕ} {out out′ ps : List ℤ} (w : Picked at r out out′ ps) where
-  pub picked-then : {r′ : ℕ} {out″ qs : List ℤ} → Picked r r′ out′ out″ qs → Picked at r′ out out″ (ps ++ qs)
+module _ {at r : ℕ} {out out′ ps : List ℤ} (w : Overlaid at r out out′ ps) where
+  pub picked-then : {r′ : ℕ} {out″ qs : List ℤ} → Overlaid r r′ out′ out″ qs → Overlaid at r′ out out″ (ps ++ qs)
   picked-then {r′} {out″} {qs} v = record {
     next = omega (arith, w .next, v .next, length-append ps qs);
     over = v .over ∙ rw (w .over, w .next) (overlay-append out at ps qs);
   }
 
-pub picked-none : (at : ℕ) (out : List ℤ) → Picked at at out out []
+pub picked-none : (at : ℕ) (out : List ℤ) → Overlaid at at out out []
 unfolding overlay
 picked-none at out = record { next = sym (add-zero at); over = refl }
 
 -- the k-th number of a list that is written from `at` on: what is left to write
-pub picked-step : (at k : ℕ) (ps : List ℤ) {r : ℕ} {out out′ whole : List ℤ} → Picked (at + k) r out out′ (getD ps k +0 ∷ []) → k < length ps →
+pub picked-step : (at k : ℕ) (ps : List ℤ) {r : ℕ} {out out′ whole : List ℤ} → Overlaid (at + k) r out out′ (getD ps k +0 ∷ []) → k < length ps →
     overlay out (at + k) (drop k ps) ≡ whole → overlay out′ (at + (k + 1)) (drop (k + 1) ps) ≡ whole
 unfolding overlay
 picked-step at k ps {out} w l h =

@@ -1,28 +1,23 @@
--- Writing numbers over a list from a place on, and the numbers that fill writes for one constraint and for all.
+-- The numbers that fill writes for one constraint and for all, and what writing them wants.
 use mathlib.Core.Path.{_≡_}
 use mathlib.Core.Bool.{true}
-use mathlib.Core.List.{List, map}
-use Prim.Native.Nat.{ℕ, _+_, _<_}
+use mathlib.Core.List.{List, [], map}
+use Prim.Native.Nat.{ℕ, _<_}
 use lib.IntN.{ℤ, pos}
 use lib.ListN.{length, getD}
 use Rattle.integers.specs.Number.{_⊗_, _==_, +0, +1}
 use Rattle.integers.specs.Bounds.{_to_, within, values}
 use Rattle.integers.specs.Terms.{value}
 use Rattle.words.specs.Word.{inRange}
-use Rattle.words.specs.Overlay.{overlay}
 use Rattle.models.specs.Model.{Constraint, var, vars, builtin}
 use Rattle.arguments.specs.Small.{Small}
 use Rattle.rules.specs.Parts.{nth}
 use Rattle.rules.specs.Pick.{bitOf, pick}
-use Rattle.rules.specs.Shared.{choice, Encoded, keep, pickAfter}
+use Rattle.rules.specs.Shared.{choice, Encoded, keep, newPick, sharedPick, pickAfter}
 use Rattle.rules.specs.Translation.{eachBlock}
 use Rattle.encodings.specs.Uses.{choiceOf, sharedBy}
 use Rattle.extremes.specs.Bounded.{boundsOf, Bounded}
-
--- the numbers went over the list, and r is the place after them
-pub record Picked (at r : ℕ) (out out′ ps : List ℤ) : Type 0 where
-  pub next : r ≡ at + length ps
-  pub over : out′ ≡ overlay out at ps
+use Rattle.picking.specs.Overlaid.{Overlaid}
 
 -- every number is in the range, and so fits 32 bits
 abbrev pub Ranged : List ℤ → Type 0
@@ -31,6 +26,10 @@ Ranged ps = (k : ℕ) → inRange (getD ps k +0) ≡ true
 -- for the constraint of a code with these words after its head; its place plays no part
 abbrev pub picksOf : List ℤ → List ℤ → List ℤ → ℕ → List ℕ → List ℤ
 picksOf ls us vs code args = pick (boundsOf ls us) (value vs) (builtin (record { place = 0; code = code; arguments = args }))
+
+-- for a constraint whose picks no bounds decide, so that none are given
+abbrev pub plainPicks : List ℤ → ℕ → List ℕ → List ℤ
+plainPicks = picksOf [] []
 
 -- 25: the z of the places that its i can have
 unfoldable pub productPicks : List ℤ → List ℤ → List ℤ → List ℕ → List ℤ
@@ -44,13 +43,24 @@ abbrev pub picksAfter : List ℤ → List ℤ → List ℕ → Encoded → List 
 picksAfter ls us uses e vs code args =
     pickAfter (boundsOf ls us) (sharedBy uses) e (value vs) (choiceOf code args) (builtin (record { place = 0; code = code; arguments = args }))
 
+-- they went over the list, and r is the place after them
+abbrev pub PickedOver : ℕ → ℕ → List ℤ → List ℤ → List ℤ → List ℤ → List ℕ → Encoded → List ℤ → ℕ → List ℕ → Type 0
+PickedOver at r out out′ ls us uses e vs code args = Overlaid at r out out′ (picksAfter ls us uses e vs code args)
+
+-- over a shared variable: the new bits, and all picks
+abbrev pub newPicks : List ℤ → List ℤ → Encoded → List ℤ → List ℕ → List ℤ
+newPicks ls us e vs args = newPick (boundsOf ls us) e (value vs) (var args 0)
+
+abbrev pub sharedPicks : List ℤ → List ℤ → Encoded → List ℤ → ℕ → List ℕ → List ℤ
+sharedPicks ls us e vs code args = sharedPick (boundsOf ls us) e (value vs) (choiceOf code args)
+
 -- for constraints, one after another, the first auxiliary numbered `first`
 unfoldable pub picksFrom : List ℤ → List ℤ → List ℕ → List ℤ → ℕ → Encoded → List Constraint → List ℤ
 picksFrom ls us uses vs first e cs =
     eachBlock (boundsOf ls us) (sharedBy uses) (λ n d c. pickAfter (boundsOf ls us) (sharedBy uses) d (value vs) (choice c) (builtin c)) first e cs
 
 -- what writing them wants: a place that does not wrap, bounds and values near 0, and numbers of the range
-pub record Ready (at : ℕ) (ls us vs ps : List ℤ) : Type 0 where
+pub record Pickable (at : ℕ) (ls us vs ps : List ℤ) : Type 0 where
   pub place : at < 1099511627776
   pub lowers : Bounded ls
   pub uppers : Bounded us

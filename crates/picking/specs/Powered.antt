@@ -6,18 +6,18 @@ use lib.IntN.{ℤ}
 use Rattle.integers.specs.Number.{_⊗_}
 use Rattle.words.specs.Small as Small
 use Rattle.rules.specs.Power.{Values}
-use Rattle.picking.specs.Picked.{Picked}
+use Rattle.picking.specs.Overlaid.{Overlaid}
 use Rattle.picking.specs.declared.Powered.{Powered}
 
 -- one more product, of a factor and the power
 pub record NextPower (p r : Powered) (out out′ : List ℤ) (factor : ℤ) : Type 0 where
-  pub picked : Picked (p .at) (r .at) out out′ ((factor ⊗ p .held) ∷ [])
+  pub picked : Overlaid (p .at) (r .at) out out′ ((factor ⊗ p .held) ∷ [])
   pub held : r .held ≡ factor ⊗ p .held
   pub near : Small.Near (r .held)
 
 -- all products so far
 pub record PowersPut (at : ℕ) (r : Powered) (out out′ : List ℤ) (v : Values) (most : ℕ) : Type 0 where
-  pub picked : Picked at (r .at) out out′ (v .picked)
+  pub picked : Overlaid at (r .at) out out′ (v .picked)
   pub held : r .held ≡ v .held
   pub near : Small.Near (r .held)
   pub few : r .at ≤ at + most

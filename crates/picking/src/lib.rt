@@ -1,27 +1,23 @@
 // What fill writes for the auxiliaries of one constraint.
 ghost use mathlib.Core.Path.{_≡_};
-ghost use mathlib.Core.Bool.{true, not};
+ghost use mathlib.Core.Bool.{true};
 ghost use mathlib.Core.List.{[], _∷_, _++_};
 ghost use Prim.Native.Nat.{_+_, _*_, _<_, _≤_};
 ghost use lib.IntN.{pos};
-ghost use lib.Signed.{ltZ, quotZ};
+ghost use lib.Signed.{quotZ};
 ghost use lib.ListN.{getD};
 ghost use Rattle.integers.specs.Choice.{_if_else_};
-ghost use Rattle.integers.specs.Number.{_⊕_, _⊖_, _⊗_, _==_, minZ, maxZ, +0, +1, -1};
-ghost use Rattle.integers.specs.Lists.{howMany};
+ghost use Rattle.integers.specs.Number.{_⊕_, _⊖_, _⊗_, _==_, minZ, maxZ, +0, +1};
 ghost use Rattle.integers.specs.Bounds.{_to_, values};
-ghost use Rattle.integers.specs.Terms.{value, sum, _·_};
+ghost use Rattle.integers.specs.Terms.{value, sum};
 ghost use Rattle.words.specs.Word.{inRange};
-ghost use Rattle.models.specs.Model.{var, num, size, exponentAt, vars, terms, pastTerms};
-ghost use Rattle.models.specs.Meaning.{on};
+ghost use Rattle.models.specs.Model.{var, num, size, terms, pastTerms};
 ghost use Rattle.arguments.specs.Small.{Small};
-ghost use Rattle.rules.specs.Parts.{halfLess};
-ghost use Rattle.rules.specs.Shared.{newPick, sharedPick};
-ghost use Rattle.rules.specs.Pick.{bitOf, signPick, signedPick, firstBit, gatedPick, divisionPick, leftOverPick, powerPick};
+ghost use Rattle.rules.specs.Pick.{signPick, signedPick, firstBit, divisionPick};
 ghost use Rattle.rules.specs.Power.{powerValues};
-ghost use Rattle.encodings.specs.Uses.{choiceOf};
-ghost use Rattle.extremes.specs.Bounded.{Near, boundsOf, Bounded};
-ghost use Rattle.picking.specs.Picked.{Picked, Ranged, Ready, picksOf, productPicks, picksAfter};
+ghost use Rattle.extremes.specs.Bounded.{Near, Bounded};
+ghost use Rattle.picking.specs.Overlaid.{Overlaid, Room};
+ghost use Rattle.picking.specs.Picked.{Ranged, Pickable, picksOf, plainPicks, productPicks, newPicks, sharedPicks, picksAfter, PickedOver};
 ghost use Rattle.picking.specs.Powered.{NextPower, PowersPut};
 ghost use Rattle.picking.specs.Only.{onlyAt, FirstAt};
 use arguments::count_of;
@@ -51,8 +47,8 @@ use integers::times;
 
 // Writes a number at a place, if that is inside the list; the place after it.
 pub fn put(out: &mut [i32], at: usize, v: i64) -> usize
-    requires { ⌜ (at < 4398046511104) × (inRange v ≡ true) ⌝ }
-    ensures { λ r. ⌜ Picked at r (now (out .entry)) (now (out .exit)) (v ∷ []) ⌝ }
+    requires { ⌜ Room 1 at × (inRange v ≡ true) ⌝ }
+    ensures { λ r. ⌜ Overlaid at r (now (out .entry)) (now (out .exit)) (v ∷ []) ⌝ }
 {
     if at < out.len() {
         out[at] = v as i32;
@@ -62,8 +58,8 @@ pub fn put(out: &mut [i32], at: usize, v: i64) -> usize
 
 // Writes a number where the test is true, else 0.
 fn put_if(out: &mut [i32], at: usize, test: bool, v: i64) -> usize
-    requires { ⌜ (at < 4398046511104) × (inRange (v if test else +0) ≡ true) ⌝ }
-    ensures { λ r. ⌜ Picked at r (now (out .entry)) (now (out .exit)) ((v if test else +0) ∷ []) ⌝ }
+    requires { ⌜ Room 1 at × (inRange (v if test else +0) ≡ true) ⌝ }
+    ensures { λ r. ⌜ Overlaid at r (now (out .entry)) (now (out .exit)) ((v if test else +0) ∷ []) ⌝ }
 {
     if test {
         return put(out, at, v);
@@ -73,8 +69,8 @@ fn put_if(out: &mut [i32], at: usize, test: bool, v: i64) -> usize
 
 // Writes n numbers: v at the h-th, counted from 0, and 0 at all others.
 fn put_only(out: &mut [i32], at: usize, n: usize, h: usize, v: i64) -> usize
-    requires { ⌜ (at + n < 4398046511104) × Ranged (onlyAt n h v) ⌝ }
-    ensures { λ r. ⌜ Picked at r (now (out .entry)) (now (out .exit)) (onlyAt n h v) ⌝ }
+    requires { ⌜ Room n at × Ranged (onlyAt n h v) ⌝ }
+    ensures { λ r. ⌜ Overlaid at r (now (out .entry)) (now (out .exit)) (onlyAt n h v) ⌝ }
 {
     let mut k = 0;
     while k < n {
@@ -86,8 +82,8 @@ fn put_only(out: &mut [i32], at: usize, n: usize, h: usize, v: i64) -> usize
 
 // Writes 1 and x for a negative x, else 0 and 0.
 fn put_sign(out: &mut [i32], at: usize, x: i64) -> usize
-    requires { ⌜ (at < 2199023255552) × Ranged (signPick x) ⌝ }
-    ensures { λ r. ⌜ Picked at r (now (out .entry)) (now (out .exit)) (signPick x) ⌝ }
+    requires { ⌜ Room 2 at × Ranged (signPick x) ⌝ }
+    ensures { λ r. ⌜ Overlaid at r (now (out .entry)) (now (out .exit)) (signPick x) ⌝ }
 {
     let negative = below(x, 0);
     let next = put_if(out, at, negative, 1);
@@ -96,8 +92,8 @@ fn put_sign(out: &mut [i32], at: usize, x: i64) -> usize
 
 // Writes x, then its sign.
 fn put_signed(out: &mut [i32], at: usize, x: i64) -> usize
-    requires { ⌜ (at < 1099511628800) × Ranged (signedPick x) ⌝ }
-    ensures { λ r. ⌜ Picked at r (now (out .entry)) (now (out .exit)) (signedPick x) ⌝ }
+    requires { ⌜ Room 3 at × Ranged (signedPick x) ⌝ }
+    ensures { λ r. ⌜ Overlaid at r (now (out .entry)) (now (out .exit)) (signedPick x) ⌝ }
 {
     let next = put(out, at, x);
     put_sign(out, next, x)
@@ -116,8 +112,8 @@ fn place_of(v: i64, first: i64, n: usize) -> usize
 
 // Writes a bit for each value of the bounds: 1 for v.
 fn put_labels(out: &mut [i32], at: usize, lower: i64, upper: i64, v: i64) -> usize
-    requires { ⌜ (at < 2199023255552) × Near lower × Near upper × Near v ⌝ }
-    ensures { λ r. ⌜ Picked at r (now (out .entry)) (now (out .exit)) (firstBit (λ j. j == v) (values (lower to upper))) ⌝ }
+    requires { ⌜ Room 1000000000 at × Near lower × Near upper × Near v ⌝ }
+    ensures { λ r. ⌜ Overlaid at r (now (out .entry)) (now (out .exit)) (firstBit (λ j. j == v) (values (lower to upper))) ⌝ }
 {
     let n = width_of(lower, upper);
     let h = place_of(v, lower, n);
@@ -126,8 +122,8 @@ fn put_labels(out: &mut [i32], at: usize, lower: i64, upper: i64, v: i64) -> usi
 
 // Writes n bits, 1 at the h-th, then the products of the bits and numbers of which the h-th is x.
 fn put_gated(out: &mut [i32], at: usize, n: usize, h: usize, x: i64) -> usize
-    requires { ⌜ (at < 2199023255552) × (n < 1099511627776) × Ranged (onlyAt n h +1 ++ onlyAt n h x) ⌝ }
-    ensures { λ r. ⌜ Picked at r (now (out .entry)) (now (out .exit)) (onlyAt n h +1 ++ onlyAt n h x) ⌝ }
+    requires { ⌜ Room (n + n) at × Ranged (onlyAt n h +1 ++ onlyAt n h x) ⌝ }
+    ensures { λ r. ⌜ Overlaid at r (now (out .entry)) (now (out .exit)) (onlyAt n h +1 ++ onlyAt n h x) ⌝ }
 {
     let next = put_only(out, at, n, h, 1);
     put_only(out, next, n, h, x)
@@ -170,8 +166,8 @@ fn values_product(args: &[u32], i: usize, j: usize, values: &[i32]) -> i64
 
 // 4: whether a is above b.
 fn pick_ne(out: &mut [i32], at: usize, args: &[u32], values: &[i32]) -> usize
-    requires { ⌜ at < 1099511627776 ⌝ }
-    ensures { λ r. ⌜ Picked at r (now (out .entry)) (now (out .exit)) (bitOf (ltZ (value (now (values .entry)) (var (now (args .entry)) 1)) (value (now (values .entry)) (var (now (args .entry)) 0))) ∷ []) ⌝ }
+    requires { ⌜ Pickable at [] [] (now values) (plainPicks (now values) 4 (now args)) ⌝ }
+    ensures { λ r. ⌜ Overlaid at r (now (out .entry)) (now (out .exit)) (plainPicks (now (values .entry)) 4 (now (args .entry))) ⌝ }
 {
     let above = below(value_of(args, 1, values), value_of(args, 0, values));
     put_if(out, at, above, 1)
@@ -179,24 +175,24 @@ fn pick_ne(out: &mut [i32], at: usize, args: &[u32], values: &[i32]) -> usize
 
 // 7: the product of a and b.
 fn pick_times(out: &mut [i32], at: usize, args: &[u32], values: &[i32]) -> usize
-    requires { ⌜ (at < 1099511627776) × Small (now values) × Ranged ((value (now values) (var (now args) 0) ⊗ value (now values) (var (now args) 1)) ∷ []) ⌝ }
-    ensures { λ r. ⌜ Picked at r (now (out .entry)) (now (out .exit)) ((value (now (values .entry)) (var (now (args .entry)) 0) ⊗ value (now (values .entry)) (var (now (args .entry)) 1)) ∷ []) ⌝ }
+    requires { ⌜ Pickable at [] [] (now values) (plainPicks (now values) 7 (now args)) ⌝ }
+    ensures { λ r. ⌜ Overlaid at r (now (out .entry)) (now (out .exit)) (plainPicks (now (values .entry)) 7 (now (args .entry))) ⌝ }
 {
     put(out, at, values_product(args, 0, 1, values))
 }
 
 // 8: the sign of x.
 fn pick_abs(out: &mut [i32], at: usize, args: &[u32], values: &[i32]) -> usize
-    requires { ⌜ (at < 1099511627776) × Ranged (signPick (value (now values) (var (now args) 0))) ⌝ }
-    ensures { λ r. ⌜ Picked at r (now (out .entry)) (now (out .exit)) (signPick (value (now (values .entry)) (var (now (args .entry)) 0))) ⌝ }
+    requires { ⌜ Pickable at [] [] (now values) (plainPicks (now values) 8 (now args)) ⌝ }
+    ensures { λ r. ⌜ Overlaid at r (now (out .entry)) (now (out .exit)) (plainPicks (now (values .entry)) 8 (now (args .entry))) ⌝ }
 {
     put_sign(out, at, value_of(args, 0, values))
 }
 
 // 9, 29: whether a is not c.
 fn pick_max(out: &mut [i32], at: usize, args: &[u32], values: &[i32]) -> usize
-    requires { ⌜ at < 1099511627776 ⌝ }
-    ensures { λ r. ⌜ Picked at r (now (out .entry)) (now (out .exit)) (bitOf (not (value (now (values .entry)) (var (now (args .entry)) 0) == value (now (values .entry)) (var (now (args .entry)) 2))) ∷ []) ⌝ }
+    requires { ⌜ Pickable at [] [] (now values) (plainPicks (now values) 9 (now args)) ⌝ }
+    ensures { λ r. ⌜ Overlaid at r (now (out .entry)) (now (out .exit)) (plainPicks (now (values .entry)) 9 (now (args .entry))) ⌝ }
 {
     let same = equal(value_of(args, 0, values), value_of(args, 2, values));
     put_if(out, at, !same, 1)
@@ -204,16 +200,16 @@ fn pick_max(out: &mut [i32], at: usize, args: &[u32], values: &[i32]) -> usize
 
 // 12, 13, 32: the sum less the constant, and its sign.
 fn pick_linear(out: &mut [i32], at: usize, args: &[u32], values: &[i32]) -> usize
-    requires { ⌜ (at < 1099511627776) × Small (now values) × Ranged (signedPick (sum (value (now values)) (terms (now args) 0) ⊖ num (now args) (pastTerms (now args) 0))) ⌝ }
-    ensures { λ r. ⌜ Picked at r (now (out .entry)) (now (out .exit)) (signedPick (sum (value (now (values .entry))) (terms (now (args .entry)) 0) ⊖ num (now (args .entry)) (pastTerms (now (args .entry)) 0))) ⌝ }
+    requires { ⌜ Pickable at [] [] (now values) (plainPicks (now values) 12 (now args)) ⌝ }
+    ensures { λ r. ⌜ Overlaid at r (now (out .entry)) (now (out .exit)) (plainPicks (now (values .entry)) 12 (now (args .entry))) ⌝ }
 {
     put_signed(out, at, sum_less(args, values))
 }
 
 // 14, 31: a less b, and its sign.
 fn pick_difference(out: &mut [i32], at: usize, args: &[u32], values: &[i32]) -> usize
-    requires { ⌜ (at < 1099511627776) × Small (now values) × Ranged (signedPick (sum (value (now values)) (+1 · var (now args) 0 ∷ -1 · var (now args) 1 ∷ []) ⊖ +0)) ⌝ }
-    ensures { λ r. ⌜ Picked at r (now (out .entry)) (now (out .exit)) (signedPick (sum (value (now (values .entry))) (+1 · var (now (args .entry)) 0 ∷ -1 · var (now (args .entry)) 1 ∷ []) ⊖ +0)) ⌝ }
+    requires { ⌜ Pickable at [] [] (now values) (plainPicks (now values) 14 (now args)) ⌝ }
+    ensures { λ r. ⌜ Overlaid at r (now (out .entry)) (now (out .exit)) (plainPicks (now (values .entry)) 14 (now (args .entry))) ⌝ }
 {
     put_signed(
         out,
@@ -224,16 +220,16 @@ fn pick_difference(out: &mut [i32], at: usize, args: &[u32], values: &[i32]) -> 
 
 // 15: the sum less the constant.
 fn pick_sum(out: &mut [i32], at: usize, args: &[u32], values: &[i32]) -> usize
-    requires { ⌜ (at < 1099511627776) × Small (now values) × Ranged ((sum (value (now values)) (terms (now args) 0) ⊖ num (now args) (pastTerms (now args) 0)) ∷ []) ⌝ }
-    ensures { λ r. ⌜ Picked at r (now (out .entry)) (now (out .exit)) ((sum (value (now (values .entry))) (terms (now (args .entry)) 0) ⊖ num (now (args .entry)) (pastTerms (now (args .entry)) 0)) ∷ []) ⌝ }
+    requires { ⌜ Pickable at [] [] (now values) (plainPicks (now values) 15 (now args)) ⌝ }
+    ensures { λ r. ⌜ Overlaid at r (now (out .entry)) (now (out .exit)) (plainPicks (now (values .entry)) 15 (now (args .entry))) ⌝ }
 {
     put(out, at, sum_less(args, values))
 }
 
 // 20, 34: the products of r with a and with b.
 fn pick_xor(out: &mut [i32], at: usize, args: &[u32], values: &[i32]) -> usize
-    requires { ⌜ (at < 1099511627776) × Small (now values) × Ranged ((value (now values) (var (now args) 2) ⊗ value (now values) (var (now args) 0)) ∷ (value (now values) (var (now args) 2) ⊗ value (now values) (var (now args) 1)) ∷ []) ⌝ }
-    ensures { λ r. ⌜ Picked at r (now (out .entry)) (now (out .exit)) ((value (now (values .entry)) (var (now (args .entry)) 2) ⊗ value (now (values .entry)) (var (now (args .entry)) 0)) ∷ (value (now (values .entry)) (var (now (args .entry)) 2) ⊗ value (now (values .entry)) (var (now (args .entry)) 1)) ∷ []) ⌝ }
+    requires { ⌜ Pickable at [] [] (now values) (plainPicks (now values) 20 (now args)) ⌝ }
+    ensures { λ r. ⌜ Overlaid at r (now (out .entry)) (now (out .exit)) (plainPicks (now (values .entry)) 20 (now (args .entry))) ⌝ }
 {
     let next = put(out, at, values_product(args, 2, 0, values));
     put(out, next, values_product(args, 2, 1, values))
@@ -241,8 +237,8 @@ fn pick_xor(out: &mut [i32], at: usize, args: &[u32], values: &[i32]) -> usize
 
 // 23: half of one less than how many are 1.
 fn pick_odd(out: &mut [i32], at: usize, args: &[u32], values: &[i32]) -> usize
-    requires { ⌜ (at < 1099511627776) × Ranged (pos (halfLess (howMany (on (value (now values))) (vars (now args) 0))) ∷ []) ⌝ }
-    ensures { λ r. ⌜ Picked at r (now (out .entry)) (now (out .exit)) (pos (halfLess (howMany (on (value (now (values .entry)))) (vars (now (args .entry)) 0))) ∷ []) ⌝ }
+    requires { ⌜ Pickable at [] [] (now values) (plainPicks (now values) 23 (now args)) ⌝ }
+    ensures { λ r. ⌜ Overlaid at r (now (out .entry)) (now (out .exit)) (plainPicks (now (values .entry)) 23 (now (args .entry))) ⌝ }
 {
     put(out, at, half_less(how_many(args, 0, 1, values)))
 }
@@ -270,8 +266,8 @@ fn pick_element(
     us: &[i64],
     values: &[i32],
 ) -> usize
-    requires { ⌜ (at < 1099511627776) × Bounded (now ls) × Bounded (now us) × Small (now values) ⌝ }
-    ensures { λ r. ⌜ Picked at r (now (out .entry)) (now (out .exit)) (picksOf (now (ls .entry)) (now (us .entry)) (now (values .entry)) 24 (now (args .entry))) ⌝ }
+    requires { ⌜ Room 1000000000 at × Bounded (now ls) × Bounded (now us) × Small (now values) ⌝ }
+    ensures { λ r. ⌜ Overlaid at r (now (out .entry)) (now (out .exit)) (picksOf (now (ls .entry)) (now (us .entry)) (now (values .entry)) 24 (now (args .entry))) ⌝ }
 {
     put_labels(
         out,
@@ -291,8 +287,8 @@ fn pick_products(
     us: &[i64],
     values: &[i32],
 ) -> usize
-    requires { ⌜ (at < 2199023255552) × Bounded (now ls) × Bounded (now us) × Small (now values) × Ranged (productPicks (now ls) (now us) (now values) (now args)) ⌝ }
-    ensures { λ r. ⌜ Picked at r (now (out .entry)) (now (out .exit)) (productPicks (now (ls .entry)) (now (us .entry)) (now (values .entry)) (now (args .entry))) ⌝ }
+    requires { ⌜ Room 1000000000 at × Bounded (now ls) × Bounded (now us) × Small (now values) × Ranged (productPicks (now ls) (now us) (now values) (now args)) ⌝ }
+    ensures { λ r. ⌜ Overlaid at r (now (out .entry)) (now (out .exit)) (productPicks (now (ls .entry)) (now (us .entry)) (now (values .entry)) (now (args .entry))) ⌝ }
 {
     let first = first_label(args, ls);
     let n = width_of(first, last_label(args, us));
@@ -310,8 +306,8 @@ fn pick_var_element(
     us: &[i64],
     values: &[i32],
 ) -> usize
-    requires { ⌜ (at < 1099511627776) × Bounded (now ls) × Bounded (now us) × Small (now values) × Ranged (picksOf (now ls) (now us) (now values) 25 (now args)) ⌝ }
-    ensures { λ r. ⌜ Picked at r (now (out .entry)) (now (out .exit)) (picksOf (now (ls .entry)) (now (us .entry)) (now (values .entry)) 25 (now (args .entry))) ⌝ }
+    requires { ⌜ Pickable at (now ls) (now us) (now values) (picksOf (now ls) (now us) (now values) 25 (now args)) ⌝ }
+    ensures { λ r. ⌜ Overlaid at r (now (out .entry)) (now (out .exit)) (picksOf (now (ls .entry)) (now (us .entry)) (now (values .entry)) 25 (now (args .entry))) ⌝ }
 {
     let next = pick_element(out, at, args, ls, us, values);
     pick_products(out, next, args, ls, us, values)
@@ -319,8 +315,8 @@ fn pick_var_element(
 
 // 26, 33: a bit for each element, 1 for the first that is m; the products of the bits and the elements.
 fn pick_maximum(out: &mut [i32], at: usize, args: &[u32], values: &[i32]) -> usize
-    requires { ⌜ (at < 1099511627776) × Ranged (gatedPick (value (now values)) (λ x. value (now values) x == value (now values) (var (now args) 0)) (vars (now args) 1)) ⌝ }
-    ensures { λ r. ⌜ Picked at r (now (out .entry)) (now (out .exit)) (gatedPick (value (now (values .entry))) (λ x. value (now (values .entry)) x == value (now (values .entry)) (var (now (args .entry)) 0)) (vars (now (args .entry)) 1)) ⌝ }
+    requires { ⌜ Pickable at [] [] (now values) (plainPicks (now values) 26 (now args)) ⌝ }
+    ensures { λ r. ⌜ Overlaid at r (now (out .entry)) (now (out .exit)) (plainPicks (now (values .entry)) 26 (now (args .entry))) ⌝ }
 {
     let h = first_equal(args, 1, value_of(args, 0, values), values);
     put_gated(out, at, size_at(args, 1), h, value_of(args, 2 + h, values))
@@ -349,8 +345,8 @@ fn pick_member(
     us: &[i64],
     values: &[i32],
 ) -> usize
-    requires { ⌜ (at < 1099511627776) × Bounded (now us) ⌝ }
-    ensures { λ r. ⌜ Picked at r (now (out .entry)) (now (out .exit)) (picksOf (now (ls .entry)) (now (us .entry)) (now (values .entry)) 27 (now (args .entry))) ⌝ }
+    requires { ⌜ Room 1000000000 at × Bounded (now us) ⌝ }
+    ensures { λ r. ⌜ Overlaid at r (now (out .entry)) (now (out .exit)) (picksOf (now (ls .entry)) (now (us .entry)) (now (values .entry)) 27 (now (args .entry))) ⌝ }
 {
     let x = var_at(args, 0);
     let mut inside = [0i64; 32];
@@ -368,8 +364,8 @@ fn pick_set_reif(
     us: &[i64],
     values: &[i32],
 ) -> usize
-    requires { ⌜ (at < 1099511627776) × Bounded (now ls) × Bounded (now us) × Small (now values) ⌝ }
-    ensures { λ r. ⌜ Picked at r (now (out .entry)) (now (out .exit)) (picksOf (now (ls .entry)) (now (us .entry)) (now (values .entry)) 28 (now (args .entry))) ⌝ }
+    requires { ⌜ Room 1000000000 at × Bounded (now ls) × Bounded (now us) × Small (now values) ⌝ }
+    ensures { λ r. ⌜ Overlaid at r (now (out .entry)) (now (out .exit)) (picksOf (now (ls .entry)) (now (us .entry)) (now (values .entry)) 28 (now (args .entry))) ⌝ }
 {
     let x = var_at(args, 0);
     put_labels(
@@ -383,8 +379,8 @@ fn pick_set_reif(
 
 // 37, 38: whether n is not negative, whether d is positive, d×q, and whether both.
 fn put_division(out: &mut [i32], at: usize, n: i64, d: i64, q: i64) -> usize
-    requires { ⌜ (at < 2199023255552) × Near d × Near q × Ranged (divisionPick n d q) ⌝ }
-    ensures { λ r. ⌜ Picked at r (now (out .entry)) (now (out .exit)) (divisionPick n d q) ⌝ }
+    requires { ⌜ Room 4 at × Near d × Near q × Ranged (divisionPick n d q) ⌝ }
+    ensures { λ r. ⌜ Overlaid at r (now (out .entry)) (now (out .exit)) (divisionPick n d q) ⌝ }
 {
     let alpha = at_most(0, n);
     let beta = below(0, d);
@@ -396,8 +392,8 @@ fn put_division(out: &mut [i32], at: usize, n: i64, d: i64, q: i64) -> usize
 
 // 37: the signs and the product of the division.
 fn pick_div(out: &mut [i32], at: usize, args: &[u32], values: &[i32]) -> usize
-    requires { ⌜ (at < 1099511627776) × Small (now values) × Ranged (divisionPick (value (now values) (var (now args) 0)) (value (now values) (var (now args) 1)) (value (now values) (var (now args) 2))) ⌝ }
-    ensures { λ r. ⌜ Picked at r (now (out .entry)) (now (out .exit)) (divisionPick (value (now (values .entry)) (var (now (args .entry)) 0)) (value (now (values .entry)) (var (now (args .entry)) 1)) (value (now (values .entry)) (var (now (args .entry)) 2))) ⌝ }
+    requires { ⌜ Pickable at [] [] (now values) (plainPicks (now values) 37 (now args)) ⌝ }
+    ensures { λ r. ⌜ Overlaid at r (now (out .entry)) (now (out .exit)) (plainPicks (now (values .entry)) 37 (now (args .entry))) ⌝ }
 {
     put_division(
         out,
@@ -421,8 +417,8 @@ fn quotient_of(n: i64, d: i64) -> i64
 
 // 38: the quotient, then as in 37.
 fn pick_mod(out: &mut [i32], at: usize, args: &[u32], values: &[i32]) -> usize
-    requires { ⌜ (at < 1099511627776) × Small (now values) × Ranged (leftOverPick (value (now values) (var (now args) 0)) (value (now values) (var (now args) 1))) ⌝ }
-    ensures { λ r. ⌜ Picked at r (now (out .entry)) (now (out .exit)) (leftOverPick (value (now (values .entry)) (var (now (args .entry)) 0)) (value (now (values .entry)) (var (now (args .entry)) 1))) ⌝ }
+    requires { ⌜ Pickable at [] [] (now values) (plainPicks (now values) 38 (now args)) ⌝ }
+    ensures { λ r. ⌜ Overlaid at r (now (out .entry)) (now (out .exit)) (plainPicks (now (values .entry)) 38 (now (args .entry))) ⌝ }
 {
     let n = value_of(args, 0, values);
     let d = value_of(args, 1, values);
@@ -439,7 +435,7 @@ pub struct Powered {
 
 // Writes one more product: of a factor and the power.
 fn put_next(out: &mut [i32], p: Powered, factor: i64) -> Powered
-    requires { ⌜ (p .at < 4398046511104) × Near factor × Near (p .held) × (inRange (factor ⊗ p .held) ≡ true) ⌝ }
+    requires { ⌜ Room 1 (p .at) × Near factor × Near (p .held) × (inRange (factor ⊗ p .held) ≡ true) ⌝ }
     ensures { λ r. ⌜ NextPower p r (now (out .entry)) (now (out .exit)) factor ⌝ }
 {
     let v = times(factor, p.held);
@@ -451,7 +447,7 @@ fn put_next(out: &mut [i32], p: Powered, factor: i64) -> Powered
 
 // Writes the products of a power from 1 on: by recursion on the exponent, which halves until it is 1.
 fn put_powers(out: &mut [i32], at: usize, x: i64, k: usize) -> Powered
-    requires { ⌜ (at < 1099511627776) × Near x × (1 ≤ k) × (k ≤ 27) × Ranged (powerValues x k .picked) ⌝ }
+    requires { ⌜ Room (20 * k) at × Near x × (1 ≤ k) × (k ≤ 27) × Ranged (powerValues x k .picked) ⌝ }
     ensures { λ r. ⌜ PowersPut at r (now (out .entry)) (now (out .exit)) (powerValues x k) (20 * k) ⌝ }
 {
     if k < 2 {
@@ -467,8 +463,8 @@ fn put_powers(out: &mut [i32], at: usize, x: i64, k: usize) -> Powered
 
 // 39: the products of the power, none for k=0.
 fn pick_pow(out: &mut [i32], at: usize, args: &[u32], values: &[i32]) -> usize
-    requires { ⌜ (at < 1099511627776) × Small (now values) × Ranged (powerPick (value (now values) (var (now args) 0)) (exponentAt (now args) 1)) ⌝ }
-    ensures { λ r. ⌜ Picked at r (now (out .entry)) (now (out .exit)) (powerPick (value (now (values .entry)) (var (now (args .entry)) 0)) (exponentAt (now (args .entry)) 1)) ⌝ }
+    requires { ⌜ Pickable at [] [] (now values) (plainPicks (now values) 39 (now args)) ⌝ }
+    ensures { λ r. ⌜ Overlaid at r (now (out .entry)) (now (out .exit)) (plainPicks (now (values .entry)) 39 (now (args .entry))) ⌝ }
 {
     let x = value_of(args, 0, values);
     let k = exponent_at(args, 1);
@@ -489,8 +485,8 @@ fn pick_block(
     us: &[i64],
     values: &[i32],
 ) -> usize
-    requires { ⌜ Ready at (now ls) (now us) (now values) (picksOf (now ls) (now us) (now values) code (now args)) ⌝ }
-    ensures { λ r. ⌜ Picked at r (now (out .entry)) (now (out .exit)) (picksOf (now (ls .entry)) (now (us .entry)) (now (values .entry)) code (now (args .entry))) ⌝ }
+    requires { ⌜ Pickable at (now ls) (now us) (now values) (picksOf (now ls) (now us) (now values) code (now args)) ⌝ }
+    ensures { λ r. ⌜ Overlaid at r (now (out .entry)) (now (out .exit)) (picksOf (now (ls .entry)) (now (us .entry)) (now (values .entry)) code (now (args .entry))) ⌝ }
 {
     match code {
         4 => pick_ne(out, at, args, values),
@@ -530,8 +526,8 @@ fn pick_new_bits(
     encoded: &[usize],
     values: &[i32],
 ) -> usize
-    requires { ⌜ (at < 1099511627776) × Bounded (now ls) × Bounded (now us) × Small (now values) ⌝ }
-    ensures { λ r. ⌜ Picked at r (now (out .entry)) (now (out .exit)) (newPick (boundsOf (now (ls .entry)) (now (us .entry))) (now (encoded .entry)) (value (now (values .entry))) (var (now (args .entry)) 0)) ⌝ }
+    requires { ⌜ Room 1000000000 at × Bounded (now ls) × Bounded (now us) × Small (now values) ⌝ }
+    ensures { λ r. ⌜ Overlaid at r (now (out .entry)) (now (out .exit)) (newPicks (now (ls .entry)) (now (us .entry)) (now (encoded .entry)) (now (values .entry)) (now (args .entry))) ⌝ }
 {
     if entry_of(encoded, var_at(args, 0)) == 0 {
         return pick_set_reif(out, at, args, ls, us, values);
@@ -549,8 +545,8 @@ fn pick_shared_var_element(
     encoded: &[usize],
     values: &[i32],
 ) -> usize
-    requires { ⌜ (at < 1099511627776) × Bounded (now ls) × Bounded (now us) × Small (now values) × Ranged (sharedPick (boundsOf (now ls) (now us)) (now encoded) (value (now values)) (choiceOf 25 (now args))) ⌝ }
-    ensures { λ r. ⌜ Picked at r (now (out .entry)) (now (out .exit)) (sharedPick (boundsOf (now (ls .entry)) (now (us .entry))) (now (encoded .entry)) (value (now (values .entry))) (choiceOf 25 (now (args .entry)))) ⌝ }
+    requires { ⌜ Pickable at (now ls) (now us) (now values) (sharedPicks (now ls) (now us) (now encoded) (now values) 25 (now args)) ⌝ }
+    ensures { λ r. ⌜ Overlaid at r (now (out .entry)) (now (out .exit)) (sharedPicks (now (ls .entry)) (now (us .entry)) (now (encoded .entry)) (now (values .entry)) 25 (now (args .entry))) ⌝ }
 {
     let next = pick_new_bits(out, at, args, ls, us, encoded, values);
     pick_products(out, next, args, ls, us, values)
@@ -567,8 +563,8 @@ fn pick_shared(
     encoded: &[usize],
     values: &[i32],
 ) -> usize
-    requires { ⌜ Ready at (now ls) (now us) (now values) (sharedPick (boundsOf (now ls) (now us)) (now encoded) (value (now values)) (choiceOf code (now args))) ⌝ }
-    ensures { λ r. ⌜ Picked at r (now (out .entry)) (now (out .exit)) (sharedPick (boundsOf (now (ls .entry)) (now (us .entry))) (now (encoded .entry)) (value (now (values .entry))) (choiceOf code (now (args .entry)))) ⌝ }
+    requires { ⌜ Pickable at (now ls) (now us) (now values) (sharedPicks (now ls) (now us) (now encoded) (now values) code (now args)) ⌝ }
+    ensures { λ r. ⌜ Overlaid at r (now (out .entry)) (now (out .exit)) (sharedPicks (now (ls .entry)) (now (us .entry)) (now (encoded .entry)) (now (values .entry)) code (now (args .entry))) ⌝ }
 {
     match code {
         24 => pick_new_bits(out, at, args, ls, us, encoded, values),
@@ -591,8 +587,8 @@ pub fn pick_constraint(
     encoded: &[usize],
     values: &[i32],
 ) -> usize
-    requires { ⌜ Ready at (now ls) (now us) (now values) (picksAfter (now ls) (now us) (now uses) (now encoded) (now values) code (now args)) ⌝ }
-    ensures { λ r. ⌜ Picked at r (now (out .entry)) (now (out .exit)) (picksAfter (now (ls .entry)) (now (us .entry)) (now (uses .entry)) (now (encoded .entry)) (now (values .entry)) code (now (args .entry))) ⌝ }
+    requires { ⌜ Pickable at (now ls) (now us) (now values) (picksAfter (now ls) (now us) (now uses) (now encoded) (now values) code (now args)) ⌝ }
+    ensures { λ r. ⌜ PickedOver at r (now (out .entry)) (now (out .exit)) (now (ls .entry)) (now (us .entry)) (now (uses .entry)) (now (encoded .entry)) (now (values .entry)) code (now (args .entry)) ⌝ }
 {
     if is_shared(code, args, uses) {
         return pick_shared(out, at, code, args, ls, us, encoded, values);

@@ -23,109 +23,38 @@ put-powers-at t = and 1 put-powers-kinds.ps (is 1 put-powers-kinds.ps μ-put-pow
 abbrev put-powers-below : ℕ → In 1 put-powers-kinds.ps
 put-powers-below t = and 1 put-powers-kinds.ps (falls 1 put-powers-kinds.ps _<_ μ-put-powers t) put-powers.Pre
 
-put-powers-returns : (t : ℕ) → put-powers-lts.Need-returns (
-  put-powers-below t,
-  put-powers.Post,
-  put-next-reads.Asked,
-  put-next-reads.Learnt,
-) (put-powers-at t) put-powers.Post
-put-powers-returns t c =
+pub +put-powers-spec : {M : Type 1} → statement M
++put-powers-spec = close μ-put-powers λ t. put-powers-lts.spec (put-powers-below t, put-powers.Post, put-next-reads.Asked, put-next-reads.Learnt)
+    (put-powers-at t)
+    put-powers.Post
+    (λ c.
     let s = c .before in
-    rw (toZ-ofZ (s .fits .x)) (powers-one (s .args .at) (s .args .out .now) (s .args .x) (s .args .k) (c .if1 .taken) (s .pre .1 .1))
-
-put-powers-put-powers-requires : (t : ℕ) → put-powers-lts.Need-put-powers-requires (
-  put-powers-below t,
-  put-powers.Post,
-  put-next-reads.Asked,
-  put-next-reads.Learnt,
-) (put-powers-at t) put-powers.Post
-put-powers-put-powers-requires t c κs =
+    rw (toZ-ofZ (s .fits .x)) (powers-one (s .args .at) (s .args .out .now) (s .args .x) (s .args .k) (c .if1 .taken) (s .pre .1 .1)))
+    (λ c κs.
     let s = c .before .before in (
       omega (arith, s .pre .0, c .before .if1 .left),
-      rw (toZ-ofZ (s .fits .x)) (s .pre .1 .0, s .pre .1 .1, omega (arith, c .before .if1 .left), omega (arith, s .pre .1 .3), half-ranged (s .args .x) (s .args .k) (c .before .if1 .left) (s .pre .1 .4)),
-    )
-
-put-powers-put-next-requires : (t : ℕ) → put-powers-lts.Need-put-next-requires (
-  put-powers-below t,
-  put-powers.Post,
-  put-next-reads.Asked,
-  put-next-reads.Learnt,
-) (put-powers-at t) put-powers.Post
-put-powers-put-next-requires t c κs =
+      rw (toZ-ofZ (s .fits .x)) (omega (arith, s .pre .1 .0), s .pre .1 .1, omega (arith, c .before .if1 .left), omega (arith, s .pre .1 .3), half-ranged (s .args .x) (s .args .k) (c .before .if1 .left) (s .pre .1 .4)),
+    ))
+    (λ c κs.
     let s = c .before .before .before .before .before .before in
     let h = rw (toZ-ofZ (s .fits .x)) at (c .before .before .before .put-powers .ensures) in
-    rw (near-back _ (h .near)) (omega (arith, s .pre .1 .0, s .pre .1 .3, h .few), h .near, h .near, rw (h .held) (square-in (s .args .x) (s .args .k) (c .before .before .before .before .before .if1 .left) (s .pre .1 .4)))
-
-put-powers-same-length : (t : ℕ) → put-powers-lts.Need-same-length (
-  put-powers-below t,
-  put-powers.Post,
-  put-next-reads.Asked,
-  put-next-reads.Learnt,
-) (put-powers-at t) put-powers.Post
-put-powers-same-length t c =
-    picked-length (c .before .before .put-next .ensures .picked) ∙ picked-length (c .before .before .before .before .before .before .put-powers .ensures .picked)
-
-put-powers-returns-2 : (t : ℕ) → put-powers-lts.Need-returns-2 (
-  put-powers-below t,
-  put-powers.Post,
-  put-next-reads.Asked,
-  put-next-reads.Learnt,
-) (put-powers-at t) put-powers.Post
-put-powers-returns-2 t c =
+    rw (near-back _ (h .near)) (omega (arith, s .pre .1 .0, s .pre .1 .3, h .few), h .near, h .near, rw (h .held) (square-in (s .args .x) (s .args .k) (c .before .before .before .before .before .if1 .left) (s .pre .1 .4))))
+    (λ c. picked-length (c .before .before .put-next .ensures .picked) ∙ picked-length (c .before .before .before .before .before .before .put-powers .ensures .picked))
+    (λ c.
     let s = c .before .before .before .before .before .before .before .before .before in
     let h = rw (toZ-ofZ (s .fits .x)) at (c .before .before .before .before .before .before .put-powers .ensures) in
     let n = rw (near-back _ (h .near)) at (c .before .before .put-next .ensures) in
-    even-put (s .args .x) (s .args .k) (c .before .before .before .before .before .before .before .before .if1 .left) h n (c .if2 .taken)
-
-put-powers-put-next-requires-2 : (t : ℕ) → put-powers-lts.Need-put-next-requires-2 (
-  put-powers-below t,
-  put-powers.Post,
-  put-next-reads.Asked,
-  put-next-reads.Learnt,
-) (put-powers-at t) put-powers.Post
-put-powers-put-next-requires-2 t c κs =
+    even-put (s .args .x) (s .args .k) (c .before .before .before .before .before .before .before .before .if1 .left) h n (c .if2 .taken))
+    (λ c κs.
     let s = c .before .before .before .before .before .before .before .before .before .before in
     let h = rw (toZ-ofZ (s .fits .x)) at (c .before .before .before .before .before .before .before .put-powers .ensures) in
     let n = rw (near-back _ (h .near)) at (c .before .before .before .put-next .ensures) in
     let q = square-put (s .args .x) (s .args .k) (c .before .before .before .before .before .before .before .before .before .if1 .left) h n in
-    rw (toZ-ofZ (s .fits .x)) (omega (arith, s .pre .1 .0, s .pre .1 .3, q .few), s .pre .1 .1, n .near, rw (q .held) (odd-in (s .args .x) (s .args .k) (c .before .before .before .before .before .before .before .before .before .if1 .left) (s .pre .1 .4) (c .before .if2 .left)))
-
-put-powers-same-length-2 : (t : ℕ) → put-powers-lts.Need-same-length-2 (
-  put-powers-below t,
-  put-powers.Post,
-  put-next-reads.Asked,
-  put-next-reads.Learnt,
-) (put-powers-at t) put-powers.Post
-put-powers-same-length-2 t c =
-    picked-length (c .before .put-next2 .ensures .picked) ∙ picked-length (c .before .before .before .before .before .put-next .ensures .picked) ∙ picked-length (c .before .before .before .before .before .before .before .before .before .put-powers .ensures .picked)
-
-put-powers-returns-3 : (t : ℕ) → put-powers-lts.Need-returns-3 (
-  put-powers-below t,
-  put-powers.Post,
-  put-next-reads.Asked,
-  put-next-reads.Learnt,
-) (put-powers-at t) put-powers.Post
-put-powers-returns-3 t c =
+    rw (toZ-ofZ (s .fits .x)) (omega (arith, s .pre .1 .0, s .pre .1 .3, q .few), s .pre .1 .1, n .near, rw (q .held) (odd-in (s .args .x) (s .args .k) (c .before .before .before .before .before .before .before .before .before .if1 .left) (s .pre .1 .4) (c .before .if2 .left))))
+    (λ c. picked-length (c .before .put-next2 .ensures .picked) ∙ picked-length (c .before .before .before .before .before .put-next .ensures .picked) ∙ picked-length (c .before .before .before .before .before .before .before .before .before .put-powers .ensures .picked))
+    (λ c.
     let s = c .before .before .before .before .before .before .before .before .before .before .before .before in
     let h = rw (toZ-ofZ (s .fits .x)) at (c .before .before .before .before .before .before .before .before .before .put-powers .ensures) in
     let n = rw (near-back _ (h .near)) at (c .before .before .before .before .before .put-next .ensures) in
     let m = rw (toZ-ofZ (s .fits .x)) at (c .before .put-next2 .ensures) in
-    odd-put (s .args .x) (s .args .k) (c .before .before .before .before .before .before .before .before .before .before .before .if1 .left) h n (c .before .before .before .if2 .left) m
-
-pub +put-powers-spec : {M : Type 1} → statement M
-+put-powers-spec = close μ-put-powers λ t. put-powers-lts.spec (
-  put-powers-below t,
-  put-powers.Post,
-  put-next-reads.Asked,
-  put-next-reads.Learnt,
-)
-    (put-powers-at t)
-    put-powers.Post
-    (put-powers-returns t)
-    (put-powers-put-powers-requires t)
-    (put-powers-put-next-requires t)
-    (put-powers-same-length t)
-    (put-powers-returns-2 t)
-    (put-powers-put-next-requires-2 t)
-    (put-powers-same-length-2 t)
-    (put-powers-returns-3 t)
+    odd-put (s .args .x) (s .args .k) (c .before .before .before .before .before .before .before .before .before .before .before .if1 .left) h n (c .before .before .before .if2 .left) m)

@@ -7,7 +7,8 @@ use borrow.Author.Needs.{needs}
 use Rattle.integers.proofs.Fits.{back}
 use Rattle.integers.specs.Terms.{value}
 use Rattle.integers.specs.Number.{_⊖_}
-use Rattle.models.specs.Model.{var}
+use Rattle.models.specs.Model.{var, builtin, builtins}
+use Rattle.rules.specs.Pick.{pick}
 use Rattle.picking.proofs.Codes.{difference}
 use Rattle.picking.proofs.pick_difference.Statement.{statement}
 use Rattle.picking.proofs.pick_difference.Tie as tie
@@ -18,14 +19,17 @@ whole c =
     back (c .minus .result) (c .minus .ok) ∙ c .minus .ensures ∙ rw (back (value-of .result) (value-of .ok), value-of .ensures, back (c .before .value-of2 .result) (c .before .value-of2 .ok), c .before .value-of2 .ensures)
 
 minus-requires : tie.Need-minus-requires
+unfolding pick builtin builtins
 minus-requires c κs =
     let s = c .before .before .before .before in
-    rw (back (c .before .value-of .result) (c .before .value-of .ok), c .before .value-of .ensures, back (c .value-of2 .result) (c .value-of2 .ok), c .value-of2 .ensures) (omega (arith, (s .pre .1 (var (s .args .args .now) 0)), (s .pre .1 (var (s .args .args .now) 1))))
+    rw (back (c .before .value-of .result) (c .before .value-of .ok), c .before .value-of .ensures, back (c .value-of2 .result) (c .value-of2 .ok), c .value-of2 .ensures) (omega (arith, (s .pre .small (var (s .args .args .now) 0)), (s .pre .small (var (s .args .args .now) 1))))
 
 put-signed-requires : tie.Need-put-signed-requires
-put-signed-requires c κs = (search needs, rw (whole (c)) (rw difference at (c .before .before .before .before .before .pre .2)))
+unfolding pick builtin builtins
+put-signed-requires c κs = (search needs, rw (whole (c)) (rw difference at (c .before .before .before .before .before .pre .ranged)))
 
 returns : tie.Need-returns
+unfolding pick builtin builtins
 returns c = rw difference (rw (whole (c .before .before)) at (c .before .put-signed .ensures))
 
 pub pick-difference-spec : {M : Type 1} → statement M

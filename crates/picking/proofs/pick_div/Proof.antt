@@ -2,19 +2,22 @@
 use native.Mathlib.Omega.{arith}
 use borrow.Author.Needs.{needs}
 use Rattle.integers.proofs.Fits.{back}
-use Rattle.models.specs.Model.{var}
+use Rattle.models.specs.Model.{var, builtin, builtins}
+use Rattle.rules.specs.Pick.{pick}
 use Rattle.picking.proofs.pick_div.Statement.{statement}
 use Rattle.picking.proofs.pick_div.Tie as tie
 
 put-division-requires : tie.Need-put-division-requires
+unfolding pick builtin builtins
 put-division-requires c κs =
     let value-of2 = c .before .value-of2 in
     let value-of = c .before .before .value-of in
     let s = c .before .before .before .before .before in
     rw (back (value-of .result) (value-of .ok), value-of .ensures, back (value-of2 .result) (value-of2 .ok), value-of2 .ensures, back (c .value-of3 .result) (c .value-of3 .ok), c .value-of3 .ensures)
-    (omega (arith, s .pre .0), s .pre .1 (var (s .args .args .now) 1), s .pre .1 (var (s .args .args .now) 2), s .pre .2)
+    (omega (arith, s .pre .place), s .pre .small (var (s .args .args .now) 1), s .pre .small (var (s .args .args .now) 2), s .pre .ranged)
 
 returns : tie.Need-returns
+unfolding pick builtin builtins
 returns c =
     let value-of3 = c .before .before .value-of3 in
     let value-of2 = c .before .before .before .value-of2 in

@@ -2,16 +2,18 @@
 use mathlib.Core.Bool.{not}
 use borrow.Author.Needs.{needs}
 use Rattle.integers.proofs.Fits.{back}
-use Rattle.rules.specs.Pick.{bitOf}
+use Rattle.models.specs.Model.{builtin, builtins}
+use Rattle.rules.specs.Pick.{bitOf, pick}
 use Rattle.picking.proofs.Only.{bit-in}
 use Rattle.picking.proofs.pick_max.Statement.{statement}
 use Rattle.picking.proofs.pick_max.Tie as tie
 
 put-if-requires : tie.Need-put-if-requires
+unfolding pick builtin builtins
 put-if-requires c κs = (search needs, bit-in (not (c .before .equal .result)))
 
 returns : tie.Need-returns
-unfolding bitOf
+unfolding bitOf pick builtin builtins
 returns c =
     let value-of = c .before .before .before .before .before .value-of in
     let value-of2 = c .before .before .before .before .value-of2 in

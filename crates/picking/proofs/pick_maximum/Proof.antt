@@ -7,9 +7,9 @@ use borrow.Author.Needs.{needs}
 use Rattle.integers.specs.Number.{_==_, +1}
 use Rattle.integers.specs.Terms.{value}
 use Rattle.integers.proofs.Fits.{back}
-use Rattle.models.specs.Model.{var, size, vars}
+use Rattle.models.specs.Model.{var, size, vars, builtin, builtins}
 use Rattle.arguments.proofs.Size.{size-le}
-use Rattle.rules.specs.Pick.{gatedPick}
+use Rattle.rules.specs.Pick.{gatedPick, pick}
 use Rattle.picking.specs.Only.{onlyAt}
 use Rattle.picking.proofs.Codes.{maximum-picks}
 use Rattle.picking.proofs.pick_maximum.Statement.{statement}
@@ -23,12 +23,14 @@ picks c =
     maximum-picks [] [] (a .values .now) (a .args .now) (c .first-equal .result) (rw (back (c .before .value-of .result) (c .before .value-of .ok), c .before .value-of .ensures) at (c .first-equal .ensures .1))
 
 put-gated-requires : tie.Need-put-gated-requires
+unfolding pick builtin builtins
 put-gated-requires c κs =
     let s = c .before .before .before .before .before .before in
     let p = c .before .before .before in
-    (search needs, omega (arith, c .before .size-at .ensures, size-le (s .args .args .now) 1), rw (back (c .value-of2 .result) (c .value-of2 .ok), c .value-of2 .ensures, c .before .size-at .ensures) (rw (picks p) at (s .pre .1)))
+    (omega (arith, s .pre .place, c .before .size-at .ensures, size-le (s .args .args .now) 1), rw (back (c .value-of2 .result) (c .value-of2 .ok), c .value-of2 .ensures, c .before .size-at .ensures) (rw (picks p) at (s .pre .ranged)))
 
 returns : tie.Need-returns
+unfolding pick builtin builtins
 returns c =
     let p = c .before .before .before .before .before in
     let size-at = c .before .before .before .size-at in

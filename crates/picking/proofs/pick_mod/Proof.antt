@@ -3,30 +3,31 @@ use Prim.Native.Nat.{suc}
 use native.Mathlib.Omega.{arith}
 use borrow.Author.Needs.{needs}
 use Rattle.integers.proofs.Fits.{back}
-use Rattle.models.specs.Model.{var}
-use Rattle.rules.specs.Pick.{leftOverPick}
+use Rattle.models.specs.Model.{var, builtin, builtins}
+use Rattle.rules.specs.Pick.{leftOverPick, pick}
 use Rattle.picking.proofs.Writing.{picked-then}
 use Rattle.picking.proofs.pick_mod.Statement.{statement}
 use Rattle.picking.proofs.pick_mod.Tie as tie
 
 quotient-of-requires : tie.Need-quotient-of-requires
+unfolding pick builtin builtins
 quotient-of-requires c κs =
     let s = c .before .before .before in
-    rw (back (c .before .value-of .result) (c .before .value-of .ok), c .before .value-of .ensures) (s .pre .1 (var (s .args .args .now) 0))
+    rw (back (c .before .value-of .result) (c .before .value-of .ok), c .before .value-of .ensures) (s .pre .small (var (s .args .args .now) 0))
 
 put-requires : tie.Need-put-requires
-unfolding leftOverPick
+unfolding leftOverPick pick builtin builtins
 put-requires c κs =
     let quotient-of = c .before .quotient-of in
     let value-of2 = c .before .before .value-of2 in
     let value-of = c .before .before .before .value-of in
     let s = c .before .before .before .before .before in (
-      omega (arith, s .pre .0),
-      rw (back (quotient-of .result) (quotient-of .ok), quotient-of .ensures .0, back (value-of .result) (value-of .ok), value-of .ensures, back (value-of2 .result) (value-of2 .ok), value-of2 .ensures) (s .pre .2 0),
+      omega (arith, s .pre .place),
+      rw (back (quotient-of .result) (quotient-of .ok), quotient-of .ensures .0, back (value-of .result) (value-of .ok), value-of .ensures, back (value-of2 .result) (value-of2 .ok), value-of2 .ensures) (s .pre .ranged 0),
     )
 
 put-division-requires : tie.Need-put-division-requires
-unfolding leftOverPick
+unfolding leftOverPick pick builtin builtins
 put-division-requires c κs =
     let put = c .before .before .put in
     let quotient-of = c .before .before .before .before .quotient-of in
@@ -34,14 +35,14 @@ put-division-requires c κs =
     let value-of = c .before .before .before .before .before .before .value-of in
     let s = c .before .before .before .before .before .before .before .before in
     rw (back (quotient-of .result) (quotient-of .ok), back (value-of .result) (value-of .ok), value-of .ensures, back (value-of2 .result) (value-of2 .ok), value-of2 .ensures) (
-      omega (arith, s .pre .0, put .ensures .next),
-      s .pre .1 (var (s .args .args .now) 1),
+      omega (arith, s .pre .place, put .ensures .next),
+      s .pre .small (var (s .args .args .now) 1),
       quotient-of .ensures .1,
-      λ k. rw (quotient-of .ensures .0, back (value-of .result) (value-of .ok), value-of .ensures, back (value-of2 .result) (value-of2 .ok), value-of2 .ensures) (s .pre .2 (suc k)),
+      λ k. rw (quotient-of .ensures .0, back (value-of .result) (value-of .ok), value-of .ensures, back (value-of2 .result) (value-of2 .ok), value-of2 .ensures) (s .pre .ranged (suc k)),
     )
 
 returns : tie.Need-returns
-unfolding leftOverPick
+unfolding leftOverPick pick builtin builtins
 returns c =
     let put = c .before .before .before .before .put in
     let quotient-of = c .before .before .before .before .before .before .quotient-of in

@@ -1,16 +1,18 @@
 -- The bit of a test of two values.
 use borrow.Author.Needs.{needs}
 use Rattle.integers.proofs.Fits.{back}
-use Rattle.rules.specs.Pick.{bitOf}
+use Rattle.models.specs.Model.{builtin, builtins}
+use Rattle.rules.specs.Pick.{bitOf, pick}
 use Rattle.picking.proofs.Only.{bit-in}
 use Rattle.picking.proofs.pick_ne.Statement.{statement}
 use Rattle.picking.proofs.pick_ne.Tie as tie
 
 put-if-requires : tie.Need-put-if-requires
+unfolding pick builtin builtins
 put-if-requires c κs = (search needs, bit-in (c .before .below .result))
 
 returns : tie.Need-returns
-unfolding bitOf
+unfolding bitOf pick builtin builtins
 returns c =
     let value-of = c .before .before .before .before .before .value-of in
     let value-of2 = c .before .before .before .before .value-of2 in

@@ -1,16 +1,18 @@
 -- The half is in the range.
 use borrow.Author.Needs.{needs}
 use Rattle.integers.proofs.Fits.{back}
+use Rattle.models.specs.Model.{builtin, builtins}
 use Rattle.models.specs.Meaning.{on}
+use Rattle.rules.specs.Pick.{pick}
 use Rattle.picking.proofs.pick_odd.Statement.{statement}
 use Rattle.picking.proofs.pick_odd.Tie as tie
 
 put-requires : tie.Need-put-requires
-unfolding on
-put-requires c κs = (search needs, rw (back (c .half-less .result) (c .half-less .ok), c .half-less .ensures, c .before .how-many .ensures) (c .before .before .before .before .pre .1 0))
+unfolding on pick builtin builtins
+put-requires c κs = (search needs, rw (back (c .half-less .result) (c .half-less .ok), c .half-less .ensures, c .before .how-many .ensures) (c .before .before .before .before .pre .ranged 0))
 
 returns : tie.Need-returns
-unfolding on
+unfolding on pick builtin builtins
 returns c = rw (back (c .before .before .half-less .result) (c .before .before .half-less .ok), c .before .before .half-less .ensures, c .before .before .before .how-many .ensures) at (c .before .put .ensures)
 
 pub pick-odd-spec : {M : Type 1} → statement M

@@ -4,31 +4,33 @@ use Prim.Native.Nat.{_≤_}
 use native.Mathlib.Omega.{arith}
 use borrow.Author.Needs.{needs}
 use Rattle.integers.proofs.Fits.{back}
-use Rattle.models.specs.Model.{var, exponentAt}
+use Rattle.models.specs.Model.{var, exponentAt, builtin, builtins}
 use Rattle.arguments.proofs.Size.{exponent-le}
-use Rattle.rules.specs.Pick.{powerPick}
+use Rattle.rules.specs.Pick.{powerPick, pick}
 use Rattle.picking.proofs.Writing.{picked-none}
 use Rattle.picking.proofs.Powers.{pick-some}
 use Rattle.picking.proofs.pick_pow.Statement.{statement}
 use Rattle.picking.proofs.pick_pow.Tie as tie
 
 returns : tie.Need-returns
-unfolding powerPick
+unfolding powerPick pick builtin builtins
 returns c =
     let s = c .before .before .before .before in
     let e : exponentAt (s .args .args .now) 1 ≡ 0 = sym (c .before .exponent-at .ensures) ∙ c .if1 .taken in
     rw e (picked-none (s .args .at) (s .args .out .now))
 
 put-powers-requires : tie.Need-put-powers-requires
+unfolding pick builtin builtins
 put-powers-requires c κs =
     let s = c .before .before .before .before .before in
     let value-of = c .before .before .before .value-of in
     let exponent-at = c .before .before .exponent-at in
     let one : 1 ≤ exponentAt (s .args .args .now) 1 = omega (arith, exponent-at .ensures, c .before .if1 .left) in
     rw (back (value-of .result) (value-of .ok), value-of .ensures, exponent-at .ensures)
-    (s .pre .0, s .pre .1 (var (s .args .args .now) 0), one, exponent-le (s .args .args .now) 1, rw (pick-some _ _ one) at (s .pre .2))
+    (omega (arith, s .pre .place, exponent-le (s .args .args .now) 1), s .pre .small (var (s .args .args .now) 0), one, exponent-le (s .args .args .now) 1, rw (pick-some _ _ one) at (s .pre .ranged))
 
 returns-2 : tie.Need-returns-2
+unfolding pick builtin builtins
 returns-2 c =
     let s = c .before .before .before .before .before .before .before in
     let value-of = c .before .before .before .before .before .value-of in

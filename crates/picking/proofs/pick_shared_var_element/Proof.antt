@@ -18,7 +18,7 @@ pick-products-requires c κs =
     let s = c .before .before .before .before .before .before in
     let a = s .args in
     let p = s .pre in
-    (omega (arith, p .0, c .before .before .pick-new-bits .ensures .next, new-length (a .ls .now) (a .us .now) (a .values .now) (a .args .now) (a .encoded .now) (p .1) (p .2)), p .1, p .2, p .3, ranged-right (newPick (boundsOf (a .ls .now) (a .us .now)) (a .encoded .now) (value (a .values .now)) (var (a .args .now) 0)) (productPicks (a .ls .now) (a .us .now) (a .values .now) (a .args .now)) (p .4))
+    (omega (arith, p .place, c .before .before .pick-new-bits .ensures .next, new-length (a .ls .now) (a .us .now) (a .values .now) (a .args .now) (a .encoded .now) (p .lowers) (p .uppers)), p .lowers, p .uppers, p .small, ranged-right (newPick (boundsOf (a .ls .now) (a .us .now)) (a .encoded .now) (value (a .values .now)) (var (a .args .now) 0)) (productPicks (a .ls .now) (a .us .now) (a .values .now) (a .args .now)) (p .ranged))
 
 returns : tie.Need-returns
 unfolding choiceOf choice sharedPick productPicks

@@ -1,13 +1,17 @@
 -- The sum less the constant is in the range.
 use borrow.Author.Needs.{needs}
 use Rattle.integers.proofs.Fits.{back}
+use Rattle.models.specs.Model.{builtin, builtins}
+use Rattle.rules.specs.Pick.{pick}
 use Rattle.picking.proofs.pick_sum.Statement.{statement}
 use Rattle.picking.proofs.pick_sum.Tie as tie
 
 put-requires : tie.Need-put-requires
-put-requires c κs = (search needs, rw (back (c .sum-less .result) (c .sum-less .ok), c .sum-less .ensures) (c .before .before .before .pre .2 0))
+unfolding pick builtin builtins
+put-requires c κs = (search needs, rw (back (c .sum-less .result) (c .sum-less .ok), c .sum-less .ensures) (c .before .before .before .pre .ranged 0))
 
 returns : tie.Need-returns
+unfolding pick builtin builtins
 returns c = rw (back (c .before .before .sum-less .result) (c .before .before .sum-less .ok), c .before .before .sum-less .ensures) at (c .before .put .ensures)
 
 pub pick-sum-spec : {M : Type 1} → statement M

@@ -1,13 +1,17 @@
 -- The product fits, since it is in the range.
 use borrow.Author.Needs.{needs}
 use Rattle.integers.proofs.Fits.{back}
+use Rattle.models.specs.Model.{builtin, builtins}
+use Rattle.rules.specs.Pick.{pick}
 use Rattle.picking.proofs.pick_times.Statement.{statement}
 use Rattle.picking.proofs.pick_times.Tie as tie
 
 put-requires : tie.Need-put-requires
-put-requires c κs = (search needs, rw (back (c .values-product .result) (c .values-product .ok), c .values-product .ensures) (c .before .before .before .pre .2 0))
+unfolding pick builtin builtins
+put-requires c κs = (search needs, rw (back (c .values-product .result) (c .values-product .ok), c .values-product .ensures) (c .before .before .before .pre .ranged 0))
 
 returns : tie.Need-returns
+unfolding pick builtin builtins
 returns c = rw (back (c .before .before .values-product .result) (c .before .before .values-product .ok), c .before .before .values-product .ensures) at (c .before .put .ensures)
 
 pub pick-times-spec : {M : Type 1} → statement M

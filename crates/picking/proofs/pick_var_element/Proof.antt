@@ -12,9 +12,9 @@ pick-products-requires c κs =
     let s = c .before .before .before .before .before in
     let a = s .args in
     let p = s .pre in
-    let l = element-length (a .ls .now) (a .us .now) (a .values .now) (a .args .now) (p .1) (p .2) in
-    let q = rw (var-element-both (a .ls .now) (a .us .now) (a .values .now) (a .args .now)) at (p .4) in
-    (omega (arith, p .0, c .before .before .pick-element .ensures .next, l), p .1, p .2, p .3, ranged-right (picksOf (a .ls .now) (a .us .now) (a .values .now) 24 (a .args .now)) (productPicks (a .ls .now) (a .us .now) (a .values .now) (a .args .now)) q)
+    let l = element-length (a .ls .now) (a .us .now) (a .values .now) (a .args .now) (p .lowers) (p .uppers) in
+    let q = rw (var-element-both (a .ls .now) (a .us .now) (a .values .now) (a .args .now)) at (p .ranged) in
+    (omega (arith, p .place, c .before .before .pick-element .ensures .next, l), p .lowers, p .uppers, p .small, ranged-right (picksOf (a .ls .now) (a .us .now) (a .values .now) 24 (a .args .now)) (productPicks (a .ls .now) (a .us .now) (a .values .now) (a .args .now)) q)
 
 returns : tie.Need-returns
 returns c =

@@ -2,20 +2,25 @@
 use native.Mathlib.Omega.{arith}
 use borrow.Author.Needs.{needs}
 use Rattle.integers.proofs.Fits.{back}
+use Rattle.models.specs.Model.{builtin, builtins}
+use Rattle.rules.specs.Pick.{pick}
 use Rattle.picking.proofs.Writing.{picked-then}
 use Rattle.picking.proofs.pick_xor.Statement.{statement}
 use Rattle.picking.proofs.pick_xor.Tie as tie
 
 put-requires : tie.Need-put-requires
-put-requires c κs = (search needs, rw (back (c .values-product .result) (c .values-product .ok), c .values-product .ensures) (c .before .before .before .pre .2 0))
+unfolding pick builtin builtins
+put-requires c κs = (search needs, rw (back (c .values-product .result) (c .values-product .ok), c .values-product .ensures) (c .before .before .before .pre .ranged 0))
 
 put-requires-2 : tie.Need-put-requires-2
+unfolding pick builtin builtins
 put-requires-2 c κs =
     let s = c .before .before .before .before .before .before .before in
     let put = c .before .before .before .put in
-    (omega (arith, put .ensures .next), rw (back (c .values-product2 .result) (c .values-product2 .ok), c .values-product2 .ensures) (s .pre .2 1))
+    (omega (arith, put .ensures .next), rw (back (c .values-product2 .result) (c .values-product2 .ok), c .values-product2 .ensures) (s .pre .ranged 1))
 
 returns : tie.Need-returns
+unfolding pick builtin builtins
 returns c =
     let values-product = c .before .before .before .before .before .before .values-product in
     let put = c .before .before .before .before .before .put in

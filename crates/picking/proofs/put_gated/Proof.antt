@@ -16,7 +16,7 @@ put-only-requires-2 : tie.Need-put-only-requires-2
 put-only-requires-2 c κs =
     let s = c .before .before .before .before in
     let put-only = c .before .before .put-only in
-    (omega (arith, put-only .ensures .next, only-length (s .args .n) (s .args .h) +1), rw (toZ-ofZ (s .fits .x)) (ranged-right (onlyAt (s .args .n) (s .args .h) +1) (onlyAt (s .args .n) (s .args .h) (s .args .x)) (s .pre .2)))
+    (omega (arith, put-only .ensures .next, only-length (s .args .n) (s .args .h) +1), rw (toZ-ofZ (s .fits .x)) (ranged-right (onlyAt (s .args .n) (s .args .h) +1) (onlyAt (s .args .n) (s .args .h) (s .args .x)) (s .pre .1)))
 
 returns : tie.Need-returns
 returns c = rw (toZ-ofZ (c .before .before .before .before .before .before .fits .x)) at (picked-then (c .before .before .before .before .put-only .ensures) (c .before .put-only2 .ensures))

@@ -26,61 +26,19 @@ power-of-at t = and 0 power-of-kinds.ps (is 0 power-of-kinds.ps μ-power-of t) p
 abbrev power-of-below : ℕ → In 0 power-of-kinds.ps
 power-of-below t = and 0 power-of-kinds.ps (falls 0 power-of-kinds.ps _<_ μ-power-of t) power-of.Pre
 
-power-of-returns : (t : ℕ) → power-of-lts.Need-returns (
-  power-of-below t,
-  power-of.Post,
-  times-reads.Asked,
-  times-reads.Learnt,
-  cut-to-reads.Asked,
-  cut-to-reads.Learnt,
-) (power-of-at t) power-of.Post
-power-of-returns t c =
+pub +power-of-spec : {M : Type 1} → statement M
++power-of-spec = close μ-power-of λ t. power-of-lts.spec (power-of-below t, power-of.Post, times-reads.Asked, times-reads.Learnt, cut-to-reads.Asked, cut-to-reads.Learnt)
+    (power-of-at t)
+    power-of.Post
+    (λ c.
     let s = c .before in
-    toZ-ofZ (s .fits .x) ∙ cut-one (s .args .x) (s .args .k) (s .pre .1 .0) (s .pre .1 .1) (c .if1 .taken)
-
-power-of-power-of-requires : (t : ℕ) → power-of-lts.Need-power-of-requires (
-  power-of-below t,
-  power-of.Post,
-  times-reads.Asked,
-  times-reads.Learnt,
-  cut-to-reads.Asked,
-  cut-to-reads.Learnt,
-) (power-of-at t) power-of.Post
-power-of-power-of-requires t c κs =
+    toZ-ofZ (s .fits .x) ∙ cut-one (s .args .x) (s .args .k) (s .pre .1 .0) (s .pre .1 .1) (c .if1 .taken))
+    (λ c κs.
     let s = c .before in
-    (omega (arith, s .pre .0, c .if1 .left), rw (toZ-ofZ (s .fits .x)) (s .pre .1 .0, omega (arith, c .if1 .left)))
-
-power-of-times-requires : (t : ℕ) → power-of-lts.Need-times-requires (
-  power-of-below t,
-  power-of.Post,
-  times-reads.Asked,
-  times-reads.Learnt,
-  cut-to-reads.Asked,
-  cut-to-reads.Learnt,
-) (power-of-at t) power-of.Post
-power-of-times-requires t c κs =
-    rw (back (c .power-of .result) (c .power-of .ok)) (cut-fits (c .power-of .result) (c .power-of .result) _ _ (c .power-of .ensures) (c .power-of .ensures))
-
-power-of-cut-to-requires : (t : ℕ) → power-of-lts.Need-cut-to-requires (
-  power-of-below t,
-  power-of.Post,
-  times-reads.Asked,
-  times-reads.Learnt,
-  cut-to-reads.Asked,
-  cut-to-reads.Learnt,
-) (power-of-at t) power-of.Post
-power-of-cut-to-requires t c κs =
-    search needs
-
-power-of-returns-2 : (t : ℕ) → power-of-lts.Need-returns-2 (
-  power-of-below t,
-  power-of.Post,
-  times-reads.Asked,
-  times-reads.Learnt,
-  cut-to-reads.Asked,
-  cut-to-reads.Learnt,
-) (power-of-at t) power-of.Post
-power-of-returns-2 t c =
+    (omega (arith, s .pre .0, c .if1 .left), rw (toZ-ofZ (s .fits .x)) (s .pre .1 .0, omega (arith, c .if1 .left))))
+    (λ c κs. rw (back (c .power-of .result) (c .power-of .ok)) (cut-fits (c .power-of .result) (c .power-of .result) _ _ (c .power-of .ensures) (c .power-of .ensures)))
+    (λ c κs. search needs)
+    (λ c.
     let cut-to = c .before .cut-to in
     let times = c .before .before .times in
     let power-of = c .before .before .before .power-of in
@@ -88,45 +46,17 @@ power-of-returns-2 t c =
     let h = rw (toZ-ofZ (s .fits .x)) at (power-of .ensures) in
     back (cut-to .result) (cut-to .ok)
     ∙ cut-to .ensures
-    ∙ rw (back (times .result) (times .ok), times .ensures, back (power-of .result) (power-of .ok)) (cut-even (s .args .x) (s .args .k) (power-of .result) h (c .if2 .taken))
-
-power-of-times-requires-2 : (t : ℕ) → power-of-lts.Need-times-requires-2 (
-  power-of-below t,
-  power-of.Post,
-  times-reads.Asked,
-  times-reads.Learnt,
-  cut-to-reads.Asked,
-  cut-to-reads.Learnt,
-) (power-of-at t) power-of.Post
-power-of-times-requires-2 t c κs =
+    ∙ rw (back (times .result) (times .ok), times .ensures, back (power-of .result) (power-of .ok)) (cut-even (s .args .x) (s .args .k) (power-of .result) h (c .if2 .taken)))
+    (λ c κs.
     let cut-to = c .before .cut-to in
     let times = c .before .before .times in
     let power-of = c .before .before .before .power-of in
     let s = c .before .before .before .before .before in
     let h = rw (toZ-ofZ (s .fits .x)) at (power-of .ensures) in
     let e = rw (back (times .result) (times .ok), times .ensures, back (power-of .result) (power-of .ok)) at (cut-to .ensures) ∙ cut-square (s .args .x) (s .args .k / 2) (power-of .result) h in
-    rw (toZ-ofZ (s .fits .x), back (cut-to .result) (cut-to .ok)) (near-fits (s .args .x) (cut-to .result) _ (s .pre .1 .0) e)
-
-power-of-cut-to-requires-2 : (t : ℕ) → power-of-lts.Need-cut-to-requires-2 (
-  power-of-below t,
-  power-of.Post,
-  times-reads.Asked,
-  times-reads.Learnt,
-  cut-to-reads.Asked,
-  cut-to-reads.Learnt,
-) (power-of-at t) power-of.Post
-power-of-cut-to-requires-2 t c κs =
-    search needs
-
-power-of-returns-3 : (t : ℕ) → power-of-lts.Need-returns-3 (
-  power-of-below t,
-  power-of.Post,
-  times-reads.Asked,
-  times-reads.Learnt,
-  cut-to-reads.Asked,
-  cut-to-reads.Learnt,
-) (power-of-at t) power-of.Post
-power-of-returns-3 t c =
+    rw (toZ-ofZ (s .fits .x), back (cut-to .result) (cut-to .ok)) (near-fits (s .args .x) (cut-to .result) _ (s .pre .1 .0) e))
+    (λ c κs. search needs)
+    (λ c.
     let d = c .before .before in
     let cut-to = d .before .cut-to in
     let times = d .before .before .times in
@@ -136,24 +66,4 @@ power-of-returns-3 t c =
     let e = rw (back (times .result) (times .ok), times .ensures, back (power-of .result) (power-of .ok)) at (cut-to .ensures) ∙ cut-square (s .args .x) (s .args .k / 2) (power-of .result) h in
     back (c .cut-to2 .result) (c .cut-to2 .ok)
     ∙ c .cut-to2 .ensures
-    ∙ rw (back (c .before .times2 .result) (c .before .times2 .ok), c .before .times2 .ensures, toZ-ofZ (s .fits .x), back (cut-to .result) (cut-to .ok)) (cut-odd (s .args .x) (s .args .k) (cut-to .result) (s .pre .1 .0) e (d .if2 .left))
-
-pub +power-of-spec : {M : Type 1} → statement M
-+power-of-spec = close μ-power-of λ t. power-of-lts.spec (
-  power-of-below t,
-  power-of.Post,
-  times-reads.Asked,
-  times-reads.Learnt,
-  cut-to-reads.Asked,
-  cut-to-reads.Learnt,
-)
-    (power-of-at t)
-    power-of.Post
-    (power-of-returns t)
-    (power-of-power-of-requires t)
-    (power-of-times-requires t)
-    (power-of-cut-to-requires t)
-    (power-of-returns-2 t)
-    (power-of-times-requires-2 t)
-    (power-of-cut-to-requires-2 t)
-    (power-of-returns-3 t)
+    ∙ rw (back (c .before .times2 .result) (c .before .times2 .ok), c .before .times2 .ensures, toZ-ofZ (s .fits .x), back (cut-to .result) (cut-to .ok)) (cut-odd (s .args .x) (s .args .k) (cut-to .result) (s .pre .1 .0) e (d .if2 .left)))
