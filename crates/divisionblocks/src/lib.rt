@@ -9,7 +9,8 @@ ghost use Rattle.models.specs.Builtin.{int-div, int-mod};
 ghost use Rattle.rules.specs.Division.{M, divisionTable};
 ghost use Rattle.rules.specs.Rule.{rule};
 ghost use Rattle.laying.specs.Part.{blockParts};
-ghost use Rattle.laying.specs.Went.{Went, Near, total};
+ghost use Rattle.laying.specs.Went.{Went, Near};
+ghost use Rattle.laying.specs.Room.{Room, BlockRoom};
 ghost use Rattle.extremes.specs.Bounded.{boundsOf, Bounded};
 ghost use Rattle.divisionblocks.specs.Rows.{auxiliaryParts, tableParts, divisionParts};
 use extremes::bound_at;
@@ -27,7 +28,7 @@ mod table;
 
 // α, β, p within its bounds, γ.
 fn lay_auxiliaries(out: &mut [u32], s: Laid, pl: i64, pu: i64) -> Laid
-    requires { ⌜ total s < 800000000000 ⌝ }
+    requires { ⌜ Room 1100 s ⌝ }
     ensures { λ r. ⌜ Went s r (now (out .entry)) (now (out .exit)) (auxiliaryParts (pl to pu)) × Near 1100 s r ⌝ }
 {
     let t = lay_bits(out, s, 2);
@@ -38,7 +39,7 @@ fn lay_auxiliaries(out: &mut [u32], s: Laid, pl: i64, pu: i64) -> Laid
 // The table, by the bounds of n and d and those of p.
 fn table_of(n: usize, d: usize, ls: &[i64], us: &[i64], pl: i64, pu: i64) -> [[i64; 7]; 10]
     requires { ⌜ Bounded (now ls) × Bounded (now us) × (natAbs pl ≤ 18014398509481984) × (natAbs pu ≤ 18014398509481984) ⌝ }
-    ensures { λ r. ⌜ r ≡ divisionTable (boundsOf (now (ls .entry)) (now (us .entry)) n) (boundsOf (now (ls .entry)) (now (us .entry)) d) (M (boundsOf (now (ls .entry)) (now (us .entry)) n) (boundsOf (now (ls .entry)) (now (us .entry)) d) (pl to pu)) ⌝ }
+    ensures { λ r. let β = boundsOf (now (ls .entry)) (now (us .entry)) in ⌜ r ≡ divisionTable (β n) (β d) (M (β n) (β d) (pl to pu)) ⌝ }
 {
     let nl = bound_at(ls, n);
     let nu = bound_at(us, n);
@@ -58,7 +59,7 @@ fn lay_rows(
     v: usize,
     table: [[i64; 7]; 10],
 ) -> Laid
-    requires { ⌜ (total s < 600000000000) × (v < 20000) ⌝ }
+    requires { ⌜ Room 20100 s × (v < 20000) ⌝ }
     ensures { λ r. ⌜ Went s r (now (out .entry)) (now (out .exit)) (tableParts table n d q v (v + 1) (v + 2) (v + 3)) × Near 20100 s r ⌝ }
 {
     let t = lay_times(out, s, v + 2, d, q);
@@ -80,8 +81,8 @@ fn lay_division(
     ql: i64,
     qu: i64,
 ) -> Laid
-    requires { ⌜ (total s < 500000000000) × (v < 20000) × Bounded (now ls) × Bounded (now us) × Small.Near ql × Small.Near qu ⌝ }
-    ensures { λ r. ⌜ Went s r (now (out .entry)) (now (out .exit)) (divisionParts (boundsOf (now (ls .entry)) (now (us .entry)) n) (boundsOf (now (ls .entry)) (now (us .entry)) d) (ql to qu) n d q v) × Near 22000 s r ⌝ }
+    requires { ⌜ Room 22000 s × (v < 20000) × Bounded (now ls) × Bounded (now us) × Small.Near ql × Small.Near qu ⌝ }
+    ensures { λ r. let β = boundsOf (now (ls .entry)) (now (us .entry)) in ⌜ Went s r (now (out .entry)) (now (out .exit)) (divisionParts (β n) (β d) (ql to qu) n d q v) × Near 22000 s r ⌝ }
 {
     let dl = bound_at(ls, d);
     let du = bound_at(us, d);
@@ -103,7 +104,7 @@ pub fn int_div(
     us: &[i64],
     first: usize,
 ) -> Laid
-    requires { ⌜ (total s < 1000000000) × (first < 10000) × Bounded (now ls) × Bounded (now us) ⌝ }
+    requires { ⌜ BlockRoom s × (first < 10000) × Bounded (now ls) × Bounded (now us) ⌝ }
     ensures { λ r. ⌜ Went s r (now (out .entry)) (now (out .exit)) (blockParts first (rule (boundsOf (now (ls .entry)) (now (us .entry))) (int-div n d q))) × Near 30000 s r ⌝ }
 {
     let ql = bound_at(ls, q);
@@ -130,7 +131,7 @@ pub fn int_mod(
     us: &[i64],
     first: usize,
 ) -> Laid
-    requires { ⌜ (total s < 1000000000) × (first < 10000) × Bounded (now ls) × Bounded (now us) ⌝ }
+    requires { ⌜ BlockRoom s × (first < 10000) × Bounded (now ls) × Bounded (now us) ⌝ }
     ensures { λ t. ⌜ Went s t (now (out .entry)) (now (out .exit)) (blockParts first (rule (boundsOf (now (ls .entry)) (now (us .entry))) (int-mod n d r))) × Near 30000 s t ⌝ }
 {
     let qu = larger_size(bound_at(ls, n), bound_at(us, n));

@@ -2,3 +2,4 @@
 pub mod Part
 pub mod Lists
 pub mod Went
+pub mod Room

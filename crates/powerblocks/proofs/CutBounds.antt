@@ -27,13 +27,13 @@ use Rattle.rules.proofs.Power.{by-halves}
 use Rattle.laying.specs.Part.{bound, partWords, partNumbers, partAuxiliaries, partRows, wordsIn, numbersIn, auxiliariesIn, rowsIn, boundParts}
 use Rattle.laying.proofs.Alike.{Alike}
 use Rattle.laying.proofs.Parts.{both-true}
-use Rattle.powerblocks.specs.Cut.{past, cutBounds, Ranges, cutNext, noRange, cutSquared, cutMultiplied, cutRanges}
+use Rattle.powerblocks.specs.Cut.{pastRange, cutBounds, Ranges, cutNext, noRange, cutSquared, cutMultiplied, cutRanges}
 
-from-one : +1 ⊑ past
+from-one : +1 ⊑ pastRange
 from-one = omega arithZ
 
-pub near-cut : (v : ℤ) → Small.Near (cut past v)
-near-cut v = cut-size past v from-one
+pub near-cut : (v : ℤ) → Small.Near (cut pastRange v)
+near-cut v = cut-size pastRange v from-one
 
 -- what is read back of a number near 0
 pub near-back : (v : ℤ) → Small.Near v → toZ w64 (ofZ w64 v) ≡ v
@@ -41,48 +41,48 @@ near-back v h = toZ-ofZ (fits64 v (omega arith))
 
 -- ---- the range
 
-pub in-range-cut : (v : ℤ) → inRange (cut past v) ≡ inRange v
+pub in-range-cut : (v : ℤ) → inRange (cut pastRange v) ≡ inRange v
 unfolding cut
-in-range-cut v = same-test (says-within Limit.range (cut past v)) (says-within Limit.range v) (core v)
+in-range-cut v = same-test (says-within Limit.range (cut pastRange v)) (says-within Limit.range v) (core v)
   where
-    core : (v : ℤ) → In Limit.range (cut past v) ↔ In Limit.range v
+    core : (v : ℤ) → In Limit.range (cut pastRange v) ↔ In Limit.range v
     core = simp linear (omega arith)
 
-pub range-not-cut : (v : ℤ) → inRange v ≡ true → cut past v ≡ v
-range-not-cut v e = let k = wider v (says-within Limit.range v .0 e) in cut-inside past v (k .0) (k .1)
+pub range-not-cut : (v : ℤ) → inRange v ≡ true → cut pastRange v ≡ v
+range-not-cut v e = let k = wider v (says-within Limit.range v .0 e) in cut-inside pastRange v (k .0) (k .1)
   where
-    wider : (v : ℤ) → In Limit.range v → (neg past ⊑ v) × (v ⊑ past)
+    wider : (v : ℤ) → In Limit.range v → (neg pastRange ⊑ v) × (v ⊑ pastRange)
     wider = simp linear (omega arith)
 
 pub near-not-cut : (B : Bounds) → Small.Near (B .lower) → Small.Near (B .upper) → B ≡ cutBounds B
 near-not-cut B h k = sym (ap₂ (λ l u. l to u) (one (B .lower) h) (one (B .upper) k))
   where
-    inside : (v : ℤ) → Small.Near v → (neg past ⊑ v) × (v ⊑ past)
+    inside : (v : ℤ) → Small.Near v → (neg pastRange ⊑ v) × (v ⊑ pastRange)
     inside = simp linear (omega arith)
 
-    one : (v : ℤ) → Small.Near v → cut past v ≡ v
-    one v h = let k = inside v h in cut-inside past v (k .0) (k .1)
+    one : (v : ℤ) → Small.Near v → cut pastRange v ≡ v
+    one v h = let k = inside v h in cut-inside pastRange v (k .0) (k .1)
 
 -- ---- end products
 
-four : (f : ℤ → ℤ → ℤ) → ((a b : ℤ) → cut past (f a b) ≡ f (cut past a) (cut past b)) → (a b c d : ℤ) →
-    cut past (f (f (cut past a ⊗ cut past c) (cut past a ⊗ cut past d)) (f (cut past b ⊗ cut past c) (cut past b ⊗ cut past d)))
-    ≡ cut past (f (f (a ⊗ c) (a ⊗ d)) (f (b ⊗ c) (b ⊗ d)))
+four : (f : ℤ → ℤ → ℤ) → ((a b : ℤ) → cut pastRange (f a b) ≡ f (cut pastRange a) (cut pastRange b)) → (a b c d : ℤ) →
+    cut pastRange (f (f (cut pastRange a ⊗ cut pastRange c) (cut pastRange a ⊗ cut pastRange d)) (f (cut pastRange b ⊗ cut pastRange c) (cut pastRange b ⊗ cut pastRange d)))
+    ≡ cut pastRange (f (f (a ⊗ c) (a ⊗ d)) (f (b ⊗ c) (b ⊗ d)))
 four f k a b c d =
     spread _ _ _ _ ∙ ap₂ f (ap₂ f (product a c) (product a d)) (ap₂ f (product b c) (product b d)) ∙ sym (spread _ _ _ _)
   where
-    product : (a b : ℤ) → cut past (cut past a ⊗ cut past b) ≡ cut past (a ⊗ b)
-    product = cut-product past from-one
+    product : (a b : ℤ) → cut pastRange (cut pastRange a ⊗ cut pastRange b) ≡ cut pastRange (a ⊗ b)
+    product = cut-product pastRange from-one
 
-    spread : (p q r s : ℤ) → cut past (f (f p q) (f r s)) ≡ f (f (cut past p) (cut past q)) (f (cut past r) (cut past s))
+    spread : (p q r s : ℤ) → cut pastRange (f (f p q) (f r s)) ≡ f (f (cut pastRange p) (cut pastRange q)) (f (cut pastRange r) (cut pastRange s))
     spread p q r s = k (f p q) (f r s) ∙ ap₂ f (k p q) (k r s)
 
 pub cut-endProducts : (A B : Bounds) → cutBounds (endProducts (cutBounds A) (cutBounds B)) ≡ cutBounds (endProducts A B)
 unfolding endProducts
 cut-endProducts A B =
     ap₂ (λ l u. l to u)
-    (four minZ (cut-min past from-one) (A .lower) (A .upper) (B .lower) (B .upper))
-    (four maxZ (cut-max past from-one) (A .lower) (A .upper) (B .lower) (B .upper))
+    (four minZ (cut-min pastRange from-one) (A .lower) (A .upper) (B .lower) (B .upper))
+    (four maxZ (cut-max pastRange from-one) (A .lower) (A .upper) (B .lower) (B .upper))
 
 -- ---- the chain, its bounds cut
 

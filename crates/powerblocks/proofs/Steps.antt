@@ -19,12 +19,12 @@ use Rattle.laying.proofs.Parts.{flatMap-append, went-none, went-then, went-as}
 use Rattle.laying.proofs.Lists.{bounds-append}
 use Rattle.powerblocks.specs.Cut.{cutBounds, Ranges, cutNext, noRange, cutSquared, cutMultiplied, cutRanges}
 use Rattle.powerblocks.specs.Chained.{NextRange, RangesLaid, NextProduct, ProductsLaid}
-use Rattle.powerblocks.specs.declared.Ranged.{Ranged}
+use Rattle.powerblocks.specs.declared.PowerBounds.{PowerBounds}
 use Rattle.powerblocks.specs.declared.Multiplied.{Multiplied}
 
 -- ---- bounds
 
-next-ranges : {s : Laid} {p r : Ranged} {o o₁ o₂ : List ℕ} {c : Ranges} {m : ℕ} {A : Bounds} (B : Bounds) → RangesLaid s p o o₁ c m → A ≡ B → NextRange p r o₁ o₂ A →
+next-ranges : {s : Laid} {p r : PowerBounds} {o o₁ o₂ : List ℕ} {c : Ranges} {m : ℕ} {A : Bounds} (B : Bounds) → RangesLaid s p o o₁ c m → A ≡ B → NextRange p r o₁ o₂ A →
     RangesLaid s r o o₂ (cutNext c B) (m + 10)
 unfolding cutNext boundParts
 next-ranges {s} {p} {r} {c = c} B h e n =
@@ -45,7 +45,7 @@ ranges-one s o l u k i h j =
     subst (λ c. RangesLaid s (record { laid = s; lower = l; upper = u }) o o c (20 * k)) (sym (at-one (noRange (l to u)) (cutSquared (l to u)) (cutMultiplied (l to u)) k (omega arith)))
     (record { went = went-none s o; range = refl; lower-near = h; upper-near = j; near = omega arith })
 
-module _ {s : Laid} (B : Bounds) (k : ℕ) (two : 2 ≤ k) {p q : Ranged} {o o₁ o₂ : List ℕ} (h : RangesLaid s p o o₁ (cutRanges B (k / 2)) (20 * (k / 2)))
+module _ {s : Laid} (B : Bounds) (k : ℕ) (two : 2 ≤ k) {p q : PowerBounds} {o o₁ o₂ : List ℕ} (h : RangesLaid s p o o₁ (cutRanges B (k / 2)) (20 * (k / 2)))
     (n : NextRange p q o₁ o₂ (p .lower to p .upper)) where
   square : RangesLaid s q o o₂ (cutSquared B (cutRanges B (k / 2))) (20 * (k / 2) + 10)
   unfolding cutSquared
@@ -57,7 +57,7 @@ module _ {s : Laid} (B : Bounds) (k : ℕ) (two : 2 ≤ k) {p q : Ranged} {o o�
       subst (λ c. RangesLaid s q o o₂ c (20 * k)) (sym (at-even (noRange B) (cutSquared B) (cutMultiplied B) k two e))
       (record { went = square .went; range = square .range; lower-near = square .lower-near; upper-near = square .upper-near; near = omega (arith, square .near) })
 
-  pub ranges-odd : ¬ (k % 2 ≡ 0) → {r : Ranged} {o₃ : List ℕ} → NextRange q r o₂ o₃ B → RangesLaid s r o o₃ (cutRanges B k) (20 * k)
+  pub ranges-odd : ¬ (k % 2 ≡ 0) → {r : PowerBounds} {o₃ : List ℕ} → NextRange q r o₂ o₃ B → RangesLaid s r o o₃ (cutRanges B k) (20 * k)
   unfolding cutRanges cutMultiplied
   ranges-odd e {r} {o₃} m =
       let t = next-ranges B square refl m in

@@ -13,11 +13,11 @@ use Rattle.laying.specs.Part.{bound, times, boundParts, rowParts}
 use Rattle.laying.specs.Went.{Went, Near}
 use Rattle.laying.specs.declared.Laid.{Laid}
 use Rattle.powerblocks.specs.Cut.{cutBounds, Ranges}
-use Rattle.powerblocks.specs.declared.Ranged.{Ranged}
+use Rattle.powerblocks.specs.declared.PowerBounds.{PowerBounds}
 use Rattle.powerblocks.specs.declared.Multiplied.{Multiplied}
 
 -- one more product of a factor within the bounds B and the power: its bounds went over the list; the product itself did
-pub record NextRange (p r : Ranged) (out out′ : List ℕ) (B : Bounds) : Type 0 where
+pub record NextRange (p r : PowerBounds) (out out′ : List ℕ) (B : Bounds) : Type 0 where
   pub went : Went (p .laid) (r .laid) out out′ (bound (r .lower) (r .upper) ∷ [])
   pub range : (r .lower to r .upper) ≡ cutBounds (endProducts B (p .lower to p .upper))
   pub lower-near : Small.Near (r .lower)
@@ -31,7 +31,7 @@ pub record NextProduct (p r : Multiplied) (out out′ : List ℕ) (factor : ℕ)
   pub near : Near 10 (p .laid) (r .laid)
 
 -- bounds of a chain went over the list after s
-pub record RangesLaid (s : Laid) (r : Ranged) (out out′ : List ℕ) (c : Ranges) (most : ℕ) : Type 0 where
+pub record RangesLaid (s : Laid) (r : PowerBounds) (out out′ : List ℕ) (c : Ranges) (most : ℕ) : Type 0 where
   pub went : Went s (r .laid) out out′ (boundParts (c .auxiliaries))
   pub range : (r .lower to r .upper) ≡ c .range
   pub lower-near : Small.Near (r .lower)

@@ -10,11 +10,11 @@ use Rattle.rules.specs.Parts.{endProducts}
 use Rattle.rules.specs.Power.{byHalves}
 
 -- the first number past the range
-abbrev pub past : ℤ
-past = pos Limit.half
+abbrev pub pastRange : ℤ
+pastRange = pos Limit.half
 
 abbrev pub cutBounds : Bounds → Bounds
-cutBounds B = cut past (B .lower) to cut past (B .upper)
+cutBounds B = cut pastRange (B .lower) to cut pastRange (B .upper)
 
 -- the bounds of the products so far, and those of the power
 pub record Ranges : Type 0 where

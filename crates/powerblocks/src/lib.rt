@@ -5,7 +5,8 @@ ghost use Rattle.words.specs.Small as Small;
 ghost use Rattle.models.specs.Builtin.{int-pow};
 ghost use Rattle.rules.specs.Rule.{rule};
 ghost use Rattle.laying.specs.Part.{blockParts};
-ghost use Rattle.laying.specs.Went.{WentFitting, Near, total};
+ghost use Rattle.laying.specs.Went.{WentFitting, Near};
+ghost use Rattle.laying.specs.Room.{Room, BlockRoom};
 ghost use Rattle.extremes.specs.Bounded.{boundsOf, Bounded};
 ghost use Rattle.powerblocks.specs.Cut.{cutRanges};
 ghost use Rattle.powerblocks.specs.Chained.{NextRange, RangesLaid, NextProduct, PowerLaid};
@@ -22,7 +23,7 @@ use words::kind;
 const PAST: i64 = 134217728;
 
 // What was laid with the bounds of some products, and the bounds of the power, cut.
-pub struct Ranged {
+pub struct PowerBounds {
     pub laid: Laid,
     pub lower: i64,
     pub upper: i64,
@@ -36,13 +37,13 @@ pub struct Multiplied {
 }
 
 // The bounds of one more product: of a factor within bounds and the power.
-fn next_range(out: &mut [u32], p: Ranged, lower: i64, upper: i64) -> Ranged
-    requires { ⌜ (total (p .laid) < 900000000000) × Small.Near (p .lower) × Small.Near (p .upper) × Small.Near lower × Small.Near upper ⌝ }
+fn next_range(out: &mut [u32], p: PowerBounds, lower: i64, upper: i64) -> PowerBounds
+    requires { ⌜ Room 10 (p .laid) × Small.Near (p .lower) × Small.Near (p .upper) × Small.Near lower × Small.Near upper ⌝ }
     ensures { λ r. ⌜ NextRange p r (now (out .entry)) (now (out .exit)) (lower to upper) ⌝ }
 {
     let l = cut_to(PAST, product_end(lower, upper, p.lower, p.upper, false));
     let u = cut_to(PAST, product_end(lower, upper, p.lower, p.upper, true));
-    Ranged {
+    PowerBounds {
         laid: lay_bound(out, p.laid, l, u),
         lower: l,
         upper: u,
@@ -50,12 +51,12 @@ fn next_range(out: &mut [u32], p: Ranged, lower: i64, upper: i64) -> Ranged
 }
 
 // The bounds of the products of a power from 1 on, of a variable within bounds.
-fn lay_ranges(out: &mut [u32], s: Laid, k: usize, lower: i64, upper: i64) -> Ranged
-    requires { ⌜ (total s < 800000000000) × (1 ≤ k) × (k ≤ 27) × Small.Near lower × Small.Near upper ⌝ }
+fn lay_ranges(out: &mut [u32], s: Laid, k: usize, lower: i64, upper: i64) -> PowerBounds
+    requires { ⌜ Room (20 * k) s × (1 ≤ k) × (k ≤ 27) × Small.Near lower × Small.Near upper ⌝ }
     ensures { λ r. ⌜ RangesLaid s r (now (out .entry)) (now (out .exit)) (cutRanges (lower to upper) k) (20 * k) ⌝ }
 {
     if k < 2 {
-        return Ranged {
+        return PowerBounds {
             laid: s,
             lower,
             upper,
@@ -71,7 +72,7 @@ fn lay_ranges(out: &mut [u32], s: Laid, k: usize, lower: i64, upper: i64) -> Ran
 
 // One more product: of a factor and the power.
 fn next_product(out: &mut [u32], p: Multiplied, factor: usize) -> Multiplied
-    requires { ⌜ (total (p .laid) < 900000000000) × (p .next < 1000000000) ⌝ }
+    requires { ⌜ Room 10 (p .laid) × (p .next < 1000000000) ⌝ }
     ensures { λ r. ⌜ NextProduct p r (now (out .entry)) (now (out .exit)) factor ⌝ }
 {
     let t = lay_times(out, p.laid, p.next, factor, p.held);
@@ -84,7 +85,7 @@ fn next_product(out: &mut [u32], p: Multiplied, factor: usize) -> Multiplied
 
 // The products of a power from 1 on of the variable x; their auxiliaries are numbered from `first` on.
 fn lay_products(out: &mut [u32], s: Laid, k: usize, x: usize, first: usize) -> Multiplied
-    requires { ⌜ (total s < 800000000000) × (1 ≤ k) × (k ≤ 27) × (first < 10000) ⌝ }
+    requires { ⌜ Room (20 * k) s × (1 ≤ k) × (k ≤ 27) × (first < 10000) ⌝ }
     ensures { λ r. ⌜ PowerLaid first s r (now (out .entry)) (now (out .exit)) x k (20 * k) ⌝ }
 {
     if k < 2 {
@@ -113,8 +114,8 @@ pub fn int_pow(
     us: &[i64],
     first: usize,
 ) -> Laid
-    requires { ⌜ (total s < 1000000000) × (first < 10000) × (k ≤ 27) × Bounded (now ls) × Bounded (now us) ⌝ }
-    ensures { λ r. ⌜ WentFitting s r (now (out .entry)) (now (out .exit)) (blockParts first (rule (boundsOf (now (ls .entry)) (now (us .entry))) (int-pow x k z))) × Near 30000 s r ⌝ }
+    requires { ⌜ BlockRoom s × (first < 10000) × (k ≤ 27) × Bounded (now ls) × Bounded (now us) ⌝ }
+    ensures { λ r. let β = boundsOf (now (ls .entry)) (now (us .entry)) in ⌜ WentFitting s r (now (out .entry)) (now (out .exit)) (blockParts first (rule β (int-pow x k z))) × Near 30000 s r ⌝ }
 {
     if k == 0 {
         let xs = [z];

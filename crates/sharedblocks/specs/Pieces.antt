@@ -11,10 +11,11 @@ use Rattle.integers.specs.declared.Bounds.{Bounds}
 use Rattle.models.specs.Meaning.{member}
 use Rattle.models.specs.Model.{var, vars, nums, past}
 use Rattle.rules.specs.Parts.{Z, one, nth, chosen}
-use Rattle.rules.specs.Shared.{keep, Encoded, firstOf, valueBit, newBits, bitProducts, keptSum}
-use Rattle.laying.specs.Part.{Part, boundParts, rowParts}
+use Rattle.rules.specs.Shared.{keep, Encoded, firstOf, valueBit, newBits, newRows, leftOut, sharedRule, bitProducts, keptSum}
+use Rattle.laying.specs.Part.{Part, boundParts, rowParts, blockParts}
 use Rattle.extremes.specs.Bounded.{boundsOf, Bounded}
-use Rattle.encodings.specs.Uses.{Recorded}
+use Rattle.encodings.specs.Uses.{choiceOf, Recorded}
+use Rattle.sharedblocks.specs.LeftOut.{keeps}
 
 -- the number of x's first bit: the block's own bits are numbered from `first` on
 abbrev pub bitsFrom : Encoded → ℕ → ℕ → ℕ
@@ -28,13 +29,27 @@ placeBit e first x l = bitsFrom e first x + count (maxZ +1 l ⊖ l)
 abbrev pub Encodable : List ℤ → List ℤ → Encoded → ℕ → List ℕ → Type 0
 Encodable ls us e first args = (first < 10000) × Bounded ls × Bounded us × (width (boundsOf ls us (var args 0)) ≤ 64) × Recorded e
 
+-- given the bounds of the variables and the record of encoded ones: the new bits, their rows, the row of the bits left out, the whole block
+module _ (ls us : List ℤ) (e : Encoded) where
+  abbrev pub newBitParts : List ℕ → List Part
+  newBitParts args = boundParts (newBits (boundsOf ls us) e (var args 0))
+
+  abbrev pub newRowParts : ℕ → List ℕ → List Part
+  newRowParts first args = flatMap (rowParts first) (newRows (boundsOf ls us) e (var args 0))
+
+  abbrev pub leftOutParts : ℕ → ℕ → List ℕ → List Part
+  leftOutParts first code args = flatMap (rowParts first) (leftOut (boundsOf ls us) e (keeps code args) (var args 0))
+
+  abbrev pub sharedParts : ℕ → ℕ → List ℕ → List Part
+  sharedParts first code args = blockParts first (sharedRule (boundsOf ls us) e (choiceOf code args))
+
 module _ (β : ℕ → Bounds) (args : List ℕ) where
   -- 25: the places that its i can have, and the bounds of their z
-  abbrev pub kept : List ℤ
-  kept = keep (within (+1 to pos (length (vars args 1)))) (values (β (var args 0)))
+  abbrev pub keptPlaces : List ℤ
+  keptPlaces = keep (within (+1 to pos (length (vars args 1)))) (values (β (var args 0)))
 
   unfoldable pub keptZeros : List Part
-  keptZeros = boundParts (map (λ j. Z (β (nth 0 (vars args 1) j))) kept)
+  keptZeros = boundParts (map (λ j. Z (β (nth 0 (vars args 1) j))) keptPlaces)
 
   module _ (e : Encoded) (first : ℕ) where
     -- 24: the row of the numbers
@@ -45,7 +60,7 @@ module _ (β : ℕ → Bounds) (args : List ℕ) where
     unfoldable pub productRows : List Part
     productRows =
         let n = length (newBits β e (var args 0)) in
-        flatMap (rowParts first) (bitProducts (nth 0 (vars args 1)) (valueBit β e (var args 0)) kept n ++ (chosen one kept n (var args (past args 1)) ∷ []))
+        flatMap (rowParts first) (bitProducts (nth 0 (vars args 1)) (valueBit β e (var args 0)) keptPlaces n ++ (chosen one keptPlaces n (var args (past args 1)) ∷ []))
 
     -- 28: the row of the members
     unfoldable pub membersRow : List Part

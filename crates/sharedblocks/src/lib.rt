@@ -1,18 +1,16 @@
 // The blocks of codes 24, 25, 27 and 28 over a shared variable: its bits are the block's own or an earlier block's.
 ghost use mathlib.Core.Path.{_≡_};
-ghost use mathlib.Core.List.{flatMap};
 ghost use Prim.Native.Nat.{_+_, _<_, _≤_};
 ghost use lib.ListN.{length, getD};
 ghost use Rattle.integers.specs.Number.{+0};
 ghost use Rattle.integers.specs.Bounds.{width};
 ghost use Rattle.models.specs.Model.{var};
-ghost use Rattle.rules.specs.Shared.{newBits, newRows, leftOut, sharedRule};
-ghost use Rattle.laying.specs.Part.{boundParts, rowParts, blockParts};
-ghost use Rattle.laying.specs.Went.{Went, Near, total};
+ghost use Rattle.rules.specs.Shared.{newBits};
+ghost use Rattle.laying.specs.Went.{Went, Near};
+ghost use Rattle.laying.specs.Room.{Room, BlockRoom};
 ghost use Rattle.extremes.specs.Bounded.{boundsOf, Bounded};
-ghost use Rattle.encodings.specs.Uses.{choiceOf, Recorded};
-ghost use Rattle.sharedblocks.specs.LeftOut.{keeps};
-ghost use Rattle.sharedblocks.specs.Pieces.{bitsFrom, placeBit, Encodable, keptZeros, numbersRow, productRows, membersRow};
+ghost use Rattle.encodings.specs.Uses.{Recorded};
+ghost use Rattle.sharedblocks.specs.Pieces.{bitsFrom, placeBit, Encodable, newBitParts, newRowParts, leftOutParts, sharedParts, keptZeros, numbersRow, productRows, membersRow};
 use crate::left_out::lay_left_row;
 use arguments::count_of;
 use arguments::past_at;
@@ -76,8 +74,8 @@ fn lay_new_bits(
     us: &[i64],
     encoded: &[usize],
 ) -> Laid
-    requires { ⌜ (total s < 800000000000) × Bounded (now ls) × Bounded (now us) × (width (boundsOf (now ls) (now us) (var (now args) 0)) ≤ 64) ⌝ }
-    ensures { λ r. ⌜ Went s r (now (out .entry)) (now (out .exit)) (boundParts (newBits (boundsOf (now (ls .entry)) (now (us .entry))) (now (encoded .entry)) (var (now (args .entry)) 0))) × Near 2000 s r ⌝ }
+    requires { ⌜ Room 2000 s × Bounded (now ls) × Bounded (now us) × (width (boundsOf (now ls) (now us) (var (now args) 0)) ≤ 64) ⌝ }
+    ensures { λ r. ⌜ Went s r (now (out .entry)) (now (out .exit)) (newBitParts (now (ls .entry)) (now (us .entry)) (now (encoded .entry)) (now (args .entry))) × Near 2000 s r ⌝ }
 {
     lay_bits(out, s, new_bits(args, ls, us, encoded))
 }
@@ -92,8 +90,8 @@ fn lay_new_rows(
     encoded: &[usize],
     first: usize,
 ) -> Laid
-    requires { ⌜ (total s < 600000000000) × Encodable (now ls) (now us) (now encoded) first (now args) ⌝ }
-    ensures { λ r. ⌜ Went s r (now (out .entry)) (now (out .exit)) (flatMap (rowParts first) (newRows (boundsOf (now (ls .entry)) (now (us .entry))) (now (encoded .entry)) (var (now (args .entry)) 0))) × Near 5000 s r ⌝ }
+    requires { ⌜ Room 5000 s × Encodable (now ls) (now us) (now encoded) first (now args) ⌝ }
+    ensures { λ r. ⌜ Went s r (now (out .entry)) (now (out .exit)) (newRowParts (now (ls .entry)) (now (us .entry)) (now (encoded .entry)) first (now (args .entry))) × Near 5000 s r ⌝ }
 {
     let x = var_at(args, 0);
     if entry_of(encoded, x) == 0 {
@@ -120,8 +118,8 @@ fn lay_left_out(
     encoded: &[usize],
     first: usize,
 ) -> Laid
-    requires { ⌜ (total s < 600000000000) × Encodable (now ls) (now us) (now encoded) first (now args) ⌝ }
-    ensures { λ r. ⌜ Went s r (now (out .entry)) (now (out .exit)) (flatMap (rowParts first) (leftOut (boundsOf (now (ls .entry)) (now (us .entry))) (now (encoded .entry)) (keeps code (now (args .entry))) (var (now (args .entry)) 0))) × Near 5000 s r ⌝ }
+    requires { ⌜ Room 5000 s × Encodable (now ls) (now us) (now encoded) first (now args) ⌝ }
+    ensures { λ r. ⌜ Went s r (now (out .entry)) (now (out .exit)) (leftOutParts (now (ls .entry)) (now (us .entry)) (now (encoded .entry)) first code (now (args .entry))) × Near 5000 s r ⌝ }
 {
     lay_left_row(
         out,
@@ -144,7 +142,7 @@ fn lay_numbers_row(
     encoded: &[usize],
     first: usize,
 ) -> Laid
-    requires { ⌜ (total s < 600000000000) × Encodable (now ls) (now us) (now encoded) first (now args) ⌝ }
+    requires { ⌜ Room 5000 s × Encodable (now ls) (now us) (now encoded) first (now args) ⌝ }
     ensures { λ r. ⌜ Went s r (now (out .entry)) (now (out .exit)) (numbersRow (boundsOf (now (ls .entry)) (now (us .entry))) (now (args .entry)) (now (encoded .entry)) first) × Near 5000 s r ⌝ }
 {
     let n = labels(args, ls, us);
@@ -155,7 +153,7 @@ fn lay_numbers_row(
 
 // The bounds of the products: array_var_int_element.
 fn lay_kept_zeros(out: &mut [u32], s: Laid, args: &[u32], ls: &[i64], us: &[i64]) -> Laid
-    requires { ⌜ (total s < 600000000000) × Bounded (now ls) × Bounded (now us) ⌝ }
+    requires { ⌜ Room 5000 s × Bounded (now ls) × Bounded (now us) ⌝ }
     ensures { λ r. ⌜ Went s r (now (out .entry)) (now (out .exit)) (keptZeros (boundsOf (now (ls .entry)) (now (us .entry))) (now (args .entry))) × Near 5000 s r ⌝ }
 {
     let n = labels(args, ls, us);
@@ -172,7 +170,7 @@ fn lay_product_rows(
     encoded: &[usize],
     first: usize,
 ) -> Laid
-    requires { ⌜ (total s < 600000000000) × Encodable (now ls) (now us) (now encoded) first (now args) ⌝ }
+    requires { ⌜ Room 5000 s × Encodable (now ls) (now us) (now encoded) first (now args) ⌝ }
     ensures { λ r. ⌜ Went s r (now (out .entry)) (now (out .exit)) (productRows (boundsOf (now (ls .entry)) (now (us .entry))) (now (args .entry)) (now (encoded .entry)) first) × Near 5000 s r ⌝ }
 {
     let n = labels(args, ls, us);
@@ -193,7 +191,7 @@ fn lay_members_row(
     encoded: &[usize],
     first: usize,
 ) -> Laid
-    requires { ⌜ (total s < 600000000000) × Encodable (now ls) (now us) (now encoded) first (now args) ⌝ }
+    requires { ⌜ Room 5000 s × Encodable (now ls) (now us) (now encoded) first (now args) ⌝ }
     ensures { λ r. ⌜ Went s r (now (out .entry)) (now (out .exit)) (membersRow (boundsOf (now (ls .entry)) (now (us .entry))) (now (args .entry)) (now (encoded .entry)) first) × Near 5000 s r ⌝ }
 {
     let lower = lower_label(args, ls);
@@ -213,8 +211,8 @@ pub fn shared_element(
     encoded: &[usize],
     first: usize,
 ) -> Laid
-    requires { ⌜ (total s < 1000000000) × Encodable (now ls) (now us) (now encoded) first (now args) ⌝ }
-    ensures { λ r. ⌜ Went s r (now (out .entry)) (now (out .exit)) (blockParts first (sharedRule (boundsOf (now (ls .entry)) (now (us .entry))) (now (encoded .entry)) (choiceOf 24 (now (args .entry))))) × Near 1000000 s r ⌝ }
+    requires { ⌜ BlockRoom s × Encodable (now ls) (now us) (now encoded) first (now args) ⌝ }
+    ensures { λ r. ⌜ Went s r (now (out .entry)) (now (out .exit)) (sharedParts (now (ls .entry)) (now (us .entry)) (now (encoded .entry)) first 24 (now (args .entry))) × Near 1000000 s r ⌝ }
 {
     let t = lay_new_bits(out, s, args, ls, us, encoded);
     let u = lay_new_rows(out, t, args, ls, us, encoded, first);
@@ -232,8 +230,8 @@ pub fn shared_var_element(
     encoded: &[usize],
     first: usize,
 ) -> Laid
-    requires { ⌜ (total s < 1000000000) × Encodable (now ls) (now us) (now encoded) first (now args) ⌝ }
-    ensures { λ r. ⌜ Went s r (now (out .entry)) (now (out .exit)) (blockParts first (sharedRule (boundsOf (now (ls .entry)) (now (us .entry))) (now (encoded .entry)) (choiceOf 25 (now (args .entry))))) × Near 1000000 s r ⌝ }
+    requires { ⌜ BlockRoom s × Encodable (now ls) (now us) (now encoded) first (now args) ⌝ }
+    ensures { λ r. ⌜ Went s r (now (out .entry)) (now (out .exit)) (sharedParts (now (ls .entry)) (now (us .entry)) (now (encoded .entry)) first 25 (now (args .entry))) × Near 1000000 s r ⌝ }
 {
     let t = lay_new_bits(out, s, args, ls, us, encoded);
     let z = lay_kept_zeros(out, t, args, ls, us);
@@ -252,8 +250,8 @@ pub fn shared_set_in(
     encoded: &[usize],
     first: usize,
 ) -> Laid
-    requires { ⌜ (total s < 1000000000) × Encodable (now ls) (now us) (now encoded) first (now args) ⌝ }
-    ensures { λ r. ⌜ Went s r (now (out .entry)) (now (out .exit)) (blockParts first (sharedRule (boundsOf (now (ls .entry)) (now (us .entry))) (now (encoded .entry)) (choiceOf 27 (now (args .entry))))) × Near 1000000 s r ⌝ }
+    requires { ⌜ BlockRoom s × Encodable (now ls) (now us) (now encoded) first (now args) ⌝ }
+    ensures { λ r. ⌜ Went s r (now (out .entry)) (now (out .exit)) (sharedParts (now (ls .entry)) (now (us .entry)) (now (encoded .entry)) first 27 (now (args .entry))) × Near 1000000 s r ⌝ }
 {
     let t = lay_new_bits(out, s, args, ls, us, encoded);
     let u = lay_new_rows(out, t, args, ls, us, encoded, first);
@@ -270,8 +268,8 @@ pub fn shared_set_in_reif(
     encoded: &[usize],
     first: usize,
 ) -> Laid
-    requires { ⌜ (total s < 1000000000) × Encodable (now ls) (now us) (now encoded) first (now args) ⌝ }
-    ensures { λ r. ⌜ Went s r (now (out .entry)) (now (out .exit)) (blockParts first (sharedRule (boundsOf (now (ls .entry)) (now (us .entry))) (now (encoded .entry)) (choiceOf 28 (now (args .entry))))) × Near 1000000 s r ⌝ }
+    requires { ⌜ BlockRoom s × Encodable (now ls) (now us) (now encoded) first (now args) ⌝ }
+    ensures { λ r. ⌜ Went s r (now (out .entry)) (now (out .exit)) (sharedParts (now (ls .entry)) (now (us .entry)) (now (encoded .entry)) first 28 (now (args .entry))) × Near 1000000 s r ⌝ }
 {
     let t = lay_new_bits(out, s, args, ls, us, encoded);
     let u = lay_new_rows(out, t, args, ls, us, encoded, first);

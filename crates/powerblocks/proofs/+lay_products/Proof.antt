@@ -24,101 +24,30 @@ lay-products-at t = and 1 lay-products-kinds.ps (is 1 lay-products-kinds.ps μ-l
 abbrev lay-products-below : ℕ → In 1 lay-products-kinds.ps
 lay-products-below t = and 1 lay-products-kinds.ps (falls 1 lay-products-kinds.ps _<_ μ-lay-products t) lay-products.Pre
 
-lay-products-returns : (t : ℕ) → lay-products-lts.Need-returns (
-  lay-products-below t,
-  lay-products.Post,
-  next-product-reads.Asked,
-  next-product-reads.Learnt,
-) (lay-products-at t) lay-products.Post
-lay-products-returns t c B =
+pub +lay-products-spec : {M : Type 1} → statement M
++lay-products-spec = close μ-lay-products λ t. lay-products-lts.spec (lay-products-below t, lay-products.Post, next-product-reads.Asked, next-product-reads.Learnt)
+    (lay-products-at t)
+    lay-products.Post
+    (λ c B.
     let s = c .before .before in
-    products-one (s .args .first) (s .args .s) (s .args .out .now) (s .args .x) (s .args .k) (c .if1 .taken) B
-
-lay-products-lay-products-requires : (t : ℕ) → lay-products-lts.Need-lay-products-requires (
-  lay-products-below t,
-  lay-products.Post,
-  next-product-reads.Asked,
-  next-product-reads.Learnt,
-) (lay-products-at t) lay-products.Post
-lay-products-lay-products-requires t c κs =
+    products-one (s .args .first) (s .args .s) (s .args .out .now) (s .args .x) (s .args .k) (c .if1 .taken) B)
+    (λ c κs.
     let s = c .before .before .before in
-    (omega (arith, s .pre .0, c .before .if1 .left), (s .pre .1 .0, omega (arith, c .before .if1 .left), omega (arith, s .pre .1 .2), s .pre .1 .3))
-
-lay-products-next-product-requires : (t : ℕ) → lay-products-lts.Need-next-product-requires (
-  lay-products-below t,
-  lay-products.Post,
-  next-product-reads.Asked,
-  next-product-reads.Learnt,
-) (lay-products-at t) lay-products.Post
-lay-products-next-product-requires t c κs =
+    (omega (arith, s .pre .0, c .before .if1 .left), (omega (arith, s .pre .1 .0), omega (arith, c .before .if1 .left), omega (arith, s .pre .1 .2), s .pre .1 .3)))
+    (λ c κs.
     let s = c .before .before .before .before .before .before .before in
     let h = c .before .before .before .lay-products .ensures bit in
-    (omega (arith, s .pre .1 .0, s .pre .1 .2, h .near), omega (arith, s .pre .1 .2, s .pre .1 .3, h .few))
-
-lay-products-same-length : (t : ℕ) → lay-products-lts.Need-same-length (
-  lay-products-below t,
-  lay-products.Post,
-  next-product-reads.Asked,
-  next-product-reads.Learnt,
-) (lay-products-at t) lay-products.Post
-lay-products-same-length t c =
-    went-length (c .before .before .before .next-product .ensures .went) ∙ went-length (c .before .before .before .before .before .before .before .lay-products .ensures bit .went)
-
-lay-products-returns-2 : (t : ℕ) → lay-products-lts.Need-returns-2 (
-  lay-products-below t,
-  lay-products.Post,
-  next-product-reads.Asked,
-  next-product-reads.Learnt,
-) (lay-products-at t) lay-products.Post
-lay-products-returns-2 t c B =
+    (omega (arith, s .pre .1 .0, s .pre .1 .2, h .near), omega (arith, s .pre .1 .2, s .pre .1 .3, h .few)))
+    (λ c. went-length (c .before .before .before .next-product .ensures .went) ∙ went-length (c .before .before .before .before .before .before .before .lay-products .ensures bit .went))
+    (λ c B.
     let s = c .before .before .before .before .before .before .before .before .before .before .before in
-    products-even (s .args .x) (s .args .k) (c .before .before .before .before .before .before .before .before .before .if1 .left) B (c .before .before .before .before .before .before .before .lay-products .ensures B) (c .before .before .before .next-product .ensures) (c .if2 .taken)
-
-lay-products-next-product-requires-2 : (t : ℕ) → lay-products-lts.Need-next-product-requires-2 (
-  lay-products-below t,
-  lay-products.Post,
-  next-product-reads.Asked,
-  next-product-reads.Learnt,
-) (lay-products-at t) lay-products.Post
-lay-products-next-product-requires-2 t c κs =
+    products-even (s .args .x) (s .args .k) (c .before .before .before .before .before .before .before .before .before .if1 .left) B (c .before .before .before .before .before .before .before .lay-products .ensures B) (c .before .before .before .next-product .ensures) (c .if2 .taken))
+    (λ c κs.
     let s = c .before .before .before .before .before .before .before .before .before .before .before .before in
     let h = c .before .before .before .before .before .before .before .before .lay-products .ensures bit in
     let n = c .before .before .before .before .next-product .ensures in
-    (omega (arith, s .pre .1 .0, s .pre .1 .2, h .near, n .near), omega (arith, s .pre .1 .2, s .pre .1 .3, h .few, n .next))
-
-lay-products-same-length-2 : (t : ℕ) → lay-products-lts.Need-same-length-2 (
-  lay-products-below t,
-  lay-products.Post,
-  next-product-reads.Asked,
-  next-product-reads.Learnt,
-) (lay-products-at t) lay-products.Post
-lay-products-same-length-2 t c =
-    went-length (c .before .before .next-product2 .ensures .went) ∙ went-length (c .before .before .before .before .before .before .before .next-product .ensures .went) ∙ went-length (c .before .before .before .before .before .before .before .before .before .before .before .lay-products .ensures bit .went)
-
-lay-products-returns-3 : (t : ℕ) → lay-products-lts.Need-returns-3 (
-  lay-products-below t,
-  lay-products.Post,
-  next-product-reads.Asked,
-  next-product-reads.Learnt,
-) (lay-products-at t) lay-products.Post
-lay-products-returns-3 t c B =
+    (omega (arith, s .pre .1 .0, s .pre .1 .2, h .near, n .near), omega (arith, s .pre .1 .2, s .pre .1 .3, h .few, n .next)))
+    (λ c. went-length (c .before .before .next-product2 .ensures .went) ∙ went-length (c .before .before .before .before .before .before .before .next-product .ensures .went) ∙ went-length (c .before .before .before .before .before .before .before .before .before .before .before .lay-products .ensures bit .went))
+    (λ c B.
     let s = c .before .before .before .before .before .before .before .before .before .before .before .before .before .before .before in
-    products-odd (s .args .x) (s .args .k) (c .before .before .before .before .before .before .before .before .before .before .before .before .before .if1 .left) B (c .before .before .before .before .before .before .before .before .before .before .before .lay-products .ensures B) (c .before .before .before .before .before .before .before .next-product .ensures) (c .before .before .before .before .if2 .left) (c .before .before .next-product2 .ensures)
-
-pub +lay-products-spec : {M : Type 1} → statement M
-+lay-products-spec = close μ-lay-products λ t. lay-products-lts.spec (
-  lay-products-below t,
-  lay-products.Post,
-  next-product-reads.Asked,
-  next-product-reads.Learnt,
-)
-    (lay-products-at t)
-    lay-products.Post
-    (lay-products-returns t)
-    (lay-products-lay-products-requires t)
-    (lay-products-next-product-requires t)
-    (lay-products-same-length t)
-    (lay-products-returns-2 t)
-    (lay-products-next-product-requires-2 t)
-    (lay-products-same-length-2 t)
-    (lay-products-returns-3 t)
+    products-odd (s .args .x) (s .args .k) (c .before .before .before .before .before .before .before .before .before .before .before .before .before .if1 .left) B (c .before .before .before .before .before .before .before .before .before .before .before .lay-products .ensures B) (c .before .before .before .before .before .before .before .next-product .ensures) (c .before .before .before .before .if2 .left) (c .before .before .next-product2 .ensures))

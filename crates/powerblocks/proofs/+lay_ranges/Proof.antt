@@ -26,106 +26,35 @@ lay-ranges-at t = and 1 lay-ranges-kinds.ps (is 1 lay-ranges-kinds.ps μ-lay-ran
 abbrev lay-ranges-below : ℕ → In 1 lay-ranges-kinds.ps
 lay-ranges-below t = and 1 lay-ranges-kinds.ps (falls 1 lay-ranges-kinds.ps _<_ μ-lay-ranges t) lay-ranges.Pre
 
-lay-ranges-returns : (t : ℕ) → lay-ranges-lts.Need-returns (
-  lay-ranges-below t,
-  lay-ranges.Post,
-  next-range-reads.Asked,
-  next-range-reads.Learnt,
-) (lay-ranges-at t) lay-ranges.Post
-lay-ranges-returns t c =
+pub +lay-ranges-spec : {M : Type 1} → statement M
++lay-ranges-spec = close μ-lay-ranges λ t. lay-ranges-lts.spec (lay-ranges-below t, lay-ranges.Post, next-range-reads.Asked, next-range-reads.Learnt)
+    (lay-ranges-at t)
+    lay-ranges.Post
+    (λ c.
     let s = c .before .before in
-    rw (toZ-ofZ (s .fits .lower), toZ-ofZ (s .fits .upper)) (ranges-one (s .args .s) (s .args .out .now) (s .args .lower) (s .args .upper) (s .args .k) (c .if1 .taken) (s .pre .1 .3) (s .pre .1 .4))
-
-lay-ranges-lay-ranges-requires : (t : ℕ) → lay-ranges-lts.Need-lay-ranges-requires (
-  lay-ranges-below t,
-  lay-ranges.Post,
-  next-range-reads.Asked,
-  next-range-reads.Learnt,
-) (lay-ranges-at t) lay-ranges.Post
-lay-ranges-lay-ranges-requires t c κs =
+    rw (toZ-ofZ (s .fits .lower), toZ-ofZ (s .fits .upper)) (ranges-one (s .args .s) (s .args .out .now) (s .args .lower) (s .args .upper) (s .args .k) (c .if1 .taken) (s .pre .1 .3) (s .pre .1 .4)))
+    (λ c κs.
     let s = c .before .before .before in
-    (omega (arith, s .pre .0, c .before .if1 .left), rw (toZ-ofZ (s .fits .lower), toZ-ofZ (s .fits .upper)) (s .pre .1 .0, omega (arith, c .before .if1 .left), omega (arith, s .pre .1 .2), s .pre .1 .3, s .pre .1 .4))
-
-lay-ranges-next-range-requires : (t : ℕ) → lay-ranges-lts.Need-next-range-requires (
-  lay-ranges-below t,
-  lay-ranges.Post,
-  next-range-reads.Asked,
-  next-range-reads.Learnt,
-) (lay-ranges-at t) lay-ranges.Post
-lay-ranges-next-range-requires t c κs =
+    (omega (arith, s .pre .0, c .before .if1 .left), rw (toZ-ofZ (s .fits .lower), toZ-ofZ (s .fits .upper)) (omega (arith, s .pre .1 .0), omega (arith, c .before .if1 .left), omega (arith, s .pre .1 .2), s .pre .1 .3, s .pre .1 .4)))
+    (λ c κs.
     let s = c .before .before .before .before .before .before .before .before .before in
     let h = c .before .before .before .before .before .lay-ranges .ensures in
-    rw (near-back _ (h .lower-near), near-back _ (h .upper-near)) (omega (arith, s .pre .1 .0, s .pre .1 .2, h .near), h .lower-near, h .upper-near, h .lower-near, h .upper-near)
-
-lay-ranges-same-length : (t : ℕ) → lay-ranges-lts.Need-same-length (
-  lay-ranges-below t,
-  lay-ranges.Post,
-  next-range-reads.Asked,
-  next-range-reads.Learnt,
-) (lay-ranges-at t) lay-ranges.Post
-lay-ranges-same-length t c =
-    went-length (c .before .before .before .next-range .ensures .went) ∙ went-length (c .before .before .before .before .before .before .before .before .before .lay-ranges .ensures .went)
-
-lay-ranges-returns-2 : (t : ℕ) → lay-ranges-lts.Need-returns-2 (
-  lay-ranges-below t,
-  lay-ranges.Post,
-  next-range-reads.Asked,
-  next-range-reads.Learnt,
-) (lay-ranges-at t) lay-ranges.Post
-lay-ranges-returns-2 t c =
+    rw (near-back _ (h .lower-near), near-back _ (h .upper-near)) (omega (arith, s .pre .1 .0, s .pre .1 .2, h .near), h .lower-near, h .upper-near, h .lower-near, h .upper-near))
+    (λ c. went-length (c .before .before .before .next-range .ensures .went) ∙ went-length (c .before .before .before .before .before .before .before .before .before .lay-ranges .ensures .went))
+    (λ c.
     let s = c .before .before .before .before .before .before .before .before .before .before .before .before .before in
     let h = rw (toZ-ofZ (s .fits .lower), toZ-ofZ (s .fits .upper)) at (c .before .before .before .before .before .before .before .before .before .lay-ranges .ensures) in
     let n = rw (near-back _ (h .lower-near), near-back _ (h .upper-near)) at (c .before .before .before .next-range .ensures) in
-    ranges-even (s .args .lower to s .args .upper) (s .args .k) (c .before .before .before .before .before .before .before .before .before .before .before .if1 .left) h n (c .if2 .taken)
-
-lay-ranges-next-range-requires-2 : (t : ℕ) → lay-ranges-lts.Need-next-range-requires-2 (
-  lay-ranges-below t,
-  lay-ranges.Post,
-  next-range-reads.Asked,
-  next-range-reads.Learnt,
-) (lay-ranges-at t) lay-ranges.Post
-lay-ranges-next-range-requires-2 t c κs =
+    ranges-even (s .args .lower to s .args .upper) (s .args .k) (c .before .before .before .before .before .before .before .before .before .before .before .if1 .left) h n (c .if2 .taken))
+    (λ c κs.
     let s = c .before .before .before .before .before .before .before .before .before .before .before .before .before .before in
     let h = c .before .before .before .before .before .before .before .before .before .before .lay-ranges .ensures in
     let n = c .before .before .before .before .next-range .ensures in
-    rw (toZ-ofZ (s .fits .lower), toZ-ofZ (s .fits .upper)) (omega (arith, s .pre .1 .0, s .pre .1 .2, h .near, n .near), n .lower-near, n .upper-near, s .pre .1 .3, s .pre .1 .4)
-
-lay-ranges-same-length-2 : (t : ℕ) → lay-ranges-lts.Need-same-length-2 (
-  lay-ranges-below t,
-  lay-ranges.Post,
-  next-range-reads.Asked,
-  next-range-reads.Learnt,
-) (lay-ranges-at t) lay-ranges.Post
-lay-ranges-same-length-2 t c =
-    went-length (c .before .before .next-range2 .ensures .went) ∙ went-length (c .before .before .before .before .before .before .before .next-range .ensures .went) ∙ went-length (c .before .before .before .before .before .before .before .before .before .before .before .before .before .lay-ranges .ensures .went)
-
-lay-ranges-returns-3 : (t : ℕ) → lay-ranges-lts.Need-returns-3 (
-  lay-ranges-below t,
-  lay-ranges.Post,
-  next-range-reads.Asked,
-  next-range-reads.Learnt,
-) (lay-ranges-at t) lay-ranges.Post
-lay-ranges-returns-3 t c =
+    rw (toZ-ofZ (s .fits .lower), toZ-ofZ (s .fits .upper)) (omega (arith, s .pre .1 .0, s .pre .1 .2, h .near, n .near), n .lower-near, n .upper-near, s .pre .1 .3, s .pre .1 .4))
+    (λ c. went-length (c .before .before .next-range2 .ensures .went) ∙ went-length (c .before .before .before .before .before .before .before .next-range .ensures .went) ∙ went-length (c .before .before .before .before .before .before .before .before .before .before .before .before .before .lay-ranges .ensures .went))
+    (λ c.
     let s = c .before .before .before .before .before .before .before .before .before .before .before .before .before .before .before .before .before in
     let h = rw (toZ-ofZ (s .fits .lower), toZ-ofZ (s .fits .upper)) at (c .before .before .before .before .before .before .before .before .before .before .before .before .before .lay-ranges .ensures) in
     let m = rw (toZ-ofZ (s .fits .lower), toZ-ofZ (s .fits .upper)) at (c .before .before .next-range2 .ensures) in
     let n = rw (near-back _ (h .lower-near), near-back _ (h .upper-near)) at (c .before .before .before .before .before .before .before .next-range .ensures) in
-    ranges-odd (s .args .lower to s .args .upper) (s .args .k) (c .before .before .before .before .before .before .before .before .before .before .before .before .before .before .before .if1 .left) h n (c .before .before .before .before .if2 .left) m
-
-pub +lay-ranges-spec : {M : Type 1} → statement M
-+lay-ranges-spec = close μ-lay-ranges λ t. lay-ranges-lts.spec (
-  lay-ranges-below t,
-  lay-ranges.Post,
-  next-range-reads.Asked,
-  next-range-reads.Learnt,
-)
-    (lay-ranges-at t)
-    lay-ranges.Post
-    (lay-ranges-returns t)
-    (lay-ranges-lay-ranges-requires t)
-    (lay-ranges-next-range-requires t)
-    (lay-ranges-same-length t)
-    (lay-ranges-returns-2 t)
-    (lay-ranges-next-range-requires-2 t)
-    (lay-ranges-same-length-2 t)
-    (lay-ranges-returns-3 t)
+    ranges-odd (s .args .lower to s .args .upper) (s .args .k) (c .before .before .before .before .before .before .before .before .before .before .before .before .before .before .before .if1 .left) h n (c .before .before .before .before .if2 .left) m)

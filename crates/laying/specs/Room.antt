@@ -1,0 +1,12 @@
+-- Room for what is laid next: no count of words, auxiliaries and rows comes near 2^64.
+use Prim.Native.Nat.{ℕ, _+_, _<_}
+use Rattle.laying.specs.Went.{total}
+use Rattle.laying.specs.declared.Laid.{Laid}
+
+-- for n more words, auxiliaries and rows; a writer that asks for it says that it adds at most n (`Near n`)
+abbrev pub Room : ℕ → Laid → Type 0
+Room n s = total s + n < 4294967296
+
+-- for a block, whatever its builtin
+abbrev pub BlockRoom : Laid → Type 0
+BlockRoom s = total s < 1000000000
