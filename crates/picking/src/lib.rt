@@ -67,6 +67,14 @@ fn put_if(out: &mut [i32], at: usize, test: bool, v: i64) -> usize
     put(out, at, 0)
 }
 
+// Writes 1 where the test is true, else 0.
+fn put_bit(out: &mut [i32], at: usize, test: bool) -> usize
+    requires { ⌜ Room 1 at ⌝ }
+    ensures { λ r. ⌜ Overlaid at r (now (out .entry)) (now (out .exit)) ((+1 if test else +0) ∷ []) ⌝ }
+{
+    put_if(out, at, test, 1)
+}
+
 // Writes n numbers: v at the h-th, counted from 0, and 0 at all others.
 fn put_only(out: &mut [i32], at: usize, n: usize, h: usize, v: i64) -> usize
     requires { ⌜ Room n at × Ranged (onlyAt n h v) ⌝ }
@@ -86,7 +94,7 @@ fn put_sign(out: &mut [i32], at: usize, x: i64) -> usize
     ensures { λ r. ⌜ Overlaid at r (now (out .entry)) (now (out .exit)) (signPick x) ⌝ }
 {
     let negative = below(x, 0);
-    let next = put_if(out, at, negative, 1);
+    let next = put_bit(out, at, negative);
     put_if(out, next, negative, x)
 }
 
@@ -170,7 +178,7 @@ fn pick_ne(out: &mut [i32], at: usize, args: &[u32], values: &[i32]) -> usize
     ensures { λ r. ⌜ Overlaid at r (now (out .entry)) (now (out .exit)) (plainPicks (now (values .entry)) 4 (now (args .entry))) ⌝ }
 {
     let above = below(value_of(args, 1, values), value_of(args, 0, values));
-    put_if(out, at, above, 1)
+    put_bit(out, at, above)
 }
 
 // 7: the product of a and b.
@@ -195,7 +203,7 @@ fn pick_max(out: &mut [i32], at: usize, args: &[u32], values: &[i32]) -> usize
     ensures { λ r. ⌜ Overlaid at r (now (out .entry)) (now (out .exit)) (plainPicks (now (values .entry)) 9 (now (args .entry))) ⌝ }
 {
     let same = equal(value_of(args, 0, values), value_of(args, 2, values));
-    put_if(out, at, !same, 1)
+    put_bit(out, at, !same)
 }
 
 // 12, 13, 32: the sum less the constant, and its sign.
@@ -384,10 +392,10 @@ fn put_division(out: &mut [i32], at: usize, n: i64, d: i64, q: i64) -> usize
 {
     let alpha = at_most(0, n);
     let beta = below(0, d);
-    let second = put_if(out, at, alpha, 1);
-    let third = put_if(out, second, beta, 1);
+    let second = put_bit(out, at, alpha);
+    let third = put_bit(out, second, beta);
     let fourth = put(out, third, times(d, q));
-    put_if(out, fourth, both(alpha, beta), 1)
+    put_bit(out, fourth, both(alpha, beta))
 }
 
 // 37: the signs and the product of the division.

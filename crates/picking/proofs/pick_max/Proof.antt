@@ -1,16 +1,10 @@
 -- The bit of a test of two values.
-use mathlib.Core.Bool.{not}
 use borrow.Author.Needs.{needs}
 use Rattle.integers.proofs.Fits.{back}
 use Rattle.models.specs.Model.{builtin, builtins}
 use Rattle.rules.specs.Pick.{bitOf, pick}
-use Rattle.picking.proofs.Only.{bit-in}
 use Rattle.picking.proofs.pick_max.Statement.{statement}
 use Rattle.picking.proofs.pick_max.Tie as tie
-
-put-if-requires : tie.Need-put-if-requires
-unfolding pick builtin builtins
-put-if-requires c κs = (search needs, bit-in (not (c .before .equal .result)))
 
 returns : tie.Need-returns
 unfolding bitOf pick builtin builtins
@@ -18,7 +12,7 @@ returns c =
     let value-of = c .before .before .before .before .before .value-of in
     let value-of2 = c .before .before .before .before .value-of2 in
     let equal = c .before .before .before .equal in
-    rw (equal .ensures, back (value-of .result) (value-of .ok), value-of .ensures, back (value-of2 .result) (value-of2 .ok), value-of2 .ensures) at (c .before .put-if .ensures)
+    rw (equal .ensures, back (value-of .result) (value-of .ok), value-of .ensures, back (value-of2 .result) (value-of2 .ok), value-of2 .ensures) at (c .before .put-bit .ensures)
 
 pub pick-max-spec : {M : Type 1} → statement M
 pick-max-spec =
@@ -27,6 +21,6 @@ pick-max-spec =
     (λ c κs. search needs)
     (λ c κs. search needs)
     (λ c κs. search needs)
-    put-if-requires
+    (λ c κs. search needs)
     (λ c. search needs)
     returns)

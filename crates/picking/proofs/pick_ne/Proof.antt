@@ -3,13 +3,8 @@ use borrow.Author.Needs.{needs}
 use Rattle.integers.proofs.Fits.{back}
 use Rattle.models.specs.Model.{builtin, builtins}
 use Rattle.rules.specs.Pick.{bitOf, pick}
-use Rattle.picking.proofs.Only.{bit-in}
 use Rattle.picking.proofs.pick_ne.Statement.{statement}
 use Rattle.picking.proofs.pick_ne.Tie as tie
-
-put-if-requires : tie.Need-put-if-requires
-unfolding pick builtin builtins
-put-if-requires c κs = (search needs, bit-in (c .before .below .result))
 
 returns : tie.Need-returns
 unfolding bitOf pick builtin builtins
@@ -17,7 +12,7 @@ returns c =
     let value-of = c .before .before .before .before .before .value-of in
     let value-of2 = c .before .before .before .before .value-of2 in
     let below = c .before .before .before .below in
-    rw (below .ensures, back (value-of .result) (value-of .ok), value-of .ensures, back (value-of2 .result) (value-of2 .ok), value-of2 .ensures) at (c .before .put-if .ensures)
+    rw (below .ensures, back (value-of .result) (value-of .ok), value-of .ensures, back (value-of2 .result) (value-of2 .ok), value-of2 .ensures) at (c .before .put-bit .ensures)
 
 pub pick-ne-spec : {M : Type 1} → statement M
 pick-ne-spec =
@@ -26,6 +21,6 @@ pick-ne-spec =
     (λ c κs. search needs)
     (λ c κs. search needs)
     (λ c κs. search needs)
-    put-if-requires
+    (λ c κs. search needs)
     (λ c. search needs)
     returns)

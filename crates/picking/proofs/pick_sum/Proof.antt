@@ -6,13 +6,6 @@ use Rattle.rules.specs.Pick.{pick}
 use Rattle.picking.proofs.pick_sum.Statement.{statement}
 use Rattle.picking.proofs.pick_sum.Tie as tie
 
-put-requires : tie.Need-put-requires
-unfolding pick builtin builtins
-put-requires c κs = (search needs, rw (back (c .sum-less .result) (c .sum-less .ok), c .sum-less .ensures) (c .before .before .before .pre .ranged 0))
-
-returns : tie.Need-returns
-unfolding pick builtin builtins
-returns c = rw (back (c .before .before .sum-less .result) (c .before .before .sum-less .ok), c .before .before .sum-less .ensures) at (c .before .put .ensures)
-
 pub pick-sum-spec : {M : Type 1} → statement M
-pick-sum-spec = tie.close (tie.spec (λ c κs. search needs) put-requires (λ c. search needs) returns)
+unfolding pick builtin builtins
+pick-sum-spec = tie.close (tie.spec (λ c κs. search needs) (λ c κs. (search needs, rw (back (c .sum-less .result) (c .sum-less .ok), c .sum-less .ensures) (c .before .before .before .pre .ranged 0))) (λ c. search needs) (λ c. rw (back (c .before .before .sum-less .result) (c .before .before .sum-less .ok), c .before .before .sum-less .ensures) at (c .before .put .ensures)))

@@ -6,13 +6,6 @@ use Rattle.rules.specs.Pick.{pick}
 use Rattle.picking.proofs.pick_times.Statement.{statement}
 use Rattle.picking.proofs.pick_times.Tie as tie
 
-put-requires : tie.Need-put-requires
-unfolding pick builtin builtins
-put-requires c κs = (search needs, rw (back (c .values-product .result) (c .values-product .ok), c .values-product .ensures) (c .before .before .before .pre .ranged 0))
-
-returns : tie.Need-returns
-unfolding pick builtin builtins
-returns c = rw (back (c .before .before .values-product .result) (c .before .before .values-product .ok), c .before .before .values-product .ensures) at (c .before .put .ensures)
-
 pub pick-times-spec : {M : Type 1} → statement M
-pick-times-spec = tie.close (tie.spec (λ c κs. search needs) put-requires (λ c. search needs) returns)
+unfolding pick builtin builtins
+pick-times-spec = tie.close (tie.spec (λ c κs. search needs) (λ c κs. (search needs, rw (back (c .values-product .result) (c .values-product .ok), c .values-product .ensures) (c .before .before .before .pre .ranged 0))) (λ c. search needs) (λ c. rw (back (c .before .before .values-product .result) (c .before .before .values-product .ok), c .before .before .values-product .ensures) at (c .before .put .ensures)))

@@ -4,17 +4,13 @@ use mir.Facts.{toZ-ofZ}
 use borrow.Author.Needs.{needs}
 use Rattle.integers.proofs.Fits.{back, mul-le}
 use Rattle.rules.specs.Pick.{divisionPick}
-use Rattle.picking.proofs.Only.{bit-in}
 use Rattle.picking.proofs.Writing.{picked-then}
 use Rattle.picking.proofs.Division.{division-pick}
 use Rattle.picking.proofs.put_division.Statement.{statement}
 use Rattle.picking.proofs.put_division.Tie as tie
 
-put-if-requires : tie.Need-put-if-requires
-put-if-requires c κs = (search needs, bit-in (c .before .before .at-most .result))
-
-put-if-requires-2 : tie.Need-put-if-requires-2
-put-if-requires-2 c κs = (omega (arith, c .before .before .put-if .ensures .next, c .before .before .before .before .before .before .pre .0), bit-in (c .before .before .before .before .below .result))
+put-bit-requires-2 : tie.Need-put-bit-requires-2
+put-bit-requires-2 c κs = omega (arith, c .before .before .put-bit .ensures .next, c .before .before .before .before .before .before .pre .0)
 
 times-requires : tie.Need-times-requires
 times-requires c κs =
@@ -24,34 +20,34 @@ times-requires c κs =
 put-requires : tie.Need-put-requires
 unfolding divisionPick
 put-requires c κs =
-    let put-if2 = c .before .before .before .put-if2 in
-    let put-if = c .before .before .before .before .before .before .put-if in
+    let put-bit2 = c .before .before .before .put-bit2 in
+    let put-bit = c .before .before .before .before .before .before .put-bit in
     let s = c .before .before .before .before .before .before .before .before .before .before in (
-      omega (arith, put-if .ensures .next, put-if2 .ensures .next, s .pre .0),
+      omega (arith, put-bit .ensures .next, put-bit2 .ensures .next, s .pre .0),
       rw (back (c .times .result) (c .times .ok), c .times .ensures, toZ-ofZ (s .fits .d), toZ-ofZ (s .fits .q)) (s .pre .3 2),
     )
 
-put-if-requires-3 : tie.Need-put-if-requires-3
-put-if-requires-3 c κs =
+put-bit-requires-3 : tie.Need-put-bit-requires-3
+put-bit-requires-3 c κs =
     let put = c .before .before .before .put in
-    let put-if2 = c .before .before .before .before .before .before .before .put-if2 in
-    let put-if = c .before .before .before .before .before .before .before .before .before .before .put-if in
+    let put-bit2 = c .before .before .before .before .before .before .before .put-bit2 in
+    let put-bit = c .before .before .before .before .before .before .before .before .before .before .put-bit in
     let s = c .before .before .before .before .before .before .before .before .before .before .before .before .before .before in
-    (omega (arith, put-if .ensures .next, put-if2 .ensures .next, put .ensures .next, s .pre .0), bit-in (c .both .result))
+    omega (arith, put-bit .ensures .next, put-bit2 .ensures .next, put .ensures .next, s .pre .0)
 
 returns : tie.Need-returns
 returns c =
     let both = c .before .before .both in
     let put = c .before .before .before .before .before .put in
     let times = c .before .before .before .before .before .before .times in
-    let put-if2 = c .before .before .before .before .before .before .before .before .before .put-if2 in
-    let put-if = c .before .before .before .before .before .before .before .before .before .before .before .before .put-if in
+    let put-bit2 = c .before .before .before .before .before .before .before .before .before .put-bit2 in
+    let put-bit = c .before .before .before .before .before .before .before .before .before .before .before .before .put-bit in
     let below = c .before .before .before .before .before .before .before .before .before .before .before .before .before .before .below in
     let at-most = c .before .before .before .before .before .before .before .before .before .before .before .before .before .before .before .at-most in
     let s = c .before .before .before .before .before .before .before .before .before .before .before .before .before .before .before .before in
     rw division-pick
     (rw (both .ensures, at-most .ensures, below .ensures, back (times .result) (times .ok), times .ensures, toZ-ofZ (s .fits .n), toZ-ofZ (s .fits .d), toZ-ofZ (s .fits .q)) at
-    (picked-then (put-if .ensures) (picked-then (put-if2 .ensures) (picked-then (put .ensures) (c .before .put-if3 .ensures)))))
+    (picked-then (put-bit .ensures) (picked-then (put-bit2 .ensures) (picked-then (put .ensures) (c .before .put-bit3 .ensures)))))
 
 pub put-division-spec : {M : Type 1} → statement M
 put-division-spec =
@@ -59,11 +55,11 @@ put-division-spec =
     (tie.spec
     (λ c κs. search needs)
     (λ c κs. search needs)
-    put-if-requires
-    put-if-requires-2
+    (λ c κs. search needs)
+    put-bit-requires-2
     times-requires
     put-requires
     (λ c κs. search needs)
-    put-if-requires-3
+    put-bit-requires-3
     (λ c. search needs)
     returns)

@@ -3,29 +3,26 @@ use native.Mathlib.Omega.{arith}
 use mir.Facts.{toZ-ofZ}
 use borrow.Author.Needs.{needs}
 use Rattle.rules.specs.Pick.{signPick}
-use Rattle.picking.proofs.Only.{bit-times, bit-in, sign-pick}
+use Rattle.picking.proofs.Only.{bit-times, sign-pick}
 use Rattle.picking.proofs.Writing.{picked-then}
 use Rattle.picking.proofs.put_sign.Statement.{statement}
 use Rattle.picking.proofs.put_sign.Tie as tie
 
 put-if-requires : tie.Need-put-if-requires
-put-if-requires c κs = (search needs, bit-in (c .before .below .result))
-
-put-if-requires-2 : tie.Need-put-if-requires-2
 unfolding signPick
-put-if-requires-2 c κs =
+put-if-requires c κs =
     let s = c .before .before .before .before .before in
     let below = c .before .before .before .before .below in
-    let put-if = c .before .before .put-if in
-    (omega (arith, put-if .ensures .next), rw (toZ-ofZ (s .fits .x), below .ensures, toZ-ofZ (s .fits .x)) (rw bit-times at (s .pre .1 1)))
+    let put-bit = c .before .before .put-bit in
+    (omega (arith, put-bit .ensures .next), rw (toZ-ofZ (s .fits .x), below .ensures, toZ-ofZ (s .fits .x)) (rw bit-times at (s .pre .1 1)))
 
 returns : tie.Need-returns
 returns c =
     let s = c .before .before .before .before .before .before .before in
     let below = c .before .before .before .before .before .before .below in
-    let put-if = c .before .before .before .before .put-if in
-    rw (sign-pick) (rw (below .ensures, toZ-ofZ (s .fits .x)) at (picked-then (put-if .ensures) (c .before .put-if2 .ensures)))
+    let put-bit = c .before .before .before .before .put-bit in
+    rw (sign-pick) (rw (below .ensures, toZ-ofZ (s .fits .x)) at (picked-then (put-bit .ensures) (c .before .put-if .ensures)))
 
 pub put-sign-spec : {M : Type 1} → statement M
 put-sign-spec =
-    tie.close (tie.spec (λ c κs. search needs) put-if-requires put-if-requires-2 (λ c. search needs) returns)
+    tie.close (tie.spec (λ c κs. search needs) (λ c κs. search needs) put-if-requires (λ c. search needs) returns)
