@@ -13,7 +13,7 @@ use Rattle.integers.proofs.Tests.{false-true}
 use Rattle.words.specs.Answer.{Answer, holds, outOfBounds, isFalse, isHolds}
 use Rattle.words.specs.Judge.{firstFalse, firstOutOfBounds}
 use Rattle.reasons.specs.Reason.{Reason, inBlock, answerOr}
-use Rattle.reasoning.specs.Ready.{shift, Below}
+use Rattle.reasoning.specs.Walks.{shift, Below}
 
 -- ---- rows
 

@@ -31,7 +31,7 @@ use Rattle.laying.specs.declared.Laid.{Laid}
 use Rattle.laying.proofs.Blocks.{block-words, block-outside}
 use Rattle.blocks.proofs.OneBlock.{told}
 use Rattle.words.proofs.Overlay.{front-over}
-use Rattle.reasoning.specs.Ready.{ended, Reads, Front, Outside, Failing, Below, shift}
+use Rattle.reasoning.specs.Walks.{blockAndEnd, ReadsBack, Front, Judged, Below, shift}
 use Rattle.reasoning.proofs.Counted.{outside-part, outside-below}
 
 -- a test that does not fail
@@ -39,7 +39,7 @@ in-range : (t : Bool) → not t ≡ false → t ≡ true
 in-range true e = refl
 in-range false e = sym e
 
-pub fronted : {first : ℕ} {B : Block} {r : Laid} {o o₁ o₂ : List ℕ} → Reads first B → 2801 ≤ length o → WentFitting nothing r o o₁ (blockParts first B) → Near 1000000 nothing r →
+pub fronted : {first : ℕ} {B : Block} {r : Laid} {o o₁ o₂ : List ℕ} → ReadsBack first B → 2801 ≤ length o → WentFitting nothing r o o₁ (blockParts first B) → Near 1000000 nothing r →
     o₂ ≡ overlay o₁ (r .words) (word Kind.rowsEnd 0 ∷ []) → Front first B r o₂
 fronted {first} {B} {r} {o} {o₁} {o₂} d h w n e =
     let t = told w in
@@ -61,10 +61,10 @@ fronted {first} {B} {r} {o} {o₁} {o₂} d h w n e =
 
 -- ---- judged by itself
 
-module _ {first : ℕ} {B : Block} {l : Laid} {o : List ℕ} (d : Reads first B) (f : Front first B l o) where
+module _ {first : ℕ} {B : Block} {l : Laid} {o : List ℕ} (d : ReadsBack first B) (f : Front first B l o) where
   pub prefix-length : l .words + 1 ≡ length (take (l .words + 1) o)
   prefix-length =
-      let e : length (take (l .words + 1) o) ≡ length (ended first B) = ap length (f .front) in
+      let e : length (take (l .words + 1) o) ≡ length (blockAndEnd first B) = ap length (f .front) in
       omega (arith, e, f .words, length-append (blockWords first B) (word Kind.rowsEnd 0 ∷ []))
 
   module _ (vs : List ℤ) (h : first + length (B .auxiliaries) ≤ length vs) where
@@ -93,10 +93,12 @@ module _ {first : ℕ} {B : Block} {l : Laid} {o : List ℕ} (d : Reads first B)
       pub outside-few : Below 1000000 a
       outside-few = rw here (outside-below (value part) 1000000 0 (B .auxiliaries) (omega (arith, f .auxiliaries, f .small)))
 
-      pub outside-said : {w : Verdict} → verdict w ≡ shift first a → Outside vs first B (record { said = w; auxiliaries = l .auxiliaries; rows = l .rows })
+      pub outside-said : {k : ℕ} {w : Verdict} → verdict w ≡ shift first a → Judged true vs first k B (record { said = w; auxiliaries = l .auxiliaries; rows = l .rows })
       outside-said g = record {
         says = g ∙ ap (shift first) here ∙ sym (outside-part (value vs) (value part) first 0 (B .auxiliaries) same-value) ∙ ap (λ (k : ℕ). firstOutOfBounds (value vs) k (B .auxiliaries) holds) (add-zero first);
         auxiliaries = f .auxiliaries;
+        rows = f .rows;
+        few = omega (arith, f .small);
       }
 
   -- from the place after the bounds on
@@ -113,7 +115,7 @@ module _ {first : ℕ} {B : Block} {l : Laid} {o : List ℕ} (d : Reads first B)
   no-variables = rw (f .front, f .auxiliaries) (d .no-more)
 
   pub failing-said : (vs : List ℤ) (k : ℕ) {w : Verdict} → verdict w ≡ firstFalse (satisfied (value vs)) k (rows (drop (2 * l .auxiliaries) (take (l .words + 1) o))) →
-      Failing vs first k B (record { said = w; auxiliaries = l .auxiliaries; rows = l .rows })
+      Judged false vs first k B (record { said = w; auxiliaries = l .auxiliaries; rows = l .rows })
   failing-said vs k e = record {
     says = e ∙ ap (λ (xs : List (Row ℕ)). firstFalse (satisfied (value vs)) k xs) (rw (f .front, f .auxiliaries) (d .the-rows));
     auxiliaries = f .auxiliaries;

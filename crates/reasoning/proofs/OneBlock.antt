@@ -28,7 +28,7 @@ use Rattle.rules.specs.Check.{tooWide}
 use Rattle.sharing.proofs.Formed.{RowIn, Formed}
 use Rattle.sharing.proofs.ChoicesSizes.{block-short}
 use Rattle.sharing.proofs.Written.{declared, in-range}
-use Rattle.reasoning.specs.Ready.{ended, rowsAt, Reads}
+use Rattle.reasoning.specs.Walks.{blockAndEnd, rowsAt, ReadsBack}
 
 bounds-length : (As : List Bounds) → length (flatMap boundWords As) ≡ 2 * length As
 unfolding flatMap boundWords
@@ -57,7 +57,7 @@ module _ (first : ℕ) (B : Block) (few : first + length (B .auxiliaries) ≤ Li
   rows-declared : Rattle.integers.proofs.Tests.All (Declared (numbered first) (first + m)) (B .rows)
   rows-declared = all-implies (RowIn first m) (Declared (numbered first) (first + m)) (declared first first (omega arith) m) (B .rows) (formed .1)
 
-  whole : Items first (ended first B) (B .auxiliaries ++ []) (map (rename (numbered first)) (B .rows) ++ [])
+  whole : Items first (blockAndEnd first B) (B .auxiliaries ++ []) (map (rename (numbered first)) (B .rows) ++ [])
   unfolding blockWords
   whole = block (numbered first) (B .auxiliaries) (B .rows) few ranged (formed .0) rows-declared (end (first + m))
 
@@ -67,7 +67,7 @@ module _ (first : ℕ) (B : Block) (few : first + length (B .auxiliaries) ≤ Li
       block (numbered first) [] (B .rows) (omega (arith, few)) (ranged-rows (B .auxiliaries) (B .rows) ranged) tt
       (all-implies (Declared (numbered first) (first + m)) (Declared (numbered first) (first + m + 0)) (λ r h. rw add-zero h) (B .rows) rows-declared) (end (first + m + 0))
 
-  dropped : drop (2 * m) (ended first B) ≡ rest
+  dropped : drop (2 * m) (blockAndEnd first B) ≡ rest
   unfolding blockWords
   dropped =
       let W = flatMap boundWords (B .auxiliaries) in
@@ -80,7 +80,7 @@ module _ (first : ℕ) (B : Block) (few : first + length (B .auxiliaries) ≤ Li
   unfolding blockWords
   room = omega (arith, bounds-length (B .auxiliaries), length-append (flatMap boundWords (B .auxiliaries)) (flatMap (λ r. rowWords (rename (numbered first) r)) (B .rows)))
 
-  read : length (blockWords first B) ≤ 2800 → Reads first B
+  read : length (blockWords first B) ≤ 2800 → ReadsBack first B
   unfolding onward
   read short = record {
     few = short;
@@ -93,5 +93,5 @@ module _ (first : ℕ) (B : Block) (few : first + length (B .auxiliaries) ≤ Li
   }
 
 pub reads : (β : ℕ → Bounds) (s : ℕ → Bool) (first : ℕ) (e : Encoded) (c : Constraint) → tooWide β s c ≡ false → outside (blockOf β s e c) ≡ false →
-    first + length (blockOf β s e c .auxiliaries) ≤ Limit.inAll → Formed first (blockOf β s e c) → Reads first (blockOf β s e c)
+    first + length (blockOf β s e c .auxiliaries) ≤ Limit.inAll → Formed first (blockOf β s e c) → ReadsBack first (blockOf β s e c)
 reads β s first e c narrow fits few formed = read first (blockOf β s e c) few fits formed (block-short first β s e c narrow)

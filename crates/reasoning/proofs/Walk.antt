@@ -11,6 +11,7 @@ use lib.Seq.{length-take-le, getD-take}
 use borrow.Author.Tests.{ltb-true, ltb-false}
 use Rattle.integers.specs.Terms.{Valuation, value}
 use Rattle.integers.specs.declared.Bounds.{Bounds}
+use Rattle.integers.proofs.Tests.{false-true}
 use Rattle.words.specs.Word.{payload, wordAt}
 use Rattle.words.specs.Variables.{variables}
 use Rattle.words.specs.Answer.{Answer, holds, isHolds}
@@ -38,8 +39,9 @@ use Rattle.sharing.proofs.Theorem.{well-formed}
 use Rattle.translation.proofs.Kept.{head-at, summed-at}
 use Rattle.reasons.specs.Reason.{Reason, none, explained, inBlock, firstFailing}
 use Rattle.reasons.proofs.Judged.{explainedFrom}
-use Rattle.reasoning.specs.Ready.{Ready, Reads, Layable, Outside, Failing, rowsAt}
+use Rattle.reasoning.specs.Walks.{PassedModel, ReadsBack, Layable, Judged, Stops, saidOf, rowsAt}
 use Rattle.reasoning.specs.declared.Said.{Said}
+use Rattle.reasoning.specs.declared.Stopped.{Stopped}
 use Rattle.reasoning.proofs.OneBlock as OneBlock
 use Rattle.reasoning.proofs.Counted.{fails-here, outside-here, outside-then}
 
@@ -52,7 +54,7 @@ pub record Due (β : ℕ → Bounds) (s : ℕ → Bool) (cs : List Constraint) (
   pub formed : AllFormed β s first d cs
 
 module _ {β : ℕ → Bounds} {s : ℕ → Bool} {c : Constraint} {cs : List Constraint} {first : ℕ} {d : Encoded} (l : Due β s (c ∷ cs) first d) where
-  pub reads : Reads first (blockOf β s d c)
+  pub reads : ReadsBack first (blockOf β s d c)
   reads = OneBlock.reads β s first d c (l .fine .0) (l .fine .1) (l .fine .2) (l .formed .0)
 
   pub due-after : Due β s cs (first + length (blockOf β s d c .auxiliaries)) (encodedAfter s first d (encodes (choice c)))
@@ -68,7 +70,7 @@ start : (ws : List ℕ) → Passes ws → Due (bounds ws) (shared ws) (constrain
 unfolding bounds
 start ws h = record { room = omega (arith, Accepted.few-variables ws (passes-read ws h)); recorded = recorded-none; many = none-many; fine = passes-fine ws h; formed = well-formed ws h }
 
-module _ {ws hs : List ℕ} {r : Read} {ls us : List ℤ} {uses : List ℕ} {sums : List Bounds} {vs : List ℤ} (y : Ready ws hs r ls us uses sums vs) where
+module _ {ws hs : List ℕ} {r : Read} {ls us : List ℤ} {uses : List ℕ} {sums : List Bounds} {vs : List ℤ} (y : PassedModel ws hs r ls us uses sums vs) where
   abbrev β : ℕ → Bounds
   β = boundsOf ls us
 
@@ -124,29 +126,52 @@ module _ {β : ℕ → Bounds} {s : ℕ → Bool} {ws : List ℕ} {vs : List ℤ
   later-there : There β s ws vs (k + 1) (first + length (blockOf β s d c .auxiliaries)) (encodedAfter s first d (encodes (choice c)))
   later-there = record { count = omega (arith, h .count, ap length own-and-later, length-append own later) }
 
--- ---- the bounds that are left
+-- ---- the walk: what is left of the bounds, or of the rows, says what all of them say
 
-pub record Bounding (β : ℕ → Bounds) (s : ℕ → Bool) (ws : List ℕ) (vs : List ℤ) (k first : ℕ) (d : Encoded) : Type 0 where
+pub record Walking (bounds : Bool) (β : ℕ → Bounds) (s : ℕ → Bool) (ws : List ℕ) (vs : List ℤ) (k first rows : ℕ) (d : Encoded) : Type 0 where
   pub walk : Due β s (drop k (constraints ws)) first d
   pub there : There β s ws vs k first d
-  pub left : firstOutOfBounds (value vs) first (auxiliariesFrom β s first d (drop k (constraints ws))) holds ≡ firstOutOfBounds (value vs) (length (variables ws)) (auxiliaries ws) holds
+  pub small : rows ≤ 1000000 * k
+  pub outside : bounds ≡ true → firstOutOfBounds (value vs) first (auxiliariesFrom β s first d (drop k (constraints ws))) holds ≡ firstOutOfBounds (value vs) (length (variables ws)) (auxiliaries ws) holds
+  pub failing : bounds ≡ false → (σ : Valuation) → firstFailing σ (value vs) rows k (explainedFrom β s first d (drop k (constraints ws))) ≡ firstFailing σ (value vs) 0 0 (explained ws)
 
-module _ {ws hs : List ℕ} {r : Read} {ls us : List ℤ} {uses : List ℕ} {sums : List Bounds} {vs : List ℤ} (y : Ready ws hs r ls us uses sums vs) where
+module _ {ws hs : List ℕ} {r : Read} {ls us : List ℤ} {uses : List ℕ} {sums : List Bounds} {vs : List ℤ} (y : PassedModel ws hs r ls us uses sums vs) where
   all-auxiliaries : auxiliariesFrom (boundsOf ls us) (sharedBy uses) (r .variables) noneYet (constraints ws) ≡ auxiliaries ws
   unfolding auxiliaries
   all-auxiliaries = rw (y .model .same, y .model .shares, y .model .seen .variables-counted)
 
-  pub bounding : Bounding (boundsOf ls us) (sharedBy uses) ws vs 0 (r .variables) noneYet
-  bounding = record {
+  all-explained : explainedFrom (boundsOf ls us) (sharedBy uses) (r .variables) noneYet (constraints ws) ≡ explained ws
+  unfolding explained
+  all-explained = rw (y .model .same, y .model .shares, y .model .seen .variables-counted)
+
+  pub walking : {bounds : Bool} → Walking bounds (boundsOf ls us) (sharedBy uses) ws vs 0 (r .variables) 0 noneYet
+  walking = record {
     walk = begun y;
     there = record { count = omega (arith, ap length all-auxiliaries, y .model .seen .variables-counted, y .counted) };
-    left = rw (all-auxiliaries, y .model .seen .variables-counted);
+    small = omega arith;
+    outside = λ t. rw (all-auxiliaries, y .model .seen .variables-counted);
+    failing = λ f σ. ap (firstFailing σ (value vs) 0 0) all-explained;
   }
 
-module _ {β : ℕ → Bounds} {s : ℕ → Bool} {ws : List ℕ} {vs : List ℤ} {k first : ℕ} {d : Encoded} (b : Bounding β s ws vs k first d) where
-  pub bounded-all : length (constraints ws) ≤ k → holds ≡ firstOutOfBounds (value vs) (length (variables ws)) (auxiliaries ws) holds
-  unfolding firstOutOfBounds eachBlock
-  bounded-all h = rw (drop-of-length-le (constraints ws) h) at (b .left)
+module _ {bounds : Bool} {β : ℕ → Bounds} {s : ℕ → Bool} {ws : List ℕ} {vs : List ℤ} {k first rows : ℕ} {d : Encoded} (b : Walking bounds β s ws vs k first rows d) where
+  -- no constraint is left
+  module _ (h : length (constraints ws) ≤ k) where
+    all-within : bounds ≡ true → holds ≡ firstOutOfBounds (value vs) (length (variables ws)) (auxiliaries ws) holds
+    unfolding firstOutOfBounds eachBlock
+    all-within t = rw (drop-of-length-le (constraints ws) h) at (b .outside t)
+
+    all-true : bounds ≡ false → (σ : Valuation) → none ≡ firstFailing σ (value vs) 0 0 (explained ws)
+    unfolding firstFailing eachBlock
+    all-true f σ = rw (drop-of-length-le (constraints ws) h) at (b .failing f σ)
+
+    pub walk-ended : {r : Stopped} → verdict (r .said) ≡ holds → Stops bounds ws vs r
+    unfolding isHolds
+    walk-ended v = record {
+      outside = λ t. v ∙ all-within t;
+      none-fails = λ f σ t. all-true f σ;
+      one-fails = λ f σ c n e. false-true (sym (rw v at n));
+      within = λ n. false-true (sym (rw v at n));
+    }
 
   module _ {c : Constraint} (e : drop k (constraints ws) ≡ c ∷ drop (k + 1) (constraints ws)) where
     abbrev A : List Bounds
@@ -155,62 +180,41 @@ module _ {β : ℕ → Bounds} {s : ℕ → Bool} {ws : List ℕ} {vs : List ℤ
     abbrev As : List Bounds
     As = auxiliariesFrom β s (first + length (blockOf β s d c .auxiliaries)) (encodedAfter s first d (encodes (choice c))) (drop (k + 1) (constraints ws))
 
-    joined : firstOutOfBounds (value vs) first A (firstOutOfBounds (value vs) (first + length A) As holds) ≡ firstOutOfBounds (value vs) (length (variables ws)) (auxiliaries ws) holds
-    joined = sym (outside-then (value vs) first A As holds) ∙ ap (λ (l : List Bounds). firstOutOfBounds (value vs) first l holds) (sym (own-and-later (b .there) e)) ∙ b .left
+    joined : bounds ≡ true → firstOutOfBounds (value vs) first A (firstOutOfBounds (value vs) (first + length A) As holds) ≡ firstOutOfBounds (value vs) (length (variables ws)) (auxiliaries ws) holds
+    joined t = sym (outside-then (value vs) first A As holds) ∙ ap (λ (l : List Bounds). firstOutOfBounds (value vs) first l holds) (sym (own-and-later (b .there) e)) ∙ b .outside t
 
-    module _ {r : Said} (o : Outside vs first (blockOf β s d c) r) where
-      pub bounding-stop : isHolds (verdict (r .said)) ≡ false → verdict (r .said) ≡ firstOutOfBounds (value vs) (length (variables ws)) (auxiliaries ws) holds
-      bounding-stop f = o .says ∙ outside-here (value vs) first A (firstOutOfBounds (value vs) (first + length A) As holds) (rw (o .says) at f) ∙ joined
-
-      pub bounding-more : {d′ : Encoded} → isHolds (verdict (r .said)) ≡ true → d′ ≡ encodedAfter s first d (encodes (choice c)) → Bounding β s ws vs (k + 1) (first + r .auxiliaries) d′
-      bounding-more t m =
-          rw (o .auxiliaries, m)
-          record {
-            walk = due-after (subst (λ cs. Due β s cs first d) e (b .walk));
-            there = later-there (b .there) e;
-            left = next (value vs) (firstOutOfBounds (value vs) (first + length A) As holds) first A (is-holds _ (rw (o .says) at t)) ∙ joined;
-          }
-
--- ---- the rows that are left
-
-pub record Seeking (β : ℕ → Bounds) (s : ℕ → Bool) (σ : Valuation) (ws : List ℕ) (vs : List ℤ) (k first rows : ℕ) (d : Encoded) : Type 0 where
-  pub walk : Due β s (drop k (constraints ws)) first d
-  pub there : There β s ws vs k first d
-  pub small : rows ≤ 1000000 * k
-  pub left : firstFailing σ (value vs) rows k (explainedFrom β s first d (drop k (constraints ws))) ≡ firstFailing σ (value vs) 0 0 (explained ws)
-
-module _ {ws hs : List ℕ} {r : Read} {ls us : List ℤ} {uses : List ℕ} {sums : List Bounds} {vs : List ℤ} (y : Ready ws hs r ls us uses sums vs) where
-  all-explained : explainedFrom (boundsOf ls us) (sharedBy uses) (r .variables) noneYet (constraints ws) ≡ explained ws
-  unfolding explained
-  all-explained = rw (y .model .same, y .model .shares, y .model .seen .variables-counted)
-
-  pub seeking : (σ : Valuation) → Seeking (boundsOf ls us) (sharedBy uses) σ ws vs 0 (r .variables) 0 noneYet
-  seeking σ = record { walk = begun y; there = bounding y .there; small = omega arith; left = ap (firstFailing σ (value vs) 0 0) all-explained }
-
-module _ {β : ℕ → Bounds} {s : ℕ → Bool} {σ : Valuation} {ws : List ℕ} {vs : List ℤ} {k first rows : ℕ} {d : Encoded} (b : Seeking β s σ ws vs k first rows d) where
-  pub sought-all : length (constraints ws) ≤ k → none ≡ firstFailing σ (value vs) 0 0 (explained ws)
-  unfolding firstFailing eachBlock
-  sought-all h = rw (drop-of-length-le (constraints ws) h) at (b .left)
-
-  module _ {c : Constraint} (e : drop k (constraints ws) ≡ c ∷ drop (k + 1) (constraints ws)) where
     abbrev R : Answer
     R = firstFalse (satisfied (value vs)) rows (rowsAt first (blockOf β s d c))
 
-    abbrev after : Reason
-    after = firstFailing σ (value vs) (rows + length (rowsAt first (blockOf β s d c))) (k + 1)
+    abbrev after : Valuation → Reason
+    after σ = firstFailing σ (value vs) (rows + length (rowsAt first (blockOf β s d c))) (k + 1)
         (explainedFrom β s (first + length (blockOf β s d c .auxiliaries)) (encodedAfter s first d (encodes (choice c))) (drop (k + 1) (constraints ws)))
 
-    joined-rows : inBlock R k (meaning σ (builtin c)) after ≡ firstFailing σ (value vs) 0 0 (explained ws)
+    joined-rows : bounds ≡ false → (σ : Valuation) → inBlock R k (meaning σ (builtin c)) (after σ) ≡ firstFailing σ (value vs) 0 0 (explained ws)
     unfolding firstFailing eachBlock
-    joined-rows = rw e at (b .left)
+    joined-rows f σ = rw e at (b .failing f σ)
 
-    module _ {r : Said} (o : Failing vs first rows (blockOf β s d c) r) where
-      pub seeking-stop : isHolds (verdict (r .said)) ≡ false → inBlock (verdict (r .said)) k (meaning σ (builtin c)) none ≡ firstFailing σ (value vs) 0 0 (explained ws)
-      seeking-stop f = rw (o .says) (fails-here (satisfied (value vs)) rows (rowsAt first (blockOf β s d c)) k _ none after (rw (o .says) at f) ∙ joined-rows)
+    module _ {r : Said} (o : Judged bounds vs first rows (blockOf β s d c) r) where
+      said-bounds : bounds ≡ true → verdict (r .said) ≡ firstOutOfBounds (value vs) first A holds
+      said-bounds t = o .says ∙ ap (λ x. saidOf x vs first rows (blockOf β s d c)) t
 
-      pub seeking-more : {d′ : Encoded} → isHolds (verdict (r .said)) ≡ true → d′ ≡ encodedAfter s first d (encodes (choice c)) → Seeking β s σ ws vs (k + 1) (first + r .auxiliaries) (rows + r .rows) d′
-      seeking-more t q =
-          let n : R ≡ holds = sym (o .says) ∙ is-holds (verdict (r .said)) t in
+      said-rows : bounds ≡ false → verdict (r .said) ≡ R
+      said-rows f = o .says ∙ ap (λ x. saidOf x vs first rows (blockOf β s d c)) f
+
+      stop-rows : bounds ≡ false → (σ : Valuation) → isHolds (verdict (r .said)) ≡ false → inBlock (verdict (r .said)) k (meaning σ (builtin c)) none ≡ firstFailing σ (value vs) 0 0 (explained ws)
+      stop-rows f σ n = rw (said-rows f) (fails-here (satisfied (value vs)) rows (rowsAt first (blockOf β s d c)) k _ none (after σ) (rw (said-rows f) at n) ∙ joined-rows f σ)
+
+      pub walk-stopped : k < length (constraints ws) → isHolds (verdict (r .said)) ≡ false → Stops bounds ws vs (record { said = r .said; constraint = k })
+      unfolding isHolds
+      walk-stopped l n = record {
+        outside = λ t. said-bounds t ∙ outside-here (value vs) first A (firstOutOfBounds (value vs) (first + length A) As holds) (rw (said-bounds t) at n) ∙ joined t;
+        none-fails = λ f σ h. false-true (sym n ∙ h);
+        one-fails = λ f σ c′ m e′. let q : c′ ≡ c = cc in rw q (stop-rows f σ n);
+        within = λ m. l;
+      }
+
+      pub walk-on : {d′ : Encoded} → isHolds (verdict (r .said)) ≡ true → d′ ≡ encodedAfter s first d (encodes (choice c)) → Walking bounds β s ws vs (k + 1) (first + r .auxiliaries) (rows + r .rows) d′
+      walk-on t q =
           let m : length (rowsAt first (blockOf β s d c)) ≡ length (blockOf β s d c .rows) = length-map (blockOf β s d c .rows) (rename (numbered first)) in
           let z : rows + r .rows ≤ 1000000 * (k + 1) = omega (arith, b .small, o .few) in
           let p : r .rows ≡ length (rowsAt first (blockOf β s d c)) = o .rows ∙ sym m in
@@ -218,12 +222,13 @@ module _ {β : ℕ → Bounds} {s : ℕ → Bool} {σ : Valuation} {ws : List �
             walk = rw (o .auxiliaries, q) (due-after (subst (λ cs. Due β s cs first d) e (b .walk)));
             there = rw (o .auxiliaries, q) (later-there (b .there) e);
             small = z;
-            left = rw (o .auxiliaries, p, q) (rw n at joined-rows);
+            outside = λ x. rw (o .auxiliaries, q) (next (value vs) (firstOutOfBounds (value vs) (first + length A) As holds) first A (is-holds _ (rw (said-bounds x) at t)) ∙ joined x);
+            failing = λ f σ. let n : R ≡ holds = sym (said-rows f) ∙ is-holds (verdict (r .said)) t in rw (o .auxiliaries, p, q) (rw n at (joined-rows f σ));
           }
 
 -- ---- the source values
 
-module _ {ws hs : List ℕ} {r : Read} {ls us : List ℤ} {uses : List ℕ} {sums : List Bounds} {vs : List ℤ} (y : Ready ws hs r ls us uses sums vs) where
+module _ {ws hs : List ℕ} {r : Read} {ls us : List ℤ} {uses : List ℕ} {sums : List Bounds} {vs : List ℤ} (y : PassedModel ws hs r ls us uses sums vs) where
   enough-values : r .variables ≤ length vs
   enough-values = omega (arith, y .model .seen .variables-counted, y .counted)
 

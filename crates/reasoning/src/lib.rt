@@ -1,12 +1,9 @@
 // Which builtin lies behind a failed row.
 ghost use mathlib.Core.Path.{_≡_};
-ghost use lib.ListN.{length};
 ghost use Rattle.words.specs.Verdict.{verdict};
-ghost use Rattle.rules.specs.Translation.{auxiliaries};
-ghost use Rattle.sharing.specs.SharedSolutions.{Passes};
-ghost use Rattle.translation.specs.ModelBounds.{ModelBounds, modelSums};
 ghost use Rattle.reasons.specs.Reason.{reason as reasonAnswer, answerOr, none};
 ghost use Rattle.reasoning.specs.Told.{told};
+ghost use Rattle.reasoning.specs.Walks.{CheckedModel};
 use integers::Bounds;
 use modelreading::Read;
 use modelreading::read_model;
@@ -15,7 +12,7 @@ use translation::checking::check_read;
 use translation::checking::model_bounds;
 use variables::first_out_of_bounds;
 use walks::first_failing;
-use walks::outside_in_blocks;
+use walks::walk;
 use words::Refusal;
 use words::Verdict;
 use words::fault;
@@ -45,6 +42,12 @@ pub struct Said {
     pub rows: usize,
 }
 
+// Where a walk over the blocks stops: what is said there, and the constraint whose block says it.
+pub struct Stopped {
+    pub said: Verdict,
+    pub constraint: usize,
+}
+
 // What is answered before the rows.
 fn before_rows(answer: Verdict) -> Reasoned
     ensures { λ r. ⌜ told r ≡ answerOr (verdict answer) none ⌝ }
@@ -69,7 +72,7 @@ fn reason_passed(
     values: &[i32],
     added: usize,
 ) -> Reasoned
-    requires { ⌜ ModelBounds (now ws) (now heads) read (now ls) (now us) (now uses) × (sums ≡ modelSums (now ws) (now heads) read (now ls) (now us)) × Passes (now ws) × (added ≡ length (auxiliaries (now ws))) ⌝ }
+    requires { ⌜ CheckedModel (now ws) (now heads) read (now ls) (now us) (now uses) sums added ⌝ }
     ensures { λ r. ⌜ told r ≡ reasonAnswer (now (ws .entry)) (now (values .entry)) ⌝ }
 {
     let sources = read.variables;
@@ -83,7 +86,8 @@ fn reason_passed(
     if !is_holds(outside) {
         return before_rows(outside);
     }
-    let added_outside = outside_in_blocks(ws, heads, read, ls, us, uses, sums, values);
+    let stopped = walk(ws, heads, read, ls, us, uses, sums, values, true);
+    let added_outside = stopped.said;
     if !is_holds(added_outside) {
         return before_rows(added_outside);
     }

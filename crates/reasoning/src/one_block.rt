@@ -1,10 +1,9 @@
 // One block, laid into a lent list and judged there by itself.
 ghost use mathlib.Core.Path.{_≡_};
-ghost use Prim.Native.Nat.{_+_, _≤_};
+ghost use Prim.Native.Nat.{_≤_};
 ghost use lib.ListN.{length};
-ghost use Rattle.words.specs.Small.{Small};
 ghost use Rattle.words.specs.Verdict.{verdict};
-ghost use Rattle.reasoning.specs.Ready.{Layable, Front, Outside, Failing, blockAt, shift, Below};
+ghost use Rattle.reasoning.specs.Walks.{Layable, Front, Judgeable, Judged, blockAt, shift, Below};
 use crate::Said;
 use crate::rows::first_false;
 use blocks::block;
@@ -50,36 +49,8 @@ fn counted_on(answer: Verdict, k: usize) -> Verdict
     }
 }
 
-// The first auxiliary of a block whose value is out of its bounds.
-pub fn outside_in_block(
-    words: &mut [u32],
-    code: usize,
-    args: &[u32],
-    ls: &[i64],
-    us: &[i64],
-    uses: &[usize],
-    encoded: &[usize],
-    sum: Bounds,
-    first: usize,
-    values: &[i32],
-) -> Said
-    requires { ⌜ Layable (now ls) (now us) (now uses) (now encoded) code (now args) sum first × (2801 ≤ length (now words)) × (first + length (blockAt (now ls) (now us) (now uses) (now encoded) code (now args) .auxiliaries) ≤ length (now values)) ⌝ }
-    ensures { λ r. ⌜ Outside (now (values .entry)) first (blockAt (now (ls .entry)) (now (us .entry)) (now (uses .entry)) (now (encoded .entry)) code (now (args .entry))) r ⌝ }
-{
-    let laid = lay_block(words, code, args, ls, us, uses, encoded, sum, first);
-    let found = first_out_of_bounds(
-        &words[..laid.words + 1],
-        &values[first..first + laid.auxiliaries],
-    );
-    Said {
-        said: counted_on(found, first),
-        auxiliaries: laid.auxiliaries,
-        rows: laid.rows,
-    }
-}
-
-// The first row of a block that fails, counted from k.
-pub fn failing_in_block(
+// What the block of a constraint says of the values: where the bounds are asked, the first auxiliary out of its bounds; else the first row that fails, counted from k.
+pub fn judge_block(
     words: &mut [u32],
     code: usize,
     args: &[u32],
@@ -91,11 +62,23 @@ pub fn failing_in_block(
     first: usize,
     values: &[i32],
     k: usize,
+    bounds: bool,
 ) -> Said
-    requires { ⌜ Layable (now ls) (now us) (now uses) (now encoded) code (now args) sum first × (2801 ≤ length (now words)) × Small (now values) × (first + length (blockAt (now ls) (now us) (now uses) (now encoded) code (now args) .auxiliaries) ≤ length (now values)) × (k ≤ 1000000000) ⌝ }
-    ensures { λ r. ⌜ Failing (now (values .entry)) first k (blockAt (now (ls .entry)) (now (us .entry)) (now (uses .entry)) (now (encoded .entry)) code (now (args .entry))) r ⌝ }
+    requires { ⌜ Judgeable bounds (now ls) (now us) (now uses) (now encoded) code (now args) sum first (now words) (now values) × (k ≤ 1000000000) ⌝ }
+    ensures { λ r. ⌜ Judged bounds (now (values .entry)) first k (blockAt (now (ls .entry)) (now (us .entry)) (now (uses .entry)) (now (encoded .entry)) code (now (args .entry))) r ⌝ }
 {
     let laid = lay_block(words, code, args, ls, us, uses, encoded, sum, first);
+    if bounds {
+        let found = first_out_of_bounds(
+            &words[..laid.words + 1],
+            &values[first..first + laid.auxiliaries],
+        );
+        return Said {
+            said: counted_on(found, first),
+            auxiliaries: laid.auxiliaries,
+            rows: laid.rows,
+        };
+    }
     let found = first_false(
         &words[..laid.words + 1],
         values,

@@ -1,19 +1,17 @@
 // Block after block: the bounds of all auxiliaries, then the rows.
 ghost use mathlib.Core.Path.{_≡_};
+ghost use mathlib.Core.Bool.{false};
 ghost use lib.ListN.{length, take};
 ghost use Rattle.integers.specs.Terms.{value};
-ghost use Rattle.words.specs.Answer.{holds};
-ghost use Rattle.words.specs.Judge.{firstOutOfBounds};
 ghost use Rattle.words.specs.Small.{Small};
 ghost use Rattle.words.specs.Variables.{variables};
 ghost use Rattle.words.specs.Verdict.{verdict};
-ghost use Rattle.rules.specs.Translation.{auxiliaries};
 ghost use Rattle.reasons.specs.Reason.{explained, firstFailing, inBlock, none};
-ghost use Rattle.reasoning.specs.Ready.{Ready};
+ghost use Rattle.reasoning.specs.Walks.{PassedModel, Stops};
 ghost use Rattle.reasoning.specs.Told.{told};
 use crate::Reasoned;
-use crate::one_block::failing_in_block;
-use crate::one_block::outside_in_block;
+use crate::Stopped;
+use crate::one_block::judge_block;
 use encodings::record_encoding;
 use integers::Bounds;
 use modelreading::Read;
@@ -24,8 +22,8 @@ use words::payload_of;
 // More words than a block has, at most 2,800, and its end word.
 const BLOCK: usize = 3072;
 
-// The first auxiliary whose value is out of its bounds.
-pub fn outside_in_blocks(
+// Block after block, until one says something: of the bounds of all auxiliaries, or of the rows.
+pub fn walk(
     ws: &[u32],
     heads: &[usize; 256],
     read: Read,
@@ -34,20 +32,22 @@ pub fn outside_in_blocks(
     uses: &[usize],
     sums: [Bounds; 256],
     values: &[i32],
-) -> Verdict
-    requires { ⌜ Ready (now ws) (now heads) read (now ls) (now us) (now uses) sums (now values) ⌝ }
-    ensures { λ r. ⌜ verdict r ≡ firstOutOfBounds (value (now (values .entry))) (length (variables (now (ws .entry)))) (auxiliaries (now (ws .entry))) holds ⌝ }
+    bounds: bool,
+) -> Stopped
+    requires { ⌜ PassedModel (now ws) (now heads) read (now ls) (now us) (now uses) sums (now values) × (bounds ≡ false → Small (now values)) ⌝ }
+    ensures { λ r. ⌜ Stops bounds (now (ws .entry)) (now (values .entry)) r ⌝ }
 {
     let n = read.constraints;
     let mut k = 0;
     let mut first = read.variables;
+    let mut rows = 0;
     let mut encoded = [0usize; 256];
     let mut words = [0u32; BLOCK];
     while k < n {
         let place = heads[k];
         let code = payload_of(ws[place]);
         let sum = sums[k];
-        let found = outside_in_block(
+        let found = judge_block(
             &mut words,
             code,
             &ws[place + 1..],
@@ -58,16 +58,25 @@ pub fn outside_in_blocks(
             sum,
             first,
             values,
+            rows,
+            bounds,
         );
         let said = found.said;
         if !is_holds(said) {
-            return said;
+            return Stopped {
+                said,
+                constraint: k,
+            };
         }
         record_encoding(&mut encoded, code, &ws[place + 1..], uses, first);
         k += 1;
         first += found.auxiliaries;
+        rows += found.rows;
     }
-    Verdict::Holds
+    Stopped {
+        said: Verdict::Holds,
+        constraint: n,
+    }
 }
 
 // The reason of a block's answer.
@@ -97,42 +106,18 @@ pub fn first_failing(
     sums: [Bounds; 256],
     values: &[i32],
 ) -> Reasoned
-    requires { ⌜ Ready (now ws) (now heads) read (now ls) (now us) (now uses) sums (now values) × Small (now values) ⌝ }
+    requires { ⌜ PassedModel (now ws) (now heads) read (now ls) (now us) (now uses) sums (now values) × Small (now values) ⌝ }
     ensures { λ r. ⌜ told r ≡ firstFailing (value (take (length (variables (now (ws .entry)))) (now (values .entry)))) (value (now (values .entry))) 0 0 (explained (now (ws .entry))) ⌝ }
 {
-    let n = read.constraints;
     let sources = read.variables;
-    let mut k = 0;
-    let mut first = sources;
-    let mut rows = 0;
-    let mut encoded = [0usize; 256];
-    let mut words = [0u32; BLOCK];
-    while k < n {
-        let place = heads[k];
-        let code = payload_of(ws[place]);
-        let sum = sums[k];
-        let found = failing_in_block(
-            &mut words,
-            code,
-            &ws[place + 1..],
-            ls,
-            us,
-            uses,
-            &encoded,
-            sum,
-            first,
-            values,
-            rows,
-        );
-        let said = found.said;
-        if !is_holds(said) {
-            let holds = builtins::holds(code, &ws[place + 1..], &values[..sources]);
-            return because(said, k, holds);
-        }
-        record_encoding(&mut encoded, code, &ws[place + 1..], uses, first);
-        k += 1;
-        first += found.auxiliaries;
-        rows += found.rows;
+    let stopped = walk(ws, heads, read, ls, us, uses, sums, values, false);
+    let said = stopped.said;
+    if is_holds(said) {
+        return Reasoned::Nothing;
     }
-    Reasoned::Nothing
+    let k = stopped.constraint;
+    let place = heads[k];
+    let code = payload_of(ws[place]);
+    let holds = builtins::holds(code, &ws[place + 1..], &values[..sources]);
+    because(said, k, holds)
 }

@@ -1,8 +1,9 @@
 -- 15, the sources' bounds, the auxiliaries', the rows.
-use mathlib.Core.Path.{sym, _∙_}
+use mathlib.Core.Path.{refl, sym, _∙_}
 use native.Mathlib.Omega.{arith}
 use lib.Seq.{length-take-le}
 use borrow.Author.Tests.{not-true, not-false}
+use Rattle.integers.proofs.Tests.{false-true}
 use Rattle.sharing.proofs.Theorem.{few-in-all}
 use Rattle.reasoning.specs.Told.{told}
 use Rattle.reasoning.proofs.Whole.{wrong-count, source-outside, auxiliary-outside, rows-next, values-small}
@@ -36,25 +37,25 @@ returns-2 c =
     let s = c .before .before .before .before .before .before .before .before in
     c .before-rows .ensures ∙ source-outside (s .args .ws .now) (s .pre .2) (s .args .values .now) (omega (arith, c .before .before .before .before .before .if1 .left, s .pre .3, s .pre .0 .seen .variables-counted)) (rw (s .pre .0 .seen .variables-counted) at (c .before .before .before .first-out-of-bounds .ensures)) (sym (c .before .before .is-holds .ensures) ∙ not-true _ (c .before .if2 .taken))
 
-outside-in-blocks-requires : tie.Need-outside-in-blocks-requires
-outside-in-blocks-requires c κs =
+walk-requires : tie.Need-walk-requires
+walk-requires c κs =
     let s = c .before .before .before .before .before .before .before in
-    (record { passes = s .pre .2; model = s .pre .0; sums-are = s .pre .1; counted = omega (arith, c .before .before .before .before .if1 .left, s .pre .3, s .pre .0 .seen .variables-counted) })
+    (record { passes = s .pre .2; model = s .pre .0; sums-are = s .pre .1; counted = omega (arith, c .before .before .before .before .if1 .left, s .pre .3, s .pre .0 .seen .variables-counted) }, λ e. false-true (sym e))
 
 returns-3 : tie.Need-returns-3
 returns-3 c =
     let s = c .before .before .before .before .before .before .before .before .before .before .before in
-    c .before-rows2 .ensures ∙ auxiliary-outside (s .args .ws .now) (s .pre .2) (s .args .values .now) (omega (arith, c .before .before .before .before .before .before .before .before .if1 .left, s .pre .3, s .pre .0 .seen .variables-counted)) (rw (s .pre .0 .seen .variables-counted) at (c .before .before .before .before .before .before .first-out-of-bounds .ensures)) (sym (c .before .before .before .before .before .is-holds .ensures) ∙ not-false _ (c .before .before .before .before .if2 .left)) (c .before .before .before .outside-in-blocks .ensures) (sym (c .before .before .is-holds2 .ensures) ∙ not-true _ (c .before .if3 .taken))
+    c .before-rows2 .ensures ∙ auxiliary-outside (s .args .ws .now) (s .pre .2) (s .args .values .now) (omega (arith, c .before .before .before .before .before .before .before .before .if1 .left, s .pre .3, s .pre .0 .seen .variables-counted)) (rw (s .pre .0 .seen .variables-counted) at (c .before .before .before .before .before .before .first-out-of-bounds .ensures)) (sym (c .before .before .before .before .before .is-holds .ensures) ∙ not-false _ (c .before .before .before .before .if2 .left)) (c .before .before .before .walk .ensures .outside refl) (sym (c .before .before .is-holds2 .ensures) ∙ not-true _ (c .before .if3 .taken))
 
 first-failing-requires : tie.Need-first-failing-requires
 first-failing-requires c κs =
     let s = c .before .before .before .before .before .before .before .before .before .before in
-    ((record { passes = s .pre .2; model = s .pre .0; sums-are = s .pre .1; counted = omega (arith, c .before .before .before .before .before .before .before .if1 .left, s .pre .3, s .pre .0 .seen .variables-counted) }), values-small (s .args .ws .now) (s .pre .2) (s .args .values .now) (omega (arith, c .before .before .before .before .before .before .before .if1 .left, s .pre .3, s .pre .0 .seen .variables-counted)) (rw (s .pre .0 .seen .variables-counted) at (c .before .before .before .before .before .first-out-of-bounds .ensures)) (sym (c .before .before .before .before .is-holds .ensures) ∙ not-false _ (c .before .before .before .if2 .left)) (c .before .before .outside-in-blocks .ensures) (sym (c .before .is-holds2 .ensures) ∙ not-false _ (c .if3 .left)))
+    ((record { passes = s .pre .2; model = s .pre .0; sums-are = s .pre .1; counted = omega (arith, c .before .before .before .before .before .before .before .if1 .left, s .pre .3, s .pre .0 .seen .variables-counted) }), values-small (s .args .ws .now) (s .pre .2) (s .args .values .now) (omega (arith, c .before .before .before .before .before .before .before .if1 .left, s .pre .3, s .pre .0 .seen .variables-counted)) (rw (s .pre .0 .seen .variables-counted) at (c .before .before .before .before .before .first-out-of-bounds .ensures)) (sym (c .before .before .before .before .is-holds .ensures) ∙ not-false _ (c .before .before .before .if2 .left)) (c .before .before .walk .ensures .outside refl) (sym (c .before .is-holds2 .ensures) ∙ not-false _ (c .if3 .left)))
 
 returns-4 : tie.Need-returns-4
 returns-4 c =
     let s = c .before .before .before .before .before .before .before .before .before .before .before in
-    c .first-failing .ensures ∙ rows-next (s .args .ws .now) (s .pre .2) (s .args .values .now) (omega (arith, c .before .before .before .before .before .before .before .before .if1 .left, s .pre .3, s .pre .0 .seen .variables-counted)) (rw (s .pre .0 .seen .variables-counted) at (c .before .before .before .before .before .before .first-out-of-bounds .ensures)) (sym (c .before .before .before .before .before .is-holds .ensures) ∙ not-false _ (c .before .before .before .before .if2 .left)) (c .before .before .before .outside-in-blocks .ensures) (sym (c .before .before .is-holds2 .ensures) ∙ not-false _ (c .before .if3 .left))
+    c .first-failing .ensures ∙ rows-next (s .args .ws .now) (s .pre .2) (s .args .values .now) (omega (arith, c .before .before .before .before .before .before .before .before .if1 .left, s .pre .3, s .pre .0 .seen .variables-counted)) (rw (s .pre .0 .seen .variables-counted) at (c .before .before .before .before .before .before .first-out-of-bounds .ensures)) (sym (c .before .before .before .before .before .is-holds .ensures) ∙ not-false _ (c .before .before .before .before .if2 .left)) (c .before .before .before .walk .ensures .outside refl) (sym (c .before .before .is-holds2 .ensures) ∙ not-false _ (c .before .if3 .left))
 
 pub reason-passed-spec : {M : Type 1} → statement M
 reason-passed-spec =
@@ -67,7 +68,7 @@ reason-passed-spec =
     (λ c κs. search needs)
     (λ c κs. search needs)
     returns-2
-    outside-in-blocks-requires
+    walk-requires
     (λ c κs. search needs)
     (λ c κs. search needs)
     returns-3

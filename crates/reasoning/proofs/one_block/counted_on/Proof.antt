@@ -1,6 +1,5 @@
 -- Each case of the answer, as in the definition; its number is small.
 use native.Mathlib.Omega.{arith}
-use native.Mathlib.Omega.{arith}
 use Rattle.words.specs.Verdict.{verdict}
 use borrow.Author.Needs.{needs}
 use Rattle.reasoning.proofs.one_block.counted_on.Statement.{statement}

@@ -1,0 +1,165 @@
+-- The loop's invariant is `Walking`: what is left of the bounds, or of the rows, says what all of them say.
+use mathlib.Core.Path.{_≡_, refl, sym, _∙_}
+use Prim.Native.Nat.{ℕ, _+_, _-_, _<_}
+use native.Mathlib.Omega.{arith}
+use lib.ListN.{length, getD, length-replicate}
+use borrow.Author.Tests.{not-true, not-false}
+use Rattle.words.specs.Word.{wordAt}
+use Rattle.words.specs.Verdict.{verdict}
+use Rattle.words.proofs.Reading.{tail-is}
+use Rattle.models.specs.Model.{headed, builtin}
+use Rattle.rules.specs.Shared.{choice}
+use Rattle.rules.specs.Translation.{blockOf}
+use Rattle.extremes.specs.Bounded.{boundsOf}
+use Rattle.encodings.specs.Uses.{sharedBy}
+use Rattle.translation.proofs.Kept.{few-constraints, none-left, head-inside, head-at}
+use Rattle.encodings.proofs.Record.{placed-record}
+use Rattle.reasoning.proofs.Walk.{layable, room-after, own-there, Walking, walking, walk-ended, walk-stopped, walk-on}
+use borrow.Author.Needs.{needs}
+use Rattle.reasoning.proofs.walks.walk.Statement.{statement}
+use Rattle.reasoning.proofs.walks.walk.Tie as tie
+
+abbrev Inv-loop : tie.InvT-loop
+Inv-loop ws heads ls us uses values bounds sums n k₀ first₀ rows₀ encoded₀ words₀ k first rows encoded words = Walking bounds (boundsOf ls us) (sharedBy uses) ws values k first rows encoded × (length words ≡ 3072)
+
+abbrev μ-loop : tie.MeasureT-loop
+μ-loop ws heads ls us uses values bounds sums n k₀ first₀ rows₀ encoded₀ words₀ k first rows encoded words = n - k
+
+few : (c : tie.In-loop Inv-loop μ-loop) → c .before .loop .k < 256
+few c = omega (arith, c .loop-test .taken, few-constraints (c .before .before .before .before .pre .0 .model))
+
+inside : (c : tie.In-loop Inv-loop μ-loop) → let a = c .before .before .before .before .args in getD (a .heads .now) (c .before .loop .k) 0 < length (a .ws .now)
+inside c = head-inside (c .before .before .before .before .pre .0 .model) (c .before .loop .k) (c .loop-test .taken)
+
+loop-holds : tie.Need-loop-holds Inv-loop μ-loop
+loop-holds c = (walking (c .before .before .pre .0), length-replicate {A = ℕ} 3072 0)
+
+mul-place : tie.Need-mul-place Inv-loop μ-loop
+mul-place c = record { fits = omega (arith, few c) }
+
+element-copy-out-place : tie.Need-element-copy-out-place Inv-loop μ-loop
+element-copy-out-place c = few c
+
+mul-payload-of : tie.Need-mul-payload-of Inv-loop μ-loop
+mul-payload-of c = let h = inside (c .before) in search needs
+
+shared-slice-read-payload-of : tie.Need-shared-slice-read-payload-of Inv-loop μ-loop
+shared-slice-read-payload-of c = inside (c .before .before)
+
+mul-sum : tie.Need-mul-sum Inv-loop μ-loop
+mul-sum c = omega (arith, few (c .before .before .before))
+
+array-copy-out-sum : tie.Need-array-copy-out-sum Inv-loop μ-loop
+array-copy-out-sum c = few (c .before .before .before)
+
+slice-aggregate-judge-block : tie.Need-slice-aggregate-judge-block Inv-loop μ-loop
+slice-aggregate-judge-block c = sym (c .before .before .before .before .before .before .loop .inv .1)
+
+add-judge-block : tie.Need-add-judge-block Inv-loop μ-loop
+add-judge-block c = let h = inside (c .before .before .before .before .before) in search needs
+
+mul-judge-block : tie.Need-mul-judge-block Inv-loop μ-loop
+mul-judge-block c = let h = inside (c .before .before .before .before .before) in search needs
+
+sub-judge-block : tie.Need-sub-judge-block Inv-loop μ-loop
+sub-judge-block c = let h = inside (c .before .before .before .before .before) in search needs
+
+part-judge-block-start : tie.Need-part-judge-block-start Inv-loop μ-loop
+part-judge-block-start c = omega (arith, inside (c .before .before .before .before .before))
+
+slice-aggregate-judge-block-2 : tie.Need-slice-aggregate-judge-block-2 Inv-loop μ-loop
+slice-aggregate-judge-block-2 c = sym (c .before .before .before .before .before .before .before .before .loop .inv .0 .walk .many)
+
+judge-block-requires : tie.Need-judge-block-requires Inv-loop μ-loop
+unfolding wordAt blockOf builtin choice
+judge-block-requires c κs =
+    let s = c .before .before .before .before .before .before .before .before .before .before .before in
+    let l = c .before .before .before .before .before .before .before .before .loop in
+    let t = c .before .before .before .before .before .before .before .loop-test in
+    rw (c .before .before .before .before .payload-of .ensures, tail-is (s .args .ws .now) (getD (s .args .heads .now) (l .k) 0 + 1))
+    (record { layable = layable (s .pre .0) (l .inv .0 .walk) (t .taken) _; room = omega (arith, l .inv .1); there = own-there (l .inv .0 .there) (head-at (s .pre .0 .model) (l .k) (t .taken)); small = s .pre .1 }, omega (arith, l .inv .0 .small, few (c .before .before .before .before .before .before .before)))
+
+returns : tie.Need-returns Inv-loop μ-loop
+unfolding wordAt blockOf builtin choice
+returns c =
+    let s = c .before .before .before .before .before .before .before .before .before .before .before .before .before .before .before in
+    let l = c .before .before .before .before .before .before .before .before .before .before .before .before .loop in
+    walk-stopped (l .inv .0) (head-at (s .pre .0 .model) (l .k) (c .before .before .before .before .before .before .before .before .before .before .before .loop-test .taken)) (rw (c .before .before .before .before .before .before .before .before .payload-of .ensures, tail-is (s .args .ws .now) (getD (s .args .heads .now) (l .k) 0 + 1)) at (c .before .before .before .judge-block .ensures)) (omega (arith, c .before .before .before .before .before .before .before .before .before .before .before .loop-test .taken, s .pre .0 .model .seen .heads .counted)) (sym (c .before .is-holds .ensures) ∙ not-true _ (c .if1 .taken))
+
+slice-aggregate-record-encoding : tie.Need-slice-aggregate-record-encoding Inv-loop μ-loop
+slice-aggregate-record-encoding c = sym (c .before .before .before .before .before .before .before .before .before .before .before .before .before .loop .inv .0 .walk .many)
+
+add-record-encoding : tie.Need-add-record-encoding Inv-loop μ-loop
+add-record-encoding c = let h = inside (c .before .before .before .before .before .before .before .before .before .before .before .before) in search needs
+
+mul-record-encoding : tie.Need-mul-record-encoding Inv-loop μ-loop
+mul-record-encoding c = let h = inside (c .before .before .before .before .before .before .before .before .before .before .before .before) in search needs
+
+sub-record-encoding : tie.Need-sub-record-encoding Inv-loop μ-loop
+sub-record-encoding c = let h = inside (c .before .before .before .before .before .before .before .before .before .before .before .before) in search needs
+
+part-record-encoding-start : tie.Need-part-record-encoding-start Inv-loop μ-loop
+part-record-encoding-start c = omega (arith, inside (c .before .before .before .before .before .before .before .before .before .before .before .before))
+
+add-k : tie.Need-add-k Inv-loop μ-loop
+add-k c = omega (arith, few (c .before .before .before .before .before .before .before .before .before .before .before .before .before .before .before))
+
+add-first : tie.Need-add-first Inv-loop μ-loop
+unfolding wordAt blockOf builtin choice
+add-first c =
+    let s = c .before .before .before .before .before .before .before .before .before .before .before .before .before .before .before .before .before .before .before .before in
+    let l = c .before .before .before .before .before .before .before .before .before .before .before .before .before .before .before .before .before .loop in
+    let o = (rw (c .before .before .before .before .before .before .before .before .before .before .before .before .before .payload-of .ensures, tail-is (s .args .ws .now) (getD (s .args .heads .now) (l .k) 0 + 1)) at (c .before .before .before .before .before .before .before .before .judge-block .ensures)) in
+    omega (arith, room-after (s .pre .0) (l .inv .0 .walk) (c .before .before .before .before .before .before .before .before .before .before .before .before .before .before .before .before .loop-test .taken), o .auxiliaries)
+
+add-rows : tie.Need-add-rows Inv-loop μ-loop
+add-rows c = omega (arith, c .before .before .before .before .before .before .before .before .before .before .before .before .before .before .before .before .before .before .loop .inv .0 .small, few (c .before .before .before .before .before .before .before .before .before .before .before .before .before .before .before .before .before), c .before .before .before .before .before .before .before .before .before .judge-block .ensures .few)
+
+loop-again : tie.Need-loop-again Inv-loop μ-loop
+unfolding wordAt blockOf builtin choice
+loop-again c =
+    let s = c .before .before .before .before .before .before .before .before .before .before .before .before .before .before .before .before .before .before .before .before .before in
+    let l = c .before .before .before .before .before .before .before .before .before .before .before .before .before .before .before .before .before .before .loop in
+    (walk-on (l .inv .0) (head-at (s .pre .0 .model) (l .k) (c .before .before .before .before .before .before .before .before .before .before .before .before .before .before .before .before .before .loop-test .taken)) (rw (c .before .before .before .before .before .before .before .before .before .before .before .before .before .before .payload-of .ensures, tail-is (s .args .ws .now) (getD (s .args .heads .now) (l .k) 0 + 1)) at (c .before .before .before .before .before .before .before .before .before .judge-block .ensures)) (sym (c .before .before .before .before .before .before .before .is-holds .ensures) ∙ not-false _ (c .before .before .before .before .before .before .if1 .left)) (placed-record (sharedBy (s .args .uses .now)) (l .first) (l .encoded) (headed (s .args .ws .now) (getD (s .args .heads .now) (l .k) 0)) (rw (c .before .before .before .before .before .before .before .before .before .before .before .before .before .before .payload-of .ensures, tail-is (s .args .ws .now) (getD (s .args .heads .now) (l .k) 0 + 1)) at (c .before .before .before .record-encoding .ensures))), c .before .before .before .before .before .before .before .before .words2 .given)
+
+returns-2 : tie.Need-returns-2 Inv-loop μ-loop
+unfolding verdict
+returns-2 c = walk-ended (c .before .loop .inv .0) (none-left (c .before .before .before .before .pre .0 .model) (c .loop-test .left)) refl
+
+pub walk-spec : {M : Type 1} → statement M
+walk-spec =
+    tie.close
+    (tie.spec
+    Inv-loop
+    μ-loop
+    loop-holds
+    mul-place
+    element-copy-out-place
+    mul-payload-of
+    shared-slice-read-payload-of
+    (λ c κs. search needs)
+    mul-sum
+    array-copy-out-sum
+    slice-aggregate-judge-block
+    add-judge-block
+    mul-judge-block
+    sub-judge-block
+    part-judge-block-start
+    (λ c. search needs)
+    slice-aggregate-judge-block-2
+    judge-block-requires
+    (λ c κs. search needs)
+    returns
+    slice-aggregate-record-encoding
+    add-record-encoding
+    mul-record-encoding
+    sub-record-encoding
+    part-record-encoding-start
+    (λ c. search needs)
+    (λ c κs. search needs)
+    add-k
+    add-first
+    add-rows
+    (λ c. search needs)
+    loop-again
+    returns-2)
