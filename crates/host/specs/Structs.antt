@@ -31,41 +31,24 @@ countsOf holds = noCounts 0 0
 countsOf (outOfBounds i) = noCounts 0 0
 countsOf (isFalse i) = noCounts 0 0
 
--- Of translate, text and bits.
-abbrev pub noWords : ℕ → ℕ → Written
-noWords n p = record { fault = n; place = p; words = 0 }
+-- Of the calls that write: a fault, its place, and how many were written.
+unfoldable pub countOf : {A : Type 0} → (ℕ → ℕ → ℕ → A) → Answer → A
+countOf made (refused n p) = made n p 0
+countOf made (written n) = made 0 0 n
+countOf made (counts v c a r w) = made 0 0 0
+countOf made holds = made 0 0 0
+countOf made (outOfBounds i) = made 0 0 0
+countOf made (isFalse i) = made 0 0 0
 
+-- Of translate, text and bits; of sheet; of solutions.
 unfoldable pub writtenOf : Answer → Written
-writtenOf (refused n p) = noWords n p
-writtenOf (written n) = record { fault = 0; place = 0; words = n }
-writtenOf (counts v c a r w) = noWords 0 0
-writtenOf holds = noWords 0 0
-writtenOf (outOfBounds i) = noWords 0 0
-writtenOf (isFalse i) = noWords 0 0
-
--- Of sheet.
-abbrev pub noBytes : ℕ → ℕ → Printed
-noBytes n p = record { fault = n; place = p; bytes = 0 }
+writtenOf = countOf (λ n p k. record { fault = n; place = p; words = k })
 
 unfoldable pub printedOf : Answer → Printed
-printedOf (refused n p) = noBytes n p
-printedOf (written n) = record { fault = 0; place = 0; bytes = n }
-printedOf (counts v c a r w) = noBytes 0 0
-printedOf holds = noBytes 0 0
-printedOf (outOfBounds i) = noBytes 0 0
-printedOf (isFalse i) = noBytes 0 0
-
--- Of solutions.
-abbrev pub noSolutions : ℕ → ℕ → Listed
-noSolutions n p = record { fault = n; place = p; solutions = 0 }
+printedOf = countOf (λ n p k. record { fault = n; place = p; bytes = k })
 
 unfoldable pub listedOf : Answer → Listed
-listedOf (refused n p) = noSolutions n p
-listedOf (written n) = record { fault = 0; place = 0; solutions = n }
-listedOf (counts v c a r w) = noSolutions 0 0
-listedOf holds = noSolutions 0 0
-listedOf (outOfBounds i) = noSolutions 0 0
-listedOf (isFalse i) = noSolutions 0 0
+listedOf = countOf (λ n p k. record { fault = n; place = p; solutions = k })
 
 -- Of reason, by the reason: 0 refused, 1 none, 2 out of bounds, 3 the builtin is false, 4 it is true and auxiliaries in the row are wrong.
 unfoldable pub explanationOf : Reason → Explanation

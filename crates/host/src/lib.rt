@@ -27,7 +27,7 @@ ghost use Rattle.bitforms.specs.FormAnswer.{bitForm, bitFormed};
 ghost use Rattle.bitsharing.specs.Shares.{Shares as FormShares};
 ghost use Rattle.bitform.specs.Formed.{formed};
 ghost use Rattle.solutions.specs.Found.{found};
-ghost use Rattle.solutions.specs.Solutions.{solutionsAnswer, listed};
+ghost use Rattle.solutions.specs.Solutions.{solutionsAnswer, solutionsListed};
 ghost use Rattle.integers.specs.Choice.{_if_else_};
 ghost use Rattle.reasons.specs.Reason.{reason as reasonAnswer};
 ghost use Rattle.reasoning.specs.Told.{told};
@@ -424,7 +424,7 @@ pub extern "C" fn pearrummy_fill(words: &[u32], values: &[i32], out: &mut [i32])
     ensures answer { λ r. ⌜ r ≡ judgementOf (fillAnswer (now (words .entry)) (now (values .entry)) (length (now (out .entry)))) ⌝ }
     ensures output { λ r. ⌜ now (out .exit) ≡ filled (now (words .entry)) (now (values .entry)) (now (out .entry)) ⌝ }
     ensures satisfied { λ r. ⌜ Satisfied (now (words .entry)) (fillAnswer (now (words .entry)) (now (values .entry)) (length (now (out .entry)))) (now (out .exit)) ⌝ }
-    ensures completes { λ r. ⌜ HandsOver (now (words .entry)) (now (values .entry)) (fillAnswer (now (words .entry)) (now (values .entry)) (length (now (out .entry)))) (now (out .entry)) (now (out .exit)) ⌝ }
+    ensures completes { λ r. let ws = now (words .entry) in let vs = now (values .entry) in let given = now (out .entry) in ⌜ HandsOver ws vs (fillAnswer ws vs (length given)) given (now (out .exit)) ⌝ }
 {
     filled_of(fill(words, values, out))
 }
@@ -451,7 +451,7 @@ pub extern "C" fn pearrummy_text(text: &[u8], out: &mut [u32]) -> Written
 #[no_mangle]
 pub extern "C" fn pearrummy_solutions(words: &[u32], out: &mut [i32]) -> Listed
     ensures answer { λ r. ⌜ r ≡ listedOf (solutionsAnswer (now (words .entry)) (length (now (out .entry)))) ⌝ }
-    ensures output { λ r. ⌜ now (out .exit) ≡ listed (now (words .entry)) (now (out .entry)) ⌝ }
+    ensures output { λ r. ⌜ now (out .exit) ≡ solutionsListed (now (words .entry)) (now (out .entry)) ⌝ }
 {
     listed_of(solutions(words, out))
 }
@@ -500,8 +500,8 @@ pub extern "C" fn pearrummy_pair_fill(
 ) -> Judgement
     ensures answer { λ r. ⌜ r ≡ judgementOf (pairFill candidate (now (words .entry)) (now (values .entry)) (length (now (out .entry)))) ⌝ }
     ensures output { λ r. ⌜ now (out .exit) ≡ pairFilled candidate (now (words .entry)) (now (values .entry)) (now (out .entry)) ⌝ }
-    ensures satisfied { λ r. ⌜ Satisfied (modelOf candidate (now (words .entry))) (pairFill candidate (now (words .entry)) (now (values .entry)) (length (now (out .entry)))) (now (out .exit)) ⌝ }
-    ensures completes { λ r. ⌜ PairHandsOver candidate (now (words .entry)) (now (values .entry)) (pairFill candidate (now (words .entry)) (now (values .entry)) (length (now (out .entry)))) (now (out .entry)) (now (out .exit)) ⌝ }
+    ensures satisfied { λ r. let ws = now (words .entry) in ⌜ Satisfied (modelOf candidate ws) (pairFill candidate ws (now (values .entry)) (length (now (out .entry)))) (now (out .exit)) ⌝ }
+    ensures completes { λ r. let ws = now (words .entry) in let vs = now (values .entry) in let given = now (out .entry) in ⌜ PairHandsOver candidate ws vs (pairFill candidate ws vs (length given)) given (now (out .exit)) ⌝ }
 {
     filled_of(pair_fill(words, candidate, values, out))
 }

@@ -35,24 +35,24 @@ use Rattle.translation.proofs.Refusals.{refused-first, some-refusal}
 use Rattle.extremes.specs.Bounded.{boundsOf}
 use Rattle.rules.specs.Shared.{keep}
 use Rattle.solutions.specs.Lists.{valueLists, listCount}
-use Rattle.solutions.specs.Inside.{Inside, lowest}
+use Rattle.solutions.specs.AllWithin.{AllWithin, lowestList}
 use Rattle.solutions.specs.Odometer.{listsFrom}
-use Rattle.solutions.specs.Solutions.{allTrue, solutions, limitFault, solutionsFault, solutionsAnswer, listed}
-use Rattle.solutions.specs.Walk.{boundsTo, solutionsFrom, solutionsIn, Ready, Sized}
+use Rattle.solutions.specs.Solutions.{allTrue, solutions, listsFault, solutionsFault, solutionsAnswer, solutionsListed}
+use Rattle.solutions.specs.Walk.{boundsTo, solutionsFrom, solutionsIn, Walkable, Sized}
 use Rattle.solutions.proofs.Complete.{inside-says}
 use Rattle.solutions.proofs.Counts.{count-is}
 use Rattle.solutions.proofs.Odometer.{from-lowest}
 
 -- ---- the first list
 
-module _ {ls us : List ℤ} {n : ℕ} (s : Sized ls us n) (vs : List ℤ) (e : vs ≡ lowest (boundsTo ls us n)) where
+module _ {ls us : List ℤ} {n : ℕ} (s : Sized ls us n) (vs : List ℤ) (e : vs ≡ lowestList (boundsTo ls us n)) where
   as-many : length vs ≡ n
-  as-many = rw e (inside-says (boundsTo ls us n) (lowest (boundsTo ls us n)) (s .inside) .0 ∙ listOf-length (boundsOf ls us) n)
+  as-many = rw e (inside-says (boundsTo ls us n) (lowestList (boundsTo ls us n)) (s .inside) .0 ∙ listOf-length (boundsOf ls us) n)
 
   all-lists : listsFrom (boundsTo ls us (length vs)) vs ≡ valueLists (boundsTo ls us n)
-  all-lists = ap (λ (k : ℕ). listsFrom (boundsTo ls us k) vs) as-many ∙ ap (listsFrom (boundsTo ls us n)) e ∙ from-lowest (boundsTo ls us n) (lowest (boundsTo ls us n)) (s .inside)
+  all-lists = ap (λ (k : ℕ). listsFrom (boundsTo ls us k) vs) as-many ∙ ap (listsFrom (boundsTo ls us n)) e ∙ from-lowest (boundsTo ls us n) (lowestList (boundsTo ls us n)) (s .inside)
 
-  pub ready : Ready ls us vs
+  pub ready : Walkable ls us vs
   ready = record {
     lowers = s .lowers;
     uppers = s .uppers;
@@ -71,8 +71,8 @@ unfolding listOf boundsIn
 bounds-listed [] = refl
 bounds-listed (B ∷ Bs) = ap (λ l. B ∷ l) (bounds-listed Bs)
 
-pub ordered-inside : (Bs : List Bounds) → All Ordered Bs → Inside Bs (lowest Bs)
-unfolding lowest
+pub ordered-inside : (Bs : List Bounds) → All Ordered Bs → AllWithin Bs (lowestList Bs)
+unfolding lowestList
 ordered-inside [] h = tt
 ordered-inside (B ∷ Bs) h = (says-within B (B .lower) .1 (both (B .lower) (B .upper) (h .0 .rising)), ordered-inside Bs (h .1))
   where
@@ -82,11 +82,11 @@ ordered-inside (B ∷ Bs) h = (says-within B (B .lower) .1 (both (B .lower) (B .
 -- ---- the answers
 
 abbrev pub Gives : List ℕ → List ℤ → Answer → List ℤ → Type 0
-Gives ws out answer out′ = (answer ≡ solutionsAnswer ws (length out)) × (out′ ≡ listed ws out)
+Gives ws out answer out′ = (answer ≡ solutionsAnswer ws (length out)) × (out′ ≡ solutionsListed ws out)
 
 module _ (ws : List ℕ) (passes : Passes ws) (out : List ℤ) where
   too-large : (ltb 8 (length (variables ws)) || ltb 65536 (listCount (variables ws))) ≡ true → Gives ws out (refused 22 0) out
-  unfolding solutionsAnswer listed solutionsFault limitFault _else-refuse_ _else-answer_
+  unfolding solutionsAnswer solutionsListed solutionsFault listsFault _else-refuse_ _else-answer_
   too-large e = (rw (passes, e), rw (passes, e))
 
   pub too-many-variables : 8 < length (variables ws) → Gives ws out (refused 22 0) out
@@ -100,16 +100,16 @@ module _ (ws : List ℕ) (passes : Passes ws) (out : List ℤ) where
       or-true false = refl
 
   module _ (l : length (variables ws) ≤ 8) (m : listCount (variables ws) ≤ 65536) where
-    small : limitFault (variables ws) ≡ accepted
-    unfolding limitFault
+    small : listsFault (variables ws) ≡ accepted
+    unfolding listsFault
     small = rw (le-ltb 8 (length (variables ws)) l, le-ltb 65536 (listCount (variables ws)) m)
 
     pub too-short : length out < length (solutions ws) * length (variables ws) → Gives ws out (refused 16 0) out
-    unfolding solutionsAnswer listed solutionsFault roomFault _else-refuse_ _else-answer_
+    unfolding solutionsAnswer solutionsListed solutionsFault roomFault _else-refuse_ _else-answer_
     too-short h = let e = lt-ltb (length out) (length (solutions ws) * length (variables ws)) h in (rw (passes, small, e), rw (passes, small, e))
 
     pub lists : length (solutions ws) * length (variables ws) ≤ length out → Gives ws out (written (length (solutions ws))) (overlay out 0 (flatten (solutions ws)))
-    unfolding solutionsAnswer listed solutionsFault roomFault _else-refuse_ _else-answer_
+    unfolding solutionsAnswer solutionsListed solutionsFault roomFault _else-refuse_ _else-answer_
     lists h = let e = le-ltb (length out) (length (solutions ws) * length (variables ws)) h in (rw (passes, small, e), rw (passes, small, e))
 
 -- ---- what reading keeps of a model that passes, and its bounds
@@ -196,7 +196,7 @@ module _ {ls us : List ℤ} {n m : ℕ} (e : n ≡ m) where
 
 module _ (ws : List ℕ) (out : List ℤ) where
   refuses : {n p : ℕ} → (n ≡ 0 → ⊥) → solutionsFault ws (length out) ≡ (n at-place p) → Gives ws out (refused n p) out
-  unfolding solutionsAnswer listed _else-answer_
+  unfolding solutionsAnswer solutionsListed _else-answer_
   refuses {n} {p} f e = (rw e (refused-first n p _ f), rw (e, ne-eqb n 0 f))
 
   pub stands : {n p : ℕ} → refused n p ≡ check ws → Gives ws out (refused n p) out

@@ -15,7 +15,7 @@ use Rattle.words.specs.Variables.{variables}
 use Rattle.sharing.specs.SharedSolutions.{SatisfiesModel}
 use Rattle.rules.proofs.Members.{values-member, keep-member}
 use Rattle.solutions.specs.Lists.{begun, valueLists}
-use Rattle.solutions.specs.Inside.{Inside}
+use Rattle.solutions.specs.AllWithin.{AllWithin}
 use Rattle.solutions.specs.Solutions.{allTrue, solutions}
 
 -- ---- members of lists
@@ -64,14 +64,14 @@ flat-out x ls (u ∷ us) h = go (any-cases (λ y. x ≡ y) (begun ls u) (flatMap
 
 -- ---- the value lists are the lists inside the bounds
 
-pub lists-in : (Bs : List Bounds) (vs : List ℤ) → Inside Bs vs → Member vs (valueLists Bs)
+pub lists-in : (Bs : List Bounds) (vs : List ℤ) → AllWithin Bs vs → Member vs (valueLists Bs)
 unfolding valueLists
 lists-in [] [] h = inl refl
 lists-in [] (v ∷ vs) h = absurd h
 lists-in (B ∷ Bs) [] h = absurd h
 lists-in (B ∷ Bs) (v ∷ vs) h = flat-in v vs (valueLists Bs) (values B) (values-member B v .1 (says-within B v .0 (h .0))) (lists-in Bs vs (h .1))
 
-pub lists-out : (Bs : List Bounds) (vs : List ℤ) → Member vs (valueLists Bs) → Inside Bs vs
+pub lists-out : (Bs : List Bounds) (vs : List ℤ) → Member vs (valueLists Bs) → AllWithin Bs vs
 unfolding valueLists
 lists-out [] vs (inl e) = rw e tt
 lists-out [] vs (inr m) = absurd m
@@ -81,7 +81,7 @@ lists-out (B ∷ Bs) vs m =
 
 -- ---- by variable number
 
-pub inside-says : (Bs : List Bounds) (vs : List ℤ) → Inside Bs vs → (length vs ≡ length Bs) × ((x : ℕ) → x < length Bs → within (boundsIn Bs x) (value vs x) ≡ true)
+pub inside-says : (Bs : List Bounds) (vs : List ℤ) → AllWithin Bs vs → (length vs ≡ length Bs) × ((x : ℕ) → x < length Bs → within (boundsIn Bs x) (value vs x) ≡ true)
 unfolding boundsIn value
 inside-says [] [] h = (refl, λ x l. absurd (omega arith))
 inside-says [] (v ∷ vs) h = absurd h
@@ -92,7 +92,7 @@ inside-says (B ∷ Bs) (v ∷ vs) h = (ap suc (inside-says Bs vs (h .1) .0), λ 
     at zero l f = h .0
     at (suc x) l f = f x (omega arith)
 
-says-inside : (Bs : List Bounds) (vs : List ℤ) → length vs ≡ length Bs → ((x : ℕ) → x < length Bs → within (boundsIn Bs x) (value vs x) ≡ true) → Inside Bs vs
+says-inside : (Bs : List Bounds) (vs : List ℤ) → length vs ≡ length Bs → ((x : ℕ) → x < length Bs → within (boundsIn Bs x) (value vs x) ≡ true) → AllWithin Bs vs
 unfolding boundsIn value
 says-inside [] [] e f = tt
 says-inside [] (v ∷ vs) e f = absurd (omega arith)

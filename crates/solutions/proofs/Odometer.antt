@@ -14,8 +14,8 @@ use Rattle.integers.specs.declared.Bounds.{Bounds}
 use Rattle.integers.proofs.Linear.{_⊑_, _⊏_, linear}
 use Rattle.integers.proofs.Tests.{says-lt, says-within, false-true}
 use Rattle.solutions.specs.Lists.{begun, valueLists}
-use Rattle.solutions.specs.Inside.{Inside, lowest}
-use Rattle.solutions.specs.Odometer.{isLast, turned, next, listsFrom}
+use Rattle.solutions.specs.AllWithin.{AllWithin, lowestList}
+use Rattle.solutions.specs.Odometer.{isLast, turned, nextList, listsFrom}
 
 -- ---- the values from a number on
 
@@ -68,8 +68,8 @@ and-true false b e = false-true e
 
 -- ---- the first list
 
-pub from-lowest : (Bs : List Bounds) (vs : List ℤ) → Inside Bs vs → listsFrom Bs (lowest Bs) ≡ valueLists Bs
-unfolding listsFrom valueLists lowest flatMap
+pub from-lowest : (Bs : List Bounds) (vs : List ℤ) → AllWithin Bs vs → listsFrom Bs (lowestList Bs) ≡ valueLists Bs
+unfolding listsFrom valueLists lowestList flatMap
 from-lowest [] [] h = refl
 from-lowest [] (v ∷ vs) h = refl
 from-lowest (B ∷ Bs) [] h = absurd h
@@ -77,8 +77,8 @@ from-lowest (B ∷ Bs) (v ∷ vs) h =
     rw (from-lowest Bs vs (h .1), values-step (B .lower) (B .upper) (ordered B v (h .0)))
 
 -- after the last list comes the first
-next-lowest : (Bs : List Bounds) (vs : List ℤ) → Inside Bs vs → isLast Bs vs ≡ true → next Bs vs ≡ lowest Bs
-unfolding isLast next turned lowest
+next-lowest : (Bs : List Bounds) (vs : List ℤ) → AllWithin Bs vs → isLast Bs vs ≡ true → nextList Bs vs ≡ lowestList Bs
+unfolding isLast nextList turned lowestList
 next-lowest [] vs h e = refl
 next-lowest (B ∷ Bs) [] h e = absurd h
 next-lowest (B ∷ Bs) (v ∷ vs) h e =
@@ -93,23 +93,23 @@ next-lowest (B ∷ Bs) (v ∷ vs) h e =
 abbrev pub left : Bool → List Bounds → List ℤ → List (List ℤ)
 left more Bs vs = listsFrom Bs vs if more else []
 
-pub from-next : (Bs : List Bounds) (vs : List ℤ) → Inside Bs vs → listsFrom Bs vs ≡ vs ∷ left (not (isLast Bs vs)) Bs (next Bs vs)
-unfolding listsFrom isLast next begun turned flatMap
+pub from-next : (Bs : List Bounds) (vs : List ℤ) → AllWithin Bs vs → listsFrom Bs vs ≡ vs ∷ left (not (isLast Bs vs)) Bs (nextList Bs vs)
+unfolding listsFrom isLast nextList begun turned flatMap
 from-next [] [] h = refl
 from-next [] (v ∷ vs) h = absurd h
 from-next (B ∷ Bs) [] h = absurd h
 from-next (B ∷ Bs) (v ∷ vs) h = go (isLast Bs vs) refl (ltZ v (B .upper)) refl (from-next Bs vs (h .1))
   where
-    go : (l : Bool) → isLast Bs vs ≡ l → (t : Bool) → ltZ v (B .upper) ≡ t → listsFrom Bs vs ≡ vs ∷ left (not l) Bs (next Bs vs) →
+    go : (l : Bool) → isLast Bs vs ≡ l → (t : Bool) → ltZ v (B .upper) ≡ t → listsFrom Bs vs ≡ vs ∷ left (not l) Bs (nextList Bs vs) →
         begun (listsFrom Bs vs) v ++ flatMap (begun (valueLists Bs)) (values (v ⊕ +1 to B .upper))
-        ≡ (v ∷ vs) ∷ (begun (listsFrom Bs (next Bs vs)) (turned B v if l else v) ++ flatMap (begun (valueLists Bs)) (values ((turned B v if l else v) ⊕ +1 to B .upper)) if not (l && not t) else [])
+        ≡ (v ∷ vs) ∷ (begun (listsFrom Bs (nextList Bs vs)) (turned B v if l else v) ++ flatMap (begun (valueLists Bs)) (values ((turned B v if l else v) ⊕ +1 to B .upper)) if not (l && not t) else [])
     go false e t f r = rw r
     go true e true f r =
         rw (r, f, next-lowest Bs vs (h .1) e, from-lowest Bs vs (h .1), values-step (v ⊕ +1) (B .upper) (below v (B .upper) f))
     go true e false f r = rw (r, values-none (v ⊕ +1) (B .upper) (not-below v (B .upper) f))
 
-pub next-inside : (Bs : List Bounds) (vs : List ℤ) → Inside Bs vs → Inside Bs (next Bs vs)
-unfolding next turned
+pub next-inside : (Bs : List Bounds) (vs : List ℤ) → AllWithin Bs vs → AllWithin Bs (nextList Bs vs)
+unfolding nextList turned
 next-inside [] vs h = tt
 next-inside (B ∷ Bs) [] h = absurd h
 next-inside (B ∷ Bs) (v ∷ vs) h = (go (isLast Bs vs) (ltZ v (B .upper)) refl, next-inside Bs vs (h .1))

@@ -12,13 +12,13 @@ use Rattle.integers.specs.Number.{_⊕_, +0, +1}
 use Rattle.integers.specs.Lists.{listOf}
 use Rattle.integers.specs.declared.Bounds.{Bounds}
 use Rattle.integers.proofs.Lists.{listOf-length}
-use Rattle.solutions.specs.Odometer.{isLast, turned, next}
+use Rattle.solutions.specs.Odometer.{isLast, turned, nextList}
 use Rattle.solutions.proofs.Counts.{bounds-then}
 
 -- where a value is not the last one, the values before it stay
 finish : (j : ℕ) (Bs : List Bounds) (vs : List ℤ) → j ≤ length Bs → j ≤ length vs → isLast (drop j Bs) (drop j vs) ≡ false →
-    (isLast Bs vs ≡ false) × (next Bs vs ≡ take j vs ++ next (drop j Bs) (drop j vs))
-unfolding isLast next
+    (isLast Bs vs ≡ false) × (nextList Bs vs ≡ take j vs ++ nextList (drop j Bs) (drop j vs))
+unfolding isLast nextList
 finish zero Bs vs l m h = (h, refl)
 finish (suc j) [] vs l m h = absurd (omega arith)
 finish (suc j) (B ∷ Bs) [] l m h = absurd (omega arith)
@@ -31,16 +31,16 @@ module _ (β : ℕ → Bounds) (vs₀ : List ℤ) where
   pub record Stepping (vs : List ℤ) (k : ℕ) : Type 0 where
     pub inside : k ≤ length vs₀
     pub last : isLast (drop k Bs) (drop k vs₀) ≡ true
-    pub list : vs ≡ take k vs₀ ++ next (drop k Bs) (drop k vs₀)
+    pub list : vs ≡ take k vs₀ ++ nextList (drop k Bs) (drop k vs₀)
 
   pub begun-step : Stepping vs₀ (length vs₀)
-  unfolding isLast next
+  unfolding isLast nextList
   begun-step =
       let q : length Bs ≤ length vs₀ = omega (arith, listOf-length β (length vs₀)) in
       let e : drop (length vs₀) Bs ≡ [] = drop-of-length-le Bs q in
       record { inside = omega arith; last = rw e; list = rw e (sym (append-nil (take (length vs₀) vs₀) ∙ take-all (length vs₀) vs₀ (omega arith))) }
 
-  pub done-step : {vs : List ℤ} {k : ℕ} → Stepping vs k → k ≤ 0 → (false ≡ not (isLast Bs vs₀)) × (vs ≡ next Bs vs₀)
+  pub done-step : {vs : List ℤ} {k : ℕ} → Stepping vs k → k ≤ 0 → (false ≡ not (isLast Bs vs₀)) × (vs ≡ nextList Bs vs₀)
   done-step {vs} {k} s h = let e : k ≡ 0 = omega arith in (ap not (sym (rw e at (s .last))), rw e at (s .list))
 
   module _ {vs : List ℤ} {k : ℕ} (s : Stepping vs k) (j : ℕ) (e : k ≡ suc j) where
@@ -55,7 +55,7 @@ module _ (β : ℕ → Bounds) (vs₀ : List ℤ) where
     front = length-take-le j vs₀ (omega (arith, s .inside))
 
     rest : List ℤ
-    rest = next (drop k Bs) (drop k vs₀)
+    rest = nextList (drop k Bs) (drop k vs₀)
 
     here : vs ≡ take j vs₀ ++ (v ∷ rest)
     unfolding rest
@@ -77,15 +77,15 @@ module _ (β : ℕ → Bounds) (vs₀ : List ℤ) where
     values-at = rw e (drop-cons vs₀ j +0 (omega (arith, s .inside)))
 
     pub over : ltZ (getD vs₀ j +0) (β j .upper) ≡ false → Stepping (set vs j (β j .lower)) j
-    unfolding isLast next turned v rest
+    unfolding isLast nextList turned v rest
     over h = record {
       inside = omega (arith, s .inside);
       last = rw (bounds-at, values-at) (rw (s .last, h));
-      list = put (β j .lower) ∙ ap (λ (l : List ℤ). take j vs₀ ++ l) (sym (ap (λ bs. next bs (drop j vs₀)) bounds-at ∙ ap (next (β j ∷ drop k Bs)) values-at ∙ rw (s .last, h)));
+      list = put (β j .lower) ∙ ap (λ (l : List ℤ). take j vs₀ ++ l) (sym (ap (λ bs. nextList bs (drop j vs₀)) bounds-at ∙ ap (nextList (β j ∷ drop k Bs)) values-at ∙ rw (s .last, h)));
     }
 
-    pub up : ltZ (getD vs₀ j +0) (β j .upper) ≡ true → (true ≡ not (isLast Bs vs₀)) × (set vs j (getD vs₀ j +0 ⊕ +1) ≡ next Bs vs₀)
-    unfolding isLast next turned v rest
+    pub up : ltZ (getD vs₀ j +0) (β j .upper) ≡ true → (true ≡ not (isLast Bs vs₀)) × (set vs j (getD vs₀ j +0 ⊕ +1) ≡ nextList Bs vs₀)
+    unfolding isLast nextList turned v rest
     up h =
         let f = finish j Bs vs₀ (omega (arith, listOf-length β (length vs₀), s .inside)) (omega (arith, s .inside)) (rw (bounds-at, values-at) (rw (s .last, h))) in
-        (ap not (sym (f .0)), put (v ⊕ +1) ∙ sym (f .1 ∙ ap (λ (l : List ℤ). take j vs₀ ++ l) (ap (λ bs. next bs (drop j vs₀)) bounds-at ∙ ap (next (β j ∷ drop k Bs)) values-at ∙ rw (s .last, h))))
+        (ap not (sym (f .0)), put (v ⊕ +1) ∙ sym (f .1 ∙ ap (λ (l : List ℤ). take j vs₀ ++ l) (ap (λ bs. nextList bs (drop j vs₀)) bounds-at ∙ ap (nextList (β j ∷ drop k Bs)) values-at ∙ rw (s .last, h))))

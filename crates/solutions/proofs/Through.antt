@@ -15,8 +15,8 @@ use Rattle.words.specs.Judge.{firstFalse}
 use Rattle.words.specs.Overlay.{overlay}
 use Rattle.words.proofs.Overlay.{overlay-append, overlay-none}
 use Rattle.rules.specs.Shared.{keep}
-use Rattle.solutions.specs.Inside.{Inside}
-use Rattle.solutions.specs.Odometer.{isLast, next, listsFrom}
+use Rattle.solutions.specs.AllWithin.{AllWithin}
+use Rattle.solutions.specs.Odometer.{isLast, nextList, listsFrom}
 use Rattle.solutions.proofs.Complete.{inside-says}
 use Rattle.solutions.proofs.Odometer.{left, from-next, next-inside}
 
@@ -34,11 +34,11 @@ holds-all t k (x ∷ xs) = go (t x) (holds-all t (k + 1) xs)
 
 module _ (t : List ℤ → Bool) (Bs : List Bounds) (vs₀ : List ℤ) where
   pub record Counting (vs : List ℤ) (count : ℕ) (more : Bool) : Type 0 where
-    pub inside : Inside Bs vs
+    pub inside : AllWithin Bs vs
     pub found : count + length (keep t (left more Bs vs)) ≡ length (keep t (listsFrom Bs vs₀))
     pub few : count + length (left more Bs vs) ≤ length (listsFrom Bs vs₀)
 
-  pub count-begun : Inside Bs vs₀ → Counting vs₀ 0 true
+  pub count-begun : AllWithin Bs vs₀ → Counting vs₀ 0 true
   count-begun h = record { inside = h; found = omega arith; few = omega arith }
 
   module _ {vs : List ℤ} {count : ℕ} (c : Counting vs count true) where
@@ -46,17 +46,17 @@ module _ (t : List ℤ → Bool) (Bs : List Bounds) (vs₀ : List ℤ) where
     pub some-left : count < length (listsFrom Bs vs₀)
     some-left = omega (arith, c .few, ap length (from-next Bs vs (c .inside)))
 
-    pub fewer : length (left (not (isLast Bs vs)) Bs (next Bs vs)) < length (listsFrom Bs vs)
+    pub fewer : length (left (not (isLast Bs vs)) Bs (nextList Bs vs)) < length (listsFrom Bs vs)
     fewer = omega (arith, ap length (from-next Bs vs (c .inside)))
 
-    pub counts : t vs ≡ true → Counting (next Bs vs) (count + 1) (not (isLast Bs vs))
+    pub counts : t vs ≡ true → Counting (nextList Bs vs) (count + 1) (not (isLast Bs vs))
     counts h = record {
       inside = next-inside Bs vs (c .inside);
       found = omega (arith, rw (from-next Bs vs (c .inside), h) at (c .found));
       few = omega (arith, rw (from-next Bs vs (c .inside)) at (c .few));
     }
 
-    pub passes : t vs ≡ false → Counting (next Bs vs) count (not (isLast Bs vs))
+    pub passes : t vs ≡ false → Counting (nextList Bs vs) count (not (isLast Bs vs))
     passes h = record {
       inside = next-inside Bs vs (c .inside);
       found = rw (from-next Bs vs (c .inside), h) at (c .found);
@@ -69,12 +69,12 @@ module _ (t : List ℤ → Bool) (Bs : List Bounds) (vs₀ : List ℤ) where
   -- a turn of the loop: the count where the test is true, and the next list
   pub count-turn : {vs : List ℤ} {count : ℕ} {more : Bool} → Counting vs count more → more ≡ true → (count′ : ℕ) →
       ((t vs ≡ true) × (count′ ≡ count + 1)) ⊎ ((t vs ≡ false) × (count′ ≡ count)) →
-      (vs′ : List ℤ) (more′ : Bool) → vs′ ≡ next Bs vs → more′ ≡ not (isLast Bs vs) → Counting vs′ count′ more′
+      (vs′ : List ℤ) (more′ : Bool) → vs′ ≡ nextList Bs vs → more′ ≡ not (isLast Bs vs) → Counting vs′ count′ more′
   count-turn {vs} {count} {more} c e count′ (inl h) vs′ more′ f g = let d : Counting vs count true = rw e at c in rw (f, g, h .1) (counts d (h .0))
   count-turn {vs} {count} {more} c e count′ (inr h) vs′ more′ f g = let d : Counting vs count true = rw e at c in rw (f, g, h .1) (passes d (h .0))
 
   pub count-less : {vs : List ℤ} {count : ℕ} {more : Bool} → Counting vs count more → more ≡ true → (vs′ : List ℤ) (more′ : Bool) →
-      vs′ ≡ next Bs vs → more′ ≡ not (isLast Bs vs) → length (left more′ Bs vs′) < length (left more Bs vs)
+      vs′ ≡ nextList Bs vs → more′ ≡ not (isLast Bs vs) → length (left more′ Bs vs′) < length (left more Bs vs)
   count-less {vs} {count} {more} c e vs′ more′ f g = let d : Counting vs count true = rw e at c in rw (f, g, e) (fewer d)
 
   pub count-room : {vs : List ℤ} {count : ℕ} {more : Bool} → Counting vs count more → more ≡ true → length (listsFrom Bs vs₀) ≤ 65536 → count < 65536
@@ -91,19 +91,19 @@ module _ (t : List ℤ → Bool) (Bs : List Bounds) (vs₀ : List ℤ) where
 
 module _ (t : List ℤ → Bool) (Bs : List Bounds) (vs₀ out₀ : List ℤ) where
   pub record Listing (vs out : List ℤ) (at : ℕ) (more : Bool) : Type 0 where
-    pub inside : Inside Bs vs
+    pub inside : AllWithin Bs vs
     pub short : length Bs ≤ 8
     pub room : at + 8 * length (left more Bs vs) ≤ 8 * length (listsFrom Bs vs₀)
     pub laid : overlay out at (flatten (keep t (left more Bs vs))) ≡ overlay out₀ 0 (flatten (keep t (listsFrom Bs vs₀)))
 
-  pub list-begun : Inside Bs vs₀ → length Bs ≤ 8 → Listing vs₀ out₀ 0 true
+  pub list-begun : AllWithin Bs vs₀ → length Bs ≤ 8 → Listing vs₀ out₀ 0 true
   list-begun h l = record { inside = h; short = l; room = omega arith; laid = refl }
 
   pub list-length : {vs out : List ℤ} {at : ℕ} {more : Bool} → Listing vs out at more → length vs ≡ length Bs
   list-length {vs} c = inside-says Bs vs (c .inside) .0
 
   module _ {vs out : List ℤ} {at : ℕ} (c : Listing vs out at true) where
-    writes : t vs ≡ true → Listing (next Bs vs) (overlay out at vs) (at + length vs) (not (isLast Bs vs))
+    writes : t vs ≡ true → Listing (nextList Bs vs) (overlay out at vs) (at + length vs) (not (isLast Bs vs))
     unfolding flatten
     writes h = record {
       inside = next-inside Bs vs (c .inside);
@@ -112,7 +112,7 @@ module _ (t : List ℤ → Bool) (Bs : List Bounds) (vs₀ out₀ : List ℤ) wh
       laid = overlay-append out at vs _ ∙ rw (from-next Bs vs (c .inside), h) at (c .laid);
     }
 
-    skips : t vs ≡ false → Listing (next Bs vs) out at (not (isLast Bs vs))
+    skips : t vs ≡ false → Listing (nextList Bs vs) out at (not (isLast Bs vs))
     skips h = record {
       inside = next-inside Bs vs (c .inside);
       short = c .short;
@@ -120,7 +120,7 @@ module _ (t : List ℤ → Bool) (Bs : List Bounds) (vs₀ out₀ : List ℤ) wh
       laid = rw (from-next Bs vs (c .inside), h) at (c .laid);
     }
 
-    shorter : length (left (not (isLast Bs vs)) Bs (next Bs vs)) < length (listsFrom Bs vs)
+    shorter : length (left (not (isLast Bs vs)) Bs (nextList Bs vs)) < length (listsFrom Bs vs)
     shorter = omega (arith, ap length (from-next Bs vs (c .inside)))
 
     place : length (listsFrom Bs vs₀) ≤ 65536 → at + length vs ≤ 524288
@@ -128,12 +128,12 @@ module _ (t : List ℤ → Bool) (Bs : List Bounds) (vs₀ out₀ : List ℤ) wh
 
   pub list-turn : {vs out : List ℤ} {at : ℕ} {more : Bool} → Listing vs out at more → more ≡ true → (out′ : List ℤ) (at′ : ℕ) →
       ((t vs ≡ true) × ((out′ ≡ overlay out at vs) × (at′ ≡ at + length vs))) ⊎ ((t vs ≡ false) × ((out′ ≡ out) × (at′ ≡ at))) →
-      (vs′ : List ℤ) (more′ : Bool) → vs′ ≡ next Bs vs → more′ ≡ not (isLast Bs vs) → Listing vs′ out′ at′ more′
+      (vs′ : List ℤ) (more′ : Bool) → vs′ ≡ nextList Bs vs → more′ ≡ not (isLast Bs vs) → Listing vs′ out′ at′ more′
   list-turn {vs} {out} {at} {more} c e out′ at′ (inl h) vs′ more′ f g = let d : Listing vs out at true = rw e at c in rw (f, g, h .1 .0, h .1 .1) (writes d (h .0))
   list-turn {vs} {out} {at} {more} c e out′ at′ (inr h) vs′ more′ f g = let d : Listing vs out at true = rw e at c in rw (f, g, h .1 .0, h .1 .1) (skips d (h .0))
 
   pub list-less : {vs out : List ℤ} {at : ℕ} {more : Bool} → Listing vs out at more → more ≡ true → (vs′ : List ℤ) (more′ : Bool) →
-      vs′ ≡ next Bs vs → more′ ≡ not (isLast Bs vs) → length (left more′ Bs vs′) < length (left more Bs vs)
+      vs′ ≡ nextList Bs vs → more′ ≡ not (isLast Bs vs) → length (left more′ Bs vs′) < length (left more Bs vs)
   list-less {vs} {out} {at} {more} c e vs′ more′ f g = let d : Listing vs out at true = rw e at c in rw (f, g, e) (shorter d)
 
   pub list-place : {vs out : List ℤ} {at : ℕ} {more : Bool} → Listing vs out at more → more ≡ true → length (listsFrom Bs vs₀) ≤ 65536 → at + length vs ≤ 524288

@@ -21,7 +21,7 @@ use Rattle.integers.proofs.Places.{getD-listOf, map-listOf}
 use Rattle.integers.proofs.Tests.{says-within}
 use Rattle.words.specs.Small.{Near, Small}
 use Rattle.extremes.specs.Bounded.{boundsOf, Bounded}
-use Rattle.solutions.specs.Inside.{Inside, lowest}
+use Rattle.solutions.specs.AllWithin.{AllWithin, lowestList}
 use Rattle.solutions.specs.Walk.{boundsTo}
 
 pub fits32 : (z : ℤ) → natAbs z < 2147483648 → SFits w32 z
@@ -46,8 +46,8 @@ module _ {ls vs₀ vs : List ℤ} {i : ℕ} (s : Setting ls vs₀ vs i) where
       at : (j : ℕ) → j < i + 1 → j < length vs₀ → getD (set vs i (getD ls i +0)) j +0 ≡ getD ls j +0
       at j h m = one j (ℕ-discrete j i) h m
 
-  pub set-done : (us : List ℤ) → length vs ≤ i → vs ≡ lowest (boundsTo ls us (length vs₀))
-  unfolding lowest
+  pub set-done : (us : List ℤ) → length vs ≤ i → vs ≡ lowestList (boundsTo ls us (length vs₀))
+  unfolding lowestList
   set-done us l =
       rw (map-listOf (λ B. B .lower) (boundsOf ls us) (length vs₀))
       (ext-getD +0 vs (listOf (λ k. getD ls k +0) (length vs₀)) (s .same ∙ sym (listOf-length (λ k. getD ls k +0) (length vs₀)))
@@ -58,7 +58,7 @@ module _ {ls vs₀ vs : List ℤ} {i : ℕ} (s : Setting ls vs₀ vs i) where
 near : (l v u : ℤ) → Near l → Near u → (l ⊑ v) × (v ⊑ u) → Near v
 near = simp linear (omega arith)
 
-inside-near : (Bs : List Bounds) (vs : List ℤ) → Inside Bs vs → ((x : ℕ) → Near (boundsIn Bs x .lower) × Near (boundsIn Bs x .upper)) → (x : ℕ) → Near (getD vs x +0)
+inside-near : (Bs : List Bounds) (vs : List ℤ) → AllWithin Bs vs → ((x : ℕ) → Near (boundsIn Bs x .lower) × Near (boundsIn Bs x .upper)) → (x : ℕ) → Near (getD vs x +0)
 unfolding boundsIn
 inside-near [] [] h f x = omega arith
 inside-near [] (v ∷ vs) h f x = absurd h
@@ -74,6 +74,6 @@ bounds-near ls us p q n x = go (decLt x n)
     go (yes l) = rw (getD-listOf (boundsOf ls us) n x (+0 to +0) l) (p x, q x)
     go (no l) = let m : length (boundsTo ls us n) ≤ x = omega (arith, listOf-length (boundsOf ls us) n) in rw (List·getD-eq-default (boundsTo ls us n) (+0 to +0) m) (omega arith, omega arith)
 
-pub inside-small : (ls us vs : List ℤ) (n : ℕ) → Bounded ls → Bounded us → Inside (boundsTo ls us n) vs → Small vs
+pub inside-small : (ls us vs : List ℤ) (n : ℕ) → Bounded ls → Bounded us → AllWithin (boundsTo ls us n) vs → Small vs
 unfolding value
 inside-small ls us vs n p q h = inside-near (boundsTo ls us n) vs h (bounds-near ls us p q n)

@@ -2,6 +2,6 @@
 pub mod Lists
 pub mod Solutions
 pub mod Found
-pub mod Inside
+pub mod AllWithin
 pub mod Odometer
 pub mod Walk

@@ -19,10 +19,10 @@ isLast (B ∷ Bs) (v ∷ vs) = isLast Bs vs && not (ltZ v (B .upper))
 unfoldable pub turned : Bounds → ℤ → ℤ
 turned B v = v ⊕ +1 if ltZ v (B .upper) else B .lower
 
-unfoldable pub next : List Bounds → List ℤ → List ℤ
-next [] vs = []
-next (B ∷ Bs) [] = []
-next (B ∷ Bs) (v ∷ vs) = (turned B v if isLast Bs vs else v) ∷ next Bs vs
+unfoldable pub nextList : List Bounds → List ℤ → List ℤ
+nextList [] vs = []
+nextList (B ∷ Bs) [] = []
+nextList (B ∷ Bs) (v ∷ vs) = (turned B v if isLast Bs vs else v) ∷ nextList Bs vs
 
 -- the lists from vs on
 unfoldable pub listsFrom : List Bounds → List ℤ → List (List ℤ)

@@ -40,16 +40,16 @@ unfoldable pub solutions : List ℕ → List (List ℤ)
 solutions ws = keep (allTrue ws) (valueLists (variables ws))
 
 -- 22: "when the model passes either limit, place 0"
-unfoldable pub limitFault : List Bounds → Refusal
-limitFault Bs = tooManyLists at-place 0 if ltb listedVariables (length Bs) || ltb mostLists (listCount Bs) else accepted
+unfoldable pub listsFault : List Bounds → Refusal
+listsFault Bs = tooManyLists at-place 0 if ltb listedVariables (length Bs) || ltb mostLists (listCount Bs) else accepted
 
 unfoldable pub solutionsFault : List ℕ → ℕ → Refusal
 solutionsFault ws room =
     let short = roomFault room (length (solutions ws) * length (variables ws)) in
-    checkFault ws else-refuse limitFault (variables ws) else-refuse short
+    checkFault ws else-refuse listsFault (variables ws) else-refuse short
 
 unfoldable pub solutionsAnswer : List ℕ → ℕ → Answer
 solutionsAnswer ws room = solutionsFault ws room else-answer written (length (solutions ws))
 
-unfoldable pub listed : List ℕ → List ℤ → List ℤ
-listed ws out = overlay out 0 (flatten (solutions ws)) if eqb (solutionsFault ws (length out) .number) Fault.none else out
+unfoldable pub solutionsListed : List ℕ → List ℤ → List ℤ
+solutionsListed ws out = overlay out 0 (flatten (solutions ws)) if eqb (solutionsFault ws (length out) .number) Fault.none else out

@@ -8,7 +8,7 @@ use Rattle.integers.specs.declared.Bounds.{Bounds}
 use Rattle.extremes.specs.Bounded.{boundsOf, Bounded}
 use Rattle.rules.specs.Shared.{keep}
 use Rattle.solutions.specs.Lists.{valueLists, listCount}
-use Rattle.solutions.specs.Inside.{Inside, lowest}
+use Rattle.solutions.specs.AllWithin.{AllWithin, lowestList}
 use Rattle.solutions.specs.Odometer.{listsFrom}
 use Rattle.solutions.specs.Solutions.{listedVariables, mostLists, allTrue}
 
@@ -21,10 +21,10 @@ abbrev pub solutionsFrom : List ℕ → List ℤ → List ℤ → List ℤ → L
 solutionsFrom ws ls us vs = keep (allTrue ws) (listsFrom (boundsTo ls us (length vs)) vs)
 
 -- what the walk from the list vs on wants
-pub record Ready (ls us vs : List ℤ) : Type 0 where
+pub record Walkable (ls us vs : List ℤ) : Type 0 where
   pub lowers : Bounded ls
   pub uppers : Bounded us
-  pub inside : Inside (boundsTo ls us (length vs)) vs
+  pub inside : AllWithin (boundsTo ls us (length vs)) vs
   pub few : length (listsFrom (boundsTo ls us (length vs)) vs) ≤ mostLists
   pub short : length vs ≤ listedVariables
 
@@ -32,7 +32,7 @@ pub record Ready (ls us vs : List ℤ) : Type 0 where
 pub record Sized (ls us : List ℤ) (n : ℕ) : Type 0 where
   pub lowers : Bounded ls
   pub uppers : Bounded us
-  pub inside : Inside (boundsTo ls us n) (lowest (boundsTo ls us n))
+  pub inside : AllWithin (boundsTo ls us n) (lowestList (boundsTo ls us n))
   pub few : listCount (boundsTo ls us n) ≤ mostLists
   pub short : n ≤ listedVariables
 

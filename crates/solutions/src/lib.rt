@@ -13,11 +13,11 @@ ghost use Rattle.modelreading.specs.Seen.{Heads};
 ghost use Rattle.extremes.specs.Bounded.{Bounded};
 ghost use Rattle.sharing.specs.SharedSolutions.{Passes};
 ghost use Rattle.solutions.specs.Lists.{listCount};
-ghost use Rattle.solutions.specs.Inside.{lowest};
-ghost use Rattle.solutions.specs.Odometer.{isLast, next};
-ghost use Rattle.solutions.specs.Solutions.{allTrue, solutionsAnswer, listed};
+ghost use Rattle.solutions.specs.AllWithin.{lowestList};
+ghost use Rattle.solutions.specs.Odometer.{isLast, nextList};
+ghost use Rattle.solutions.specs.Solutions.{allTrue, solutionsAnswer, solutionsListed};
 ghost use Rattle.solutions.specs.Found.{found};
-ghost use Rattle.solutions.specs.Walk.{boundsTo, solutionsFrom, solutionsIn, Ready, Sized};
+ghost use Rattle.solutions.specs.Walk.{boundsTo, solutionsFrom, solutionsIn, Walkable, Sized};
 use arguments::test::below;
 use extremes::bound_at;
 use extremes::keep_bounds;
@@ -84,7 +84,7 @@ fn put_value(values: &mut [i32], at: usize, v: i64)
 // Puts the first value list into a list.
 fn set_lowest(ls: &[i64], us: &[i64], values: &mut [i32])
     requires { ⌜ Bounded (now ls) ⌝ }
-    ensures { λ r. ⌜ now (values .exit) ≡ lowest (boundsTo (now (ls .entry)) (now (us .entry)) (length (now (values .entry)))) ⌝ }
+    ensures { λ r. ⌜ now (values .exit) ≡ lowestList (boundsTo (now (ls .entry)) (now (us .entry)) (length (now (values .entry)))) ⌝ }
 {
     let mut i = 0;
     while i < values.len() {
@@ -97,7 +97,7 @@ fn set_lowest(ls: &[i64], us: &[i64], values: &mut [i32])
 fn step(ls: &[i64], us: &[i64], values: &mut [i32]) -> bool
     requires { ⌜ Bounded (now ls) × Bounded (now us) × Small (now values) ⌝ }
     ensures more { λ r. ⌜ r ≡ not (isLast (boundsTo (now (ls .entry)) (now (us .entry)) (length (now (values .entry)))) (now (values .entry))) ⌝ }
-    ensures list { λ r. ⌜ now (values .exit) ≡ next (boundsTo (now (ls .entry)) (now (us .entry)) (length (now (values .entry)))) (now (values .entry)) ⌝ }
+    ensures list { λ r. ⌜ now (values .exit) ≡ nextList (boundsTo (now (ls .entry)) (now (us .entry)) (length (now (values .entry)))) (now (values .entry)) ⌝ }
 {
     let mut k = values.len();
     while 0 < k {
@@ -118,29 +118,6 @@ fn all_true(ws: &[u32], heads: &[usize; 256], m: usize, values: &[i32]) -> bool
     ensures { λ r. ⌜ r ≡ allTrue (now (ws .entry)) (now (values .entry)) ⌝ }
 {
     is_holds(first_false(ws, heads, m, values))
-}
-
-// How many solutions there are from a value list on.
-fn count_from(
-    ws: &[u32],
-    heads: &[usize; 256],
-    m: usize,
-    ls: &[i64],
-    us: &[i64],
-    values: &mut [i32],
-) -> usize
-    requires { ⌜ Heads (now ws) (now heads) m × Ready (now ls) (now us) (now values) ⌝ }
-    ensures { λ r. ⌜ r ≡ length (solutionsFrom (now (ws .entry)) (now (ls .entry)) (now (us .entry)) (now (values .entry))) ⌝ }
-{
-    let mut count = 0;
-    let mut more = true;
-    while more {
-        if all_true(ws, heads, m, values) {
-            count += 1;
-        }
-        more = step(ls, us, values);
-    }
-    count
 }
 
 // Lays values over a list from a place on, those that fit.
@@ -168,7 +145,7 @@ fn write_from(
     values: &mut [i32],
     out: &mut [i32],
 ) -> usize
-    requires { ⌜ Heads (now ws) (now heads) m × Ready (now ls) (now us) (now values) ⌝ }
+    requires { ⌜ Heads (now ws) (now heads) m × Walkable (now ls) (now us) (now values) ⌝ }
     ensures count { λ r. ⌜ r ≡ length (solutionsFrom (now (ws .entry)) (now (ls .entry)) (now (us .entry)) (now (values .entry))) ⌝ }
     ensures output { λ r. ⌜ now (out .exit) ≡ overlay (now (out .entry)) 0 (flatten (solutionsFrom (now (ws .entry)) (now (ls .entry)) (now (us .entry)) (now (values .entry)))) ⌝ }
 {
@@ -186,23 +163,7 @@ fn write_from(
     count
 }
 
-// How many solutions there are; the list holds the value lists that are gone through.
-fn count_all(
-    ws: &[u32],
-    heads: &[usize; 256],
-    m: usize,
-    ls: &[i64],
-    us: &[i64],
-    values: &mut [i32],
-) -> usize
-    requires { ⌜ Heads (now ws) (now heads) m × Sized (now ls) (now us) (length (now values)) ⌝ }
-    ensures { λ r. ⌜ r ≡ length (solutionsIn (now (ws .entry)) (now (ls .entry)) (now (us .entry)) (length (now (values .entry)))) ⌝ }
-{
-    set_lowest(ls, us, values);
-    count_from(ws, heads, m, ls, us, values)
-}
-
-// Lays all solutions over the front of a list; how many there are.
+// Lays all solutions over the front of a list; how many there are. The values hold the value lists that are gone through.
 fn write_all(
     ws: &[u32],
     heads: &[usize; 256],
@@ -218,15 +179,6 @@ fn write_all(
 {
     set_lowest(ls, us, values);
     write_from(ws, heads, m, ls, us, values, out)
-}
-
-// How many solutions there are within the bounds of n variables.
-fn count_in(ws: &[u32], heads: &[usize; 256], m: usize, ls: &[i64], us: &[i64], n: usize) -> usize
-    requires { ⌜ Heads (now ws) (now heads) m × Sized (now ls) (now us) n ⌝ }
-    ensures { λ r. ⌜ r ≡ length (solutionsIn (now (ws .entry)) (now (ls .entry)) (now (us .entry)) n) ⌝ }
-{
-    let mut values = [0i32; LISTED_VARIABLES];
-    count_all(ws, heads, m, ls, us, &mut values[..n])
 }
 
 // Lays the solutions within the bounds of n variables over the front of a list; how many there are.
@@ -247,7 +199,7 @@ fn write_in(
     write_all(ws, heads, m, ls, us, &mut values[..n], out)
 }
 
-// Whether so many places are too few for the solutions; these are counted only where not all of the value lists would fit.
+// Whether so many places are too few for the solutions; these are counted, over a list of no use, only where not all of the value lists would fit.
 fn too_short(
     ws: &[u32],
     heads: &[usize; 256],
@@ -264,7 +216,8 @@ fn too_short(
     if lists * n <= room {
         return false;
     }
-    let needed = count_in(ws, heads, m, ls, us, n) * n;
+    let mut unused = [0i32; 1];
+    let needed = write_in(ws, heads, m, ls, us, n, &mut unused) * n;
     room < needed
 }
 
@@ -281,7 +234,7 @@ fn list_solutions(
 ) -> Found
     requires { ⌜ Heads (now ws) (now heads) m × Sized (now ls) (now us) n × (lists ≡ listCount (boundsTo (now ls) (now us) n)) × Passes (now ws) × (boundsTo (now ls) (now us) n ≡ variables (now ws)) ⌝ }
     ensures answer { λ r. ⌜ found r ≡ solutionsAnswer (now (ws .entry)) (length (now (out .entry))) ⌝ }
-    ensures output { λ r. ⌜ now (out .exit) ≡ listed (now (ws .entry)) (now (out .entry)) ⌝ }
+    ensures output { λ r. ⌜ now (out .exit) ≡ solutionsListed (now (ws .entry)) (now (out .entry)) ⌝ }
 {
     if too_short(ws, heads, m, ls, us, n, lists, out.len()) {
         return Found::Refused(Refusal {
@@ -296,7 +249,7 @@ fn list_solutions(
 fn solutions_passed(ws: &[u32], out: &mut [i32]) -> Found
     requires { ⌜ Passes (now ws) ⌝ }
     ensures answer { λ r. ⌜ found r ≡ solutionsAnswer (now (ws .entry)) (length (now (out .entry))) ⌝ }
-    ensures output { λ r. ⌜ now (out .exit) ≡ listed (now (ws .entry)) (now (out .entry)) ⌝ }
+    ensures output { λ r. ⌜ now (out .exit) ≡ solutionsListed (now (ws .entry)) (now (out .entry)) ⌝ }
 {
     let mut heads = [0usize; 256];
     let read = read_model(ws, &mut heads);
@@ -333,7 +286,7 @@ fn solutions_passed(ws: &[u32], out: &mut [i32]) -> Found
 // Lists every solution to the front of the output; a refusal changes nothing.
 pub fn solutions(ws: &[u32], out: &mut [i32]) -> Found
     ensures answer { λ r. ⌜ found r ≡ solutionsAnswer (now (ws .entry)) (length (now (out .entry))) ⌝ }
-    ensures output { λ r. ⌜ now (out .exit) ≡ listed (now (ws .entry)) (now (out .entry)) ⌝ }
+    ensures output { λ r. ⌜ now (out .exit) ≡ solutionsListed (now (ws .entry)) (now (out .entry)) ⌝ }
 {
     match check(ws) {
         Checked::Refused(refusal) => Found::Refused(refusal),

@@ -5,23 +5,8 @@ use Rattle.host.specs.Structs.{explanationOf}
 use Rattle.host.proofs.explanation_of.Statement.{statement}
 use Rattle.host.proofs.explanation_of.Tie as tie
 
-returns : tie.Need-returns
-unfolding explanationOf told
-returns c = rw (c .before .r .given .1)
-
-returns-2 : tie.Need-returns-2
-unfolding explanationOf told
-returns-2 c = rw (c .before .r2 .given .1)
-
-returns-3 : tie.Need-returns-3
-unfolding explanationOf told
-returns-3 c = rw (c .enum-told .given .1)
-
-returns-4 : tie.Need-returns-4
-unfolding explanationOf told
-returns-4 c = rw (c .before .before .r3 .given .1, c .reason-of .ensures)
-
 pub explanation-of-spec : {M : Type 1} → statement M
+unfolding explanationOf told
 explanation-of-spec =
     tie.close
     (tie.spec
@@ -30,7 +15,7 @@ explanation-of-spec =
     (λ c. search needs)
     (λ c. search needs)
     (λ c κs. search needs)
-    returns
-    returns-2
-    returns-3
-    returns-4)
+    (λ c. rw (c .before .r .given .1))
+    (λ c. rw (c .before .r2 .given .1))
+    (λ c. rw (c .enum-told .given .1))
+    (λ c. rw (c .before .before .r3 .given .1, c .reason-of .ensures)))
