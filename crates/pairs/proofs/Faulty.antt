@@ -9,7 +9,7 @@ use Rattle.words.specs.declared.Refusal.{Refusal}
 use Rattle.words.specs.Refusal.{_at-place_, faultOr, firstFault}
 use Rattle.models.specs.Reading.{State, faultIn, after, ended, begin, readModel, readModelIn}
 use Rattle.models.specs.InRange.{fault}
-use Rattle.pairs.specs.Pair.{table, firstModel, secondModel}
+use Rattle.pairs.specs.Pair.{variableTable, firstModel, secondModel}
 use Rattle.pairs.proofs.Models.{first-splits, second-splits}
 
 -- the first faulty word of words after which more may follow
@@ -34,9 +34,9 @@ unfolding readModelIn
 faulty xs ys h = rw (onward begin 0 xs ys h)
 
 -- THE LAW: both models are refused with the table's fault, at its place, or with 1 if they are too long
-module _ (ws : List ℕ) (h : wordsFault begin 0 (table ws) .number ≡ 0 → ⊥) where
-  pub first-refused : readModel (firstModel ws) ≡ (1 at-place 0 if ltb 8192 (length (firstModel ws)) else wordsFault begin 0 (table ws))
-  first-refused = rw (first-splits ws) (faulty (table ws) _ h)
+module _ (ws : List ℕ) (h : wordsFault begin 0 (variableTable ws) .number ≡ 0 → ⊥) where
+  pub first-refused : readModel (firstModel ws) ≡ (1 at-place 0 if ltb 8192 (length (firstModel ws)) else wordsFault begin 0 (variableTable ws))
+  first-refused = rw (first-splits ws) (faulty (variableTable ws) _ h)
 
-  pub second-refused : readModel (secondModel ws) ≡ (1 at-place 0 if ltb 8192 (length (secondModel ws)) else wordsFault begin 0 (table ws))
-  second-refused = rw (second-splits ws) (faulty (table ws) _ h)
+  pub second-refused : readModel (secondModel ws) ≡ (1 at-place 0 if ltb 8192 (length (secondModel ws)) else wordsFault begin 0 (variableTable ws))
+  second-refused = rw (second-splits ws) (faulty (variableTable ws) _ h)

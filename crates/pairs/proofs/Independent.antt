@@ -20,7 +20,7 @@ use Rattle.models.specs.JudgeModel.{judgeModel}
 use Rattle.rules.specs.Check.{check}
 use Rattle.rules.specs.Translate.{translate, translated}
 use Rattle.rules.specs.Fill.{fill, filled}
-use Rattle.pairs.specs.Pair.{separator, separates, endsTable, before, table, firstModel, secondModel, modelOf, pairFault}
+use Rattle.pairs.specs.Pair.{separator, separates, endsTable, before, variableTable, firstModel, secondModel, modelOf, pairFault}
 use Rattle.pairs.specs.Calls.{pairCheck, pairTranslate, pairTranslated, pairJudge, pairFill, pairFilled}
 use Rattle.pairs.proofs.Before.{before-over, before-none}
 
@@ -116,7 +116,7 @@ module _ (T : List ℕ) (t : Table T) where
         rw (sym (append-assoc (T ++ F) (separator ∷ []) S)) (drop-at ((T ++ F) ++ (separator ∷ [])) S (length (T ++ F) + 1) e)
 
     second-is : secondModel (pairOf F S) ≡ T ++ S
-    unfolding secondModel table
+    unfolding secondModel variableTable
     second-is = rw (at-table, at-separator, take-append-seam T (F ++ (separator ∷ S))) (ap (λ (l : List ℕ). T ++ drop (length (T ++ F) + 1) l) regroup ∙ ap (λ (l : List ℕ). T ++ l) after)
 
     -- THE LAW: the first candidate gets what the table, the first's own words and an end word get; the second, what the table and the second's words get

@@ -10,7 +10,7 @@ use lib.Seq.{length-take-le, take-add}
 use Rattle.words.specs.Word.{kind, word}
 use Rattle.words.specs.Overlay.{overlay}
 use Rattle.words.proofs.Overlay.{overlay-append}
-use Rattle.pairs.specs.Pair.{separates, endsTable, before, table, firstModel, secondModel}
+use Rattle.pairs.specs.Pair.{separates, endsTable, before, variableTable, firstModel, secondModel}
 use Rattle.pairs.proofs.Before.{before-le, before-mono}
 
 separator-ends : (w : ℕ) → separates w ≡ true → endsTable w ≡ true
@@ -45,17 +45,17 @@ module _ (ws : List ℕ) where
   first-length = length-append (take D ws) _ ∙ ap (λ (n : ℕ). n + 1) front-length
 
   pub second-length : length (secondModel ws) ≡ T + (length ws - (D + 1))
-  unfolding secondModel table
+  unfolding secondModel variableTable
   second-length = rw (length-append, table-length, length-drop)
 
   -- both begin with the table
-  pub first-splits : firstModel ws ≡ table ws ++ (take (D - T) (drop T ws) ++ (word 7 0 ∷ []))
-  unfolding firstModel table
+  pub first-splits : firstModel ws ≡ variableTable ws ++ (take (D - T) (drop T ws) ++ (word 7 0 ∷ []))
+  unfolding firstModel variableTable
   first-splits =
       let e : D ≡ T + (D - T) = omega (arith, table-first) in
       ap (λ (l : List ℕ). l ++ (word 7 0 ∷ [])) (ap (λ (n : ℕ). take n ws) e ∙ take-add T (D - T) ws) ∙ append-assoc (take T ws) _ _
 
-  pub second-splits : secondModel ws ≡ table ws ++ drop (D + 1) ws
+  pub second-splits : secondModel ws ≡ variableTable ws ++ drop (D + 1) ws
   unfolding secondModel
   second-splits = refl
 
@@ -67,7 +67,7 @@ module _ (ws : List ℕ) where
       ap (λ (n : ℕ). overlay (overlay out 0 (take D ws)) n (word 7 0 ∷ [])) e ∙ overlay-append out 0 (take D ws) _
 
   pub second-laid : (out : List ℕ) → overlay (overlay out 0 (take T ws)) T (drop (D + 1) ws) ≡ overlay out 0 (secondModel ws)
-  unfolding secondModel table
+  unfolding secondModel variableTable
   second-laid out =
       let e : T ≡ 0 + length (take T ws) = omega (arith, table-length) in
       ap (λ (n : ℕ). overlay (overlay out 0 (take T ws)) n (drop (D + 1) ws)) e ∙ overlay-append out 0 (take T ws) _
