@@ -12,43 +12,46 @@ use Rattle.integers.proofs.Fits.{plus-size, times-size, mul-le}
 use Rattle.integers.proofs.Linear.{linear}
 use Rattle.integers.proofs.Tests.{false-true}
 use Rattle.rowsystems.specs.OneWord.{startsRow}
-use Rattle.rowsystems.proofs.Walk.{starts-none, starts-one, none-left}
-use Rattle.extremes.specs.Bounded.{boundsOf}
-use Rattle.bitforms.specs.Total.{total}
-use Rattle.bitforms.specs.BitRow.{BitRow, bitRows}
+use Rattle.bitforms.specs.SumOver.{sumOver}
+use Rattle.bitforms.specs.BitRow.{BitRow}
 use Rattle.bitforms.specs.Energy.{square}
 use Rattle.bitforms.specs.Matrix.{constantOf}
 use Rattle.bitforms.specs.FormAnswer.{rowFits}
-use Rattle.bittables.specs.Tables.{encodingBy, rowBy, rowsBy}
+use Rattle.bitlines.specs.Sizes as Size
+use Rattle.bittables.specs.BitTables.{rowBy, rowsBy}
 use Rattle.bitfilling.specs.Filled.{dense}
-use Rattle.bitfilling.proofs.Filling.{limit-size, row-fits}
+use Rattle.bitfilling.proofs.Filling.{row-fits}
+use Rattle.bitfilling.proofs.Lines.{fits-sizes}
+use Rattle.bitfilling.proofs.Walk.{left-none, left-one, left-end}
+use Rattle.bitchecks.specs.Checked.{RowChecked, RowsChecked}
 use Rattle.bitchecks.proofs.Limits.{fits}
 
 -- ---- one row
 
--- whether it fits, and then the square of its constant
-abbrev pub Said : ℕ → BitRow → Bool → ℤ → Type 0
-Said n r f k = (f ≡ rowFits n r) × (f ≡ true → (k ≡ square (r .whole .constant)) × (natAbs k ≤ 268435456))
-
 module _ (n : ℕ) (r : BitRow) {c : ℤ} (e : c ≡ r .whole .constant) where
-  pub constant-out : (k : ℤ) → fits c ≡ false → Said n r false k
-  constant-out k h = (sym (row-fits n r ∙ rw (← e, h) refl), λ z. false-true z)
+  pub constant-out : (k : ℤ) → fits c ≡ false → RowChecked n r false k
+  constant-out k h = record { tested = sym (row-fits n r ∙ rw (← e, h) refl); squared = λ z. false-true z }
 
   module _ (h : fits c ≡ true) {row : List ℤ} (g : row ≡ dense n (r .whole .terms)) where
-    pub terms-out : (k : ℤ) → all fits row ≡ false → Said n r false k
-    terms-out k l = (sym (row-fits n r ∙ rw (← e, h, ← g, l) refl), λ z. false-true z)
+    pub terms-out : (k : ℤ) → all fits row ≡ false → RowChecked n r false k
+    terms-out k l = record { tested = sym (row-fits n r ∙ rw (← e, h, ← g, l) refl); squared = λ z. false-true z }
 
-    pub row-in : (k : ℤ) → k ≡ c ⊗ c → all fits row ≡ true → Said n r true k
+    pub row-in : (k : ℤ) → k ≡ c ⊗ c → all fits row ≡ true → RowChecked n r true k
     unfolding square
-    row-in k m l =
-        let s = limit-size c h in
-        (sym (row-fits n r ∙ rw (← e, h, ← g, l) refl), λ z. (m ∙ ap (λ x. x ⊗ x) e, rw m (omega (arith, times-size c c, mul-le s s))))
+    row-in k m l = record { tested = sym (row-fits n r ∙ rw (← e, h, ← g, l) refl); squared = λ z. m ∙ ap (λ x. x ⊗ x) e }
+
+-- the square of its constant is at most 16,384²
+pub square-small : {n : ℕ} {r : BitRow} {f : Bool} {k : ℤ} → RowChecked n r f k → f ≡ true → natAbs k ≤ 268435456
+unfolding square
+square-small {n} {r} s t =
+    let l = fits-sizes n r (sym (s .tested) ∙ t) .0 in
+    rw (s .squared t) (omega (arith, times-size (r .whole .constant) (r .whole .constant), mul-le l l))
 
 -- ---- all rows
 
 pub record Checking (ws : List ℕ) (ls us : List ℤ) (firsts : List ℕ) (start n : ℕ) (row : List ℤ) (constant : ℤ) (first at : ℕ) : Type 0 where
   pub place : at ≤ length ws
-  pub small : first ≤ start + 3844 * at
+  pub small : first ≤ start + Size.ownBits * at
   pub size : natAbs constant ≤ 268435456 * at
   pub long : length row ≡ n
   pub left : all (rowFits n) (rowsBy ls us firsts first (drop at ws)) ≡ all (rowFits n) (rowsBy ls us firsts start ws)
@@ -70,14 +73,14 @@ checking-begun ws ls us firsts start row = record {
 module _ {ws : List ℕ} {ls us : List ℤ} {firsts : List ℕ} {start n : ℕ} {row : List ℤ} {constant : ℤ} {first at : ℕ} (k : Checking ws ls us firsts start n row constant first at) where
   pub checking-none : at < length ws → startsRow (getD ws at 0) ≡ false → Checking ws ls us firsts start n row constant first (at + 1)
   checking-none h z =
-      let e = starts-none ws at h z in
+      let e = left-none ls us firsts ws first at h z in
       record {
         place = omega arith;
         small = omega (arith, k .small);
         size = omega (arith, k .size);
         long = k .long;
-        left = ap (λ qs. all (rowFits n) (bitRows (boundsOf ls us) (encodingBy ls us firsts) first qs)) (sym e) ∙ k .left;
-        sum = ap (λ qs. constant ⊕ constantOf (bitRows (boundsOf ls us) (encodingBy ls us firsts) first qs)) (sym e) ∙ k .sum;
+        left = ap (all (rowFits n)) (sym e) ∙ k .left;
+        sum = ap (λ rs. constant ⊕ constantOf rs) (sym e) ∙ k .sum;
       }
 
   module _ (h : at < length ws) (z : startsRow (getD ws at 0) ≡ true) where
@@ -88,41 +91,38 @@ module _ {ws : List ℕ} {ls us : List ℤ} {firsts : List ℕ} {start n : ℕ} 
     others = rowsBy ls us firsts (first + this .own) (drop (at + 1) ws)
 
     fits-both : all (rowFits n) (rowsBy ls us firsts first (drop at ws)) ≡ (rowFits n this && all (rowFits n) others)
-    unfolding bitRows all
-    fits-both = ap (λ qs. all (rowFits n) (bitRows (boundsOf ls us) (encodingBy ls us firsts) first qs)) (starts-one ws at h z)
+    unfolding all
+    fits-both = ap (all (rowFits n)) (left-one ls us firsts ws first at h z)
 
     sums-both : constantOf (rowsBy ls us firsts first (drop at ws)) ≡ square (this .whole .constant) ⊕ constantOf others
-    unfolding bitRows constantOf total
-    sums-both = ap (λ qs. constantOf (bitRows (boundsOf ls us) (encodingBy ls us firsts) first qs)) (starts-one ws at h z)
+    unfolding constantOf sumOver
+    sums-both = ap constantOf (left-one ls us firsts ws first at h z)
 
     pub checking-fails : {f : Bool} → f ≡ rowFits n this → f ≡ false → f ≡ all (rowFits n) (rowsBy ls us firsts start ws)
     checking-fails s e = e ∙ sym (fits-both ∙ rw (← s, e) refl) ∙ k .left
 
-    pub checking-one : {f : Bool} {c d : ℤ} {own : ℕ} {after : List ℤ} → f ≡ true → Said n this f c → own ≤ 3844 → own ≡ this .own → length after ≡ length row →
+    pub checking-one : {f : Bool} {c d : ℤ} {own : ℕ} {after : List ℤ} → f ≡ true → RowChecked n this f c → own ≤ Size.ownBits → own ≡ this .own → length after ≡ length row →
         d ≡ constant ⊕ c → Checking ws ls us firsts start n after d (first + own) (at + 1)
     checking-one {f} {c} {d} {own} {after} t s l o g p =
-        let q = s .1 t in
         record {
           place = omega arith;
           small = omega (arith, k .small);
-          size = rw p (omega (arith, plus-size constant c, k .size, q .1));
+          size = rw p (omega (arith, plus-size constant c, k .size, square-small s t));
           long = g ∙ k .long;
-          left = ap (λ m. all (rowFits n) (rowsBy ls us firsts (first + m) (drop (at + 1) ws))) o ∙ sym (fits-both ∙ rw (← (s .0), t) refl) ∙ k .left;
+          left = ap (λ m. all (rowFits n) (rowsBy ls us firsts (first + m) (drop (at + 1) ws))) o ∙ sym (fits-both ∙ rw (← (s .tested), t) refl) ∙ k .left;
           sum =
-              ap₂ (λ x m. x ⊕ constantOf (rowsBy ls us firsts (first + m) (drop (at + 1) ws))) (p ∙ ap (λ y. constant ⊕ y) (q .0)) o
+              ap₂ (λ x m. x ⊕ constantOf (rowsBy ls us firsts (first + m) (drop (at + 1) ws))) (p ∙ ap (λ y. constant ⊕ y) (s .squared t)) o
               ∙ grouped constant (square (this .whole .constant)) (constantOf others) ∙ ap (λ y. constant ⊕ y) (sym sums-both) ∙ k .sum;
         }
       where
         grouped : (a b c : ℤ) → a ⊕ b ⊕ c ≡ a ⊕ (b ⊕ c)
         grouped = simp linear (omega arith)
 
-  pub checking-done : length ws ≤ at → (true ≡ all (rowFits n) (rowsBy ls us firsts start ws)) × (constant ≡ constantOf (rowsBy ls us firsts start ws))
-  unfolding bitRows all constantOf total
+  pub checking-done : length ws ≤ at → RowsChecked n (rowsBy ls us firsts start ws) true constant
+  unfolding all constantOf sumOver
   checking-done h =
-      let e = none-left ws at h in (
-        ap (λ qs. all (rowFits n) (bitRows (boundsOf ls us) (encodingBy ls us firsts) first qs)) (sym e) ∙ k .left,
-        last constant ∙ ap (λ qs. constant ⊕ constantOf (bitRows (boundsOf ls us) (encodingBy ls us firsts) first qs)) (sym e) ∙ k .sum,
-      )
+      let e = left-end ls us firsts ws first at h in
+      record { tested = ap (all (rowFits n)) (sym e) ∙ k .left; summed = λ t. last constant ∙ ap (λ rs. constant ⊕ constantOf rs) (sym e) ∙ k .sum }
     where
       last : (x : ℤ) → x ≡ x ⊕ pos 0
       last = simp linear (omega arith)

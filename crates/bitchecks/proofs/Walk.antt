@@ -6,16 +6,15 @@ use Prim.Native.Nat.{ℕ, _+_, _*_, _≤_, _<_}
 use native.Mathlib.Omega.{arith}
 use lib.IntN.{ℤ}
 use lib.ListN.{length, getD, drop}
-use Rattle.rowsystems.specs.RowSystem.{rows}
 use Rattle.rowsystems.specs.OneWord.{startsRow}
-use Rattle.rowsystems.proofs.Walk.{starts-none, starts-one, none-left}
-use Rattle.extremes.specs.Bounded.{boundsOf}
-use Rattle.bitforms.specs.BitRow.{bitRows, bitsWith}
-use Rattle.bittables.specs.Tables.{encodingBy, rowBy, rowsBy}
+use Rattle.bitforms.specs.BitRow.{bitsWith}
+use Rattle.bitlines.specs.Sizes as Size
+use Rattle.bittables.specs.BitTables.{rowBy, rowsBy}
+use Rattle.bitfilling.proofs.Walk.{left-none, left-one, left-end}
 
 pub record Counting (ws : List ℕ) (ls us : List ℤ) (start first at : ℕ) : Type 0 where
   pub place : at ≤ length ws
-  pub small : first ≤ start + 3844 * at
+  pub small : first ≤ start + Size.ownBits * at
   pub left : (firsts : List ℕ) → bitsWith first (rowsBy ls us firsts first (drop at ws)) ≡ bitsWith start (rowsBy ls us firsts start ws)
 
 pub counting-begun : (ws : List ℕ) (ls us : List ℤ) (start : ℕ) → Counting ws ls us start start 0
@@ -26,20 +25,20 @@ module _ {ws : List ℕ} {ls us : List ℤ} {start first at : ℕ} (k : Counting
   counting-none h z = record {
     place = omega arith;
     small = omega (arith, k .small);
-    left = λ firsts. ap (λ qs. bitsWith first (bitRows (boundsOf ls us) (encodingBy ls us firsts) first qs)) (sym (starts-none ws at h z)) ∙ k .left firsts;
+    left = λ firsts. ap (bitsWith first) (sym (left-none ls us firsts ws first at h z)) ∙ k .left firsts;
   }
 
-  pub counting-one : {own : ℕ} → at < length ws → startsRow (getD ws at 0) ≡ true → own ≤ 3844 →
+  pub counting-one : {own : ℕ} → at < length ws → startsRow (getD ws at 0) ≡ true → own ≤ Size.ownBits →
       ((firsts : List ℕ) (n : ℕ) → own ≡ rowBy ls us firsts n (getD ws at 0) (drop (at + 1) ws) .own) → Counting ws ls us start (first + own) (at + 1)
-  unfolding bitRows bitsWith
+  unfolding bitsWith
   counting-one {own} h z l e = record {
     place = omega arith;
     small = omega (arith, k .small);
     left = λ firsts.
-        ap (λ n. bitsWith (first + n) (bitRows (boundsOf ls us) (encodingBy ls us firsts) (first + n) (rows (drop (at + 1) ws)))) (e firsts first)
-        ∙ ap (λ qs. bitsWith first (bitRows (boundsOf ls us) (encodingBy ls us firsts) first qs)) (sym (starts-one ws at h z)) ∙ k .left firsts;
+        ap (λ n. bitsWith (first + n) (rowsBy ls us firsts (first + n) (drop (at + 1) ws))) (e firsts first)
+        ∙ ap (bitsWith first) (sym (left-one ls us firsts ws first at h z)) ∙ k .left firsts;
   }
 
   pub counting-done : length ws ≤ at → (firsts : List ℕ) → first ≡ bitsWith start (rowsBy ls us firsts start ws)
-  unfolding bitRows bitsWith
-  counting-done h firsts = ap (λ qs. bitsWith first (bitRows (boundsOf ls us) (encodingBy ls us firsts) first qs)) (sym (none-left ws at h)) ∙ k .left firsts
+  unfolding bitsWith
+  counting-done h firsts = ap (bitsWith first) (sym (left-end ls us firsts ws first at h)) ∙ k .left firsts

@@ -1,9 +1,8 @@
 // How many bits a row system needs, and whether its rows over bits fit: faults 23 and 24.
 ghost use mathlib.Core.Path.{_≡_};
-ghost use mathlib.Core.Bool.{true};
 ghost use mathlib.Core.List.{List};
 ghost use Prim.Native.Nat.{ℕ, _<_, _≤_};
-ghost use lib.IntN.{natAbs};
+ghost use lib.IntN.{pos};
 ghost use lib.Signed.{leZ};
 ghost use lib.ListN.{length};
 ghost use Rattle.integers.specs.Number.{absZ};
@@ -11,13 +10,13 @@ ghost use Rattle.integers.specs.Lists.{all};
 ghost use Rattle.words.specs.Limit as Limit;
 ghost use Rattle.extremes.specs.Bounded.{Bounded};
 ghost use Rattle.bitforms.specs.BitRow.{bitsWith};
-ghost use Rattle.bitforms.specs.Energy.{square};
-ghost use Rattle.bitforms.specs.Matrix.{constantOf};
-ghost use Rattle.bitforms.specs.FormAnswer.{mostInRow, rowFits};
-ghost use Rattle.bittables.specs.Tables.{rowBy, rowsBy, Placed, Counted, Tables};
+ghost use Rattle.bitforms.specs.FormAnswer.{mostInRow};
+ghost use Rattle.bitlines.specs.Sizes as Size;
+ghost use Rattle.bittables.specs.BitTables.{rowBy, rowsBy, BitLists, BitCounts, RowTables};
+ghost use Rattle.bitchecks.specs.Checked.{RowChecked, RowsChecked};
 use bitfilling::fill_row;
-use bitslack::own_bits;
-use bitslack::row_constant;
+use bitrows::own_bits;
+use bitrows::row_constant;
 use integers::plus;
 use integers::times;
 use rowreading::rows::starts_row;
@@ -30,7 +29,7 @@ pub struct Checked {
 
 // How many bits there are, after `start` bits of variables.
 pub fn count_bits(ws: &[u32], ls: &[i64], us: &[i64], counts: &[usize], start: usize) -> usize
-    requires { ⌜ (length (now ws) ≤ Limit.rowWords) × Bounded (now ls) × Bounded (now us) × Counted (now ls) (now us) (now counts) × (start ≤ 262144) ⌝ }
+    requires { ⌜ (length (now ws) ≤ Limit.rowWords) × Bounded (now ls) × Bounded (now us) × BitCounts (now ls) (now us) (now counts) × (start ≤ Size.allVariableBits) ⌝ }
     ensures { λ r. ⌜ ((firsts : List ℕ) → r ≡ bitsWith start (rowsBy (now (ls .entry)) (now (us .entry)) firsts start (now (ws .entry)))) ⌝ }
 {
     let mut first = start;
@@ -47,7 +46,7 @@ pub fn count_bits(ws: &[u32], ls: &[i64], us: &[i64], counts: &[usize], start: u
 
 // Whether a number of a row over bits is within its limit.
 fn within_limit(v: i64) -> bool
-    ensures { λ r. ⌜ r ≡ leZ (absZ v) mostInRow ⌝ }
+    ensures { λ r. ⌜ r ≡ leZ (absZ v) (pos mostInRow) ⌝ }
 {
     if v < -16384 {
         return false;
@@ -57,7 +56,7 @@ fn within_limit(v: i64) -> bool
 
 // Whether all numbers of a row over bits are.
 fn all_within(row: &[i64]) -> bool
-    ensures { λ r. ⌜ r ≡ all (λ v. leZ (absZ v) mostInRow) (now (row .entry)) ⌝ }
+    ensures { λ r. ⌜ r ≡ all (λ v. leZ (absZ v) (pos mostInRow)) (now (row .entry)) ⌝ }
 {
     let mut i = 0;
     while i < row.len() {
@@ -79,8 +78,8 @@ fn check_row(
     firsts: &[usize],
     first: usize,
 ) -> Checked
-    requires { ⌜ Bounded (now ls) × Bounded (now us) × Placed (now firsts) × (first < 1099511627776) ⌝ }
-    ensures { λ r. ⌜ (r .fits ≡ rowFits (length (now (row .entry))) (rowBy (now (ls .entry)) (now (us .entry)) (now (firsts .entry)) first head (now (args .entry)))) × (r .fits ≡ true → (r .constant ≡ square (rowBy (now (ls .entry)) (now (us .entry)) (now (firsts .entry)) first head (now (args .entry)) .whole .constant)) × (natAbs (r .constant) ≤ 268435456)) × (length (now (row .exit)) ≡ length (now (row .entry))) ⌝ }
+    requires { ⌜ BitLists (now ls) (now us) (now firsts) × (first < Size.places) ⌝ }
+    ensures { λ r. ⌜ RowChecked (length (now (row .entry))) (rowBy (now (ls .entry)) (now (us .entry)) (now (firsts .entry)) first head (now (args .entry))) (r .fits) (r .constant) ⌝ }
 {
     let c = row_constant(head, args, ls);
     if !within_limit(c) {
@@ -112,8 +111,8 @@ pub fn check_rows(
     start: usize,
     row: &mut [i64],
 ) -> Checked
-    requires { ⌜ (length (now ws) ≤ Limit.rowWords) × Tables (now ls) (now us) (now firsts) (now counts) × (start ≤ 262144) ⌝ }
-    ensures { λ r. ⌜ (r .fits ≡ all (rowFits (length (now (row .entry)))) (rowsBy (now (ls .entry)) (now (us .entry)) (now (firsts .entry)) start (now (ws .entry)))) × (r .fits ≡ true → r .constant ≡ constantOf (rowsBy (now (ls .entry)) (now (us .entry)) (now (firsts .entry)) start (now (ws .entry)))) ⌝ }
+    requires { ⌜ RowTables (now ws) (now ls) (now us) (now firsts) (now counts) start ⌝ }
+    ensures { λ r. ⌜ RowsChecked (length (now (row .entry))) (rowsBy (now (ls .entry)) (now (us .entry)) (now (firsts .entry)) start (now (ws .entry))) (r .fits) (r .constant) ⌝ }
 {
     let mut constant: i64 = 0;
     let mut first = start;

@@ -19,13 +19,13 @@ use Rattle.integers.proofs.Places.{getD-listOf, map-listOf, all-map}
 use Rattle.rowsystems.specs.Row.{sum≤0, sum=0, product}
 use Rattle.extremes.specs.Bounded.{boundsOf}
 use Rattle.bitforms.specs.Weights.{weights}
-use Rattle.bitforms.specs.OverBits.{scaled, weighted}
+use Rattle.bitforms.specs.OverBits.{scaled, weightedBits}
 use Rattle.bitforms.specs.BitRow.{BitRow, least, slackWeights, productWhole, bitRow}
 use Rattle.bitforms.specs.Matrix.{coefficientOf}
 use Rattle.bitforms.specs.FormAnswer.{mostInRow, rowFits}
 use Rattle.bitlines.specs.Dense.{addTerms, peak}
 use Rattle.bitlines.proofs.Dense.{add-append, add-length, add-coefficient}
-use Rattle.bittables.specs.Tables.{spanIn, bitsOf, encodingBy}
+use Rattle.bittables.specs.BitTables.{spanIn, bitsOf, encodingBy}
 use Rattle.bitrows.specs.Terms.{overBits, cross}
 use Rattle.bitrows.proofs.Over.{over-bits}
 use Rattle.bitrows.proofs.Cross.{pairs-cross}
@@ -93,22 +93,22 @@ dense-is n ts =
 
 -- ---- what fits
 
-pub limit-size : (x : ℤ) → leZ (absZ x) mostInRow ≡ true → natAbs x ≤ 16384
-limit-size x h = size x (says-le (absZ x) mostInRow .0 h)
+pub limit-size : (x : ℤ) → leZ (absZ x) (pos mostInRow) ≡ true → natAbs x ≤ mostInRow
+limit-size x h = size x (says-le (absZ x) (pos mostInRow) .0 h)
   where
-    size : (x : ℤ) → absZ x ⊑ pos 16384 → natAbs x ≤ 16384
+    size : (x : ℤ) → absZ x ⊑ pos 16384 → natAbs x ≤ mostInRow
     size = simp linear (omega arith)
 
-pub all-within-peak : (xs : List ℤ) → all (λ v. leZ (absZ v) mostInRow) xs ≡ true → peak xs ≤ 16384
+pub all-within-peak : (xs : List ℤ) → all (λ v. leZ (absZ v) (pos mostInRow)) xs ≡ true → peak xs ≤ mostInRow
 unfolding all peak
 all-within-peak [] h = omega arith
 all-within-peak (x ∷ xs) h =
-    let b = says-and {A = leZ (absZ x) mostInRow ≡ true} {B = all (λ v. leZ (absZ v) mostInRow) xs ≡ true} (λ p. p, λ p. p) (λ p. p, λ p. p) .0 h in
+    let b = says-and {A = leZ (absZ x) (pos mostInRow) ≡ true} {B = all (λ v. leZ (absZ v) (pos mostInRow)) xs ≡ true} (λ p. p, λ p. p) (λ p. p, λ p. p) .0 h in
     omega (arith, limit-size x (b .0), all-within-peak xs (b .1))
 
-pub row-fits : (n : ℕ) (r : BitRow) → rowFits n r ≡ (leZ (absZ (r .whole .constant)) mostInRow && all (λ v. leZ (absZ v) mostInRow) (dense n (r .whole .terms)))
+pub row-fits : (n : ℕ) (r : BitRow) → rowFits n r ≡ (leZ (absZ (r .whole .constant)) (pos mostInRow) && all (λ v. leZ (absZ v) (pos mostInRow)) (dense n (r .whole .terms)))
 unfolding rowFits
-row-fits n r = ap (λ b. leZ (absZ (r .whole .constant)) mostInRow && b) (sym (ap (all (λ v. leZ (absZ v) mostInRow)) (dense-is n (r .whole .terms)) ∙ all-map (λ v. leZ (absZ v) mostInRow) (coefficientOf (r .whole .terms)) (listOf (λ i. i) n)))
+row-fits n r = ap (λ b. leZ (absZ (r .whole .constant)) (pos mostInRow) && b) (sym (ap (all (λ v. leZ (absZ v) (pos mostInRow))) (dense-is n (r .whole .terms)) ∙ all-map (λ v. leZ (absZ v) (pos mostInRow)) (coefficientOf (r .whole .terms)) (listOf (λ i. i) n)))
 
 -- ---- the terms of a product
 
@@ -135,11 +135,11 @@ product-added xs ls us firsts first r f g =
 -- ---- the terms of rows
 
 pub slacked-added : (xs ls us : List ℤ) (firsts : List ℕ) (first : ℕ) (ts : List (Term ℕ)) (c : ℤ) →
-    addTerms (addTerms xs (overBits (bitsOf ls us firsts) ts)) (scaled +1 (weighted first (weights (count (neg (least (boundsOf ls us) ts c))))))
+    addTerms (addTerms xs (overBits (bitsOf ls us firsts) ts)) (scaled +1 (weightedBits first (weights (count (neg (least (boundsOf ls us) ts c))))))
     ≡ addTerms xs (bitRow (boundsOf ls us) (encodingBy ls us firsts) first (sum≤0 ts c) .whole .terms)
 unfolding bitRow slackWeights
 slacked-added xs ls us firsts first ts c =
-    let s = weighted first (weights (count (neg (least (boundsOf ls us) ts c)))) in
+    let s = weightedBits first (weights (count (neg (least (boundsOf ls us) ts c)))) in
     rw (scaled-one s, over-bits (encodingBy ls us firsts) ts c) (sym (add-append xs (overBits (bitsOf ls us firsts) ts) s))
 
 pub equal-added : (xs ls us : List ℤ) (firsts : List ℕ) (first : ℕ) (ts : List (Term ℕ)) (c : ℤ) →

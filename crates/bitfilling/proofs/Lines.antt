@@ -2,9 +2,9 @@
 use mathlib.Core.Path.{_≡_, refl, sym, ap, _∙_}
 use mathlib.Core.Bool.{true}
 use mathlib.Core.List.{List, [], flatMap}
-use Prim.Native.Nat.{ℕ, _+_, _-_, _*_, _≤_}
+use Prim.Native.Nat.{ℕ, _+_, _-_, _≤_}
 use native.Mathlib.Omega.{arith}
-use lib.IntN.{ℤ, natAbs}
+use lib.IntN.{ℤ, pos, natAbs}
 use lib.ListN.{length, getD}
 use lib.Signed.{leZ}
 use Rattle.integers.specs.Number.{absZ, +0}
@@ -16,31 +16,32 @@ use Rattle.extremes.specs.Bounded.{boundsOf}
 use Rattle.bitforms.specs.Weights.{weights}
 use Rattle.bitforms.specs.BitRow.{BitRow, bitRow}
 use Rattle.bitforms.specs.Matrix.{rowEntry}
-use Rattle.bitforms.specs.FormAnswer.{mostInRow, rowFits}
+use Rattle.bitforms.specs.FormAnswer.{mostBits, mostInRow, rowFits}
+use Rattle.bitlines.specs.Sizes as Size
 use Rattle.bitlines.specs.Dense.{addTerms, peak}
-use Rattle.bitlines.specs.Line.{squareTerms, pairTerms}
+use Rattle.bitlines.specs.Line.{pairTerms}
 use Rattle.bitlines.proofs.Dense.{add-length}
 use Rattle.bitlines.proofs.Line.{row-line}
-use Rattle.bittables.specs.Tables.{spanIn, bitsOf, encodingBy, Counted}
+use Rattle.bittables.specs.BitTables.{spanIn, bitsOf, encodingBy, BitCounts}
 use Rattle.bitrows.proofs.Pairs.{pairs-grid}
 use Rattle.bitfilling.specs.Filled.{dense}
-use Rattle.bitfilling.specs.Added.{productPairs, Added}
+use Rattle.bitfilling.specs.Added.{wholeTerms, AddsSquare, productPairs, Added}
 use Rattle.bitfilling.proofs.Filling.{dense-at, limit-size, all-within-peak, row-fits}
 
 -- a row that fits has no number beyond 16,384
-pub fits-sizes : (n : ℕ) (r : BitRow) → rowFits n r ≡ true → (natAbs (r .whole .constant) ≤ 16384) × (peak (dense n (r .whole .terms)) ≤ 16384)
+pub fits-sizes : (n : ℕ) (r : BitRow) → rowFits n r ≡ true → (natAbs (r .whole .constant) ≤ mostInRow) × (peak (dense n (r .whole .terms)) ≤ mostInRow)
 fits-sizes n r h =
-    let b = says-and {A = leZ (absZ (r .whole .constant)) mostInRow ≡ true} {B = all (λ v. leZ (absZ v) mostInRow) (dense n (r .whole .terms)) ≡ true} (λ p. p, λ p. p) (λ p. p, λ p. p) .0 (sym (row-fits n r) ∙ h) in
+    let b = says-and {A = leZ (absZ (r .whole .constant)) (pos mostInRow) ≡ true} {B = all (λ v. leZ (absZ v) (pos mostInRow)) (dense n (r .whole .terms)) ≡ true} (λ p. p, λ p. p) (λ p. p, λ p. p) .0 (sym (row-fits n r) ∙ h) in
     (limit-size (r .whole .constant) (b .0), all-within-peak (dense n (r .whole .terms)) (b .1))
 
 -- the square, and the products of bits
 pub row-added : (line : List ℤ) (r : BitRow) (i m : ℕ) {after : List ℤ} → i + m ≡ length line →
-    after ≡ addTerms (addTerms line (squareTerms (dense (length line) (r .whole .terms)) (r .whole .constant) i m)) (flatMap (λ p. pairTerms p i) (r .pairs)) →
-    peak after ≤ peak line + 1099511627776 → Added r i line after
+    after ≡ addTerms (addTerms line (wholeTerms (length line) r i m)) (flatMap (λ p. pairTerms p i) (r .pairs)) →
+    peak after ≤ peak line + Size.row → Added r i line after
 unfolding rowEntry
 row-added line r i m {after} k e p =
     let d : m ≡ length line - i = omega arith in
-    let s = squareTerms (dense (length line) (r .whole .terms)) (r .whole .constant) i m in
+    let s = wholeTerms (length line) r i m in
     record {
       same = ap length e ∙ add-length (addTerms line s) (flatMap (λ q. pairTerms q i) (r .pairs)) ∙ add-length line s;
       entries = λ j h l. ap (λ xs. getD xs j +0) e ∙ rw d (row-line line (dense (length line) (r .whole .terms)) (r .whole) (r .pairs) i j (length line) h l (omega arith) (dense-at (length line) (r .whole .terms) i (omega arith)) (dense-at (length line) (r .whole .terms) j l));
@@ -48,14 +49,13 @@ row-added line r i m {after} k e p =
     }
 
 -- no products of bits
-pub square-added : (line : List ℤ) (r : BitRow) (i m : ℕ) {after : List ℤ} → i + m ≡ length line → m ≤ 1024 → r .pairs ≡ [] →
-    after ≡ addTerms line (squareTerms (dense (length line) (r .whole .terms)) (r .whole .constant) i m) →
-    peak after ≤ peak line + m * 805306368 → Added r i line after
+pub square-added : (line : List ℤ) (r : BitRow) (i m : ℕ) {after : List ℤ} → i + m ≡ length line → i + m ≤ mostBits → r .pairs ≡ [] →
+    AddsSquare (length line) r i m line after → Added r i line after
 unfolding addTerms flatMap
-square-added line r i m k h n e p = row-added line r i m k (e ∙ rw n refl) (omega arith)
+square-added line r i m k h n e = row-added line r i m k (e .sum ∙ rw n refl) (omega (arith, e .small))
 
 -- those of a product
-pub product-pairs : (ls us : List ℤ) (firsts counts args : List ℕ) (first i : ℕ) → Counted ls us counts →
+pub product-pairs : (ls us : List ℤ) (firsts counts args : List ℕ) (first i : ℕ) → BitCounts ls us counts →
     productPairs firsts counts args first i
     ≡ flatMap (λ p. pairTerms p i) (bitRow (boundsOf ls us) (encodingBy ls us firsts) first (product (variableAt args 0) (variableAt args 1) (variableAt args 2)) .pairs)
 unfolding productPairs bitRow bitsOf

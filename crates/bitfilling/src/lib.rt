@@ -1,35 +1,36 @@
-// A row over bits as a list with a number for each bit, from the row's words; and what it adds to a line of the form.
+// A row over bits as a list with a number for each bit, from the row's words; what it adds to a line of the form, and whether it adds anything.
 ghost use mathlib.Core.Path.{_≡_};
-ghost use mathlib.Core.Bool.{true};
+ghost use mathlib.Core.Bool.{true, false};
 ghost use Prim.Native.Nat.{_+_, _*_, _<_, _≤_};
 ghost use lib.ListN.{length, getD, replicate};
 ghost use Rattle.integers.specs.Number.{neg, +0};
 ghost use Rattle.words.specs.Limit as Limit;
-ghost use Rattle.rowsystems.specs.Row.{sum≤0, product};
-ghost use Rattle.rowsystems.specs.RowSystem.{termsIn, constantIn, variableAt};
-ghost use Rattle.extremes.specs.Bounded.{boundsOf, Bounded};
+ghost use Rattle.rowsystems.specs.OneWord.{rowOf};
+ghost use Rattle.extremes.specs.Bounded.{Bounded};
 ghost use Rattle.bitforms.specs.Weights.{weights};
 ghost use Rattle.bitforms.specs.OverBits.{scaled};
-ghost use Rattle.bitforms.specs.BitRow.{bitRow};
-ghost use Rattle.bitforms.specs.FormAnswer.{rowFits};
-ghost use Rattle.bitlines.specs.Dense.{addTerms, peak};
-ghost use Rattle.bitlines.specs.Line.{squareTerms};
-ghost use Rattle.bittables.specs.Tables.{spanIn, bitsOf, encodingBy, rowBy, Placed, Tables};
-ghost use Rattle.bitrows.specs.Terms.{cross};
-ghost use Rattle.bitfilling.specs.Filled.{dense};
-ghost use Rattle.bitfilling.specs.Added.{productPairs, Few, Added};
+ghost use Rattle.bitforms.specs.FormAnswer.{mostBits, rowFits};
+ghost use Rattle.bitlines.specs.Sizes as Size;
+ghost use Rattle.bitlines.specs.Dense.{addTerms, peak, Adds};
+ghost use Rattle.bittables.specs.BitTables.{spanIn, bitsOf, rowOver, rowBy, BitLists, BitTables};
+ghost use Rattle.bitrows.specs.Terms.{termIn, cross};
+ghost use Rattle.bitfilling.specs.Filled.{dense, atMostIn, productIn};
+ghost use Rattle.bitfilling.specs.Added.{Sized, AddsSquare, productPairs, SmallTables, Added};
+ghost use Rattle.bitfilling.specs.Idle.{Outside, NoBitOf, Idle, IdleRow};
 use bitlines::add_square;
 use bitlines::add_weights;
 use bitrows::add_pairs;
 use bitrows::add_products;
 use bitrows::add_terms;
 use bitrows::add_variable;
-use bitslack::row_constant;
-use bitslack::slack_of;
+use bitrows::row_constant;
+use bitrows::slack_of;
+use bittables::signed_at;
 use bittables::size_at;
 use bittables::span_at;
 use bittables::variable_at;
 use extremes::bound_at;
+use integers::equal;
 use integers::opposite;
 use rowreading::rows::term_count;
 use words::kind;
@@ -48,15 +49,15 @@ pub fn clear(row: &mut [i64])
 
 // Adds a variable v less the lower bound of f times.
 fn add_less_lower(row: &mut [i64], ls: &[i64], us: &[i64], firsts: &[usize], v: usize, f: usize)
-    requires { ⌜ Bounded (now ls) × Bounded (now us) × Placed (now firsts) × (peak (now row) < 2305843009213693952) ⌝ }
-    ensures { λ r. ⌜ (now (row .exit) ≡ addTerms (now (row .entry)) (scaled (neg (getD (now (ls .entry)) f +0)) (bitsOf (now (ls .entry)) (now (us .entry)) (now (firsts .entry)) v))) × (peak (now (row .exit)) ≤ peak (now (row .entry)) + 36028797018963968) ⌝ }
+    requires { ⌜ BitLists (now ls) (now us) (now firsts) × (peak (now row) < 2 * Size.sums) ⌝ }
+    ensures { λ r. ⌜ Adds (scaled (neg (getD (now (ls .entry)) f +0)) (bitsOf (now (ls .entry)) (now (us .entry)) (now (firsts .entry)) v)) Size.term (now (row .entry)) (now (row .exit)) ⌝ }
 {
     add_variable(row, ls, us, firsts, v, opposite(bound_at(ls, f)));
 }
 
 // Adds, for each bit of f and each of g, less the product of their weights to the bits from `first` on.
 fn add_crossed(row: &mut [i64], ls: &[i64], us: &[i64], f: usize, g: usize, first: usize)
-    requires { ⌜ Bounded (now ls) × Bounded (now us) × (first < 1099511627776) × (peak (now row) < 4611686018427387904) ⌝ }
+    requires { ⌜ Bounded (now ls) × Bounded (now us) × (first < Size.places) × (peak (now row) < 4 * Size.sums) ⌝ }
     ensures { λ r. ⌜ now (row .exit) ≡ addTerms (now (row .entry)) (cross first (weights (spanIn (now (ls .entry)) (now (us .entry)) f)) (weights (spanIn (now (ls .entry)) (now (us .entry)) g))) ⌝ }
 {
     add_products(row, first, span_at(ls, us, f), span_at(ls, us, g));
@@ -71,8 +72,8 @@ fn add_product(
     firsts: &[usize],
     first: usize,
 )
-    requires { ⌜ Bounded (now ls) × Bounded (now us) × Placed (now firsts) × (first < 1099511627776) × (peak (now row) < 1152921504606846976) ⌝ }
-    ensures { λ r. ⌜ now (row .exit) ≡ addTerms (now (row .entry)) (bitRow (boundsOf (now (ls .entry)) (now (us .entry))) (encodingBy (now (ls .entry)) (now (us .entry)) (now (firsts .entry))) first (product (variableAt (now (args .entry)) 0) (variableAt (now (args .entry)) 1) (variableAt (now (args .entry)) 2)) .whole .terms) ⌝ }
+    requires { ⌜ BitLists (now ls) (now us) (now firsts) × (first < Size.places) × (peak (now row) < Size.sums) ⌝ }
+    ensures { λ r. ⌜ now (row .exit) ≡ addTerms (now (row .entry)) (rowOver (now (ls .entry)) (now (us .entry)) (now (firsts .entry)) first (productIn (now (args .entry))) .whole .terms) ⌝ }
 {
     let f = variable_at(args, 1);
     let g = variable_at(args, 2);
@@ -92,8 +93,8 @@ fn add_slacked(
     firsts: &[usize],
     first: usize,
 )
-    requires { ⌜ Bounded (now ls) × Bounded (now us) × Placed (now firsts) × (n ≤ Limit.terms) × (first < 1099511627776) × (peak (now row) < 1152921504606846976) ⌝ }
-    ensures { λ r. ⌜ now (row .exit) ≡ addTerms (now (row .entry)) (bitRow (boundsOf (now (ls .entry)) (now (us .entry))) (encodingBy (now (ls .entry)) (now (us .entry)) (now (firsts .entry))) first (sum≤0 (termsIn (now (args .entry)) n) (constantIn (now (args .entry)) n)) .whole .terms) ⌝ }
+    requires { ⌜ BitLists (now ls) (now us) (now firsts) × (n ≤ Limit.terms) × (first < Size.places) × (peak (now row) < Size.sums) ⌝ }
+    ensures { λ r. ⌜ now (row .exit) ≡ addTerms (now (row .entry)) (rowOver (now (ls .entry)) (now (us .entry)) (now (firsts .entry)) first (atMostIn (now (args .entry)) n) .whole .terms) ⌝ }
 {
     add_terms(row, args, n, ls, us, firsts);
     add_weights(row, first, 1, slack_of(args, n, ls, us));
@@ -109,7 +110,7 @@ pub fn fill_row(
     firsts: &[usize],
     first: usize,
 )
-    requires { ⌜ Bounded (now ls) × Bounded (now us) × Placed (now firsts) × (first < 1099511627776) ⌝ }
+    requires { ⌜ BitLists (now ls) (now us) (now firsts) × (first < Size.places) ⌝ }
     ensures { λ r. ⌜ now (row .exit) ≡ dense (length (now (row .entry))) (rowBy (now (ls .entry)) (now (us .entry)) (now (firsts .entry)) first head (now (args .entry)) .whole .terms) ⌝ }
 {
     clear(row);
@@ -134,8 +135,8 @@ fn add_product_pairs(
     first: usize,
     i: usize,
 )
-    requires { ⌜ Placed (now firsts) × Few (now counts) × (first < 549755813888) × (peak (now line) < 2305843009213693952) ⌝ }
-    ensures { λ r. ⌜ (now (line .exit) ≡ addTerms (now (line .entry)) (productPairs (now (firsts .entry)) (now (counts .entry)) (now (args .entry)) first i)) × (peak (now (line .exit)) ≤ peak (now (line .entry)) + 30752) ⌝ }
+    requires { ⌜ SmallTables (now firsts) (now counts) × (first < Size.places) × (peak (now line) < 2 * Size.sums) ⌝ }
+    ensures { λ r. ⌜ Adds (productPairs (now (firsts .entry)) (now (counts .entry)) (now (args .entry)) first i) (8 * Size.ownBits) (now (line .entry)) (now (line .exit)) ⌝ }
 {
     let f = variable_at(args, 1);
     let g = variable_at(args, 2);
@@ -163,8 +164,9 @@ fn add_whole(
     i: usize,
     m: usize,
 )
-    requires { ⌜ Bounded (now ls) × Bounded (now us) × Placed (now firsts) × (first < 549755813888) × (i < 1024) × (m ≤ 1024) × (rowFits (length (now row)) (rowBy (now ls) (now us) (now firsts) first head (now args)) ≡ true) × (peak (now line) < 1152921504606846976) ⌝ }
-    ensures { λ r. ⌜ (now (line .exit) ≡ addTerms (now (line .entry)) (squareTerms (dense (length (now (row .entry))) (rowBy (now (ls .entry)) (now (us .entry)) (now (firsts .entry)) first head (now (args .entry)) .whole .terms)) (rowBy (now (ls .entry)) (now (us .entry)) (now (firsts .entry)) first head (now (args .entry)) .whole .constant) i m)) × (peak (now (line .exit)) ≤ peak (now (line .entry)) + m * 805306368) × (length (now (row .exit)) ≡ length (now (row .entry))) ⌝ }
+    requires { ⌜ BitLists (now ls) (now us) (now firsts) × (first < Size.places) × (i + m ≤ mostBits) × (peak (now line) < Size.sums) ⌝ }
+    requires { ⌜ rowFits (length (now row)) (rowBy (now ls) (now us) (now firsts) first head (now args)) ≡ true ⌝ }
+    ensures { λ r. ⌜ AddsSquare (length (now (row .entry))) (rowBy (now (ls .entry)) (now (us .entry)) (now (firsts .entry)) first head (now (args .entry))) i m (now (line .entry)) (now (line .exit)) ⌝ }
 {
     fill_row(row, head, args, ls, us, firsts, first);
     add_square(line, row, row_constant(head, args, ls), i, m);
@@ -184,8 +186,9 @@ pub fn add_row(
     i: usize,
     m: usize,
 )
-    requires { ⌜ Tables (now ls) (now us) (now firsts) (now counts) × (first < 549755813888) × (i < 1024) × (m ≤ 1024) × (i + m ≡ length (now line)) × (length (now row) ≡ length (now line)) × (rowFits (length (now row)) (rowBy (now ls) (now us) (now firsts) first head (now args)) ≡ true) × (peak (now line) < 1152921504606846976) ⌝ }
-    ensures { λ r. ⌜ Added (rowBy (now (ls .entry)) (now (us .entry)) (now (firsts .entry)) first head (now (args .entry))) i (now (line .entry)) (now (line .exit)) × (length (now (row .exit)) ≡ length (now (row .entry))) ⌝ }
+    requires { ⌜ BitTables (now ls) (now us) (now firsts) (now counts) × (first < Size.places) × Sized (i + m) (now line) (now row) × (peak (now line) < Size.sums) ⌝ }
+    requires { ⌜ rowFits (i + m) (rowBy (now ls) (now us) (now firsts) first head (now args)) ≡ true ⌝ }
+    ensures { λ r. ⌜ Added (rowBy (now (ls .entry)) (now (us .entry)) (now (firsts .entry)) first head (now (args .entry))) i (now (line .entry)) (now (line .exit)) ⌝ }
 {
     add_whole(line, row, head, args, ls, us, firsts, first, i, m);
     let k = kind_of(head);
@@ -196,4 +199,85 @@ pub fn add_row(
         return;
     }
     add_product_pairs(line, args, firsts, counts, first, i)
+}
+
+// Whether bit i is one of n bits from `first` on.
+fn among(first: usize, n: usize, i: usize) -> bool
+    ensures { λ r. ⌜ (r ≡ false → Outside first n i) ⌝ }
+{
+    if i < first {
+        return false;
+    }
+    i - first < n
+}
+
+// Whether it is a bit of variable v.
+fn holds_variable(firsts: &[usize], counts: &[usize], v: usize, i: usize) -> bool
+    ensures { λ r. ⌜ (r ≡ false → NoBitOf (now (firsts .entry)) (now (counts .entry)) i v) ⌝ }
+{
+    among(size_at(firsts, v), size_at(counts, v), i)
+}
+
+// Whether it is a bit of the variable of term k, with a coefficient that is not 0.
+fn holds_term(args: &[u32], k: usize, firsts: &[usize], counts: &[usize], i: usize) -> bool
+    requires { ⌜ k ≤ Limit.terms ⌝ }
+    ensures { λ r. ⌜ (r ≡ false → Idle (NoBitOf (now (firsts .entry)) (now (counts .entry)) i) (termIn (now (args .entry)) k)) ⌝ }
+{
+    if equal(signed_at(args, 2 * k + 1), 0) {
+        return false;
+    }
+    holds_variable(firsts, counts, variable_at(args, 2 * k), i)
+}
+
+// Whether that is so of one of n terms.
+fn holds_terms(args: &[u32], n: usize, firsts: &[usize], counts: &[usize], i: usize) -> bool
+    requires { ⌜ n ≤ Limit.terms ⌝ }
+    ensures { λ r. ⌜ (r ≡ false → IdleRow (NoBitOf (now (firsts .entry)) (now (counts .entry)) i) (atMostIn (now (args .entry)) n)) ⌝ }
+{
+    let mut k = 0;
+    while k < n {
+        if holds_term(args, k, firsts, counts, i) {
+            return true;
+        }
+        k += 1;
+    }
+    false
+}
+
+// Whether it is a bit of a variable of a product.
+fn holds_product(args: &[u32], firsts: &[usize], counts: &[usize], i: usize) -> bool
+    ensures { λ r. ⌜ (r ≡ false → IdleRow (NoBitOf (now (firsts .entry)) (now (counts .entry)) i) (productIn (now (args .entry)))) ⌝ }
+{
+    if holds_variable(firsts, counts, variable_at(args, 0), i) {
+        return true;
+    }
+    if holds_variable(firsts, counts, variable_at(args, 1), i) {
+        return true;
+    }
+    holds_variable(firsts, counts, variable_at(args, 2), i)
+}
+
+// Whether the row or product with this head, and `own` bits of its own from `first` on, may have entries in the line of bit i.
+pub fn holds_bit(
+    head: u32,
+    args: &[u32],
+    firsts: &[usize],
+    counts: &[usize],
+    first: usize,
+    own: usize,
+    i: usize,
+) -> bool
+    ensures { λ r. ⌜ (r ≡ false → Outside first own i × IdleRow (NoBitOf (now (firsts .entry)) (now (counts .entry)) i) (rowOf head (now (args .entry)))) ⌝ }
+{
+    if among(first, own, i) {
+        return true;
+    }
+    let k = kind_of(head);
+    if k == kind::AT_MOST {
+        return holds_terms(args, term_count(head), firsts, counts, i);
+    }
+    if k == kind::EQUAL {
+        return holds_terms(args, term_count(head), firsts, counts, i);
+    }
+    holds_product(args, firsts, counts, i)
 }

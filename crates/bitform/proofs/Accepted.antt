@@ -22,10 +22,13 @@ use Rattle.extremes.proofs.Kept.{lowersKept, uppersKept, lowers-bounded, uppers
 use Rattle.bitforms.specs.Encoding.{weightsOf, bitsAfter}
 use Rattle.bitforms.specs.BitRow.{bitsWith}
 use Rattle.bitforms.specs.BitForm.{bitCount}
-use Rattle.bittables.specs.Tables.{rowsBy, firstsFrom, Counted, Tables}
-use Rattle.bitnumbers.proofs.Kept.{firstsKept, countsKept, kept-variables, kept-few, kept-tables, kept-rows}
-use Rattle.bitnumbers.proofs.Few.{few-variables}
-use Rattle.bitform.specs.Answered.{Listed}
+use Rattle.bitforms.specs.FormAnswer.{mostBits}
+use Rattle.bitlines.specs.Sizes as Size
+use Rattle.bittables.specs.BitTables.{rowsBy, BitCounts, BitTables}
+use Rattle.bittables.specs.KeptBits.{firstsFrom, KeptBits}
+use Rattle.bittables.proofs.Kept.{firstsKept, countsKept, kept-variables, kept-few, kept-tables, kept-rows}
+use Rattle.rowsystems.proofs.FewVariables.{few-variables}
+use Rattle.bitform.specs.Answered.{BitsListed}
 
 -- ---- the reader
 
@@ -68,8 +71,14 @@ module _ (ws : List ℕ) (read : readRows ws ≡ accepted) where
   unfolding bitCount
   count-is e = e ∙ ap (bitsWith (bitsAfter 0 (variables ws))) (kept-rows ws few)
 
-  pub listed : {n : ℕ} → n ≡ bitCount ws → n ≤ 1024 → Listed ws (lowersKept ws 4096) (uppersKept ws 4096) (firstsKept ws) (countsKept ws) (bitsAfter 0 (variables ws)) n
-  listed e l = record { read = read; tables = kept-tables ws few; rows-are = kept-rows ws few; near = omega (arith, kept-few ws few); count = e; few = l }
+  pub listed : {n : ℕ} → n ≡ bitCount ws → n ≤ mostBits → BitsListed ws (lowersKept ws 4096) (uppersKept ws 4096) (firstsKept ws) (countsKept ws) (bitsAfter 0 (variables ws)) n
+  listed e l = record {
+    read = read;
+    listed = record { few-words = few-words ws (ap (λ r. r .number) read); tables = kept-tables ws few; near-start = omega (arith, kept-few ws few) };
+    rows-are = kept-rows ws few;
+    count = e;
+    few = l;
+  }
 
 -- ---- what the parts of the call need of them
 
@@ -85,28 +94,26 @@ pub bounds-kept : (ws : List ℕ) {ls us : List ℤ} {n : ℕ} → readRows ws �
 bounds-kept ws r e f g = (rw e (lowers-bounded ws 4096 (few ws r)), rw f (uppers-bounded ws 4096 (few ws r)), rw g (few ws r))
 
 pub all-kept : (ws : List ℕ) {ls us : List ℤ} {firsts counts : List ℕ} {start n : ℕ} → readRows ws ≡ accepted → ls ≡ lowersKept ws 4096 → us ≡ uppersKept ws 4096 → n ≡ length (variables ws) →
-    start ≡ bitsAfter 0 (listOf (boundsOf ls us) n) →
-    firsts ≡ overlay (replicate 4096 0) 0 (firstsFrom 0 (listOf (boundsOf ls us) n)) →
-    counts ≡ overlay (replicate 4096 0) 0 (map (λ B. length (weightsOf B)) (listOf (boundsOf ls us) n)) → Kept ws ls us firsts counts start
-all-kept ws r e f g h i j = record {
+    KeptBits (listOf (boundsOf ls us) n) (replicate 4096 0) (replicate 4096 0) firsts counts start → Kept ws ls us firsts counts start
+all-kept ws r e f g b = record {
   lowers = e;
   uppers = f;
-  numbers = rw (e, f, g) at i ∙ firsts-are ws r;
-  sizes = rw (e, f, g) at j ∙ counts-are ws r;
-  begins = rw (e, f, g) at h ∙ start-is ws r;
+  numbers = rw (e, f, g) at (b .numbers) ∙ firsts-are ws r;
+  sizes = rw (e, f, g) at (b .sizes) ∙ counts-are ws r;
+  begins = rw (e, f, g) at (b .after) ∙ start-is ws r;
 }
 
 module _ (ws : List ℕ) (r : readRows ws ≡ accepted) {ls us : List ℤ} {firsts counts : List ℕ} {start : ℕ} (k : Kept ws ls us firsts counts start) where
-  pub tables-kept : Tables ls us firsts counts
+  pub tables-kept : BitTables ls us firsts counts
   tables-kept = rw (k .lowers, k .uppers, k .numbers, k .sizes) (kept-tables ws (few ws r))
 
-  pub counting-needs : (length ws ≤ Limit.rowWords) × Bounded ls × Bounded us × Counted ls us counts × (start ≤ 262144)
+  pub counting-needs : (length ws ≤ Limit.rowWords) × Bounded ls × Bounded us × BitCounts ls us counts × (start ≤ Size.allVariableBits)
   counting-needs =
       let t = tables-kept in
-      (few-words ws (ap (λ x. x .number) r), t .near-lower, t .near-upper, t .counted, omega (arith, k .begins, kept-few ws (few ws r)))
+      (few-words ws (ap (λ x. x .number) r), t .lists .near-lower, t .lists .near-upper, t .counted, omega (arith, k .begins, kept-few ws (few ws r)))
 
   pub counted-is : {n : ℕ} → ((fs : List ℕ) → n ≡ bitsWith start (rowsBy ls us fs start ws)) → n ≡ bitCount ws
   counted-is h = count-is ws r (rw (k .lowers, k .uppers, k .begins) at (h (firstsKept ws)))
 
-  pub listed-kept : {n : ℕ} → n ≡ bitCount ws → n ≤ 1024 → Listed ws ls us firsts counts start n
+  pub listed-kept : {n : ℕ} → n ≡ bitCount ws → n ≤ mostBits → BitsListed ws ls us firsts counts start n
   listed-kept e l = rw (k .lowers, k .uppers, k .numbers, k .sizes, k .begins) (listed ws r e l)

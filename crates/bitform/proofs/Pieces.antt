@@ -16,7 +16,7 @@ use Rattle.words.specs.Laid.{Laid}
 use Rattle.words.specs.Overlay.{overlay}
 use Rattle.words.specs.Word.{word, numberWord, inRange}
 use Rattle.words.proofs.Overlay.{overlay-append}
-use Rattle.bitforms.specs.BitForm.{bitRowsOf, bitCount, formConstant, allEntries, formEntries}
+use Rattle.bitforms.specs.BitForm.{bitRowsOf, bitCount, formConstant, formEntries}
 use Rattle.bitforms.specs.Matrix.{Entry, entryOf, entriesFrom, notZero}
 use Rattle.bitforms.specs.FormWords.{formWords}
 use Rattle.bitforms.specs.FormAnswer.{rowFits, formFits}
@@ -49,11 +49,11 @@ module _ (ws : List ℕ) where
   entriesOf = entriesFrom (entryOf (bitRowsOf ws)) 0 (bitCount ws)
 
   pub fits-by : {a b c : Bool} → all (rowFits (bitCount ws)) (bitRowsOf ws) ≡ a → inRange (formConstant ws) ≡ b → all (λ x. inRange (x .number)) entriesOf ≡ c → formFits ws ≡ (a && (b && c))
-  unfolding formFits formEntries allEntries
+  unfolding formFits formEntries
   fits-by e f g = ap₂ _&&_ e (ap₂ _&&_ f (zeros-pass entriesOf ∙ g))
 
   pub words-are : formWords ws ≡ numberWord Kind.number (formConstant ws) ∷ (entriesWords entriesOf ++ (word Kind.rowsEnd 0 ∷ []))
-  unfolding formWords formEntries allEntries entriesWords
+  unfolding formWords formEntries entriesWords
   words-are = refl
 
   pub words-length : length (formWords ws) ≡ 1 + length (entriesWords entriesOf) + 1
@@ -71,7 +71,7 @@ module _ (ws : List ℕ) where
 
   -- what a form that fits says of its rows and entries
   pub fits-inside : formFits ws ≡ true → (all (rowFits (bitCount ws)) (bitRowsOf ws) ≡ true) × (all (λ x. inRange (x .number)) entriesOf ≡ true)
-  unfolding formFits formEntries allEntries
+  unfolding formFits formEntries
   fits-inside h =
       let b = both (all (rowFits (bitCount ws)) (bitRowsOf ws)) _ h in
       let d = both (inRange (formConstant ws)) _ (b .1) in

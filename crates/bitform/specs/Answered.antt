@@ -8,18 +8,17 @@ use Rattle.words.specs.Answer.{Answer}
 use Rattle.words.specs.Refusal.{accepted}
 use Rattle.rowsystems.specs.Reading.{readRows}
 use Rattle.bitforms.specs.BitForm.{bitRowsOf, bitCount}
-use Rattle.bitforms.specs.FormAnswer.{bitForm, bitFormed}
-use Rattle.bittables.specs.Tables.{rowsBy, Tables}
+use Rattle.bitforms.specs.FormAnswer.{mostBits, bitForm, bitFormed}
+use Rattle.bittables.specs.BitTables.{rowsBy, RowTables}
 
 pub record Answered (ws before after : List ℕ) (answer : Answer) : Type 0 where
   pub says : answer ≡ bitForm ws (length before)
   pub holds : after ≡ bitFormed ws before
 
 -- of accepted words: the lists of the variables' bits, and the number of bits
-pub record Listed (ws : List ℕ) (ls us : List ℤ) (firsts counts : List ℕ) (start n : ℕ) : Type 0 where
+pub record BitsListed (ws : List ℕ) (ls us : List ℤ) (firsts counts : List ℕ) (start n : ℕ) : Type 0 where
   pub read : readRows ws ≡ accepted
-  pub tables : Tables ls us firsts counts
+  pub listed : RowTables ws ls us firsts counts start
   pub rows-are : rowsBy ls us firsts start ws ≡ bitRowsOf ws
-  pub near : start ≤ 262144
   pub count : n ≡ bitCount ws
-  pub few : n ≤ 1024
+  pub few : n ≤ mostBits

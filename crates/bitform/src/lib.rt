@@ -14,12 +14,14 @@ ghost use Rattle.rowsystems.specs.Reading.{readRows};
 ghost use Rattle.bitforms.specs.BitForm.{bitRowsOf, formConstant};
 ghost use Rattle.bitforms.specs.FormAnswer.{rowFits, formFits, bitForm, bitFormed};
 ghost use Rattle.bitforms.specs.FormWords.{formWords};
-ghost use Rattle.bitsharing.specs.Shares.{Shares};
+ghost use Rattle.bitlines.specs.Sizes as Size;
+ghost use Rattle.bitfilling.specs.Added.{Sized};
+ghost use Rattle.bitsharing.specs.FormShares.{FormShares};
 ghost use Rattle.bitform.specs.Formed.{formed};
-ghost use Rattle.bitform.specs.Answered.{Answered, Listed};
+ghost use Rattle.bitform.specs.Answered.{Answered, BitsListed};
 use bitchecks::check_rows;
 use bitchecks::count_bits;
-use bitnumbers::keep_bits;
+use bittables::keep_bits;
 use bitwriting::put_lines;
 use extremes::keep_bounds;
 use rowreading::read_rows;
@@ -62,7 +64,7 @@ fn put_constant(out: &mut [u32], c: i64)
 
 // Writes the end word.
 fn put_end(out: &mut [u32], end: usize)
-    requires { ⌜ end < 549755813888 ⌝ }
+    requires { ⌜ end < Size.places ⌝ }
     ensures { λ r. ⌜ now (out .exit) ≡ overlay (now (out .entry)) end (word Kind.rowsEnd 0 ∷ []) ⌝ }
 {
     let last = [word_of(kind::ROWS_END, 0)];
@@ -83,7 +85,7 @@ fn write_form(
     n: usize,
     c: i64,
 ) -> usize
-    requires { ⌜ Listed (now ws) (now ls) (now us) (now firsts) (now counts) start n × (length (now row) ≡ n) × (length (now line) ≡ n) × (c ≡ formConstant (now ws)) × (formFits (now ws) ≡ true) ⌝ }
+    requires { ⌜ BitsListed (now ws) (now ls) (now us) (now firsts) (now counts) start n × Sized n (now line) (now row) × (c ≡ formConstant (now ws)) × (formFits (now ws) ≡ true) ⌝ }
     ensures { λ r. ⌜ (r ≡ length (formWords (now (ws .entry)))) × (now (out .exit) ≡ overlay (now (out .entry)) 0 (formWords (now (ws .entry)))) ⌝ }
 {
     put_constant(out, c);
@@ -107,7 +109,8 @@ fn form_lines(
     n: usize,
     c: i64,
 ) -> Formed
-    requires { ⌜ Listed (now ws) (now ls) (now us) (now firsts) (now counts) start n × (length (now row) ≡ n) × (length (now line) ≡ n) × (all (rowFits n) (bitRowsOf (now ws)) ≡ true) × (c ≡ formConstant (now ws)) × (inRange c ≡ true) ⌝ }
+    requires { ⌜ BitsListed (now ws) (now ls) (now us) (now firsts) (now counts) start n × Sized n (now line) (now row) ⌝ }
+    requires { ⌜ (all (rowFits n) (bitRowsOf (now ws)) ≡ true) × (c ≡ formConstant (now ws)) × (inRange c ≡ true) ⌝ }
     ensures { λ r. ⌜ Answered (now (ws .entry)) (now (out .entry)) (now (out .exit)) (formed r) ⌝ }
 {
     let mut nothing = [0u32; 0];
@@ -147,7 +150,7 @@ fn form_checked(
     line: &mut [i64],
     n: usize,
 ) -> Formed
-    requires { ⌜ Listed (now ws) (now ls) (now us) (now firsts) (now counts) start n × (length (now row) ≡ n) × (length (now line) ≡ n) ⌝ }
+    requires { ⌜ BitsListed (now ws) (now ls) (now us) (now firsts) (now counts) start n × Sized n (now line) (now row) ⌝ }
     ensures { λ r. ⌜ Answered (now (ws .entry)) (now (out .entry)) (now (out .exit)) (formed r) ⌝ }
 {
     let checked = check_rows(ws, ls, us, firsts, counts, start, row);
@@ -172,7 +175,7 @@ fn form_rows(
     start: usize,
     n: usize,
 ) -> Formed
-    requires { ⌜ Listed (now ws) (now ls) (now us) (now firsts) (now counts) start n ⌝ }
+    requires { ⌜ BitsListed (now ws) (now ls) (now us) (now firsts) (now counts) start n ⌝ }
     ensures { λ r. ⌜ Answered (now (ws .entry)) (now (out .entry)) (now (out .exit)) (formed r) ⌝ }
 {
     let mut row = [0i64; 1024];
@@ -213,7 +216,7 @@ fn form_accepted(ws: &[u32], out: &mut [u32]) -> Formed
 pub fn bit_form(ws: &[u32], out: &mut [u32]) -> Formed
     ensures answer { λ r. ⌜ formed r ≡ bitForm (now (ws .entry)) (length (now (out .entry))) ⌝ }
     ensures output { λ r. ⌜ now (out .exit) ≡ bitFormed (now (ws .entry)) (now (out .entry)) ⌝ }
-    ensures shared { λ r. ⌜ Shares (now (ws .entry)) (formed r) (now (out .exit)) ⌝ }
+    ensures shared { λ r. ⌜ FormShares (now (ws .entry)) (formed r) (now (out .exit)) ⌝ }
 {
     let read = read_rows(ws);
     if read.number != fault::NONE {

@@ -7,6 +7,7 @@ use lib.ListN.{length, replicate}
 use Rattle.integers.specs.Number.{_⊕_, _⊖_, _⊗_, neg, minZ, absZ, _==_, count}
 use Rattle.integers.specs.Lists.{listOf, all}
 use Rattle.integers.specs.Bounds.{within, boundsIn}
+use Rattle.integers.specs.Terms.{sum}
 use Rattle.words.specs.Word.{kind, payload, signed, tooLow, word, complement, numberWord, wordAt}
 use Rattle.words.specs.Variables.{startsPair, variables}
 use Rattle.words.specs.Overlay.{overlay}
@@ -14,14 +15,14 @@ use Rattle.words.specs.Refusal.{accepted, _else-refuse_, firstFault, roomFault}
 use Rattle.words.specs.Answer.{refused, written, _else-answer_}
 use Rattle.rowsystems.specs.Reading.{faultLower, faultItem, faultSource, faultUpper, faultVariable, faultNumber, notAbove, faultResult, faultDue, fault, afterItem, afterDue, started, after, faultEnd, ended, readRows}
 use Rattle.rowsystems.specs.RowSystem.{termCount, variableAt, numberAt, termsIn, constantIn, rows}
-use Rattle.bitforms.specs.Total.{total}
+use Rattle.bitforms.specs.SumOver.{sumOver}
 use Rattle.bitforms.specs.Weights.{weightsFrom, weights}
-use Rattle.bitforms.specs.OverBits.{weighted, scaled, over}
-use Rattle.bitforms.specs.Encoding.{weightsOf, encodings, encodingIn, bitsAfter}
-use Rattle.bitforms.specs.BitRow.{least, slackWeights, pairsWith, pairsOf, productWhole, bitRow, bitRows, bitsWith}
+use Rattle.bitforms.specs.OverBits.{weightedBits, scaled, over}
+use Rattle.bitforms.specs.Encoding.{weightsOf, encodings, bitsAfter}
+use Rattle.bitforms.specs.BitRow.{leastTerm, least, slackWeights, pairsWith, pairsOf, productWhole, bitRow, bitRows, bitsWith}
 use Rattle.bitforms.specs.Energy.{square}
 use Rattle.bitforms.specs.Matrix.{coefficientOf, squareEntry, onPair, pairEntry, rowEntry, entryOf, constantOf, entriesFrom, notZero}
-use Rattle.bitforms.specs.BitForm.{encoding, bitRowsOf, bitCount, formConstant, allEntries, formEntries}
+use Rattle.bitforms.specs.BitForm.{encoding, bitRowsOf, bitCount, formConstant, formEntries}
 use Rattle.bitforms.specs.FormWords.{entryWords, formWords}
 use Rattle.bitforms.specs.FormAnswer.{sizeFault, rowFits, formFits, numberFault, bitFormFault, bitForm, bitFormed}
 
@@ -114,5 +115,5 @@ alikeForm = 0x64000000 ∷ 0xF0000000 ∷ []
 -- ---- the table
 
 pub table : Writes squaredRows squaredForm × Writes fixedRows fixedForm × Writes neverRows neverForm × Writes slackRows slackForm × Writes cutRows cutForm × Needs mostRows 1024 × Refuses aboveRows 23 × Writes largestRows largestForm × Refuses largerRows 24 × Writes alikeRows alikeForm
-unfolding flatMap map _⊕_ _⊖_ _⊗_ neg minZ absZ _==_ count listOf all within boundsIn kind payload signed tooLow word complement numberWord wordAt startsPair variables overlay _else-refuse_ firstFault roomFault _else-answer_ faultLower faultItem faultSource faultUpper faultVariable faultNumber notAbove faultResult faultDue fault afterItem afterDue started after faultEnd ended readRows termCount variableAt numberAt termsIn constantIn rows total weightsFrom weights weighted scaled over weightsOf encodings encodingIn bitsAfter least slackWeights pairsWith pairsOf productWhole bitRow bitRows bitsWith square coefficientOf squareEntry onPair pairEntry rowEntry entryOf constantOf entriesFrom notZero encoding bitRowsOf bitCount formConstant allEntries formEntries entryWords formWords sizeFault rowFits formFits numberFault bitFormFault bitForm bitFormed
+unfolding flatMap map sum _⊕_ _⊖_ _⊗_ neg minZ absZ _==_ count listOf all within boundsIn kind payload signed tooLow word complement numberWord wordAt startsPair variables overlay _else-refuse_ firstFault roomFault _else-answer_ faultLower faultItem faultSource faultUpper faultVariable faultNumber notAbove faultResult faultDue fault afterItem afterDue started after faultEnd ended readRows termCount variableAt numberAt termsIn constantIn rows sumOver weightsFrom weights weightedBits scaled over weightsOf encodings bitsAfter leastTerm least slackWeights pairsWith pairsOf productWhole bitRow bitRows bitsWith square coefficientOf squareEntry onPair pairEntry rowEntry entryOf constantOf entriesFrom notZero encoding bitRowsOf bitCount formConstant formEntries entryWords formWords sizeFault rowFits formFits numberFault bitFormFault bitForm bitFormed
 table = ((refl, refl), (refl, refl), (refl, refl), (refl, refl), (refl, refl), (refl, refl), λ room. refl, (refl, refl), λ room. refl, (refl, refl))

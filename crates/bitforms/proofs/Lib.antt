@@ -1,4 +1,5 @@
 -- The form over bits: never below 0, and 0 exactly where the row system is satisfied.
+pub mod Lists
 pub mod AtTheEdges
 pub mod Sums
 pub mod Bits
@@ -9,6 +10,6 @@ pub mod Sound
 pub mod Complete
 pub mod Matrix
 pub mod Theorem
-pub mod Inside
+pub mod InBounds
 pub mod ReadBack
 pub mod Written

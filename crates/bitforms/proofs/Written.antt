@@ -9,7 +9,6 @@ use lib.IntN.{ℤ}
 use lib.ListN.{length, drop, take-append-drop}
 use borrow.Author.Tests.{ltb-false}
 use Rattle.integers.specs.Choice.{_if_else_}
-use Rattle.integers.specs.Terms.{value}
 use Rattle.words.specs.Fault as Fault
 use Rattle.words.specs.Overlay.{overlay}
 use Rattle.words.specs.Refusal.{accepted, faultOr, _at-place_, _else-refuse_, roomFault}
@@ -31,7 +30,7 @@ begins out xs h = sym (take-append-drop (length xs) (overlay out 0 xs)) ∙ ap (
 
 module _ (ws out : List ℕ) (n : ℕ) (wrote : bitForm ws (length out) ≡ written n) where
   -- what was written reads as the form
-  pub says-form : (bs : List ℤ) → readForm (value bs) (bitFormed ws out) ≡ formOf ws bs
+  pub says-form : (bs : List ℤ) → readForm (bitFormed ws out) bs ≡ formOf ws bs
   unfolding bitForm bitFormed bitFormFault sizeFault numberFault roomFault _else-refuse_ _else-answer_
   says-form bs =
       by (readRows ws .number) (readRows ws .place) (ltb mostBits (bitCount ws)) (formFits ws) (ltb (length out) (length (formWords ws))) refl refl refl wrote
@@ -44,14 +43,14 @@ module _ (ws out : List ℕ) (n : ℕ) (wrote : bitForm ws (length out) ≡ writ
 
       by : (m p : ℕ) (many fits short : Bool) → ltb mostBits (bitCount ws) ≡ many → formFits ws ≡ fits → ltb (length out) (length (formWords ws)) ≡ short →
           refusedOr (found m p many fits short .number) (found m p many fits short .place) (written (length (formWords ws))) ≡ written n →
-          readForm (value bs) (overlay out 0 (formWords ws) if eqb (found m p many fits short .number) Fault.none else out) ≡ formOf ws bs
+          readForm (overlay out 0 (formWords ws) if eqb (found m p many fits short .number) Fault.none else out) bs ≡ formOf ws bs
       by zero p false true false b f r e =
-          ap (readForm (value bs)) (begins out (formWords ws) (omega (arith, ltb-false)))
-          ∙ reads-back ws (drop (length (formWords ws)) (overlay out 0 (formWords ws))) (value bs) (omega (arith, ltb-false)) f
+          ap (λ ws. readForm ws bs) (begins out (formWords ws) (omega (arith, ltb-false)))
+          ∙ reads-back ws (drop (length (formWords ws)) (overlay out 0 (formWords ws))) bs (omega (arith, ltb-false)) f
       by zero p false true true b f r e = let z : _≡_ {A = ℕ} 0 1 = cc in absurd (omega arith)
       by zero p false false short b f r e = let z : _≡_ {A = ℕ} 0 1 = cc in absurd (omega arith)
       by zero p true fits short b f r e = let z : _≡_ {A = ℕ} 0 1 = cc in absurd (omega arith)
       by (suc m) p many fits short b f r e = let z : _≡_ {A = ℕ} 0 1 = cc in absurd (omega arith)
 
-  pub written-shares : SameSolutions ws (λ bs. readForm (value bs) (bitFormed ws out))
+  pub written-shares : SameSolutions ws (readForm (bitFormed ws out))
   written-shares = subst (SameSolutions ws) (fun-ext (λ bs. sym (says-form bs))) (same-solutions ws)

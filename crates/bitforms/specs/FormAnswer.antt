@@ -3,7 +3,7 @@ use mathlib.Core.Bool.{Bool, _&&_}
 use mathlib.Core.List.{List}
 use Prim.Native.Nat.{ℕ}
 use lib.Dec.{ltb, eqb}
-use lib.IntN.{ℤ, pos}
+use lib.IntN.{pos}
 use lib.Signed.{leZ}
 use lib.ListN.{length}
 use Rattle.integers.specs.Choice.{_if_else_}
@@ -32,16 +32,16 @@ unfoldable pub sizeFault : List ℕ → Refusal
 sizeFault ws = tooManyBits at-place 0 if ltb mostBits (bitCount ws) else accepted
 
 -- "24 when a row over bits, like bits added, has a coefficient or constant beyond plus or minus 16,384", n bits in all
-abbrev pub mostInRow : ℤ
-mostInRow = pos 16384
+abbrev pub mostInRow : ℕ
+mostInRow = 16384
 
 abbrev pub formTooLarge : ℕ
 formTooLarge = 24
 
 unfoldable pub rowFits : ℕ → BitRow → Bool
 rowFits n r =
-    leZ (absZ (r .whole .constant)) mostInRow
-    && all (λ i. leZ (absZ (coefficientOf (r .whole .terms) i)) mostInRow) (listOf (λ i. i) n)
+    leZ (absZ (r .whole .constant)) (pos mostInRow)
+    && all (λ i. leZ (absZ (coefficientOf (r .whole .terms) i)) (pos mostInRow)) (listOf (λ i. i) n)
 
 -- "or an entry or the form's constant is outside the range"
 unfoldable pub formFits : List ℕ → Bool

@@ -1,9 +1,8 @@
 -- Entries written one after another.
-use mathlib.Core.Path.{_≡_, refl, sym, ap, _∙_}
+use mathlib.Core.Path.{_≡_, refl, ap, _∙_}
 use mathlib.Core.Bool.{Bool, true, false}
-use mathlib.Core.List.{List, [], _∷_, _++_, flatMap, append-assoc}
-use Prim.Native.Nat.{ℕ, zero, suc, _+_, _*_, _≤_, _<_}
-use native.Mathlib.Numerals.{add-one}
+use mathlib.Core.List.{List, [], _∷_, _++_, flatMap}
+use Prim.Native.Nat.{ℕ, _+_, _*_, _≤_, _<_}
 use native.Mathlib.Omega.{arith}
 use lib.IntN.{ℤ}
 use lib.ListN.{length, getD}
@@ -17,6 +16,7 @@ use Rattle.words.specs.Laid.{Laid}
 use Rattle.words.proofs.Rest.{all-left, lay-part, lay-last, none-left}
 use Rattle.bitforms.specs.Matrix.{Entry, notZero}
 use Rattle.bitforms.specs.FormWords.{entryWords}
+use Rattle.bitforms.proofs.Lists.{list-more, flat-append}
 use Rattle.bitlines.specs.Line.{entry, lineEntries, entriesWords}
 
 -- ---- words after words
@@ -28,11 +28,6 @@ laid-none : {a : ℕ} {o : List ℕ} → Laid o a [] o a
 laid-none {a} {o} = none-left (all-left o a [])
 
 -- ---- entries after entries
-
-flat-append : (xs ys : List Entry) → flatMap entryWords (xs ++ ys) ≡ flatMap entryWords xs ++ flatMap entryWords ys
-unfolding flatMap
-flat-append [] ys = refl
-flat-append (x ∷ xs) ys = ap (λ l. entryWords x ++ l) (flat-append xs ys) ∙ sym (append-assoc (entryWords x) (flatMap entryWords xs) (flatMap entryWords ys))
 
 zero-append : (xs ys : List Entry) → notZero (xs ++ ys) ≡ notZero xs ++ notZero ys
 unfolding notZero
@@ -46,17 +41,9 @@ zero-append (x ∷ xs) ys = go (x .number == +0) (zero-append xs ys)
 
 pub words-append : (xs ys : List Entry) → entriesWords (xs ++ ys) ≡ entriesWords xs ++ entriesWords ys
 unfolding entriesWords
-words-append xs ys = ap (flatMap entryWords) (zero-append xs ys) ∙ flat-append (notZero xs) (notZero ys)
+words-append xs ys = ap (flatMap entryWords) (zero-append xs ys) ∙ flat-append entryWords (notZero xs) (notZero ys)
 
 -- ---- one entry more
-
-places-more : (f : ℕ → Entry) (d : ℕ) → listOf f (d + 1) ≡ listOf f d ++ (f d ∷ [])
-unfolding listOf
-places-more f d = rw add-one (go f d)
-  where
-    go : (f : ℕ → Entry) (d : ℕ) → listOf f (suc d) ≡ listOf f d ++ (f d ∷ [])
-    go f zero = refl
-    go f (suc d) = ap (λ l. f 0 ∷ l) (go (λ k. f (suc k)) d)
 
 -- the entries of the first d bits are written
 pub record Writing (at i m : ℕ) (o : List ℕ) (line : List ℤ) (p : List ℕ) (next d : ℕ) : Type 0 where
@@ -82,7 +69,7 @@ unfolding lineEntries
 writing-more {at} {i} {m} {next} {r} {d} {o} {p} {q} {line} l w e = record {
   done =
       let f : ℕ → Entry = λ k. entry i (i + k) (getD line (i + k) +0) in
-      rw (places-more f d, words-append (listOf f d) (f d ∷ [])) (laid-then (w .done) e);
+      rw (list-more f d, words-append (listOf f d) (f d ∷ [])) (laid-then (w .done) e);
   place = omega arith;
   small = let s = w .small in let n = e .ends in let z = one-size i (i + d) (getD line (i + d) +0) in omega arith;
 }

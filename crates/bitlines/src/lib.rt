@@ -7,8 +7,10 @@ ghost use lib.ListN.{length, getD};
 ghost use Rattle.integers.specs.Number.{_⊕_, _⊗_, +0, +2};
 ghost use Rattle.words.specs.Laid.{Laid};
 ghost use Rattle.bitforms.specs.Weights.{weights};
-ghost use Rattle.bitforms.specs.OverBits.{weighted, scaled};
-ghost use Rattle.bitlines.specs.Dense.{bump, addTerms, peak};
+ghost use Rattle.bitforms.specs.OverBits.{weightedBits, scaled};
+ghost use Rattle.bitforms.specs.FormAnswer.{mostBits, mostInRow};
+ghost use Rattle.bitlines.specs.Sizes as Size;
+ghost use Rattle.bitlines.specs.Dense.{bump, addTerms, peak, Adds};
 ghost use Rattle.bitlines.specs.Line.{squareAt, squareTerms, onTerms, pairTerms, pairOf, entry, lineEntries, entriesWords};
 use integers::equal;
 use integers::plus;
@@ -30,7 +32,7 @@ pub fn lesser(a: usize, b: usize) -> usize
 
 // Adds k to a number of the list, if the place is one of its places.
 pub fn add_at(row: &mut [i64], i: usize, k: i64)
-    requires { ⌜ peak (now row) + natAbs k < 9223372036854775808 ⌝ }
+    requires { ⌜ peak (now row) + natAbs k < 8 * Size.sums ⌝ }
     ensures { λ r. ⌜ now (row .exit) ≡ bump (now (row .entry)) i k ⌝ }
 {
     if i < row.len() {
@@ -40,8 +42,8 @@ pub fn add_at(row: &mut [i64], i: usize, k: i64)
 
 // Adds k × weight to the bits from `first` on, for each weight of a width; the number of the next bit.
 pub fn add_weights(row: &mut [i64], first: usize, k: i64, width: usize) -> usize
-    requires { ⌜ (first < 4611686018427387904) × (width < 4611686018427387904) × (peak (now row) + natAbs k * width < 9223372036854775808) ⌝ }
-    ensures { λ r. ⌜ (r ≡ first + length (weights width)) × (now (row .exit) ≡ addTerms (now (row .entry)) (scaled k (weighted first (weights width)))) ⌝ }
+    requires { ⌜ (first < 4 * Size.sums) × (width < 4 * Size.sums) × (peak (now row) + natAbs k * width < 8 * Size.sums) ⌝ }
+    ensures { λ r. ⌜ (r ≡ first + length (weights width)) × (now (row .exit) ≡ addTerms (now (row .entry)) (scaled k (weightedBits first (weights width)))) ⌝ }
 {
     let mut at = first;
     let mut weight = 1;
@@ -78,7 +80,7 @@ pub fn number_at(row: &[i64], i: usize) -> i64
 
 // a² + 2×c×a
 fn on_diagonal(a: i64, c: i64) -> i64
-    requires { ⌜ (natAbs a ≤ 16384) × (natAbs c ≤ 16384) ⌝ }
+    requires { ⌜ (natAbs a ≤ mostInRow) × (natAbs c ≤ mostInRow) ⌝ }
     ensures { λ r. ⌜ r ≡ a ⊗ a ⊕ +2 ⊗ c ⊗ a ⌝ }
 {
     plus(times(a, a), times(times(2, c), a))
@@ -86,7 +88,7 @@ fn on_diagonal(a: i64, c: i64) -> i64
 
 // 2×a×b
 fn off_diagonal(a: i64, b: i64) -> i64
-    requires { ⌜ (natAbs a ≤ 16384) × (natAbs b ≤ 16384) ⌝ }
+    requires { ⌜ (natAbs a ≤ mostInRow) × (natAbs b ≤ mostInRow) ⌝ }
     ensures { λ r. ⌜ r ≡ +2 ⊗ a ⊗ b ⌝ }
 {
     times(times(2, a), b)
@@ -94,7 +96,7 @@ fn off_diagonal(a: i64, b: i64) -> i64
 
 // The entry of bits i ≤ j in the square of a row over bits with the constant c.
 pub fn square_at(row: &[i64], c: i64, i: usize, j: usize) -> i64
-    requires { ⌜ (peak (now row) ≤ 16384) × (natAbs c ≤ 16384) ⌝ }
+    requires { ⌜ (peak (now row) ≤ mostInRow) × (natAbs c ≤ mostInRow) ⌝ }
     ensures { λ r. ⌜ r ≡ squareAt (now (row .entry)) c i j ⌝ }
 {
     if i == j {
@@ -105,8 +107,8 @@ pub fn square_at(row: &[i64], c: i64, i: usize, j: usize) -> i64
 
 // Adds the entries of bit i and the m bits from i on in the square of a row over bits to a line.
 pub fn add_square(line: &mut [i64], row: &[i64], c: i64, i: usize, m: usize)
-    requires { ⌜ (peak (now row) ≤ 16384) × (natAbs c ≤ 16384) × (i < 1024) × (m ≤ 1024) × (peak (now line) < 4611686018427387904) ⌝ }
-    ensures { λ r. ⌜ (now (line .exit) ≡ addTerms (now (line .entry)) (squareTerms (now (row .entry)) c i m)) × (peak (now (line .exit)) ≤ peak (now (line .entry)) + m * 805306368) ⌝ }
+    requires { ⌜ (peak (now row) ≤ mostInRow) × (natAbs c ≤ mostInRow) × (i + m ≤ mostBits) × (peak (now line) < 4 * Size.sums) ⌝ }
+    ensures { λ r. ⌜ Adds (squareTerms (now (row .entry)) c i m) (m * Size.entry) (now (line .entry)) (now (line .exit)) ⌝ }
 {
     let mut d = 0;
     while d < m {
@@ -117,7 +119,7 @@ pub fn add_square(line: &mut [i64], row: &[i64], c: i64, i: usize, m: usize)
 
 // Adds c to the line of bit i at the larger of bits a and b, if i is the lesser one.
 pub fn add_on(line: &mut [i64], c: i64, a: usize, b: usize, i: usize)
-    requires { ⌜ peak (now line) + natAbs c < 9223372036854775808 ⌝ }
+    requires { ⌜ peak (now line) + natAbs c < 8 * Size.sums ⌝ }
     ensures { λ r. ⌜ now (line .exit) ≡ addTerms (now (line .entry)) (onTerms c a b i) ⌝ }
 {
     if lesser(a, b) == i {
@@ -127,7 +129,7 @@ pub fn add_on(line: &mut [i64], c: i64, a: usize, b: usize, i: usize)
 
 // Adds what bits u and v and the bit t of their product add to the line of bit i.
 pub fn add_pair(line: &mut [i64], u: usize, v: usize, t: usize, i: usize)
-    requires { ⌜ peak (now line) + 8 < 9223372036854775808 ⌝ }
+    requires { ⌜ peak (now line) < 4 * Size.sums ⌝ }
     ensures { λ r. ⌜ now (line .exit) ≡ addTerms (now (line .entry)) (pairTerms (pairOf u v t) i) ⌝ }
 {
     add_on(line, 3, t, t, i);
@@ -138,7 +140,7 @@ pub fn add_pair(line: &mut [i64], u: usize, v: usize, t: usize, i: usize)
 
 // Writes the words of an entry, none for 0; the next place.
 pub fn put_entry(out: &mut [u32], at: usize, i: usize, j: usize, v: i64) -> usize
-    requires { ⌜ at < 549755813888 ⌝ }
+    requires { ⌜ at < Size.places ⌝ }
     ensures { λ r. ⌜ Laid (now (out .entry)) at (entriesWords (entry i j v ∷ [])) (now (out .exit)) r ⌝ }
 {
     if equal(v, 0) {
@@ -155,7 +157,7 @@ pub fn put_entry(out: &mut [u32], at: usize, i: usize, j: usize, v: i64) -> usiz
 
 // Writes the entries of bit i and the m bits from i on; the next place.
 pub fn put_line(out: &mut [u32], at: usize, line: &[i64], i: usize, m: usize) -> usize
-    requires { ⌜ (at < 274877906944) × (i < 1024) × (m ≤ 1024) ⌝ }
+    requires { ⌜ (at + 3 * m < Size.places) × (i + m ≤ mostBits) ⌝ }
     ensures { λ r. ⌜ Laid (now (out .entry)) at (entriesWords (lineEntries (now (line .entry)) i m)) (now (out .exit)) r ⌝ }
 {
     let mut next = at;

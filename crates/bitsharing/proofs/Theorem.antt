@@ -18,11 +18,11 @@ use Rattle.rules.specs.Translation.{bounds, systemWords, auxiliaries}
 use Rattle.sharing.specs.SharedSolutions.{Passes, SatisfiesModel, SatisfiesRows}
 use Rattle.sharing.proofs.Theorem.{written-read, same-bounds, shared-solutions}
 use Rattle.rowsystems.proofs.Ordered.{accepted-ordered}
-use Rattle.bitforms.specs.OverBits.{valueAt}
+use Rattle.bitforms.specs.OverBits.{evaluate}
 use Rattle.bitforms.specs.BitForm.{encoding}
-use Rattle.bitforms.specs.SameSolutions.{Inside, ReadAs, SomeBits}
+use Rattle.bitforms.specs.SameSolutions.{InBounds, ReadAs, SomeBits}
 use Rattle.bitforms.proofs.Theorem.{formOf, value-bits, all-bits, zero-sound, zero-complete}
-use Rattle.bitforms.proofs.Inside.{bits-inside}
+use Rattle.bitforms.proofs.InBounds.{bits-inside}
 use Rattle.bitsharing.specs.ModelSolutions.{ModelSolutions}
 
 module _ (model : List ℕ) (passes : Passes model) where
@@ -49,23 +49,23 @@ module _ (model : List ℕ) (passes : Passes model) where
   back vs l (bs, (a, r, z)) = shared-solutions model passes vs .1 (xs, (listOf-length _ (length (auxiliaries model)), all-of))
     where
       xs : List ℤ
-      xs = listOf (λ k. valueAt (value bs) (encoding system (length vs + k))) (length (auxiliaries model))
+      xs = listOf (λ k. evaluate (value bs) (encoding system (length vs + k))) (length (auxiliaries model))
 
       total-length : length (vs ++ xs) ≡ length (variables system)
-      total-length = length-append vs xs ∙ (let e = listOf-length (λ k. valueAt (value bs) (encoding system (length vs + k))) (length (auxiliaries model)) in let n = in-all in omega arith)
+      total-length = length-append vs xs ∙ (let e = listOf-length (λ k. evaluate (value bs) (encoding system (length vs + k))) (length (auxiliaries model)) in let n = in-all in omega arith)
 
       reads : ReadAs system (length (variables system)) bs (vs ++ xs)
       reads v h = go (decLe (length vs) v)
         where
-          go : Dec (length vs ≤ v) → valueAt (value bs) (encoding system v) ≡ value (vs ++ xs) v
+          go : Dec (length vs ≤ v) → evaluate (value bs) (encoding system v) ≡ value (vs ++ xs) v
           go (no n) = r v (omega arith) ∙ sym (List·getD-append vs xs (pos 0) v (omega arith))
           go (yes n) =
               let e : v ≡ length vs + (v - length vs) = omega arith in
               let m = in-all in
-              subst (λ u. valueAt (value bs) (encoding system u) ≡ value (vs ++ xs) u) (sym e)
-              (sym (getD-append-add vs xs (v - length vs) (pos 0) ∙ getD-listOf (λ k. valueAt (value bs) (encoding system (length vs + k))) (length (auxiliaries model)) (v - length vs) (pos 0) (omega arith)))
+              subst (λ u. evaluate (value bs) (encoding system u) ≡ value (vs ++ xs) u) (sym e)
+              (sym (getD-append-add vs xs (v - length vs) (pos 0) ∙ getD-listOf (λ k. evaluate (value bs) (encoding system (length vs + k))) (length (auxiliaries model)) (v - length vs) (pos 0) (omega arith)))
 
-      inside : Inside system (vs ++ xs)
+      inside : InBounds system (vs ++ xs)
       inside = record {
         one-each = total-length;
         in-bounds = λ v h.

@@ -8,10 +8,10 @@ use Rattle.bitforms.specs.FormAnswer.{bitForm, bitFormed}
 use Rattle.bitforms.proofs.Theorem.{formOf}
 use Rattle.bitforms.proofs.Written.{says-form, written-shares}
 use Rattle.bitsharing.specs.ModelSolutions.{ModelSolutions}
-use Rattle.bitsharing.specs.Shares.{Shares}
+use Rattle.bitsharing.specs.FormShares.{FormShares}
 use Rattle.bitsharing.proofs.Theorem.{model-solutions}
 
-pub shares : (ws out : List ℕ) → Shares ws (bitForm ws (length out)) (bitFormed ws out)
+pub shares : (ws out : List ℕ) → FormShares ws (bitForm ws (length out)) (bitFormed ws out)
 shares ws out n e = (
   written-shares ws out n e,
   λ model passes system.
@@ -19,5 +19,5 @@ shares ws out n e = (
 )
 
 -- of an answer and an output that are the definitions'
-pub shares-of : (ws before : List ℕ) {after : List ℕ} {answer : Answer} → answer ≡ bitForm ws (length before) → after ≡ bitFormed ws before → Shares ws answer after
+pub shares-of : (ws before : List ℕ) {after : List ℕ} {answer : Answer} → answer ≡ bitForm ws (length before) → after ≡ bitFormed ws before → FormShares ws answer after
 shares-of ws before e f = rw (e, f) (shares ws before)

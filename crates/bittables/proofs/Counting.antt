@@ -10,7 +10,8 @@ use Rattle.integers.proofs.Fits.{minus-size}
 use Rattle.extremes.specs.Bounded.{Bounded}
 use Rattle.extremes.proofs.Size.{count-le}
 use Rattle.bitforms.specs.Weights.{weightsFrom, weights}
-use Rattle.bittables.specs.Tables.{spanIn, Counted}
+use Rattle.bitlines.specs.Sizes as Size
+use Rattle.bittables.specs.BitTables.{spanIn, BitCounts}
 
 one-power : (b : ℕ) → 1 ≤ 2 ^ b
 one-power zero = omega arith
@@ -28,17 +29,17 @@ few-from (suc b) (suc most) k (suc w) h =
     let r = few-from b most (2 * k) (suc w - k) (omega arith) in
     omega arith
 
-pub few-weights : (w : ℕ) → w < 4611686018427387904 → length (weights w) ≤ 62
+pub few-weights : (w : ℕ) → w < 4 * Size.sums → length (weights w) ≤ Size.variableBits
 unfolding weights
 few-weights w h = few-from 62 w 1 w (omega arith)
 
 -- ---- the width of a variable
 
-pub span-size : (ls us : List ℤ) (v : ℕ) → Bounded ls → Bounded us → spanIn ls us v ≤ 268435456
+pub span-size : (ls us : List ℤ) (v : ℕ) → Bounded ls → Bounded us → spanIn ls us v ≤ Size.width
 unfolding spanIn
 span-size ls us v l u = omega (arith, count-le (getD us v +0 ⊖ getD ls v +0), minus-size (getD us v +0) (getD ls v +0), l v, u v)
 
 -- ---- the number of a variable's bits
 
-pub counts-few : (ls us : List ℤ) (counts : List ℕ) → Bounded ls → Bounded us → Counted ls us counts → (v : ℕ) → getD counts v 0 ≤ 62
+pub counts-few : (ls us : List ℤ) (counts : List ℕ) → Bounded ls → Bounded us → BitCounts ls us counts → (v : ℕ) → getD counts v 0 ≤ Size.variableBits
 counts-few ls us counts l u k v = omega (arith, k v, few-weights (spanIn ls us v) (omega (arith, span-size ls us v l u)))

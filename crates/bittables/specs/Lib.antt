@@ -1,2 +1,3 @@
--- What the contracts cite: the lists of the variables' bits.
-pub mod Tables
+-- What the contracts cite: the lists of the variables' bits, and how they are made.
+pub mod BitTables
+pub mod KeptBits

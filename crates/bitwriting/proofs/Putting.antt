@@ -10,15 +10,16 @@ use Rattle.integers.specs.Choice.{_if_else_}
 use Rattle.integers.specs.Number.{_==_, +0}
 use Rattle.integers.specs.Lists.{listOf, all}
 use Rattle.integers.proofs.Lists.{listOf-length}
-use Rattle.words.specs.Laid.{Laid}
 use Rattle.words.specs.Word.{inRange}
 use Rattle.words.proofs.Rest.{Rest, all-left, lay-part, same-rest, none-left, laid-length}
 use Rattle.bitforms.specs.Matrix.{Entry, entryOf, entriesFrom, notZero}
 use Rattle.bitforms.specs.FormWords.{entryWords}
 use Rattle.bitforms.specs.BitRow.{BitRow}
+use Rattle.bitfilling.specs.Added.{Sized}
 use Rattle.bitlines.specs.Line.{entry, lineEntries, entriesWords}
 use Rattle.bitlines.proofs.Writing.{words-append}
 use Rattle.bitwriting.specs.Lined.{LineOf, lineOf}
+use Rattle.bitwriting.specs.EntriesPut.{allInRange, EntriesPut}
 
 same-listOf : {A : Type 0} (f g : ℕ → A) (m : ℕ) → ((d : ℕ) → d < m → f d ≡ g d) → listOf f m ≡ listOf g m
 unfolding listOf
@@ -74,26 +75,21 @@ all-append t (x ∷ xs) ys = ap (λ b. t x && b) (all-append t xs ys) ∙ sym (a
     and-assoc true b c = refl
     and-assoc false b c = refl
 
-abbrev pub tested : List Entry → Bool
-tested xs = all (λ x. inRange (x .number)) xs
-
 pub record Putting (e : ℕ → ℕ → ℤ) (n at : ℕ) (out₀ out : List ℕ) (to i : ℕ) (line row : List ℤ) : Type 0 where
   pub place : i ≤ n
   pub rest : Rest out₀ at (entriesWords (entriesFrom e 0 n)) out to (entriesWords (entriesFrom e i (n - i)))
-  pub fits : tested (entriesFrom e i (n - i)) ≡ tested (entriesFrom e 0 n)
+  pub fits : allInRange (entriesFrom e i (n - i)) ≡ allInRange (entriesFrom e 0 n)
   pub small : to ≤ at + 3072 * i
-  pub same-line : length line ≡ n
-  pub same-row : length row ≡ n
+  pub sized : Sized n line row
   pub same-out : length out ≡ length out₀
 
-pub putting-begun : (e : ℕ → ℕ → ℤ) (n at : ℕ) (out : List ℕ) (line row : List ℤ) → length line ≡ n → length row ≡ n → Putting e n at out out at 0 line row
-putting-begun e n at out line row l r = record {
+pub putting-begun : (e : ℕ → ℕ → ℤ) (n at : ℕ) (out : List ℕ) (line row : List ℤ) → Sized n line row → Putting e n at out out at 0 line row
+putting-begun e n at out line row s = record {
   place = omega arith;
   rest = same-rest (ap (λ m. entriesWords (entriesFrom e 0 m)) whole) (all-left out at (entriesWords (entriesFrom e 0 n)));
-  fits = ap (λ m. tested (entriesFrom e 0 m)) (sym whole);
+  fits = ap (λ m. allInRange (entriesFrom e 0 m)) (sym whole);
   small = omega arith;
-  same-line = l;
-  same-row = r;
+  sized = s;
   same-out = refl;
 }
   where
@@ -101,32 +97,32 @@ putting-begun e n at out line row l r = record {
     whole = omega arith
 
 module _ {e : ℕ → ℕ → ℤ} {n at : ℕ} {out₀ out : List ℕ} {to i : ℕ} {line row : List ℤ} (k : Putting e n at out₀ out to i line row) (h : i < n) where
-  pub putting-more : {out′ : List ℕ} {end : ℕ} {line′ row′ : List ℤ} → n ≤ 1024 → tested (lineOf e i (n - i)) ≡ true →
-      Laid out to (entriesWords (lineOf e i (n - i))) out′ end → end ≤ to + 3 * (n - i) → length line′ ≡ length line → length row′ ≡ length row →
-      Putting e n at out₀ out′ end (i + 1) line′ row′
-  putting-more {out′} {end} {line′} {row′} s t l u p q =
+  pub putting-more : {out′ : List ℕ} {fits : Bool} {end : ℕ} {line′ row′ : List ℤ} → EntriesPut (lineOf e i (n - i)) out to out′ fits end → fits ≡ true →
+      length line′ ≡ length line → length row′ ≡ length row → Putting e n at out₀ out′ end (i + 1) line′ row′
+  putting-more {out′} {fits} {end} {line′} {row′} s y p q =
       let f = line-first e i n h in
+      let l = s .laid y in
+      let t = sym (s .tested) ∙ y in
       record {
         place = omega arith;
         rest = lay-part (same-rest (ap entriesWords f ∙ words-append (lineOf e i (n - i)) (entriesFrom e (i + 1) (n - (i + 1)))) (k .rest)) l;
-        fits = sym (ap tested f ∙ all-append (λ x. inRange (x .number)) (lineOf e i (n - i)) (entriesFrom e (i + 1) (n - (i + 1))) ∙ ap (λ b. b && tested (entriesFrom e (i + 1) (n - (i + 1)))) t) ∙ k .fits;
-        small = omega (arith, k .small);
-        same-line = p ∙ k .same-line;
-        same-row = q ∙ k .same-row;
+        fits = sym (ap allInRange f ∙ all-append (λ x. inRange (x .number)) (lineOf e i (n - i)) (entriesFrom e (i + 1) (n - (i + 1))) ∙ ap (λ b. b && allInRange (entriesFrom e (i + 1) (n - (i + 1)))) t) ∙ k .fits;
+        small = omega (arith, k .small, k .sized .few, l .ends, line-words e i (n - i));
+        sized = record { line-size = p ∙ k .sized .line-size; row-size = q ∙ k .sized .row-size; few = k .sized .few };
         same-out = laid-length l ∙ k .same-out;
       }
 
-  pub putting-fails : tested (lineOf e i (n - i)) ≡ false → false ≡ tested (entriesFrom e 0 n)
+  pub putting-fails : allInRange (lineOf e i (n - i)) ≡ false → false ≡ allInRange (entriesFrom e 0 n)
   putting-fails t =
       let f = line-first e i n h in
-      sym (ap tested f ∙ all-append (λ x. inRange (x .number)) (lineOf e i (n - i)) (entriesFrom e (i + 1) (n - (i + 1))) ∙ ap (λ b. b && tested (entriesFrom e (i + 1) (n - (i + 1)))) t) ∙ k .fits
+      sym (ap allInRange f ∙ all-append (λ x. inRange (x .number)) (lineOf e i (n - i)) (entriesFrom e (i + 1) (n - (i + 1))) ∙ ap (λ b. b && allInRange (entriesFrom e (i + 1) (n - (i + 1)))) t) ∙ k .fits
 
-no-entries : (e : ℕ → ℕ → ℤ) (i : ℕ) → (tested (entriesFrom e i 0) ≡ true) × (entriesWords (entriesFrom e i 0) ≡ [])
+no-entries : (e : ℕ → ℕ → ℤ) (i : ℕ) → (allInRange (entriesFrom e i 0) ≡ true) × (entriesWords (entriesFrom e i 0) ≡ [])
 unfolding entriesFrom all entriesWords notZero flatMap
 no-entries e i = (refl, refl)
 
 pub putting-done : {e : ℕ → ℕ → ℤ} {n at : ℕ} {out₀ out : List ℕ} {to i : ℕ} {line row : List ℤ} → Putting e n at out₀ out to i line row → n ≤ i →
-    (true ≡ tested (entriesFrom e 0 n)) × Laid out₀ at (entriesWords (entriesFrom e 0 n)) out to
+    EntriesPut (entriesFrom e 0 n) out₀ at out true to
 putting-done {e} {n} {at} {out₀} {out} {to} {i} k h =
     let z : n - i ≡ 0 = omega arith in
-    (sym (no-entries e i .0) ∙ rw z at (k .fits), none-left (same-rest (no-entries e i .1) (rw z at (k .rest))))
+    record { tested = sym (no-entries e i .0) ∙ rw z at (k .fits); laid = λ t. none-left (same-rest (no-entries e i .1) (rw z at (k .rest))) }

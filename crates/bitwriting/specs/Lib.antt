@@ -1,2 +1,3 @@
--- What the contracts cite: a line of the form.
+-- What the contracts cite: a line of the form, and the entries that are written.
 pub mod Lined
+pub mod EntriesPut

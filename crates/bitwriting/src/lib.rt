@@ -2,24 +2,21 @@
 ghost use mathlib.Core.Path.{_≡_};
 ghost use mathlib.Core.Bool.{true};
 ghost use Prim.Native.Nat.{_+_, _*_, _<_, _≤_};
-ghost use lib.ListN.{length};
-ghost use Rattle.integers.specs.Lists.{all};
-ghost use Rattle.words.specs.Laid.{Laid};
-ghost use Rattle.words.specs.Limit as Limit;
-ghost use Rattle.words.specs.Word.{inRange};
-ghost use Rattle.bitforms.specs.FormAnswer.{rowFits};
+ghost use Rattle.bitforms.specs.FormAnswer.{mostBits, rowFits};
 ghost use Rattle.bitforms.specs.Matrix.{entryOf, entriesFrom};
+ghost use Rattle.bitlines.specs.Sizes as Size;
 ghost use Rattle.bitlines.specs.Dense.{peak};
-ghost use Rattle.bitlines.specs.Line.{lineEntries, entriesWords};
-ghost use Rattle.bittables.specs.Tables.{rowBy, rowsBy, Tables};
-ghost use Rattle.bitfilling.specs.Added.{Added};
-ghost use Rattle.bitwriting.specs.Lined.{LineOf, lineOf};
+ghost use Rattle.bitlines.specs.Line.{lineEntries};
+ghost use Rattle.bittables.specs.BitTables.{rowBy, rowsBy, BitTables};
+ghost use Rattle.bitfilling.specs.Added.{Sized, Added};
+ghost use Rattle.bitwriting.specs.Lined.{LineOf, lineOf, Fitting};
+ghost use Rattle.bitwriting.specs.EntriesPut.{allInRange, EntriesPut};
 use bitfilling::add_row;
 use bitfilling::clear;
-use bitholding::holds_bit;
+use bitfilling::holds_bit;
 use bitlines::number_at;
 use bitlines::put_line;
-use bitslack::own_bits;
+use bitrows::own_bits;
 use rowreading::rows::starts_row;
 use words::in_range;
 
@@ -43,8 +40,10 @@ fn add_to_line(
     i: usize,
     m: usize,
 ) -> usize
-    requires { ⌜ Tables (now ls) (now us) (now firsts) (now counts) × (first < 549755813888) × (i < 1024) × (m ≤ 1024) × (i + m ≡ length (now line)) × (length (now row) ≡ length (now line)) × (rowFits (length (now row)) (rowBy (now ls) (now us) (now firsts) first head (now args)) ≡ true) × (peak (now line) < 1152921504606846976) ⌝ }
-    ensures { λ r. ⌜ Added (rowBy (now (ls .entry)) (now (us .entry)) (now (firsts .entry)) first head (now (args .entry))) i (now (line .entry)) (now (line .exit)) × (length (now (row .exit)) ≡ length (now (row .entry))) × (r ≡ first + rowBy (now (ls .entry)) (now (us .entry)) (now (firsts .entry)) first head (now (args .entry)) .own) × (r ≤ first + 3844) ⌝ }
+    requires { ⌜ BitTables (now ls) (now us) (now firsts) (now counts) × (first < Size.places) × Sized (i + m) (now line) (now row) × (peak (now line) < Size.sums) ⌝ }
+    requires { ⌜ rowFits (i + m) (rowBy (now ls) (now us) (now firsts) first head (now args)) ≡ true ⌝ }
+    ensures { λ r. ⌜ Added (rowBy (now (ls .entry)) (now (us .entry)) (now (firsts .entry)) first head (now (args .entry))) i (now (line .entry)) (now (line .exit)) ⌝ }
+    ensures { λ r. ⌜ (r ≡ first + rowBy (now (ls .entry)) (now (us .entry)) (now (firsts .entry)) first head (now (args .entry)) .own) × (r ≤ first + Size.ownBits) ⌝ }
 {
     let own = own_bits(head, args, ls, us, counts);
     if holds_bit(head, args, firsts, counts, first, own, i) {
@@ -67,8 +66,8 @@ fn fill_line(
     i: usize,
     m: usize,
 )
-    requires { ⌜ (length (now ws) ≤ Limit.rowWords) × Tables (now ls) (now us) (now firsts) (now counts) × (start ≤ 262144) × (i < 1024) × (m ≤ 1024) × (i + m ≡ length (now line)) × (length (now row) ≡ length (now line)) × (all (rowFits (length (now row))) (rowsBy (now ls) (now us) (now firsts) start (now ws)) ≡ true) ⌝ }
-    ensures { λ r. ⌜ LineOf (rowsBy (now (ls .entry)) (now (us .entry)) (now (firsts .entry)) start (now (ws .entry))) i (now (line .exit)) × (length (now (line .exit)) ≡ length (now (line .entry))) × (length (now (row .exit)) ≡ length (now (row .entry))) ⌝ }
+    requires { ⌜ Fitting (now ws) (now ls) (now us) (now firsts) (now counts) start (i + m) × Sized (i + m) (now line) (now row) ⌝ }
+    ensures { λ r. ⌜ LineOf (rowsBy (now (ls .entry)) (now (us .entry)) (now (firsts .entry)) start (now (ws .entry))) i (now (line .exit)) ⌝ }
 {
     clear(line);
     let mut first = start;
@@ -96,8 +95,8 @@ fn fill_line(
 
 // Whether the m entries from bit i on are in the range.
 fn entries_fit(line: &[i64], i: usize, m: usize) -> bool
-    requires { ⌜ (i < 1024) × (m ≤ 1024) ⌝ }
-    ensures { λ r. ⌜ r ≡ all (λ x. inRange (x .number)) (lineEntries (now (line .entry)) i m) ⌝ }
+    requires { ⌜ i + m ≤ mostBits ⌝ }
+    ensures { λ r. ⌜ r ≡ allInRange (lineEntries (now (line .entry)) i m) ⌝ }
 {
     let mut d = 0;
     while d < m {
@@ -124,8 +123,8 @@ fn put_one(
     i: usize,
     m: usize,
 ) -> Lines
-    requires { ⌜ (length (now ws) ≤ Limit.rowWords) × Tables (now ls) (now us) (now firsts) (now counts) × (start ≤ 262144) × (i < 1024) × (m ≤ 1024) × (i + m ≡ length (now line)) × (length (now row) ≡ length (now line)) × (all (rowFits (length (now row))) (rowsBy (now ls) (now us) (now firsts) start (now ws)) ≡ true) × (at ≤ 4194304) ⌝ }
-    ensures { λ r. ⌜ (r .fits ≡ all (λ x. inRange (x .number)) (lineOf (entryOf (rowsBy (now (ls .entry)) (now (us .entry)) (now (firsts .entry)) start (now (ws .entry)))) i m)) × (r .fits ≡ true → Laid (now (out .entry)) at (entriesWords (lineOf (entryOf (rowsBy (now (ls .entry)) (now (us .entry)) (now (firsts .entry)) start (now (ws .entry)))) i m)) (now (out .exit)) (r .at) × (r .at ≤ at + 3 * m)) × (length (now (line .exit)) ≡ length (now (line .entry))) × (length (now (row .exit)) ≡ length (now (row .entry))) ⌝ }
+    requires { ⌜ Fitting (now ws) (now ls) (now us) (now firsts) (now counts) start (i + m) × Sized (i + m) (now line) (now row) × (at + 3 * m < Size.places) ⌝ }
+    ensures { λ r. ⌜ EntriesPut (lineOf (entryOf (rowsBy (now (ls .entry)) (now (us .entry)) (now (firsts .entry)) start (now (ws .entry)))) i m) (now (out .entry)) at (now (out .exit)) (r .fits) (r .at) ⌝ }
 {
     fill_line(line, row, ws, ls, us, firsts, counts, start, i, m);
     if !entries_fit(line, i, m) {
@@ -152,8 +151,8 @@ pub fn put_lines(
     counts: &[usize],
     start: usize,
 ) -> Lines
-    requires { ⌜ (at ≤ 1) × (n ≤ 1024) × (length (now line) ≡ n) × (length (now row) ≡ n) × (length (now ws) ≤ Limit.rowWords) × Tables (now ls) (now us) (now firsts) (now counts) × (start ≤ 262144) × (all (rowFits n) (rowsBy (now ls) (now us) (now firsts) start (now ws)) ≡ true) ⌝ }
-    ensures { λ r. ⌜ (r .fits ≡ all (λ x. inRange (x .number)) (entriesFrom (entryOf (rowsBy (now (ls .entry)) (now (us .entry)) (now (firsts .entry)) start (now (ws .entry)))) 0 n)) × (r .fits ≡ true → Laid (now (out .entry)) at (entriesWords (entriesFrom (entryOf (rowsBy (now (ls .entry)) (now (us .entry)) (now (firsts .entry)) start (now (ws .entry)))) 0 n)) (now (out .exit)) (r .at)) ⌝ }
+    requires { ⌜ Fitting (now ws) (now ls) (now us) (now firsts) (now counts) start n × Sized n (now line) (now row) × (at ≤ 1) ⌝ }
+    ensures { λ r. ⌜ EntriesPut (entriesFrom (entryOf (rowsBy (now (ls .entry)) (now (us .entry)) (now (firsts .entry)) start (now (ws .entry)))) 0 n) (now (out .entry)) at (now (out .exit)) (r .fits) (r .at) ⌝ }
 {
     let mut to = at;
     let mut i = 0;

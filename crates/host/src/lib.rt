@@ -24,7 +24,7 @@ ghost use Rattle.pairs.specs.Pair.{modelOf};
 ghost use Rattle.texts.specs.Answered.{answered};
 ghost use Rattle.texts.specs.Text.{readText, textRead};
 ghost use Rattle.bitforms.specs.FormAnswer.{bitForm, bitFormed};
-ghost use Rattle.bitsharing.specs.Shares.{Shares as FormShares};
+ghost use Rattle.bitsharing.specs.FormShares.{FormShares};
 ghost use Rattle.bitform.specs.Formed.{formed};
 ghost use Rattle.solutions.specs.Found.{found};
 ghost use Rattle.solutions.specs.Solutions.{solutionsAnswer, solutionsListed};

@@ -4,3 +4,4 @@ pub mod Numbers
 pub mod Walk
 pub mod Sizes
 pub mod Ordered
+pub mod FewVariables

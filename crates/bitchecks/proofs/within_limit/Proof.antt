@@ -3,11 +3,9 @@ use Rattle.bitchecks.proofs.Limits.{below-limit, above-limit}
 use Rattle.bitchecks.proofs.within_limit.Statement.{statement}
 use Rattle.bitchecks.proofs.within_limit.Tie as tie
 
--- src/lib.rt:49:9
 returns : tie.Need-returns
 returns c = let e = toZ-ofZ (c .before .fits .v) in below-limit (c .before .args .v) (rw e at (c .if1 .taken))
 
--- src/lib.rt:45:1
 returns-2 : tie.Need-returns-2
 returns-2 c = let e = toZ-ofZ (c .before .fits .v) in rw e (above-limit (c .before .args .v) (rw e at (c .if1 .left)))
 

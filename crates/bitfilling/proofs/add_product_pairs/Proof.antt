@@ -3,6 +3,7 @@ use Prim.Native.Nat.{_*_, _≤_}
 use native.Mathlib.Omega.{arith}
 use borrow.Author.Needs.{needs}
 use Rattle.integers.proofs.Fits.{mul-le}
+use Rattle.bitlines.specs.Sizes as Size
 use Rattle.bitfilling.specs.Added.{productPairs}
 use Rattle.bitfilling.proofs.add_product_pairs.Statement.{statement}
 use Rattle.bitfilling.proofs.add_product_pairs.Tie as tie
@@ -12,12 +13,12 @@ add-pairs-requires c κs =
     let s = c .before .before .before .before .before .before .before .before .before .before in
     let f = c .before .before .before .before .before .before .variable-at .result in
     let g = c .before .before .before .before .before .variable-at2 .result in (
-      omega (arith, c .before .before .before .size-at .ensures, s .pre .0 f),
-      omega (arith, c .before .size-at3 .ensures, s .pre .0 g),
+      omega (arith, c .before .before .before .size-at .ensures, s .pre .0 .near-first f),
+      omega (arith, c .before .size-at3 .ensures, s .pre .0 .near-first g),
+      s .pre .1,
+      omega (arith, c .before .before .size-at2 .ensures, s .pre .0 .few f),
+      omega (arith, c .size-at4 .ensures, s .pre .0 .few g),
       s .pre .2,
-      omega (arith, c .before .before .size-at2 .ensures, s .pre .1 f),
-      omega (arith, c .size-at4 .ensures, s .pre .1 g),
-      s .pre .3,
     )
 
 returns : tie.Need-returns
@@ -26,10 +27,10 @@ returns c =
     let s = c .before .before .before .before .before .before .before .before .before .before .before .before in
     let f = c .before .before .before .before .before .before .before .before .variable-at .result in
     let g = c .before .before .before .before .before .before .before .variable-at2 .result in
-    let few : c .before .before .before .before .size-at2 .result * c .before .before .size-at4 .result ≤ 3844 = rw (c .before .before .before .before .size-at2 .ensures, c .before .before .size-at4 .ensures) (mul-le (s .pre .1 f) (s .pre .1 g)) in (
-      rw (← c .before .before .before .before .before .before .before .before .variable-at .ensures, ← c .before .before .before .before .before .before .before .variable-at2 .ensures, ← c .before .before .before .before .before .size-at .ensures, ← c .before .before .before .before .size-at2 .ensures, ← c .before .before .before .size-at3 .ensures, ← c .before .before .size-at4 .ensures) (c .before .add-pairs .ensures .0),
-      omega (arith, c .before .add-pairs .ensures .1, few),
-    )
+    let few : c .before .before .before .before .size-at2 .result * c .before .before .size-at4 .result ≤ Size.ownBits = rw (c .before .before .before .before .size-at2 .ensures, c .before .before .size-at4 .ensures) (mul-le (s .pre .0 .few f) (s .pre .0 .few g)) in record {
+      sum = rw (← c .before .before .before .before .before .before .before .before .variable-at .ensures, ← c .before .before .before .before .before .before .before .variable-at2 .ensures, ← c .before .before .before .before .before .size-at .ensures, ← c .before .before .before .before .size-at2 .ensures, ← c .before .before .before .size-at3 .ensures, ← c .before .before .size-at4 .ensures) (c .before .add-pairs .ensures .sum);
+      small = omega (arith, c .before .add-pairs .ensures .small, few);
+    }
 
 pub add-product-pairs-spec : {M : Type 1} → statement M
 add-product-pairs-spec =

@@ -7,7 +7,7 @@ use borrow.Author.Needs.{needs}
 use Rattle.bitform.proofs.form_accepted.Statement.{statement}
 use Rattle.bitform.proofs.form_accepted.Tie as tie
 use Rattle.bitchecks.proofs.count_bits.Reads as count-bits-reads
-use Rattle.bitnumbers.proofs.keep_bits.Reads as keep-bits-reads
+use Rattle.bittables.proofs.keep_bits.Reads as keep-bits-reads
 use Rattle.bitform.proofs.form_rows.Reads as form-rows-reads
 use Rattle.bitform.proofs.refuse.Reads as refuse-reads
 use Rattle.extremes.proofs.keep_bounds.Reads as keep-bounds-reads
@@ -16,21 +16,31 @@ keep-bounds-requires : tie.Need-keep-bounds-requires
 keep-bounds-requires c κs = omega (arith, few-words (c .before .before .before .before .args .ws .now) (ap (λ x. x .number) (c .before .before .before .before .pre)))
 
 keep-bits-requires : tie.Need-keep-bits-requires
-keep-bits-requires c κs = let kept = c .before .before .before .before .before .before .keep-bounds .ensures in bounds-kept (c .before .before .before .before .before .before .before .before .before .before .before .args .ws .now) (c .before .before .before .before .before .before .before .before .before .before .before .pre) (kept .1) (kept .2) (kept .0)
+keep-bits-requires c κs =
+    let s = c .before .before .before .before .before .before .before .before .before .before .before in
+    let b = c .before .before .before .before .before .before .keep-bounds .ensures in
+    bounds-kept (s .args .ws .now) (s .pre) (b .1) (b .2) (b .0)
 
 count-bits-requires : tie.Need-count-bits-requires
-count-bits-requires c κs = counting-needs (c .before .before .before .before .before .before .before .before .before .before .before .before .before .before .before .before .before .args .ws .now) (c .before .before .before .before .before .before .before .before .before .before .before .before .before .before .before .before .before .pre) (all-kept (c .before .before .before .before .before .before .before .before .before .before .before .before .before .before .before .before .before .args .ws .now) (c .before .before .before .before .before .before .before .before .before .before .before .before .before .before .before .before .before .pre) (c .before .before .before .before .before .before .before .before .before .before .before .before .keep-bounds .ensures .1) (c .before .before .before .before .before .before .before .before .before .before .before .before .keep-bounds .ensures .2) (c .before .before .before .before .before .before .before .before .before .before .before .before .keep-bounds .ensures .0) (c .before .before .before .before .before .keep-bits .ensures .0) (c .before .before .before .before .before .keep-bits .ensures .1) (c .before .before .before .before .before .keep-bits .ensures .2))
+count-bits-requires c κs =
+    let s = c .before .before .before .before .before .before .before .before .before .before .before .before .before .before .before .before .before in
+    let b = c .before .before .before .before .before .before .before .before .before .before .before .before .keep-bounds .ensures in
+    let k = all-kept (s .args .ws .now) (s .pre) (b .1) (b .2) (b .0) (c .before .before .before .before .before .keep-bits .ensures) in
+    counting-needs (s .args .ws .now) (s .pre) k
 
 returns : tie.Need-returns
 returns c =
     let s = c .before .before .before .before .before .before .before .before .before .before .before .before .before .before .before .before .before .before .before .before in
-    let e = counted-is (s .args .ws .now) (s .pre) (all-kept (c .before .before .before .before .before .before .before .before .before .before .before .before .before .before .before .before .before .before .before .before .args .ws .now) (c .before .before .before .before .before .before .before .before .before .before .before .before .before .before .before .before .before .before .before .before .pre) (c .before .before .before .before .before .before .before .before .before .before .before .before .before .before .before .keep-bounds .ensures .1) (c .before .before .before .before .before .before .before .before .before .before .before .before .before .before .before .keep-bounds .ensures .2) (c .before .before .before .before .before .before .before .before .before .before .before .before .before .before .before .keep-bounds .ensures .0) (c .before .before .before .before .before .before .before .before .keep-bits .ensures .0) (c .before .before .before .before .before .before .before .before .keep-bits .ensures .1) (c .before .before .before .before .before .before .before .before .keep-bits .ensures .2)) (c .before .before .count-bits .ensures) in
+    let b = c .before .before .before .before .before .before .before .before .before .before .before .before .before .before .before .keep-bounds .ensures in
+    let k = all-kept (s .args .ws .now) (s .pre) (b .1) (b .2) (b .0) (c .before .before .before .before .before .before .before .before .keep-bits .ensures) in
+    let e = counted-is (s .args .ws .now) (s .pre) k (c .before .before .count-bits .ensures) in
     rw (c .refuse .ensures) (too-many (s .args .ws .now) (s .args .out .now) (s .pre) (omega (arith, e, c .before .if1 .taken)))
 
 form-rows-requires : tie.Need-form-rows-requires
 form-rows-requires c κs =
     let s = c .before .before .before .before .before .before .before .before .before .before .before .before .before .before .before .before .before .before .before .before .before .before .before .before in
-    let k = all-kept (c .before .before .before .before .before .before .before .before .before .before .before .before .before .before .before .before .before .before .before .before .before .before .before .before .args .ws .now) (c .before .before .before .before .before .before .before .before .before .before .before .before .before .before .before .before .before .before .before .before .before .before .before .before .pre) (c .before .before .before .before .before .before .before .before .before .before .before .before .before .before .before .before .before .before .before .keep-bounds .ensures .1) (c .before .before .before .before .before .before .before .before .before .before .before .before .before .before .before .before .before .before .before .keep-bounds .ensures .2) (c .before .before .before .before .before .before .before .before .before .before .before .before .before .before .before .before .before .before .before .keep-bounds .ensures .0) (c .before .before .before .before .before .before .before .before .before .before .before .before .keep-bits .ensures .0) (c .before .before .before .before .before .before .before .before .before .before .before .before .keep-bits .ensures .1) (c .before .before .before .before .before .before .before .before .before .before .before .before .keep-bits .ensures .2) in
+    let b = c .before .before .before .before .before .before .before .before .before .before .before .before .before .before .before .before .before .before .before .keep-bounds .ensures in
+    let k = all-kept (s .args .ws .now) (s .pre) (b .1) (b .2) (b .0) (c .before .before .before .before .before .before .before .before .before .before .before .before .keep-bits .ensures) in
     listed-kept (s .args .ws .now) (s .pre) k (counted-is (s .args .ws .now) (s .pre) k (c .before .before .before .before .before .before .count-bits .ensures)) (c .before .before .before .before .before .if1 .left)
 
 pub form-accepted-spec : {M : Type 1} → statement M

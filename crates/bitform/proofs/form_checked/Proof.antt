@@ -1,12 +1,11 @@
 -- A row or the constant that does not fit, or what the lines give.
-use mathlib.Core.Path.{_≡_, sym, ap, _∙_}
+use mathlib.Core.Path.{_≡_, sym, _∙_}
 use mathlib.Core.Bool.{true}
 use native.Mathlib.Omega.{arith}
 use borrow.Author.Needs.{needs}
 use borrow.Author.Tests.{not-true, not-false}
 use Rattle.integers.specs.Lists.{all}
 use Rattle.integers.proofs.Fits.{back}
-use Rattle.rowsystems.proofs.Sizes.{few-words}
 use Rattle.bitforms.specs.BitForm.{bitRowsOf, bitCount, formConstant}
 use Rattle.bitforms.specs.FormAnswer.{rowFits}
 use Rattle.bitform.proofs.Answers.{too-large}
@@ -15,20 +14,20 @@ use Rattle.bitform.proofs.form_checked.Statement.{statement}
 use Rattle.bitform.proofs.form_checked.Tie as tie
 
 check-rows-requires : tie.Need-check-rows-requires
-check-rows-requires c κs = let l = c .before .before .before .before .before .pre .0 in (few-words _ (ap (λ r. r .number) (l .read)), l .tables, l .near)
+check-rows-requires c κs = c .before .before .before .before .before .pre .0 .listed
 
 -- whether all rows fit, and their constant, of the row system itself
 fits : (c : tie.After-check-rows) → let s = c .before .before .before .before .before .before in all (rowFits (bitCount (s .args .ws .now))) (bitRowsOf (s .args .ws .now)) ≡ c .check-rows .result .fits
 fits c =
     let s = c .before .before .before .before .before .before in
     let l = s .pre .0 in
-    sym (rw (l .rows-are, s .pre .1, l .count) at (c .check-rows .ensures .0))
+    sym (rw (l .rows-are, s .pre .1 .row-size, l .count) at (c .check-rows .ensures .tested))
 
 constant : (c : tie.After-check-rows) → c .check-rows .result .fits ≡ true → let s = c .before .before .before .before .before .before in c .check-rows .result .constant ≡ formConstant (s .args .ws .now)
 unfolding formConstant
 constant c y =
     let s = c .before .before .before .before .before .before in
-    rw (s .pre .0 .rows-are) at (c .check-rows .ensures .1 y)
+    rw (s .pre .0 .rows-are) at (c .check-rows .ensures .summed y)
 
 returns : tie.Need-returns
 returns c =
@@ -52,7 +51,7 @@ form-lines-requires c κs =
     let y = not-false _ (c .before .before .before .before .before .before .if1 .left) in
     let b = back (c .before .before .before .before .before .before .before .before .before .check-rows .result .constant) (c .before .before .before .before .before .struct-told .given .1 .0 .1) in
     let e = constant (c .before .before .before .before .before .before .before .before .before) y in
-    (l, search needs, search needs, rw (l .count) (fits (c .before .before .before .before .before .before .before .before .before) ∙ y), b ∙ e, rw b (sym (rw b at (c .before .before .before .before .in-range .ensures)) ∙ not-false _ (c .before .before .before .if2 .left)))
+    ((l, record { line-size = search needs; row-size = search needs; few = l .few }), (rw (l .count) (fits (c .before .before .before .before .before .before .before .before .before) ∙ y), b ∙ e, rw b (sym (rw b at (c .before .before .before .before .in-range .ensures)) ∙ not-false _ (c .before .before .before .if2 .left))))
 
 pub form-checked-spec : {M : Type 1} → statement M
 form-checked-spec =

@@ -12,7 +12,7 @@ slice-aggregate-form-checked-2 : tie.Need-slice-aggregate-form-checked-2
 slice-aggregate-form-checked-2 c = sym (length-take-le _ _ (c .before .before .before .before .before .before .before .pre .few))
 
 form-checked-requires : tie.Need-form-checked-requires
-form-checked-requires c κs = let l = c .before .before .before .before .before .before .before .pre in (l, length-take-le _ _ (l .few), length-take-le _ _ (l .few))
+form-checked-requires c κs = let l = c .before .before .before .before .before .before .before .pre in (l, record { line-size = length-take-le _ _ (l .few); row-size = length-take-le _ _ (l .few); few = l .few })
 
 pub form-rows-spec : {M : Type 1} → statement M
 form-rows-spec =

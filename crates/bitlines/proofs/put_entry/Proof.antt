@@ -9,45 +9,11 @@ use Rattle.words.proofs.lay.Reads as lay-reads
 use Rattle.words.proofs.number_word.Reads as number-word-reads
 use Rattle.words.proofs.word_of.Reads as word-of-reads
 
--- src/lib.rt:143:8
-equal-requires : tie.Need-equal-requires
-equal-requires c κs = search needs
-
--- src/lib.rt:144:9
 returns : tie.Need-returns
 returns c =
     let s = c .before .before .before in
     laid-zero (s .args .i) (s .args .j) (s .args .v) (rw (toZ-ofZ (s .fits .v)) at (sym (c .before .equal .ensures) ∙ c .if1 .taken))
 
--- src/lib.rt:146:18
-word-of-requires : tie.Need-word-of-requires
-word-of-requires c κs = search needs
-
--- src/lib.rt:146:33
-word-of-requires-2 : tie.Need-word-of-requires-2
-word-of-requires-2 c κs = search needs
-
--- src/lib.rt:146:48
-number-word-requires : tie.Need-number-word-requires
-number-word-requires c κs = search needs
-
--- src/lib.rt:147:18
-slice-aggregate-lay : tie.Need-slice-aggregate-lay
-slice-aggregate-lay c = search needs
-
--- src/lib.rt:147:5
-lay-requires : tie.Need-lay-requires
-lay-requires c κs = search needs
-
--- src/lib.rt:148:5
-add-result : tie.Need-add-result
-add-result c = search needs
-
--- src/lib.rt:139:1
-same-length : tie.Need-same-length
-same-length c = search needs
-
--- src/lib.rt:139:1
 returns-2 : tie.Need-returns-2
 returns-2 c =
     let s = c .before .before .before .before .before .before .before .before .before .before .before in
@@ -63,13 +29,13 @@ pub put-entry-spec : {M : Type 1} → statement M
 put-entry-spec =
     tie.close
     (tie.spec
-    equal-requires
+    (λ c κs. search needs)
     returns
-    word-of-requires
-    word-of-requires-2
-    number-word-requires
-    slice-aggregate-lay
-    lay-requires
-    add-result
-    same-length
+    (λ c κs. search needs)
+    (λ c κs. search needs)
+    (λ c κs. search needs)
+    (λ c. search needs)
+    (λ c κs. search needs)
+    (λ c. search needs)
+    (λ c. search needs)
     returns-2)

@@ -3,7 +3,7 @@ use mathlib.Core.Path.{_≡_, _∙_}
 use native.Mathlib.Omega.{arith}
 use borrow.Author.Needs.{needs}
 use Rattle.integers.proofs.Fits.{back}
-use Rattle.bittables.specs.Tables.{spanIn}
+use Rattle.bittables.specs.BitTables.{spanIn}
 use Rattle.bittables.proofs.Counting.{span-size}
 use Rattle.bittables.proofs.span_at.Statement.{statement}
 use Rattle.bittables.proofs.span_at.Tie as tie

@@ -1,5 +1,5 @@
--- A row that does not mention the bit adds nothing.
-use mathlib.Core.Path.{refl, sym, ap, _∙_}
+-- A row without the bit adds nothing.
+use mathlib.Core.Path.{ap}
 use Prim.Native.Nat.{_+_}
 use native.Mathlib.Omega.{arith}
 use borrow.Author.Needs.{needs}
@@ -8,23 +8,23 @@ use Rattle.bitwriting.proofs.add_to_line.Statement.{statement}
 use Rattle.bitwriting.proofs.add_to_line.Tie as tie
 
 own-bits-requires : tie.Need-own-bits-requires
-own-bits-requires c κs = let t = c .before .before .before .pre .0 in (t .near-lower, t .near-upper, t .counted)
+own-bits-requires c κs = let t = c .before .before .before .pre .0 .0 in (t .lists .near-lower, t .lists .near-upper, t .counted)
 
 add-row-requires : tie.Need-add-row-requires
 add-row-requires c κs = c .before .before .before .before .before .before .before .before .pre
 
 add-result : tie.Need-add-result
-add-result c = record { fits = omega (arith, c .before .before .before .before .before .before .before .before .before .before .before .pre .1, c .before .before .before .before .before .before .before .own-bits .ensures .1) }
+add-result c = record { fits = omega (arith, c .before .before .before .before .before .before .before .before .before .before .before .pre .0 .1, c .before .before .before .before .before .before .before .own-bits .ensures .1) }
 
 returns : tie.Need-returns
 returns c =
     let a = c .before .before .before .before .before .before .before .before .before .before .before .args in
     let o = c .before .before .before .before .before .before .before .own-bits .ensures in
     let r = c .before .before .add-row .ensures in
-    (r .0, r .1, ap (λ n. a .first + n) (o .0 (a .firsts .now) (a .first)), omega (arith, o .1))
+    (r, (ap (λ n. a .first + n) (o .0 (a .firsts .now) (a .first)), omega (arith, o .1)))
 
 add-result-2 : tie.Need-add-result-2
-add-result-2 c = record { fits = omega (arith, c .before .before .before .before .before .before .pre .1, c .before .before .own-bits .ensures .1) }
+add-result-2 c = record { fits = omega (arith, c .before .before .before .before .before .before .pre .0 .1, c .before .before .own-bits .ensures .1) }
 
 returns-2 : tie.Need-returns-2
 returns-2 c =
@@ -32,7 +32,7 @@ returns-2 c =
     let a = s .args in
     let o = c .before .before .own-bits .ensures in
     let e = o .0 (a .firsts .now) (a .first) in
-    (none-added (a .ls .now) (a .us .now) (a .firsts .now) (a .first) (a .head) (a .args .now) (a .i) (a .line .now) (sym (c .before .holds-bit .ensures (a .ls .now) (a .us .now) (s .pre .0 .counted) e) ∙ c .if1 .left), refl, ap (λ n. a .first + n) e, omega (arith, o .1))
+    (none-added (a .ls .now) (a .us .now) (a .firsts .now) (a .counts .now) (s .pre .0 .0 .counted) (a .first) _ (a .head) (a .args .now) (a .i) (a .line .now) e (c .before .holds-bit .ensures (c .if1 .left)), (ap (λ n. a .first + n) e, omega (arith, o .1)))
 
 pub add-to-line-spec : {M : Type 1} → statement M
 add-to-line-spec =

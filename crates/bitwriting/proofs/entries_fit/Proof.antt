@@ -27,7 +27,7 @@ unfolding lineEntries listOf all
 loop-holds c = (search needs, refl)
 
 add-number-at : tie.Need-add-number-at Inv-loop μ-loop
-add-number-at c = omega (arith, c .loop-test .taken, c .before .before .pre .0, c .before .before .pre .1)
+add-number-at c = omega (arith, c .loop-test .taken, c .before .before .pre)
 
 returns : tie.Need-returns Inv-loop μ-loop
 unfolding lineEntries

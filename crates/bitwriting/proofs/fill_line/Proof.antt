@@ -1,5 +1,5 @@
 -- The invariant is `Lining`: with what the rows left add, the line's numbers are the entries.
-use mathlib.Core.Path.{refl, sym, _∙_}
+use mathlib.Core.Path.{sym, _∙_}
 use Prim.Native.Nat.{_+_, _-_}
 use native.Mathlib.Omega.{arith}
 use lib.ListN.{length}
@@ -10,7 +10,7 @@ use Rattle.bitwriting.proofs.fill_line.Statement.{statement}
 use Rattle.bitwriting.proofs.fill_line.Tie as tie
 
 abbrev Inv-loop : tie.InvT-loop
-Inv-loop line₀ row₀ ws ls us firsts counts start i m first₀ at₀ line row first at = Lining ws ls us firsts start i (length row₀) line row first at
+Inv-loop line₀ row₀ ws ls us firsts counts start i m first₀ at₀ line row first at = Lining ws ls us firsts start i (i + m) line row first at
 
 abbrev μ-loop : tie.MeasureT-loop
 μ-loop line₀ row₀ ws ls us firsts counts start i m first₀ at₀ line row first at = length ws - at
@@ -18,20 +18,16 @@ abbrev μ-loop : tie.MeasureT-loop
 loop-holds : tie.Need-loop-holds Inv-loop μ-loop
 loop-holds c =
     let s = c .before .before .before .before .before .before in
-    rw (c .before .clear .ensures, ← s .pre .6) (lining-begun (s .args .ws .now) (s .args .ls .now) (s .args .us .now) (s .args .firsts .now) (s .args .start) (s .args .i) (length (s .args .row .now)) (s .args .row .now) (s .pre .7) refl)
+    let z = s .pre .1 in
+    rw (c .before .clear .ensures, z .line-size) (lining-begun (s .args .ws .now) (s .args .ls .now) (s .args .us .now) (s .args .firsts .now) (s .args .start) (s .args .i) (s .args .i + s .args .m) (s .args .row .now) (s .pre .0 .fits) (z .row-size) (z .few))
 
 add-to-line-requires : tie.Need-add-to-line-requires Inv-loop μ-loop
 add-to-line-requires c κs =
     let s = c .before .before .before .before .before .before .before .before .before .before .before .before .before .before in
+    let p = s .pre .0 .listed in
     let l = c .before .before .before .before .before .before .before .loop in (
-      s .pre .1,
-      omega (arith, l .inv .near, l .inv .place, s .pre .0, s .pre .2),
-      s .pre .3,
-      s .pre .4,
-      omega (arith, l .inv .same-line, s .pre .5, s .pre .6),
-      l .inv .same-row ∙ sym (l .inv .same-line),
-      rw (tail-is (s .args .ws .now) (l .at + 1), l .inv .same-row) (row-here (l .inv) (c .before .before .before .before .before .before .loop-test .taken) (sym (c .before .before .before .before .starts-row .ensures) ∙ c .before .before .before .if1 .taken)),
-      omega (arith, l .inv .small, l .inv .place, s .pre .0),
+      (p .tables, omega (arith, l .inv .near, l .inv .place, p .few-words, p .near-start), l .inv .sized, omega (arith, l .inv .small, l .inv .place, p .few-words)),
+      rw (tail-is (s .args .ws .now) (l .at + 1)) (row-here (l .inv) (c .before .before .before .before .before .before .loop-test .taken) (sym (c .before .before .before .before .starts-row .ensures) ∙ c .before .before .before .if1 .taken)),
     )
 
 loop-again : tie.Need-loop-again Inv-loop μ-loop
@@ -40,19 +36,19 @@ loop-again c =
     let l = c .before .before .before .before .before .before .before .before .before .before .loop in
     let e = c .before .before .add-to-line .ensures in
     let t = tail-is (s .args .ws .now) (l .at + 1) in
-    lining-one (l .inv) (c .before .before .before .before .before .before .before .before .before .loop-test .taken) (sym (c .before .before .before .before .before .before .before .starts-row .ensures) ∙ c .before .before .before .before .before .before .if1 .taken) (rw t at (e .0)) (e .1) (rw t at (e .2)) (e .3)
+    lining-one (l .inv) (c .before .before .before .before .before .before .before .before .before .loop-test .taken) (sym (c .before .before .before .before .before .before .before .starts-row .ensures) ∙ c .before .before .before .before .before .before .if1 .taken) (rw t at (e .0)) (c .before .before .add-to-line .kept .1 .0) (rw t at (e .1))
 
 loop-again-2 : tie.Need-loop-again-2 Inv-loop μ-loop
 loop-again-2 c = lining-none (c .before .before .before .before .loop .inv) (c .before .before .before .loop-test .taken) (sym (c .before .starts-row .ensures) ∙ c .if1 .left)
 
 same-length : tie.Need-same-length Inv-loop μ-loop
-same-length c = c .before .loop .inv .same-line ∙ c .before .before .before .before .before .before .before .before .pre .6
+same-length c = c .before .loop .inv .sized .line-size ∙ sym (c .before .before .before .before .before .before .before .before .pre .1 .line-size)
 
 same-length-2 : tie.Need-same-length-2 Inv-loop μ-loop
-same-length-2 c = c .before .loop .inv .same-row
+same-length-2 c = c .before .loop .inv .sized .row-size ∙ sym (c .before .before .before .before .before .before .before .before .pre .1 .row-size)
 
 returns : tie.Need-returns Inv-loop μ-loop
-returns c = let l = c .before .loop in (lining-done (l .inv) (c .loop-test .left), l .inv .same-line ∙ c .before .before .before .before .before .before .before .before .pre .6, l .inv .same-row)
+returns c = lining-done (c .before .loop .inv) (c .loop-test .left)
 
 pub fill-line-spec : {M : Type 1} → statement M
 fill-line-spec =

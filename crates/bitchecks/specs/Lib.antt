@@ -1,0 +1,2 @@
+-- What the contracts cite: whether rows over bits fit.
+pub mod Checked

@@ -1,2 +1,0 @@
--- What the contracts cite: whether terms mention a bit.
-pub mod Mentions
