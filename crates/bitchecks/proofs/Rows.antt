@@ -15,7 +15,7 @@ use Rattle.rowsystems.specs.OneWord.{startsRow}
 use Rattle.bitforms.specs.SumOver.{sumOver}
 use Rattle.bitforms.specs.BitRow.{BitRow}
 use Rattle.bitforms.specs.Energy.{square}
-use Rattle.bitforms.specs.Matrix.{constantOf}
+use Rattle.bitforms.specs.RowParts.{constantOf}
 use Rattle.bitforms.specs.FormAnswer.{rowFits}
 use Rattle.bitlines.specs.Sizes as Size
 use Rattle.bittables.specs.BitTables.{rowBy, rowsBy}
@@ -95,7 +95,7 @@ module _ {ws : List ℕ} {ls us : List ℤ} {firsts : List ℕ} {start n : ℕ} 
     fits-both = ap (all (rowFits n)) (left-one ls us firsts ws first at h z)
 
     sums-both : constantOf (rowsBy ls us firsts first (drop at ws)) ≡ square (this .whole .constant) ⊕ constantOf others
-    unfolding constantOf sumOver
+    unfolding sumOver
     sums-both = ap constantOf (left-one ls us firsts ws first at h z)
 
     pub checking-fails : {f : Bool} → f ≡ rowFits n this → f ≡ false → f ≡ all (rowFits n) (rowsBy ls us firsts start ws)
@@ -119,7 +119,7 @@ module _ {ws : List ℕ} {ls us : List ℤ} {firsts : List ℕ} {start n : ℕ} 
         grouped = simp linear (omega arith)
 
   pub checking-done : length ws ≤ at → RowsChecked n (rowsBy ls us firsts start ws) true constant
-  unfolding all constantOf sumOver
+  unfolding all sumOver
   checking-done h =
       let e = left-end ls us firsts ws first at h in
       record { tested = ap (all (rowFits n)) (sym e) ∙ k .left; summed = λ t. last constant ∙ ap (λ rs. constant ⊕ constantOf rs) (sym e) ∙ k .sum }

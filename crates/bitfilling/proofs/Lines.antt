@@ -15,7 +15,6 @@ use Rattle.rowsystems.specs.RowSystem.{variableAt}
 use Rattle.extremes.specs.Bounded.{boundsOf}
 use Rattle.bitforms.specs.Weights.{weights}
 use Rattle.bitforms.specs.BitRow.{BitRow, bitRow}
-use Rattle.bitforms.specs.Matrix.{rowEntry}
 use Rattle.bitforms.specs.FormAnswer.{mostBits, mostInRow, rowFits}
 use Rattle.bitlines.specs.Sizes as Size
 use Rattle.bitlines.specs.Dense.{addTerms, peak}
@@ -38,7 +37,6 @@ fits-sizes n r h =
 pub row-added : (line : List ℤ) (r : BitRow) (i m : ℕ) {after : List ℤ} → i + m ≡ length line →
     after ≡ addTerms (addTerms line (wholeTerms (length line) r i m)) (flatMap (λ p. pairTerms p i) (r .pairs)) →
     peak after ≤ peak line + Size.row → Added r i line after
-unfolding rowEntry
 row-added line r i m {after} k e p =
     let d : m ≡ length line - i = omega arith in
     let s = wholeTerms (length line) r i m in

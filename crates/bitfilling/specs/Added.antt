@@ -8,7 +8,7 @@ use Rattle.integers.specs.Number.{_⊕_, +0}
 use Rattle.integers.specs.Terms.{Term}
 use Rattle.rowsystems.specs.RowSystem.{variableAt}
 use Rattle.bitforms.specs.BitRow.{BitRow}
-use Rattle.bitforms.specs.Matrix.{rowEntry}
+use Rattle.bitforms.specs.RowParts.{rowEntry}
 use Rattle.bitforms.specs.FormAnswer.{mostBits}
 use Rattle.bitlines.specs.Sizes as Size
 use Rattle.bitlines.specs.Dense.{peak, Adds}

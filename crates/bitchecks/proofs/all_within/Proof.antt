@@ -1,3 +1,4 @@
+-- Every number is tested; the invariant is `Testing`.
 use borrow.Author.Needs.{needs}
 use mathlib.Core.Path.{sym, _∙_}
 use Prim.Native.Nat.{_-_}

@@ -1,10 +1,11 @@
+-- The constant is tested, then the numbers of the row over bits.
 use mathlib.Core.Path.{_≡_, sym, _∙_}
-use mathlib.Core.Bool.{true, false}
 use native.Mathlib.Omega.{arith}
 use lib.IntN.{pos}
 use borrow.Author.Needs.{needs}
 use borrow.Author.Tests.{not-true, not-false}
 use Rattle.integers.proofs.Fits.{back, mul-le}
+use Rattle.bittables.specs.BitTables.{rowBy}
 use Rattle.bitfilling.proofs.Filling.{limit-size}
 use Rattle.bitchecks.proofs.Limits.{fits}
 use Rattle.bitchecks.proofs.Rows.{constant-out, terms-out, row-in}
@@ -16,44 +17,31 @@ use Rattle.bitfilling.proofs.fill_row.Reads as fill-row-reads
 use Rattle.bitrows.proofs.row_constant.Reads as row-constant-reads
 use Rattle.integers.proofs.times.Reads as times-reads
 
+-- the constant is the row's, and the first test is whether it fits
+is-constant : (c : tie.After-row-constant) → let a = c .before .before .before .args in
+    c .row-constant .result ≡ rowBy (a .ls .now) (a .us .now) (a .firsts .now) (a .first) (a .head) (a .args .now) .whole .constant
+is-constant c = let a = c .before .before .before .args in c .row-constant .ensures (a .us .now) (a .firsts .now) (a .first)
+
+tests : (c : tie.After-within-limit) → fits (c .before .row-constant .result) ≡ c .within-limit .result
+tests c = let n = c .before .row-constant in sym (rw (back (n .result) (n .ok)) at (c .within-limit .ensures))
+
 returns : tie.Need-returns
-returns c =
-    let s = c .before .before .before .before .before in
-    let constant = c .before .before .row-constant in
-    let e = constant .ensures (s .args .us .now) (s .args .firsts .now) (s .args .first) in
-    let b = back (constant .result) (constant .ok) in
-    let h : fits (constant .result) ≡ false = sym (rw b at (c .before .within-limit .ensures)) ∙ not-true _ (c .if1 .taken) in
-    constant-out _ _ e (pos 0) h
+returns c = constant-out _ _ (is-constant (c .before .before)) (pos 0) (tests (c .before) ∙ not-true _ (c .if1 .taken))
 
 returns-2 : tie.Need-returns-2
 returns-2 c =
-    let s = c .before .before .before .before .before .before .before .before .before .before .before in
-    let constant = c .before .before .before .before .before .before .before .before .row-constant in
-    let e = constant .ensures (s .args .us .now) (s .args .firsts .now) (s .args .first) in
-    let b = back (constant .result) (constant .ok) in
-    let h : fits (constant .result) ≡ true = sym (rw b at (c .before .before .before .before .before .before .before .within-limit .ensures)) ∙ not-false _ (c .before .before .before .before .before .before .if1 .left) in
-    let row = c .before .before .before .before .fill-row .ensures in
-    terms-out _ _ e h row (pos 0) (sym (c .before .all-within .ensures) ∙ not-true _ (c .if2 .taken))
+    terms-out _ _ (is-constant (c .before .before .before .before .before .before .before .before)) (tests (c .before .before .before .before .before .before .before) ∙ not-false _ (c .before .before .before .before .before .before .if1 .left)) (c .before .before .before .before .fill-row .ensures) (pos 0) (sym (c .before .all-within .ensures) ∙ not-true _ (c .if2 .taken))
 
 times-requires : tie.Need-times-requires
 times-requires c κs =
-    let s = c .before .before .before .before .before .before .before .before .before .before .before in
-    let constant = c .before .before .before .before .before .before .before .before .row-constant in
-    let e = constant .ensures (s .args .us .now) (s .args .firsts .now) (s .args .first) in
-    let b = back (constant .result) (constant .ok) in
-    let h : fits (constant .result) ≡ true = sym (rw b at (c .before .before .before .before .before .before .before .within-limit .ensures)) ∙ not-false _ (c .before .before .before .before .before .before .if1 .left) in
-    let l = limit-size (constant .result) h in
-    rw b (omega (arith, mul-le l l))
+    let n = c .before .before .before .before .before .before .before .before .row-constant in
+    let l = limit-size (n .result) (tests (c .before .before .before .before .before .before .before) ∙ not-false _ (c .before .before .before .before .before .before .if1 .left)) in
+    rw (back (n .result) (n .ok)) (omega (arith, mul-le l l))
 
 returns-3 : tie.Need-returns-3
 returns-3 c =
-    let s = c .before .before .before .before .before .before .before .before .before .before .before .before in
-    let constant = c .before .before .before .before .before .before .before .before .before .row-constant in
-    let e = constant .ensures (s .args .us .now) (s .args .firsts .now) (s .args .first) in
-    let b = back (constant .result) (constant .ok) in
-    let h : fits (constant .result) ≡ true = sym (rw b at (c .before .before .before .before .before .before .before .before .within-limit .ensures)) ∙ not-false _ (c .before .before .before .before .before .before .before .if1 .left) in
-    let row = c .before .before .before .before .before .fill-row .ensures in
-    row-in _ _ e h row _ (back (c .times .result) (c .times .ok) ∙ rw b at (c .times .ensures)) (sym (c .before .before .all-within .ensures) ∙ not-false _ (c .before .if2 .left))
+    let n = c .before .before .before .before .before .before .before .before .before .row-constant in
+    row-in _ _ (is-constant (c .before .before .before .before .before .before .before .before .before)) (tests (c .before .before .before .before .before .before .before .before) ∙ not-false _ (c .before .before .before .before .before .before .before .if1 .left)) (c .before .before .before .before .before .fill-row .ensures) _ (back (c .times .result) (c .times .ok) ∙ rw (back (n .result) (n .ok)) at (c .times .ensures)) (sym (c .before .before .all-within .ensures) ∙ not-false _ (c .before .if2 .left))
 
 pub check-row-spec : {M : Type 1} → statement M
 check-row-spec =

@@ -1,3 +1,4 @@
+-- The invariant is `Checking`: what the rows left make of the tests and of the sum.
 use mathlib.Core.Path.{sym, _∙_}
 use Prim.Native.Nat.{_+_, _-_}
 use native.Mathlib.Omega.{arith}

@@ -1,3 +1,4 @@
+-- The invariant is `Counting`: the bits of the rows left are still to be counted.
 use borrow.Author.Needs.{needs}
 use mathlib.Core.Path.{sym, _∙_}
 use Prim.Native.Nat.{_+_, _-_}

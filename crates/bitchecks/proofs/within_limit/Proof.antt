@@ -1,3 +1,4 @@
+-- By the two tests.
 use mir.Facts.{toZ-ofZ}
 use Rattle.bitchecks.proofs.Limits.{below-limit, above-limit}
 use Rattle.bitchecks.proofs.within_limit.Statement.{statement}

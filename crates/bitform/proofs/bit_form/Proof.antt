@@ -1,3 +1,4 @@
+-- The reader's fault, or what comes after; and what the words say.
 use mathlib.Core.Path.{sym, ap, _∙_}
 use Rattle.bitsharing.proofs.Written.{shares-of}
 use Rattle.bitform.specs.Formed.{formed}

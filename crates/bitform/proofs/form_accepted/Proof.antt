@@ -1,3 +1,4 @@
+-- The lists of the variables' bits are those of the row system.
 use mathlib.Core.Path.{ap}
 use native.Mathlib.Omega.{arith}
 use Rattle.rowsystems.proofs.Sizes.{few-words}

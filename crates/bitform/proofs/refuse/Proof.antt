@@ -1,3 +1,4 @@
+-- By definition.
 use mathlib.Core.Path.{refl}
 use Rattle.bitform.specs.Formed.{formed}
 use Rattle.bitform.proofs.refuse.Statement.{statement}

@@ -1,3 +1,4 @@
+-- No words for 0, else three.
 use mathlib.Core.Path.{refl, sym, _∙_}
 use mir.Facts.{toZ-ofZ}
 use Rattle.bitlines.proofs.Writing.{laid-zero, laid-entry}

@@ -1,3 +1,4 @@
+-- The loop's invariant is `Keeping`: the bits of the variables passed are kept.
 use mathlib.Core.Path.{_≡_, ap, _∙_}
 use Prim.Native.Nat.{_-_}
 use native.Mathlib.Omega.{arith}
