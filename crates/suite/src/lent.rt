@@ -1,37 +1,37 @@
-// The lists that are lent to calls that write: what they hold before, and whether it still stands after.
+// The lists that are lent to calls that write: what they hold before, and whether it still stands after; and their fronts.
+ghost use mathlib.Core.Path.{_≡_};
+ghost use Prim.Native.Nat.{_≤_};
+ghost use lib.ListN.{length, take};
 
 // What an element holds before the call.
-const WORD_MARK: u32 = 3735928559;
+pub const WORD_MARK: u32 = 3735928559;
 
-const VALUE_MARK: i32 = -559038737;
+pub const VALUE_MARK: i32 = -559038737;
 
-const BYTE_MARK: u8 = 165;
+pub const BYTE_MARK: u8 = 165;
 
-// Puts that to every place of a list of words.
-pub fn mark_words(out: &mut [u32]) {
-    let mut i = 0;
-    while i < out.len() {
-        out[i] = WORD_MARK;
-        i += 1;
-    }
+// How many of the first n words a list has.
+pub fn words_within(out: &[u32], n: usize) -> usize
+    ensures fits { λ r. ⌜ r ≤ length (now (out .entry)) ⌝ }
+    ensures count { λ r. ⌜ r ≡ length (take r (now (out .entry))) ⌝ }
+{
+    if n < out.len() { n } else { out.len() }
 }
 
-// Puts that to every place of a list of values.
-pub fn mark_values(out: &mut [i32]) {
-    let mut i = 0;
-    while i < out.len() {
-        out[i] = VALUE_MARK;
-        i += 1;
-    }
+// The same of values.
+pub fn values_within(out: &[i32], n: usize) -> usize
+    ensures fits { λ r. ⌜ r ≤ length (now (out .entry)) ⌝ }
+    ensures count { λ r. ⌜ r ≡ length (take r (now (out .entry))) ⌝ }
+{
+    if n < out.len() { n } else { out.len() }
 }
 
-// Puts that to every place of a page.
-pub fn mark_bytes(page: &mut [u8]) {
-    let mut i = 0;
-    while i < page.len() {
-        page[i] = BYTE_MARK;
-        i += 1;
-    }
+// The same of bytes.
+pub fn bytes_within(page: &[u8], n: usize) -> usize
+    ensures fits { λ r. ⌜ r ≤ length (now (page .entry)) ⌝ }
+    ensures count { λ r. ⌜ r ≡ length (take r (now (page .entry))) ⌝ }
+{
+    if n < page.len() { n } else { page.len() }
 }
 
 // Whether every word from a place on is as it was before the call.

@@ -2,7 +2,6 @@
 // A case is numbers of 32 bits, the lowest byte first: the call, the room, how many words, how many values, the words, the values.
 // Of a text each word is a byte; of a word above 255 the lowest byte counts.
 // A call that writes is lent the front of a longer list, as long as the room; what it may not write is looked at afterwards.
-ghost use Prim.Native.Nat.{_≤_};
 use bitform::bit_form;
 use filling::fill;
 use input::Head;
@@ -10,9 +9,12 @@ use input::next_head;
 use input::read_bytes;
 use input::read_values;
 use input::read_words;
-use lent::mark_bytes;
-use lent::mark_values;
-use lent::mark_words;
+use lent::BYTE_MARK;
+use lent::VALUE_MARK;
+use lent::WORD_MARK;
+use lent::bytes_within;
+use lent::values_within;
+use lent::words_within;
 use modeljudge::judge_model;
 use output::print_checked;
 use output::print_filled;
@@ -69,98 +71,79 @@ const PAIR_JUDGE_MODEL: u32 = 13;
 
 const PAIR_FILL: u32 = 14;
 
-// The lesser of two counts.
-fn at_most(n: usize, most: usize) -> usize
-    ensures { λ r. ⌜ r ≤ most ⌝ }
-{
-    if n < most { n } else { most }
-}
+// How long the lists are that are read to or lent: of model words, of row words, of values, of bytes.
+const MODEL_WORDS: usize = 12288;
 
-// Judge-rows on the fronts of two lists.
-fn answer_rows(rows: &[u32], n: usize, values: &[i32], m: usize) {
-    let k = at_most(n, rows.len());
-    let l = at_most(m, values.len());
-    print_verdict(judge_rows(&rows[..k], &values[..l]));
-}
+const ROW_WORDS: usize = 262200;
 
-// Sheet to the front of a page.
-fn answer_page(words: &[u32], page: &mut [u8], room: usize) {
-    mark_bytes(page);
-    let k = at_most(room, page.len());
-    let answer = sheet(words, &mut page[..k]);
-    print_printed(answer, page);
-}
+const VALUES: usize = 4200;
 
-// The same, the words at the front of a list.
-fn answer_sheet(rows: &[u32], n: usize, page: &mut [u8], room: usize) {
-    let k = at_most(n, rows.len());
-    answer_page(&rows[..k], page, room);
-}
-
-// Text into the front of a list.
-fn answer_words(text: &[u8], out: &mut [u32], room: usize) {
-    mark_words(out);
-    let k = at_most(room, out.len());
-    let answer = read_text(text, &mut out[..k]);
-    print_read(answer, out);
-}
-
-// The same, the text at the front of a page.
-fn answer_text(page: &[u8], n: usize, out: &mut [u32], room: usize) {
-    let k = at_most(n, page.len());
-    answer_words(&page[..k], out, room);
-}
-
-// The form over bits into the front of a list.
-fn answer_form(words: &[u32], out: &mut [u32], room: usize) {
-    mark_words(out);
-    let k = at_most(room, out.len());
-    let answer = bit_form(words, &mut out[..k]);
-    print_formed(answer, out);
-}
-
-// The same, the words at the front of a list.
-fn answer_bits(rows: &[u32], n: usize, out: &mut [u32], room: usize) {
-    let k = at_most(n, rows.len());
-    answer_form(&rows[..k], out, room);
-}
+const PAGE: usize = 32768;
 
 // Translate into the front of a list.
 fn answer_translate(words: &[u32], out: &mut [u32], room: usize) {
-    mark_words(out);
-    let k = at_most(room, out.len());
+    let k = words_within(out, room);
     let answer = translate(words, &mut out[..k]);
     print_written(answer, out);
 }
 
 // Fill into the front of a list.
 fn answer_fill(words: &[u32], values: &[i32], out: &mut [i32], room: usize) {
-    mark_values(out);
-    let k = at_most(room, out.len());
+    let k = values_within(out, room);
     let answer = fill(words, values, &mut out[..k]);
     print_filled(answer, out);
 }
 
 // Every solution into the front of a list.
 fn answer_solutions(words: &[u32], out: &mut [i32], room: usize) {
-    mark_values(out);
-    let k = at_most(room, out.len());
+    let k = values_within(out, room);
     let answer = solutions(words, &mut out[..k]);
     print_found(answer, out);
 }
 
+// Sheet to the front of a page.
+fn answer_page(rows: &[u32], page: &mut [u8], room: usize) {
+    let k = bytes_within(page, room);
+    let answer = sheet(rows, &mut page[..k]);
+    print_printed(answer, page);
+}
+
+// The same, a page being lent.
+fn answer_sheet(rows: &[u32], room: usize) {
+    let mut page = [BYTE_MARK; PAGE];
+    answer_page(rows, &mut page, room);
+}
+
+// The form over bits into the front of a list.
+fn answer_form(rows: &[u32], out: &mut [u32], room: usize) {
+    let k = words_within(out, room);
+    let answer = bit_form(rows, &mut out[..k]);
+    print_formed(answer, out);
+}
+
+// The same, a list being lent.
+fn answer_bits(rows: &[u32], room: usize) {
+    let mut out = [WORD_MARK; MODEL_WORDS];
+    answer_form(rows, &mut out, room);
+}
+
+// Text into the front of a list.
+fn answer_words(text: &[u8], out: &mut [u32], room: usize) {
+    let k = words_within(out, room);
+    let answer = read_text(text, &mut out[..k]);
+    print_read(answer, out);
+}
+
 // Translate of a candidate's model into the front of a list.
 fn answer_pair_translate(words: &[u32], candidate: u32, out: &mut [u32], room: usize) {
-    mark_words(out);
-    let k = at_most(room, out.len());
+    let k = words_within(out, room);
     let answer = pair_translate(words, candidate, &mut out[..k]);
     print_written(answer, out);
 }
 
 // Fill of a candidate's model into the front of a list.
 fn answer_pair_fill(words: &[u32], candidate: u32, values: &[i32], out: &mut [i32], room: usize) {
-    mark_values(out);
-    let k = at_most(room, out.len());
+    let k = values_within(out, room);
     let answer = pair_fill(words, candidate, values, &mut out[..k]);
     print_filled(answer, out);
 }
@@ -236,71 +219,89 @@ fn answer_call(head: Head, words: &[u32], values: &[i32], rows: &mut [u32], fill
     answer_pair(head, words, values, rows, filled);
 }
 
-// The same, the words and values at the fronts of two lists.
-fn answer_model(head: Head, model: &[u32], values: &[i32], rows: &mut [u32], filled: &mut [i32]) {
-    let k = at_most(head.words, model.len());
-    let l = at_most(head.values, values.len());
-    answer_call(head, &model[..k], &values[..l], rows, filled);
+// The same, lists being lent.
+fn answer_lent(head: Head, words: &[u32], values: &[i32]) {
+    let mut rows = [WORD_MARK; ROW_WORDS];
+    let mut filled = [VALUE_MARK; VALUES];
+    answer_call(head, words, values, &mut rows, &mut filled);
 }
 
-// Reads the rest of a case and answers it. The lists of model words and of row words are read to or written to, as the call asks.
-fn answer(
-    head: Head,
-    model: &mut [u32],
-    rows: &mut [u32],
-    values: &mut [i32],
-    filled: &mut [i32],
-    page: &mut [u8],
-) {
+// Reads the words and values of a case on a model, and answers it.
+fn answer_model(head: Head) {
     let n = head.words;
     let m = head.values;
-    if head.call == JUDGE_ROWS {
-        read_words(rows, n);
-        read_values(values, m);
-        answer_rows(rows, n, values, m);
+    let mut model = [0u32; MODEL_WORDS];
+    read_words(&mut model, n);
+    let mut values = [0i32; VALUES];
+    read_values(&mut values, m);
+    let k = words_within(&model, n);
+    let l = values_within(&values, m);
+    answer_lent(head, &model[..k], &values[..l]);
+}
+
+// Reads m values, and answers judge-rows.
+fn answer_rows(rows: &[u32], m: usize) {
+    let mut values = [0i32; VALUES];
+    read_values(&mut values, m);
+    let l = values_within(&values, m);
+    print_verdict(judge_rows(rows, &values[..l]));
+}
+
+// The answer of a call on a row system.
+fn answer_system_call(head: Head, rows: &[u32]) {
+    let call = head.call;
+    if call == SHEET {
+        answer_sheet(rows, head.room);
         return;
     }
-    if head.call == SHEET {
-        read_words(rows, n);
-        answer_sheet(rows, n, page, head.room);
+    if call == BITS {
+        answer_bits(rows, head.room);
         return;
     }
-    if head.call == TEXT {
-        read_bytes(page, n);
-        answer_text(page, n, rows, head.room);
+    answer_rows(rows, head.values);
+}
+
+// Reads the words of a case on a row system, and answers it.
+fn answer_system(head: Head) {
+    let n = head.words;
+    let mut rows = [0u32; ROW_WORDS];
+    read_words(&mut rows, n);
+    let k = words_within(&rows, n);
+    answer_system_call(head, &rows[..k]);
+}
+
+// Reads n bytes, and answers text.
+fn answer_text(n: usize, room: usize) {
+    let mut text = [0u8; PAGE];
+    read_bytes(&mut text, n);
+    let k = bytes_within(&text, n);
+    let mut out = [WORD_MARK; ROW_WORDS];
+    answer_words(&text[..k], &mut out, room);
+}
+
+// Reads the rest of a case and answers it.
+fn answer(head: Head) {
+    let call = head.call;
+    if call == TEXT {
+        answer_text(head.words, head.room);
         return;
     }
-    if head.call == BITS {
-        read_words(rows, n);
-        answer_bits(rows, n, model, head.room);
+    if call == JUDGE_ROWS || call == SHEET || call == BITS {
+        answer_system(head);
         return;
     }
-    read_words(model, n);
-    read_values(values, m);
-    answer_model(head, model, values, rows, filled);
+    answer_model(head);
 }
 
 // At most a million cases.
 fn main() {
-    let mut model = [0u32; 12288];
-    let mut rows = [0u32; 262200];
-    let mut values = [0i32; 4200];
-    let mut filled = [0i32; 4200];
-    let mut page = [0u8; 32768];
     let mut left: usize = 1000000;
     while 0 < left {
         let head = next_head();
         if !head.there {
             return;
         }
-        answer(
-            head,
-            &mut model,
-            &mut rows,
-            &mut values,
-            &mut filled,
-            &mut page,
-        );
+        answer(head);
         left -= 1;
     }
 }
