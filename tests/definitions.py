@@ -18,7 +18,7 @@ UNUSED, UNUSED_BYTE = 0x5A5A5A5A, 0x5A  # what a lent word or value, and a lent 
 # the definition of what each call answers, and of what a lent list holds afterwards
 ANSWERS = {'check': 'check', 'translate': 'translate', 'judge_model': 'judgeModel', 'judge_rows': 'judgeRows', 'fill': 'fill', 'sheet': 'sheet', 'text': 'readText', 'reason': 'reason', 'solutions': 'solutionsAnswer', 'bits': 'bitForm',
            'pair_check': 'pairCheck', 'pair_translate': 'pairTranslate', 'pair_judge_model': 'pairJudge', 'pair_fill': 'pairFill'}
-LATER = {'translate': 'translated', 'fill': 'filled', 'sheet': 'sheetPage', 'text': 'textRead', 'solutions': 'listed', 'bits': 'bitFormed', 'pair_translate': 'pairTranslated', 'pair_fill': 'pairFilled'}
+LATER = {'translate': 'translated', 'fill': 'filled', 'sheet': 'sheetPage', 'text': 'textRead', 'solutions': 'solutionsListed', 'bits': 'bitFormed', 'pair_translate': 'pairTranslated', 'pair_fill': 'pairFilled'}
 JUDGED = ('judge_model', 'judge_rows', 'fill', 'reason', 'pair_judge_model', 'pair_fill')  # the calls that take values
 
 
