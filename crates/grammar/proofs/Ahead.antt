@@ -8,29 +8,29 @@ use lib.Dec.{eqb}
 use borrow.Author.Tests.{eq-eqb, ne-eqb}
 use Rattle.integers.specs.Choice.{_if_else_}
 use Rattle.tokens.specs.Token.{Token}
-use Rattle.grammar.specs.Grammar.{listStep, lengthFrom}
+use Rattle.grammar.specs.Grammar.{fitsInside, lengthFrom}
 
-pub at-most-one : (stand : ℕ) → (1 if eqb stand 2 else 0) ≤ 1
-at-most-one stand = go (eqb stand 2)
+pub at-most-one : (s e : ℕ) → (1 if eqb s e else 0) ≤ 1
+at-most-one s e = go (eqb s e)
   where
     go : (b : Bool) → (1 if b else 0) ≤ 1
     go true = omega arith
     go false = omega arith
 
-module _ (e c stand n : ℕ) where
-  pub length-end : {ts : List Token} → ts ≡ [] → lengthFrom e c stand n ts ≡ 0
+module _ (e c before n : ℕ) where
+  pub length-end : {ts : List Token} → ts ≡ [] → lengthFrom e c before n ts ≡ 0
   unfolding lengthFrom
   length-end q = rw q
 
-  module _ {next : ℕ} (t : Token) {ts us : List Token} (q : ts ≡ t ∷ us) (d : next ≡ listStep e c stand (t .sort)) where
-    pub length-closed : next ≡ 3 → lengthFrom e c stand n ts ≡ n + 1
+  module _ (t : Token) {ts us : List Token} (q : ts ≡ t ∷ us) where
+    pub length-broken : fitsInside e c before (t .sort) ≡ false → lengthFrom e c before n ts ≡ 0
     unfolding lengthFrom
-    length-closed h = rw (q, ← d, eq-eqb next 3 h)
+    length-broken f = rw (q, f)
 
-    pub length-broken : (next ≡ 3 → ⊥) → next ≡ 4 → lengthFrom e c stand n ts ≡ 0
+    pub length-closed : fitsInside e c before (t .sort) ≡ true → t .sort ≡ c → lengthFrom e c before n ts ≡ n + 1
     unfolding lengthFrom
-    length-broken g h = rw (q, ← d, ne-eqb next 3 g, eq-eqb next 4 h)
+    length-closed f h = rw (q, f, eq-eqb (t .sort) c h)
 
-    pub length-on : (next ≡ 3 → ⊥) → (next ≡ 4 → ⊥) → lengthFrom e c stand n ts ≡ lengthFrom e c next (n + (1 if eqb next 2 else 0)) us
+    pub length-on : fitsInside e c before (t .sort) ≡ true → (t .sort ≡ c → ⊥) → lengthFrom e c before n ts ≡ lengthFrom e c (t .sort) (n + (1 if eqb (t .sort) e else 0)) us
     unfolding lengthFrom
-    length-on g h = rw (q, ← d, ne-eqb next 3 g, ne-eqb next 4 h)
+    length-on f h = rw (q, f, ne-eqb (t .sort) c h)

@@ -13,7 +13,8 @@ use borrow.Author.Tests.{eq-eqb, ne-eqb, lt-ltb, le-ltb, ltb-true, ltb-false}
 use Rattle.integers.specs.Choice.{_if_else_}
 use Rattle.integers.proofs.Tests.{false-true}
 use Rattle.tokens.specs.Token.{Token}
-use Rattle.names.specs.Name.{same, lookUp, spellings, declaredFrom}
+use Rattle.tokens.specs.Unread.{spellings}
+use Rattle.names.specs.Name.{same, lookUp, declaredFrom}
 
 -- ---- two lists of bytes from a place on
 

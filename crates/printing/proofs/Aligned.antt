@@ -1,5 +1,5 @@
 -- The arguments of a code in words and in a text, side by side: the k-th in words is the j-th in the text, where parallel lists are two.
-use mathlib.Core.Path.{_≡_, refl, ap, _∙_}
+use mathlib.Core.Path.{_≡_, refl, sym, ap, _∙_}
 use mathlib.Core.Bool.{Bool, true, false, not, _&&_}
 use mathlib.Core.List.{List, [], _∷_, map, flatMap}
 use Prim.Native.Nat.{ℕ, zero, suc, _+_, _<_, _≤_}
@@ -7,8 +7,8 @@ use native.Mathlib.Numerals.{add-one}
 use native.Mathlib.Omega.{arith}
 use lib.Dec.{eqb, leb, ltb}
 use lib.Seq.{drop-cons}
-use lib.ListN.{length, getD, drop, drop-of-length-le, List·getD-eq-default}
-use borrow.Author.Tests.{le-leb, lt-leb, leb-true, ltb-true, ltb-false, eqb-true, eqb-false, ne-eqb, not-true}
+use lib.ListN.{length, getD, drop, drop-of-length-le, length-drop, List·getD-eq-default}
+use borrow.Author.Tests.{le-leb, lt-leb, leb-true, ltb-true, ltb-false, eqb-false, ne-eqb, not-true}
 use Rattle.integers.specs.Choice.{_if_else_}
 use Rattle.integers.specs.Lists.{all, any, listOf}
 use Rattle.integers.proofs.Lists.{all-at, listOf-length}
@@ -17,23 +17,20 @@ use Rattle.integers.proofs.Tests.{All, says-all, says-and}
 use Rattle.models.specs.Table.{Code, codes}
 use Rattle.models.specs.Shape as Shape
 use Rattle.models.specs.Shape.{shapes}
-use Rattle.names.specs.Name.{same}
-use Rattle.grammar.specs.Argument.{inText, argumentsOf, argument}
-use Rattle.printing.specs.ModelText.{takesSet}
+use Rattle.grammar.specs.Form.{inText, argumentForms, argumentForm}
+use Rattle.grammar.specs.Machine.{numberedForm}
+use Rattle.grammar.specs.declared.Form.{Form}
+use Rattle.grammar.specs.declared.Form.the-variants.{Missing, One, Many}
+use Rattle.printing.specs.ModelText.{bracket, takesSet}
 use Rattle.printing.proofs.Spelled.{both-true}
 
 -- ---- lists
 
-head-of : (xs : List ℕ) (j y : ℕ) (ys : List ℕ) → drop j xs ≡ y ∷ ys → (getD xs j 0 ≡ y) × (drop (suc j) xs ≡ ys)
+head-of : (xs : List Form) (j : ℕ) (y : Form) (ys : List Form) → drop j xs ≡ y ∷ ys → (getD xs j Missing ≡ y) × (drop (suc j) xs ≡ ys)
 head-of [] zero y ys e = absurd (let z : _≡_ {A = ℕ} 0 1 = cc in omega arith)
 head-of [] (suc j) y ys e = absurd (let z : _≡_ {A = ℕ} 0 1 = cc in omega arith)
 head-of (x ∷ xs) zero y ys e = (cc, cc)
 head-of (x ∷ xs) (suc j) y ys e = head-of xs j y ys e
-
-no-head : (xs : List ℕ) (j : ℕ) → drop j xs ≡ [] → getD xs j 0 ≡ 0
-no-head [] j e = refl
-no-head (x ∷ xs) zero e = absurd (let z : _≡_ {A = ℕ} 0 1 = cc in omega arith)
-no-head (x ∷ xs) (suc j) e = no-head xs j e
 
 all-in : {A : Type 0} (P : A → Type 0) (xs : List A) (d : A) → All P xs → P d → (n : ℕ) → P (getD xs n d)
 all-in P [] d h k n = k
@@ -57,7 +54,7 @@ shaped-at [] k h l = absurd (omega arith)
 shaped-at (x ∷ xs) zero h l = h .0
 shaped-at (x ∷ xs) (suc k) h l = shaped-at xs k (h .1) (omega arith)
 
--- ---- the arguments in a text, by their shapes
+-- ---- the arguments in a text, by their shapes: the numbers of their forms
 
 abbrev sortsOf : Bool → List ℕ → List ℕ
 sortsOf isSet [] = []
@@ -65,46 +62,27 @@ sortsOf isSet (a ∷ as₁) =
     let rest = sortsOf isSet as₁ in
     1 ∷ rest if leb a 2 else 2 ∷ rest if leb a 4 else (5 if isSet else 3) ∷ rest if eqb a 5 else 3 ∷ 6 ∷ rest if eqb a 8 else 4 ∷ rest
 
-same-equal : (xs ys : List ℕ) → same xs ys ≡ true → xs ≡ ys
-unfolding same
-same-equal [] [] h = refl
-same-equal [] (y ∷ ys) h = absurd (let z : _≡_ {A = ℕ} 0 1 = cc in omega arith)
-same-equal (x ∷ xs) [] h = absurd (let z : _≡_ {A = ℕ} 0 1 = cc in omega arith)
-same-equal (x ∷ xs) (y ∷ ys) h = by (eqb x y) refl h (same-equal xs ys)
-  where
-    by : (b : Bool) → eqb x y ≡ b → (same xs ys if b else false) ≡ true → (same xs ys ≡ true → xs ≡ ys) → x ∷ xs ≡ y ∷ ys
-    by true e q more = rw (eqb-true x y e, more q)
-    by false e q more = absurd (let z : _≡_ {A = ℕ} 0 1 = cc in omega arith)
+forms-are : listOf argumentForms 40 ≡ listOf (λ code. map numberedForm (sortsOf (takesSet code) (getD shapes code []))) 40
+unfolding any listOf argumentForms numberedForm inText bracket takesSet shapes flatMap
+forms-are = refl
 
--- of each code; and parallel lists are no sets
-abbrev isSorted : ℕ → Bool
-isSorted code = same (argumentsOf code) (sortsOf (takesSet code) (getD shapes code [])) && (all (λ s. not (eqb s 8)) (getD shapes code []) if takesSet code else true)
-
-sorted-all : all isSorted (listOf (λ code. code) 40) ≡ true
-unfolding all any listOf same argumentsOf inText takesSet shapes flatMap
-sorted-all = refl
-
-abbrev Sorted : ℕ → Type 0
-Sorted code = isSorted code ≡ true
-
-sorted : (code : ℕ) → code < 40 → Sorted code
-sorted code l =
-    let m : code < length (listOf (λ (n : ℕ). n) 40) = rw (listOf-length (λ (n : ℕ). n) 40) l in
-    rw (getD-listOf (λ (n : ℕ). n) 40 code 0 l) at
-    (all-at Sorted 0 (listOf (λ (n : ℕ). n) 40) code m (says-all isSorted Sorted (λ n. (λ e. e, λ e. e)) (listOf (λ (n : ℕ). n) 40) .0 sorted-all))
-
-beyond : (code : ℕ) → 39 < code → (argumentsOf code ≡ []) × (getD shapes code [] ≡ [])
-unfolding argumentsOf shapes
-beyond code l = (List·getD-eq-default ([] ∷ map (λ (c : Code). flatMap inText (c .sorts)) codes) [] {n = code} l, List·getD-eq-default shapes [] {n = code} l)
+beyond : (code : ℕ) → 39 < code → (argumentForms code ≡ []) × (getD shapes code [] ≡ [])
+unfolding argumentForms shapes
+beyond code l = (List·getD-eq-default ([] ∷ map (λ (row : Code). flatMap inText (row .sorts)) codes) [] {n = code} l, List·getD-eq-default shapes [] {n = code} l)
 
 abbrev pub Aligned : ℕ → ℕ → ℕ → Type 0
-Aligned code k j = drop j (argumentsOf code) ≡ sortsOf (takesSet code) (drop k (getD shapes code []))
+Aligned code k j = drop j (argumentForms code) ≡ map numberedForm (sortsOf (takesSet code) (drop k (getD shapes code [])))
 
 pub aligned : (code : ℕ) → Aligned code 0 0
 aligned code = go (ltb code 40) refl
   where
-    go : (b : Bool) → ltb code 40 ≡ b → argumentsOf code ≡ sortsOf (takesSet code) (getD shapes code [])
-    go true e = same-equal _ _ (both-true (same (argumentsOf code) (sortsOf (takesSet code) (getD shapes code []))) _ (sorted code (ltb-true code 40 e)) .0)
+    sorted : ℕ → List Form
+    sorted c = map numberedForm (sortsOf (takesSet c) (getD shapes c []))
+
+    go : (b : Bool) → ltb code 40 ≡ b → argumentForms code ≡ sorted code
+    go true e =
+        let l = ltb-true code 40 e in
+        sym (getD-listOf argumentForms 40 code [] l) ∙ ap (λ (r : List (List Form)). getD r code []) forms-are ∙ getD-listOf sorted 40 code [] l
     go false e = let q = beyond code (omega (arith, ltb-false code 40 e)) in rw (q .0, q .1)
 
 module _ (code k : ℕ) where
@@ -137,34 +115,38 @@ module _ (code k : ℕ) where
       go false q = drop-of-length-le (getD shapes code []) (ltb-false _ _ q)
 
   module _ (j : ℕ) (h : Aligned code k j) where
-    pub ends : Shape.argument code k ≡ 0 → argument code j ≡ 0
-    unfolding argument
-    ends e = no-head (argumentsOf code) j (rw (none-of e) at h)
+    pub ends : Shape.argument code k ≡ 0 → leb (length (argumentForms code)) j ≡ true
+    ends e =
+        let q : length (drop j (argumentForms code)) ≡ 0 = rw h (rw (none-of e)) in
+        le-leb (length (argumentForms code)) j (omega (arith, q, length-drop j (argumentForms code)))
 
     -- an argument that is one in the text
     one : (s y : ℕ) → Shape.argument code k ≡ s → 1 ≤ s → sortsOf (takesSet code) (s ∷ drop (k + 1) (getD shapes code [])) ≡ y ∷ sortsOf (takesSet code) (drop (k + 1) (getD shapes code [])) →
-        (argument code j ≡ y) × Aligned code (k + 1) (j + 1)
-    unfolding argument
-    one s y e l f = rw (add-one j) (head-of (argumentsOf code) j y _ (h ∙ ap (sortsOf (takesSet code)) (first-of s e l) ∙ f))
+        (argumentForm code j ≡ numberedForm y) × Aligned code (k + 1) (j + 1)
+    unfolding argumentForm
+    one s y e l f = rw (add-one j) (head-of (argumentForms code) j (numberedForm y) _ (h ∙ ap (λ (ss : List ℕ). map numberedForm (sortsOf (takesSet code) ss)) (first-of s e l) ∙ ap (map numberedForm) f))
 
-    pub is-variable : (s : ℕ) → Shape.argument code k ≡ s → 1 ≤ s → s ≤ 2 → (argument code j ≡ 1) × Aligned code (k + 1) (j + 1)
+    pub is-variable : (s : ℕ) → Shape.argument code k ≡ s → 1 ≤ s → s ≤ 2 → (argumentForm code j ≡ One 2) × Aligned code (k + 1) (j + 1)
+    unfolding numberedForm
     is-variable s e l m = one s 1 e l (rw (le-leb s 2 m))
 
-    pub is-number : (s : ℕ) → Shape.argument code k ≡ s → 2 < s → s ≤ 4 → (argument code j ≡ 2) × Aligned code (k + 1) (j + 1)
+    pub is-number : (s : ℕ) → Shape.argument code k ≡ s → 2 < s → s ≤ 4 → (argumentForm code j ≡ One 1) × Aligned code (k + 1) (j + 1)
+    unfolding numberedForm
     is-number s e l m = one s 2 e (omega arith) (rw (lt-leb s 2 l, le-leb s 4 m))
 
-    pub is-numbers : Shape.argument code k ≡ 5 → (argument code j ≡ (5 if takesSet code else 3)) × Aligned code (k + 1) (j + 1)
+    pub is-numbers : Shape.argument code k ≡ 5 → (argumentForm code j ≡ numberedForm (5 if takesSet code else 3)) × Aligned code (k + 1) (j + 1)
     is-numbers e = one 5 (5 if takesSet code else 3) e (omega arith) refl
 
-    pub is-variables : (s : ℕ) → Shape.argument code k ≡ s → 5 < s → s < 8 → (argument code j ≡ 4) × Aligned code (k + 1) (j + 1)
+    pub is-variables : (s : ℕ) → Shape.argument code k ≡ s → 5 < s → s < 8 → (argumentForm code j ≡ Many 91 2 93 false) × Aligned code (k + 1) (j + 1)
+    unfolding numberedForm
     is-variables s e l m = one s 4 e (omega arith) (rw (lt-leb s 2 (omega arith), lt-leb s 4 (omega arith), ne-eqb s 5 (λ z. omega arith), ne-eqb s 8 (λ z. omega arith)))
 
-    pub is-parallel : Shape.argument code k ≡ 8 → (argument code j ≡ 3) × (argument code (j + 1) ≡ 6) × Aligned code (k + 1) (j + 1 + 1)
-    unfolding argument
+    pub is-parallel : Shape.argument code k ≡ 8 → (argumentForm code j ≡ Many 91 1 93 false) × (argumentForm code (j + 1) ≡ Many 91 2 93 true) × Aligned code (k + 1) (j + 1 + 1)
+    unfolding argumentForm numberedForm
     is-parallel e =
-        let f : drop j (argumentsOf code) ≡ 3 ∷ 6 ∷ sortsOf (takesSet code) (drop (k + 1) (getD shapes code [])) = h ∙ ap (sortsOf (takesSet code)) (first-of 8 e (omega arith)) in
-        let a = head-of (argumentsOf code) j 3 _ f in
-        let b = head-of (argumentsOf code) (suc j) 6 _ (a .1) in
+        let f : drop j (argumentForms code) ≡ numberedForm 3 ∷ numberedForm 6 ∷ map numberedForm (sortsOf (takesSet code) (drop (k + 1) (getD shapes code []))) = h ∙ ap (λ (ss : List ℕ). map numberedForm (sortsOf (takesSet code) ss)) (first-of 8 e (omega arith)) in
+        let a = head-of (argumentForms code) j (numberedForm 3) _ f in
+        let b = head-of (argumentForms code) (suc j) (numberedForm 6) _ (a .1) in
         rw (add-one j, add-one (suc j)) (a .0, b .0, b .1)
 
 -- ---- what the table of codes says
@@ -189,13 +171,27 @@ no-parallel [] k h e = omega arith
 no-parallel (x ∷ xs) zero h e = eqb-false x 8 (not-true (eqb x 8) (both-true (not (eqb x 8)) _ h .0)) e
 no-parallel (x ∷ xs) (suc k) h e = no-parallel xs k (both-true (not (eqb x 8)) _ h .1) e
 
+abbrev isApart : ℕ → Bool
+isApart code = all (λ s. not (eqb s 8)) (getD shapes code []) if takesSet code else true
+
+apart-all : all isApart (listOf (λ code. code) 40) ≡ true
+unfolding all any listOf argumentForms inText bracket takesSet shapes flatMap
+apart-all = refl
+
+abbrev Apart : ℕ → Type 0
+Apart code = isApart code ≡ true
+
+apart : (code : ℕ) → code < 40 → Apart code
+apart code l =
+    let m : code < length (listOf (λ (n : ℕ). n) 40) = rw (listOf-length (λ (n : ℕ). n) 40) l in
+    rw (getD-listOf (λ (n : ℕ). n) 40 code 0 l) at
+    (all-at Apart 0 (listOf (λ (n : ℕ). n) 40) code m (says-all isApart Apart (λ n. (λ e. e, λ e. e)) (listOf (λ (n : ℕ). n) 40) .0 apart-all))
+
 pub parallel-lists : (code k : ℕ) → Shape.argument code k ≡ 8 → takesSet code ≡ false
 unfolding Shape.argument all
 parallel-lists code k e = go (takesSet code) (ltb code 40) refl refl
   where
     go : (a b : Bool) → takesSet code ≡ a → ltb code 40 ≡ b → a ≡ false
-    go true true f g =
-        let q = both-true (same (argumentsOf code) (sortsOf (takesSet code) (getD shapes code []))) _ (sorted code (ltb-true code 40 g)) .1 in
-        absurd (no-parallel (getD shapes code []) k (rw f at q) e)
+    go true true f g = absurd (no-parallel (getD shapes code []) k (rw f at (apart code (ltb-true code 40 g))) e)
     go true false f g = absurd (no-parallel [] k refl (rw (beyond code (omega (arith, ltb-false code 40 g)) .1) at e))
     go false b f g = refl

@@ -7,12 +7,12 @@ use native.Mathlib.Omega.{arith}
 use lib.Dec.{eqb, ltb}
 use lib.ListN.{length}
 use borrow.Author.Tests.{ltb-true, eqb-true, not-true}
-use Rattle.integers.specs.Lists.{all, listOf}
+use Rattle.integers.specs.Lists.{all, any, listOf}
 use Rattle.integers.proofs.Lists.{all-at, listOf-length}
 use Rattle.integers.proofs.Places.{getD-listOf}
 use Rattle.integers.proofs.Tests.{says-all}
-use Rattle.tokens.specs.Byte.{bytes, front, between, isLetter, inName, isDigit, isBlank}
-use Rattle.tokens.specs.Token.{tokensFrom, isGap}
+use Rattle.tokens.specs.Byte.{bytes, front, between, isLetter, inName, isDigit, isGap}
+use Rattle.tokens.specs.Token.{tokensFrom}
 use Rattle.names.specs.Name.{same, lookUp, builtinNames}
 use Rattle.printing.specs.ModelText.{builtinName}
 use Rattle.printing.proofs.Spelled.{token, both-true, spelled-name}
@@ -22,7 +22,7 @@ isNameOf [] code = false
 isNameOf (b ∷ bs) code = isLetter b && (not (isGap b) && (all inName bs && (ltb (length bs) 32 && eqb (lookUp (b ∷ bs) 0 (map bytes builtinNames)) code)))
 
 names-hold : all (λ code. isNameOf (builtinName (suc code)) (suc code)) (listOf (λ code. code) 39) ≡ true
-unfolding all listOf bytes builtinName builtinNames lookUp same isLetter inName isDigit isGap isBlank between
+unfolding all listOf bytes builtinName builtinNames lookUp same isLetter inName isDigit isGap any between
 names-hold = refl
 
 abbrev Holds : ℕ → Type 0

@@ -136,14 +136,12 @@ module _ (all : List Token) (end : ℕ) (ws : List ℕ) (rest : Read all end ws)
   read-word d due v m ts c (upper {l = low}) e l h p = read-upper ts c m low p e l h
   read-word d due v m ts c (argument-due {t = t} {code} {k} {j} {n} s a) e l h p = read-argument all end ws rest ts c v w p e l t code k j n s a h
   read-word d due v m ts c (done {t = t} {code} {k} s) e l h p = read-done all end ws rest ts c v w p e l t code k s h
-  read-word d due v m ts c (numbers {m = zero} {t} {code} {k} {j} {n} o x q a b) e l h p = the-last-number all end ws rest ts c v l e code k j n w p t o x b q a h
-  read-word d due v m ts c (numbers {m = suc i} {t} {code} {k} {j} {n} o x q a b) e l h p = one-more-number all end ws rest ts c v l e code k j n w p t o x b i q a h
-  read-word d due v m ts c (parallel {m = zero} {t} {code} {k} {j} {n} {stand} x y q a r b) e l h p =
-      the-last-coefficient all end ws rest ts c v l e code k j (suc n) w p t n stand x y q a r b h refl
-  read-word d due v m ts c (parallel {m = suc i} {t} {code} {k} {j} {n} {stand} x y q a r b) e l h p =
-      one-more-coefficient all end ws rest ts c v l e code k j (suc n) w p t n stand x y q a r b i h refl
-  read-word d due v m ts c (variables {m = zero} {t} {code} {k} {j} {n} o x a r b) e l h p = the-last-variable all end ws rest ts c v l e code k j n w p t o x a r b h
-  read-word d due v m ts c (variables {m = suc i} {t} {code} {k} {j} {n} o x a r b) e l h p = one-more-variable all end ws rest ts c v l e code k j n w p t o x a r b i h
+  read-word d due v m ts c (numbers {m = zero} {t} {code} {k} {j} {n} {before = f} o q a b) e l h p = the-last-number all end ws rest ts c v l e code k j n w p t f o b q a h
+  read-word d due v m ts c (numbers {m = suc i} {t} {code} {k} {j} {n} {before = f} o q a b) e l h p = one-more-number all end ws rest ts c v l e code k j n w p t f o b i q a h
+  read-word d due v m ts c (parallel {m = zero} {t} {code} {k} {j} {n} {before = f} y q a r b) e l h p = the-last-coefficient all end ws rest ts c v l e code k j (suc n) w p t n f y q a r b h refl
+  read-word d due v m ts c (parallel {m = suc i} {t} {code} {k} {j} {n} {before = f} y q a r b) e l h p = one-more-coefficient all end ws rest ts c v l e code k j (suc n) w p t n f y q a r b i h refl
+  read-word d due v m ts c (variables {m = zero} {t} {code} {k} {j} {n} {before = f} a r b) e l h p = the-last-variable all end ws rest ts c v l e code k j n w p t f a r b h
+  read-word d due v m ts c (variables {m = suc i} {t} {code} {k} {j} {n} {before = f} a r b) e l h p = one-more-variable all end ws rest ts c v l e code k j n w p t f a r b i h
   read-word d due v m ts c ended-both e l h p = absurd (no-more ts c w ws h)
 
 pub read-words : (all : List Token) (end : ℕ) (ws : List ℕ) → Read all end ws

@@ -6,22 +6,21 @@ use Prim.Native.Nat.{ℕ, zero, suc, _+_, _-_, _*_, _/_, _%_, _<_, _≤_}
 use native.Mathlib.Nat.{add-zero}
 use native.Mathlib.Omega.{arith}
 use lib.Dec.{eqb, ltb}
-use lib.IntN.{ℤ, pos, negsuc}
+use lib.IntN.{ℤ, pos, negsuc, negℤ}
 use lib.ListN.{length, length-append}
-use borrow.Author.Tests.{le-leb, eq-eqb, ne-eqb, eqb-true, ltb-true, ltb-false, le-ltb}
+use borrow.Author.Tests.{le-leb, eq-eqb, ne-eqb, eqb-true, ltb-true, ltb-false}
 use Rattle.integers.specs.Choice.{_if_else_}
-use Rattle.integers.specs.Lists.{all}
-use Rattle.integers.proofs.Linear.{arithZ}
-use Rattle.words.specs.Word.{payload, signed, inRange}
+use Rattle.integers.specs.Lists.{all, any, listOf}
+use Rattle.words.specs.Word.{payload, signed, word, complement, numberWord}
 use Rattle.words.specs.Limit as Limit
-use Rattle.words.proofs.Word.{says-range, payload-below}
+use Rattle.words.proofs.Word.{payload-below}
 use Rattle.decimals.specs.Decimal as Decimal
 use Rattle.decimals.specs.Decimal.{digits, numeral}
 use Rattle.decimals.proofs.Digits.{decimal-length}
-use Rattle.tokens.specs.Byte.{front, between, isLetter, inName, isDigit, isBlank}
-use Rattle.tokens.specs.Token.{isGap, tokensFrom}
+use Rattle.tokens.specs.Byte.{bytes, front, between, isLetter, inName, isDigit, isGap}
+use Rattle.tokens.specs.Token.{tokensFrom}
 use Rattle.names.specs.Name.{same, lookUp}
-use Rattle.grammar.specs.Grammar.{decimal, magnitude, isNegative, isOutside, payloadOf}
+use Rattle.grammar.specs.Grammar.{digitsFrom, valueOf}
 use Rattle.printing.specs.ModelText.{variableName}
 use Rattle.printing.proofs.Spelled.{token, both-true, digit-range, spelled-name, spelled-digits, spelled-minus}
 
@@ -60,68 +59,53 @@ numeral-some (negsuc n) = omega arith
 
 -- ---- read as a number
 
-decimal-append : (n : ℕ) (xs ys : List ℕ) → decimal n (xs ++ ys) ≡ decimal (decimal n xs) ys
-unfolding decimal
+decimal-append : (n : ℕ) (xs ys : List ℕ) → digitsFrom n (xs ++ ys) ≡ digitsFrom (digitsFrom n xs) ys
+unfolding digitsFrom
 decimal-append n [] ys = refl
 decimal-append n (x ∷ xs) ys = decimal-append (n * 10 + (x - 48)) xs ys
 
-digit-back : (n d : ℕ) → decimal n ((48 + d) ∷ []) ≡ n * 10 + d
-unfolding decimal
+digit-back : (n d : ℕ) → digitsFrom n ((48 + d) ∷ []) ≡ n * 10 + d
+unfolding digitsFrom
 digit-back n d = omega arith
 
-digits-back : (k n : ℕ) → n < k → decimal 0 (digits k n) ≡ n
+digits-back : (k n : ℕ) → n < k → digitsFrom 0 (digits k n) ≡ n
 unfolding digits
 digits-back zero n h = absurd (omega arith)
 digits-back (suc k) n h = by (ltb 9 n) refl (digits-back k (n / 10))
   where
-    by : (t : Bool) → ltb 9 n ≡ t → (n / 10 < k → decimal 0 (digits k (n / 10)) ≡ n / 10) → decimal 0 ((digits k (n / 10) if t else []) ++ ((48 + n % 10) ∷ [])) ≡ n
+    by : (t : Bool) → ltb 9 n ≡ t → (n / 10 < k → digitsFrom 0 (digits k (n / 10)) ≡ n / 10) → digitsFrom 0 ((digits k (n / 10) if t else []) ++ ((48 + n % 10) ∷ [])) ≡ n
     by true e more =
         decimal-append 0 (digits k (n / 10)) ((48 + n % 10) ∷ [])
         ∙ rw (more (omega (arith, ltb-true))) (digit-back (n / 10) (n % 10) ∙ omega arith)
     by false e more = digit-back 0 (n % 10) ∙ omega (arith, ltb-false)
 
-pub decimal-back : (n : ℕ) → decimal 0 (Decimal.decimal n) ≡ n
+pub decimal-back : (n : ℕ) → digitsFrom 0 (Decimal.decimal n) ≡ n
 unfolding Decimal.decimal
 decimal-back n = digits-back (suc n) n (omega arith)
 
 -- ---- a number's token
 
-plain : (ds : List ℕ) → all isDigit ds ≡ true → (magnitude ds ≡ decimal 0 ds) × (isNegative ds ≡ false)
-unfolding all magnitude isNegative decimal
-plain [] h = (refl, refl)
+plain : (ds : List ℕ) → all isDigit ds ≡ true → valueOf ds ≡ pos (digitsFrom 0 ds)
+unfolding all valueOf front
+plain [] h = refl
 plain (d ∷ ds) h =
     let r = digit-range d (both-true (isDigit d) (all isDigit ds) h .0) in
-    let n : eqb d 45 ≡ false = ne-eqb d 45 (λ e. omega arith) in
-    (rw n, n)
+    rw (ne-eqb d 45 (λ e. omega arith))
 
-inside-payload : (m : ℕ) (b : Bool) → m ≤ 134217727 → (0 if ltb 134217727 m else 268435456 - m if b else m) ≡ (268435456 - m if b else m)
-inside-payload m b h = rw (le-ltb 134217727 m h)
+-- a number in decimal is read as it was
+pub value-back : (z : ℤ) → valueOf (numeral z) ≡ z
+unfolding numeral valueOf front
+value-back (pos n) = plain (Decimal.decimal n) (decimal-digits n) ∙ ap pos (decimal-back n)
+value-back (negsuc n) = ap (λ (m : ℕ). negℤ (pos m)) (decimal-back (suc n))
 
-module _ (p : ℕ) where
-  of-pos : (n : ℕ) → n ≤ 134217727 → (isOutside (token 1 p (numeral (pos n))) ≡ false) × (payloadOf (token 1 p (numeral (pos n))) ≡ n)
-  unfolding isOutside payloadOf numeral
-  of-pos n h =
-      let q = plain (Decimal.decimal n) (decimal-digits n) in
-      let m : magnitude (Decimal.decimal n) ≡ n = q .0 ∙ decimal-back n in
-      rw (m, q .1) (le-ltb 134217727 n h, inside-payload n false h)
-
-  of-neg : (n : ℕ) → n < 134217727 → (isOutside (token 1 p (numeral (negsuc n))) ≡ false) × (payloadOf (token 1 p (numeral (negsuc n))) ≡ 268435455 - n)
-  unfolding isOutside payloadOf numeral magnitude isNegative
-  of-neg n h =
-      let m : decimal 0 (Decimal.decimal (suc n)) ≡ suc n = decimal-back (suc n) in
-      rw m (le-ltb 134217727 (suc n) (omega arith), inside-payload (suc n) true (omega arith) ∙ omega arith)
-
-  pub of-signed : (w : ℕ) → inRange (signed w) ≡ true → (isOutside (token 1 p (numeral (signed w))) ≡ false) × (payloadOf (token 1 p (numeral (signed w))) ≡ payload w)
-  unfolding signed
-  of-signed w h = go (ltb (payload w) Limit.half) refl h
-    where
-      go : (b : Bool) → ltb (payload w) Limit.half ≡ b → inRange (pos (payload w) if b else negsuc (268435455 - payload w)) ≡ true →
-          (isOutside (token 1 p (numeral (pos (payload w) if b else negsuc (268435455 - payload w)))) ≡ false) × (payloadOf (token 1 p (numeral (pos (payload w) if b else negsuc (268435455 - payload w)))) ≡ payload w)
-      go true e r = of-pos (payload w) (omega (arith, ltb-true))
-      go false e r =
-          let l : 268435455 - payload w < 134217727 = omega (arithZ, says-range (negsuc (268435455 - payload w)) .0 r .0) in
-          let q = of-neg (268435455 - payload w) l in
-          (q .0, q .1 ∙ omega (arith, payload-below w))
+-- and its word is the one that it was printed from
+pub signed-back : (k w : ℕ) → numberWord k (signed w) ≡ word k (payload w)
+unfolding numberWord signed complement
+signed-back k w = ap (word k) (go (ltb (payload w) Limit.half) refl)
+  where
+    go : (b : Bool) → ltb (payload w) Limit.half ≡ b → complement (pos (payload w) if b else negsuc (268435455 - payload w)) ≡ payload w
+    go true e = omega (arith, payload-below w)
+    go false e = omega (arith, payload-below w)
 
 -- ---- the names of variables
 
@@ -130,15 +114,15 @@ unfolding same
 same-refl [] = refl
 same-refl (x ∷ xs) = rw (eq-eqb x x refl) (same-refl xs)
 
-same-onward : (xs ys : List ℕ) (n : ℕ) → same xs ys ≡ true → decimal n xs ≡ decimal n ys
-unfolding same decimal
+same-onward : (xs ys : List ℕ) (n : ℕ) → same xs ys ≡ true → digitsFrom n xs ≡ digitsFrom n ys
+unfolding same digitsFrom
 same-onward [] [] n h = refl
 same-onward [] (y ∷ ys) n h = absurd (let z : _≡_ {A = ℕ} 0 1 = cc in omega arith)
 same-onward (x ∷ xs) [] n h = absurd (let z : _≡_ {A = ℕ} 0 1 = cc in omega arith)
 same-onward (x ∷ xs) (y ∷ ys) n h = by (eqb x y) refl h (same-onward xs ys (n * 10 + (x - 48)))
   where
-    by : (b : Bool) → eqb x y ≡ b → (same xs ys if b else false) ≡ true → (same xs ys ≡ true → decimal (n * 10 + (x - 48)) xs ≡ decimal (n * 10 + (x - 48)) ys) → decimal (n * 10 + (x - 48)) xs ≡ decimal (n * 10 + (y - 48)) ys
-    by true e q more = more q ∙ ap (λ (z : ℕ). decimal (n * 10 + (z - 48)) ys) (eqb-true x y e)
+    by : (b : Bool) → eqb x y ≡ b → (same xs ys if b else false) ≡ true → (same xs ys ≡ true → digitsFrom (n * 10 + (x - 48)) xs ≡ digitsFrom (n * 10 + (x - 48)) ys) → digitsFrom (n * 10 + (x - 48)) xs ≡ digitsFrom (n * 10 + (y - 48)) ys
+    by true e q more = more q ∙ ap (λ (z : ℕ). digitsFrom (n * 10 + (z - 48)) ys) (eqb-true x y e)
     by false e q more = absurd (let z : _≡_ {A = ℕ} 0 1 = cc in omega arith)
 
 name-same : (i : ℕ) → same (variableName i) (variableName i) ≡ true
@@ -210,7 +194,7 @@ unfolding isLetter between
 x-letter = refl
 
 x-no-gap : isGap 120 ≡ false
-unfolding isGap isBlank
+unfolding isGap any bytes listOf
 x-no-gap = refl
 
 pub name-token : (p i : ℕ) (ys : List ℕ) → i < 256 → inName (front ys) ≡ false → tokensFrom 0 p (variableName i ++ ys) ≡ token 2 p (variableName i) ∷ tokensFrom 0 (p + length (variableName i)) ys

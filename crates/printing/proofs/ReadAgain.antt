@@ -8,13 +8,13 @@ use lib.ListN.{length}
 use borrow.Author.Tests.{le-ltb}
 use Rattle.words.specs.Answer.{written, _else-answer_}
 use Rattle.words.specs.Overlay.{overlay}
-use Rattle.words.specs.Refusal.{accepted, _else-refuse_}
+use Rattle.words.specs.Refusal.{accepted, roomFault, _else-refuse_}
 use Rattle.words.proofs.Reading.{not-too-many}
 use Rattle.models.specs.Reading.{readModel, readModelIn, begin}
 use Rattle.models.proofs.Accepted.{few-words}
 use Rattle.models.proofs.Sound.{Sound, sound}
 use Rattle.tokens.specs.Token.{tokens}
-use Rattle.texts.specs.Text.{faultIn, wordsIn, limitFault, refusalOf, readText, textRead}
+use Rattle.texts.specs.Text.{tokensFault, tokensWords, wordsFault, refusalOf, readText, textRead}
 use Rattle.printing.specs.ModelText.{modelText}
 use Rattle.printing.specs.ReadAgain.{ReadAgain}
 use Rattle.printing.proofs.Simulation.{start}
@@ -26,12 +26,12 @@ module _ (ws : List ℕ) (h : readModel ws ≡ accepted) where
   sound-words = sound ws begin 0 (not-too-many 0 (ltb 8192 (length ws)) _ h .1)
 
   -- the text has no fault, and its words are the model's
-  read-back : (faultIn (tokens (modelText ws)) (length (modelText ws)) ≡ accepted) × (wordsIn (tokens (modelText ws)) ≡ ws)
-  unfolding faultIn wordsIn tokens modelText
+  read-back : (tokensFault (tokens (modelText ws)) (length (modelText ws)) ≡ accepted) × (tokensWords (tokens (modelText ws)) ≡ ws)
+  unfolding tokensFault tokensWords tokens modelText
   read-back = read-words (tokens (modelText ws)) (length (modelText ws)) ws _ _ 0 0 [] 0 start refl (omega arith) sound-words 0 .gives (λ q l. refl)
 
   no-refusal : (room : ℕ) → length ws ≤ room → refusalOf (modelText ws) room ≡ accepted
-  unfolding refusalOf limitFault _else-refuse_
+  unfolding refusalOf wordsFault roomFault _else-refuse_
   no-refusal room l = rw (read-back .0, read-back .1, le-ltb 8192 (length ws) (few-words ws h), le-ltb room (length ws) l)
 
   answered : (room : ℕ) → length ws ≤ room → readText (modelText ws) room ≡ written (length ws)

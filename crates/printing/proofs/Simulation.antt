@@ -17,8 +17,11 @@ use Rattle.models.specs.declared.Due.the-variants as Words
 use Rattle.models.proofs.Sound.{Sound, reading}
 use Rattle.tokens.specs.Byte.{front, inName, isDigit}
 use Rattle.tokens.specs.Token.{Token, tokensFrom}
-use Rattle.grammar.specs.Argument.{argument}
-use Rattle.grammar.specs.Grammar.{mayEnd}
+use Rattle.grammar.specs.Form.{argumentForm}
+use Rattle.grammar.specs.Grammar as Grammar
+use Rattle.grammar.specs.Grammar.{fitting, gives}
+use Rattle.names.specs.Name.{isWord}
+use Rattle.grammar.specs.declared.Form.the-variants.{Many}
 use Rattle.grammar.specs.declared.Due.{Due}
 use Rattle.grammar.specs.declared.Due.the-variants.{Item, Upper, Argument, Next, Inside}
 use Rattle.texts.specs.Text.{faultFrom, wordsFrom}
@@ -54,12 +57,10 @@ pub data Goes : ℕ → ℕ → WordsDue → Due → Type 0 where
   argument-due : {v t code k j n : ℕ} → 1 ≤ Shape.argument code k → Aligned code k j → Goes v v (Words.Arguments 0 0 t code k) (Argument code j n)
   done : {v t code k : ℕ} → Shape.argument code k ≡ 0 → Goes v v (Words.Arguments 0 0 t code k) (Item 1)
   -- in a list of numbers, in the first and the second of parallel lists, in a list of variables
-  numbers : {v m t code k j n x o c stand : ℕ} → ListOf x o c 1 → argument code j ≡ x → closed code ≡ c ∷ [] → Aligned code k (j + 1) → eqb stand 2 ≡ false →
-      Goes v v (Words.Arguments (suc m) 0 t code k) (Inside code j n stand)
-  parallel : {v m t code k j n stand : ℕ} → argument code j ≡ 3 → argument code (j + 1) ≡ 6 → closed code ≡ 93 ∷ [] → Aligned code k (j + 1 + 1) → 1 ≤ t → eqb stand 2 ≡ false →
-      Goes v v (Words.Arguments (suc m) (suc n) t code k) (Inside code j (suc n) stand)
-  variables : {v m t code k j n x stand : ℕ} → ListOf x 91 93 2 → argument code j ≡ x → Aligned code k (j + 1) → 1 ≤ t → eqb stand 2 ≡ false →
-      Goes v v (Words.Arguments 0 (suc m) t code k) (Inside code j n stand)
+  numbers : {v m t code k j n o c before : ℕ} → ListOf o c 1 false → closed code ≡ c ∷ [] → Aligned code k j → eqb before 1 ≡ false → Goes v v (Words.Arguments (suc m) 0 t code k) (Inside code j n 1 c before)
+  parallel : {v m t code k j n before : ℕ} → argumentForm code j ≡ Many 91 2 93 true → closed code ≡ 93 ∷ [] → Aligned code k (j + 1) → 1 ≤ t → eqb before 1 ≡ false →
+      Goes v v (Words.Arguments (suc m) (suc n) t code k) (Inside code j (suc n) 1 93 before)
+  variables : {v m t code k j n before : ℕ} → Aligned code k j → 1 ≤ t → eqb before 2 ≡ false → Goes v v (Words.Arguments 0 (suc m) t code k) (Inside code j n 2 93 before)
   ended-both : {v : ℕ} → Goes v v Words.Ended (Item 2)
 
 module _ (all : List Token) (end : ℕ) where
@@ -70,7 +71,7 @@ module _ (all : List Token) (end : ℕ) where
   -- ---- no words are left
 
   nothing : (p m : ℕ) → Reads all end (Item 2) p [] (named m) false []
-  unfolding tokensFrom faultFrom wordsFrom mayEnd
+  unfolding tokensFrom faultFrom wordsFrom Grammar.step isWord fitting gives
   nothing p m = record { gives = λ h. (refl, refl) }
 
   pub read-none : Read []
@@ -79,22 +80,22 @@ module _ (all : List Token) (end : ℕ) where
   read-none d due v m ts c upper e l h p = absurd (omega arith)
   read-none d due v m ts c (argument-due s a) e l h p = absurd (omega arith)
   read-none d due v m ts c (done s) e l h p = absurd (omega arith)
-  read-none d due v m ts c (numbers o x i a b) e l h p = absurd (omega arith)
-  read-none d due v m ts c (parallel x y i a t b) e l h p = absurd (omega arith)
-  read-none d due v m ts c (variables o x a t b) e l h p = absurd (omega arith)
+  read-none d due v m ts c (numbers o i a b) e l h p = absurd (omega arith)
+  read-none d due v m ts c (parallel y i a t b) e l h p = absurd (omega arith)
+  read-none d due v m ts c (variables a t b) e l h p = absurd (omega arith)
   read-none d due v m ts c ended-both e l h p = nothing p m
 
   -- ---- a word, where the words after it are read
   module _ (ws : List ℕ) (rest : Read ws) where
     -- after an argument
-    module _ (ts : List ℕ) (c v : ℕ) (e : length ts ≡ v) (few : v ≤ 256) (t code k j n p : ℕ) (a : Aligned code k (j + 1)) (h : Sound (reading (Words.Arguments 0 0 t code k) ts c) ws) where
+    module _ (ts : List ℕ) (c v : ℕ) (e : length ts ≡ v) (few : v ≤ 256) (t code k j n p : ℕ) (a : Aligned code k j) (h : Sound (reading (Words.Arguments 0 0 t code k) ts c) ws) where
       pub after-argument : Reads all end (Next code j n) p (argumentEnd code k ++ textFrom (reading (Words.Arguments 0 0 t code k) ts c) ws) (named v) false ws
       unfolding argumentEnd
       after-argument = go (eqb (Shape.argument code k) 0) refl
         where
           go : (b : Bool) → eqb (Shape.argument code k) 0 ≡ b → Reads all end (Next code j n) p ((41 ∷ 59 ∷ 10 ∷ [] if b else 44 ∷ []) ++ textFrom (reading (Words.Arguments 0 0 t code k) ts c) ws) (named v) false ws
           go true q =
-              at-closing all end code j n (ends code k (j + 1) a (eqb-true _ _ q))
+              at-closing all end code j n (ends code k j a (eqb-true _ _ q))
               (at-semicolon all end 1 refl (at-line all end (rest _ _ v v ts c (done (eqb-true _ _ q)) e few h _)))
           go false q = at-comma all end code j n (rest _ _ v v ts c (argument-due (omega (arith, eqb-false (Shape.argument code k) 0 q)) a) e few h _)
 
@@ -106,7 +107,7 @@ module _ (all : List Token) (end : ℕ) where
           let g = is-variable code k j a s q l m in
           rw (turn .text-is ∙ append-assoc (variableName (payload w)) (argumentEnd code (k + 1)) _)
           (at-variable all end (argument-ends-name code (k + 1) _) v w (rw e at (alone-declared ts c t code k w ws h s q l m)) few (alone-kind ts c t code k w ws h s q l m) code j n (g .0)
-          (after-argument ts c v e few 0 code (k + 1) j n _ (g .1) (turn .sound)))
+          (after-argument ts c v e few 0 code (k + 1) (j + 1) n _ (g .1) (turn .sound)))
 
       pub one-number : (s : ℕ) → Shape.argument code k ≡ s → 2 < s → s ≤ 4 → Reads all end (Argument code j n) p (textFrom (reading (Words.Arguments 0 0 t code k) ts c) (w ∷ ws)) (named v) false (w ∷ ws)
       one-number s q l m =
@@ -115,4 +116,4 @@ module _ (all : List Token) (end : ℕ) where
           let g = is-number code k j a s q l m in
           rw (turn .text-is ∙ append-assoc (numeral (signed w)) (argumentEnd code (k + 1)) _)
           (at-number all end w (amount .range) (argument-ends-number code (k + 1) _) code j n (g .0) (amount .kind-is)
-          (after-argument ts c v e few 0 code (k + 1) j n _ (g .1) (turn .sound)))
+          (after-argument ts c v e few 0 code (k + 1) (j + 1) n _ (g .1) (turn .sound)))

@@ -10,9 +10,9 @@ use lib.Seq.{take-append-seam}
 use lib.ListN.{length}
 use borrow.Author.Tests.{le-leb, lt-leb, leb-true, ne-eqb}
 use Rattle.integers.specs.Choice.{_if_else_}
-use Rattle.integers.specs.Lists.{all, any}
-use Rattle.tokens.specs.Byte.{front, run, between, isLetter, inName, isDigit, isBlank, isSign}
-use Rattle.tokens.specs.Token.{Token, tokenLength, sortOf, startsNumber, startsDots, isGap, tokensFrom}
+use Rattle.integers.specs.Lists.{all, any, listOf}
+use Rattle.tokens.specs.Byte.{bytes, front, run, between, isLetter, inName, isDigit, isGap, isSign}
+use Rattle.tokens.specs.Token.{Token, tokenLength, sortOf, startsNumber, startsDots, tokensFrom}
 
 abbrev pub token : ℕ → ℕ → List ℕ → Token
 token s p bs = record { sort = s; place = p; spelling = bs }
@@ -62,7 +62,7 @@ unfolding isDigit between
 digit-range d h = let q = both-true (leb 48 d) (leb d 57) h in (leb-true 48 d (q .0), leb-true d 57 (q .1))
 
 digit-gap : (d : ℕ) → isDigit d ≡ true → (isGap d ≡ false) × (isLetter d ≡ false)
-unfolding isGap isBlank isLetter between
+unfolding isGap any bytes listOf isLetter between
 digit-gap d h =
     let r = digit-range d h in (
       rw (ne-eqb d 32 (λ e. omega arith), ne-eqb d 10 (λ e. omega arith), ne-eqb d 37 (λ e. omega arith)),
@@ -109,7 +109,7 @@ module _ (ds ys : List ℕ) (l : 1 ≤ length ds) (h : all isDigit ds ≡ true) 
   minus-sort = rw (front-append ds ys l h)
 
   pub spelled-minus : (p : ℕ) → tokensFrom 0 p (45 ∷ ds ++ ys) ≡ token 1 p (45 ∷ ds) ∷ tokensFrom 0 (p + suc (length ds)) ys
-  unfolding tokensFrom isGap isBlank
+  unfolding tokensFrom isGap any bytes listOf
   spelled-minus p =
       let n : 1 + length ds - 1 ≡ length ds = omega arith in
       let m : 1 + length ds ≡ suc (length ds) = omega arith in
@@ -129,7 +129,7 @@ pub data Sign : ℕ → Type 0 where
   close-set : Sign 125
 
 pub spelled-sign : {c : ℕ} → Sign c → (p : ℕ) (ys : List ℕ) → tokensFrom 0 p (c ∷ ys) ≡ token c p (c ∷ []) ∷ tokensFrom 0 (p + 1) ys
-unfolding tokensFrom tokenLength sortOf startsNumber startsDots isGap isBlank isLetter isDigit isSign between any
+unfolding tokensFrom tokenLength sortOf startsNumber startsDots isGap isLetter isDigit isSign between any bytes listOf
 spelled-sign colon p ys = refl
 spelled-sign semicolon p ys = refl
 spelled-sign comma p ys = refl
@@ -141,16 +141,16 @@ spelled-sign open-set p ys = refl
 spelled-sign close-set p ys = refl
 
 pub spelled-dots : (p : ℕ) (ys : List ℕ) → tokensFrom 0 p (46 ∷ 46 ∷ ys) ≡ token 46 p (46 ∷ 46 ∷ []) ∷ tokensFrom 0 (p + 1 + 1) ys
-unfolding tokensFrom tokenLength sortOf startsNumber startsDots isGap isBlank isLetter isDigit isSign between any front
+unfolding tokensFrom tokenLength sortOf startsNumber startsDots isGap isLetter isDigit isSign between any bytes listOf front
 spelled-dots p ys = refl
 
 -- a blank or a line feed says nothing
 pub spelled-blank : (p : ℕ) (ys : List ℕ) → tokensFrom 0 p (32 ∷ ys) ≡ tokensFrom 0 (p + 1) ys
-unfolding tokensFrom tokenLength startsNumber startsDots isGap isBlank isLetter isDigit between
+unfolding tokensFrom tokenLength startsNumber startsDots isGap any bytes listOf isLetter isDigit between
 spelled-blank p ys = refl
 
 pub spelled-line : (p : ℕ) (ys : List ℕ) → tokensFrom 0 p (10 ∷ ys) ≡ tokensFrom 0 (p + 1) ys
-unfolding tokensFrom tokenLength startsNumber startsDots isGap isBlank isLetter isDigit between
+unfolding tokensFrom tokenLength startsNumber startsDots isGap any bytes listOf isLetter isDigit between
 spelled-line p ys = refl
 
 -- a sign continues no number and no name

@@ -10,9 +10,14 @@ use Rattle.integers.specs.Choice.{_if_else_}
 use Rattle.words.specs.Refusal.{accepted}
 use Rattle.tokens.specs.Token.{Token, tokensFrom}
 use Rattle.names.specs.Name.{declaredFrom}
-use Rattle.grammar.specs.Grammar.{fault, after, written}
+use Rattle.grammar.specs.Grammar as Grammar
+use Rattle.grammar.specs.declared.Step.{Step}
 use Rattle.grammar.specs.declared.Due.{Due}
 use Rattle.texts.specs.Text.{faultFrom, wordsFrom}
+
+-- the step of a token without a fault
+abbrev pub passes : ℕ → Due → Step
+passes w next = record { fault = 0; word = w; next = next }
 
 module _ (all : List Token) (end : ℕ) where
   -- the names ns are declared before place p, where the tokens ts are left; b says whether a colon stands before them
@@ -26,16 +31,13 @@ module _ (all : List Token) (end : ℕ) where
   pub record Reads (d : Due) (p : ℕ) (bs : List ℕ) (ns : List (List ℕ)) (b : Bool) (us : List ℕ) : Type 0 where
     pub gives : Past p ns b (tokensFrom 0 p bs) → Gives d (tokensFrom 0 p bs) us
 
-  -- a token that fits, where these names are declared before it, its word or 0, and what is due after it
-  pub record Meets (ns : List (List ℕ)) (d : Due) (t : Token) (ts : List Token) (w : ℕ) (next : Due) : Type 0 where
-    pub faultless : declaredFrom false (t .place) all ≡ ns → fault all d t ts ≡ 0
-    pub word : declaredFrom false (t .place) all ≡ ns → written all d t ts ≡ w
-    pub onward : after d t ts ≡ next
+  -- a token without a fault, where these names are declared before it, its word or 0, and what is due after it
+  abbrev pub Meets : List (List ℕ) → Due → Token → List Token → ℕ → Due → Type 0
+  Meets ns d t ts w next = declaredFrom false (t .place) all ≡ ns → Grammar.step all d t ts ≡ passes w next
 
-  step-gives : (d : Due) (t : Token) (ts : List Token) (us : List ℕ) → fault all d t ts ≡ 0 → Gives (after d t ts) ts us →
-      Gives d (t ∷ ts) (us if eqb (written all d t ts) 0 else written all d t ts ∷ us)
+  step-gives : (d next : Due) (t : Token) (ts : List Token) (us : List ℕ) (w : ℕ) → Grammar.step all d t ts ≡ passes w next → Gives next ts us → Gives d (t ∷ ts) (us if eqb w 0 else w ∷ us)
   unfolding faultFrom wordsFrom
-  step-gives d t ts us h r = (rw h (r .0), ap (λ (rest : List ℕ). rest if eqb (written all d t ts) 0 else written all d t ts ∷ rest) (r .1))
+  step-gives d next t ts us w m r = rw m (r .0, ap (λ (rest : List ℕ). rest if eqb w 0 else w ∷ rest) (r .1))
 
   own : (p : ℕ) (ns : List (List ℕ)) (b : Bool) (t : Token) (ts : List Token) → Past p ns b (t ∷ ts) → p ≤ t .place → declaredFrom false (t .place) all ≡ ns
   unfolding declaredFrom
@@ -57,7 +59,7 @@ module _ (all : List Token) (end : ℕ) where
       go h =
           let o = own p ns b t (tokensFrom 0 n cs) h (omega arith) in
           let g = r .gives (past-next p n ns b t (tokensFrom 0 n cs) h (omega arith) (omega arith)) in
-          rw (m .word o) at (step-gives d t (tokensFrom 0 n cs) us (m .faultless o) (rw (m .onward) g))
+          step-gives d next t (tokensFrom 0 n cs) us w (m o) g
 
   -- and it declares no name
   pub plain-step : {d next : Due} {p n : ℕ} {bs cs : List ℕ} {ns : List (List ℕ)} {us : List ℕ} (t : Token) (w : ℕ) →

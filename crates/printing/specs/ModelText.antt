@@ -2,6 +2,7 @@
 use mathlib.Core.Bool.{Bool}
 use mathlib.Core.List.{List, [], _∷_, _++_, map}
 use Prim.Native.Nat.{ℕ, _+_, _-_}
+use Prim.Native.Char.{code as byte}
 use lib.Dec.{ltb, leb, eqb}
 use lib.ListN.{length, getD}
 use Rattle.integers.specs.Choice.{_if_else_}
@@ -14,13 +15,15 @@ use Rattle.models.specs.Shape.{argument}
 use Rattle.models.specs.Reading.{State, after, begin}
 use Rattle.models.specs.declared.Due.{Due}
 use Rattle.models.specs.declared.Due.the-variants.{Start, Upper, Arguments, Ended}
-use Rattle.tokens.specs.Byte.{bytes, lineFeed, openList, closeList, openSet, closeSet}
+use Rattle.tokens.specs.Byte.{bytes}
 use Rattle.names.specs.Name.{builtinNames}
-use Rattle.grammar.specs.Argument.{set, argumentsOf}
+use Rattle.grammar.specs.Form.{argumentForms}
+use Rattle.grammar.specs.declared.Form.{Form}
+use Rattle.grammar.specs.declared.Form.the-variants.{Missing, One, Many}
 
 -- variable i is called x and i in decimal
 unfoldable pub variableName : ℕ → List ℕ
-variableName i = 120 ∷ decimal i
+variableName i = byte "x" ∷ decimal i
 
 -- by code
 unfoldable pub builtinName : ℕ → List ℕ
@@ -28,28 +31,34 @@ builtinName code = getD ([] ∷ map bytes builtinNames) code []
 
 -- the end of an item
 abbrev pub line : List ℕ
-line = 59 ∷ lineFeed ∷ []
+line = byte ";" ∷ byte "\n" ∷ []
+
+-- the byte that opens an argument in brackets, 0 for another
+unfoldable pub bracket : Form → ℕ
+bracket Missing = 0
+bracket (One sort) = 0
+bracket (Many opening element closing second) = opening
 
 -- "lists in square brackets, sets in braces": whether the numbers of a code are a set
 unfoldable pub takesSet : ℕ → Bool
-takesSet code = any (eqb set) (argumentsOf code)
+takesSet code = any (λ form. eqb (bracket form) (byte "{")) (argumentForms code)
 
 unfoldable pub opened : ℕ → List ℕ
-opened code = (openSet if takesSet code else openList) ∷ []
+opened code = (byte "{" if takesSet code else byte "[") ∷ []
 
 unfoldable pub closed : ℕ → List ℕ
-closed code = (closeSet if takesSet code else closeList) ∷ []
+closed code = (byte "}" if takesSet code else byte "]") ∷ []
 
 -- after an argument of a code, before its k-th
 unfoldable pub argumentEnd : ℕ → ℕ → List ℕ
-argumentEnd code k = 41 ∷ line if eqb (argument code k) Shape.none else 44 ∷ []
+argumentEnd code k = byte ")" ∷ line if eqb (argument code k) Shape.none else byte "," ∷ []
 
 -- after the last of an argument's numbers, so many variables before the k-th argument; after the last of its variables
 unfoldable pub numbersEnd : ℕ → ℕ → ℕ → List ℕ
-numbersEnd code k variables = closed code ++ (44 ∷ openList ∷ [] if ltb 0 variables else argumentEnd code k)
+numbersEnd code k variables = closed code ++ (byte "," ∷ byte "[" ∷ [] if ltb 0 variables else argumentEnd code k)
 
 unfoldable pub variablesEnd : ℕ → ℕ → List ℕ
-variablesEnd code k = closeList ∷ argumentEnd code k
+variablesEnd code k = byte "]" ∷ argumentEnd code k
 
 -- the word at an argument of a shape, before the k-th argument; a list without elements is closed at its length
 unfoldable pub argumentText : ℕ → ℕ → ℕ → ℕ → List ℕ
@@ -57,12 +66,12 @@ argumentText shape code k w =
     variableName (payload w) ++ argumentEnd code k if ltb shape Shape.number
     else numeral (signed w) ++ argumentEnd code k if leb shape Shape.exponent
     else opened code ++ ([] if ltb 0 (payload w) else numbersEnd code k 0) if eqb shape Shape.numbers
-    else openList ∷ ([] if ltb 0 (payload w) else closeList ∷ 44 ∷ openList ∷ variablesEnd code k) if eqb shape Shape.parallel
-    else openList ∷ ([] if ltb 0 (payload w) else variablesEnd code k)
+    else byte "[" ∷ ([] if ltb 0 (payload w) else byte "]" ∷ byte "," ∷ byte "[" ∷ variablesEnd code k) if eqb shape Shape.parallel
+    else byte "[" ∷ ([] if ltb 0 (payload w) else variablesEnd code k)
 
 -- a constraint's head, or the end
 unfoldable pub headText : ℕ → List ℕ
-headText w = bytes "constraint " ++ (builtinName (payload w) ++ (40 ∷ [])) if eqb (kind w) Kind.constraint else bytes "solve satisfy" ++ line
+headText w = bytes "constraint " ++ (builtinName (payload w) ++ (byte "(" ∷ [])) if eqb (kind w) Kind.constraint else bytes "solve satisfy" ++ line
 
 -- the text of a word where this is due, after so many variables
 unfoldable pub wordText : Due → ℕ → ℕ → List ℕ
@@ -72,8 +81,8 @@ wordText Start v w =
     else headText w
 wordText (Upper lower) v w = numeral (signed w) ++ (bytes ": " ++ (variableName (v - 1) ++ line))
 wordText (Arguments numbers variables type code k) v w =
-    numeral (signed w) ++ (44 ∷ [] if ltb 1 numbers else numbersEnd code k variables) if ltb 0 numbers
-    else variableName (payload w) ++ (44 ∷ [] if ltb 1 variables else variablesEnd code k) if ltb 0 variables
+    numeral (signed w) ++ (byte "," ∷ [] if ltb 1 numbers else numbersEnd code k variables) if ltb 0 numbers
+    else variableName (payload w) ++ (byte "," ∷ [] if ltb 1 variables else variablesEnd code k) if ltb 0 variables
     else headText w if eqb (argument code k) Shape.none
     else argumentText (argument code k) code (k + 1) w
 wordText Ended v w = []

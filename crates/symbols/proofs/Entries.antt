@@ -12,10 +12,11 @@ use lib.ListN.{length, getD, set}
 use borrow.Author.Tests.{eqb-true, eqb-false, eq-eqb, ne-eqb, ltb-true, ltb-false}
 use Rattle.integers.specs.Choice.{_if_else_}
 use Rattle.integers.proofs.Tests.{false-true}
+use Rattle.tokens.specs.Unread.{bytesBetween}
 use Rattle.names.specs.Name.{same, lookUp}
-use Rattle.symbols.specs.Hash.{hash, cell, isMarked, withMark}
+use Rattle.symbols.specs.Hash.{hash, cellAt, isMarked, withMark}
 use Rattle.symbols.proofs.Filter.{cell-inside, size-kept, marked, stays-marked}
-use Rattle.symbols.specs.Symbol.{declared, between, numberIn, placeIn, lengthIn, Right, Slots, Indexed, Declares}
+use Rattle.symbols.specs.Symbol.{declaredBefore, numberIn, placeIn, lengthIn, Right, Slots, Indexed, AddsName}
 
 -- ---- the same bytes are the same name
 
@@ -61,51 +62,51 @@ set-either l i e s = go (eqb s i) refl (ltb i (length l)) refl
 
 -- ---- one name more
 
-module _ {bs : List ℕ} {place stop : ℕ} {colon : Bool} (d : Declares bs place stop colon) where
-  kept : (x : List ℕ) → (lookUp x 0 (declared bs place) ≡ 0 → ⊥) → lookUp x 0 (declared bs stop) ≡ lookUp x 0 (declared bs place)
-  kept x h = rw (d .names) (after-names x 0 (declared bs place) (between bs place stop ∷ [] if colon else []) ∙ rw (ne-eqb (lookUp x 0 (declared bs place)) 0 h))
+module _ {bs : List ℕ} {place stop : ℕ} {colon : Bool} (d : AddsName bs place stop colon) where
+  kept : (x : List ℕ) → (lookUp x 0 (declaredBefore bs place) ≡ 0 → ⊥) → lookUp x 0 (declaredBefore bs stop) ≡ lookUp x 0 (declaredBefore bs place)
+  kept x h = rw (d .names) (after-names x 0 (declaredBefore bs place) (bytesBetween bs place stop ∷ [] if colon else []) ∙ rw (ne-eqb (lookUp x 0 (declaredBefore bs place)) 0 h))
 
   right-kept : {e : ℕ} → (numberIn e ≡ 0 → ⊥) → Right bs place e → Right bs stop e
-  right-kept {e} n r = record { inside = r .inside; number = kept (between bs (placeIn e) (placeIn e + lengthIn e)) (λ z. n (sym (r .number) ∙ z)) ∙ r .number }
+  right-kept {e} n r = record { inside = r .inside; number = kept (bytesBetween bs (placeIn e) (placeIn e + lengthIn e)) (λ z. n (sym (r .number) ∙ z)) ∙ r .number }
 
   pub slots-kept : {slots : List ℕ} → Slots bs place slots → Slots bs stop slots
   slots-kept s = record { right = λ i n. right-kept n (s .right i n) }
 
 module _ {bs : List ℕ} {place stop : ℕ} where
   -- no name is declared
-  pub none-new : {filter slots : List ℕ} → Declares bs place stop false → Indexed bs place filter slots → Indexed bs stop filter slots
+  pub none-new : {filter slots : List ℕ} → AddsName bs place stop false → Indexed bs place filter slots → Indexed bs stop filter slots
   none-new {filter} {slots} d i =
-      let e : declared bs stop ≡ declared bs place = d .names ∙ append-nil (declared bs place) in
+      let e : declaredBefore bs stop ≡ declaredBefore bs place = d .names ∙ append-nil (declaredBefore bs place) in
       record { size = i .size; marks = λ x h. i .marks x (λ z. h (ap (lookUp x 0) e ∙ z)); right = slots-kept d (i .right) }
 
   -- one is
-  module _ (d : Declares bs place stop true) where
-    later : (x : List ℕ) → lookUp x 0 (declared bs place) ≡ 0 → lookUp x 0 (declared bs stop) ≡ (length (declared bs place) + 1 if same x (between bs place stop) else 0)
+  module _ (d : AddsName bs place stop true) where
+    later : (x : List ℕ) → lookUp x 0 (declaredBefore bs place) ≡ 0 → lookUp x 0 (declaredBefore bs stop) ≡ (length (declaredBefore bs place) + 1 if same x (bytesBetween bs place stop) else 0)
     unfolding lookUp
-    later x z = rw (d .names) (after-names x 0 (declared bs place) (between bs place stop ∷ []) ∙ rw (eq-eqb (lookUp x 0 (declared bs place)) 0 z) (ap (λ (n : ℕ). n + 1 if same x (between bs place stop) else 0) (zero-add (length (declared bs place)))))
+    later x z = rw (d .names) (after-names x 0 (declaredBefore bs place) (bytesBetween bs place stop ∷ []) ∙ rw (eq-eqb (lookUp x 0 (declaredBefore bs place)) 0 z) (ap (λ (n : ℕ). n + 1 if same x (bytesBetween bs place stop) else 0) (zero-add (length (declaredBefore bs place)))))
 
-    new-name : (x : List ℕ) → lookUp x 0 (declared bs place) ≡ 0 → (lookUp x 0 (declared bs stop) ≡ 0 → ⊥) → x ≡ between bs place stop
-    new-name x z h = go (same x (between bs place stop)) refl
+    new-name : (x : List ℕ) → lookUp x 0 (declaredBefore bs place) ≡ 0 → (lookUp x 0 (declaredBefore bs stop) ≡ 0 → ⊥) → x ≡ bytesBetween bs place stop
+    new-name x z h = go (same x (bytesBetween bs place stop)) refl
       where
-        go : (t : Bool) → same x (between bs place stop) ≡ t → x ≡ between bs place stop
-        go true q = same-equal x (between bs place stop) q
+        go : (t : Bool) → same x (bytesBetween bs place stop) ≡ t → x ≡ bytesBetween bs place stop
+        go true q = same-equal x (bytesBetween bs place stop) q
         go false q = absurd (h (later x z ∙ rw q))
 
-    new-number : lookUp (between bs place stop) 0 (declared bs place) ≡ 0 → lookUp (between bs place stop) 0 (declared bs stop) ≡ length (declared bs place) + 1
-    new-number z = later (between bs place stop) z ∙ rw (same-self (between bs place stop))
+    new-number : lookUp (bytesBetween bs place stop) 0 (declaredBefore bs place) ≡ 0 → lookUp (bytesBetween bs place stop) 0 (declaredBefore bs stop) ≡ length (declaredBefore bs place) + 1
+    new-number z = later (bytesBetween bs place stop) z ∙ rw (same-self (bytesBetween bs place stop))
 
-    pub marks-new : (filter after : List ℕ) → ((x : List ℕ) → (lookUp x 0 (declared bs place) ≡ 0 → ⊥) → isMarked filter (hash x) ≡ true)
-        → ((g : ℕ) → isMarked filter g ≡ true → isMarked after g ≡ true) → isMarked after (hash (between bs place stop)) ≡ true
-        → (x : List ℕ) → (lookUp x 0 (declared bs stop) ≡ 0 → ⊥) → isMarked after (hash x) ≡ true
-    marks-new filter after m stays here x h = go (eqb (lookUp x 0 (declared bs place)) 0) refl
+    pub marks-new : (filter after : List ℕ) → ((x : List ℕ) → (lookUp x 0 (declaredBefore bs place) ≡ 0 → ⊥) → isMarked filter (hash x) ≡ true)
+        → ((g : ℕ) → isMarked filter g ≡ true → isMarked after g ≡ true) → isMarked after (hash (bytesBetween bs place stop)) ≡ true
+        → (x : List ℕ) → (lookUp x 0 (declaredBefore bs stop) ≡ 0 → ⊥) → isMarked after (hash x) ≡ true
+    marks-new filter after m stays here x h = go (eqb (lookUp x 0 (declaredBefore bs place)) 0) refl
       where
-        go : (t : Bool) → eqb (lookUp x 0 (declared bs place)) 0 ≡ t → isMarked after (hash x) ≡ true
-        go true q = rw (new-name x (eqb-true (lookUp x 0 (declared bs place)) 0 q) h) here
-        go false q = stays (hash x) (m x (eqb-false (lookUp x 0 (declared bs place)) 0 q))
+        go : (t : Bool) → eqb (lookUp x 0 (declaredBefore bs place)) 0 ≡ t → isMarked after (hash x) ≡ true
+        go true q = rw (new-name x (eqb-true (lookUp x 0 (declaredBefore bs place)) 0 q) h) here
+        go false q = stays (hash x) (m x (eqb-false (lookUp x 0 (declaredBefore bs place)) 0 q))
 
     -- its word in a slot
-    pub right-new : {e : ℕ} → place ≤ stop → stop ≤ length bs → lookUp (between bs place stop) 0 (declared bs place) ≡ 0
-        → (numberIn e ≡ length (declared bs place) + 1) × (placeIn e ≡ place) × (lengthIn e ≡ stop - place) → Right bs stop e
+    pub right-new : {e : ℕ} → place ≤ stop → stop ≤ length bs → lookUp (bytesBetween bs place stop) 0 (declaredBefore bs place) ≡ 0
+        → (numberIn e ≡ length (declaredBefore bs place) + 1) × (placeIn e ≡ place) × (lengthIn e ≡ stop - place) → Right bs stop e
     right-new {e} l k z w =
         let f : place + (stop - place) ≡ stop = omega arith in
         record {
@@ -125,25 +126,25 @@ module _ {bs : List ℕ} {place stop : ℕ} where
 
 module _ {bs : List ℕ} {place : ℕ} {filter slots : List ℕ} (i : Indexed bs place filter slots) where
   -- a name without its mark is not declared
-  pub unmarked : (x : List ℕ) → isMarked filter (hash x) ≡ false → lookUp x 0 (declared bs place) ≡ 0
-  unmarked x u = go (eqb (lookUp x 0 (declared bs place)) 0) refl
+  pub unmarked : (x : List ℕ) → isMarked filter (hash x) ≡ false → lookUp x 0 (declaredBefore bs place) ≡ 0
+  unmarked x u = go (eqb (lookUp x 0 (declaredBefore bs place)) 0) refl
     where
-      go : (t : Bool) → eqb (lookUp x 0 (declared bs place)) 0 ≡ t → lookUp x 0 (declared bs place) ≡ 0
-      go true q = eqb-true (lookUp x 0 (declared bs place)) 0 q
-      go false q = false-true (sym u ∙ i .marks x (eqb-false (lookUp x 0 (declared bs place)) 0 q))
+      go : (t : Bool) → eqb (lookUp x 0 (declaredBefore bs place)) 0 ≡ t → lookUp x 0 (declaredBefore bs place) ≡ 0
+      go true q = eqb-true (lookUp x 0 (declaredBefore bs place)) 0 q
+      go false q = false-true (sym u ∙ i .marks x (eqb-false (lookUp x 0 (declaredBefore bs place)) 0 q))
 
-  module _ {stop : ℕ} (d : Declares bs place stop true) where
+  module _ {stop : ℕ} (d : AddsName bs place stop true) where
     -- a name that has its mark is declared
-    pub marked-name : isMarked filter (hash (between bs place stop)) ≡ true → Indexed bs stop filter slots
+    pub marked-name : isMarked filter (hash (bytesBetween bs place stop)) ≡ true → Indexed bs stop filter slots
     marked-name m = record { size = i .size; marks = marks-new d filter filter (i .marks) (λ g e. e) m; right = slots-kept d (i .right) }
 
     -- a name that has none is entered
-    pub new-entry : {after : List ℕ} {e h : ℕ} → place ≤ stop → stop ≤ length bs → h < 4294967296 → h ≡ hash (between bs place stop) → isMarked filter h ≡ false
-        → ((numberIn e ≡ 0 → ⊥) → (numberIn e ≡ length (declared bs place) + 1) × (placeIn e ≡ place) × (lengthIn e ≡ stop - place))
+    pub new-entry : {after : List ℕ} {e h : ℕ} → place ≤ stop → stop ≤ length bs → h < 4294967296 → h ≡ hash (bytesBetween bs place stop) → isMarked filter h ≡ false
+        → ((numberIn e ≡ 0 → ⊥) → (numberIn e ≡ length (declaredBefore bs place) + 1) × (placeIn e ≡ place) × (lengthIn e ≡ stop - place))
         → ((s : ℕ) → (getD after s 0 ≡ getD slots s 0) ⊎ (getD after s 0 ≡ e)) → Indexed bs stop (withMark filter h) after
     new-entry {after} {e} {h} l k b q u w either =
-        let c : cell h < length filter = omega (arith, i .size, cell-inside h b) in
-        let z = unmarked (between bs place stop) (rw (← q) u) in
+        let c : cellAt h < length filter = omega (arith, i .size, cell-inside h b) in
+        let z = unmarked (bytesBetween bs place stop) (rw (← q) u) in
         record {
           size = size-kept filter h ∙ i .size;
           marks = marks-new d filter (withMark filter h) (i .marks) (stays-marked filter h c) (rw (← q) (marked filter h c));

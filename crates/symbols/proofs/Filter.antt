@@ -12,7 +12,7 @@ use native.Mathlib.Numerals.{add-one}
 use lib.ListN.{length, getD, length-set, drop, drop-of-length-le}
 use lib.Seq.{getD-set-same, getD-set-other, drop-cons}
 use borrow.Author.Tests.{eqb-true, eqb-false, eq-eqb}
-use Rattle.symbols.specs.Hash.{mix, hashFrom, cell, mask, isMarked, withMark}
+use Rattle.symbols.specs.Hash.{mix, hashFrom, cellAt, maskOf, isMarked, withMark}
 
 below-two : (x : ℕ) → x % 2 < 2
 below-two x = omega arith
@@ -31,40 +31,40 @@ or-assoc =
     ∙ ap₂ (λ (x y : ℕ). x * 2 + y) (ih (b / 2) (c / 2)) (max-assoc (n % 2) (b % 2) (c % 2))
     ∙ sym (or-step n (bitOr b c) ∙ ap₂ (λ (x y : ℕ). bitOr (n / 2) x * 2 + max (n % 2) y) (or-shr b c 1) (odd b c)))
 
-pub cell-inside : (h : ℕ) → h < 4294967296 → cell h < 16384
-unfolding cell
+pub cell-inside : (h : ℕ) → h < 4294967296 → cellAt h < 16384
+unfolding cellAt
 cell-inside h l = omega arith
 
 pub size-kept : (filter : List ℕ) (h : ℕ) → length (withMark filter h) ≡ length filter
 unfolding withMark
-size-kept filter h = length-set filter (cell h) (bitOr (getD filter (cell h) 0) (mask h))
+size-kept filter h = length-set filter (cellAt h) (bitOr (getD filter (cellAt h) 0) (maskOf h))
 
-module _ (filter : List ℕ) (h : ℕ) (inside : cell h < length filter) where
-  here : getD (withMark filter h) (cell h) 0 ≡ bitOr (getD filter (cell h) 0) (mask h)
+module _ (filter : List ℕ) (h : ℕ) (inside : cellAt h < length filter) where
+  here : getD (withMark filter h) (cellAt h) 0 ≡ bitOr (getD filter (cellAt h) 0) (maskOf h)
   unfolding withMark
-  here = getD-set-same filter (cell h) (bitOr (getD filter (cell h) 0) (mask h)) 0 inside
+  here = getD-set-same filter (cellAt h) (bitOr (getD filter (cellAt h) 0) (maskOf h)) 0 inside
 
   pub marked : isMarked (withMark filter h) h ≡ true
   unfolding isMarked
-  marked = eq-eqb (bitOr (getD (withMark filter h) (cell h) 0) (mask h)) (getD (withMark filter h) (cell h) 0) (rw here (or-assoc (getD filter (cell h) 0) (mask h) (mask h) ∙ ap (bitOr (getD filter (cell h) 0)) (or-self (mask h))))
+  marked = eq-eqb (bitOr (getD (withMark filter h) (cellAt h) 0) (maskOf h)) (getD (withMark filter h) (cellAt h) 0) (rw here (or-assoc (getD filter (cellAt h) 0) (maskOf h) (maskOf h) ∙ ap (bitOr (getD filter (cellAt h) 0)) (or-self (maskOf h))))
 
   module _ (g : ℕ) (e : isMarked filter g ≡ true) where
-    same-cell : cell g ≡ cell h → isMarked (withMark filter h) g ≡ true
+    same-cell : cellAt g ≡ cellAt h → isMarked (withMark filter h) g ≡ true
     unfolding isMarked
     same-cell q =
-        let was : bitOr (getD filter (cell h) 0) (mask g) ≡ getD filter (cell h) 0 = rw q at (eqb-true (bitOr (getD filter (cell g) 0) (mask g)) (getD filter (cell g) 0) e) in
-        eq-eqb (bitOr (getD (withMark filter h) (cell g) 0) (mask g)) (getD (withMark filter h) (cell g) 0) (rw (q, here) (or-assoc (getD filter (cell h) 0) (mask h) (mask g) ∙ ap (bitOr (getD filter (cell h) 0)) (or-comm (mask h) (mask g)) ∙ sym (or-assoc (getD filter (cell h) 0) (mask g) (mask h)) ∙ ap (λ (x : ℕ). bitOr x (mask h)) was))
+        let was : bitOr (getD filter (cellAt h) 0) (maskOf g) ≡ getD filter (cellAt h) 0 = rw q at (eqb-true (bitOr (getD filter (cellAt g) 0) (maskOf g)) (getD filter (cellAt g) 0) e) in
+        eq-eqb (bitOr (getD (withMark filter h) (cellAt g) 0) (maskOf g)) (getD (withMark filter h) (cellAt g) 0) (rw (q, here) (or-assoc (getD filter (cellAt h) 0) (maskOf h) (maskOf g) ∙ ap (bitOr (getD filter (cellAt h) 0)) (or-comm (maskOf h) (maskOf g)) ∙ sym (or-assoc (getD filter (cellAt h) 0) (maskOf g) (maskOf h)) ∙ ap (λ (x : ℕ). bitOr x (maskOf h)) was))
 
-    other-cell : (cell g ≡ cell h → ⊥) → isMarked (withMark filter h) g ≡ true
+    other-cell : (cellAt g ≡ cellAt h → ⊥) → isMarked (withMark filter h) g ≡ true
     unfolding isMarked withMark
-    other-cell q = rw (getD-set-other filter (cell h) (cell g) (bitOr (getD filter (cell h) 0) (mask h)) 0 q) e
+    other-cell q = rw (getD-set-other filter (cellAt h) (cellAt g) (bitOr (getD filter (cellAt h) 0) (maskOf h)) 0 q) e
 
     pub stays-marked : isMarked (withMark filter h) g ≡ true
-    stays-marked = go (eqb (cell g) (cell h)) refl
+    stays-marked = go (eqb (cellAt g) (cellAt h)) refl
       where
-        go : (b : Bool) → eqb (cell g) (cell h) ≡ b → isMarked (withMark filter h) g ≡ true
-        go true q = same-cell (eqb-true (cell g) (cell h) q)
-        go false q = other-cell (eqb-false (cell g) (cell h) q)
+        go : (b : Bool) → eqb (cellAt g) (cellAt h) ≡ b → isMarked (withMark filter h) g ≡ true
+        go true q = same-cell (eqb-true (cellAt g) (cellAt h) q)
+        go false q = other-cell (eqb-false (cellAt g) (cellAt h) q)
 
 -- ---- the hash of a name, byte by byte
 

@@ -9,12 +9,13 @@ use lib.Dec.{eqb}
 use lib.ListN.{replicate, length-replicate, getD, length, take, drop, length-append}
 use borrow.Author.Tests.{lt-ltb, le-ltb}
 use Rattle.integers.specs.Choice.{_if_else_}
-use Rattle.tokens.specs.Token.{tokensFrom, tokenLength, sortOf, isGap}
-use Rattle.tokens.specs.Unread.{unread, spanned, Met}
+use Rattle.tokens.specs.Byte.{isGap}
+use Rattle.tokens.specs.Token.{tokensFrom, tokenLength, sortOf}
+use Rattle.tokens.specs.Unread.{bytesBetween, unread, spanned, Met}
 use Rattle.tokens.specs.declared.Span.{Span}
 use Rattle.tokens.proofs.Places.{met-token}
 use Rattle.names.specs.Name.{lookUp, declaredFrom}
-use Rattle.symbols.specs.Symbol.{declared, between, numberIn, Declares, Indexed}
+use Rattle.symbols.specs.Symbol.{declaredBefore, numberIn, AddsName, Indexed}
 
 -- no token from a place on stands before it
 none-before : (c : Bool) (p q left : ℕ) (l : List ℕ) → p ≤ q → declaredFrom c p (tokensFrom left q l) ≡ []
@@ -34,12 +35,12 @@ none-here c bs p = none-before c p p 0 (drop p bs) (omega arith)
 
 -- Before place i there are k declared names, and the names declared before a later place are these and those from i on, the first of which may stand after a colon.
 pub record Reached (bs : List ℕ) (i k : ℕ) (colon : Bool) : Type 0 where
-  pub count : length (declared bs i) ≡ k
+  pub count : length (declaredBefore bs i) ≡ k
   pub few : k ≤ i
-  pub on : (p : ℕ) → i ≤ p → declared bs p ≡ declared bs i ++ declaredFrom colon p (unread bs i)
+  pub on : (p : ℕ) → i ≤ p → declaredBefore bs p ≡ declaredBefore bs i ++ declaredFrom colon p (unread bs i)
 
 pub begin : (bs : List ℕ) → Reached bs 0 0 false
-unfolding declared
+unfolding declaredBefore
 begin bs = record { count = rw (none-here false bs 0); few = omega arith; on = λ p h. rw (none-here false bs 0) }
 
 one-more : (c : Bool) (xs ys : List (List ℕ)) (y : List ℕ) → xs ++ (y ∷ ys if c else ys) ≡ (xs ++ (y ∷ [] if c else [])) ++ ys
@@ -52,27 +53,27 @@ many false k y = add-zero k
 
 module _ {bs : List ℕ} {i k : ℕ} {colon : Bool} (r : Reached bs i k colon) {t : Span} (m : Met bs i t) (some : t .sort ≡ 257 → ⊥) where
   abbrev name : List ℕ
-  name = between bs (t .place) (t .stop)
+  name = bytesBetween bs (t .place) (t .stop)
 
   -- the names declared before the token
   none : declaredFrom colon (t .place) (unread bs i) ≡ []
   unfolding declaredFrom spanned
   none = rw (met-token m some, le-ltb (t .place) (t .place) (omega arith))
 
-  pub at-token : declared bs (t .place) ≡ declared bs i
-  at-token = r .on (t .place) (m .onward) ∙ ap (λ (l : List (List ℕ)). declared bs i ++ l) none ∙ append-nil (declared bs i)
+  pub at-token : declaredBefore bs (t .place) ≡ declaredBefore bs i
+  at-token = r .on (t .place) (m .onward) ∙ ap (λ (l : List (List ℕ)). declaredBefore bs i ++ l) none ∙ append-nil (declaredBefore bs i)
 
   past : (p : ℕ) → t .place < p → declaredFrom colon p (unread bs i) ≡ (name ∷ declaredFrom (eqb (t .sort) 58) p (unread bs (t .stop)) if colon else declaredFrom (eqb (t .sort) 58) p (unread bs (t .stop)))
-  unfolding declaredFrom spanned between
+  unfolding declaredFrom spanned
   past p h = rw (met-token m some, lt-ltb (t .place) p h)
 
-  all-past : (p : ℕ) → t .place < p → declared bs p ≡ (declared bs (t .place) ++ (name ∷ [] if colon else [])) ++ declaredFrom (eqb (t .sort) 58) p (unread bs (t .stop))
+  all-past : (p : ℕ) → t .place < p → declaredBefore bs p ≡ (declaredBefore bs (t .place) ++ (name ∷ [] if colon else [])) ++ declaredFrom (eqb (t .sort) 58) p (unread bs (t .stop))
   all-past p h =
-      r .on p (omega (arith, m .onward, h)) ∙ ap (λ (l : List (List ℕ)). declared bs i ++ l) (past p h) ∙ ap (λ (l : List (List ℕ)). l ++ (name ∷ declaredFrom (eqb (t .sort) 58) p (unread bs (t .stop)) if colon else declaredFrom (eqb (t .sort) 58) p (unread bs (t .stop)))) (sym at-token)
-      ∙ one-more colon (declared bs (t .place)) (declaredFrom (eqb (t .sort) 58) p (unread bs (t .stop))) name
+      r .on p (omega (arith, m .onward, h)) ∙ ap (λ (l : List (List ℕ)). declaredBefore bs i ++ l) (past p h) ∙ ap (λ (l : List (List ℕ)). l ++ (name ∷ declaredFrom (eqb (t .sort) 58) p (unread bs (t .stop)) if colon else declaredFrom (eqb (t .sort) 58) p (unread bs (t .stop)))) (sym at-token)
+      ∙ one-more colon (declaredBefore bs (t .place)) (declaredFrom (eqb (t .sort) 58) p (unread bs (t .stop))) name
 
-  pub declares : Declares bs (t .place) (t .stop) colon
-  declares = record { names = all-past (t .stop) (m .longer some) ∙ ap (λ (l : List (List ℕ)). (declared bs (t .place) ++ (name ∷ [] if colon else [])) ++ l) (none-here (eqb (t .sort) 58) bs (t .stop)) ∙ append-nil (declared bs (t .place) ++ (name ∷ [] if colon else [])) }
+  pub declares : AddsName bs (t .place) (t .stop) colon
+  declares = record { names = all-past (t .stop) (m .longer some) ∙ ap (λ (l : List (List ℕ)). (declaredBefore bs (t .place) ++ (name ∷ [] if colon else [])) ++ l) (none-here (eqb (t .sort) 58) bs (t .stop)) ∙ append-nil (declaredBefore bs (t .place) ++ (name ∷ [] if colon else [])) }
 
   fewer : (c : Bool) → (k + 1 if c else k) ≤ t .stop
   fewer true = omega (arith, r .few, m .onward, m .longer some)
@@ -80,13 +81,13 @@ module _ {bs : List ℕ} {i k : ℕ} {colon : Bool} (r : Reached bs i k colon) {
 
   pub next : Reached bs (t .stop) (k + 1 if colon else k) (eqb (t .sort) 58)
   next = record {
-    count = ap length (declares .names) ∙ length-append (declared bs (t .place)) (name ∷ [] if colon else []) ∙ ap (λ (l : List (List ℕ)). length l + length (name ∷ [] if colon else [])) at-token ∙ ap (λ (n : ℕ). n + length (name ∷ [] if colon else [])) (r .count) ∙ many colon k name;
+    count = ap length (declares .names) ∙ length-append (declaredBefore bs (t .place)) (name ∷ [] if colon else []) ∙ ap (λ (l : List (List ℕ)). length l + length (name ∷ [] if colon else [])) at-token ∙ ap (λ (n : ℕ). n + length (name ∷ [] if colon else [])) (r .count) ∙ many colon k name;
     few = fewer colon;
     on = λ p h. all-past p (omega (arith, h, m .longer some)) ∙ ap (λ (l : List (List ℕ)). l ++ declaredFrom (eqb (t .sort) 58) p (unread bs (t .stop))) (sym (declares .names));
   }
 
 -- a symbol table at one of two places with the same names before them is one at the other
-same-index : {bs : List ℕ} {p q : ℕ} {filter slots : List ℕ} → declared bs q ≡ declared bs p → Indexed bs p filter slots → Indexed bs q filter slots
+same-index : {bs : List ℕ} {p q : ℕ} {filter slots : List ℕ} → declaredBefore bs q ≡ declaredBefore bs p → Indexed bs p filter slots → Indexed bs q filter slots
 same-index {bs} {p} {q} {filter} {slots} e x = record {
   size = x .size;
   marks = λ y h. x .marks y (λ z. h (ap (lookUp y 0) e ∙ z));
@@ -104,7 +105,7 @@ pub record Tabled (bs : List ℕ) (i k : ℕ) (colon : Bool) (filter slots : Lis
   pub index : Indexed bs i filter slots
 
 pub empty : (bs : List ℕ) (m : ℕ) → Tabled bs 0 0 false (replicate 16384 0) (replicate m 0)
-unfolding declared lookUp numberIn
+unfolding declaredBefore lookUp numberIn
 empty bs m = record {
   reached = begin bs;
   index = record {
@@ -118,8 +119,13 @@ module _ {bs : List ℕ} {i k : ℕ} {colon : Bool} {filter slots : List ℕ} (b
   pub index-here : Indexed bs (t .place) filter slots
   index-here = same-index (at-token (b .reached) m some) (b .index)
 
-  pub count-here : length (declared bs (t .place)) ≡ k
+  pub count-here : length (declaredBefore bs (t .place)) ≡ k
   count-here = ap length (at-token (b .reached) m some) ∙ b .reached .count
 
   pub next-table : {after taken : List ℕ} {n : ℕ} → n ≡ (k + 1 if colon else k) → Indexed bs (t .stop) after taken → Tabled bs (t .stop) n (eqb (t .sort) 58) after taken
   next-table e x = record { reached = rw e (next (b .reached) m some); index = x }
+
+-- the table at the end of the text
+pub index-end : {bs : List ℕ} {i k : ℕ} {colon : Bool} {filter slots : List ℕ} → Tabled bs i k colon filter slots → i ≤ length bs → unread bs i ≡ [] → Indexed bs (length bs) filter slots
+unfolding declaredFrom
+index-end {bs} {i} b l q = same-index (b .reached .on (length bs) l ∙ rw q (append-nil (declaredBefore bs i))) (b .index)

@@ -22,20 +22,20 @@ unfoldable pub hash : List ℕ → ℕ
 hash = hashFrom 0
 
 -- the word of the filter that has the four bits of a hash, and these bits
-unfoldable pub cell : ℕ → ℕ
-cell h = h * multiplier / 2 ^ 50
+unfoldable pub cellAt : ℕ → ℕ
+cellAt h = h * multiplier / 2 ^ 50
 
-unfoldable pub bit : ℕ → ℕ
-bit g = 1 * 2 ^ (g % 64) % 2 ^ 64
+unfoldable pub bitAt : ℕ → ℕ
+bitAt g = 1 * 2 ^ (g % 64) % 2 ^ 64
 
-unfoldable pub mask : ℕ → ℕ
-mask h =
+unfoldable pub maskOf : ℕ → ℕ
+maskOf h =
     let g = h * multiplier in
-    bitOr (bitOr (bitOr (bit (g / 2 ^ 44)) (bit (g / 2 ^ 38))) (bit (g / 2 ^ 32))) (bit (g / 2 ^ 26))
+    bitOr (bitOr (bitOr (bitAt (g / 2 ^ 44)) (bitAt (g / 2 ^ 38))) (bitAt (g / 2 ^ 32))) (bitAt (g / 2 ^ 26))
 
 -- whether the bits of a hash are set; a filter with them set
 unfoldable pub isMarked : List ℕ → ℕ → Bool
-isMarked filter h = eqb (bitOr (getD filter (cell h) 0) (mask h)) (getD filter (cell h) 0)
+isMarked filter h = eqb (bitOr (getD filter (cellAt h) 0) (maskOf h)) (getD filter (cellAt h) 0)
 
 unfoldable pub withMark : List ℕ → ℕ → List ℕ
-withMark filter h = set filter (cell h) (bitOr (getD filter (cell h) 0) (mask h))
+withMark filter h = set filter (cellAt h) (bitOr (getD filter (cellAt h) 0) (maskOf h))

@@ -2,19 +2,16 @@
 use mathlib.Core.Bool.{Bool, true, false}
 use mathlib.Core.List.{List, [], _∷_, _++_}
 use mathlib.Core.Path.{_≡_}
-use Prim.Native.Nat.{ℕ, _+_, _-_, _/_, _%_, _^_, _≤_}
-use lib.ListN.{length, getD, take, drop}
+use Prim.Native.Nat.{ℕ, _+_, _/_, _%_, _^_, _≤_}
+use lib.ListN.{length, getD}
 use Rattle.integers.specs.Choice.{_if_else_}
-use Rattle.tokens.specs.Unread.{unread}
+use Rattle.tokens.specs.Unread.{bytesBetween, unread}
 use Rattle.names.specs.Name.{lookUp, declaredFrom}
 use Rattle.symbols.specs.Hash.{hash, isMarked}
 
--- the names declared before a place, and the bytes between two places
-unfoldable pub declared : List ℕ → ℕ → List (List ℕ)
-declared bs p = declaredFrom false p (unread bs 0)
-
-unfoldable pub between : List ℕ → ℕ → ℕ → List ℕ
-between bs place stop = take (stop - place) (drop place bs)
+-- the names declared before a place
+unfoldable pub declaredBefore : List ℕ → ℕ → List (List ℕ)
+declaredBefore bs p = declaredFrom false p (unread bs 0)
 
 -- the word of a slot: 1 more than the number of a variable, the place of its name where it is declared, the name's length; 0 for an empty slot
 unfoldable pub numberIn : ℕ → ℕ
@@ -29,7 +26,7 @@ lengthIn e = e % 64
 -- what a slot that is not empty says is so
 pub record Right (bs : List ℕ) (p e : ℕ) : Type 0 where
   pub inside : placeIn e + lengthIn e ≤ length bs
-  pub number : lookUp (between bs (placeIn e) (placeIn e + lengthIn e)) 0 (declared bs p) ≡ numberIn e
+  pub number : lookUp (bytesBetween bs (placeIn e) (placeIn e + lengthIn e)) 0 (declaredBefore bs p) ≡ numberIn e
 
 pub record Slots (bs : List ℕ) (p : ℕ) (slots : List ℕ) : Type 0 where
   pub right : (s : ℕ) → (numberIn (getD slots s 0) ≡ 0 → ⊥) → Right bs p (getD slots s 0)
@@ -37,9 +34,9 @@ pub record Slots (bs : List ℕ) (p : ℕ) (slots : List ℕ) : Type 0 where
 -- the filter has every declared name, the slots are right
 pub record Indexed (bs : List ℕ) (p : ℕ) (filter slots : List ℕ) : Type 0 where
   pub size : length filter ≡ 16384
-  pub marks : (x : List ℕ) → (lookUp x 0 (declared bs p) ≡ 0 → ⊥) → isMarked filter (hash x) ≡ true
+  pub marks : (x : List ℕ) → (lookUp x 0 (declaredBefore bs p) ≡ 0 → ⊥) → isMarked filter (hash x) ≡ true
   pub right : Slots bs p slots
 
 -- the names declared before a token's end are those before its place and, after a colon, the token
-pub record Declares (bs : List ℕ) (place stop : ℕ) (colon : Bool) : Type 0 where
-  pub names : declared bs stop ≡ declared bs place ++ (between bs place stop ∷ [] if colon else [])
+pub record AddsName (bs : List ℕ) (place stop : ℕ) (colon : Bool) : Type 0 where
+  pub names : declaredBefore bs stop ≡ declaredBefore bs place ++ (bytesBetween bs place stop ∷ [] if colon else [])

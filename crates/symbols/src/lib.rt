@@ -4,9 +4,10 @@ ghost use mathlib.Core.Logic.{_⊎_};
 ghost use Prim.Native.Nat.{ℕ, _+_, _-_, _<_, _≤_};
 ghost use lib.ListN.{length, getD};
 ghost use Rattle.integers.specs.Choice.{_if_else_};
+ghost use Rattle.tokens.specs.Unread.{bytesBetween};
 ghost use Rattle.names.specs.Name.{lookUp};
-ghost use Rattle.symbols.specs.Hash.{mix, hash, cell, bit, mask, isMarked, withMark};
-ghost use Rattle.symbols.specs.Symbol.{declared, between, numberIn, placeIn, lengthIn, Right, Slots, Indexed, Declares};
+ghost use Rattle.symbols.specs.Hash.{mix, hash, cellAt, bitAt, maskOf, isMarked, withMark};
+ghost use Rattle.symbols.specs.Symbol.{declaredBefore, numberIn, placeIn, lengthIn, Right, Slots, Indexed, AddsName};
 use names::same_bytes;
 use names::variable_of;
 
@@ -63,14 +64,14 @@ fn hash_of(name: &[u8]) -> u64
 // The word of the filter that has the bits of a hash.
 fn cell_of(h: u64) -> usize
     requires { ⌜ h < 4294967296 ⌝ }
-    ensures { λ r. ⌜ (r ≡ cell h) × (r < 16384) ⌝ }
+    ensures { λ r. ⌜ (r ≡ cellAt h) × (r < 16384) ⌝ }
 {
     (h * MULTIPLIER / TOP) as usize
 }
 
 // One bit of a word.
 fn bit_of(g: u64) -> u64
-    ensures { λ r. ⌜ r ≡ bit g ⌝ }
+    ensures { λ r. ⌜ r ≡ bitAt g ⌝ }
 {
     1u64 << (g % 64)
 }
@@ -78,7 +79,7 @@ fn bit_of(g: u64) -> u64
 // The bits of a hash.
 fn mask_of(h: u64) -> u64
     requires { ⌜ h < 4294967296 ⌝ }
-    ensures { λ r. ⌜ r ≡ mask h ⌝ }
+    ensures { λ r. ⌜ r ≡ maskOf h ⌝ }
 {
     let g = h * MULTIPLIER;
     bit_of(g >> 44) | bit_of(g >> 38) | bit_of(g >> 32) | bit_of(g >> 26)
@@ -107,7 +108,7 @@ fn mark(filter: &mut [u64; FILTER], h: u64)
 // The number in a slot, if the name that it has the place of is the one between two places; else 0.
 fn number_in(text: &[u8], e: u64, place: usize, stop: usize) -> usize
     requires { ⌜ (place ≤ stop) × (stop ≤ length (now text)) × ((numberIn e ≡ 0 → ⊥) → Right (now text) place e) ⌝ }
-    ensures { λ r. ⌜ ((r ≡ 0 → ⊥) → lookUp (between (now (text .entry)) place stop) 0 (declared (now (text .entry)) place) ≡ r) ⌝ }
+    ensures { λ r. ⌜ ((r ≡ 0 → ⊥) → lookUp (bytesBetween (now (text .entry)) place stop) 0 (declaredBefore (now (text .entry)) place) ≡ r) ⌝ }
 {
     let n = (e / LENGTHS / PLACES) as usize;
     if n == 0 {
@@ -124,7 +125,7 @@ fn number_in(text: &[u8], e: u64, place: usize, stop: usize) -> usize
 // The number of the variable whose name stands between two places, if a slot has it; else 0.
 fn number_of(text: &[u8], slots: &[u64; SLOTS], h: u64, place: usize, stop: usize) -> usize
     requires { ⌜ (h < 4294967296) × (place ≤ stop) × (stop ≤ length (now text)) × Slots (now text) place (now slots) ⌝ }
-    ensures { λ r. ⌜ ((r ≡ 0 → ⊥) → lookUp (between (now (text .entry)) place stop) 0 (declared (now (text .entry)) place) ≡ r) ⌝ }
+    ensures { λ r. ⌜ ((r ≡ 0 → ⊥) → lookUp (bytesBetween (now (text .entry)) place stop) 0 (declaredBefore (now (text .entry)) place) ≡ r) ⌝ }
 {
     let mut j = 0;
     while j < PROBES {
@@ -151,7 +152,7 @@ pub fn variable_in(
     stop: usize,
 ) -> usize
     requires { ⌜ (place ≤ stop) × (stop ≤ length (now text)) × Indexed (now text) place (now filter) (now slots) ⌝ }
-    ensures { λ r. ⌜ r ≡ lookUp (between (now (text .entry)) place stop) 0 (declared (now (text .entry)) place) ⌝ }
+    ensures { λ r. ⌜ r ≡ lookUp (bytesBetween (now (text .entry)) place stop) 0 (declaredBefore (now (text .entry)) place) ⌝ }
 {
     let h = hash_of(&text[place..stop]);
     if is_marked(filter, h) {
@@ -204,7 +205,7 @@ pub fn declare(
     place: usize,
     stop: usize,
 ) -> usize
-    requires { ⌜ (place ≤ stop) × (stop ≤ length (now text)) × (k < 18446744073709551615) × (length (declared (now text) place) ≡ k) × Declares (now text) place stop colon × Indexed (now text) place (now filter) (now slots) ⌝ }
+    requires { let bs = now text in ⌜ (place ≤ stop) × (stop ≤ length bs) × (k < 18446744073709551615) × (length (declaredBefore bs place) ≡ k) × AddsName bs place stop colon × Indexed bs place (now filter) (now slots) ⌝ }
     ensures next { λ r. ⌜ r ≡ (k + 1 if colon else k) ⌝ }
     ensures index { λ r. ⌜ Indexed (now (text .entry)) stop (now (filter .exit)) (now (slots .exit)) ⌝ }
 {

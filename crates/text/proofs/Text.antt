@@ -10,20 +10,20 @@ use borrow.Author.Tests.{ltb-false}
 use Rattle.integers.specs.Choice.{_if_else_}
 use Rattle.words.specs.Fault as Fault
 use Rattle.words.specs.Limit as Limit
-use Rattle.words.specs.Refusal.{_at-place_, accepted}
+use Rattle.words.specs.Refusal.{_at-place_, accepted, roomFault}
 use Rattle.tokens.specs.Token.{tokens}
-use Rattle.texts.specs.Text.{limitFault, refusalOf, wordsIn}
+use Rattle.texts.specs.Text.{wordsFault, refusalOf, tokensWords}
 use Rattle.lines.proofs.Printed.{later-none}
 
-limit-for : (n room : ℕ) → limitFault n room .number ≡ 0 → n ≤ room
-unfolding limitFault
-limit-for n room e = go (ltb Limit.modelWords n) (ltb room n) refl e
+limit-for : (room n : ℕ) → wordsFault room n .number ≡ 0 → n ≤ room
+unfolding wordsFault roomFault
+limit-for room n e = go (ltb Limit.modelWords n) (ltb room n) refl e
   where
     go : (many short : Bool) → ltb room n ≡ short → (Fault.tooManyWords at-place 0 if many else Fault.outputTooShort at-place 0 if short else accepted) .number ≡ 0 → n ≤ room
     go true short h e = absurd (omega (arith, e))
     go false true h e = absurd (omega (arith, e))
     go false false h e = omega (arith, ltb-false)
 
-pub fits : (text : List ℕ) (room : ℕ) → refusalOf text room .number ≡ 0 → length (wordsIn (tokens text)) ≤ room
+pub fits : (text : List ℕ) (room : ℕ) → refusalOf text room .number ≡ 0 → length (tokensWords (tokens text)) ≤ room
 unfolding refusalOf
-fits text room e = limit-for (length (wordsIn (tokens text))) room (later-none _ _ e)
+fits text room e = limit-for room (length (tokensWords (tokens text))) (later-none _ _ e)

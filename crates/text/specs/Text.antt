@@ -5,10 +5,10 @@ use lib.ListN.{length}
 use Rattle.words.specs.Limit as Limit
 use Rattle.words.specs.Refusal.{_else-refuse_, roomFault}
 use Rattle.tokens.specs.Token.{tokens}
-use Rattle.texts.specs.Text.{refusalOf, wordsIn}
+use Rattle.texts.specs.Text.{refusalOf, tokensWords}
 use Rattle.lines.specs.Lines.{wordLines, _else-print_}
 
 -- above 524,288 bytes it says 16; a model that is not refused has room
 unfoldable pub printedText : List ℕ → List ℕ
 printedText text =
-    roomFault 524288 (length text) else-refuse refusalOf text Limit.modelWords else-print wordLines (wordsIn (tokens text))
+    roomFault 524288 (length text) else-refuse refusalOf text Limit.modelWords else-print wordLines (tokensWords (tokens text))

@@ -11,10 +11,11 @@ use lib.Seq.{drop-cons, drop-drop, getD-drop}
 use lib.ListN.{length, getD, drop, length-drop, drop-of-length-le}
 use borrow.Author.Tests.{le-leb, lt-leb, eq-eqb, ne-eqb}
 use Rattle.integers.specs.Choice.{_if_else_}
+use Rattle.integers.specs.Lists.{any}
 use Rattle.integers.proofs.Tests.{false-true}
-use Rattle.tokens.specs.Byte.{front, run, isLetter, inName, isDigit, inComment}
-use Rattle.tokens.specs.Token.{Token, tokenLength, startsNumber, startsDots, isGap, tokensFrom}
-use Rattle.tokens.specs.Unread.{unread, stopAt, sortAt, spanned, Skipped, Met}
+use Rattle.tokens.specs.Byte.{front, run, isLetter, inName, isDigit, inComment, isGap}
+use Rattle.tokens.specs.Token.{Token, tokenLength, startsNumber, startsDots, tokensFrom}
+use Rattle.tokens.specs.Unread.{unread, stopAt, sortAt, spanned, SkipsGaps, Met}
 use Rattle.tokens.specs.declared.Span.{Span}
 
 -- ---- lists of bytes
@@ -85,6 +86,20 @@ module _ (bs : List ℕ) where
   unfolding run
   run-end t i l = let d : run t (drop i bs) ≡ 0 = ap (run t) (drop-of-length-le bs l) in omega (arith, d)
 
+  -- a byte among those from a place on: here, further on, none at the end
+  module _ (b i : ℕ) where
+    pub any-here : i < length bs → b ≡ getD bs i 0 → any (eqb b) (drop i bs) ≡ true
+    unfolding any
+    any-here l e = ap (any (eqb b)) (step i l) ∙ rw (eq-eqb b (getD bs i 0) e)
+
+    pub any-on : i < length bs → (b ≡ getD bs i 0 → ⊥) → any (eqb b) (drop i bs) ≡ any (eqb b) (drop (i + 1) bs)
+    unfolding any
+    any-on l e = ap (any (eqb b)) (step i l) ∙ rw (ne-eqb b (getD bs i 0) e)
+
+    pub any-end : length bs ≤ i → any (eqb b) (drop i bs) ≡ false
+    unfolding any
+    any-end l = ap (any (eqb b)) (drop-of-length-le bs l)
+
   -- a token stops inside the text, and after its first byte
   pub stops-inside : (i : ℕ) → i < length bs → stopAt bs i ≤ length bs
   unfolding stopAt
@@ -147,7 +162,7 @@ module _ (bs : List ℕ) where
 
 -- ---- the next token: past the gap, one or none
 
-module _ {bs : List ℕ} {i j : ℕ} (s : Skipped bs i j) where
+module _ {bs : List ℕ} {i j : ℕ} (s : SkipsGaps bs i j) where
   pub met : {sort stop : ℕ} → j < length bs → stop ≡ stopAt bs j → sort ≡ sortAt bs j → sort < 256 → Met bs i (record { sort = sort; place = j; stop = stop })
   met {sort} {stop} l e f below = record {
     onward = s .onward;

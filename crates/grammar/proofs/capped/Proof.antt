@@ -1,6 +1,6 @@
 -- Test by test.
 use borrow.Author.Tests.{le-leb, lt-leb}
-use Rattle.grammar.specs.Grammar.{cap}
+use Rattle.grammar.specs.Machine.{cap}
 use Rattle.grammar.proofs.capped.Statement.{statement}
 use Rattle.grammar.proofs.capped.Tie as tie
 

@@ -4,13 +4,14 @@ use Prim.Native.Nat.{ℕ, _+_, _-_, _*_, _≤_}
 use native.Mathlib.Omega.{arith}
 use borrow.Author.Needs.{needs}
 use lib.ListN.{length, drop}
-use Rattle.grammar.specs.Grammar.{cap, decimal}
-use Rattle.grammar.proofs.Numbers.{cap-most, cap-again, decimal-on, decimal-end}
+use Rattle.grammar.specs.Grammar.{digitsFrom}
+use Rattle.grammar.specs.Machine.{cap}
+use Rattle.grammar.proofs.Numbers.{cap-most, cap-again, digits-on, digits-end}
 use Rattle.grammar.proofs.decimal_of.Statement.{statement}
 use Rattle.grammar.proofs.decimal_of.Tie as tie
 
 abbrev Inv-loop : tie.InvT-loop
-Inv-loop digits v₀ i₀ v i = (i ≤ length digits) × (v ≡ cap v) × (cap (decimal 0 digits) ≡ cap (decimal v (drop i digits)))
+Inv-loop digits v₀ i₀ v i = (i ≤ length digits) × (v ≡ cap v) × (cap (digitsFrom 0 digits) ≡ cap (digitsFrom v (drop i digits)))
 
 abbrev μ-loop : tie.MeasureT-loop
 μ-loop digits v₀ i₀ v i = length digits - i
@@ -33,11 +34,11 @@ loop-again c =
     let e = c .capped .ensures ∙ ap (λ (d : ℕ). cap (v * 10 + d)) (c .before .digit-of .ensures) in (
       omega (arith, c .before .before .before .loop-test .taken),
       c .capped .ensures ∙ sym (cap-again _) ∙ ap cap (sym (c .capped .ensures)),
-      c .before .before .before .before .loop .inv .2 ∙ decimal-on ds i v (c .before .before .before .loop-test .taken) ∙ ap (λ (n : ℕ). cap (decimal n (drop (i + 1) ds))) (sym e),
+      c .before .before .before .before .loop .inv .2 ∙ digits-on ds i v (c .before .before .before .loop-test .taken) ∙ ap (λ (n : ℕ). cap (digitsFrom n (drop (i + 1) ds))) (sym e),
     )
 
 returns : tie.Need-returns Inv-loop μ-loop
-returns c = c .before .loop .inv .1 ∙ sym (c .before .loop .inv .2 ∙ decimal-end (c .before .before .before .args .digits .now) (c .before .loop .i) (c .before .loop .v) (c .loop-test .left))
+returns c = c .before .loop .inv .1 ∙ sym (c .before .loop .inv .2 ∙ digits-end (c .before .before .before .args .digits .now) (c .before .loop .i) (c .before .loop .v) (c .loop-test .left))
 
 pub decimal-of-spec : {M : Type 1} → statement M
 decimal-of-spec =

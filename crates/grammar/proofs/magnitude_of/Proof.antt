@@ -1,7 +1,7 @@
 -- With and without a hyphen.
 use mathlib.Core.Path.{sym, ap, _∙_}
 use borrow.Author.Needs.{needs}
-use Rattle.grammar.specs.Grammar.{cap}
+use Rattle.grammar.specs.Machine.{cap}
 use Rattle.grammar.proofs.Numbers.{after-hyphen, without-hyphen}
 use Rattle.grammar.proofs.magnitude_of.Statement.{statement}
 use Rattle.grammar.proofs.magnitude_of.Tie as tie

@@ -1,15 +1,15 @@
 -- The spellings of the listed text are the names, by computation.
 use borrow.Author.Needs.{needs}
-use Rattle.integers.specs.Lists.{listOf}
-use Rattle.tokens.specs.Byte.{bytes, between, isDigit, isLetter, inName, isBlank, front, run, inComment}
-use Rattle.tokens.specs.Token.{startsNumber, startsDots, tokenLength, isGap, tokensFrom}
-use Rattle.tokens.specs.Unread.{unread}
-use Rattle.names.specs.Name.{builtinNames, spellings}
+use Rattle.integers.specs.Lists.{listOf, any}
+use Rattle.tokens.specs.Byte.{bytes, between, isDigit, isLetter, inName, isGap, front, run, inComment}
+use Rattle.tokens.specs.Token.{startsNumber, startsDots, tokenLength, tokensFrom}
+use Rattle.tokens.specs.Unread.{unread, spellings}
+use Rattle.names.specs.Name.{builtinNames}
 use Rattle.names.proofs.code_of.Statement.{statement}
 use Rattle.names.proofs.code_of.Tie as tie
 
 returns : tie.Need-returns
-unfolding spellings unread tokensFrom tokenLength isGap isBlank isLetter between isDigit inName startsNumber startsDots run inComment front builtinNames bytes listOf
+unfolding spellings unread tokensFrom tokenLength isGap any isLetter between isDigit inName startsNumber startsDots run inComment front builtinNames bytes listOf
 returns c = c .place-among .ensures
 
 pub code-of-spec : {M : Type 1} → statement M

@@ -4,9 +4,9 @@ use Prim.Native.Nat.{_-_, _≤_}
 use native.Mathlib.Omega.{arith}
 use borrow.Author.Needs.{needs}
 use lib.ListN.{length}
-use Rattle.tokens.specs.Unread.{unread, spanned}
+use Rattle.tokens.specs.Unread.{unread, spanned, spellings}
 use Rattle.tokens.proofs.Places.{none-left, met-token, met-end}
-use Rattle.names.specs.Name.{lookUp, spellings}
+use Rattle.names.specs.Name.{lookUp}
 use Rattle.names.proofs.Names.{none-spelled, spelled-here, spelled-on}
 use Rattle.names.proofs.place_among.Statement.{statement}
 use Rattle.names.proofs.place_among.Tie as tie

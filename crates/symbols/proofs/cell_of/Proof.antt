@@ -1,11 +1,11 @@
 -- The code computes as the definition does.
-use Rattle.symbols.specs.Hash.{cell}
+use Rattle.symbols.specs.Hash.{cellAt}
 use borrow.Author.Needs.{needs}
 use Rattle.symbols.proofs.cell_of.Statement.{statement}
 use Rattle.symbols.proofs.cell_of.Tie as tie
 
 returns : tie.Need-returns
-unfolding cell
+unfolding cellAt
 returns c = search needs
 
 pub cell-of-spec : {M : Type 1} → statement M

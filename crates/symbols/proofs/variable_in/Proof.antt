@@ -3,7 +3,7 @@ use mathlib.Core.Path.{sym, ap, _∙_}
 use Prim.Native.Nat.{_-_}
 use lib.ListN.{take, drop}
 use Rattle.symbols.specs.Hash.{isMarked}
-use Rattle.symbols.specs.Symbol.{between, declared}
+use Rattle.symbols.specs.Symbol.{declaredBefore}
 use Rattle.symbols.proofs.Entries.{unmarked}
 use borrow.Author.Needs.{needs}
 use Rattle.symbols.proofs.variable_in.Statement.{statement}
@@ -13,11 +13,10 @@ returns : tie.Need-returns
 returns c = sym (c .before .number-of .ensures (c .if2 .taken))
 
 returns-2 : tie.Need-returns-2
-unfolding between declared
+unfolding declaredBefore
 returns-2 c = c .variable-of .ensures
 
 returns-3 : tie.Need-returns-3
-unfolding between
 returns-3 c = let a = c .before .before .before .before .before .args in sym (unmarked (c .before .before .before .before .before .pre .2) (take (a .stop - a .place) (drop (a .place) (a .text .now))) (ap (isMarked (a .filter .now)) (sym (c .before .before .hash-of .ensures .0)) ∙ sym (c .before .is-marked .ensures) ∙ c .if1 .left))
 
 pub variable-in-spec : {M : Type 1} → statement M

@@ -1,16 +1,20 @@
-use mathlib.Core.Path.{refl}
-use borrow.Author.Needs.{needs}
+use Rattle.texts.proofs.Loop.{last-stands, ends-well, ends-early}
 use Rattle.texts.proofs.ended.Statement.{statement}
 use Rattle.texts.proofs.ended.Tie as tie
 
-may-end-requires : tie.Need-may-end-requires
-may-end-requires c κs = search needs
+step-of-requires : tie.Need-step-of-requires
+step-of-requires c κs = (last-stands (c .before .args .text .now), c .before .pre .0, c .before .pre .1)
 
 returns : tie.Need-returns
-returns c = rw (← c .before .may-end .ensures, c .if1 .taken) (record { number = refl; place = refl; words = refl })
+returns c = ends-well (c .before .before .before .before .args .text .now) (c .before .before .before .before .args .due) (c .before .before .step-of .ensures) (c .before .before .before .before .args .n) (c .if1 .taken)
 
 returns-2 : tie.Need-returns-2
-returns-2 c = rw (← c .before .may-end .ensures, c .if1 .left) (record { number = refl; place = refl; words = refl })
+returns-2 c = ends-early (c .before .before .before .before .args .text .now) (c .before .before .before .before .args .due) (c .before .before .step-of .ensures) (c .before .before .before .before .args .n) (c .if1 .left)
 
 pub ended-spec : {M : Type 1} → statement M
-ended-spec = tie.close (tie.spec may-end-requires returns returns-2)
+ended-spec =
+    tie.close
+    (tie.spec
+    step-of-requires
+    returns
+    returns-2)

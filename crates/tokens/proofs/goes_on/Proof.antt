@@ -1,7 +1,8 @@
 -- Class by class.
 use borrow.Author.Needs.{needs}
 use borrow.Author.Tests.{eq-eqb, ne-eqb}
-use Rattle.tokens.specs.Byte.{goesOn, inComment}
+use Rattle.tokens.specs.Byte.{inComment}
+use Rattle.tokens.specs.Unread.{goesOn}
 use Rattle.tokens.proofs.goes_on.Statement.{statement}
 use Rattle.tokens.proofs.goes_on.Tie as tie
 

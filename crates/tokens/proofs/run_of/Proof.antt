@@ -4,7 +4,8 @@ use Prim.Native.Nat.{_+_, _-_, _≤_}
 use native.Mathlib.Omega.{arith}
 use borrow.Author.Needs.{needs}
 use lib.ListN.{length, drop}
-use Rattle.tokens.specs.Byte.{run, goesOn}
+use Rattle.tokens.specs.Byte.{run}
+use Rattle.tokens.specs.Unread.{goesOn}
 use Rattle.tokens.proofs.Places.{run-on, run-off, run-end}
 use Rattle.tokens.proofs.run_of.Statement.{statement}
 use Rattle.tokens.proofs.run_of.Tie as tie

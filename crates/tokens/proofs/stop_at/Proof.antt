@@ -3,8 +3,7 @@ use native.Mathlib.Omega.{arith}
 use borrow.Author.Needs.{needs}
 use borrow.Author.Tests.{eq-eqb, ne-eqb}
 use Rattle.tokens.specs.Token.{tokenLength}
-use Rattle.tokens.specs.Byte.{goesOn}
-use Rattle.tokens.specs.Unread.{stopAt}
+use Rattle.tokens.specs.Unread.{goesOn, stopAt}
 use Rattle.tokens.proofs.stop_at.Statement.{statement}
 use Rattle.tokens.proofs.stop_at.Tie as tie
 

@@ -1,0 +1,13 @@
+use borrow.Author.Needs.{needs}
+use Rattle.grammar.specs.Grammar.{step}
+use Rattle.names.specs.Name.{codeOf}
+use Rattle.tokens.specs.Unread.{spanned}
+use Rattle.grammar.proofs.builtin_step.Statement.{statement}
+use Rattle.grammar.proofs.builtin_step.Tie as tie
+
+returns : tie.Need-returns
+unfolding step codeOf spanned
+returns c = rw (← c .before .before .code-at .ensures, ← c .before .word-of .ensures) (c .name-step .ensures)
+
+pub builtin-step-spec : {M : Type 1} → statement M
+builtin-step-spec = tie.close (tie.spec (λ c κs. search needs) (λ c κs. search needs) (λ c κs. search needs) returns)

@@ -1,0 +1,27 @@
+use mathlib.Core.Path.{_∙_}
+use Rattle.grammar.proofs.Table.{rule, past-codes, past-arguments}
+use borrow.Author.Needs.{needs}
+use Rattle.grammar.proofs.form_of.Statement.{statement}
+use Rattle.grammar.proofs.form_of.Tie as tie
+
+returns : tie.Need-returns
+returns c = c .form-at .ensures ∙ rule (c .before .before .before .before .args .rows .now) (c .before .before .before .before .args .code) (c .before .before .before .before .args .k) (c .before .before .before .before .pre) (c .before .before .before .if1 .taken) (c .before .before .if2 .taken)
+
+returns-2 : tie.Need-returns-2
+returns-2 c = past-arguments (c .before .before .args .code) (c .before .before .args .k) (c .if2 .left)
+
+returns-3 : tie.Need-returns-3
+returns-3 c = past-codes (c .before .args .code) (c .before .args .k) (c .if1 .left)
+
+pub form-of-spec : {M : Type 1} → statement M
+form-of-spec =
+    tie.close
+    (tie.spec
+    (λ c. search needs)
+    (λ c. search needs)
+    (λ c. search needs)
+    (λ c. search needs)
+    (λ c κs. search needs)
+    returns
+    returns-2
+    returns-3)
