@@ -8,7 +8,7 @@ use lib.Dec.{eqb}
 use borrow.Author.Tests.{eq-eqb, ne-eqb}
 use Rattle.integers.specs.Choice.{_if_else_}
 use Rattle.tokens.specs.Token.{Token}
-use Rattle.grammar.specs.Grammar.{fitsInside, lengthFrom}
+use Rattle.grammar.specs.Brackets.{fitsInside, lengthFrom}
 
 pub at-most-one : (s e : ℕ) → (1 if eqb s e else 0) ≤ 1
 at-most-one s e = go (eqb s e)

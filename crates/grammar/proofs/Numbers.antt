@@ -15,7 +15,7 @@ use Rattle.integers.specs.Bounds.{within}
 use Rattle.words.specs.Word.{word, complement, numberWord, inRange}
 use Rattle.tokens.specs.Byte.{front}
 use Rattle.tokens.specs.Unread.{bytesBetween}
-use Rattle.grammar.specs.Grammar.{digitsFrom, valueOf}
+use Rattle.grammar.specs.Value.{digitsFrom, valueOf}
 use Rattle.grammar.specs.Machine.{cap, magnitude}
 
 grows : (v : ℕ) (ds : List ℕ) → v ≤ digitsFrom v ds

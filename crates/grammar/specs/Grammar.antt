@@ -1,20 +1,21 @@
 -- The grammar; 02, wish 8: "var lo..hi: name;" or "var bool: name;" items, then "constraint builtin(arguments);" items, then one "solve satisfy;".
--- What is due and the token met give the token's fault, the word that it writes and what is due next.
-use mathlib.Core.Bool.{Bool, true, false, not, _&&_, _||_}
-use mathlib.Core.List.{List, [], _∷_}
-use Prim.Native.Nat.{ℕ, _+_, _-_, _*_}
+-- What is due and the token met give a step: the token's fault, the word that it writes and what is due next. `Due`, `Form` and `Step` are
+-- declared in grammar/src/lib.rt.
+use mathlib.Core.Bool.{Bool, true, false, _&&_, _||_}
+use mathlib.Core.List.{List}
+use Prim.Native.Nat.{ℕ, _+_, _-_}
 use Prim.Native.Char.{code}
 use lib.Dec.{eqb, ltb, leb}
-use lib.IntN.{ℤ, pos, negℤ}
-use lib.ListN.{length, drop}
+use lib.ListN.{length}
 use Rattle.integers.specs.Choice.{_if_else_}
 use Rattle.words.specs.Word.{word, numberWord, inRange}
 use Rattle.words.specs.Kind as Kind
 use Rattle.words.specs.Fault as Fault
-use Rattle.tokens.specs.Byte.{front}
 use Rattle.tokens.specs.Token as Token
 use Rattle.tokens.specs.Token.{Token}
 use Rattle.names.specs.Name.{isWord, codeOf, variableOf}
+use Rattle.grammar.specs.Value.{valueOf}
+use Rattle.grammar.specs.Brackets.{fitsInside, lengthFrom}
 use Rattle.grammar.specs.Form.{argumentForms, argumentForm}
 use Rattle.grammar.specs.declared.Form.{Form}
 use Rattle.grammar.specs.declared.Form.the-variants.{Missing, One, Many}
@@ -42,60 +43,33 @@ constraintStage = 1
 abbrev pub endStage : ℕ
 endStage = 2
 
--- ---- Numbers: "decimal, a hyphen directly before a negative one, leading zeros and -0 allowed"
-
-unfoldable pub digitsFrom : ℕ → List ℕ → ℕ
-digitsFrom n [] = n
-digitsFrom n (b ∷ bs) = digitsFrom (n * 10 + (b - code "0")) bs
-
-unfoldable pub valueOf : List ℕ → ℤ
-valueOf bs = negℤ (pos (digitsFrom 0 (drop 1 bs))) if eqb (front bs) (code "-") else pos (digitsFrom 0 bs)
-
--- ---- Lists and sets
-
--- whether a token of sort s fits in brackets, directly after one of sort `before`: elements with commas between them, or none, then the closing bracket
-unfoldable pub fitsInside : ℕ → ℕ → ℕ → ℕ → Bool
-fitsInside element closing before s =
-    eqb s (code ",") || eqb s closing if eqb before element
-    else eqb s element || (eqb s closing && not (eqb before (code ",")))
-
--- of the tokens after an opening bracket: 1 more than the number of elements up to the closing bracket, 0 if the grammar breaks before it
-unfoldable pub lengthFrom : ℕ → ℕ → ℕ → ℕ → List Token → ℕ
-lengthFrom element closing before n [] = 0
-lengthFrom element closing before n (t ∷ ts) =
-    let rest = lengthFrom element closing (t .sort) (n + (1 if eqb (t .sort) element else 0)) ts in
-    (n + 1 if eqb (t .sort) closing else rest) if fitsInside element closing before (t .sort) else 0
-
--- ---- The step of a token: its fault, its word, what is due next
-
--- a token with a fault writes no word; 0 is no word
+-- the step of a token with a fault, by its number, or with none: a token with a fault writes no word; 0 is no word
 unfoldable pub gives : ℕ → ℕ → Due → Step
 gives number w next = record { fault = number; word = w if eqb number Fault.none else 0; next = next }
 
--- a token that fits or breaks the grammar
+-- of a token that fits or breaks the grammar
 unfoldable pub fitting : Bool → ℕ → Due → Step
 fitting fits = gives (Fault.none if fits else breaksGrammar)
 
--- a token that must have a sort, and of this sort be right: "at one byte the lower number"
+-- of a token of sort s that must have another sort, and having it must be right: "at one byte the lower number"
 unfoldable pub ofSort : ℕ → ℕ → Bool → ℕ → ℕ → Due → Step
 ofSort sort s right number = gives ((Fault.none if right else number) if eqb s sort else breaksGrammar)
 
--- a name
+-- of a name that is right, or is unknown or declared twice; of a number, with its word of a kind
 unfoldable pub nameStep : ℕ → Bool → ℕ → Due → Step
 nameStep s right = ofSort Token.name s right wrongName
 
--- a number, with the word of a kind
 unfoldable pub numberStep : ℕ → Token → Due → Step
 numberStep kind t = let z = valueOf (t .spelling) in ofSort Token.number (t .sort) (inRange z) outsideRange (numberWord kind z)
 
--- an argument or element of one token: a number, or the name of a variable
+-- of an argument or element of one token: a number, or the name of a variable
 unfoldable pub singleStep : List Token → ℕ → Token → Due → Step
 singleStep all sort t next =
     let v = variableOf all t in
     numberStep Kind.number t next if eqb sort Token.number else nameStep (t .sort) (ltb 0 v) (word Kind.variable (v - 1)) next
 
--- the argument before the k-th of code c. A list writes its length; "Parallel lists share one length word" (01), and n is the length of the first:
--- "parallel lists of unequal length, at the second unless the grammar breaks inside it, break the grammar"
+-- of the argument before the k-th of code c; n is the length of the list before it. A list writes its length, and of parallel ones only the first:
+-- 01, Words: "Parallel lists share one length word"; "parallel lists of unequal length, at the second unless the grammar breaks inside it, break the grammar"
 unfoldable pub argumentStep : Form → List Token → ℕ → ℕ → ℕ → Token → List Token → Step
 argumentStep Missing all c k n t ts = fitting false 0 (Semicolon constraintStage)
 argumentStep (One sort) all c k n t ts = singleStep all sort t (Next c k n)
@@ -104,6 +78,8 @@ argumentStep (Many opening element closing second) all c k n t ts =
     fitting (eqb (t .sort) opening && (eqb a 0 || eqb (a - 1) n)) 0 (Inside c k n element closing opening) if second
     else fitting (eqb (t .sort) opening) (word Kind.number (a - 1)) (Inside c k (a - 1) element closing opening)
 
+-- of token t before the tokens ts, where this is due; `all` has the tokens of the text. "A wrong count (at the closing bracket or the first argument
+-- too many)": a comma always fits after an argument, and what stands after it does not where no argument is left
 unfoldable pub step : List Token → Due → Token → List Token → Step
 step all (Item stage) t ts =
     fitting (eqb stage declarationStage) 0 Domain if isWord "var" t

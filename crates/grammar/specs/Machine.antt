@@ -12,7 +12,7 @@ use Rattle.words.specs.Limit as Limit
 use Rattle.tokens.specs.Byte.{front}
 use Rattle.tokens.specs.Token as Token
 use Rattle.grammar.specs.Form.{bracketed, argumentForm}
-use Rattle.grammar.specs.Grammar.{digitsFrom}
+use Rattle.grammar.specs.Value.{digitsFrom}
 use Rattle.grammar.specs.declared.Form.{Form}
 use Rattle.grammar.specs.declared.Form.the-variants.{Missing, One, Many}
 

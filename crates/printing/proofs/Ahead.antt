@@ -12,7 +12,7 @@ use Rattle.decimals.specs.Decimal.{numeral}
 use Rattle.models.specs.declared.Due.the-variants.{Arguments}
 use Rattle.models.proofs.Sound.{Sound, reading}
 use Rattle.tokens.specs.Token.{Token, tokensFrom}
-use Rattle.grammar.specs.Grammar.{fitsInside, lengthFrom}
+use Rattle.grammar.specs.Brackets.{fitsInside, lengthFrom}
 use Rattle.printing.specs.ModelText.{variableName, closed, numbersEnd, variablesEnd, textFrom}
 use Rattle.printing.proofs.Spelled.{token, Sign, comma, close-list, close-set, spelled-sign, ends-number, ends-name}
 use Rattle.printing.proofs.Numerals.{name-token, number-token}

@@ -15,7 +15,8 @@ use Rattle.tokens.specs.Token.{Token, tokensFrom, tokenLength, sortOf}
 use Rattle.names.specs.Name.{same, isWord, codeOf, declaredFrom, variableOf}
 use Rattle.grammar.specs.Form.{argumentForms, argumentForm}
 use Rattle.grammar.specs.Grammar as Grammar
-use Rattle.grammar.specs.Grammar.{fitsInside, lengthFrom, gives, fitting, ofSort, numberStep, singleStep, argumentStep}
+use Rattle.grammar.specs.Brackets.{fitsInside, lengthFrom}
+use Rattle.grammar.specs.Grammar.{gives, fitting, ofSort, numberStep, singleStep, argumentStep}
 use Rattle.grammar.specs.declared.Form.the-variants.{One, Many}
 use Rattle.grammar.specs.declared.Due.{Due}
 use Rattle.grammar.specs.declared.Due.the-variants.{Item, Domain, Dots, Upper, Colon, Name, Semicolon, Builtin, Opening, Argument, Next, Inside, Satisfy}

@@ -20,7 +20,7 @@ use Rattle.decimals.proofs.Digits.{decimal-length}
 use Rattle.tokens.specs.Byte.{bytes, front, between, isLetter, inName, isDigit, isGap}
 use Rattle.tokens.specs.Token.{tokensFrom}
 use Rattle.names.specs.Name.{same, lookUp}
-use Rattle.grammar.specs.Grammar.{digitsFrom, valueOf}
+use Rattle.grammar.specs.Value.{digitsFrom, valueOf}
 use Rattle.printing.specs.ModelText.{variableName}
 use Rattle.printing.proofs.Spelled.{token, both-true, digit-range, spelled-name, spelled-digits, spelled-minus}
 

@@ -1,3 +1,4 @@
+-- Test by test.
 use borrow.Author.Tests.{eq-eqb, ne-eqb}
 use Rattle.grammar.proofs.after_sign.Statement.{statement}
 use Rattle.grammar.proofs.after_sign.Tie as tie

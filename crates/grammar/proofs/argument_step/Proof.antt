@@ -1,3 +1,4 @@
+-- By the form; the place after an argument that there is is small.
 use Rattle.grammar.specs.Machine.{isMissing}
 use Rattle.grammar.proofs.Table.{small}
 use mathlib.Core.Path.{refl}

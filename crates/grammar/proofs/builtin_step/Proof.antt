@@ -1,3 +1,4 @@
+-- The code is that of the name.
 use borrow.Author.Needs.{needs}
 use Rattle.grammar.specs.Grammar.{step}
 use Rattle.names.specs.Name.{codeOf}

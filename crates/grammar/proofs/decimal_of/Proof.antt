@@ -4,7 +4,7 @@ use Prim.Native.Nat.{ℕ, _+_, _-_, _*_, _≤_}
 use native.Mathlib.Omega.{arith}
 use borrow.Author.Needs.{needs}
 use lib.ListN.{length, drop}
-use Rattle.grammar.specs.Grammar.{digitsFrom}
+use Rattle.grammar.specs.Value.{digitsFrom}
 use Rattle.grammar.specs.Machine.{cap}
 use Rattle.grammar.proofs.Numbers.{cap-most, cap-again, digits-on, digits-end}
 use Rattle.grammar.proofs.decimal_of.Statement.{statement}

@@ -1,3 +1,4 @@
+-- Test by test; the keyword's bytes by computation.
 use borrow.Author.Needs.{needs}
 use Rattle.grammar.specs.Grammar.{step}
 use Rattle.names.specs.Name.{isWord}

@@ -1,5 +1,6 @@
+-- Test by test.
 use borrow.Author.Tests.{eq-eqb, ne-eqb}
-use Rattle.grammar.specs.Grammar.{fitsInside}
+use Rattle.grammar.specs.Brackets.{fitsInside}
 use Rattle.grammar.proofs.fits_inside.Statement.{statement}
 use Rattle.grammar.proofs.fits_inside.Tie as tie
 

@@ -1,3 +1,4 @@
+-- Test by test.
 use borrow.Author.Needs.{needs}
 use Rattle.grammar.specs.Grammar.{fitting}
 use Rattle.grammar.proofs.fitting.Statement.{statement}

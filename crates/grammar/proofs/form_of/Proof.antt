@@ -1,3 +1,4 @@
+-- Inside the table its entry; past it no argument is left.
 use mathlib.Core.Path.{_∙_}
 use Rattle.grammar.proofs.Table.{rule, past-codes, past-arguments}
 use borrow.Author.Needs.{needs}

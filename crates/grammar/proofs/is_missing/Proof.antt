@@ -1,3 +1,4 @@
+-- Case by case.
 use borrow.Author.Needs.{needs}
 use Rattle.grammar.specs.Machine.{isMissing}
 use Rattle.grammar.proofs.is_missing.Statement.{statement}

@@ -1,10 +1,11 @@
+-- The invariant: the length from here on, with the elements passed, is that of the whole list. The measure: the bytes left.
 use mathlib.Core.Path.{_≡_, refl, sym, ap, _∙_}
 use native.Mathlib.Omega.{arith}
 use borrow.Author.Needs.{needs}
 use Prim.Native.Nat.{ℕ, _+_, _-_, _≤_}
 use lib.ListN.{length}
 use Rattle.tokens.specs.Unread.{unread, spanned}
-use Rattle.grammar.specs.Grammar.{lengthFrom}
+use Rattle.grammar.specs.Brackets.{lengthFrom}
 use Rattle.tokens.proofs.Places.{none-left, met-token, met-end}
 use Rattle.grammar.proofs.Ahead.{length-end, length-closed, length-broken, length-on, at-most-one}
 use Rattle.grammar.proofs.length_ahead.Statement.{statement}

@@ -1,3 +1,4 @@
+-- Test by test, with the length ahead.
 use borrow.Author.Needs.{needs}
 use Rattle.grammar.specs.Grammar.{argumentStep}
 use Rattle.tokens.specs.Unread.{spanned}

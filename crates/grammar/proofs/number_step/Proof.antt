@@ -1,3 +1,4 @@
+-- A number by its capped size; any other token breaks the grammar.
 use native.Mathlib.Omega.{arith}
 use borrow.Author.Tests.{eq-eqb, ne-eqb}
 use Rattle.tokens.specs.Unread.{spanned}

@@ -1,3 +1,4 @@
+-- A number, or the variable of the name.
 use borrow.Author.Needs.{needs}
 use borrow.Author.Tests.{eq-eqb, ne-eqb}
 use Rattle.grammar.specs.Grammar.{singleStep}

@@ -1,3 +1,4 @@
+-- Case by case.
 use borrow.Author.Needs.{needs}
 use Rattle.grammar.specs.Grammar.{step}
 use mathlib.Core.List.{[]}

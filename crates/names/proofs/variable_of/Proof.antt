@@ -1,3 +1,4 @@
+-- The invariant: the name is looked up among those declared from here on, after those passed. The measure: the bytes left.
 use mathlib.Core.Path.{_≡_, refl, sym, ap, _∙_}
 use mathlib.Core.Bool.{false}
 use Prim.Native.Nat.{ℕ, _+_, _-_, _≤_}

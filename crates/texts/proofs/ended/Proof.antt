@@ -1,3 +1,4 @@
+-- The end is met as a token.
 use Rattle.texts.proofs.Loop.{last-stands, ends-well, ends-early}
 use Rattle.texts.proofs.ended.Statement.{statement}
 use Rattle.texts.proofs.ended.Tie as tie

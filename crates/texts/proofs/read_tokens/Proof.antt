@@ -1,3 +1,4 @@
+-- The invariant: what is left of the text is read as the definition reads it, and the symbol table has the names declared so far. The measure: the bytes left.
 use mathlib.Core.Path.{refl}
 use native.Mathlib.Omega.{arith}
 use Prim.Native.Nat.{_-_, _<_}

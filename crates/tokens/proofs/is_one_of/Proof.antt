@@ -1,3 +1,4 @@
+-- The invariant: the byte is among all of the list if it is among those from here on. The measure: the bytes left.
 use mathlib.Core.Path.{_≡_, refl, sym, _∙_}
 use native.Mathlib.Omega.{arith}
 use borrow.Author.Needs.{needs}
