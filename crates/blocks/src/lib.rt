@@ -2,14 +2,10 @@
 ghost use mathlib.Core.Path.{_≡_};
 ghost use mathlib.Core.Bool.{false};
 ghost use Prim.Native.Nat.{_<_};
-ghost use Rattle.rules.specs.Translation.{blockOf};
-ghost use Rattle.rules.specs.Check.{tooWide};
-ghost use Rattle.encodings.specs.Uses.{sharedBy, Recorded};
-ghost use Rattle.laying.specs.Part.{blockParts};
-ghost use Rattle.laying.specs.Went.{WentFitting, Near, nothing, total};
-ghost use Rattle.extremes.specs.Bounded.{boundsOf, Bounded};
-ghost use Rattle.linearsums.specs.Sum.{Summed};
-ghost use Rattle.blocks.specs.Coded.{constraintOf};
+ghost use Rattle.encodings.specs.Uses.{Recorded};
+ghost use Rattle.laying.specs.Went.{Near, nothing, total};
+ghost use Rattle.extremes.specs.Bounded.{Bounded};
+ghost use Rattle.blocks.specs.Coded.{Narrow, blockAt, SummedIn, Lays};
 use arguments::exponent_at;
 use arguments::var_at;
 use choiceblocks::array_int_extreme;
@@ -49,8 +45,9 @@ pub fn block(
     sum: Bounds,
     first: usize,
 ) -> Laid
-    requires { ⌜ (first < 10000) × Bounded (now ls) × Bounded (now us) × (tooWide (boundsOf (now ls) (now us)) (sharedBy (now uses)) (constraintOf code (now args)) ≡ false) × Recorded (now encoded) × Summed (boundsOf (now ls) (now us)) code (now args) sum ⌝ }
-    ensures { λ r. ⌜ WentFitting nothing r (now (out .entry)) (now (out .exit)) (blockParts first (blockOf (boundsOf (now (ls .entry)) (now (us .entry))) (sharedBy (now (uses .entry))) (now (encoded .entry)) (constraintOf code (now (args .entry))))) × Near 1000000 nothing r ⌝ }
+    requires { ⌜ (first < 10000) × Bounded (now ls) × Bounded (now us) × Narrow (now ls) (now us) (now uses) code (now args) × Recorded (now encoded) × SummedIn (now ls) (now us) code (now args) sum ⌝ }
+    ensures parts { λ r. ⌜ Lays (blockAt (now (ls .entry)) (now (us .entry)) (now (uses .entry)) (now (encoded .entry)) code (now (args .entry))) first nothing r (now (out .entry)) (now (out .exit)) ⌝ }
+    ensures size { λ r. ⌜ Near 1000000 nothing r ⌝ }
 {
     let s = from_nothing();
     let a = var_at(args, 0);

@@ -8,7 +8,8 @@ use Rattle.integers.specs.Choice.{_if_else_}
 use Rattle.integers.specs.declared.Bounds.{Bounds}
 use Rattle.integers.specs.Number.{_⊕_, _⊖_, minZ, maxZ, count, +0, +1, -1}
 use Rattle.words.specs.Kind as Kind
-use Rattle.models.specs.Model.{var, num, size}
+use Rattle.models.specs.Builtin.{Builtin, array-int-element, array-var-int-element, set-in, set-in-reif}
+use Rattle.models.specs.Model.{var, num, size, vars, nums, past}
 use Rattle.rules.specs.Block.{Block}
 use Rattle.rules.specs.Rule.{oneOf}
 use Rattle.laying.specs.Part.{Part, bound, head, term, constant}
@@ -67,3 +68,20 @@ oneOfParts ls us args first =
 
 abbrev pub extremeOf : (ℕ → Bounds) → Bool → ℕ → List ℕ → Block
 extremeOf β up m xs = oneOf β (λ x. x if up else m) (λ x. m if up else x) m xs
+
+-- the same with the m and the list among the arguments
+abbrev pub extremeBlock : (ℕ → Bounds) → Bool → List ℕ → Block
+extremeBlock β up args = extremeOf β up (var args 0) (vars args 1)
+
+-- 24, 25, 27 and 28 of their arguments
+abbrev pub numberElementOf : List ℕ → Builtin
+numberElementOf args = array-int-element (var args 0) (nums args 1) (var args (past args 1))
+
+abbrev pub variableElementOf : List ℕ → Builtin
+variableElementOf args = array-var-int-element (var args 0) (vars args 1) (var args (past args 1))
+
+abbrev pub setOf : List ℕ → Builtin
+setOf args = set-in (var args 0) (nums args 1)
+
+abbrev pub setReifiedOf : List ℕ → Builtin
+setReifiedOf args = set-in-reif (var args 0) (nums args 1) (var args (past args 1))

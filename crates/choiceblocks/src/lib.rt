@@ -6,15 +6,15 @@ ghost use lib.ListN.{getD, replicate};
 ghost use Rattle.integers.specs.Number.{maxZ, count, +0, +1};
 ghost use Rattle.integers.specs.Bounds.{width};
 ghost use Rattle.words.specs.Limit as Limit;
-ghost use Rattle.models.specs.Builtin.{array-int-element, array-var-int-element, set-in, set-in-reif};
-ghost use Rattle.models.specs.Model.{var, vars, nums, size, past};
+ghost use Rattle.models.specs.Model.{var, nums, size};
 ghost use Rattle.rules.specs.Parts.{places, members};
 ghost use Rattle.rules.specs.Rule.{rule};
 ghost use Rattle.laying.specs.Part.{blockParts};
-ghost use Rattle.laying.specs.Went.{Went, Near, total};
+ghost use Rattle.laying.specs.Went.{Went, Near};
+ghost use Rattle.laying.specs.Room.{BlockRoom};
 ghost use Rattle.extremes.specs.Bounded.{boundsOf, Bounded};
 ghost use Rattle.choiceblocks.specs.Listed.{Listed};
-ghost use Rattle.choiceblocks.specs.Rows.{oneOfParts, extremeOf};
+ghost use Rattle.choiceblocks.specs.Rows.{oneOfParts, extremeBlock, numberElementOf, variableElementOf, setOf, setReifiedOf};
 use crate::rows::lay_choice;
 use crate::rows::lay_first_only;
 use crate::rows::lay_gated;
@@ -98,8 +98,9 @@ pub fn array_int_element(
     us: &[i64],
     first: usize,
 ) -> Laid
-    requires { ⌜ (total s < 1000000000) × (first < 10000) × Bounded (now ls) × Bounded (now us) ⌝ }
-    ensures { λ r. ⌜ Went s r (now (out .entry)) (now (out .exit)) (blockParts first (rule (boundsOf (now (ls .entry)) (now (us .entry))) (array-int-element (var (now (args .entry)) 0) (nums (now (args .entry)) 1) (var (now (args .entry)) (past (now (args .entry)) 1))))) × Near 1000000 s r ⌝ }
+    requires { ⌜ BlockRoom s × (first < 10000) × Bounded (now ls) × Bounded (now us) ⌝ }
+    ensures parts { λ r. let β = boundsOf (now (ls .entry)) (now (us .entry)) in ⌜ Went s r (now (out .entry)) (now (out .exit)) (blockParts first (rule β (numberElementOf (now (args .entry))))) ⌝ }
+    ensures size { λ r. ⌜ Near 1000000 s r ⌝ }
 {
     let n = labels(args, ls, us);
     let base = first_element(args, ls);
@@ -117,8 +118,9 @@ pub fn array_var_int_element(
     us: &[i64],
     first: usize,
 ) -> Laid
-    requires { ⌜ (total s < 1000000000) × (first < 10000) × Bounded (now ls) × Bounded (now us) ⌝ }
-    ensures { λ r. ⌜ Went s r (now (out .entry)) (now (out .exit)) (blockParts first (rule (boundsOf (now (ls .entry)) (now (us .entry))) (array-var-int-element (var (now (args .entry)) 0) (vars (now (args .entry)) 1) (var (now (args .entry)) (past (now (args .entry)) 1))))) × Near 1000000 s r ⌝ }
+    requires { ⌜ BlockRoom s × (first < 10000) × Bounded (now ls) × Bounded (now us) ⌝ }
+    ensures parts { λ r. let β = boundsOf (now (ls .entry)) (now (us .entry)) in ⌜ Went s r (now (out .entry)) (now (out .exit)) (blockParts first (rule β (variableElementOf (now (args .entry))))) ⌝ }
+    ensures size { λ r. ⌜ Near 1000000 s r ⌝ }
 {
     let n = labels(args, ls, us);
     let base = first_element(args, ls);
@@ -129,7 +131,7 @@ pub fn array_var_int_element(
 
 // What array_int_maximum and array_int_minimum begin with: m is one of the list.
 fn lay_one_of(out: &mut [u32], s: Laid, args: &[u32], ls: &[i64], us: &[i64], first: usize) -> Laid
-    requires { ⌜ (total s < 1000000000) × (first < 10000) ⌝ }
+    requires { ⌜ BlockRoom s × (first < 10000) ⌝ }
     ensures { λ r. ⌜ Went s r (now (out .entry)) (now (out .exit)) (oneOfParts (now (ls .entry)) (now (us .entry)) (now (args .entry)) first) × Near 10000 s r ⌝ }
 {
     let m = var_at(args, 0);
@@ -149,8 +151,9 @@ pub fn array_int_extreme(
     first: usize,
     up: bool,
 ) -> Laid
-    requires { ⌜ (total s < 1000000000) × (first < 10000) × Bounded (now ls) × Bounded (now us) ⌝ }
-    ensures { λ r. ⌜ Went s r (now (out .entry)) (now (out .exit)) (blockParts first (extremeOf (boundsOf (now (ls .entry)) (now (us .entry))) up (var (now (args .entry)) 0) (vars (now (args .entry)) 1))) × Near 1000000 s r ⌝ }
+    requires { ⌜ BlockRoom s × (first < 10000) × Bounded (now ls) × Bounded (now us) ⌝ }
+    ensures parts { λ r. let β = boundsOf (now (ls .entry)) (now (us .entry)) in ⌜ Went s r (now (out .entry)) (now (out .exit)) (blockParts first (extremeBlock β up (now (args .entry)))) ⌝ }
+    ensures size { λ r. ⌜ Near 1000000 s r ⌝ }
 {
     let m = var_at(args, 0);
     let n = size_at(args, 1);
@@ -161,8 +164,9 @@ pub fn array_int_extreme(
 
 // The block of set_in.
 pub fn set_in(out: &mut [u32], s: Laid, args: &[u32], ls: &[i64], us: &[i64], first: usize) -> Laid
-    requires { ⌜ (total s < 1000000000) × (first < 10000) × Bounded (now ls) × Bounded (now us) ⌝ }
-    ensures { λ r. ⌜ Went s r (now (out .entry)) (now (out .exit)) (blockParts first (rule (boundsOf (now (ls .entry)) (now (us .entry))) (set-in (var (now (args .entry)) 0) (nums (now (args .entry)) 1)))) × Near 1000000 s r ⌝ }
+    requires { ⌜ BlockRoom s × (first < 10000) × Bounded (now ls) × Bounded (now us) ⌝ }
+    ensures parts { λ r. let β = boundsOf (now (ls .entry)) (now (us .entry)) in ⌜ Went s r (now (out .entry)) (now (out .exit)) (blockParts first (rule β (setOf (now (args .entry))))) ⌝ }
+    ensures size { λ r. ⌜ Near 1000000 s r ⌝ }
 {
     let x = var_at(args, 0);
     let mut vs = [0i64; 32];
@@ -181,8 +185,9 @@ pub fn set_in_reif(
     us: &[i64],
     first: usize,
 ) -> Laid
-    requires { ⌜ (total s < 1000000000) × (first < 10000) × Bounded (now ls) × Bounded (now us) × (width (boundsOf (now ls) (now us) (var (now args) 0)) ≤ 64) ⌝ }
-    ensures { λ r. ⌜ Went s r (now (out .entry)) (now (out .exit)) (blockParts first (rule (boundsOf (now (ls .entry)) (now (us .entry))) (set-in-reif (var (now (args .entry)) 0) (nums (now (args .entry)) 1) (var (now (args .entry)) (past (now (args .entry)) 1))))) × Near 1000000 s r ⌝ }
+    requires { ⌜ BlockRoom s × (first < 10000) × Bounded (now ls) × Bounded (now us) × (width (boundsOf (now ls) (now us) (var (now args) 0)) ≤ 64) ⌝ }
+    ensures parts { λ r. let β = boundsOf (now (ls .entry)) (now (us .entry)) in ⌜ Went s r (now (out .entry)) (now (out .exit)) (blockParts first (rule β (setReifiedOf (now (args .entry))))) ⌝ }
+    ensures size { λ r. ⌜ Near 1000000 s r ⌝ }
 {
     let lower = lower_label(args, ls);
     let mut vs = [0i64; 32];

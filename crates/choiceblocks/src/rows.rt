@@ -11,7 +11,8 @@ ghost use Rattle.integers.specs.Lists.{all, listOf};
 ghost use Rattle.words.specs.Word.{inRange};
 ghost use Rattle.laying.specs.Part.{term, constant, numbersIn};
 ghost use Rattle.laying.specs.Lists.{many, sameAt, labelAt, belowAt, aboveAt};
-ghost use Rattle.laying.specs.Went.{Went, Near, total};
+ghost use Rattle.laying.specs.Went.{Went, Near};
+ghost use Rattle.laying.specs.Room.{Room};
 ghost use Rattle.extremes.specs.Bounded.{Bounded};
 ghost use Rattle.choiceblocks.specs.Rows.{zeroAt, numberAt, valueAt, memberAt, oneRow, sumRow, choiceRows, gates, gatedRows, laterRow, firstAt};
 use arguments::count_of;
@@ -66,7 +67,7 @@ pub fn lay_zeros(
     ls: &[i64],
     us: &[i64],
 ) -> Laid
-    requires { ⌜ (total s < 900000000000) × (n ≤ 66) × (base < 1000000000000) ⌝ }
+    requires { ⌜ Room 1000 s × (n ≤ 66) × (base < 1000000000000) ⌝ }
     ensures { λ r. ⌜ Went s r (now (out .entry)) (now (out .exit)) (many (zeroAt (now (ls .entry)) (now (us .entry)) (now (args .entry)) base) n) × Near 1000 s r ⌝ }
 {
     if out.len() <= s.words {
@@ -88,7 +89,7 @@ pub fn lay_zeros(
 
 // The numbers from place base on × n consecutive variables.
 fn lay_numbers(out: &mut [u32], s: Laid, args: &[u32], base: usize, v: usize, n: usize) -> Laid
-    requires { ⌜ (total s < 900000000000) × (n ≤ 66) × (base < 1000000000000) × (v < 1000000000000) ⌝ }
+    requires { ⌜ Room 1000 s × (n ≤ 66) × (base < 1000000000000) × (v < 1000000000000) ⌝ }
     ensures { λ r. ⌜ Went s r (now (out .entry)) (now (out .exit)) (many (numberAt (now (args .entry)) base v) n) × Near 1000 s r ⌝ }
 {
     if out.len() <= s.words {
@@ -118,7 +119,7 @@ fn values_in_range(vs: &[i64], n: usize) -> bool
 
 // The first n numbers of a list × n consecutive variables.
 fn lay_values(out: &mut [u32], s: Laid, vs: &[i64], v: usize, n: usize) -> Laid
-    requires { ⌜ (total s < 900000000000) × (n ≤ 66) × (v < 1000000000000) ⌝ }
+    requires { ⌜ Room 1000 s × (n ≤ 66) × (v < 1000000000000) ⌝ }
     ensures { λ r. ⌜ Went s r (now (out .entry)) (now (out .exit)) (many (valueAt (now (vs .entry)) v) n) × Near 1000 s r ⌝ }
 {
     if out.len() <= s.words {
@@ -135,7 +136,7 @@ fn lay_values(out: &mut [u32], s: Laid, vs: &[i64], v: usize, n: usize) -> Laid
 
 // Σ of the variables that the first n numbers of a list label; v has the label `from`.
 fn lay_members(out: &mut [u32], s: Laid, vs: &[i64], from: i64, v: usize, n: usize) -> Laid
-    requires { ⌜ (total s < 900000000000) × (n ≤ 66) × (v < 1000000000000) × (natAbs from < 1000000000) × ((k : ℕ) → natAbs (getD (now vs) k +0) < 1000000000) ⌝ }
+    requires { ⌜ Room 1000 s × (n ≤ 66) × (v < 1000000000000) × (natAbs from < 1000000000) × ((k : ℕ) → natAbs (getD (now vs) k +0) < 1000000000) ⌝ }
     ensures { λ r. ⌜ Went s r (now (out .entry)) (now (out .exit)) (many (memberAt (now (vs .entry)) from v) n) × Near 1000 s r ⌝ }
 {
     if out.len() <= s.words {
@@ -152,7 +153,7 @@ fn lay_members(out: &mut [u32], s: Laid, vs: &[i64], from: i64, v: usize, n: usi
 
 // The last words of a row: − x = 0.
 fn lay_last(out: &mut [u32], s: Laid, x: usize) -> Laid
-    requires { ⌜ total s < 900000000000 ⌝ }
+    requires { ⌜ Room 20 s ⌝ }
     ensures { λ r. ⌜ Went s r (now (out .entry)) (now (out .exit)) (term -1 x ∷ constant +0 ∷ []) × Near 20 s r ⌝ }
 {
     let t = lay_term(out, s, -1, x);
@@ -161,7 +162,7 @@ fn lay_last(out: &mut [u32], s: Laid, x: usize) -> Laid
 
 // Σb − 1 = 0 over n consecutive variables.
 pub fn lay_one_bit(out: &mut [u32], s: Laid, v: usize, n: usize) -> Laid
-    requires { ⌜ (total s < 800000000000) × (n ≤ 66) × (v < 1000000000) ⌝ }
+    requires { ⌜ Room 2000 s × (n ≤ 66) × (v < 1000000000) ⌝ }
     ensures { λ r. ⌜ Went s r (now (out .entry)) (now (out .exit)) (oneRow v n) × Near 2000 s r ⌝ }
 {
     let t = lay_head(out, s, kind::EQUAL, n);
@@ -171,7 +172,7 @@ pub fn lay_one_bit(out: &mut [u32], s: Laid, v: usize, n: usize) -> Laid
 
 // Σz − m = 0 over n consecutive variables.
 pub fn lay_one_row(out: &mut [u32], s: Laid, v: usize, n: usize, m: usize) -> Laid
-    requires { ⌜ (total s < 800000000000) × (n ≤ 66) × (v < 1000000000) ⌝ }
+    requires { ⌜ Room 2000 s × (n ≤ 66) × (v < 1000000000) ⌝ }
     ensures { λ r. ⌜ Went s r (now (out .entry)) (now (out .exit)) (sumRow (sameAt +1 v) n m) × Near 2000 s r ⌝ }
 {
     let t = lay_head(out, s, kind::EQUAL, n + 1);
@@ -181,7 +182,7 @@ pub fn lay_one_row(out: &mut [u32], s: Laid, v: usize, n: usize, m: usize) -> La
 
 // Σj×b − x = 0 over n consecutive labels from `from` on.
 fn lay_label_row(out: &mut [u32], s: Laid, from: i64, v: usize, n: usize, x: usize) -> Laid
-    requires { ⌜ (total s < 800000000000) × (n ≤ 66) × (v < 1000000000) × (natAbs from < 1000000000) ⌝ }
+    requires { ⌜ Room 2000 s × (n ≤ 66) × (v < 1000000000) × (natAbs from < 1000000000) ⌝ }
     ensures { λ r. ⌜ Went s r (now (out .entry)) (now (out .exit)) (sumRow (labelAt from v) n x) × Near 2000 s r ⌝ }
 {
     let t = lay_head(out, s, kind::EQUAL, n + 1);
@@ -199,7 +200,7 @@ pub fn lay_number_row(
     n: usize,
     c: usize,
 ) -> Laid
-    requires { ⌜ (total s < 800000000000) × (n ≤ 66) × (base < 1000000000) × (v < 1000000000) ⌝ }
+    requires { ⌜ Room 2000 s × (n ≤ 66) × (base < 1000000000) × (v < 1000000000) ⌝ }
     ensures { λ r. ⌜ Went s r (now (out .entry)) (now (out .exit)) (sumRow (numberAt (now (args .entry)) base v) n c) × Near 2000 s r ⌝ }
 {
     let t = lay_head(out, s, kind::EQUAL, n + 1);
@@ -209,7 +210,7 @@ pub fn lay_number_row(
 
 // Σv×b − x = 0 over the first n numbers of a list.
 pub fn lay_value_row(out: &mut [u32], s: Laid, vs: &[i64], v: usize, n: usize, x: usize) -> Laid
-    requires { ⌜ (total s < 800000000000) × (n ≤ 66) × (v < 1000000000) ⌝ }
+    requires { ⌜ Room 2000 s × (n ≤ 66) × (v < 1000000000) ⌝ }
     ensures { λ r. ⌜ Went s r (now (out .entry)) (now (out .exit)) (sumRow (valueAt (now (vs .entry)) v) n x) × Near 2000 s r ⌝ }
 {
     let t = lay_head(out, s, kind::EQUAL, n + 1);
@@ -227,7 +228,7 @@ pub fn lay_member_row(
     n: usize,
     r: usize,
 ) -> Laid
-    requires { ⌜ (total s < 800000000000) × (n ≤ 66) × (v < 1000000000) × (natAbs from < 1000000000) × ((k : ℕ) → natAbs (getD (now vs) k +0) < 1000000000) ⌝ }
+    requires { ⌜ Room 2000 s × (n ≤ 66) × (v < 1000000000) × (natAbs from < 1000000000) × ((k : ℕ) → natAbs (getD (now vs) k +0) < 1000000000) ⌝ }
     ensures { λ t. ⌜ Went s t (now (out .entry)) (now (out .exit)) (sumRow (memberAt (now (vs .entry)) from v) n r) × Near 2000 s t ⌝ }
 {
     let t = lay_head(out, s, kind::EQUAL, n + 1);
@@ -237,7 +238,7 @@ pub fn lay_member_row(
 
 // One of n consecutive bits is 1; their labels rise from `from` on, and x is the label of that bit.
 pub fn lay_choice(out: &mut [u32], s: Laid, from: i64, v: usize, n: usize, x: usize) -> Laid
-    requires { ⌜ (total s < 700000000000) × (n ≤ 66) × (v < 1000000000) × (natAbs from < 1000000000) ⌝ }
+    requires { ⌜ Room 4000 s × (n ≤ 66) × (v < 1000000000) × (natAbs from < 1000000000) ⌝ }
     ensures { λ r. ⌜ Went s r (now (out .entry)) (now (out .exit)) (choiceRows from v n x) × Near 4000 s r ⌝ }
 {
     let t = lay_one_bit(out, s, v, n);
@@ -254,7 +255,7 @@ pub fn lay_gates(
     ls: &[i64],
     us: &[i64],
 ) -> Laid
-    requires { ⌜ (total s < 800000000000) × (n ≤ 66) × (base < 1000000000000) ⌝ }
+    requires { ⌜ Room 2000 s × (n ≤ 66) × (base < 1000000000000) ⌝ }
     ensures { λ r. ⌜ Went s r (now (out .entry)) (now (out .exit)) (gates (now (ls .entry)) (now (us .entry)) (now (args .entry)) base n) × Near 2000 s r ⌝ }
 {
     let t = lay_bits(out, s, n);
@@ -271,7 +272,7 @@ pub fn lay_gated(
     n: usize,
     m: usize,
 ) -> Laid
-    requires { ⌜ (total s < 700000000000) × (n ≤ 66) × (base < 1000000000) × (v < 100000000) ⌝ }
+    requires { ⌜ Room 4000 s × (n ≤ 66) × (base < 1000000000) × (v < 100000000) ⌝ }
     ensures { λ r. ⌜ Went s r (now (out .entry)) (now (out .exit)) (gatedRows (now (args .entry)) base v n m) × Near 4000 s r ⌝ }
 {
     let t = lay_products(out, s, args, base, v + n, v, n);
@@ -288,7 +289,7 @@ pub fn lay_order(
     n: usize,
     up: bool,
 ) -> Laid
-    requires { ⌜ (total s < 700000000000) × (n ≤ 66) × (base < 1000000000000) ⌝ }
+    requires { ⌜ Room 200000 s × (n ≤ 66) × (base < 1000000000000) ⌝ }
     ensures { λ r. ⌜ Went s r (now (out .entry)) (now (out .exit)) (many (belowAt (now (args .entry)) base m if up else aboveAt (now (args .entry)) m base) n) × Near 200000 s r ⌝ }
 {
     if up {
@@ -308,7 +309,7 @@ fn lay_later(
     ls: &[i64],
     us: &[i64],
 ) -> Laid
-    requires { ⌜ (total s < 800000000000) × (n ≤ 66) × (v < 1000000000) × Bounded (now ls) × Bounded (now us) ⌝ }
+    requires { ⌜ Room 2000 s × (n ≤ 66) × (v < 1000000000) × Bounded (now ls) × Bounded (now us) ⌝ }
     ensures { λ r. ⌜ Went s r (now (out .entry)) (now (out .exit)) (laterRow (now (ls .entry)) (now (us .entry)) x y v n) × Near 2000 s r ⌝ }
 {
     let p = gap_plus(ls, us, x, y, 1);
@@ -331,7 +332,7 @@ fn lay_later_of(
     ls: &[i64],
     us: &[i64],
 ) -> Laid
-    requires { ⌜ (total s < 800000000000) × (n ≤ 66) × (v < 1000000000) × Bounded (now ls) × Bounded (now us) ⌝ }
+    requires { ⌜ Room 2000 s × (n ≤ 66) × (v < 1000000000) × Bounded (now ls) × Bounded (now us) ⌝ }
     ensures { λ r. ⌜ Went s r (now (out .entry)) (now (out .exit)) (laterRow (now (ls .entry)) (now (us .entry)) (x if up else m) (m if up else x) v n) × Near 2000 s r ⌝ }
 {
     if up {
@@ -353,7 +354,7 @@ pub fn lay_first_only(
     ls: &[i64],
     us: &[i64],
 ) -> Laid
-    requires { ⌜ (total s < 700000000000) × (n ≤ 66) × (base < 1000000000000) × (v < 100000000) × Bounded (now ls) × Bounded (now us) ⌝ }
+    requires { ⌜ Room 200000 s × (n ≤ 66) × (base < 1000000000000) × (v < 100000000) × Bounded (now ls) × Bounded (now us) ⌝ }
     ensures { λ r. ⌜ Went s r (now (out .entry)) (now (out .exit)) (many (firstAt (now (ls .entry)) (now (us .entry)) (now (args .entry)) base m up v n) (n - 1)) × Near 200000 s r ⌝ }
 {
     let mut t = s;

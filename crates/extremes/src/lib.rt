@@ -1,15 +1,14 @@
 // Numbers from the bounds of the variables, which stand in two lists: the least and largest of products, halves, and the members of a set.
 ghost use mathlib.Core.Path.{_≡_};
 ghost use mathlib.Core.Bool.{_&&_};
-ghost use mathlib.Core.List.{map};
 ghost use Prim.Native.Nat.{_<_, _≤_};
 ghost use lib.IntN.{pos, natAbs};
 ghost use lib.Signed.{leZ, ltZ};
 ghost use lib.ListN.{length, getD, set};
 ghost use Rattle.integers.specs.Choice.{_if_else_};
-ghost use Rattle.integers.specs.Number.{_⊕_, _⊖_, _⊗_, minZ, maxZ, +0, +1};
+ghost use Rattle.integers.specs.Number.{_⊖_, _⊗_, minZ, maxZ, +0, +1};
 ghost use Rattle.integers.specs.Bounds.{_to_, width};
-ghost use Rattle.extremes.specs.Bounded.{boundsOf, Near, Bounded};
+ghost use Rattle.extremes.specs.Bounded.{boundsOf, Near, Bounded, withLowers, withUppers, gapPlus};
 ghost use Rattle.extremes.specs.Kept.{lowerOf, upperOf};
 ghost use Rattle.words.specs.Variables.{variables};
 ghost use Rattle.words.specs.Overlay.{overlay};
@@ -73,7 +72,7 @@ pub fn product_end(al: i64, au: i64, bl: i64, bu: i64, up: bool) -> i64
 // Of the bounds of two variables.
 pub fn end_product(ls: &[i64], us: &[i64], a: usize, b: usize, up: bool) -> i64
     requires { ⌜ Bounded (now ls) × Bounded (now us) ⌝ }
-    ensures { λ r. ⌜ r ≡ (endProducts (boundsOf (now (ls .entry)) (now (us .entry)) a) (boundsOf (now (ls .entry)) (now (us .entry)) b) .upper if up else endProducts (boundsOf (now (ls .entry)) (now (us .entry)) a) (boundsOf (now (ls .entry)) (now (us .entry)) b) .lower) ⌝ }
+    ensures { λ r. let β = boundsOf (now (ls .entry)) (now (us .entry)) in ⌜ r ≡ (endProducts (β a) (β b) .upper if up else endProducts (β a) (β b) .lower) ⌝ }
 {
     product_end(
         bound_at(ls, a),
@@ -95,7 +94,7 @@ fn gap(ls: &[i64], us: &[i64], a: usize, b: usize) -> i64
 // hi a − lo b + d
 pub fn gap_plus(ls: &[i64], us: &[i64], a: usize, b: usize, d: i64) -> i64
     requires { ⌜ Bounded (now ls) × Bounded (now us) × (natAbs d ≤ 1) ⌝ }
-    ensures { λ r. ⌜ r ≡ getD (now (us .entry)) a +0 ⊖ getD (now (ls .entry)) b +0 ⊕ d ⌝ }
+    ensures { λ r. ⌜ r ≡ gapPlus (now (ls .entry)) (now (us .entry)) a b d ⌝ }
 {
     plus(gap(ls, us, a, b), d)
 }
@@ -212,7 +211,7 @@ pub fn upper_of(w: u32, next: u32) -> i64
 // Puts the bounds of the variables to the front of two lists; how many variables there are.
 pub fn keep_bounds(ws: &[u32], lowers: &mut [i64], uppers: &mut [i64]) -> usize
     requires { ⌜ length (now ws) < 1099511627776 ⌝ }
-    ensures { λ r. ⌜ (r ≡ length (variables (now (ws .entry)))) × (now (lowers .exit) ≡ overlay (now (lowers .entry)) 0 (map (λ B. B .lower) (variables (now (ws .entry))))) × (now (uppers .exit) ≡ overlay (now (uppers .entry)) 0 (map (λ B. B .upper) (variables (now (ws .entry))))) ⌝ }
+    ensures { λ r. let Bs = variables (now (ws .entry)) in ⌜ (r ≡ length Bs) × (now (lowers .exit) ≡ withLowers (now (lowers .entry)) Bs) × (now (uppers .exit) ≡ withUppers (now (uppers .entry)) Bs) ⌝ }
 {
     let mut i = 0;
     let mut n = 0;

@@ -1,11 +1,12 @@
 // Blocks: comparisons of two variables.
-ghost use Prim.Native.Nat.{ℕ, _<_, _≤_};
+ghost use Prim.Native.Nat.{ℕ, _≤_};
 ghost use lib.IntN.{natAbs};
 ghost use Rattle.integers.specs.declared.Bounds.{Bounds};
 ghost use Rattle.models.specs.Builtin.{int-eq, int-ne};
 ghost use Rattle.rules.specs.Rule.{rule, orderReified};
 ghost use Rattle.laying.specs.Part.{blockParts};
-ghost use Rattle.laying.specs.Went.{Went, Near, total};
+ghost use Rattle.laying.specs.Went.{Went, Near};
+ghost use Rattle.laying.specs.Room.{BlockRoom};
 ghost use Rattle.extremes.specs.Bounded.{boundsOf, Bounded};
 use crate::rows::two_terms;
 use crate::rows::where_one;
@@ -16,7 +17,7 @@ use words::kind;
 
 // 1 int_eq: a − b is 0.
 pub fn int_eq(out: &mut [u32], s: Laid, a: usize, b: usize) -> Laid
-    requires { ⌜ total s < 1000000000 ⌝ }
+    requires { ⌜ BlockRoom s ⌝ }
     ensures { λ r. ⌜ ((β : ℕ → Bounds) (first : ℕ) → Went s r (now (out .entry)) (now (out .exit)) (blockParts first (rule β (int-eq a b)))) × Near 10000 s r ⌝ }
 {
     two_terms(out, s, kind::EQUAL, a, -1, b, 0)
@@ -32,7 +33,7 @@ pub fn int_ne(
     us: &[i64],
     first: usize,
 ) -> Laid
-    requires { ⌜ (total s < 1000000000) × Bounded (now ls) × Bounded (now us) ⌝ }
+    requires { ⌜ BlockRoom s × Bounded (now ls) × Bounded (now us) ⌝ }
     ensures { λ r. ⌜ Went s r (now (out .entry)) (now (out .exit)) (blockParts first (rule (boundsOf (now (ls .entry)) (now (us .entry))) (int-ne a b))) × Near 10000 s r ⌝ }
 {
     let t = lay_bound(out, s, 0, 1);
@@ -52,7 +53,7 @@ pub fn order_reif(
     ls: &[i64],
     us: &[i64],
 ) -> Laid
-    requires { ⌜ (total s < 1000000000) × Bounded (now ls) × Bounded (now us) × (natAbs d ≤ 1) × (natAbs e ≤ 1) ⌝ }
+    requires { ⌜ BlockRoom s × Bounded (now ls) × Bounded (now us) × (natAbs d ≤ 1) × (natAbs e ≤ 1) ⌝ }
     ensures { λ q. ⌜ ((first : ℕ) → Went s q (now (out .entry)) (now (out .exit)) (blockParts first (orderReified (boundsOf (now (ls .entry)) (now (us .entry))) d e a b r))) × Near 10000 s q ⌝ }
 {
     let t = where_one(out, s, r, a, b, d, ls, us);

@@ -6,7 +6,8 @@ ghost use Rattle.integers.specs.Number.{minZ, maxZ, +0};
 ghost use Rattle.models.specs.Builtin.{int-times, int-abs};
 ghost use Rattle.rules.specs.Rule.{rule, touching};
 ghost use Rattle.laying.specs.Part.{bound, blockParts};
-ghost use Rattle.laying.specs.Went.{Went, Near, total};
+ghost use Rattle.laying.specs.Went.{Went, Near};
+ghost use Rattle.laying.specs.Room.{Room, BlockRoom};
 ghost use Rattle.extremes.specs.Bounded.{boundsOf, Bounded};
 use crate::rows::three_terms;
 use crate::rows::two_terms;
@@ -34,7 +35,7 @@ pub fn int_times(
     us: &[i64],
     first: usize,
 ) -> Laid
-    requires { ⌜ (total s < 1000000000) × Bounded (now ls) × Bounded (now us) ⌝ }
+    requires { ⌜ BlockRoom s × Bounded (now ls) × Bounded (now us) ⌝ }
     ensures { λ r. ⌜ Went s r (now (out .entry)) (now (out .exit)) (blockParts first (rule (boundsOf (now (ls .entry)) (now (us .entry))) (int-times a b c))) × Near 10000 s r ⌝ }
 {
     let lower = end_product(ls, us, a, b, false);
@@ -46,7 +47,7 @@ pub fn int_times(
 
 // The bounds Z(x).
 fn lay_zero_bound(out: &mut [u32], s: Laid, x: usize, ls: &[i64], us: &[i64]) -> Laid
-    requires { ⌜ total s < 1000000000000 ⌝ }
+    requires { ⌜ Room 10 s ⌝ }
     ensures { λ r. ⌜ Went s r (now (out .entry)) (now (out .exit)) (bound (minZ +0 (getD (now (ls .entry)) x +0)) (maxZ +0 (getD (now (us .entry)) x +0)) ∷ []) × Near 10 s r ⌝ }
 {
     let lower = zero_lower(bound_at(ls, x));
@@ -64,7 +65,7 @@ pub fn int_abs(
     us: &[i64],
     first: usize,
 ) -> Laid
-    requires { ⌜ (total s < 1000000000) × (first < 10000) × Bounded (now us) ⌝ }
+    requires { ⌜ BlockRoom s × (first < 10000) × Bounded (now us) ⌝ }
     ensures { λ r. ⌜ Went s r (now (out .entry)) (now (out .exit)) (blockParts first (rule (boundsOf (now (ls .entry)) (now (us .entry))) (int-abs x y))) × Near 10000 s r ⌝ }
 {
     let t = lay_bound(out, s, 0, 1);
@@ -90,7 +91,7 @@ pub fn touching(
     us: &[i64],
     first: usize,
 ) -> Laid
-    requires { ⌜ (total s < 1000000000) × Bounded (now ls) × Bounded (now us) ⌝ }
+    requires { ⌜ BlockRoom s × Bounded (now ls) × Bounded (now us) ⌝ }
     ensures { λ r. ⌜ Went s r (now (out .entry)) (now (out .exit)) (blockParts first (touching (boundsOf (now (ls .entry)) (now (us .entry))) x y u v)) × Near 20000 s r ⌝ }
 {
     let bit = lay_bound(out, s, 0, 1);

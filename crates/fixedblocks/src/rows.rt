@@ -2,12 +2,12 @@
 ghost use mathlib.Core.List.{[], _∷_};
 ghost use Prim.Native.Nat.{_<_, _≤_};
 ghost use lib.IntN.{natAbs};
-ghost use lib.ListN.{getD};
-ghost use Rattle.integers.specs.Number.{_⊕_, _⊖_, neg, +0, +1, -1};
+ghost use Rattle.integers.specs.Number.{_⊖_, neg, +1, -1};
 ghost use Rattle.words.specs.Kind as Kind;
 ghost use Rattle.laying.specs.Lists.{rowOf};
-ghost use Rattle.laying.specs.Went.{Went, Near, total};
-ghost use Rattle.extremes.specs.Bounded.{Bounded};
+ghost use Rattle.laying.specs.Went.{Went, Near};
+ghost use Rattle.laying.specs.Room.{Room};
+ghost use Rattle.extremes.specs.Bounded.{Bounded, gapPlus};
 use extremes::gap_plus;
 use integers::minus;
 use integers::opposite;
@@ -17,7 +17,7 @@ use words::kind;
 
 // x + q×y + c, of a kind.
 pub fn two_terms(out: &mut [u32], s: Laid, kind: u32, x: usize, q: i64, y: usize, c: i64) -> Laid
-    requires { ⌜ (total s < 800000000000) × (kind < 16) ⌝ }
+    requires { ⌜ Room 2000 s × (kind < 16) ⌝ }
     ensures { λ r. ⌜ Went s r (now (out .entry)) (now (out .exit)) (rowOf kind (x ∷ y ∷ []) (+1 ∷ q ∷ []) c) × Near 2000 s r ⌝ }
 {
     let xs = [x, y];
@@ -37,7 +37,7 @@ pub fn three_terms(
     z: usize,
     c: i64,
 ) -> Laid
-    requires { ⌜ (total s < 800000000000) × (kind < 16) ⌝ }
+    requires { ⌜ Room 2000 s × (kind < 16) ⌝ }
     ensures { λ r. ⌜ Went s r (now (out .entry)) (now (out .exit)) (rowOf kind (x ∷ y ∷ z ∷ []) (+1 ∷ q ∷ p ∷ []) c) × Near 2000 s r ⌝ }
 {
     let xs = [x, y, z];
@@ -56,8 +56,9 @@ pub fn where_one(
     ls: &[i64],
     us: &[i64],
 ) -> Laid
-    requires { ⌜ (total s < 800000000000) × Bounded (now ls) × Bounded (now us) × (natAbs d ≤ 1) ⌝ }
-    ensures { λ r. ⌜ Went s r (now (out .entry)) (now (out .exit)) (rowOf Kind.atMost (x ∷ y ∷ z ∷ []) (+1 ∷ -1 ∷ (getD (now (us .entry)) x +0 ⊖ getD (now (ls .entry)) y +0 ⊕ d) ∷ []) (d ⊖ (getD (now (us .entry)) x +0 ⊖ getD (now (ls .entry)) y +0 ⊕ d))) × Near 2000 s r ⌝ }
+    requires { ⌜ Room 2000 s × Bounded (now ls) × Bounded (now us) × (natAbs d ≤ 1) ⌝ }
+    ensures parts { λ r. let P = gapPlus (now (ls .entry)) (now (us .entry)) x y d in ⌜ Went s r (now (out .entry)) (now (out .exit)) (rowOf Kind.atMost (x ∷ y ∷ z ∷ []) (+1 ∷ -1 ∷ P ∷ []) (d ⊖ P)) ⌝ }
+    ensures size { λ r. ⌜ Near 2000 s r ⌝ }
 {
     let p = gap_plus(ls, us, x, y, d);
     three_terms(out, s, kind::AT_MOST, x, -1, y, p, z, minus(d, p))
@@ -74,8 +75,9 @@ pub fn where_zero(
     ls: &[i64],
     us: &[i64],
 ) -> Laid
-    requires { ⌜ (total s < 800000000000) × Bounded (now ls) × Bounded (now us) × (natAbs d ≤ 1) ⌝ }
-    ensures { λ r. ⌜ Went s r (now (out .entry)) (now (out .exit)) (rowOf Kind.atMost (x ∷ y ∷ z ∷ []) (+1 ∷ -1 ∷ neg (getD (now (us .entry)) x +0 ⊖ getD (now (ls .entry)) y +0 ⊕ d) ∷ []) d) × Near 2000 s r ⌝ }
+    requires { ⌜ Room 2000 s × Bounded (now ls) × Bounded (now us) × (natAbs d ≤ 1) ⌝ }
+    ensures parts { λ r. let P = gapPlus (now (ls .entry)) (now (us .entry)) x y d in ⌜ Went s r (now (out .entry)) (now (out .exit)) (rowOf Kind.atMost (x ∷ y ∷ z ∷ []) (+1 ∷ -1 ∷ neg P ∷ []) d) ⌝ }
+    ensures size { λ r. ⌜ Near 2000 s r ⌝ }
 {
     let p = gap_plus(ls, us, x, y, d);
     three_terms(out, s, kind::AT_MOST, x, -1, y, opposite(p), z, d)

@@ -11,7 +11,8 @@ ghost use Rattle.words.specs.Word.{inRange};
 ghost use Rattle.models.specs.Model.{num, size, past};
 ghost use Rattle.laying.specs.Part.{bound, head, term, constant, times};
 ghost use Rattle.laying.specs.Lists.{many, rowOf, termAt, sumAt, eachAt, sameAt, labelAt, bitAt, productAt, belowAt, aboveAt};
-ghost use Rattle.laying.specs.Went.{Went, Over, Counted, Near, total, nothing};
+ghost use Rattle.laying.specs.Went.{Went, Over, Counted, Near, nothing};
+ghost use Rattle.laying.specs.Room.{Room};
 use arguments::num_at;
 use arguments::past_at;
 use arguments::size_at;
@@ -48,7 +49,7 @@ pub fn none_yet() -> Laid
 
 // So many words, auxiliaries and rows more, whose numbers fit or not.
 pub fn counted(s: Laid, words: usize, auxiliaries: usize, rows: usize, fit: bool) -> Laid
-    requires { ⌜ (total s < 1000000000000) × (words < 1000) × (auxiliaries < 1000) × (rows < 1000) ⌝ }
+    requires { ⌜ Room (words + auxiliaries + rows) s × (words < 1000) × (auxiliaries < 1000) × (rows < 1000) ⌝ }
     ensures { λ r. ⌜ Counted s r words auxiliaries rows fit ⌝ }
 {
     Laid {
@@ -68,7 +69,7 @@ fn lay_part(
     rows: usize,
     fit: bool,
 ) -> Laid
-    requires { ⌜ (total s < 1000000000000) × (length (now row) < 1000) × (auxiliaries < 1000) × (rows < 1000) ⌝ }
+    requires { ⌜ Room (length (now row) + auxiliaries + rows) s × (length (now row) < 1000) × (auxiliaries < 1000) × (rows < 1000) ⌝ }
     ensures { λ r. ⌜ Over s r (now (out .entry)) (now (out .exit)) (now (row .entry)) auxiliaries rows fit ⌝ }
 {
     if s.words < out.len() {
@@ -79,7 +80,7 @@ fn lay_part(
 
 // The bounds of an auxiliary.
 pub fn lay_bound(out: &mut [u32], s: Laid, lower: i64, upper: i64) -> Laid
-    requires { ⌜ total s < 1000000000000 ⌝ }
+    requires { ⌜ Room 10 s ⌝ }
     ensures { λ r. ⌜ Went s r (now (out .entry)) (now (out .exit)) (bound lower upper ∷ []) × Near 10 s r ⌝ }
 {
     let row = [
@@ -92,7 +93,7 @@ pub fn lay_bound(out: &mut [u32], s: Laid, lower: i64, upper: i64) -> Laid
 
 // The head of a row of a kind, with n terms.
 pub fn lay_head(out: &mut [u32], s: Laid, kind: u32, n: usize) -> Laid
-    requires { ⌜ (total s < 1000000000000) × (kind < 16) ⌝ }
+    requires { ⌜ Room 10 s × (kind < 16) ⌝ }
     ensures { λ r. ⌜ Went s r (now (out .entry)) (now (out .exit)) (head kind n ∷ []) × Near 10 s r ⌝ }
 {
     let row = [word_of(kind, n)];
@@ -101,7 +102,7 @@ pub fn lay_head(out: &mut [u32], s: Laid, kind: u32, n: usize) -> Laid
 
 // A term of a row.
 pub fn lay_term(out: &mut [u32], s: Laid, coefficient: i64, v: usize) -> Laid
-    requires { ⌜ total s < 1000000000000 ⌝ }
+    requires { ⌜ Room 10 s ⌝ }
     ensures { λ r. ⌜ Went s r (now (out .entry)) (now (out .exit)) (term coefficient v ∷ []) × Near 10 s r ⌝ }
 {
     let row = [
@@ -113,7 +114,7 @@ pub fn lay_term(out: &mut [u32], s: Laid, coefficient: i64, v: usize) -> Laid
 
 // The constant of a row, its last word.
 pub fn lay_constant(out: &mut [u32], s: Laid, c: i64) -> Laid
-    requires { ⌜ total s < 1000000000000 ⌝ }
+    requires { ⌜ Room 10 s ⌝ }
     ensures { λ r. ⌜ Went s r (now (out .entry)) (now (out .exit)) (constant c ∷ []) × Near 10 s r ⌝ }
 {
     let row = [number_word(kind::NUMBER, c)];
@@ -122,7 +123,7 @@ pub fn lay_constant(out: &mut [u32], s: Laid, c: i64) -> Laid
 
 // A product, r := f × g.
 pub fn lay_times(out: &mut [u32], s: Laid, r: usize, f: usize, g: usize) -> Laid
-    requires { ⌜ total s < 1000000000000 ⌝ }
+    requires { ⌜ Room 10 s ⌝ }
     ensures { λ t. ⌜ Went s t (now (out .entry)) (now (out .exit)) (times r f g ∷ []) × Near 10 s t ⌝ }
 {
     let row = [
@@ -136,7 +137,7 @@ pub fn lay_times(out: &mut [u32], s: Laid, r: usize, f: usize, g: usize) -> Laid
 
 // The terms of given variables and coefficients.
 fn lay_given(out: &mut [u32], s: Laid, xs: &[usize], cs: &[i64]) -> Laid
-    requires { ⌜ (total s < 900000000000) × (length (now xs) ≤ 66) × (length (now cs) ≡ length (now xs)) ⌝ }
+    requires { ⌜ Room 1000 s × (length (now xs) ≤ 66) × (length (now cs) ≡ length (now xs)) ⌝ }
     ensures { λ r. ⌜ Went s r (now (out .entry)) (now (out .exit)) (many (termAt (now (xs .entry)) (now (cs .entry))) (length (now (xs .entry)))) × Near 1000 s r ⌝ }
 {
     let mut t = s;
@@ -165,7 +166,7 @@ fn all_in_range(cs: &[i64]) -> bool
 
 // A row of a kind, of given variables and coefficients.
 pub fn lay_row(out: &mut [u32], s: Laid, kind: u32, xs: &[usize], cs: &[i64], c: i64) -> Laid
-    requires { ⌜ (total s < 800000000000) × (kind < 16) × (length (now xs) ≤ 66) × (length (now cs) ≡ length (now xs)) ⌝ }
+    requires { ⌜ Room 2000 s × (kind < 16) × (length (now xs) ≤ 66) × (length (now cs) ≡ length (now xs)) ⌝ }
     ensures { λ r. ⌜ Went s r (now (out .entry)) (now (out .exit)) (rowOf kind (now (xs .entry)) (now (cs .entry)) c) × Near 2000 s r ⌝ }
 {
     if out.len() <= s.words {
@@ -179,7 +180,7 @@ pub fn lay_row(out: &mut [u32], s: Laid, kind: u32, xs: &[usize], cs: &[i64], c:
 
 // For the sign bit b of x, which is at most u: x + (u+1)×b − u ≤ 0.
 pub fn lay_only_negative(out: &mut [u32], s: Laid, x: usize, b: usize, u: i64) -> Laid
-    requires { ⌜ (total s < 800000000000) × (natAbs u ≤ 1152921504606846976) ⌝ }
+    requires { ⌜ Room 2000 s × (natAbs u ≤ 1152921504606846976) ⌝ }
     ensures { λ r. ⌜ Went s r (now (out .entry)) (now (out .exit)) (rowOf Kind.atMost (x ∷ b ∷ []) (+1 ∷ (u ⊕ +1) ∷ []) (neg u)) × Near 2000 s r ⌝ }
 {
     let xs = [x, b];
@@ -203,7 +204,7 @@ pub fn numbers_in_range(args: &[u32], base: usize, n: usize) -> bool
 
 // The terms of the parallel lists whose length word is at place i.
 pub fn lay_terms(out: &mut [u32], s: Laid, args: &[u32], i: usize) -> Laid
-    requires { ⌜ (total s < 900000000000) × (i < 1000000000000) ⌝ }
+    requires { ⌜ Room 1000 s × (i < 1000000000000) ⌝ }
     ensures { λ r. ⌜ Went s r (now (out .entry)) (now (out .exit)) (many (sumAt (now (args .entry)) (i + 1) (past (now (args .entry)) i)) (size (now (args .entry)) i)) × Near 1000 s r ⌝ }
 {
     let n = size_at(args, i);
@@ -222,7 +223,7 @@ pub fn lay_terms(out: &mut [u32], s: Laid, args: &[u32], i: usize) -> Laid
 
 // c × each variable of the list whose length word is at place i.
 pub fn lay_each(out: &mut [u32], s: Laid, args: &[u32], i: usize, c: i64) -> Laid
-    requires { ⌜ (total s < 900000000000) × (i < 1000000000000) ⌝ }
+    requires { ⌜ Room 1000 s × (i < 1000000000000) ⌝ }
     ensures { λ r. ⌜ Went s r (now (out .entry)) (now (out .exit)) (many (eachAt (now (args .entry)) c (i + 1)) (size (now (args .entry)) i)) × Near 1000 s r ⌝ }
 {
     let n = size_at(args, i);
@@ -240,7 +241,7 @@ pub fn lay_each(out: &mut [u32], s: Laid, args: &[u32], i: usize, c: i64) -> Lai
 
 // The bounds of n bits.
 pub fn lay_bits(out: &mut [u32], s: Laid, n: usize) -> Laid
-    requires { ⌜ (total s < 900000000000) × (n ≤ 66) ⌝ }
+    requires { ⌜ Room 1000 s × (n ≤ 66) ⌝ }
     ensures { λ r. ⌜ Went s r (now (out .entry)) (now (out .exit)) (many bitAt n) × Near 1000 s r ⌝ }
 {
     if out.len() <= s.words {
@@ -257,7 +258,7 @@ pub fn lay_bits(out: &mut [u32], s: Laid, n: usize) -> Laid
 
 // c × each of n consecutive variables from v on.
 pub fn lay_same(out: &mut [u32], s: Laid, c: i64, v: usize, n: usize) -> Laid
-    requires { ⌜ (total s < 900000000000) × (n ≤ 66) × (v < 1000000000000) ⌝ }
+    requires { ⌜ Room 1000 s × (n ≤ 66) × (v < 1000000000000) ⌝ }
     ensures { λ r. ⌜ Went s r (now (out .entry)) (now (out .exit)) (many (sameAt c v) n) × Near 1000 s r ⌝ }
 {
     if both(out.len() <= s.words, in_range(c)) {
@@ -274,7 +275,7 @@ pub fn lay_same(out: &mut [u32], s: Laid, c: i64, v: usize, n: usize) -> Laid
 
 // Consecutive numbers × consecutive variables, n of them.
 pub fn lay_labels(out: &mut [u32], s: Laid, from: i64, v: usize, n: usize) -> Laid
-    requires { ⌜ (total s < 900000000000) × (n ≤ 66) × (v < 1000000000000) × (natAbs from < 1000000000000) ⌝ }
+    requires { ⌜ Room 1000 s × (n ≤ 66) × (v < 1000000000000) × (natAbs from < 1000000000000) ⌝ }
     ensures { λ r. ⌜ Went s r (now (out .entry)) (now (out .exit)) (many (labelAt from v) n) × Near 1000 s r ⌝ }
 {
     if both(
@@ -302,7 +303,7 @@ pub fn lay_products(
     b: usize,
     n: usize,
 ) -> Laid
-    requires { ⌜ (total s < 900000000000) × (n ≤ 66) × (base < 1000000000000) × (z < 1000000000000) × (b < 1000000000000) ⌝ }
+    requires { ⌜ Room 1000 s × (n ≤ 66) × (base < 1000000000000) × (z < 1000000000000) × (b < 1000000000000) ⌝ }
     ensures { λ r. ⌜ Went s r (now (out .entry)) (now (out .exit)) (many (productAt (now (args .entry)) base z b) n) × Near 1000 s r ⌝ }
 {
     if out.len() <= s.words {
@@ -319,7 +320,7 @@ pub fn lay_products(
 
 // n rows x − m ≤ 0, x the variables from place base on.
 pub fn lay_below(out: &mut [u32], s: Laid, args: &[u32], base: usize, m: usize, n: usize) -> Laid
-    requires { ⌜ (total s < 700000000000) × (n ≤ 66) × (base < 1000000000000) ⌝ }
+    requires { ⌜ Room 200000 s × (n ≤ 66) × (base < 1000000000000) ⌝ }
     ensures { λ r. ⌜ Went s r (now (out .entry)) (now (out .exit)) (many (belowAt (now (args .entry)) base m) n) × Near 200000 s r ⌝ }
 {
     if out.len() <= s.words {
@@ -338,7 +339,7 @@ pub fn lay_below(out: &mut [u32], s: Laid, args: &[u32], base: usize, m: usize, 
 
 // n rows r − x ≤ 0, x the variables from place base on.
 pub fn lay_above(out: &mut [u32], s: Laid, args: &[u32], r: usize, base: usize, n: usize) -> Laid
-    requires { ⌜ (total s < 700000000000) × (n ≤ 66) × (base < 1000000000000) ⌝ }
+    requires { ⌜ Room 200000 s × (n ≤ 66) × (base < 1000000000000) ⌝ }
     ensures { λ t. ⌜ Went s t (now (out .entry)) (now (out .exit)) (many (aboveAt (now (args .entry)) r base) n) × Near 200000 s t ⌝ }
 {
     if out.len() <= s.words {

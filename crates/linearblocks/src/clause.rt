@@ -1,20 +1,21 @@
 // Codes 21 to 23: the blocks of lists of Boolean variables.
 ghost use mathlib.Core.Path.{_≡_};
 ghost use mathlib.Core.List.{[], _∷_, _++_};
-ghost use Prim.Native.Nat.{ℕ, _<_, _≤_};
+ghost use Prim.Native.Nat.{ℕ, _≤_};
 ghost use lib.IntN.{pos};
-ghost use lib.ListN.{length};
 ghost use Rattle.integers.specs.Number.{_⊖_, +1, -1, -2};
 ghost use Rattle.integers.specs.Terms.{_·_};
 ghost use Rattle.integers.specs.declared.Bounds.{Bounds};
-ghost use Rattle.models.specs.Builtin.{bool-clause, array-bool-and, array-bool-xor};
-ghost use Rattle.models.specs.Model.{var, vars, past};
+ghost use Rattle.models.specs.Builtin.{array-bool-xor};
+ghost use Rattle.models.specs.Model.{vars};
 ghost use Rattle.rules.specs.Rule.{rule};
-ghost use Rattle.rowsystems.specs.Row.{sum≤0, sum=0};
-ghost use Rattle.rules.specs.Block.{source, aux};
+ghost use Rattle.rowsystems.specs.Row.{sum=0};
+ghost use Rattle.rules.specs.Block.{aux};
 ghost use Rattle.rules.specs.Parts.{each};
 ghost use Rattle.laying.specs.Part.{rowParts, blockParts};
-ghost use Rattle.laying.specs.Went.{Went, Near, total};
+ghost use Rattle.laying.specs.Went.{Went, Near};
+ghost use Rattle.laying.specs.Room.{Room, BlockRoom};
+ghost use Rattle.linearblocks.specs.Rows.{allRow, clauseOf, andOf};
 use arguments::past_at;
 use arguments::size_at;
 use arguments::var_at;
@@ -39,8 +40,9 @@ fn one_less(n: usize) -> i64
 
 // bool_clause: −Σas+Σbs+1−m≤0, m the second list's length.
 pub fn bool_clause(out: &mut [u32], s: Laid, args: &[u32]) -> Laid
-    requires { ⌜ total s < 1000000000 ⌝ }
-    ensures { λ r. ⌜ ((first : ℕ) (β : ℕ → Bounds) → Went s r (now (out .entry)) (now (out .exit)) (blockParts first (rule β (bool-clause (vars (now (args .entry)) 0) (vars (now (args .entry)) (past (now (args .entry)) 0)))))) × Near 1000000 s r ⌝ }
+    requires { ⌜ BlockRoom s ⌝ }
+    ensures parts { λ r. ⌜ ((first : ℕ) (β : ℕ → Bounds) → Went s r (now (out .entry)) (now (out .exit)) (blockParts first (rule β (clauseOf (now (args .entry)))))) ⌝ }
+    ensures size { λ r. ⌜ Near 1000000 s r ⌝ }
 {
     let second = past_at(args, 0);
     let m = size_at(args, second);
@@ -52,8 +54,9 @@ pub fn bool_clause(out: &mut [u32], s: Laid, args: &[u32]) -> Laid
 
 // Σas−r−n+1≤0
 fn lay_all(out: &mut [u32], s: Laid, args: &[u32], r: usize) -> Laid
-    requires { ⌜ total s < 2000000000 ⌝ }
-    ensures { λ t. ⌜ ((first : ℕ) → Went s t (now (out .entry)) (now (out .exit)) (rowParts first (sum≤0 (each +1 (vars (now (args .entry)) 0) ++ (-1 · source r ∷ [])) (+1 ⊖ pos (length (vars (now (args .entry)) 0)))))) × Near 2000 s t ⌝ }
+    requires { ⌜ Room 2000 s ⌝ }
+    ensures parts { λ t. ⌜ ((first : ℕ) → Went s t (now (out .entry)) (now (out .exit)) (rowParts first (allRow (vars (now (args .entry)) 0) r))) ⌝ }
+    ensures size { λ t. ⌜ Near 2000 s t ⌝ }
 {
     let n = size_at(args, 0);
     let begun = lay_head(out, s, kind::AT_MOST, n + 1);
@@ -64,8 +67,9 @@ fn lay_all(out: &mut [u32], s: Laid, args: &[u32], r: usize) -> Laid
 
 // array_bool_and: each r−as_i≤0; Σas−r−n+1≤0.
 pub fn array_bool_and(out: &mut [u32], s: Laid, args: &[u32]) -> Laid
-    requires { ⌜ total s < 1000000000 ⌝ }
-    ensures { λ r. ⌜ ((first : ℕ) (β : ℕ → Bounds) → Went s r (now (out .entry)) (now (out .exit)) (blockParts first (rule β (array-bool-and (vars (now (args .entry)) 0) (var (now (args .entry)) (past (now (args .entry)) 0)))))) × Near 1000000 s r ⌝ }
+    requires { ⌜ BlockRoom s ⌝ }
+    ensures parts { λ r. ⌜ ((first : ℕ) (β : ℕ → Bounds) → Went s r (now (out .entry)) (now (out .exit)) (blockParts first (rule β (andOf (now (args .entry)))))) ⌝ }
+    ensures size { λ r. ⌜ Near 1000000 s r ⌝ }
 {
     let r = var_at(args, past_at(args, 0));
     let t = lay_above(out, s, args, r, 1, size_at(args, 0));
@@ -74,7 +78,7 @@ pub fn array_bool_and(out: &mut [u32], s: Laid, args: &[u32]) -> Laid
 
 // Σ−2×t−1=0, t the variable `first`.
 fn lay_odd(out: &mut [u32], s: Laid, args: &[u32], first: usize) -> Laid
-    requires { ⌜ total s < 2000000000 ⌝ }
+    requires { ⌜ Room 2000 s ⌝ }
     ensures { λ r. ⌜ Went s r (now (out .entry)) (now (out .exit)) (rowParts first (sum=0 (each +1 (vars (now (args .entry)) 0) ++ (-2 · aux 0 ∷ [])) -1)) × Near 2000 s r ⌝ }
 {
     let begun = lay_head(out, s, kind::EQUAL, size_at(args, 0) + 1);
@@ -85,7 +89,7 @@ fn lay_odd(out: &mut [u32], s: Laid, args: &[u32], first: usize) -> Laid
 
 // array_bool_xor: t from 0 to (n−1)/2: Σ−2×t−1=0.
 pub fn array_bool_xor(out: &mut [u32], s: Laid, args: &[u32], first: usize) -> Laid
-    requires { ⌜ total s < 1000000000 ⌝ }
+    requires { ⌜ BlockRoom s ⌝ }
     ensures { λ r. ⌜ ((β : ℕ → Bounds) → Went s r (now (out .entry)) (now (out .exit)) (blockParts first (rule β (array-bool-xor (vars (now (args .entry)) 0))))) × Near 1000000 s r ⌝ }
 {
     let t = lay_bound(out, s, 0, half_less(size_at(args, 0)));

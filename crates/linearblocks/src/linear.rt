@@ -3,13 +3,14 @@ ghost use mathlib.Core.Path.{_≡_};
 ghost use mathlib.Core.List.{flatMap};
 ghost use Prim.Native.Nat.{ℕ, _<_, _≤_};
 ghost use lib.IntN.{natAbs};
-ghost use Rattle.models.specs.Builtin.{int-lin-eq, int-lin-le, int-lin-ne, int-lin-le-reif};
-ghost use Rattle.builtins.specs.Coded.{linear, linearReified};
+ghost use Rattle.models.specs.Builtin.{int-lin-eq, int-lin-le, int-lin-ne};
+ghost use Rattle.builtins.specs.Coded.{linear};
 ghost use Rattle.rules.specs.Rule.{rule, zeroRows};
 ghost use Rattle.linearsums.specs.Sum.{linearSum, equalSum, Fits};
 ghost use Rattle.laying.specs.Part.{rowParts, blockParts};
-ghost use Rattle.laying.specs.Went.{Went, Near, total};
-ghost use Rattle.linearblocks.specs.Rows.{sizeRows, atMostRows, termsReified, twoReified};
+ghost use Rattle.laying.specs.Went.{Went, Near};
+ghost use Rattle.laying.specs.Room.{Room, BlockRoom};
+ghost use Rattle.linearblocks.specs.Rows.{sizeRows, atMostRows, termsReified, twoReified, atMostReified};
 use crate::sums::larger_size;
 use crate::sums::lay_slack;
 use crate::sums::lay_split;
@@ -27,7 +28,7 @@ use words::word_at;
 
 // int_lin_eq: Σ−c=0.
 pub fn int_lin_eq(out: &mut [u32], s: Laid, args: &[u32]) -> Laid
-    requires { ⌜ total s < 1000000000 ⌝ }
+    requires { ⌜ BlockRoom s ⌝ }
     ensures { λ r. ⌜ ((first : ℕ) (β : ℕ → Bounds) → Went s r (now (out .entry)) (now (out .exit)) (blockParts first (rule β (linear int-lin-eq (now (args .entry)))))) × Near 1000000 s r ⌝ }
 {
     lay_sum(out, s, kind::EQUAL, args)
@@ -35,7 +36,7 @@ pub fn int_lin_eq(out: &mut [u32], s: Laid, args: &[u32]) -> Laid
 
 // int_lin_le: Σ−c≤0.
 pub fn int_lin_le(out: &mut [u32], s: Laid, args: &[u32]) -> Laid
-    requires { ⌜ total s < 1000000000 ⌝ }
+    requires { ⌜ BlockRoom s ⌝ }
     ensures { λ r. ⌜ ((first : ℕ) (β : ℕ → Bounds) → Went s r (now (out .entry)) (now (out .exit)) (blockParts first (rule β (linear int-lin-le (now (args .entry)))))) × Near 1000000 s r ⌝ }
 {
     lay_sum(out, s, kind::AT_MOST, args)
@@ -43,8 +44,9 @@ pub fn int_lin_le(out: &mut [u32], s: Laid, args: &[u32]) -> Laid
 
 // int_lin_ne: x in L..U, b, z in Z(x): Σ−x−c=0; z:=b×x; −x+2×z+1≤0; x+(U+1)×b−U≤0.
 pub fn int_lin_ne(out: &mut [u32], s: Laid, args: &[u32], sum: Bounds, first: usize) -> Laid
-    requires { ⌜ (total s < 1000000000) × (first < 10000) × Fits sum ⌝ }
-    ensures { λ r. ⌜ ((β : ℕ → Bounds) → sum ≡ linearSum β (now (args .entry)) → Went s r (now (out .entry)) (now (out .exit)) (blockParts first (rule β (linear int-lin-ne (now (args .entry)))))) × Near 1000000 s r ⌝ }
+    requires { ⌜ BlockRoom s × (first < 10000) × Fits sum ⌝ }
+    ensures parts { λ r. let ws = now (args .entry) in ⌜ ((β : ℕ → Bounds) → sum ≡ linearSum β ws → Went s r (now (out .entry)) (now (out .exit)) (blockParts first (rule β (linear int-lin-ne ws)))) ⌝ }
+    ensures size { λ r. ⌜ Near 1000000 s r ⌝ }
 {
     let lower = sum.lower;
     let upper = sum.upper;
@@ -66,7 +68,7 @@ fn lay_size(
     v: i64,
     first: usize,
 ) -> Laid
-    requires { ⌜ (total s < 2000000000) × (first < 10000) ⌝ }
+    requires { ⌜ Room 10000 s × (first < 10000) ⌝ }
     ensures { λ t. ⌜ Went s t (now (out .entry)) (now (out .exit)) (flatMap (rowParts first) (sizeRows r p q u v)) × Near 10000 s t ⌝ }
 {
     let xs = [first, first + 2, r];
@@ -78,7 +80,7 @@ fn lay_size(
 
 // x−2×z+W×r−W≤0; −x+2×z−r+1≤0. Where it is not `equal`: x−2×z−W×r≤0; −x+2×z+r≤0.
 fn lay_zero(out: &mut [u32], s: Laid, w: i64, r: usize, first: usize, equal: bool) -> Laid
-    requires { ⌜ (total s < 2000000000) × (first < 10000) × (natAbs w ≤ 1152921504606846976) ⌝ }
+    requires { ⌜ Room 10000 s × (first < 10000) × (natAbs w ≤ 1152921504606846976) ⌝ }
     ensures { λ t. ⌜ Went s t (now (out .entry)) (now (out .exit)) (flatMap (rowParts first) (zeroRows equal w r)) × Near 10000 s t ⌝ }
 {
     let less = opposite(w);
@@ -97,8 +99,9 @@ pub fn zero_reif(
     first: usize,
     equal: bool,
 ) -> Laid
-    requires { ⌜ (total s < 1000000000) × (first < 10000) × Fits sum ⌝ }
-    ensures { λ r. ⌜ ((β : ℕ → Bounds) → sum ≡ linearSum β (now (args .entry)) → Went s r (now (out .entry)) (now (out .exit)) (blockParts first (termsReified β equal (now (args .entry))))) × Near 1000000 s r ⌝ }
+    requires { ⌜ BlockRoom s × (first < 10000) × Fits sum ⌝ }
+    ensures parts { λ r. let ws = now (args .entry) in ⌜ ((β : ℕ → Bounds) → sum ≡ linearSum β ws → Went s r (now (out .entry)) (now (out .exit)) (blockParts first (termsReified β equal ws))) ⌝ }
+    ensures size { λ r. ⌜ Near 1000000 s r ⌝ }
 {
     let lower = sum.lower;
     let upper = sum.upper;
@@ -118,8 +121,9 @@ pub fn two_reif(
     first: usize,
     equal: bool,
 ) -> Laid
-    requires { ⌜ (total s < 1000000000) × (first < 10000) × Fits sum ⌝ }
-    ensures { λ r. ⌜ ((β : ℕ → Bounds) → sum ≡ equalSum β (now (args .entry)) → Went s r (now (out .entry)) (now (out .exit)) (blockParts first (twoReified β equal (now (args .entry))))) × Near 1000000 s r ⌝ }
+    requires { ⌜ BlockRoom s × (first < 10000) × Fits sum ⌝ }
+    ensures parts { λ r. let ws = now (args .entry) in ⌜ ((β : ℕ → Bounds) → sum ≡ equalSum β ws → Went s r (now (out .entry)) (now (out .exit)) (blockParts first (twoReified β equal ws))) ⌝ }
+    ensures size { λ r. ⌜ Near 1000000 s r ⌝ }
 {
     let a = word_at(args, 0);
     let b = word_at(args, 1);
@@ -131,7 +135,7 @@ pub fn two_reif(
 
 // x+U×r−U≤0; −x+(L−1)×r+1≤0, x the variable `first`.
 fn lay_at_most(out: &mut [u32], s: Laid, lower: i64, upper: i64, r: usize, first: usize) -> Laid
-    requires { ⌜ (total s < 2000000000) × (first < 10000) × (natAbs lower ≤ 1152921504606846976) × (natAbs upper ≤ 1152921504606846976) ⌝ }
+    requires { ⌜ Room 10000 s × (first < 10000) × (natAbs lower ≤ 1152921504606846976) × (natAbs upper ≤ 1152921504606846976) ⌝ }
     ensures { λ t. ⌜ Went s t (now (out .entry)) (now (out .exit)) (flatMap (rowParts first) (atMostRows lower upper r)) × Near 10000 s t ⌝ }
 {
     let xs = [first, r];
@@ -143,8 +147,9 @@ fn lay_at_most(out: &mut [u32], s: Laid, lower: i64, upper: i64, r: usize, first
 
 // int_lin_le_reif: x in L..U: Σ−x−c=0; x+U×r−U≤0; −x+(L−1)×r+1≤0.
 pub fn int_lin_le_reif(out: &mut [u32], s: Laid, args: &[u32], sum: Bounds, first: usize) -> Laid
-    requires { ⌜ (total s < 1000000000) × (first < 10000) × Fits sum ⌝ }
-    ensures { λ r. ⌜ ((β : ℕ → Bounds) → sum ≡ linearSum β (now (args .entry)) → Went s r (now (out .entry)) (now (out .exit)) (blockParts first (rule β (linearReified int-lin-le-reif (now (args .entry)))))) × Near 1000000 s r ⌝ }
+    requires { ⌜ BlockRoom s × (first < 10000) × Fits sum ⌝ }
+    ensures parts { λ r. let ws = now (args .entry) in ⌜ ((β : ℕ → Bounds) → sum ≡ linearSum β ws → Went s r (now (out .entry)) (now (out .exit)) (blockParts first (atMostReified β ws))) ⌝ }
+    ensures size { λ r. ⌜ Near 1000000 s r ⌝ }
 {
     let lower = sum.lower;
     let upper = sum.upper;

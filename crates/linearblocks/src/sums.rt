@@ -1,15 +1,14 @@
 // What several linear blocks share: the constant c, absolute values, and rows that begin with the sum.
 ghost use mathlib.Core.Path.{_≡_};
-ghost use mathlib.Core.List.{[], _∷_, _++_};
+ghost use mathlib.Core.List.{[], _∷_};
 ghost use Prim.Native.Nat.{ℕ, _<_, _≤_};
 ghost use lib.IntN.{natAbs};
-ghost use lib.ListN.{length};
 ghost use Rattle.integers.specs.Number.{neg, maxZ, absZ};
-ghost use Rattle.models.specs.Model.{num, terms, pastTerms};
-ghost use Rattle.rules.specs.Parts.{sources};
-ghost use Rattle.laying.specs.Part.{head, constant, termParts, rowParts, blockParts};
-ghost use Rattle.laying.specs.Went.{Went, Near, total};
-ghost use Rattle.linearblocks.specs.Rows.{link, split, slack};
+ghost use Rattle.models.specs.Model.{num, pastTerms};
+ghost use Rattle.laying.specs.Part.{constant, rowParts, blockParts};
+ghost use Rattle.laying.specs.Went.{Went, Near};
+ghost use Rattle.laying.specs.Room.{Room, BlockRoom};
+ghost use Rattle.linearblocks.specs.Rows.{link, split, slack, sumParts};
 use arguments::num_at;
 use arguments::past_terms_at;
 use arguments::size_at;
@@ -51,7 +50,7 @@ fn constant_of(args: &[u32]) -> i64
 
 // The constant of a row, the opposite of the constant after the terms.
 fn lay_minus_constant(out: &mut [u32], s: Laid, args: &[u32]) -> Laid
-    requires { ⌜ total s < 10000000000 ⌝ }
+    requires { ⌜ Room 10 s ⌝ }
     ensures { λ r. ⌜ Went s r (now (out .entry)) (now (out .exit)) (constant (neg (num (now (args .entry)) (pastTerms (now (args .entry)) 0))) ∷ []) × Near 10 s r ⌝ }
 {
     lay_constant(out, s, opposite(constant_of(args)))
@@ -59,8 +58,9 @@ fn lay_minus_constant(out: &mut [u32], s: Laid, args: &[u32]) -> Laid
 
 // A row of a kind: Σ−c.
 pub fn lay_sum(out: &mut [u32], s: Laid, kind: u32, args: &[u32]) -> Laid
-    requires { ⌜ (total s < 2000000000) × (kind < 16) ⌝ }
-    ensures { λ r. ⌜ ((first : ℕ) → Went s r (now (out .entry)) (now (out .exit)) (head kind (length (sources (terms (now (args .entry)) 0))) ∷ (termParts first (sources (terms (now (args .entry)) 0)) ++ (constant (neg (num (now (args .entry)) (pastTerms (now (args .entry)) 0))) ∷ [])))) × Near 2000 s r ⌝ }
+    requires { ⌜ Room 2000 s × (kind < 16) ⌝ }
+    ensures parts { λ r. ⌜ ((first : ℕ) → Went s r (now (out .entry)) (now (out .exit)) (sumParts kind first (now (args .entry)))) ⌝ }
+    ensures size { λ r. ⌜ Near 2000 s r ⌝ }
 {
     let begun = lay_head(out, s, kind, size_at(args, 0));
     let t = lay_terms(out, begun, args, 0);
@@ -69,7 +69,7 @@ pub fn lay_sum(out: &mut [u32], s: Laid, kind: u32, args: &[u32]) -> Laid
 
 // Σ−x−c=0
 pub fn lay_link(out: &mut [u32], s: Laid, args: &[u32], first: usize) -> Laid
-    requires { ⌜ total s < 2000000000 ⌝ }
+    requires { ⌜ Room 2000 s ⌝ }
     ensures { λ r. ⌜ Went s r (now (out .entry)) (now (out .exit)) (rowParts first (link (now (args .entry)))) × Near 2000 s r ⌝ }
 {
     let begun = lay_head(out, s, kind::EQUAL, size_at(args, 0) + 1);
@@ -87,7 +87,7 @@ pub fn lay_slack(
     upper: i64,
     first: usize,
 ) -> Laid
-    requires { ⌜ total s < 1000000000 ⌝ }
+    requires { ⌜ BlockRoom s ⌝ }
     ensures { λ r. ⌜ Went s r (now (out .entry)) (now (out .exit)) (blockParts first (slack (now (args .entry)) lower upper)) × Near 10000 s r ⌝ }
 {
     let t = lay_bound(out, s, lower, upper);
@@ -103,7 +103,7 @@ pub fn lay_split(
     upper: i64,
     first: usize,
 ) -> Laid
-    requires { ⌜ (total s < 1000000000) × (first < 10000) ⌝ }
+    requires { ⌜ BlockRoom s × (first < 10000) ⌝ }
     ensures { λ r. ⌜ Went s r (now (out .entry)) (now (out .exit)) (blockParts first (split (now (args .entry)) lower upper)) × Near 10000 s r ⌝ }
 {
     let x = lay_bound(out, s, lower, upper);

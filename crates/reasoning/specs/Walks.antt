@@ -26,7 +26,7 @@ use Rattle.rowreading.specs.Onward.{onward}
 use Rattle.rules.specs.Block.{Block, blockWords, numbered}
 use Rattle.rules.specs.InRange.{outside}
 use Rattle.rules.specs.Shared.{Encoded}
-use Rattle.rules.specs.Translation.{blockOf, auxiliaries}
+use Rattle.rules.specs.Translation.{auxiliaries}
 use Rattle.rules.specs.Check.{tooWide}
 use Rattle.sharing.specs.SharedSolutions.{Passes}
 use Rattle.reasons.specs.Reason.{none, explained, inBlock, firstFailing}
@@ -34,7 +34,7 @@ use Rattle.laying.specs.declared.Laid.{Laid}
 use Rattle.extremes.specs.Bounded.{boundsOf, Bounded}
 use Rattle.linearsums.specs.Sum.{Summed}
 use Rattle.encodings.specs.Uses.{sharedBy, Recorded}
-use Rattle.blocks.specs.Coded.{constraintOf}
+use Rattle.blocks.specs.Coded.{constraintOf, blockAt}
 use Rattle.translation.specs.ModelBounds.{ModelBounds, modelSums}
 use Rattle.reasoning.specs.declared.Said.{Said}
 use Rattle.reasoning.specs.declared.Stopped.{Stopped}
@@ -55,10 +55,6 @@ pub record ReadsBack (first : ℕ) (B : Block) : Type 0 where
   pub no-more : variables (drop (2 * length (B .auxiliaries)) (blockAndEnd first B)) ≡ []
   pub the-rows : rows (drop (2 * length (B .auxiliaries)) (blockAndEnd first B)) ≡ rowsAt first B
   pub accepts : onward Item (first + length (B .auxiliaries)) (2 * length (B .auxiliaries)) (blockAndEnd first B) ≡ accepted
-
--- the block of a code and the words after its head
-abbrev pub blockAt : List ℤ → List ℤ → List ℕ → Encoded → ℕ → List ℕ → Block
-blockAt ls us uses e code args = blockOf (boundsOf ls us) (sharedBy uses) e (constraintOf code args)
 
 -- what the writer of a block needs
 pub record Layable (ls us : List ℤ) (uses : List ℕ) (e : Encoded) (code : ℕ) (args : List ℕ) (sum : Bounds) (first : ℕ) : Type 0 where
