@@ -78,7 +78,7 @@ fn check_row(
     firsts: &[usize],
     first: usize,
 ) -> Checked
-    requires { ⌜ BitLists (now ls) (now us) (now firsts) × (first < Size.places) ⌝ }
+    requires { ⌜ BitLists (now ls) (now us) (now firsts) × (first < Size.farthest) ⌝ }
     ensures { λ r. ⌜ RowChecked (length (now (row .entry))) (rowBy (now (ls .entry)) (now (us .entry)) (now (firsts .entry)) first head (now (args .entry))) (r .fits) (r .constant) ⌝ }
 {
     let c = row_constant(head, args, ls);

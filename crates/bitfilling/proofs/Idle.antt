@@ -29,7 +29,7 @@ use Rattle.bitforms.specs.RowParts.{rowEntry}
 use Rattle.bitforms.proofs.Numbers.{with-length, pairs-all}
 use Rattle.bittables.specs.BitTables.{spanIn, bitsOf, rowOver, BitCounts}
 use Rattle.bitrows.specs.Terms.{termIn}
-use Rattle.bitfilling.specs.Idle.{Outside, NoBitOf, Idle, IdleRow}
+use Rattle.bitfilling.specs.Idle.{NotAmong, NoBitOf, Idle, IdleRow}
 
 module _ (i : ℕ) where
   abbrev Other : ℕ → Type 0
@@ -80,7 +80,7 @@ module _ (i : ℕ) where
           zeros : (a : ℤ) → pos 0 ⊗ a ≡ pos 0
           zeros = simp linear (omega arith)
 
-  weighted-others : (first : ℕ) (ws : List ℕ) → Outside first (length ws) i → Others (weightedBits first ws)
+  weighted-others : (first : ℕ) (ws : List ℕ) → NotAmong first (length ws) i → Others (weightedBits first ws)
   unfolding weightedBits
   weighted-others first [] h = tt
   weighted-others first (w ∷ ws) h = (λ e. h 0 (omega arith) (omega arith), weighted-others (suc first) ws (λ k l e. h (suc k) (omega arith) (omega arith)))
@@ -134,12 +134,12 @@ module _ (i : ℕ) where
   no-pairs [] j h = refl
   no-pairs (p ∷ ps) j h = rw (no-pair p j (h .0), no-pairs ps j (h .1)) refl
 
-  with-other : (first : ℕ) (f : Term ℕ) (gs : List (Term ℕ)) → Outside first (length gs) i → All (λ p. Other (p .t)) (pairsWith first f gs)
+  with-other : (first : ℕ) (f : Term ℕ) (gs : List (Term ℕ)) → NotAmong first (length gs) i → All (λ p. Other (p .t)) (pairsWith first f gs)
   unfolding pairsWith
   with-other first f [] h = tt
   with-other first f (g ∷ gs) h = (λ e. h 0 (omega arith) (omega arith), with-other (suc first) f gs (λ k l e. h (suc k) (omega arith) (omega arith)))
 
-  pairs-other : (first : ℕ) (fs gs : List (Term ℕ)) → Outside first (length (pairsOf first fs gs)) i → All (λ p. Other (p .t)) (pairsOf first fs gs)
+  pairs-other : (first : ℕ) (fs gs : List (Term ℕ)) → NotAmong first (length (pairsOf first fs gs)) i → All (λ p. Other (p .t)) (pairsOf first fs gs)
   unfolding pairsOf
   pairs-other first [] gs h = tt
   pairs-other first (f ∷ fs) gs h =
@@ -163,9 +163,9 @@ module _ (i : ℕ) where
   module _ (ls us : List ℤ) (firsts counts : List ℕ) (counted : BitCounts ls us counts) where
     bits-others : (v : ℕ) → NoBitOf firsts counts i v → Others (bitsOf ls us firsts v)
     unfolding bitsOf
-    bits-others v h = weighted-others (getD firsts v 0) (weights (spanIn ls us v)) (subst (λ n. Outside (getD firsts v 0) n i) (counted v) h)
+    bits-others v h = weighted-others (getD firsts v 0) (weights (spanIn ls us v)) (subst (λ n. NotAmong (getD firsts v 0) n i) (counted v) h)
 
-    pub idle-row : (first own : ℕ) (q : Row ℕ) → own ≡ rowOver ls us firsts first q .own → Outside first own i → IdleRow (NoBitOf firsts counts i) q →
+    pub idle-row : (first own : ℕ) (q : Row ℕ) → own ≡ rowOver ls us firsts first q .own → NotAmong first own i → IdleRow (NoBitOf firsts counts i) q →
         (j : ℕ) → rowEntry (rowOver ls us firsts first q) i j ≡ +0
     unfolding bitRow over productWhole IdleRow sumOver
     idle-row first own (sum≤0 ts c) e o h j =
@@ -173,14 +173,14 @@ module _ (i : ℕ) where
         let T = flatMap (λ t. scaled (t .coefficient) (bitsOf ls us firsts (t .variable))) ts in
         without (rowOver ls us firsts first (sum≤0 ts c) .whole) [] j
         (all-append Still T (weightedBits first s) .1
-        (over-still (NoBitOf firsts counts i) (bitsOf ls us firsts) bits-others ts h, others-still (weightedBits first s) (weighted-others first s (subst (λ n. Outside first n i) e o)))) refl
+        (over-still (NoBitOf firsts counts i) (bitsOf ls us firsts) bits-others ts h, others-still (weightedBits first s) (weighted-others first s (subst (λ n. NotAmong first n i) e o)))) refl
     idle-row first own (sum=0 ts c) e o h j =
         without (rowOver ls us firsts first (sum=0 ts c) .whole) [] j (over-still (NoBitOf firsts counts i) (bitsOf ls us firsts) bits-others ts h) refl
     idle-row first own (product r f g) e o (hr, hf, hg) j =
         let fs = bitsOf ls us firsts f in
         let gs = bitsOf ls us firsts g in
         let ps = pairsOf first fs gs in
-        let p = pairs-other first fs gs (subst (λ n. Outside first n i) e o) in
+        let p = pairs-other first fs gs (subst (λ n. NotAmong first n i) e o) in
         let G = scaled (neg (getD ls f +0)) gs in
         let F = scaled (neg (getD ls g +0)) fs in
         let P = map (λ p. neg (p .weight) · p .t) ps in

@@ -36,7 +36,7 @@ fits-sizes n r h =
 -- the square, and the products of bits
 pub row-added : (line : List ℤ) (r : BitRow) (i m : ℕ) {after : List ℤ} → i + m ≡ length line →
     after ≡ addTerms (addTerms line (wholeTerms (length line) r i m)) (flatMap (λ p. pairTerms p i) (r .pairs)) →
-    peak after ≤ peak line + Size.row → Added r i line after
+    peak after ≤ peak line + Size.largestRow → Added r i line after
 row-added line r i m {after} k e p =
     let d : m ≡ length line - i = omega arith in
     let s = wholeTerms (length line) r i m in

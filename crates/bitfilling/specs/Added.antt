@@ -17,7 +17,7 @@ use Rattle.bitrows.specs.Terms.{pairsTerms}
 use Rattle.bitfilling.specs.Filled.{dense}
 
 -- a line and a row over bits have a number for each of n bits
-pub record Sized (n : ℕ) (line row : List ℤ) : Type 0 where
+pub record LineAndRow (n : ℕ) (line row : List ℤ) : Type 0 where
   pub line-size : length line ≡ n
   pub row-size : length row ≡ n
   pub few : n ≤ mostBits
@@ -27,7 +27,7 @@ abbrev pub wholeTerms : ℕ → BitRow → ℕ → ℕ → List (Term ℕ)
 wholeTerms n r i m = squareTerms (dense n (r .whole .terms)) (r .whole .constant) i m
 
 abbrev pub AddsSquare : ℕ → BitRow → ℕ → ℕ → List ℤ → List ℤ → Type 0
-AddsSquare n r i m line line′ = Adds (wholeTerms n r i m) (m * Size.entry) line line′
+AddsSquare n r i m line line′ = Adds (wholeTerms n r i m) (m * Size.largestEntry) line line′
 
 -- what the products of bits of a product's two factors add
 unfoldable pub productPairs : List ℕ → List ℕ → List ℕ → ℕ → ℕ → List (Term ℕ)
@@ -45,4 +45,4 @@ pub record SmallTables (firsts counts : List ℕ) : Type 0 where
 pub record Added (r : BitRow) (i : ℕ) (line line′ : List ℤ) : Type 0 where
   pub same : length line′ ≡ length line
   pub entries : (j : ℕ) → i ≤ j → j < length line → getD line′ j +0 ≡ getD line j +0 ⊕ rowEntry r i j
-  pub small : peak line′ ≤ peak line + Size.row
+  pub small : peak line′ ≤ peak line + Size.largestRow

@@ -9,12 +9,12 @@ use Rattle.integers.specs.Terms.{Term, _·_}
 use Rattle.rowsystems.specs.Row.{Row, sum≤0, sum=0, product}
 
 -- bit i is none of n bits from `first` on
-abbrev pub Outside : ℕ → ℕ → ℕ → Type 0
-Outside first n i = (k : ℕ) → k < n → first + k ≡ i → ⊥
+abbrev pub NotAmong : ℕ → ℕ → ℕ → Type 0
+NotAmong first n i = (k : ℕ) → k < n → first + k ≡ i → ⊥
 
 -- it is no bit of variable v, by the lists of first bits and of numbers of bits
 abbrev pub NoBitOf : List ℕ → List ℕ → ℕ → ℕ → Type 0
-NoBitOf firsts counts i v = Outside (getD firsts v 0) (getD counts v 0) i
+NoBitOf firsts counts i v = NotAmong (getD firsts v 0) (getD counts v 0) i
 
 -- N holds of variables without the bit: a term with such a variable or a coefficient of 0, and a row or product of these alone
 abbrev pub Idle : (ℕ → Type 0) → Term ℕ → Type 0

@@ -15,8 +15,8 @@ ghost use Rattle.bitlines.specs.Dense.{addTerms, peak, Adds};
 ghost use Rattle.bittables.specs.BitTables.{spanIn, bitsOf, rowOver, rowBy, BitLists, BitTables};
 ghost use Rattle.bitrows.specs.Terms.{termIn, cross};
 ghost use Rattle.bitfilling.specs.Filled.{dense, atMostIn, productIn};
-ghost use Rattle.bitfilling.specs.Added.{Sized, AddsSquare, productPairs, SmallTables, Added};
-ghost use Rattle.bitfilling.specs.Idle.{Outside, NoBitOf, Idle, IdleRow};
+ghost use Rattle.bitfilling.specs.Added.{LineAndRow, AddsSquare, productPairs, SmallTables, Added};
+ghost use Rattle.bitfilling.specs.Idle.{NotAmong, NoBitOf, Idle, IdleRow};
 use bitlines::add_square;
 use bitlines::add_weights;
 use bitrows::add_pairs;
@@ -50,14 +50,14 @@ pub fn clear(row: &mut [i64])
 // Adds a variable v less the lower bound of f times.
 fn add_less_lower(row: &mut [i64], ls: &[i64], us: &[i64], firsts: &[usize], v: usize, f: usize)
     requires { ⌜ BitLists (now ls) (now us) (now firsts) × (peak (now row) < 2 * Size.sums) ⌝ }
-    ensures { λ r. ⌜ Adds (scaled (neg (getD (now (ls .entry)) f +0)) (bitsOf (now (ls .entry)) (now (us .entry)) (now (firsts .entry)) v)) Size.term (now (row .entry)) (now (row .exit)) ⌝ }
+    ensures { λ r. ⌜ Adds (scaled (neg (getD (now (ls .entry)) f +0)) (bitsOf (now (ls .entry)) (now (us .entry)) (now (firsts .entry)) v)) Size.largestTerm (now (row .entry)) (now (row .exit)) ⌝ }
 {
     add_variable(row, ls, us, firsts, v, opposite(bound_at(ls, f)));
 }
 
 // Adds, for each bit of f and each of g, less the product of their weights to the bits from `first` on.
 fn add_crossed(row: &mut [i64], ls: &[i64], us: &[i64], f: usize, g: usize, first: usize)
-    requires { ⌜ Bounded (now ls) × Bounded (now us) × (first < Size.places) × (peak (now row) < 4 * Size.sums) ⌝ }
+    requires { ⌜ Bounded (now ls) × Bounded (now us) × (first < Size.farthest) × (peak (now row) < 4 * Size.sums) ⌝ }
     ensures { λ r. ⌜ now (row .exit) ≡ addTerms (now (row .entry)) (cross first (weights (spanIn (now (ls .entry)) (now (us .entry)) f)) (weights (spanIn (now (ls .entry)) (now (us .entry)) g))) ⌝ }
 {
     add_products(row, first, span_at(ls, us, f), span_at(ls, us, g));
@@ -72,7 +72,7 @@ fn add_product(
     firsts: &[usize],
     first: usize,
 )
-    requires { ⌜ BitLists (now ls) (now us) (now firsts) × (first < Size.places) × (peak (now row) < Size.sums) ⌝ }
+    requires { ⌜ BitLists (now ls) (now us) (now firsts) × (first < Size.farthest) × (peak (now row) < Size.sums) ⌝ }
     ensures { λ r. ⌜ now (row .exit) ≡ addTerms (now (row .entry)) (rowOver (now (ls .entry)) (now (us .entry)) (now (firsts .entry)) first (productIn (now (args .entry))) .whole .terms) ⌝ }
 {
     let f = variable_at(args, 1);
@@ -93,7 +93,7 @@ fn add_slacked(
     firsts: &[usize],
     first: usize,
 )
-    requires { ⌜ BitLists (now ls) (now us) (now firsts) × (n ≤ Limit.terms) × (first < Size.places) × (peak (now row) < Size.sums) ⌝ }
+    requires { ⌜ BitLists (now ls) (now us) (now firsts) × (n ≤ Limit.terms) × (first < Size.farthest) × (peak (now row) < Size.sums) ⌝ }
     ensures { λ r. ⌜ now (row .exit) ≡ addTerms (now (row .entry)) (rowOver (now (ls .entry)) (now (us .entry)) (now (firsts .entry)) first (atMostIn (now (args .entry)) n) .whole .terms) ⌝ }
 {
     add_terms(row, args, n, ls, us, firsts);
@@ -110,7 +110,7 @@ pub fn fill_row(
     firsts: &[usize],
     first: usize,
 )
-    requires { ⌜ BitLists (now ls) (now us) (now firsts) × (first < Size.places) ⌝ }
+    requires { ⌜ BitLists (now ls) (now us) (now firsts) × (first < Size.farthest) ⌝ }
     ensures { λ r. ⌜ now (row .exit) ≡ dense (length (now (row .entry))) (rowBy (now (ls .entry)) (now (us .entry)) (now (firsts .entry)) first head (now (args .entry)) .whole .terms) ⌝ }
 {
     clear(row);
@@ -135,7 +135,7 @@ fn add_product_pairs(
     first: usize,
     i: usize,
 )
-    requires { ⌜ SmallTables (now firsts) (now counts) × (first < Size.places) × (peak (now line) < 2 * Size.sums) ⌝ }
+    requires { ⌜ SmallTables (now firsts) (now counts) × (first < Size.farthest) × (peak (now line) < 2 * Size.sums) ⌝ }
     ensures { λ r. ⌜ Adds (productPairs (now (firsts .entry)) (now (counts .entry)) (now (args .entry)) first i) (8 * Size.ownBits) (now (line .entry)) (now (line .exit)) ⌝ }
 {
     let f = variable_at(args, 1);
@@ -164,7 +164,7 @@ fn add_whole(
     i: usize,
     m: usize,
 )
-    requires { ⌜ BitLists (now ls) (now us) (now firsts) × (first < Size.places) × (i + m ≤ mostBits) × (peak (now line) < Size.sums) ⌝ }
+    requires { ⌜ BitLists (now ls) (now us) (now firsts) × (first < Size.farthest) × (i + m ≤ mostBits) × (peak (now line) < Size.sums) ⌝ }
     requires { ⌜ rowFits (length (now row)) (rowBy (now ls) (now us) (now firsts) first head (now args)) ≡ true ⌝ }
     ensures { λ r. ⌜ AddsSquare (length (now (row .entry))) (rowBy (now (ls .entry)) (now (us .entry)) (now (firsts .entry)) first head (now (args .entry))) i m (now (line .entry)) (now (line .exit)) ⌝ }
 {
@@ -186,7 +186,7 @@ pub fn add_row(
     i: usize,
     m: usize,
 )
-    requires { ⌜ BitTables (now ls) (now us) (now firsts) (now counts) × (first < Size.places) × Sized (i + m) (now line) (now row) × (peak (now line) < Size.sums) ⌝ }
+    requires { ⌜ BitTables (now ls) (now us) (now firsts) (now counts) × (first < Size.farthest) × LineAndRow (i + m) (now line) (now row) × (peak (now line) < Size.sums) ⌝ }
     requires { ⌜ rowFits (i + m) (rowBy (now ls) (now us) (now firsts) first head (now args)) ≡ true ⌝ }
     ensures { λ r. ⌜ Added (rowBy (now (ls .entry)) (now (us .entry)) (now (firsts .entry)) first head (now (args .entry))) i (now (line .entry)) (now (line .exit)) ⌝ }
 {
@@ -203,7 +203,7 @@ pub fn add_row(
 
 // Whether bit i is one of n bits from `first` on.
 fn among(first: usize, n: usize, i: usize) -> bool
-    ensures { λ r. ⌜ (r ≡ false → Outside first n i) ⌝ }
+    ensures { λ r. ⌜ (r ≡ false → NotAmong first n i) ⌝ }
 {
     if i < first {
         return false;
@@ -267,7 +267,7 @@ pub fn holds_bit(
     own: usize,
     i: usize,
 ) -> bool
-    ensures { λ r. ⌜ (r ≡ false → Outside first own i × IdleRow (NoBitOf (now (firsts .entry)) (now (counts .entry)) i) (rowOf head (now (args .entry)))) ⌝ }
+    ensures { λ r. ⌜ (r ≡ false → NotAmong first own i × IdleRow (NoBitOf (now (firsts .entry)) (now (counts .entry)) i) (rowOf head (now (args .entry)))) ⌝ }
 {
     if among(first, own, i) {
         return true;

@@ -15,7 +15,7 @@ ghost use Rattle.bitforms.specs.BitForm.{bitRowsOf, formConstant};
 ghost use Rattle.bitforms.specs.FormAnswer.{rowFits, formFits, bitForm, bitFormed};
 ghost use Rattle.bitforms.specs.FormWords.{formWords};
 ghost use Rattle.bitlines.specs.Sizes as Size;
-ghost use Rattle.bitfilling.specs.Added.{Sized};
+ghost use Rattle.bitfilling.specs.Added.{LineAndRow};
 ghost use Rattle.bitsharing.specs.FormShares.{FormShares};
 ghost use Rattle.bitform.specs.Formed.{formed};
 ghost use Rattle.bitform.specs.Answered.{Answered, BitsListed};
@@ -64,7 +64,7 @@ fn put_constant(out: &mut [u32], c: i64)
 
 // Writes the end word.
 fn put_end(out: &mut [u32], end: usize)
-    requires { ⌜ end < Size.places ⌝ }
+    requires { ⌜ end < Size.farthest ⌝ }
     ensures { λ r. ⌜ now (out .exit) ≡ overlay (now (out .entry)) end (word Kind.rowsEnd 0 ∷ []) ⌝ }
 {
     let last = [word_of(kind::ROWS_END, 0)];
@@ -85,7 +85,7 @@ fn write_form(
     n: usize,
     c: i64,
 ) -> usize
-    requires { ⌜ BitsListed (now ws) (now ls) (now us) (now firsts) (now counts) start n × Sized n (now line) (now row) × (c ≡ formConstant (now ws)) × (formFits (now ws) ≡ true) ⌝ }
+    requires { ⌜ BitsListed (now ws) (now ls) (now us) (now firsts) (now counts) start n × LineAndRow n (now line) (now row) × (c ≡ formConstant (now ws)) × (formFits (now ws) ≡ true) ⌝ }
     ensures { λ r. ⌜ (r ≡ length (formWords (now (ws .entry)))) × (now (out .exit) ≡ overlay (now (out .entry)) 0 (formWords (now (ws .entry)))) ⌝ }
 {
     put_constant(out, c);
@@ -109,7 +109,7 @@ fn form_lines(
     n: usize,
     c: i64,
 ) -> Formed
-    requires { ⌜ BitsListed (now ws) (now ls) (now us) (now firsts) (now counts) start n × Sized n (now line) (now row) ⌝ }
+    requires { ⌜ BitsListed (now ws) (now ls) (now us) (now firsts) (now counts) start n × LineAndRow n (now line) (now row) ⌝ }
     requires { ⌜ (all (rowFits n) (bitRowsOf (now ws)) ≡ true) × (c ≡ formConstant (now ws)) × (inRange c ≡ true) ⌝ }
     ensures { λ r. ⌜ Answered (now (ws .entry)) (now (out .entry)) (now (out .exit)) (formed r) ⌝ }
 {
@@ -150,7 +150,7 @@ fn form_checked(
     line: &mut [i64],
     n: usize,
 ) -> Formed
-    requires { ⌜ BitsListed (now ws) (now ls) (now us) (now firsts) (now counts) start n × Sized n (now line) (now row) ⌝ }
+    requires { ⌜ BitsListed (now ws) (now ls) (now us) (now firsts) (now counts) start n × LineAndRow n (now line) (now row) ⌝ }
     ensures { λ r. ⌜ Answered (now (ws .entry)) (now (out .entry)) (now (out .exit)) (formed r) ⌝ }
 {
     let checked = check_rows(ws, ls, us, firsts, counts, start, row);

@@ -108,7 +108,7 @@ pub fn square_at(row: &[i64], c: i64, i: usize, j: usize) -> i64
 // Adds the entries of bit i and the m bits from i on in the square of a row over bits to a line.
 pub fn add_square(line: &mut [i64], row: &[i64], c: i64, i: usize, m: usize)
     requires { ⌜ (peak (now row) ≤ mostInRow) × (natAbs c ≤ mostInRow) × (i + m ≤ mostBits) × (peak (now line) < 4 * Size.sums) ⌝ }
-    ensures { λ r. ⌜ Adds (squareTerms (now (row .entry)) c i m) (m * Size.entry) (now (line .entry)) (now (line .exit)) ⌝ }
+    ensures { λ r. ⌜ Adds (squareTerms (now (row .entry)) c i m) (m * Size.largestEntry) (now (line .entry)) (now (line .exit)) ⌝ }
 {
     let mut d = 0;
     while d < m {
@@ -140,7 +140,7 @@ pub fn add_pair(line: &mut [i64], u: usize, v: usize, t: usize, i: usize)
 
 // Writes the words of an entry, none for 0; the next place.
 pub fn put_entry(out: &mut [u32], at: usize, i: usize, j: usize, v: i64) -> usize
-    requires { ⌜ at < Size.places ⌝ }
+    requires { ⌜ at < Size.farthest ⌝ }
     ensures { λ r. ⌜ Laid (now (out .entry)) at (entriesWords (entry i j v ∷ [])) (now (out .exit)) r ⌝ }
 {
     if equal(v, 0) {
@@ -157,7 +157,7 @@ pub fn put_entry(out: &mut [u32], at: usize, i: usize, j: usize, v: i64) -> usiz
 
 // Writes the entries of bit i and the m bits from i on; the next place.
 pub fn put_line(out: &mut [u32], at: usize, line: &[i64], i: usize, m: usize) -> usize
-    requires { ⌜ (at + 3 * m < Size.places) × (i + m ≤ mostBits) ⌝ }
+    requires { ⌜ (at + 3 * m < Size.farthest) × (i + m ≤ mostBits) ⌝ }
     ensures { λ r. ⌜ Laid (now (out .entry)) at (entriesWords (lineEntries (now (line .entry)) i m)) (now (out .exit)) r ⌝ }
 {
     let mut next = at;

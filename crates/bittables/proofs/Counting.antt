@@ -35,7 +35,7 @@ few-weights w h = few-from 62 w 1 w (omega arith)
 
 -- ---- the width of a variable
 
-pub span-size : (ls us : List ℤ) (v : ℕ) → Bounded ls → Bounded us → spanIn ls us v ≤ Size.width
+pub span-size : (ls us : List ℤ) (v : ℕ) → Bounded ls → Bounded us → spanIn ls us v ≤ Size.widest
 unfolding spanIn
 span-size ls us v l u = omega (arith, count-le (getD us v +0 ⊖ getD ls v +0), minus-size (getD us v +0) (getD ls v +0), l v, u v)
 

@@ -42,7 +42,7 @@ pub fn size_at(sizes: &[usize], v: usize) -> usize
 // The width of a variable.
 pub fn span_at(ls: &[i64], us: &[i64], v: usize) -> usize
     requires { ⌜ Bounded (now ls) × Bounded (now us) ⌝ }
-    ensures { λ r. ⌜ (r ≡ spanIn (now (ls .entry)) (now (us .entry)) v) × (r ≤ Size.width) ⌝ }
+    ensures { λ r. ⌜ (r ≡ spanIn (now (ls .entry)) (now (us .entry)) v) × (r ≤ Size.widest) ⌝ }
 {
     count_of(minus(bound_at(us, v), bound_at(ls, v)))
 }

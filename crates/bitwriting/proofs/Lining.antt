@@ -19,8 +19,8 @@ use Rattle.bitforms.specs.FormAnswer.{mostBits, rowFits}
 use Rattle.bitlines.specs.Sizes as Size
 use Rattle.bitlines.specs.Dense.{peak}
 use Rattle.bittables.specs.BitTables.{rowBy, rowsBy, BitCounts}
-use Rattle.bitfilling.specs.Added.{Sized, Added}
-use Rattle.bitfilling.specs.Idle.{Outside, NoBitOf, IdleRow}
+use Rattle.bitfilling.specs.Added.{LineAndRow, Added}
+use Rattle.bitfilling.specs.Idle.{NotAmong, NoBitOf, IdleRow}
 use Rattle.bitfilling.proofs.Filling.{zeros-peak}
 use Rattle.bitfilling.proofs.Idle.{idle-row}
 use Rattle.bitfilling.proofs.Walk.{rowsLeft, rowHere, left-none, left-one, left-end}
@@ -28,7 +28,7 @@ use Rattle.bitwriting.specs.Lined.{LineOf}
 
 -- a row without the bit adds nothing
 pub none-added : (ls us : List ℤ) (firsts counts : List ℕ) → BitCounts ls us counts → (first own head : ℕ) (args : List ℕ) (i : ℕ) (line : List ℤ) →
-    own ≡ rowBy ls us firsts first head args .own → Outside first own i × IdleRow (NoBitOf firsts counts i) (rowOf head args) → Added (rowBy ls us firsts first head args) i line line
+    own ≡ rowBy ls us firsts first head args .own → NotAmong first own i × IdleRow (NoBitOf firsts counts i) (rowOf head args) → Added (rowBy ls us firsts first head args) i line line
 none-added ls us firsts counts k first own head args i line e h = record {
   same = refl;
   entries = λ j u v. none (getD line j +0) _ (idle-row i ls us firsts counts k first own (rowOf head args) e (h .0) (h .1) j);
@@ -46,8 +46,8 @@ pub record Lining (ws : List ℕ) (ls us : List ℤ) (firsts : List ℕ) (start 
   pub near : first ≤ start + Size.ownBits * at
   pub fits : all (rowFits n) (rowsLeft ls us firsts ws first at) ≡ true
   pub entries : (j : ℕ) → i ≤ j → j < n → getD line j +0 ⊕ entryOf (rowsLeft ls us firsts ws first at) i j ≡ entryOf (rowsBy ls us firsts start ws) i j
-  pub small : peak line ≤ at * Size.row
-  pub sized : Sized n line row
+  pub small : peak line ≤ at * Size.largestRow
+  pub sized : LineAndRow n line row
 
 pub lining-begun : (ws : List ℕ) (ls us : List ℤ) (firsts : List ℕ) (start i n : ℕ) (row : List ℤ) → all (rowFits n) (rowsBy ls us firsts start ws) ≡ true → length row ≡ n → n ≤ mostBits →
     Lining ws ls us firsts start i n (replicate n +0) row start 0

@@ -15,7 +15,7 @@ use Rattle.words.proofs.Rest.{Rest, all-left, lay-part, same-rest, none-left, l
 use Rattle.bitforms.specs.Matrix.{Entry, entryOf, entriesFrom, notZero}
 use Rattle.bitforms.specs.FormWords.{entryWords}
 use Rattle.bitforms.specs.BitRow.{BitRow}
-use Rattle.bitfilling.specs.Added.{Sized}
+use Rattle.bitfilling.specs.Added.{LineAndRow}
 use Rattle.bitlines.specs.Line.{entry, lineEntries, entriesWords}
 use Rattle.bitlines.proofs.Writing.{words-append}
 use Rattle.bitwriting.specs.Lined.{LineOf, lineOf}
@@ -80,10 +80,10 @@ pub record Putting (e : ℕ → ℕ → ℤ) (n at : ℕ) (out₀ out : List ℕ
   pub rest : Rest out₀ at (entriesWords (entriesFrom e 0 n)) out to (entriesWords (entriesFrom e i (n - i)))
   pub fits : allInRange (entriesFrom e i (n - i)) ≡ allInRange (entriesFrom e 0 n)
   pub small : to ≤ at + 3072 * i
-  pub sized : Sized n line row
+  pub sized : LineAndRow n line row
   pub same-out : length out ≡ length out₀
 
-pub putting-begun : (e : ℕ → ℕ → ℤ) (n at : ℕ) (out : List ℕ) (line row : List ℤ) → Sized n line row → Putting e n at out out at 0 line row
+pub putting-begun : (e : ℕ → ℕ → ℤ) (n at : ℕ) (out : List ℕ) (line row : List ℤ) → LineAndRow n line row → Putting e n at out out at 0 line row
 putting-begun e n at out line row s = record {
   place = omega arith;
   rest = same-rest (ap (λ m. entriesWords (entriesFrom e 0 m)) whole) (all-left out at (entriesWords (entriesFrom e 0 n)));

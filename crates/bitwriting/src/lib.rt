@@ -8,7 +8,7 @@ ghost use Rattle.bitlines.specs.Sizes as Size;
 ghost use Rattle.bitlines.specs.Dense.{peak};
 ghost use Rattle.bitlines.specs.Line.{lineEntries};
 ghost use Rattle.bittables.specs.BitTables.{rowBy, rowsBy, BitTables};
-ghost use Rattle.bitfilling.specs.Added.{Sized, Added};
+ghost use Rattle.bitfilling.specs.Added.{LineAndRow, Added};
 ghost use Rattle.bitwriting.specs.Lined.{LineOf, lineOf, Fitting};
 ghost use Rattle.bitwriting.specs.EntriesPut.{allInRange, EntriesPut};
 use bitfilling::add_row;
@@ -40,7 +40,7 @@ fn add_to_line(
     i: usize,
     m: usize,
 ) -> usize
-    requires { ⌜ BitTables (now ls) (now us) (now firsts) (now counts) × (first < Size.places) × Sized (i + m) (now line) (now row) × (peak (now line) < Size.sums) ⌝ }
+    requires { ⌜ BitTables (now ls) (now us) (now firsts) (now counts) × (first < Size.farthest) × LineAndRow (i + m) (now line) (now row) × (peak (now line) < Size.sums) ⌝ }
     requires { ⌜ rowFits (i + m) (rowBy (now ls) (now us) (now firsts) first head (now args)) ≡ true ⌝ }
     ensures { λ r. ⌜ Added (rowBy (now (ls .entry)) (now (us .entry)) (now (firsts .entry)) first head (now (args .entry))) i (now (line .entry)) (now (line .exit)) ⌝ }
     ensures { λ r. ⌜ (r ≡ first + rowBy (now (ls .entry)) (now (us .entry)) (now (firsts .entry)) first head (now (args .entry)) .own) × (r ≤ first + Size.ownBits) ⌝ }
@@ -66,7 +66,7 @@ fn fill_line(
     i: usize,
     m: usize,
 )
-    requires { ⌜ Fitting (now ws) (now ls) (now us) (now firsts) (now counts) start (i + m) × Sized (i + m) (now line) (now row) ⌝ }
+    requires { ⌜ Fitting (now ws) (now ls) (now us) (now firsts) (now counts) start (i + m) × LineAndRow (i + m) (now line) (now row) ⌝ }
     ensures { λ r. ⌜ LineOf (rowsBy (now (ls .entry)) (now (us .entry)) (now (firsts .entry)) start (now (ws .entry))) i (now (line .exit)) ⌝ }
 {
     clear(line);
@@ -123,7 +123,7 @@ fn put_one(
     i: usize,
     m: usize,
 ) -> Lines
-    requires { ⌜ Fitting (now ws) (now ls) (now us) (now firsts) (now counts) start (i + m) × Sized (i + m) (now line) (now row) × (at + 3 * m < Size.places) ⌝ }
+    requires { ⌜ Fitting (now ws) (now ls) (now us) (now firsts) (now counts) start (i + m) × LineAndRow (i + m) (now line) (now row) × (at + 3 * m < Size.farthest) ⌝ }
     ensures { λ r. ⌜ EntriesPut (lineOf (entryOf (rowsBy (now (ls .entry)) (now (us .entry)) (now (firsts .entry)) start (now (ws .entry)))) i m) (now (out .entry)) at (now (out .exit)) (r .fits) (r .at) ⌝ }
 {
     fill_line(line, row, ws, ls, us, firsts, counts, start, i, m);
@@ -151,7 +151,7 @@ pub fn put_lines(
     counts: &[usize],
     start: usize,
 ) -> Lines
-    requires { ⌜ Fitting (now ws) (now ls) (now us) (now firsts) (now counts) start n × Sized n (now line) (now row) × (at ≤ 1) ⌝ }
+    requires { ⌜ Fitting (now ws) (now ls) (now us) (now firsts) (now counts) start n × LineAndRow n (now line) (now row) × (at ≤ 1) ⌝ }
     ensures { λ r. ⌜ EntriesPut (entriesFrom (entryOf (rowsBy (now (ls .entry)) (now (us .entry)) (now (firsts .entry)) start (now (ws .entry)))) 0 n) (now (out .entry)) at (now (out .exit)) (r .fits) (r .at) ⌝ }
 {
     let mut to = at;

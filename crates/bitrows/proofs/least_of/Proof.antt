@@ -18,7 +18,7 @@ use Rattle.bitrows.proofs.least_of.Statement.{statement}
 use Rattle.bitrows.proofs.least_of.Tie as tie
 
 abbrev Inv-loop : tie.InvT-loop
-Inv-loop args n ls us so-far₀ k₀ so-far k = (k ≤ n) × (toZ w64 so-far ≡ sumOver (leastTerm (boundsOf ls us)) (termsIn args k)) × (natAbs (toZ w64 so-far) ≤ k * Size.product)
+Inv-loop args n ls us so-far₀ k₀ so-far k = (k ≤ n) × (toZ w64 so-far ≡ sumOver (leastTerm (boundsOf ls us)) (termsIn args k)) × (natAbs (toZ w64 so-far) ≤ k * Size.largestProduct)
 
 abbrev μ-loop : tie.MeasureT-loop
 μ-loop args n ls us so-far₀ k₀ so-far k = n - k
