@@ -424,7 +424,7 @@ pub extern "C" fn pearrummy_fill(words: &[u32], values: &[i32], out: &mut [i32])
     ensures answer { λ r. ⌜ r ≡ judgementOf (fillAnswer (now (words .entry)) (now (values .entry)) (length (now (out .entry)))) ⌝ }
     ensures output { λ r. ⌜ now (out .exit) ≡ filled (now (words .entry)) (now (values .entry)) (now (out .entry)) ⌝ }
     ensures satisfied { λ r. ⌜ Satisfied (now (words .entry)) (fillAnswer (now (words .entry)) (now (values .entry)) (length (now (out .entry)))) (now (out .exit)) ⌝ }
-    ensures completes { λ r. let ws = now (words .entry) in let vs = now (values .entry) in let given = now (out .entry) in ⌜ HandsOver ws vs (fillAnswer ws vs (length given)) given (now (out .exit)) ⌝ }
+    ensures completes { λ r. let ws = now (words .entry) in let vs = now (values .entry) in let o = now (out .entry) in ⌜ HandsOver ws vs (fillAnswer ws vs (length o)) o (now (out .exit)) ⌝ }
 {
     filled_of(fill(words, values, out))
 }
@@ -501,7 +501,7 @@ pub extern "C" fn pearrummy_pair_fill(
     ensures answer { λ r. ⌜ r ≡ judgementOf (pairFill candidate (now (words .entry)) (now (values .entry)) (length (now (out .entry)))) ⌝ }
     ensures output { λ r. ⌜ now (out .exit) ≡ pairFilled candidate (now (words .entry)) (now (values .entry)) (now (out .entry)) ⌝ }
     ensures satisfied { λ r. let ws = now (words .entry) in ⌜ Satisfied (modelOf candidate ws) (pairFill candidate ws (now (values .entry)) (length (now (out .entry)))) (now (out .exit)) ⌝ }
-    ensures completes { λ r. let ws = now (words .entry) in let vs = now (values .entry) in let given = now (out .entry) in ⌜ PairHandsOver candidate ws vs (pairFill candidate ws vs (length given)) given (now (out .exit)) ⌝ }
+    ensures completes { λ r. let ws = now (words .entry) in let vs = now (values .entry) in let o = now (out .entry) in ⌜ PairHandsOver candidate ws vs (pairFill candidate ws vs (length o)) o (now (out .exit)) ⌝ }
 {
     filled_of(pair_fill(words, candidate, values, out))
 }

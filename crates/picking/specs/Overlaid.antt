@@ -12,5 +12,5 @@ pub record Overlaid (at r : ℕ) (out out′ ps : List ℤ) : Type 0 where
   pub over : out′ ≡ overlay out at ps
 
 -- n places more do not wrap
-abbrev pub Room : ℕ → ℕ → Type 0
-Room n at = at + n < 4398046511104
+abbrev pub RoomAt : ℕ → ℕ → Type 0
+RoomAt n at = at + n < 4398046511104

@@ -16,7 +16,7 @@ ghost use Rattle.arguments.specs.Small.{Small};
 ghost use Rattle.rules.specs.Pick.{signPick, signedPick, firstBit, divisionPick};
 ghost use Rattle.rules.specs.Power.{powerValues};
 ghost use Rattle.extremes.specs.Bounded.{Near, Bounded};
-ghost use Rattle.picking.specs.Overlaid.{Overlaid, Room};
+ghost use Rattle.picking.specs.Overlaid.{Overlaid, RoomAt};
 ghost use Rattle.picking.specs.Picked.{Ranged, Pickable, picksOf, plainPicks, productPicks, newPicks, sharedPicks, picksAfter, PickedOver};
 ghost use Rattle.picking.specs.Powered.{NextPower, PowersPut};
 ghost use Rattle.picking.specs.Only.{onlyAt, FirstAt};
@@ -47,7 +47,7 @@ use integers::times;
 
 // Writes a number at a place, if that is inside the list; the place after it.
 pub fn put(out: &mut [i32], at: usize, v: i64) -> usize
-    requires { ⌜ Room 1 at × (inRange v ≡ true) ⌝ }
+    requires { ⌜ RoomAt 1 at × (inRange v ≡ true) ⌝ }
     ensures { λ r. ⌜ Overlaid at r (now (out .entry)) (now (out .exit)) (v ∷ []) ⌝ }
 {
     if at < out.len() {
@@ -58,7 +58,7 @@ pub fn put(out: &mut [i32], at: usize, v: i64) -> usize
 
 // Writes a number where the test is true, else 0.
 fn put_if(out: &mut [i32], at: usize, test: bool, v: i64) -> usize
-    requires { ⌜ Room 1 at × (inRange (v if test else +0) ≡ true) ⌝ }
+    requires { ⌜ RoomAt 1 at × (inRange (v if test else +0) ≡ true) ⌝ }
     ensures { λ r. ⌜ Overlaid at r (now (out .entry)) (now (out .exit)) ((v if test else +0) ∷ []) ⌝ }
 {
     if test {
@@ -69,7 +69,7 @@ fn put_if(out: &mut [i32], at: usize, test: bool, v: i64) -> usize
 
 // Writes 1 where the test is true, else 0.
 fn put_bit(out: &mut [i32], at: usize, test: bool) -> usize
-    requires { ⌜ Room 1 at ⌝ }
+    requires { ⌜ RoomAt 1 at ⌝ }
     ensures { λ r. ⌜ Overlaid at r (now (out .entry)) (now (out .exit)) ((+1 if test else +0) ∷ []) ⌝ }
 {
     put_if(out, at, test, 1)
@@ -77,7 +77,7 @@ fn put_bit(out: &mut [i32], at: usize, test: bool) -> usize
 
 // Writes n numbers: v at the h-th, counted from 0, and 0 at all others.
 fn put_only(out: &mut [i32], at: usize, n: usize, h: usize, v: i64) -> usize
-    requires { ⌜ Room n at × Ranged (onlyAt n h v) ⌝ }
+    requires { ⌜ RoomAt n at × Ranged (onlyAt n h v) ⌝ }
     ensures { λ r. ⌜ Overlaid at r (now (out .entry)) (now (out .exit)) (onlyAt n h v) ⌝ }
 {
     let mut k = 0;
@@ -90,7 +90,7 @@ fn put_only(out: &mut [i32], at: usize, n: usize, h: usize, v: i64) -> usize
 
 // Writes 1 and x for a negative x, else 0 and 0.
 fn put_sign(out: &mut [i32], at: usize, x: i64) -> usize
-    requires { ⌜ Room 2 at × Ranged (signPick x) ⌝ }
+    requires { ⌜ RoomAt 2 at × Ranged (signPick x) ⌝ }
     ensures { λ r. ⌜ Overlaid at r (now (out .entry)) (now (out .exit)) (signPick x) ⌝ }
 {
     let negative = below(x, 0);
@@ -100,7 +100,7 @@ fn put_sign(out: &mut [i32], at: usize, x: i64) -> usize
 
 // Writes x, then its sign.
 fn put_signed(out: &mut [i32], at: usize, x: i64) -> usize
-    requires { ⌜ Room 3 at × Ranged (signedPick x) ⌝ }
+    requires { ⌜ RoomAt 3 at × Ranged (signedPick x) ⌝ }
     ensures { λ r. ⌜ Overlaid at r (now (out .entry)) (now (out .exit)) (signedPick x) ⌝ }
 {
     let next = put(out, at, x);
@@ -120,7 +120,7 @@ fn place_of(v: i64, first: i64, n: usize) -> usize
 
 // Writes a bit for each value of the bounds: 1 for v.
 fn put_labels(out: &mut [i32], at: usize, lower: i64, upper: i64, v: i64) -> usize
-    requires { ⌜ Room 1000000000 at × Near lower × Near upper × Near v ⌝ }
+    requires { ⌜ RoomAt 1000000000 at × Near lower × Near upper × Near v ⌝ }
     ensures { λ r. ⌜ Overlaid at r (now (out .entry)) (now (out .exit)) (firstBit (λ j. j == v) (values (lower to upper))) ⌝ }
 {
     let n = width_of(lower, upper);
@@ -130,7 +130,7 @@ fn put_labels(out: &mut [i32], at: usize, lower: i64, upper: i64, v: i64) -> usi
 
 // Writes n bits, 1 at the h-th, then the products of the bits and numbers of which the h-th is x.
 fn put_gated(out: &mut [i32], at: usize, n: usize, h: usize, x: i64) -> usize
-    requires { ⌜ Room (n + n) at × Ranged (onlyAt n h +1 ++ onlyAt n h x) ⌝ }
+    requires { ⌜ RoomAt (n + n) at × Ranged (onlyAt n h +1 ++ onlyAt n h x) ⌝ }
     ensures { λ r. ⌜ Overlaid at r (now (out .entry)) (now (out .exit)) (onlyAt n h +1 ++ onlyAt n h x) ⌝ }
 {
     let next = put_only(out, at, n, h, 1);
@@ -274,7 +274,7 @@ fn pick_element(
     us: &[i64],
     values: &[i32],
 ) -> usize
-    requires { ⌜ Room 1000000000 at × Bounded (now ls) × Bounded (now us) × Small (now values) ⌝ }
+    requires { ⌜ RoomAt 1000000000 at × Bounded (now ls) × Bounded (now us) × Small (now values) ⌝ }
     ensures { λ r. ⌜ Overlaid at r (now (out .entry)) (now (out .exit)) (picksOf (now (ls .entry)) (now (us .entry)) (now (values .entry)) 24 (now (args .entry))) ⌝ }
 {
     put_labels(
@@ -295,7 +295,7 @@ fn pick_products(
     us: &[i64],
     values: &[i32],
 ) -> usize
-    requires { ⌜ Room 1000000000 at × Bounded (now ls) × Bounded (now us) × Small (now values) × Ranged (productPicks (now ls) (now us) (now values) (now args)) ⌝ }
+    requires { ⌜ RoomAt 1000000000 at × Bounded (now ls) × Bounded (now us) × Small (now values) × Ranged (productPicks (now ls) (now us) (now values) (now args)) ⌝ }
     ensures { λ r. ⌜ Overlaid at r (now (out .entry)) (now (out .exit)) (productPicks (now (ls .entry)) (now (us .entry)) (now (values .entry)) (now (args .entry))) ⌝ }
 {
     let first = first_label(args, ls);
@@ -353,7 +353,7 @@ fn pick_member(
     us: &[i64],
     values: &[i32],
 ) -> usize
-    requires { ⌜ Room 1000000000 at × Bounded (now us) ⌝ }
+    requires { ⌜ RoomAt 1000000000 at × Bounded (now us) ⌝ }
     ensures { λ r. ⌜ Overlaid at r (now (out .entry)) (now (out .exit)) (picksOf (now (ls .entry)) (now (us .entry)) (now (values .entry)) 27 (now (args .entry))) ⌝ }
 {
     let x = var_at(args, 0);
@@ -372,7 +372,7 @@ fn pick_set_reif(
     us: &[i64],
     values: &[i32],
 ) -> usize
-    requires { ⌜ Room 1000000000 at × Bounded (now ls) × Bounded (now us) × Small (now values) ⌝ }
+    requires { ⌜ RoomAt 1000000000 at × Bounded (now ls) × Bounded (now us) × Small (now values) ⌝ }
     ensures { λ r. ⌜ Overlaid at r (now (out .entry)) (now (out .exit)) (picksOf (now (ls .entry)) (now (us .entry)) (now (values .entry)) 28 (now (args .entry))) ⌝ }
 {
     let x = var_at(args, 0);
@@ -387,7 +387,7 @@ fn pick_set_reif(
 
 // 37, 38: whether n is not negative, whether d is positive, d×q, and whether both.
 fn put_division(out: &mut [i32], at: usize, n: i64, d: i64, q: i64) -> usize
-    requires { ⌜ Room 4 at × Near d × Near q × Ranged (divisionPick n d q) ⌝ }
+    requires { ⌜ RoomAt 4 at × Near d × Near q × Ranged (divisionPick n d q) ⌝ }
     ensures { λ r. ⌜ Overlaid at r (now (out .entry)) (now (out .exit)) (divisionPick n d q) ⌝ }
 {
     let alpha = at_most(0, n);
@@ -443,7 +443,7 @@ pub struct Powered {
 
 // Writes one more product: of a factor and the power.
 fn put_next(out: &mut [i32], p: Powered, factor: i64) -> Powered
-    requires { ⌜ Room 1 (p .at) × Near factor × Near (p .held) × (inRange (factor ⊗ p .held) ≡ true) ⌝ }
+    requires { ⌜ RoomAt 1 (p .at) × Near factor × Near (p .held) × (inRange (factor ⊗ p .held) ≡ true) ⌝ }
     ensures { λ r. ⌜ NextPower p r (now (out .entry)) (now (out .exit)) factor ⌝ }
 {
     let v = times(factor, p.held);
@@ -455,7 +455,7 @@ fn put_next(out: &mut [i32], p: Powered, factor: i64) -> Powered
 
 // Writes the products of a power from 1 on: by recursion on the exponent, which halves until it is 1.
 fn put_powers(out: &mut [i32], at: usize, x: i64, k: usize) -> Powered
-    requires { ⌜ Room (20 * k) at × Near x × (1 ≤ k) × (k ≤ 27) × Ranged (powerValues x k .picked) ⌝ }
+    requires { ⌜ RoomAt (20 * k) at × Near x × (1 ≤ k) × (k ≤ 27) × Ranged (powerValues x k .picked) ⌝ }
     ensures { λ r. ⌜ PowersPut at r (now (out .entry)) (now (out .exit)) (powerValues x k) (20 * k) ⌝ }
 {
     if k < 2 {
@@ -534,7 +534,7 @@ fn pick_new_bits(
     encoded: &[usize],
     values: &[i32],
 ) -> usize
-    requires { ⌜ Room 1000000000 at × Bounded (now ls) × Bounded (now us) × Small (now values) ⌝ }
+    requires { ⌜ RoomAt 1000000000 at × Bounded (now ls) × Bounded (now us) × Small (now values) ⌝ }
     ensures { λ r. ⌜ Overlaid at r (now (out .entry)) (now (out .exit)) (newPicks (now (ls .entry)) (now (us .entry)) (now (encoded .entry)) (now (values .entry)) (now (args .entry))) ⌝ }
 {
     if entry_of(encoded, var_at(args, 0)) == 0 {

@@ -16,12 +16,6 @@ returns c =
     let a = c .before .before .before .before .before .before .args in
     rw (copy .number, copy .place) (check-refused (a .candidate) (a .ws .now) (λ e. c .if1 .taken (copy .number ∙ e)))
 
-array-share-prefix-model : tie.Need-array-share-prefix-model
-array-share-prefix-model c = omega (arith, front-fits (c .before .before .before .copy-model .ensures .model (c .if1 .left)))
-
-slice-aggregate-check : tie.Need-slice-aggregate-check
-slice-aggregate-check c = front-length (c .before .before .before .before .copy-model .ensures .model (c .before .if1 .left)) refl
-
 returns-2 : tie.Need-returns-2
 returns-2 c =
     let copy = c .before .before .before .before .before .copy-model .ensures in
@@ -36,7 +30,7 @@ pair-check-spec =
     (λ c. search needs)
     (λ c κs. search needs)
     returns
-    array-share-prefix-model
-    slice-aggregate-check
+    (λ c. omega (arith, front-fits (c .before .before .before .copy-model .ensures .model (c .if1 .left))))
+    (λ c. front-length (c .before .before .before .before .copy-model .ensures .model (c .before .if1 .left)) refl)
     (λ c κs. search needs)
     returns-2)

@@ -23,12 +23,6 @@ returns c =
       (s .1, (λ m e. clash (cc), λ some passes. absurd (none-passes (a .candidate) (a .ws .now) (λ e. c .if1 .taken (copy .number ∙ e)) some passes))),
     )
 
-array-share-prefix-model : tie.Need-array-share-prefix-model
-array-share-prefix-model c = omega (arith, front-fits (c .before .before .before .copy-model .ensures .model (c .if1 .left)))
-
-slice-aggregate-fill : tie.Need-slice-aggregate-fill
-slice-aggregate-fill c = front-length (c .before .before .before .before .copy-model .ensures .model (c .before .if1 .left)) refl
-
 returns-2 : tie.Need-returns-2
 returns-2 c =
     let copy = c .before .before .before .before .before .before .before .copy-model .ensures in
@@ -48,8 +42,8 @@ pair-fill-spec =
     (λ c. search needs)
     (λ c κs. search needs)
     returns
-    array-share-prefix-model
-    slice-aggregate-fill
+    (λ c. omega (arith, front-fits (c .before .before .before .copy-model .ensures .model (c .if1 .left))))
+    (λ c. front-length (c .before .before .before .before .copy-model .ensures .model (c .before .if1 .left)) refl)
     (λ c κs. search needs)
     (λ c. search needs)
     returns-2)

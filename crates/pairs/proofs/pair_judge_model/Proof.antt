@@ -18,12 +18,6 @@ returns c =
     let a = c .before .before .before .before .before .before .args in
     rw (copy .number, copy .place) (judge-refused (a .candidate) (a .ws .now) (a .values .now) (λ e. c .if1 .taken (copy .number ∙ e)))
 
-array-share-prefix-model : tie.Need-array-share-prefix-model
-array-share-prefix-model c = omega (arith, front-fits (c .before .before .before .copy-model .ensures .model (c .if1 .left)))
-
-slice-aggregate-judge-model : tie.Need-slice-aggregate-judge-model
-slice-aggregate-judge-model c = front-length (c .before .before .before .before .copy-model .ensures .model (c .before .if1 .left)) refl
-
 returns-2 : tie.Need-returns-2
 returns-2 c =
     let copy = c .before .before .before .before .before .copy-model .ensures in
@@ -38,7 +32,7 @@ pair-judge-model-spec =
     (λ c. search needs)
     (λ c κs. search needs)
     returns
-    array-share-prefix-model
-    slice-aggregate-judge-model
+    (λ c. omega (arith, front-fits (c .before .before .before .copy-model .ensures .model (c .if1 .left))))
+    (λ c. front-length (c .before .before .before .before .copy-model .ensures .model (c .before .if1 .left)) refl)
     (λ c κs. search needs)
     returns-2)

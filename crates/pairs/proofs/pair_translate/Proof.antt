@@ -21,12 +21,6 @@ returns c =
     let s = translate-refused (a .candidate) (a .ws .now) (a .out .now) (λ e. c .if1 .taken (copy .number ∙ e)) in
     (rw (copy .number, copy .place) (s .0), (s .1, λ m e. clash (cc)))
 
-array-share-prefix-model : tie.Need-array-share-prefix-model
-array-share-prefix-model c = omega (arith, front-fits (c .before .before .before .copy-model .ensures .model (c .if1 .left)))
-
-slice-aggregate-translate : tie.Need-slice-aggregate-translate
-slice-aggregate-translate c = front-length (c .before .before .before .before .copy-model .ensures .model (c .before .if1 .left)) refl
-
 returns-2 : tie.Need-returns-2
 returns-2 c =
     let copy = c .before .before .before .before .before .before .before .before .copy-model .ensures in
@@ -46,8 +40,8 @@ pair-translate-spec =
     (λ c. search needs)
     (λ c κs. search needs)
     returns
-    array-share-prefix-model
-    slice-aggregate-translate
+    (λ c. omega (arith, front-fits (c .before .before .before .copy-model .ensures .model (c .if1 .left))))
+    (λ c. front-length (c .before .before .before .before .copy-model .ensures .model (c .before .if1 .left)) refl)
     (λ c κs. search needs)
     (λ c. search needs)
     returns-2)
