@@ -320,6 +320,16 @@ fn lay_later(
     lay_constant(out, c, minus(1, p))
 }
 
+// x; y, where it is not `up`.
+fn first_if(up: bool, x: usize, y: usize) -> usize
+    ensures { λ r. ⌜ r ≡ (x if up else y) ⌝ }
+{
+    if up {
+        return x;
+    }
+    y
+}
+
 // The row of x and m; of m and x, where it is not `up`.
 fn lay_later_of(
     out: &mut [u32],
@@ -335,10 +345,9 @@ fn lay_later_of(
     requires { ⌜ Room 2000 s × (n ≤ 66) × (v < 1000000000) × Bounded (now ls) × Bounded (now us) ⌝ }
     ensures { λ r. ⌜ Went s r (now (out .entry)) (now (out .exit)) (laterRow (now (ls .entry)) (now (us .entry)) (x if up else m) (m if up else x) v n) × Near 2000 s r ⌝ }
 {
-    if up {
-        return lay_later(out, s, x, m, v, n, ls, us);
-    }
-    lay_later(out, s, m, x, v, n, ls, us)
+    let lesser = first_if(up, x, m);
+    let larger = first_if(up, m, x);
+    lay_later(out, s, lesser, larger, v, n, ls, us)
 }
 
 // For each but the last of n variables from place base on the row over the bits after its own, the bits from v on.
