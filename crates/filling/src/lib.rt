@@ -165,8 +165,19 @@ pub fn fill(ws: &[u32], values: &[i32], out: &mut [i32]) -> Filled
     let mut lowers = [0i64; 256];
     let mut uppers = [0i64; 256];
     let mut uses = [0usize; 256];
-    let sums = model_bounds(ws, &heads, read, &mut lowers, &mut uppers, &mut uses);
-    match check_read(ws, &heads, read, &lowers, &uppers, &uses, sums) {
+    let mut lows = [0i64; 256];
+    let mut highs = [0i64; 256];
+    model_bounds(
+        ws,
+        &heads,
+        read,
+        &mut lowers,
+        &mut uppers,
+        &mut uses,
+        &mut lows,
+        &mut highs,
+    );
+    match check_read(ws, &heads, read, &lowers, &uppers, &uses, &lows, &highs) {
         Checked::Refused(refusal) => Filled::Refused(refusal),
         Checked::Counts {
             variables: _,

@@ -2,5 +2,6 @@
 pub mod Size
 pub mod Places
 pub mod Filling
+pub mod Keeping
 pub mod Model
 pub mod Record

@@ -12,18 +12,28 @@ use borrow.Author.Tests.{eq-eqb, ne-eqb, eqb-true, eqb-false}
 use Rattle.integers.specs.Choice.{_if_else_}
 use Rattle.integers.specs.Number.{+0, +1, -1}
 use Rattle.integers.specs.Bounds.{_to_}
-use Rattle.integers.specs.Lists.{listOf}
+use Rattle.integers.specs.Lists.{any, listOf}
 use Rattle.integers.specs.Terms.{_·_}
 use Rattle.integers.specs.declared.Bounds.{Bounds}
 use Rattle.words.specs.Word.{payload, signed, wordAt}
 use Rattle.words.specs.Small.{Near}
 use Rattle.models.specs.Model.{var, num, size, past, pastTerms, terms}
 use Rattle.rules.specs.Parts.{L, U}
-use Rattle.linearsums.specs.Sum.{noSum, ofTwo, formOf, linearSum, equalSum, sumOf, Summed}
+use Rattle.linearsums.specs.Sum.{noSum, ofTerms, ofTwo, formOf, linearSum, equalSum, sumOf, Summed}
 use Rattle.linearsums.specs.Places.{codeBefore, formBefore, sumSize, sumNumber, sumVariable, sumConstant, sumTerms, sumUpTo, sumBounds, sumsUpTo}
 use Rattle.linearsums.proofs.Size.{few-terms, upto-fits, upto-all}
 use Rattle.linearsums.proofs.Places.{sums-length}
 use Rattle.linearsums.proofs.Filling.{below-or-from}
+
+-- a code has no sum, that of its terms, or a − b
+terms-left : (code : ℕ) → (formOf code ≡ noSum → ⊥) → (formOf code ≡ ofTwo → ⊥) → formOf code ≡ ofTerms
+unfolding formOf
+terms-left code some other = go (any (eqb code) (12 ∷ 13 ∷ 15 ∷ 32 ∷ [])) (any (eqb code) (14 ∷ 31 ∷ [])) some other
+  where
+    go : (s t : Bool) → ((ofTerms if s else ofTwo if t else noSum) ≡ noSum → ⊥) → ((ofTerms if s else ofTwo if t else noSum) ≡ ofTwo → ⊥) → (ofTerms if s else ofTwo if t else noSum) ≡ ofTerms
+    go true t p q = refl
+    go false true p q = absurd (q refl)
+    go false false p q = absurd (p refl)
 
 -- ---- the words after a head are those of the model from there on
 module _ (ws : List ℕ) (a : ℕ) where
@@ -59,13 +69,13 @@ module _ (ws : List ℕ) (a : ℕ) where
     linear-is : (formOf code ≡ ofTwo → ⊥) → sumBounds ws a β ≡ linearSum β args
     unfolding sumBounds sumUpTo sumTerms formBefore sumSize sumNumber sumVariable sumConstant linearSum
     linear-is other =
-        rw (is, ne-eqb (formOf code) noSum some, ne-eqb (formOf code) ofTwo other)
+        rw (is, ne-eqb (formOf code) noSum some, ne-eqb (formOf code) ofTwo other, eq-eqb (formOf code) ofTerms (terms-left code some other))
         (ap₂ (λ ts c. L β ts c to U β ts c) terms-from constant-from)
 
     equal-is : formOf code ≡ ofTwo → sumBounds ws a β ≡ equalSum β args
     unfolding sumBounds sumUpTo sumTerms formBefore sumSize sumNumber sumVariable sumConstant equalSum listOf
     equal-is e =
-        rw (is, ne-eqb (formOf code) noSum some, eq-eqb (formOf code) ofTwo e)
+        rw (is, ne-eqb (formOf code) noSum some, eq-eqb (formOf code) ofTwo e, ne-eqb (formOf code) ofTerms (λ t. omega (arith, e, t)))
         (ap₂ (λ x y. let ts = +1 · x ∷ -1 · y ∷ [] in L β ts +0 to U β ts +0) (var-from (a + 0) 0 refl) (var-from (a + 1) 1 refl))
 
     sum-is : sumBounds ws a β ≡ sumOf β code args

@@ -21,7 +21,7 @@ use Rattle.arguments.proofs.Size.{size-le, num-size}
 use Rattle.arguments.proofs.Walk.{one-more, ⊕-assoc, ⊕-zero}
 use Rattle.rules.specs.Parts.{extreme, L, U}
 use Rattle.extremes.proofs.Size.{pick-size, product-size}
-use Rattle.linearsums.specs.Sum.{noSum, ofTwo}
+use Rattle.linearsums.specs.Sum.{noSum, ofTerms, ofTwo}
 use Rattle.linearsums.specs.Places.{formBefore, sumSize, sumNumber, sumVariable, sumConstant, sumTerms, sumUpTo, sumBounds, withTerm}
 
 -- ---- the numbers of a sum
@@ -36,11 +36,11 @@ number-near ws a k = go (eqb (formBefore ws a) ofTwo) (eqb k 0)
 
 pub constant-near : (ws : List ℕ) (a : ℕ) → Near (sumConstant ws a)
 unfolding sumConstant
-constant-near ws a = go (eqb (formBefore ws a) ofTwo)
+constant-near ws a = go (eqb (formBefore ws a) ofTerms)
   where
-    go : (s : Bool) → Near (+0 if s else num ws (pastTerms ws a))
-    go true = omega arith
-    go false = num-size ws (pastTerms ws a)
+    go : (s : Bool) → Near (num ws (pastTerms ws a) if s else +0)
+    go true = num-size ws (pastTerms ws a)
+    go false = omega arith
 
 pub few-terms : (ws : List ℕ) (a : ℕ) → sumSize ws a ≤ 32
 unfolding sumSize

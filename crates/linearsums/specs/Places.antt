@@ -15,7 +15,8 @@ use Rattle.words.specs.Small.{Near}
 use Rattle.words.specs.Word.{payload, wordAt}
 use Rattle.models.specs.Model.{var, num, size, past, pastTerms}
 use Rattle.rules.specs.Parts.{L, U}
-use Rattle.linearsums.specs.Sum.{noSum, ofTwo, formOf}
+use Rattle.extremes.specs.Bounded.{boundsOf}
+use Rattle.linearsums.specs.Sum.{noSum, ofTerms, ofTwo, formOf}
 
 module _ (ws : List ℕ) where
   -- the code of the constraint whose head stands before place a, 0 at the front
@@ -44,7 +45,7 @@ module _ (ws : List ℕ) where
     sumVariable k = var ws (a + k) if eqb (formBefore a) ofTwo else var ws (past ws a + k)
 
     unfoldable pub sumConstant : ℤ
-    sumConstant = +0 if eqb (formBefore a) ofTwo else num ws (pastTerms ws a)
+    sumConstant = num ws (pastTerms ws a) if eqb (formBefore a) ofTerms else +0
 
     -- the first k terms
     unfoldable pub sumTerms : ℕ → List (Term ℕ)
@@ -74,6 +75,10 @@ noSums = replicate 256 (+0 to +0)
 unfoldable pub sumsUpTo : List ℕ → List ℕ → (ℕ → Bounds) → ℕ → List Bounds
 sumsUpTo ws hs β zero = noSums
 sumsUpTo ws hs β (suc k) = set (sumsUpTo ws hs β k) k (sumBounds ws (getD hs k 0 + 1) β)
+
+-- two lists have L and U of the first n of them
+abbrev pub SumsKept : List ℤ → List ℤ → ℕ → List Bounds → Type 0
+SumsKept lows highs n Bs = (k : ℕ) → k < n → boundsOf lows highs k ≡ boundsIn Bs k
 
 -- the bounds of every variable are near 0
 abbrev pub BoundsNear : List Bounds → Type 0

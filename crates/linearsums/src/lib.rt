@@ -9,13 +9,14 @@ ghost use Rattle.integers.specs.Bounds.{_to_, boundsIn};
 ghost use Rattle.words.specs.Small.{Near};
 ghost use Rattle.extremes.specs.Bounded.{boundsOf, Bounded};
 ghost use Rattle.linearsums.specs.Sum.{formOf};
-ghost use Rattle.linearsums.specs.Places.{codeBefore, formBefore, sumSize, sumNumber, sumVariable, sumConstant, sumBounds, withTerm, BoundsNear, HeadsInside, NoneFrom, noSums, sumsUpTo};
+ghost use Rattle.linearsums.specs.Places.{codeBefore, formBefore, sumSize, sumNumber, sumVariable, sumConstant, sumBounds, withTerm, BoundsNear, HeadsInside, NoneFrom, noSums, sumsUpTo, SumsKept};
 use arguments::num_at;
 use arguments::past_at;
 use arguments::past_terms_at;
 use arguments::size_at;
 use arguments::var_at;
 use extremes::bound_at;
+use extremes::put;
 use extremes::times_ends;
 use integers::Bounds;
 use integers::minus;
@@ -106,10 +107,10 @@ fn sum_constant(ws: &[u32], a: usize) -> i64
     requires { ⌜ a < 1099511627776 ⌝ }
     ensures { λ r. ⌜ r ≡ sumConstant (now (ws .entry)) a ⌝ }
 {
-    if form_before(ws, a) == OF_TWO {
-        return 0;
+    if form_before(ws, a) == OF_TERMS {
+        return num_at(ws, past_terms_at(ws, a));
     }
-    num_at(ws, past_terms_at(ws, a))
+    0
 }
 
 // L and U of no terms.
@@ -241,7 +242,31 @@ fn records_of(ls: &[i64], us: &[i64], variables: usize) -> [Bounds; 256]
     records
 }
 
-// L and U of the sum of each constraint of a model, whose variables have these bounds: the records are made once, and lent.
+// Puts the first n of these sums into two lists for 256, of L and of U.
+fn keep_sums(sums: [Bounds; 256], n: usize, lows: &mut [i64], highs: &mut [i64])
+    requires { ⌜ (n ≤ 256) × (length (now lows) ≡ 256) × (length (now highs) ≡ 256) ⌝ }
+    ensures { λ r. ⌜ SumsKept (now (lows .exit)) (now (highs .exit)) n sums ⌝ }
+{
+    let mut k = 0;
+    while k < n {
+        let sum = sums[k];
+        put(lows, k, sum.lower);
+        put(highs, k, sum.upper);
+        k += 1;
+    }
+}
+
+// L and U of constraint k, from these lists.
+pub fn sum_at(lows: &[i64], highs: &[i64], k: usize) -> Bounds
+    ensures { λ r. ⌜ r ≡ boundsOf (now (lows .entry)) (now (highs .entry)) k ⌝ }
+{
+    Bounds {
+        lower: bound_at(lows, k),
+        upper: bound_at(highs, k),
+    }
+}
+
+// Puts L and U of the sum of each constraint of a model, whose variables have these bounds, into two lists: the records are made once, and lent.
 pub fn model_sums(
     ws: &[u32],
     heads: &[usize; 256],
@@ -249,9 +274,12 @@ pub fn model_sums(
     ls: &[i64],
     us: &[i64],
     variables: usize,
-) -> [Bounds; 256]
-    requires { ⌜ (length (now ws) < 1099511627776) × (n ≤ 256) × HeadsInside (now ws) (now heads) n × (variables ≤ 256) × NoneFrom (boundsOf (now ls) (now us)) variables × Bounded (now ls) × Bounded (now us) ⌝ }
-    ensures { λ r. ⌜ r ≡ sumsUpTo (now (ws .entry)) (now (heads .entry)) (boundsOf (now (ls .entry)) (now (us .entry))) n ⌝ }
+    lows: &mut [i64],
+    highs: &mut [i64],
+)
+    requires { ⌜ (length (now ws) < 1099511627776) × (n ≤ 256) × HeadsInside (now ws) (now heads) n × (variables ≤ 256) × NoneFrom (boundsOf (now ls) (now us)) variables × Bounded (now ls) × Bounded (now us) × (length (now lows) ≡ 256) × (length (now highs) ≡ 256) ⌝ }
+    ensures { λ r. ⌜ SumsKept (now (lows .exit)) (now (highs .exit)) n (sumsUpTo (now (ws .entry)) (now (heads .entry)) (boundsOf (now (ls .entry)) (now (us .entry))) n) ⌝ }
 {
-    lend_bounds(ws, heads, n, records_of(ls, us, variables))
+    let sums = lend_bounds(ws, heads, n, records_of(ls, us, variables));
+    keep_sums(sums, n, lows, highs)
 }

@@ -70,7 +70,7 @@ start : (ws : List ℕ) → Passes ws → Due (bounds ws) (shared ws) (constrain
 unfolding bounds
 start ws h = record { room = omega (arith, Accepted.few-variables ws (passes-read ws h)); recorded = recorded-none; many = none-many; fine = passes-fine ws h; formed = well-formed ws h }
 
-module _ {ws hs : List ℕ} {r : Read} {ls us : List ℤ} {uses : List ℕ} {sums : List Bounds} {vs : List ℤ} (y : PassedModel ws hs r ls us uses sums vs) where
+module _ {ws hs : List ℕ} {r : Read} {ls us : List ℤ} {uses : List ℕ} {lows highs vs : List ℤ} (y : PassedModel ws hs r ls us uses lows highs vs) where
   abbrev β : ℕ → Bounds
   β = boundsOf ls us
 
@@ -88,15 +88,15 @@ module _ {ws hs : List ℕ} {r : Read} {ls us : List ℤ} {uses : List ℕ} {sum
     pub here : Due (boundsOf ls us) (sharedBy uses) (headed ws (getD hs k 0) ∷ drop (k + 1) (constraints ws)) first d
     here = subst (λ cs. Due β s cs first d) (head-at (y .model) k h) l
 
-    pub layable : (o : Bounds) → Layable ls us uses d (payload (wordAt ws (getD hs k 0))) (drop (getD hs k 0 + 1) ws) (getD sums k o) first
+    pub layable : Layable ls us uses d (payload (wordAt ws (getD hs k 0))) (drop (getD hs k 0 + 1) ws) (boundsOf lows highs k) first
     unfolding blockOf builtin choice tooWide
-    layable o = record {
+    layable = record {
       near = l .room;
       lowers = y .model .lowers;
       uppers = y .model .uppers;
       narrow = here .fine .0;
       recorded = l .recorded;
-      summed = summed-at (y .model) k h o (y .sums-are);
+      summed = summed-at (y .model) k h lows highs (y .sums-are);
       reads = reads here;
     }
 
@@ -135,7 +135,7 @@ pub record Walking (bounds : Bool) (β : ℕ → Bounds) (s : ℕ → Bool) (ws 
   pub outside : bounds ≡ true → firstOutOfBounds (value vs) first (auxiliariesFrom β s first d (drop k (constraints ws))) holds ≡ firstOutOfBounds (value vs) (length (variables ws)) (auxiliaries ws) holds
   pub failing : bounds ≡ false → (σ : Valuation) → firstFailing σ (value vs) rows k (explainedFrom β s first d (drop k (constraints ws))) ≡ firstFailing σ (value vs) 0 0 (explained ws)
 
-module _ {ws hs : List ℕ} {r : Read} {ls us : List ℤ} {uses : List ℕ} {sums : List Bounds} {vs : List ℤ} (y : PassedModel ws hs r ls us uses sums vs) where
+module _ {ws hs : List ℕ} {r : Read} {ls us : List ℤ} {uses : List ℕ} {lows highs vs : List ℤ} (y : PassedModel ws hs r ls us uses lows highs vs) where
   all-auxiliaries : auxiliariesFrom (boundsOf ls us) (sharedBy uses) (r .variables) noneYet (constraints ws) ≡ auxiliaries ws
   unfolding auxiliaries
   all-auxiliaries = rw (y .model .same, y .model .shares, y .model .seen .variables-counted)
@@ -228,7 +228,7 @@ module _ {bounds : Bool} {β : ℕ → Bounds} {s : ℕ → Bool} {ws : List ℕ
 
 -- ---- the source values
 
-module _ {ws hs : List ℕ} {r : Read} {ls us : List ℤ} {uses : List ℕ} {sums : List Bounds} {vs : List ℤ} (y : PassedModel ws hs r ls us uses sums vs) where
+module _ {ws hs : List ℕ} {r : Read} {ls us : List ℤ} {uses : List ℕ} {lows highs vs : List ℤ} (y : PassedModel ws hs r ls us uses lows highs vs) where
   enough-values : r .variables ≤ length vs
   enough-values = omega (arith, y .model .seen .variables-counted, y .counted)
 

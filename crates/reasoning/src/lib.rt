@@ -4,7 +4,6 @@ ghost use Rattle.words.specs.Verdict.{verdict};
 ghost use Rattle.reasons.specs.Reason.{reason as reasonAnswer, answerOr, none};
 ghost use Rattle.reasoning.specs.Told.{told};
 ghost use Rattle.reasoning.specs.Walks.{CheckedModel};
-use integers::Bounds;
 use modelreading::Read;
 use modelreading::read_model;
 use translation::Checked;
@@ -68,11 +67,12 @@ fn reason_passed(
     ls: &[i64],
     us: &[i64],
     uses: &[usize],
-    sums: [Bounds; 256],
+    lows: &[i64],
+    highs: &[i64],
     values: &[i32],
     added: usize,
 ) -> Reasoned
-    requires { ⌜ CheckedModel (now ws) (now heads) read (now ls) (now us) (now uses) sums added ⌝ }
+    requires { ⌜ CheckedModel (now ws) (now heads) read (now ls) (now us) (now uses) (now lows) (now highs) added ⌝ }
     ensures { λ r. ⌜ told r ≡ reasonAnswer (now (ws .entry)) (now (values .entry)) ⌝ }
 {
     let sources = read.variables;
@@ -86,12 +86,12 @@ fn reason_passed(
     if !is_holds(outside) {
         return before_rows(outside);
     }
-    let stopped = walk(ws, heads, read, ls, us, uses, sums, values, true);
+    let stopped = walk(ws, heads, read, ls, us, uses, lows, highs, values, true);
     let added_outside = stopped.said;
     if !is_holds(added_outside) {
         return before_rows(added_outside);
     }
-    first_failing(ws, heads, read, ls, us, uses, sums, values)
+    first_failing(ws, heads, read, ls, us, uses, lows, highs, values)
 }
 
 // The first failing row, the constraint whose block holds it, and whether its builtin is true; faults and bounds come first.
@@ -109,8 +109,19 @@ pub fn reason(ws: &[u32], values: &[i32]) -> Reasoned
     let mut lowers = [0i64; 256];
     let mut uppers = [0i64; 256];
     let mut uses = [0usize; 256];
-    let sums = model_bounds(ws, &heads, read, &mut lowers, &mut uppers, &mut uses);
-    match check_read(ws, &heads, read, &lowers, &uppers, &uses, sums) {
+    let mut lows = [0i64; 256];
+    let mut highs = [0i64; 256];
+    model_bounds(
+        ws,
+        &heads,
+        read,
+        &mut lowers,
+        &mut uppers,
+        &mut uses,
+        &mut lows,
+        &mut highs,
+    );
+    match check_read(ws, &heads, read, &lowers, &uppers, &uses, &lows, &highs) {
         Checked::Refused(refusal) => Reasoned::Refused(refusal),
         Checked::Counts {
             variables: _,
@@ -125,7 +136,8 @@ pub fn reason(ws: &[u32], values: &[i32]) -> Reasoned
             &lowers,
             &uppers,
             &uses,
-            sums,
+            &lows,
+            &highs,
             values,
             auxiliaries,
         ),

@@ -13,7 +13,7 @@ use crate::Reasoned;
 use crate::Stopped;
 use crate::one_block::judge_block;
 use encodings::record_encoding;
-use integers::Bounds;
+use linearsums::sum_at;
 use modelreading::Read;
 use words::Verdict;
 use words::is_holds;
@@ -30,11 +30,12 @@ pub fn walk(
     ls: &[i64],
     us: &[i64],
     uses: &[usize],
-    sums: [Bounds; 256],
+    lows: &[i64],
+    highs: &[i64],
     values: &[i32],
     bounds: bool,
 ) -> Stopped
-    requires { ⌜ PassedModel (now ws) (now heads) read (now ls) (now us) (now uses) sums (now values) × (bounds ≡ false → Small (now values)) ⌝ }
+    requires { ⌜ PassedModel (now ws) (now heads) read (now ls) (now us) (now uses) (now lows) (now highs) (now values) × (bounds ≡ false → Small (now values)) ⌝ }
     ensures { λ r. ⌜ Stops bounds (now (ws .entry)) (now (values .entry)) r ⌝ }
 {
     let n = read.constraints;
@@ -46,7 +47,7 @@ pub fn walk(
     while k < n {
         let place = heads[k];
         let code = payload_of(ws[place]);
-        let sum = sums[k];
+        let sum = sum_at(lows, highs, k);
         let found = judge_block(
             &mut words,
             code,
@@ -103,14 +104,15 @@ pub fn first_failing(
     ls: &[i64],
     us: &[i64],
     uses: &[usize],
-    sums: [Bounds; 256],
+    lows: &[i64],
+    highs: &[i64],
     values: &[i32],
 ) -> Reasoned
-    requires { ⌜ PassedModel (now ws) (now heads) read (now ls) (now us) (now uses) sums (now values) × Small (now values) ⌝ }
+    requires { ⌜ PassedModel (now ws) (now heads) read (now ls) (now us) (now uses) (now lows) (now highs) (now values) × Small (now values) ⌝ }
     ensures { λ r. ⌜ told r ≡ firstFailing (value (take (length (variables (now (ws .entry)))) (now (values .entry)))) (value (now (values .entry))) 0 0 (explained (now (ws .entry))) ⌝ }
 {
     let sources = read.variables;
-    let stopped = walk(ws, heads, read, ls, us, uses, sums, values, false);
+    let stopped = walk(ws, heads, read, ls, us, uses, lows, highs, values, false);
     let said = stopped.said;
     if is_holds(said) {
         return Reasoned::Nothing;

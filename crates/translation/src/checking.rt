@@ -7,6 +7,7 @@ ghost use Rattle.modelreading.specs.Seen.{Kept};
 ghost use Rattle.rules.specs.Shared.{noneYet};
 ghost use Rattle.rules.specs.Check.{tooWide, check as checkAnswer};
 ghost use Rattle.extremes.specs.Bounded.{boundsOf, Bounded};
+ghost use Rattle.linearsums.specs.Places.{SumsKept};
 ghost use Rattle.linearsums.specs.Sum.{Summed};
 ghost use Rattle.encodings.specs.Uses.{sharedBy, Recorded};
 ghost use Rattle.translation.specs.Checked.{checked};
@@ -26,6 +27,7 @@ use extremes::width_of;
 use integers::Bounds;
 use laying::Laid;
 use linearsums::model_sums;
+use linearsums::sum_at;
 use modelreading::Read;
 use words::Refusal;
 use words::fault;
@@ -35,7 +37,7 @@ use words::payload_of;
 // The code of set_in_reif, which has an auxiliary for each value of its first argument, shared or not.
 const SET_IN_REIF: usize = 28;
 
-// The bounds and the uses of the variables of a model that was read without a fault go into three lists of 256 zeros; L and U of its constraints.
+// The bounds and the uses of the variables of a model that was read without a fault go into three lists of 256 zeros, L and U of its constraints into two.
 pub fn model_bounds(
     ws: &[u32],
     heads: &[usize; 256],
@@ -43,14 +45,25 @@ pub fn model_bounds(
     lowers: &mut [i64],
     uppers: &mut [i64],
     uses: &mut [usize],
-) -> [Bounds; 256]
-    requires { ⌜ Kept (now ws) (now heads) read × (read .number ≡ 0) × (now lowers ≡ noBounds) × (now uppers ≡ noBounds) × (now uses ≡ noneYet) ⌝ }
-    ensures { λ r. ⌜ ModelBounds (now (ws .entry)) (now (heads .entry)) read (now (lowers .exit)) (now (uppers .exit)) (now (uses .exit)) × (r ≡ modelSums (now (ws .entry)) (now (heads .entry)) read (now (lowers .exit)) (now (uppers .exit))) ⌝ }
+    lows: &mut [i64],
+    highs: &mut [i64],
+)
+    requires { ⌜ Kept (now ws) (now heads) read × (read .number ≡ 0) × (now lowers ≡ noBounds) × (now uppers ≡ noBounds) × (now uses ≡ noneYet) × (now lows ≡ noBounds) × (now highs ≡ noBounds) ⌝ }
+    ensures { λ r. ⌜ ModelBounds (now (ws .entry)) (now (heads .entry)) read (now (lowers .exit)) (now (uppers .exit)) (now (uses .exit)) × SumsKept (now (lows .exit)) (now (highs .exit)) (read .constraints) (modelSums (now (ws .entry)) (now (heads .entry)) read (now (lowers .exit)) (now (uppers .exit))) ⌝ }
 {
     let sources = read.sources;
     keep_bounds(&ws[..sources], lowers, uppers);
     count_uses(ws, heads, read.constraints, uses);
-    model_sums(ws, heads, read.constraints, lowers, uppers, read.variables)
+    model_sums(
+        ws,
+        heads,
+        read.constraints,
+        lowers,
+        uppers,
+        read.variables,
+        lows,
+        highs,
+    )
 }
 
 // Whether a constraint has an auxiliary for each value of its first argument.
@@ -129,9 +142,10 @@ pub fn check_read(
     ls: &[i64],
     us: &[i64],
     uses: &[usize],
-    sums: [Bounds; 256],
+    lows: &[i64],
+    highs: &[i64],
 ) -> Checked
-    requires { ⌜ ModelBounds (now ws) (now heads) read (now ls) (now us) (now uses) × (sums ≡ modelSums (now ws) (now heads) read (now ls) (now us)) ⌝ }
+    requires { ⌜ ModelBounds (now ws) (now heads) read (now ls) (now us) (now uses) × SumsKept (now lows) (now highs) (read .constraints) (modelSums (now ws) (now heads) read (now ls) (now us)) ⌝ }
     ensures { λ r. ⌜ checked r ≡ checkAnswer (now (ws .entry)) ⌝ }
 {
     let variables = read.variables;
@@ -144,7 +158,7 @@ pub fn check_read(
     while constraints < n {
         let place = heads[constraints];
         let code = payload_of(ws[place]);
-        let sum = sums[constraints];
+        let sum = sum_at(lows, highs, constraints);
         let first = variables + auxiliaries;
         let cost = cost_of(code, &ws[place + 1..], ls, us, uses, &encoded, sum, first);
         if cost.fault != fault::NONE {

@@ -59,8 +59,19 @@ pub fn check(ws: &[u32]) -> Checked
     let mut lowers = [0i64; 256];
     let mut uppers = [0i64; 256];
     let mut uses = [0usize; 256];
-    let sums = model_bounds(ws, &heads, read, &mut lowers, &mut uppers, &mut uses);
-    check_read(ws, &heads, read, &lowers, &uppers, &uses, sums)
+    let mut lows = [0i64; 256];
+    let mut highs = [0i64; 256];
+    model_bounds(
+        ws,
+        &heads,
+        read,
+        &mut lowers,
+        &mut uppers,
+        &mut uses,
+        &mut lows,
+        &mut highs,
+    );
+    check_read(ws, &heads, read, &lowers, &uppers, &uses, &lows, &highs)
 }
 
 // Writes the words of the row system to the front of the output; a refusal changes nothing.
@@ -80,8 +91,19 @@ pub fn translate(ws: &[u32], out: &mut [u32]) -> Written
     let mut lowers = [0i64; 256];
     let mut uppers = [0i64; 256];
     let mut uses = [0usize; 256];
-    let sums = model_bounds(ws, &heads, read, &mut lowers, &mut uppers, &mut uses);
-    match check_read(ws, &heads, read, &lowers, &uppers, &uses, sums) {
+    let mut lows = [0i64; 256];
+    let mut highs = [0i64; 256];
+    model_bounds(
+        ws,
+        &heads,
+        read,
+        &mut lowers,
+        &mut uppers,
+        &mut uses,
+        &mut lows,
+        &mut highs,
+    );
+    match check_read(ws, &heads, read, &lowers, &uppers, &uses, &lows, &highs) {
         Checked::Refused(refusal) => Written::Refused(refusal),
         Checked::Counts {
             variables: _,
@@ -96,7 +118,17 @@ pub fn translate(ws: &[u32], out: &mut [u32]) -> Written
                     place: 0,
                 });
             }
-            write_system(ws, &heads, read, &lowers, &uppers, &uses, sums, out);
+            write_system(
+                ws,
+                &heads,
+                read,
+                &lowers,
+                &uppers,
+                &uses,
+                &lows,
+                &highs,
+                out,
+            );
             Written::Words(words)
         }
     }

@@ -6,11 +6,12 @@ ghost use Rattle.words.specs.Overlay.{overlay};
 ghost use Rattle.models.specs.Model.{sourceWords};
 ghost use Rattle.rules.specs.Translation.{systemWords};
 ghost use Rattle.sharing.specs.SharedSolutions.{Passes};
+ghost use Rattle.linearsums.specs.Places.{SumsKept};
 ghost use Rattle.translation.specs.Walk.{allBlocks};
 ghost use Rattle.translation.specs.ModelBounds.{ModelBounds, modelSums};
 use blocks::block;
 use encodings::record_encoding;
-use integers::Bounds;
+use linearsums::sum_at;
 use modelreading::Read;
 use words::kind;
 use words::lay;
@@ -25,10 +26,11 @@ fn write_blocks(
     ls: &[i64],
     us: &[i64],
     uses: &[usize],
-    sums: [Bounds; 256],
+    lows: &[i64],
+    highs: &[i64],
     out: &mut [u32],
 ) -> usize
-    requires { ⌜ ModelBounds (now ws) (now heads) read (now ls) (now us) (now uses) × (sums ≡ modelSums (now ws) (now heads) read (now ls) (now us)) × Passes (now ws) × (length (sourceWords (now ws)) + length (allBlocks (now ws)) ≤ length (now out)) ⌝ }
+    requires { ⌜ ModelBounds (now ws) (now heads) read (now ls) (now us) (now uses) × SumsKept (now lows) (now highs) (read .constraints) (modelSums (now ws) (now heads) read (now ls) (now us)) × Passes (now ws) × (length (sourceWords (now ws)) + length (allBlocks (now ws)) ≤ length (now out)) ⌝ }
     ensures { λ r. ⌜ (r ≡ length (sourceWords (now (ws .entry))) + length (allBlocks (now (ws .entry)))) × (now (out .exit) ≡ overlay (now (out .entry)) (length (sourceWords (now (ws .entry)))) (allBlocks (now (ws .entry)))) ⌝ }
 {
     let n = read.constraints;
@@ -39,7 +41,7 @@ fn write_blocks(
     while k < n {
         let place = heads[k];
         let code = payload_of(ws[place]);
-        let sum = sums[k];
+        let sum = sum_at(lows, highs, k);
         let laid = block(
             &mut out[at..],
             code,
@@ -67,15 +69,16 @@ pub fn write_system(
     ls: &[i64],
     us: &[i64],
     uses: &[usize],
-    sums: [Bounds; 256],
+    lows: &[i64],
+    highs: &[i64],
     out: &mut [u32],
 )
-    requires { ⌜ ModelBounds (now ws) (now heads) read (now ls) (now us) (now uses) × (sums ≡ modelSums (now ws) (now heads) read (now ls) (now us)) × Passes (now ws) × (length (systemWords (now ws)) ≤ length (now out)) ⌝ }
+    requires { ⌜ ModelBounds (now ws) (now heads) read (now ls) (now us) (now uses) × SumsKept (now lows) (now highs) (read .constraints) (modelSums (now ws) (now heads) read (now ls) (now us)) × Passes (now ws) × (length (systemWords (now ws)) ≤ length (now out)) ⌝ }
     ensures { λ r. ⌜ now (out .exit) ≡ overlay (now (out .entry)) 0 (systemWords (now (ws .entry))) ⌝ }
 {
     let sources = read.sources;
     lay(out, 0, &ws[..sources]);
-    let at = write_blocks(ws, heads, read, ls, us, uses, sums, out);
+    let at = write_blocks(ws, heads, read, ls, us, uses, lows, highs, out);
     let end = [word_of(kind::ROWS_END, 0)];
     lay(out, at, &end);
 }

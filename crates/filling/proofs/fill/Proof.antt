@@ -17,18 +17,18 @@ returns c =
 fill-passed-requires : tie.Need-fill-passed-requires
 unfolding checked
 fill-passed-requires c κs =
-    let p = counted (c .before .before .before .before .before .before .before .before .before .before .before .before .before .before .before .before .before .before .before .before .before .before .before .before .before .before .args .ws .now) (rw (c .before .before .before .before .before .before .auxiliaries .given .1) at (c .before .before .before .before .before .before .before .before .check-read .ensures)) in
-    (c .before .before .before .before .before .before .before .before .before .before .before .before .before .before .before .before .model-bounds .ensures .0, p .0, p .2)
+    let p = counted (c .before .before .before .before .before .before .before .before .before .before .before .before .before .before .before .before .before .before .before .before .before .before .before .before .before .before .before .before .before .before .before .before .args .ws .now) (rw (c .before .before .before .before .before .before .auxiliaries .given .1) at (c .before .before .before .before .before .before .before .before .check-read .ensures)) in
+    (c .before .before .before .before .before .before .before .before .before .before .before .before .before .before .before .before .before .before .before .before .model-bounds .ensures .0, p .0, p .2)
 
 returns-2 : tie.Need-returns-2
 unfolding handed checked
 returns-2 c =
-    let a = c .before .before .before .before .before .before .before .before .before .before .before .before .before .before .before .before .before .before .before .before .before .args in
+    let a = c .before .before .before .before .before .before .before .before .before .before .before .before .before .before .before .before .before .before .before .before .before .before .before .before .before .before .before .args in
     with-hands-over (a .ws .now) (a .values .now) (a .out .now) (stands (a .ws .now) (a .values .now) (a .out .now) (rw (c .before .refusal .given .1) at (c .before .before .before .check-read .ensures)))
 
 returns-3 : tie.Need-returns-3
 returns-3 c =
-    let a = c .before .before .before .before .before .before .before .before .before .before .before .before .before .before .before .before .before .before .before .before .before .before .before .before .before .before .before .before .args in
+    let a = c .before .before .before .before .before .before .before .before .before .before .before .before .before .before .before .before .before .before .before .before .before .before .before .before .before .before .before .before .before .before .before .before .before .before .args in
     with-hands-over (a .ws .now) (a .values .now) (a .out .now) (c .before .fill-passed .ensures)
 
 pub fill-spec : {M : Type 1} → statement M
@@ -40,7 +40,11 @@ fill-spec =
     (λ c. search needs)
     (λ c. search needs)
     (λ c. search needs)
+    (λ c. search needs)
+    (λ c. search needs)
     (λ c κs. search needs)
+    (λ c. search needs)
+    (λ c. search needs)
     (λ c. search needs)
     (λ c. search needs)
     (λ c. search needs)

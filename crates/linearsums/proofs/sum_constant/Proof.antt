@@ -9,16 +9,16 @@ use Rattle.linearsums.proofs.sum_constant.Tie as tie
 
 returns : tie.Need-returns
 unfolding sumConstant
-returns c = rw (← c .before .form-before .ensures, eq-eqb _ 2 (c .if1 .taken))
+returns c =
+    let form-before = c .before .before .before .form-before in
+    let if1 = c .before .before .if1 in
+    back (c .num-at .result) (c .num-at .ok) ∙ c .num-at .ensures ∙ rw (← form-before .ensures, eq-eqb _ 1 (if1 .taken), c .before .past-terms-at .ensures)
 
 returns-2 : tie.Need-returns-2
 unfolding sumConstant
-returns-2 c =
-    let form-before = c .before .before .before .form-before in
-    let if1 = c .before .before .if1 in
-    back (c .num-at .result) (c .num-at .ok) ∙ c .num-at .ensures ∙ rw (← form-before .ensures, ne-eqb _ 2 (if1 .left), c .before .past-terms-at .ensures)
+returns-2 c = rw (← c .before .form-before .ensures, ne-eqb _ 1 (c .if1 .left))
 
 pub sum-constant-spec : {M : Type 1} → statement M
 sum-constant-spec =
     tie.close
-    (tie.spec (λ c κs. search needs) returns (λ c κs. search needs) (λ c κs. search needs) returns-2)
+    (tie.spec (λ c κs. search needs) (λ c κs. search needs) (λ c κs. search needs) returns returns-2)

@@ -16,13 +16,13 @@ returns c =
 reason-passed-requires : tie.Need-reason-passed-requires
 unfolding checked
 reason-passed-requires c κs =
-    let p = counts-are (c .before .before .before .before .before .before .before .before .before .before .before .before .before .before .before .before .before .before .before .before .before .before .before .before .before .args .ws .now) (rw (c .before .before .before .before .before .auxiliaries .given .1) at (c .before .before .before .before .before .before .before .check-read .ensures)) in
-    (c .before .before .before .before .before .before .before .before .before .before .before .before .before .before .before .model-bounds .ensures .0, c .before .before .before .before .before .before .before .before .before .before .before .before .before .before .before .model-bounds .ensures .1, p .0, p .2)
+    let p = counts-are (c .before .before .before .before .before .before .before .before .before .before .before .before .before .before .before .before .before .before .before .before .before .before .before .before .before .before .before .before .before .before .before .before .before .args .ws .now) (rw (c .before .before .before .before .before .before .before .auxiliaries .given .1) at (c .before .before .before .before .before .before .before .before .before .check-read .ensures)) in
+    (c .before .before .before .before .before .before .before .before .before .before .before .before .before .before .before .before .before .before .before .before .before .model-bounds .ensures .0, c .before .before .before .before .before .before .before .before .before .before .before .before .before .before .before .before .before .before .before .before .before .model-bounds .ensures .1, p .0, p .2)
 
 returns-2 : tie.Need-returns-2
 unfolding told checked
 returns-2 c =
-    let s = c .before .before .before .before .before .before .before .before .before .before .before .before .before .before .before .before .before .before .before .before .before in
+    let s = c .before .before .before .before .before .before .before .before .before .before .before .before .before .before .before .before .before .before .before .before .before .before .before .before .before .before .before in
     stands (s .args .ws .now) (s .args .values .now) (rw (c .before .refusal .given .1) at (c .before .before .before .check-read .ensures))
 
 returns-3 : tie.Need-returns-3
@@ -37,11 +37,17 @@ reason-spec =
     (λ c. search needs)
     (λ c. search needs)
     (λ c. search needs)
+    (λ c. search needs)
+    (λ c. search needs)
     (λ c κs. search needs)
     (λ c. search needs)
     (λ c. search needs)
     (λ c. search needs)
+    (λ c. search needs)
+    (λ c. search needs)
     (λ c κs. search needs)
+    (λ c. search needs)
+    (λ c. search needs)
     (λ c. search needs)
     (λ c. search needs)
     (λ c. search needs)

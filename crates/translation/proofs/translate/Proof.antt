@@ -11,9 +11,9 @@ use Rattle.translation.proofs.Refusals.{counted, stands, too-short, wri
 use Rattle.translation.proofs.translate.Statement.{statement}
 use Rattle.translation.proofs.translate.Tie as tie
 
-passed : (c : tie.After-words) → Passes (c .before .before .before .before .before .before .before .before .before .before .before .before .before .before .before .before .before .before .before .before .before .args .ws .now) × (c .words .given .0 .1 .1 .1 .1 .0 ≡ length (systemWords (c .before .before .before .before .before .before .before .before .before .before .before .before .before .before .before .before .before .before .before .before .before .args .ws .now)))
+passed : (c : tie.After-words) → Passes (c .before .before .before .before .before .before .before .before .before .before .before .before .before .before .before .before .before .before .before .before .before .before .before .before .before .before .before .args .ws .now) × (c .words .given .0 .1 .1 .1 .1 .0 ≡ length (systemWords (c .before .before .before .before .before .before .before .before .before .before .before .before .before .before .before .before .before .before .before .before .before .before .before .before .before .before .before .args .ws .now)))
 unfolding checked
-passed c = counted (c .before .before .before .before .before .before .before .before .before .before .before .before .before .before .before .before .before .before .before .before .before .args .ws .now) (rw (c .words .given .1) at (c .before .before .check-read .ensures))
+passed c = counted (c .before .before .before .before .before .before .before .before .before .before .before .before .before .before .before .before .before .before .before .before .before .before .before .before .before .before .before .args .ws .now) (rw (c .words .given .1) at (c .before .before .check-read .ensures))
 
 returns : tie.Need-returns
 unfolding wrote
@@ -22,27 +22,27 @@ returns c = stands (c .before .before .before .before .before .before .args .ws 
 returns-2 : tie.Need-returns-2
 unfolding wrote
 returns-2 c =
-    let a = c .before .before .before .before .before .before .before .before .before .before .before .before .before .before .before .before .before .before .before .before .before .before .before .args in
+    let a = c .before .before .before .before .before .before .before .before .before .before .before .before .before .before .before .before .before .before .before .before .before .before .before .before .before .before .before .before .before .args in
     let p = passed (c .before .before) in
     too-short (a .ws .now) (a .out .now) (p .0) (omega (arith, p .1, c .if2 .taken))
 
 write-system-requires : tie.Need-write-system-requires
 write-system-requires c κs =
-    let p = passed (c .before .before .before .before .before .before .before) in
-    (c .before .before .before .before .before .before .before .before .before .before .before .before .before .before .before .before .before .model-bounds .ensures .0, c .before .before .before .before .before .before .before .before .before .before .before .before .before .before .before .before .before .model-bounds .ensures .1, p .0, omega (arith, p .1, c .before .before .before .before .before .if2 .left))
+    let p = passed (c .before .before .before .before .before .before .before .before .before) in
+    (c .before .before .before .before .before .before .before .before .before .before .before .before .before .before .before .before .before .before .before .before .before .before .before .model-bounds .ensures .0, c .before .before .before .before .before .before .before .before .before .before .before .before .before .before .before .before .before .before .before .before .before .before .before .model-bounds .ensures .1, p .0, omega (arith, p .1, c .before .before .before .before .before .before .before .if2 .left))
 
 returns-3 : tie.Need-returns-3
 unfolding wrote checked
 returns-3 c =
-    let a = c .before .before .before .before .before .before .before .before .before .before .before .before .before .before .before .before .before .before .before .before .before .before .args in
+    let a = c .before .before .before .before .before .before .before .before .before .before .before .before .before .before .before .before .before .before .before .before .before .before .before .before .before .before .before .before .args in
     stands (a .ws .now) (a .out .now) (rw (c .before .refusal .given .1) at (c .before .before .before .check-read .ensures))
 
 returns-4 : tie.Need-returns-4
 unfolding wrote
 returns-4 c =
-    let a = c .before .before .before .before .before .before .before .before .before .before .before .before .before .before .before .before .before .before .before .before .before .before .before .before .before .before .before .before .before .before .before .args in
-    let p = passed (c .before .before .before .before .before .before .before .before .before .before) in
-    rw (p .1, c .before .before .write-system .ensures) (writes (a .ws .now) (a .out .now) (p .0) (omega (arith, p .1, c .before .before .before .before .before .before .before .before .if2 .left)))
+    let a = c .before .before .before .before .before .before .before .before .before .before .before .before .before .before .before .before .before .before .before .before .before .before .before .before .before .before .before .before .before .before .before .before .before .before .before .before .before .before .before .args in
+    let p = passed (c .before .before .before .before .before .before .before .before .before .before .before .before) in
+    rw (p .1, c .before .before .write-system .ensures) (writes (a .ws .now) (a .out .now) (p .0) (omega (arith, p .1, c .before .before .before .before .before .before .before .before .before .before .if2 .left)))
 
 pub translate-spec : {M : Type 1} → statement M
 translate-spec =
@@ -53,7 +53,11 @@ translate-spec =
     (λ c. search needs)
     (λ c. search needs)
     (λ c. search needs)
+    (λ c. search needs)
+    (λ c. search needs)
     (λ c κs. search needs)
+    (λ c. search needs)
+    (λ c. search needs)
     (λ c. search needs)
     (λ c. search needs)
     (λ c. search needs)
@@ -61,6 +65,8 @@ translate-spec =
     (λ c. search needs)
     (λ c. search needs)
     returns-2
+    (λ c. search needs)
+    (λ c. search needs)
     (λ c. search needs)
     (λ c. search needs)
     (λ c. search needs)

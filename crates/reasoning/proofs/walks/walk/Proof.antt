@@ -20,10 +20,10 @@ use Rattle.reasoning.proofs.walks.walk.Statement.{statement}
 use Rattle.reasoning.proofs.walks.walk.Tie as tie
 
 abbrev Inv-loop : tie.InvT-loop
-Inv-loop ws heads ls us uses values bounds sums n k₀ first₀ rows₀ encoded₀ words₀ k first rows encoded words = Walking bounds (boundsOf ls us) (sharedBy uses) ws values k first rows encoded × (length words ≡ 3072)
+Inv-loop ws heads ls us uses lows highs values bounds n k₀ first₀ rows₀ encoded₀ words₀ k first rows encoded words = Walking bounds (boundsOf ls us) (sharedBy uses) ws values k first rows encoded × (length words ≡ 3072)
 
 abbrev μ-loop : tie.MeasureT-loop
-μ-loop ws heads ls us uses values bounds sums n k₀ first₀ rows₀ encoded₀ words₀ k first rows encoded words = n - k
+μ-loop ws heads ls us uses lows highs values bounds n k₀ first₀ rows₀ encoded₀ words₀ k first rows encoded words = n - k
 
 few : (c : tie.In-loop Inv-loop μ-loop) → c .before .loop .k < 256
 few c = omega (arith, c .loop-test .taken, few-constraints (c .before .before .before .before .pre .0 .model))
@@ -45,12 +45,6 @@ mul-payload-of c = let h = inside (c .before) in search needs
 
 shared-slice-read-payload-of : tie.Need-shared-slice-read-payload-of Inv-loop μ-loop
 shared-slice-read-payload-of c = inside (c .before .before)
-
-mul-sum : tie.Need-mul-sum Inv-loop μ-loop
-mul-sum c = omega (arith, few (c .before .before .before))
-
-array-copy-out-sum : tie.Need-array-copy-out-sum Inv-loop μ-loop
-array-copy-out-sum c = few (c .before .before .before)
 
 slice-aggregate-judge-block : tie.Need-slice-aggregate-judge-block Inv-loop μ-loop
 slice-aggregate-judge-block c = sym (c .before .before .before .before .before .before .loop .inv .1)
@@ -76,8 +70,8 @@ judge-block-requires c κs =
     let s = c .before .before .before .before .before .before .before .before .before .before .before in
     let l = c .before .before .before .before .before .before .before .before .loop in
     let t = c .before .before .before .before .before .before .before .loop-test in
-    rw (c .before .before .before .before .payload-of .ensures, tail-is (s .args .ws .now) (getD (s .args .heads .now) (l .k) 0 + 1))
-    (record { layable = layable (s .pre .0) (l .inv .0 .walk) (t .taken) _; room = omega (arith, l .inv .1); there = own-there (l .inv .0 .there) (head-at (s .pre .0 .model) (l .k) (t .taken)); small = s .pre .1 }, omega (arith, l .inv .0 .small, few (c .before .before .before .before .before .before .before)))
+    rw (c .before .before .before .before .payload-of .ensures, tail-is (s .args .ws .now) (getD (s .args .heads .now) (l .k) 0 + 1), c .before .before .before .sum-at .ensures)
+    (record { layable = layable (s .pre .0) (l .inv .0 .walk) (t .taken); room = omega (arith, l .inv .1); there = own-there (l .inv .0 .there) (head-at (s .pre .0 .model) (l .k) (t .taken)); small = s .pre .1 }, omega (arith, l .inv .0 .small, few (c .before .before .before .before .before .before .before)))
 
 returns : tie.Need-returns Inv-loop μ-loop
 unfolding wordAt blockOf builtin choice
@@ -138,8 +132,7 @@ walk-spec =
     mul-payload-of
     shared-slice-read-payload-of
     (λ c κs. search needs)
-    mul-sum
-    array-copy-out-sum
+    (λ c κs. search needs)
     slice-aggregate-judge-block
     add-judge-block
     mul-judge-block

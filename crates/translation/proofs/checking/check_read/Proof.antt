@@ -20,10 +20,10 @@ use Rattle.translation.proofs.checking.check_read.Statement.{statement}
 use Rattle.translation.proofs.checking.check_read.Tie as tie
 
 abbrev Inv-loop : tie.InvT-loop
-Inv-loop ws heads ls us uses sums variables n k₀ a₀ r₀ w₀ e₀ k a r w e = Checking (boundsOf ls us) (sharedBy uses) variables (constraints ws) w₀ k a r w e
+Inv-loop ws heads ls us uses lows highs variables n k₀ a₀ r₀ w₀ e₀ k a r w e = Checking (boundsOf ls us) (sharedBy uses) variables (constraints ws) w₀ k a r w e
 
 abbrev μ-loop : tie.MeasureT-loop
-μ-loop ws heads ls us uses sums variables n k₀ a₀ r₀ w₀ e₀ k a r w e = n - k
+μ-loop ws heads ls us uses lows highs variables n k₀ a₀ r₀ w₀ e₀ k a r w e = n - k
 
 -- the constraint has a place in the lists, and its head among the words
 few : (c : tie.In-loop Inv-loop μ-loop) → c .before .loop .constraints < 256
@@ -79,12 +79,6 @@ mul-payload-of c = let h = inside (c .before) in search needs
 shared-slice-read-payload-of : tie.Need-shared-slice-read-payload-of Inv-loop μ-loop
 shared-slice-read-payload-of c = inside (c .before .before)
 
-mul-sum : tie.Need-mul-sum Inv-loop μ-loop
-mul-sum c = omega (arith, few (c .before .before .before))
-
-array-copy-out-sum : tie.Need-array-copy-out-sum Inv-loop μ-loop
-array-copy-out-sum c = few (c .before .before .before)
-
 add-first : tie.Need-add-first Inv-loop μ-loop
 add-first c = omega (arith, c .before .before .before .before .before .loop .inv .room)
 
@@ -109,7 +103,7 @@ cost-of-requires c κs =
     let s = c .before .before .before .before .before .before .before .before .before .before .before in
     let l = c .before .before .before .before .before .before .before .loop in
     let m = s .pre .0 in
-    (omega (arith, l .inv .room), m .lowers, m .uppers, l .inv .recorded, rw (c .before .before .before .payload-of .ensures, tail-is (s .args .ws .now) (getD (s .args .heads .now) (l .constraints) 0 + 1)) (summed-at m (l .constraints) (c .before .before .before .before .before .before .loop-test .taken) _ (s .pre .1)))
+    (omega (arith, l .inv .room), m .lowers, m .uppers, l .inv .recorded, rw (c .before .before .before .payload-of .ensures, tail-is (s .args .ws .now) (getD (s .args .heads .now) (l .constraints) 0 + 1), c .before .before .sum-at .ensures) (summed-at m (l .constraints) (c .before .before .before .before .before .before .loop-test .taken) (s .args .lows .now) (s .args .highs .now) (s .pre .1)))
 
 returns : tie.Need-returns Inv-loop μ-loop
 unfolding checked
@@ -145,6 +139,9 @@ add-rows c = omega (arith, fit (c .before .before .before .before .before .befor
 add-words-2 : tie.Need-add-words-2 Inv-loop μ-loop
 add-words-2 c = omega (arith, fit (c .before .before .before .before .before .before .before .before .before))
 
+loop-less : tie.Need-loop-less Inv-loop μ-loop
+loop-less c = omega (arith, c .before .before .before .before .before .before .before .before .before .before .before .before .before .before .before .before .loop-test .taken)
+
 loop-again : tie.Need-loop-again Inv-loop μ-loop
 loop-again c =
     let m = c .before .before .before .before .before .before .before .before .before .before .before .before .before .before .before .before .before .before .before .before .before .pre .0 in
@@ -170,8 +167,7 @@ check-read-spec =
     mul-payload-of
     shared-slice-read-payload-of
     (λ c κs. search needs)
-    mul-sum
-    array-copy-out-sum
+    (λ c κs. search needs)
     add-first
     add-cost-of
     mul-cost-of
@@ -192,6 +188,6 @@ check-read-spec =
     add-auxiliaries
     add-rows
     add-words-2
-    (λ c. search needs)
+    loop-less
     loop-again
     returns-2)

@@ -1,8 +1,10 @@
 -- The words of the variables are the front of the words, so that the bounds that are kept are the model's; the counted uses say which are shared.
 use mathlib.Core.Path.{sym, ap, _∙_}
 use native.Mathlib.Omega.{arith}
+use lib.ListN.{length, length-replicate}
 use lib.Seq.{length-take-le}
 use borrow.Author.Needs.{needs}
+use Rattle.integers.specs.Number.{+0}
 use Rattle.models.proofs.Accepted.{few-words}
 use Rattle.modelreading.specs.Seen.{Seen}
 use Rattle.modelreading.proofs.Heads.{front-inside, head-inside}
@@ -29,16 +31,18 @@ count-uses-requires c κs = let v = seen (c .before .before .before .before .bef
 
 model-sums-requires : tie.Need-model-sums-requires
 model-sums-requires c κs =
-    let v = seen (c .before .before .before .before .before .before .before .before .before .before .before .before .before .before) in
-    let k = bounds-kept (c .before .before .before .before .before .before .before .before) in
-    (omega (arith, few-words (c .before .before .before .before .before .before .before .before .before .before .before .before .before .before .args .ws .now) (v .accepts)), v .heads .room, λ j l. head-inside (v .heads) j l, k .few, k .rest, k .lowers, k .uppers)
+    let s = c .before .before .before .before .before .before .before .before .before .before .before .before .before .before .before .before in
+    let v = seen s in
+    let k = bounds-kept (c .before .before .before .before .before .before .before .before .before .before) in
+    (omega (arith, few-words (s .args .ws .now) (v .accepts)), v .heads .room, λ j l. head-inside (v .heads) j l, k .few, k .rest, k .lowers, k .uppers, ap length (s .pre .5) ∙ length-replicate 256 +0, ap length (s .pre .6) ∙ length-replicate 256 +0)
 
 returns : tie.Need-returns
 returns c =
-    let v = seen (c .before .before .before .before .before .before .before .before .before .before .before .before .before .before .before) in
-    let k = bounds-kept (c .before .before .before .before .before .before .before .before .before) in
-    let e = ap sharedBy (c .before .before .before .before .before .count-uses .ensures) ∙ uses-shared (c .before .before .before .before .before .before .before .before .before .before .before .before .before .before .before .args .ws .now) (v .accepts) in
-    (record { kept = c .before .before .before .before .before .before .before .before .before .before .before .before .before .before .before .pre .0; seen = v; same = k .same; lowers = k .lowers; uppers = k .uppers; shares = e }, c .model-sums .ensures)
+    let s = c .before .before .before .before .before .before .before .before .before .before .before .before .before .before .before .before .before .before .before in
+    let v = seen s in
+    let k = bounds-kept (c .before .before .before .before .before .before .before .before .before .before .before .before .before) in
+    let e = ap sharedBy (c .before .before .before .before .before .before .before .before .before .count-uses .ensures) ∙ uses-shared (s .args .ws .now) (v .accepts) in
+    (record { kept = s .pre .0; seen = v; same = k .same; lowers = k .lowers; uppers = k .uppers; shares = e }, c .before .before .model-sums .ensures)
 
 pub model-bounds-spec : {M : Type 1} → statement M
 model-bounds-spec =
@@ -48,6 +52,8 @@ model-bounds-spec =
     keep-bounds-requires
     count-uses-requires
     model-sums-requires
+    (λ c. search needs)
+    (λ c. search needs)
     (λ c. search needs)
     (λ c. search needs)
     (λ c. search needs)

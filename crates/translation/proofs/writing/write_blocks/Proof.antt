@@ -26,10 +26,10 @@ use Rattle.translation.proofs.writing.write_blocks.Statement.{statement
 use Rattle.translation.proofs.writing.write_blocks.Tie as tie
 
 abbrev Inv-loop : tie.InvT-loop
-Inv-loop ws heads ls us uses out₀ sums n k₀ first₀ at₀ e₀ out k first at e = Writing (boundsOf ls us) (sharedBy uses) first₀ (constraints ws) out₀ at₀ out k first at e
+Inv-loop ws heads ls us uses lows highs out₀ n k₀ first₀ at₀ e₀ out k first at e = Writing (boundsOf ls us) (sharedBy uses) first₀ (constraints ws) out₀ at₀ out k first at e
 
 abbrev μ-loop : tie.MeasureT-loop
-μ-loop ws heads ls us uses out₀ sums n k₀ first₀ at₀ e₀ out k first at e = n - k
+μ-loop ws heads ls us uses lows highs out₀ n k₀ first₀ at₀ e₀ out k first at e = n - k
 
 -- the place is inside the output, and so small that it does not wrap
 fits : (c : tie.At-loop Inv-loop μ-loop) → c .loop .at ≤ length (c .loop .out)
@@ -91,12 +91,6 @@ mul-payload-of c = let h = inside (c .before) in search needs
 shared-slice-read-payload-of : tie.Need-shared-slice-read-payload-of Inv-loop μ-loop
 shared-slice-read-payload-of c = inside (c .before .before)
 
-mul-sum : tie.Need-mul-sum Inv-loop μ-loop
-mul-sum c = omega (arith, few (c .before .before .before))
-
-array-copy-out-sum : tie.Need-array-copy-out-sum Inv-loop μ-loop
-array-copy-out-sum c = few (c .before .before .before)
-
 mul-block : tie.Need-mul-block Inv-loop μ-loop
 mul-block c = let h = small (c .before .before .before .before .before) in search needs
 
@@ -138,7 +132,7 @@ block-requires c κs =
       m .uppers,
       rw (c .before .before .before .before .payload-of .ensures, tail-is (a .ws .now) (at + 1)) (placed-wide (boundsOf (a .ls .now) (a .us .now)) (sharedBy (a .uses .now)) (headed (a .ws .now) at) (not-wide (l .inv) (head-at m (l .k) t))),
       l .inv .recorded,
-      rw (c .before .before .before .before .payload-of .ensures, tail-is (a .ws .now) (at + 1)) (summed-at m (l .k) t _ (s .pre .1)),
+      rw (c .before .before .before .before .payload-of .ensures, tail-is (a .ws .now) (at + 1), c .before .before .before .sum-at .ensures) (summed-at m (l .k) t (a .lows .now) (a .highs .now) (s .pre .1)),
     )
 
 slice-aggregate-record-encoding : tie.Need-slice-aggregate-record-encoding Inv-loop μ-loop
@@ -196,8 +190,7 @@ write-blocks-spec =
     mul-payload-of
     shared-slice-read-payload-of
     (λ c κs. search needs)
-    mul-sum
-    array-copy-out-sum
+    (λ c κs. search needs)
     mul-block
     sub-block
     part-block-start
