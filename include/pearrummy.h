@@ -147,7 +147,7 @@ uint32_t pearrummy_check_bytes(const uint8_t *bytes, size_t bytes_count);
 struct pearrummy_counts pearrummy_check(const uint32_t *words, size_t words_count);
 
 /* Writes the row system of a model to the front of `out`; faults 1 to 14, 16 and 18. Words past the end keep their values; a refusal changes nothing.
- * Stack: 31 KiB. */
+ * Stack: 27 KiB. */
 struct pearrummy_written pearrummy_translate(const uint32_t *words, size_t words_count, uint32_t *out, size_t out_count);
 
 /* Judges values of a model's variables; faults 1 to 11, 15 and 18. Stack: 4 KiB. */
@@ -171,7 +171,7 @@ struct pearrummy_printed pearrummy_sheet(const uint32_t *words, size_t words_cou
 struct pearrummy_written pearrummy_text(const uint8_t *text, size_t text_count, uint32_t *out, size_t out_count);
 
 /* Names the first row of a model's row system that values of its variables and auxiliaries fail, the constraint whose block holds it, and why;
- * faults 1 to 15 and 18. Stack: 43 KiB. */
+ * faults 1 to 15 and 18. Stack: 39 KiB. */
 struct pearrummy_explanation pearrummy_reason(const uint32_t *words, size_t words_count, const int32_t *values, size_t values_count);
 
 /* Lists every solution of a model with at most 8 variables and at most 65,536 value lists in its bounds: each once, one after another at the front
@@ -188,7 +188,7 @@ struct pearrummy_listed pearrummy_solutions(const uint32_t *words, size_t words_
 /* Checks a candidate's model. Stack: 57 KiB. */
 struct pearrummy_counts pearrummy_pair_check(const uint32_t *words, size_t words_count, uint32_t candidate);
 
-/* Writes the row system of a candidate's model to the front of `out`. Stack: 63 KiB. */
+/* Writes the row system of a candidate's model to the front of `out`. Stack: 59 KiB. */
 struct pearrummy_written pearrummy_pair_translate(const uint32_t *words, size_t words_count, uint32_t candidate, uint32_t *out, size_t out_count);
 
 /* Judges values of the variables of a candidate's model. Stack: 36 KiB. */
