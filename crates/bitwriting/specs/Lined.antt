@@ -25,3 +25,7 @@ lineOf e i m = listOf (λ d. entry i (i + d) (e i (i + d))) m
 pub record Fitting (ws : List ℕ) (ls us : List ℤ) (firsts counts : List ℕ) (start n : ℕ) : Type 0 where
   pub listed : RowTables ws ls us firsts counts start
   pub fits : all (rowFits n) (rowsBy ls us firsts start ws) ≡ true
+
+-- the entry of two bits, of the rows over bits of words by the lists of the variables' bits
+abbrev pub entryBy : List ℤ → List ℤ → List ℕ → ℕ → List ℕ → ℕ → ℕ → ℤ
+entryBy ls us firsts start ws = entryOf (rowsBy ls us firsts start ws)

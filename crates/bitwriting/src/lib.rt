@@ -3,13 +3,13 @@ ghost use mathlib.Core.Path.{_≡_};
 ghost use mathlib.Core.Bool.{true};
 ghost use Prim.Native.Nat.{_+_, _*_, _<_, _≤_};
 ghost use Rattle.bitforms.specs.FormAnswer.{mostBits, rowFits};
-ghost use Rattle.bitforms.specs.Matrix.{entryOf, entriesFrom};
+ghost use Rattle.bitforms.specs.Matrix.{entriesFrom};
 ghost use Rattle.bitlines.specs.Sizes as Size;
 ghost use Rattle.bitlines.specs.Dense.{peak};
 ghost use Rattle.bitlines.specs.Line.{lineEntries};
 ghost use Rattle.bittables.specs.BitTables.{rowBy, rowsBy, BitTables};
 ghost use Rattle.bitfilling.specs.Added.{LineAndRow, Added};
-ghost use Rattle.bitwriting.specs.Lined.{LineOf, lineOf, Fitting};
+ghost use Rattle.bitwriting.specs.Lined.{LineOf, lineOf, Fitting, entryBy};
 ghost use Rattle.bitwriting.specs.EntriesPut.{allInRange, EntriesPut};
 use bitfilling::add_row;
 use bitfilling::clear;
@@ -124,7 +124,7 @@ fn put_one(
     m: usize,
 ) -> Lines
     requires { ⌜ Fitting (now ws) (now ls) (now us) (now firsts) (now counts) start (i + m) × LineAndRow (i + m) (now line) (now row) × (at + 3 * m < Size.farthest) ⌝ }
-    ensures { λ r. ⌜ EntriesPut (lineOf (entryOf (rowsBy (now (ls .entry)) (now (us .entry)) (now (firsts .entry)) start (now (ws .entry)))) i m) (now (out .entry)) at (now (out .exit)) (r .fits) (r .at) ⌝ }
+    ensures { λ r. ⌜ EntriesPut (lineOf (entryBy (now (ls .entry)) (now (us .entry)) (now (firsts .entry)) start (now (ws .entry))) i m) (now (out .entry)) at (now (out .exit)) (r .fits) (r .at) ⌝ }
 {
     fill_line(line, row, ws, ls, us, firsts, counts, start, i, m);
     if !entries_fit(line, i, m) {
@@ -152,7 +152,7 @@ pub fn put_lines(
     start: usize,
 ) -> Lines
     requires { ⌜ Fitting (now ws) (now ls) (now us) (now firsts) (now counts) start n × LineAndRow n (now line) (now row) × (at ≤ 1) ⌝ }
-    ensures { λ r. ⌜ EntriesPut (entriesFrom (entryOf (rowsBy (now (ls .entry)) (now (us .entry)) (now (firsts .entry)) start (now (ws .entry)))) 0 n) (now (out .entry)) at (now (out .exit)) (r .fits) (r .at) ⌝ }
+    ensures { λ r. ⌜ EntriesPut (entriesFrom (entryBy (now (ls .entry)) (now (us .entry)) (now (firsts .entry)) start (now (ws .entry))) 0 n) (now (out .entry)) at (now (out .exit)) (r .fits) (r .at) ⌝ }
 {
     let mut to = at;
     let mut i = 0;

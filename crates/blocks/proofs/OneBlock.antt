@@ -23,7 +23,7 @@ use Rattle.rules.specs.Shared.{Encoded, choice, sharedRule, ruleAfter}
 use Rattle.rules.specs.Translation.{blockOf}
 use Rattle.rules.specs.Check.{tooWide}
 use Rattle.laying.specs.Part.{Part, blockParts}
-use Rattle.laying.specs.Went.{WentFitting, Near, nothing}
+use Rattle.laying.specs.Appends.{AppendsFitting, GrowsBy, nothing}
 use Rattle.laying.specs.declared.Laid.{Laid}
 use Rattle.laying.proofs.Blocks.{block-words, block-auxiliaries, block-rows, block-outside}
 use Rattle.encodings.specs.Uses.{choiceOf, choosing}
@@ -38,7 +38,7 @@ pub record Told (first : ℕ) (B : Block) (r : Laid) : Type 0 where
   pub rows : r .rows ≡ length (B .rows)
   pub outside-is : r .outside ≡ outside B
 
-pub told : {first : ℕ} {B : Block} {r : Laid} {o o′ : List ℕ} → WentFitting nothing r o o′ (blockParts first B) → Told first B r
+pub told : {first : ℕ} {B : Block} {r : Laid} {o o′ : List ℕ} → AppendsFitting nothing r o o′ (blockParts first B) → Told first B r
 told {first} {B} w = record {
   words = omega (arith, w .counted .words, ap length (block-words first B));
   auxiliaries = omega (arith, w .counted .auxiliaries, block-auxiliaries first B);
@@ -47,7 +47,7 @@ told {first} {B} w = record {
 }
 
 -- what was laid after nothing
-pub from : {s r : Laid} {o o′ : List ℕ} {ps : List Part} → s ≡ nothing → WentFitting s r o o′ ps × Near 1000000 s r → WentFitting nothing r o o′ ps × Near 1000000 nothing r
+pub from : {s r : Laid} {o o′ : List ℕ} {ps : List Part} → s ≡ nothing → AppendsFitting s r o o′ ps × GrowsBy 1000000 s r → AppendsFitting nothing r o o′ ps × GrowsBy 1000000 nothing r
 from e w = rw e at w
 
 -- ---- fault 12
@@ -130,7 +130,7 @@ module _ (β : ℕ → Bounds) (s : ℕ → Bool) (c : Constraint) where
   placed-wide h = h
 
   module _ (first : ℕ) (e : Encoded) where
-    pub placed-block : {r : Laid} {o o′ : List ℕ} → WentFitting nothing r o o′ (blockParts first (blockOf β s e (constraintOf (c .code) (c .arguments)))) →
-        WentFitting nothing r o o′ (blockParts first (blockOf β s e c))
+    pub placed-block : {r : Laid} {o o′ : List ℕ} → AppendsFitting nothing r o o′ (blockParts first (blockOf β s e (constraintOf (c .code) (c .arguments)))) →
+        AppendsFitting nothing r o o′ (blockParts first (blockOf β s e c))
     unfolding blockOf builtin choice
     placed-block w = w

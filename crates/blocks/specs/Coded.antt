@@ -13,7 +13,7 @@ use Rattle.rules.specs.Check.{tooWide}
 use Rattle.extremes.specs.Bounded.{boundsOf}
 use Rattle.encodings.specs.Uses.{choosing, sharedBy}
 use Rattle.laying.specs.Part.{blockParts}
-use Rattle.laying.specs.Went.{WentFitting}
+use Rattle.laying.specs.Appends.{AppendsFitting}
 use Rattle.laying.specs.declared.Laid.{Laid}
 use Rattle.linearsums.specs.Sum.{Summed}
 use Rattle.integers.specs.declared.Bounds.{Bounds}
@@ -40,4 +40,4 @@ SummedIn ls us code args sum = Summed (boundsOf ls us) code args sum
 
 -- a block went over a list
 abbrev pub Lays : Block → ℕ → Laid → Laid → List ℕ → List ℕ → Type 0
-Lays B first s r out out′ = WentFitting s r out out′ (blockParts first B)
+Lays B first s r out out′ = AppendsFitting s r out out′ (blockParts first B)

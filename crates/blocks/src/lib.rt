@@ -3,7 +3,8 @@ ghost use mathlib.Core.Path.{_≡_};
 ghost use mathlib.Core.Bool.{false};
 ghost use Prim.Native.Nat.{_<_};
 ghost use Rattle.encodings.specs.Uses.{Recorded};
-ghost use Rattle.laying.specs.Went.{Near, nothing, total};
+ghost use Rattle.laying.specs.Appends.{GrowsBy, nothing};
+ghost use Rattle.laying.specs.Room.{BlockRoom};
 ghost use Rattle.extremes.specs.Bounded.{Bounded};
 ghost use Rattle.blocks.specs.Coded.{Narrow, blockAt, SummedIn, Lays};
 use arguments::exponent_at;
@@ -28,7 +29,7 @@ mod choices;
 
 // Nothing is laid yet, which is far below what would wrap.
 fn from_nothing() -> Laid
-    ensures { λ r. ⌜ (r ≡ nothing) × (total r < 1000000000) ⌝ }
+    ensures { λ r. ⌜ (r ≡ nothing) × BlockRoom r ⌝ }
 {
     none_yet()
 }
@@ -47,7 +48,7 @@ pub fn block(
 ) -> Laid
     requires { ⌜ (first < 10000) × Bounded (now ls) × Bounded (now us) × Narrow (now ls) (now us) (now uses) code (now args) × Recorded (now encoded) × SummedIn (now ls) (now us) code (now args) sum ⌝ }
     ensures parts { λ r. ⌜ Lays (blockAt (now (ls .entry)) (now (us .entry)) (now (uses .entry)) (now (encoded .entry)) code (now (args .entry))) first nothing r (now (out .entry)) (now (out .exit)) ⌝ }
-    ensures size { λ r. ⌜ Near 1000000 nothing r ⌝ }
+    ensures size { λ r. ⌜ GrowsBy 1000000 nothing r ⌝ }
 {
     let s = from_nothing();
     let a = var_at(args, 0);

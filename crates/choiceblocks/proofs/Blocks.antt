@@ -28,7 +28,7 @@ use Rattle.rules.proofs.Lengths.{values-length}
 use Rattle.laying.proofs.Parts.{flatMap-append}
 use Rattle.laying.proofs.Lists.{length-vars, length-nums, bits-parts, weighted-many, below-parts, above-parts}
 use Rattle.extremes.specs.Bounded.{boundsOf}
-use Rattle.choiceblocks.specs.Rows.{numberAt, valueAt, memberAt, oneRow, sumRow, choiceRows, gates, gatedRows, firstAt, oneOfParts, extremeOf}
+use Rattle.choiceblocks.specs.Rows.{numberTermAt, valueAt, memberAt, oneRow, sumRow, choiceRows, gates, gatedRows, firstAt, oneOfParts, extremeOf}
 use Rattle.choiceblocks.proofs.OneHot.{many-below, one-row, sum-row, chosen-row, choice-rows, gates-parts, gated-rows, first-only-many}
 use Rattle.choiceblocks.proofs.Members.{value-terms, member-terms}
 
@@ -49,17 +49,17 @@ module _ (first : ℕ) where
   choice-block B x q = ap₂ (λ a b. a ++ b) (bits-parts (values B) ∙ ap (many bitAt) (values-length B)) (choice-rows first B x (q ∷ []) ∙ ap (λ ps. choiceRows (B .lower) first (width B) x ++ ps) (append-nil (rowParts first q)))
 
   number-row : (args : List ℕ) (I : Bounds) (c : ℕ) → let B = places I (size args 1) in
-      rowParts first (chosen (nth +0 (nums args 1)) (values B) 0 c) ≡ sumRow (numberAt args (1 + count (B .lower)) first) (width B) c
+      rowParts first (chosen (nth +0 (nums args 1)) (values B) 0 c) ≡ sumRow (numberTermAt args (1 + count (B .lower)) first) (width B) c
   unfolding nums values
   number-row args I c =
       let B = places I (size args 1) in
-      chosen-row first (numberAt args (1 + count (B .lower)) first) (nth +0 (nums args 1)) (values B) 0 c (values-length B)
+      chosen-row first (numberTermAt args (1 + count (B .lower)) first) (nth +0 (nums args 1)) (values B) 0 c (values-length B)
       (weighted-many first (nth +0 (nums args 1)) (λ k. B .lower ⊕ pos k) (width B) 0
-      ∙ many-below _ (numberAt args (1 + count (B .lower)) first) (width B) (λ k h. rw (element +0 (num args) I (size args 1) k h, add-zero first)))
+      ∙ many-below _ (numberTermAt args (1 + count (B .lower)) first) (width B) (λ k h. rw (element +0 (num args) I (size args 1) k h, add-zero first)))
 
   pub number-element : (β : ℕ → Bounds) (args : List ℕ) (i c : ℕ) → let B = places (β i) (size args 1) in
       blockParts first (rule β (array-int-element i (nums args 1) c))
-      ≡ many bitAt (width B) ++ (choiceRows (B .lower) first (width B) i ++ sumRow (numberAt args (1 + count (B .lower)) first) (width B) c)
+      ≡ many bitAt (width B) ++ (choiceRows (B .lower) first (width B) i ++ sumRow (numberTermAt args (1 + count (B .lower)) first) (width B) c)
   unfolding rule numberElement
   number-element β args i c =
       let B = places (β i) (size args 1) in

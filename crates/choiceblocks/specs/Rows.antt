@@ -20,8 +20,8 @@ abbrev pub zeroAt : List ℤ → List ℤ → List ℕ → ℕ → ℕ → List 
 zeroAt ls us args base k = bound (minZ +0 (getD ls (var args (base + k)) +0)) (maxZ +0 (getD us (var args (base + k)) +0)) ∷ []
 
 -- over consecutive variables: the numbers from a place on, the numbers of a list
-abbrev pub numberAt : List ℕ → ℕ → ℕ → ℕ → List Part
-numberAt args base v k = term (num args (base + k)) (v + k) ∷ []
+abbrev pub numberTermAt : List ℕ → ℕ → ℕ → ℕ → List Part
+numberTermAt args base v k = term (num args (base + k)) (v + k) ∷ []
 
 abbrev pub valueAt : List ℤ → ℕ → ℕ → List Part
 valueAt vs v k = term (getD vs k +0) (v + k) ∷ []

@@ -10,7 +10,7 @@ ghost use Rattle.models.specs.Model.{var, nums, size};
 ghost use Rattle.rules.specs.Parts.{places, members};
 ghost use Rattle.rules.specs.Rule.{rule};
 ghost use Rattle.laying.specs.Part.{blockParts};
-ghost use Rattle.laying.specs.Went.{Went, Near};
+ghost use Rattle.laying.specs.Appends.{Appends, GrowsBy};
 ghost use Rattle.laying.specs.Room.{BlockRoom};
 ghost use Rattle.extremes.specs.Bounded.{boundsOf, Bounded};
 ghost use Rattle.choiceblocks.specs.Listed.{Listed};
@@ -99,8 +99,8 @@ pub fn array_int_element(
     first: usize,
 ) -> Laid
     requires { ⌜ BlockRoom s × (first < 10000) × Bounded (now ls) × Bounded (now us) ⌝ }
-    ensures parts { λ r. let β = boundsOf (now (ls .entry)) (now (us .entry)) in ⌜ Went s r (now (out .entry)) (now (out .exit)) (blockParts first (rule β (numberElementOf (now (args .entry))))) ⌝ }
-    ensures size { λ r. ⌜ Near 1000000 s r ⌝ }
+    ensures parts { λ r. let β = boundsOf (now (ls .entry)) (now (us .entry)) in ⌜ Appends s r (now (out .entry)) (now (out .exit)) (blockParts first (rule β (numberElementOf (now (args .entry))))) ⌝ }
+    ensures size { λ r. ⌜ GrowsBy 1000000 s r ⌝ }
 {
     let n = labels(args, ls, us);
     let base = first_element(args, ls);
@@ -119,8 +119,8 @@ pub fn array_var_int_element(
     first: usize,
 ) -> Laid
     requires { ⌜ BlockRoom s × (first < 10000) × Bounded (now ls) × Bounded (now us) ⌝ }
-    ensures parts { λ r. let β = boundsOf (now (ls .entry)) (now (us .entry)) in ⌜ Went s r (now (out .entry)) (now (out .exit)) (blockParts first (rule β (variableElementOf (now (args .entry))))) ⌝ }
-    ensures size { λ r. ⌜ Near 1000000 s r ⌝ }
+    ensures parts { λ r. let β = boundsOf (now (ls .entry)) (now (us .entry)) in ⌜ Appends s r (now (out .entry)) (now (out .exit)) (blockParts first (rule β (variableElementOf (now (args .entry))))) ⌝ }
+    ensures size { λ r. ⌜ GrowsBy 1000000 s r ⌝ }
 {
     let n = labels(args, ls, us);
     let base = first_element(args, ls);
@@ -132,7 +132,7 @@ pub fn array_var_int_element(
 // What array_int_maximum and array_int_minimum begin with: m is one of the list.
 fn lay_one_of(out: &mut [u32], s: Laid, args: &[u32], ls: &[i64], us: &[i64], first: usize) -> Laid
     requires { ⌜ BlockRoom s × (first < 10000) ⌝ }
-    ensures { λ r. ⌜ Went s r (now (out .entry)) (now (out .exit)) (oneOfParts (now (ls .entry)) (now (us .entry)) (now (args .entry)) first) × Near 10000 s r ⌝ }
+    ensures { λ r. ⌜ Appends s r (now (out .entry)) (now (out .exit)) (oneOfParts (now (ls .entry)) (now (us .entry)) (now (args .entry)) first) × GrowsBy 10000 s r ⌝ }
 {
     let m = var_at(args, 0);
     let n = size_at(args, 1);
@@ -152,8 +152,8 @@ pub fn array_int_extreme(
     up: bool,
 ) -> Laid
     requires { ⌜ BlockRoom s × (first < 10000) × Bounded (now ls) × Bounded (now us) ⌝ }
-    ensures parts { λ r. let β = boundsOf (now (ls .entry)) (now (us .entry)) in ⌜ Went s r (now (out .entry)) (now (out .exit)) (blockParts first (extremeBlock β up (now (args .entry)))) ⌝ }
-    ensures size { λ r. ⌜ Near 1000000 s r ⌝ }
+    ensures parts { λ r. let β = boundsOf (now (ls .entry)) (now (us .entry)) in ⌜ Appends s r (now (out .entry)) (now (out .exit)) (blockParts first (extremeBlock β up (now (args .entry)))) ⌝ }
+    ensures size { λ r. ⌜ GrowsBy 1000000 s r ⌝ }
 {
     let m = var_at(args, 0);
     let n = size_at(args, 1);
@@ -165,8 +165,8 @@ pub fn array_int_extreme(
 // The block of set_in.
 pub fn set_in(out: &mut [u32], s: Laid, args: &[u32], ls: &[i64], us: &[i64], first: usize) -> Laid
     requires { ⌜ BlockRoom s × (first < 10000) × Bounded (now ls) × Bounded (now us) ⌝ }
-    ensures parts { λ r. let β = boundsOf (now (ls .entry)) (now (us .entry)) in ⌜ Went s r (now (out .entry)) (now (out .exit)) (blockParts first (rule β (setOf (now (args .entry))))) ⌝ }
-    ensures size { λ r. ⌜ Near 1000000 s r ⌝ }
+    ensures parts { λ r. let β = boundsOf (now (ls .entry)) (now (us .entry)) in ⌜ Appends s r (now (out .entry)) (now (out .exit)) (blockParts first (rule β (setOf (now (args .entry))))) ⌝ }
+    ensures size { λ r. ⌜ GrowsBy 1000000 s r ⌝ }
 {
     let x = var_at(args, 0);
     let mut vs = [0i64; 32];
@@ -186,8 +186,8 @@ pub fn set_in_reif(
     first: usize,
 ) -> Laid
     requires { ⌜ BlockRoom s × (first < 10000) × Bounded (now ls) × Bounded (now us) × (width (boundsOf (now ls) (now us) (var (now args) 0)) ≤ 64) ⌝ }
-    ensures parts { λ r. let β = boundsOf (now (ls .entry)) (now (us .entry)) in ⌜ Went s r (now (out .entry)) (now (out .exit)) (blockParts first (rule β (setReifiedOf (now (args .entry))))) ⌝ }
-    ensures size { λ r. ⌜ Near 1000000 s r ⌝ }
+    ensures parts { λ r. let β = boundsOf (now (ls .entry)) (now (us .entry)) in ⌜ Appends s r (now (out .entry)) (now (out .exit)) (blockParts first (rule β (setReifiedOf (now (args .entry))))) ⌝ }
+    ensures size { λ r. ⌜ GrowsBy 1000000 s r ⌝ }
 {
     let lower = lower_label(args, ls);
     let mut vs = [0i64; 32];

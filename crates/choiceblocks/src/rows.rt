@@ -11,10 +11,10 @@ ghost use Rattle.integers.specs.Lists.{all, listOf};
 ghost use Rattle.words.specs.Word.{inRange};
 ghost use Rattle.laying.specs.Part.{term, constant, numbersIn};
 ghost use Rattle.laying.specs.Lists.{many, sameAt, labelAt, belowAt, aboveAt};
-ghost use Rattle.laying.specs.Went.{Went, Near};
+ghost use Rattle.laying.specs.Appends.{Appends, GrowsBy};
 ghost use Rattle.laying.specs.Room.{Room};
 ghost use Rattle.extremes.specs.Bounded.{Bounded};
-ghost use Rattle.choiceblocks.specs.Rows.{zeroAt, numberAt, valueAt, memberAt, oneRow, sumRow, choiceRows, gates, gatedRows, laterRow, firstAt};
+ghost use Rattle.choiceblocks.specs.Rows.{zeroAt, numberTermAt, valueAt, memberAt, oneRow, sumRow, choiceRows, gates, gatedRows, laterRow, firstAt};
 use arguments::count_of;
 use arguments::num_at;
 use arguments::test::both;
@@ -68,7 +68,7 @@ pub fn lay_zeros(
     us: &[i64],
 ) -> Laid
     requires { ⌜ Room 1000 s × (n ≤ 66) × (base < 1000000000000) ⌝ }
-    ensures { λ r. ⌜ Went s r (now (out .entry)) (now (out .exit)) (many (zeroAt (now (ls .entry)) (now (us .entry)) (now (args .entry)) base) n) × Near 1000 s r ⌝ }
+    ensures { λ r. ⌜ Appends s r (now (out .entry)) (now (out .exit)) (many (zeroAt (now (ls .entry)) (now (us .entry)) (now (args .entry)) base) n) × GrowsBy 1000 s r ⌝ }
 {
     if out.len() <= s.words {
         return counted(s, 2 * n, n, 0, zeros_in_range(args, base, n, ls, us));
@@ -90,7 +90,7 @@ pub fn lay_zeros(
 // The numbers from place base on × n consecutive variables.
 fn lay_numbers(out: &mut [u32], s: Laid, args: &[u32], base: usize, v: usize, n: usize) -> Laid
     requires { ⌜ Room 1000 s × (n ≤ 66) × (base < 1000000000000) × (v < 1000000000000) ⌝ }
-    ensures { λ r. ⌜ Went s r (now (out .entry)) (now (out .exit)) (many (numberAt (now (args .entry)) base v) n) × Near 1000 s r ⌝ }
+    ensures { λ r. ⌜ Appends s r (now (out .entry)) (now (out .exit)) (many (numberTermAt (now (args .entry)) base v) n) × GrowsBy 1000 s r ⌝ }
 {
     if out.len() <= s.words {
         return counted(s, 2 * n, 0, 0, numbers_in_range(args, base, n));
@@ -120,7 +120,7 @@ fn values_in_range(vs: &[i64], n: usize) -> bool
 // The first n numbers of a list × n consecutive variables.
 fn lay_values(out: &mut [u32], s: Laid, vs: &[i64], v: usize, n: usize) -> Laid
     requires { ⌜ Room 1000 s × (n ≤ 66) × (v < 1000000000000) ⌝ }
-    ensures { λ r. ⌜ Went s r (now (out .entry)) (now (out .exit)) (many (valueAt (now (vs .entry)) v) n) × Near 1000 s r ⌝ }
+    ensures { λ r. ⌜ Appends s r (now (out .entry)) (now (out .exit)) (many (valueAt (now (vs .entry)) v) n) × GrowsBy 1000 s r ⌝ }
 {
     if out.len() <= s.words {
         return counted(s, 2 * n, 0, 0, values_in_range(vs, n));
@@ -137,7 +137,7 @@ fn lay_values(out: &mut [u32], s: Laid, vs: &[i64], v: usize, n: usize) -> Laid
 // Σ of the variables that the first n numbers of a list label; v has the label `from`.
 fn lay_members(out: &mut [u32], s: Laid, vs: &[i64], from: i64, v: usize, n: usize) -> Laid
     requires { ⌜ Room 1000 s × (n ≤ 66) × (v < 1000000000000) × (natAbs from < 1000000000) × ((k : ℕ) → natAbs (getD (now vs) k +0) < 1000000000) ⌝ }
-    ensures { λ r. ⌜ Went s r (now (out .entry)) (now (out .exit)) (many (memberAt (now (vs .entry)) from v) n) × Near 1000 s r ⌝ }
+    ensures { λ r. ⌜ Appends s r (now (out .entry)) (now (out .exit)) (many (memberAt (now (vs .entry)) from v) n) × GrowsBy 1000 s r ⌝ }
 {
     if out.len() <= s.words {
         return counted(s, 2 * n, 0, 0, true);
@@ -154,7 +154,7 @@ fn lay_members(out: &mut [u32], s: Laid, vs: &[i64], from: i64, v: usize, n: usi
 // The last words of a row: − x = 0.
 fn lay_last(out: &mut [u32], s: Laid, x: usize) -> Laid
     requires { ⌜ Room 20 s ⌝ }
-    ensures { λ r. ⌜ Went s r (now (out .entry)) (now (out .exit)) (term -1 x ∷ constant +0 ∷ []) × Near 20 s r ⌝ }
+    ensures { λ r. ⌜ Appends s r (now (out .entry)) (now (out .exit)) (term -1 x ∷ constant +0 ∷ []) × GrowsBy 20 s r ⌝ }
 {
     let t = lay_term(out, s, -1, x);
     lay_constant(out, t, 0)
@@ -163,7 +163,7 @@ fn lay_last(out: &mut [u32], s: Laid, x: usize) -> Laid
 // Σb − 1 = 0 over n consecutive variables.
 pub fn lay_one_bit(out: &mut [u32], s: Laid, v: usize, n: usize) -> Laid
     requires { ⌜ Room 2000 s × (n ≤ 66) × (v < 1000000000) ⌝ }
-    ensures { λ r. ⌜ Went s r (now (out .entry)) (now (out .exit)) (oneRow v n) × Near 2000 s r ⌝ }
+    ensures { λ r. ⌜ Appends s r (now (out .entry)) (now (out .exit)) (oneRow v n) × GrowsBy 2000 s r ⌝ }
 {
     let t = lay_head(out, s, kind::EQUAL, n);
     let u = lay_same(out, t, 1, v, n);
@@ -173,7 +173,7 @@ pub fn lay_one_bit(out: &mut [u32], s: Laid, v: usize, n: usize) -> Laid
 // Σz − m = 0 over n consecutive variables.
 pub fn lay_one_row(out: &mut [u32], s: Laid, v: usize, n: usize, m: usize) -> Laid
     requires { ⌜ Room 2000 s × (n ≤ 66) × (v < 1000000000) ⌝ }
-    ensures { λ r. ⌜ Went s r (now (out .entry)) (now (out .exit)) (sumRow (sameAt +1 v) n m) × Near 2000 s r ⌝ }
+    ensures { λ r. ⌜ Appends s r (now (out .entry)) (now (out .exit)) (sumRow (sameAt +1 v) n m) × GrowsBy 2000 s r ⌝ }
 {
     let t = lay_head(out, s, kind::EQUAL, n + 1);
     let u = lay_same(out, t, 1, v, n);
@@ -183,7 +183,7 @@ pub fn lay_one_row(out: &mut [u32], s: Laid, v: usize, n: usize, m: usize) -> La
 // Σj×b − x = 0 over n consecutive labels from `from` on.
 fn lay_label_row(out: &mut [u32], s: Laid, from: i64, v: usize, n: usize, x: usize) -> Laid
     requires { ⌜ Room 2000 s × (n ≤ 66) × (v < 1000000000) × (natAbs from < 1000000000) ⌝ }
-    ensures { λ r. ⌜ Went s r (now (out .entry)) (now (out .exit)) (sumRow (labelAt from v) n x) × Near 2000 s r ⌝ }
+    ensures { λ r. ⌜ Appends s r (now (out .entry)) (now (out .exit)) (sumRow (labelAt from v) n x) × GrowsBy 2000 s r ⌝ }
 {
     let t = lay_head(out, s, kind::EQUAL, n + 1);
     let u = lay_labels(out, t, from, v, n);
@@ -201,7 +201,7 @@ pub fn lay_number_row(
     c: usize,
 ) -> Laid
     requires { ⌜ Room 2000 s × (n ≤ 66) × (base < 1000000000) × (v < 1000000000) ⌝ }
-    ensures { λ r. ⌜ Went s r (now (out .entry)) (now (out .exit)) (sumRow (numberAt (now (args .entry)) base v) n c) × Near 2000 s r ⌝ }
+    ensures { λ r. ⌜ Appends s r (now (out .entry)) (now (out .exit)) (sumRow (numberTermAt (now (args .entry)) base v) n c) × GrowsBy 2000 s r ⌝ }
 {
     let t = lay_head(out, s, kind::EQUAL, n + 1);
     let u = lay_numbers(out, t, args, base, v, n);
@@ -211,7 +211,7 @@ pub fn lay_number_row(
 // Σv×b − x = 0 over the first n numbers of a list.
 pub fn lay_value_row(out: &mut [u32], s: Laid, vs: &[i64], v: usize, n: usize, x: usize) -> Laid
     requires { ⌜ Room 2000 s × (n ≤ 66) × (v < 1000000000) ⌝ }
-    ensures { λ r. ⌜ Went s r (now (out .entry)) (now (out .exit)) (sumRow (valueAt (now (vs .entry)) v) n x) × Near 2000 s r ⌝ }
+    ensures { λ r. ⌜ Appends s r (now (out .entry)) (now (out .exit)) (sumRow (valueAt (now (vs .entry)) v) n x) × GrowsBy 2000 s r ⌝ }
 {
     let t = lay_head(out, s, kind::EQUAL, n + 1);
     let u = lay_values(out, t, vs, v, n);
@@ -229,7 +229,7 @@ pub fn lay_member_row(
     r: usize,
 ) -> Laid
     requires { ⌜ Room 2000 s × (n ≤ 66) × (v < 1000000000) × (natAbs from < 1000000000) × ((k : ℕ) → natAbs (getD (now vs) k +0) < 1000000000) ⌝ }
-    ensures { λ t. ⌜ Went s t (now (out .entry)) (now (out .exit)) (sumRow (memberAt (now (vs .entry)) from v) n r) × Near 2000 s t ⌝ }
+    ensures { λ t. ⌜ Appends s t (now (out .entry)) (now (out .exit)) (sumRow (memberAt (now (vs .entry)) from v) n r) × GrowsBy 2000 s t ⌝ }
 {
     let t = lay_head(out, s, kind::EQUAL, n + 1);
     let u = lay_members(out, t, vs, from, v, n);
@@ -239,7 +239,7 @@ pub fn lay_member_row(
 // One of n consecutive bits is 1; their labels rise from `from` on, and x is the label of that bit.
 pub fn lay_choice(out: &mut [u32], s: Laid, from: i64, v: usize, n: usize, x: usize) -> Laid
     requires { ⌜ Room 4000 s × (n ≤ 66) × (v < 1000000000) × (natAbs from < 1000000000) ⌝ }
-    ensures { λ r. ⌜ Went s r (now (out .entry)) (now (out .exit)) (choiceRows from v n x) × Near 4000 s r ⌝ }
+    ensures { λ r. ⌜ Appends s r (now (out .entry)) (now (out .exit)) (choiceRows from v n x) × GrowsBy 4000 s r ⌝ }
 {
     let t = lay_one_bit(out, s, v, n);
     lay_label_row(out, t, from, v, n, x)
@@ -256,7 +256,7 @@ pub fn lay_gates(
     us: &[i64],
 ) -> Laid
     requires { ⌜ Room 2000 s × (n ≤ 66) × (base < 1000000000000) ⌝ }
-    ensures { λ r. ⌜ Went s r (now (out .entry)) (now (out .exit)) (gates (now (ls .entry)) (now (us .entry)) (now (args .entry)) base n) × Near 2000 s r ⌝ }
+    ensures { λ r. ⌜ Appends s r (now (out .entry)) (now (out .exit)) (gates (now (ls .entry)) (now (us .entry)) (now (args .entry)) base n) × GrowsBy 2000 s r ⌝ }
 {
     let t = lay_bits(out, s, n);
     lay_zeros(out, t, args, base, n, ls, us)
@@ -273,7 +273,7 @@ pub fn lay_gated(
     m: usize,
 ) -> Laid
     requires { ⌜ Room 4000 s × (n ≤ 66) × (base < 1000000000) × (v < 100000000) ⌝ }
-    ensures { λ r. ⌜ Went s r (now (out .entry)) (now (out .exit)) (gatedRows (now (args .entry)) base v n m) × Near 4000 s r ⌝ }
+    ensures { λ r. ⌜ Appends s r (now (out .entry)) (now (out .exit)) (gatedRows (now (args .entry)) base v n m) × GrowsBy 4000 s r ⌝ }
 {
     let t = lay_products(out, s, args, base, v + n, v, n);
     lay_one_row(out, t, v + n, n, m)
@@ -290,7 +290,7 @@ pub fn lay_order(
     up: bool,
 ) -> Laid
     requires { ⌜ Room 200000 s × (n ≤ 66) × (base < 1000000000000) ⌝ }
-    ensures { λ r. ⌜ Went s r (now (out .entry)) (now (out .exit)) (many (belowAt (now (args .entry)) base m if up else aboveAt (now (args .entry)) m base) n) × Near 200000 s r ⌝ }
+    ensures { λ r. ⌜ Appends s r (now (out .entry)) (now (out .exit)) (many (belowAt (now (args .entry)) base m if up else aboveAt (now (args .entry)) m base) n) × GrowsBy 200000 s r ⌝ }
 {
     if up {
         return lay_below(out, s, args, base, m, n);
@@ -310,7 +310,7 @@ fn lay_later(
     us: &[i64],
 ) -> Laid
     requires { ⌜ Room 2000 s × (n ≤ 66) × (v < 1000000000) × Bounded (now ls) × Bounded (now us) ⌝ }
-    ensures { λ r. ⌜ Went s r (now (out .entry)) (now (out .exit)) (laterRow (now (ls .entry)) (now (us .entry)) x y v n) × Near 2000 s r ⌝ }
+    ensures { λ r. ⌜ Appends s r (now (out .entry)) (now (out .exit)) (laterRow (now (ls .entry)) (now (us .entry)) x y v n) × GrowsBy 2000 s r ⌝ }
 {
     let p = gap_plus(ls, us, x, y, 1);
     let t = lay_head(out, s, kind::AT_MOST, n + 2);
@@ -343,7 +343,7 @@ fn lay_later_of(
     us: &[i64],
 ) -> Laid
     requires { ⌜ Room 2000 s × (n ≤ 66) × (v < 1000000000) × Bounded (now ls) × Bounded (now us) ⌝ }
-    ensures { λ r. ⌜ Went s r (now (out .entry)) (now (out .exit)) (laterRow (now (ls .entry)) (now (us .entry)) (x if up else m) (m if up else x) v n) × Near 2000 s r ⌝ }
+    ensures { λ r. ⌜ Appends s r (now (out .entry)) (now (out .exit)) (laterRow (now (ls .entry)) (now (us .entry)) (x if up else m) (m if up else x) v n) × GrowsBy 2000 s r ⌝ }
 {
     let lesser = first_if(up, x, m);
     let larger = first_if(up, m, x);
@@ -364,7 +364,7 @@ pub fn lay_first_only(
     us: &[i64],
 ) -> Laid
     requires { ⌜ Room 200000 s × (n ≤ 66) × (base < 1000000000000) × (v < 100000000) × Bounded (now ls) × Bounded (now us) ⌝ }
-    ensures { λ r. ⌜ Went s r (now (out .entry)) (now (out .exit)) (many (firstAt (now (ls .entry)) (now (us .entry)) (now (args .entry)) base m up v n) (n - 1)) × Near 200000 s r ⌝ }
+    ensures { λ r. ⌜ Appends s r (now (out .entry)) (now (out .exit)) (many (firstAt (now (ls .entry)) (now (us .entry)) (now (args .entry)) base m up v n) (n - 1)) × GrowsBy 200000 s r ⌝ }
 {
     let mut t = s;
     let mut k = 0;

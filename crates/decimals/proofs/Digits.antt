@@ -1,4 +1,4 @@
--- The digits of a number: its last one and those before, and how many there are.
+-- The lastDigits of a number: its last one and those before, and how many there are.
 use mathlib.Core.Path.{_≡_, refl}
 use mathlib.Core.Bool.{Bool, true, false}
 use mathlib.Core.List.{List, [], _∷_, _++_}
@@ -10,28 +10,28 @@ use lib.IntN.{ℤ, pos, negsuc, natAbs}
 use lib.ListN.{length, length-append}
 use borrow.Author.Tests.{ltb-true, ltb-false, lt-ltb, le-ltb}
 use Rattle.integers.specs.Choice.{_if_else_}
-use Rattle.decimals.specs.Decimal.{digits, decimal, numeral}
+use Rattle.decimals.specs.Decimal.{lastDigits, decimal, numeral}
 
-digits-enough : (j k n : ℕ) → n < j → n < k → digits j n ≡ digits k n
-unfolding digits
+digits-enough : (j k n : ℕ) → n < j → n < k → lastDigits j n ≡ lastDigits k n
+unfolding lastDigits
 digits-enough zero k n h l = absurd (omega arith)
 digits-enough (suc j) zero n h l = absurd (omega arith)
 digits-enough (suc j) (suc k) n h l = by (ltb 9 n) refl (λ p q. digits-enough j k (n / 10) p q)
   where
-    by : (t : Bool) → ltb 9 n ≡ t → (n / 10 < j → n / 10 < k → digits j (n / 10) ≡ digits k (n / 10)) →
-        (digits j (n / 10) if t else []) ++ ((48 + n % 10) ∷ []) ≡ (digits k (n / 10) if t else []) ++ ((48 + n % 10) ∷ [])
+    by : (t : Bool) → ltb 9 n ≡ t → (n / 10 < j → n / 10 < k → lastDigits j (n / 10) ≡ lastDigits k (n / 10)) →
+        (lastDigits j (n / 10) if t else []) ++ ((48 + n % 10) ∷ []) ≡ (lastDigits k (n / 10) if t else []) ++ ((48 + n % 10) ∷ [])
     by true e more = rw (more (omega (arith, ltb-true)) (omega (arith, ltb-true)))
     by false e more = refl
 
--- the digits before the last one, none of a number below 10
+-- the lastDigits before the last one, none of a number below 10
 abbrev pub front : ℕ → List ℕ
 front n = decimal (n / 10) if ltb 9 n else []
 
 pub decimal-last : (n : ℕ) → decimal n ≡ front n ++ ((48 + n % 10) ∷ [])
-unfolding decimal digits
+unfolding decimal lastDigits
 decimal-last n = by (ltb 9 n) refl
   where
-    by : (t : Bool) → ltb 9 n ≡ t → (digits n (n / 10) if t else []) ++ ((48 + n % 10) ∷ []) ≡ (digits (suc (n / 10)) (n / 10) if t else []) ++ ((48 + n % 10) ∷ [])
+    by : (t : Bool) → ltb 9 n ≡ t → (lastDigits n (n / 10) if t else []) ++ ((48 + n % 10) ∷ []) ≡ (lastDigits (suc (n / 10)) (n / 10) if t else []) ++ ((48 + n % 10) ∷ [])
     by true e = rw (digits-enough n (suc (n / 10)) (n / 10) (omega (arith, ltb-true)) (omega arith))
     by false e = refl
 

@@ -10,9 +10,9 @@ use lib.ListN.{length}
 use borrow.Author.Tests.{ltb-true, ltb-false, lt-ltb, ne-eqb}
 use Rattle.integers.specs.Choice.{_if_else_}
 use Rattle.decimals.specs.Column.{blanks, right, left}
-use Rattle.decimals.specs.Decimal.{digits, decimal, numeral}
+use Rattle.decimals.specs.Decimal.{lastDigits, decimal, numeral}
 
--- ---- a reader: the number that the digits of a text add to n, and whether the text has a hyphen; blanks say nothing
+-- ---- a reader: the number that the lastDigits of a text add to n, and whether the text has a hyphen; blanks say nothing
 
 abbrev onward : ℕ → List ℕ → ℕ
 onward n [] = n
@@ -46,7 +46,7 @@ unfolding blanks
 only-blanks n zero = refl
 only-blanks n (suc k) = only-blanks n k
 
--- ---- digits
+-- ---- lastDigits
 
 onward-append : (n : ℕ) (xs ys : List ℕ) → onward n (xs ++ ys) ≡ onward (onward n xs) ys
 onward-append n [] ys = refl
@@ -55,14 +55,14 @@ onward-append n (x ∷ xs) ys = onward-append (10 * n + (x - 48) if ltb 47 x els
 one-digit : (n d : ℕ) → onward n ((48 + d) ∷ []) ≡ 10 * n + d
 one-digit n d = let e : 48 + d - 48 ≡ d = omega arith in rw (lt-ltb 47 (48 + d) (omega arith), e)
 
-digits-back : (k n : ℕ) → n < k → onward 0 (digits k n) ≡ n
-unfolding digits
+digits-back : (k n : ℕ) → n < k → onward 0 (lastDigits k n) ≡ n
+unfolding lastDigits
 digits-back zero n h = absurd (omega arith)
 digits-back (suc k) n h = by (ltb 9 n) refl (digits-back k (n / 10))
   where
-    by : (t : Bool) → ltb 9 n ≡ t → (n / 10 < k → onward 0 (digits k (n / 10)) ≡ n / 10) → onward 0 ((digits k (n / 10) if t else []) ++ ((48 + n % 10) ∷ [])) ≡ n
+    by : (t : Bool) → ltb 9 n ≡ t → (n / 10 < k → onward 0 (lastDigits k (n / 10)) ≡ n / 10) → onward 0 ((lastDigits k (n / 10) if t else []) ++ ((48 + n % 10) ∷ [])) ≡ n
     by true e more =
-        onward-append 0 (digits k (n / 10)) ((48 + n % 10) ∷ [])
+        onward-append 0 (lastDigits k (n / 10)) ((48 + n % 10) ∷ [])
         ∙ rw (more (omega (arith, ltb-true))) (one-digit (n / 10) (n % 10) ∙ omega arith)
     by false e more = one-digit 0 (n % 10) ∙ omega (arith, ltb-false)
 
@@ -78,13 +78,13 @@ no-hyphen (x ∷ xs) d h = by (eqb x 45) h (no-hyphen xs d)
     by true h more = h
     by false h more = more h
 
-digits-plain : (k n : ℕ) → hyphened (digits k n) ≡ false
-unfolding digits
+digits-plain : (k n : ℕ) → hyphened (lastDigits k n) ≡ false
+unfolding lastDigits
 digits-plain zero n = refl
 digits-plain (suc k) n = by (ltb 9 n) (digits-plain k (n / 10))
   where
-    by : (t : Bool) → hyphened (digits k (n / 10)) ≡ false → hyphened ((digits k (n / 10) if t else []) ++ ((48 + n % 10) ∷ [])) ≡ false
-    by true h = no-hyphen (digits k (n / 10)) (n % 10) h
+    by : (t : Bool) → hyphened (lastDigits k (n / 10)) ≡ false → hyphened ((lastDigits k (n / 10) if t else []) ++ ((48 + n % 10) ∷ [])) ≡ false
+    by true h = no-hyphen (lastDigits k (n / 10)) (n % 10) h
     by false h = no-hyphen [] (n % 10) refl
 
 decimal-plain : (n : ℕ) → hyphened (decimal n) ≡ false

@@ -5,14 +5,14 @@ use lib.Dec.{ltb}
 use lib.IntN.{ℤ, pos, negsuc}
 use Rattle.integers.specs.Choice.{_if_else_}
 
--- the digits of n, the last k of them at most
-unfoldable pub digits : ℕ → ℕ → List ℕ
-digits zero n = []
-digits (suc k) n = let before = digits k (n / 10) in (before if ltb 9 n else []) ++ ((48 + n % 10) ∷ [])
+-- the lastDigits of n, the last k of them at most
+unfoldable pub lastDigits : ℕ → ℕ → List ℕ
+lastDigits zero n = []
+lastDigits (suc k) n = let before = lastDigits k (n / 10) in (before if ltb 9 n else []) ++ ((48 + n % 10) ∷ [])
 
--- all digits of n, which are at most n + 1
+-- all lastDigits of n, which are at most n + 1
 unfoldable pub decimal : ℕ → List ℕ
-decimal n = digits (suc n) n
+decimal n = lastDigits (suc n) n
 
 -- 02, wish 3: "a negative number with a hyphen"
 unfoldable pub numeral : ℤ → List ℕ

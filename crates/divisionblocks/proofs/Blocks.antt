@@ -13,7 +13,7 @@ use Rattle.rules.specs.Parts.{endProducts}
 use Rattle.rules.specs.Division.{M, divisionTable, tableRow, divisionRows, quotientBounds, remainderRow}
 use Rattle.rules.specs.Rule.{division, leftOver}
 use Rattle.laying.specs.Part.{bound, boundParts, termParts, rowParts, blockParts}
-use Rattle.laying.specs.Lists.{many, rowOf}
+use Rattle.laying.specs.Lists.{many, rowPartsOf}
 use Rattle.laying.proofs.Parts.{flatMap-append}
 use Rattle.divisionblocks.specs.Rows.{auxiliaryParts, tableParts, divisionParts}
 
@@ -22,7 +22,7 @@ module _ (first : ℕ) where
   rows-are : (N D P : Bounds) (n d : ℕ) (q : Ref) (a b p g : ℕ) →
       tableParts (divisionTable N D (M N D P)) n d (numbered first q) (first + a) (first + b) (first + p) (first + g)
       ≡ flatMap (rowParts first) (divisionRows N D P (source n) (source d) q (aux a) (aux b) (aux p) (aux g))
-  unfolding tableParts many rowOf divisionRows divisionTable tableRow zipWith flatMap rowParts termParts numbered
+  unfolding tableParts many rowPartsOf divisionRows divisionTable tableRow zipWith flatMap rowParts termParts numbered
   rows-are N D P n d q a b p g = refl
 
   pub division-parts : (β : ℕ → Bounds) (n d q : ℕ) → divisionParts (β n) (β d) (β q) n d q first ≡ blockParts first (division β n d q)
@@ -43,14 +43,14 @@ module _ (first : ℕ) where
       sum k = omega arith
 
   pub leftOver-parts : (β : ℕ → Bounds) (n d r : ℕ) → let Q = quotientBounds (β n) in
-      bound (Q .lower) (Q .upper) ∷ (divisionParts (β n) (β d) Q n d first (first + 1) ++ rowOf Kind.equal ((first + 3) ∷ r ∷ n ∷ []) (+1 ∷ +1 ∷ -1 ∷ []) +0)
+      bound (Q .lower) (Q .upper) ∷ (divisionParts (β n) (β d) Q n d first (first + 1) ++ rowPartsOf Kind.equal ((first + 3) ∷ r ∷ n ∷ []) (+1 ∷ +1 ∷ -1 ∷ []) +0)
       ≡ blockParts first (leftOver β n d r)
-  unfolding divisionParts auxiliaryParts many rowOf blockParts boundParts leftOver remainderRow flatMap rowParts termParts numbered
+  unfolding divisionParts auxiliaryParts many rowPartsOf blockParts boundParts leftOver remainderRow flatMap rowParts termParts numbered
   leftOver-parts β n d r =
       let Q = quotientBounds (β n) in
       let P = endProducts (β d) Q in
       let rows = divisionRows (β n) (β d) P (source n) (source d) (aux 0) (aux 1) (aux 2) (aux 3) (aux 4) in
-      let row = rowOf Kind.equal ((first + 3) ∷ r ∷ n ∷ []) (+1 ∷ +1 ∷ -1 ∷ []) +0 in
+      let row = rowPartsOf Kind.equal ((first + 3) ∷ r ∷ n ∷ []) (+1 ∷ +1 ∷ -1 ∷ []) +0 in
       ap (λ l. bound (Q .lower) (Q .upper) ∷ bound +0 +1 ∷ bound +0 +1 ∷ bound (P .lower) (P .upper) ∷ bound +0 +1 ∷ l)
       (ap (λ l. l ++ row) (later (divisionTable (β n) (β d) (M (β n) (β d) P)) n d ∙ rows-are (β n) (β d) P n d (aux 0) 1 2 3 4)
       ∙ sym (flatMap-append (rowParts first) rows (remainderRow (aux 3) (source r) (source n) ∷ [])))

@@ -9,11 +9,11 @@ use Rattle.words.specs.Kind as Kind
 use Rattle.rules.specs.Parts.{endProducts}
 use Rattle.rules.specs.Division.{M, divisionTable}
 use Rattle.laying.specs.Part.{Part, bound, times}
-use Rattle.laying.specs.Lists.{many, rowOf, bitAt}
+use Rattle.laying.specs.Lists.{many, rowPartsOf, bitAt}
 
 -- a row of six coefficients and a constant, over the variables
 abbrev pub sixTerms : List ℕ → List ℤ → List Part
-sixTerms xs row = rowOf Kind.atMost xs (map (λ j. getD row j +0) (0 ∷ 1 ∷ 2 ∷ 3 ∷ 4 ∷ 5 ∷ [])) (getD row 6 +0)
+sixTerms xs row = rowPartsOf Kind.atMost xs (map (λ j. getD row j +0) (0 ∷ 1 ∷ 2 ∷ 3 ∷ 4 ∷ 5 ∷ [])) (getD row 6 +0)
 
 -- the k-th row of a table
 abbrev pub tableAt : List ℕ → List (List ℤ) → ℕ → List Part

@@ -9,7 +9,7 @@ ghost use Rattle.models.specs.Builtin.{int-div, int-mod};
 ghost use Rattle.rules.specs.Division.{M, divisionTable};
 ghost use Rattle.rules.specs.Rule.{rule};
 ghost use Rattle.laying.specs.Part.{blockParts};
-ghost use Rattle.laying.specs.Went.{Went, Near};
+ghost use Rattle.laying.specs.Appends.{Appends, GrowsBy};
 ghost use Rattle.laying.specs.Room.{Room, BlockRoom};
 ghost use Rattle.extremes.specs.Bounded.{boundsOf, Bounded};
 ghost use Rattle.divisionblocks.specs.Rows.{auxiliaryParts, tableParts, divisionParts};
@@ -29,7 +29,7 @@ mod table;
 // α, β, p within its bounds, γ.
 fn lay_auxiliaries(out: &mut [u32], s: Laid, pl: i64, pu: i64) -> Laid
     requires { ⌜ Room 1100 s ⌝ }
-    ensures { λ r. ⌜ Went s r (now (out .entry)) (now (out .exit)) (auxiliaryParts (pl to pu)) × Near 1100 s r ⌝ }
+    ensures { λ r. ⌜ Appends s r (now (out .entry)) (now (out .exit)) (auxiliaryParts (pl to pu)) × GrowsBy 1100 s r ⌝ }
 {
     let t = lay_bits(out, s, 2);
     let u = lay_bound(out, t, pl, pu);
@@ -60,7 +60,7 @@ fn lay_rows(
     table: [[i64; 7]; 10],
 ) -> Laid
     requires { ⌜ Room 20100 s × (v < 20000) ⌝ }
-    ensures { λ r. ⌜ Went s r (now (out .entry)) (now (out .exit)) (tableParts table n d q v (v + 1) (v + 2) (v + 3)) × Near 20100 s r ⌝ }
+    ensures { λ r. ⌜ Appends s r (now (out .entry)) (now (out .exit)) (tableParts table n d q v (v + 1) (v + 2) (v + 3)) × GrowsBy 20100 s r ⌝ }
 {
     let t = lay_times(out, s, v + 2, d, q);
     let u = lay_times(out, t, v + 3, v, v + 1);
@@ -82,7 +82,7 @@ fn lay_division(
     qu: i64,
 ) -> Laid
     requires { ⌜ Room 22000 s × (v < 20000) × Bounded (now ls) × Bounded (now us) × Small.Near ql × Small.Near qu ⌝ }
-    ensures { λ r. let β = boundsOf (now (ls .entry)) (now (us .entry)) in ⌜ Went s r (now (out .entry)) (now (out .exit)) (divisionParts (β n) (β d) (ql to qu) n d q v) × Near 22000 s r ⌝ }
+    ensures { λ r. let β = boundsOf (now (ls .entry)) (now (us .entry)) in ⌜ Appends s r (now (out .entry)) (now (out .exit)) (divisionParts (β n) (β d) (ql to qu) n d q v) × GrowsBy 22000 s r ⌝ }
 {
     let dl = bound_at(ls, d);
     let du = bound_at(us, d);
@@ -105,7 +105,7 @@ pub fn int_div(
     first: usize,
 ) -> Laid
     requires { ⌜ BlockRoom s × (first < 10000) × Bounded (now ls) × Bounded (now us) ⌝ }
-    ensures { λ r. ⌜ Went s r (now (out .entry)) (now (out .exit)) (blockParts first (rule (boundsOf (now (ls .entry)) (now (us .entry))) (int-div n d q))) × Near 30000 s r ⌝ }
+    ensures { λ r. ⌜ Appends s r (now (out .entry)) (now (out .exit)) (blockParts first (rule (boundsOf (now (ls .entry)) (now (us .entry))) (int-div n d q))) × GrowsBy 30000 s r ⌝ }
 {
     let ql = bound_at(ls, q);
     let qu = bound_at(us, q);
@@ -132,7 +132,7 @@ pub fn int_mod(
     first: usize,
 ) -> Laid
     requires { ⌜ BlockRoom s × (first < 10000) × Bounded (now ls) × Bounded (now us) ⌝ }
-    ensures { λ t. ⌜ Went s t (now (out .entry)) (now (out .exit)) (blockParts first (rule (boundsOf (now (ls .entry)) (now (us .entry))) (int-mod n d r))) × Near 30000 s t ⌝ }
+    ensures { λ t. ⌜ Appends s t (now (out .entry)) (now (out .exit)) (blockParts first (rule (boundsOf (now (ls .entry)) (now (us .entry))) (int-mod n d r))) × GrowsBy 30000 s t ⌝ }
 {
     let qu = larger_size(bound_at(ls, n), bound_at(us, n));
     let ql = opposite(qu);

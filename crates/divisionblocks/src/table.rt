@@ -8,7 +8,7 @@ ghost use Rattle.integers.specs.Bounds.{_to_};
 ghost use Rattle.words.specs.Small as Small;
 ghost use Rattle.rules.specs.Division.{M, divisionTable};
 ghost use Rattle.laying.specs.Lists.{many};
-ghost use Rattle.laying.specs.Went.{Went, Near};
+ghost use Rattle.laying.specs.Appends.{Appends, GrowsBy};
 ghost use Rattle.laying.specs.Room.{Room};
 ghost use Rattle.divisionblocks.specs.Rows.{tableAt};
 use integers::largest;
@@ -69,7 +69,7 @@ pub fn numbers(nl: i64, nu: i64, dl: i64, du: i64, m: i64) -> [[i64; 7]; 10]
 // The rows of a table over six variables.
 pub fn lay_table(out: &mut [u32], s: Laid, xs: &[usize], table: [[i64; 7]; 10]) -> Laid
     requires { ⌜ Room 20000 s × (length (now xs) ≡ 6) ⌝ }
-    ensures { λ r. ⌜ Went s r (now (out .entry)) (now (out .exit)) (many (tableAt (now (xs .entry)) table) 10) × Near 20000 s r ⌝ }
+    ensures { λ r. ⌜ Appends s r (now (out .entry)) (now (out .exit)) (many (tableAt (now (xs .entry)) table) 10) × GrowsBy 20000 s r ⌝ }
 {
     let mut t = s;
     let mut k = 0;

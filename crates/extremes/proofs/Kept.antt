@@ -30,7 +30,7 @@ module _ (ws : List ℕ) (i : ℕ) (h : i < length ws) where
   no-word = at-none ws i h
 
   one-word : starts (wordAt ws i) ≡ true → variables (drop i ws) ≡ (lowerOf (wordAt ws i) to upperOf (wordAt ws i) (wordAt ws (i + 1))) ∷ variables (drop (i + 1) ws)
-  unfolding wordAt lowerOf upperOf Start.boundsOf
+  unfolding wordAt lowerOf upperOf Start.pairBounds
   one-word t = at-one ws i h t ∙ ap (λ B. B ∷ variables (drop (i + 1) ws)) (go (startsPair (wordAt ws i)) (signed (wordAt ws i)) (signed (wordAt ws (i + 1))))
     where
       go : (p : Bool) (l u : ℤ) → ((l to u) if p else bit) ≡ ((l if p else +0) to (u if p else +1))

@@ -2,3 +2,4 @@
 pub mod Filled
 pub mod Satisfied
 pub mod HandsOver
+pub mod PicksWritable

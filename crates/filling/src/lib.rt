@@ -5,13 +5,12 @@ ghost use Prim.Native.Nat.{_+_, _<_};
 ghost use lib.ListN.{length};
 ghost use Rattle.words.specs.Overlay.{overlay};
 ghost use Rattle.words.specs.Variables.{variables};
-ghost use Rattle.arguments.specs.Small.{Small};
 ghost use Rattle.rules.specs.Translation.{auxiliaries, picks};
 ghost use Rattle.rules.specs.Fill.{fill as fillAnswer, filled};
 ghost use Rattle.sharing.specs.SharedSolutions.{Passes, SatisfiesModel};
 ghost use Rattle.translation.specs.ModelBounds.{ModelBounds};
-ghost use Rattle.picking.specs.Picked.{Ranged};
 ghost use Rattle.filling.specs.Filled.{handed};
+ghost use Rattle.filling.specs.PicksWritable.{PicksWritable};
 ghost use Rattle.filling.specs.Satisfied.{Satisfied};
 ghost use Rattle.filling.specs.HandsOver.{HandsOver};
 use encodings::record_encoding;
@@ -61,7 +60,7 @@ fn write_picks(
     out: &mut [i32],
     start: usize,
 )
-    requires { ⌜ ModelBounds (now ws) (now heads) read (now ls) (now us) (now uses) × Small (now values) × Ranged (picks (now ws) (now values)) × (start ≡ length (variables (now ws))) × (start + length (picks (now ws) (now values)) < 1099511627776) ⌝ }
+    requires { ⌜ PicksWritable (now ws) (now heads) read (now ls) (now us) (now uses) (now values) start ⌝ }
     ensures { λ r. ⌜ now (out .exit) ≡ overlay (now (out .entry)) start (picks (now (ws .entry)) (now (values .entry))) ⌝ }
 {
     let n = read.constraints;

@@ -5,7 +5,7 @@ ghost use Rattle.integers.specs.declared.Bounds.{Bounds};
 ghost use Rattle.models.specs.Builtin.{int-eq, int-ne};
 ghost use Rattle.rules.specs.Rule.{rule, orderReified};
 ghost use Rattle.laying.specs.Part.{blockParts};
-ghost use Rattle.laying.specs.Went.{Went, Near};
+ghost use Rattle.laying.specs.Appends.{Appends, GrowsBy};
 ghost use Rattle.laying.specs.Room.{BlockRoom};
 ghost use Rattle.extremes.specs.Bounded.{boundsOf, Bounded};
 use crate::rows::two_terms;
@@ -18,7 +18,7 @@ use words::kind;
 // 1 int_eq: a − b is 0.
 pub fn int_eq(out: &mut [u32], s: Laid, a: usize, b: usize) -> Laid
     requires { ⌜ BlockRoom s ⌝ }
-    ensures { λ r. ⌜ ((β : ℕ → Bounds) (first : ℕ) → Went s r (now (out .entry)) (now (out .exit)) (blockParts first (rule β (int-eq a b)))) × Near 10000 s r ⌝ }
+    ensures { λ r. ⌜ ((β : ℕ → Bounds) (first : ℕ) → Appends s r (now (out .entry)) (now (out .exit)) (blockParts first (rule β (int-eq a b)))) × GrowsBy 10000 s r ⌝ }
 {
     two_terms(out, s, kind::EQUAL, a, -1, b, 0)
 }
@@ -34,7 +34,7 @@ pub fn int_ne(
     first: usize,
 ) -> Laid
     requires { ⌜ BlockRoom s × Bounded (now ls) × Bounded (now us) ⌝ }
-    ensures { λ r. ⌜ Went s r (now (out .entry)) (now (out .exit)) (blockParts first (rule (boundsOf (now (ls .entry)) (now (us .entry))) (int-ne a b))) × Near 10000 s r ⌝ }
+    ensures { λ r. ⌜ Appends s r (now (out .entry)) (now (out .exit)) (blockParts first (rule (boundsOf (now (ls .entry)) (now (us .entry))) (int-ne a b))) × GrowsBy 10000 s r ⌝ }
 {
     let t = lay_bound(out, s, 0, 1);
     let u = where_zero(out, t, first, a, b, 1, ls, us);
@@ -54,7 +54,7 @@ pub fn order_reif(
     us: &[i64],
 ) -> Laid
     requires { ⌜ BlockRoom s × Bounded (now ls) × Bounded (now us) × (natAbs d ≤ 1) × (natAbs e ≤ 1) ⌝ }
-    ensures { λ q. ⌜ ((first : ℕ) → Went s q (now (out .entry)) (now (out .exit)) (blockParts first (orderReified (boundsOf (now (ls .entry)) (now (us .entry))) d e a b r))) × Near 10000 s q ⌝ }
+    ensures { λ q. ⌜ ((first : ℕ) → Appends s q (now (out .entry)) (now (out .exit)) (blockParts first (orderReified (boundsOf (now (ls .entry)) (now (us .entry))) d e a b r))) × GrowsBy 10000 s q ⌝ }
 {
     let t = where_one(out, s, r, a, b, d, ls, us);
     where_zero(out, t, r, b, a, e, ls, us)

@@ -6,7 +6,7 @@ ghost use Rattle.integers.specs.Number.{minZ, maxZ, +0};
 ghost use Rattle.models.specs.Builtin.{int-times, int-abs};
 ghost use Rattle.rules.specs.Rule.{rule, touching};
 ghost use Rattle.laying.specs.Part.{bound, blockParts};
-ghost use Rattle.laying.specs.Went.{Went, Near};
+ghost use Rattle.laying.specs.Appends.{Appends, GrowsBy};
 ghost use Rattle.laying.specs.Room.{Room, BlockRoom};
 ghost use Rattle.extremes.specs.Bounded.{boundsOf, Bounded};
 use crate::rows::three_terms;
@@ -36,7 +36,7 @@ pub fn int_times(
     first: usize,
 ) -> Laid
     requires { ⌜ BlockRoom s × Bounded (now ls) × Bounded (now us) ⌝ }
-    ensures { λ r. ⌜ Went s r (now (out .entry)) (now (out .exit)) (blockParts first (rule (boundsOf (now (ls .entry)) (now (us .entry))) (int-times a b c))) × Near 10000 s r ⌝ }
+    ensures { λ r. ⌜ Appends s r (now (out .entry)) (now (out .exit)) (blockParts first (rule (boundsOf (now (ls .entry)) (now (us .entry))) (int-times a b c))) × GrowsBy 10000 s r ⌝ }
 {
     let lower = end_product(ls, us, a, b, false);
     let upper = end_product(ls, us, a, b, true);
@@ -48,7 +48,7 @@ pub fn int_times(
 // The bounds Z(x).
 fn lay_zero_bound(out: &mut [u32], s: Laid, x: usize, ls: &[i64], us: &[i64]) -> Laid
     requires { ⌜ Room 10 s ⌝ }
-    ensures { λ r. ⌜ Went s r (now (out .entry)) (now (out .exit)) (bound (minZ +0 (getD (now (ls .entry)) x +0)) (maxZ +0 (getD (now (us .entry)) x +0)) ∷ []) × Near 10 s r ⌝ }
+    ensures { λ r. ⌜ Appends s r (now (out .entry)) (now (out .exit)) (bound (minZ +0 (getD (now (ls .entry)) x +0)) (maxZ +0 (getD (now (us .entry)) x +0)) ∷ []) × GrowsBy 10 s r ⌝ }
 {
     let lower = zero_lower(bound_at(ls, x));
     let upper = zero_upper(bound_at(us, x));
@@ -66,7 +66,7 @@ pub fn int_abs(
     first: usize,
 ) -> Laid
     requires { ⌜ BlockRoom s × (first < 10000) × Bounded (now us) ⌝ }
-    ensures { λ r. ⌜ Went s r (now (out .entry)) (now (out .exit)) (blockParts first (rule (boundsOf (now (ls .entry)) (now (us .entry))) (int-abs x y))) × Near 10000 s r ⌝ }
+    ensures { λ r. ⌜ Appends s r (now (out .entry)) (now (out .exit)) (blockParts first (rule (boundsOf (now (ls .entry)) (now (us .entry))) (int-abs x y))) × GrowsBy 10000 s r ⌝ }
 {
     let t = lay_bound(out, s, 0, 1);
     let u = lay_zero_bound(out, t, x, ls, us);
@@ -92,7 +92,7 @@ pub fn touching(
     first: usize,
 ) -> Laid
     requires { ⌜ BlockRoom s × Bounded (now ls) × Bounded (now us) ⌝ }
-    ensures { λ r. ⌜ Went s r (now (out .entry)) (now (out .exit)) (blockParts first (touching (boundsOf (now (ls .entry)) (now (us .entry))) x y u v)) × Near 20000 s r ⌝ }
+    ensures { λ r. ⌜ Appends s r (now (out .entry)) (now (out .exit)) (blockParts first (touching (boundsOf (now (ls .entry)) (now (us .entry))) x y u v)) × GrowsBy 20000 s r ⌝ }
 {
     let bit = lay_bound(out, s, 0, 1);
     let one = two_terms(out, bit, kind::AT_MOST, x, -1, y, 0);

@@ -4,8 +4,8 @@ ghost use Prim.Native.Nat.{_<_, _≤_};
 ghost use lib.IntN.{natAbs};
 ghost use Rattle.integers.specs.Number.{_⊖_, neg, +1, -1};
 ghost use Rattle.words.specs.Kind as Kind;
-ghost use Rattle.laying.specs.Lists.{rowOf};
-ghost use Rattle.laying.specs.Went.{Went, Near};
+ghost use Rattle.laying.specs.Lists.{rowPartsOf};
+ghost use Rattle.laying.specs.Appends.{Appends, GrowsBy};
 ghost use Rattle.laying.specs.Room.{Room};
 ghost use Rattle.extremes.specs.Bounded.{Bounded, gapPlus};
 use extremes::gap_plus;
@@ -18,7 +18,7 @@ use words::kind;
 // x + q×y + c, of a kind.
 pub fn two_terms(out: &mut [u32], s: Laid, kind: u32, x: usize, q: i64, y: usize, c: i64) -> Laid
     requires { ⌜ Room 2000 s × (kind < 16) ⌝ }
-    ensures { λ r. ⌜ Went s r (now (out .entry)) (now (out .exit)) (rowOf kind (x ∷ y ∷ []) (+1 ∷ q ∷ []) c) × Near 2000 s r ⌝ }
+    ensures { λ r. ⌜ Appends s r (now (out .entry)) (now (out .exit)) (rowPartsOf kind (x ∷ y ∷ []) (+1 ∷ q ∷ []) c) × GrowsBy 2000 s r ⌝ }
 {
     let xs = [x, y];
     let cs = [1, q];
@@ -38,7 +38,7 @@ pub fn three_terms(
     c: i64,
 ) -> Laid
     requires { ⌜ Room 2000 s × (kind < 16) ⌝ }
-    ensures { λ r. ⌜ Went s r (now (out .entry)) (now (out .exit)) (rowOf kind (x ∷ y ∷ z ∷ []) (+1 ∷ q ∷ p ∷ []) c) × Near 2000 s r ⌝ }
+    ensures { λ r. ⌜ Appends s r (now (out .entry)) (now (out .exit)) (rowPartsOf kind (x ∷ y ∷ z ∷ []) (+1 ∷ q ∷ p ∷ []) c) × GrowsBy 2000 s r ⌝ }
 {
     let xs = [x, y, z];
     let cs = [1, q, p];
@@ -57,8 +57,8 @@ pub fn where_one(
     us: &[i64],
 ) -> Laid
     requires { ⌜ Room 2000 s × Bounded (now ls) × Bounded (now us) × (natAbs d ≤ 1) ⌝ }
-    ensures parts { λ r. let P = gapPlus (now (ls .entry)) (now (us .entry)) x y d in ⌜ Went s r (now (out .entry)) (now (out .exit)) (rowOf Kind.atMost (x ∷ y ∷ z ∷ []) (+1 ∷ -1 ∷ P ∷ []) (d ⊖ P)) ⌝ }
-    ensures size { λ r. ⌜ Near 2000 s r ⌝ }
+    ensures { λ r. let P = gapPlus (now (ls .entry)) (now (us .entry)) x y d in ⌜ Appends s r (now (out .entry)) (now (out .exit)) (rowPartsOf Kind.atMost (x ∷ y ∷ z ∷ []) (+1 ∷ -1 ∷ P ∷ []) (d ⊖ P)) ⌝ }
+    ensures size { λ r. ⌜ GrowsBy 2000 s r ⌝ }
 {
     let p = gap_plus(ls, us, x, y, d);
     three_terms(out, s, kind::AT_MOST, x, -1, y, p, z, minus(d, p))
@@ -76,8 +76,8 @@ pub fn where_zero(
     us: &[i64],
 ) -> Laid
     requires { ⌜ Room 2000 s × Bounded (now ls) × Bounded (now us) × (natAbs d ≤ 1) ⌝ }
-    ensures parts { λ r. let P = gapPlus (now (ls .entry)) (now (us .entry)) x y d in ⌜ Went s r (now (out .entry)) (now (out .exit)) (rowOf Kind.atMost (x ∷ y ∷ z ∷ []) (+1 ∷ -1 ∷ neg P ∷ []) d) ⌝ }
-    ensures size { λ r. ⌜ Near 2000 s r ⌝ }
+    ensures { λ r. let P = gapPlus (now (ls .entry)) (now (us .entry)) x y d in ⌜ Appends s r (now (out .entry)) (now (out .exit)) (rowPartsOf Kind.atMost (x ∷ y ∷ z ∷ []) (+1 ∷ -1 ∷ neg P ∷ []) d) ⌝ }
+    ensures size { λ r. ⌜ GrowsBy 2000 s r ⌝ }
 {
     let p = gap_plus(ls, us, x, y, d);
     three_terms(out, s, kind::AT_MOST, x, -1, y, opposite(p), z, d)

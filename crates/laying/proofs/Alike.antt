@@ -9,7 +9,7 @@ use Rattle.integers.specs.Lists.{all}
 use Rattle.words.specs.Word.{inRange}
 use Rattle.words.specs.Overlay.{overlay}
 use Rattle.laying.specs.Part.{Part, wordsIn, numbersIn, auxiliariesIn, rowsIn}
-use Rattle.laying.specs.Went.{Went, WentFitting}
+use Rattle.laying.specs.Appends.{Appends, AppendsFitting}
 use Rattle.laying.specs.declared.Laid.{Laid}
 use Rattle.laying.proofs.Parts.{all-append, words-append, numbers-append, auxiliaries-append, rows-append, both-true}
 
@@ -36,7 +36,7 @@ alike-then {ps} {qs} h rs = record {
     fitting : (ps : List Part) → all inRange (numbersIn (ps ++ rs)) ≡ (all inRange (numbersIn ps) && all inRange (numbersIn rs))
     fitting ps = ap (all inRange) (numbers-append ps rs) ∙ all-append inRange (numbersIn ps) (numbersIn rs)
 
-pub went-alike : {s r : Laid} {o o′ : List ℕ} {ps qs : List Part} → Alike ps qs → Went s r o o′ qs → WentFitting s r o o′ ps
+pub went-alike : {s r : Laid} {o o′ : List ℕ} {ps qs : List Part} → Alike ps qs → Appends s r o o′ qs → AppendsFitting s r o o′ ps
 went-alike {s} {r} {o} {o′} {ps} {qs} h w = record {
   counted = record {
     words = w .words ∙ ap (λ n. s .words + n) (h .words);
@@ -47,5 +47,5 @@ went-alike {s} {r} {o} {o′} {ps} {qs} h w = record {
   over = λ e. w .over ∙ ap (λ l. overlay o (s .words) (wordsIn l)) (h .same e);
 }
 
-pub went-fitting : {s r : Laid} {o o′ : List ℕ} {ps : List Part} → Went s r o o′ ps → WentFitting s r o o′ ps
+pub went-fitting : {s r : Laid} {o o′ : List ℕ} {ps : List Part} → Appends s r o o′ ps → AppendsFitting s r o o′ ps
 went-fitting {s} {r} {o} {o′} {ps} w = went-alike (alike-itself ps) w

@@ -17,8 +17,8 @@ use Rattle.words.specs.Word.{inRange}
 use Rattle.words.specs.Overlay.{overlay}
 use Rattle.words.proofs.Word.{says-range}
 use Rattle.laying.specs.Part.{Part, bound, head, term, constant, times, partWords, partNumbers, partAuxiliaries, partRows, wordsIn, numbersIn, auxiliariesIn, rowsIn}
-use Rattle.laying.specs.Lists.{many, termAt, rowOf, bitAt, labelAt}
-use Rattle.laying.specs.Went.{Went, Counted, Near}
+use Rattle.laying.specs.Lists.{many, termAt, rowPartsOf, bitAt, labelAt}
+use Rattle.laying.specs.Appends.{Appends, CountsMore, GrowsBy}
 use Rattle.laying.specs.declared.Laid.{Laid}
 use Rattle.laying.proofs.Parts.{words-append, numbers-append, auxiliaries-append, rows-append, all-append, and-true, many-more}
 
@@ -114,14 +114,14 @@ sized-terms (x ∷ xs) (c ∷ cs) e =
     let d : 2 + 2 * length xs ≡ 2 * suc (length xs) = omega arith in
     rw d at (sized-then (sized-any c x) (sized-terms xs cs (omega (arith, e))))
 
-pub sized-row : (kind : ℕ) (xs : List ℕ) (cs : List ℤ) (c : ℤ) → length cs ≡ length xs → Sized (rowOf kind xs cs c) (2 + 2 * length xs) 0 1 (all inRange cs && inRange c)
-unfolding rowOf
+pub sized-row : (kind : ℕ) (xs : List ℕ) (cs : List ℤ) (c : ℤ) → length cs ≡ length xs → Sized (rowPartsOf kind xs cs c) (2 + 2 * length xs) 0 1 (all inRange cs && inRange c)
+unfolding rowPartsOf
 sized-row kind xs cs c e =
     let d : 1 + (2 * length xs + 1) ≡ 2 + 2 * length xs = omega arith in
     rw d at (sized-then (sized-head kind (length xs)) (sized-then (sized-terms xs cs e) (sized-constant c)))
 
 -- a row of two variables, the coefficients 1 and −1
-pub sized-pair : (kind x y : ℕ) → Sized (rowOf kind (x ∷ y ∷ []) (+1 ∷ -1 ∷ []) +0) 6 0 1 true
+pub sized-pair : (kind x y : ℕ) → Sized (rowPartsOf kind (x ∷ y ∷ []) (+1 ∷ -1 ∷ []) +0) 6 0 1 true
 unfolding within all
 sized-pair kind x y = sized-row kind (x ∷ y ∷ []) (+1 ∷ -1 ∷ []) +0 refl
 
@@ -163,7 +163,7 @@ unfolding overlay
 overlay-past out at [] h = refl
 overlay-past out at (x ∷ xs) h = ap (λ l. overlay l (suc at) xs) (set-out out at x h) ∙ overlay-past out (suc at) xs (omega arith)
 
-pub no-room : {s r : Laid} {o : List ℕ} {ps : List Part} {w a n : ℕ} {fit : Bool} → Sized ps w a n fit → length o ≤ s .words → Counted s r w a n fit → Went s r o o ps
+pub no-room : {s r : Laid} {o : List ℕ} {ps : List Part} {w a n : ℕ} {fit : Bool} → Sized ps w a n fit → length o ≤ s .words → CountsMore s r w a n fit → Appends s r o o ps
 no-room {s} {r} {o} {ps} z h c = record {
   words = omega (arith, c .words, z .words);
   auxiliaries = omega (arith, c .auxiliaries, z .auxiliaries);
@@ -174,19 +174,19 @@ no-room {s} {r} {o} {ps} z h c = record {
 
 -- what a loop gives that has nothing to lay: many lists of w words, a auxiliaries and r rows each; their numbers in the range, or tested
 given : {s t : Laid} {o : List ℕ} (f : ℕ → List Part) (n : ℕ) {W A R : ℕ} (w a r b : ℕ) {fit : Bool} → Sized (many f n) (w * n) (a * n) (r * n) fit →
-    (W ≡ w * n) × (A ≡ a * n) × (R ≡ r * n) × (W + A + R ≤ b) → length o ≤ s .words → Counted s t W A R fit → Went s t o o (many f n) × Near b s t
+    (W ≡ w * n) × (A ≡ a * n) × (R ≡ r * n) × (W + A + R ≤ b) → length o ≤ s .words → CountsMore s t W A R fit → Appends s t o o (many f n) × GrowsBy b s t
 given f n w a r b z e room c = (no-room (rw (← e .0, ← e .1, ← e .2) at z) room c, omega (arith, c .words, c .auxiliaries, c .rows, e .3))
 
 pub many-counted : {s t : Laid} {o : List ℕ} {f : ℕ → List Part} {n W A R : ℕ} (w a r b : ℕ) → ((k : ℕ) → k < n → Sized (f k) w a r true) →
-    (W ≡ w * n) × (A ≡ a * n) × (R ≡ r * n) × (W + A + R ≤ b) → length o ≤ s .words → Counted s t W A R true → Went s t o o (many f n) × Near b s t
+    (W ≡ w * n) × (A ≡ a * n) × (R ≡ r * n) × (W + A + R ≤ b) → length o ≤ s .words → CountsMore s t W A R true → Appends s t o o (many f n) × GrowsBy b s t
 many-counted {f = f} {n = n} w a r b h = given f n w a r b (sized-many f w a r n h)
 
 pub many-tested : {s t : Laid} {o : List ℕ} (f : ℕ → List Part) (n : ℕ) {W A R : ℕ} (w a r b : ℕ) → ((k : ℕ) → Sized (f k) w a r (fitting (f k))) →
-    (W ≡ w * n) × (A ≡ a * n) × (R ≡ r * n) × (W + A + R ≤ b) → length o ≤ s .words → Counted s t W A R (fitting (many f n)) → Went s t o o (many f n) × Near b s t
+    (W ≡ w * n) × (A ≡ a * n) × (R ≡ r * n) × (W + A + R ≤ b) → length o ≤ s .words → CountsMore s t W A R (fitting (many f n)) → Appends s t o o (many f n) × GrowsBy b s t
 many-tested f n w a r b h = given f n w a r b (sized-each f w a r n h)
 
 pub many-listed : {s t : Laid} {o : List ℕ} {f : ℕ → List Part} {W A R : ℕ} (g : ℕ → ℤ) (n : ℕ) {fit : Bool} (w a r b : ℕ) → ((k : ℕ) → Sized (f k) w a r (inRange (g k))) →
-    (W ≡ w * n) × (A ≡ a * n) × (R ≡ r * n) × (W + A + R ≤ b) → length o ≤ s .words → fit ≡ all inRange (listOf g n) → Counted s t W A R fit → Went s t o o (many f n) × Near b s t
+    (W ≡ w * n) × (A ≡ a * n) × (R ≡ r * n) × (W + A + R ≤ b) → length o ≤ s .words → fit ≡ all inRange (listOf g n) → CountsMore s t W A R fit → Appends s t o o (many f n) × GrowsBy b s t
 many-listed {f = f} g n w a r b h e room tested c = given f n w a r b (sized-listed f g w a r n h) e room (rw tested at c)
 
 -- one list more is tested

@@ -17,7 +17,7 @@ use Rattle.rowsystems.specs.Row.{Row, sum≤0, sum=0, renameTerms}
 use Rattle.rules.specs.Block.{Ref, source, numbered}
 use Rattle.rules.specs.Parts.{_─_≤0, sources, each, bits, weighted, products}
 use Rattle.laying.specs.Part.{bound, head, term, constant, times, boundParts, termParts, rowParts}
-use Rattle.laying.specs.Lists.{many, termAt, rowOf, sumAt, eachAt, sameAt, labelAt, bitAt, productAt, belowAt, aboveAt}
+use Rattle.laying.specs.Lists.{many, termAt, rowPartsOf, sumAt, eachAt, sameAt, labelAt, bitAt, productAt, belowAt, aboveAt}
 use Rattle.laying.proofs.Parts.{many-same}
 
 -- ---- how long they are
@@ -128,13 +128,13 @@ module _ (first : ℕ) where
   count (t ∷ ts) = ap suc (count ts)
 
   pub row-atMost : (ts : List (Term Ref)) (c : ℤ) →
-      rowParts first (sum≤0 ts c) ≡ rowOf Kind.atMost (map (λ t. numbered first (t .variable)) ts) (map (λ t. t .coefficient) ts) c
-  unfolding rowParts rowOf
+      rowParts first (sum≤0 ts c) ≡ rowPartsOf Kind.atMost (map (λ t. numbered first (t .variable)) ts) (map (λ t. t .coefficient) ts) c
+  unfolding rowParts rowPartsOf
   row-atMost ts c = ap₂ (λ (n : ℕ) ps. head Kind.atMost n ∷ (ps ++ (constant c ∷ []))) (count ts) (given ts)
 
   pub row-equal : (ts : List (Term Ref)) (c : ℤ) →
-      rowParts first (sum=0 ts c) ≡ rowOf Kind.equal (map (λ t. numbered first (t .variable)) ts) (map (λ t. t .coefficient) ts) c
-  unfolding rowParts rowOf
+      rowParts first (sum=0 ts c) ≡ rowPartsOf Kind.equal (map (λ t. numbered first (t .variable)) ts) (map (λ t. t .coefficient) ts) c
+  unfolding rowParts rowPartsOf
   row-equal ts c = ap₂ (λ (n : ℕ) ps. head Kind.equal n ∷ (ps ++ (constant c ∷ []))) (count ts) (given ts)
 
   -- a row for each of a list by places
@@ -145,10 +145,10 @@ module _ (first : ℕ) where
 
   pub below-parts : (args : List ℕ) (i m : ℕ) →
       flatMap (rowParts first) (map (λ x. source x ─ source m ≤0) (vars args i)) ≡ many (belowAt args (i + 1) m) (size args i)
-  unfolding vars _─_≤0 rowParts rowOf termParts numbered many
+  unfolding vars _─_≤0 rowParts rowPartsOf termParts numbered many
   below-parts args i m = rows-many (λ x. source x ─ source m ≤0) _ (size args i)
 
   pub above-parts : (args : List ℕ) (r i : ℕ) →
       flatMap (rowParts first) (map (λ x. source r ─ source x ≤0) (vars args i)) ≡ many (aboveAt args r (i + 1)) (size args i)
-  unfolding vars _─_≤0 rowParts rowOf termParts numbered many
+  unfolding vars _─_≤0 rowParts rowPartsOf termParts numbered many
   above-parts args r i = rows-many (λ x. source r ─ source x ≤0) _ (size args i)

@@ -13,7 +13,7 @@ use Rattle.words.specs.Overlay.{overlay}
 use Rattle.words.proofs.Overlay.{length-overlay, overlay-none, overlay-append}
 use Rattle.laying.specs.Part.{Part, partWords, partNumbers, partAuxiliaries, partRows, wordsIn, numbersIn, auxiliariesIn, rowsIn}
 use Rattle.laying.specs.Lists.{many}
-use Rattle.laying.specs.Went.{Went, Over, Near}
+use Rattle.laying.specs.Appends.{Appends, Over, GrowsBy}
 use Rattle.laying.specs.declared.Laid.{Laid}
 
 -- ---- parts after parts
@@ -68,7 +68,7 @@ pub both-true : (a b : Bool) → (a && b) ≡ true → (a ≡ true) × (b ≡ tr
 both-true true b e = (refl, e)
 both-true false b e = false-true e
 
-pub went-none : (s : Laid) (o : List ℕ) → Went s s o o []
+pub went-none : (s : Laid) (o : List ℕ) → Appends s s o o []
 unfolding wordsIn numbersIn auxiliariesIn rowsIn flatMap all
 went-none s o = record {
   words = omega arith;
@@ -78,7 +78,7 @@ went-none s o = record {
   over = sym (overlay-none o (s .words));
 }
 
-pub went-then : {s r t : Laid} {o p q : List ℕ} {xs ys : List Part} → Went s r o p xs → Went r t p q ys → Went s t o q (xs ++ ys)
+pub went-then : {s r t : Laid} {o p q : List ℕ} {xs ys : List Part} → Appends s r o p xs → Appends r t p q ys → Appends s t o q (xs ++ ys)
 went-then {s} {r} {t} {o} {p} {q} {xs} {ys} f g = record {
   words = omega (arith, f .words, g .words, length-append (wordsIn xs) (wordsIn ys), ap length (words-append xs ys));
   auxiliaries = omega (arith, f .auxiliaries, g .auxiliaries, auxiliaries-append xs ys);
@@ -89,7 +89,7 @@ went-then {s} {r} {t} {o} {p} {q} {xs} {ys} f g = record {
 }
 
 -- the words of one part went
-pub went-one : {s r : Laid} {o o′ : List ℕ} (p : Part) {fit : Bool} → Over s r o o′ (partWords p) (partAuxiliaries p) (partRows p) fit → fit ≡ all inRange (partNumbers p) → Went s r o o′ (p ∷ [])
+pub went-one : {s r : Laid} {o o′ : List ℕ} (p : Part) {fit : Bool} → Over s r o o′ (partWords p) (partAuxiliaries p) (partRows p) fit → fit ≡ all inRange (partNumbers p) → Appends s r o o′ (p ∷ [])
 unfolding wordsIn numbersIn auxiliariesIn rowsIn flatMap
 went-one {s} p w e = record {
   words = w .words ∙ rw append-nil;
@@ -99,11 +99,11 @@ went-one {s} p w e = record {
   over = w .over ∙ rw append-nil;
 }
 
-pub went-length : {s r : Laid} {o o′ : List ℕ} {ps : List Part} → Went s r o o′ ps → length o′ ≡ length o
+pub went-length : {s r : Laid} {o o′ : List ℕ} {ps : List Part} → Appends s r o o′ ps → length o′ ≡ length o
 went-length {s} {r} {o} {o′} {ps} w = ap length (w .over) ∙ length-overlay o (s .words) (wordsIn ps)
 
 -- the same parts, written otherwise
-pub went-as : {s r : Laid} {o o′ : List ℕ} {ps qs : List Part} → ps ≡ qs → Went s r o o′ ps → Went s r o o′ qs
+pub went-as : {s r : Laid} {o o′ : List ℕ} {ps qs : List Part} → ps ≡ qs → Appends s r o o′ ps → Appends s r o o′ qs
 went-as e w = rw e at w
 
 -- ---- many lists of parts
@@ -124,15 +124,15 @@ many-more f n = ap (many f) (add-one n) ∙ go f n
 -- a loop that lays f 0, f 1, .., f (n − 1), before its turn k; each lays at most m
 pub record Laying (m : ℕ) (f : ℕ → List Part) (n : ℕ) (s t : Laid) (o o′ : List ℕ) (k : ℕ) : Type 0 where
   pub below : k ≤ n
-  pub went : Went s t o o′ (many f k)
-  pub near : Near (m * k) s t
+  pub went : Appends s t o o′ (many f k)
+  pub near : GrowsBy (m * k) s t
 
 pub begun : (m : ℕ) (f : ℕ → List Part) (n : ℕ) (s : Laid) (o : List ℕ) → Laying m f n s s o o 0
 unfolding many
 begun m f n s o = record { below = omega arith; went = went-none s o; near = omega arith }
 
 pub more : {m : ℕ} {f : ℕ → List Part} {n : ℕ} {s t u : Laid} {o p q : List ℕ} {k : ℕ} →
-    k < n → Laying m f n s t o p k → Went t u p q (f k) × Near m t u → Laying m f n s u o q (k + 1)
+    k < n → Laying m f n s t o p k → Appends t u p q (f k) × GrowsBy m t u → Laying m f n s u o q (k + 1)
 more {m} {f} {n} {s} {t} {u} {o} {p} {q} {k} h l w = record {
   below = omega arith;
   went = rw (many-more f k) (went-then (l .went) (w .0));
@@ -140,7 +140,7 @@ more {m} {f} {n} {s} {t} {u} {o} {p} {q} {k} h l w = record {
 }
 
 pub done : {m : ℕ} {f : ℕ → List Part} {n : ℕ} {s t : Laid} {o p : List ℕ} {k : ℕ} (b : ℕ) →
-    m * n ≤ b → n ≤ k → Laying m f n s t o p k → Went s t o p (many f n) × Near b s t
+    m * n ≤ b → n ≤ k → Laying m f n s t o p k → Appends s t o p (many f n) × GrowsBy b s t
 done {m} {f} {n} {s} {t} {o} {p} {k} b h e l =
     let d : k ≡ n = omega (arith, l .below) in
     (rw d at (l .went), omega (arith, rw d at (l .near)))

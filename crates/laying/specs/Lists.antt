@@ -17,8 +17,8 @@ many f (suc n) = f 0 ++ many (λ k. f (suc k)) n
 abbrev pub termAt : List ℕ → List ℤ → ℕ → List Part
 termAt xs cs k = term (getD cs k +0) (getD xs k 0) ∷ []
 
-unfoldable pub rowOf : ℕ → List ℕ → List ℤ → ℤ → List Part
-rowOf kind xs cs c = head kind (length xs) ∷ (many (termAt xs cs) (length xs) ++ (constant c ∷ []))
+unfoldable pub rowPartsOf : ℕ → List ℕ → List ℤ → ℤ → List Part
+rowPartsOf kind xs cs c = head kind (length xs) ∷ (many (termAt xs cs) (length xs) ++ (constant c ∷ []))
 
 -- number × variable, the numbers from place a on, the variables from place x on; c × variable
 abbrev pub sumAt : List ℕ → ℕ → ℕ → ℕ → List Part
@@ -44,7 +44,7 @@ productAt args x z b k = times (z + k) (var args (x + k)) (b + k) ∷ []
 
 -- x − m ≤ 0; r − x ≤ 0
 abbrev pub belowAt : List ℕ → ℕ → ℕ → ℕ → List Part
-belowAt args x m k = rowOf Kind.atMost (var args (x + k) ∷ m ∷ []) (+1 ∷ -1 ∷ []) +0
+belowAt args x m k = rowPartsOf Kind.atMost (var args (x + k) ∷ m ∷ []) (+1 ∷ -1 ∷ []) +0
 
 abbrev pub aboveAt : List ℕ → ℕ → ℕ → ℕ → List Part
-aboveAt args r x k = rowOf Kind.atMost (r ∷ var args (x + k) ∷ []) (+1 ∷ -1 ∷ []) +0
+aboveAt args r x k = rowPartsOf Kind.atMost (r ∷ var args (x + k) ∷ []) (+1 ∷ -1 ∷ []) +0

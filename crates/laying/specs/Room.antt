@@ -1,6 +1,6 @@
 -- Room for what is laid next: no count of words, auxiliaries and rows comes near 2^64.
 use Prim.Native.Nat.{ℕ, _+_, _<_}
-use Rattle.laying.specs.Went.{total}
+use Rattle.laying.specs.Appends.{total}
 use Rattle.laying.specs.declared.Laid.{Laid}
 
 -- for n more words, auxiliaries and rows; a writer that asks for it says that it adds at most n (`Near n`)

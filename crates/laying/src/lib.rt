@@ -10,8 +10,8 @@ ghost use Rattle.words.specs.Kind as Kind;
 ghost use Rattle.words.specs.Word.{inRange};
 ghost use Rattle.models.specs.Model.{num, size, past};
 ghost use Rattle.laying.specs.Part.{bound, head, term, constant, times};
-ghost use Rattle.laying.specs.Lists.{many, rowOf, termAt, sumAt, eachAt, sameAt, labelAt, bitAt, productAt, belowAt, aboveAt};
-ghost use Rattle.laying.specs.Went.{Went, Over, Counted, Near, nothing};
+ghost use Rattle.laying.specs.Lists.{many, rowPartsOf, termAt, sumAt, eachAt, sameAt, labelAt, bitAt, productAt, belowAt, aboveAt};
+ghost use Rattle.laying.specs.Appends.{Appends, Over, CountsMore, GrowsBy, nothing};
 ghost use Rattle.laying.specs.Room.{Room};
 use arguments::num_at;
 use arguments::past_at;
@@ -50,7 +50,7 @@ pub fn none_yet() -> Laid
 // So many words, auxiliaries and rows more, whose numbers fit or not.
 pub fn counted(s: Laid, words: usize, auxiliaries: usize, rows: usize, fit: bool) -> Laid
     requires { ⌜ Room (words + auxiliaries + rows) s × (words < 1000) × (auxiliaries < 1000) × (rows < 1000) ⌝ }
-    ensures { λ r. ⌜ Counted s r words auxiliaries rows fit ⌝ }
+    ensures { λ r. ⌜ CountsMore s r words auxiliaries rows fit ⌝ }
 {
     Laid {
         words: s.words + words,
@@ -81,7 +81,7 @@ fn lay_part(
 // The bounds of an auxiliary.
 pub fn lay_bound(out: &mut [u32], s: Laid, lower: i64, upper: i64) -> Laid
     requires { ⌜ Room 10 s ⌝ }
-    ensures { λ r. ⌜ Went s r (now (out .entry)) (now (out .exit)) (bound lower upper ∷ []) × Near 10 s r ⌝ }
+    ensures { λ r. ⌜ Appends s r (now (out .entry)) (now (out .exit)) (bound lower upper ∷ []) × GrowsBy 10 s r ⌝ }
 {
     let row = [
         number_word(kind::AUXILIARY_LOWER, lower),
@@ -94,7 +94,7 @@ pub fn lay_bound(out: &mut [u32], s: Laid, lower: i64, upper: i64) -> Laid
 // The head of a row of a kind, with n terms.
 pub fn lay_head(out: &mut [u32], s: Laid, kind: u32, n: usize) -> Laid
     requires { ⌜ Room 10 s × (kind < 16) ⌝ }
-    ensures { λ r. ⌜ Went s r (now (out .entry)) (now (out .exit)) (head kind n ∷ []) × Near 10 s r ⌝ }
+    ensures { λ r. ⌜ Appends s r (now (out .entry)) (now (out .exit)) (head kind n ∷ []) × GrowsBy 10 s r ⌝ }
 {
     let row = [word_of(kind, n)];
     lay_part(out, s, &row, 0, 0, true)
@@ -103,7 +103,7 @@ pub fn lay_head(out: &mut [u32], s: Laid, kind: u32, n: usize) -> Laid
 // A term of a row.
 pub fn lay_term(out: &mut [u32], s: Laid, coefficient: i64, v: usize) -> Laid
     requires { ⌜ Room 10 s ⌝ }
-    ensures { λ r. ⌜ Went s r (now (out .entry)) (now (out .exit)) (term coefficient v ∷ []) × Near 10 s r ⌝ }
+    ensures { λ r. ⌜ Appends s r (now (out .entry)) (now (out .exit)) (term coefficient v ∷ []) × GrowsBy 10 s r ⌝ }
 {
     let row = [
         word_of(kind::VARIABLE, v),
@@ -115,7 +115,7 @@ pub fn lay_term(out: &mut [u32], s: Laid, coefficient: i64, v: usize) -> Laid
 // The constant of a row, its last word.
 pub fn lay_constant(out: &mut [u32], s: Laid, c: i64) -> Laid
     requires { ⌜ Room 10 s ⌝ }
-    ensures { λ r. ⌜ Went s r (now (out .entry)) (now (out .exit)) (constant c ∷ []) × Near 10 s r ⌝ }
+    ensures { λ r. ⌜ Appends s r (now (out .entry)) (now (out .exit)) (constant c ∷ []) × GrowsBy 10 s r ⌝ }
 {
     let row = [number_word(kind::NUMBER, c)];
     lay_part(out, s, &row, 0, 1, in_range(c))
@@ -124,7 +124,7 @@ pub fn lay_constant(out: &mut [u32], s: Laid, c: i64) -> Laid
 // A product, r := f × g.
 pub fn lay_times(out: &mut [u32], s: Laid, r: usize, f: usize, g: usize) -> Laid
     requires { ⌜ Room 10 s ⌝ }
-    ensures { λ t. ⌜ Went s t (now (out .entry)) (now (out .exit)) (times r f g ∷ []) × Near 10 s t ⌝ }
+    ensures { λ t. ⌜ Appends s t (now (out .entry)) (now (out .exit)) (times r f g ∷ []) × GrowsBy 10 s t ⌝ }
 {
     let row = [
         word_of(kind::PRODUCT, 0),
@@ -138,7 +138,7 @@ pub fn lay_times(out: &mut [u32], s: Laid, r: usize, f: usize, g: usize) -> Laid
 // The terms of given variables and coefficients.
 fn lay_given(out: &mut [u32], s: Laid, xs: &[usize], cs: &[i64]) -> Laid
     requires { ⌜ Room 1000 s × (length (now xs) ≤ 66) × (length (now cs) ≡ length (now xs)) ⌝ }
-    ensures { λ r. ⌜ Went s r (now (out .entry)) (now (out .exit)) (many (termAt (now (xs .entry)) (now (cs .entry))) (length (now (xs .entry)))) × Near 1000 s r ⌝ }
+    ensures { λ r. ⌜ Appends s r (now (out .entry)) (now (out .exit)) (many (termAt (now (xs .entry)) (now (cs .entry))) (length (now (xs .entry)))) × GrowsBy 1000 s r ⌝ }
 {
     let mut t = s;
     let mut k = 0;
@@ -167,7 +167,7 @@ fn all_in_range(cs: &[i64]) -> bool
 // A row of a kind, of given variables and coefficients.
 pub fn lay_row(out: &mut [u32], s: Laid, kind: u32, xs: &[usize], cs: &[i64], c: i64) -> Laid
     requires { ⌜ Room 2000 s × (kind < 16) × (length (now xs) ≤ 66) × (length (now cs) ≡ length (now xs)) ⌝ }
-    ensures { λ r. ⌜ Went s r (now (out .entry)) (now (out .exit)) (rowOf kind (now (xs .entry)) (now (cs .entry)) c) × Near 2000 s r ⌝ }
+    ensures { λ r. ⌜ Appends s r (now (out .entry)) (now (out .exit)) (rowPartsOf kind (now (xs .entry)) (now (cs .entry)) c) × GrowsBy 2000 s r ⌝ }
 {
     if out.len() <= s.words {
         let fit = both(all_in_range(cs), in_range(c));
@@ -181,7 +181,7 @@ pub fn lay_row(out: &mut [u32], s: Laid, kind: u32, xs: &[usize], cs: &[i64], c:
 // For the sign bit b of x, which is at most u: x + (u+1)×b − u ≤ 0.
 pub fn lay_only_negative(out: &mut [u32], s: Laid, x: usize, b: usize, u: i64) -> Laid
     requires { ⌜ Room 2000 s × (natAbs u ≤ 1152921504606846976) ⌝ }
-    ensures { λ r. ⌜ Went s r (now (out .entry)) (now (out .exit)) (rowOf Kind.atMost (x ∷ b ∷ []) (+1 ∷ (u ⊕ +1) ∷ []) (neg u)) × Near 2000 s r ⌝ }
+    ensures { λ r. ⌜ Appends s r (now (out .entry)) (now (out .exit)) (rowPartsOf Kind.atMost (x ∷ b ∷ []) (+1 ∷ (u ⊕ +1) ∷ []) (neg u)) × GrowsBy 2000 s r ⌝ }
 {
     let xs = [x, b];
     let cs = [1, plus(u, 1)];
@@ -205,7 +205,7 @@ pub fn numbers_in_range(args: &[u32], base: usize, n: usize) -> bool
 // The terms of the parallel lists whose length word is at place i.
 pub fn lay_terms(out: &mut [u32], s: Laid, args: &[u32], i: usize) -> Laid
     requires { ⌜ Room 1000 s × (i < 1000000000000) ⌝ }
-    ensures { λ r. ⌜ Went s r (now (out .entry)) (now (out .exit)) (many (sumAt (now (args .entry)) (i + 1) (past (now (args .entry)) i)) (size (now (args .entry)) i)) × Near 1000 s r ⌝ }
+    ensures { λ r. ⌜ Appends s r (now (out .entry)) (now (out .exit)) (many (sumAt (now (args .entry)) (i + 1) (past (now (args .entry)) i)) (size (now (args .entry)) i)) × GrowsBy 1000 s r ⌝ }
 {
     let n = size_at(args, i);
     let variables = past_at(args, i);
@@ -224,7 +224,7 @@ pub fn lay_terms(out: &mut [u32], s: Laid, args: &[u32], i: usize) -> Laid
 // c × each variable of the list whose length word is at place i.
 pub fn lay_each(out: &mut [u32], s: Laid, args: &[u32], i: usize, c: i64) -> Laid
     requires { ⌜ Room 1000 s × (i < 1000000000000) ⌝ }
-    ensures { λ r. ⌜ Went s r (now (out .entry)) (now (out .exit)) (many (eachAt (now (args .entry)) c (i + 1)) (size (now (args .entry)) i)) × Near 1000 s r ⌝ }
+    ensures { λ r. ⌜ Appends s r (now (out .entry)) (now (out .exit)) (many (eachAt (now (args .entry)) c (i + 1)) (size (now (args .entry)) i)) × GrowsBy 1000 s r ⌝ }
 {
     let n = size_at(args, i);
     if both(out.len() <= s.words, in_range(c)) {
@@ -242,7 +242,7 @@ pub fn lay_each(out: &mut [u32], s: Laid, args: &[u32], i: usize, c: i64) -> Lai
 // The bounds of n bits.
 pub fn lay_bits(out: &mut [u32], s: Laid, n: usize) -> Laid
     requires { ⌜ Room 1000 s × (n ≤ 66) ⌝ }
-    ensures { λ r. ⌜ Went s r (now (out .entry)) (now (out .exit)) (many bitAt n) × Near 1000 s r ⌝ }
+    ensures { λ r. ⌜ Appends s r (now (out .entry)) (now (out .exit)) (many bitAt n) × GrowsBy 1000 s r ⌝ }
 {
     if out.len() <= s.words {
         return counted(s, 2 * n, n, 0, true);
@@ -259,7 +259,7 @@ pub fn lay_bits(out: &mut [u32], s: Laid, n: usize) -> Laid
 // c × each of n consecutive variables from v on.
 pub fn lay_same(out: &mut [u32], s: Laid, c: i64, v: usize, n: usize) -> Laid
     requires { ⌜ Room 1000 s × (n ≤ 66) × (v < 1000000000000) ⌝ }
-    ensures { λ r. ⌜ Went s r (now (out .entry)) (now (out .exit)) (many (sameAt c v) n) × Near 1000 s r ⌝ }
+    ensures { λ r. ⌜ Appends s r (now (out .entry)) (now (out .exit)) (many (sameAt c v) n) × GrowsBy 1000 s r ⌝ }
 {
     if both(out.len() <= s.words, in_range(c)) {
         return counted(s, 2 * n, 0, 0, true);
@@ -276,7 +276,7 @@ pub fn lay_same(out: &mut [u32], s: Laid, c: i64, v: usize, n: usize) -> Laid
 // Consecutive numbers × consecutive variables, n of them.
 pub fn lay_labels(out: &mut [u32], s: Laid, from: i64, v: usize, n: usize) -> Laid
     requires { ⌜ Room 1000 s × (n ≤ 66) × (v < 1000000000000) × (natAbs from < 1000000000000) ⌝ }
-    ensures { λ r. ⌜ Went s r (now (out .entry)) (now (out .exit)) (many (labelAt from v) n) × Near 1000 s r ⌝ }
+    ensures { λ r. ⌜ Appends s r (now (out .entry)) (now (out .exit)) (many (labelAt from v) n) × GrowsBy 1000 s r ⌝ }
 {
     if both(
         out.len() <= s.words,
@@ -304,7 +304,7 @@ pub fn lay_products(
     n: usize,
 ) -> Laid
     requires { ⌜ Room 1000 s × (n ≤ 66) × (base < 1000000000000) × (z < 1000000000000) × (b < 1000000000000) ⌝ }
-    ensures { λ r. ⌜ Went s r (now (out .entry)) (now (out .exit)) (many (productAt (now (args .entry)) base z b) n) × Near 1000 s r ⌝ }
+    ensures { λ r. ⌜ Appends s r (now (out .entry)) (now (out .exit)) (many (productAt (now (args .entry)) base z b) n) × GrowsBy 1000 s r ⌝ }
 {
     if out.len() <= s.words {
         return counted(s, 4 * n, 0, n, true);
@@ -321,7 +321,7 @@ pub fn lay_products(
 // n rows x − m ≤ 0, x the variables from place base on.
 pub fn lay_below(out: &mut [u32], s: Laid, args: &[u32], base: usize, m: usize, n: usize) -> Laid
     requires { ⌜ Room 200000 s × (n ≤ 66) × (base < 1000000000000) ⌝ }
-    ensures { λ r. ⌜ Went s r (now (out .entry)) (now (out .exit)) (many (belowAt (now (args .entry)) base m) n) × Near 200000 s r ⌝ }
+    ensures { λ r. ⌜ Appends s r (now (out .entry)) (now (out .exit)) (many (belowAt (now (args .entry)) base m) n) × GrowsBy 200000 s r ⌝ }
 {
     if out.len() <= s.words {
         return counted(s, 6 * n, 0, n, true);
@@ -340,7 +340,7 @@ pub fn lay_below(out: &mut [u32], s: Laid, args: &[u32], base: usize, m: usize, 
 // n rows r − x ≤ 0, x the variables from place base on.
 pub fn lay_above(out: &mut [u32], s: Laid, args: &[u32], r: usize, base: usize, n: usize) -> Laid
     requires { ⌜ Room 200000 s × (n ≤ 66) × (base < 1000000000000) ⌝ }
-    ensures { λ t. ⌜ Went s t (now (out .entry)) (now (out .exit)) (many (aboveAt (now (args .entry)) r base) n) × Near 200000 s t ⌝ }
+    ensures { λ t. ⌜ Appends s t (now (out .entry)) (now (out .exit)) (many (aboveAt (now (args .entry)) r base) n) × GrowsBy 200000 s t ⌝ }
 {
     if out.len() <= s.words {
         return counted(s, 6 * n, 0, n, true);

@@ -18,8 +18,8 @@ use Rattle.rules.specs.Block.{Ref, aux, Block, numbered}
 use Rattle.rules.specs.Rule.{block, onlyNegative, zeroReified}
 use Rattle.linearsums.specs.Sum.{linearSum, equalSum}
 use Rattle.laying.specs.Part.{Part, head, term, constant, boundParts, termParts, rowParts, blockParts}
-use Rattle.laying.specs.Lists.{many, rowOf}
-use Rattle.laying.specs.Went.{Went}
+use Rattle.laying.specs.Lists.{many, rowPartsOf}
+use Rattle.laying.specs.Appends.{Appends}
 use Rattle.laying.specs.declared.Laid.{Laid}
 use Rattle.laying.proofs.Parts.{flatMap-append, went-then}
 use Rattle.laying.proofs.Lists.{terms-append}
@@ -28,7 +28,7 @@ use Rattle.linearblocks.specs.Rows.{termsReified}
 module _ (first : ℕ) where
   -- the parts of a row of terms, laid one after the other
   pub row-went : {s a b r : Laid} {o p q o′ : List ℕ} {k n : ℕ} {ps : List Part} {c : ℤ} (ts : List (Term Ref)) → length ts ≡ n → termParts first ts ≡ ps →
-      Went s a o p (head k n ∷ []) → Went a b p q ps → Went b r q o′ (constant c ∷ []) → Went s r o o′ (head k (length ts) ∷ (termParts first ts ++ (constant c ∷ [])))
+      Appends s a o p (head k n ∷ []) → Appends a b p q ps → Appends b r q o′ (constant c ∷ []) → Appends s r o o′ (head k (length ts) ∷ (termParts first ts ++ (constant c ∷ [])))
   row-went {k} {c} ts e f u v w = rw (e, f) (went-then u (went-then v w))
 
   -- a block of one row; more rows after those of a block
@@ -37,7 +37,7 @@ module _ (first : ℕ) where
   one-row q = sym (append-nil (rowParts first q))
 
   pub rows-then : {s a r : Laid} {o p q : List ℕ} (B : Block) (rs : List (Row Ref)) →
-      Went s a o p (blockParts first B) → Went a r p q (flatMap (rowParts first) rs) → Went s r o q (blockParts first (block (B .auxiliaries) (B .rows ++ rs)))
+      Appends s a o p (blockParts first B) → Appends a r p q (flatMap (rowParts first) rs) → Appends s r o q (blockParts first (block (B .auxiliaries) (B .rows ++ rs)))
   unfolding blockParts
   rows-then B rs v w = rw (flatMap-append (rowParts first) (B .rows) rs, ← append-assoc) (went-then v w)
 
@@ -48,8 +48,8 @@ module _ (first : ℕ) where
   last-term ts t e = terms-append first ts (t ∷ []) ∙ rw e
 
   -- the row of the sign bit
-  pub sign-row : (u : ℤ) → rowOf Kind.atMost (first ∷ (first + 1) ∷ []) (+1 ∷ (u ⊕ +1) ∷ []) (neg u) ≡ flatMap (rowParts first) (onlyNegative (aux 0) (aux 1) u ∷ [])
-  unfolding onlyNegative flatMap rowParts termParts numbered rowOf many
+  pub sign-row : (u : ℤ) → rowPartsOf Kind.atMost (first ∷ (first + 1) ∷ []) (+1 ∷ (u ⊕ +1) ∷ []) (neg u) ≡ flatMap (rowParts first) (onlyNegative (aux 0) (aux 1) u ∷ [])
+  unfolding onlyNegative flatMap rowParts termParts numbered rowPartsOf many
   sign-row u = rw (add-zero first)
 
 -- the words that `two_reif` lends for its three variables

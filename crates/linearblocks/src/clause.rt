@@ -13,7 +13,7 @@ ghost use Rattle.rowsystems.specs.Row.{sum=0};
 ghost use Rattle.rules.specs.Block.{aux};
 ghost use Rattle.rules.specs.Parts.{each};
 ghost use Rattle.laying.specs.Part.{rowParts, blockParts};
-ghost use Rattle.laying.specs.Went.{Went, Near};
+ghost use Rattle.laying.specs.Appends.{Appends, GrowsBy};
 ghost use Rattle.laying.specs.Room.{Room, BlockRoom};
 ghost use Rattle.linearblocks.specs.Rows.{allRow, clauseOf, andOf};
 use arguments::past_at;
@@ -41,8 +41,8 @@ fn one_less(n: usize) -> i64
 // bool_clause: −Σas+Σbs+1−m≤0, m the second list's length.
 pub fn bool_clause(out: &mut [u32], s: Laid, args: &[u32]) -> Laid
     requires { ⌜ BlockRoom s ⌝ }
-    ensures parts { λ r. ⌜ ((first : ℕ) (β : ℕ → Bounds) → Went s r (now (out .entry)) (now (out .exit)) (blockParts first (rule β (clauseOf (now (args .entry)))))) ⌝ }
-    ensures size { λ r. ⌜ Near 1000000 s r ⌝ }
+    ensures parts { λ r. ⌜ ((first : ℕ) (β : ℕ → Bounds) → Appends s r (now (out .entry)) (now (out .exit)) (blockParts first (rule β (clauseOf (now (args .entry)))))) ⌝ }
+    ensures size { λ r. ⌜ GrowsBy 1000000 s r ⌝ }
 {
     let second = past_at(args, 0);
     let m = size_at(args, second);
@@ -55,8 +55,8 @@ pub fn bool_clause(out: &mut [u32], s: Laid, args: &[u32]) -> Laid
 // Σas−r−n+1≤0
 fn lay_all(out: &mut [u32], s: Laid, args: &[u32], r: usize) -> Laid
     requires { ⌜ Room 2000 s ⌝ }
-    ensures parts { λ t. ⌜ ((first : ℕ) → Went s t (now (out .entry)) (now (out .exit)) (rowParts first (allRow (vars (now (args .entry)) 0) r))) ⌝ }
-    ensures size { λ t. ⌜ Near 2000 s t ⌝ }
+    ensures parts { λ t. ⌜ ((first : ℕ) → Appends s t (now (out .entry)) (now (out .exit)) (rowParts first (allRow (vars (now (args .entry)) 0) r))) ⌝ }
+    ensures size { λ t. ⌜ GrowsBy 2000 s t ⌝ }
 {
     let n = size_at(args, 0);
     let begun = lay_head(out, s, kind::AT_MOST, n + 1);
@@ -68,8 +68,8 @@ fn lay_all(out: &mut [u32], s: Laid, args: &[u32], r: usize) -> Laid
 // array_bool_and: each r−as_i≤0; Σas−r−n+1≤0.
 pub fn array_bool_and(out: &mut [u32], s: Laid, args: &[u32]) -> Laid
     requires { ⌜ BlockRoom s ⌝ }
-    ensures parts { λ r. ⌜ ((first : ℕ) (β : ℕ → Bounds) → Went s r (now (out .entry)) (now (out .exit)) (blockParts first (rule β (andOf (now (args .entry)))))) ⌝ }
-    ensures size { λ r. ⌜ Near 1000000 s r ⌝ }
+    ensures parts { λ r. ⌜ ((first : ℕ) (β : ℕ → Bounds) → Appends s r (now (out .entry)) (now (out .exit)) (blockParts first (rule β (andOf (now (args .entry)))))) ⌝ }
+    ensures size { λ r. ⌜ GrowsBy 1000000 s r ⌝ }
 {
     let r = var_at(args, past_at(args, 0));
     let t = lay_above(out, s, args, r, 1, size_at(args, 0));
@@ -79,7 +79,7 @@ pub fn array_bool_and(out: &mut [u32], s: Laid, args: &[u32]) -> Laid
 // Σ−2×t−1=0, t the variable `first`.
 fn lay_odd(out: &mut [u32], s: Laid, args: &[u32], first: usize) -> Laid
     requires { ⌜ Room 2000 s ⌝ }
-    ensures { λ r. ⌜ Went s r (now (out .entry)) (now (out .exit)) (rowParts first (sum=0 (each +1 (vars (now (args .entry)) 0) ++ (-2 · aux 0 ∷ [])) -1)) × Near 2000 s r ⌝ }
+    ensures { λ r. ⌜ Appends s r (now (out .entry)) (now (out .exit)) (rowParts first (sum=0 (each +1 (vars (now (args .entry)) 0) ++ (-2 · aux 0 ∷ [])) -1)) × GrowsBy 2000 s r ⌝ }
 {
     let begun = lay_head(out, s, kind::EQUAL, size_at(args, 0) + 1);
     let t = lay_each(out, begun, args, 0, 1);
@@ -90,7 +90,7 @@ fn lay_odd(out: &mut [u32], s: Laid, args: &[u32], first: usize) -> Laid
 // array_bool_xor: t from 0 to (n−1)/2: Σ−2×t−1=0.
 pub fn array_bool_xor(out: &mut [u32], s: Laid, args: &[u32], first: usize) -> Laid
     requires { ⌜ BlockRoom s ⌝ }
-    ensures { λ r. ⌜ ((β : ℕ → Bounds) → Went s r (now (out .entry)) (now (out .exit)) (blockParts first (rule β (array-bool-xor (vars (now (args .entry)) 0))))) × Near 1000000 s r ⌝ }
+    ensures { λ r. ⌜ ((β : ℕ → Bounds) → Appends s r (now (out .entry)) (now (out .exit)) (blockParts first (rule β (array-bool-xor (vars (now (args .entry)) 0))))) × GrowsBy 1000000 s r ⌝ }
 {
     let t = lay_bound(out, s, 0, half_less(size_at(args, 0)));
     lay_odd(out, t, args, first)

@@ -8,7 +8,7 @@ ghost use Rattle.builtins.specs.Coded.{linear};
 ghost use Rattle.rules.specs.Rule.{rule, zeroRows};
 ghost use Rattle.linearsums.specs.Sum.{linearSum, equalSum, Fits};
 ghost use Rattle.laying.specs.Part.{rowParts, blockParts};
-ghost use Rattle.laying.specs.Went.{Went, Near};
+ghost use Rattle.laying.specs.Appends.{Appends, GrowsBy};
 ghost use Rattle.laying.specs.Room.{Room, BlockRoom};
 ghost use Rattle.linearblocks.specs.Rows.{sizeRows, atMostRows, termsReified, twoReified, atMostReified};
 use crate::sums::larger_size;
@@ -29,7 +29,7 @@ use words::word_at;
 // int_lin_eq: Σ−c=0.
 pub fn int_lin_eq(out: &mut [u32], s: Laid, args: &[u32]) -> Laid
     requires { ⌜ BlockRoom s ⌝ }
-    ensures { λ r. ⌜ ((first : ℕ) (β : ℕ → Bounds) → Went s r (now (out .entry)) (now (out .exit)) (blockParts first (rule β (linear int-lin-eq (now (args .entry)))))) × Near 1000000 s r ⌝ }
+    ensures { λ r. ⌜ ((first : ℕ) (β : ℕ → Bounds) → Appends s r (now (out .entry)) (now (out .exit)) (blockParts first (rule β (linear int-lin-eq (now (args .entry)))))) × GrowsBy 1000000 s r ⌝ }
 {
     lay_sum(out, s, kind::EQUAL, args)
 }
@@ -37,7 +37,7 @@ pub fn int_lin_eq(out: &mut [u32], s: Laid, args: &[u32]) -> Laid
 // int_lin_le: Σ−c≤0.
 pub fn int_lin_le(out: &mut [u32], s: Laid, args: &[u32]) -> Laid
     requires { ⌜ BlockRoom s ⌝ }
-    ensures { λ r. ⌜ ((first : ℕ) (β : ℕ → Bounds) → Went s r (now (out .entry)) (now (out .exit)) (blockParts first (rule β (linear int-lin-le (now (args .entry)))))) × Near 1000000 s r ⌝ }
+    ensures { λ r. ⌜ ((first : ℕ) (β : ℕ → Bounds) → Appends s r (now (out .entry)) (now (out .exit)) (blockParts first (rule β (linear int-lin-le (now (args .entry)))))) × GrowsBy 1000000 s r ⌝ }
 {
     lay_sum(out, s, kind::AT_MOST, args)
 }
@@ -45,8 +45,8 @@ pub fn int_lin_le(out: &mut [u32], s: Laid, args: &[u32]) -> Laid
 // int_lin_ne: x in L..U, b, z in Z(x): Σ−x−c=0; z:=b×x; −x+2×z+1≤0; x+(U+1)×b−U≤0.
 pub fn int_lin_ne(out: &mut [u32], s: Laid, args: &[u32], sum: Bounds, first: usize) -> Laid
     requires { ⌜ BlockRoom s × (first < 10000) × Fits sum ⌝ }
-    ensures parts { λ r. let ws = now (args .entry) in ⌜ ((β : ℕ → Bounds) → sum ≡ linearSum β ws → Went s r (now (out .entry)) (now (out .exit)) (blockParts first (rule β (linear int-lin-ne ws)))) ⌝ }
-    ensures size { λ r. ⌜ Near 1000000 s r ⌝ }
+    ensures parts { λ r. let ws = now (args .entry) in ⌜ ((β : ℕ → Bounds) → sum ≡ linearSum β ws → Appends s r (now (out .entry)) (now (out .exit)) (blockParts first (rule β (linear int-lin-ne ws)))) ⌝ }
+    ensures size { λ r. ⌜ GrowsBy 1000000 s r ⌝ }
 {
     let lower = sum.lower;
     let upper = sum.upper;
@@ -69,7 +69,7 @@ fn lay_size(
     first: usize,
 ) -> Laid
     requires { ⌜ Room 10000 s × (first < 10000) ⌝ }
-    ensures { λ t. ⌜ Went s t (now (out .entry)) (now (out .exit)) (flatMap (rowParts first) (sizeRows r p q u v)) × Near 10000 s t ⌝ }
+    ensures { λ t. ⌜ Appends s t (now (out .entry)) (now (out .exit)) (flatMap (rowParts first) (sizeRows r p q u v)) × GrowsBy 10000 s t ⌝ }
 {
     let xs = [first, first + 2, r];
     let cs = [1, -2, p];
@@ -81,7 +81,7 @@ fn lay_size(
 // x−2×z+W×r−W≤0; −x+2×z−r+1≤0. Where it is not `equal`: x−2×z−W×r≤0; −x+2×z+r≤0.
 fn lay_zero(out: &mut [u32], s: Laid, w: i64, r: usize, first: usize, equal: bool) -> Laid
     requires { ⌜ Room 10000 s × (first < 10000) × (natAbs w ≤ 1152921504606846976) ⌝ }
-    ensures { λ t. ⌜ Went s t (now (out .entry)) (now (out .exit)) (flatMap (rowParts first) (zeroRows equal w r)) × Near 10000 s t ⌝ }
+    ensures { λ t. ⌜ Appends s t (now (out .entry)) (now (out .exit)) (flatMap (rowParts first) (zeroRows equal w r)) × GrowsBy 10000 s t ⌝ }
 {
     let less = opposite(w);
     if equal {
@@ -100,8 +100,8 @@ pub fn zero_reif(
     equal: bool,
 ) -> Laid
     requires { ⌜ BlockRoom s × (first < 10000) × Fits sum ⌝ }
-    ensures parts { λ r. let ws = now (args .entry) in ⌜ ((β : ℕ → Bounds) → sum ≡ linearSum β ws → Went s r (now (out .entry)) (now (out .exit)) (blockParts first (termsReified β equal ws))) ⌝ }
-    ensures size { λ r. ⌜ Near 1000000 s r ⌝ }
+    ensures parts { λ r. let ws = now (args .entry) in ⌜ ((β : ℕ → Bounds) → sum ≡ linearSum β ws → Appends s r (now (out .entry)) (now (out .exit)) (blockParts first (termsReified β equal ws))) ⌝ }
+    ensures size { λ r. ⌜ GrowsBy 1000000 s r ⌝ }
 {
     let lower = sum.lower;
     let upper = sum.upper;
@@ -122,8 +122,8 @@ pub fn two_reif(
     equal: bool,
 ) -> Laid
     requires { ⌜ BlockRoom s × (first < 10000) × Fits sum ⌝ }
-    ensures parts { λ r. let ws = now (args .entry) in ⌜ ((β : ℕ → Bounds) → sum ≡ equalSum β ws → Went s r (now (out .entry)) (now (out .exit)) (blockParts first (twoReified β equal ws))) ⌝ }
-    ensures size { λ r. ⌜ Near 1000000 s r ⌝ }
+    ensures parts { λ r. let ws = now (args .entry) in ⌜ ((β : ℕ → Bounds) → sum ≡ equalSum β ws → Appends s r (now (out .entry)) (now (out .exit)) (blockParts first (twoReified β equal ws))) ⌝ }
+    ensures size { λ r. ⌜ GrowsBy 1000000 s r ⌝ }
 {
     let a = word_at(args, 0);
     let b = word_at(args, 1);
@@ -136,7 +136,7 @@ pub fn two_reif(
 // x+U×r−U≤0; −x+(L−1)×r+1≤0, x the variable `first`.
 fn lay_at_most(out: &mut [u32], s: Laid, lower: i64, upper: i64, r: usize, first: usize) -> Laid
     requires { ⌜ Room 10000 s × (first < 10000) × (natAbs lower ≤ 1152921504606846976) × (natAbs upper ≤ 1152921504606846976) ⌝ }
-    ensures { λ t. ⌜ Went s t (now (out .entry)) (now (out .exit)) (flatMap (rowParts first) (atMostRows lower upper r)) × Near 10000 s t ⌝ }
+    ensures { λ t. ⌜ Appends s t (now (out .entry)) (now (out .exit)) (flatMap (rowParts first) (atMostRows lower upper r)) × GrowsBy 10000 s t ⌝ }
 {
     let xs = [first, r];
     let cs = [1, upper];
@@ -148,8 +148,8 @@ fn lay_at_most(out: &mut [u32], s: Laid, lower: i64, upper: i64, r: usize, first
 // int_lin_le_reif: x in L..U: Σ−x−c=0; x+U×r−U≤0; −x+(L−1)×r+1≤0.
 pub fn int_lin_le_reif(out: &mut [u32], s: Laid, args: &[u32], sum: Bounds, first: usize) -> Laid
     requires { ⌜ BlockRoom s × (first < 10000) × Fits sum ⌝ }
-    ensures parts { λ r. let ws = now (args .entry) in ⌜ ((β : ℕ → Bounds) → sum ≡ linearSum β ws → Went s r (now (out .entry)) (now (out .exit)) (blockParts first (atMostReified β ws))) ⌝ }
-    ensures size { λ r. ⌜ Near 1000000 s r ⌝ }
+    ensures parts { λ r. let ws = now (args .entry) in ⌜ ((β : ℕ → Bounds) → sum ≡ linearSum β ws → Appends s r (now (out .entry)) (now (out .exit)) (blockParts first (atMostReified β ws))) ⌝ }
+    ensures size { λ r. ⌜ GrowsBy 1000000 s r ⌝ }
 {
     let lower = sum.lower;
     let upper = sum.upper;

@@ -6,7 +6,7 @@ ghost use lib.IntN.{natAbs};
 ghost use Rattle.integers.specs.Number.{neg, maxZ, absZ};
 ghost use Rattle.models.specs.Model.{num, pastTerms};
 ghost use Rattle.laying.specs.Part.{constant, rowParts, blockParts};
-ghost use Rattle.laying.specs.Went.{Went, Near};
+ghost use Rattle.laying.specs.Appends.{Appends, GrowsBy};
 ghost use Rattle.laying.specs.Room.{Room, BlockRoom};
 ghost use Rattle.linearblocks.specs.Rows.{link, split, slack, sumParts};
 use arguments::num_at;
@@ -51,7 +51,7 @@ fn constant_of(args: &[u32]) -> i64
 // The constant of a row, the opposite of the constant after the terms.
 fn lay_minus_constant(out: &mut [u32], s: Laid, args: &[u32]) -> Laid
     requires { ⌜ Room 10 s ⌝ }
-    ensures { λ r. ⌜ Went s r (now (out .entry)) (now (out .exit)) (constant (neg (num (now (args .entry)) (pastTerms (now (args .entry)) 0))) ∷ []) × Near 10 s r ⌝ }
+    ensures { λ r. ⌜ Appends s r (now (out .entry)) (now (out .exit)) (constant (neg (num (now (args .entry)) (pastTerms (now (args .entry)) 0))) ∷ []) × GrowsBy 10 s r ⌝ }
 {
     lay_constant(out, s, opposite(constant_of(args)))
 }
@@ -59,8 +59,8 @@ fn lay_minus_constant(out: &mut [u32], s: Laid, args: &[u32]) -> Laid
 // A row of a kind: Σ−c.
 pub fn lay_sum(out: &mut [u32], s: Laid, kind: u32, args: &[u32]) -> Laid
     requires { ⌜ Room 2000 s × (kind < 16) ⌝ }
-    ensures parts { λ r. ⌜ ((first : ℕ) → Went s r (now (out .entry)) (now (out .exit)) (sumParts kind first (now (args .entry)))) ⌝ }
-    ensures size { λ r. ⌜ Near 2000 s r ⌝ }
+    ensures parts { λ r. ⌜ ((first : ℕ) → Appends s r (now (out .entry)) (now (out .exit)) (sumParts kind first (now (args .entry)))) ⌝ }
+    ensures size { λ r. ⌜ GrowsBy 2000 s r ⌝ }
 {
     let begun = lay_head(out, s, kind, size_at(args, 0));
     let t = lay_terms(out, begun, args, 0);
@@ -70,7 +70,7 @@ pub fn lay_sum(out: &mut [u32], s: Laid, kind: u32, args: &[u32]) -> Laid
 // Σ−x−c=0
 pub fn lay_link(out: &mut [u32], s: Laid, args: &[u32], first: usize) -> Laid
     requires { ⌜ Room 2000 s ⌝ }
-    ensures { λ r. ⌜ Went s r (now (out .entry)) (now (out .exit)) (rowParts first (link (now (args .entry)))) × Near 2000 s r ⌝ }
+    ensures { λ r. ⌜ Appends s r (now (out .entry)) (now (out .exit)) (rowParts first (link (now (args .entry)))) × GrowsBy 2000 s r ⌝ }
 {
     let begun = lay_head(out, s, kind::EQUAL, size_at(args, 0) + 1);
     let t = lay_terms(out, begun, args, 0);
@@ -88,7 +88,7 @@ pub fn lay_slack(
     first: usize,
 ) -> Laid
     requires { ⌜ BlockRoom s ⌝ }
-    ensures { λ r. ⌜ Went s r (now (out .entry)) (now (out .exit)) (blockParts first (slack (now (args .entry)) lower upper)) × Near 10000 s r ⌝ }
+    ensures { λ r. ⌜ Appends s r (now (out .entry)) (now (out .exit)) (blockParts first (slack (now (args .entry)) lower upper)) × GrowsBy 10000 s r ⌝ }
 {
     let t = lay_bound(out, s, lower, upper);
     lay_link(out, t, args, first)
@@ -104,7 +104,7 @@ pub fn lay_split(
     first: usize,
 ) -> Laid
     requires { ⌜ BlockRoom s × (first < 10000) ⌝ }
-    ensures { λ r. ⌜ Went s r (now (out .entry)) (now (out .exit)) (blockParts first (split (now (args .entry)) lower upper)) × Near 10000 s r ⌝ }
+    ensures { λ r. ⌜ Appends s r (now (out .entry)) (now (out .exit)) (blockParts first (split (now (args .entry)) lower upper)) × GrowsBy 10000 s r ⌝ }
 {
     let x = lay_bound(out, s, lower, upper);
     let b = lay_bound(out, x, 0, 1);

@@ -15,7 +15,7 @@ use Rattle.words.specs.Small.{Near}
 use Rattle.words.specs.Word.{payload, wordAt}
 use Rattle.models.specs.Model.{var, num, size, past, pastTerms}
 use Rattle.rules.specs.Parts.{L, U}
-use Rattle.extremes.specs.Bounded.{boundsOf}
+use Rattle.extremes.specs.Bounded.{boundsOf, Bounded}
 use Rattle.linearsums.specs.Sum.{noSum, ofTerms, ofTwo, formOf}
 
 module _ (ws : List ℕ) where
@@ -87,3 +87,16 @@ BoundsNear Bs = (v : ℕ) → Near (boundsIn Bs v .lower) × Near (boundsIn Bs v
 -- 0 and 0 from the v-th variable on
 abbrev pub NoneFrom : (ℕ → Bounds) → ℕ → Type 0
 NoneFrom β v = (x : ℕ) → v ≤ x → β x ≡ (+0 to +0)
+
+-- what working out the sums of n constraints wants: few words, heads among them, bounds of so many variables, and two lists of 256
+abbrev pub Summable : List ℕ → List ℕ → ℕ → List ℤ → List ℤ → ℕ → List ℤ → List ℤ → Type 0
+Summable ws hs n ls us v lows highs =
+    (length ws < 1099511627776)
+    × (n ≤ 256)
+    × HeadsInside ws hs n
+    × (v ≤ 256)
+    × NoneFrom (boundsOf ls us) v
+    × Bounded ls
+    × Bounded us
+    × (length lows ≡ 256)
+    × (length highs ≡ 256)

@@ -7,9 +7,9 @@ ghost use Rattle.integers.specs.Choice.{_if_else_};
 ghost use Rattle.integers.specs.Number.{_⊕_, _⊖_, _⊗_, minZ, maxZ, +0};
 ghost use Rattle.integers.specs.Bounds.{_to_, boundsIn};
 ghost use Rattle.words.specs.Small.{Near};
-ghost use Rattle.extremes.specs.Bounded.{boundsOf, Bounded};
+ghost use Rattle.extremes.specs.Bounded.{boundsOf};
 ghost use Rattle.linearsums.specs.Sum.{formOf};
-ghost use Rattle.linearsums.specs.Places.{codeBefore, formBefore, sumSize, sumNumber, sumVariable, sumConstant, sumBounds, withTerm, BoundsNear, HeadsInside, NoneFrom, noSums, sumsUpTo, SumsKept};
+ghost use Rattle.linearsums.specs.Places.{codeBefore, formBefore, sumSize, sumNumber, sumVariable, sumConstant, sumBounds, withTerm, BoundsNear, HeadsInside, NoneFrom, noSums, sumsUpTo, SumsKept, Summable};
 use arguments::num_at;
 use arguments::past_at;
 use arguments::past_terms_at;
@@ -277,7 +277,7 @@ pub fn model_sums(
     lows: &mut [i64],
     highs: &mut [i64],
 )
-    requires { ⌜ (length (now ws) < 1099511627776) × (n ≤ 256) × HeadsInside (now ws) (now heads) n × (variables ≤ 256) × NoneFrom (boundsOf (now ls) (now us)) variables × Bounded (now ls) × Bounded (now us) × (length (now lows) ≡ 256) × (length (now highs) ≡ 256) ⌝ }
+    requires { ⌜ Summable (now ws) (now heads) n (now ls) (now us) variables (now lows) (now highs) ⌝ }
     ensures { λ r. ⌜ SumsKept (now (lows .exit)) (now (highs .exit)) n (sumsUpTo (now (ws .entry)) (now (heads .entry)) (boundsOf (now (ls .entry)) (now (us .entry))) n) ⌝ }
 {
     let sums = lend_bounds(ws, heads, n, records_of(ls, us, variables));

@@ -11,7 +11,7 @@ use Rattle.models.specs.Reading.{faultNumberIn, faultVariable, faultArgumentIn,
 use Rattle.models.specs.InRange.{faultNumber, faultCount}
 use Rattle.models.specs.declared.Due.the-variants.{Arguments}
 use Rattle.models.proofs.Sound.{Plain, plain, is-number, is-variable, is-count}
-use Rattle.modelreading.specs.Onward.{Went, stepOver, argumentsFrom, NumbersRead, VariablesRead}
+use Rattle.modelreading.specs.Onward.{StepsTo, stepOver, argumentsFrom, NumbersRead, VariablesRead}
 use Rattle.modelreading.proofs.Steps.{step, and-then, or-halted, over-fault}
 
 module _ (ws ts : List ℕ) (c at : ℕ) (h : at ≤ length ws) where
@@ -31,29 +31,29 @@ module _ (ws ts : List ℕ) (c at : ℕ) (h : at ≤ length ws) where
   plain-count most e = plain (is-count w most e .0) (omega arith) (omega arith)
 
   -- of a list
-  pub a-number : (n l type code k : ℕ) → 0 < n → Went ws ts c (Arguments n l type code k) at (Arguments (n - 1) l type code k) (stepOver (faultNumber w) at)
+  pub a-number : (n l type code k : ℕ) → 0 < n → StepsTo ws ts c (Arguments n l type code k) at (Arguments (n - 1) l type code k) (stepOver (faultNumber w) at)
   unfolding faultEnd faultDueIn afterDue
   a-number n l type code k p = step h refl plain-number (rw (lt-ltb 0 n p)) (rw (lt-ltb 0 n p))
 
-  pub a-variable : (n type code k : ℕ) → 0 < n → Went ws ts c (Arguments 0 n type code k) at (Arguments 0 (n - 1) type code k) (stepOver (faultVariable t type w) at)
+  pub a-variable : (n type code k : ℕ) → 0 < n → StepsTo ws ts c (Arguments 0 n type code k) at (Arguments 0 (n - 1) type code k) (stepOver (faultVariable t type w) at)
   unfolding faultEnd faultDueIn afterDue
   a-variable n type code k p = step h refl (plain-variable type) (rw (lt-ltb 0 n p)) (rw (lt-ltb 0 n p))
 
   -- of an argument
   module _ (arg code k : ℕ) (e : arg ≡ argument code k) where
-    pub one-variable : 1 ≤ arg → arg < 3 → Went ws ts c (argumentsFrom code k) at (argumentsFrom code (k + 1)) (stepOver (faultVariable t arg w) at)
+    pub one-variable : 1 ≤ arg → arg < 3 → StepsTo ws ts c (argumentsFrom code k) at (argumentsFrom code (k + 1)) (stepOver (faultVariable t arg w) at)
     unfolding faultEnd faultDueIn afterDue faultArgumentIn afterArgument
     one-variable l m = step h refl (plain-variable arg) (rw (← e, ne-eqb arg 0 (λ z. omega arith), lt-ltb arg 3 m)) (rw (← e, ne-eqb arg 0 (λ z. omega arith), le-leb arg 4 (omega arith)))
 
-    pub one-number : arg ≡ 3 → Went ws ts c (argumentsFrom code k) at (argumentsFrom code (k + 1)) (stepOver (faultNumber w) at)
+    pub one-number : arg ≡ 3 → StepsTo ws ts c (argumentsFrom code k) at (argumentsFrom code (k + 1)) (stepOver (faultNumber w) at)
     unfolding faultEnd faultDueIn afterDue faultArgumentIn afterArgument
     one-number l = step h refl plain-number (rw (← e, l)) (rw (← e, l))
 
-    pub one-exponent : arg ≡ 4 → Went ws ts c (argumentsFrom code k) at (argumentsFrom code (k + 1)) (stepOver (faultCount 27 w) at)
+    pub one-exponent : arg ≡ 4 → StepsTo ws ts c (argumentsFrom code k) at (argumentsFrom code (k + 1)) (stepOver (faultCount 27 w) at)
     unfolding faultEnd faultDueIn afterDue faultArgumentIn afterArgument
     one-exponent l = step h refl (plain-count 27) (rw (← e, l)) (rw (← e, l))
 
-    pub a-length : 5 ≤ arg → Went ws ts c (argumentsFrom code k) at (afterArgument arg code (k + 1) w) (stepOver (faultCount 32 w) at)
+    pub a-length : 5 ≤ arg → StepsTo ws ts c (argumentsFrom code k) at (afterArgument arg code (k + 1) w) (stepOver (faultCount 32 w) at)
     unfolding faultEnd faultDueIn afterDue faultArgumentIn
     a-length l = step h refl (plain-count 32) (rw (← e, ne-eqb arg 0 (λ z. omega arith), le-ltb arg 3 (omega arith), ne-eqb arg 3 (λ z. omega arith), ne-eqb arg 4 (λ z. omega arith))) (rw (← e, ne-eqb arg 0 (λ z. omega arith)))
 

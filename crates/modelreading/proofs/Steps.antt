@@ -18,7 +18,7 @@ use Rattle.models.specs.declared.Due.{Due}
 use Rattle.models.proofs.Sound.{Plain}
 use Rattle.models.proofs.Constraints.{starts-none}
 use Rattle.modelreading.specs.declared.items.Step.{Step}
-use Rattle.modelreading.specs.Onward.{onward, stopped, resumed, Skipped, Went, stepOver}
+use Rattle.modelreading.specs.Onward.{onward, stopped, resumed, Skipped, StepsTo, stepOver}
 use Rattle.modelreading.proofs.Onward.{faultAt, here, go-on, stop-at}
 
 -- ---- a step over a word, by its fault
@@ -74,11 +74,11 @@ skip-one ws at l h = record {
 -- ---- one word
 
 pub step : {ws ts : List ℕ} {due to : Due} {c at f : ℕ} → at ≤ length ws → faultEnd due ≡ Fault.wordsEnd → (f ≡ 0 → Plain (wordAt ws at)) →
-    f ≡ faultAt ws ts due c at → afterDue due (wordAt ws at) ≡ to → Went ws ts c due at to (stepOver f at)
+    f ≡ faultAt ws ts due c at → afterDue due (wordAt ws at) ≡ to → StepsTo ws ts c due at to (stepOver f at)
 unfolding stepOver resumed
 step {ws} {ts} {due} {to} {c} {at} {f} h d p e a = go (eqb f Fault.none) refl
   where
-    go : (b : Bool) → eqb f Fault.none ≡ b → Went ws ts c due at to (record { number = f; at = at + 1 } if b else record { number = f; at = at })
+    go : (b : Bool) → eqb f Fault.none ≡ b → StepsTo ws ts c due at to (record { number = f; at = at + 1 } if b else record { number = f; at = at })
     go true t =
         let z : 0 ≡ faultAt ws ts due c at = sym (eqb-true f Fault.none t) ∙ e in
         let q = p (eqb-true f Fault.none t) in
@@ -94,13 +94,13 @@ step {ws} {ts} {due} {to} {c} {at} {f} h d p e a = go (eqb f Fault.none) refl
     go false t = record { reads = stop-at ws ts due c at f d e (eqb-false f Fault.none t) ∙ rw t; on = omega arith; inside = h; skipped = skip-none ws at }
 
 -- no word
-pub no-word : {ws ts : List ℕ} {due : Due} {c at : ℕ} → at ≤ length ws → Went ws ts c due at due (record { number = Fault.none; at = at })
+pub no-word : {ws ts : List ℕ} {due : Due} {c at : ℕ} → at ≤ length ws → StepsTo ws ts c due at due (record { number = Fault.none; at = at })
 unfolding resumed
 no-word {ws} {ts} {due} {c} {at} h = record { reads = refl; on = omega arith; inside = h; skipped = skip-none ws at }
 
 -- ---- one step after another
 
-module _ {ws ts : List ℕ} {c : ℕ} {a b : Due} {at : ℕ} {r : Step} (g : Went ws ts c a at b r) where
+module _ {ws ts : List ℕ} {c : ℕ} {a b : Due} {at : ℕ} {r : Step} (g : StepsTo ws ts c a at b r) where
   pub gone : r .number ≡ 0 → onward a ts c at ws ≡ onward b ts c (r .at) ws
   unfolding resumed
   gone z = g .reads ∙ rw (eq-eqb (r .number) 0 z)
@@ -109,7 +109,7 @@ module _ {ws ts : List ℕ} {c : ℕ} {a b : Due} {at : ℕ} {r : Step} (g : Wen
   unfolding resumed
   halted z = g .reads ∙ rw (ne-eqb (r .number) 0 z)
 
-  pub and-then : {d : Due} {s : Step} → r .number ≡ 0 → Went ws ts c b (r .at) d s → Went ws ts c a at d s
+  pub and-then : {d : Due} {s : Step} → r .number ≡ 0 → StepsTo ws ts c b (r .at) d s → StepsTo ws ts c a at d s
   and-then z k = record {
     reads = gone z ∙ k .reads;
     on = omega (arith, g .on, k .on);
@@ -120,15 +120,15 @@ module _ {ws ts : List ℕ} {c : ℕ} {a b : Due} {at : ℕ} {r : Step} (g : Wen
     };
   }
 
-  pub or-halted : {d : Due} → (r .number ≡ 0 → ⊥) → Went ws ts c a at d r
+  pub or-halted : {d : Due} → (r .number ≡ 0 → ⊥) → StepsTo ws ts c a at d r
   unfolding resumed
   or-halted z = record { reads = halted z ∙ rw (ne-eqb (r .number) 0 z); on = g .on; inside = g .inside; skipped = g .skipped }
 
-  pub clean : r .number ≡ 0 → Went ws ts c a at b (record { number = 0; at = r .at })
+  pub clean : r .number ≡ 0 → StepsTo ws ts c a at b (record { number = 0; at = r .at })
   unfolding resumed
   clean z = record { reads = gone z; on = g .on; inside = g .inside; skipped = g .skipped }
 
   -- what is due next may be told otherwise
-  pub to-alike : {d : Due} → onward b ts c (r .at) ws ≡ onward d ts c (r .at) ws → Went ws ts c a at d r
+  pub to-alike : {d : Due} → onward b ts c (r .at) ws ≡ onward d ts c (r .at) ws → StepsTo ws ts c a at d r
   unfolding resumed
   to-alike {d} e = record { reads = g .reads ∙ rw e; on = g .on; inside = g .inside; skipped = g .skipped }

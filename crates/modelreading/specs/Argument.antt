@@ -4,11 +4,11 @@ use Prim.Native.Nat.{ℕ, zero, suc}
 use Rattle.models.specs.Shape as Shape
 use Rattle.models.specs.Shape.{shapes}
 
--- the arguments of each code, filled up with none to three
-abbrev pub filled : ℕ → List ℕ → List ℕ
-filled zero xs = []
-filled (suc n) [] = Shape.none ∷ filled n []
-filled (suc n) (x ∷ xs) = x ∷ filled n xs
+-- the arguments of each code, padded up with none to three
+abbrev pub padded : ℕ → List ℕ → List ℕ
+padded zero xs = []
+padded (suc n) [] = Shape.none ∷ padded n []
+padded (suc n) (x ∷ xs) = x ∷ padded n xs
 
 unfoldable pub table : List (List ℕ)
-table = map (filled 3) shapes
+table = map (padded 3) shapes

@@ -37,7 +37,7 @@ pub record Skipped (ws : List ℕ) (at to : ℕ) : Type 0 where
   pub same-constraints : constraintsFrom at (drop at ws) ≡ constraintsFrom to (drop to ws)
 
 -- the step r leads from what is due at a place to what is due at a later one, or to the first fault
-pub record Went (ws ts : List ℕ) (c : ℕ) (from : Due) (at : ℕ) (to : Due) (r : Step) : Type 0 where
+pub record StepsTo (ws ts : List ℕ) (c : ℕ) (from : Due) (at : ℕ) (to : Due) (r : Step) : Type 0 where
   pub reads : onward from ts c at ws ≡ resumed to ts c ws r
   pub on : at ≤ r .at
   pub inside : r .at ≤ length ws
@@ -68,16 +68,16 @@ heads = argumentsFrom 0 0
 
 -- r is past the numbers of a list but for the last `left` of them; past its variables, of a type; past a list after its length word w; past an argument; past all arguments of a code
 abbrev pub NumbersRead : List ℕ → ℕ → ℕ → ℕ → Step → Type 0
-NumbersRead ws n at left r = (ts : List ℕ) (c l type code k : ℕ) → Went ws ts c (Arguments n l type code k) at (Arguments left l type code k) r
+NumbersRead ws n at left r = (ts : List ℕ) (c l type code k : ℕ) → StepsTo ws ts c (Arguments n l type code k) at (Arguments left l type code k) r
 
 abbrev pub VariablesRead : List ℕ → List ℕ → ℕ → ℕ → ℕ → ℕ → Step → Type 0
-VariablesRead ws ts type n at left r = (c code k : ℕ) → Went ws ts c (Arguments 0 n type code k) at (Arguments 0 left type code k) r
+VariablesRead ws ts type n at left r = (c code k : ℕ) → StepsTo ws ts c (Arguments 0 n type code k) at (Arguments 0 left type code k) r
 
 abbrev pub ListRead : List ℕ → List ℕ → ℕ → ℕ → ℕ → Step → Type 0
-ListRead ws ts arg n at r = (c code k w : ℕ) → n ≡ payload w → Went ws ts c (afterArgument arg code k w) at (argumentsFrom code k) r
+ListRead ws ts arg n at r = (c code k w : ℕ) → n ≡ payload w → StepsTo ws ts c (afterArgument arg code k w) at (argumentsFrom code k) r
 
 abbrev pub ArgumentRead : List ℕ → List ℕ → ℕ → ℕ → Step → Type 0
-ArgumentRead ws ts arg at r = (c code k : ℕ) → arg ≡ argument code k → Went ws ts c (argumentsFrom code k) at (argumentsFrom code (k + 1)) r
+ArgumentRead ws ts arg at r = (c code k : ℕ) → arg ≡ argument code k → StepsTo ws ts c (argumentsFrom code k) at (argumentsFrom code (k + 1)) r
 
 abbrev pub ArgumentsRead : List ℕ → List ℕ → ℕ → ℕ → Step → Type 0
-ArgumentsRead ws ts code at r = (c : ℕ) → Went ws ts c (argumentsFrom code 0) at heads r
+ArgumentsRead ws ts code at r = (c : ℕ) → StepsTo ws ts c (argumentsFrom code 0) at heads r

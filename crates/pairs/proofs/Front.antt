@@ -5,9 +5,9 @@ use Prim.Native.Nat.{ℕ, _≤_}
 use native.Mathlib.Omega.{arith}
 use lib.ListN.{length, take}
 use Rattle.words.proofs.Overlay.{front-over}
-use Rattle.pairs.specs.Copied.{Laid}
+use Rattle.pairs.specs.Copied.{ModelCopied}
 
-module _ {model : List ℕ} {n : ℕ} {out later : List ℕ} (h : Laid model n out later) where
+module _ {model : List ℕ} {n : ℕ} {out later : List ℕ} (h : ModelCopied model n out later) where
   pub front-fits : n ≤ 8192
   front-fits = omega (arith, h .count, h .fits)
 

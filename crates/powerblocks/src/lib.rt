@@ -5,7 +5,7 @@ ghost use Rattle.words.specs.Small as Small;
 ghost use Rattle.models.specs.Builtin.{int-pow};
 ghost use Rattle.rules.specs.Rule.{rule};
 ghost use Rattle.laying.specs.Part.{blockParts};
-ghost use Rattle.laying.specs.Went.{WentFitting, Near};
+ghost use Rattle.laying.specs.Appends.{AppendsFitting, GrowsBy};
 ghost use Rattle.laying.specs.Room.{Room, BlockRoom};
 ghost use Rattle.extremes.specs.Bounded.{boundsOf, Bounded};
 ghost use Rattle.powerblocks.specs.Cut.{cutRanges};
@@ -115,7 +115,7 @@ pub fn int_pow(
     first: usize,
 ) -> Laid
     requires { ⌜ BlockRoom s × (first < 10000) × (k ≤ 27) × Bounded (now ls) × Bounded (now us) ⌝ }
-    ensures { λ r. let β = boundsOf (now (ls .entry)) (now (us .entry)) in ⌜ WentFitting s r (now (out .entry)) (now (out .exit)) (blockParts first (rule β (int-pow x k z))) × Near 30000 s r ⌝ }
+    ensures { λ r. let β = boundsOf (now (ls .entry)) (now (us .entry)) in ⌜ AppendsFitting s r (now (out .entry)) (now (out .exit)) (blockParts first (rule β (int-pow x k z))) × GrowsBy 30000 s r ⌝ }
 {
     if k == 0 {
         let xs = [z];

@@ -4,7 +4,7 @@ use mathlib.Core.List.{List, [], _∷_, _++_, flatMap}
 use Prim.Native.Nat.{ℕ}
 use Rattle.integers.specs.Lists.{listOf, any}
 use Rattle.words.specs.Word.{kind, payload, signed, word}
-use Rattle.decimals.specs.Decimal.{digits, decimal, numeral}
+use Rattle.decimals.specs.Decimal.{lastDigits, decimal, numeral}
 use Rattle.models.specs.Shape.{shapes, argument}
 use Rattle.models.specs.Reading.{after, afterDue, afterHead, afterArgument, declared, started}
 use Rattle.tokens.specs.Byte.{bytes}
@@ -24,5 +24,5 @@ ws = word 1 268435453 ∷ word 2 3 ∷ word 3 0 ∷ word 1 0 ∷ word 2 12 ∷
     word 7 0 ∷ []
 
 test : modelText ws ≡ bytes "var -3..3: x0;" ++ (10 ∷ bytes "var bool: x1;" ++ (10 ∷ bytes "var 0..12: x2;" ++ (10 ∷ bytes "constraint int_lin_eq([1,-2],[x0,x2],3);" ++ (10 ∷ bytes "constraint int_lin_le_reif([],[],3,x1);" ++ (10 ∷ bytes "constraint set_in_reif(x0,{5,7},x1);" ++ (10 ∷ bytes "constraint set_in(x0,{});" ++ (10 ∷ bytes "constraint int_pow(x0,2,x2);" ++ (10 ∷ bytes "constraint array_bool_xor([x1]);" ++ (10 ∷ bytes "constraint bool_clause([],[x1]);" ++ (10 ∷ bytes "solve satisfy;" ++ (10 ∷ [])))))))))))
-unfolding ws bytes listOf any kind payload signed word digits decimal numeral shapes argument after afterDue afterHead afterArgument declared started builtinNames argumentForms inText flatMap variableName builtinName bracket takesSet opened closed argumentEnd numbersEnd variablesEnd argumentText headText wordText textFrom modelText
+unfolding ws bytes listOf any kind payload signed word lastDigits decimal numeral shapes argument after afterDue afterHead afterArgument declared started builtinNames argumentForms inText flatMap variableName builtinName bracket takesSet opened closed argumentEnd numbersEnd variablesEnd argumentText headText wordText textFrom modelText
 test = refl

@@ -15,7 +15,7 @@ use Rattle.words.specs.Word.{payload, signed, word, complement, numberWord}
 use Rattle.words.specs.Limit as Limit
 use Rattle.words.proofs.Word.{payload-below}
 use Rattle.decimals.specs.Decimal as Decimal
-use Rattle.decimals.specs.Decimal.{digits, numeral}
+use Rattle.decimals.specs.Decimal.{lastDigits, numeral}
 use Rattle.decimals.proofs.Digits.{decimal-length}
 use Rattle.tokens.specs.Byte.{bytes, front, between, isLetter, inName, isDigit, isGap}
 use Rattle.tokens.specs.Token.{tokensFrom}
@@ -24,7 +24,7 @@ use Rattle.grammar.specs.Value.{digitsFrom, valueOf}
 use Rattle.printing.specs.ModelText.{variableName}
 use Rattle.printing.proofs.Spelled.{token, both-true, digit-range, spelled-name, spelled-digits, spelled-minus}
 
--- ---- digits
+-- ---- lastDigits
 
 all-append : (t : ℕ → Bool) (xs ys : List ℕ) → all t xs ≡ true → all t ys ≡ true → all t (xs ++ ys) ≡ true
 unfolding all
@@ -35,13 +35,13 @@ one-digit : (d : ℕ) → d < 10 → all isDigit ((48 + d) ∷ []) ≡ true
 unfolding all isDigit between
 one-digit d h = rw (le-leb 48 (48 + d) (omega arith), le-leb (48 + d) 57 (omega arith))
 
-digits-are : (k n : ℕ) → all isDigit (digits k n) ≡ true
-unfolding digits all
+digits-are : (k n : ℕ) → all isDigit (lastDigits k n) ≡ true
+unfolding lastDigits all
 digits-are zero n = refl
 digits-are (suc k) n = go (ltb 9 n) (digits-are k (n / 10))
   where
-    go : (b : Bool) → all isDigit (digits k (n / 10)) ≡ true → all isDigit ((digits k (n / 10) if b else []) ++ ((48 + n % 10) ∷ [])) ≡ true
-    go true h = all-append isDigit (digits k (n / 10)) _ h (one-digit (n % 10) (omega arith))
+    go : (b : Bool) → all isDigit (lastDigits k (n / 10)) ≡ true → all isDigit ((lastDigits k (n / 10) if b else []) ++ ((48 + n % 10) ∷ [])) ≡ true
+    go true h = all-append isDigit (lastDigits k (n / 10)) _ h (one-digit (n % 10) (omega arith))
     go false h = one-digit (n % 10) (omega arith)
 
 pub decimal-digits : (n : ℕ) → all isDigit (Decimal.decimal n) ≡ true
@@ -49,8 +49,8 @@ unfolding Decimal.decimal
 decimal-digits n = digits-are (suc n) n
 
 pub decimal-some : (n : ℕ) → 1 ≤ length (Decimal.decimal n)
-unfolding Decimal.decimal digits
-decimal-some n = omega (arith, length-append (digits n (n / 10) if ltb 9 n else []) ((48 + n % 10) ∷ []))
+unfolding Decimal.decimal lastDigits
+decimal-some n = omega (arith, length-append (lastDigits n (n / 10) if ltb 9 n else []) ((48 + n % 10) ∷ []))
 
 pub numeral-some : (z : ℤ) → 1 ≤ length (numeral z)
 unfolding numeral
@@ -68,14 +68,14 @@ digit-back : (n d : ℕ) → digitsFrom n ((48 + d) ∷ []) ≡ n * 10 + d
 unfolding digitsFrom
 digit-back n d = omega arith
 
-digits-back : (k n : ℕ) → n < k → digitsFrom 0 (digits k n) ≡ n
-unfolding digits
+digits-back : (k n : ℕ) → n < k → digitsFrom 0 (lastDigits k n) ≡ n
+unfolding lastDigits
 digits-back zero n h = absurd (omega arith)
 digits-back (suc k) n h = by (ltb 9 n) refl (digits-back k (n / 10))
   where
-    by : (t : Bool) → ltb 9 n ≡ t → (n / 10 < k → digitsFrom 0 (digits k (n / 10)) ≡ n / 10) → digitsFrom 0 ((digits k (n / 10) if t else []) ++ ((48 + n % 10) ∷ [])) ≡ n
+    by : (t : Bool) → ltb 9 n ≡ t → (n / 10 < k → digitsFrom 0 (lastDigits k (n / 10)) ≡ n / 10) → digitsFrom 0 ((lastDigits k (n / 10) if t else []) ++ ((48 + n % 10) ∷ [])) ≡ n
     by true e more =
-        decimal-append 0 (digits k (n / 10)) ((48 + n % 10) ∷ [])
+        decimal-append 0 (lastDigits k (n / 10)) ((48 + n % 10) ∷ [])
         ∙ rw (more (omega (arith, ltb-true))) (digit-back (n / 10) (n % 10) ∙ omega arith)
     by false e more = digit-back 0 (n % 10) ∙ omega (arith, ltb-false)
 
@@ -177,7 +177,7 @@ found (suc n) i h = by (ltb i n) refl (found n i)
         look-append (variableName i) 0 (named n) (variableName n ∷ [])
         ∙ rw (not-found n i (omega (arith, ltb-false i n e)), same-number, name-same n) (omega (arith, named-length n))
 
--- a name has letters and digits, at most 4
+-- a name has letters and lastDigits, at most 4
 digit-in-name : (ds : List ℕ) → all isDigit ds ≡ true → all inName ds ≡ true
 unfolding all inName
 digit-in-name [] h = refl

@@ -26,7 +26,7 @@ use Rattle.rowsystems.specs.declared.Due.the-variants.{Item}
 use Rattle.rowreading.specs.Onward.{onward, Placed}
 use Rattle.rules.specs.Block.{Block, blockWords}
 use Rattle.laying.specs.Part.{blockParts}
-use Rattle.laying.specs.Went.{WentFitting, Near, nothing}
+use Rattle.laying.specs.Appends.{AppendsFitting, GrowsBy, nothing}
 use Rattle.laying.specs.declared.Laid.{Laid}
 use Rattle.laying.proofs.Blocks.{block-words, block-outside}
 use Rattle.blocks.proofs.OneBlock.{told}
@@ -39,7 +39,7 @@ in-range : (t : Bool) → not t ≡ false → t ≡ true
 in-range true e = refl
 in-range false e = sym e
 
-pub fronted : {first : ℕ} {B : Block} {r : Laid} {o o₁ o₂ : List ℕ} → ReadsBack first B → 2801 ≤ length o → WentFitting nothing r o o₁ (blockParts first B) → Near 1000000 nothing r →
+pub fronted : {first : ℕ} {B : Block} {r : Laid} {o o₁ o₂ : List ℕ} → ReadsBack first B → 2801 ≤ length o → AppendsFitting nothing r o o₁ (blockParts first B) → GrowsBy 1000000 nothing r →
     o₂ ≡ overlay o₁ (r .words) (word Kind.rowsEnd 0 ∷ []) → Front first B r o₂
 fronted {first} {B} {r} {o} {o₁} {o₂} d h w n e =
     let t = told w in

@@ -34,7 +34,7 @@ use Rattle.sharing.proofs.Satisfied.{keeps-bounds}
 use Rattle.sharing.proofs.Shared.{agrees, all-fit, all-plain, none-held}
 use Rattle.sharing.proofs.Theorem.{typed, plain, well-formed}
 use Rattle.reasons.specs.Reason.{Reason, because, explained, answerOr, reasonFault, reason}
-use Rattle.reasons.specs.Behind.{At, rowsBefore, sources, completed, Behind}
+use Rattle.reasons.specs.Behind.{At, rowsBefore, sourceValues, completed, Behind}
 use Rattle.reasons.proofs.Judged.{explained-rows, explained-constraints, same-row}
 use Rattle.reasons.proofs.Found.{at-member, at-map, found}
 use Rattle.reasons.proofs.Completed.{Holds, picks-hold, one-differs}
@@ -64,7 +64,7 @@ module _ (x : Reason) (K J : ℕ) (b : Bool) where
       go true h e = (eqb-true _ _ h, e)
       go false h e = let z : _≡_ {A = ℕ} 0 1 = cc in absurd (omega arith)
 
--- values that keep all bounds: the sources keep theirs
+-- values that keep all bounds: the sourceValues keep theirs
 sources-kept : (Vs As : List Bounds) (vs : List ℤ) → firstOutOfBounds (value vs) 0 (Vs ++ As) holds ≡ holds → Keeps Vs (value (take (length Vs) vs))
 unfolding judge firstFalse value boundsIn
 sources-kept Vs As vs h =
@@ -84,7 +84,7 @@ module _ (ws : List ℕ) (passes : Passes ws) (vs : List ℤ) where
 
   -- the source values; fill's values
   abbrev σ : Valuation
-  σ = value (sources ws vs)
+  σ = value (sourceValues ws vs)
 
   abbrev τ : Valuation
   τ = value (completed ws vs)
@@ -97,8 +97,8 @@ module _ (ws : List ℕ) (passes : Passes ws) (vs : List ℤ) where
   fill-holds : n ≤ length vs → Keeps (variables ws) σ → All (Holds σ τ) (explained ws) × ((v : ℕ) → v < n → τ v ≡ σ v)
   unfolding explained bounds picks
   fill-holds l k =
-      let xs = picks ws (sources ws vs) in
-      let a = agrees n (sources ws vs) xs (length-take-le n vs l) in
+      let xs = picks ws (sourceValues ws vs) in
+      let a = agrees n (sourceValues ws vs) xs (length-take-le n vs l) in
       let β = boundsIn (variables ws) in
       let t = typed ws passes in
       let f : From n τ (value (xs ++ [])) = rw (append-nil xs) (a .after) in (

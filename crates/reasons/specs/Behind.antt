@@ -36,11 +36,11 @@ unfoldable pub rowsBefore : List ℕ → ℕ → ℕ
 rowsBefore ws j = length (flatMap (λ x. x .rows) (take j (explained ws)))
 
 -- the source values, and what fill picks for the auxiliaries
-abbrev pub sources : List ℕ → List ℤ → List ℤ
-sources ws vs = take (length (variables ws)) vs
+abbrev pub sourceValues : List ℕ → List ℤ → List ℤ
+sourceValues ws vs = take (length (variables ws)) vs
 
 abbrev pub completed : List ℕ → List ℤ → List ℤ
-completed ws vs = sources ws vs ++ picks ws (sources ws vs)
+completed ws vs = sourceValues ws vs ++ picks ws (sourceValues ws vs)
 
 -- a variable is an auxiliary, of whichever block, and its value is not the one that fill picks
 abbrev pub wrong : List ℕ → List ℤ → ℕ → Bool
@@ -58,6 +58,6 @@ pub record Behind (ws : List ℕ) (vs : List ℤ) (k j : ℕ) (true-of-sources :
   pub from : rowsBefore ws j ≤ k
   pub before : k < rowsBefore ws (j + 1)
   -- "that builtin is false of the source values, or true"
-  pub said : true-of-sources ≡ meaning (value (sources ws vs)) (builtin constraint)
+  pub said : true-of-sources ≡ meaning (value (sourceValues ws vs)) (builtin constraint)
   -- ".., and auxiliaries in the row are wrong"
   pub auxiliaries : true-of-sources ≡ true → any (wrong ws vs) (rowVariables row) ≡ true

@@ -22,7 +22,7 @@ use Rattle.words.specs.Variables.{startsPair, variables}
 use Rattle.words.specs.Word.{kind, signed, wordAt}
 use Rattle.words.specs.declared.Refusal.{Refusal}
 use Rattle.words.proofs.Word.{between-near, signed-near}
-use Rattle.variables.specs.Start.{starts, boundsOf}
+use Rattle.variables.specs.Start.{starts, pairBounds}
 use Rattle.variables.proofs.Walk.{at-none, at-one, at-last}
 use Rattle.rowsystems.specs.Row.{Row, satisfied}
 use Rattle.rowsystems.specs.RowSystem.{rows}
@@ -96,8 +96,8 @@ variable-no-row w s = go (eqb (kind w) Kind.lower) (eqb (kind w) Kind.auxiliaryL
     go false false false f g h t = false-true t
 
 -- a value within its bounds is no farther from 0 than signed payloads are
-kept-near : (w u : ℕ) (v : ℤ) → within (boundsOf w u) v ≡ true → Near v
-unfolding boundsOf
+kept-near : (w u : ℕ) (v : ℤ) → within (pairBounds w u) v ≡ true → Near v
+unfolding pairBounds
 kept-near w u v e = go (startsPair w) e
   where
     go : (b : Bool) → within ((signed w to signed u) if b else bit) v ≡ true → Near v
@@ -115,7 +115,7 @@ module _ {ws : List ℕ} {vs : List ℤ} {before start first n k : ℕ} {all : B
   abbrev w : ℕ
   w = wordAt ws at
 
-  pub variable-judged : {b : ℕ} → starts w ≡ true → n + 1 ≤ length vs → within (boundsOf w (wordAt ws (at + 1))) (value vs n) ≡ true →
+  pub variable-judged : {b : ℕ} → starts w ≡ true → n + 1 ≤ length vs → within (pairBounds w (wordAt ws (at + 1))) (value vs n) ≡ true →
       Plain ws (at + 1) b → at + 1 ≤ b → b ≤ length ws → Judging ws vs before start first (n + 1) k all wrong b
   unfolding wordAt firstOutOfBounds
   variable-judged s f e p l m =
@@ -129,7 +129,7 @@ module _ {ws : List ℕ} {vs : List ℤ} {before start first n k : ℕ} {all : B
       p l m
 
   -- a value out of its bounds is what is named
-  pub outside : starts w ≡ true → within (boundsOf w (wordAt ws (at + 1))) (value vs n) ≡ false → outOfBounds n ≡ judgedOn ws vs before start first
+  pub outside : starts w ≡ true → within (pairBounds w (wordAt ws (at + 1))) (value vs n) ≡ false → outOfBounds n ≡ judgedOn ws vs before start first
   unfolding wordAt firstOutOfBounds
   outside s e = rw (at-one ws at h s, e) at (j .told)
 

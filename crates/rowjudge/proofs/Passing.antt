@@ -25,8 +25,8 @@ use Rattle.rowsystems.specs.Row.{product, satisfied}
 use Rattle.rowsystems.specs.RowSystem.{numberAt, variableAt, termsIn, constantIn, termCount}
 use Rattle.rowsystems.specs.declared.Due.{Due}
 use Rattle.rowsystems.specs.declared.Due.the-variants as due
-use Rattle.rowreading.specs.Item.{faultHead}
-use Rattle.rowreading.specs.Onward.{startsKind, Plain, isEnded, resumed, stepOver, Went}
+use Rattle.rowreading.specs.Item.{faultAtHead}
+use Rattle.rowreading.specs.Onward.{startsKind, Plain, isEnded, resumed, stepOver, StepsTo}
 use Rattle.rowreading.specs.declared.items.Step.{Step}
 use Rattle.rowreading.proofs.Heads.{head-here, head-halted, head-on}
 use Rattle.rowreading.proofs.Steps.{or-false, or-halted}
@@ -58,9 +58,9 @@ plain-from ws a b e p j l h = go (eqb a j) refl
     go true q = rw (← eqb-true a j q) e
     go false q = p j (omega (arith, eqb-false a j q)) h
 
-module _ (ws : List ℕ) (s : Bool) (n at w f : ℕ) (q : w ≡ wordAt ws at) (e : f ≡ faultHead s n w) where
-  head : f ≡ faultHead s n (wordAt ws at)
-  head = e ∙ ap (faultHead s n) q
+module _ (ws : List ℕ) (s : Bool) (n at w f : ℕ) (q : w ≡ wordAt ws at) (e : f ≡ faultAtHead s n w) where
+  head : f ≡ faultAtHead s n (wordAt ws at)
+  head = e ∙ ap (faultAtHead s n) q
 
   pub head-there : f ≡ 0 → at < length ws
   head-there z = head-here ws s n at f head z
@@ -77,7 +77,7 @@ module _ (ws : List ℕ) (s : Bool) (n at w f : ℕ) (q : w ≡ wordAt ws at) (e
         last = λ i j l k. absurd (omega arith);
       }
 
-  pub head-then : {to : Due} {m : ℕ} {r : Step} → f ≡ 0 → m ≡ n + started w → Went ws m (afterDue due.Source w) (at + 1) to r → ItemPassed ws s n at to m r
+  pub head-then : {to : Due} {m : ℕ} {r : Step} → f ≡ 0 → m ≡ n + started w → StepsTo ws m (afterDue due.Source w) (at + 1) to r → ItemPassed ws s n at to m r
   head-then {to} {m} {r} z k g =
       record {
         reads = head-on ws s n at f head z ∙ rw (← q, ← k) (g .reads);
@@ -128,8 +128,8 @@ module _ (w : ℕ) (t : startsSum w ≡ true) where
   unfolding startsRow
   sum-row = ⊎-elim (λ k. rw k) (λ k. rw k) (sum-kind w t)
 
-  pub sum-fault : (s : Bool) (n : ℕ) → faultHead s n w ≡ (Fault.lengthOutside if ltb Limit.terms (payload w) else Fault.none)
-  unfolding faultHead faultSource faultItem
+  pub sum-fault : (s : Bool) (n : ℕ) → faultAtHead s n w ≡ (Fault.lengthOutside if ltb Limit.terms (payload w) else Fault.none)
+  unfolding faultAtHead faultSource faultItem
   sum-fault true n = ⊎-elim (λ k. rw k) (λ k. rw k) (sum-kind w t)
   sum-fault false n = ⊎-elim (λ k. rw k) (λ k. rw k) (sum-kind w t)
 
@@ -151,8 +151,8 @@ unfolding afterDue afterItem
 product-due w k = rw k
 
 -- where no variable, row or product starts, the end does
-pub end-due : (s : Bool) (n w : ℕ) → starts w ≡ false → startsSum w ≡ false → (kind w ≡ Kind.product → ⊥) → 0 ≡ faultHead s n w → afterDue due.Source w ≡ due.Ended
-unfolding starts startsPair startsSum faultHead faultSource faultItem afterDue afterItem
+pub end-due : (s : Bool) (n w : ℕ) → starts w ≡ false → startsSum w ≡ false → (kind w ≡ Kind.product → ⊥) → 0 ≡ faultAtHead s n w → afterDue due.Source w ≡ due.Ended
+unfolding starts startsPair startsSum faultAtHead faultSource faultItem afterDue afterItem
 end-due s n w v u p e =
     let a = or-false (eqb (kind w) Kind.lower || eqb (kind w) Kind.auxiliaryLower) (eqb (kind w) Kind.boolean) v in
     let b = or-false (eqb (kind w) Kind.lower) (eqb (kind w) Kind.auxiliaryLower) (a .0) in
@@ -161,7 +161,7 @@ end-due s n w v u p e =
   where
     go : eqb (kind w) Kind.lower ≡ false → eqb (kind w) Kind.boolean ≡ false → eqb (kind w) Kind.auxiliaryLower ≡ false →
         eqb (kind w) Kind.atMost ≡ false → eqb (kind w) Kind.equal ≡ false → eqb (kind w) Kind.product ≡ false →
-        (t : Bool) → eqb (kind w) Kind.rowsEnd ≡ t → (s : Bool) → 0 ≡ faultHead s n w → afterDue due.Source w ≡ due.Ended
+        (t : Bool) → eqb (kind w) Kind.rowsEnd ≡ t → (s : Bool) → 0 ≡ faultAtHead s n w → afterDue due.Source w ≡ due.Ended
     go f g h i j k true t s e = rw (f, g, h, k, t)
     go f g h i j k false t true e = absurd (omega (arith, (rw (f, g, h, i, j, k, t) at e)))
     go f g h i j k false t false e = absurd (omega (arith, (rw (h, i, j, k, t) at e)))
@@ -207,13 +207,13 @@ declared-result n w f g e = named n w (Fault.resultNotAbove if notAbove w f g el
 
 -- ---- steps
 
-pub step-halts : {ws : List ℕ} {n p at f : ℕ} {a b c : Due} → Went ws n a p b (stepOver f at) → (f ≡ 0 → ⊥) → Went ws n a p c (record { number = f; at = at })
+pub step-halts : {ws : List ℕ} {n p at f : ℕ} {a b c : Due} → StepsTo ws n a p b (stepOver f at) → (f ≡ 0 → ⊥) → StepsTo ws n a p c (record { number = f; at = at })
 unfolding stepOver
 step-halts {f = f} g z = or-halted (rw (ne-eqb f 0 z) at g) z
 
-pub step-goes : {ws : List ℕ} {n p f : ℕ} {a b : Due} (at : ℕ) → Went ws n a p b (stepOver f at) → f ≡ 0 → Went ws n a p b (record { number = 0; at = at + 1 })
+pub step-goes : {ws : List ℕ} {n p f : ℕ} {a b : Due} (at : ℕ) → StepsTo ws n a p b (stepOver f at) → f ≡ 0 → StepsTo ws n a p b (record { number = 0; at = at + 1 })
 unfolding stepOver
 step-goes at g z = rw z at g
 
-pub as-step : {ws : List ℕ} {n p q : ℕ} {a b : Due} {r : Step} → Went ws n a p b r → r .number ≡ 0 → r .at ≡ q → Went ws n a p b (record { number = 0; at = q })
+pub as-step : {ws : List ℕ} {n p q : ℕ} {a b : Due} {r : Step} → StepsTo ws n a p b r → r .number ≡ 0 → r .at ≡ q → StepsTo ws n a p b (record { number = 0; at = q })
 as-step g z e = rw (← z, ← e) g

@@ -8,8 +8,8 @@ use lib.IntN.{ℤ}
 use lib.ListN.{length, drop}
 use lib.Signed.{leZ}
 use Rattle.integers.specs.Choice.{_if_else_}
-use Rattle.integers.specs.Number.{_==_, +0}
-use Rattle.integers.specs.Terms.{value}
+use Rattle.integers.specs.Number.{_⊕_, _==_, +0}
+use Rattle.integers.specs.Terms.{value, sum}
 use Rattle.words.specs.Answer.{Answer}
 use Rattle.words.specs.Fault as Fault
 use Rattle.words.specs.Judge.{firstFalse, firstOutOfBounds}
@@ -19,7 +19,7 @@ use Rattle.words.specs.Variables.{variables}
 use Rattle.words.specs.Verdict.{verdict}
 use Rattle.words.specs.Word.{kind}
 use Rattle.rowsystems.specs.Row.{satisfied}
-use Rattle.rowsystems.specs.RowSystem.{rows}
+use Rattle.rowsystems.specs.RowSystem.{rows, termsIn, constantIn}
 use Rattle.rowsystems.specs.declared.Due.{Due}
 use Rattle.rowreading.specs.Item.{startDue}
 use Rattle.rowreading.specs.Onward.{onward, resumed, Plain}
@@ -34,6 +34,10 @@ stepOf r = record { number = r .number; at = r .at }
 -- the values of the variables read so far are there, no farther from 0 than signed payloads are
 abbrev pub ValuesKnown : List ℤ → ℕ → Type 0
 ValuesKnown vs n = (n ≤ length vs) × ((x : ℕ) → x < n → Near (value vs x))
+
+-- what n terms at the front of words and the constant after them add up to
+abbrev pub rowTotal : List ℤ → List ℕ → ℕ → ℤ
+rowTotal vs ws n = sum (value vs) (termsIn ws n) ⊕ constantIn ws n
 
 -- whether a row with this head is true whose terms and constant add up to a number
 unfoldable pub isTrue : ℕ → ℤ → Bool

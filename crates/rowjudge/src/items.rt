@@ -5,19 +5,18 @@ ghost use Prim.Native.Nat.{_+_, _*_, _<_, _≤_};
 ghost use lib.Dec.{eqb};
 ghost use lib.ListN.{length, drop};
 ghost use Rattle.integers.specs.Bounds.{_to_, within};
-ghost use Rattle.integers.specs.Number.{_⊕_};
-ghost use Rattle.integers.specs.Terms.{value, sum};
+ghost use Rattle.integers.specs.Terms.{value};
 ghost use Rattle.words.specs.Kind as Kind;
 ghost use Rattle.words.specs.Limit as Limit;
 ghost use Rattle.words.specs.Word.{kind, payload, signed, wordAt};
-ghost use Rattle.variables.specs.Start.{starts, boundsOf};
+ghost use Rattle.variables.specs.Start.{starts, pairBounds};
 ghost use Rattle.rowsystems.specs.Reading.{faultUpper};
 ghost use Rattle.rowsystems.specs.Row.{product, satisfied};
-ghost use Rattle.rowsystems.specs.RowSystem.{variableAt, termsIn, constantIn};
+ghost use Rattle.rowsystems.specs.RowSystem.{variableAt};
 ghost use Rattle.rowreading.specs.Item.{startDue};
-ghost use Rattle.rowreading.specs.Onward.{Placed, Went, stepOver};
+ghost use Rattle.rowreading.specs.Onward.{Placed, StepsTo, stepOver};
 ghost use Rattle.rowsystems.specs.OneWord.{startsSum, startsRow, rowOf};
-ghost use Rattle.rowjudge.specs.Passing.{stepOf, ValuesKnown, isTrue, ItemPassed};
+ghost use Rattle.rowjudge.specs.Passing.{stepOf, ValuesKnown, isTrue, ItemPassed, rowTotal};
 use integers::equal;
 use integers::plus;
 use integers::times;
@@ -82,7 +81,7 @@ fn see_upper(ws: &[u32], k: u32, lower: u32, at: usize, v: i64) -> Seen
 pub fn see_variable(ws: &[u32], sources: bool, head: u32, n: usize, at: usize, v: i64) -> Seen
     requires { ⌜ Placed (now ws) at × (head ≡ wordAt (now ws) at) × (starts head ≡ true) ⌝ }
     ensures step { λ r. ⌜ ItemPassed (now (ws .entry)) sources n at (startDue (not (eqb (kind head) Kind.auxiliaryLower))) (n + 1) (stepOf r) ⌝ }
-    ensures truth { λ r. ⌜ (r .number ≡ 0 → r .holds ≡ within (boundsOf head (wordAt (now (ws .entry)) (at + 1))) v) ⌝ }
+    ensures truth { λ r. ⌜ (r .number ≡ 0 → r .holds ≡ within (pairBounds head (wordAt (now (ws .entry)) (at + 1))) v) ⌝ }
 {
     let number = fault_start(sources, n, head);
     if number != fault::NONE {
@@ -124,8 +123,8 @@ fn known_value(values: &[i32], x: usize) -> i64
 // The terms and the constant of a row, all of which are there.
 fn see_terms(ws: &[u32], head: u32, n: usize, start: usize, values: &[i32]) -> Seen
     requires { ⌜ Placed (now ws) start × ValuesKnown (now values) n × (payload head ≤ Limit.terms) × (start + 2 * payload head < length (now ws)) ⌝ }
-    ensures step { λ r. ⌜ Went (now (ws .entry)) n (Due.Terms (payload head)) start Due.Item (stepOf r) ⌝ }
-    ensures truth { λ r. let row = drop start (now (ws .entry)) in ⌜ (r .number ≡ 0 → r .holds ≡ isTrue head (sum (value (now (values .entry))) (termsIn row (payload head)) ⊕ constantIn row (payload head))) ⌝ }
+    ensures step { λ r. ⌜ StepsTo (now (ws .entry)) n (Due.Terms (payload head)) start Due.Item (stepOf r) ⌝ }
+    ensures truth { λ r. ⌜ (r .number ≡ 0 → r .holds ≡ isTrue head (rowTotal (now (values .entry)) (drop start (now (ws .entry))) (payload head))) ⌝ }
 {
     let terms = payload_of(head);
     let mut at = start;
@@ -162,7 +161,7 @@ fn see_terms(ws: &[u32], head: u32, n: usize, start: usize, values: &[i32]) -> S
 // The fault of a row in which the words end.
 fn see_cut(ws: &[u32], n: usize, start: usize, terms: usize) -> Seen
     requires { ⌜ Placed (now ws) start × (length (now ws) ≤ start + 2 * terms) ⌝ }
-    ensures { λ r. ⌜ Went (now (ws .entry)) n (Due.Terms terms) start Due.Item (stepOf r) × (r .number ≡ 0 → ⊥) ⌝ }
+    ensures { λ r. ⌜ StepsTo (now (ws .entry)) n (Due.Terms terms) start Due.Item (stepOf r) × (r .number ≡ 0 → ⊥) ⌝ }
 {
     let mut at = start;
     let mut left = terms;
@@ -181,7 +180,8 @@ fn see_cut(ws: &[u32], n: usize, start: usize, terms: usize) -> Seen
 // A row.
 fn see_row(ws: &[u32], sources: bool, head: u32, n: usize, at: usize, values: &[i32]) -> Seen
     requires { ⌜ Placed (now ws) at × (head ≡ wordAt (now ws) at) × ValuesKnown (now values) n × (startsSum head ≡ true) ⌝ }
-    ensures { λ r. ⌜ ItemPassed (now (ws .entry)) sources n at Due.Item n (stepOf r) × (r .number ≡ 0 → r .holds ≡ satisfied (value (now (values .entry))) (rowOf head (drop (at + 1) (now (ws .entry))))) ⌝ }
+    ensures step { λ r. ⌜ ItemPassed (now (ws .entry)) sources n at Due.Item n (stepOf r) ⌝ }
+    ensures truth { λ r. ⌜ (r .number ≡ 0 → r .holds ≡ satisfied (value (now (values .entry))) (rowOf head (drop (at + 1) (now (ws .entry))))) ⌝ }
 {
     let number = fault_row(head);
     if number != fault::NONE {
@@ -197,7 +197,7 @@ fn see_row(ws: &[u32], sources: bool, head: u32, n: usize, at: usize, values: &[
 // The result and the two factors of a product.
 fn see_factors(ws: &[u32], n: usize, at: usize, values: &[i32]) -> Seen
     requires { ⌜ Placed (now ws) at × ValuesKnown (now values) n ⌝ }
-    ensures step { λ r. ⌜ Went (now (ws .entry)) n Due.Result at Due.Item (stepOf r) ⌝ }
+    ensures step { λ r. ⌜ StepsTo (now (ws .entry)) n Due.Result at Due.Item (stepOf r) ⌝ }
     ensures truth { λ r. let v = variableAt (now (ws .entry)) in ⌜ (r .number ≡ 0 → r .holds ≡ satisfied (value (now (values .entry))) (product (v at) (v (at + 1)) (v (at + 2)))) ⌝ }
 {
     let r = word_at(ws, at);

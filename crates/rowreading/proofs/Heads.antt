@@ -18,14 +18,14 @@ use Rattle.rowsystems.specs.declared.Due.the-variants as due
 use Rattle.rowreading.specs.declared.items.Item.{Item}
 use Rattle.rowreading.specs.declared.items.Item.the-variants.{Variable, Boolean, Auxiliary, Row, Product, End}
 use Rattle.rowreading.specs.declared.items.Step.{Step}
-use Rattle.rowreading.specs.Item.{startDue, faultHead, dueWith, itemTerms, dueAfter}
-use Rattle.rowreading.specs.Onward.{onward, stopped, Went}
+use Rattle.rowreading.specs.Item.{startDue, faultAtHead, dueWith, itemTerms, dueAfter}
+use Rattle.rowreading.specs.Onward.{onward, stopped, StepsTo}
 use Rattle.rowreading.proofs.Onward.{faultAt, here, go-on, stop-at}
 
 -- ---- the head
 
-head-fault : (s : Bool) (n w : ℕ) (l : List ℕ) → faultHead s n w ≡ faultDue (startDue s) n w l
-unfolding faultHead startDue faultDue
+head-fault : (s : Bool) (n w : ℕ) (l : List ℕ) → faultAtHead s n w ≡ faultDue (startDue s) n w l
+unfolding faultAtHead startDue faultDue
 head-fault true n w l = refl
 head-fault false n w l = refl
 
@@ -38,8 +38,8 @@ unfolding faultItem
 not-source n w e = (not-kind Kind.lower n w (λ q. rw q) e, not-kind Kind.boolean n w (λ q. rw q) e)
 
 -- by the kind of a word that starts a variable
-pub auxiliary-head : (s : Bool) (n w : ℕ) → kind w ≡ Kind.auxiliaryLower → faultHead s n w ≡ faultLower n w
-unfolding faultHead faultSource faultItem
+pub auxiliary-head : (s : Bool) (n w : ℕ) → kind w ≡ Kind.auxiliaryLower → faultAtHead s n w ≡ faultLower n w
+unfolding faultAtHead faultSource faultItem
 auxiliary-head true n w k = rw k
 auxiliary-head false n w k = rw k
 
@@ -47,20 +47,20 @@ pub boolean-kind : (w : ℕ) → starts w ≡ true → (kind w ≡ Kind.lower �
 unfolding starts startsPair
 boolean-kind w s f g = eqb-true (kind w) Kind.boolean (rw (ne-eqb (kind w) Kind.lower f, ne-eqb (kind w) Kind.auxiliaryLower g) at s)
 
-pub no-source-head : (n w : ℕ) → starts w ≡ true → (kind w ≡ Kind.auxiliaryLower → ⊥) → faultHead false n w ≡ Fault.wrongKind
-unfolding faultHead faultItem
+pub no-source-head : (n w : ℕ) → starts w ≡ true → (kind w ≡ Kind.auxiliaryLower → ⊥) → faultAtHead false n w ≡ Fault.wrongKind
+unfolding faultAtHead faultItem
 no-source-head n w s f = go (eqb (kind w) Kind.lower) refl
   where
     go : (b : Bool) → eqb (kind w) Kind.lower ≡ b → faultItem n w ≡ Fault.wrongKind
     go true e = rw (eqb-true (kind w) Kind.lower e)
     go false e = rw (boolean-kind w s (eqb-false (kind w) Kind.lower e) f)
 
-after-head : (s : Bool) (n w : ℕ) → 0 ≡ faultHead s n w → afterDue (startDue s) w ≡ afterDue due.Source w
-unfolding faultHead startDue afterDue
+after-head : (s : Bool) (n w : ℕ) → 0 ≡ faultAtHead s n w → afterDue (startDue s) w ≡ afterDue due.Source w
+unfolding faultAtHead startDue afterDue
 after-head true n w e = refl
 after-head false n w e = rw (not-source n w e .0, not-source n w e .1)
 
-module _ (ws : List ℕ) (s : Bool) (n at f : ℕ) (e : f ≡ faultHead s n (wordAt ws at)) where
+module _ (ws : List ℕ) (s : Bool) (n at f : ℕ) (e : f ≡ faultAtHead s n (wordAt ws at)) where
   at-head : f ≡ faultAt ws (startDue s) n at
   at-head = e ∙ head-fault s n (wordAt ws at) _
 
@@ -88,7 +88,7 @@ started-few w = bit-le (startsPair w || eqb (kind w) Kind.boolean)
 
 -- an item with terms left is a row, and a term read leaves one less
 pub term-gone : {ws : List ℕ} {n at : ℕ} {r : Step} (item : Item) (left : ℕ) → 0 < left → left ≤ itemTerms item →
-    ((k : ℕ) → Went ws n (due.Terms (suc k)) at (due.Terms k) r) → Went ws n (dueWith item left) at (dueWith item (left - 1)) r
+    ((k : ℕ) → StepsTo ws n (due.Terms (suc k)) at (due.Terms k) r) → StepsTo ws n (dueWith item left) at (dueWith item (left - 1)) r
 unfolding dueWith itemTerms
 term-gone (Variable lower) left h k g = absurd (omega arith)
 term-gone Boolean left h k g = absurd (omega arith)

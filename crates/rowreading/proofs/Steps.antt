@@ -20,7 +20,7 @@ use Rattle.rowsystems.specs.Reading.{faultUpper, faultVariable, faultNumber, no
 use Rattle.rowsystems.specs.declared.Due.{Due}
 use Rattle.rowsystems.specs.declared.Due.the-variants.{Source, SourceUpper, Item, AuxiliaryUpper, Terms, Coefficient, Result, FirstFactor, SecondFactor, Ended}
 use Rattle.rowreading.specs.declared.items.Step.{Step}
-use Rattle.rowreading.specs.Onward.{onward, stopped, resumed, startsKind, isEnded, Went, stepOver}
+use Rattle.rowreading.specs.Onward.{onward, stopped, resumed, startsKind, isEnded, StepsTo, stepOver}
 use Rattle.rowreading.proofs.Onward.{faultAt, here, go-on, stop-at}
 
 -- ---- a step over a word without a fault leads to the next place
@@ -140,11 +140,11 @@ last-here Ended n w l i e = refl
 -- ---- one word
 
 pub step : {ws : List ℕ} {due to : Due} {n at f : ℕ} → T (inner due) → at ≤ length ws →
-    f ≡ faultAt ws due n at → afterDue due (wordAt ws at) ≡ to → Went ws n due at to (stepOver f at)
+    f ≡ faultAt ws due n at → afterDue due (wordAt ws at) ≡ to → StepsTo ws n due at to (stepOver f at)
 unfolding stepOver resumed
 step {ws} {due} {to} {n} {at} {f} i h e a = go (eqb f Fault.none) refl
   where
-    go : (b : Bool) → eqb f Fault.none ≡ b → Went ws n due at to (record { number = f; at = at + 1 } if b else record { number = f; at = at })
+    go : (b : Bool) → eqb f Fault.none ≡ b → StepsTo ws n due at to (record { number = f; at = at + 1 } if b else record { number = f; at = at })
     go true t =
         let z : 0 ≡ faultAt ws due n at = sym (eqb-true f Fault.none t) ∙ e in
         record {
@@ -161,7 +161,7 @@ step {ws} {due} {to} {n} {at} {f} i h e a = go (eqb f Fault.none) refl
 
 -- ---- one step after another
 
-module _ {ws : List ℕ} {n : ℕ} {a b : Due} {at : ℕ} {r : Step} (g : Went ws n a at b r) where
+module _ {ws : List ℕ} {n : ℕ} {a b : Due} {at : ℕ} {r : Step} (g : StepsTo ws n a at b r) where
   pub gone : r .number ≡ 0 → onward a n at ws ≡ onward b n (r .at) ws
   unfolding resumed
   gone z = g .reads ∙ rw (eq-eqb (r .number) 0 z)
@@ -171,7 +171,7 @@ module _ {ws : List ℕ} {n : ℕ} {a b : Due} {at : ℕ} {r : Step} (g : Went w
   halted z = g .reads ∙ rw (ne-eqb (r .number) 0 z)
 
   -- where what is due between is not the end
-  pub and-then : {c : Due} {s : Step} → isEnded b ≡ false → r .number ≡ 0 → Went ws n b (r .at) c s → Went ws n a at c s
+  pub and-then : {c : Due} {s : Step} → isEnded b ≡ false → r .number ≡ 0 → StepsTo ws n b (r .at) c s → StepsTo ws n a at c s
   and-then {c} {s} d z k =
       record {
         reads = gone z ∙ k .reads;
@@ -185,7 +185,7 @@ module _ {ws : List ℕ} {n : ℕ} {a b : Due} {at : ℕ} {r : Step} (g : Went w
       both j l h true e = g .plain j l (ltb-true _ _ e)
       both j l h false e = k .plain j (ltb-false _ _ e) h
 
-  pub or-halted : {c : Due} → (r .number ≡ 0 → ⊥) → Went ws n a at c r
+  pub or-halted : {c : Due} → (r .number ≡ 0 → ⊥) → StepsTo ws n a at c r
   unfolding resumed
   or-halted z = record { reads = halted z ∙ rw (ne-eqb (r .number) 0 z); on = g .on; inside = g .inside; plain = g .plain; last = g .last }
 

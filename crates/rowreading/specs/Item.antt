@@ -13,8 +13,8 @@ unfoldable pub startDue : Bool → Due
 startDue sources = due.Source if sources else due.Item
 
 -- the fault of the word that starts an item
-unfoldable pub faultHead : Bool → ℕ → ℕ → ℕ
-faultHead sources n w = faultSource n w if sources else faultItem n w
+unfoldable pub faultAtHead : Bool → ℕ → ℕ → ℕ
+faultAtHead sources n w = faultSource n w if sources else faultItem n w
 
 -- what is due in an item with so many terms left
 unfoldable pub dueWith : Item → ℕ → Due

@@ -54,7 +54,7 @@ isEnded SecondFactor = false
 isEnded Ended = true
 
 -- the step r leads from what is due at a place to what is due at a later one, or to the first fault
-pub record Went (ws : List ℕ) (n : ℕ) (from : Due) (at : ℕ) (to : Due) (r : Step) : Type 0 where
+pub record StepsTo (ws : List ℕ) (n : ℕ) (from : Due) (at : ℕ) (to : Due) (r : Step) : Type 0 where
   pub reads : onward from n at ws ≡ resumed to n ws r
   pub on : at ≤ r .at
   pub inside : r .at ≤ length ws

@@ -8,7 +8,7 @@ ghost use Rattle.words.specs.Limit as Limit;
 ghost use Rattle.words.specs.Word.{payload};
 ghost use Rattle.variables.specs.Start.{starts};
 ghost use Rattle.rowsystems.specs.Reading.{faultLower, faultItem, faultSource, faultUpper, faultVariable, faultNumber, notAbove, faultResult};
-ghost use Rattle.rowreading.specs.Item.{faultHead};
+ghost use Rattle.rowreading.specs.Item.{faultAtHead};
 use words::fault;
 use words::is_lowest;
 use words::kind;
@@ -79,7 +79,7 @@ fn fault_source(n: usize, w: u32) -> u32
 
 // Of the word that starts an item, a source variable among them where sources may stand.
 pub fn fault_head(sources: bool, n: usize, w: u32) -> u32
-    ensures { λ r. ⌜ r ≡ faultHead sources n w ⌝ }
+    ensures { λ r. ⌜ r ≡ faultAtHead sources n w ⌝ }
 {
     if sources {
         return fault_source(n, w);
@@ -90,7 +90,7 @@ pub fn fault_head(sources: bool, n: usize, w: u32) -> u32
 // Of a word that starts a variable.
 pub fn fault_start(sources: bool, n: usize, w: u32) -> u32
     requires { ⌜ starts w ≡ true ⌝ }
-    ensures { λ r. ⌜ r ≡ faultHead sources n w ⌝ }
+    ensures { λ r. ⌜ r ≡ faultAtHead sources n w ⌝ }
 {
     let k = kind_of(w);
     if k == kind::AUXILIARY_LOWER {

@@ -5,7 +5,7 @@ ghost use Rattle.words.specs.Limit as Limit;
 ghost use Rattle.words.specs.Word.{wordAt};
 ghost use Rattle.rowsystems.specs.Reading.{faultUpper, faultVariable, faultNumber, afterDue};
 ghost use Rattle.rowreading.specs.Item.{dueAfter, itemTerms, dueWith, moreSources, startDue};
-ghost use Rattle.rowreading.specs.Onward.{Placed, Went, stepOver};
+ghost use Rattle.rowreading.specs.Onward.{Placed, StepsTo, stepOver};
 use crate::faults::fault_number;
 use crate::faults::fault_result;
 use crate::faults::fault_upper;
@@ -126,7 +126,7 @@ fn upper_at(ws: &[u32], k: u32, lower: u32, at: usize) -> Step
 // A term: its variable and its coefficient.
 pub fn read_term(ws: &[u32], n: usize, at: usize) -> Step
     requires { ⌜ Placed (now ws) at ⌝ }
-    ensures { λ r. ⌜ ((left : ℕ) → Went (now (ws .entry)) n (Due.Terms (suc left)) at (Due.Terms left) r) × (r .number ≡ 0 → r .at ≡ at + 2) ⌝ }
+    ensures { λ r. ⌜ ((left : ℕ) → StepsTo (now (ws .entry)) n (Due.Terms (suc left)) at (Due.Terms left) r) × (r .number ≡ 0 → r .at ≡ at + 2) ⌝ }
 {
     let variable = variable_at(ws, n, at);
     if variable.number != fault::NONE {
@@ -138,7 +138,7 @@ pub fn read_term(ws: &[u32], n: usize, at: usize) -> Step
 // A product's result and its two factors.
 fn read_product(ws: &[u32], n: usize, at: usize) -> Step
     requires { ⌜ Placed (now ws) at ⌝ }
-    ensures { λ r. ⌜ Went (now (ws .entry)) n Due.Result at Due.Item r ⌝ }
+    ensures { λ r. ⌜ StepsTo (now (ws .entry)) n Due.Result at Due.Item r ⌝ }
 {
     let result = step_over(
         fault_result(n, word_at(ws, at), word_at(ws, at + 1), word_at(ws, at + 2)),
@@ -157,7 +157,7 @@ fn read_product(ws: &[u32], n: usize, at: usize) -> Step
 // What an item has after its head and its terms.
 pub fn read_rest(ws: &[u32], item: Item, n: usize, at: usize) -> Step
     requires { ⌜ Placed (now ws) at ⌝ }
-    ensures { λ r. ⌜ Went (now (ws .entry)) n (dueWith item 0) at (startDue (moreSources item)) r ⌝ }
+    ensures { λ r. ⌜ StepsTo (now (ws .entry)) n (dueWith item 0) at (startDue (moreSources item)) r ⌝ }
 {
     match item {
         Item::Variable(lower) => upper_at(ws, kind::UPPER, lower, at),

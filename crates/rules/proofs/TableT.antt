@@ -379,7 +379,7 @@ unfolding sameList sameAnswer listsWithin isAccepted completions isDenied unused
     satisfied renameTerms rename termCount variableAt numberAt termsIn constantIn rows boundWords termWords sumWords rowWords boundNumbers rowNumbers
     numbered blockWords blockNumbers outsideIn tooWide blockFaultIn blocksFaultIn checkFaultIn checkIn filledCount fillFaultIn fillIn filledIn Z endProducts extreme L
     U halfLess _─_≤0 _─_=0 sources each bits weighted oneBit chosen products nth places leastFrom rising members bitOf signPick signedPick firstBit gatedPick
-    divisionPick leftOverPick powerPick pick byHalves next noProduct squared multiplied chain nextValue noValue squaredValue multipliedValue powerValues M divisionTable tableRow divisionRows quotientBounds remainderRow Rule.linked Rule.signed Rule.whereOne Rule.whereZero Rule.orderReified Rule.onlyNegative Rule.absolute Rule.touching Rule.linNotEqual Rule.zeroRows
+    divisionPick leftOverPick powerPick pick byHalves next noProduct squared multiplied chain nextValue noValue squaredValue multipliedValue powerValues M divisionTable tableRow divisionRows quotientBounds remainderRow Rule.linked Rule.signSplit Rule.whereOne Rule.whereZero Rule.orderReified Rule.onlyNegative Rule.absolute Rule.touching Rule.linNotEqual Rule.zeroRows
     Rule.zeroReified Rule.linLessEqualReified Rule.sameRows Rule.sameReified Rule.numberElement Rule.variableElement Rule.firstOnly Rule.oneOf Rule.inSet Rule.inSetReified Rule.division Rule.leftOver Rule.powered rule roomFault
     translateFaultIn translateIn translatedIn choice encodes sharedIn shares encodedAfter bitProducts valueBit newBits newRows kept leftOut keptSum sharedRule ruleAfter newPick sharedPick pickAfter
     bounds shared blockOf eachBlock sourceWords blocksWords systemWords auxiliaries blockRows picks flatMap zipWith

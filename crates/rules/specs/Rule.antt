@@ -62,8 +62,8 @@ module _ (β : ℕ → Bounds) where
   linked asbs c = sum=0 (sources asbs ++ (-1 · aux 0 ∷ [])) (neg c)
 
   -- 12 to 14, 31, 32: "aux x in L..U, b, z in Z(x)"
-  unfoldable pub signed : List (Term ℕ) → ℤ → List Bounds
-  signed asbs c = (L β asbs c to U β asbs c) ∷ bit ∷ Z (L β asbs c to U β asbs c) ∷ []
+  unfoldable pub signSplit : List (Term ℕ) → ℤ → List Bounds
+  signSplit asbs c = (L β asbs c to U β asbs c) ∷ bit ∷ Z (L β asbs c to U β asbs c) ∷ []
 
   -- 4, 5, 9, 29, 30: a−b+d≤0 where r is 1, a−b+P×r+d−P≤0; where r is 0, a−b−P×r+d≤0; P=hi a−lo b+d, the most that a−b+d can be
   unfoldable pub whereOne : ℤ → ℕ → ℕ → Ref → Row Ref
@@ -104,7 +104,7 @@ module _ (β : ℕ → Bounds) where
   -- 12 int_lin_ne, aux x in L..U, b, z in Z(x): Σ−x−c=0; z:=b×x; −x+2×z+1≤0; x+(U+1)×b−U≤0.
   unfoldable pub linNotEqual : List (Term ℕ) → ℤ → Block
   linNotEqual asbs c =
-      block (signed asbs c)
+      block (signSplit asbs c)
       (linked asbs c
       ∷ product (aux 2) (aux 1) (aux 0)
       ∷ sum≤0 (-1 · aux 0 ∷ +2 · aux 2 ∷ []) +1
@@ -116,7 +116,7 @@ module _ (β : ℕ → Bounds) where
   unfoldable pub zeroReified : Bool → List (Term ℕ) → ℤ → ℕ → Block
   zeroReified equal asbs c r =
       let W = maxZ (absZ (L β asbs c)) (absZ (U β asbs c)) in
-      block (signed asbs c)
+      block (signSplit asbs c)
       (linked asbs c ∷ product (aux 2) (aux 1) (aux 0) ∷ (zeroRows equal W r ++ (onlyNegative (aux 0) (aux 1) (U β asbs c) ∷ [])))
 
   -- 15 int_lin_le_reif, aux x in L..U: Σ−x−c=0; x+U×r−U≤0; −x+(L−1)×r+1≤0.

@@ -28,7 +28,7 @@ use Rattle.laying.proofs.Parts.{flatMap-append, many-same}
 use Rattle.laying.proofs.Lists.{length-vars, length-nums, bits-parts, bounds-append, same-parts}
 use Rattle.extremes.specs.Bounded.{boundsOf}
 use Rattle.encodings.specs.Uses.{choiceOf}
-use Rattle.choiceblocks.specs.Rows.{zeroAt, numberAt, memberAt, sumRow, choiceRows}
+use Rattle.choiceblocks.specs.Rows.{zeroAt, numberTermAt, memberAt, sumRow, choiceRows}
 use Rattle.choiceblocks.proofs.OneHot.{many-below, terms-many, bounds-many, sum-row, chosen-row, choice-rows}
 use Rattle.choiceblocks.proofs.Blocks.{element}
 use Rattle.choiceblocks.proofs.Members.{front}
@@ -117,11 +117,11 @@ module _ (ls us : List ℤ) (args : List ℕ) where
       ∙ many-below _ (zeroAt ls us args at) (width P) (λ k h. rw (element 0 (var args) (β x) (size args 1) k h)))
 
   module _ (e : Encoded) (first : ℕ) where
-    pub numbers-row : numbersRow β args e first ≡ sumRow (numberAt args at (placeBit e first x (β x .lower))) (width P) (var args (past args 1))
+    pub numbers-row : numbersRow β args e first ≡ sumRow (numberTermAt args at (placeBit e first x (β x .lower))) (width P) (var args (past args 1))
     unfolding numbersRow keptSum kept values nums
     numbers-row =
         rw (length-nums args 1, places-kept (β x) (size args 1))
-        (sum-row first (numberAt args at (placeBit e first x (β x .lower))) (map t (values P)) (var args (past args 1)) (length-map (values P) t ∙ values-length P)
+        (sum-row first (numberTermAt args at (placeBit e first x (β x .lower))) (map t (values P)) (var args (past args 1)) (length-map (values P) t ∙ values-length P)
         (terms-many first t (λ k. P .lower ⊕ pos k) (width P)
         ∙ many-below _ _ (width P) (λ k h. rw (element +0 (num args) (β x) (size args 1) k h, place-number β e first x (size args 1) k))))
       where

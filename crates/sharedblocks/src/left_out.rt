@@ -8,7 +8,7 @@ ghost use Rattle.integers.specs.Choice.{_if_else_};
 ghost use Rattle.integers.specs.Number.{+1};
 ghost use Rattle.laying.specs.Part.{term};
 ghost use Rattle.laying.specs.Lists.{many};
-ghost use Rattle.laying.specs.Went.{Went, Near};
+ghost use Rattle.laying.specs.Appends.{Appends, GrowsBy};
 ghost use Rattle.laying.specs.Room.{Room};
 ghost use Rattle.sharedblocks.specs.LeftOut.{keeps, leftAt, leftCount, leftRow};
 use arguments::is_member;
@@ -36,7 +36,7 @@ fn is_kept(code: usize, args: &[u32], v: i64) -> bool
 // A term of coefficient 1 where the value is not kept.
 fn lay_unless(out: &mut [u32], s: Laid, kept: bool, v: usize) -> Laid
     requires { ⌜ Room 10 s ⌝ }
-    ensures { λ r. ⌜ Went s r (now (out .entry)) (now (out .exit)) (term +1 v ∷ [] if not kept else []) × Near 10 s r ⌝ }
+    ensures { λ r. ⌜ Appends s r (now (out .entry)) (now (out .exit)) (term +1 v ∷ [] if not kept else []) × GrowsBy 10 s r ⌝ }
 {
     if kept {
         return s;
@@ -55,7 +55,7 @@ fn lay_left_bits(
     n: usize,
 ) -> Laid
     requires { ⌜ Room 1000 s × (n ≤ 66) × (v < 1000000000000) × (natAbs from < 1000000000000) ⌝ }
-    ensures { λ r. ⌜ Went s r (now (out .entry)) (now (out .exit)) (many (leftAt code (now (args .entry)) from v) n) × Near 1000 s r ⌝ }
+    ensures { λ r. ⌜ Appends s r (now (out .entry)) (now (out .exit)) (many (leftAt code (now (args .entry)) from v) n) × GrowsBy 1000 s r ⌝ }
 {
     let mut t = s;
     let mut k = 0;
@@ -93,7 +93,7 @@ pub fn lay_left_row(
     n: usize,
 ) -> Laid
     requires { ⌜ Room 2000 s × (n ≤ 66) × (v < 1000000000) × (natAbs from < 1000000000) ⌝ }
-    ensures { λ r. ⌜ Went s r (now (out .entry)) (now (out .exit)) (leftRow code (now (args .entry)) from v n) × Near 2000 s r ⌝ }
+    ensures { λ r. ⌜ Appends s r (now (out .entry)) (now (out .exit)) (leftRow code (now (args .entry)) from v n) × GrowsBy 2000 s r ⌝ }
 {
     let m = count_left(code, args, from, n);
     if m == 0 {

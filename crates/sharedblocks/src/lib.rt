@@ -6,7 +6,7 @@ ghost use Rattle.integers.specs.Number.{+0};
 ghost use Rattle.integers.specs.Bounds.{width};
 ghost use Rattle.models.specs.Model.{var};
 ghost use Rattle.rules.specs.Shared.{newBits};
-ghost use Rattle.laying.specs.Went.{Went, Near};
+ghost use Rattle.laying.specs.Appends.{Appends, GrowsBy};
 ghost use Rattle.laying.specs.Room.{Room, BlockRoom};
 ghost use Rattle.extremes.specs.Bounded.{boundsOf, Bounded};
 ghost use Rattle.encodings.specs.Uses.{Recorded};
@@ -75,7 +75,7 @@ fn lay_new_bits(
     encoded: &[usize],
 ) -> Laid
     requires { ⌜ Room 2000 s × Bounded (now ls) × Bounded (now us) × (width (boundsOf (now ls) (now us) (var (now args) 0)) ≤ 64) ⌝ }
-    ensures { λ r. ⌜ Went s r (now (out .entry)) (now (out .exit)) (newBitParts (now (ls .entry)) (now (us .entry)) (now (encoded .entry)) (now (args .entry))) × Near 2000 s r ⌝ }
+    ensures { λ r. ⌜ Appends s r (now (out .entry)) (now (out .exit)) (newBitParts (now (ls .entry)) (now (us .entry)) (now (encoded .entry)) (now (args .entry))) × GrowsBy 2000 s r ⌝ }
 {
     lay_bits(out, s, new_bits(args, ls, us, encoded))
 }
@@ -91,7 +91,7 @@ fn lay_new_rows(
     first: usize,
 ) -> Laid
     requires { ⌜ Room 5000 s × Encodable (now ls) (now us) (now encoded) first (now args) ⌝ }
-    ensures { λ r. ⌜ Went s r (now (out .entry)) (now (out .exit)) (newRowParts (now (ls .entry)) (now (us .entry)) (now (encoded .entry)) first (now (args .entry))) × Near 5000 s r ⌝ }
+    ensures { λ r. ⌜ Appends s r (now (out .entry)) (now (out .exit)) (newRowParts (now (ls .entry)) (now (us .entry)) (now (encoded .entry)) first (now (args .entry))) × GrowsBy 5000 s r ⌝ }
 {
     let x = var_at(args, 0);
     if entry_of(encoded, x) == 0 {
@@ -119,7 +119,7 @@ fn lay_left_out(
     first: usize,
 ) -> Laid
     requires { ⌜ Room 5000 s × Encodable (now ls) (now us) (now encoded) first (now args) ⌝ }
-    ensures { λ r. ⌜ Went s r (now (out .entry)) (now (out .exit)) (leftOutParts (now (ls .entry)) (now (us .entry)) (now (encoded .entry)) first code (now (args .entry))) × Near 5000 s r ⌝ }
+    ensures { λ r. ⌜ Appends s r (now (out .entry)) (now (out .exit)) (leftOutParts (now (ls .entry)) (now (us .entry)) (now (encoded .entry)) first code (now (args .entry))) × GrowsBy 5000 s r ⌝ }
 {
     lay_left_row(
         out,
@@ -143,7 +143,7 @@ fn lay_numbers_row(
     first: usize,
 ) -> Laid
     requires { ⌜ Room 5000 s × Encodable (now ls) (now us) (now encoded) first (now args) ⌝ }
-    ensures { λ r. ⌜ Went s r (now (out .entry)) (now (out .exit)) (numbersRow (boundsOf (now (ls .entry)) (now (us .entry))) (now (args .entry)) (now (encoded .entry)) first) × Near 5000 s r ⌝ }
+    ensures { λ r. ⌜ Appends s r (now (out .entry)) (now (out .exit)) (numbersRow (boundsOf (now (ls .entry)) (now (us .entry))) (now (args .entry)) (now (encoded .entry)) first) × GrowsBy 5000 s r ⌝ }
 {
     let n = labels(args, ls, us);
     let at = first_element(args, ls);
@@ -154,7 +154,7 @@ fn lay_numbers_row(
 // The bounds of the products: array_var_int_element.
 fn lay_kept_zeros(out: &mut [u32], s: Laid, args: &[u32], ls: &[i64], us: &[i64]) -> Laid
     requires { ⌜ Room 5000 s × Bounded (now ls) × Bounded (now us) ⌝ }
-    ensures { λ r. ⌜ Went s r (now (out .entry)) (now (out .exit)) (keptZeros (boundsOf (now (ls .entry)) (now (us .entry))) (now (args .entry))) × Near 5000 s r ⌝ }
+    ensures { λ r. ⌜ Appends s r (now (out .entry)) (now (out .exit)) (keptZeros (boundsOf (now (ls .entry)) (now (us .entry))) (now (args .entry))) × GrowsBy 5000 s r ⌝ }
 {
     let n = labels(args, ls, us);
     lay_zeros(out, s, args, first_element(args, ls), n, ls, us)
@@ -171,7 +171,7 @@ fn lay_product_rows(
     first: usize,
 ) -> Laid
     requires { ⌜ Room 5000 s × Encodable (now ls) (now us) (now encoded) first (now args) ⌝ }
-    ensures { λ r. ⌜ Went s r (now (out .entry)) (now (out .exit)) (productRows (boundsOf (now (ls .entry)) (now (us .entry))) (now (args .entry)) (now (encoded .entry)) first) × Near 5000 s r ⌝ }
+    ensures { λ r. ⌜ Appends s r (now (out .entry)) (now (out .exit)) (productRows (boundsOf (now (ls .entry)) (now (us .entry))) (now (args .entry)) (now (encoded .entry)) first) × GrowsBy 5000 s r ⌝ }
 {
     let n = labels(args, ls, us);
     let at = first_element(args, ls);
@@ -192,7 +192,7 @@ fn lay_members_row(
     first: usize,
 ) -> Laid
     requires { ⌜ Room 5000 s × Encodable (now ls) (now us) (now encoded) first (now args) ⌝ }
-    ensures { λ r. ⌜ Went s r (now (out .entry)) (now (out .exit)) (membersRow (boundsOf (now (ls .entry)) (now (us .entry))) (now (args .entry)) (now (encoded .entry)) first) × Near 5000 s r ⌝ }
+    ensures { λ r. ⌜ Appends s r (now (out .entry)) (now (out .exit)) (membersRow (boundsOf (now (ls .entry)) (now (us .entry))) (now (args .entry)) (now (encoded .entry)) first) × GrowsBy 5000 s r ⌝ }
 {
     let lower = lower_label(args, ls);
     let mut vs = [0i64; 32];
@@ -212,7 +212,7 @@ pub fn shared_element(
     first: usize,
 ) -> Laid
     requires { ⌜ BlockRoom s × Encodable (now ls) (now us) (now encoded) first (now args) ⌝ }
-    ensures { λ r. ⌜ Went s r (now (out .entry)) (now (out .exit)) (sharedParts (now (ls .entry)) (now (us .entry)) (now (encoded .entry)) first 24 (now (args .entry))) × Near 1000000 s r ⌝ }
+    ensures { λ r. ⌜ Appends s r (now (out .entry)) (now (out .exit)) (sharedParts (now (ls .entry)) (now (us .entry)) (now (encoded .entry)) first 24 (now (args .entry))) × GrowsBy 1000000 s r ⌝ }
 {
     let t = lay_new_bits(out, s, args, ls, us, encoded);
     let u = lay_new_rows(out, t, args, ls, us, encoded, first);
@@ -231,7 +231,7 @@ pub fn shared_var_element(
     first: usize,
 ) -> Laid
     requires { ⌜ BlockRoom s × Encodable (now ls) (now us) (now encoded) first (now args) ⌝ }
-    ensures { λ r. ⌜ Went s r (now (out .entry)) (now (out .exit)) (sharedParts (now (ls .entry)) (now (us .entry)) (now (encoded .entry)) first 25 (now (args .entry))) × Near 1000000 s r ⌝ }
+    ensures { λ r. ⌜ Appends s r (now (out .entry)) (now (out .exit)) (sharedParts (now (ls .entry)) (now (us .entry)) (now (encoded .entry)) first 25 (now (args .entry))) × GrowsBy 1000000 s r ⌝ }
 {
     let t = lay_new_bits(out, s, args, ls, us, encoded);
     let z = lay_kept_zeros(out, t, args, ls, us);
@@ -251,7 +251,7 @@ pub fn shared_set_in(
     first: usize,
 ) -> Laid
     requires { ⌜ BlockRoom s × Encodable (now ls) (now us) (now encoded) first (now args) ⌝ }
-    ensures { λ r. ⌜ Went s r (now (out .entry)) (now (out .exit)) (sharedParts (now (ls .entry)) (now (us .entry)) (now (encoded .entry)) first 27 (now (args .entry))) × Near 1000000 s r ⌝ }
+    ensures { λ r. ⌜ Appends s r (now (out .entry)) (now (out .exit)) (sharedParts (now (ls .entry)) (now (us .entry)) (now (encoded .entry)) first 27 (now (args .entry))) × GrowsBy 1000000 s r ⌝ }
 {
     let t = lay_new_bits(out, s, args, ls, us, encoded);
     let u = lay_new_rows(out, t, args, ls, us, encoded, first);
@@ -269,7 +269,7 @@ pub fn shared_set_in_reif(
     first: usize,
 ) -> Laid
     requires { ⌜ BlockRoom s × Encodable (now ls) (now us) (now encoded) first (now args) ⌝ }
-    ensures { λ r. ⌜ Went s r (now (out .entry)) (now (out .exit)) (sharedParts (now (ls .entry)) (now (us .entry)) (now (encoded .entry)) first 28 (now (args .entry))) × Near 1000000 s r ⌝ }
+    ensures { λ r. ⌜ Appends s r (now (out .entry)) (now (out .exit)) (sharedParts (now (ls .entry)) (now (us .entry)) (now (encoded .entry)) first 28 (now (args .entry))) × GrowsBy 1000000 s r ⌝ }
 {
     let t = lay_new_bits(out, s, args, ls, us, encoded);
     let u = lay_new_rows(out, t, args, ls, us, encoded, first);

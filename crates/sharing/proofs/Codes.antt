@@ -39,7 +39,7 @@ use Rattle.rules.specs.Parts.{_─_≤0, _─_=0, each, one, oneBit, chosen, pr
 use Rattle.rules.specs.Shared.{choice, encodes}
 use Rattle.rules.specs.Check.{tooWide}
 use Rattle.rules.specs.Division.{divisionTable, tableRow, divisionRows, remainderRow}
-use Rattle.rules.specs.Rule.{rule, linked, signed, onlyNegative, whereOne, whereZero, orderReified, absolute, touching, linNotEqual, zeroRows, zeroReified, linLessEqualReified, sameRows, sameReified, numberElement, variableElement, oneOf, inSet, inSetReified, division, leftOver}
+use Rattle.rules.specs.Rule.{rule, linked, signSplit, onlyNegative, whereOne, whereZero, orderReified, absolute, touching, linNotEqual, zeroRows, zeroReified, linLessEqualReified, sameRows, sameReified, numberElement, variableElement, oneOf, inSet, inSetReified, division, leftOver}
 use Rattle.rules.specs.Pick.{pick, signPick, signedPick, divisionPick, leftOverPick}
 use Rattle.sharing.proofs.OneHot.{bits-length}
 use Rattle.rules.proofs.Members.{members-length}
@@ -68,7 +68,7 @@ pub record Laws (β : ℕ → Bounds) (b : Builtin) : Type 1 where
   pub formed : (n : ℕ) → All (λ v. v < n) (integerArguments b) → All (λ v. v < n) (booleanArguments b) → Sizes → Formed n (rule β b)
 
 unfoldable pub laws : (β : ℕ → Bounds) (b : Builtin) → Laws β b
-unfolding integerArguments booleanArguments rule _─_≤0 _─_=0 onlyNegative whereOne whereZero orderReified absolute touching linNotEqual linLessEqualReified sameRows sameReified numberElement variableElement oneOf inSet inSetReified signed builtinWords oneBit chosen linked zeroRows zeroReified pick signPick signedPick division leftOver divisionRows remainderRow divisionTable tableRow divisionPick leftOverPick zipWith
+unfolding integerArguments booleanArguments rule _─_≤0 _─_=0 onlyNegative whereOne whereZero orderReified absolute touching linNotEqual linLessEqualReified sameRows sameReified numberElement variableElement oneOf inSet inSetReified signSplit builtinWords oneBit chosen linked zeroRows zeroReified pick signPick signedPick division leftOver divisionRows remainderRow divisionTable tableRow divisionPick leftOverPick zipWith
 laws β (int-eq a b) = record {
   Sizes = Unit {0};
   sound = λ σ α f. int-eq-exact β σ a b α f .0;

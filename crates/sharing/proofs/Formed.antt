@@ -20,7 +20,7 @@ use Rattle.rowsystems.specs.Row.{Row, sum≤0, sum=0, product, renameTerms}
 use Rattle.rules.specs.Block.{Ref, source, aux, Block}
 use Rattle.rules.specs.Parts.{Z, endProducts, extreme, L, U, _─_≤0, sources, each, bits, weighted, one, oneBit, chosen, products}
 use Rattle.rules.specs.Division.{M, divisionTable, tableRow, divisionRows, quotientBounds, remainderRow}
-use Rattle.rules.specs.Rule.{linked, signed, onlyNegative, zeroRows, zeroReified, firstOnly, oneOf, division, leftOver}
+use Rattle.rules.specs.Rule.{linked, signSplit, onlyNegative, zeroRows, zeroReified, firstOnly, oneOf, division, leftOver}
 use Rattle.rules.proofs.Lengths.{sources-length, weighted-length}
 use Rattle.sharing.proofs.OneHot.{bits-length}
 
@@ -96,8 +96,8 @@ L-U-ordered β asbs c = less _ _ c (extremes asbs)
     extremes (t ∷ ts) = core _ _ _ _ (extremes ts)
 
 -- 12 to 14, 31, 32
-pub signed-ordered : (β : ℕ → Bounds) (asbs : List (Term ℕ)) (c : ℤ) → All Ordered (signed β asbs c)
-unfolding signed
+pub signed-ordered : (β : ℕ → Bounds) (asbs : List (Term ℕ)) (c : ℤ) → All Ordered (signSplit β asbs c)
+unfolding signSplit
 signed-ordered β asbs c = (L-U-ordered β asbs c, (bit-ordered, (Z-ordered _, tt)))
 
 pub bits-ordered : {A : Type 0} (ls : List A) → All Ordered (bits ls)
@@ -196,7 +196,7 @@ module _ (n : ℕ) (β : ℕ → Bounds) where
   -- 13, 14, 31, 32
   pub zeroReified-formed : (equal : Bool) (asbs : List (Term ℕ)) (c : ℤ) (r : ℕ) → Short asbs → All (λ v. v < n) (variablesIn asbs) → r < n →
       Formed n (zeroReified β equal asbs c r)
-  unfolding zeroReified zeroRows signed onlyNegative
+  unfolding zeroReified zeroRows signSplit onlyNegative
   zeroReified-formed true asbs c r s h k = (signed-ordered β asbs c, (linked-in 3 asbs c (omega arith) s h, omega arith))
   zeroReified-formed false asbs c r s h k = (signed-ordered β asbs c, (linked-in 3 asbs c (omega arith) s h, omega arith))
 

@@ -22,7 +22,7 @@ use Rattle.models.proofs.Arguments.{variablesIn, integerArguments, booleanArgum
 use Rattle.rowsystems.specs.Row.{Row, sum≤0}
 use Rattle.rules.specs.Block.{Ref, aux}
 use Rattle.rules.specs.Parts.{L, U}
-use Rattle.rules.specs.Rule.{rule, linked, signed, onlyNegative, linNotEqual, zeroRows, zeroReified, linLessEqualReified}
+use Rattle.rules.specs.Rule.{rule, linked, signSplit, onlyNegative, linNotEqual, zeroRows, zeroReified, linLessEqualReified}
 use Rattle.rules.specs.Pick.{pick, signPick, signedPick}
 use Rattle.sharing.proofs.Good.{Good, Keeps, Are, Sat, see}
 use Rattle.sharing.proofs.Basics.{Sound, Complete, Determined, Exact, agree, says-as, says-reified, Same, not-not}
@@ -47,8 +47,8 @@ says-not-above-zero s c = says-as (says-le s c) (shifted s c)
 
 -- what is picked keeps its bounds
 signed-kept : (β : ℕ → Bounds) (σ : Valuation) (ts : List (Term ℕ)) (c : ℤ) → All (λ v. In (β v) (σ v)) (variablesIn ts) →
-    (rest : List ℤ) → Keeps (signed β ts c) (value (signedPick (sum σ ts ⊖ c) ++ rest))
-unfolding signed signedPick value
+    (rest : List ℤ) → Keeps (signSplit β ts c) (value (signedPick (sum σ ts ⊖ c) ++ rest))
+unfolding signSplit signedPick value
 signed-kept β σ ts c h rest = let k = sum-kept β σ ts c h in (k, sign-kept (L β ts c to U β ts c) (sum σ ts ⊖ c) k rest)
 
 -- auxiliaries that satisfy the rows are the picks, where the other rows do not leave z at 0 for a negative x
@@ -108,7 +108,7 @@ module _ (equal : Bool) (β : ℕ → Bounds) (σ : Valuation) (ts : List (Term 
   last-row α = all-append (Sat (see σ α)) (zeroRows equal (maxZ (absZ (L β ts c)) (absZ (U β ts c))) r) (lastRow ∷ [])
 
   zero-reified-sound : (α : Valuation) → Good (zeroReified β equal ts c r) σ α → (on σ r iff t) ≡ true
-  unfolding zeroReified signed
+  unfolding zeroReified signSplit
   zero-reified-sound α g =
       says-reified σ r s .1
       (rw (linked-row σ α β ts c .0 (g .1 .0)) at
@@ -116,7 +116,7 @@ module _ (equal : Bool) (β : ℕ → Bounds) (σ : Valuation) (ts : List (Term 
 
   zero-reified-complete : All (λ v. In (β v) (σ v)) (variablesIn ts) → (on σ r iff t) ≡ true → (rest : List ℤ) →
       Good (zeroReified β equal ts c r) σ (value (signedPick (sum σ ts ⊖ c) ++ rest))
-  unfolding zeroReified signed signedPick signPick value
+  unfolding zeroReified signSplit signedPick signPick value
   zero-reified-complete h m rest =
       let k = signed-kept β σ ts c h rest in
       let α = value (signedPick (sum σ ts ⊖ c) ++ rest) in (
@@ -134,7 +134,7 @@ module _ (equal : Bool) (β : ℕ → Bounds) (σ : Valuation) (ts : List (Term 
       )
 
   zero-reified-determined : (α : Valuation) → Good (zeroReified β equal ts c r) σ α → Are (signedPick (sum σ ts ⊖ c)) α
-  unfolding zeroReified signed
+  unfolding zeroReified signSplit
   zero-reified-determined α g =
       let rows = last-row α .0 (g .1 .1 .1) in
       signed-are β σ ts c α (g .1 .0) (g .0 .1 .0) (g .1 .1 .0) (rows .1 .0) (not-left equal σ α r _ w (rows .0))
@@ -164,14 +164,14 @@ module _ (β : ℕ → Bounds) (σ : Valuation) where
   -- ---- 12 int_lin_ne
 
   pub int-lin-ne-sound : (α : Valuation) (asbs : List (Term ℕ)) (c : ℤ) → Sound β σ α (int-lin-ne asbs c)
-  unfolding rule linNotEqual signed meaning
+  unfolding rule linNotEqual signSplit meaning
   int-lin-ne-sound α ts c f g =
       let p = bit-product (α 1) (α 0) (α 2) (g .0 .1 .0) (g .1 .1 .0) in
       let n : ¬ (α 0 ≡ +0) = from₂ p (g .1 .1 .1 .0) (rw (rep (α 0), rep (α 2)) (simp linear (omega arith))) in
       says-not (says-zero (sum σ ts) c) .1 (rw (linked-row σ α β ts c .0 (g .1 .0)) at n)
 
   pub int-lin-ne-complete : (asbs : List (Term ℕ)) (c : ℤ) → Complete β σ (int-lin-ne asbs c)
-  unfolding rule linNotEqual signed meaning integerArguments pick signedPick signPick value
+  unfolding rule linNotEqual signSplit meaning integerArguments pick signedPick signPick value
   int-lin-ne-complete ts c f m rest =
       let x = sum σ ts ⊖ c in
       let α = value (signedPick x ++ rest) in
@@ -190,7 +190,7 @@ module _ (β : ℕ → Bounds) (σ : Valuation) where
       )
 
   pub int-lin-ne-determined : (asbs : List (Term ℕ)) (c : ℤ) → Determined β σ (int-lin-ne asbs c)
-  unfolding rule linNotEqual signed pick
+  unfolding rule linNotEqual signSplit pick
   int-lin-ne-determined ts c α f g =
       signed-are β σ ts c α (g .1 .0) (g .0 .1 .0) (g .1 .1 .0) (g .1 .1 .1 .1 .0)
       (λ z. from₁ (rw z at (g .1 .1 .1 .0)) (rw (rep (α 0)) (simp linear (omega arith))))

@@ -14,7 +14,7 @@ use Rattle.integers.proofs.Lists.{all-append}
 use Rattle.integers.proofs.Tests.{All}
 use Rattle.words.specs.Small.{Near}
 use Rattle.decimals.specs.Column.{blanks, right, left}
-use Rattle.decimals.specs.Decimal.{digits, decimal, numeral}
+use Rattle.decimals.specs.Decimal.{lastDigits, decimal, numeral}
 use Rattle.decimals.proofs.Columns.{length-blanks, length-right}
 use Rattle.rowsystems.specs.Reading.{readRows}
 use Rattle.rowsystems.specs.Row.{Row, sum≤0, sum=0, product}
@@ -47,13 +47,13 @@ unfolding blanks
 printed-blanks zero = tt
 printed-blanks (suc n) = ((omega arith, omega arith), printed-blanks n)
 
-printed-digits : (k n : ℕ) → All Printable (digits k n)
-unfolding digits
+printed-digits : (k n : ℕ) → All Printable (lastDigits k n)
+unfolding lastDigits
 printed-digits zero n = tt
 printed-digits (suc k) n = go (ltb 9 n) (printed-digits k (n / 10))
   where
-    go : (t : Bool) → All Printable (digits k (n / 10)) → All Printable ((digits k (n / 10) if t else []) ++ ((48 + n % 10) ∷ []))
-    go true h = printed-append (digits k (n / 10)) _ h ((omega arith, omega arith), tt)
+    go : (t : Bool) → All Printable (lastDigits k (n / 10)) → All Printable ((lastDigits k (n / 10) if t else []) ++ ((48 + n % 10) ∷ []))
+    go true h = printed-append (lastDigits k (n / 10)) _ h ((omega arith, omega arith), tt)
     go false h = ((omega arith, omega arith), tt)
 
 printed-decimal : (n : ℕ) → All Printable (decimal n)

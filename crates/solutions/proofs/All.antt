@@ -38,14 +38,14 @@ use Rattle.solutions.specs.Lists.{valueLists, listCount}
 use Rattle.solutions.specs.AllWithin.{AllWithin, lowestList}
 use Rattle.solutions.specs.Odometer.{listsFrom}
 use Rattle.solutions.specs.Solutions.{allTrue, solutions, listsFault, solutionsFault, solutionsAnswer, solutionsListed}
-use Rattle.solutions.specs.Walk.{boundsTo, solutionsFrom, solutionsIn, Walkable, Sized}
+use Rattle.solutions.specs.Walk.{boundsTo, solutionsFrom, solutionsIn, Walkable, ListsSized}
 use Rattle.solutions.proofs.Complete.{inside-says}
 use Rattle.solutions.proofs.Counts.{count-is}
 use Rattle.solutions.proofs.Odometer.{from-lowest}
 
 -- ---- the first list
 
-module _ {ls us : List ℤ} {n : ℕ} (s : Sized ls us n) (vs : List ℤ) (e : vs ≡ lowestList (boundsTo ls us n)) where
+module _ {ls us : List ℤ} {n : ℕ} (s : ListsSized ls us n) (vs : List ℤ) (e : vs ≡ lowestList (boundsTo ls us n)) where
   as-many : length vs ≡ n
   as-many = rw e (inside-says (boundsTo ls us n) (lowestList (boundsTo ls us n)) (s .inside) .0 ∙ listOf-length (boundsOf ls us) n)
 
@@ -122,7 +122,7 @@ module _ (ws : List ℕ) (passes : Passes ws) {k n : ℕ} {ls us : List ℤ} (ke
   unfolding bounds
   kept-list = rw (kept .same, e) (bounds-listed (variables ws))
 
-  pub sized : n ≤ 8 → listCount (variables ws) ≤ 65536 → Sized ls us n
+  pub sized : n ≤ 8 → listCount (variables ws) ≤ 65536 → ListsSized ls us n
   sized l m = record {
     lowers = kept .lowers;
     uppers = kept .uppers;
@@ -141,7 +141,7 @@ keep-le t (x ∷ xs) = go (t x) (keep-le t xs)
 
 -- ---- the room for the solutions within bounds
 
-module _ (ws : List ℕ) {ls us : List ℤ} {n : ℕ} (s : Sized ls us n) where
+module _ (ws : List ℕ) {ls us : List ℤ} {n : ℕ} (s : ListsSized ls us n) where
   abbrev Count : ℕ
   Count = length (solutionsIn ws ls us n)
 
@@ -189,7 +189,7 @@ module _ (ws : List ℕ) {ls us : List ℤ} {n : ℕ} (s : Sized ls us n) where
 -- ---- a list of as many values as there are variables
 
 module _ {ls us : List ℤ} {n m : ℕ} (e : n ≡ m) where
-  pub sized-as : Sized ls us n → Sized ls us m
+  pub sized-as : ListsSized ls us n → ListsSized ls us m
   sized-as s = rw e at s
 
 -- ---- check's refusal stands

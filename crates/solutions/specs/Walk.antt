@@ -29,7 +29,7 @@ pub record Walkable (ls us vs : List ℤ) : Type 0 where
   pub short : length vs ≤ listedVariables
 
 -- what the walk through all lists wants
-pub record Sized (ls us : List ℤ) (n : ℕ) : Type 0 where
+pub record ListsSized (ls us : List ℤ) (n : ℕ) : Type 0 where
   pub lowers : Bounded ls
   pub uppers : Bounded us
   pub inside : AllWithin (boundsTo ls us n) (lowestList (boundsTo ls us n))

@@ -17,7 +17,7 @@ ghost use Rattle.solutions.specs.AllWithin.{lowestList};
 ghost use Rattle.solutions.specs.Odometer.{isLast, nextList};
 ghost use Rattle.solutions.specs.Solutions.{allTrue, solutionsAnswer, solutionsListed};
 ghost use Rattle.solutions.specs.Found.{found};
-ghost use Rattle.solutions.specs.Walk.{boundsTo, solutionsFrom, solutionsIn, Walkable, Sized};
+ghost use Rattle.solutions.specs.Walk.{boundsTo, solutionsFrom, solutionsIn, Walkable, ListsSized};
 use arguments::test::below;
 use extremes::bound_at;
 use extremes::keep_bounds;
@@ -173,7 +173,7 @@ fn write_all(
     values: &mut [i32],
     out: &mut [i32],
 ) -> usize
-    requires { ⌜ Heads (now ws) (now heads) m × Sized (now ls) (now us) (length (now values)) ⌝ }
+    requires { ⌜ Heads (now ws) (now heads) m × ListsSized (now ls) (now us) (length (now values)) ⌝ }
     ensures count { λ r. ⌜ r ≡ length (solutionsIn (now (ws .entry)) (now (ls .entry)) (now (us .entry)) (length (now (values .entry)))) ⌝ }
     ensures output { λ r. ⌜ now (out .exit) ≡ overlay (now (out .entry)) 0 (flatten (solutionsIn (now (ws .entry)) (now (ls .entry)) (now (us .entry)) (length (now (values .entry))))) ⌝ }
 {
@@ -191,7 +191,7 @@ fn write_in(
     n: usize,
     out: &mut [i32],
 ) -> usize
-    requires { ⌜ Heads (now ws) (now heads) m × Sized (now ls) (now us) n ⌝ }
+    requires { ⌜ Heads (now ws) (now heads) m × ListsSized (now ls) (now us) n ⌝ }
     ensures count { λ r. ⌜ r ≡ length (solutionsIn (now (ws .entry)) (now (ls .entry)) (now (us .entry)) n) ⌝ }
     ensures output { λ r. ⌜ now (out .exit) ≡ overlay (now (out .entry)) 0 (flatten (solutionsIn (now (ws .entry)) (now (ls .entry)) (now (us .entry)) n)) ⌝ }
 {
@@ -210,7 +210,7 @@ fn too_short(
     lists: usize,
     room: usize,
 ) -> bool
-    requires { ⌜ Heads (now ws) (now heads) m × Sized (now ls) (now us) n × (lists ≡ listCount (boundsTo (now ls) (now us) n)) ⌝ }
+    requires { ⌜ Heads (now ws) (now heads) m × ListsSized (now ls) (now us) n × (lists ≡ listCount (boundsTo (now ls) (now us) n)) ⌝ }
     ensures { λ r. ⌜ r ≡ ltb room (length (solutionsIn (now (ws .entry)) (now (ls .entry)) (now (us .entry)) n) * n) ⌝ }
 {
     if lists * n <= room {
@@ -232,7 +232,7 @@ fn list_solutions(
     lists: usize,
     out: &mut [i32],
 ) -> Found
-    requires { ⌜ Heads (now ws) (now heads) m × Sized (now ls) (now us) n × (lists ≡ listCount (boundsTo (now ls) (now us) n)) × Passes (now ws) × (boundsTo (now ls) (now us) n ≡ variables (now ws)) ⌝ }
+    requires { let Bs = boundsTo (now ls) (now us) n in ⌜ Heads (now ws) (now heads) m × ListsSized (now ls) (now us) n × (lists ≡ listCount Bs) × Passes (now ws) × (Bs ≡ variables (now ws)) ⌝ }
     ensures answer { λ r. ⌜ found r ≡ solutionsAnswer (now (ws .entry)) (length (now (out .entry))) ⌝ }
     ensures output { λ r. ⌜ now (out .exit) ≡ solutionsListed (now (ws .entry)) (now (out .entry)) ⌝ }
 {

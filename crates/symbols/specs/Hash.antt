@@ -25,13 +25,13 @@ hash = hashFrom 0
 unfoldable pub cellAt : ℕ → ℕ
 cellAt h = h * multiplier / 2 ^ 50
 
-unfoldable pub bitAt : ℕ → ℕ
-bitAt g = 1 * 2 ^ (g % 64) % 2 ^ 64
+unfoldable pub hashBit : ℕ → ℕ
+hashBit g = 1 * 2 ^ (g % 64) % 2 ^ 64
 
 unfoldable pub maskOf : ℕ → ℕ
 maskOf h =
     let g = h * multiplier in
-    bitOr (bitOr (bitOr (bitAt (g / 2 ^ 44)) (bitAt (g / 2 ^ 38))) (bitAt (g / 2 ^ 32))) (bitAt (g / 2 ^ 26))
+    bitOr (bitOr (bitOr (hashBit (g / 2 ^ 44)) (hashBit (g / 2 ^ 38))) (hashBit (g / 2 ^ 32))) (hashBit (g / 2 ^ 26))
 
 -- whether the bits of a hash are set; a filter with them set
 unfoldable pub isMarked : List ℕ → ℕ → Bool

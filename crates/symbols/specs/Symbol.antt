@@ -2,7 +2,7 @@
 use mathlib.Core.Bool.{Bool, true, false}
 use mathlib.Core.List.{List, [], _∷_, _++_}
 use mathlib.Core.Path.{_≡_}
-use Prim.Native.Nat.{ℕ, _+_, _/_, _%_, _^_, _≤_}
+use Prim.Native.Nat.{ℕ, _+_, _/_, _%_, _^_, _<_, _≤_}
 use lib.ListN.{length, getD}
 use Rattle.integers.specs.Choice.{_if_else_}
 use Rattle.tokens.specs.Unread.{bytesBetween, unread}
@@ -40,3 +40,13 @@ pub record Indexed (bs : List ℕ) (p : ℕ) (filter slots : List ℕ) : Type 0 
 -- the names declared before a token's end are those before its place and, after a colon, the token
 pub record AddsName (bs : List ℕ) (place stop : ℕ) (colon : Bool) : Type 0 where
   pub names : declaredBefore bs stop ≡ declaredBefore bs place ++ (bytesBetween bs place stop ∷ [] if colon else [])
+
+-- what entering the name between two places as variable k wants
+abbrev pub Enterable : List ℕ → ℕ → ℕ → ℕ → Bool → List ℕ → List ℕ → Type 0
+Enterable bs place stop k colon filter slots =
+    (place ≤ stop)
+    × (stop ≤ length bs)
+    × (k < 18446744073709551615)
+    × (length (declaredBefore bs place) ≡ k)
+    × AddsName bs place stop colon
+    × Indexed bs place filter slots

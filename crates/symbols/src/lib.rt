@@ -6,8 +6,8 @@ ghost use lib.ListN.{length, getD};
 ghost use Rattle.integers.specs.Choice.{_if_else_};
 ghost use Rattle.tokens.specs.Unread.{bytesBetween};
 ghost use Rattle.names.specs.Name.{lookUp};
-ghost use Rattle.symbols.specs.Hash.{mix, hash, cellAt, bitAt, maskOf, isMarked, withMark};
-ghost use Rattle.symbols.specs.Symbol.{declaredBefore, numberIn, placeIn, lengthIn, Right, Slots, Indexed, AddsName};
+ghost use Rattle.symbols.specs.Hash.{mix, hash, cellAt, hashBit, maskOf, isMarked, withMark};
+ghost use Rattle.symbols.specs.Symbol.{declaredBefore, numberIn, placeIn, lengthIn, Right, Slots, Indexed, Enterable};
 use names::same_bytes;
 use names::variable_of;
 
@@ -71,7 +71,7 @@ fn cell_of(h: u64) -> usize
 
 // One bit of a word.
 fn bit_of(g: u64) -> u64
-    ensures { λ r. ⌜ r ≡ bitAt g ⌝ }
+    ensures { λ r. ⌜ r ≡ hashBit g ⌝ }
 {
     1u64 << (g % 64)
 }
@@ -205,7 +205,7 @@ pub fn declare(
     place: usize,
     stop: usize,
 ) -> usize
-    requires { let bs = now text in ⌜ (place ≤ stop) × (stop ≤ length bs) × (k < 18446744073709551615) × (length (declaredBefore bs place) ≡ k) × AddsName bs place stop colon × Indexed bs place (now filter) (now slots) ⌝ }
+    requires { ⌜ Enterable (now text) place stop k colon (now filter) (now slots) ⌝ }
     ensures next { λ r. ⌜ r ≡ (k + 1 if colon else k) ⌝ }
     ensures index { λ r. ⌜ Indexed (now (text .entry)) stop (now (filter .exit)) (now (slots .exit)) ⌝ }
 {

@@ -12,7 +12,7 @@ use Rattle.words.specs.Overlay.{overlay}
 use Rattle.rules.specs.Block.{Block, blockWords}
 use Rattle.rules.specs.InRange.{outside}
 use Rattle.laying.specs.Part.{blockParts}
-use Rattle.laying.specs.Went.{WentFitting, nothing}
+use Rattle.laying.specs.Appends.{AppendsFitting, nothing}
 use Rattle.laying.specs.declared.Laid.{Laid}
 use Rattle.laying.proofs.Blocks.{block-words, block-outside}
 
@@ -31,7 +31,7 @@ tail-back a o ws h =
 
 -- where it is a block that is laid from nothing, its numbers in the range
 pub block-back : (first : ℕ) (B : Block) (at : ℕ) (out : List ℕ) {b : Laid} {out′ : List ℕ} → at ≤ length out → outside B ≡ false →
-    WentFitting nothing b (midOf at (length out - at) out) out′ (blockParts first B) → putMid at (length out - at) out out′ ≡ overlay out at (blockWords first B)
+    AppendsFitting nothing b (midOf at (length out - at) out) out′ (blockParts first B) → putMid at (length out - at) out out′ ≡ overlay out at (blockWords first B)
 block-back first B at out h f w =
     ap (putMid at (length out - at) out) (w .over (fits _ (block-outside first B ∙ f)) ∙ ap (overlay _ 0) (block-words first B)) ∙ tail-back at out (blockWords first B) h
   where

@@ -28,12 +28,12 @@ countsFrom β s v k a r w e cs =
     (w + length (blocksWords β s (v + a) e cs))
 
 -- what a constraint costs that has no fault
-pub record Counted (β : ℕ → Bounds) (s : ℕ → Bool) (first : ℕ) (e : Encoded) (c : Constraint) (r : Cost) : Type 0 where
+pub record CountsBlock (β : ℕ → Bounds) (s : ℕ → Bool) (first : ℕ) (e : Encoded) (c : Constraint) (r : Cost) : Type 0 where
   pub auxiliaries : r .auxiliaries ≡ length (blockOf β s e c .auxiliaries)
   pub rows : r .rows ≡ length (blockOf β s e c .rows)
   pub words : r .words ≡ length (blockWords first (blockOf β s e c))
 
 pub record Costs (β : ℕ → Bounds) (s : ℕ → Bool) (first : ℕ) (e : Encoded) (c : Constraint) (r : Cost) : Type 0 where
   pub fault : r .fault ≡ blockFault β s first e c
-  pub counted : r .fault ≡ 0 → Counted β s first e c r
+  pub counted : r .fault ≡ 0 → CountsBlock β s first e c r
   pub small : r .words + r .auxiliaries + r .rows ≤ 1000000

@@ -49,7 +49,8 @@ pub fn model_bounds(
     highs: &mut [i64],
 )
     requires { ⌜ Kept (now ws) (now heads) read × (read .number ≡ 0) × (now lowers ≡ noBounds) × (now uppers ≡ noBounds) × (now uses ≡ noneYet) × (now lows ≡ noBounds) × (now highs ≡ noBounds) ⌝ }
-    ensures { λ r. ⌜ ModelBounds (now (ws .entry)) (now (heads .entry)) read (now (lowers .exit)) (now (uppers .exit)) (now (uses .exit)) × SumsKept (now (lows .exit)) (now (highs .exit)) (read .constraints) (modelSums (now (ws .entry)) (now (heads .entry)) read (now (lowers .exit)) (now (uppers .exit))) ⌝ }
+    ensures bounds { λ r. ⌜ ModelBounds (now (ws .entry)) (now (heads .entry)) read (now (lowers .exit)) (now (uppers .exit)) (now (uses .exit)) ⌝ }
+    ensures sums { λ r. ⌜ SumsKept (now (lows .exit)) (now (highs .exit)) (read .constraints) (modelSums (now (ws .entry)) (now (heads .entry)) read (now (lowers .exit)) (now (uppers .exit))) ⌝ }
 {
     let sources = read.sources;
     keep_bounds(&ws[..sources], lowers, uppers);

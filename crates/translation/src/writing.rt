@@ -1,14 +1,12 @@
 // Translate, after check: the words of the row system.
 ghost use mathlib.Core.Path.{_≡_};
-ghost use Prim.Native.Nat.{_+_, _≤_};
+ghost use Prim.Native.Nat.{_+_};
 ghost use lib.ListN.{length};
 ghost use Rattle.words.specs.Overlay.{overlay};
 ghost use Rattle.models.specs.Model.{sourceWords};
 ghost use Rattle.rules.specs.Translation.{systemWords};
-ghost use Rattle.sharing.specs.SharedSolutions.{Passes};
-ghost use Rattle.linearsums.specs.Places.{SumsKept};
 ghost use Rattle.translation.specs.Walk.{allBlocks};
-ghost use Rattle.translation.specs.ModelBounds.{ModelBounds, modelSums};
+ghost use Rattle.translation.specs.ModelBounds.{Writable};
 use blocks::block;
 use encodings::record_encoding;
 use linearsums::sum_at;
@@ -30,8 +28,9 @@ fn write_blocks(
     highs: &[i64],
     out: &mut [u32],
 ) -> usize
-    requires { ⌜ ModelBounds (now ws) (now heads) read (now ls) (now us) (now uses) × SumsKept (now lows) (now highs) (read .constraints) (modelSums (now ws) (now heads) read (now ls) (now us)) × Passes (now ws) × (length (sourceWords (now ws)) + length (allBlocks (now ws)) ≤ length (now out)) ⌝ }
-    ensures { λ r. ⌜ (r ≡ length (sourceWords (now (ws .entry))) + length (allBlocks (now (ws .entry)))) × (now (out .exit) ≡ overlay (now (out .entry)) (length (sourceWords (now (ws .entry)))) (allBlocks (now (ws .entry)))) ⌝ }
+    requires { ⌜ Writable (now ws) (now heads) read (now ls) (now us) (now uses) (now lows) (now highs) (length (sourceWords (now ws)) + length (allBlocks (now ws))) (length (now out)) ⌝ }
+    ensures end { λ r. ⌜ r ≡ length (sourceWords (now (ws .entry))) + length (allBlocks (now (ws .entry))) ⌝ }
+    ensures output { λ r. ⌜ now (out .exit) ≡ overlay (now (out .entry)) (length (sourceWords (now (ws .entry)))) (allBlocks (now (ws .entry))) ⌝ }
 {
     let n = read.constraints;
     let mut k = 0;
@@ -73,7 +72,7 @@ pub fn write_system(
     highs: &[i64],
     out: &mut [u32],
 )
-    requires { ⌜ ModelBounds (now ws) (now heads) read (now ls) (now us) (now uses) × SumsKept (now lows) (now highs) (read .constraints) (modelSums (now ws) (now heads) read (now ls) (now us)) × Passes (now ws) × (length (systemWords (now ws)) ≤ length (now out)) ⌝ }
+    requires { ⌜ Writable (now ws) (now heads) read (now ls) (now us) (now uses) (now lows) (now highs) (length (systemWords (now ws))) (length (now out)) ⌝ }
     ensures { λ r. ⌜ now (out .exit) ≡ overlay (now (out .entry)) 0 (systemWords (now (ws .entry))) ⌝ }
 {
     let sources = read.sources;

@@ -18,7 +18,7 @@ use Rattle.words.specs.Judge.{firstOutOfBounds}
 use Rattle.words.specs.Variables.{startsPair, variables}
 use Rattle.words.specs.Word.{kind, signed, wordAt}
 use Rattle.words.proofs.Reading.{word-then, word-ahead}
-use Rattle.variables.specs.Start.{starts, boundsOf}
+use Rattle.variables.specs.Start.{starts, pairBounds}
 use Rattle.variables.specs.Counted.{VariablesBefore}
 
 -- the variables of a list that begins with a word
@@ -31,8 +31,8 @@ first-none w ws = go (startsPair w) (eqb (kind w) 3)
     go false true e = false-true (sym e)
     go false false e = refl
 
-first-one : (w : ℕ) (ws : List ℕ) → starts w ≡ true → variables (w ∷ ws) ≡ boundsOf w (wordAt ws 0) ∷ variables ws
-unfolding starts variables boundsOf
+first-one : (w : ℕ) (ws : List ℕ) → starts w ≡ true → variables (w ∷ ws) ≡ pairBounds w (wordAt ws 0) ∷ variables ws
+unfolding starts variables pairBounds
 first-one w ws = go (startsPair w) (eqb (kind w) 3)
   where
     B : Bounds
@@ -49,7 +49,7 @@ module _ (ws : List ℕ) (at : ℕ) where
   at-none h e = ap variables (word-then ws at h) ∙ first-none (getD ws at 0) (drop (at + 1) ws) e
 
   pub at-one : at < length ws → starts (getD ws at 0) ≡ true →
-      variables (drop at ws) ≡ boundsOf (getD ws at 0) (wordAt ws (at + 1)) ∷ variables (drop (at + 1) ws)
+      variables (drop at ws) ≡ pairBounds (getD ws at 0) (wordAt ws (at + 1)) ∷ variables (drop (at + 1) ws)
   at-one h e = ap variables (word-then ws at h) ∙ first-one (getD ws at 0) (drop (at + 1) ws) e ∙ rw (word-ahead ws at 0 (at + 1) (omega arith))
 
   pub at-last : length ws ≤ at → variables (drop at ws) ≡ []
@@ -93,7 +93,7 @@ pub record Kept (ws : List ℕ) (vs : List ℤ) (x at : ℕ) : Type 0 where
 
 module _ {ws : List ℕ} {vs : List ℤ} {x at : ℕ} (k : Kept ws vs x at) where
   abbrev kept : Bool
-  kept = within (boundsOf (getD ws at 0) (wordAt ws (at + 1))) (value vs x)
+  kept = within (pairBounds (getD ws at 0) (wordAt ws (at + 1))) (value vs x)
 
   pub keep-none : at < length ws → starts (getD ws at 0) ≡ false → Kept ws vs x (at + 1)
   keep-none h e = record { few = omega (arith, k .few); rest = rw (at-none ws at h e) at (k .rest) }

@@ -13,5 +13,5 @@ unfoldable pub starts : ℕ → Bool
 starts w = startsPair w || eqb (kind w) Kind.boolean
 
 -- by the word after it, which has the upper bound of a pair
-unfoldable pub boundsOf : ℕ → ℕ → Bounds
-boundsOf w next = (signed w to signed next) if startsPair w else bit
+unfoldable pub pairBounds : ℕ → ℕ → Bounds
+pairBounds w next = (signed w to signed next) if startsPair w else bit

@@ -7,7 +7,7 @@ ghost use Rattle.words.specs.Answer.{holds};
 ghost use Rattle.words.specs.Judge.{firstOutOfBounds};
 ghost use Rattle.words.specs.Variables.{startsPair, variables};
 ghost use Rattle.words.specs.Verdict.{verdict};
-ghost use Rattle.variables.specs.Start.{starts, boundsOf};
+ghost use Rattle.variables.specs.Start.{starts, pairBounds};
 ghost use Rattle.variables.specs.Judged.{judgedThen};
 use words::Refusal;
 use words::Verdict;
@@ -47,7 +47,7 @@ pub fn between(lower: i64, v: i64, upper: i64) -> bool
 
 // Whether a value keeps the bounds of the variable that a word starts; a pair's upper bound is the next word.
 fn keeps(w: u32, next: u32, v: i64) -> bool
-    ensures { λ r. ⌜ r ≡ within (boundsOf w next) v ⌝ }
+    ensures { λ r. ⌜ r ≡ within (pairBounds w next) v ⌝ }
 {
     if starts_pair(w) {
         return between(words::signed_of(w), v, words::signed_of(next));

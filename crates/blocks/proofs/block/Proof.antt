@@ -11,7 +11,7 @@ use Rattle.rules.specs.Block.{numbered}
 use Rattle.rules.specs.Parts.{_─_≤0}
 use Rattle.rules.specs.Rule.{rule}
 use Rattle.laying.specs.Part.{boundParts, termParts, rowParts, blockParts}
-use Rattle.laying.specs.Lists.{many, rowOf}
+use Rattle.laying.specs.Lists.{many, rowPartsOf}
 use Rattle.laying.proofs.Alike.{went-fitting}
 use Rattle.extremes.specs.Bounded.{boundsOf}
 use Rattle.linearsums.specs.Sum.{formOf, sumOf}
@@ -49,7 +49,7 @@ returns c =
     rw (by-code _ _ _ _ _ 1 e refl) (from (c .before .before .before .before .before .before .before .before .from-nothing .ensures .0) (went-fitting (w .0 (boundsOf (s .args .ls .now) (s .args .us .now)) (s .args .first)), omega (arith, w .1)))
 
 returns-2 : tie.Need-returns-2
-unfolding builtin builtins choosing rule _─_≤0 blockParts boundParts flatMap rowParts termParts numbered rowOf many
+unfolding builtin builtins choosing rule _─_≤0 blockParts boundParts flatMap rowParts termParts numbered rowPartsOf many
 returns-2 c =
     let s = c .before .before .before .before .before .before .before .before .before .before .before .before .before in
     let e : s .args .code ≡ 2 = c .before .before .before .before .match .keys2 in
@@ -57,7 +57,7 @@ returns-2 c =
     rw (by-code _ _ _ _ _ 2 e refl) (from (c .before .before .before .before .before .before .before .before .from-nothing .ensures .0) (went-fitting (w .0), omega (arith, w .1)))
 
 returns-3 : tie.Need-returns-3
-unfolding builtin builtins choosing rule _─_≤0 blockParts boundParts flatMap rowParts termParts numbered rowOf many
+unfolding builtin builtins choosing rule _─_≤0 blockParts boundParts flatMap rowParts termParts numbered rowPartsOf many
 returns-3 c =
     let s = c .before .before .before .before .before .before .before .before .before .before .before .before .before in
     let e : s .args .code ≡ 3 = c .before .before .before .before .match .keys3 in
@@ -81,7 +81,7 @@ returns-5 c =
     rw (by-code _ _ _ _ _ 5 e refl) (from (c .before .before .before .before .before .before .before .before .from-nothing .ensures .0) (went-fitting (w .0 (s .args .first)), omega (arith, w .1)))
 
 returns-6 : tie.Need-returns-6
-unfolding builtin builtins choosing rule _─_≤0 blockParts boundParts flatMap rowParts termParts numbered rowOf many
+unfolding builtin builtins choosing rule _─_≤0 blockParts boundParts flatMap rowParts termParts numbered rowPartsOf many
 returns-6 c =
     let s = c .before .before .before .before .before .before .before .before .before .before .before .before .before in
     let e : s .args .code ≡ 6 = c .before .before .before .before .match .keys6 in
@@ -167,7 +167,7 @@ returns-16 c =
     rw (by-code _ _ _ _ _ 16 e refl) (from (c .before .before .before .before .before .before .before .before .from-nothing .ensures .0) (went-fitting (w .0 (boundsOf (s .args .ls .now) (s .args .us .now)) (s .args .first)), omega (arith, w .1)))
 
 returns-17 : tie.Need-returns-17
-unfolding builtin builtins choosing rule _─_≤0 blockParts boundParts flatMap rowParts termParts numbered rowOf many
+unfolding builtin builtins choosing rule _─_≤0 blockParts boundParts flatMap rowParts termParts numbered rowPartsOf many
 returns-17 c =
     let s = c .before .before .before .before .before .before .before .before .before .before .before .before .before in
     let e : s .args .code ≡ 17 = c .before .before .before .before .match .keys17 in

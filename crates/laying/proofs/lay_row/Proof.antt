@@ -2,7 +2,7 @@
 use native.Mathlib.Omega.{arith}
 use mir.Facts.{toZ-ofZ}
 use borrow.Author.Needs.{needs}
-use Rattle.laying.specs.Lists.{rowOf}
+use Rattle.laying.specs.Lists.{rowPartsOf}
 use Rattle.laying.proofs.Parts.{went-then}
 use Rattle.laying.proofs.Counts.{sized-row, no-room}
 use Rattle.laying.proofs.lay_row.Statement.{statement}
@@ -17,7 +17,7 @@ returns c =
     (no-room (sized-row (s .args .kind) (s .args .xs .now) (s .args .cs .now) (s .args .c) (s .pre .3)) (if1 .taken) w, omega (arith, w .words, w .auxiliaries, w .rows))
 
 returns-2 : tie.Need-returns-2
-unfolding rowOf
+unfolding rowPartsOf
 returns-2 c =
     let s = c .before .before .before .before .before .before .before .before .before .before .before .before .before .before .before .before in
     let lay-head = c .before .before .before .before .before .before .before .before .before .before .lay-head in

@@ -15,7 +15,7 @@ use Rattle.integers.specs.Terms.{value}
 use Rattle.words.specs.Kind as Kind
 use Rattle.words.specs.Word.{wordAt}
 use Rattle.words.specs.declared.Refusal.{Refusal}
-use Rattle.variables.specs.Start.{starts, boundsOf}
+use Rattle.variables.specs.Start.{starts, pairBounds}
 use Rattle.rowsystems.specs.Row.{satisfied}
 use Rattle.rowsystems.specs.RowSystem.{rows}
 use Rattle.rowreading.specs.Item.{startDue}
@@ -48,7 +48,7 @@ item-there : (c : tie.Else5 Inv-loop μ-loop) → c .before .before .before .bef
 item-there c = omega (arith, c .before .see-item .ensures .0 .past (c .if5 .left), c .before .see-item .ensures .0 .inside)
 
 -- whether the value keeps its bounds
-kept : (c : tie.Else2 Inv-loop μ-loop) → let a = c .before .before .before .before .before .before .before .before .args in let l = c .before .before .before .before .before .before .loop in c .before .see-variable .result .holds ≡ within (boundsOf (wordAt (a .ws .now) (l .at)) (wordAt (a .ws .now) (l .at + 1))) (value (a .values .now) (l .n))
+kept : (c : tie.Else2 Inv-loop μ-loop) → let a = c .before .before .before .before .before .before .before .before .args in let l = c .before .before .before .before .before .before .loop in c .before .see-variable .result .holds ≡ within (pairBounds (wordAt (a .ws .now) (l .at)) (wordAt (a .ws .now) (l .at + 1))) (value (a .values .now) (l .n))
 kept c = c .before .see-variable .ensures .1 (c .if2 .left) ∙ rw (toZ-ofZ (record { sfits = c .before .before .value-at .ok }), c .before .before .value-at .ensures, c .before .before .before .before .before .word-at .ensures)
 
 -- whether the row or product is true

@@ -9,7 +9,7 @@ use borrow.Author.Needs.{needs}
 use lib.ListN.{length}
 use Rattle.words.specs.Word.{wordAt}
 use Rattle.words.specs.declared.Refusal.{Refusal}
-use Rattle.rowreading.specs.Item.{faultHead, startDue, dueWith, itemTerms, dueAfter}
+use Rattle.rowreading.specs.Item.{faultAtHead, startDue, dueWith, itemTerms, dueAfter}
 use Rattle.rowreading.specs.Onward.{onward, stopped, Placed}
 use Rattle.rowreading.proofs.Counts.{CountedFrom, none-counted, count-plain, count-head, counted}
 use Rattle.rowreading.proofs.Heads.{started-few, head-here, head-halted, head-gone, term-gone}
@@ -31,7 +31,7 @@ abbrev μ-items : tie.MeasureT-items
 μ-items ws first before start sources₀ n₀ at₀ sources n at = length ws - at
 
 -- what the head's fault is
-head : (c : tie.After-fault-head Inv-loop μ-loop Inv-items μ-items) → c .fault-head .result ≡ faultHead (c .before .before .items .sources) (c .before .before .items .n) (wordAt (c .before .before .before .before .args .ws .now) (c .before .before .items .at))
+head : (c : tie.After-fault-head Inv-loop μ-loop Inv-items μ-items) → c .fault-head .result ≡ faultAtHead (c .before .before .items .sources) (c .before .before .items .n) (wordAt (c .before .before .before .before .args .ws .now) (c .before .before .items .at))
 head c = c .fault-head .ensures ∙ rw (c .before .word-at .ensures)
 
 -- reading stops with a fault: at the head, in a term, after the terms

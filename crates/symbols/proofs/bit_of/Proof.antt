@@ -1,12 +1,12 @@
 -- The shift is the bit.
-use Rattle.symbols.specs.Hash.{bitAt}
+use Rattle.symbols.specs.Hash.{hashBit}
 use mathlib.Core.Path.{refl}
 use borrow.Author.Needs.{needs}
 use Rattle.symbols.proofs.bit_of.Statement.{statement}
 use Rattle.symbols.proofs.bit_of.Tie as tie
 
 returns : tie.Need-returns
-unfolding bitAt
+unfolding hashBit
 returns c = refl
 
 pub bit-of-spec : {M : Type 1} → statement M

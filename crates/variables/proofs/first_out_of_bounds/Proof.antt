@@ -10,7 +10,7 @@ use Rattle.integers.specs.Bounds.{within}
 use Rattle.integers.specs.Terms.{value}
 use Rattle.words.specs.Verdict.{verdict}
 use Rattle.words.specs.Word.{wordAt}
-use Rattle.variables.specs.Start.{boundsOf}
+use Rattle.variables.specs.Start.{pairBounds}
 use Rattle.variables.specs.Counted.{VariablesBefore}
 use Rattle.variables.proofs.Walk.{count-none, count-one, words-left, none-left, Kept, keep-none, keep-one, break-one, keep-all}
 use Rattle.variables.proofs.first_out_of_bounds.Statement.{statement}
@@ -26,7 +26,7 @@ abbrev μ-loop : tie.MeasureT-loop
 said : (c : tie.After-keeps Inv-loop μ-loop) →
     let a = c .before .before .before .before .before .before .before .before .before .args in
     let p = c .before .before .before .before .before .before .before .loop in
-    within (boundsOf (getD (a .ws .now) (p .at) 0) (wordAt (a .ws .now) (p .at + 1))) (value (a .values .now) (p .x)) ≡ c .keeps .result
+    within (pairBounds (getD (a .ws .now) (p .at) 0) (wordAt (a .ws .now) (p .at + 1))) (value (a .values .now) (p .x)) ≡ c .keeps .result
 said c = sym (c .keeps .ensures ∙ rw (toZ-ofZ (record { sfits = c .before .value-at .ok }), c .before .value-at .ensures, c .before .before .word-at .ensures))
 
 -- a turn has a word

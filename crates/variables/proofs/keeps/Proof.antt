@@ -2,12 +2,12 @@
 use mathlib.Core.Path.{_∙_}
 use mir.Facts.{toZ-ofZ}
 use borrow.Author.Needs.{needs}
-use Rattle.variables.specs.Start.{boundsOf}
+use Rattle.variables.specs.Start.{pairBounds}
 use Rattle.variables.proofs.keeps.Statement.{statement}
 use Rattle.variables.proofs.keeps.Tie as tie
 
 returns : tie.Need-returns
-unfolding boundsOf
+unfolding pairBounds
 returns c =
     let a = c .before .before .signed-of in
     let b = c .before .signed-of2 in
@@ -15,7 +15,7 @@ returns c =
     (c .between .ensures ∙ rw (toZ-ofZ (record { sfits = a .ok }), toZ-ofZ (record { sfits = b .ok }), a .ensures, b .ensures, toZ-ofZ (c .before .before .before .before .before .fits .v)))
 
 returns-2 : tie.Need-returns-2
-unfolding boundsOf
+unfolding pairBounds
 returns-2 c = rw (← c .before .before .starts-pair .ensures, c .before .if1 .left) (c .between2 .ensures ∙ rw (toZ-ofZ (c .before .before .before .fits .v)))
 
 pub keeps-spec : {M : Type 1} → statement M

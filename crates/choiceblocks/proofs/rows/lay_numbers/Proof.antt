@@ -6,12 +6,12 @@ use Rattle.models.specs.Model.{num}
 use Rattle.arguments.proofs.Size.{read}
 use Rattle.laying.proofs.Parts.{Laying, begun, more, done, went-length}
 use Rattle.laying.proofs.Counts.{sized-any, many-listed}
-use Rattle.choiceblocks.specs.Rows.{numberAt}
+use Rattle.choiceblocks.specs.Rows.{numberTermAt}
 use Rattle.choiceblocks.proofs.rows.lay_numbers.Statement.{statement}
 use Rattle.choiceblocks.proofs.rows.lay_numbers.Tie as tie
 
 abbrev Inv-loop : tie.InvT-loop
-Inv-loop out₀ args base v n t₀ k₀ out t k = Laying 10 (numberAt args base v) n t₀ t out₀ out k
+Inv-loop out₀ args base v n t₀ k₀ out t k = Laying 10 (numberTermAt args base v) n t₀ t out₀ out k
 
 abbrev μ-loop : tie.MeasureT-loop
 μ-loop out₀ args base v n t₀ k₀ out t k = n - k

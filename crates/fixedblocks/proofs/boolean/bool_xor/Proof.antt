@@ -6,13 +6,13 @@ use borrow.Author.Needs.{needs}
 use Rattle.rules.specs.Block.{numbered}
 use Rattle.rules.specs.Rule.{rule, sameRows, sameReified}
 use Rattle.laying.specs.Part.{boundParts, termParts, rowParts, blockParts}
-use Rattle.laying.specs.Lists.{many, rowOf}
+use Rattle.laying.specs.Lists.{many, rowPartsOf}
 use Rattle.fixedblocks.proofs.Laid.{then}
 use Rattle.fixedblocks.proofs.boolean.bool_xor.Statement.{statement}
 use Rattle.fixedblocks.proofs.boolean.bool_xor.Tie as tie
 
 returns : tie.Need-returns
-unfolding rule sameReified sameRows blockParts boundParts flatMap rowParts termParts numbered rowOf many
+unfolding rule sameReified sameRows blockParts boundParts flatMap rowParts termParts numbered rowPartsOf many
 returns c =
     let s = c .before .before .before .before .before .before .before .before .before .before .before .before .before .before .before in
     let two-products = c .before .before .before .before .before .before .before .before .before .before .before .before .two-products in

@@ -6,12 +6,12 @@ use Rattle.rules.specs.Block.{numbered}
 use Rattle.rules.specs.Parts.{_─_=0}
 use Rattle.rules.specs.Rule.{rule}
 use Rattle.laying.specs.Part.{boundParts, termParts, rowParts, blockParts}
-use Rattle.laying.specs.Lists.{many, rowOf}
+use Rattle.laying.specs.Lists.{many, rowPartsOf}
 use Rattle.fixedblocks.proofs.compare.int_eq.Statement.{statement}
 use Rattle.fixedblocks.proofs.compare.int_eq.Tie as tie
 
 returns : tie.Need-returns
-unfolding rule _─_=0 blockParts boundParts flatMap rowParts termParts numbered rowOf many
+unfolding rule _─_=0 blockParts boundParts flatMap rowParts termParts numbered rowPartsOf many
 returns c =
     let w = c .before .before .two-terms .ensures in
     ((λ β first. w .0), omega (arith, w .1))

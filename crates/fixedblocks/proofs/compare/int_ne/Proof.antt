@@ -6,13 +6,13 @@ use borrow.Author.Needs.{needs}
 use Rattle.rules.specs.Block.{numbered}
 use Rattle.rules.specs.Rule.{rule, whereOne, whereZero}
 use Rattle.laying.specs.Part.{boundParts, termParts, rowParts, blockParts}
-use Rattle.laying.specs.Lists.{many, rowOf}
+use Rattle.laying.specs.Lists.{many, rowPartsOf}
 use Rattle.fixedblocks.proofs.Laid.{then}
 use Rattle.fixedblocks.proofs.compare.int_ne.Statement.{statement}
 use Rattle.fixedblocks.proofs.compare.int_ne.Tie as tie
 
 returns : tie.Need-returns
-unfolding rule whereOne whereZero blockParts boundParts flatMap rowParts termParts numbered rowOf many
+unfolding rule whereOne whereZero blockParts boundParts flatMap rowParts termParts numbered rowPartsOf many
 returns c =
     let s = c .before .before .before .before .before .before .before .before .before .before .before .before .before in
     let lay-bound = c .before .before .before .before .before .before .before .before .before .before .lay-bound in

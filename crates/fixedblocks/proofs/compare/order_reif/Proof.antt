@@ -6,13 +6,13 @@ use borrow.Author.Needs.{needs}
 use Rattle.rules.specs.Block.{numbered}
 use Rattle.rules.specs.Rule.{whereOne, whereZero, orderReified}
 use Rattle.laying.specs.Part.{boundParts, termParts, rowParts, blockParts}
-use Rattle.laying.specs.Lists.{many, rowOf}
+use Rattle.laying.specs.Lists.{many, rowPartsOf}
 use Rattle.fixedblocks.proofs.Laid.{then}
 use Rattle.fixedblocks.proofs.compare.order_reif.Statement.{statement}
 use Rattle.fixedblocks.proofs.compare.order_reif.Tie as tie
 
 returns : tie.Need-returns
-unfolding orderReified whereOne whereZero blockParts boundParts flatMap rowParts termParts numbered rowOf many
+unfolding orderReified whereOne whereZero blockParts boundParts flatMap rowParts termParts numbered rowPartsOf many
 returns c =
     let s = c .before .before .before .before .before .before .before .before .before in
     let t = rw (toZ-ofZ (s .fits .d)) at (c .before .before .before .before .before .before .where-one .ensures) in

@@ -9,7 +9,7 @@ use Rattle.rules.specs.Block.{numbered}
 use Rattle.rules.specs.Parts.{Z}
 use Rattle.rules.specs.Rule.{rule, onlyNegative, absolute}
 use Rattle.laying.specs.Part.{boundParts, termParts, rowParts, blockParts}
-use Rattle.laying.specs.Lists.{many, rowOf}
+use Rattle.laying.specs.Lists.{many, rowPartsOf}
 use Rattle.laying.proofs.Parts.{went-length}
 use Rattle.fixedblocks.proofs.Laid.{then}
 use Rattle.fixedblocks.proofs.number.int_abs.Statement.{statement}
@@ -31,7 +31,7 @@ same-length c =
     went-length (c .before .before .lay-only-negative .ensures .0) ∙ went-length (c .before .before .before .before .before .before .before .lay-row .ensures .0) ∙ went-length (c .before .before .before .before .before .before .before .before .before .before .before .before .before .three-terms .ensures .0) ∙ went-length (c .before .before .before .before .before .before .before .before .before .before .before .before .before .before .before .before .before .lay-times .ensures .0) ∙ went-length (c .before .before .before .before .before .before .before .before .before .before .before .before .before .before .before .before .before .before .before .before .before .lay-zero-bound .ensures .0) ∙ went-length (c .before .before .before .before .before .before .before .before .before .before .before .before .before .before .before .before .before .before .before .before .before .before .before .before .before .lay-bound .ensures .0)
 
 returns : tie.Need-returns
-unfolding rule absolute onlyNegative Z blockParts boundParts flatMap rowParts termParts numbered rowOf many
+unfolding rule absolute onlyNegative Z blockParts boundParts flatMap rowParts termParts numbered rowPartsOf many
 returns c =
     let s = c .before .before .before .before .before .before .before .before .before .before .before .before .before .before .before .before .before .before .before .before .before .before .before .before .before .before .before .before in
     let bound-at = c .before .before .before .bound-at in

@@ -8,7 +8,7 @@ use Rattle.rules.specs.Block.{numbered}
 use Rattle.rules.specs.Parts.{_─_≤0}
 use Rattle.rules.specs.Rule.{whereOne, whereZero, touching}
 use Rattle.laying.specs.Part.{boundParts, termParts, rowParts, blockParts}
-use Rattle.laying.specs.Lists.{many, rowOf}
+use Rattle.laying.specs.Lists.{many, rowPartsOf}
 use Rattle.laying.proofs.Parts.{went-length}
 use Rattle.fixedblocks.proofs.Laid.{then}
 use Rattle.fixedblocks.proofs.number.touching.Statement.{statement}
@@ -29,7 +29,7 @@ same-length c =
     went-length (c .before .before .where-one2 .ensures .0) ∙ went-length (c .before .before .before .before .before .before .where-one .ensures .0) ∙ went-length (c .before .before .before .before .before .before .before .before .before .before .where-zero .ensures .0) ∙ went-length (c .before .before .before .before .before .before .before .before .before .before .before .before .before .before .two-terms2 .ensures .0) ∙ went-length (c .before .before .before .before .before .before .before .before .before .before .before .before .before .before .before .before .before .before .two-terms .ensures .0) ∙ went-length (c .before .before .before .before .before .before .before .before .before .before .before .before .before .before .before .before .before .before .before .before .before .before .lay-bound .ensures .0)
 
 returns : tie.Need-returns
-unfolding touching whereOne whereZero _─_≤0 blockParts boundParts flatMap rowParts termParts numbered rowOf many
+unfolding touching whereOne whereZero _─_≤0 blockParts boundParts flatMap rowParts termParts numbered rowPartsOf many
 returns c =
     let s = c .before .before .before .before .before .before .before .before .before .before .before .before .before .before .before .before .before .before .before .before .before .before .before .before .before in
     let w = then 10 10000 (c .before .before .before .before .before .before .before .before .before .before .before .before .before .before .before .before .before .before .before .before .before .before .lay-bound .ensures) (then 2000 8000 (c .before .before .before .before .before .before .before .before .before .before .before .before .before .before .before .before .before .before .two-terms .ensures) (then 2000 6000 (c .before .before .before .before .before .before .before .before .before .before .before .before .before .before .two-terms2 .ensures) (then 2000 4000 (c .before .before .before .before .before .before .before .before .before .before .where-zero .ensures) (then 2000 2000 (c .before .before .before .before .before .before .where-one .ensures) (c .before .before .where-one2 .ensures))))) in

@@ -10,9 +10,9 @@ use Rattle.integers.specs.declared.Bounds.{Bounds}
 use Rattle.integers.proofs.Fits.{back}
 use Rattle.rowsystems.specs.Row.{sum≤0}
 use Rattle.rules.specs.Block.{aux, numbered}
-use Rattle.rules.specs.Rule.{linked, signed, onlyNegative, linNotEqual, rule}
+use Rattle.rules.specs.Rule.{linked, signSplit, onlyNegative, linNotEqual, rule}
 use Rattle.laying.specs.Part.{termParts, rowParts}
-use Rattle.laying.specs.Lists.{many, rowOf}
+use Rattle.laying.specs.Lists.{many, rowPartsOf}
 use Rattle.laying.proofs.Parts.{went-then}
 use Rattle.linearsums.specs.Sum.{linearSum}
 use Rattle.linearblocks.specs.Rows.{link, split}
@@ -27,7 +27,7 @@ lay-only-negative-requires c κs =
     (omega (arith, s .pre .0, c .before .before .before .before .before .before .before .before .before .lay-split .ensures .1, c .before .before .before .lay-row .ensures .1), rw upper (s .pre .2 .1))
 
 returns : tie.Need-returns
-unfolding rule linNotEqual onlyNegative signed linked split link flatMap rowParts termParts numbered rowOf many linearSum
+unfolding rule linNotEqual onlyNegative signSplit linked split link flatMap rowParts termParts numbered rowPartsOf many linearSum
 returns c =
     let s = c .before .before .before .before .before .before .before .before .before .before .before .before .before .before .before .before .before .before in
     let a = s .args in

@@ -7,7 +7,7 @@ use borrow.Author.Needs.{needs}
 use Rattle.arguments.proofs.Size.{read}
 use Rattle.rules.specs.Block.{numbered}
 use Rattle.laying.specs.Part.{termParts, rowParts}
-use Rattle.laying.specs.Lists.{many, rowOf}
+use Rattle.laying.specs.Lists.{many, rowPartsOf}
 use Rattle.laying.proofs.Parts.{went-then}
 use Rattle.linearblocks.specs.Rows.{atMostRows}
 use Rattle.linearblocks.proofs.linear.lay_at_most.Statement.{statement}
@@ -22,7 +22,7 @@ minus-requires c κs =
     rw (toZ-ofZ (s .fits .lower)) (omega (arith, s .pre .2))
 
 returns : tie.Need-returns
-unfolding atMostRows flatMap rowParts termParts numbered rowOf many
+unfolding atMostRows flatMap rowParts termParts numbered rowPartsOf many
 returns c =
     let s = c .before .before .before .before .before .before .before .before .before .before .before .before .before .before .before in
     let opposite = c .before .before .before .before .before .before .before .before .before .before .opposite in

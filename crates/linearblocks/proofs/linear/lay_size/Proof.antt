@@ -6,14 +6,14 @@ use mir.Facts.{toZ-ofZ}
 use borrow.Author.Needs.{needs}
 use Rattle.rules.specs.Block.{numbered}
 use Rattle.laying.specs.Part.{termParts, rowParts}
-use Rattle.laying.specs.Lists.{many, rowOf}
+use Rattle.laying.specs.Lists.{many, rowPartsOf}
 use Rattle.laying.proofs.Parts.{went-then}
 use Rattle.linearblocks.specs.Rows.{sizeRows}
 use Rattle.linearblocks.proofs.linear.lay_size.Statement.{statement}
 use Rattle.linearblocks.proofs.linear.lay_size.Tie as tie
 
 returns : tie.Need-returns
-unfolding sizeRows flatMap rowParts termParts numbered rowOf many
+unfolding sizeRows flatMap rowParts termParts numbered rowPartsOf many
 returns c =
     let s = c .before .before .before .before .before .before .before .before .before .before .before .before .before in
     let lay-row = c .before .before .before .before .before .before .before .before .lay-row in

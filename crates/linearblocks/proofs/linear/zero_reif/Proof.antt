@@ -6,7 +6,7 @@ use Rattle.integers.specs.declared.Bounds.{Bounds}
 use Rattle.integers.proofs.Fits.{back}
 use Rattle.models.specs.Model.{past, pastTerms}
 use Rattle.arguments.proofs.Size.{read, size-le}
-use Rattle.rules.specs.Rule.{linked, signed, zeroReified}
+use Rattle.rules.specs.Rule.{linked, signSplit, zeroReified}
 use Rattle.laying.proofs.Parts.{went-as}
 use Rattle.linearsums.specs.Sum.{linearSum}
 use Rattle.linearblocks.specs.Rows.{link, split}
@@ -30,7 +30,7 @@ lay-only-negative-requires c κs =
     (omega (arith, s .pre .0, c .before .before .before .before .before .before .before .lay-split .ensures .1, c .before .before .before .lay-zero .ensures .1), rw upper (s .pre .2 .1))
 
 returns : tie.Need-returns
-unfolding zeroReified signed linked split link linearSum
+unfolding zeroReified signSplit linked split link linearSum
 returns c =
     let s = c .before .before .before .before .before .before .before .before .before .before .before .before .before .before .before .before .before .before .before in
     let a = s .args in

@@ -9,7 +9,7 @@ use Rattle.models.specs.Shape.{argument}
 use Rattle.models.specs.Reading.{afterArgument}
 use Rattle.models.specs.InRange.{faultCount}
 use Rattle.models.proofs.Sound.{is-count}
-use Rattle.modelreading.specs.Onward.{Went, argumentsFrom}
+use Rattle.modelreading.specs.Onward.{StepsTo, argumentsFrom}
 use Rattle.modelreading.specs.declared.items.Step.{Step}
 use Rattle.modelreading.proofs.Steps.{and-then, or-halted, stepped, present}
 use Rattle.modelreading.proofs.Inner.{one-variable, one-number, one-exponent, a-length}
@@ -41,7 +41,7 @@ listed c = omega (arith, c .before .before .if1 .left, c .before .if2 .left, c .
 -- the length word
 length-word : (c : tie.After-step-over4) (d code k : ℕ) → c .before .before .before .before .before .before .before .args .argument ≡ argument code k →
     let s = c .before .before .before .before .before .before .before in
-    Went (s .args .ws .now) (take (s .args .v) (s .args .types .now)) d (argumentsFrom code k) (s .args .at) (afterArgument (s .args .argument) code (k + 1) (wordAt (s .args .ws .now) (s .args .at))) (c .step-over4 .result)
+    StepsTo (s .args .ws .now) (take (s .args .v) (s .args .types .now)) d (argumentsFrom code k) (s .args .at) (afterArgument (s .args .argument) code (k + 1) (wordAt (s .args .ws .now) (s .args .at))) (c .step-over4 .result)
 length-word c d code k e =
     let s = c .before .before .before .before .before .before .before in
     rw (c .step-over4 .ensures, c .before .of-count2 .ensures, c .before .before .before .before .before .word-at .ensures)

@@ -4,7 +4,7 @@ use Prim.Native.Nat.{ℕ, _+_, _-_}
 use native.Mathlib.Omega.{arith}
 use borrow.Author.Needs.{needs}
 use lib.ListN.{take}
-use Rattle.modelreading.specs.Onward.{Went, argumentsFrom}
+use Rattle.modelreading.specs.Onward.{StepsTo, argumentsFrom}
 use Rattle.modelreading.proofs.Onward.{at-heads}
 use Rattle.modelreading.proofs.Places.{past-arguments}
 use Rattle.modelreading.proofs.Steps.{no-word, and-then, or-halted, to-alike, clean}
@@ -12,7 +12,7 @@ use Rattle.modelreading.proofs.items.arguments_at.Statement.{statement}
 use Rattle.modelreading.proofs.items.arguments_at.Tie as tie
 
 abbrev Inv-loop : tie.InvT-loop
-Inv-loop ws at code lists types v place₀ k₀ place k = (d : ℕ) → Went ws (take v types) d (argumentsFrom code 0) at (argumentsFrom code k) (record { number = 0; at = place })
+Inv-loop ws at code lists types v place₀ k₀ place k = (d : ℕ) → StepsTo ws (take v types) d (argumentsFrom code 0) at (argumentsFrom code k) (record { number = 0; at = place })
 
 abbrev μ-loop : tie.MeasureT-loop
 μ-loop ws at code lists types v place₀ k₀ place k = 3 - k
@@ -28,7 +28,7 @@ argument-at-requires c κs =
 -- one more argument
 turn : (c : tie.After-argument-at Inv-loop μ-loop) (d : ℕ) →
     let s = c .before .before .before .before .before .before in
-    Went (s .args .ws .now) (take (s .args .v) (s .args .types .now)) d (argumentsFrom (s .args .code) 0) (s .args .at) (argumentsFrom (s .args .code) (c .before .before .before .before .loop .k + 1)) (c .argument-at .result)
+    StepsTo (s .args .ws .now) (take (s .args .v) (s .args .types .now)) d (argumentsFrom (s .args .code) 0) (s .args .at) (argumentsFrom (s .args .code) (c .before .before .before .before .loop .k + 1)) (c .argument-at .result)
 turn c d =
     let s = c .before .before .before .before .before .before in
     let p = c .before .before .before .before .loop in

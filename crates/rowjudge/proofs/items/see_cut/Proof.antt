@@ -4,7 +4,7 @@ use native.Mathlib.Omega.{arith}
 use borrow.Author.Needs.{needs}
 use Prim.Native.Nat.{suc, _+_, _-_, _*_, _≤_}
 use Rattle.rowsystems.specs.declared.Due.the-variants.{Terms, Item}
-use Rattle.rowreading.specs.Onward.{Went}
+use Rattle.rowreading.specs.Onward.{StepsTo}
 use Rattle.rowreading.specs.declared.items.Step.{Step}
 use Rattle.rowreading.proofs.Inner.{no-word, row-constant}
 use Rattle.rowreading.proofs.Steps.{and-then, or-halted, stepped}
@@ -13,13 +13,13 @@ use Rattle.rowjudge.proofs.items.see_cut.Statement.{statement}
 use Rattle.rowjudge.proofs.items.see_cut.Tie as tie
 
 abbrev Inv-loop : tie.InvT-loop
-Inv-loop ws n start terms at₀ left₀ at left = (at ≡ start + 2 * (terms - left)) × (left ≤ terms) × Went ws n (Terms terms) start (Terms left) (record { number = 0; at = at })
+Inv-loop ws n start terms at₀ left₀ at left = (at ≡ start + 2 * (terms - left)) × (left ≤ terms) × StepsTo ws n (Terms terms) start (Terms left) (record { number = 0; at = at })
 
 abbrev μ-loop : tie.MeasureT-loop
 μ-loop ws n start terms at₀ left₀ at left = left
 
 -- reading on past the term, or to its fault
-went : (c : tie.After-read-term Inv-loop μ-loop) → let a = c .before .before .before .before .args in Went (a .ws .now) (a .n) (Terms (a .terms)) (a .start) (Terms (c .before .before .loop .left - 1)) (c .read-term .result)
+went : (c : tie.After-read-term Inv-loop μ-loop) → let a = c .before .before .before .before .args in StepsTo (a .ws .now) (a .n) (Terms (a .terms)) (a .start) (Terms (c .before .before .loop .left - 1)) (c .read-term .result)
 went c =
     let l = c .before .before .loop in
     let e : suc (l .left - 1) ≡ l .left = omega (arith, c .before .loop-test .taken) in and-then (l .inv .2) refl refl (rw e at (c .read-term .ensures .0 (l .left - 1)))
@@ -29,7 +29,7 @@ past-term : (c : tie.Else1 Inv-loop μ-loop) → c .before .before .read-term .r
 past-term c = c .before .before .read-term .ensures .1 (c .if1 .left)
 
 -- the constant
-last : (c : tie.After-number-at Inv-loop μ-loop) → let a = c .before .before .before .before .args in Went (a .ws .now) (a .n) (Terms (a .terms)) (a .start) Item (c .number-at .result)
+last : (c : tie.After-number-at Inv-loop μ-loop) → let a = c .before .before .before .before .args in StepsTo (a .ws .now) (a .n) (Terms (a .terms)) (a .start) Item (c .number-at .result)
 last c =
     let a = c .before .before .before .before .args in
     let l = c .before .before .loop in

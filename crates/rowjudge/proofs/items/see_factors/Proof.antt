@@ -12,7 +12,7 @@ use Rattle.words.proofs.Word.{factors-fit}
 use Rattle.rowsystems.specs.Row.{satisfied}
 use Rattle.rowsystems.specs.RowSystem.{variableAt}
 use Rattle.rowsystems.specs.declared.Due.the-variants.{Result, FirstFactor, SecondFactor, Item}
-use Rattle.rowreading.specs.Onward.{Went, stepOver}
+use Rattle.rowreading.specs.Onward.{StepsTo, stepOver}
 use Rattle.rowreading.proofs.Inner.{product-result, first-factor, second-factor}
 use Rattle.rowreading.proofs.Steps.{and-then}
 use Rattle.rowjudge.proofs.Passing.{step-halts, step-goes, declared, declared-result}
@@ -21,23 +21,23 @@ use Rattle.rowjudge.proofs.items.see_factors.Statement.{statement}
 use Rattle.rowjudge.proofs.items.see_factors.Tie as tie
 
 -- reading on past the result, the first factor, the second
-result : (c : tie.After-fault-result) → let a = c .before .before .before .before .before .args in Went (a .ws .now) (a .n) Result (a .at) FirstFactor (stepOver (c .fault-result .result) (a .at))
+result : (c : tie.After-fault-result) → let a = c .before .before .before .before .before .args in StepsTo (a .ws .now) (a .n) Result (a .at) FirstFactor (stepOver (c .fault-result .result) (a .at))
 result c =
     let a = c .before .before .before .before .before .args in
     rw (c .fault-result .ensures, c .before .before .before .word-at .ensures, c .before .before .word-at2 .ensures, c .before .word-at3 .ensures) (product-result (a .ws .now) (a .n) (a .at) (c .before .before .before .before .before .pre .0 .within))
 
-past-result : (c : tie.Else1) → let a = c .before .before .before .before .before .before .args in Went (a .ws .now) (a .n) Result (a .at) FirstFactor (record { number = 0; at = a .at + 1 })
+past-result : (c : tie.Else1) → let a = c .before .before .before .before .before .before .args in StepsTo (a .ws .now) (a .n) Result (a .at) FirstFactor (record { number = 0; at = a .at + 1 })
 past-result c = step-goes (c .before .before .before .before .before .before .args .at) (result (c .before)) (c .if1 .left)
 
-first : (c : tie.After-fault-variable) → let a = c .before .before .before .before .before .before .before .args in Went (a .ws .now) (a .n) Result (a .at) SecondFactor (stepOver (c .fault-variable .result) (a .at + 1))
+first : (c : tie.After-fault-variable) → let a = c .before .before .before .before .before .before .before .args in StepsTo (a .ws .now) (a .n) Result (a .at) SecondFactor (stepOver (c .fault-variable .result) (a .at + 1))
 first c =
     let a = c .before .before .before .before .before .before .before .args in
     and-then (past-result (c .before)) refl refl (rw (c .fault-variable .ensures, c .before .before .before .before .word-at2 .ensures) (first-factor (a .ws .now) (a .n) (a .at + 1) (past-result (c .before) .inside)))
 
-past-first : (c : tie.Else2) → let a = c .before .before .before .before .before .before .before .before .args in Went (a .ws .now) (a .n) Result (a .at) SecondFactor (record { number = 0; at = a .at + 1 + 1 })
+past-first : (c : tie.Else2) → let a = c .before .before .before .before .before .before .before .before .args in StepsTo (a .ws .now) (a .n) Result (a .at) SecondFactor (record { number = 0; at = a .at + 1 + 1 })
 past-first c = step-goes (c .before .before .before .before .before .before .before .before .args .at + 1) (first (c .before)) (c .if2 .left)
 
-second : (c : tie.After-fault-variable2) → let a = c .before .before .before .before .before .before .before .before .before .args in Went (a .ws .now) (a .n) Result (a .at) Item (stepOver (c .fault-variable2 .result) (a .at + 2))
+second : (c : tie.After-fault-variable2) → let a = c .before .before .before .before .before .before .before .before .before .args in StepsTo (a .ws .now) (a .n) Result (a .at) Item (stepOver (c .fault-variable2 .result) (a .at + 2))
 second c =
     let a = c .before .before .before .before .before .before .before .before .before .args in
     let e : a .at + 1 + 1 ≡ a .at + 2 = omega arith in

@@ -7,14 +7,14 @@ use Rattle.integers.specs.Terms.{value}
 use Rattle.words.specs.Limit as Limit
 use Rattle.words.specs.Word.{payload}
 use Rattle.rowsystems.specs.Reading.{started}
-use Rattle.rowreading.specs.Item.{faultHead}
+use Rattle.rowreading.specs.Item.{faultAtHead}
 use Rattle.rowjudge.proofs.Passing.{head-there, head-stops, head-then, none-started, sum-due, sum-starts, sum-fault, sum-few, sum-true}
 use borrow.Author.Needs.{needs}
 use Rattle.rowjudge.proofs.items.see_row.Statement.{statement}
 use Rattle.rowjudge.proofs.items.see_row.Tie as tie
 
 -- the fault of the head
-fault : (c : tie.After-fault-row) → let a = c .before .before .args in c .fault-row .result ≡ faultHead (a .sources) (a .n) (a .head)
+fault : (c : tie.After-fault-row) → let a = c .before .before .args in c .fault-row .result ≡ faultAtHead (a .sources) (a .n) (a .head)
 fault c =
     let a = c .before .before .args in
     c .fault-row .ensures ∙ sym (sum-fault (a .head) (c .before .before .pre .3) (a .sources) (a .n))

@@ -17,7 +17,7 @@ use Rattle.words.proofs.Word.{factors-fit, product-size}
 use Rattle.rowsystems.specs.Reading.{faultVariable, faultNumber}
 use Rattle.rowsystems.specs.RowSystem.{numberAt, variableAt, termsIn}
 use Rattle.rowsystems.specs.declared.Due.the-variants.{Terms, Coefficient, Item}
-use Rattle.rowreading.specs.Onward.{Went, stepOver}
+use Rattle.rowreading.specs.Onward.{StepsTo, stepOver}
 use Rattle.rowreading.proofs.Inner.{no-word, term-variable, term-coefficient, row-constant}
 use Rattle.rowreading.proofs.Steps.{and-then}
 use Rattle.rowjudge.proofs.Passing.{step-halts, step-goes, constant-from, term-added, declared}
@@ -26,7 +26,7 @@ use Rattle.rowjudge.proofs.items.see_terms.Statement.{statement}
 use Rattle.rowjudge.proofs.items.see_terms.Tie as tie
 
 abbrev Inv-loop : tie.InvT-loop
-Inv-loop ws head n start values terms at₀ left₀ total₀ at left total = (at ≡ start + 2 * (terms - left)) × (left ≤ terms) × Went ws n (Terms terms) start (Terms left) (record { number = 0; at = at }) × (toZ w64 total ≡ sum (value values) (termsIn (drop start ws) (terms - left))) × (natAbs (toZ w64 total) ≤ (terms - left) * 18014398509481984)
+Inv-loop ws head n start values terms at₀ left₀ total₀ at left total = (at ≡ start + 2 * (terms - left)) × (left ≤ terms) × StepsTo ws n (Terms terms) start (Terms left) (record { number = 0; at = at }) × (toZ w64 total ≡ sum (value values) (termsIn (drop start ws) (terms - left))) × (natAbs (toZ w64 total) ≤ (terms - left) * 18014398509481984)
 
 abbrev μ-loop : tie.MeasureT-loop
 μ-loop ws head n start values terms at₀ left₀ total₀ at left total = left
@@ -43,7 +43,7 @@ last-there c =
     omega (arith, l .inv .0, l .inv .1, c .loop-test .left, c .before .before .payload-of .ensures, c .before .before .before .before .pre .3)
 
 -- reading on past the variable, past the coefficient, past the constant
-variable : (c : tie.After-is-variable Inv-loop μ-loop) → let a = c .before .before .before .before .before .before .args in let l = c .before .before .before .loop in Went (a .ws .now) (a .n) (Terms (c .before .before .before .before .payload-of .result)) (a .start) (Coefficient (l .left - 1)) (stepOver (faultVariable (a .n) (wordAt (a .ws .now) (l .at))) (l .at))
+variable : (c : tie.After-is-variable Inv-loop μ-loop) → let a = c .before .before .before .before .before .before .args in let l = c .before .before .before .loop in StepsTo (a .ws .now) (a .n) (Terms (c .before .before .before .before .payload-of .result)) (a .start) (Coefficient (l .left - 1)) (stepOver (faultVariable (a .n) (wordAt (a .ws .now) (l .at))) (l .at))
 variable c =
     let a = c .before .before .before .before .before .before .args in
     let l = c .before .before .before .loop in
@@ -53,13 +53,13 @@ fits : (c : tie.Else1 Inv-loop μ-loop) → let a = c .before .before .before .b
 unfolding wordAt
 fits c = eqb-true _ _ (sym (c .before .is-variable .ensures) ∙ not-false _ (c .if1 .left))
 
-coefficient : (c : tie.After-is-number Inv-loop μ-loop) → let a = c .before .before .before .before .before .before .before .before .before .args in let l = c .before .before .before .before .before .before .loop in Went (a .ws .now) (a .n) (Terms (c .before .before .before .before .before .before .before .payload-of .result)) (a .start) (Terms (l .left - 1)) (stepOver (faultNumber (wordAt (a .ws .now) (l .at + 1))) (l .at + 1))
+coefficient : (c : tie.After-is-number Inv-loop μ-loop) → let a = c .before .before .before .before .before .before .before .before .before .args in let l = c .before .before .before .before .before .before .loop in StepsTo (a .ws .now) (a .n) (Terms (c .before .before .before .before .before .before .before .payload-of .result)) (a .start) (Terms (l .left - 1)) (stepOver (faultNumber (wordAt (a .ws .now) (l .at + 1))) (l .at + 1))
 coefficient c =
     let a = c .before .before .before .before .before .before .before .before .before .args in
     let l = c .before .before .before .before .before .before .loop in
     and-then (step-goes (l .at) (variable (c .before .before .before)) (fits (c .before .before))) refl refl (term-coefficient (a .ws .now) (a .n) (l .at + 1) (omega (arith, there (c .before .before .before .before .before))) (l .left - 1))
 
-constant : (c : tie.After-is-number2 Inv-loop μ-loop) → let a = c .before .before .before .before .before .before .args in Went (a .ws .now) (a .n) (Terms (c .before .before .before .before .payload-of .result)) (a .start) Item (stepOver (faultNumber (wordAt (a .ws .now) (c .before .before .before .loop .at))) (c .before .before .before .loop .at))
+constant : (c : tie.After-is-number2 Inv-loop μ-loop) → let a = c .before .before .before .before .before .before .args in StepsTo (a .ws .now) (a .n) (Terms (c .before .before .before .before .payload-of .result)) (a .start) Item (stepOver (faultNumber (wordAt (a .ws .now) (c .before .before .before .loop .at))) (c .before .before .before .loop .at))
 constant c =
     let a = c .before .before .before .before .before .before .args in
     let l = c .before .before .before .loop in

@@ -5,7 +5,7 @@ use Prim.Native.Nat.{_+_, _≤_}
 use mir.Facts.{toZ-ofZ}
 use lib.ListN.{length}
 use Rattle.words.specs.Variables.{startsPair}
-use Rattle.variables.specs.Start.{boundsOf}
+use Rattle.variables.specs.Start.{pairBounds}
 use Rattle.rowsystems.specs.Reading.{afterDue, afterItem, started}
 use Rattle.rowreading.specs.Item.{startDue}
 use Rattle.rowreading.proofs.Heads.{boolean-kind}
@@ -37,7 +37,7 @@ see-upper-requires : tie.Need-see-upper-requires
 see-upper-requires c κs = omega (arith, there (c .before .before), c .before .before .before .before .before .pre .0 .few)
 
 returns-2 : tie.Need-returns-2
-unfolding afterDue afterItem startDue boundsOf startsPair
+unfolding afterDue afterItem startDue pairBounds startsPair
 returns-2 c =
     let k = sym (c .before .before .kind-of .ensures) ∙ c .before .if2 .taken in
     let a = c .before .before .before .before .before .before .args in (
@@ -52,7 +52,7 @@ see-upper-requires-2 : tie.Need-see-upper-requires-2
 see-upper-requires-2 c κs = omega (arith, there (c .before .before .before), c .before .before .before .before .before .before .pre .0 .few)
 
 returns-3 : tie.Need-returns-3
-unfolding afterDue afterItem startDue boundsOf startsPair
+unfolding afterDue afterItem startDue pairBounds startsPair
 returns-3 c =
     let k = sym (c .before .before .before .kind-of .ensures) ∙ c .before .if3 .taken in
     let a = c .before .before .before .before .before .before .before .args in (
@@ -64,7 +64,7 @@ add-t13 : tie.Need-add-t13
 add-t13 c = let h = there (c .before .before .before .before) in let k = c .before .before .before .before .before .before .before .pre .0 .few in search needs
 
 returns-4 : tie.Need-returns-4
-unfolding afterDue afterItem startDue boundsOf startsPair
+unfolding afterDue afterItem startDue pairBounds startsPair
 returns-4 c =
     let a = c .before .before .before .before .before .before .before .args in
     let k = boolean-kind (a .head) (c .before .before .before .before .before .before .before .pre .2) (λ e. c .before .if3 .left (c .before .before .before .kind-of .ensures ∙ e)) (λ e. c .before .before .if2 .left (c .before .before .before .kind-of .ensures ∙ e)) in (

@@ -1,15 +1,15 @@
 -- The code tests as the definition does.
 use borrow.Author.Needs.{needs}
-use Rattle.rowreading.specs.Item.{faultHead}
+use Rattle.rowreading.specs.Item.{faultAtHead}
 use Rattle.rowreading.proofs.faults.fault_head.Statement.{statement}
 use Rattle.rowreading.proofs.faults.fault_head.Tie as tie
 
 returns : tie.Need-returns
-unfolding faultHead
+unfolding faultAtHead
 returns c = rw (c .before .if1 .taken) (c .fault-source .ensures)
 
 returns-2 : tie.Need-returns-2
-unfolding faultHead
+unfolding faultAtHead
 returns-2 c = rw (c .before .if1 .left) (c .fault-item .ensures)
 
 pub fault-head-spec : {M : Type 1} → statement M

@@ -5,7 +5,7 @@ use borrow.Author.Tests.{lt-ltb, le-ltb, not-true, not-false}
 use Rattle.words.specs.Kind as Kind
 use Rattle.words.specs.Word.{kind}
 use Rattle.rowsystems.specs.Reading.{faultSource}
-use Rattle.rowreading.specs.Item.{faultHead}
+use Rattle.rowreading.specs.Item.{faultAtHead}
 use Rattle.rowreading.proofs.Heads.{auxiliary-head, no-source-head, boolean-kind}
 use Rattle.rowreading.proofs.faults.fault_start.Statement.{statement}
 use Rattle.rowreading.proofs.faults.fault_start.Tie as tie
@@ -21,7 +21,7 @@ returns-2 c =
     rw (not-true (s .args .sources) (c .if2 .taken)) (sym (no-source-head (s .args .n) (s .args .w) (s .pre) (λ k. c .before .if1 .left (c .before .before .kind-of .ensures ∙ k))))
 
 returns-3 : tie.Need-returns-3
-unfolding faultHead faultSource
+unfolding faultAtHead faultSource
 returns-3 c = rw (not-false (c .before .before .before .before .before .args .sources) (c .before .before .if2 .left), sym (c .before .before .before .before .kind-of .ensures) ∙ c .before .if3 .taken) (c .fault-lower2 .ensures)
 
 -- neither of the other two kinds
@@ -31,11 +31,11 @@ boolean c =
     boolean-kind (s .args .w) (s .pre) (λ k. c .if3 .left (c .before .before .before .kind-of .ensures ∙ k)) (λ k. c .before .before .if1 .left (c .before .before .before .kind-of .ensures ∙ k))
 
 returns-4 : tie.Need-returns-4
-unfolding faultHead faultSource
+unfolding faultAtHead faultSource
 returns-4 c = rw (not-false (c .before .before .before .before .before .before .args .sources) (c .before .before .before .if2 .left), boolean (c .before .before), ← c .before .payload-of .ensures, lt-ltb _ _ (c .if4 .taken))
 
 returns-5 : tie.Need-returns-5
-unfolding faultHead faultSource
+unfolding faultAtHead faultSource
 returns-5 c = rw (not-false (c .before .before .before .before .before .before .before .args .sources) (c .before .before .before .before .if2 .left), boolean (c .before .before .before), ← c .before .before .payload-of .ensures, le-ltb _ _ (c .before .if4 .left)) (c .fault-if .ensures)
 
 pub fault-start-spec : {M : Type 1} → statement M

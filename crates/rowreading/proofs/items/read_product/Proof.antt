@@ -3,14 +3,14 @@ use mathlib.Core.Path.{refl}
 use native.Mathlib.Omega.{arith}
 use borrow.Author.Needs.{needs}
 use Rattle.rowsystems.specs.declared.Due.the-variants.{Result, FirstFactor, SecondFactor}
-use Rattle.rowreading.specs.Onward.{Went}
+use Rattle.rowreading.specs.Onward.{StepsTo}
 use Rattle.rowreading.proofs.Steps.{and-then, or-halted}
 use Rattle.rowreading.proofs.Inner.{product-result, first-factor, second-factor}
 use Rattle.rowreading.proofs.items.read_product.Statement.{statement}
 use Rattle.rowreading.proofs.items.read_product.Tie as tie
 
 -- the result read, and the first factor after it
-result : (c : tie.After-step-over) → Went (c .before .before .before .before .before .before .args .ws .now) (c .before .before .before .before .before .before .args .n) Result (c .before .before .before .before .before .before .args .at) FirstFactor (c .step-over .result)
+result : (c : tie.After-step-over) → StepsTo (c .before .before .before .before .before .before .args .ws .now) (c .before .before .before .before .before .before .args .n) Result (c .before .before .before .before .before .before .args .at) FirstFactor (c .step-over .result)
 result c =
     let s = c .before .before .before .before .before .before in
     let word-at = c .before .before .before .before .word-at in
@@ -18,7 +18,7 @@ result c =
     let word-at3 = c .before .before .word-at3 in
     rw (c .step-over .ensures, c .before .fault-result .ensures, word-at .ensures, word-at2 .ensures, word-at3 .ensures) (product-result (s .args .ws .now) (s .args .n) (s .args .at) (s .pre .within))
 
-first : (c : tie.After-variable-at) → Went (c .before .before .before .before .before .before .before .before .before .args .ws .now) (c .before .before .before .before .before .before .before .before .before .args .n) Result (c .before .before .before .before .before .before .before .before .before .args .at) SecondFactor (c .variable-at .result)
+first : (c : tie.After-variable-at) → StepsTo (c .before .before .before .before .before .before .before .before .before .args .ws .now) (c .before .before .before .before .before .before .before .before .before .args .n) Result (c .before .before .before .before .before .before .before .before .before .args .at) SecondFactor (c .variable-at .result)
 first c =
     let s = c .before .before .before .before .before .before .before .before .before in
     let step-over = c .before .before .before .step-over in

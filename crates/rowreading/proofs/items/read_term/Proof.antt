@@ -4,7 +4,7 @@ use Prim.Native.Nat.{ℕ, suc, _+_}
 use native.Mathlib.Omega.{arith}
 use borrow.Author.Needs.{needs}
 use Rattle.rowsystems.specs.declared.Due.the-variants.{Terms, Coefficient}
-use Rattle.rowreading.specs.Onward.{Went}
+use Rattle.rowreading.specs.Onward.{StepsTo}
 use Rattle.rowreading.specs.declared.items.Step.{Step}
 use Rattle.rowreading.proofs.Steps.{and-then, or-halted, stepped}
 use Rattle.rowreading.proofs.Inner.{term-variable, term-coefficient}
@@ -12,7 +12,7 @@ use Rattle.rowreading.proofs.items.read_term.Statement.{statement}
 use Rattle.rowreading.proofs.items.read_term.Tie as tie
 
 -- the variable read
-variable : (c : tie.After-variable-at) (left : ℕ) → Went (c .before .before .args .ws .now) (c .before .before .args .n) (Terms (suc left)) (c .before .before .args .at) (Coefficient left) (c .variable-at .result)
+variable : (c : tie.After-variable-at) (left : ℕ) → StepsTo (c .before .before .args .ws .now) (c .before .before .args .n) (Terms (suc left)) (c .before .before .args .at) (Coefficient left) (c .variable-at .result)
 variable c left =
     let s = c .before .before in
     rw (c .variable-at .ensures) (term-variable (s .args .ws .now) (s .args .n) (s .args .at) (s .pre .within) left)

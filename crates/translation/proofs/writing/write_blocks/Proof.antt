@@ -15,7 +15,7 @@ use Rattle.rules.specs.Translation.{blockOf}
 use Rattle.words.specs.Limit as Limit
 use Rattle.sharing.proofs.Theorem.{never-too-many}
 use Rattle.laying.specs.Part.{blockParts}
-use Rattle.laying.specs.Went.{WentFitting, nothing}
+use Rattle.laying.specs.Appends.{AppendsFitting, nothing}
 use Rattle.translation.proofs.Refusals.{system-length}
 use Rattle.translation.proofs.Kept.{few-variables, few-constraints, none-left, head-inside, head-at, summed-at}
 use Rattle.encodings.proofs.Record.{placed-record}
@@ -56,7 +56,7 @@ inside c = head-inside (c .before .before .before .before .before .pre .0) (c .b
 went : (c : tie.After-block Inv-loop μ-loop) →
     let a = c .before .before .before .before .before .before .before .before .before .before .before .before .before .args in
     let l = c .before .before .before .before .before .before .before .before .before .loop in
-    WentFitting nothing (c .block .result) (midOf (l .at) (length (l .out) - l .at) (l .out)) (c .block .last .0) (blockParts (l .first) (blockOf (boundsOf (a .ls .now) (a .us .now)) (sharedBy (a .uses .now)) (l .encoded) (headed (a .ws .now) (getD (a .heads .now) (l .k) 0))))
+    AppendsFitting nothing (c .block .result) (midOf (l .at) (length (l .out) - l .at) (l .out)) (c .block .last .0) (blockParts (l .first) (blockOf (boundsOf (a .ls .now) (a .us .now)) (sharedBy (a .uses .now)) (l .encoded) (headed (a .ws .now) (getD (a .heads .now) (l .k) 0))))
 unfolding wordAt
 went c =
     let a = c .before .before .before .before .before .before .before .before .before .before .before .before .before .args in

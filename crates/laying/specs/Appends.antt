@@ -11,7 +11,7 @@ use Rattle.laying.specs.Part.{Part, wordsIn, numbersIn, auxiliariesIn, r
 use Rattle.laying.specs.declared.Laid.{Laid}
 
 -- the parts went over the list after those of s
-pub record Went (s r : Laid) (out out′ : List ℕ) (ps : List Part) : Type 0 where
+pub record Appends (s r : Laid) (out out′ : List ℕ) (ps : List Part) : Type 0 where
   pub words : r .words ≡ s .words + length (wordsIn ps)
   pub auxiliaries : r .auxiliaries ≡ s .auxiliaries + auxiliariesIn ps
   pub rows : r .rows ≡ s .rows + rowsIn ps
@@ -19,7 +19,7 @@ pub record Went (s r : Laid) (out out′ : List ℕ) (ps : List Part) : Type 0 w
   pub over : out′ ≡ overlay out (s .words) (wordsIn ps)
 
 -- so many words, auxiliaries and rows more; whether their numbers fit
-pub record Counted (s r : Laid) (w a n : ℕ) (fit : Bool) : Type 0 where
+pub record CountsMore (s r : Laid) (w a n : ℕ) (fit : Bool) : Type 0 where
   pub words : r .words ≡ s .words + w
   pub auxiliaries : r .auxiliaries ≡ s .auxiliaries + a
   pub rows : r .rows ≡ s .rows + n
@@ -34,8 +34,8 @@ pub record Over (s r : Laid) (out out′ ws : List ℕ) (a n : ℕ) (fit : Bool)
   pub over : out′ ≡ overlay out (s .words) ws
 
 -- as `Went`, and the words where all numbers are in the range: a block with another number is refused, and its words are never read
-pub record WentFitting (s r : Laid) (out out′ : List ℕ) (ps : List Part) : Type 0 where
-  pub counted : Counted s r (length (wordsIn ps)) (auxiliariesIn ps) (rowsIn ps) (all inRange (numbersIn ps))
+pub record AppendsFitting (s r : Laid) (out out′ : List ℕ) (ps : List Part) : Type 0 where
+  pub counted : CountsMore s r (length (wordsIn ps)) (auxiliariesIn ps) (rowsIn ps) (all inRange (numbersIn ps))
   pub over : all inRange (numbersIn ps) ≡ true → out′ ≡ overlay out (s .words) (wordsIn ps)
 
 abbrev pub nothing : Laid
@@ -45,5 +45,5 @@ abbrev pub total : Laid → ℕ
 total s = s .words + s .auxiliaries + s .rows
 
 -- the counts grow by at most n, so that none wraps
-abbrev pub Near : ℕ → Laid → Laid → Type 0
-Near n s r = total r ≤ total s + n
+abbrev pub GrowsBy : ℕ → Laid → Laid → Type 0
+GrowsBy n s r = total r ≤ total s + n
