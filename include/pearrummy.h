@@ -17,7 +17,7 @@ extern "C" {
 #endif
 
 /* The second number rises with every change of an answer: a builtin, a call, a row or a limit more. */
-#define PEARRUMMY_VERSION "1.14.0"
+#define PEARRUMMY_VERSION "1.14.1"
 #define PEARRUMMY_VERSION_MAJOR 1
 #define PEARRUMMY_VERSION_MINOR 14
 #define PEARRUMMY_VERSION_PATCH 0
