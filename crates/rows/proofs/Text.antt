@@ -8,7 +8,8 @@ use Rattle.words.specs.Fault as Fault
 use Rattle.words.specs.Refusal.{_at-place_, _else-refuse_}
 use Rattle.models.specs.Reading.{readModelIn}
 use Rattle.rules.specs.Check.{checkFaultIn}
-use Rattle.rules.specs.Translate.{translateFaultIn, translateFault}
+use Rattle.rules.specs.Translate.{translateFaultIn}
+use Rattle.rules.specs.InRange.{translateFault}
 use Rattle.rules.specs.Translation.{systemWords}
 use Rattle.lines.proofs.Printed.{later-none, room-for}
 
