@@ -20,7 +20,7 @@ extern "C" {
 #define PEARRUMMY_VERSION "1.14.1"
 #define PEARRUMMY_VERSION_MAJOR 1
 #define PEARRUMMY_VERSION_MINOR 14
-#define PEARRUMMY_VERSION_PATCH 0
+#define PEARRUMMY_VERSION_PATCH 1
 
 /* Limits; what passes one is refused. */
 #define PEARRUMMY_MODEL_WORDS 8192
