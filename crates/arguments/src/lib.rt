@@ -9,20 +9,18 @@ ghost use Rattle.integers.specs.Terms.{value, sum};
 ghost use Rattle.models.specs.Model.{var, num, size, exponentAt, past, pastTerms, vars, nums, terms};
 ghost use Rattle.models.specs.Meaning.{on, member};
 ghost use Rattle.arguments.specs.Small.{Small};
-use crate::test::both;
-use crate::test::either;
-use crate::test::in_order;
-use crate::test::one_if;
 use integers::equal;
 use integers::plus;
+use integers::test::both;
+use integers::test::either;
+use integers::test::in_order;
+use integers::test::one_if;
 use integers::times;
 use words::limit;
 use words::payload_of;
 use words::signed_of;
 use words::value_at;
 use words::word_at;
-
-pub mod test;
 
 // The variable at place i.
 pub fn var_at(args: &[u32], i: usize) -> usize

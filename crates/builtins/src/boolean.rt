@@ -6,9 +6,9 @@ ghost use Rattle.models.specs.Meaning.{meaning};
 ghost use Rattle.builtins.specs.Coded.{three};
 use crate::compare;
 use arguments::is_on;
-use arguments::test::agree;
-use arguments::test::both;
-use arguments::test::either;
+use integers::test::agree;
+use integers::test::both;
+use integers::test::either;
 
 // Whether bool_and is true.
 pub fn bool_and(args: &[u32], values: &[i32]) -> bool

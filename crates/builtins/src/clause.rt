@@ -9,8 +9,8 @@ use arguments::any_equal;
 use arguments::how_many;
 use arguments::is_on;
 use arguments::past_at;
-use arguments::test::agree;
-use arguments::test::either;
+use integers::test::agree;
+use integers::test::either;
 
 // Whether bool_clause is true.
 pub fn bool_clause(args: &[u32], values: &[i32]) -> bool

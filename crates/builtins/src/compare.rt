@@ -5,11 +5,11 @@ ghost use Rattle.models.specs.Builtin.{int-eq, int-le, int-lt, int-le-reif, int
 ghost use Rattle.models.specs.Meaning.{meaning};
 ghost use Rattle.builtins.specs.Coded.{two, three};
 use arguments::is_on;
-use arguments::test::agree;
-use arguments::test::at_most;
-use arguments::test::below;
 use arguments::value_of;
 use integers::equal;
+use integers::test::agree;
+use integers::test::at_most;
+use integers::test::below;
 
 // Whether int_eq is true.
 pub fn int_eq(args: &[u32], values: &[i32]) -> bool

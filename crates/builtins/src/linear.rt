@@ -11,9 +11,9 @@ use arguments::is_on;
 use arguments::num_at;
 use arguments::past_terms_at;
 use arguments::sum_of;
-use arguments::test::agree;
-use arguments::test::at_most;
 use integers::equal;
+use integers::test::agree;
+use integers::test::at_most;
 
 // Whether int_lin_eq is true.
 pub fn int_lin_eq(args: &[u32], values: &[i32]) -> bool

@@ -15,10 +15,10 @@ use arguments::none_past;
 use arguments::num_at;
 use arguments::past_at;
 use arguments::size_at;
-use arguments::test::agree;
-use arguments::test::both;
 use arguments::value_of;
 use integers::equal;
+use integers::test::agree;
+use integers::test::both;
 
 // The value of the variable at place 0 as a place in the list at place 1, counted from 1; 0 where the list has no such place.
 fn index_of(args: &[u32], values: &[i32]) -> usize

@@ -6,6 +6,8 @@ ghost use lib.Signed.{quotZ, remZ};
 ghost use Rattle.integers.specs.Choice.{_if_else_};
 ghost use Rattle.integers.specs.Number.{_⊕_, _⊖_, _⊗_, neg, minZ, maxZ, cut, _==_};
 
+pub mod test;
+
 // The bounds of a variable.
 #[repr(C)]
 pub struct Bounds {

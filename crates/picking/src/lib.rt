@@ -27,9 +27,6 @@ use arguments::num_at;
 use arguments::past_terms_at;
 use arguments::size_at;
 use arguments::sum_of;
-use arguments::test::at_most;
-use arguments::test::below;
-use arguments::test::both;
 use arguments::value_of;
 use arguments::var_at;
 use encodings::entry_of;
@@ -43,6 +40,9 @@ use extremes::width_of;
 use integers::equal;
 use integers::minus;
 use integers::quotient;
+use integers::test::at_most;
+use integers::test::below;
+use integers::test::both;
 use integers::times;
 
 // Writes a number at a place, if that is inside the list; the place after it.

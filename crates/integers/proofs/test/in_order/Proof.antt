@@ -1,7 +1,7 @@
 -- The test of either direction.
 use mir.Facts.{toZ-ofZ}
-use Rattle.arguments.proofs.test.in_order.Statement.{statement}
-use Rattle.arguments.proofs.test.in_order.Tie as tie
+use Rattle.integers.proofs.test.in_order.Statement.{statement}
+use Rattle.integers.proofs.test.in_order.Tie as tie
 
 pub in-order-spec : {M : Type 1} → statement M
 in-order-spec =
