@@ -1,18 +1,23 @@
 -- Each word inside a constraint, from what is due there to what is due after it.
-use mathlib.Core.Path.{_≡_, refl}
+use mathlib.Core.Path.{_≡_, refl, sym, ap, _∙_}
+use mathlib.Core.Bool.{Bool, true, false, _&&_}
 use mathlib.Core.List.{List}
-use Prim.Native.Nat.{ℕ, _+_, _-_, _<_, _≤_}
+use Prim.Native.Nat.{ℕ, zero, suc, _+_, _-_, _<_, _≤_}
 use native.Mathlib.Omega.{arith}
-use borrow.Author.Tests.{lt-ltb, le-ltb, le-leb, ne-eqb}
-use lib.ListN.{length, getD, List·getD-eq-default}
+use borrow.Author.Tests.{lt-ltb, le-ltb, le-leb, ne-eqb, eqb-true}
+use lib.ListN.{length, getD, take, drop, length-drop, List·getD-eq-default}
+use lib.Seq.{length-take-le, getD-take, getD-drop}
+use Rattle.integers.specs.Lists.{listOf, all}
+use Rattle.integers.proofs.Places.{all-more}
+use Rattle.integers.proofs.Tests.{false-true}
 use Rattle.words.specs.Word.{kind, payload, wordAt}
 use Rattle.models.specs.Shape.{argument}
 use Rattle.models.specs.Reading.{faultNumberIn, faultVariable, faultArgumentIn, faultEnd, faultDueIn, afterDue, afterArgument}
 use Rattle.models.specs.InRange.{faultNumber, faultCount}
 use Rattle.models.specs.declared.Due.the-variants.{Arguments}
 use Rattle.models.proofs.Sound.{Plain, plain, is-number, is-variable, is-count}
-use Rattle.modelreading.specs.Onward.{StepsTo, stepOver, argumentsFrom, NumbersRead, VariablesRead}
-use Rattle.modelreading.proofs.Steps.{step, and-then, or-halted, over-fault}
+use Rattle.modelreading.specs.Onward.{StepsTo, stepOver, argumentsFrom, NumbersRead, VariablesRead, isNumber}
+use Rattle.modelreading.proofs.Steps.{step, and-then, or-halted, over-fault, over-none, no-word}
 
 module _ (ws ts : List ℕ) (c at : ℕ) (h : at ≤ length ws) where
   abbrev w : ℕ
@@ -78,3 +83,31 @@ module _ {ws : List ℕ} {n at left place : ℕ} (p : 0 < left) where
     no-variable h o c code k =
         let z : _≡_ {A = ℕ} 3 0 → ⊥ = λ e. omega arith in
         or-halted (rw (over-fault 3 place z) at (more-variables h 3 (rw (List·getD-eq-default ws 0 {n = place} o)) c code k)) z
+
+-- ---- the words from a place on are numbers
+
+both-true : (a b : Bool) → (a && b) ≡ true → (a ≡ true) × (b ≡ true)
+both-true true b e = (refl, e)
+both-true false b e = false-true e
+
+module _ (ws : List ℕ) (at m : ℕ) (h : at + m ≤ length ws) where
+  abbrev part : List ℕ
+  part = take m (drop at ws)
+
+  pub part-length : length part ≡ m
+  part-length = length-take-le m (drop at ws) (rw (length-drop at ws) (omega (arith, h)))
+
+  word-here : (k : ℕ) → k < m → wordAt part k ≡ wordAt ws (at + k)
+  unfolding wordAt
+  word-here k l = getD-take m (drop at ws) k 0 l ∙ getD-drop at ws k 0
+
+  pub numbers-passed : (k n : ℕ) → k ≤ m → m ≤ n → all isNumber (listOf (wordAt part) k) ≡ true → NumbersRead ws n at (at + n - (at + k)) (record { number = 0; at = at + k })
+  unfolding isNumber
+  numbers-passed zero n l o e = λ ts c v type code j. let q : at + n - (at + 0) ≡ n = omega arith in let p : at + 0 ≡ at = omega arith in rw (q, p) (no-word (omega (arith, h)))
+  numbers-passed (suc k) n l o e =
+      let s : suc k ≡ k + 1 = omega arith in
+      let f = both-true (all isNumber (listOf (wordAt part) k)) (isNumber (wordAt part k)) (sym (all-more isNumber (wordAt part) k) ∙ rw s at e) in
+      let z : 0 ≡ faultNumber (wordAt ws (at + k)) = sym (ap faultNumber (sym (word-here k (omega (arith, l)))) ∙ eqb-true _ 0 (f .1)) in
+      let q : at + n - (at + k) - 1 ≡ at + n - (at + suc k) = omega arith in
+      let p : at + k + 1 ≡ at + suc k = omega arith in
+      rw (← q, ← p, ← over-none 0 (at + k) refl) (more-numbers (omega (arith, l, o)) (numbers-passed k n (omega (arith, l)) o (f .0)) 0 z)

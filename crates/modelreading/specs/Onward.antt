@@ -1,7 +1,8 @@
 -- Reading on from a place.
 use mathlib.Core.Path.{_≡_}
 use mathlib.Core.List.{List}
-use Prim.Native.Nat.{ℕ, _+_, _<_, _≤_}
+use mathlib.Core.Bool.{Bool}
+use Prim.Native.Nat.{ℕ, _+_, _-_, _<_, _≤_}
 use lib.Dec.{ltb, eqb}
 use lib.ListN.{length, drop}
 use Rattle.integers.specs.Choice.{_if_else_}
@@ -14,7 +15,7 @@ use Rattle.words.specs.declared.Refusal.{Refusal}
 use Rattle.models.specs.Model.{constraintsFrom}
 use Rattle.models.specs.Shape.{argument}
 use Rattle.models.specs.Reading.{after, ended, afterArgument}
-use Rattle.models.specs.InRange.{fault}
+use Rattle.models.specs.InRange.{fault, faultNumber}
 use Rattle.models.specs.declared.Due.{Due}
 use Rattle.models.specs.declared.Due.the-variants.{Arguments}
 use Rattle.modelreading.specs.declared.items.Step.{Step}
@@ -59,6 +60,10 @@ pub record Ends (ws : List ℕ) (at n r : ℕ) : Type 0 where
   pub most : r ≤ at + n
   pub all : r < at + n → length ws ≤ r
 
+-- a word that is a number, without a fault
+unfoldable pub isNumber : ℕ → Bool
+isNumber w = eqb (faultNumber w) Fault.none
+
 -- what is due at the k-th argument of a code, and at a head, where a constraint or the end may stand: code 0 has no argument
 abbrev pub argumentsFrom : ℕ → ℕ → Due
 argumentsFrom code k = Arguments 0 0 0 code k
@@ -69,6 +74,12 @@ heads = argumentsFrom 0 0
 -- r is past the numbers of a list but for the last `left` of them; past its variables, of a type; past a list after its length word w; past an argument; past all arguments of a code
 abbrev pub NumbersRead : List ℕ → ℕ → ℕ → ℕ → Step → Type 0
 NumbersRead ws n at left r = (ts : List ℕ) (c l type code k : ℕ) → StepsTo ws ts c (Arguments n l type code k) at (Arguments left l type code k) r
+
+-- the words from one place to a later one are numbers
+pub record NumbersPassed (ws : List ℕ) (at end r : ℕ) : Type 0 where
+  pub on : at ≤ r
+  pub most : r ≤ end
+  pub read : (n : ℕ) → end ≤ at + n → NumbersRead ws n at (at + n - r) (record { number = 0; at = r })
 
 abbrev pub VariablesRead : List ℕ → List ℕ → ℕ → ℕ → ℕ → ℕ → Step → Type 0
 VariablesRead ws ts type n at left r = (c code k : ℕ) → StepsTo ws ts c (Arguments 0 n type code k) at (Arguments 0 left type code k) r

@@ -3,14 +3,17 @@ ghost use mathlib.Core.Path.{_≡_};
 ghost use Prim.Native.Nat.{_≤_};
 ghost use lib.Dec.{eqb, ltb, leb};
 ghost use lib.Signed.{ltZ};
-ghost use lib.ListN.{getD, take};
+ghost use lib.ListN.{length, getD, take};
 ghost use Rattle.integers.specs.Choice.{_if_else_};
-ghost use Rattle.words.specs.Word.{payload, signed, tooLow};
+ghost use Rattle.integers.specs.Lists.{all, listOf};
+ghost use Rattle.words.specs.Word.{payload, signed, tooLow, wordAt};
 ghost use Rattle.words.specs.Fault as Fault;
 ghost use Rattle.words.specs.Limit as Limit;
 ghost use Rattle.models.specs.Reading.{faultHead, faultVariable};
 ghost use Rattle.models.specs.InRange.{faultStart, faultUpper, faultNumber, faultCount};
+ghost use Rattle.modelreading.specs.Onward.{isNumber};
 use crate::shapes;
+use integers::test::both;
 use words::fault;
 use words::kind;
 use words::limit;
@@ -127,6 +130,26 @@ pub fn of_number(w: u32) -> u32
         return fault::WRONG_KIND;
     }
     of_lowest(w)
+}
+
+// Whether a word is a number.
+fn is_number(w: u32) -> bool
+    ensures { λ r. ⌜ r ≡ isNumber w ⌝ }
+{
+    both(words::kind_of(w) == kind::NUMBER, !words::is_lowest(w))
+}
+
+// Whether all words are numbers: all of them are looked at, so that several are at a time.
+pub fn are_numbers(ws: &[u32]) -> bool
+    ensures { λ r. ⌜ r ≡ all isNumber (listOf (wordAt (now (ws .entry))) (length (now (ws .entry)))) ⌝ }
+{
+    let mut so_far = true;
+    let mut k = 0;
+    while k < ws.len() {
+        so_far = both(so_far, is_number(ws[k]));
+        k += 1;
+    }
+    so_far
 }
 
 // Of a count that may be above the most.

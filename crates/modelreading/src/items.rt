@@ -1,12 +1,12 @@
 // The items of a model: variables, and constraints with their arguments. Each function reads some words of an item.
 ghost use mathlib.Core.Path.{_≡_};
 ghost use Prim.Native.Nat.{_+_, _≤_};
-ghost use lib.ListN.{getD, take};
+ghost use lib.ListN.{length, getD, take};
 ghost use Rattle.words.specs.Limit as Limit;
 ghost use Rattle.words.specs.Word.{wordAt};
 ghost use Rattle.models.specs.Reading.{declared};
 ghost use Rattle.modelreading.specs.Argument.{table};
-ghost use Rattle.modelreading.specs.Onward.{Placed, stepOver, Ends, NumbersRead, VariablesRead, ListRead, ArgumentRead, ArgumentsRead};
+ghost use Rattle.modelreading.specs.Onward.{Placed, stepOver, Ends, NumbersPassed, NumbersRead, VariablesRead, ListRead, ArgumentRead, ArgumentsRead};
 ghost use Rattle.modelreading.specs.Seen.{VariableRead};
 use crate::faults;
 use crate::shapes;
@@ -46,13 +46,24 @@ fn end_of(ws: &[u32], at: usize, n: usize) -> usize
     end
 }
 
+// The end of the words from a place on, where all of them are numbers; else the place.
+fn past_numbers(ws: &[u32], at: usize, end: usize) -> usize
+    requires { ⌜ (at ≤ end) × (end ≤ length (now ws)) ⌝ }
+    ensures { λ r. ⌜ NumbersPassed (now (ws .entry)) at end r ⌝ }
+{
+    if faults::are_numbers(&ws[at..end]) {
+        return end;
+    }
+    at
+}
+
 // n numbers from a place on.
 fn numbers_at(ws: &[u32], at: usize, n: usize) -> Step
     requires { ⌜ Placed (now ws) at × (n ≤ 32) ⌝ }
     ensures { λ r. ⌜ NumbersRead (now (ws .entry)) n at 0 r ⌝ }
 {
     let end = end_of(ws, at, n);
-    let mut place = at;
+    let mut place = past_numbers(ws, at, end);
     while place < end {
         let number = faults::of_number(ws[place]);
         if number != fault::NONE {

@@ -6,7 +6,7 @@ use borrow.Author.Needs.{needs}
 use Rattle.words.specs.Word.{wordAt}
 use Rattle.modelreading.specs.Onward.{NumbersRead, stepOver}
 use Rattle.modelreading.specs.declared.items.Step.{Step}
-use Rattle.modelreading.proofs.Steps.{no-word, or-halted, over-none, over-fault}
+use Rattle.modelreading.proofs.Steps.{or-halted, over-none, over-fault}
 use Rattle.modelreading.proofs.Inner.{more-numbers, no-number}
 use Rattle.modelreading.proofs.items.numbers_at.Statement.{statement}
 use Rattle.modelreading.proofs.items.numbers_at.Tie as tie
@@ -19,23 +19,22 @@ abbrev μ-loop : tie.MeasureT-loop
 
 loop-holds : tie.Need-loop-holds Inv-loop μ-loop
 loop-holds c =
-    let s = c .before .before in
-    let q : s .args .at + s .args .n - s .args .at ≡ s .args .n = omega arith in
-    (omega arith, c .end-of .ensures .on, λ ts d l type code k. rw q (no-word (s .pre .0 .within)))
+    let passed = c .past-numbers .ensures in
+    (passed .on, passed .most, passed .read (c .before .before .before .args .n) (c .before .end-of .ensures .most))
 
 shared-slice-read-of-number : tie.Need-shared-slice-read-of-number Inv-loop μ-loop
-shared-slice-read-of-number c = omega (arith, c .before .before .before .end-of .ensures .within)
+shared-slice-read-of-number c = omega (arith, c .before .before .before .before .end-of .ensures .within)
 
 -- one more
 turn : (c : tie.After-of-number Inv-loop μ-loop) {r : Step} → stepOver (c .of-number .result) (c .before .before .before .loop .place) ≡ r →
-    let a = c .before .before .before .before .before .before .args in
+    let a = c .before .before .before .before .before .before .before .args in
     NumbersRead (a .ws .now) (a .n) (a .at) (a .at + a .n - (c .before .before .before .loop .place + 1)) r
 unfolding wordAt
 turn c e =
-    let a = c .before .before .before .before .before .before .args in
+    let a = c .before .before .before .before .before .before .before .args in
     let p = c .before .before .before .loop in
     let i = p .inv in
-    let l : p .place < a .at + a .n = omega (arith, c .before .before .loop-test .taken, c .before .before .before .before .end-of .ensures .most) in
+    let l : p .place < a .at + a .n = omega (arith, c .before .before .loop-test .taken, c .before .before .before .before .before .end-of .ensures .most) in
     let q : a .at + a .n - p .place - 1 ≡ a .at + a .n - (p .place + 1) = omega arith in
     rw (← e, ← q) (more-numbers (omega arith) (i .2) (c .of-number .result) (c .of-number .ensures))
 
@@ -48,13 +47,13 @@ loop-again c = (omega (arith, c .before .before .before .before .loop .inv .0), 
 returns-2 : tie.Need-returns-2 Inv-loop μ-loop
 returns-2 c =
     let p = c .before .before .loop in
-    let e = c .before .before .before .end-of .ensures in
-    let q : c .before .before .before .end-of .result ≡ p .place = omega (arith, p .inv .1, c .before .loop-test .left) in
+    let e = c .before .before .before .before .end-of .ensures in
+    let q : c .before .before .before .before .end-of .result ≡ p .place = omega (arith, p .inv .1, c .before .loop-test .left) in
     no-number (omega arith) (p .inv .2) (rw q at (e .all (rw q (c .if2 .taken))))
 
 returns-3 : tie.Need-returns-3 Inv-loop μ-loop
 returns-3 c =
-    let s = c .before .before .before .before .before in
+    let s = c .before .before .before .before .before .before in
     let p = c .before .before .loop in
     let z : s .args .at + s .args .n - p .place ≡ 0 = omega (arith, c .if2 .left) in
     rw z at (p .inv .2)
@@ -66,6 +65,7 @@ numbers-at-spec =
     Inv-loop
     μ-loop
     (λ c κs. search needs)
+    (λ c κs. (c .end-of .ensures .on, c .end-of .ensures .within))
     loop-holds
     (λ c. search needs)
     shared-slice-read-of-number
