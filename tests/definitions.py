@@ -1,16 +1,17 @@
 #!/usr/bin/env python3
 """Compares the definitions of specs/ with the recorded answers of tests/vectors: antt computes each answer, and what a lent list holds afterwards.
 
-    tests/definitions.py [MOST]
+    tests/definitions.py [--beside] [MOST]
 
-A vector of more than MOST words (default 2,000) is left out, one of sheet with more than 24, one of text with more than 600 bytes, and one of bits with more than 60 words or a lent list of more than 100: a page of bytes, a long text and a form of many bits take long to compute. The last line says how many agree. Exit status 0 if all do."""
+With --beside it waits until a run of rt beside it has proved the crates of the definitions. A vector of more than MOST words (default 2,000) is left out, one of sheet with more than 24, one of text with more than 600 bytes, and one of bits with more than 60 words or a lent list of more than 100: a page of bytes, a long text and a form of many bits take long to compute. The last line says how many agree. Exit status 0 if all do."""
 import glob, os, re, shutil, subprocess, sys, time
 
 HERE = os.path.dirname(os.path.abspath(__file__))
 ROOT = os.path.dirname(HERE)
 SCRATCH = os.path.join(ROOT, 'target', 'definitions')
 CRATES = ['integers', 'words', 'models', 'rowsystems', 'rules', 'decimals', 'sheets', 'sharing', 'reasons', 'solutions', 'pairs', 'tokens', 'names', 'grammar', 'texts', 'bitforms']
-MOST = int(sys.argv[1]) if len(sys.argv) > 1 else 2000
+BESIDE = '--beside' in sys.argv[1:]
+MOST = next((int(word) for word in sys.argv[1:] if word.isdigit()), 2000)
 SHEET_MOST, TEXT_MOST = 24, 600
 BITS_MOST, BITS_ROOM = 60, 100
 PARTS = ['firsts', 'seconds']  # the crates of the vectors
@@ -101,6 +102,23 @@ def definitions():
                 yield crate, os.path.basename(path)[:-5], names
 
 
+def stamp_of(crate):
+    """The file that rt writes once a crate is proved."""
+    return os.path.join(ROOT, 'target', 'stamp', crate)
+
+
+def needed_crates():
+    """The crates of the definitions, and all that they stand on."""
+    uses = {name: rest.split() for name, rest in re.findall(r'^(\w+):(.*)', open(os.path.join(ROOT, 'crates.txt')).read(), flags=re.M)}
+    needed, due = set(), list(CRATES)
+    while due:
+        crate = due.pop()
+        if crate in uses and crate not in needed:
+            needed.add(crate)
+            due += uses[crate]
+    return sorted(needed)
+
+
 def write_crates(cases):
     """Writes PARTS crates, which are checked side by side, with every PARTS-th case each."""
     shutil.rmtree(SCRATCH, ignore_errors=True)
@@ -110,10 +128,12 @@ def write_crates(cases):
         os.symlink(os.path.join(ROOT, 'crates', crate), os.path.join(SCRATCH, 'crates', crate))
     with open(os.path.join(SCRATCH, 'crates.txt'), 'w') as f:
         f.write(listing + ''.join(f'{name}: {" ".join(CRATES)}\n' for name in PARTS))
-    built = os.path.join(ROOT, 'target')
-    for folder in ('rlib', 'stamp'):  # what is proved already is not proved again
-        if os.path.isdir(os.path.join(built, folder)):
-            shutil.copytree(os.path.join(built, folder), os.path.join(SCRATCH, 'target', folder), symlinks=True)
+    os.makedirs(os.path.join(SCRATCH, 'target', 'rlib'))
+    os.makedirs(os.path.join(SCRATCH, 'target', 'stamp'))
+    for crate in needed_crates():  # what is proved already is not proved again
+        if os.path.exists(stamp_of(crate)):
+            shutil.copy(stamp_of(crate), os.path.join(SCRATCH, 'target', 'stamp', crate))
+            shutil.copytree(os.path.join(ROOT, 'target', 'rlib', f'{crate}.rlib'), os.path.join(SCRATCH, 'target', 'rlib', f'{crate}.rlib'), symlinks=True)
     modules = list(definitions())
     seen, uses, opened = {'written'}, [], []  # also an answer
     for crate, module, names in modules:
@@ -158,6 +178,8 @@ def is_short(case):
 def main():
     every = list(vectors())
     cases = [case for case in every if is_short(case)]
+    while BESIDE and not all(os.path.exists(stamp_of(crate)) for crate in needed_crates()):
+        time.sleep(1)
     write_crates(cases)
     begun = time.time()
     run = subprocess.run(['rt', 'check', *PARTS], cwd=SCRATCH, capture_output=True, text=True, env=dict(os.environ, RT_CUT='0'))
