@@ -54,10 +54,6 @@ compare("the command's builtins", re.findall(r'"(\w+)"', in_command), [row[2].re
 
 # Faults: number and name of the definitions, the enum of the header, the texts of page and library.
 faults = numbers_in('crates/words/specs/Fault.antt')
-for path, names in [('grammar/specs/Grammar', 'breaksGrammar wrongName outsideRange'), ('solutions/specs/Solutions', 'tooManyLists'),
-                    ('bitforms/specs/FormAnswer', 'tooManyBits formTooLarge')]:
-    found = numbers_in(f'crates/{path}.antt')
-    faults.update({name: found[name] for name in names.split()})
 listed = rows_after(page, '## Faults')
 texts = re.findall(r'^    "(.*)",$', read('library/fault_text.c'), re.M)
 enum = re.search(r'enum pearrummy_fault \{(.*?)\};', header, re.S).group(1)
@@ -69,9 +65,7 @@ compare('faults of the header', in_header, sorted(snake.items(), key=lambda item
 compare('texts of the library', texts, ['no fault'] + [plain(cells[1]) for cells in listed])
 
 # Limits: the definitions, the page, the header.
-limits = {}
-for path in ['words/specs/Limit', 'tokens/specs/Token', 'solutions/specs/Solutions', 'bitforms/specs/FormAnswer']:
-    limits.update(numbers_in(f'crates/{path}.antt'))
+limits = numbers_in('crates/words/specs/Limit.antt')
 in_page = {cells[0]: plain(cells[1]).replace(',', '') for cells in rows_after(page, '## Limits')}
 macros = {name: int(number) for name, number in re.findall(r'define PEARRUMMY_(\w+) \(?(-?\d+)\)?', header)}
 for name, line, macro in [
@@ -84,16 +78,16 @@ for name, line, macro in [
         ('rowWords', 'words of a row system', 'ROW_WORDS'),
         ('inAll', 'variables and auxiliaries of a row system', 'VALUES'),
         ('terms', 'terms of a row', 'TERMS'),
-        ('longest', 'bytes of a name', 'NAME_BYTES'),
+        ('nameBytes', 'bytes of a name', 'NAME_BYTES'),
         ('listedVariables', 'variables of a model whose solutions are listed', 'LISTED_VARIABLES'),
-        ('mostLists', 'value lists of a model whose solutions are listed', 'LISTED_LISTS'),
-        ('mostBits', 'bits of a form', 'BITS')]:
+        ('listedLists', 'value lists of a model whose solutions are listed', 'LISTED_LISTS'),
+        ('bits', 'bits of a form', 'BITS')]:
     compare(f'{line}, definition and page', str(limits.get(name)), in_page.get(line))
     compare(f'{line}, definition and header', limits.get(name), macros.get(macro))
 compare('numbers, page', in_page['numbers'], f'{limits["lowest"]} to {limits["highest"]}')
 compare('numbers, header', [macros['LOWEST'], macros['HIGHEST']], [limits['lowest'], limits['highest']])
-compare('numbers of a row over bits, page', in_page['numbers of a row over bits'], f'-{limits.get("mostInRow")} to {limits.get("mostInRow")}')
-compare('numbers of a row over bits, header', macros['BIT_NUMBERS'], limits.get('mostInRow'))
+compare('numbers of a row over bits, page', in_page['numbers of a row over bits'], f'-{limits.get("bitNumbers")} to {limits.get("bitNumbers")}')
+compare('numbers of a row over bits, header', macros['BIT_NUMBERS'], limits.get('bitNumbers'))
 compare('words of a form', macros['FORM_WORDS'], 2 + 3 * macros['BITS'] * (macros['BITS'] + 1) // 2)
 
 # The version.

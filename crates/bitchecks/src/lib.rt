@@ -10,7 +10,6 @@ ghost use Rattle.integers.specs.Lists.{all};
 ghost use Rattle.words.specs.Limit as Limit;
 ghost use Rattle.extremes.specs.Bounded.{Bounded};
 ghost use Rattle.bitforms.specs.BitRow.{bitsWith};
-ghost use Rattle.bitforms.specs.FormAnswer.{mostInRow};
 ghost use Rattle.bitlines.specs.Sizes as Size;
 ghost use Rattle.bittables.specs.BitTables.{rowBy, rowsBy, BitLists, BitCounts, RowTables};
 ghost use Rattle.bitchecks.specs.Checked.{RowChecked, RowsChecked};
@@ -20,6 +19,7 @@ use bitrows::row_constant;
 use integers::plus;
 use integers::times;
 use rowreading::rows::starts_row;
+use words::limit;
 
 // Whether rows over bits fit, and then the sum of their constants' squares.
 pub struct Checked {
@@ -46,17 +46,17 @@ pub fn count_bits(ws: &[u32], ls: &[i64], us: &[i64], counts: &[usize], start: u
 
 // Whether a number of a row over bits is within its limit.
 fn within_limit(v: i64) -> bool
-    ensures { λ r. ⌜ r ≡ leZ (absZ v) (pos mostInRow) ⌝ }
+    ensures { λ r. ⌜ r ≡ leZ (absZ v) (pos Limit.bitNumbers) ⌝ }
 {
-    if v < -16384 {
+    if v < -limit::BIT_NUMBERS {
         return false;
     }
-    v <= 16384
+    v <= limit::BIT_NUMBERS
 }
 
 // Whether all numbers of a row over bits are.
 fn all_within(row: &[i64]) -> bool
-    ensures { λ r. ⌜ r ≡ all (λ v. leZ (absZ v) (pos mostInRow)) (now (row .entry)) ⌝ }
+    ensures { λ r. ⌜ r ≡ all (λ v. leZ (absZ v) (pos Limit.bitNumbers)) (now (row .entry)) ⌝ }
 {
     let mut i = 0;
     while i < row.len() {

@@ -16,13 +16,14 @@ use Rattle.integers.proofs.Linear.{linear, _⊑_}
 use Rattle.integers.proofs.Lists.{listOf-length}
 use Rattle.integers.proofs.Tests.{says-le, says-and}
 use Rattle.integers.proofs.Places.{getD-listOf, map-listOf, all-map}
+use Rattle.words.specs.Limit as Limit
 use Rattle.rowsystems.specs.Row.{sum≤0, sum=0, product}
 use Rattle.extremes.specs.Bounded.{boundsOf}
 use Rattle.bitforms.specs.Weights.{weights}
 use Rattle.bitforms.specs.OverBits.{scaled, weightedBits}
 use Rattle.bitforms.specs.BitRow.{BitRow, least, slackWeights, productWhole, bitRow}
 use Rattle.bitforms.specs.Matrix.{coefficientOf}
-use Rattle.bitforms.specs.FormAnswer.{mostInRow, rowFits}
+use Rattle.bitforms.specs.FormAnswer.{rowFits}
 use Rattle.bitlines.specs.Dense.{addTerms, peak}
 use Rattle.bitlines.proofs.Dense.{add-append, add-length, add-coefficient}
 use Rattle.bittables.specs.BitTables.{spanIn, bitsOf, encodingBy}
@@ -93,22 +94,22 @@ dense-is n ts =
 
 -- ---- what fits
 
-pub limit-size : (x : ℤ) → leZ (absZ x) (pos mostInRow) ≡ true → natAbs x ≤ mostInRow
-limit-size x h = size x (says-le (absZ x) (pos mostInRow) .0 h)
+pub limit-size : (x : ℤ) → leZ (absZ x) (pos Limit.bitNumbers) ≡ true → natAbs x ≤ Limit.bitNumbers
+limit-size x h = size x (says-le (absZ x) (pos Limit.bitNumbers) .0 h)
   where
-    size : (x : ℤ) → absZ x ⊑ pos 16384 → natAbs x ≤ mostInRow
+    size : (x : ℤ) → absZ x ⊑ pos 16384 → natAbs x ≤ Limit.bitNumbers
     size = simp linear (omega arith)
 
-pub all-within-peak : (xs : List ℤ) → all (λ v. leZ (absZ v) (pos mostInRow)) xs ≡ true → peak xs ≤ mostInRow
+pub all-within-peak : (xs : List ℤ) → all (λ v. leZ (absZ v) (pos Limit.bitNumbers)) xs ≡ true → peak xs ≤ Limit.bitNumbers
 unfolding all peak
 all-within-peak [] h = omega arith
 all-within-peak (x ∷ xs) h =
-    let b = says-and {A = leZ (absZ x) (pos mostInRow) ≡ true} {B = all (λ v. leZ (absZ v) (pos mostInRow)) xs ≡ true} (λ p. p, λ p. p) (λ p. p, λ p. p) .0 h in
+    let b = says-and {A = leZ (absZ x) (pos Limit.bitNumbers) ≡ true} {B = all (λ v. leZ (absZ v) (pos Limit.bitNumbers)) xs ≡ true} (λ p. p, λ p. p) (λ p. p, λ p. p) .0 h in
     omega (arith, limit-size x (b .0), all-within-peak xs (b .1))
 
-pub row-fits : (n : ℕ) (r : BitRow) → rowFits n r ≡ (leZ (absZ (r .whole .constant)) (pos mostInRow) && all (λ v. leZ (absZ v) (pos mostInRow)) (dense n (r .whole .terms)))
+pub row-fits : (n : ℕ) (r : BitRow) → rowFits n r ≡ (leZ (absZ (r .whole .constant)) (pos Limit.bitNumbers) && all (λ v. leZ (absZ v) (pos Limit.bitNumbers)) (dense n (r .whole .terms)))
 unfolding rowFits
-row-fits n r = ap (λ b. leZ (absZ (r .whole .constant)) (pos mostInRow) && b) (sym (ap (all (λ v. leZ (absZ v) (pos mostInRow))) (dense-is n (r .whole .terms)) ∙ all-map (λ v. leZ (absZ v) (pos mostInRow)) (coefficientOf (r .whole .terms)) (listOf (λ i. i) n)))
+row-fits n r = ap (λ b. leZ (absZ (r .whole .constant)) (pos Limit.bitNumbers) && b) (sym (ap (all (λ v. leZ (absZ v) (pos Limit.bitNumbers))) (dense-is n (r .whole .terms)) ∙ all-map (λ v. leZ (absZ v) (pos Limit.bitNumbers)) (coefficientOf (r .whole .terms)) (listOf (λ i. i) n)))
 
 -- ---- the terms of a product
 

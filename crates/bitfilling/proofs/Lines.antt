@@ -10,12 +10,13 @@ use lib.Signed.{leZ}
 use Rattle.integers.specs.Number.{absZ, +0}
 use Rattle.integers.specs.Lists.{all}
 use Rattle.integers.proofs.Tests.{says-and}
+use Rattle.words.specs.Limit as Limit
 use Rattle.rowsystems.specs.Row.{product}
 use Rattle.rowsystems.specs.RowSystem.{variableAt}
 use Rattle.extremes.specs.Bounded.{boundsOf}
 use Rattle.bitforms.specs.Weights.{weights}
 use Rattle.bitforms.specs.BitRow.{BitRow, bitRow}
-use Rattle.bitforms.specs.FormAnswer.{mostBits, mostInRow, rowFits}
+use Rattle.bitforms.specs.FormAnswer.{rowFits}
 use Rattle.bitlines.specs.Sizes as Size
 use Rattle.bitlines.specs.Dense.{addTerms, peak}
 use Rattle.bitlines.specs.Line.{pairTerms}
@@ -28,9 +29,9 @@ use Rattle.bitfilling.specs.Added.{wholeTerms, AddsSquare, productPairs,
 use Rattle.bitfilling.proofs.Filling.{dense-at, limit-size, all-within-peak, row-fits}
 
 -- a row that fits has no number beyond 16,384
-pub fits-sizes : (n : ℕ) (r : BitRow) → rowFits n r ≡ true → (natAbs (r .whole .constant) ≤ mostInRow) × (peak (dense n (r .whole .terms)) ≤ mostInRow)
+pub fits-sizes : (n : ℕ) (r : BitRow) → rowFits n r ≡ true → (natAbs (r .whole .constant) ≤ Limit.bitNumbers) × (peak (dense n (r .whole .terms)) ≤ Limit.bitNumbers)
 fits-sizes n r h =
-    let b = says-and {A = leZ (absZ (r .whole .constant)) (pos mostInRow) ≡ true} {B = all (λ v. leZ (absZ v) (pos mostInRow)) (dense n (r .whole .terms)) ≡ true} (λ p. p, λ p. p) (λ p. p, λ p. p) .0 (sym (row-fits n r) ∙ h) in
+    let b = says-and {A = leZ (absZ (r .whole .constant)) (pos Limit.bitNumbers) ≡ true} {B = all (λ v. leZ (absZ v) (pos Limit.bitNumbers)) (dense n (r .whole .terms)) ≡ true} (λ p. p, λ p. p) (λ p. p, λ p. p) .0 (sym (row-fits n r) ∙ h) in
     (limit-size (r .whole .constant) (b .0), all-within-peak (dense n (r .whole .terms)) (b .1))
 
 -- the square, and the products of bits
@@ -47,7 +48,7 @@ row-added line r i m {after} k e p =
     }
 
 -- no products of bits
-pub square-added : (line : List ℤ) (r : BitRow) (i m : ℕ) {after : List ℤ} → i + m ≡ length line → i + m ≤ mostBits → r .pairs ≡ [] →
+pub square-added : (line : List ℤ) (r : BitRow) (i m : ℕ) {after : List ℤ} → i + m ≡ length line → i + m ≤ Limit.bits → r .pairs ≡ [] →
     AddsSquare (length line) r i m line after → Added r i line after
 unfolding addTerms flatMap
 square-added line r i m k h n e = row-added line r i m k (e .sum ∙ rw n refl) (omega (arith, e .small))

@@ -6,10 +6,10 @@ use lib.IntN.{ℤ}
 use lib.ListN.{length, getD}
 use Rattle.integers.specs.Number.{_⊕_, +0}
 use Rattle.integers.specs.Terms.{Term}
+use Rattle.words.specs.Limit as Limit
 use Rattle.rowsystems.specs.RowSystem.{variableAt}
 use Rattle.bitforms.specs.BitRow.{BitRow}
 use Rattle.bitforms.specs.RowParts.{rowEntry}
-use Rattle.bitforms.specs.FormAnswer.{mostBits}
 use Rattle.bitlines.specs.Sizes as Size
 use Rattle.bitlines.specs.Dense.{peak, Adds}
 use Rattle.bitlines.specs.Line.{squareTerms}
@@ -20,7 +20,7 @@ use Rattle.bitfilling.specs.Filled.{dense}
 pub record LineAndRow (n : ℕ) (line row : List ℤ) : Type 0 where
   pub line-size : length line ≡ n
   pub row-size : length row ≡ n
-  pub few : n ≤ mostBits
+  pub few : n ≤ Limit.bits
 
 -- what the square of a row over n bits adds, of bit i and the m bits from i on
 abbrev pub wholeTerms : ℕ → BitRow → ℕ → ℕ → List (Term ℕ)

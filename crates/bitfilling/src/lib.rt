@@ -9,7 +9,7 @@ ghost use Rattle.rowsystems.specs.OneWord.{rowOf};
 ghost use Rattle.extremes.specs.Bounded.{Bounded};
 ghost use Rattle.bitforms.specs.Weights.{weights};
 ghost use Rattle.bitforms.specs.OverBits.{scaled};
-ghost use Rattle.bitforms.specs.FormAnswer.{mostBits, rowFits};
+ghost use Rattle.bitforms.specs.FormAnswer.{rowFits};
 ghost use Rattle.bitlines.specs.Sizes as Size;
 ghost use Rattle.bitlines.specs.Dense.{addTerms, peak, Adds};
 ghost use Rattle.bittables.specs.BitTables.{spanIn, bitsOf, rowOver, rowBy, BitLists, BitTables};
@@ -164,7 +164,7 @@ fn add_whole(
     i: usize,
     m: usize,
 )
-    requires { ⌜ BitLists (now ls) (now us) (now firsts) × (first < Size.farthest) × (i + m ≤ mostBits) × (peak (now line) < Size.sums) ⌝ }
+    requires { ⌜ BitLists (now ls) (now us) (now firsts) × (first < Size.farthest) × (i + m ≤ Limit.bits) × (peak (now line) < Size.sums) ⌝ }
     requires { ⌜ rowFits (length (now row)) (rowBy (now ls) (now us) (now firsts) first head (now args)) ≡ true ⌝ }
     ensures { λ r. ⌜ AddsSquare (length (now (row .entry))) (rowBy (now (ls .entry)) (now (us .entry)) (now (firsts .entry)) first head (now (args .entry))) i m (now (line .entry)) (now (line .exit)) ⌝ }
 {

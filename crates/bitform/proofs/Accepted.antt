@@ -22,7 +22,6 @@ use Rattle.extremes.proofs.Kept.{lowersKept, uppersKept, lowers-bounded, uppers
 use Rattle.bitforms.specs.Encoding.{weightsOf, bitsAfter}
 use Rattle.bitforms.specs.BitRow.{bitsWith}
 use Rattle.bitforms.specs.BitForm.{bitCount}
-use Rattle.bitforms.specs.FormAnswer.{mostBits}
 use Rattle.bitlines.specs.Sizes as Size
 use Rattle.bittables.specs.BitTables.{rowsBy, BitCounts, BitTables}
 use Rattle.bittables.specs.KeptBits.{firstsFrom, KeptBits}
@@ -71,7 +70,7 @@ module _ (ws : List ℕ) (read : readRows ws ≡ accepted) where
   unfolding bitCount
   count-is e = e ∙ ap (bitsWith (bitsAfter 0 (variables ws))) (kept-rows ws few)
 
-  pub listed : {n : ℕ} → n ≡ bitCount ws → n ≤ mostBits → BitsListed ws (lowersKept ws 4096) (uppersKept ws 4096) (firstsKept ws) (countsKept ws) (bitsAfter 0 (variables ws)) n
+  pub listed : {n : ℕ} → n ≡ bitCount ws → n ≤ Limit.bits → BitsListed ws (lowersKept ws 4096) (uppersKept ws 4096) (firstsKept ws) (countsKept ws) (bitsAfter 0 (variables ws)) n
   listed e l = record {
     read = read;
     listed = record { few-words = few-words ws (ap (λ r. r .number) read); tables = kept-tables ws few; near-start = omega (arith, kept-few ws few) };
@@ -115,5 +114,5 @@ module _ (ws : List ℕ) (r : readRows ws ≡ accepted) {ls us : List ℤ} {firs
   pub counted-is : {n : ℕ} → ((fs : List ℕ) → n ≡ bitsWith start (rowsBy ls us fs start ws)) → n ≡ bitCount ws
   counted-is h = count-is ws r (rw (k .lowers, k .uppers, k .begins) at (h (firstsKept ws)))
 
-  pub listed-kept : {n : ℕ} → n ≡ bitCount ws → n ≤ mostBits → BitsListed ws ls us firsts counts start n
+  pub listed-kept : {n : ℕ} → n ≡ bitCount ws → n ≤ Limit.bits → BitsListed ws ls us firsts counts start n
   listed-kept e l = rw (k .lowers, k .uppers, k .numbers, k .sizes, k .begins) (listed ws r e l)

@@ -4,11 +4,12 @@ use mathlib.Core.List.{List}
 use Prim.Native.Nat.{ℕ, _≤_}
 use lib.IntN.{ℤ}
 use lib.ListN.{length}
+use Rattle.words.specs.Limit as Limit
 use Rattle.words.specs.Answer.{Answer}
 use Rattle.words.specs.Refusal.{accepted}
 use Rattle.rowsystems.specs.Reading.{readRows}
 use Rattle.bitforms.specs.BitForm.{bitRowsOf, bitCount}
-use Rattle.bitforms.specs.FormAnswer.{mostBits, bitForm, bitFormed}
+use Rattle.bitforms.specs.FormAnswer.{bitForm, bitFormed}
 use Rattle.bittables.specs.BitTables.{rowsBy, RowTables}
 
 pub record Answered (ws before after : List ℕ) (answer : Answer) : Type 0 where
@@ -21,4 +22,4 @@ pub record BitsListed (ws : List ℕ) (ls us : List ℤ) (firsts counts : List �
   pub listed : RowTables ws ls us firsts counts start
   pub rows-are : rowsBy ls us firsts start ws ≡ bitRowsOf ws
   pub count : n ≡ bitCount ws
-  pub few : n ≤ mostBits
+  pub few : n ≤ Limit.bits

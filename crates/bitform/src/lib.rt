@@ -10,6 +10,7 @@ ghost use Rattle.words.specs.Refusal.{accepted};
 ghost use Rattle.words.specs.Kind as Kind;
 ghost use Rattle.words.specs.Overlay.{overlay};
 ghost use Rattle.words.specs.Word.{word, numberWord, inRange};
+ghost use Rattle.words.specs.Written.{wrote};
 ghost use Rattle.rowsystems.specs.Reading.{readRows};
 ghost use Rattle.bitforms.specs.BitForm.{bitRowsOf, formConstant};
 ghost use Rattle.bitforms.specs.FormAnswer.{rowFits, formFits, bitForm, bitFormed};
@@ -17,7 +18,6 @@ ghost use Rattle.bitforms.specs.FormWords.{formWords};
 ghost use Rattle.bitlines.specs.Sizes as Size;
 ghost use Rattle.bitfilling.specs.Added.{LineAndRow};
 ghost use Rattle.bitsharing.specs.FormShares.{FormShares};
-ghost use Rattle.bitform.specs.Formed.{formed};
 ghost use Rattle.bitform.specs.Answered.{Answered, BitsListed};
 use bitchecks::check_rows;
 use bitchecks::count_bits;
@@ -26,32 +26,20 @@ use bitwriting::put_lines;
 use extremes::keep_bounds;
 use rowreading::read_rows;
 use words::Refusal;
+use words::Written;
 use words::fault;
 use words::in_range;
 use words::kind;
 use words::lay;
+use words::limit;
 use words::number_word;
 use words::word_of;
 
-// The fault of too many bits, and their limit; the fault of a number that does not fit.
-const TOO_MANY_BITS: u32 = 23;
-
-const BITS: usize = 1024;
-
-const FORM_TOO_LARGE: u32 = 24;
-
-// What bit_form answers.
-pub enum Formed {
-    Refused(Refusal),
-    // how many words it wrote
-    Words(usize),
-}
-
 // A refusal at place 0.
-fn refuse(number: u32) -> Formed
-    ensures { λ r. ⌜ formed r ≡ refused number 0 ⌝ }
+fn refuse(number: u32) -> Written
+    ensures { λ r. ⌜ wrote r ≡ refused number 0 ⌝ }
 {
-    Formed::Refused(Refusal { number, place: 0 })
+    Written::Refused(Refusal { number, place: 0 })
 }
 
 // Writes the form's constant.
@@ -108,10 +96,10 @@ fn form_lines(
     line: &mut [i64],
     n: usize,
     c: i64,
-) -> Formed
+) -> Written
     requires { ⌜ BitsListed (now ws) (now ls) (now us) (now firsts) (now counts) start n × LineAndRow n (now line) (now row) ⌝ }
     requires { ⌜ (all (rowFits n) (bitRowsOf (now ws)) ≡ true) × (c ≡ formConstant (now ws)) × (inRange c ≡ true) ⌝ }
-    ensures { λ r. ⌜ Answered (now (ws .entry)) (now (out .entry)) (now (out .exit)) (formed r) ⌝ }
+    ensures { λ r. ⌜ Answered (now (ws .entry)) (now (out .entry)) (now (out .exit)) (wrote r) ⌝ }
 {
     let mut nothing = [0u32; 0];
     let counted = put_lines(
@@ -128,13 +116,13 @@ fn form_lines(
         start,
     );
     if !counted.fits {
-        return refuse(FORM_TOO_LARGE);
+        return refuse(fault::FORM_TOO_LARGE);
     }
     let end = counted.at;
     if out.len() <= end {
         return refuse(fault::OUTPUT_TOO_SHORT);
     }
-    Formed::Words(write_form(ws, out, ls, us, firsts, counts, start, row, line, n, c))
+    Written::Words(write_form(ws, out, ls, us, firsts, counts, start, row, line, n, c))
 }
 
 // Of at most 1,024 bits: 24 for a row or the constant, or what comes after.
@@ -149,17 +137,17 @@ fn form_checked(
     row: &mut [i64],
     line: &mut [i64],
     n: usize,
-) -> Formed
+) -> Written
     requires { ⌜ BitsListed (now ws) (now ls) (now us) (now firsts) (now counts) start n × LineAndRow n (now line) (now row) ⌝ }
-    ensures { λ r. ⌜ Answered (now (ws .entry)) (now (out .entry)) (now (out .exit)) (formed r) ⌝ }
+    ensures { λ r. ⌜ Answered (now (ws .entry)) (now (out .entry)) (now (out .exit)) (wrote r) ⌝ }
 {
     let checked = check_rows(ws, ls, us, firsts, counts, start, row);
     if !checked.fits {
-        return refuse(FORM_TOO_LARGE);
+        return refuse(fault::FORM_TOO_LARGE);
     }
     let c = checked.constant;
     if !in_range(c) {
-        return refuse(FORM_TOO_LARGE);
+        return refuse(fault::FORM_TOO_LARGE);
     }
     form_lines(ws, out, ls, us, firsts, counts, start, row, line, n, c)
 }
@@ -174,12 +162,12 @@ fn form_rows(
     counts: &[usize],
     start: usize,
     n: usize,
-) -> Formed
+) -> Written
     requires { ⌜ BitsListed (now ws) (now ls) (now us) (now firsts) (now counts) start n ⌝ }
-    ensures { λ r. ⌜ Answered (now (ws .entry)) (now (out .entry)) (now (out .exit)) (formed r) ⌝ }
+    ensures { λ r. ⌜ Answered (now (ws .entry)) (now (out .entry)) (now (out .exit)) (wrote r) ⌝ }
 {
-    let mut row = [0i64; 1024];
-    let mut line = [0i64; 1024];
+    let mut row = [0i64; limit::BITS];
+    let mut line = [0i64; limit::BITS];
     form_checked(
         ws,
         out,
@@ -195,32 +183,32 @@ fn form_rows(
 }
 
 // Of accepted words: 23, or what comes after.
-fn form_accepted(ws: &[u32], out: &mut [u32]) -> Formed
+fn form_accepted(ws: &[u32], out: &mut [u32]) -> Written
     requires { ⌜ readRows (now ws) ≡ accepted ⌝ }
-    ensures { λ r. ⌜ Answered (now (ws .entry)) (now (out .entry)) (now (out .exit)) (formed r) ⌝ }
+    ensures { λ r. ⌜ Answered (now (ws .entry)) (now (out .entry)) (now (out .exit)) (wrote r) ⌝ }
 {
-    let mut ls = [0i64; 4096];
-    let mut us = [0i64; 4096];
+    let mut ls = [0i64; limit::IN_ALL];
+    let mut us = [0i64; limit::IN_ALL];
     let variables = keep_bounds(ws, &mut ls, &mut us);
-    let mut firsts = [0usize; 4096];
-    let mut counts = [0usize; 4096];
+    let mut firsts = [0usize; limit::IN_ALL];
+    let mut counts = [0usize; limit::IN_ALL];
     let start = keep_bits(&ls, &us, variables, &mut firsts, &mut counts);
     let n = count_bits(ws, &ls, &us, &counts, start);
-    if BITS < n {
-        return refuse(TOO_MANY_BITS);
+    if limit::BITS < n {
+        return refuse(fault::TOO_MANY_BITS);
     }
     form_rows(ws, out, &ls, &us, &firsts, &counts, start, n)
 }
 
 // Writes the form to the front of the output; a refusal changes nothing.
-pub fn bit_form(ws: &[u32], out: &mut [u32]) -> Formed
-    ensures answer { λ r. ⌜ formed r ≡ bitForm (now (ws .entry)) (length (now (out .entry))) ⌝ }
+pub fn bit_form(ws: &[u32], out: &mut [u32]) -> Written
+    ensures answer { λ r. ⌜ wrote r ≡ bitForm (now (ws .entry)) (length (now (out .entry))) ⌝ }
     ensures output { λ r. ⌜ now (out .exit) ≡ bitFormed (now (ws .entry)) (now (out .entry)) ⌝ }
-    ensures shared { λ r. ⌜ FormShares (now (ws .entry)) (formed r) (now (out .exit)) ⌝ }
+    ensures shared { λ r. ⌜ FormShares (now (ws .entry)) (wrote r) (now (out .exit)) ⌝ }
 {
     let read = read_rows(ws);
     if read.number != fault::NONE {
-        return Formed::Refused(read);
+        return Written::Refused(read);
     }
     form_accepted(ws, out)
 }

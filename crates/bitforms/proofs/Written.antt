@@ -9,6 +9,7 @@ use lib.IntN.{ℤ}
 use lib.ListN.{length, drop, take-append-drop}
 use borrow.Author.Tests.{ltb-false}
 use Rattle.integers.specs.Choice.{_if_else_}
+use Rattle.words.specs.Limit as Limit
 use Rattle.words.specs.Fault as Fault
 use Rattle.words.specs.Overlay.{overlay}
 use Rattle.words.specs.Refusal.{accepted, faultOr, _at-place_, _else-refuse_, roomFault}
@@ -18,7 +19,7 @@ use Rattle.words.proofs.Overlay.{front-over}
 use Rattle.rowsystems.specs.Reading.{readRows}
 use Rattle.bitforms.specs.BitForm.{bitCount}
 use Rattle.bitforms.specs.FormWords.{formWords}
-use Rattle.bitforms.specs.FormAnswer.{mostBits, tooManyBits, formTooLarge, formFits, sizeFault, numberFault, bitFormFault, bitForm, bitFormed}
+use Rattle.bitforms.specs.FormAnswer.{formFits, sizeFault, numberFault, bitFormFault, bitForm, bitFormed}
 use Rattle.bitforms.specs.ReadForm.{readForm}
 use Rattle.bitforms.specs.SameSolutions.{SameSolutions}
 use Rattle.bitforms.proofs.Theorem.{formOf, same-solutions}
@@ -33,15 +34,15 @@ module _ (ws out : List ℕ) (n : ℕ) (wrote : bitForm ws (length out) ≡ writ
   pub says-form : (bs : List ℤ) → readForm (bitFormed ws out) bs ≡ formOf ws bs
   unfolding bitForm bitFormed bitFormFault sizeFault numberFault roomFault _else-refuse_ _else-answer_
   says-form bs =
-      by (readRows ws .number) (readRows ws .place) (ltb mostBits (bitCount ws)) (formFits ws) (ltb (length out) (length (formWords ws))) refl refl refl wrote
+      by (readRows ws .number) (readRows ws .place) (ltb Limit.bits (bitCount ws)) (formFits ws) (ltb (length out) (length (formWords ws))) refl refl refl wrote
     where
       found : ℕ → ℕ → Bool → Bool → Bool → Refusal
       found m p many fits short =
-          faultOr m p (faultOr ((tooManyBits at-place 0 if many else accepted) .number) ((tooManyBits at-place 0 if many else accepted) .place)
-          (faultOr ((accepted if fits else formTooLarge at-place 0) .number) ((accepted if fits else formTooLarge at-place 0) .place)
+          faultOr m p (faultOr ((Fault.tooManyBits at-place 0 if many else accepted) .number) ((Fault.tooManyBits at-place 0 if many else accepted) .place)
+          (faultOr ((accepted if fits else Fault.formTooLarge at-place 0) .number) ((accepted if fits else Fault.formTooLarge at-place 0) .place)
           (Fault.outputTooShort at-place 0 if short else accepted)))
 
-      by : (m p : ℕ) (many fits short : Bool) → ltb mostBits (bitCount ws) ≡ many → formFits ws ≡ fits → ltb (length out) (length (formWords ws)) ≡ short →
+      by : (m p : ℕ) (many fits short : Bool) → ltb Limit.bits (bitCount ws) ≡ many → formFits ws ≡ fits → ltb (length out) (length (formWords ws)) ≡ short →
           refusedOr (found m p many fits short .number) (found m p many fits short .place) (written (length (formWords ws))) ≡ written n →
           readForm (overlay out 0 (formWords ws) if eqb (found m p many fits short .number) Fault.none else out) bs ≡ formOf ws bs
       by zero p false true false b f r e =

@@ -11,6 +11,7 @@ use Rattle.integers.specs.Number.{absZ}
 use Rattle.integers.specs.Lists.{listOf, all}
 use Rattle.words.specs.Word.{inRange}
 use Rattle.words.specs.Fault as Fault
+use Rattle.words.specs.Limit as Limit
 use Rattle.words.specs.Overlay.{overlay}
 use Rattle.words.specs.Refusal.{accepted, _at-place_, _else-refuse_, roomFault}
 use Rattle.words.specs.Answer.{Answer, written, _else-answer_}
@@ -22,26 +23,14 @@ use Rattle.bitforms.specs.BitForm.{bitRowsOf, bitCount, formConstant, fo
 use Rattle.bitforms.specs.FormWords.{formWords}
 
 -- "23 when more than 1,024 bits are needed"
-abbrev pub mostBits : ℕ
-mostBits = 1024
-
-abbrev pub tooManyBits : ℕ
-tooManyBits = 23
-
 unfoldable pub sizeFault : List ℕ → Refusal
-sizeFault ws = tooManyBits at-place 0 if ltb mostBits (bitCount ws) else accepted
+sizeFault ws = Fault.tooManyBits at-place 0 if ltb Limit.bits (bitCount ws) else accepted
 
 -- "24 when a row over bits, like bits added, has a coefficient or constant beyond plus or minus 16,384", n bits in all
-abbrev pub mostInRow : ℕ
-mostInRow = 16384
-
-abbrev pub formTooLarge : ℕ
-formTooLarge = 24
-
 unfoldable pub rowFits : ℕ → BitRow → Bool
 rowFits n r =
-    leZ (absZ (r .whole .constant)) (pos mostInRow)
-    && all (λ i. leZ (absZ (coefficientOf (r .whole .terms) i)) (pos mostInRow)) (listOf (λ i. i) n)
+    leZ (absZ (r .whole .constant)) (pos Limit.bitNumbers)
+    && all (λ i. leZ (absZ (coefficientOf (r .whole .terms) i)) (pos Limit.bitNumbers)) (listOf (λ i. i) n)
 
 -- "or an entry or the form's constant is outside the range"
 unfoldable pub formFits : List ℕ → Bool
@@ -49,7 +38,7 @@ formFits ws =
     all (rowFits (bitCount ws)) (bitRowsOf ws) && (inRange (formConstant ws) && all (λ x. inRange (x .number)) (formEntries ws))
 
 unfoldable pub numberFault : List ℕ → Refusal
-numberFault ws = accepted if formFits ws else formTooLarge at-place 0
+numberFault ws = accepted if formFits ws else Fault.formTooLarge at-place 0
 
 -- judge-rows' faults but 15; "both after 17, place 0, then 16 for a short output"
 unfoldable pub bitFormFault : List ℕ → ℕ → Refusal

@@ -5,10 +5,10 @@ ghost use Prim.Native.Nat.{_+_, _*_, _<_, _≤_, min, max};
 ghost use lib.IntN.{natAbs};
 ghost use lib.ListN.{length, getD};
 ghost use Rattle.integers.specs.Number.{_⊕_, _⊗_, +0, +2};
+ghost use Rattle.words.specs.Limit as Limit;
 ghost use Rattle.words.specs.Laid.{Laid};
 ghost use Rattle.bitforms.specs.Weights.{weights};
 ghost use Rattle.bitforms.specs.OverBits.{weightedBits, scaled};
-ghost use Rattle.bitforms.specs.FormAnswer.{mostBits, mostInRow};
 ghost use Rattle.bitlines.specs.Sizes as Size;
 ghost use Rattle.bitlines.specs.Dense.{bump, addTerms, peak, Adds};
 ghost use Rattle.bitlines.specs.Line.{squareAt, squareTerms, onTerms, pairTerms, pairOf, entry, lineEntries, entriesWords};
@@ -80,7 +80,7 @@ pub fn number_at(row: &[i64], i: usize) -> i64
 
 // a² + 2×c×a
 fn on_diagonal(a: i64, c: i64) -> i64
-    requires { ⌜ (natAbs a ≤ mostInRow) × (natAbs c ≤ mostInRow) ⌝ }
+    requires { ⌜ (natAbs a ≤ Limit.bitNumbers) × (natAbs c ≤ Limit.bitNumbers) ⌝ }
     ensures { λ r. ⌜ r ≡ a ⊗ a ⊕ +2 ⊗ c ⊗ a ⌝ }
 {
     plus(times(a, a), times(times(2, c), a))
@@ -88,7 +88,7 @@ fn on_diagonal(a: i64, c: i64) -> i64
 
 // 2×a×b
 fn off_diagonal(a: i64, b: i64) -> i64
-    requires { ⌜ (natAbs a ≤ mostInRow) × (natAbs b ≤ mostInRow) ⌝ }
+    requires { ⌜ (natAbs a ≤ Limit.bitNumbers) × (natAbs b ≤ Limit.bitNumbers) ⌝ }
     ensures { λ r. ⌜ r ≡ +2 ⊗ a ⊗ b ⌝ }
 {
     times(times(2, a), b)
@@ -96,7 +96,7 @@ fn off_diagonal(a: i64, b: i64) -> i64
 
 // The entry of bits i ≤ j in the square of a row over bits with the constant c.
 pub fn square_at(row: &[i64], c: i64, i: usize, j: usize) -> i64
-    requires { ⌜ (peak (now row) ≤ mostInRow) × (natAbs c ≤ mostInRow) ⌝ }
+    requires { ⌜ (peak (now row) ≤ Limit.bitNumbers) × (natAbs c ≤ Limit.bitNumbers) ⌝ }
     ensures { λ r. ⌜ r ≡ squareAt (now (row .entry)) c i j ⌝ }
 {
     if i == j {
@@ -107,7 +107,7 @@ pub fn square_at(row: &[i64], c: i64, i: usize, j: usize) -> i64
 
 // Adds the entries of bit i and the m bits from i on in the square of a row over bits to a line.
 pub fn add_square(line: &mut [i64], row: &[i64], c: i64, i: usize, m: usize)
-    requires { ⌜ (peak (now row) ≤ mostInRow) × (natAbs c ≤ mostInRow) × (i + m ≤ mostBits) × (peak (now line) < 4 * Size.sums) ⌝ }
+    requires { ⌜ (peak (now row) ≤ Limit.bitNumbers) × (natAbs c ≤ Limit.bitNumbers) × (i + m ≤ Limit.bits) × (peak (now line) < 4 * Size.sums) ⌝ }
     ensures { λ r. ⌜ Adds (squareTerms (now (row .entry)) c i m) (m * Size.largestEntry) (now (line .entry)) (now (line .exit)) ⌝ }
 {
     let mut d = 0;
@@ -157,7 +157,7 @@ pub fn put_entry(out: &mut [u32], at: usize, i: usize, j: usize, v: i64) -> usiz
 
 // Writes the entries of bit i and the m bits from i on; the next place.
 pub fn put_line(out: &mut [u32], at: usize, line: &[i64], i: usize, m: usize) -> usize
-    requires { ⌜ (at + 3 * m < Size.farthest) × (i + m ≤ mostBits) ⌝ }
+    requires { ⌜ (at + 3 * m < Size.farthest) × (i + m ≤ Limit.bits) ⌝ }
     ensures { λ r. ⌜ Laid (now (out .entry)) at (entriesWords (lineEntries (now (line .entry)) i m)) (now (out .exit)) r ⌝ }
 {
     let mut next = at;

@@ -5,12 +5,12 @@ ghost use lib.ListN.{length, take};
 ghost use Rattle.io.specs.Counts.{Counts};
 ghost use Rattle.encoding.specs.Bytes.{bytesWords};
 ghost use Rattle.bits.specs.Text.{formText};
-use bitform::Formed;
 use bitform::bit_form;
 use encoding::front_words;
 use lines::put_front;
 use lines::put_refusal;
 use words::Refusal;
+use words::Written;
 use words::fault;
 
 // The words that are read at most, and the bytes of one word more.
@@ -42,8 +42,8 @@ fn form_page(bytes: &[u8], page: &mut [u8]) -> usize
     let n = front_words(bytes, &mut words);
     let mut out = [0u32; ROOM];
     match bit_form(&words[..n], &mut out) {
-        Formed::Refused(r) => put_refusal(page, r),
-        Formed::Words(k) => put_front(page, &out, k),
+        Written::Refused(r) => put_refusal(page, r),
+        Written::Words(k) => put_front(page, &out, k),
     }
 }
 

@@ -11,11 +11,12 @@ use Rattle.integers.specs.Lists.{all}
 use Rattle.integers.proofs.Linear.{linear}
 use Rattle.integers.proofs.Places.{⊕-assoc}
 use Rattle.integers.proofs.Tests.{says-and}
+use Rattle.words.specs.Limit as Limit
 use Rattle.rowsystems.specs.OneWord.{startsRow, rowOf}
 use Rattle.bitforms.specs.SumOver.{sumOver}
 use Rattle.bitforms.specs.BitRow.{BitRow}
 use Rattle.bitforms.specs.Matrix.{entryOf}
-use Rattle.bitforms.specs.FormAnswer.{mostBits, rowFits}
+use Rattle.bitforms.specs.FormAnswer.{rowFits}
 use Rattle.bitlines.specs.Sizes as Size
 use Rattle.bitlines.specs.Dense.{peak}
 use Rattle.bittables.specs.BitTables.{rowBy, rowsBy, BitCounts}
@@ -49,7 +50,7 @@ pub record Lining (ws : List ℕ) (ls us : List ℤ) (firsts : List ℕ) (start 
   pub small : peak line ≤ at * Size.largestRow
   pub sized : LineAndRow n line row
 
-pub lining-begun : (ws : List ℕ) (ls us : List ℤ) (firsts : List ℕ) (start i n : ℕ) (row : List ℤ) → all (rowFits n) (rowsBy ls us firsts start ws) ≡ true → length row ≡ n → n ≤ mostBits →
+pub lining-begun : (ws : List ℕ) (ls us : List ℤ) (firsts : List ℕ) (start i n : ℕ) (row : List ℤ) → all (rowFits n) (rowsBy ls us firsts start ws) ≡ true → length row ≡ n → n ≤ Limit.bits →
     Lining ws ls us firsts start i n (replicate n +0) row start 0
 lining-begun ws ls us firsts start i n row f r m = record {
   place = omega arith;

@@ -2,7 +2,8 @@
 ghost use mathlib.Core.Path.{_≡_};
 ghost use mathlib.Core.Bool.{true};
 ghost use Prim.Native.Nat.{_+_, _*_, _<_, _≤_};
-ghost use Rattle.bitforms.specs.FormAnswer.{mostBits, rowFits};
+ghost use Rattle.words.specs.Limit as Limit;
+ghost use Rattle.bitforms.specs.FormAnswer.{rowFits};
 ghost use Rattle.bitforms.specs.Matrix.{entriesFrom};
 ghost use Rattle.bitlines.specs.Sizes as Size;
 ghost use Rattle.bitlines.specs.Dense.{peak};
@@ -95,7 +96,7 @@ fn fill_line(
 
 // Whether the m entries from bit i on are in the range.
 fn entries_fit(line: &[i64], i: usize, m: usize) -> bool
-    requires { ⌜ i + m ≤ mostBits ⌝ }
+    requires { ⌜ i + m ≤ Limit.bits ⌝ }
     ensures { λ r. ⌜ r ≡ allInRange (lineEntries (now (line .entry)) i m) ⌝ }
 {
     let mut d = 0;

@@ -23,16 +23,6 @@ use Rattle.grammar.specs.declared.Step.{Step}
 use Rattle.grammar.specs.declared.Due.{Due}
 use Rattle.grammar.specs.declared.Due.the-variants.{Item, Domain, Dots, Upper, Colon, Name, Semicolon, Builtin, Opening, Argument, Next, Inside, Satisfy}
 
--- 19 "when the text breaks the grammar"; 20 "when a variable or builtin name is unknown or a variable is declared twice"; 21 "when a number is outside the range"
-abbrev pub breaksGrammar : ℕ
-breaksGrammar = 19
-
-abbrev pub wrongName : ℕ
-wrongName = 20
-
-abbrev pub outsideRange : ℕ
-outsideRange = 21
-
 -- the stages of a text: a declaration may stand, only a constraint or the last item may, the last item was read
 abbrev pub declarationStage : ℕ
 declarationStage = 0
@@ -49,18 +39,18 @@ gives number w next = record { fault = number; word = w if eqb number Fault.none
 
 -- of a token that fits or breaks the grammar
 unfoldable pub fitting : Bool → ℕ → Due → Step
-fitting fits = gives (Fault.none if fits else breaksGrammar)
+fitting fits = gives (Fault.none if fits else Fault.breaksGrammar)
 
 -- of a token of sort s that must have another sort, and having it must be right: "at one byte the lower number"
 unfoldable pub ofSort : ℕ → ℕ → Bool → ℕ → ℕ → Due → Step
-ofSort sort s right number = gives ((Fault.none if right else number) if eqb s sort else breaksGrammar)
+ofSort sort s right number = gives ((Fault.none if right else number) if eqb s sort else Fault.breaksGrammar)
 
 -- of a name that is right, or is unknown or declared twice; of a number, with its word of a kind
 unfoldable pub nameStep : ℕ → Bool → ℕ → Due → Step
-nameStep s right = ofSort Token.name s right wrongName
+nameStep s right = ofSort Token.name s right Fault.wrongName
 
 unfoldable pub numberStep : ℕ → Token → Due → Step
-numberStep kind t = let z = valueOf (t .spelling) in ofSort Token.number (t .sort) (inRange z) outsideRange (numberWord kind z)
+numberStep kind t = let z = valueOf (t .spelling) in ofSort Token.number (t .sort) (inRange z) Fault.outsideRange (numberWord kind z)
 
 -- of an argument or element of one token: a number, or the name of a variable
 unfoldable pub singleStep : List Token → ℕ → Token → Due → Step

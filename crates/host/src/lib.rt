@@ -4,6 +4,7 @@ ghost use Prim.Native.Nat.{_≤_};
 ghost use lib.ListN.{length};
 ghost use Rattle.words.specs.Answer.{refusalNumber};
 ghost use Rattle.words.specs.Verdict.{verdict};
+ghost use Rattle.words.specs.Written.{wrote};
 ghost use Rattle.encoding.specs.Bytes.{bytesWords};
 ghost use Rattle.models.specs.JudgeModel.{judgeModel};
 ghost use Rattle.rowsystems.specs.JudgeRows.{judgeRows};
@@ -14,18 +15,15 @@ ghost use Rattle.sheets.specs.Printed.{printed};
 ghost use Rattle.sheets.specs.Sheet.{sheet as sheetAnswer, sheetPage};
 ghost use Rattle.translation.specs.Checked.{checked};
 ghost use Rattle.translation.specs.Shares.{Shares};
-ghost use Rattle.translation.specs.Written.{wrote};
 ghost use Rattle.filling.specs.Filled.{handed};
 ghost use Rattle.filling.specs.HandsOver.{HandsOver};
 ghost use Rattle.filling.specs.Satisfied.{Satisfied};
 ghost use Rattle.pairs.specs.Calls.{pairCheck, pairTranslate, pairTranslated, pairJudge, pairFill, pairFilled};
 ghost use Rattle.pairs.specs.HandsOver.{PairHandsOver};
 ghost use Rattle.pairs.specs.Pair.{modelOf};
-ghost use Rattle.texts.specs.Answered.{answered};
 ghost use Rattle.texts.specs.Text.{readText, textRead};
 ghost use Rattle.bitforms.specs.FormAnswer.{bitForm, bitFormed};
 ghost use Rattle.bitsharing.specs.FormShares.{FormShares};
-ghost use Rattle.bitform.specs.Formed.{formed};
 ghost use Rattle.solutions.specs.Found.{found};
 ghost use Rattle.solutions.specs.Solutions.{solutionsAnswer, solutionsListed};
 ghost use Rattle.integers.specs.Choice.{_if_else_};
@@ -33,7 +31,6 @@ ghost use Rattle.reasons.specs.Reason.{reason as reasonAnswer};
 ghost use Rattle.reasoning.specs.Told.{told};
 ghost use Rattle.host.specs.Bytes.{checkBytes};
 ghost use Rattle.host.specs.Structs.{countsOf, explanationOf, judgementOf, listedOf, printedOf, writtenOf};
-use bitform::Formed;
 use bitform::bit_form;
 use encoding::words_of_bytes;
 use filling::Filled;
@@ -49,7 +46,6 @@ use rowjudge::judge_rows;
 use sheets::sheet;
 use solutions::Found;
 use solutions::solutions;
-use texts::Read;
 use texts::read_text;
 use translation::Checked;
 use translation::check;
@@ -266,53 +262,17 @@ fn number_of(c: Checked) -> u32
     }
 }
 
-// Translate's answer for a host.
-fn written_of(w: translation::Written) -> Written
+// The answer of translate, text and bits for a host.
+fn written_of(w: words::Written) -> Written
     ensures { λ r. ⌜ r ≡ writtenOf (wrote w) ⌝ }
 {
     match w {
-        translation::Written::Refused(r) => Written {
+        words::Written::Refused(r) => Written {
             fault: r.number,
             place: r.place,
             words: 0,
         },
-        translation::Written::Words(n) => Written {
-            fault: 0,
-            place: 0,
-            words: n,
-        },
-    }
-}
-
-// Text's answer for a host.
-fn read_of(r: Read) -> Written
-    ensures { λ w. ⌜ w ≡ writtenOf (answered r) ⌝ }
-{
-    match r {
-        Read::Refused(refusal) => Written {
-            fault: refusal.number,
-            place: refusal.place,
-            words: 0,
-        },
-        Read::Words(n) => Written {
-            fault: 0,
-            place: 0,
-            words: n,
-        },
-    }
-}
-
-// The answer of bits for a host.
-fn formed_of(f: Formed) -> Written
-    ensures { λ w. ⌜ w ≡ writtenOf (formed f) ⌝ }
-{
-    match f {
-        Formed::Refused(r) => Written {
-            fault: r.number,
-            place: r.place,
-            words: 0,
-        },
-        Formed::Words(n) => Written {
+        words::Written::Words(n) => Written {
             fault: 0,
             place: 0,
             words: n,
@@ -444,7 +404,7 @@ pub extern "C" fn pearrummy_text(text: &[u8], out: &mut [u32]) -> Written
     ensures answer { λ r. ⌜ r ≡ writtenOf (readText (now (text .entry)) (length (now (out .entry)))) ⌝ }
     ensures output { λ r. ⌜ now (out .exit) ≡ textRead (now (text .entry)) (now (out .entry)) ⌝ }
 {
-    read_of(read_text(text, out))
+    written_of(read_text(text, out))
 }
 
 // Every solution of a small model goes to the front of the output, one after another.
@@ -521,5 +481,5 @@ pub extern "C" fn pearrummy_bits(words: &[u32], out: &mut [u32]) -> Written
     ensures output { λ r. ⌜ now (out .exit) ≡ bitFormed (now (words .entry)) (now (out .entry)) ⌝ }
     ensures shared { λ r. ⌜ FormShares (now (words .entry)) (bitForm (now (words .entry)) (length (now (out .entry)))) (now (out .exit)) ⌝ }
 {
-    formed_of(bit_form(words, out))
+    written_of(bit_form(words, out))
 }

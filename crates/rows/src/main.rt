@@ -8,9 +8,9 @@ ghost use Rattle.rows.specs.Text.{rowsText};
 use encoding::front_words;
 use lines::put_front;
 use lines::put_refusal;
-use translation::Written;
 use translation::translate;
 use words::Refusal;
+use words::Written;
 use words::fault;
 
 // The words of a model at most, and the bytes of one word more.

@@ -11,6 +11,7 @@ use Rattle.integers.specs.Lists.{all}
 use Rattle.integers.specs.Terms.{value}
 use Rattle.integers.specs.declared.Bounds.{Bounds}
 use Rattle.words.specs.Fault as Fault
+use Rattle.words.specs.Limit as Limit
 use Rattle.words.specs.Variables.{variables}
 use Rattle.words.specs.Overlay.{overlay}
 use Rattle.words.specs.Refusal.{_at-place_, accepted, _else-refuse_, roomFault}
@@ -22,16 +23,6 @@ use Rattle.rules.specs.Check.{checkFault}
 use Rattle.rules.specs.Shared.{keep}
 use Rattle.solutions.specs.Lists.{valueLists, listCount}
 
--- "a model with at most 8 variables and at most 65,536 value lists"; 22, "when the model passes either limit"
-abbrev pub listedVariables : ℕ
-listedVariables = 8
-
-abbrev pub mostLists : ℕ
-mostLists = 65536
-
-abbrev pub tooManyLists : ℕ
-tooManyLists = 22
-
 -- whether every builtin of the model is true of the values
 unfoldable pub allTrue : List ℕ → List ℤ → Bool
 allTrue ws vs = all (λ c. meaning (value vs) (builtin c)) (constraints ws)
@@ -41,7 +32,7 @@ solutions ws = keep (allTrue ws) (valueLists (variables ws))
 
 -- 22: "when the model passes either limit, place 0"
 unfoldable pub listsFault : List Bounds → Refusal
-listsFault Bs = tooManyLists at-place 0 if ltb listedVariables (length Bs) || ltb mostLists (listCount Bs) else accepted
+listsFault Bs = Fault.tooManyLists at-place 0 if ltb Limit.listedVariables (length Bs) || ltb Limit.listedLists (listCount Bs) else accepted
 
 unfoldable pub solutionsFault : List ℕ → ℕ → Refusal
 solutionsFault ws room =

@@ -5,12 +5,13 @@ use lib.IntN.{ℤ}
 use lib.ListN.{length}
 use Rattle.integers.specs.Lists.{listOf}
 use Rattle.integers.specs.declared.Bounds.{Bounds}
+use Rattle.words.specs.Limit as Limit
 use Rattle.extremes.specs.Bounded.{boundsOf, Bounded}
 use Rattle.rules.specs.Shared.{keep}
 use Rattle.solutions.specs.Lists.{valueLists, listCount}
 use Rattle.solutions.specs.AllWithin.{AllWithin, lowestList}
 use Rattle.solutions.specs.Odometer.{listsFrom}
-use Rattle.solutions.specs.Solutions.{listedVariables, mostLists, allTrue}
+use Rattle.solutions.specs.Solutions.{allTrue}
 
 -- the bounds of the first n variables
 abbrev pub boundsTo : List ℤ → List ℤ → ℕ → List Bounds
@@ -25,16 +26,16 @@ pub record Walkable (ls us vs : List ℤ) : Type 0 where
   pub lowers : Bounded ls
   pub uppers : Bounded us
   pub inside : AllWithin (boundsTo ls us (length vs)) vs
-  pub few : length (listsFrom (boundsTo ls us (length vs)) vs) ≤ mostLists
-  pub short : length vs ≤ listedVariables
+  pub few : length (listsFrom (boundsTo ls us (length vs)) vs) ≤ Limit.listedLists
+  pub short : length vs ≤ Limit.listedVariables
 
 -- what the walk through all lists wants
 pub record ListsSized (ls us : List ℤ) (n : ℕ) : Type 0 where
   pub lowers : Bounded ls
   pub uppers : Bounded us
   pub inside : AllWithin (boundsTo ls us n) (lowestList (boundsTo ls us n))
-  pub few : listCount (boundsTo ls us n) ≤ mostLists
-  pub short : n ≤ listedVariables
+  pub few : listCount (boundsTo ls us n) ≤ Limit.listedLists
+  pub short : n ≤ Limit.listedVariables
 
 -- the solutions within these bounds
 abbrev pub solutionsIn : List ℕ → List ℤ → List ℤ → ℕ → List (List ℤ)

@@ -30,17 +30,11 @@ use translation::check;
 use words::Refusal;
 use words::fault;
 use words::is_holds;
+use words::limit;
 use words::value_at;
 
-// The most variables and value lists of a model whose solutions are listed; one more than these lists.
-const LISTED_VARIABLES: usize = 8;
-
-const VALUE_LISTS: usize = 65536;
-
+// One more value list than are listed.
 const CAP: usize = 65537;
-
-// The number of the fault of a model that passes either limit.
-const TOO_MANY_LISTS: u32 = 22;
 
 // What listing the solutions answers.
 pub enum Found {
@@ -195,7 +189,7 @@ fn write_in(
     ensures count { λ r. ⌜ r ≡ length (solutionsIn (now (ws .entry)) (now (ls .entry)) (now (us .entry)) n) ⌝ }
     ensures output { λ r. ⌜ now (out .exit) ≡ overlay (now (out .entry)) 0 (flatten (solutionsIn (now (ws .entry)) (now (ls .entry)) (now (us .entry)) n)) ⌝ }
 {
-    let mut values = [0i32; LISTED_VARIABLES];
+    let mut values = [0i32; limit::LISTED_VARIABLES];
     write_all(ws, heads, m, ls, us, &mut values[..n], out)
 }
 
@@ -255,9 +249,9 @@ fn solutions_passed(ws: &[u32], out: &mut [i32]) -> Found
     let read = read_model(ws, &mut heads);
     let n = read.variables;
     let sources = read.sources;
-    if LISTED_VARIABLES < n {
+    if limit::LISTED_VARIABLES < n {
         return Found::Refused(Refusal {
-            number: TOO_MANY_LISTS,
+            number: fault::TOO_MANY_LISTS,
             place: 0,
         });
     }
@@ -265,9 +259,9 @@ fn solutions_passed(ws: &[u32], out: &mut [i32]) -> Found
     let mut uppers = [0i64; 256];
     keep_bounds(&ws[..sources], &mut lowers, &mut uppers);
     let lists = list_count(&lowers, &uppers, n);
-    if VALUE_LISTS < lists {
+    if limit::LISTED_LISTS < lists {
         return Found::Refused(Refusal {
-            number: TOO_MANY_LISTS,
+            number: fault::TOO_MANY_LISTS,
             place: 0,
         });
     }

@@ -18,10 +18,8 @@ use lent::words_within;
 use modeljudge::judge_model;
 use output::print_checked;
 use output::print_filled;
-use output::print_formed;
 use output::print_found;
 use output::print_printed;
-use output::print_read;
 use output::print_reasoned;
 use output::print_verdict;
 use output::print_written;
@@ -118,7 +116,7 @@ fn answer_sheet(rows: &[u32], room: usize) {
 fn answer_form(rows: &[u32], out: &mut [u32], room: usize) {
     let k = words_within(out, room);
     let answer = bit_form(rows, &mut out[..k]);
-    print_formed(answer, out);
+    print_written(answer, out);
 }
 
 // The same, a list being lent.
@@ -131,7 +129,7 @@ fn answer_bits(rows: &[u32], room: usize) {
 fn answer_words(text: &[u8], out: &mut [u32], room: usize) {
     let k = words_within(out, room);
     let answer = read_text(text, &mut out[..k]);
-    print_read(answer, out);
+    print_written(answer, out);
 }
 
 // Translate of a candidate's model into the front of a list.

@@ -3,17 +3,15 @@ use crate::lent::first_marked;
 use crate::lent::marked_bytes;
 use crate::lent::marked_values;
 use crate::lent::marked_words;
-use bitform::Formed;
 use filling::Filled;
 use hexadecimal::digits_of;
 use reasoning::Reasoned;
 use sheets::Printed;
 use solutions::Found;
-use texts::Read;
 use translation::Checked;
-use translation::Written;
 use words::Refusal;
 use words::Verdict;
+use words::Written;
 use words::word_at;
 
 // A word and a number.
@@ -132,7 +130,7 @@ pub fn print_checked(answer: Checked) {
     io::write_all(1, b"\n");
 }
 
-// Translate's answer; the list whose front was lent.
+// The answer of translate, text and bits; the list whose front was lent.
 pub fn print_written(answer: Written, out: &[u32]) {
     match answer {
         Written::Refused(r) => {
@@ -140,36 +138,6 @@ pub fn print_written(answer: Written, out: &[u32]) {
             print_end(marked_words(out, 0));
         }
         Written::Words(n) => {
-            io::write_all(1, b"words");
-            print_words(out, n);
-            print_end(marked_words(out, n));
-        }
-    }
-}
-
-// Text's answer; the list whose front was lent.
-pub fn print_read(answer: Read, out: &[u32]) {
-    match answer {
-        Read::Refused(r) => {
-            print_refusal(r);
-            print_end(marked_words(out, 0));
-        }
-        Read::Words(n) => {
-            io::write_all(1, b"words");
-            print_words(out, n);
-            print_end(marked_words(out, n));
-        }
-    }
-}
-
-// The answer of bits; the list whose front was lent.
-pub fn print_formed(answer: Formed, out: &[u32]) {
-    match answer {
-        Formed::Refused(r) => {
-            print_refusal(r);
-            print_end(marked_words(out, 0));
-        }
-        Formed::Words(n) => {
             io::write_all(1, b"words");
             print_words(out, n);
             print_end(marked_words(out, n));

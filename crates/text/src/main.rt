@@ -6,9 +6,9 @@ ghost use Rattle.io.specs.Counts.{Counts};
 ghost use Rattle.text.specs.Text.{printedText};
 use lines::put_front;
 use lines::put_refusal;
-use texts::Read;
 use texts::read_text;
 use words::Refusal;
+use words::Written;
 use words::fault;
 use words::limit;
 
@@ -37,8 +37,8 @@ fn text_page(text: &[u8], page: &mut [u8]) -> usize
     }
     let mut out = [0u32; limit::MODEL_WORDS];
     match read_text(text, &mut out) {
-        Read::Refused(r) => put_refusal(page, r),
-        Read::Words(k) => put_front(page, &out, k),
+        Written::Refused(r) => put_refusal(page, r),
+        Written::Words(k) => put_front(page, &out, k),
     }
 }
 

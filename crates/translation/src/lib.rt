@@ -1,15 +1,16 @@
 // Check and translate: what a model's row system needs, and its words.
 ghost use mathlib.Core.Path.{_≡_};
 ghost use lib.ListN.{length};
+ghost use Rattle.words.specs.Written.{wrote};
 ghost use Rattle.rules.specs.Check.{check as checkAnswer};
 ghost use Rattle.rules.specs.Translate.{translate as translateAnswer, translated};
 ghost use Rattle.translation.specs.Checked.{checked};
-ghost use Rattle.translation.specs.Written.{wrote};
 ghost use Rattle.translation.specs.Shares.{Shares};
 use checking::check_read;
 use checking::model_bounds;
 use modelreading::read_model;
 use words::Refusal;
+use words::Written;
 use words::fault;
 use writing::write_system;
 
@@ -27,13 +28,6 @@ pub enum Checked {
         rows: usize,
         words: usize,
     },
-}
-
-// What translate answers.
-pub enum Written {
-    Refused(Refusal),
-    // how many words it wrote
-    Words(usize),
 }
 
 // What one constraint costs: its fault, 0 for none, and what its block counts.

@@ -1,5 +1,4 @@
--- 01, Numbered faults, and 18 of 02: the numbers, each named once. 0 is no fault. 19 to 24 stand with the calls that give them:
--- 19 to 21 in grammar/specs, 22 in solutions/specs, 23 and 24 in bitforms/specs.
+-- 01, Numbered faults, and 18 to 24 of 02: the numbers, each named once. 0 is no fault.
 use Prim.Native.Nat.{ℕ}
 
 abbrev pub none : ℕ
@@ -76,3 +75,27 @@ resultNotAbove = 17
 -- 02, wish 2: "when a signed payload, a list length too, is the lowest 28-bit number, checked directly after 3"
 abbrev pub lowestNumber : ℕ
 lowestNumber = 18
+
+-- 02, wish 8: "when the text breaks the grammar"
+abbrev pub breaksGrammar : ℕ
+breaksGrammar = 19
+
+-- "when a variable or builtin name is unknown or a variable is declared twice"
+abbrev pub wrongName : ℕ
+wrongName = 20
+
+-- "when a number is outside the range"
+abbrev pub outsideRange : ℕ
+outsideRange = 21
+
+-- 02, wish 11: "when the model passes either limit"
+abbrev pub tooManyLists : ℕ
+tooManyLists = 22
+
+-- 02, wish 14: "when more than 1,024 bits are needed"
+abbrev pub tooManyBits : ℕ
+tooManyBits = 23
+
+-- "when a row over bits, like bits added, has a coefficient or constant beyond plus or minus 16,384, or an entry or the form's constant is outside the range"
+abbrev pub formTooLarge : ℕ
+formTooLarge = 24

@@ -1,4 +1,4 @@
--- What the contracts cite: words, the named numbers of document 01, laying words over a list, faults and answers, both judges.
+-- What the contracts cite: words, the named numbers of documents 01 and 02, laying words over a list, faults and answers, both judges.
 pub mod Kind
 pub mod Limit
 pub mod Fault
@@ -11,3 +11,4 @@ pub mod Refusal
 pub mod Answer
 pub mod Judge
 pub mod Verdict
+pub mod Written

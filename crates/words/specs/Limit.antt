@@ -1,4 +1,4 @@
--- The limits of 01 and 02, each named once; those of one call alone stand with it (tokens, solutions, bitforms).
+-- The limits of 01 and 02, each named once.
 use Prim.Native.Nat.{ℕ}
 use lib.IntN.{ℤ, pos, negsuc}
 use Rattle.integers.specs.Bounds.{_to_}
@@ -50,3 +50,21 @@ setBits = 64
 -- 14: "Variables and auxiliaries pass 4,096"
 abbrev pub inAll : ℕ
 inAll = 4096
+
+-- 02, wish 8: "Names have 1 to 32 ASCII letters, digits or _"
+abbrev pub nameBytes : ℕ
+nameBytes = 32
+
+-- 02, wish 11: "a model with at most 8 variables and at most 65,536 value lists in its bounds"
+abbrev pub listedVariables : ℕ
+listedVariables = 8
+
+abbrev pub listedLists : ℕ
+listedLists = 65536
+
+-- 02, wish 14, 23: "more than 1,024 bits"; 24: "a coefficient or constant beyond plus or minus 16,384"
+abbrev pub bits : ℕ
+bits = 1024
+
+abbrev pub bitNumbers : ℕ
+bitNumbers = 16384

@@ -36,3 +36,15 @@ pub const OUTPUT_TOO_SHORT: u32 = 16;
 pub const RESULT_NOT_ABOVE: u32 = 17;
 
 pub const LOWEST_NUMBER: u32 = 18;
+
+pub const BREAKS_GRAMMAR: u32 = 19;
+
+pub const WRONG_NAME: u32 = 20;
+
+pub const OUTSIDE_RANGE: u32 = 21;
+
+pub const TOO_MANY_LISTS: u32 = 22;
+
+pub const TOO_MANY_BITS: u32 = 23;
+
+pub const FORM_TOO_LARGE: u32 = 24;

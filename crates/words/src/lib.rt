@@ -32,6 +32,14 @@ pub enum Verdict {
     False(usize),
 }
 
+// What a call that writes words to the front of a lent list answers.
+pub enum Written {
+    // a refusal
+    Refused(Refusal),
+    // how many words it wrote
+    Words(usize),
+}
+
 // Whether a judge answers "holds".
 pub fn is_holds(answer: Verdict) -> bool
     ensures { λ r. ⌜ r ≡ isHolds (verdict answer) ⌝ }

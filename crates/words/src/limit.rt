@@ -24,3 +24,13 @@ pub const EXPONENT: usize = 27;
 pub const SET_BITS: usize = 64;
 // variables and auxiliaries together
 pub const IN_ALL: usize = 4096;
+// bytes of a name
+pub const NAME_BYTES: usize = 32;
+// variables and value lists of a model whose solutions are listed
+pub const LISTED_VARIABLES: usize = 8;
+
+pub const LISTED_LISTS: usize = 65536;
+// bits of a form, numbers of a row over bits
+pub const BITS: usize = 1024;
+
+pub const BIT_NUMBERS: i64 = 16384;

@@ -1,7 +1,7 @@
 -- The reader's fault, or what comes after; and what the words say.
 use mathlib.Core.Path.{sym, ap, _∙_}
 use Rattle.bitsharing.proofs.Written.{shares-of}
-use Rattle.bitform.specs.Formed.{formed}
+use Rattle.words.specs.Written.{wrote}
 use Rattle.bitform.proofs.Answers.{stands}
 use Rattle.bitform.proofs.Accepted.{accepts}
 use borrow.Author.Needs.{needs}
@@ -11,7 +11,7 @@ use Rattle.bitform.proofs.form_accepted.Reads as form-accepted-reads
 use Rattle.rowreading.proofs.read_rows.Reads as read-rows-reads
 
 returns : tie.Need-returns
-unfolding formed
+unfolding wrote
 returns c =
     let s = c .before .before .before .before .before in
     let a = stands (s .args .ws .now) (s .args .out .now) (c .before .before .read-rows .result) (c .before .before .read-rows .ensures) (c .if1 .taken) in

@@ -6,7 +6,7 @@ use mir.Facts.{toZ-ofZ}
 use borrow.Author.Needs.{needs}
 use borrow.Author.Tests.{not-true, not-false}
 use Rattle.bitforms.specs.FormAnswer.{formFits}
-use Rattle.bitform.specs.Formed.{formed}
+use Rattle.words.specs.Written.{wrote}
 use Rattle.bitform.proofs.Answers.{too-large, too-short, writes}
 use Rattle.bitform.proofs.Pieces.{fits-by, words-length}
 use Rattle.bitform.proofs.form_lines.Statement.{statement}
@@ -45,7 +45,7 @@ write-form-requires c κs =
     (s .pre .0 .0, record { line-size = search needs; row-size = search needs; few = s .pre .0 .0 .few }, rw (toZ-ofZ (s .fits .c)) (s .pre .1 .1), fits (c .before .before .before .before .before .before .before .before .before) ∙ y)
 
 returns-3 : tie.Need-returns-3
-unfolding formed
+unfolding wrote
 returns-3 c =
     let s = c .before .before .before .before .before .before .before .before .before .before .before .before .before .before .before .before .before .before .before .before .before .before in
     let l = s .pre .0 .0 in

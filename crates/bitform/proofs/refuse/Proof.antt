@@ -1,11 +1,11 @@
 -- By definition.
 use mathlib.Core.Path.{refl}
-use Rattle.bitform.specs.Formed.{formed}
+use Rattle.words.specs.Written.{wrote}
 use Rattle.bitform.proofs.refuse.Statement.{statement}
 use Rattle.bitform.proofs.refuse.Tie as tie
 
 returns : tie.Need-returns
-unfolding formed
+unfolding wrote
 returns c = refl
 
 pub refuse-spec : {M : Type 1} → statement M

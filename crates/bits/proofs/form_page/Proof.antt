@@ -3,10 +3,10 @@ use Prim.Native.Nat.{_≤_}
 use native.Mathlib.Omega.{arith}
 use lib.ListN.{length}
 use borrow.Author.Needs.{needs}
+use Rattle.words.specs.Written.{wrote}
 use Rattle.encoding.specs.Bytes.{bytesWords}
 use Rattle.encoding.proofs.Words.{quarter}
 use Rattle.bitforms.specs.FormAnswer.{bitForm, bitFormed}
-use Rattle.bitform.specs.Formed.{formed}
 use Rattle.lines.proofs.Printed.{front-fault, front-refused, front-lines, too-long, short-enough}
 use Rattle.bits.specs.Text.{formText}
 use Rattle.bits.proofs.Text.{fits}
@@ -28,7 +28,7 @@ front-words-requires : tie.Need-front-words-requires
 front-words-requires c κs = few (c .before)
 
 returns-2 : tie.Need-returns-2
-unfolding formText formed bitForm
+unfolding formText wrote bitForm
 returns-2 c =
     let w = c .before .before .before .before .before .before .before .before .before .before .before .before in
     let s = w .before .before .before .before .before in
@@ -37,7 +37,7 @@ returns-2 c =
     front-refused _ _ (put .ensures .0) (omega (arith, put .ensures .1, s .pre)) _ says (short-enough 16384 (length (bytesWords (s .args .bytes .now))) _ (few (w .before .before)))
 
 returns-3 : tie.Need-returns-3
-unfolding formText formed bitForm bitFormed
+unfolding formText wrote bitForm bitFormed
 returns-3 c =
     let w = c .before .before .before .before .before .before .before .before .before .before .before .before .before in
     let s = w .before .before .before .before .before in

@@ -6,7 +6,7 @@ use Rattle.host.proofs.pearrummy_bits.Statement.{statement}
 use Rattle.host.proofs.pearrummy_bits.Tie as tie
 
 returns : tie.Need-returns
-returns c = let e = c .before .before .before .bit-form .ensures in (c .formed-of .ensures ∙ ap writtenOf (e .0), (e .1 .0, rw (e .0) at (e .1 .1)))
+returns c = let e = c .before .before .before .bit-form .ensures in (c .written-of .ensures ∙ ap writtenOf (e .0), (e .1 .0, rw (e .0) at (e .1 .1)))
 
 pub pearrummy-bits-spec : {M : Type 1} → statement M
 pearrummy-bits-spec =

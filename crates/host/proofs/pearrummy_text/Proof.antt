@@ -6,7 +6,7 @@ use Rattle.host.proofs.pearrummy_text.Statement.{statement}
 use Rattle.host.proofs.pearrummy_text.Tie as tie
 
 returns : tie.Need-returns
-returns c = let e = c .before .before .before .read-text .ensures in (c .read-of .ensures ∙ ap writtenOf (e .0), e .1)
+returns c = let e = c .before .before .before .read-text .ensures in (c .written-of .ensures ∙ ap writtenOf (e .0), e .1)
 
 pub pearrummy-text-spec : {M : Type 1} → statement M
 pearrummy-text-spec =

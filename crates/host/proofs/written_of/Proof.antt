@@ -1,6 +1,6 @@
 -- Case by case.
 use borrow.Author.Needs.{needs}
-use Rattle.translation.specs.Written.{wrote}
+use Rattle.words.specs.Written.{wrote}
 use Rattle.host.specs.Structs.{countOf, writtenOf}
 use Rattle.host.proofs.written_of.Statement.{statement}
 use Rattle.host.proofs.written_of.Tie as tie

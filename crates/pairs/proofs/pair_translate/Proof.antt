@@ -5,8 +5,8 @@ use Prim.Native.Nat.{ℕ}
 use native.Mathlib.Omega.{arith}
 use borrow.Author.Needs.{needs}
 use lib.ListN.{length}
+use Rattle.words.specs.Written.{wrote}
 use Rattle.rules.specs.Translate.{translate, translated}
-use Rattle.translation.specs.Written.{wrote}
 use Rattle.translation.proofs.Refusals.{clash}
 use Rattle.pairs.proofs.Front.{front, front-length, front-fits}
 use Rattle.pairs.proofs.Long.{translate-refused, translate-copied}

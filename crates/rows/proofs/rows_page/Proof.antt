@@ -4,10 +4,10 @@ use Prim.Native.Nat.{_≤_}
 use native.Mathlib.Omega.{arith}
 use lib.ListN.{length}
 use borrow.Author.Needs.{needs}
+use Rattle.words.specs.Written.{wrote}
 use Rattle.encoding.specs.Bytes.{bytesWords}
 use Rattle.encoding.proofs.Words.{quarter}
 use Rattle.rules.specs.Translate.{translateIn, translatedIn}
-use Rattle.translation.specs.Written.{wrote}
 use Rattle.lines.proofs.Printed.{front-fault, front-refused, front-lines}
 use Rattle.rows.specs.Text.{rowsText}
 use Rattle.rows.proofs.Text.{fits, too-many}

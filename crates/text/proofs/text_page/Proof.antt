@@ -2,8 +2,8 @@
 use native.Mathlib.Omega.{arith}
 use lib.ListN.{length}
 use borrow.Author.Needs.{needs}
+use Rattle.words.specs.Written.{wrote}
 use Rattle.texts.specs.Text.{readText, textRead}
-use Rattle.texts.specs.Answered.{answered}
 use Rattle.lines.proofs.Printed.{front-fault, front-refused, front-lines, too-long, short-enough}
 use Rattle.text.specs.Text.{printedText}
 use Rattle.text.proofs.Text.{fits}
@@ -18,7 +18,7 @@ returns c =
     front-fault _ _ (put .ensures .0) (omega (arith, put .ensures .1, s .pre)) (omega arith) (too-long 524288 (length (s .args .text .now)) _ (c .before .before .before .before .if1 .taken))
 
 returns-2 : tie.Need-returns-2
-unfolding printedText answered readText
+unfolding printedText wrote readText
 returns-2 c =
     let e = c .before .before .before .before .before .before .before .before .before .before in
     let s = e .before .before .before in
@@ -27,7 +27,7 @@ returns-2 c =
     front-refused _ _ (put .ensures .0) (omega (arith, put .ensures .1, s .pre)) _ says (short-enough 524288 (length (s .args .text .now)) _ (e .if1 .left))
 
 returns-3 : tie.Need-returns-3
-unfolding printedText answered readText textRead
+unfolding printedText wrote readText textRead
 returns-3 c =
     let e = c .before .before .before .before .before .before .before .before .before .before .before in
     let s = e .before .before .before in

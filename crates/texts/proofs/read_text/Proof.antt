@@ -3,7 +3,7 @@ use mathlib.Core.Path.{sym, ap, _∙_}
 use native.Mathlib.Omega.{arith}
 use lib.ListN.{length}
 use Rattle.words.specs.Answer.{written}
-use Rattle.texts.specs.Answered.{answered}
+use Rattle.words.specs.Written.{wrote}
 use Rattle.texts.proofs.Answers.{says-refused, says-written, at-fault, too-many, too-short, fits}
 use borrow.Author.Needs.{needs}
 use Rattle.texts.proofs.read_text.Statement.{statement}
@@ -16,7 +16,7 @@ read-tokens-requires : tie.Need-read-tokens-requires
 read-tokens-requires c κs = search needs
 
 returns : tie.Need-returns
-unfolding answered
+unfolding wrote
 returns c =
     let s = c .before .before .before .before .before .before .before in
     let text = s .args .text .now in
@@ -25,7 +25,7 @@ returns c =
     says-refused text out (d .result .number) (d .result .place) (c .if1 .taken) (at-fault (d .ensures) (length out) (c .if1 .taken))
 
 returns-2 : tie.Need-returns-2
-unfolding answered
+unfolding wrote
 returns-2 c =
     let s = c .before .before .before .before .before .before .before .before in
     let text = s .args .text .now in
@@ -34,7 +34,7 @@ returns-2 c =
     says-refused text out 1 0 (λ e. omega (arith, e)) (too-many (d .ensures) (length out) (c .before .if1 .left) (c .if2 .taken))
 
 returns-3 : tie.Need-returns-3
-unfolding answered
+unfolding wrote
 returns-3 c =
     let s = c .before .before .before .before .before .before .before .before .before in
     let text = s .args .text .now in
@@ -49,7 +49,7 @@ same-length : tie.Need-same-length
 same-length c = search needs
 
 returns-4 : tie.Need-returns-4
-unfolding answered
+unfolding wrote
 returns-4 c =
     let s = c .before .before .before .before .before .before .before .before .before .before .before .before .before in
     let text = s .args .text .now in

@@ -3,10 +3,10 @@ use mathlib.Core.Path.{_≡_}
 use native.Mathlib.Omega.{arith}
 use lib.ListN.{length}
 use borrow.Author.Needs.{needs}
+use Rattle.words.specs.Written.{wrote}
 use Rattle.rules.specs.Translation.{systemWords}
 use Rattle.sharing.specs.SharedSolutions.{Passes}
 use Rattle.translation.specs.Checked.{checked}
-use Rattle.translation.specs.Written.{wrote}
 use Rattle.translation.proofs.Refusals.{counted, stands, too-short, writes, read-refused}
 use Rattle.translation.proofs.translate.Statement.{statement}
 use Rattle.translation.proofs.translate.Tie as tie
