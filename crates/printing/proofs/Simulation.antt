@@ -26,7 +26,7 @@ use Rattle.grammar.specs.declared.Due.{Due}
 use Rattle.grammar.specs.declared.Due.the-variants.{Item, Upper, Argument, Next, Inside}
 use Rattle.texts.specs.Text.{faultFrom, wordsFrom}
 use Rattle.printing.specs.ModelText.{variableName, closed, argumentEnd, textFrom}
-use Rattle.printing.proofs.Spelled.{comma, closing, ends-name, ends-number}
+use Rattle.printing.proofs.Spelled.{comma, closing, ends-name, no-digit}
 use Rattle.printing.proofs.Numerals.{named}
 use Rattle.printing.proofs.Steps.{Reads}
 use Rattle.printing.proofs.Events.{ListOf, at-line, at-semicolon, at-comma, at-closing, at-variable, at-number}
@@ -43,12 +43,7 @@ argument-ends-name code k ys = go (eqb (Shape.argument code k) 0)
     go false = ends-name comma _
 
 argument-ends-number : (code k : ℕ) (ys : List ℕ) → isDigit (front (argumentEnd code k ++ ys)) ≡ false
-unfolding argumentEnd
-argument-ends-number code k ys = go (eqb (Shape.argument code k) 0)
-  where
-    go : (b : Bool) → isDigit (front ((41 ∷ 59 ∷ 10 ∷ [] if b else 44 ∷ []) ++ ys)) ≡ false
-    go true = ends-number closing _
-    go false = ends-number comma _
+argument-ends-number code k ys = no-digit _ (argument-ends-name code k ys)
 
 -- after v variables, of which the names of the first m are declared
 pub data Goes : ℕ → ℕ → WordsDue → Due → Type 0 where

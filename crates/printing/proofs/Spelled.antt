@@ -1,16 +1,17 @@
 -- Spelled tokens are read: a token before a byte that cannot continue it is the next one.
 use mathlib.Core.Path.{_≡_, refl, sym, ap, _∙_}
-use mathlib.Core.Bool.{Bool, true, false, _&&_}
+use mathlib.Core.Bool.{Bool, true, false, _&&_, _||_}
 use mathlib.Core.List.{List, [], _∷_, _++_}
 use Prim.Native.Nat.{ℕ, suc, _+_, _-_, _<_, _≤_}
 use native.Mathlib.Nat.{add-zero}
 use native.Mathlib.Omega.{arith}
-use lib.Dec.{leb}
+use lib.Dec.{eqb, leb}
 use lib.Seq.{take-append-seam}
 use lib.ListN.{length}
 use borrow.Author.Tests.{le-leb, lt-leb, leb-true, ne-eqb}
 use Rattle.integers.specs.Choice.{_if_else_}
 use Rattle.integers.specs.Lists.{all, any, listOf}
+use Rattle.integers.proofs.Tests.{false-true}
 use Rattle.tokens.specs.Byte.{bytes, front, run, between, isLetter, inName, isDigit, isGap, isSign}
 use Rattle.tokens.specs.Token.{Token, tokenLength, sortOf, startsNumber, startsDots, tokensFrom}
 
@@ -19,7 +20,7 @@ token s p bs = record { sort = s; place = p; spelling = bs }
 
 pub both-true : (a b : Bool) → a && b ≡ true → (a ≡ true) × (b ≡ true)
 both-true true b h = (refl, h)
-both-true false b h = absurd (let z : _≡_ {A = ℕ} 0 1 = cc in omega arith)
+both-true false b h = false-true h
 
 -- what is left of a token is passed
 skipped : (p : ℕ) (xs ys : List ℕ) → tokensFrom (length xs) p (xs ++ ys) ≡ tokensFrom 0 (p + length xs) ys
@@ -36,7 +37,7 @@ runs t (x ∷ xs) ys h e = go (t x) h (runs t xs ys)
   where
     go : (b : Bool) → b && all t xs ≡ true → (all t xs ≡ true → t (front ys) ≡ false → run t (xs ++ ys) ≡ length xs) → (suc (run t (xs ++ ys)) if b else 0) ≡ suc (length xs)
     go true q more = ap suc (more q e)
-    go false q more = absurd (let z : _≡_ {A = ℕ} 0 1 = cc in omega arith)
+    go false q more = false-true q
 
 -- a name
 module _ (b : ℕ) (xs ys : List ℕ) (l : isLetter b ≡ true) (h : all inName xs ≡ true) (e : inName (front ys) ≡ false) (short : length xs < 32) where
@@ -153,19 +154,7 @@ pub spelled-line : (p : ℕ) (ys : List ℕ) → tokensFrom 0 p (10 ∷ ys) ≡ 
 unfolding tokensFrom tokenLength startsNumber startsDots isGap any bytes listOf isLetter isDigit between
 spelled-line p ys = refl
 
--- a sign continues no number and no name
-pub ends-number : {c : ℕ} → Sign c → (ys : List ℕ) → isDigit (front (c ∷ ys)) ≡ false
-unfolding isDigit between front
-ends-number colon ys = refl
-ends-number semicolon ys = refl
-ends-number comma ys = refl
-ends-number opening ys = refl
-ends-number closing ys = refl
-ends-number open-list ys = refl
-ends-number close-list ys = refl
-ends-number open-set ys = refl
-ends-number close-set ys = refl
-
+-- a sign continues no name
 pub ends-name : {c : ℕ} → Sign c → (ys : List ℕ) → inName (front (c ∷ ys)) ≡ false
 unfolding inName isLetter isDigit between front
 ends-name colon ys = refl
@@ -177,3 +166,16 @@ ends-name open-list ys = refl
 ends-name close-list ys = refl
 ends-name open-set ys = refl
 ends-name close-set ys = refl
+
+-- nor a number: digits continue names
+pub no-digit : (b : ℕ) → inName b ≡ false → isDigit b ≡ false
+unfolding inName
+no-digit b h = by (isLetter b) (isDigit b) h
+  where
+    by : (l d : Bool) → (l || d || eqb b 95) ≡ false → d ≡ false
+    by true d h = false-true (sym h)
+    by false true h = h
+    by false false h = refl
+
+pub ends-number : {c : ℕ} → Sign c → (ys : List ℕ) → isDigit (front (c ∷ ys)) ≡ false
+ends-number s ys = no-digit _ (ends-name s ys)
