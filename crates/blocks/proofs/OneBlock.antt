@@ -7,7 +7,7 @@ use native.Mathlib.Omega.{arith}
 use native.Mathlib.Decide.{decLe}
 use lib.Dec.{ltb, eqb}
 use lib.ListN.{length}
-use borrow.Author.Tests.{ltb-false, ne-eqb}
+use borrow.Author.Tests.{ltb-false, eqb-true, ne-eqb}
 use Rattle.integers.specs.Choice.{_if_else_}
 use Rattle.integers.specs.Lists.{any}
 use Rattle.integers.specs.Bounds.{width}
@@ -23,8 +23,9 @@ use Rattle.rules.specs.Shared.{Encoded, choice, sharedRule, ruleAfter}
 use Rattle.rules.specs.Translation.{blockOf}
 use Rattle.rules.specs.Check.{tooWide}
 use Rattle.laying.specs.Part.{Part, blockParts}
-use Rattle.laying.specs.Appends.{AppendsFitting, GrowsBy, nothing}
+use Rattle.laying.specs.Appends.{Appends, AppendsFitting, GrowsBy, nothing}
 use Rattle.laying.specs.declared.Laid.{Laid}
+use Rattle.laying.proofs.Alike.{went-fitting}
 use Rattle.laying.proofs.Blocks.{block-words, block-auxiliaries, block-rows, block-outside}
 use Rattle.encodings.specs.Uses.{choiceOf, choosing}
 use Rattle.encodings.proofs.Record.{encodes-by, shares-by}
@@ -46,7 +47,10 @@ told {first} {B} w = record {
   outside-is = w .counted .outside ∙ block-outside first B;
 }
 
--- what was laid after nothing
+-- what is laid, as the contract has it; the same after nothing
+pub fitted : {s r : Laid} {o o′ : List ℕ} {ps : List Part} {n : ℕ} → Appends s r o o′ ps × GrowsBy n s r → n ≤ 1000000 → AppendsFitting s r o o′ ps × GrowsBy 1000000 s r
+fitted w h = (went-fitting (w .0), omega (arith, w .1))
+
 pub from : {s r : Laid} {o o′ : List ℕ} {ps : List Part} → s ≡ nothing → AppendsFitting s r o o′ ps × GrowsBy 1000000 s r → AppendsFitting nothing r o o′ ps × GrowsBy 1000000 nothing r
 from e w = rw e at w
 
@@ -105,6 +109,13 @@ module _ (β : ℕ → Bounds) (s : ℕ → Bool) (e : Encoded) (code : ℕ) (ar
   -- the same, the code known
   pub by-code : (k : ℕ) → code ≡ k → choosing k ≡ false → blockOf β s e (constraintOf code args) ≡ rule β (builtinOf k args)
   by-code k c h = over-none (rw c h) ∙ rw c
+
+-- ---- codes that choose, and codes that are none
+
+-- of the codes that choose, 28 is the fourth
+pub fourth : (code : ℕ) → choosing code ≡ true → (code ≡ 24 → ⊥) → (code ≡ 25 → ⊥) → (code ≡ 27 → ⊥) → code ≡ 28
+unfolding choosing
+fourth code h a b d = eqb-true code 28 (rw (ne-eqb code 24 a, ne-eqb code 25 b, ne-eqb code 27 d) at h)
 
 -- a code that is none
 not-one : (n code : ℕ) → None n code → (k : ℕ) → 1 ≤ k → k ≤ n → code ≡ k → ⊥

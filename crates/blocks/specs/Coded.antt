@@ -2,9 +2,10 @@
 use mathlib.Core.Path.{_≡_}
 use mathlib.Core.Bool.{Bool, false, _&&_, _||_}
 use mathlib.Core.List.{List}
-use Prim.Native.Nat.{ℕ}
+use Prim.Native.Nat.{ℕ, _≤_}
 use lib.Dec.{eqb}
 use lib.IntN.{ℤ}
+use Rattle.integers.specs.Bounds.{width}
 use Rattle.models.specs.Model.{Constraint, var}
 use Rattle.rules.specs.Block.{Block}
 use Rattle.rules.specs.Shared.{Encoded}
@@ -33,6 +34,10 @@ blockAt ls us uses e code args = blockOf (boundsOf ls us) (sharedBy uses) e (con
 -- fault 12 is not that of the constraint
 abbrev pub Narrow : List ℤ → List ℤ → List ℕ → ℕ → List ℕ → Type 0
 Narrow ls us uses code args = tooWide (boundsOf ls us) (sharedBy uses) (constraintOf code args) ≡ false
+
+-- what that leaves for the own rule of 28, which has an auxiliary for each value
+abbrev pub ReifiedNarrow : List ℤ → List ℤ → ℕ → List ℕ → Type 0
+ReifiedNarrow ls us code args = code ≡ 28 → width (boundsOf ls us (var args 0)) ≤ 64
 
 -- the sum of the constraint has these bounds
 abbrev pub SummedIn : List ℤ → List ℤ → ℕ → List ℕ → Bounds → Type 0

@@ -7,6 +7,7 @@ ghost use Rattle.laying.specs.Appends.{GrowsBy, nothing};
 ghost use Rattle.laying.specs.Room.{BlockRoom};
 ghost use Rattle.extremes.specs.Bounded.{Bounded};
 ghost use Rattle.blocks.specs.Coded.{Narrow, blockAt, SummedIn, Lays};
+use crate::choices::choice;
 use arguments::exponent_at;
 use arguments::var_at;
 use choiceblocks::array_int_extreme;
@@ -78,11 +79,11 @@ pub fn block(
         21 => clause::bool_clause(out, s, args),
         22 => clause::array_bool_and(out, s, args),
         23 => clause::array_bool_xor(out, s, args, first),
-        24 => choices::array_int_element(out, s, args, ls, us, uses, encoded, first),
-        25 => choices::array_var_int_element(out, s, args, ls, us, uses, encoded, first),
+        24 => choice(out, s, code, args, ls, us, uses, encoded, first),
+        25 => choice(out, s, code, args, ls, us, uses, encoded, first),
         26 => array_int_extreme(out, s, args, ls, us, first, true),
-        27 => choices::set_in(out, s, args, ls, us, uses, encoded, first),
-        28 => choices::set_in_reif(out, s, args, ls, us, uses, encoded, first),
+        27 => choice(out, s, code, args, ls, us, uses, encoded, first),
+        28 => choice(out, s, code, args, ls, us, uses, encoded, first),
         29 => number::touching(out, s, c, a, c, b, ls, us, first),
         30 => compare::order_reif(out, s, a, b, c, 1, 0, ls, us),
         31 => linear::two_reif(out, s, args, sum, first, false),

@@ -4,9 +4,11 @@ use mathlib.Core.Bool.{Bool, true, false}
 use mathlib.Core.List.{List, [], _∷_, _++_, append-nil, append-assoc, map, flatMap}
 use Prim.Native.Nat.{ℕ, zero, suc, _+_}
 use native.Mathlib.Omega.{arith}
+use native.Mathlib.Decide.{ℕ-discrete}
 use lib.Dec.{eqb}
 use lib.IntN.{ℤ, pos}
 use lib.ListN.{length, getD, length-map}
+use borrow.Author.Tests.{ne-eqb}
 use Rattle.integers.specs.Choice.{_if_else_}
 use Rattle.integers.specs.Number.{_⊕_, _⊖_, maxZ, count, +0, +1}
 use Rattle.integers.specs.Lists.{listOf}
@@ -14,6 +16,7 @@ use Rattle.integers.specs.Bounds.{_to_, within, width, values}
 use Rattle.integers.specs.declared.Bounds.{Bounds}
 use Rattle.integers.specs.Terms.{Term, _·_}
 use Rattle.integers.proofs.Linear.{linear}
+use Rattle.integers.proofs.Tests.{false-true}
 use Rattle.models.specs.Meaning.{member}
 use Rattle.models.specs.Model.{size, var, num, vars, nums, past}
 use Rattle.rules.specs.Block.{Ref, numbered}
@@ -27,13 +30,13 @@ use Rattle.laying.specs.Lists as lists
 use Rattle.laying.proofs.Parts.{flatMap-append, many-same}
 use Rattle.laying.proofs.Lists.{length-vars, length-nums, bits-parts, bounds-append, same-parts}
 use Rattle.extremes.specs.Bounded.{boundsOf}
-use Rattle.encodings.specs.Uses.{choiceOf}
+use Rattle.encodings.specs.Uses.{choiceOf, choosing}
 use Rattle.choiceblocks.specs.Rows.{zeroAt, numberTermAt, memberAt, sumRow, choiceRows}
 use Rattle.choiceblocks.proofs.OneHot.{many-below, terms-many, bounds-many, sum-row, chosen-row, choice-rows}
 use Rattle.choiceblocks.proofs.Blocks.{element}
 use Rattle.choiceblocks.proofs.Members.{front}
 use Rattle.sharedblocks.specs.LeftOut.{keeps}
-use Rattle.sharedblocks.specs.Pieces.{bitsFrom, placeBit, numbersRow, keptZeros, productRows, membersRow}
+use Rattle.sharedblocks.specs.Pieces.{bitsFrom, placeBit, newBitParts, newRowParts, sharedParts, numbersRow, keptZeros, productRows, membersRow, zeroParts, ownRowParts}
 use Rattle.sharedblocks.proofs.LeftOut.{bit-number}
 
 -- two lists of rows, and one more
@@ -160,14 +163,15 @@ module _ (ls us : List ℤ) (args : List ℕ) where
 
     -- ---- the blocks, piece by piece
 
-    pub block-24 : blockParts first (sharedRule β e (choiceOf 24 args))
-        ≡ boundParts (newBits β e x) ++ (flatMap (rowParts first) (newRows β e x) ++ (flatMap (rowParts first) (leftOut β e (keeps 24 args) x) ++ numbersRow β args e first))
-    unfolding sharedRule choiceOf choice blockParts numbersRow keeps
+    abbrev Pieced : ℕ → Type 0
+    Pieced code = sharedParts ls us e first code args ≡ newBitParts ls us e args ++ (zeroParts ls us code args ++ (newRowParts ls us e first args ++ ownRowParts ls us e first code args))
+
+    block-24 : Pieced 24
+    unfolding sharedRule choiceOf choice blockParts numbersRow keeps ownRowParts
     block-24 = rw (length-nums args 1) (ap (λ ps. boundParts (newBits β e x) ++ ps) (three (rowParts first) (newRows β e x) (leftOut β e (within (+1 to pos (size args 1))) x) _))
 
-    pub block-25 : blockParts first (sharedRule β e (choiceOf 25 args))
-        ≡ boundParts (newBits β e x) ++ (keptZeros β args ++ (flatMap (rowParts first) (newRows β e x) ++ (flatMap (rowParts first) (leftOut β e (keeps 25 args) x) ++ productRows β args e first)))
-    unfolding sharedRule choiceOf choice blockParts keptZeros productRows keeps
+    block-25 : Pieced 25
+    unfolding sharedRule choiceOf choice blockParts keptZeros productRows keeps ownRowParts
     block-25 =
         rw (length-vars args 1)
         (ap₂ (λ a b. a ++ b) (bounds-append (newBits β e x) _)
@@ -175,14 +179,23 @@ module _ (ls us : List ℤ) (args : List ℕ) where
         ∙ ap (λ ps. flatMap (rowParts first) (newRows β e x) ++ ps) (flatMap-append (rowParts first) (leftOut β e (within (+1 to pos (size args 1))) x) _))
         ∙ append-assoc (boundParts (newBits β e x)) _ _)
 
-    pub block-27 : blockParts first (sharedRule β e (choiceOf 27 args))
-        ≡ boundParts (newBits β e x) ++ (flatMap (rowParts first) (newRows β e x) ++ flatMap (rowParts first) (leftOut β e (keeps 27 args) x))
-    unfolding sharedRule choiceOf choice blockParts keeps
-    block-27 = ap (λ ps. boundParts (newBits β e x) ++ ps) (flatMap-append (rowParts first) (newRows β e x) (leftOut β e (λ v. member v (nums args 1)) x))
+    block-27 : Pieced 27
+    unfolding sharedRule choiceOf choice blockParts keeps ownRowParts
+    block-27 = ap (λ ps. boundParts (newBits β e x) ++ ps) (flatMap-append (rowParts first) (newRows β e x) (leftOut β e (λ v. member v (nums args 1)) x) ∙ ap (λ ps. flatMap (rowParts first) (newRows β e x) ++ ps) (sym (append-nil _)))
 
-    pub block-28 : blockParts first (sharedRule β e (choiceOf 28 args))
-        ≡ boundParts (newBits β e x) ++ (flatMap (rowParts first) (newRows β e x) ++ membersRow β args e first)
-    unfolding sharedRule choiceOf choice blockParts membersRow flatMap
+    block-28 : Pieced 28
+    unfolding sharedRule choiceOf choice blockParts membersRow flatMap ownRowParts
     block-28 =
         ap (λ ps. boundParts (newBits β e x) ++ ps)
         (flatMap-append (rowParts first) (newRows β e x) _ ∙ ap (λ ps. flatMap (rowParts first) (newRows β e x) ++ ps) (append-nil _))
+
+    pub pieced : (code : ℕ) → choosing code ≡ true → Pieced code
+    unfolding choosing
+    pieced code h = go (ℕ-discrete code 24) (ℕ-discrete code 25) (ℕ-discrete code 27) (ℕ-discrete code 28)
+      where
+        go : Dec (code ≡ 24) → Dec (code ≡ 25) → Dec (code ≡ 27) → Dec (code ≡ 28) → Pieced code
+        go (yes k) p q r = rw k block-24
+        go (no n) (yes k) q r = rw k block-25
+        go (no n) (no m) (yes k) r = rw k block-27
+        go (no n) (no m) (no l) (yes k) = rw k block-28
+        go (no n) (no m) (no l) (no j) = false-true (rw (ne-eqb code 24 n, ne-eqb code 25 m, ne-eqb code 27 l, ne-eqb code 28 j) at h)

@@ -65,3 +65,14 @@ module _ (β : ℕ → Bounds) (args : List ℕ) where
     -- 28: the row of the members
     unfoldable pub membersRow : List Part
     membersRow = rowParts first (keptSum β e one (λ v. member v (nums args 1)) (var args 0) (var args (past args 1)))
+
+-- by the code, given the bounds of the variables: the bounds of the z; the rows after those of the new bits
+module _ (ls us : List ℤ) where
+  abbrev pub zeroParts : ℕ → List ℕ → List Part
+  zeroParts code args = keptZeros (boundsOf ls us) args if eqb code 25 else []
+
+  unfoldable pub ownRowParts : Encoded → ℕ → ℕ → List ℕ → List Part
+  ownRowParts e first code args =
+      let β = boundsOf ls us in
+      membersRow β args e first if eqb code 28
+      else leftOutParts ls us e first code args ++ (numbersRow β args e first if eqb code 24 else productRows β args e first if eqb code 25 else [])

@@ -1,5 +1,6 @@
 // The blocks of codes 24, 25, 27 and 28 over a shared variable: its bits are the block's own or an earlier block's.
 ghost use mathlib.Core.Path.{_≡_};
+ghost use mathlib.Core.Bool.{true};
 ghost use Prim.Native.Nat.{_+_, _<_, _≤_};
 ghost use lib.ListN.{length, getD};
 ghost use Rattle.integers.specs.Number.{+0};
@@ -9,8 +10,8 @@ ghost use Rattle.rules.specs.Shared.{newBits};
 ghost use Rattle.laying.specs.Appends.{Appends, GrowsBy};
 ghost use Rattle.laying.specs.Room.{Room, BlockRoom};
 ghost use Rattle.extremes.specs.Bounded.{boundsOf, Bounded};
-ghost use Rattle.encodings.specs.Uses.{Recorded};
-ghost use Rattle.sharedblocks.specs.Pieces.{bitsFrom, placeBit, Encodable, newBitParts, newRowParts, leftOutParts, sharedParts, keptZeros, numbersRow, productRows, membersRow};
+ghost use Rattle.encodings.specs.Uses.{choosing, Recorded};
+ghost use Rattle.sharedblocks.specs.Pieces.{bitsFrom, placeBit, Encodable, newBitParts, newRowParts, leftOutParts, sharedParts, zeroParts, ownRowParts, numbersRow, productRows, membersRow};
 use crate::left_out::lay_left_row;
 use arguments::count_of;
 use arguments::past_at;
@@ -151,13 +152,23 @@ fn lay_numbers_row(
     lay_number_row(out, s, args, at, v, n, var_at(args, past_at(args, 1)))
 }
 
-// The bounds of the products: array_var_int_element.
-fn lay_kept_zeros(out: &mut [u32], s: Laid, args: &[u32], ls: &[i64], us: &[i64]) -> Laid
+// The bounds of the products: array_var_int_element; another code has none.
+fn lay_kept_zeros(
+    out: &mut [u32],
+    s: Laid,
+    code: usize,
+    args: &[u32],
+    ls: &[i64],
+    us: &[i64],
+) -> Laid
     requires { ⌜ Room 5000 s × Bounded (now ls) × Bounded (now us) ⌝ }
-    ensures { λ r. ⌜ Appends s r (now (out .entry)) (now (out .exit)) (keptZeros (boundsOf (now (ls .entry)) (now (us .entry))) (now (args .entry))) × GrowsBy 5000 s r ⌝ }
+    ensures { λ r. ⌜ Appends s r (now (out .entry)) (now (out .exit)) (zeroParts (now (ls .entry)) (now (us .entry)) code (now (args .entry))) × GrowsBy 5000 s r ⌝ }
 {
-    let n = labels(args, ls, us);
-    lay_zeros(out, s, args, first_element(args, ls), n, ls, us)
+    if code == 25 {
+        let n = labels(args, ls, us);
+        return lay_zeros(out, s, args, first_element(args, ls), n, ls, us);
+    }
+    s
 }
 
 // The products and their row: array_var_int_element.
@@ -201,77 +212,49 @@ fn lay_members_row(
     lay_member_row(out, s, &vs, lower, v, n, var_at(args, past_at(args, 1)))
 }
 
-// The block of array_int_element over a shared variable.
-pub fn shared_element(
+// The rows of a code after those of the new bits: of the bits left out, and its own.
+fn lay_own_rows(
     out: &mut [u32],
     s: Laid,
+    code: usize,
     args: &[u32],
     ls: &[i64],
     us: &[i64],
     encoded: &[usize],
     first: usize,
 ) -> Laid
-    requires { ⌜ BlockRoom s × Encodable (now ls) (now us) (now encoded) first (now args) ⌝ }
-    ensures { λ r. ⌜ Appends s r (now (out .entry)) (now (out .exit)) (sharedParts (now (ls .entry)) (now (us .entry)) (now (encoded .entry)) first 24 (now (args .entry))) × GrowsBy 1000000 s r ⌝ }
+    requires { ⌜ Room 10000 s × Encodable (now ls) (now us) (now encoded) first (now args) ⌝ }
+    ensures { λ r. ⌜ Appends s r (now (out .entry)) (now (out .exit)) (ownRowParts (now (ls .entry)) (now (us .entry)) (now (encoded .entry)) first code (now (args .entry))) × GrowsBy 10000 s r ⌝ }
 {
-    let t = lay_new_bits(out, s, args, ls, us, encoded);
-    let u = lay_new_rows(out, t, args, ls, us, encoded, first);
-    let w = lay_left_out(out, u, 24, args, ls, us, encoded, first);
-    lay_numbers_row(out, w, args, ls, us, encoded, first)
+    if code == 28 {
+        return lay_members_row(out, s, args, ls, us, encoded, first);
+    }
+    let t = lay_left_out(out, s, code, args, ls, us, encoded, first);
+    if code == 24 {
+        return lay_numbers_row(out, t, args, ls, us, encoded, first);
+    }
+    if code == 25 {
+        return lay_product_rows(out, t, args, ls, us, encoded, first);
+    }
+    t
 }
 
-// The block of array_var_int_element over a shared variable.
-pub fn shared_var_element(
+// The block of a code that chooses by a shared variable.
+pub fn shared_block(
     out: &mut [u32],
     s: Laid,
+    code: usize,
     args: &[u32],
     ls: &[i64],
     us: &[i64],
     encoded: &[usize],
     first: usize,
 ) -> Laid
-    requires { ⌜ BlockRoom s × Encodable (now ls) (now us) (now encoded) first (now args) ⌝ }
-    ensures { λ r. ⌜ Appends s r (now (out .entry)) (now (out .exit)) (sharedParts (now (ls .entry)) (now (us .entry)) (now (encoded .entry)) first 25 (now (args .entry))) × GrowsBy 1000000 s r ⌝ }
+    requires { ⌜ BlockRoom s × Encodable (now ls) (now us) (now encoded) first (now args) × (choosing code ≡ true) ⌝ }
+    ensures { λ r. ⌜ Appends s r (now (out .entry)) (now (out .exit)) (sharedParts (now (ls .entry)) (now (us .entry)) (now (encoded .entry)) first code (now (args .entry))) × GrowsBy 1000000 s r ⌝ }
 {
     let t = lay_new_bits(out, s, args, ls, us, encoded);
-    let z = lay_kept_zeros(out, t, args, ls, us);
+    let z = lay_kept_zeros(out, t, code, args, ls, us);
     let u = lay_new_rows(out, z, args, ls, us, encoded, first);
-    let w = lay_left_out(out, u, 25, args, ls, us, encoded, first);
-    lay_product_rows(out, w, args, ls, us, encoded, first)
-}
-
-// The block of set_in over a shared variable.
-pub fn shared_set_in(
-    out: &mut [u32],
-    s: Laid,
-    args: &[u32],
-    ls: &[i64],
-    us: &[i64],
-    encoded: &[usize],
-    first: usize,
-) -> Laid
-    requires { ⌜ BlockRoom s × Encodable (now ls) (now us) (now encoded) first (now args) ⌝ }
-    ensures { λ r. ⌜ Appends s r (now (out .entry)) (now (out .exit)) (sharedParts (now (ls .entry)) (now (us .entry)) (now (encoded .entry)) first 27 (now (args .entry))) × GrowsBy 1000000 s r ⌝ }
-{
-    let t = lay_new_bits(out, s, args, ls, us, encoded);
-    let u = lay_new_rows(out, t, args, ls, us, encoded, first);
-    lay_left_out(out, u, 27, args, ls, us, encoded, first)
-}
-
-// The block of set_in_reif over a shared variable.
-pub fn shared_set_in_reif(
-    out: &mut [u32],
-    s: Laid,
-    args: &[u32],
-    ls: &[i64],
-    us: &[i64],
-    encoded: &[usize],
-    first: usize,
-) -> Laid
-    requires { ⌜ BlockRoom s × Encodable (now ls) (now us) (now encoded) first (now args) ⌝ }
-    ensures { λ r. ⌜ Appends s r (now (out .entry)) (now (out .exit)) (sharedParts (now (ls .entry)) (now (us .entry)) (now (encoded .entry)) first 28 (now (args .entry))) × GrowsBy 1000000 s r ⌝ }
-{
-    let t = lay_new_bits(out, s, args, ls, us, encoded);
-    let u = lay_new_rows(out, t, args, ls, us, encoded, first);
-    lay_members_row(out, u, args, ls, us, encoded, first)
+    lay_own_rows(out, u, code, args, ls, us, encoded, first)
 }

@@ -1,5 +1,8 @@
 -- The places of the list, or the members of the set.
+use mathlib.Core.Path.{_≡_}
+use mathlib.Core.Bool.{true}
 use native.Mathlib.Omega.{arith}
+use lib.Dec.{ltb}
 use lib.IntN.{pos}
 use mir.Facts.{toZ-ofZ, toZ-pos}
 use mir.Syntax.{w64}
@@ -21,7 +24,8 @@ returns c =
     let a = c .before .before .before .before .before .before .args .args .now in
     let size = c .before .before .size-at in
     let e = toZ-pos w64 {n = size .result} (omega (arith, size .ensures, size-le a 1)) in
-    rw (lt-ltb _ _ (c .before .before .before .before .if1 .taken), c .both .ensures, c .before .before .before .at-most .ensures, c .before .at-most2 .ensures, e, size .ensures, toZ-ofZ (c .before .before .before .before .before .before .fits .v))
+    let t : ltb (c .before .before .before .before .before .before .args .code) 26 ≡ true = lt-ltb _ _ (c .before .before .before .before .if1 .taken) in
+    rw (t, c .both .ensures, c .before .before .before .at-most .ensures, c .before .at-most2 .ensures, e, size .ensures, toZ-ofZ (c .before .before .before .before .before .before .fits .v))
 
 returns-2 : tie.Need-returns-2
 unfolding keeps within
