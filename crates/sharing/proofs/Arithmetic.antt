@@ -2,13 +2,13 @@
 -- product.
 use mathlib.Core.Path.{_≡_, refl, sym, ap, _∙_}
 use mathlib.Core.Logic.{_⊎_, inl, inr}
-use mathlib.Core.Bool.{Bool, true}
+use mathlib.Core.Bool.{Bool}
 use mathlib.Core.List.{List, [], _∷_, _++_}
 use Prim.Native.Nat.{ℕ}
 use native.Mathlib.Omega.{arith}
 use lib.IntN.{ℤ}
 use lib.Signed.{ltZ}
-use Rattle.integers.specs.Number.{_⊕_, _⊖_, _⊗_, neg, minZ, maxZ, absZ, _==_, +0, +1}
+use Rattle.integers.specs.Number.{_⊕_, _⊖_, _⊗_, neg, minZ, maxZ, absZ, +0, +1}
 use Rattle.integers.specs.Bounds.{bit}
 use Rattle.integers.specs.Terms.{Valuation, value}
 use Rattle.integers.specs.declared.Bounds.{Bounds}
@@ -24,7 +24,7 @@ use Rattle.rules.specs.Parts.{Z, endProducts, _─_≤0}
 use Rattle.rules.specs.Rule.{rule, onlyNegative, whereOne, whereZero, absolute, touching}
 use Rattle.rules.specs.Pick.{pick, bitOf, signPick}
 use Rattle.sharing.proofs.Good.{Good, Keeps, Are, Sat, see}
-use Rattle.sharing.proofs.Basics.{Sound, Complete, Determined, Exact, agree, says-as, equal-row, by-test, is-one, is-zero, Decides, decides-sound, decides-complete, decides-bit, not-not}
+use Rattle.sharing.proofs.Basics.{Represents, Correct, Exact, agree, says-as, equal-row, by-test, is-one, is-zero, Decides, one-bit, not-not}
 
 -- ---- 8, 12 to 14, 31, 32: b is 0 or 1, z := b×x
 
@@ -115,53 +115,46 @@ module _ (β : ℕ → Bounds) (σ : Valuation) where
 
   -- ---- 7 int_times
 
-  pub int-times-sound : (α : Valuation) (a b c : ℕ) → Sound β σ α (int-times a b c)
-  unfolding rule meaning
-  int-times-sound α a b c f g =
-      says-equal (σ a ⊗ σ b) (σ c) .1 (rw (g .1 .0) at (equal-row (see σ α) (aux 0) (source c) .0 (g .1 .1 .0)))
-
-  pub int-times-complete : (a b c : ℕ) → Complete β σ (int-times a b c)
+  pub int-times-correct : (a b c : ℕ) → Correct β σ (int-times a b c)
   unfolding rule meaning integerArguments pick value
-  int-times-complete a b c f m rest = (
-    (product-kept (β a) (β b) (σ a) (σ b) (f .kept .0) (f .kept .1 .0), tt),
-    (refl, (equal-row _ (aux 0) (source c) .1 (says-equal (σ a ⊗ σ b) (σ c) .0 m), tt)),
-  )
-
-  pub int-times-determined : (a b c : ℕ) → Determined β σ (int-times a b c)
-  unfolding rule pick
-  int-times-determined a b c α f g = (g .1 .0, tt)
+  int-times-correct a b c = record {
+    sound = λ α f g. says-equal (σ a ⊗ σ b) (σ c) .1 (rw (g .1 .0) at (equal-row (see σ α) (aux 0) (source c) .0 (g .1 .1 .0)));
+    complete = λ f m rest. (
+      (product-kept (β a) (β b) (σ a) (σ b) (f .kept .0) (f .kept .1 .0), tt),
+      (refl, (equal-row _ (aux 0) (source c) .1 (says-equal (σ a ⊗ σ b) (σ c) .0 m), tt)),
+    );
+    filled = refl;
+    determined = λ α f g. (g .1 .0, tt);
+  }
 
   -- ---- 8 int_abs
 
-  pub int-abs-sound : (α : Valuation) (x y : ℕ) → Sound β σ α (int-abs x y)
-  unfolding rule absolute meaning
-  int-abs-sound α x y f g =
-      says-equal (absZ (σ x)) (σ y) .1
-      (from₃ (bit-product (α 0) (σ x) (α 1) (g .0 .0) (g .1 .0)) (g .1 .1 .0) (g .1 .1 .1 .0)
-      (rw (rep (σ x), rep (σ y), rep (α 1)) (simp linear (omega arith))))
-
-  pub int-abs-complete : (x y : ℕ) → Complete β σ (int-abs x y)
+  pub int-abs-correct : (x y : ℕ) → Correct β σ (int-abs x y)
   unfolding rule absolute meaning integerArguments pick signPick value
-  int-abs-complete x y f m rest =
-      let e = says-equal (absZ (σ x)) (σ y) .0 m in (
-        sign-kept (β x) (σ x) (f .kept .0) rest,
-        (
-          refl,
+  int-abs-correct x y = record {
+    sound = λ α f g.
+        says-equal (absZ (σ x)) (σ y) .1
+        (from₃ (bit-product (α 0) (σ x) (α 1) (g .0 .0) (g .1 .0)) (g .1 .1 .0) (g .1 .1 .1 .0)
+        (rw (rep (σ x), rep (σ y), rep (α 1)) (simp linear (omega arith))));
+    complete = λ f m rest.
+        let e = says-equal (absZ (σ x)) (σ y) .0 m in (
+          sign-kept (β x) (σ x) (f .kept .0) rest,
           (
-            from₁ e (rw (sign-product (σ x), rep (σ x), rep (σ y)) (simp linear (omega arith))),
+            refl,
             (
-              from₁ e (rw (rep (σ x), rep (σ y)) (simp linear (omega arith))),
-              (sign-row (see σ (value (signPick (σ x) ++ rest))) (source x) (aux 0) (β x .upper) (f .kept .0 .1) refl, tt),
+              from₁ e (rw (sign-product (σ x), rep (σ x), rep (σ y)) (simp linear (omega arith))),
+              (
+                from₁ e (rw (rep (σ x), rep (σ y)) (simp linear (omega arith))),
+                (sign-row (see σ (value (signPick (σ x) ++ rest))) (source x) (aux 0) (β x .upper) (f .kept .0 .1) refl, tt),
+              ),
             ),
           ),
-        ),
-      )
-
-  pub int-abs-determined : (x y : ℕ) → Determined β σ (int-abs x y)
-  unfolding rule absolute pick
-  int-abs-determined x y α f g =
-      sign-are (σ x) α (g .0 .0) (g .1 .0) (sign-negative (see σ α) (source x) (aux 0) (β x .upper) (g .1 .1 .1 .1 .0))
-      (λ z. from₂ (rw z at (g .1 .1 .0)) (g .1 .1 .1 .0) (rw (rep (σ x), rep (σ y)) (simp linear (omega arith))))
+        );
+    filled = refl;
+    determined = λ α f g.
+        sign-are (σ x) α (g .0 .0) (g .1 .0) (sign-negative (see σ α) (source x) (aux 0) (β x .upper) (g .1 .1 .1 .1 .0))
+        (λ z. from₂ (rw z at (g .1 .1 .0)) (g .1 .1 .1 .0) (rw (rep (σ x), rep (σ y)) (simp linear (omega arith))));
+  }
 
   -- ---- 9 int_max, 29 int_min: the least of y − x and v − u is 0; r is 0 where x = y
 
@@ -173,51 +166,20 @@ module _ (β : ℕ → Bounds) (σ : Valuation) where
       (simp (linear, not-not) (omega arith))
 
   -- t is the test of the builtin, s the test that r picks
-  module _ (x y u v : ℕ) (h : In (β x) (σ x) × In (β y) (σ y) × In (β u) (σ u) × In (β v) (σ v)) {t : Bool} (says : Says t (minZ (σ y ⊖ σ x) (σ v ⊖ σ u) ≡ +0)) where
-    touching-sound : (α : Valuation) → Good (touching β x y u v) σ α → t ≡ true
-    unfolding touching whereOne whereZero _─_≤0 value
-    touching-sound α g = says .1 (decides-sound (λ r. Good (touching β x y u v) σ (value (r ∷ []))) (touching-rows x y u v h) (α 0) (g .0 .0) g)
+  touching-represents : {F : Type 0} (x y u v : ℕ) → (F → In (β x) (σ x) × In (β y) (σ y) × In (β u) (σ u) × In (β v) (σ v)) → {s t : Bool} →
+      Says t (minZ (σ y ⊖ σ x) (σ v ⊖ σ u) ≡ +0) → Says s (¬ (σ x ≡ σ y)) → Represents F (touching β x y u v) σ (bitOf s ∷ []) t
+  unfolding touching whereOne whereZero _─_≤0 value
+  touching-represents x y u v h m n = one-bit (λ f. touching-rows x y u v (h f)) m n (λ α g. g) (λ r rest g. g)
 
-    touching-complete : {s : Bool} → Says s (¬ (σ x ≡ σ y)) → t ≡ true → (rest : List ℤ) → Good (touching β x y u v) σ (value ((bitOf s ∷ []) ++ rest))
-    unfolding touching whereOne whereZero _─_≤0 value
-    touching-complete s m rest = decides-complete (λ r. Good (touching β x y u v) σ (value (r ∷ []))) (touching-rows x y u v h) s (says .0 m)
-
-    touching-determined : {s : Bool} → Says s (¬ (σ x ≡ σ y)) → (α : Valuation) → Good (touching β x y u v) σ α → Are (bitOf s ∷ []) α
-    unfolding touching whereOne whereZero _─_≤0 value
-    touching-determined s α g = (decides-bit (λ r. Good (touching β x y u v) σ (value (r ∷ []))) (touching-rows x y u v h) s (α 0) (g .0 .0) g, tt)
-
-  says-larger : (a b c : ℕ) → Says (maxZ (σ a) (σ b) == σ c) (minZ (σ c ⊖ σ a) (σ c ⊖ σ b) ≡ +0)
-  says-larger a b c = says-as (says-equal (maxZ (σ a) (σ b)) (σ c)) (rw (rep (σ a), rep (σ b), rep (σ c)) (simp linear (omega arith)))
-
-  pub int-max-sound : (α : Valuation) (a b c : ℕ) → Sound β σ α (int-max a b c)
-  unfolding rule meaning integerArguments
-  int-max-sound α a b c f = touching-sound a c b c (f .kept .0, f .kept .1 .1 .0, f .kept .1 .0, f .kept .1 .1 .0) (says-larger a b c) α
-
-  pub int-max-complete : (a b c : ℕ) → Complete β σ (int-max a b c)
+  pub int-max-correct : (a b c : ℕ) → Correct β σ (int-max a b c)
   unfolding rule meaning integerArguments pick
-  int-max-complete a b c f =
-      touching-complete a c b c (f .kept .0, f .kept .1 .1 .0, f .kept .1 .0, f .kept .1 .1 .0) (says-larger a b c) (says-not (says-equal (σ a) (σ c)))
+  int-max-correct a b c =
+      touching-represents a c b c (λ f. (f .kept .0, f .kept .1 .1 .0, f .kept .1 .0, f .kept .1 .1 .0))
+      (says-as (says-equal (maxZ (σ a) (σ b)) (σ c)) (rw (rep (σ a), rep (σ b), rep (σ c)) (simp linear (omega arith)))) (says-not (says-equal (σ a) (σ c)))
 
-  pub int-max-determined : (a b c : ℕ) → Determined β σ (int-max a b c)
-  unfolding rule integerArguments pick
-  int-max-determined a b c α f =
-      touching-determined a c b c (f .kept .0, f .kept .1 .1 .0, f .kept .1 .0, f .kept .1 .1 .0) (says-larger a b c) (says-not (says-equal (σ a) (σ c))) α
-
-  says-smaller : (a b c : ℕ) → Says (minZ (σ a) (σ b) == σ c) (minZ (σ a ⊖ σ c) (σ b ⊖ σ c) ≡ +0)
-  says-smaller a b c = says-as (says-equal (minZ (σ a) (σ b)) (σ c)) (rw (rep (σ a), rep (σ b), rep (σ c)) (simp linear (omega arith)))
-
-  pub int-min-sound : (α : Valuation) (a b c : ℕ) → Sound β σ α (int-min a b c)
-  unfolding rule meaning integerArguments
-  int-min-sound α a b c f = touching-sound c a c b (f .kept .1 .1 .0, f .kept .0, f .kept .1 .1 .0, f .kept .1 .0) (says-smaller a b c) α
-
-  pub int-min-complete : (a b c : ℕ) → Complete β σ (int-min a b c)
+  pub int-min-correct : (a b c : ℕ) → Correct β σ (int-min a b c)
   unfolding rule meaning integerArguments pick
-  int-min-complete a b c f =
-      touching-complete c a c b (f .kept .1 .1 .0, f .kept .0, f .kept .1 .1 .0, f .kept .1 .0) (says-smaller a b c)
+  int-min-correct a b c =
+      touching-represents c a c b (λ f. (f .kept .1 .1 .0, f .kept .0, f .kept .1 .1 .0, f .kept .1 .0))
+      (says-as (says-equal (minZ (σ a) (σ b)) (σ c)) (rw (rep (σ a), rep (σ b), rep (σ c)) (simp linear (omega arith))))
       (says-not (says-as (says-equal (σ a) (σ c)) (sym, sym)))
-
-  pub int-min-determined : (a b c : ℕ) → Determined β σ (int-min a b c)
-  unfolding rule integerArguments pick
-  int-min-determined a b c α f =
-      touching-determined c a c b (f .kept .1 .1 .0, f .kept .0, f .kept .1 .1 .0, f .kept .1 .0) (says-smaller a b c)
-      (says-not (says-as (says-equal (σ a) (σ c)) (sym, sym))) α

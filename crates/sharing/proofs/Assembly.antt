@@ -81,7 +81,7 @@ module _ (β : ℕ → Bounds) (s : ℕ → Bool) (n first : ℕ) (e : Encoded) 
       go false h f k r =
           let B = rule β b in
           let g : Good B σ own = (k, rows-agree agrees (length (B .auxiliaries)) (B .rows) (plain .1) .0 r) in
-          (laws β b .sound σ own fits g, laws β b .determined σ own fits g, still-held h)
+          (laws β b .correct σ .sound own fits g, laws β b .correct σ .determined own fits g, still-held h)
 
   -- a builtin that is true, the auxiliaries being the picks: the rows are satisfied, and the next record holds
   pub one-complete : Formed first (ruleAfter β s e ch b) → (rest : List ℤ) → own ≡ value (pickAfter β s e σ ch b ++ rest) → meaning σ b ≡ true →
@@ -100,7 +100,7 @@ module _ (β : ℕ → Bounds) (s : ℕ → Bool) (n first : ℕ) (e : Encoded) 
           (g .0 .0, rows-agree agrees-all (length (B .auxiliaries)) (B .rows) (f .1) .1 (g .0 .1), now-held (g .1))
       go false h f rest p m =
           let B = rule β b in
-          let g = subst (Good B σ) (sym p) (laws β b .complete σ fits m rest) in
+          let g = subst (Good B σ) (sym p) (laws β b .correct σ .complete fits m rest) in
           (g .0, rows-agree agrees (length (B .auxiliaries)) (B .rows) (plain .1) .1 (g .1), still-held h)
 
   -- the auxiliaries being the picks: the next record holds, whether the builtin is true or not
@@ -122,7 +122,7 @@ picked β s e σ ch b = go (shares s ch)
   where
     go : (t : Bool) → length (sharedPick β e σ ch if t else pick β σ b) ≡ length ((sharedRule β e ch if t else rule β b) .auxiliaries)
     go true = shared-filled β e σ ch
-    go false = laws β b .filled σ
+    go false = laws β b .correct σ .filled
 
 -- ---- all builtins
 

@@ -1,8 +1,8 @@
--- What the proofs of the builtins share: the four statements on a builtin, tests, rows of two variables, and values 0 and 1.
+-- What the proofs of the builtins share: what is shown of a block, tests, rows of two variables, and values 0 and 1.
 use mathlib.Core.Path.{_≡_, refl}
 use mathlib.Core.Logic.{_↔_}
 use mathlib.Core.Bool.{Bool, true, false}
-use mathlib.Core.List.{List, _++_}
+use mathlib.Core.List.{List, [], _∷_, _++_}
 use Prim.Native.Nat.{ℕ}
 use native.Mathlib.Decide.{ℕ-discrete}
 use native.Mathlib.Omega.{arith}
@@ -17,37 +17,42 @@ use Rattle.integers.proofs.Bits.{Bit, bits, Reified, to-bit, bit-of}
 use Rattle.integers.proofs.Tests.{Says, In, says-equal, says-beq, false-true}
 use Rattle.models.specs.Builtin.{Builtin}
 use Rattle.models.specs.Meaning.{meaning, on, _iff_}
-use Rattle.rules.specs.Block.{Ref}
+use Rattle.rowsystems.specs.Row.{Row}
+use Rattle.rules.specs.Block.{Ref, Block}
 use Rattle.rules.specs.Parts.{_─_≤0, _─_=0}
-use Rattle.rules.specs.Rule.{rule}
+use Rattle.rules.specs.Rule.{block, rule}
 use Rattle.rules.specs.Pick.{pick, bitOf}
 use Rattle.sharing.proofs.Good.{Good, Are, Sat}
 use Rattle.sharing.proofs.Fits.{Fits}
 
--- ---- the four statements
+-- ---- what is shown of a block
 
--- values that make the block good make the builtin true
-abbrev pub Sound : (ℕ → Bounds) → Valuation → Valuation → Builtin → Type 0
-Sound β σ α b = Fits β σ b → Good (rule β b) σ α → meaning σ b ≡ true
+-- over values of which F holds, the block with these picks for its auxiliaries represents the test t
+pub record Represents (F : Type 0) (B : Block) (σ : Valuation) (picks : List ℤ) (t : Bool) : Type 0 where
+  -- values that make the block good make the test true
+  pub sound : (α : Valuation) → F → Good B σ α → t ≡ true
+  -- where the test is true, the picks make the block good, whatever follows them
+  pub complete : F → t ≡ true → (rest : List ℤ) → Good B σ (value (picks ++ rest))
+  -- there is a pick for each auxiliary
+  pub filled : length picks ≡ length (B .auxiliaries)
+  -- auxiliaries that make the block good are the picks
+  pub determined : (α : Valuation) → F → Good B σ α → Are picks α
 
--- where the builtin is true, the picked auxiliaries make the block good, whatever follows them
-abbrev pub Complete : (ℕ → Bounds) → Valuation → Builtin → Type 0
-Complete β σ b = Fits β σ b → meaning σ b ≡ true → (rest : List ℤ) → Good (rule β b) σ (value (pick β σ b ++ rest))
-
--- there is a pick for each auxiliary
-abbrev pub Filled : (ℕ → Bounds) → Valuation → Builtin → Type 0
-Filled β σ b = length (pick β σ b) ≡ length (rule β b .auxiliaries)
-
--- auxiliaries that make the block good are the picks
-abbrev pub Determined : (ℕ → Bounds) → Valuation → Builtin → Type 0
-Determined β σ b = (α : Valuation) → Fits β σ b → Good (rule β b) σ α → Are (pick β σ b) α
+-- the block of a builtin represents its meaning
+abbrev pub Correct : (ℕ → Bounds) → Valuation → Builtin → Type 0
+Correct β σ b = Represents (Fits β σ b) (rule β b) σ (pick β σ b) (meaning σ b)
 
 -- both directions at once, for a block that has no auxiliaries
 abbrev pub Exact : (ℕ → Bounds) → Valuation → Builtin → Type 0
 Exact β σ b = (α : Valuation) → Fits β σ b → Good (rule β b) σ α ↔ (meaning σ b ≡ true)
 
-pub complete : {β : ℕ → Bounds} {σ : Valuation} {b : Builtin} → Exact β σ b → Complete β σ b
-complete {β} {σ} {b} e f m rest = e (value (pick β σ b ++ rest)) f .1 m
+pub exact : {β : ℕ → Bounds} {σ : Valuation} {b : Builtin} → Exact β σ b → pick β σ b ≡ [] → rule β b .auxiliaries ≡ [] → Correct β σ b
+exact {β} {σ} {b} e p a = record {
+  sound = λ α f. e α f .0;
+  complete = λ f m rest. e (value (pick β σ b ++ rest)) f .1 m;
+  filled = rw (p, a);
+  determined = λ α f g. rw p tt;
+}
 
 -- ---- tests
 
@@ -103,14 +108,23 @@ is-zero s n = by-test s (λ b. +0 ≡ b) (λ a. absurd (n a)) (λ x. refl)
 abbrev pub Decides : (ℤ → Type 0) → Type 0 → Type 0 → Type 0
 Decides R A C = (R +1 ↔ (A × C)) × (R +0 ↔ (A × ¬ C))
 
-pub decides-sound : {A C : Type 0} (R : ℤ → Type 0) → Decides R A C → (r : ℤ) → In bit r → R r → A
-decides-sound {A} R d r h = bit-of (λ b. R b → A) (λ x. d .1 .0 x .0) (λ x. d .0 .0 x .0) (to-bit r (h .0) (h .1))
-
-pub decides-complete : {A C : Type 0} {t : Bool} (R : ℤ → Type 0) → Decides R A C → Says t C → A → R (bitOf t)
-decides-complete R d s a = by-test s R (λ c. d .0 .1 (a, c)) (λ n. d .1 .1 (a, n))
-
-pub decides-bit : {A C : Type 0} {t : Bool} (R : ℤ → Type 0) → Decides R A C → Says t C → (r : ℤ) → In bit r → R r → r ≡ bitOf t
-decides-bit {A} {C} {t} R d s r h = bit-of (λ b. R b → b ≡ bitOf t) (λ x. is-zero s (d .1 .0 x .1)) (λ x. is-one s (d .0 .0 x .1)) (to-bit r (h .0) (h .1))
+-- a block with the auxiliary r, which is all that its rows read, represents a test of A, with the pick of a test of C
+pub one-bit : {F A C : Type 0} {s t : Bool} {σ : Valuation} {rows : List (Row Ref)} → let B = block (bit ∷ []) rows in
+    (F → Decides (λ r. Good B σ (value (r ∷ []))) A C) → Says t A → Says s C →
+    ((α : Valuation) → Good B σ α → Good B σ (value (α 0 ∷ []))) → ((r : ℤ) (rest : List ℤ) → Good B σ (value (r ∷ [])) → Good B σ (value (r ∷ rest))) →
+    Represents F B σ (bitOf s ∷ []) t
+one-bit {F} {A} {C} {s} {t} {σ} {rows} d u v only more = record {
+  sound = λ α f g. u .1 (bit-of (λ b. R b → A) (λ x. d f .1 .0 x .0) (λ x. d f .0 .0 x .0) (to-bit (α 0) (g .0 .0 .0) (g .0 .0 .1)) (only α g));
+  complete = λ f m rest. more (bitOf s) rest (by-test v R (λ c. d f .0 .1 (u .0 m, c)) (λ n. d f .1 .1 (u .0 m, n)));
+  filled = refl;
+  determined = λ α f g. (
+    bit-of (λ b. R b → b ≡ bitOf s) (λ x. is-zero v (d f .1 .0 x .1)) (λ x. is-one v (d f .0 .0 x .1)) (to-bit (α 0) (g .0 .0 .0) (g .0 .0 .1)) (only α g),
+    tt,
+  );
+}
+  where
+    R : ℤ → Type 0
+    R r = Good (block (bit ∷ []) rows) σ (value (r ∷ []))
 
 -- two values are equal, or are not
 abbrev pub Same : Bool → ℤ → ℤ → Type 0

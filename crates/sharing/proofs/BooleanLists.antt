@@ -26,7 +26,8 @@ use Rattle.rules.specs.Parts.{halfLess, _─_≤0, each}
 use Rattle.rules.specs.Rule.{rule}
 use Rattle.rules.specs.Pick.{pick}
 use Rattle.sharing.proofs.Good.{Sat, dot, see}
-use Rattle.sharing.proofs.Basics.{Sound, Complete, Filled, Determined, Exact, complete, agree, says-as, says-reified, not-above-row, one-row, in-bit}
+use Rattle.sharing.proofs.Fits.{Fits}
+use Rattle.sharing.proofs.Basics.{Correct, Exact, agree, says-as, says-reified, not-above-row, one-row, in-bit}
 
 -- ---- how many elements pass a test
 
@@ -150,7 +151,7 @@ half-in n m h = let l : (n - 1) / 2 ≤ (m - 1) / 2 = omega arith in omega arith
 module _ (β : ℕ → Bounds) (σ : Valuation) where
   -- ---- 21 bool_clause
 
-  bool-clause-exact : (xs ys : List ℕ) → Exact β σ (bool-clause xs ys)
+  pub bool-clause-exact : (xs ys : List ℕ) → Exact β σ (bool-clause xs ys)
   unfolding rule meaning booleanArguments
   bool-clause-exact xs ys α f =
       let h = all-append (λ v. Bit (σ v)) xs ys .0 (f .zero-one) in
@@ -164,19 +165,9 @@ module _ (β : ℕ → Bounds) (σ : Valuation) where
       holds : (n k m : ℕ) → k ≤ m → (1 ≤ n) ⊎ (k < m) → -1 ⊗ pos n ⊕ (+1 ⊗ pos k ⊕ +0) ⊕ (+1 ⊖ pos m) ⊑ +0
       holds = simp linear (omega arith)
 
-  pub bool-clause-sound : (α : Valuation) (as₁ bs : List ℕ) → Sound β σ α (bool-clause as₁ bs)
-  bool-clause-sound α xs ys f = bool-clause-exact xs ys α f .0
-
-  pub bool-clause-complete : (as₁ bs : List ℕ) → Complete β σ (bool-clause as₁ bs)
-  bool-clause-complete xs ys = complete (bool-clause-exact xs ys)
-
-  pub bool-clause-filled : (as₁ bs : List ℕ) → Filled β σ (bool-clause as₁ bs)
-  unfolding rule pick
-  bool-clause-filled xs ys = refl
-
   -- ---- 22 array_bool_and
 
-  array-bool-and-exact : (xs : List ℕ) (r : ℕ) → Exact β σ (array-bool-and xs r)
+  pub array-bool-and-exact : (xs : List ℕ) (r : ℕ) → Exact β σ (array-bool-and xs r)
   unfolding rule meaning booleanArguments
   array-bool-and-exact xs r α f =
       let h = f .zero-one .1 in
@@ -189,36 +180,22 @@ module _ (β : ℕ → Bounds) (σ : Valuation) where
         λ m. let k = l .1 m in (tt, q .1 (a .1 (k .0), (rw e (k .1), tt))),
       )
 
-  pub array-bool-and-sound : (α : Valuation) (as₁ : List ℕ) (r : ℕ) → Sound β σ α (array-bool-and as₁ r)
-  array-bool-and-sound α xs r f = array-bool-and-exact xs r α f .0
-
-  pub array-bool-and-complete : (as₁ : List ℕ) (r : ℕ) → Complete β σ (array-bool-and as₁ r)
-  array-bool-and-complete xs r = complete (array-bool-and-exact xs r)
-
-  pub array-bool-and-filled : (as₁ : List ℕ) (r : ℕ) → Filled β σ (array-bool-and as₁ r)
-  unfolding rule pick
-  array-bool-and-filled xs r = refl
-
   -- ---- 23 array_bool_xor
 
-  pub array-bool-xor-sound : (α : Valuation) (as₁ : List ℕ) → Sound β σ α (array-bool-xor as₁)
-  unfolding rule meaning odd booleanArguments
-  array-bool-xor-sound α xs f g =
-      eq-eqb (ones σ xs % 2) 1 (odd-row (ones σ xs) (α 0) (rw (dot-each σ α +1 xs (f .zero-one) (-2 · aux 0 ∷ [])) at (g .1 .0)))
-
-  pub array-bool-xor-complete : (as₁ : List ℕ) → Complete β σ (array-bool-xor as₁)
+  pub array-bool-xor-correct : (as₁ : List ℕ) → Correct β σ (array-bool-xor as₁)
   unfolding rule meaning odd booleanArguments pick value
-  array-bool-xor-complete xs f m rest =
-      let n = ones σ xs in
-      let α = value (pos (halfLess n) ∷ rest) in (
-        (half-in n (length xs) (how-many-bound (on σ) xs), tt),
-        (rw (dot-each σ α +1 xs (f .zero-one) (-2 · aux 0 ∷ [])) (row-odd n (eqb-true (n % 2) 1 m)), tt),
-      )
+  array-bool-xor-correct xs = record {
+    sound = λ α f g. eq-eqb (n % 2) 1 (odd-row n (α 0) (rw (row f α) at (g .1 .0)));
+    complete = λ f m rest. (
+      (half-in n (length xs) (how-many-bound (on σ) xs), tt),
+      (rw (row f (value (pos (halfLess n) ∷ rest))) (row-odd n (eqb-true (n % 2) 1 m)), tt),
+    );
+    filled = refl;
+    determined = λ α f g. (half-only n (α 0) (rw (row f α) at (g .1 .0)), tt);
+  }
+    where
+      n : ℕ
+      n = ones σ xs
 
-  pub array-bool-xor-filled : (as₁ : List ℕ) → Filled β σ (array-bool-xor as₁)
-  unfolding rule pick
-  array-bool-xor-filled xs = refl
-
-  pub array-bool-xor-determined : (as₁ : List ℕ) → Determined β σ (array-bool-xor as₁)
-  unfolding rule booleanArguments pick
-  array-bool-xor-determined xs α f g = (half-only (ones σ xs) (α 0) (rw (dot-each σ α +1 xs (f .zero-one) (-2 · aux 0 ∷ [])) at (g .1 .0)), tt)
+      row : Fits β σ (array-bool-xor xs) → (α : Valuation) → dot (see σ α) (each +1 xs ++ (-2 · aux 0 ∷ [])) ≡ +1 ⊗ pos n ⊕ (-2 ⊗ α 0 ⊕ +0)
+      row f α = dot-each σ α +1 xs (f .zero-one) (-2 · aux 0 ∷ [])

@@ -2,7 +2,7 @@
 use mathlib.Core.Path.{_≡_, refl}
 use mathlib.Core.Logic.{_⊎_, inl, inr, _↔_}
 use mathlib.Core.Bool.{Bool, true, false, _&&_, _||_}
-use mathlib.Core.List.{List, [], _∷_}
+use mathlib.Core.List.{[], _∷_}
 use Prim.Native.Nat.{ℕ}
 use native.Mathlib.Omega.{arith}
 use lib.IntN.{ℤ}
@@ -13,14 +13,14 @@ use Rattle.integers.specs.declared.Bounds.{Bounds}
 use Rattle.integers.proofs.Linear.{_⊑_, _⊏_, linear}
 use Rattle.integers.proofs.Bits.{Bit, bits, Reified, bit-case}
 use Rattle.integers.proofs.Tests.{Says, In, All, says-le, says-lt, says-equal, says-not, says-and, says-or}
-use Rattle.models.specs.Builtin.{bool2int, bool-not, bool-and, bool-or, bool-xor, bool-eq-reif, bool-le-reif, bool-lt-reif}
+use Rattle.models.specs.Builtin.{Builtin, bool2int, bool-not, bool-and, bool-or, bool-xor, bool-eq-reif, bool-le-reif, bool-lt-reif}
 use Rattle.models.specs.Meaning.{meaning, on, _iff_}
 use Rattle.models.proofs.Arguments.{booleanArguments}
 use Rattle.rules.specs.Parts.{_─_≤0, _─_=0}
 use Rattle.rules.specs.Rule.{rule, sameRows, sameReified}
 use Rattle.rules.specs.Pick.{pick}
 use Rattle.sharing.proofs.Good.{Good, Sat, see}
-use Rattle.sharing.proofs.Basics.{Sound, Complete, Determined, Exact, agree, says-as, says-reified, in-bit, Same, not-not}
+use Rattle.sharing.proofs.Basics.{Represents, Correct, Exact, agree, says-as, says-reified, in-bit, Same, not-not}
 use Rattle.sharing.proofs.Comparisons.{equal-block}
 
 module _ (β : ℕ → Bounds) (σ : Valuation) where
@@ -41,6 +41,15 @@ module _ (β : ℕ → Bounds) (σ : Valuation) where
   bool-not-exact a b α f =
       agree (says-not (says-equal (σ a) (σ b))) (not-row (σ a) (f .zero-one .0) (σ b) (f .zero-one .1 .0))
 
+  -- ---- 18, 19, 35, 36: R is a builtin whose rows say of any bits x, y, r that r is 1 exactly where C; t is the test of C
+
+  reified-exact : (R : Builtin) (C : ℤ → ℤ → Type 0) →
+      ((r : ℤ) → Bit r → (x y : ℤ) → In bit x → In bit y → Good (rule β R) (value (x ∷ y ∷ r ∷ [])) (value []) ↔ Reified r (C x y)) →
+      (a b r : ℕ) {t : Bool} → All (λ v. Bit (σ v)) (a ∷ b ∷ r ∷ []) → Says t (C (σ a) (σ b)) →
+      Good (rule β R) (value (σ a ∷ σ b ∷ σ r ∷ [])) (value []) ↔ ((on σ r iff t) ≡ true)
+  reified-exact R C rows a b r h s =
+      agree (says-reified σ r s) (rows (σ r) (h .1 .1 .0) (σ a) (σ b) (in-bit (σ a) (h .0)) (in-bit (σ b) (h .1 .0)))
+
   -- ---- 18 bool_and: both are 1 where their sum is 2
 
   says-both : (a b : ℕ) → Bit (σ a) → Bit (σ b) → Says (on σ a && on σ b) (+2 ⊑ σ a ⊕ σ b)
@@ -58,9 +67,7 @@ module _ (β : ℕ → Bounds) (σ : Valuation) where
   pub bool-and-exact : (a b r : ℕ) → Exact β σ (bool-and a b r)
   unfolding rule _─_≤0 meaning booleanArguments value
   bool-and-exact a b r α f =
-      let s = f .zero-one .0 in
-      let t = f .zero-one .1 .0 in
-      agree (says-reified σ r (says-both a b s t)) (and-rows (σ r) (f .zero-one .1 .1 .0) (σ a) (σ b) (in-bit (σ a) s) (in-bit (σ b) t))
+      reified-exact (bool-and 0 1 2) (λ x y. +2 ⊑ x ⊕ y) and-rows a b r (f .zero-one) (says-both a b (f .zero-one .0) (f .zero-one .1 .0))
 
   -- ---- 19 bool_or: one of them is 1 where their sum is at least 1
 
@@ -84,73 +91,47 @@ module _ (β : ℕ → Bounds) (σ : Valuation) where
   pub bool-or-exact : (a b r : ℕ) → Exact β σ (bool-or a b r)
   unfolding rule meaning booleanArguments value
   bool-or-exact a b r α f =
-      let s = f .zero-one .0 in
-      let t = f .zero-one .1 .0 in
-      agree (says-reified σ r (says-either a b s t)) (or-rows (σ r) (f .zero-one .1 .1 .0) (σ a) (σ b) (in-bit (σ a) s) (in-bit (σ b) t))
+      reified-exact (bool-or 0 1 2) (λ x y. +1 ⊑ x ⊕ y) or-rows a b r (f .zero-one) (says-either a b (f .zero-one .0) (f .zero-one .1 .0))
 
   -- ---- 20 bool_xor, 34 bool_eq_reif
 
   -- the two rows after the products, where x and y are these
-  equal-rows : (r : ℤ) → Bit r → (a b : ℤ) → In bit a → In bit b → (x y : ℤ) → x ≡ r ⊗ a → y ≡ r ⊗ b →
-      All (Sat (see (value (a ∷ b ∷ r ∷ [])) (value (x ∷ y ∷ [])))) (sameRows true 0 1 2) ↔ Reified r (a ≡ b)
+  decided : (equal : Bool) (r : ℤ) → Bit r → (a b : ℤ) → In bit a → In bit b → (x y : ℤ) → x ≡ r ⊗ a → y ≡ r ⊗ b →
+      All (Sat (see (value (a ∷ b ∷ r ∷ [])) (value (x ∷ y ∷ [])))) (sameRows equal 0 1 2) ↔ Reified r (Same equal a b)
   unfolding sameRows _─_=0 value
-  equal-rows = simp bits (simp linear (omega arith))
-
-  unequal-rows : (r : ℤ) → Bit r → (a b : ℤ) → In bit a → In bit b → (x y : ℤ) → x ≡ r ⊗ a → y ≡ r ⊗ b →
-      All (Sat (see (value (a ∷ b ∷ r ∷ [])) (value (x ∷ y ∷ [])))) (sameRows false 0 1 2) ↔ Reified r (¬ (a ≡ b))
-  unfolding sameRows value
-  unequal-rows = simp bits (simp (linear, not-not) (omega arith))
+  decided true = simp bits (simp linear (omega arith))
+  decided false = simp bits (simp (linear, not-not) (omega arith))
 
   same-rows : (equal : Bool) (a b r : ℕ) → Bit (σ a) → Bit (σ b) → Bit (σ r) → (α : Valuation) → α 0 ≡ σ r ⊗ σ a → α 1 ≡ σ r ⊗ σ b →
       All (Sat (see σ α)) (sameRows equal a b r) ↔ Reified (σ r) (Same equal (σ a) (σ b))
   unfolding sameRows _─_=0 value
-  same-rows true a b r u v w α = equal-rows (σ r) w (σ a) (σ b) (in-bit (σ a) u) (in-bit (σ b) v) (α 0) (α 1)
-  same-rows false a b r u v w α = unequal-rows (σ r) w (σ a) (σ b) (in-bit (σ a) u) (in-bit (σ b) v) (α 0) (α 1)
+  same-rows true a b r u v w α = decided true (σ r) w (σ a) (σ b) (in-bit (σ a) u) (in-bit (σ b) v) (α 0) (α 1)
+  same-rows false a b r u v w α = decided false (σ r) w (σ a) (σ b) (in-bit (σ a) u) (in-bit (σ b) v) (α 0) (α 1)
 
-  -- t is the test of the builtin
-  module _ (equal : Bool) (a b r : ℕ) (u : Bit (σ a)) (v : Bit (σ b)) (w : Bit (σ r)) {t : Bool} (s : Says t (Same equal (σ a) (σ b))) where
-    same-reified-sound : (α : Valuation) → Good (sameReified equal a b r) σ α → (on σ r iff t) ≡ true
-    unfolding sameReified
-    same-reified-sound α g = says-reified σ r s .1 (same-rows equal a b r u v w α (g .1 .0) (g .1 .1 .0) .0 (g .1 .1 .1))
+  -- t is the test of the builtin; the products are the picks
+  same-reified : {F : Type 0} (equal : Bool) (a b r : ℕ) → (F → Bit (σ a) × Bit (σ b) × Bit (σ r)) → {t : Bool} → Says t (Same equal (σ a) (σ b)) →
+      Represents F (sameReified equal a b r) σ ((σ r ⊗ σ a) ∷ (σ r ⊗ σ b) ∷ []) (on σ r iff t)
+  unfolding sameReified value
+  same-reified equal a b r h s = record {
+    sound = λ α f g. says-reified σ r s .1 (same-rows equal a b r (h f .0) (h f .1) (h f .2) α (g .1 .0) (g .1 .1 .0) .0 (g .1 .1 .1));
+    complete = λ f m rest. (
+      (kept (σ a) (h f .0) (σ r) (h f .2), (kept (σ b) (h f .1) (σ r) (h f .2), tt)),
+      (refl, (refl, same-rows equal a b r (h f .0) (h f .1) (h f .2) (value ((σ r ⊗ σ a) ∷ (σ r ⊗ σ b) ∷ rest)) refl refl .1 (says-reified σ r s .0 m))),
+    );
+    filled = refl;
+    determined = λ α f g. (g .1 .0, (g .1 .1 .0, tt));
+  }
+    where
+      kept : (x : ℤ) → Bit x → (r : ℤ) → Bit r → In bit (r ⊗ x)
+      kept = simp bits (simp linear (omega arith))
 
-    same-reified-complete : (on σ r iff t) ≡ true → (rest : List ℤ) → Good (sameReified equal a b r) σ (value ((σ r ⊗ σ a) ∷ (σ r ⊗ σ b) ∷ rest))
-    unfolding sameReified value
-    same-reified-complete m rest = (
-      (kept (σ a) u (σ r) w, (kept (σ b) v (σ r) w, tt)),
-      (refl, (refl, same-rows equal a b r u v w (value ((σ r ⊗ σ a) ∷ (σ r ⊗ σ b) ∷ rest)) refl refl .1 (says-reified σ r s .0 m))),
-    )
-      where
-        kept : (x : ℤ) → Bit x → (r : ℤ) → Bit r → In bit (r ⊗ x)
-        kept = simp bits (simp linear (omega arith))
-
-  pub bool-xor-sound : (α : Valuation) (a b r : ℕ) → Sound β σ α (bool-xor a b r)
-  unfolding rule meaning booleanArguments
-  bool-xor-sound α a b r f =
-      same-reified-sound false a b r (f .zero-one .0) (f .zero-one .1 .0) (f .zero-one .1 .1 .0) (says-not (says-equal (σ a) (σ b))) α
-
-  pub bool-xor-complete : (a b r : ℕ) → Complete β σ (bool-xor a b r)
+  pub bool-xor-correct : (a b r : ℕ) → Correct β σ (bool-xor a b r)
   unfolding rule meaning booleanArguments pick
-  bool-xor-complete a b r f =
-      same-reified-complete false a b r (f .zero-one .0) (f .zero-one .1 .0) (f .zero-one .1 .1 .0) (says-not (says-equal (σ a) (σ b)))
+  bool-xor-correct a b r = same-reified false a b r (λ f. (f .zero-one .0, f .zero-one .1 .0, f .zero-one .1 .1 .0)) (says-not (says-equal (σ a) (σ b)))
 
-  pub bool-eq-reif-sound : (α : Valuation) (a b r : ℕ) → Sound β σ α (bool-eq-reif a b r)
-  unfolding rule meaning booleanArguments
-  bool-eq-reif-sound α a b r f =
-      same-reified-sound true a b r (f .zero-one .0) (f .zero-one .1 .0) (f .zero-one .1 .1 .0) (says-equal (σ a) (σ b)) α
-
-  pub bool-eq-reif-complete : (a b r : ℕ) → Complete β σ (bool-eq-reif a b r)
+  pub bool-eq-reif-correct : (a b r : ℕ) → Correct β σ (bool-eq-reif a b r)
   unfolding rule meaning booleanArguments pick
-  bool-eq-reif-complete a b r f =
-      same-reified-complete true a b r (f .zero-one .0) (f .zero-one .1 .0) (f .zero-one .1 .1 .0) (says-equal (σ a) (σ b))
-
-  -- the products are the picks
-  pub bool-xor-determined : (a b r : ℕ) → Determined β σ (bool-xor a b r)
-  unfolding rule sameReified pick
-  bool-xor-determined a b r α f g = (g .1 .0, (g .1 .1 .0, tt))
-
-  pub bool-eq-reif-determined : (a b r : ℕ) → Determined β σ (bool-eq-reif a b r)
-  unfolding rule sameReified pick
-  bool-eq-reif-determined a b r α f g = (g .1 .0, (g .1 .1 .0, tt))
+  bool-eq-reif-correct a b r = same-reified true a b r (λ f. (f .zero-one .0, f .zero-one .1 .0, f .zero-one .1 .1 .0)) (says-equal (σ a) (σ b))
 
   -- ---- 35 bool_le_reif, 36 bool_lt_reif
 
@@ -161,9 +142,7 @@ module _ (β : ℕ → Bounds) (σ : Valuation) where
 
   pub bool-le-reif-exact : (a b r : ℕ) → Exact β σ (bool-le-reif a b r)
   unfolding rule _─_≤0 meaning booleanArguments value
-  bool-le-reif-exact a b r α f =
-      agree (says-reified σ r (says-le (σ a) (σ b)))
-      (le-rows (σ r) (f .zero-one .1 .1 .0) (σ a) (σ b) (in-bit (σ a) (f .zero-one .0)) (in-bit (σ b) (f .zero-one .1 .0)))
+  bool-le-reif-exact a b r α f = reified-exact (bool-le-reif 0 1 2) _⊑_ le-rows a b r (f .zero-one) (says-le (σ a) (σ b))
 
   lt-rows : (r : ℤ) → Bit r → (a b : ℤ) → In bit a → In bit b →
       Good (rule β (bool-lt-reif 0 1 2)) (value (a ∷ b ∷ r ∷ [])) (value []) ↔ Reified r (a ⊏ b)
@@ -172,6 +151,4 @@ module _ (β : ℕ → Bounds) (σ : Valuation) where
 
   pub bool-lt-reif-exact : (a b r : ℕ) → Exact β σ (bool-lt-reif a b r)
   unfolding rule _─_≤0 meaning booleanArguments value
-  bool-lt-reif-exact a b r α f =
-      agree (says-reified σ r (says-lt (σ a) (σ b)))
-      (lt-rows (σ r) (f .zero-one .1 .1 .0) (σ a) (σ b) (in-bit (σ a) (f .zero-one .0)) (in-bit (σ b) (f .zero-one .1 .0)))
+  bool-lt-reif-exact a b r α f = reified-exact (bool-lt-reif 0 1 2) _⊏_ lt-rows a b r (f .zero-one) (says-lt (σ a) (σ b))

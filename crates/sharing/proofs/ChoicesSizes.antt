@@ -18,7 +18,7 @@ use Rattle.models.specs.Meaning.{member}
 use Rattle.models.specs.Model.{Constraint, builtin}
 use Rattle.models.proofs.Arguments.{builtinWords}
 use Rattle.rowsystems.specs.Row.{sum=0}
-use Rattle.rules.specs.Block.{Ref, blockWords}
+use Rattle.rules.specs.Block.{Ref, Block, blockWords}
 use Rattle.rules.specs.Parts.{bits, one, oneBit, chosen}
 use Rattle.rules.specs.Rule.{rule}
 use Rattle.rules.specs.Shared.{Choice, choice, encodes, shares, Encoded, firstOf, keep, bitProducts, newBits, newRows, kept, leftOut, keptSum, sharedRule, ruleAfter}
@@ -66,61 +66,40 @@ unfolding bitProducts
 bitProducts-size f b [] k = omega arith
 bitProducts-size f b (l ∷ ls) k = omega (arith, bitProducts-size f b ls (suc k))
 
-shared-small : (β : ℕ → Bounds) (e : Encoded) (s : ℕ → Bool) {ch : Choice} {b : Builtin} → View ch b → shares s ch ≡ true → Narrow β ch →
-    2 * length (sharedRule β e ch .auxiliaries) + total rowSize (sharedRule β e ch .rows) ≤ 8 * (1 + builtinWords b) + 6 * length (sharedRule β e ch .auxiliaries) + 112
+-- at most 112 words, 8 more for each word of its constraint and 40 for each of its auxiliaries, and never more than 2,800
+abbrev Small : Builtin → Block → Type 0
+Small b B =
+    let n = 2 * length (B .auxiliaries) + total rowSize (B .rows) in
+    (n ≤ 8 * (1 + builtinWords b) + 40 * length (B .auxiliaries) + 112) × (n ≤ 2800)
+
+shared-small : (β : ℕ → Bounds) (e : Encoded) (s : ℕ → Bool) {ch : Choice} {b : Builtin} → View ch b → shares s ch ≡ true → Narrow β ch → Small b (sharedRule β e ch)
 unfolding builtinWords sharedRule encodes keptSum chosen
 shared-small β e s (is-element i ns c) h w =
     let t = within (+1 to pos (length ns)) in
-    simp (lengths, kept-length) (omega (arith, newRows-size β e i, leftOut-size β e i t, keep-both t (values (β i)), values-length (β i), w i (inl refl)))
+    simp (lengths, kept-length) (omega (arith, newRows-size β e i, newBits-few β e i, leftOut-size β e i t, keep-both t (values (β i)), values-length (β i), w i (inl refl)))
 shared-small β e s (is-var-element i xs c) h w =
     let t = within (+1 to pos (length xs)) in
-    simp (lengths, bitProducts-size) (omega (arith, newRows-size β e i, leftOut-size β e i t, keep-both t (values (β i)), values-length (β i), w i (inl refl)))
+    simp (lengths, bitProducts-size) (omega (arith, newRows-size β e i, newBits-few β e i, leftOut-size β e i t, keep-both t (values (β i)), values-length (β i), w i (inl refl)))
 shared-small β e s (is-set x S) h w =
     let t : ℤ → Bool = λ v. member v S in
-    simp lengths (omega (arith, newRows-size β e x, leftOut-size β e x t, keep-both t (values (β x)), values-length (β x), w x (inl refl)))
+    simp lengths (omega (arith, newRows-size β e x, newBits-few β e x, leftOut-size β e x t, keep-both t (values (β x)), values-length (β x), w x (inl refl)))
 shared-small β e s (is-set-reif x S r) h w =
     let t : ℤ → Bool = λ v. member v S in
-    simp (lengths, kept-length) (omega (arith, newRows-size β e x, keep-both t (values (β x)), values-length (β x), w x (inl refl)))
+    simp (lengths, kept-length) (omega (arith, newRows-size β e x, newBits-few β e x, keep-both t (values (β x)), values-length (β x), w x (inl refl)))
 shared-small β e s (other b) h w = not-shared s h
 
--- at most 112 words, 8 more for each word of its constraint and 40 for each of its auxiliaries
 pub block-size : (first : ℕ) (β : ℕ → Bounds) (s : ℕ → Bool) (e : Encoded) (c : Constraint) → tooWide β s c ≡ false →
-    length (blockWords first (blockOf β s e c)) ≤ 8 * (1 + builtinWords (builtin c)) + 40 * length (blockOf β s e c .auxiliaries) + 112
+    let n = length (blockWords first (blockOf β s e c)) in
+    (n ≤ 8 * (1 + builtinWords (builtin c)) + 40 * length (blockOf β s e c .auxiliaries) + 112) × (n ≤ 2800)
 unfolding blockOf ruleAfter
 block-size first β s e c n = rw (block-length first (blockOf β s e c)) (go (shares s (choice c)) refl)
   where
     b : Builtin
     b = builtin c
 
-    go : (t : Bool) → shares s (choice c) ≡ t → let B = sharedRule β e (choice c) if t else rule β b in
-        2 * length (B .auxiliaries) + total rowSize (B .rows) ≤ 8 * (1 + builtinWords b) + 40 * length (B .auxiliaries) + 112
-    go true h = omega (arith, shared-small β e s (view c) h (narrow β s c n h))
+    go : (t : Bool) → shares s (choice c) ≡ t → Small b (sharedRule β e (choice c) if t else rule β b)
+    go true h = shared-small β e s (view c) h (narrow β s c n h)
     go false h = omega (arith, laws β b .small (sized β s c n))
 
--- ---- no block has more than 2,800 words
-
-shared-short : (β : ℕ → Bounds) (e : Encoded) (s : ℕ → Bool) {ch : Choice} {b : Builtin} → View ch b → shares s ch ≡ true → Narrow β ch →
-    2 * length (sharedRule β e ch .auxiliaries) + total rowSize (sharedRule β e ch .rows) ≤ 2800
-unfolding sharedRule encodes keptSum chosen
-shared-short β e s (is-element i ns c) h w =
-    let t = within (+1 to pos (length ns)) in
-    simp (lengths, kept-length) (omega (arith, newRows-size β e i, newBits-few β e i, leftOut-size β e i t, keep-both t (values (β i)), values-length (β i), w i (inl refl)))
-shared-short β e s (is-var-element i xs c) h w =
-    let t = within (+1 to pos (length xs)) in
-    simp (lengths, bitProducts-size) (omega (arith, newRows-size β e i, newBits-few β e i, leftOut-size β e i t, keep-both t (values (β i)), values-length (β i), w i (inl refl)))
-shared-short β e s (is-set x S) h w =
-    let t : ℤ → Bool = λ v. member v S in
-    simp lengths (omega (arith, newRows-size β e x, newBits-few β e x, leftOut-size β e x t, keep-both t (values (β x)), values-length (β x), w x (inl refl)))
-shared-short β e s (is-set-reif x S r) h w =
-    let t : ℤ → Bool = λ v. member v S in
-    simp (lengths, kept-length) (omega (arith, newRows-size β e x, newBits-few β e x, keep-both t (values (β x)), values-length (β x), w x (inl refl)))
-shared-short β e s (other b) h w = not-shared s h
-
 pub block-short : (first : ℕ) (β : ℕ → Bounds) (s : ℕ → Bool) (e : Encoded) (c : Constraint) → tooWide β s c ≡ false → length (blockWords first (blockOf β s e c)) ≤ 2800
-unfolding blockOf ruleAfter
-block-short first β s e c n = rw (block-length first (blockOf β s e c)) (go (shares s (choice c)) refl)
-  where
-    go : (t : Bool) → shares s (choice c) ≡ t → let B = sharedRule β e (choice c) if t else rule β (builtin c) in
-        2 * length (B .auxiliaries) + total rowSize (B .rows) ≤ 2800
-    go true h = shared-short β e s (view c) h (narrow β s c n h)
-    go false h = laws β (builtin c) .short (sized β s c n)
+block-short first β s e c n = block-size first β s e c n .1

@@ -21,7 +21,7 @@ use Rattle.rules.specs.Parts.{_─_=0}
 use Rattle.rules.specs.Rule.{block, rule, whereOne, whereZero, orderReified}
 use Rattle.rules.specs.Pick.{pick}
 use Rattle.sharing.proofs.Good.{Good, see}
-use Rattle.sharing.proofs.Basics.{Sound, Complete, Determined, Exact, agree, says-as, says-reified, equal-row, not-above-row, one-row, Decides, decides-sound, decides-complete, decides-bit, not-not}
+use Rattle.sharing.proofs.Basics.{Correct, Exact, agree, says-as, says-reified, equal-row, not-above-row, one-row, Decides, one-bit, not-not}
 
 module _ (β : ℕ → Bounds) (σ : Valuation) where
   -- ---- 1 int_eq
@@ -53,22 +53,10 @@ module _ (β : ℕ → Bounds) (σ : Valuation) where
   ne-rows a b =
       rw (rep (σ a), rep (σ b), rep (β a .lower), rep (β a .upper), rep (β b .lower), rep (β b .upper)) (simp (linear, not-not) (omega arith))
 
-  pub int-ne-sound : (α : Valuation) (a b : ℕ) → Sound β σ α (int-ne a b)
-  unfolding rule whereOne whereZero meaning integerArguments value
-  int-ne-sound α a b f g =
-      says-not (says-equal (σ a) (σ b)) .1
-      (decides-sound (λ r. Good (rule β (int-ne a b)) σ (value (r ∷ []))) (ne-rows a b (f .kept .0, f .kept .1 .0)) (α 0) (g .0 .0) g)
-
-  pub int-ne-complete : (a b : ℕ) → Complete β σ (int-ne a b)
+  pub int-ne-correct : (a b : ℕ) → Correct β σ (int-ne a b)
   unfolding rule whereOne whereZero meaning integerArguments pick value
-  int-ne-complete a b f m rest =
-      decides-complete (λ r. Good (rule β (int-ne a b)) σ (value (r ∷ []))) (ne-rows a b (f .kept .0, f .kept .1 .0))
-      (says-lt (σ b) (σ a)) (says-not (says-equal (σ a) (σ b)) .0 m)
-
-  pub int-ne-determined : (a b : ℕ) → Determined β σ (int-ne a b)
-  unfolding rule whereOne whereZero integerArguments pick value
-  int-ne-determined a b α f g =
-      (decides-bit (λ r. Good (rule β (int-ne a b)) σ (value (r ∷ []))) (ne-rows a b (f .kept .0, f .kept .1 .0)) (says-lt (σ b) (σ a)) (α 0) (g .0 .0) g, tt)
+  int-ne-correct a b =
+      one-bit (λ f. ne-rows a b (f .kept .0, f .kept .1 .0)) (says-not (says-equal (σ a) (σ b))) (says-lt (σ b) (σ a)) (λ α g. g) (λ r rest g. g)
 
   -- ---- 5 int_le_reif, 30 int_lt_reif: a + d ≤ b reified, d and e are 0 and 1, or 1 and 0
 

@@ -26,8 +26,8 @@ use Rattle.rules.specs.Parts.{endProducts}
 use Rattle.rules.specs.Division.{M, divisionTable, tableRow, divisionRows, quotientBounds, remainderRow}
 use Rattle.rules.specs.Rule.{rule, division, leftOver}
 use Rattle.rules.specs.Pick.{pick, bitOf, divisionPick, leftOverPick}
-use Rattle.sharing.proofs.Good.{Keeps, Sat, see}
-use Rattle.sharing.proofs.Basics.{Sound, Complete, Determined, is-one, is-zero}
+use Rattle.sharing.proofs.Good.{Good, Keeps, Sat, see}
+use Rattle.sharing.proofs.Basics.{Correct, is-one, is-zero}
 use Rattle.sharing.proofs.Arithmetic.{product-kept}
 
 -- ---- the ten rows
@@ -36,38 +36,31 @@ use Rattle.sharing.proofs.Arithmetic.{product-kept}
 Rows : (n d p α β γ : ℤ) → Bounds → Bounds → ℤ → Type 0
 Rows n d p α β γ N D m = All (Sat (value (n ∷ d ∷ p ∷ α ∷ β ∷ γ ∷ []))) (map (tableRow (0 ∷ 1 ∷ 2 ∷ 3 ∷ 4 ∷ 5 ∷ [])) (divisionTable N D m))
 
--- 000's four cases, by whether n is not negative and whether d is positive: p is not past n, and less than |d| away
+-- p is not past n, which is not negative (true) or is, and less than w away
+abbrev Side : Bool → ℤ → ℤ → ℤ → Type 0
+Side true n w p = (+0 ⊑ n) × (p ⊑ n) × (n ⊖ p ⊏ w)
+Side false n w p = (n ⊏ +0) × (n ⊑ p) × (p ⊖ n ⊏ w)
+
+-- d is positive (true) or negative; then |d|
+abbrev Sign : Bool → ℤ → Type 0
+Sign true d = +0 ⊏ d
+Sign false d = d ⊏ +0
+
+abbrev size : Bool → ℤ → ℤ
+size true d = d
+size false d = neg d
+
+-- 000's four cases
 abbrev Case : Bool → Bool → ℤ → ℤ → ℤ → Type 0
-Case true true n d p = (+0 ⊑ n) × (+0 ⊏ d) × (p ⊑ n) × (n ⊖ p ⊏ d)
-Case true false n d p = (+0 ⊑ n) × (d ⊏ +0) × (p ⊑ n) × (n ⊖ p ⊏ neg d)
-Case false true n d p = (n ⊏ +0) × (+0 ⊏ d) × (n ⊑ p) × (p ⊖ n ⊏ d)
-Case false false n d p = (n ⊏ +0) × (d ⊏ +0) × (n ⊑ p) × (p ⊖ n ⊏ neg d)
+Case a b n d p = Side a n (size b d) p × Sign b d
 
 -- the rows with the bits of a case say that it holds
-abbrev Says-case : Bool → Bool → Type 0
-Says-case a b = (n d p m nl nh dl dh : ℤ) → Rows n d p (bitOf a) (bitOf b) (bitOf a ⊗ bitOf b) (nl to nh) (dl to dh) m → Case a b n d p
-
-says-both : Says-case true true
+rows-case : (a b : Bool) (n d p m nl nh dl dh : ℤ) → Rows n d p (bitOf a) (bitOf b) (bitOf a ⊗ bitOf b) (nl to nh) (dl to dh) m → Case a b n d p
 unfolding Rows tableRow divisionTable value zipWith bitOf
-says-both = simp linear (omega arith)
-
-says-n-alone : Says-case true false
-unfolding Rows tableRow divisionTable value zipWith bitOf
-says-n-alone = simp linear (omega arith)
-
-says-d-alone : Says-case false true
-unfolding Rows tableRow divisionTable value zipWith bitOf
-says-d-alone = simp linear (omega arith)
-
-says-none : Says-case false false
-unfolding Rows tableRow divisionTable value zipWith bitOf
-says-none = simp linear (omega arith)
-
-rows-case : (a b : Bool) → Says-case a b
-rows-case true true = says-both
-rows-case true false = says-n-alone
-rows-case false true = says-d-alone
-rows-case false false = says-none
+rows-case true true = simp linear (omega arith)
+rows-case true false = simp linear (omega arith)
+rows-case false true = simp linear (omega arith)
+rows-case false false = simp linear (omega arith)
 
 -- M is not below what the rows must leave free
 abbrev Wide : ℤ → Bounds → Bounds → Bounds → Type 0
@@ -87,97 +80,94 @@ abbrev Gives-rows : Bool → Bool → Type 0
 Gives-rows a b = (n d p m nl nh dl dh pl ph : ℤ) → In (nl to nh) n → In (dl to dh) d → In (pl to ph) p →
     Wide m (nl to nh) (dl to dh) (pl to ph) → Case a b n d p → Rows n d p (bitOf a) (bitOf b) (bitOf a ⊗ bitOf b) (nl to nh) (dl to dh) m
 
-gives-both : Gives-rows true true
+rows-both : Gives-rows true true
 unfolding Rows tableRow divisionTable value zipWith bitOf
-gives-both = simp linear (omega arith)
+rows-both = simp linear (omega arith)
 
-gives-n-alone : Gives-rows true false
+rows-n-alone : Gives-rows true false
 unfolding Rows tableRow divisionTable value zipWith bitOf
-gives-n-alone = simp linear (omega arith)
+rows-n-alone = simp linear (omega arith)
 
-gives-d-alone : Gives-rows false true
+rows-d-alone : Gives-rows false true
 unfolding Rows tableRow divisionTable value zipWith bitOf
-gives-d-alone = simp linear (omega arith)
+rows-d-alone = simp linear (omega arith)
 
-gives-none : Gives-rows false false
+rows-none : Gives-rows false false
 unfolding Rows tableRow divisionTable value zipWith bitOf
-gives-none = simp linear (omega arith)
+rows-none = simp linear (omega arith)
 
 case-rows : (a b : Bool) → Gives-rows a b
-case-rows true true = gives-both
-case-rows true false = gives-n-alone
-case-rows false true = gives-d-alone
-case-rows false false = gives-none
+case-rows true true = rows-both
+case-rows true false = rows-n-alone
+case-rows false true = rows-d-alone
+case-rows false false = rows-none
 
 -- ---- one of the cases holds: d is not 0, p is not past n, and less than |d| away
 
 abbrev Near : ℤ → ℤ → ℤ → Type 0
-Near n d p = (((+0 ⊑ n) × (p ⊑ n)) × (n ⊖ p ⊏ absZ d)) ⊎ (((n ⊏ +0) × (n ⊑ p)) × (p ⊖ n ⊏ absZ d))
+Near n d p = Side true n (absZ d) p ⊎ Side false n (absZ d) p
 
 abbrev Divided : ℤ → ℤ → ℤ → Type 0
 Divided n d p = ¬ (d ≡ +0) × Near n d p
 
-case-divided : (a b : Bool) (n d p : ℤ) → Case a b n d p → Divided n d p
-case-divided true true n d p c = (core n d p c .0, inl (core n d p c .1))
+-- what is known of d in a case
+sign-law : (b : Bool) (d : ℤ) → Sign b d → (size b d ≡ absZ d) × ¬ (d ≡ +0)
+sign-law true = simp linear (omega arith)
+sign-law false = simp linear (omega arith)
+
+-- then the bits are those of the signs of n and d
+case-divided : (a b : Bool) (n d p : ℤ) → Case a b n d p → Divided n d p × (bitOf a ≡ bitOf (leZ +0 n)) × (bitOf b ≡ bitOf (ltZ +0 d))
+unfolding bitOf
+case-divided a b n d p c =
+    let l = sign-law b d (c .1) in
+    ((l .1, near a (subst (λ w. Side a n w p) (l .0) (c .0))), side a _ (c .0), sign b (c .1))
   where
-    core : (n d p : ℤ) → Case true true n d p → ¬ (d ≡ +0) × (((+0 ⊑ n) × (p ⊑ n)) × (n ⊖ p ⊏ absZ d))
-    core = simp linear (omega arith)
-case-divided true false n d p c = (core n d p c .0, inl (core n d p c .1))
-  where
-    core : (n d p : ℤ) → Case true false n d p → ¬ (d ≡ +0) × (((+0 ⊑ n) × (p ⊑ n)) × (n ⊖ p ⊏ absZ d))
-    core = simp linear (omega arith)
-case-divided false true n d p c = (core n d p c .0, inr (core n d p c .1))
-  where
-    core : (n d p : ℤ) → Case false true n d p → ¬ (d ≡ +0) × (((n ⊏ +0) × (n ⊑ p)) × (p ⊖ n ⊏ absZ d))
-    core = simp linear (omega arith)
-case-divided false false n d p c = (core n d p c .0, inr (core n d p c .1))
-  where
-    core : (n d p : ℤ) → Case false false n d p → ¬ (d ≡ +0) × (((n ⊏ +0) × (n ⊑ p)) × (p ⊖ n ⊏ absZ d))
-    core = simp linear (omega arith)
+    near : (a : Bool) → Side a n (absZ d) p → Near n d p
+    near true = inl
+    near false = inr
+
+    denied : (x : ℤ) → x ⊏ +0 → ¬ (+0 ⊑ x) × ¬ (+0 ⊏ x)
+    denied = simp linear (omega arith)
+
+    side : (a : Bool) (w : ℤ) → Side a n w p → bitOf a ≡ bitOf (leZ +0 n)
+    side true w h = is-one (says-le +0 n) (h .0)
+    side false w h = is-zero (says-le +0 n) (denied n (h .0) .0)
+
+    sign : (b : Bool) → Sign b d → bitOf b ≡ bitOf (ltZ +0 d)
+    sign true h = is-one (says-lt +0 d) h
+    sign false h = is-zero (says-lt +0 d) (denied d h .1)
 
 -- the case is that of the signs of n and d
 divided-case : (a b : Bool) (n d p : ℤ) → Says a (+0 ⊑ n) → Says b (+0 ⊏ d) → Divided n d p → Case a b n d p
-divided-case true true n d p s t h = core n d p (s .0 refl) (t .0 refl) (h .1)
+divided-case a b n d p s t h =
+    let k = sign b t in
+    (subst (λ w. Side a n w p) (sym (sign-law b d k .0)) (side a s (h .1)), k)
   where
-    core : (n d p : ℤ) → +0 ⊑ n → +0 ⊏ d → Near n d p → Case true true n d p
-    core = simp linear (omega arith)
-divided-case true false n d p s t h = core n d p (s .0 refl) (λ k. false-true (t .1 k)) (h .0) (h .1)
-  where
-    core : (n d p : ℤ) → +0 ⊑ n → ¬ (+0 ⊏ d) → ¬ (d ≡ +0) → Near n d p → Case true false n d p
-    core = simp linear (omega arith)
-divided-case false true n d p s t h = core n d p (λ k. false-true (s .1 k)) (t .0 refl) (h .1)
-  where
-    core : (n d p : ℤ) → ¬ (+0 ⊑ n) → +0 ⊏ d → Near n d p → Case false true n d p
-    core = simp linear (omega arith)
-divided-case false false n d p s t h = core n d p (λ k. false-true (s .1 k)) (λ k. false-true (t .1 k)) (h .0) (h .1)
-  where
-    core : (n d p : ℤ) → ¬ (+0 ⊑ n) → ¬ (+0 ⊏ d) → ¬ (d ≡ +0) → Near n d p → Case false false n d p
-    core = simp linear (omega arith)
+    below : (n w p : ℤ) → ¬ (+0 ⊑ n) → Side true n w p ⊎ Side false n w p → Side false n w p
+    below = simp linear (omega arith)
+
+    above : (n w p : ℤ) → +0 ⊑ n → Side true n w p ⊎ Side false n w p → Side true n w p
+    above = simp linear (omega arith)
+
+    side : (a : Bool) → Says a (+0 ⊑ n) → Near n d p → Side a n (absZ d) p
+    side true s = above n _ p (s .0 refl)
+    side false s = below n _ p (λ k. false-true (s .1 k))
+
+    negative : (d : ℤ) → ¬ (+0 ⊏ d) → ¬ (d ≡ +0) → d ⊏ +0
+    negative = simp linear (omega arith)
+
+    sign : (b : Bool) → Says b (+0 ⊏ d) → Sign b d
+    sign true t = t .0 refl
+    sign false t = negative d (λ k. false-true (t .1 k)) (h .0)
 
 -- the rows over any variables
-rows-divided : (α β : ℤ) → Bit α → Bit β → (n d p m : ℤ) (N D : Bounds) → Rows n d p α β (α ⊗ β) N D m → Divided n d p
+rows-divided : (α β : ℤ) → Bit α → Bit β → (n d p m : ℤ) (N D : Bounds) → Rows n d p α β (α ⊗ β) N D m →
+    Divided n d p × (α ≡ bitOf (leZ +0 n)) × (β ≡ bitOf (ltZ +0 d))
 unfolding bitOf
 rows-divided _ _ b1 b1 n d p m N D r = case-divided true true n d p (rows-case true true n d p m _ _ _ _ r)
 rows-divided _ _ b1 b0 n d p m N D r = case-divided true false n d p (rows-case true false n d p m _ _ _ _ r)
 rows-divided _ _ b0 b1 n d p m N D r = case-divided false true n d p (rows-case false true n d p m _ _ _ _ r)
 rows-divided _ _ b0 b0 n d p m N D r = case-divided false false n d p (rows-case false false n d p m _ _ _ _ r)
-
--- the bits are those of the signs
-rows-bits : (α β : ℤ) → Bit α → Bit β → (n d p m : ℤ) (N D : Bounds) → Rows n d p α β (α ⊗ β) N D m → (α ≡ bitOf (leZ +0 n)) × (β ≡ bitOf (ltZ +0 d))
-unfolding bitOf
-rows-bits α β u v n d p m N D = go u v
-  where
-    not-least : (n : ℤ) → n ⊏ +0 → ¬ (+0 ⊑ n)
-    not-least = simp linear (omega arith)
-
-    not-positive : (d : ℤ) → d ⊏ +0 → ¬ (+0 ⊏ d)
-    not-positive = simp linear (omega arith)
-
-    go : {α β : ℤ} → Bit α → Bit β → Rows n d p α β (α ⊗ β) N D m → (α ≡ bitOf (leZ +0 n)) × (β ≡ bitOf (ltZ +0 d))
-    go b1 b1 r = let c = rows-case true true n d p m _ _ _ _ r in (is-one (says-le +0 n) (c .0), is-one (says-lt +0 d) (c .1))
-    go b1 b0 r = let c = rows-case true false n d p m _ _ _ _ r in (is-one (says-le +0 n) (c .0), is-zero (says-lt +0 d) (not-positive d (c .1)))
-    go b0 b1 r = let c = rows-case false true n d p m _ _ _ _ r in (is-zero (says-le +0 n) (not-least n (c .0)), is-one (says-lt +0 d) (c .1))
-    go b0 b0 r = let c = rows-case false false n d p m _ _ _ _ r in (is-zero (says-le +0 n) (not-least n (c .0)), is-zero (says-lt +0 d) (not-positive d (c .1)))
 
 divided-rows : (n d p : ℤ) (N D P : Bounds) → In N n → In D d → In P p → Divided n d p →
     let α = bitOf (leZ +0 n) in let β = bitOf (ltZ +0 d) in Rows n d p α β (α ⊗ β) N D (M N D P)
@@ -265,23 +255,19 @@ quotient-kept N n d h = smaller _ n (quotZ n d) (in-both (N .lower) (N .upper) n
 
 -- ---- the blocks
 
--- the products and the ten rows, over variables with values ρ
-division-sound : (ρ : Ref → ℤ) (N D P : Bounds) (n d q α β p γ : Ref) → In bit (ρ α) → In bit (ρ β) → All (Sat ρ) (divisionRows N D P n d q α β p γ) →
-    Divided (ρ n) (ρ d) (ρ d ⊗ ρ q)
-unfolding divisionRows Rows tableRow divisionTable value zipWith
-division-sound ρ N D P n d q α β p γ h k g =
-    subst (Divided (ρ n) (ρ d)) (g .0)
-    (rows-divided (ρ α) (ρ β) (to-bit _ (h .0) (h .1)) (to-bit _ (k .0) (k .1)) (ρ n) (ρ d) (ρ p) (M N D P) N D
-    (subst (λ c. Rows (ρ n) (ρ d) (ρ p) (ρ α) (ρ β) c N D (M N D P)) (g .1 .0) (g .1 .1)))
+-- n is divided by d with the quotient q, and the auxiliaries are the picks
+abbrev Only : (n d q α β p γ : ℤ) → Type 0
+Only n d q α β p γ =
+    let a = bitOf (leZ +0 n) in let b = bitOf (ltZ +0 d) in Divided n d (d ⊗ q) × (α ≡ a) × (β ≡ b) × (p ≡ d ⊗ q) × (γ ≡ a ⊗ b)
 
--- and the auxiliaries are the picks
-division-are : (ρ : Ref → ℤ) (N D P : Bounds) (n d q α β p γ : Ref) → In bit (ρ α) → In bit (ρ β) → All (Sat ρ) (divisionRows N D P n d q α β p γ) →
-    let a = bitOf (leZ +0 (ρ n)) in let b = bitOf (ltZ +0 (ρ d)) in (ρ α ≡ a) × (ρ β ≡ b) × (ρ p ≡ ρ d ⊗ ρ q) × (ρ γ ≡ a ⊗ b)
+-- the products and the ten rows, over variables with values ρ, say so
+division-only : (ρ : Ref → ℤ) (N D P : Bounds) (n d q α β p γ : Ref) → In bit (ρ α) → In bit (ρ β) → All (Sat ρ) (divisionRows N D P n d q α β p γ) →
+    Only (ρ n) (ρ d) (ρ q) (ρ α) (ρ β) (ρ p) (ρ γ)
 unfolding divisionRows Rows tableRow divisionTable value zipWith
-division-are ρ N D P n d q α β p γ h k g =
-    let b = rows-bits (ρ α) (ρ β) (to-bit _ (h .0) (h .1)) (to-bit _ (k .0) (k .1)) (ρ n) (ρ d) (ρ p) (M N D P) N D
+division-only ρ N D P n d q α β p γ h k g =
+    let r = rows-divided (ρ α) (ρ β) (to-bit _ (h .0) (h .1)) (to-bit _ (k .0) (k .1)) (ρ n) (ρ d) (ρ p) (M N D P) N D
     (subst (λ c. Rows (ρ n) (ρ d) (ρ p) (ρ α) (ρ β) c N D (M N D P)) (g .1 .0) (g .1 .1)) in
-    (b .0, b .1, g .0, g .1 .0 ∙ ap₂ _⊗_ (b .0) (b .1))
+    (subst (Divided (ρ n) (ρ d)) (g .0) (r .0), r .1, r .2, g .0, g .1 .0 ∙ ap₂ _⊗_ (r .1) (r .2))
 
 -- the bits that are picked, and their product, are bits
 bits-kept : (a b : Bool) → In bit (bitOf a) × In bit (bitOf b) × In bit (bitOf a ⊗ bitOf b)
@@ -301,83 +287,86 @@ division-kept D Q n d q rest h k =
 module _ (β : ℕ → Bounds) (σ : Valuation) where
   -- ---- 37 int_div
 
-  pub int-div-sound : (α : Valuation) (n d q : ℕ) → Sound β σ α (int-div n d q)
-  unfolding rule meaning division
-  int-div-sound α n d q f g =
-      says-quotient (σ n) (σ d) (σ q) .1
-      (division-sound (see σ α) (β n) (β d) (endProducts (β d) (β q)) (source n) (source d) (source q) (aux 0) (aux 1) (aux 2) (aux 3) (g .0 .0) (g .0 .1 .0) (g .1))
-
-  pub int-div-complete : (n d q : ℕ) → Complete β σ (int-div n d q)
+  pub int-div-correct : (n d q : ℕ) → Correct β σ (int-div n d q)
   unfolding rule meaning pick integerArguments division divisionRows Rows tableRow divisionTable divisionPick value zipWith
-  int-div-complete n d q f m rest =
-      let hn = f .kept .0 in
-      let hd = f .kept .1 .0 in
-      let hq = f .kept .1 .1 .0 in (
-        division-kept (β d) (β q) (σ n) (σ d) (σ q) rest hd hq,
-        (
-          refl,
+  int-div-correct n d q = record {
+    sound = λ α f g. says-quotient (σ n) (σ d) (σ q) .1 (only α g .0);
+    complete = λ f m rest.
+        let hn = f .kept .0 in
+        let hd = f .kept .1 .0 in
+        let hq = f .kept .1 .1 .0 in (
+          division-kept (β d) (β q) (σ n) (σ d) (σ q) rest hd hq,
           (
             refl,
-            divided-rows (σ n) (σ d) (σ d ⊗ σ q) (β n) (β d) (endProducts (β d) (β q)) hn hd
-                (product-kept (β d) (β q) (σ d) (σ q) hd hq) (says-quotient (σ n) (σ d) (σ q) .0 m),
+            (
+              refl,
+              divided-rows (σ n) (σ d) (σ d ⊗ σ q) (β n) (β d) (endProducts (β d) (β q)) hn hd
+                  (product-kept (β d) (β q) (σ d) (σ q) hd hq) (says-quotient (σ n) (σ d) (σ q) .0 m),
+            ),
           ),
-        ),
-      )
-
-  pub int-div-determined : (n d q : ℕ) → Determined β σ (int-div n d q)
-  unfolding rule pick division divisionPick
-  int-div-determined n d q α f g =
-      let a = division-are (see σ α) (β n) (β d) (endProducts (β d) (β q)) (source n) (source d) (source q) (aux 0) (aux 1) (aux 2) (aux 3) (g .0 .0) (g .0 .1 .0) (g .1) in
-      (a .0, (a .1, (a .2, (a .3, tt))))
+        );
+    filled = refl;
+    determined = λ α f g. let a = only α g in (a .1, (a .2, (a .3, (a .4, tt))));
+  }
+    where
+      only : (α : Valuation) → Good (division β n d q) σ α → Only (σ n) (σ d) (σ q) (α 0) (α 1) (α 2) (α 3)
+      only α g = division-only (see σ α) (β n) (β d) (endProducts (β d) (β q)) (source n) (source d) (source q) (aux 0) (aux 1) (aux 2) (aux 3) (g .0 .0) (g .0 .1 .0) (g .1)
 
   -- ---- 38 int_mod
 
   last-row : (p r n : ℤ) → (+1 ⊗ p ⊕ (+1 ⊗ r ⊕ (-1 ⊗ n ⊕ +0)) ⊕ +0 ≡ +0) ↔ (n ⊖ p ≡ r)
   last-row = simp linear (omega arith)
 
-  pub int-mod-sound : (α : Valuation) (n d r : ℕ) → Sound β σ α (int-mod n d r)
-  unfolding rule meaning remainder leftOver divisionRows remainderRow
-  int-mod-sound α n d r f g =
-      let P = endProducts (β d) (quotientBounds (β n)) in
-      let rows = divisionRows (β n) (β d) P (source n) (source d) (aux 0) (aux 1) (aux 2) (aux 3) (aux 4) in
-      let s = all-append (Sat (see σ α)) rows _ .0 (g .1) in
-      let h = division-sound (see σ α) (β n) (β d) P (source n) (source d) (aux 0) (aux 1) (aux 2) (aux 3) (aux 4) (g .0 .1 .0) (g .0 .1 .1 .0) (s .0) in
-      let q = near-quotient (σ n) (σ d) (α 0) (h .0) (h .1) in
-      says-and (says-not (says-equal (σ d) +0)) (says-equal (remZ (σ n) (σ d)) (σ r)) .1 (
-        h .0,
-        remainder-left (σ n) (σ d) (h .0) ∙ ap (λ x. σ n ⊖ σ d ⊗ x) q ∙ ap (λ x. σ n ⊖ x) (sym (s .0 .0)) ∙ last-row _ _ _ .0 (s .1 .0),
-      )
-
-  pub int-mod-complete : (n d r : ℕ) → Complete β σ (int-mod n d r)
+  pub int-mod-correct : (n d r : ℕ) → Correct β σ (int-mod n d r)
   unfolding rule meaning remainder pick integerArguments leftOver divisionRows remainderRow Rows tableRow divisionTable leftOverPick divisionPick value zipWith
-  int-mod-complete n d r f m rest =
-      let h = says-and (says-not (says-equal (σ d) +0)) (says-equal (remZ (σ n) (σ d)) (σ r)) .0 m in
-      let hn = f .kept .0 in
-      let hd = f .kept .1 .0 in
-      let Q = quotientBounds (β n) in
-      let P = endProducts (β d) Q in
-      let hq = quotient-kept (β n) (σ n) (σ d) hn in
-      let rows = map (tableRow (source n ∷ source d ∷ aux 3 ∷ aux 1 ∷ aux 2 ∷ aux 4 ∷ [])) (divisionTable (β n) (β d) (M (β n) (β d) P)) in (
-        (hq, division-kept (β d) Q (σ n) (σ d) (quotZ (σ n) (σ d)) rest hd hq),
-        (
-          refl,
+  int-mod-correct n d r = record {
+    sound = λ α f g.
+        let s = parts α g in
+        let h = only α g .0 in
+        let q = near-quotient (σ n) (σ d) (α 0) (h .0) (h .1) in
+        says .1 (
+          h .0,
+          remainder-left (σ n) (σ d) (h .0) ∙ ap (λ x. σ n ⊖ σ d ⊗ x) q ∙ ap (λ x. σ n ⊖ x) (sym (s .0 .0)) ∙ last-row _ _ _ .0 (s .1 .0),
+        );
+    complete = λ f m rest.
+        let h = says .0 m in
+        let hn = f .kept .0 in
+        let hd = f .kept .1 .0 in
+        let Q = quotientBounds (β n) in
+        let hq = quotient-kept (β n) (σ n) (σ d) hn in
+        let rows = map (tableRow (source n ∷ source d ∷ aux 3 ∷ aux 1 ∷ aux 2 ∷ aux 4 ∷ [])) (divisionTable (β n) (β d) (M (β n) (β d) P)) in (
+          (hq, division-kept (β d) Q (σ n) (σ d) (quotZ (σ n) (σ d)) rest hd hq),
           (
             refl,
-            all-append (Sat (see σ (value (leftOverPick (σ n) (σ d) ++ rest)))) rows (remainderRow (aux 3) (source r) (source n) ∷ []) .1 (
-              divided-rows (σ n) (σ d) (σ d ⊗ quotZ (σ n) (σ d)) (β n) (β d) P hn hd (product-kept (β d) Q (σ d) _ hd hq) (h .0, quotient-near (σ n) (σ d) (h .0)),
-              (last-row _ _ _ .1 (sym (remainder-left (σ n) (σ d) (h .0)) ∙ h .1), tt),
+            (
+              refl,
+              all-append (Sat (see σ (value (leftOverPick (σ n) (σ d) ++ rest)))) rows (remainderRow (aux 3) (source r) (source n) ∷ []) .1 (
+                divided-rows (σ n) (σ d) (σ d ⊗ quotZ (σ n) (σ d)) (β n) (β d) P hn hd (product-kept (β d) Q (σ d) _ hd hq) (h .0, quotient-near (σ n) (σ d) (h .0)),
+                (last-row _ _ _ .1 (sym (remainder-left (σ n) (σ d) (h .0)) ∙ h .1), tt),
+              ),
             ),
           ),
-        ),
-      )
+        );
+    filled = refl;
+    determined = λ α f g.
+        let a = only α g in
+        let q : α 0 ≡ quotZ (σ n) (σ d) = sym (near-quotient (σ n) (σ d) (α 0) (a .0 .0) (a .0 .1)) in
+        (q, (a .1, (a .2, (a .3 ∙ ap (λ x. σ d ⊗ x) q, (a .4, tt)))));
+  }
+    where
+      P : Bounds
+      P = endProducts (β d) (quotientBounds (β n))
 
-  pub int-mod-determined : (n d r : ℕ) → Determined β σ (int-mod n d r)
-  unfolding rule pick leftOver leftOverPick divisionPick
-  int-mod-determined n d r α f g =
-      let P = endProducts (β d) (quotientBounds (β n)) in
-      let rows = divisionRows (β n) (β d) P (source n) (source d) (aux 0) (aux 1) (aux 2) (aux 3) (aux 4) in
-      let s = all-append (Sat (see σ α)) rows (remainderRow (aux 3) (source r) (source n) ∷ []) .0 (g .1) .0 in
-      let h = division-sound (see σ α) (β n) (β d) P (source n) (source d) (aux 0) (aux 1) (aux 2) (aux 3) (aux 4) (g .0 .1 .0) (g .0 .1 .1 .0) s in
-      let a = division-are (see σ α) (β n) (β d) P (source n) (source d) (aux 0) (aux 1) (aux 2) (aux 3) (aux 4) (g .0 .1 .0) (g .0 .1 .1 .0) s in
-      let q : α 0 ≡ quotZ (σ n) (σ d) = sym (near-quotient (σ n) (σ d) (α 0) (h .0) (h .1)) in
-      (q, (a .0, (a .1, (a .2 ∙ ap (λ x. σ d ⊗ x) q, (a .3, tt)))))
+      says : Says (remainder (σ n) (σ d) (σ r)) (¬ (σ d ≡ +0) × (remZ (σ n) (σ d) ≡ σ r))
+      says = says-and (says-not (says-equal (σ d) +0)) (says-equal (remZ (σ n) (σ d)) (σ r))
+
+      parts : (α : Valuation) → Good (leftOver β n d r) σ α →
+          All (Sat (see σ α)) (divisionRows (β n) (β d) P (source n) (source d) (aux 0) (aux 1) (aux 2) (aux 3) (aux 4))
+          × All (Sat (see σ α)) (remainderRow (aux 3) (source r) (source n) ∷ [])
+      parts α g =
+          all-append (Sat (see σ α)) (divisionRows (β n) (β d) P (source n) (source d) (aux 0) (aux 1) (aux 2) (aux 3) (aux 4))
+          (remainderRow (aux 3) (source r) (source n) ∷ []) .0 (g .1)
+
+      only : (α : Valuation) → Good (leftOver β n d r) σ α → Only (σ n) (σ d) (α 0) (α 1) (α 2) (α 3) (α 4)
+      only α g =
+          division-only (see σ α) (β n) (β d) P (source n) (source d) (aux 0) (aux 1) (aux 2) (aux 3) (aux 4) (g .0 .1 .0) (g .0 .1 .1 .0) (parts α g .0)

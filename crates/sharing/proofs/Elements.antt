@@ -19,10 +19,9 @@ use Rattle.models.specs.Meaning.{meaning, element}
 use Rattle.models.proofs.Arguments.{integerArguments}
 use Rattle.rules.specs.Parts.{one, chosen, products, nth, places}
 use Rattle.rules.specs.Rule.{rule, numberElement, variableElement}
-use Rattle.rules.specs.Pick.{pick}
-use Rattle.sharing.proofs.Good.{Good, Sat, see}
-use Rattle.sharing.proofs.Fits.{Fits}
-use Rattle.sharing.proofs.Basics.{Determined}
+use Rattle.rules.specs.Pick.{firstBit, gatedPick, pick}
+use Rattle.sharing.proofs.Good.{Sat, see}
+use Rattle.sharing.proofs.Basics.{Correct}
 use Rattle.sharing.proofs.OneHot.{chosen-one, chosen-at, one-hot-sound, one-hot-complete, chosen-value, picked-value, bits-filled}
 use Rattle.rules.proofs.Members.{member-passes, values-member, values-distinct}
 use Rattle.sharing.proofs.Gates.{gates-at, gates-keep, gates-sound, gates-complete, gates-filled, gates-are}
@@ -79,74 +78,55 @@ labels-pass B n i p h = member-passes i (values (places B n)) (values-member (pl
 
 -- ---- 24
 
-pub array-int-element-sound : (β : ℕ → Bounds) (σ α : Valuation) (i : ℕ) (ns : List ℤ) (c : ℕ) → Fits β σ (array-int-element i ns c) →
-    Good (rule β (array-int-element i ns c)) σ α → meaning σ (array-int-element i ns c) ≡ true
-unfolding meaning rule numberElement
-array-int-element-sound β σ α i ns c f g =
-    let js = values (places (β i) (length ns)) in
-    let d = chosen-value js σ α i (one-hot-sound js σ α (g .0) (g .1 .0)) (g .1 .1 .0) in
-    says-element (σ i) ns (σ c) .1 (labels-place (β i) (length ns) (σ i) (d .0), chosen-at js σ α (σ i) d (nth +0 ns) c .0 (g .1 .1 .1 .0))
-
-pub array-int-element-complete : (β : ℕ → Bounds) (σ : Valuation) (i : ℕ) (ns : List ℤ) (c : ℕ) → Fits β σ (array-int-element i ns c) →
-    meaning σ (array-int-element i ns c) ≡ true → (rest : List ℤ) →
-    Good (rule β (array-int-element i ns c)) σ (value (pick β σ (array-int-element i ns c) ++ rest))
+pub array-int-element-correct : (β : ℕ → Bounds) (σ : Valuation) (i : ℕ) (ns : List ℤ) (c : ℕ) → Correct β σ (array-int-element i ns c)
 unfolding meaning rule numberElement pick integerArguments
-array-int-element-complete β σ i ns c f t rest =
-    let h = says-element (σ i) ns (σ c) .0 t in
-    let js = values (places (β i) (length ns)) in
-    let p = one-hot-complete (λ j. j == σ i) js rest (labels-pass (β i) (length ns) (σ i) (h .0) (f .kept .0)) in
-    let α = value (pick β σ (array-int-element i ns c) ++ rest) in
-    let d = picked-value js α (σ i) (p .1) in
-    let row = chosen-at js σ α (σ i) d in
-    (p .0, (chosen-one js σ α (σ i) d, (row (λ j. j) i .1 refl, (row (nth +0 ns) c .1 (h .1), tt))))
-
-pub array-int-element-filled : (β : ℕ → Bounds) (σ : Valuation) (i : ℕ) (ns : List ℤ) (c : ℕ) →
-    length (pick β σ (array-int-element i ns c)) ≡ length (rule β (array-int-element i ns c) .auxiliaries)
-unfolding rule numberElement pick
-array-int-element-filled β σ i ns c = bits-filled (λ j. j == σ i) _
-
-pub array-int-element-determined : (β : ℕ → Bounds) (σ : Valuation) (i : ℕ) (ns : List ℤ) (c : ℕ) → Determined β σ (array-int-element i ns c)
-unfolding rule numberElement pick
-array-int-element-determined β σ i ns c α f g = value-bits _ σ α i (values-distinct _) (g .0) (g .1 .0) (g .1 .1 .0)
+array-int-element-correct β σ i ns c = record {
+  sound = λ α f g.
+      let d = chosen-value js σ α i (one-hot-sound js σ α (g .0) (g .1 .0)) (g .1 .1 .0) in
+      says-element (σ i) ns (σ c) .1 (labels-place (β i) (length ns) (σ i) (d .0), chosen-at js σ α (σ i) d (nth +0 ns) c .0 (g .1 .1 .1 .0));
+  complete = λ f t rest.
+      let h = says-element (σ i) ns (σ c) .0 t in
+      let p = one-hot-complete (λ j. j == σ i) js rest (labels-pass (β i) (length ns) (σ i) (h .0) (f .kept .0)) in
+      let α = value (firstBit (λ j. j == σ i) js ++ rest) in
+      let d = picked-value js α (σ i) (p .1) in
+      let row = chosen-at js σ α (σ i) d in
+      (p .0, (chosen-one js σ α (σ i) d, (row (λ j. j) i .1 refl, (row (nth +0 ns) c .1 (h .1), tt))));
+  filled = bits-filled (λ j. j == σ i) js;
+  determined = λ α f g. value-bits js σ α i (values-distinct _) (g .0) (g .1 .0) (g .1 .1 .0);
+}
+  where
+    js : List ℤ
+    js = values (places (β i) (length ns))
 
 -- ---- 25
 
-pub array-var-int-element-sound : (β : ℕ → Bounds) (σ α : Valuation) (i : ℕ) (xs : List ℕ) (c : ℕ) → Fits β σ (array-var-int-element i xs c) →
-    Good (rule β (array-var-int-element i xs c)) σ α → meaning σ (array-var-int-element i xs c) ≡ true
-unfolding meaning rule variableElement
-array-var-int-element-sound β σ α i xs c f g =
-    let js = values (places (β i) (length xs)) in
-    let d = chosen-value js σ α i (gates-sound (λ j. β (nth 0 xs j)) js σ α (g .0) (g .1 .0)) (g .1 .1 .0) in
-    let s = all-append (Sat (see σ α)) (products (nth 0 xs) js 0 (length js)) (chosen one js (length js) c ∷ []) .0 (g .1 .1 .1) in
-    says-variable-element σ (σ i) xs (σ c) .1
-    (labels-place (β i) (length xs) (σ i) (d .0), gates-at (nth 0 xs) js (length js) c σ α (σ i) d (s .0) .0 (s .1 .0))
-
-pub array-var-int-element-complete : (β : ℕ → Bounds) (σ : Valuation) (i : ℕ) (xs : List ℕ) (c : ℕ) → Fits β σ (array-var-int-element i xs c) →
-    meaning σ (array-var-int-element i xs c) ≡ true → (rest : List ℤ) →
-    Good (rule β (array-var-int-element i xs c)) σ (value (pick β σ (array-var-int-element i xs c) ++ rest))
+pub array-var-int-element-correct : (β : ℕ → Bounds) (σ : Valuation) (i : ℕ) (xs : List ℕ) (c : ℕ) → Correct β σ (array-var-int-element i xs c)
 unfolding meaning rule variableElement pick integerArguments
-array-var-int-element-complete β σ i xs c f t rest =
-    let h = says-variable-element σ (σ i) xs (σ c) .0 t in
-    let js = values (places (β i) (length xs)) in
-    let at : (j : ℤ) → Member j js → In (β (nth 0 xs j)) (σ (nth 0 xs j)) =
-    λ j m. nth-all (λ v. In (β v) (σ v)) 0 xs j (labels-place (β i) (length xs) j m) (f .kept .1 .1) in
-    let kept = all-members (λ j. In (β (nth 0 xs j)) (σ (nth 0 xs j))) js .1 at in
-    let p = gates-complete (nth 0 xs) (λ j. j == σ i) js β σ rest kept (labels-pass (β i) (length xs) (σ i) (h .0) (f .kept .0)) in
-    let α = value (pick β σ (array-var-int-element i xs c) ++ rest) in
-    let d = picked-value js α (σ i) (p .2) in
-    let e = gates-at (nth 0 xs) js (length js) c σ α (σ i) d (p .1) .1 (h .1) in
-    let s = all-append (Sat (see σ α)) (products (nth 0 xs) js 0 (length js)) (chosen one js (length js) c ∷ []) in
-    (p .0, (chosen-one js σ α (σ i) d, (chosen-at js σ α (σ i) d (λ j. j) i .1 refl, s .1 (p .1, (e, tt)))))
+array-var-int-element-correct β σ i xs c = record {
+  sound = λ α f g.
+      let d = chosen-value js σ α i (gates-sound (λ j. β (nth 0 xs j)) js σ α (g .0) (g .1 .0)) (g .1 .1 .0) in
+      let s = last α .0 (g .1 .1 .1) in
+      says-variable-element σ (σ i) xs (σ c) .1
+      (labels-place (β i) (length xs) (σ i) (d .0), gates-at (nth 0 xs) js (length js) c σ α (σ i) d (s .0) .0 (s .1 .0));
+  complete = λ f t rest.
+      let h = says-variable-element σ (σ i) xs (σ c) .0 t in
+      let at : (j : ℤ) → Member j js → In (β (nth 0 xs j)) (σ (nth 0 xs j)) =
+      λ j m. nth-all (λ v. In (β v) (σ v)) 0 xs j (labels-place (β i) (length xs) j m) (f .kept .1 .1) in
+      let kept = all-members (λ j. In (β (nth 0 xs j)) (σ (nth 0 xs j))) js .1 at in
+      let p = gates-complete (nth 0 xs) (λ j. j == σ i) js β σ rest kept (labels-pass (β i) (length xs) (σ i) (h .0) (f .kept .0)) in
+      let α = value (gatedPick (λ j. σ (nth 0 xs j)) (λ j. j == σ i) js ++ rest) in
+      let d = picked-value js α (σ i) (p .2) in
+      let e = gates-at (nth 0 xs) js (length js) c σ α (σ i) d (p .1) .1 (h .1) in
+      (p .0, (chosen-one js σ α (σ i) d, (chosen-at js σ α (σ i) d (λ j. j) i .1 refl, last α .1 (p .1, (e, tt)))));
+  filled = gates-filled (λ j. σ (nth 0 xs j)) (λ j. j == σ i) (λ j. β (nth 0 xs j)) js;
+  determined = λ α f g.
+      let k = gates-keep (λ j. β (nth 0 xs j)) js α (λ j. α (length js + j)) (λ j. refl) .0 (g .0) in
+      gates-are (nth 0 xs) (λ j. j == σ i) js σ α (last α .0 (g .1 .1 .1) .0) (value-bits js σ α i (values-distinct _) (k .0) (g .1 .0) (g .1 .1 .0));
+}
+  where
+    js : List ℤ
+    js = values (places (β i) (length xs))
 
-pub array-var-int-element-filled : (β : ℕ → Bounds) (σ : Valuation) (i : ℕ) (xs : List ℕ) (c : ℕ) →
-    length (pick β σ (array-var-int-element i xs c)) ≡ length (rule β (array-var-int-element i xs c) .auxiliaries)
-unfolding rule variableElement pick
-array-var-int-element-filled β σ i xs c = gates-filled (λ j. σ (nth 0 xs j)) (λ j. j == σ i) (λ j. β (nth 0 xs j)) _
-
-pub array-var-int-element-determined : (β : ℕ → Bounds) (σ : Valuation) (i : ℕ) (xs : List ℕ) (c : ℕ) → Determined β σ (array-var-int-element i xs c)
-unfolding rule variableElement pick
-array-var-int-element-determined β σ i xs c α f g =
-    let js = values (places (β i) (length xs)) in
-    let k = gates-keep (λ j. β (nth 0 xs j)) js α (λ j. α (length js + j)) (λ j. refl) .0 (g .0) in
-    let s = all-append (Sat (see σ α)) (products (nth 0 xs) js 0 (length js)) (chosen one js (length js) c ∷ []) .0 (g .1 .1 .1) in
-    gates-are (nth 0 xs) (λ j. j == σ i) js σ α (s .0) (value-bits js σ α i (values-distinct _) (k .0) (g .1 .0) (g .1 .1 .0))
+    last : (α : Valuation) → let rows = products (nth 0 xs) js 0 (length js) in let row = chosen one js (length js) c in
+        All (Sat (see σ α)) (rows ++ (row ∷ [])) ↔ (All (Sat (see σ α)) rows × All (Sat (see σ α)) (row ∷ []))
+    last α = all-append (Sat (see σ α)) (products (nth 0 xs) js 0 (length js)) (chosen one js (length js) c ∷ [])

@@ -24,8 +24,8 @@ use Rattle.rules.specs.Block.{Ref, aux}
 use Rattle.rules.specs.Parts.{L, U}
 use Rattle.rules.specs.Rule.{rule, linked, signSplit, onlyNegative, linNotEqual, zeroRows, zeroReified, linLessEqualReified}
 use Rattle.rules.specs.Pick.{pick, signPick, signedPick}
-use Rattle.sharing.proofs.Good.{Good, Keeps, Are, Sat, see}
-use Rattle.sharing.proofs.Basics.{Sound, Complete, Determined, Exact, agree, says-as, says-reified, Same, not-not}
+use Rattle.sharing.proofs.Good.{Keeps, Are, Sat, see}
+use Rattle.sharing.proofs.Basics.{Represents, Correct, Exact, agree, says-as, says-reified, Same, not-not}
 use Rattle.sharing.proofs.Arithmetic.{bit-product, sign-product, sign-kept, sign-row, sign-negative, sign-are}
 use Rattle.sharing.proofs.Sums.{dot-sources-only, linked-row, sum-kept}
 
@@ -65,40 +65,35 @@ signed-are β σ ts c α l h e s g =
 abbrev Decided : Bool → ℤ → ℤ → ℤ → Type 0 → Type 0
 Decided equal r x z R = (R → Reified r (Same equal x +0)) × (z ≡ minZ +0 x → Reified r (Same equal x +0) → R)
 
-equal-rows : (r : ℤ) → Bit r → (x z W : ℤ) → In (neg W to W) x → (z ≡ +0) ⊎ (z ≡ x) →
-    Decided true r x z (All (Sat (see (value (r ∷ [])) (value (x ∷ +0 ∷ z ∷ [])))) (zeroRows true W 0))
+decided : (equal : Bool) (r : ℤ) → Bit r → (x z W : ℤ) → In (neg W to W) x → (z ≡ +0) ⊎ (z ≡ x) →
+    Decided equal r x z (All (Sat (see (value (r ∷ [])) (value (x ∷ +0 ∷ z ∷ [])))) (zeroRows equal W 0))
 unfolding zeroRows value
-equal-rows = simp bits (simp linear (omega arith))
-
-unequal-rows : (r : ℤ) → Bit r → (x z W : ℤ) → In (neg W to W) x → (z ≡ +0) ⊎ (z ≡ x) →
-    Decided false r x z (All (Sat (see (value (r ∷ [])) (value (x ∷ +0 ∷ z ∷ [])))) (zeroRows false W 0))
-unfolding zeroRows value
-unequal-rows = simp bits (simp (linear, not-not) (omega arith))
+decided true = simp bits (simp linear (omega arith))
+decided false = simp bits (simp (linear, not-not) (omega arith))
 
 zero-rows : (equal : Bool) (σ α : Valuation) (r : ℕ) (W : ℤ) → Bit (σ r) → In (neg W to W) (α 0) → (α 2 ≡ +0) ⊎ (α 2 ≡ α 0) →
     Decided equal (σ r) (α 0) (α 2) (All (Sat (see σ α)) (zeroRows equal W r))
 unfolding zeroRows value
-zero-rows true σ α r W w = equal-rows (σ r) w (α 0) (α 2) W
-zero-rows false σ α r W w = unequal-rows (σ r) w (α 0) (α 2) W
+zero-rows true σ α r W w = decided true (σ r) w (α 0) (α 2) W
+zero-rows false σ α r W w = decided false (σ r) w (α 0) (α 2) W
 
 -- they do not leave z at 0 for a negative x
+none-left : (equal : Bool) (r : ℤ) → Bit r → (x z W : ℤ) → All (Sat (see (value (r ∷ [])) (value (x ∷ +0 ∷ z ∷ [])))) (zeroRows equal W 0) → z ≡ +0 → ¬ (x ⊏ +0)
+unfolding zeroRows value
+none-left true = simp bits (simp linear (omega arith))
+none-left false = simp bits (simp linear (omega arith))
+
 not-left : (equal : Bool) (σ α : Valuation) (r : ℕ) (W : ℤ) → Bit (σ r) → All (Sat (see σ α)) (zeroRows equal W r) → α 2 ≡ +0 → ¬ (α 0 ⊏ +0)
 unfolding zeroRows value
-not-left true σ α r W w = core (σ r) w (α 0) (α 2) W
-  where
-    core : (r : ℤ) → Bit r → (x z W : ℤ) → All (Sat (see (value (r ∷ [])) (value (x ∷ +0 ∷ z ∷ [])))) (zeroRows true W 0) → z ≡ +0 → ¬ (x ⊏ +0)
-    core = simp bits (simp linear (omega arith))
-not-left false σ α r W w = core (σ r) w (α 0) (α 2) W
-  where
-    core : (r : ℤ) → Bit r → (x z W : ℤ) → All (Sat (see (value (r ∷ [])) (value (x ∷ +0 ∷ z ∷ [])))) (zeroRows false W 0) → z ≡ +0 → ¬ (x ⊏ +0)
-    core = simp bits (simp linear (omega arith))
+not-left true σ α r W w = none-left true (σ r) w (α 0) (α 2) W
+not-left false σ α r W w = none-left false (σ r) w (α 0) (α 2) W
 
 -- W = max(|L|,|U|) is at least |x|
 in-widest : (l u x : ℤ) → In (l to u) x → let W = maxZ (absZ l) (absZ u) in In (neg W to W) x
 in-widest = simp linear (omega arith)
 
 -- t is the test of the builtin: Σ = c in 13, a = b in 14, and their denials in 32 and 31
-module _ (equal : Bool) (β : ℕ → Bounds) (σ : Valuation) (ts : List (Term ℕ)) (c : ℤ) (r : ℕ) (t : Bool) (s : Says t (Same equal (sum σ ts ⊖ c) +0)) (w : Bit (σ r)) where
+module _ (equal : Bool) (β : ℕ → Bounds) (σ : Valuation) (ts : List (Term ℕ)) (c : ℤ) (r : ℕ) {t : Bool} (s : Says t (Same equal (sum σ ts ⊖ c) +0)) {F : Type 0} (w : F → Bit (σ r)) (h : F → All (λ v. In (β v) (σ v)) (variablesIn ts)) where
   -- the two rows, and the last one
   abbrev lastRow : Row Ref
   lastRow = onlyNegative (aux 0) (aux 1) (U β ts c)
@@ -107,37 +102,33 @@ module _ (equal : Bool) (β : ℕ → Bounds) (σ : Valuation) (ts : List (Term 
       All (Sat (see σ α)) (rows ++ (lastRow ∷ [])) ↔ (All (Sat (see σ α)) rows × All (Sat (see σ α)) (lastRow ∷ []))
   last-row α = all-append (Sat (see σ α)) (zeroRows equal (maxZ (absZ (L β ts c)) (absZ (U β ts c))) r) (lastRow ∷ [])
 
-  zero-reified-sound : (α : Valuation) → Good (zeroReified β equal ts c r) σ α → (on σ r iff t) ≡ true
-  unfolding zeroReified signSplit
-  zero-reified-sound α g =
-      says-reified σ r s .1
-      (rw (linked-row σ α β ts c .0 (g .1 .0)) at
-      (zero-rows equal σ α r _ w (in-widest _ _ _ (g .0 .0)) (bit-product (α 1) (α 0) (α 2) (g .0 .1 .0) (g .1 .1 .0)) .0 (last-row α .0 (g .1 .1 .1) .0)))
-
-  zero-reified-complete : All (λ v. In (β v) (σ v)) (variablesIn ts) → (on σ r iff t) ≡ true → (rest : List ℤ) →
-      Good (zeroReified β equal ts c r) σ (value (signedPick (sum σ ts ⊖ c) ++ rest))
+  zero-reified : Represents F (zeroReified β equal ts c r) σ (signedPick (sum σ ts ⊖ c)) (on σ r iff t)
   unfolding zeroReified signSplit signedPick signPick value
-  zero-reified-complete h m rest =
-      let k = signed-kept β σ ts c h rest in
-      let α = value (signedPick (sum σ ts ⊖ c) ++ rest) in (
-        k,
-        (
-          linked-row σ α β ts c .1 refl,
+  zero-reified = record {
+    sound = λ α f g.
+        says-reified σ r s .1
+        (rw (linked-row σ α β ts c .0 (g .1 .0)) at
+        (zero-rows equal σ α r _ (w f) (in-widest _ _ _ (g .0 .0)) (bit-product (α 1) (α 0) (α 2) (g .0 .1 .0) (g .1 .1 .0)) .0 (last-row α .0 (g .1 .1 .1) .0)));
+    complete = λ f m rest.
+        let k = signed-kept β σ ts c (h f) rest in
+        let α = value (signedPick (sum σ ts ⊖ c) ++ rest) in (
+          k,
           (
-            refl,
-            last-row α .1 (
-              zero-rows equal σ α r _ w (in-widest _ _ _ (k .0)) (bit-product _ _ _ (k .1 .0) refl) .1 (sign-product (sum σ ts ⊖ c)) (says-reified σ r s .0 m),
-              (sign-row (see σ α) (aux 0) (aux 1) (U β ts c) (k .0 .1) refl, tt),
+            linked-row σ α β ts c .1 refl,
+            (
+              refl,
+              last-row α .1 (
+                zero-rows equal σ α r _ (w f) (in-widest _ _ _ (k .0)) (bit-product _ _ _ (k .1 .0) refl) .1 (sign-product (sum σ ts ⊖ c)) (says-reified σ r s .0 m),
+                (sign-row (see σ α) (aux 0) (aux 1) (U β ts c) (k .0 .1) refl, tt),
+              ),
             ),
           ),
-        ),
-      )
-
-  zero-reified-determined : (α : Valuation) → Good (zeroReified β equal ts c r) σ α → Are (signedPick (sum σ ts ⊖ c)) α
-  unfolding zeroReified signSplit
-  zero-reified-determined α g =
-      let rows = last-row α .0 (g .1 .1 .1) in
-      signed-are β σ ts c α (g .1 .0) (g .0 .1 .0) (g .1 .1 .0) (rows .1 .0) (not-left equal σ α r _ w (rows .0))
+        );
+    filled = refl;
+    determined = λ α f g.
+        let rows = last-row α .0 (g .1 .1 .1) in
+        signed-are β σ ts c α (g .1 .0) (g .0 .1 .0) (g .1 .1 .0) (rows .1 .0) (not-left equal σ α r _ (w f) (rows .0));
+  }
 
 -- ---- 15
 
@@ -163,63 +154,44 @@ module _ (β : ℕ → Bounds) (σ : Valuation) where
 
   -- ---- 12 int_lin_ne
 
-  pub int-lin-ne-sound : (α : Valuation) (asbs : List (Term ℕ)) (c : ℤ) → Sound β σ α (int-lin-ne asbs c)
-  unfolding rule linNotEqual signSplit meaning
-  int-lin-ne-sound α ts c f g =
-      let p = bit-product (α 1) (α 0) (α 2) (g .0 .1 .0) (g .1 .1 .0) in
-      let n : ¬ (α 0 ≡ +0) = from₂ p (g .1 .1 .1 .0) (rw (rep (α 0), rep (α 2)) (simp linear (omega arith))) in
-      says-not (says-zero (sum σ ts) c) .1 (rw (linked-row σ α β ts c .0 (g .1 .0)) at n)
-
-  pub int-lin-ne-complete : (asbs : List (Term ℕ)) (c : ℤ) → Complete β σ (int-lin-ne asbs c)
+  pub int-lin-ne-correct : (asbs : List (Term ℕ)) (c : ℤ) → Correct β σ (int-lin-ne asbs c)
   unfolding rule linNotEqual signSplit meaning integerArguments pick signedPick signPick value
-  int-lin-ne-complete ts c f m rest =
-      let x = sum σ ts ⊖ c in
-      let α = value (signedPick x ++ rest) in
-      let k = signed-kept β σ ts c (f .kept) rest in (
-        k,
-        (
-          linked-row σ α β ts c .1 refl,
+  int-lin-ne-correct ts c = record {
+    sound = λ α f g.
+        let p = bit-product (α 1) (α 0) (α 2) (g .0 .1 .0) (g .1 .1 .0) in
+        let n : ¬ (α 0 ≡ +0) = from₂ p (g .1 .1 .1 .0) (rw (rep (α 0), rep (α 2)) (simp linear (omega arith))) in
+        says-not (says-zero (sum σ ts) c) .1 (rw (linked-row σ α β ts c .0 (g .1 .0)) at n);
+    complete = λ f m rest.
+        let x = sum σ ts ⊖ c in
+        let α = value (signedPick x ++ rest) in
+        let k = signed-kept β σ ts c (f .kept) rest in (
+          k,
           (
-            refl,
+            linked-row σ α β ts c .1 refl,
             (
-              from₁ (says-not (says-zero (sum σ ts) c) .0 m) (rw (sign-product x, rep x) (simp linear (omega arith))),
-              (sign-row (see σ α) (aux 0) (aux 1) (U β ts c) (k .0 .1) refl, tt),
+              refl,
+              (
+                from₁ (says-not (says-zero (sum σ ts) c) .0 m) (rw (sign-product x, rep x) (simp linear (omega arith))),
+                (sign-row (see σ α) (aux 0) (aux 1) (U β ts c) (k .0 .1) refl, tt),
+              ),
             ),
           ),
-        ),
-      )
-
-  pub int-lin-ne-determined : (asbs : List (Term ℕ)) (c : ℤ) → Determined β σ (int-lin-ne asbs c)
-  unfolding rule linNotEqual signSplit pick
-  int-lin-ne-determined ts c α f g =
-      signed-are β σ ts c α (g .1 .0) (g .0 .1 .0) (g .1 .1 .0) (g .1 .1 .1 .1 .0)
-      (λ z. from₁ (rw z at (g .1 .1 .1 .0)) (rw (rep (α 0)) (simp linear (omega arith))))
+        );
+    filled = refl;
+    determined = λ α f g.
+        signed-are β σ ts c α (g .1 .0) (g .0 .1 .0) (g .1 .1 .0) (g .1 .1 .1 .1 .0)
+        (λ z. from₁ (rw z at (g .1 .1 .1 .0)) (rw (rep (α 0)) (simp linear (omega arith))));
+  }
 
   -- ---- 13 int_lin_eq_reif, 32 int_lin_ne_reif
 
-  pub int-lin-eq-reif-sound : (α : Valuation) (asbs : List (Term ℕ)) (c : ℤ) (r : ℕ) → Sound β σ α (int-lin-eq-reif asbs c r)
-  unfolding rule meaning booleanArguments
-  int-lin-eq-reif-sound α ts c r f = zero-reified-sound true β σ ts c r _ (says-zero (sum σ ts) c) (f .zero-one .0) α
-
-  pub int-lin-eq-reif-complete : (asbs : List (Term ℕ)) (c : ℤ) (r : ℕ) → Complete β σ (int-lin-eq-reif asbs c r)
+  pub int-lin-eq-reif-correct : (asbs : List (Term ℕ)) (c : ℤ) (r : ℕ) → Correct β σ (int-lin-eq-reif asbs c r)
   unfolding rule meaning integerArguments booleanArguments pick
-  int-lin-eq-reif-complete ts c r f = zero-reified-complete true β σ ts c r _ (says-zero (sum σ ts) c) (f .zero-one .0) (f .kept)
+  int-lin-eq-reif-correct ts c r = zero-reified true β σ ts c r (says-zero (sum σ ts) c) (λ f. f .zero-one .0) (λ f. f .kept)
 
-  pub int-lin-eq-reif-determined : (asbs : List (Term ℕ)) (c : ℤ) (r : ℕ) → Determined β σ (int-lin-eq-reif asbs c r)
-  unfolding rule booleanArguments pick
-  int-lin-eq-reif-determined ts c r α f = zero-reified-determined true β σ ts c r _ (says-zero (sum σ ts) c) (f .zero-one .0) α
-
-  pub int-lin-ne-reif-sound : (α : Valuation) (asbs : List (Term ℕ)) (c : ℤ) (r : ℕ) → Sound β σ α (int-lin-ne-reif asbs c r)
-  unfolding rule meaning booleanArguments
-  int-lin-ne-reif-sound α ts c r f = zero-reified-sound false β σ ts c r _ (says-not (says-zero (sum σ ts) c)) (f .zero-one .0) α
-
-  pub int-lin-ne-reif-complete : (asbs : List (Term ℕ)) (c : ℤ) (r : ℕ) → Complete β σ (int-lin-ne-reif asbs c r)
+  pub int-lin-ne-reif-correct : (asbs : List (Term ℕ)) (c : ℤ) (r : ℕ) → Correct β σ (int-lin-ne-reif asbs c r)
   unfolding rule meaning integerArguments booleanArguments pick
-  int-lin-ne-reif-complete ts c r f = zero-reified-complete false β σ ts c r _ (says-not (says-zero (sum σ ts) c)) (f .zero-one .0) (f .kept)
-
-  pub int-lin-ne-reif-determined : (asbs : List (Term ℕ)) (c : ℤ) (r : ℕ) → Determined β σ (int-lin-ne-reif asbs c r)
-  unfolding rule booleanArguments pick
-  int-lin-ne-reif-determined ts c r α f = zero-reified-determined false β σ ts c r _ (says-not (says-zero (sum σ ts) c)) (f .zero-one .0) α
+  int-lin-ne-reif-correct ts c r = zero-reified false β σ ts c r (says-not (says-zero (sum σ ts) c)) (λ f. f .zero-one .0) (λ f. f .kept)
 
   -- ---- 14 int_eq_reif, 31 int_ne_reif
 
@@ -230,50 +202,31 @@ module _ (β : ℕ → Bounds) (σ : Valuation) where
   unfolding sum
   says-difference a b = says-as (says-equal (σ a) (σ b)) (rw (rep (σ a), rep (σ b)) (simp linear (omega arith)))
 
-  pub int-eq-reif-sound : (α : Valuation) (a b r : ℕ) → Sound β σ α (int-eq-reif a b r)
-  unfolding rule meaning booleanArguments
-  int-eq-reif-sound α a b r f = zero-reified-sound true β σ (difference a b) +0 r _ (says-difference a b) (f .zero-one .0) α
-
-  pub int-eq-reif-complete : (a b r : ℕ) → Complete β σ (int-eq-reif a b r)
+  pub int-eq-reif-correct : (a b r : ℕ) → Correct β σ (int-eq-reif a b r)
   unfolding rule meaning integerArguments booleanArguments pick
-  int-eq-reif-complete a b r f = zero-reified-complete true β σ (difference a b) +0 r _ (says-difference a b) (f .zero-one .0) (f .kept)
+  int-eq-reif-correct a b r = zero-reified true β σ (difference a b) +0 r (says-difference a b) (λ f. f .zero-one .0) (λ f. f .kept)
 
-  pub int-eq-reif-determined : (a b r : ℕ) → Determined β σ (int-eq-reif a b r)
-  unfolding rule booleanArguments pick
-  int-eq-reif-determined a b r α f = zero-reified-determined true β σ (difference a b) +0 r _ (says-difference a b) (f .zero-one .0) α
-
-  pub int-ne-reif-sound : (α : Valuation) (a b r : ℕ) → Sound β σ α (int-ne-reif a b r)
-  unfolding rule meaning booleanArguments
-  int-ne-reif-sound α a b r f = zero-reified-sound false β σ (difference a b) +0 r _ (says-not (says-difference a b)) (f .zero-one .0) α
-
-  pub int-ne-reif-complete : (a b r : ℕ) → Complete β σ (int-ne-reif a b r)
+  pub int-ne-reif-correct : (a b r : ℕ) → Correct β σ (int-ne-reif a b r)
   unfolding rule meaning integerArguments booleanArguments pick
-  int-ne-reif-complete a b r f = zero-reified-complete false β σ (difference a b) +0 r _ (says-not (says-difference a b)) (f .zero-one .0) (f .kept)
-
-  pub int-ne-reif-determined : (a b r : ℕ) → Determined β σ (int-ne-reif a b r)
-  unfolding rule booleanArguments pick
-  int-ne-reif-determined a b r α f = zero-reified-determined false β σ (difference a b) +0 r _ (says-not (says-difference a b)) (f .zero-one .0) α
+  int-ne-reif-correct a b r = zero-reified false β σ (difference a b) +0 r (says-not (says-difference a b)) (λ f. f .zero-one .0) (λ f. f .kept)
 
   -- ---- 15 int_lin_le_reif
 
-  pub int-lin-le-reif-sound : (α : Valuation) (asbs : List (Term ℕ)) (c : ℤ) (r : ℕ) → Sound β σ α (int-lin-le-reif asbs c r)
-  unfolding rule linLessEqualReified meaning booleanArguments value
-  int-lin-le-reif-sound α ts c r f g =
-      says-reified σ r (says-not-above-zero (sum σ ts) c) .1
-      (rw (linked-row σ α β ts c .0 (g .1 .0)) at (le-reif-rows (σ r) (f .zero-one .0) (α 0) _ _ (g .0 .0) .0 (g .1 .1)))
-
-  pub int-lin-le-reif-complete : (asbs : List (Term ℕ)) (c : ℤ) (r : ℕ) → Complete β σ (int-lin-le-reif asbs c r)
+  pub int-lin-le-reif-correct : (asbs : List (Term ℕ)) (c : ℤ) (r : ℕ) → Correct β σ (int-lin-le-reif asbs c r)
   unfolding rule linLessEqualReified meaning integerArguments booleanArguments pick value
-  int-lin-le-reif-complete ts c r f m rest =
-      let x = sum σ ts ⊖ c in
-      let k = sum-kept β σ ts c (f .kept) in (
-        (k, tt),
-        (
-          linked-row σ (value (x ∷ rest)) β ts c .1 refl,
-          le-reif-rows (σ r) (f .zero-one .0) x _ _ k .1 (says-reified σ r (says-not-above-zero (sum σ ts) c) .0 m),
-        ),
-      )
-
-  pub int-lin-le-reif-determined : (asbs : List (Term ℕ)) (c : ℤ) (r : ℕ) → Determined β σ (int-lin-le-reif asbs c r)
-  unfolding rule linLessEqualReified pick
-  int-lin-le-reif-determined ts c r α f g = (linked-row σ α β ts c .0 (g .1 .0), tt)
+  int-lin-le-reif-correct ts c r = record {
+    sound = λ α f g.
+        says-reified σ r (says-not-above-zero (sum σ ts) c) .1
+        (rw (linked-row σ α β ts c .0 (g .1 .0)) at (le-reif-rows (σ r) (f .zero-one .0) (α 0) _ _ (g .0 .0) .0 (g .1 .1)));
+    complete = λ f m rest.
+        let x = sum σ ts ⊖ c in
+        let k = sum-kept β σ ts c (f .kept) in (
+          (k, tt),
+          (
+            linked-row σ (value (x ∷ rest)) β ts c .1 refl,
+            le-reif-rows (σ r) (f .zero-one .0) x _ _ k .1 (says-reified σ r (says-not-above-zero (sum σ ts) c) .0 m),
+          ),
+        );
+    filled = refl;
+    determined = λ α f g. (linked-row σ α β ts c .0 (g .1 .0), tt);
+  }

@@ -23,8 +23,8 @@ use Rattle.rules.specs.Block.{Ref, source}
 use Rattle.rules.specs.Parts.{one, oneBit, chosen, products, _─_≤0}
 use Rattle.rules.specs.Rule.{rule, firstOnly, oneOf}
 use Rattle.rules.specs.Pick.{gatedPick, pick}
-use Rattle.sharing.proofs.Good.{Good, Sat, see, Are}
-use Rattle.sharing.proofs.Basics.{Sound, Complete, Filled, Determined, not-above-row}
+use Rattle.sharing.proofs.Good.{Sat, see}
+use Rattle.sharing.proofs.Basics.{Represents, Correct, not-above-row}
 use Rattle.sharing.proofs.OneHot.{from-zero, oneBit-law, chosen-law, chosen-one}
 use Rattle.sharing.proofs.Gates.{products-law, gated-sum, gates-at, gates-keep, gates-sound, gates-complete, gates-filled, gates-are}
 use Rattle.sharing.proofs.FirstOnly.{FirstOnly, first-implies, hot-bits, first-rows, first-picked}
@@ -72,38 +72,31 @@ module _ (β : ℕ → Bounds) (σ : Valuation) (m : ℕ) (xs : List ℕ) (u v :
   abbrev Extreme : Type 0
   Extreme = Any (λ x. σ x ≡ σ m) xs × All (λ x. σ (u x) ⊑ σ (v x)) xs
 
-  one-of-sound : (α : Valuation) → Good (oneOf β u v m xs) σ α → Extreme
-  unfolding oneOf
-  one-of-sound α g =
-      let r = rows-are α .0 (g .1) in
-      let w = gates-sound β xs σ α (g .0) (r .0) in
-      let e = gates-at (λ x. x) xs (length xs) m σ α (w .0) (w .1) (r .1) .0 (r .2) in
-      (any-map (λ x. w .0 ≡ x) (λ x. σ x ≡ σ m) (λ x p. ap σ (sym p) ∙ e) xs (w .1 .0), r .3)
-
   -- all variables keep their bounds
-  module _ (kept : All (λ x. In (β x) (σ x)) xs) (both : All (λ x. In (β (u x)) (σ (u x)) × In (β (v x)) (σ (v x))) xs) where
-    one-of-complete : Extreme → (rest : List ℤ) → Good (oneOf β u v m xs) σ (value (gatedPick σ (λ x. σ x == σ m) xs ++ rest))
-    unfolding oneOf gatedPick
-    one-of-complete h rest =
-        let t : ℕ → Bool = λ x. σ x == σ m in
+  one-of : {F : Type 0} {t : Bool} → Says t Extreme → (F → In (β m) (σ m) × All (λ x. In (β x) (σ x)) xs) →
+      ((x : ℕ) → In (β m) (σ m) → In (β x) (σ x) → In (β (u x)) (σ (u x)) × In (β (v x)) (σ (v x))) →
+      Represents F (oneOf β u v m xs) σ (gatedPick σ (λ x. σ x == σ m) xs) t
+  unfolding oneOf gatedPick
+  one-of {F} says kept ends = record {
+    sound = λ α f g.
+        let r = rows-are α .0 (g .1) in
+        let w = gates-sound β xs σ α (g .0) (r .0) in
+        let e = gates-at (λ x. x) xs (length xs) m σ α (w .0) (w .1) (r .1) .0 (r .2) in
+        says .1 (any-map (λ x. w .0 ≡ x) (λ x. σ x ≡ σ m) (λ x p. ap σ (sym p) ∙ e) xs (w .1 .0), r .3);
+    complete = λ f holds rest.
+        let h = says .0 holds in
         let some = any-map (λ x. σ x ≡ σ m) (λ x. t x ≡ true) (λ x. says-equal (σ x) (σ m) .1) xs (h .0) in
-        let p = gates-complete (λ x. x) t xs β σ rest kept some in
+        let p = gates-complete (λ x. x) t xs β σ rest (kept f .1) some in
         let l = p .2 .0 in
         let c = p .2 .1 .1 in
         let α = value (gatedPick σ t xs ++ rest) in
         let e = gates-at (λ x. x) xs (length xs) m σ α l c (p .1) .1 (says-equal (σ l) (σ m) .0 (p .2 .1 .0)) in
         let k = gates-keep β xs α (λ j. α (length xs + j)) (λ j. refl) .0 (p .0) .0 in
         let less = all-implies (λ x. σ (u x) ⊑ σ (v x)) (λ x. ¬ (t x ≡ true) → σ (u x) ⊏ σ (v x)) (λ x i n. below _ _ i (λ q. n (says-equal (σ x) (σ m) .1 (tie x .0 q)))) xs (h .1) in
-        let f : FirstOnly (λ x. σ (u x) ⊏ σ (v x)) xs α = rw append-assoc (first-picked t (λ x. σ (u x) ⊏ σ (v x)) xs _ less) in
-        let o = first-rows β σ u v xs 0 α α (from-zero α) k (rw (c .1 one) (omega arithZ)) both .1 f in
-        (p .0, rows-are α .1 (chosen-one xs σ α l c, p .1, e, h .1, o))
-      where
-        below : (a b : ℤ) → a ⊑ b → ¬ (a ≡ b) → a ⊏ b
-        below = simp linear (omega arith)
-
-    one-of-determined : (α : Valuation) → Good (oneOf β u v m xs) σ α → Are (gatedPick σ (λ x. σ x == σ m) xs) α
-    unfolding oneOf
-    one-of-determined α g =
+        let o : FirstOnly (λ x. σ (u x) ⊏ σ (v x)) xs α = rw append-assoc (first-picked t (λ x. σ (u x) ⊏ σ (v x)) xs _ less) in
+        (p .0, rows-are α .1 (chosen-one xs σ α l c, p .1, e, h .1, first-rows β σ u v xs 0 α α (from-zero α) k (rw (c .1 one) (omega arithZ)) (both f) .1 o));
+    filled = gates-filled σ t β xs;
+    determined = λ α f g.
         let r = rows-are α .0 (g .1) in
         let n = length xs in
         let δ : Valuation = λ j. α (n + j) in
@@ -111,66 +104,34 @@ module _ (β : ℕ → Bounds) (σ : Valuation) (m : ℕ) (xs : List ℕ) (u v :
         let p = products-law (λ x. x) xs 0 n σ α α δ (from-zero α) (λ j. refl) .0 (r .1) in
         let e = oneBit-law xs σ α .0 (r .0) in
         let w = sym (gated-sum σ xs α δ p) ∙ chosen-law one xs n m σ α δ (λ j. refl) .0 (r .2) in
-        let f = first-rows β σ u v xs 0 α α (from-zero α) k (rw e (omega arithZ)) both .0 (r .4) in
-        let o = first-implies (λ x. σ (u x) ⊏ σ (v x)) (λ x. ¬ (σ x ≡ σ m)) (λ x l i. differ _ _ l (tie x .1 i)) xs α f in
-        gates-are (λ x. x) (λ x. σ x == σ m) xs σ α (r .1) (hot-bits σ (σ m) xs α k e w o)
-      where
-        differ : (a b : ℤ) → a ⊏ b → ¬ (a ≡ b)
-        differ = simp linear (omega arith)
+        let i = first-rows β σ u v xs 0 α α (from-zero α) k (rw e (omega arithZ)) (both f) .0 (r .4) in
+        let o = first-implies (λ x. σ (u x) ⊏ σ (v x)) (λ x. ¬ (σ x ≡ σ m)) (λ x l i. differ _ _ l (tie x .1 i)) xs α i in
+        gates-are (λ x. x) t xs σ α (r .1) (hot-bits σ (σ m) xs α k e w o);
+  }
+    where
+      t : ℕ → Bool
+      t x = σ x == σ m
+
+      both : F → All (λ x. In (β (u x)) (σ (u x)) × In (β (v x)) (σ (v x))) xs
+      both f = all-implies (λ x. In (β x) (σ x)) (λ x. In (β (u x)) (σ (u x)) × In (β (v x)) (σ (v x))) (λ x. ends x (kept f .0)) xs (kept f .1)
+
+      below : (a b : ℤ) → a ⊑ b → ¬ (a ≡ b) → a ⊏ b
+      below = simp linear (omega arith)
+
+      differ : (a b : ℤ) → a ⊏ b → ¬ (a ≡ b)
+      differ = simp linear (omega arith)
 
 module _ (β : ℕ → Bounds) (σ : Valuation) (m : ℕ) (xs : List ℕ) where
-  -- ---- 26: x_j − m ≤ 0
+  -- 26: x_j − m ≤ 0
+  pub array-int-maximum-correct : Correct β σ (array-int-maximum m xs)
+  unfolding meaning maximum rule pick integerArguments
+  array-int-maximum-correct =
+      one-of β σ m xs (λ x. x) (λ x. m) (λ x. (λ e. e, λ e. e)) (says-one-of σ (σ m) (λ x. leZ x (σ m)) (λ x. x ⊑ σ m) (λ x. says-le x (σ m)) xs)
+      (λ f. (f .kept .0, f .kept .1)) (λ x h i. (i, h))
 
-  says-maximum : Says (maximum (σ m) (map σ xs)) (Any (λ x. σ x ≡ σ m) xs × All (λ x. σ x ⊑ σ m) xs)
-  unfolding maximum
-  says-maximum = says-one-of σ (σ m) (λ x. leZ x (σ m)) (λ x. x ⊑ σ m) (λ x. says-le x (σ m)) xs
-
-  same : (x : ℕ) → (σ x ≡ σ m) ↔ (σ x ≡ σ m)
-  same x = (λ e. e, λ e. e)
-
-  with-m : In (β m) (σ m) → All (λ x. In (β x) (σ x)) xs → All (λ x. In (β x) (σ x) × In (β m) (σ m)) xs
-  with-m h = all-implies (λ x. In (β x) (σ x)) (λ x. In (β x) (σ x) × In (β m) (σ m)) (λ x i. (i, h)) xs
-
-  pub array-int-maximum-sound : (α : Valuation) → Sound β σ α (array-int-maximum m xs)
-  unfolding meaning rule
-  array-int-maximum-sound α f g = says-maximum .1 (one-of-sound β σ m xs (λ x. x) (λ x. m) same α g)
-
-  pub array-int-maximum-complete : Complete β σ (array-int-maximum m xs)
-  unfolding meaning rule pick integerArguments
-  array-int-maximum-complete f t = one-of-complete β σ m xs (λ x. x) (λ x. m) same (f .kept .1) (with-m (f .kept .0) (f .kept .1)) (says-maximum .0 t)
-
-  pub array-int-maximum-filled : Filled β σ (array-int-maximum m xs)
-  unfolding rule oneOf pick
-  array-int-maximum-filled = gates-filled σ (λ x. σ x == σ m) β xs
-
-  pub array-int-maximum-determined : Determined β σ (array-int-maximum m xs)
-  unfolding rule pick integerArguments
-  array-int-maximum-determined α f = one-of-determined β σ m xs (λ x. x) (λ x. m) same (f .kept .1) (with-m (f .kept .0) (f .kept .1)) α
-
-  -- ---- 33: m − x_j ≤ 0
-
-  says-minimum : Says (minimum (σ m) (map σ xs)) (Any (λ x. σ x ≡ σ m) xs × All (λ x. σ m ⊑ σ x) xs)
-  unfolding minimum
-  says-minimum = says-one-of σ (σ m) (λ x. leZ (σ m) x) (λ x. σ m ⊑ x) (λ x. says-le (σ m) x) xs
-
-  turned : (x : ℕ) → (σ m ≡ σ x) ↔ (σ x ≡ σ m)
-  turned x = (sym, sym)
-
-  m-with : In (β m) (σ m) → All (λ x. In (β x) (σ x)) xs → All (λ x. In (β m) (σ m) × In (β x) (σ x)) xs
-  m-with h = all-implies (λ x. In (β x) (σ x)) (λ x. In (β m) (σ m) × In (β x) (σ x)) (λ x i. (h, i)) xs
-
-  pub array-int-minimum-sound : (α : Valuation) → Sound β σ α (array-int-minimum m xs)
-  unfolding meaning rule
-  array-int-minimum-sound α f g = says-minimum .1 (one-of-sound β σ m xs (λ x. m) (λ x. x) turned α g)
-
-  pub array-int-minimum-complete : Complete β σ (array-int-minimum m xs)
-  unfolding meaning rule pick integerArguments
-  array-int-minimum-complete f t = one-of-complete β σ m xs (λ x. m) (λ x. x) turned (f .kept .1) (m-with (f .kept .0) (f .kept .1)) (says-minimum .0 t)
-
-  pub array-int-minimum-filled : Filled β σ (array-int-minimum m xs)
-  unfolding rule oneOf pick
-  array-int-minimum-filled = gates-filled σ (λ x. σ x == σ m) β xs
-
-  pub array-int-minimum-determined : Determined β σ (array-int-minimum m xs)
-  unfolding rule pick integerArguments
-  array-int-minimum-determined α f = one-of-determined β σ m xs (λ x. m) (λ x. x) turned (f .kept .1) (m-with (f .kept .0) (f .kept .1)) α
+  -- 33: m − x_j ≤ 0
+  pub array-int-minimum-correct : Correct β σ (array-int-minimum m xs)
+  unfolding meaning minimum rule pick integerArguments
+  array-int-minimum-correct =
+      one-of β σ m xs (λ x. m) (λ x. x) (λ x. (sym, sym)) (says-one-of σ (σ m) (λ x. leZ (σ m) x) (λ x. σ m ⊑ x) (λ x. says-le (σ m) x) xs)
+      (λ f. (f .kept .0, f .kept .1)) (λ x h i. (h, i))

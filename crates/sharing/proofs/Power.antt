@@ -25,7 +25,8 @@ use Rattle.rules.specs.Rule.{rule, powered}
 use Rattle.rules.specs.Pick.{pick, powerPick}
 use Rattle.rules.proofs.Power.{by-halves, kept-by-halves}
 use Rattle.sharing.proofs.Good.{Keeps, Are, Sat, see}
-use Rattle.sharing.proofs.Basics.{Sound, Complete, Filled, Determined, equal-row}
+use Rattle.sharing.proofs.Fits.{Fits}
+use Rattle.sharing.proofs.Basics.{Correct, equal-row}
 use Rattle.sharing.proofs.OneHot.{From, from-head}
 use Rattle.sharing.proofs.Gates.{keeps-append, are-append, from-append}
 use Rattle.sharing.proofs.Arithmetic.{product-kept}
@@ -181,38 +182,36 @@ one-row : (z : ℤ) → (+1 ⊗ z ⊕ +0 ⊕ -1 ≡ +0) ↔ (+1 ≡ z)
 one-row = simp linear (omega arith)
 
 module _ (β : ℕ → Bounds) (σ : Valuation) where
-  pub int-pow-sound : (α : Valuation) (x k z : ℕ) → Sound β σ α (int-pow x k z)
-  unfolding rule meaning integerArguments powered power
-  int-pow-sound α x zero z f g = says-equal +1 (σ z) .1 (one-row (σ z) .0 (g .1 .0))
-  int-pow-sound α x (suc k) z f g =
-      let c = chain (β x) x (suc k) in
-      let h = chain-holds σ (β x) x (f .kept .0) (suc k) (omega arith) in
-      let s = all-append (Sat (see σ α)) (c .products) (c .result ─ source z =0 ∷ []) .0 (g .1) in
-      says-equal (power (σ x) (suc k)) (σ z) .1
-      (sym (h .1) ∙ sym (h .0 .sound α (s .0)) ∙ equal-row (see σ α) (c .result) (source z) .0 (s .1 .0))
-
-  pub int-pow-complete : (x k z : ℕ) → Complete β σ (int-pow x k z)
+  pub int-pow-correct : (x k z : ℕ) → Correct β σ (int-pow x k z)
   unfolding rule meaning pick integerArguments powered powerPick power
-  int-pow-complete x zero z f m rest = (tt, (one-row (σ z) .1 (says-equal +1 (σ z) .0 m), tt))
-  int-pow-complete x (suc k) z f m rest =
-      let c = chain (β x) x (suc k) in
-      let h = chain-holds σ (β x) x (f .kept .0) (suc k) (omega arith) in
-      let α = value (powerValues (σ x) (suc k) .picked ++ rest) in
-      let o = h .0 .complete rest in
-      let e = h .0 .sound α (o .1) ∙ h .1 ∙ says-equal (power (σ x) (suc k)) (σ z) .0 m in (
-        o .0,
-        all-append (Sat (see σ α)) (c .products) (c .result ─ source z =0 ∷ []) .1 (o .1, (equal-row (see σ α) (c .result) (source z) .1 e, tt)),
-      )
+  int-pow-correct x zero z = record {
+    sound = λ α f g. says-equal +1 (σ z) .1 (one-row (σ z) .0 (g .1 .0));
+    complete = λ f m rest. (tt, (one-row (σ z) .1 (says-equal +1 (σ z) .0 m), tt));
+    filled = refl;
+    determined = λ α f g. tt;
+  }
+  int-pow-correct x (suc k) z = record {
+    sound = λ α f g.
+        let h = holds f in
+        let s = last α .0 (g .1) in
+        says-equal (power (σ x) (suc k)) (σ z) .1
+        (sym (h .1) ∙ sym (h .0 .sound α (s .0)) ∙ equal-row (see σ α) (c .result) (source z) .0 (s .1 .0));
+    complete = λ f m rest.
+        let h = holds f in
+        let α = value (powerValues (σ x) (suc k) .picked ++ rest) in
+        let o = h .0 .complete rest in
+        let e = h .0 .sound α (o .1) ∙ h .1 ∙ says-equal (power (σ x) (suc k)) (σ z) .0 m in
+        (o .0, last α .1 (o .1, (equal-row (see σ α) (c .result) (source z) .1 e, tt)));
+    filled = values-length (β x) x (σ x) (suc k) (omega arith);
+    determined = λ α f g. holds f .0 .determined α (last α .0 (g .1) .0);
+  }
+    where
+      c : Chain
+      c = chain (β x) x (suc k)
 
-  pub int-pow-filled : (x k z : ℕ) → Filled β σ (int-pow x k z)
-  unfolding rule pick powered powerPick
-  int-pow-filled x zero z = refl
-  int-pow-filled x (suc k) z = values-length (β x) x (σ x) (suc k) (omega arith)
+      holds : Fits β σ (int-pow x (suc k) z) → let v = powerValues (σ x) (suc k) in Works σ c v × (v .held ≡ power (σ x) (suc k))
+      holds f = chain-holds σ (β x) x (f .kept .0) (suc k) (omega arith)
 
-  pub int-pow-determined : (x k z : ℕ) → Determined β σ (int-pow x k z)
-  unfolding rule pick integerArguments powered powerPick
-  int-pow-determined x zero z α f g = tt
-  int-pow-determined x (suc k) z α f g =
-      let c = chain (β x) x (suc k) in
-      let h = chain-holds σ (β x) x (f .kept .0) (suc k) (omega arith) in
-      h .0 .determined α (all-append (Sat (see σ α)) (c .products) (c .result ─ source z =0 ∷ []) .0 (g .1) .0)
+      last : (α : Valuation) → let row = c .result ─ source z =0 in
+          All (Sat (see σ α)) (c .products ++ (row ∷ [])) ↔ (All (Sat (see σ α)) (c .products) × All (Sat (see σ α)) (row ∷ []))
+      last α = all-append (Sat (see σ α)) (c .products) (c .result ─ source z =0 ∷ [])

@@ -6,7 +6,6 @@ use mathlib.Core.List.{List, [], _∷_, _++_, map}
 use native.Mathlib.Omega.{arith}
 use Prim.Native.Nat.{ℕ, zero, suc}
 use lib.IntN.{ℤ, pos}
-use lib.ListN.{length}
 use Rattle.integers.specs.Choice.{_if_else_}
 use Rattle.integers.specs.Number.{_⊕_, _⊖_, _⊗_, _==_, count, +0, +1, -1}
 use Rattle.integers.specs.Lists.{listOf}
@@ -24,43 +23,33 @@ use Rattle.rules.specs.Block.{source, aux}
 use Rattle.rules.specs.Parts.{one, members}
 use Rattle.rules.specs.Shared.{keep}
 use Rattle.rules.specs.Rule.{rule, inSet, inSetReified}
-use Rattle.rules.specs.Pick.{bitOf, pick}
-use Rattle.sharing.proofs.Good.{dot, Good, Sat, see}
-use Rattle.sharing.proofs.Fits.{Fits}
-use Rattle.sharing.proofs.Basics.{Determined}
+use Rattle.rules.specs.Pick.{bitOf, firstBit, pick}
+use Rattle.sharing.proofs.Good.{dot, Sat, see}
+use Rattle.sharing.proofs.Basics.{Correct}
 use Rattle.sharing.proofs.OneHot.{dot-append, bitSum, less-variable, Chooses, chosen-one, chosen-at, one-hot-sound, one-hot-complete, chosen-value, picked-value, bits-filled}
 use Rattle.rules.proofs.Members.{member-passes, says-member, values-member, members-values, members-member, values-distinct, members-distinct}
 use Rattle.sharing.proofs.FirstOnly.{value-bits}
 
 -- ---- 27
 
-pub set-in-sound : (β : ℕ → Bounds) (σ α : Valuation) (x : ℕ) (S : List ℤ) → Fits β σ (set-in x S) → Good (rule β (set-in x S)) σ α →
-    meaning σ (set-in x S) ≡ true
-unfolding meaning rule inSet
-set-in-sound β σ α x S f g =
-    let vs = members S (β x) in
-    let c = chosen-value vs σ α x (one-hot-sound vs σ α (g .0) (g .1 .0)) (g .1 .1 .0) in
-    says-member (σ x) S .1 (members-member S (β x) (σ x) .0 (c .0) .1)
-
-pub set-in-complete : (β : ℕ → Bounds) (σ : Valuation) (x : ℕ) (S : List ℤ) → Fits β σ (set-in x S) → meaning σ (set-in x S) ≡ true →
-    (rest : List ℤ) → Good (rule β (set-in x S)) σ (value (pick β σ (set-in x S) ++ rest))
+pub set-in-correct : (β : ℕ → Bounds) (σ : Valuation) (x : ℕ) (S : List ℤ) → Correct β σ (set-in x S)
 unfolding meaning rule inSet pick integerArguments
-set-in-complete β σ x S f t rest =
-    let vs = members S (β x) in
-    let m = members-member S (β x) (σ x) .1 (f .kept .0, says-member (σ x) S .0 t) in
-    let p = one-hot-complete (λ v. v == σ x) vs rest (member-passes (σ x) vs m) in
-    let α = value (pick β σ (set-in x S) ++ rest) in
-    let c = picked-value vs α (σ x) (p .1) in
-    (p .0, (chosen-one vs σ α (σ x) c, (chosen-at vs σ α (σ x) c (λ v. v) x .1 refl, tt)))
-
-pub set-in-filled : (β : ℕ → Bounds) (σ : Valuation) (x : ℕ) (S : List ℤ) →
-    length (pick β σ (set-in x S)) ≡ length (rule β (set-in x S) .auxiliaries)
-unfolding rule inSet pick
-set-in-filled β σ x S = bits-filled (λ v. v == σ x) _
-
-pub set-in-determined : (β : ℕ → Bounds) (σ : Valuation) (x : ℕ) (S : List ℤ) → Determined β σ (set-in x S)
-unfolding rule inSet pick
-set-in-determined β σ x S α f g = value-bits _ σ α x (members-distinct S (β x)) (g .0) (g .1 .0) (g .1 .1 .0)
+set-in-correct β σ x S = record {
+  sound = λ α f g.
+      let c = chosen-value vs σ α x (one-hot-sound vs σ α (g .0) (g .1 .0)) (g .1 .1 .0) in
+      says-member (σ x) S .1 (members-member S (β x) (σ x) .0 (c .0) .1);
+  complete = λ f t rest.
+      let m = members-member S (β x) (σ x) .1 (f .kept .0, says-member (σ x) S .0 t) in
+      let p = one-hot-complete (λ v. v == σ x) vs rest (member-passes (σ x) vs m) in
+      let α = value (firstBit (λ v. v == σ x) vs ++ rest) in
+      let c = picked-value vs α (σ x) (p .1) in
+      (p .0, (chosen-one vs σ α (σ x) c, (chosen-at vs σ α (σ x) c (λ v. v) x .1 refl, tt)));
+  filled = bits-filled (λ v. v == σ x) vs;
+  determined = λ α f g. value-bits vs σ α x (members-distinct S (β x)) (g .0) (g .1 .0) (g .1 .1 .0);
+}
+  where
+    vs : List ℤ
+    vs = members S (β x)
 
 -- ---- 28
 
@@ -111,30 +100,21 @@ says-bit true b1 = (λ e. refl, λ e. refl)
 says-bit false b0 = (λ e. refl, λ e. refl)
 says-bit false b1 = (λ e. false-true e, λ e. absurd (omega arithZ))
 
-pub set-in-reif-sound : (β : ℕ → Bounds) (σ α : Valuation) (x : ℕ) (S : List ℤ) (r : ℕ) → Fits β σ (set-in-reif x S r) →
-    Good (rule β (set-in-reif x S r)) σ α → meaning σ (set-in-reif x S r) ≡ true
-unfolding meaning on rule inSetReified booleanArguments
-set-in-reif-sound β σ α x S r f g =
-    let vs = values (β x) in
-    let c = chosen-value vs σ α x (one-hot-sound vs σ α (g .0) (g .1 .0)) (g .1 .1 .0) in
-    says-bit (member (σ x) S) (f .zero-one .0) .1 (third-row (β x) S r σ α (σ x) c .0 (g .1 .1 .1 .0))
-
-pub set-in-reif-complete : (β : ℕ → Bounds) (σ : Valuation) (x : ℕ) (S : List ℤ) (r : ℕ) → Fits β σ (set-in-reif x S r) →
-    meaning σ (set-in-reif x S r) ≡ true → (rest : List ℤ) → Good (rule β (set-in-reif x S r)) σ (value (pick β σ (set-in-reif x S r) ++ rest))
+pub set-in-reif-correct : (β : ℕ → Bounds) (σ : Valuation) (x : ℕ) (S : List ℤ) (r : ℕ) → Correct β σ (set-in-reif x S r)
 unfolding meaning on rule inSetReified pick integerArguments booleanArguments
-set-in-reif-complete β σ x S r f t rest =
-    let vs = values (β x) in
-    let p = one-hot-complete (λ v. v == σ x) vs rest (member-passes (σ x) vs (values-member (β x) (σ x) .1 (f .kept .0))) in
-    let α = value (pick β σ (set-in-reif x S r) ++ rest) in
-    let c = picked-value vs α (σ x) (p .1) in
-    let b = says-bit (member (σ x) S) (f .zero-one .0) .0 t in
-    (p .0, (chosen-one vs σ α (σ x) c, (chosen-at vs σ α (σ x) c (λ v. v) x .1 refl, (third-row (β x) S r σ α (σ x) c .1 b, tt))))
-
-pub set-in-reif-filled : (β : ℕ → Bounds) (σ : Valuation) (x : ℕ) (S : List ℤ) (r : ℕ) →
-    length (pick β σ (set-in-reif x S r)) ≡ length (rule β (set-in-reif x S r) .auxiliaries)
-unfolding rule inSetReified pick
-set-in-reif-filled β σ x S r = bits-filled (λ v. v == σ x) _
-
-pub set-in-reif-determined : (β : ℕ → Bounds) (σ : Valuation) (x : ℕ) (S : List ℤ) (r : ℕ) → Determined β σ (set-in-reif x S r)
-unfolding rule inSetReified pick
-set-in-reif-determined β σ x S r α f g = value-bits _ σ α x (values-distinct (β x)) (g .0) (g .1 .0) (g .1 .1 .0)
+set-in-reif-correct β σ x S r = record {
+  sound = λ α f g.
+      let c = chosen-value vs σ α x (one-hot-sound vs σ α (g .0) (g .1 .0)) (g .1 .1 .0) in
+      says-bit (member (σ x) S) (f .zero-one .0) .1 (third-row (β x) S r σ α (σ x) c .0 (g .1 .1 .1 .0));
+  complete = λ f t rest.
+      let p = one-hot-complete (λ v. v == σ x) vs rest (member-passes (σ x) vs (values-member (β x) (σ x) .1 (f .kept .0))) in
+      let α = value (firstBit (λ v. v == σ x) vs ++ rest) in
+      let c = picked-value vs α (σ x) (p .1) in
+      let b = says-bit (member (σ x) S) (f .zero-one .0) .0 t in
+      (p .0, (chosen-one vs σ α (σ x) c, (chosen-at vs σ α (σ x) c (λ v. v) x .1 refl, (third-row (β x) S r σ α (σ x) c .1 b, tt))));
+  filled = bits-filled (λ v. v == σ x) vs;
+  determined = λ α f g. value-bits vs σ α x (values-distinct (β x)) (g .0) (g .1 .0) (g .1 .1 .0);
+}
+  where
+    vs : List ℤ
+    vs = values (β x)

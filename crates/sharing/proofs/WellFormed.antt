@@ -29,7 +29,7 @@ module _ (Vs : List Bounds) (s : ℕ → Bool) where
   declared-of c t = all-implies (λ v. (v < length Vs) × (boundsIn Vs v ≡ bit)) (λ v. v < length Vs) (λ v h. h .0) (booleanArguments (builtin c)) (t .1)
 
   plain-one : (c : Constraint) → Typed Vs c → tooWide (boundsIn Vs) s c ≡ false → Formed (length Vs) (rule (boundsIn Vs) (builtin c))
-  plain-one c t w = laws (boundsIn Vs) (builtin c) .formed (length Vs) (t .0) (declared-of c t) (sized (boundsIn Vs) s c w)
+  plain-one c t w = laws (boundsIn Vs) (builtin c) .formed (sized (boundsIn Vs) s c w) (length Vs) (t .0) (declared-of c t)
 
   pub plain-all : (first : ℕ) (e : Encoded) (cs : List Constraint) → All (Typed Vs) cs → Fine (boundsIn Vs) s first e cs → All (λ c. Formed (length Vs) (rule (boundsIn Vs) (builtin c))) cs
   plain-all first e [] t f = tt
@@ -49,7 +49,7 @@ module _ (Vs : List Bounds) (s : ℕ → Bool) where
 
       go : (u : Bool) → shares s (choice c) ≡ u → Formed first (sharedRule (boundsIn Vs) e (choice c) if u else rule (boundsIn Vs) (builtin c))
       go true h = shared-formed first (boundsIn Vs) e s (view c) h d (narrow (boundsIn Vs) s c w h) ints bools
-      go false h = laws (boundsIn Vs) (builtin c) .formed first ints bools (sized (boundsIn Vs) s c w)
+      go false h = laws (boundsIn Vs) (builtin c) .formed (sized (boundsIn Vs) s c w) first ints bools
 
   shared-count : (e : Encoded) (c : Constraint) → shares s (choice c) ≡ true →
       length (blockOf (boundsIn Vs) s e c .auxiliaries) ≡ length (sharedRule (boundsIn Vs) e (choice c) .auxiliaries)
