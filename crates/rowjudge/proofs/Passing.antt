@@ -58,21 +58,27 @@ plain-from ws a b e p j l h = go (eqb a j) refl
     go true q = rw (← eqb-true a j q) e
     go false q = p j (omega (arith, eqb-false a j q)) h
 
-module _ (ws : List ℕ) (s : Bool) (n at w f : ℕ) (q : w ≡ wordAt ws at) (e : f ≡ faultAtHead s n w) where
-  head : f ≡ faultAtHead s n (wordAt ws at)
-  head = e ∙ ap (faultAtHead s n) q
+-- a place with the word w, and the fault f that it has as a head
+pub record Head (ws : List ℕ) (s : Bool) (n at w f : ℕ) : Type 0 where
+  pub within : at ≤ length ws
+  pub word : w ≡ wordAt ws at
+  pub fault : f ≡ faultAtHead s n w
+
+module _ {ws : List ℕ} {s : Bool} {n at w f : ℕ} (h : Head ws s n at w f) where
+  there : f ≡ faultAtHead s n (wordAt ws at)
+  there = h .fault ∙ ap (faultAtHead s n) (h .word)
 
   pub head-there : f ≡ 0 → at < length ws
-  head-there z = head-here ws s n at f head z
+  head-there z = head-here ws s n at f there z
 
-  pub head-stops : {to : Due} {m : ℕ} → at ≤ length ws → (f ≡ 0 → ⊥) → ItemPassed ws s n at to m (record { number = f; at = at })
+  pub head-stops : {to : Due} {m : ℕ} → (f ≡ 0 → ⊥) → ItemPassed ws s n at to m (record { number = f; at = at })
   unfolding resumed
-  head-stops h z =
+  head-stops z =
       record {
-        reads = head-halted ws s n at f head z ∙ rw (ne-eqb f 0 z);
+        reads = head-halted ws s n at f there z ∙ rw (ne-eqb f 0 z);
         on = omega arith;
         past = λ k. absurd (z k);
-        inside = h;
+        inside = h .within;
         plain = λ j l k. absurd (omega arith);
         last = λ i j l k. absurd (omega arith);
       }
@@ -80,12 +86,12 @@ module _ (ws : List ℕ) (s : Bool) (n at w f : ℕ) (q : w ≡ wordAt ws at) (e
   pub head-then : {to : Due} {m : ℕ} {r : Step} → f ≡ 0 → m ≡ n + started w → StepsTo ws m (afterDue due.Source w) (at + 1) to r → ItemPassed ws s n at to m r
   head-then {to} {m} {r} z k g =
       record {
-        reads = head-on ws s n at f head z ∙ rw (← q, ← k) (g .reads);
+        reads = head-on ws s n at f there z ∙ rw (← h .word, ← k) (g .reads);
         on = omega (arith, g .on);
         past = λ i. omega (arith, g .on);
         inside = g .inside;
         plain = g .plain;
-        last = λ i. plain-from ws at (r .at) (rw (← q) (end-kind w (g .last i))) (g .plain);
+        last = λ i. plain-from ws at (r .at) (rw (← h .word) (end-kind w (g .last i))) (g .plain);
       }
 
 -- ---- what a kind says

@@ -53,13 +53,9 @@ module _ (ws : List ℕ) (due : Due) (n at : ℕ) where
 
   -- a word without a fault is there
   pub here : 0 ≡ faultAt → at < length ws
-  here e = go (ltb at (length ws)) refl
-    where
-      go : (b : Bool) → ltb at (length ws) ≡ b → at < length ws
-      go true t = ltb-true at (length ws) t
-      go false t =
-          let z = past-here (ltb-false at (length ws) t) in
-          ⊎-elim (λ k. absurd (omega (arith, k .0, z, e))) (λ k. absurd (omega (arith, k .0, z, e))) (past due n (drop (at + 1) ws))
+  here e =
+      let k : length ws ≤ at → ⊥ = λ h. ⊎-elim (λ p. omega (arith, p .0, past-here h, e)) (λ p. omega (arith, p .0, past-here h, e)) (past due n (drop (at + 1) ws)) in
+      omega arith
 
   abbrev here-state : State
   here-state = record { due = due; variables = n }

@@ -20,7 +20,7 @@ use Rattle.rowsystems.specs.Reading.{faultUpper, faultVariable, faultNumber, no
 use Rattle.rowsystems.specs.declared.Due.{Due}
 use Rattle.rowsystems.specs.declared.Due.the-variants.{Source, SourceUpper, Item, AuxiliaryUpper, Terms, Coefficient, Result, FirstFactor, SecondFactor, Ended}
 use Rattle.rowreading.specs.declared.items.Step.{Step}
-use Rattle.rowreading.specs.Onward.{onward, stopped, resumed, startsKind, isEnded, StepsTo, stepOver}
+use Rattle.rowreading.specs.Onward.{onward, stopped, resumed, startsKind, stage, isEnded, StepsTo, stepOver}
 use Rattle.rowreading.proofs.Onward.{faultAt, here, go-on, stop-at}
 
 -- ---- a step over a word without a fault leads to the next place
@@ -38,18 +38,9 @@ stepped f at = go (eqb f Fault.none) refl
 
 -- ---- a word inside an item starts no variable
 
--- whether what is due stands inside an item, after its head
+-- whether what is due stands after the head of an item
 abbrev pub inner : Due → Bool
-inner Source = false
-inner (SourceUpper lower) = true
-inner Item = false
-inner (AuxiliaryUpper lower) = true
-inner (Terms left) = true
-inner (Coefficient left) = true
-inner Result = true
-inner FirstFactor = true
-inner SecondFactor = true
-inner Ended = true
+inner due = ltb 0 (stage due)
 
 pub or-false : (a b : Bool) → (a || b) ≡ false → (a ≡ false) × (b ≡ false)
 or-false true b e = false-true (sym e)

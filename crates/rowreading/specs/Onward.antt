@@ -40,18 +40,22 @@ startsKind k = ((eqb k Kind.lower || eqb k Kind.auxiliaryLower) || eqb k Kind.bo
 abbrev pub Plain : List ℕ → ℕ → ℕ → Type 0
 Plain ws a b = (j : ℕ) → a ≤ j → j < b → startsKind (kind (wordAt ws j)) ≡ false
 
+-- 0 where a head is due, 1 inside an item, 2 after the end word
+abbrev pub stage : Due → ℕ
+stage Source = 0
+stage (SourceUpper lower) = 1
+stage Item = 0
+stage (AuxiliaryUpper lower) = 1
+stage (Terms left) = 1
+stage (Coefficient left) = 1
+stage Result = 1
+stage FirstFactor = 1
+stage SecondFactor = 1
+stage Ended = 2
+
 -- whether the end word was read
 abbrev pub isEnded : Due → Bool
-isEnded Source = false
-isEnded (SourceUpper lower) = false
-isEnded Item = false
-isEnded (AuxiliaryUpper lower) = false
-isEnded (Terms left) = false
-isEnded (Coefficient left) = false
-isEnded Result = false
-isEnded FirstFactor = false
-isEnded SecondFactor = false
-isEnded Ended = true
+isEnded due = eqb (stage due) 2
 
 -- the step r leads from what is due at a place to what is due at a later one, or to the first fault
 pub record StepsTo (ws : List ℕ) (n : ℕ) (from : Due) (at : ℕ) (to : Due) (r : Step) : Type 0 where

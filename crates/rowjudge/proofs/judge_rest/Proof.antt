@@ -5,9 +5,10 @@ use Rattle.words.specs.Verdict.{verdict}
 use Rattle.rowjudge.proofs.judge_rest.Statement.{statement}
 use Rattle.rowjudge.proofs.judge_rest.Tie as tie
 
-returns : tie.Need-returns
-unfolding verdict
-returns c = (c .before .read-on .ensures .0, (c .before .read-on .ensures .1, refl))
-
 pub judge-rest-spec : {M : Type 1} → statement M
-judge-rest-spec = tie.close (tie.spec (λ c κs. search needs) returns)
+unfolding verdict
+judge-rest-spec =
+    tie.close
+    (tie.spec
+    (λ c κs. search needs)
+    (λ c. (c .before .read-on .ensures .0, (c .before .read-on .ensures .1, refl))))

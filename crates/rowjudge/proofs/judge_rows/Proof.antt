@@ -19,13 +19,6 @@ use Rattle.rowjudge.proofs.Judging.{first-refusal, none-first, same-ans
 use Rattle.rowjudge.proofs.judge_rows.Statement.{statement}
 use Rattle.rowjudge.proofs.judge_rows.Tie as tie
 
-returns : tie.Need-returns
-unfolding verdict judgeRows readRows _else-refuse_ _else-answer_
-returns c = rw (lt-ltb _ _ (c .if1 .taken))
-
-judge-on-requires : tie.Need-judge-on-requires
-judge-on-requires c κs = (record { within = omega arith; few = c .if1 .left }, (omega arith, λ x h. absurd (omega arith)), omega arith, omega arith)
-
 -- what reading all the words finds
 read : (c : tie.After-judge-on) → c .judge-on .result .refusal ≡ readRows (c .before .before .before .args .ws .now)
 unfolding readRows onward startDue
@@ -54,4 +47,11 @@ returns-2 c =
     c .answer .ensures ∙ rw (first-refusal (j .judge-on .result .refusal) ws vs (j .judge-on .result .variables) (all j), read j) (same-answer (readRows ws else-refuse countFault ws vs) _ (judgeAccepted ws vs) (said j))
 
 pub judge-rows-spec : {M : Type 1} → statement M
-judge-rows-spec = tie.close (tie.spec returns judge-on-requires (λ c κs. search needs) returns-2)
+unfolding verdict judgeRows readRows _else-refuse_ _else-answer_
+judge-rows-spec =
+    tie.close
+    (tie.spec
+    (λ c. rw (lt-ltb _ _ (c .if1 .taken)))
+    (λ c κs. (record { within = omega arith; few = c .if1 .left }, (omega arith, λ x h. absurd (omega arith)), omega arith, omega arith))
+    (λ c κs. search needs)
+    returns-2)

@@ -16,17 +16,11 @@ returns c =
     let s = c .before .before .before .before .before in
     stands (s .args .ws .now) (s .args .page .now) (c .before .before .read-rows .result) (c .before .before .read-rows .ensures) (c .if1 .taken)
 
-put-rows-requires : tie.Need-put-rows-requires
-put-rows-requires c κs = few-words _ (rw (c .before .before .before .read-rows .ensures) at (c .before .if1 .left))
-
 returns-2 : tie.Need-returns-2
 unfolding printed
 returns-2 c =
     let s = c .before .before .before .before .before .before .before .before .before in
     too-short (s .args .ws .now) (s .args .page .now) (c .before .before .before .before .before .before .read-rows .result) (c .before .before .before .before .before .before .read-rows .ensures) (c .before .before .before .before .if1 .left) (omega (arith, c .before .before .put-rows .ensures .ends, c .if2 .taken))
-
-put-rows-requires-2 : tie.Need-put-rows-requires-2
-put-rows-requires-2 c κs = few-words _ (rw (c .before .before .before .before .before .before .before .read-rows .ensures) at (c .before .before .before .before .before .if1 .left))
 
 returns-3 : tie.Need-returns-3
 unfolding printed
@@ -41,8 +35,8 @@ sheet-spec =
     (λ c κs. search needs)
     returns
     (λ c. search needs)
-    put-rows-requires
+    (λ c κs. few-words _ (rw (c .before .before .before .read-rows .ensures) at (c .before .if1 .left)))
     returns-2
-    put-rows-requires-2
+    (λ c κs. few-words _ (rw (c .before .before .before .before .before .before .before .read-rows .ensures) at (c .before .before .before .before .before .if1 .left)))
     (λ c. search needs)
     returns-3)

@@ -20,9 +20,6 @@ returns-2 c =
     wrong-count (a .ws .now) (a .values .now) _ (λ e. c .if2 .taken (e ∙ sym (c .before .count-variables .ensures)))
     ∙ second-answers (a .read .number) (a .read .place) (countFault (a .ws .now) (a .values .now)) _ (c .before .before .if1 .left)
 
-first-out-of-bounds-requires : tie.Need-first-out-of-bounds-requires
-first-out-of-bounds-requires c κs = c .if2 .left ∙ c .before .count-variables .ensures
-
 returns-3 : tie.Need-returns-3
 returns-3 c =
     let a = c .before .before .before .before .before .before .args in
@@ -33,4 +30,9 @@ returns-3 c =
 pub judge-values-spec : {M : Type 1} → statement M
 judge-values-spec =
     tie.close
-    (tie.spec returns (λ c κs. search needs) returns-2 first-out-of-bounds-requires returns-3)
+    (tie.spec
+    returns
+    (λ c κs. search needs)
+    returns-2
+    (λ c κs. c .if2 .left ∙ c .before .count-variables .ensures)
+    returns-3)

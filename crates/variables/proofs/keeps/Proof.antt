@@ -14,11 +14,8 @@ returns c =
     rw (← c .before .before .before .before .starts-pair .ensures, c .before .before .before .if1 .taken)
     (c .between .ensures ∙ rw (toZ-ofZ (record { sfits = a .ok }), toZ-ofZ (record { sfits = b .ok }), a .ensures, b .ensures, toZ-ofZ (c .before .before .before .before .before .fits .v)))
 
-returns-2 : tie.Need-returns-2
-unfolding pairBounds
-returns-2 c = rw (← c .before .before .starts-pair .ensures, c .before .if1 .left) (c .between2 .ensures ∙ rw (toZ-ofZ (c .before .before .before .fits .v)))
-
 pub keeps-spec : {M : Type 1} → statement M
+unfolding pairBounds
 keeps-spec =
     tie.close
     (tie.spec
@@ -28,4 +25,4 @@ keeps-spec =
     (λ c κs. search needs)
     returns
     (λ c κs. search needs)
-    returns-2)
+    (λ c. rw (← c .before .before .starts-pair .ensures, c .before .if1 .left) (c .between2 .ensures ∙ rw (toZ-ofZ (c .before .before .before .fits .v)))))

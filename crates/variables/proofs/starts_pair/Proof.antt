@@ -5,13 +5,11 @@ use Rattle.words.specs.Variables.{startsPair}
 use Rattle.variables.proofs.starts_pair.Statement.{statement}
 use Rattle.variables.proofs.starts_pair.Tie as tie
 
-returns : tie.Need-returns
-unfolding startsPair
-returns c = rw (← c .before .kind-of .ensures, eq-eqb _ _ (c .if1 .taken))
-
-returns-2 : tie.Need-returns-2
-unfolding startsPair
-returns-2 c = rw (← c .before .kind-of .ensures, ne-eqb _ _ (c .if1 .left))
-
 pub starts-pair-spec : {M : Type 1} → statement M
-starts-pair-spec = tie.close (tie.spec (λ c κs. search needs) returns returns-2)
+unfolding startsPair
+starts-pair-spec =
+    tie.close
+    (tie.spec
+    (λ c κs. search needs)
+    (λ c. rw (← c .before .kind-of .ensures, eq-eqb _ _ (c .if1 .taken)))
+    (λ c. rw (← c .before .kind-of .ensures, ne-eqb _ _ (c .if1 .left))))

@@ -16,9 +16,12 @@ fits c = record { sfits = c .result .given }
 cast-result : tie.Need-cast-result
 cast-result c = rw (toZ-ofZ (fits c)) (sfits-widen tt (fits c))
 
-returns : tie.Need-returns
-unfolding value
-returns c = toZ-ofZ (cast-result c) ∙ toZ-ofZ (fits c)
-
 pub known-value-spec : {M : Type 1} → statement M
-known-value-spec = tie.close (tie.spec (λ c. search needs) (λ c. search needs) cast-result returns)
+unfolding value
+known-value-spec =
+    tie.close
+    (tie.spec
+    (λ c. search needs)
+    (λ c. search needs)
+    cast-result
+    (λ c. toZ-ofZ (cast-result c) ∙ toZ-ofZ (fits c)))

@@ -83,15 +83,6 @@ near c =
     let s = c .before .before .before .before .before .before .before .before .before .before .before .before .before .before in
     (s .pre .1 .1 _ (first-declared (c .before .before .before .before .before .before .before) (c .before .before .before .before .before .before .if2 .left)), s .pre .1 .1 _ (second-declared (c .before .before .before .before .before) (c .before .before .before .before .if3 .left)))
 
-returns : tie.Need-returns
-returns c = rw (c .faulty .ensures) (step-halts (result (c .before .before)) (c .before .if1 .taken), λ z. absurd (c .before .if1 .taken z))
-
-returns-2 : tie.Need-returns-2
-returns-2 c = rw (c .faulty2 .ensures) (step-halts (first (c .before .before)) (c .before .if2 .taken), λ z. absurd (c .before .if2 .taken z))
-
-returns-3 : tie.Need-returns-3
-returns-3 c = rw (c .faulty3 .ensures) (step-halts (second (c .before .before)) (c .before .if3 .taken), λ z. absurd (c .before .if3 .taken z))
-
 times-requires : tie.Need-times-requires
 times-requires c κs =
     let a = c .before .before .before .before .before .before .before .before .before .before .before .before .before .before .args in
@@ -118,15 +109,15 @@ see-factors-spec =
     (λ c κs. search needs)
     (λ c κs. search needs)
     (λ c κs. search needs)
-    returns
+    (λ c. rw (c .faulty .ensures) (step-halts (result (c .before .before)) (c .before .if1 .taken), λ z. absurd (c .before .if1 .taken z)))
     (λ c κs. search needs)
     (λ c. search needs)
     (λ c κs. search needs)
-    returns-2
+    (λ c. rw (c .faulty2 .ensures) (step-halts (first (c .before .before)) (c .before .if2 .taken), λ z. absurd (c .before .if2 .taken z)))
     (λ c κs. search needs)
     (λ c. search needs)
     (λ c κs. search needs)
-    returns-3
+    (λ c. rw (c .faulty3 .ensures) (step-halts (second (c .before .before)) (c .before .if3 .taken), λ z. absurd (c .before .if3 .taken z)))
     (λ c κs. search needs)
     known-value-requires
     (λ c κs. search needs)

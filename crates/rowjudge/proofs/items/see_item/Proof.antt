@@ -16,13 +16,17 @@ see-row-requires c κs =
     let s = c .before .before .before in
     (s .pre .0, s .pre .1, s .pre .2, row c)
 
-returns : tie.Need-returns
-returns c = (c .see-row .ensures .0, λ z. (sum-row (c .before .before .before .before .args .head) (row (c .before)), c .see-row .ensures .1 z))
-
 see-other-requires : tie.Need-see-other-requires
 see-other-requires c κs =
     let s = c .before .before .before in
     (s .pre .0, s .pre .1, s .pre .2, s .pre .3, sym (c .before .starts-sum .ensures) ∙ c .if1 .left)
 
 pub see-item-spec : {M : Type 1} → statement M
-see-item-spec = tie.close (tie.spec (λ c κs. search needs) see-row-requires returns see-other-requires (λ c. search needs))
+see-item-spec =
+    tie.close
+    (tie.spec
+    (λ c κs. search needs)
+    see-row-requires
+    (λ c. (c .see-row .ensures .0, λ z. (sum-row (c .before .before .before .before .args .head) (row (c .before)), c .see-row .ensures .1 z)))
+    see-other-requires
+    (λ c. search needs))

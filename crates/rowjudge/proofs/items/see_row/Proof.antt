@@ -7,23 +7,21 @@ use Rattle.integers.specs.Terms.{value}
 use Rattle.words.specs.Limit as Limit
 use Rattle.words.specs.Word.{payload}
 use Rattle.rowsystems.specs.Reading.{started}
-use Rattle.rowreading.specs.Item.{faultAtHead}
-use Rattle.rowjudge.proofs.Passing.{head-there, head-stops, head-then, none-started, sum-due, sum-starts, sum-fault, sum-few, sum-true}
+use Rattle.rowjudge.proofs.Passing.{Head, head-there, head-stops, head-then, none-started, sum-due, sum-starts, sum-fault, sum-few, sum-true}
 use borrow.Author.Needs.{needs}
 use Rattle.rowjudge.proofs.items.see_row.Statement.{statement}
 use Rattle.rowjudge.proofs.items.see_row.Tie as tie
 
--- the fault of the head
-fault : (c : tie.After-fault-row) → let a = c .before .before .args in c .fault-row .result ≡ faultAtHead (a .sources) (a .n) (a .head)
-fault c =
+-- the head and its fault
+head : (c : tie.After-fault-row) → let a = c .before .before .args in Head (a .ws .now) (a .sources) (a .n) (a .at) (a .head) (c .fault-row .result)
+head c =
     let a = c .before .before .args in
-    c .fault-row .ensures ∙ sym (sum-fault (a .head) (c .before .before .pre .3) (a .sources) (a .n))
+    let p = c .before .before .pre in
+    record { within = p .0 .within; word = p .1; fault = c .fault-row .ensures ∙ sym (sum-fault (a .head) (c .before .before .pre .3) (a .sources) (a .n)) }
 
 -- there is a word
 there : (c : tie.Else1) → let a = c .before .before .before .args in a .at + 1 ≤ length (a .ws .now)
-there c =
-    let a = c .before .before .before .args in
-    omega (arith, head-there (a .ws .now) (a .sources) (a .n) (a .at) (a .head) (c .before .fault-row .result) (c .before .before .before .pre .1) (fault (c .before)) (c .if1 .left))
+there c = omega (arith, head-there (head (c .before)) (c .if1 .left))
 
 -- the head starts no variable
 none : (c : tie.Else1) → let a = c .before .before .before .args in a .n ≡ a .n + started (a .head)
@@ -37,43 +35,20 @@ few c =
     let a = c .before .before .before .args in
     sum-few (a .head) (sym (c .if1 .left) ∙ c .before .fault-row .ensures)
 
-returns : tie.Need-returns
-returns c =
-    let a = c .before .before .before .before .args in
-    rw (c .faulty .ensures) (head-stops (a .ws .now) (a .sources) (a .n) (a .at) (a .head) (c .before .before .fault-row .result) (c .before .before .before .before .pre .1) (fault (c .before .before)) (c .before .before .before .before .pre .0 .within) (c .before .if1 .taken), λ z. absurd (c .before .if1 .taken z))
-
-add-if2 : tie.Need-add-if2
-add-if2 c = let h = there (c .before) in let k = c .before .before .before .before .pre .0 .few in search needs
-
-mul-if2 : tie.Need-mul-if2
-mul-if2 c = record { fits = omega (arith, few (c .before), c .payload-of .ensures) }
-
-add-if2-2 : tie.Need-add-if2-2
-add-if2-2 c = record { fits = omega (arith, few (c .before), c .payload-of .ensures, there (c .before), c .before .before .before .before .pre .0 .few) }
-
-add-see-terms : tie.Need-add-see-terms
-add-see-terms c = let h = there (c .before .before) in let k = c .before .before .before .before .before .pre .0 .few in search needs
-
 see-terms-requires : tie.Need-see-terms-requires
 see-terms-requires c κs = (record { within = there (c .before .before); few = c .before .before .before .before .before .pre .0 .few }, c .before .before .before .before .before .pre .2, few (c .before .before), rw (← c .before .payload-of .ensures) (c .if2 .taken))
 
 returns-2 : tie.Need-returns-2
 returns-2 c =
     let a = c .before .before .before .before .before .before .args in (
-      head-then (a .ws .now) (a .sources) (a .n) (a .at) (a .head) (c .before .before .before .before .fault-row .result) (c .before .before .before .before .before .before .pre .1) (fault (c .before .before .before .before)) (c .before .before .before .if1 .left) (none (c .before .before .before)) (rw (sum-due (a .head) (c .before .before .before .before .before .before .pre .3)) (c .see-terms .ensures .0)),
+      head-then (head (c .before .before .before .before)) (c .before .before .before .if1 .left) (none (c .before .before .before)) (rw (sum-due (a .head) (c .before .before .before .before .before .before .pre .3)) (c .see-terms .ensures .0)),
       λ z. c .see-terms .ensures .1 z ∙ sum-true (a .head) (c .before .before .before .before .before .before .pre .3) (value (a .values .now)) (drop (a .at + 1) (a .ws .now)) (few (c .before .before .before)),
     )
-
-add-see-cut : tie.Need-add-see-cut
-add-see-cut c = let h = there (c .before .before) in let k = c .before .before .before .before .before .pre .0 .few in search needs
-
-see-cut-requires : tie.Need-see-cut-requires
-see-cut-requires c κs = (record { within = there (c .before .before); few = c .before .before .before .before .before .pre .0 .few }, c .if2 .left)
 
 returns-3 : tie.Need-returns-3
 returns-3 c =
     let a = c .before .before .before .before .before .before .args in (
-      head-then (a .ws .now) (a .sources) (a .n) (a .at) (a .head) (c .before .before .before .before .fault-row .result) (c .before .before .before .before .before .before .pre .1) (fault (c .before .before .before .before)) (c .before .before .before .if1 .left) (none (c .before .before .before)) (rw (sum-due (a .head) (c .before .before .before .before .before .before .pre .3), ← c .before .before .payload-of .ensures) (c .see-cut .ensures .0)),
+      head-then (head (c .before .before .before .before)) (c .before .before .before .if1 .left) (none (c .before .before .before)) (rw (sum-due (a .head) (c .before .before .before .before .before .before .pre .3), ← c .before .before .payload-of .ensures) (c .see-cut .ensures .0)),
       λ z. absurd (c .see-cut .ensures .1 z),
     )
 
@@ -83,14 +58,14 @@ see-row-spec =
     (tie.spec
     (λ c κs. search needs)
     (λ c κs. search needs)
-    returns
+    (λ c. rw (c .faulty .ensures) (head-stops (head (c .before .before)) (c .before .if1 .taken), λ z. absurd (c .before .if1 .taken z)))
     (λ c κs. search needs)
-    add-if2
-    mul-if2
-    add-if2-2
-    add-see-terms
+    (λ c. let h = there (c .before) in let k = c .before .before .before .before .pre .0 .few in search needs)
+    (λ c. record { fits = omega (arith, few (c .before), c .payload-of .ensures) })
+    (λ c. record { fits = omega (arith, few (c .before), c .payload-of .ensures, there (c .before), c .before .before .before .before .pre .0 .few) })
+    (λ c. let h = there (c .before .before) in let k = c .before .before .before .before .before .pre .0 .few in search needs)
     see-terms-requires
     returns-2
-    add-see-cut
-    see-cut-requires
+    (λ c. let h = there (c .before .before) in let k = c .before .before .before .before .before .pre .0 .few in search needs)
+    (λ c κs. (record { within = there (c .before .before); few = c .before .before .before .before .before .pre .0 .few }, c .if2 .left))
     returns-3)

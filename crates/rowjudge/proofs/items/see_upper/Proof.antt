@@ -13,10 +13,6 @@ use Rattle.rowjudge.proofs.items.see_upper.Tie as tie
 fault : (c : tie.After-fault-upper) → let a = c .before .before .before .args in c .fault-upper .result ≡ faultUpper (a .k) (a .lower) (wordAt (a .ws .now) (a .at))
 fault c = c .fault-upper .ensures ∙ rw (c .before .word-at .ensures)
 
-returns : tie.Need-returns
-unfolding stepOver
-returns c = rw (c .faulty .ensures) (rw (← fault (c .before .before), ne-eqb _ _ (c .before .if1 .taken)), λ z. absurd (c .before .if1 .taken z))
-
 returns-2 : tie.Need-returns-2
 unfolding stepOver
 returns-2 c =
@@ -27,13 +23,14 @@ returns-2 c =
     )
 
 pub see-upper-spec : {M : Type 1} → statement M
+unfolding stepOver
 see-upper-spec =
     tie.close
     (tie.spec
     (λ c κs. search needs)
     (λ c κs. search needs)
     (λ c κs. search needs)
-    returns
+    (λ c. rw (c .faulty .ensures) (rw (← fault (c .before .before), ne-eqb _ _ (c .before .if1 .taken)), λ z. absurd (c .before .if1 .taken z)))
     (λ c κs. search needs)
     (λ c κs. search needs)
     (λ c κs. search needs)

@@ -5,10 +5,6 @@ use Rattle.rowsystems.specs.Reading.{faultItem}
 use Rattle.rowreading.proofs.faults.fault_item.Statement.{statement}
 use Rattle.rowreading.proofs.faults.fault_item.Tie as tie
 
-returns : tie.Need-returns
-unfolding faultItem
-returns c = rw (← c .before .before .before .kind-of .ensures, ← c .before .before .payload-of .ensures, eq-eqb _ _ (c .before .if1 .taken)) (c .fault-lower .ensures)
-
 returns-2 : tie.Need-returns-2
 unfolding faultItem
 returns-2 c =
@@ -58,13 +54,14 @@ returns-6 c =
     rw (← kind-of .ensures, ← payload-of .ensures, ne-eqb _ _ (if1 .left), ne-eqb _ _ (if2 .left), ne-eqb _ _ (if3 .left), ne-eqb _ _ (c .before .if4 .left), ne-eqb _ _ (c .if5 .left))
 
 pub fault-item-spec : {M : Type 1} → statement M
+unfolding faultItem
 fault-item-spec =
     tie.close
     (tie.spec
     (λ c κs. search needs)
     (λ c κs. search needs)
     (λ c κs. search needs)
-    returns
+    (λ c. rw (← c .before .before .before .kind-of .ensures, ← c .before .before .payload-of .ensures, eq-eqb _ _ (c .before .if1 .taken)) (c .fault-lower .ensures))
     (λ c κs. search needs)
     returns-2
     (λ c κs. search needs)

@@ -5,13 +5,13 @@ use Rattle.rowsystems.specs.Reading.{faultNumber}
 use Rattle.rowreading.proofs.faults.fault_number.Statement.{statement}
 use Rattle.rowreading.proofs.faults.fault_number.Tie as tie
 
-returns : tie.Need-returns
-unfolding faultNumber
-returns c = rw (← c .before .kind-of .ensures, ne-eqb _ _ (c .if1 .taken))
-
-returns-2 : tie.Need-returns-2
-unfolding faultNumber
-returns-2 c = rw (← c .before .before .before .kind-of .ensures, eq-eqb _ _ (c .before .before .if1 .left), ← c .before .is-lowest .ensures) (c .fault-if .ensures)
-
 pub fault-number-spec : {M : Type 1} → statement M
-fault-number-spec = tie.close (tie.spec (λ c κs. search needs) returns (λ c κs. search needs) (λ c κs. search needs) returns-2)
+unfolding faultNumber
+fault-number-spec =
+    tie.close
+    (tie.spec
+    (λ c κs. search needs)
+    (λ c. rw (← c .before .kind-of .ensures, ne-eqb _ _ (c .if1 .taken)))
+    (λ c κs. search needs)
+    (λ c κs. search needs)
+    (λ c. rw (← c .before .before .before .kind-of .ensures, eq-eqb _ _ (c .before .before .if1 .left), ← c .before .is-lowest .ensures) (c .fault-if .ensures)))

@@ -5,14 +5,6 @@ use Rattle.rowsystems.specs.Reading.{faultResult}
 use Rattle.rowreading.proofs.faults.fault_result.Statement.{statement}
 use Rattle.rowreading.proofs.faults.fault_result.Tie as tie
 
-returns : tie.Need-returns
-unfolding faultResult
-returns c = rw (← c .before .kind-of .ensures, ne-eqb _ _ (c .if1 .taken))
-
-returns-2 : tie.Need-returns-2
-unfolding faultResult
-returns-2 c = rw (← c .before .before .before .kind-of .ensures, eq-eqb _ _ (c .before .before .if1 .left), ← c .before .payload-of .ensures, le-leb _ _ (c .if2 .taken))
-
 returns-3 : tie.Need-returns-3
 unfolding faultResult
 returns-3 c =
@@ -23,13 +15,14 @@ returns-3 c =
     rw (← kind-of .ensures, eq-eqb _ _ (if1 .left), ← payload-of .ensures, lt-leb _ _ (if2 .left), ← c .before .not-above .ensures) (c .fault-if .ensures)
 
 pub fault-result-spec : {M : Type 1} → statement M
+unfolding faultResult
 fault-result-spec =
     tie.close
     (tie.spec
     (λ c κs. search needs)
-    returns
+    (λ c. rw (← c .before .kind-of .ensures, ne-eqb _ _ (c .if1 .taken)))
     (λ c κs. search needs)
-    returns-2
+    (λ c. rw (← c .before .before .before .kind-of .ensures, eq-eqb _ _ (c .before .before .if1 .left), ← c .before .payload-of .ensures, le-leb _ _ (c .if2 .taken)))
     (λ c κs. search needs)
     (λ c κs. search needs)
     returns-3)

@@ -3,8 +3,10 @@ use borrow.Author.Needs.{needs}
 use Rattle.rowreading.proofs.faults.fault_row.Statement.{statement}
 use Rattle.rowreading.proofs.faults.fault_row.Tie as tie
 
-returns : tie.Need-returns
-returns c = rw (← c .before .payload-of .ensures) (c .fault-if .ensures)
-
 pub fault-row-spec : {M : Type 1} → statement M
-fault-row-spec = tie.close (tie.spec (λ c κs. search needs) (λ c κs. search needs) returns)
+fault-row-spec =
+    tie.close
+    (tie.spec
+    (λ c κs. search needs)
+    (λ c κs. search needs)
+    (λ c. rw (← c .before .payload-of .ensures) (c .fault-if .ensures)))

@@ -5,10 +5,6 @@ use Rattle.rowsystems.specs.Reading.{faultSource}
 use Rattle.rowreading.proofs.faults.fault_source.Statement.{statement}
 use Rattle.rowreading.proofs.faults.fault_source.Tie as tie
 
-returns : tie.Need-returns
-unfolding faultSource
-returns c = rw (← c .before .before .kind-of .ensures, eq-eqb _ _ (c .before .if1 .taken)) (c .fault-lower .ensures)
-
 returns-2 : tie.Need-returns-2
 unfolding faultSource
 returns-2 c =
@@ -26,20 +22,17 @@ returns-3 c =
     let payload-of = c .before .before .payload-of in
     rw (← kind-of .ensures, ne-eqb _ _ (if1 .left), eq-eqb _ _ (if2 .taken), ← payload-of .ensures, le-ltb _ _ (c .before .if3 .left)) (c .fault-if .ensures)
 
-returns-4 : tie.Need-returns-4
-unfolding faultSource
-returns-4 c = rw (← c .before .before .before .kind-of .ensures, ne-eqb _ _ (c .before .before .if1 .left), ne-eqb _ _ (c .before .if2 .left)) (c .fault-item .ensures)
-
 pub fault-source-spec : {M : Type 1} → statement M
+unfolding faultSource
 fault-source-spec =
     tie.close
     (tie.spec
     (λ c κs. search needs)
     (λ c κs. search needs)
-    returns
+    (λ c. rw (← c .before .before .kind-of .ensures, eq-eqb _ _ (c .before .if1 .taken)) (c .fault-lower .ensures))
     (λ c κs. search needs)
     returns-2
     (λ c κs. search needs)
     returns-3
     (λ c κs. search needs)
-    returns-4)
+    (λ c. rw (← c .before .before .before .kind-of .ensures, ne-eqb _ _ (c .before .before .if1 .left), ne-eqb _ _ (c .before .if2 .left)) (c .fault-item .ensures)))

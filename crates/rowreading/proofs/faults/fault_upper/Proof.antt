@@ -21,35 +21,20 @@ compared : (c : tie.After-signed-of2) →
 compared c =
     rw (back (c .before .signed-of .result) (c .before .signed-of .ok), back (c .signed-of2 .result) (c .signed-of2 .ok), c .before .signed-of .ensures, c .signed-of2 .ensures)
 
-returns : tie.Need-returns
-unfolding faultUpper
-returns c = rw (← c .before .kind-of .ensures, ne-eqb _ _ (c .if1 .taken))
-
-returns-2 : tie.Need-returns-2
-unfolding faultUpper
-returns-2 c = rw (← c .before .before .before .kind-of .ensures, eq-eqb _ _ (c .before .before .if1 .left), ← c .before .is-lowest .ensures, c .if2 .taken)
-
 -- the kind is right, and the number is in the range
 tested : (c : tie.After-signed-of) → (eqb (kind (c .before .before .before .before .before .args .w)) (c .before .before .before .before .before .args .k) ≡ true) × (tooLow Limit.range (c .before .before .before .before .before .args .w) ≡ false)
 tested c = (rw (← c .before .before .before .before .kind-of .ensures) (eq-eqb _ _ (c .before .before .before .if1 .left)), rw (← c .before .before .is-lowest .ensures) (c .before .if2 .left))
 
-returns-3 : tie.Need-returns-3
-unfolding faultUpper
-returns-3 c = let t = tested (c .before .before) in rw (t .0, t .1, sym (compared (c .before)) ∙ c .if3 .taken)
-
-returns-4 : tie.Need-returns-4
-unfolding faultUpper
-returns-4 c = let t = tested (c .before .before) in rw (t .0, t .1, sym (compared (c .before)) ∙ c .if3 .left)
-
 pub fault-upper-spec : {M : Type 1} → statement M
+unfolding faultUpper
 fault-upper-spec =
     tie.close
     (tie.spec
     (λ c κs. search needs)
-    returns
+    (λ c. rw (← c .before .kind-of .ensures, ne-eqb _ _ (c .if1 .taken)))
     (λ c κs. search needs)
-    returns-2
+    (λ c. rw (← c .before .before .before .kind-of .ensures, eq-eqb _ _ (c .before .before .if1 .left), ← c .before .is-lowest .ensures, c .if2 .taken))
     (λ c κs. search needs)
     (λ c κs. search needs)
-    returns-3
-    returns-4)
+    (λ c. let t = tested (c .before .before) in rw (t .0, t .1, sym (compared (c .before)) ∙ c .if3 .taken))
+    (λ c. let t = tested (c .before .before) in rw (t .0, t .1, sym (compared (c .before)) ∙ c .if3 .left)))

@@ -5,14 +5,13 @@ use Rattle.rowsystems.specs.Reading.{faultVariable}
 use Rattle.rowreading.proofs.faults.fault_variable.Statement.{statement}
 use Rattle.rowreading.proofs.faults.fault_variable.Tie as tie
 
-returns : tie.Need-returns
-unfolding faultVariable
-returns c = rw (← c .before .kind-of .ensures, ne-eqb _ _ (c .if1 .taken))
-
-returns-2 : tie.Need-returns-2
-unfolding faultVariable
-returns-2 c = rw (← c .before .before .before .kind-of .ensures, eq-eqb _ _ (c .before .before .if1 .left), ← c .before .payload-of .ensures) (c .fault-if .ensures)
-
 pub fault-variable-spec : {M : Type 1} → statement M
+unfolding faultVariable
 fault-variable-spec =
-    tie.close (tie.spec (λ c κs. search needs) returns (λ c κs. search needs) (λ c κs. search needs) returns-2)
+    tie.close
+    (tie.spec
+    (λ c κs. search needs)
+    (λ c. rw (← c .before .kind-of .ensures, ne-eqb _ _ (c .if1 .taken)))
+    (λ c κs. search needs)
+    (λ c κs. search needs)
+    (λ c. rw (← c .before .before .before .kind-of .ensures, eq-eqb _ _ (c .before .before .if1 .left), ← c .before .payload-of .ensures) (c .fault-if .ensures)))

@@ -14,13 +14,12 @@ no-fault : (b : Bool) → not b ≡ eqb (Fault.lowestNumber if b else Fault.none
 no-fault true = refl
 no-fault false = refl
 
-returns : tie.Need-returns
-unfolding faultNumber
-returns c = rw (← c .before .kind-of .ensures, ne-eqb _ _ (c .if1 .taken))
-
-returns-2 : tie.Need-returns-2
-unfolding faultNumber
-returns-2 c = rw (← c .before .before .kind-of .ensures, eq-eqb _ _ (c .before .if1 .left), ← c .is-lowest .ensures) (no-fault (c .is-lowest .result))
-
 pub is-number-spec : {M : Type 1} → statement M
-is-number-spec = tie.close (tie.spec (λ c κs. search needs) returns (λ c κs. search needs) returns-2)
+unfolding faultNumber
+is-number-spec =
+    tie.close
+    (tie.spec
+    (λ c κs. search needs)
+    (λ c. rw (← c .before .kind-of .ensures, ne-eqb _ _ (c .if1 .taken)))
+    (λ c κs. search needs)
+    (λ c. rw (← c .before .before .kind-of .ensures, eq-eqb _ _ (c .before .if1 .left), ← c .is-lowest .ensures) (no-fault (c .is-lowest .result))))

@@ -19,13 +19,16 @@ no-fault x n = go (leb n x) refl
     go true e = le-ltb x n (leb-true n x e)
     go false e = lt-ltb x n (omega (arith, leb-false n x e))
 
-returns : tie.Need-returns
-unfolding faultVariable
-returns c = rw (← c .before .kind-of .ensures, ne-eqb _ _ (c .if1 .taken))
-
 returns-2 : tie.Need-returns-2
 unfolding faultVariable
 returns-2 c = rw (← c .before .before .kind-of .ensures, eq-eqb _ _ (c .before .if1 .left), ← c .payload-of .ensures) (no-fault (c .payload-of .result) (c .before .before .before .args .n))
 
 pub is-variable-spec : {M : Type 1} → statement M
-is-variable-spec = tie.close (tie.spec (λ c κs. search needs) returns (λ c κs. search needs) returns-2)
+unfolding faultVariable
+is-variable-spec =
+    tie.close
+    (tie.spec
+    (λ c κs. search needs)
+    (λ c. rw (← c .before .kind-of .ensures, ne-eqb _ _ (c .if1 .taken)))
+    (λ c κs. search needs)
+    returns-2)

@@ -5,14 +5,6 @@ use Rattle.rowsystems.specs.Reading.{notAbove}
 use Rattle.rowreading.proofs.faults.not_above.Statement.{statement}
 use Rattle.rowreading.proofs.faults.not_above.Tie as tie
 
-returns : tie.Need-returns
-unfolding notAbove
-returns c = rw (← c .before .kind-of .ensures, ne-eqb _ _ (c .if1 .taken))
-
-returns-2 : tie.Need-returns-2
-unfolding notAbove
-returns-2 c = rw (← c .before .before .before .kind-of .ensures, eq-eqb _ _ (c .before .before .if1 .left), ← c .before .kind-of2 .ensures, ne-eqb _ _ (c .if2 .taken))
-
 returns-3 : tie.Need-returns-3
 unfolding notAbove
 returns-3 c =
@@ -35,13 +27,14 @@ returns-4 c =
     rw (← kind-of .ensures, eq-eqb _ _ (if1 .left), ← kind-of2 .ensures, eq-eqb _ _ (if2 .left), ← payload-of .ensures, ← payload-of2 .ensures, lt-leb _ _ (c .before .if3 .left), ← c .payload-of3 .ensures)
 
 pub not-above-spec : {M : Type 1} → statement M
+unfolding notAbove
 not-above-spec =
     tie.close
     (tie.spec
     (λ c κs. search needs)
-    returns
+    (λ c. rw (← c .before .kind-of .ensures, ne-eqb _ _ (c .if1 .taken)))
     (λ c κs. search needs)
-    returns-2
+    (λ c. rw (← c .before .before .before .kind-of .ensures, eq-eqb _ _ (c .before .before .if1 .left), ← c .before .kind-of2 .ensures, ne-eqb _ _ (c .if2 .taken)))
     (λ c κs. search needs)
     (λ c κs. search needs)
     returns-3

@@ -6,18 +6,6 @@ use Rattle.rowreading.specs.Item.{dueAfter, dueWith, itemTerms}
 use Rattle.rowreading.proofs.items.item_of.Statement.{statement}
 use Rattle.rowreading.proofs.items.item_of.Tie as tie
 
-returns : tie.Need-returns
-unfolding dueAfter dueWith itemTerms afterDue afterItem
-returns c = rw (← c .before .kind-of .ensures, eq-eqb _ _ (c .if1 .taken))
-
-returns-2 : tie.Need-returns-2
-unfolding dueAfter dueWith itemTerms afterDue afterItem
-returns-2 c = rw (← c .before .before .kind-of .ensures, ne-eqb _ _ (c .before .if1 .left), eq-eqb _ _ (c .if2 .taken))
-
-returns-3 : tie.Need-returns-3
-unfolding dueAfter dueWith itemTerms afterDue afterItem
-returns-3 c = rw (← c .before .before .before .kind-of .ensures, ne-eqb _ _ (c .before .before .if1 .left), ne-eqb _ _ (c .before .if2 .left), eq-eqb _ _ (c .if3 .taken))
-
 returns-4 : tie.Need-returns-4
 unfolding dueAfter dueWith itemTerms afterDue afterItem
 returns-4 c =
@@ -46,13 +34,14 @@ returns-6 c =
     rw (← kind-of .ensures, ne-eqb _ _ (if1 .left), ne-eqb _ _ (if2 .left), ne-eqb _ _ (if3 .left), ne-eqb _ _ (if4 .left), ne-eqb _ _ (c .before .if5 .left), ← c .payload-of .ensures)
 
 pub item-of-spec : {M : Type 1} → statement M
+unfolding dueAfter dueWith itemTerms afterDue afterItem
 item-of-spec =
     tie.close
     (tie.spec
     (λ c κs. search needs)
-    returns
-    returns-2
-    returns-3
+    (λ c. rw (← c .before .kind-of .ensures, eq-eqb _ _ (c .if1 .taken)))
+    (λ c. rw (← c .before .before .kind-of .ensures, ne-eqb _ _ (c .before .if1 .left), eq-eqb _ _ (c .if2 .taken)))
+    (λ c. rw (← c .before .before .before .kind-of .ensures, ne-eqb _ _ (c .before .before .if1 .left), ne-eqb _ _ (c .before .if2 .left), eq-eqb _ _ (c .if3 .taken)))
     returns-4
     returns-5
     (λ c κs. search needs)

@@ -5,9 +5,11 @@ use Rattle.rowreading.proofs.Steps.{word-step}
 use Rattle.rowreading.proofs.items.number_at.Statement.{statement}
 use Rattle.rowreading.proofs.items.number_at.Tie as tie
 
-returns : tie.Need-returns
-returns c = word-step faultNumber _ (c .before .before .word-at .ensures) (c .before .fault-number .ensures) (c .step-over .ensures)
-
 pub number-at-spec : {M : Type 1} → statement M
 number-at-spec =
-    tie.close (tie.spec (λ c κs. search needs) (λ c κs. search needs) (λ c κs. search needs) returns)
+    tie.close
+    (tie.spec
+    (λ c κs. search needs)
+    (λ c κs. search needs)
+    (λ c κs. search needs)
+    (λ c. word-step faultNumber _ (c .before .before .word-at .ensures) (c .before .fault-number .ensures) (c .step-over .ensures)))

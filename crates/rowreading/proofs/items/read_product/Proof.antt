@@ -25,18 +25,6 @@ first c =
     let p = c .before .before .before in
     and-then (result p) refl (c .before .if1 .left) (rw (c .variable-at .ensures) (first-factor (s .args .ws .now) (s .args .n) (step-over .result .at) (result p .inside)))
 
-returns : tie.Need-returns
-returns c = or-halted (result (c .before .before)) (c .if1 .taken)
-
-variable-at-requires : tie.Need-variable-at-requires
-variable-at-requires c κs = omega (arith, result (c .before .before) .inside, c .before .before .before .before .before .before .before .before .pre .few)
-
-returns-2 : tie.Need-returns-2
-returns-2 c = or-halted (first (c .before .before)) (c .if2 .taken)
-
-variable-at-requires-2 : tie.Need-variable-at-requires-2
-variable-at-requires-2 c κs = omega (arith, first (c .before .before) .inside, c .before .before .before .before .before .before .before .before .before .before .before .pre .few)
-
 returns-3 : tie.Need-returns-3
 returns-3 c =
     let s = c .before .before .before .before .before .before .before .before .before .before .before .before in
@@ -55,8 +43,8 @@ read-product-spec =
     (λ c κs. search needs)
     (λ c κs. search needs)
     (λ c κs. search needs)
-    returns
-    variable-at-requires
-    returns-2
-    variable-at-requires-2
+    (λ c. or-halted (result (c .before .before)) (c .if1 .taken))
+    (λ c κs. omega (arith, result (c .before .before) .inside, c .before .before .before .before .before .before .before .before .pre .few))
+    (λ c. or-halted (first (c .before .before)) (c .if2 .taken))
+    (λ c κs. omega (arith, first (c .before .before) .inside, c .before .before .before .before .before .before .before .before .before .before .before .pre .few))
     returns-3)

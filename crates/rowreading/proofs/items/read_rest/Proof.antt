@@ -31,10 +31,6 @@ returns-4 c =
     let s = c .before .before .before .before in
     rw (c .before .enum-told2 .given .1, c .number-at .ensures) (row-constant (s .args .ws .now) (s .args .n) (s .args .at) (s .pre .within))
 
-returns-5 : tie.Need-returns-5
-unfolding startDue dueWith moreSources
-returns-5 c = rw (c .before .enum-told3 .given .1) (c .read-product .ensures)
-
 returns-6 : tie.Need-returns-6
 unfolding startDue dueWith moreSources
 returns-6 c =
@@ -42,6 +38,7 @@ returns-6 c =
     rw (c .before .enum-told4 .given .1, c .step-over .ensures) (after-end (s .args .ws .now) (s .args .n) (s .args .at) (s .pre .within))
 
 pub read-rest-spec : {M : Type 1} → statement M
+unfolding startDue dueWith moreSources
 read-rest-spec =
     tie.close
     (tie.spec
@@ -60,5 +57,5 @@ read-rest-spec =
     returns-2
     returns-3
     returns-4
-    returns-5
+    (λ c. rw (c .before .enum-told3 .given .1) (c .read-product .ensures))
     returns-6)

@@ -21,12 +21,6 @@ variable c left =
 next : (c : tie.After-variable-at) → c .variable-at .result .number ≡ 0 → c .variable-at .result .at ≡ c .before .before .args .at + 1
 next c e = ap (λ (r : Step). r .at) (c .variable-at .ensures) ∙ stepped _ _ (ap (λ (r : Step). r .number) (sym (c .variable-at .ensures)) ∙ e)
 
-returns : tie.Need-returns
-returns c = (λ left. or-halted (variable (c .before .before) left) (c .if1 .taken), λ e. absurd (c .if1 .taken e))
-
-number-at-requires : tie.Need-number-at-requires
-number-at-requires c κs = omega (arith, variable (c .before .before) 0 .inside, next (c .before .before) (c .if1 .left), c .before .before .before .before .pre .few)
-
 returns-2 : tie.Need-returns-2
 returns-2 c =
     let p = c .before .before .before in
@@ -38,4 +32,11 @@ returns-2 c =
     )
 
 pub read-term-spec : {M : Type 1} → statement M
-read-term-spec = tie.close (tie.spec (λ c κs. search needs) returns (λ c. search needs) number-at-requires returns-2)
+read-term-spec =
+    tie.close
+    (tie.spec
+    (λ c κs. search needs)
+    (λ c. (λ left. or-halted (variable (c .before .before) left) (c .if1 .taken), λ e. absurd (c .if1 .taken e)))
+    (λ c. search needs)
+    (λ c κs. omega (arith, variable (c .before .before) 0 .inside, next (c .before .before) (c .if1 .left), c .before .before .before .before .pre .few))
+    returns-2)

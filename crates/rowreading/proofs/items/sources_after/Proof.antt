@@ -4,31 +4,8 @@ use Rattle.rowreading.specs.Item.{moreSources}
 use Rattle.rowreading.proofs.items.sources_after.Statement.{statement}
 use Rattle.rowreading.proofs.items.sources_after.Tie as tie
 
-returns : tie.Need-returns
-unfolding moreSources
-returns c = rw (c .enum-told .given .1)
-
-returns-2 : tie.Need-returns-2
-unfolding moreSources
-returns-2 c = rw (c .enum-told2 .given .1)
-
-returns-3 : tie.Need-returns-3
-unfolding moreSources
-returns-3 c = rw (c .enum-told3 .given .1)
-
-returns-4 : tie.Need-returns-4
-unfolding moreSources
-returns-4 c = rw (c .enum-told4 .given .1)
-
-returns-5 : tie.Need-returns-5
-unfolding moreSources
-returns-5 c = rw (c .enum-told5 .given .1)
-
-returns-6 : tie.Need-returns-6
-unfolding moreSources
-returns-6 c = rw (c .enum-told6 .given .1)
-
 pub sources-after-spec : {M : Type 1} → statement M
+unfolding moreSources
 sources-after-spec =
     tie.close
     (tie.spec
@@ -38,9 +15,9 @@ sources-after-spec =
     (λ c. search needs)
     (λ c. search needs)
     (λ c. search needs)
-    returns
-    returns-2
-    returns-3
-    returns-4
-    returns-5
-    returns-6)
+    (λ c. rw (c .enum-told .given .1))
+    (λ c. rw (c .enum-told2 .given .1))
+    (λ c. rw (c .enum-told3 .given .1))
+    (λ c. rw (c .enum-told4 .given .1))
+    (λ c. rw (c .enum-told5 .given .1))
+    (λ c. rw (c .enum-told6 .given .1)))

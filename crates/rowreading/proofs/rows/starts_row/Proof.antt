@@ -5,17 +5,12 @@ use Rattle.rowsystems.specs.OneWord.{startsRow}
 use Rattle.rowreading.proofs.rows.starts_row.Statement.{statement}
 use Rattle.rowreading.proofs.rows.starts_row.Tie as tie
 
-returns : tie.Need-returns
-unfolding startsRow
-returns c = rw (← c .before .kind-of .ensures, eq-eqb _ _ (c .if1 .taken))
-
-returns-2 : tie.Need-returns-2
-unfolding startsRow
-returns-2 c = rw (← c .before .before .kind-of .ensures, ne-eqb _ _ (c .before .if1 .left), eq-eqb _ _ (c .if2 .taken))
-
-returns-3 : tie.Need-returns-3
-unfolding startsRow
-returns-3 c = rw (← c .before .before .kind-of .ensures, ne-eqb _ _ (c .before .if1 .left), ne-eqb _ _ (c .if2 .left))
-
 pub starts-row-spec : {M : Type 1} → statement M
-starts-row-spec = tie.close (tie.spec (λ c κs. search needs) returns returns-2 returns-3)
+unfolding startsRow
+starts-row-spec =
+    tie.close
+    (tie.spec
+    (λ c κs. search needs)
+    (λ c. rw (← c .before .kind-of .ensures, eq-eqb _ _ (c .if1 .taken)))
+    (λ c. rw (← c .before .before .kind-of .ensures, ne-eqb _ _ (c .before .if1 .left), eq-eqb _ _ (c .if2 .taken)))
+    (λ c. rw (← c .before .before .kind-of .ensures, ne-eqb _ _ (c .before .if1 .left), ne-eqb _ _ (c .if2 .left))))

@@ -5,13 +5,11 @@ use Rattle.rowsystems.specs.OneWord.{startsSum}
 use Rattle.rowreading.proofs.rows.starts_sum.Statement.{statement}
 use Rattle.rowreading.proofs.rows.starts_sum.Tie as tie
 
-returns : tie.Need-returns
-unfolding startsSum
-returns c = rw (← c .before .kind-of .ensures, eq-eqb _ _ (c .if1 .taken))
-
-returns-2 : tie.Need-returns-2
-unfolding startsSum
-returns-2 c = rw (← c .before .kind-of .ensures, ne-eqb _ _ (c .if1 .left))
-
 pub starts-sum-spec : {M : Type 1} → statement M
-starts-sum-spec = tie.close (tie.spec (λ c κs. search needs) returns returns-2)
+unfolding startsSum
+starts-sum-spec =
+    tie.close
+    (tie.spec
+    (λ c κs. search needs)
+    (λ c. rw (← c .before .kind-of .ensures, eq-eqb _ _ (c .if1 .taken)))
+    (λ c. rw (← c .before .kind-of .ensures, ne-eqb _ _ (c .if1 .left))))

@@ -18,9 +18,6 @@ use Rattle.sheets.proofs.lines.put_cell.Tie as tie
 number : (c : tie.After-signed-of) → toZ w64 (ofZ w64 (c .signed-of .result)) ≡ signed (c .before .before .before .args .number)
 number c = toZ-ofZ (record { sfits = c .signed-of .ok }) ∙ c .signed-of .ensures
 
-put-number-requires : tie.Need-put-number-requires
-put-number-requires c κs = (omega (arith, c .before .before .before .pre .0), rw (number c) (number-fits _ (signed-near (c .before .before .before .args .number))))
-
 put-left-requires : tie.Need-put-left-requires
 put-left-requires c κs =
     let s = c .before .before .before .before .before .before .before .before .before .before .before .before .before .before .before in
@@ -39,7 +36,7 @@ put-cell-spec =
     tie.close
     (tie.spec
     (λ c κs. search needs)
-    put-number-requires
+    (λ c κs. (omega (arith, c .before .before .before .pre .0), rw (number c) (number-fits _ (signed-near (c .before .before .before .args .number)))))
     (λ c. search needs)
     (λ c κs. search needs)
     (λ c. search needs)

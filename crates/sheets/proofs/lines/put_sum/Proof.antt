@@ -24,9 +24,6 @@ constant : (c : tie.After-signed-of) →
     toZ w64 (ofZ w64 (c .signed-of .result)) ≡ signed (wordAt (s .args .ws .now) (2 * s .args .n))
 constant c = toZ-ofZ (record { sfits = c .signed-of .ok }) ∙ c .signed-of .ensures ∙ rw (c .before .word-at .ensures)
 
-put-right-requires : tie.Need-put-right-requires
-put-right-requires c κs = let s = c .before .before .before in (omega (arith, s .pre .0), rw alone (row-fits (s .args .k) (s .pre .1)))
-
 put-number-requires : tie.Need-put-number-requires
 put-number-requires c κs =
     let s = c .before .before .before .before .before .before .before .before .before .before .before .before .before .before .before .before .before .before .before .before .before in
@@ -56,7 +53,7 @@ pub put-sum-spec : {M : Type 1} → statement M
 put-sum-spec =
     tie.close
     (tie.spec
-    put-right-requires
+    (λ c κs. let s = c .before .before .before in (omega (arith, s .pre .0), rw alone (row-fits (s .args .k) (s .pre .1))))
     (λ c. search needs)
     (λ c κs. search needs)
     (λ c. search needs)

@@ -4,11 +4,10 @@ use borrow.Author.Needs.{needs}
 use Rattle.sheets.proofs.lines.room_after.Statement.{statement}
 use Rattle.sheets.proofs.lines.room_after.Tie as tie
 
-returns : tie.Need-returns
-returns c = room-some _ (c .if1 .taken)
-
-returns-2 : tie.Need-returns-2
-returns-2 c = room-none _ (c .if1 .left)
-
 pub room-after-spec : {M : Type 1} → statement M
-room-after-spec = tie.close (tie.spec (λ c. search needs) returns returns-2)
+room-after-spec =
+    tie.close
+    (tie.spec
+    (λ c. search needs)
+    (λ c. room-some _ (c .if1 .taken))
+    (λ c. room-none _ (c .if1 .left)))
