@@ -20,7 +20,7 @@ use Rattle.sharing.specs.SharedSolutions.{Passes, SatisfiesModel}
 use Rattle.sharing.proofs.Accepts.{passes-read}
 use Rattle.sharing.proofs.Theorem.{fill-counts, fill-satisfies, fill-completes, only-fill}
 use Rattle.sharing.proofs.Judged.{judge-model-says}
-use Rattle.translation.proofs.Refusals.{clash}
+use Rattle.checking.proofs.Answers.{clash}
 use Rattle.filling.specs.Satisfied.{Satisfied}
 use Rattle.filling.specs.HandsOver.{HandsOver}
 

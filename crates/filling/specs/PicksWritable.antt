@@ -8,7 +8,7 @@ use Rattle.words.specs.Variables.{variables}
 use Rattle.words.specs.Small.{Small}
 use Rattle.modelreading.specs.declared.Read.{Read}
 use Rattle.rules.specs.Translation.{picks}
-use Rattle.translation.specs.ModelBounds.{ModelBounds}
+use Rattle.checking.specs.ModelBounds.{ModelBounds}
 use Rattle.picking.specs.Picked.{Ranged}
 
 abbrev pub PicksWritable : List ℕ → List ℕ → Read → List ℤ → List ℤ → List ℕ → List ℤ → ℕ → Type 0

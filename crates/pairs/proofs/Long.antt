@@ -19,7 +19,7 @@ use Rattle.rules.specs.Check.{checkFault, checkFaultIn, check, checkIn}
 use Rattle.rules.specs.Translate.{translateFaultIn, translate, translateIn, translated, translatedIn}
 use Rattle.rules.specs.Fill.{fillFaultIn, fill, fillIn, filled, filledIn}
 use Rattle.sharing.specs.SharedSolutions.{Passes}
-use Rattle.translation.proofs.Refusals.{clash}
+use Rattle.checking.proofs.Answers.{clash}
 use Rattle.pairs.specs.Pair.{separates, before, modelOf, pairFault}
 use Rattle.pairs.specs.Calls.{pairCheck, pairTranslate, pairTranslated, pairJudge, pairFill, pairFilled}
 use Rattle.pairs.specs.Copied.{lengthFault, copyFault}

@@ -36,7 +36,7 @@ use Rattle.sharing.specs.SharedSolutions.{Passes}
 use Rattle.sharing.proofs.Accepts.{Fine, passes-fine, passes-read}
 use Rattle.sharing.proofs.Assembly.{auxiliariesFrom, AllFormed}
 use Rattle.sharing.proofs.Theorem.{well-formed}
-use Rattle.translation.proofs.Kept.{head-at, summed-at}
+use Rattle.checking.proofs.Kept.{head-at, summed-at}
 use Rattle.reasons.specs.Reason.{Reason, none, explained, inBlock, firstFailing}
 use Rattle.reasons.proofs.Judged.{explainedFrom}
 use Rattle.reasoning.specs.Walks.{PassedModel, ReadsBack, Layable, Judged, Stops, saidOf, rowsAt}

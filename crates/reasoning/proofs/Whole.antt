@@ -12,39 +12,31 @@ use borrow.Author.Tests.{eq-eqb, ne-eqb}
 use Rattle.integers.specs.Terms.{value}
 use Rattle.integers.specs.declared.Bounds.{Bounds}
 use Rattle.words.specs.Variables.{variables}
-use Rattle.words.specs.Refusal.{_at-place_, _else-refuse_}
-use Rattle.words.specs.Answer.{Answer, refused, counts, holds, isHolds, _else-answer_}
+use Rattle.words.specs.Refusal.{_else-refuse_}
+use Rattle.words.specs.Answer.{Answer, refused, holds, isHolds, _else-answer_}
 use Rattle.words.specs.Judge.{firstOutOfBounds}
 use Rattle.words.specs.Small.{Small}
 use Rattle.words.proofs.Answers.{is-holds}
-use Rattle.words.proofs.Reading as Reading
 use Rattle.variables.proofs.After.{next}
 use Rattle.variables.proofs.Small.{small}
 use Rattle.rules.specs.Translation.{auxiliaries, systemWords}
-use Rattle.rules.specs.Check.{checkFault, check, checkIn}
+use Rattle.rules.specs.Check.{check}
 use Rattle.rules.specs.Fill.{filledCount}
 use Rattle.sharing.specs.SharedSolutions.{Passes}
-use Rattle.translation.proofs.Refusals as Refusals
-use Rattle.translation.proofs.Refusals.{some-refusal, refused-first}
+use Rattle.checking.proofs.Answers.{check-stands, refused-first}
 use Rattle.reasons.specs.Reason.{Reason, refuse, none, explained, answerOr, firstFailing, reasonFault, reason}
 use Rattle.reasons.proofs.Judged.{all-bounds}
 use Rattle.reasoning.proofs.Counted.{outside-same, outside-here, outside-then, answer-here}
 
 -- check's refusal stands
 module _ (ws : List ℕ) (vs : List ℤ) where
-  faulty : {n p : ℕ} → refused n p ≡ check ws → (reasonFault ws vs ≡ (n at-place p)) × (n ≡ 0 → ⊥)
-  unfolding checkIn reasonFault _else-answer_ _else-refuse_
-  faulty {n} {p} e =
-      let h = some-refusal _ _ _ _ _ (checkFault ws .number) (checkFault ws .place) e in
-      (rw (h .0, h .1) (sym (Reading.some-fault (checkFault ws .number) (checkFault ws .place) _ (h .2))), λ z. h .2 (sym (h .0) ∙ z))
-
   pub stands : {n p : ℕ} → refused n p ≡ check ws → refuse n p ≡ reason ws vs
-  unfolding reason _else-answer_
+  unfolding reason reasonFault _else-answer_
   stands {n} {p} e =
-      let f = faulty e in
+      let h = check-stands ws e in
       let F = firstOutOfBounds (value vs) 0 (variables ws ++ auxiliaries ws) holds in
       let X = firstFailing (value (take (length (variables ws)) vs)) (value vs) 0 0 (explained ws) in
-      rw (f .0) (ap (λ (a : Answer). answerOr a X) (refused-first n p F (f .1)))
+      rw (h .1) (ap (λ (a : Answer). answerOr a X) (refused-first n p F (h .0)))
 
 module _ (ws : List ℕ) (passes : Passes ws) (vs : List ℤ) where
   abbrev n : ℕ
@@ -108,10 +100,3 @@ module _ (ws : List ℕ) (passes : Passes ws) (vs : List ℤ) where
           values-small =
               let q = all-bounds ws passes in
               small (systemWords ws) vs (counted ∙ sym (length-append (variables ws) (auxiliaries ws)) ∙ ap length q) (ap (λ (l : List Bounds). firstOutOfBounds (value vs) 0 l holds) (sym q) ∙ none-outside)
-
--- ---- check's counts
-
--- check's counts: the model passes, and how many variables and auxiliaries there are
-pub counts-are : (ws : List ℕ) {v c a r w : ℕ} → counts v c a r w ≡ check ws → Passes ws × (v ≡ length (variables ws)) × (a ≡ length (auxiliaries ws))
-unfolding checkIn _else-answer_
-counts-are ws e = let p = Refusals.counted ws e .0 in let g = rw p at e in (p, cc, cc)

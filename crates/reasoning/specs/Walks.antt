@@ -36,7 +36,7 @@ use Rattle.linearsums.specs.Places.{SumsKept}
 use Rattle.linearsums.specs.Sum.{Summed}
 use Rattle.encodings.specs.Uses.{sharedBy, Recorded}
 use Rattle.blocks.specs.Coded.{constraintOf, blockAt}
-use Rattle.translation.specs.ModelBounds.{ModelBounds, modelSums}
+use Rattle.checking.specs.ModelBounds.{ModelBounds, modelSums}
 use Rattle.reasoning.specs.declared.Said.{Said}
 use Rattle.reasoning.specs.declared.Stopped.{Stopped}
 

@@ -21,17 +21,16 @@ use Rattle.words.specs.Variables.{variables}
 use Rattle.words.specs.Refusal.{_at-place_, accepted, _else-refuse_, roomFault}
 use Rattle.words.specs.declared.Refusal.{Refusal}
 use Rattle.words.specs.Answer.{Answer, refused, written, _else-answer_}
-use Rattle.words.proofs.Reading as Reading
 use Rattle.words.proofs.Sources.{Ordered}
 use Rattle.models.proofs.Accepted.{ordered}
 use Rattle.modelreading.specs.Seen as Seen
 use Rattle.modelreading.specs.declared.Read.{Read}
-use Rattle.rules.specs.Check.{checkFault, check, checkIn}
+use Rattle.rules.specs.Check.{check}
 use Rattle.rules.specs.Translation.{bounds}
 use Rattle.sharing.specs.SharedSolutions.{Passes}
 use Rattle.sharing.proofs.Accepts.{passes-read}
-use Rattle.translation.proofs.Kept.{Kept}
-use Rattle.translation.proofs.Refusals.{refused-first, some-refusal}
+use Rattle.checking.proofs.Kept.{Kept}
+use Rattle.checking.proofs.Answers.{refused-first, check-stands}
 use Rattle.extremes.specs.Bounded.{boundsOf}
 use Rattle.rules.specs.Shared.{keep}
 use Rattle.solutions.specs.Lists.{valueLists, listCount}
@@ -200,7 +199,5 @@ module _ (ws : List ℕ) (out : List ℤ) where
   refuses {n} {p} f e = (rw e (refused-first n p _ f), rw (e, ne-eqb n 0 f))
 
   pub stands : {n p : ℕ} → refused n p ≡ check ws → Gives ws out (refused n p) out
-  unfolding checkIn solutionsFault _else-answer_ _else-refuse_
-  stands {n} {p} e =
-      let h = some-refusal _ _ _ _ _ (checkFault ws .number) (checkFault ws .place) e in
-      refuses (λ z. h .2 (sym (h .0) ∙ z)) (rw (h .0, h .1) (sym (Reading.some-fault (checkFault ws .number) (checkFault ws .place) _ (h .2))))
+  unfolding solutionsFault
+  stands e = let h = check-stands ws e in refuses (h .0) (h .1 _)

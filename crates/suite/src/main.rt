@@ -3,6 +3,7 @@
 // Of a text each word is a byte; of a word above 255 the lowest byte counts.
 // A call that writes is lent the front of a longer list, as long as the room; what it may not write is looked at afterwards.
 use bitform::bit_form;
+use checking::check;
 use filling::fill;
 use input::Head;
 use input::next_head;
@@ -32,7 +33,6 @@ use rowjudge::judge_rows;
 use sheets::sheet;
 use solutions::solutions;
 use texts::read_text;
-use translation::check;
 use translation::translate;
 
 mod input;

@@ -1,8 +1,4 @@
--- Laws for proofs about check and translate.
-pub mod Costs
-pub mod Uses
-pub mod Kept
-pub mod CheckWalk
+-- Laws for proofs about translate.
 pub mod Tail
 pub mod WriteWalk
 pub mod Over

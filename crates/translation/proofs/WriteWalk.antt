@@ -22,8 +22,8 @@ use Rattle.encodings.specs.Uses.{sharedBy, Recorded}
 use Rattle.encodings.proofs.Record.{none-many, recorded-none, recorded-after, length-after}
 use Rattle.sharing.specs.SharedSolutions.{Passes}
 use Rattle.sharing.proofs.Accepts.{Fine, passes-fine}
-use Rattle.translation.specs.Walk.{allBlocks}
-use Rattle.translation.specs.ModelBounds.{ModelBounds}
+use Rattle.translation.specs.Writable.{allBlocks}
+use Rattle.checking.specs.ModelBounds.{ModelBounds}
 use Rattle.blocks.proofs.OneBlock.{Told}
 
 -- the blocks of the first k constraints are written, up to place `at` of the output; the next auxiliary is `first`, and d is the record

@@ -1,5 +1,3 @@
--- What the contracts cite: the answers of check and translate, demand 3 of what translate wrote; and what only internal contracts cite, Walk and ModelBounds.
-pub mod Checked
+-- What the contracts cite: demand 3 of what translate wrote; and what only internal contracts cite, Writable.
 pub mod Shares
-pub mod Walk
-pub mod ModelBounds
+pub mod Writable

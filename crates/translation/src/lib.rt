@@ -1,11 +1,10 @@
-// Check and translate: what a model's row system needs, and its words.
+// Translate: the words of a model's row system.
 ghost use mathlib.Core.Path.{_≡_};
 ghost use lib.ListN.{length};
 ghost use Rattle.words.specs.Written.{wrote};
-ghost use Rattle.rules.specs.Check.{check as checkAnswer};
 ghost use Rattle.rules.specs.Translate.{translate as translateAnswer, translated};
-ghost use Rattle.translation.specs.Checked.{checked};
 ghost use Rattle.translation.specs.Shares.{Shares};
+use checking::Checked;
 use checking::check_read;
 use checking::model_bounds;
 use modelreading::read_model;
@@ -14,59 +13,7 @@ use words::Written;
 use words::fault;
 use writing::write_system;
 
-pub mod checking;
 mod writing;
-
-// What check answers.
-pub enum Checked {
-    Refused(Refusal),
-    // products count as rows; the words that translate needs
-    Counts {
-        variables: usize,
-        constraints: usize,
-        auxiliaries: usize,
-        rows: usize,
-        words: usize,
-    },
-}
-
-// What one constraint costs: its fault, 0 for none, and what its block counts.
-pub struct Cost {
-    pub fault: u32,
-    pub auxiliaries: usize,
-    pub rows: usize,
-    pub words: usize,
-}
-
-// What the model needs, or its first fault of 1 to 14 and 18.
-pub fn check(ws: &[u32]) -> Checked
-    ensures { λ r. ⌜ checked r ≡ checkAnswer (now (ws .entry)) ⌝ }
-{
-    let mut heads = [0usize; 256];
-    let read = read_model(ws, &mut heads);
-    if read.number != fault::NONE {
-        return Checked::Refused(Refusal {
-            number: read.number,
-            place: read.place,
-        });
-    }
-    let mut lowers = [0i64; 256];
-    let mut uppers = [0i64; 256];
-    let mut uses = [0usize; 256];
-    let mut lows = [0i64; 256];
-    let mut highs = [0i64; 256];
-    model_bounds(
-        ws,
-        &heads,
-        read,
-        &mut lowers,
-        &mut uppers,
-        &mut uses,
-        &mut lows,
-        &mut highs,
-    );
-    check_read(ws, &heads, read, &lowers, &uppers, &uses, &lows, &highs)
-}
 
 // Writes the words of the row system to the front of the output; a refusal changes nothing.
 pub fn translate(ws: &[u32], out: &mut [u32]) -> Written

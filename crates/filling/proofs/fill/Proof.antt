@@ -1,10 +1,10 @@
 -- A refusal of the reading or of the check stands; else what comes after the check.
 use borrow.Author.Needs.{needs}
-use Rattle.translation.specs.Checked.{checked}
-use Rattle.translation.proofs.Refusals.{read-refused}
+use Rattle.checking.specs.Checked.{checked}
+use Rattle.checking.proofs.Answers.{counted, read-refused}
 use Rattle.filling.specs.Filled.{handed}
 use Rattle.filling.proofs.Answers.{with-hands-over}
-use Rattle.filling.proofs.Promise.{counted, stands}
+use Rattle.filling.proofs.Promise.{stands}
 use Rattle.filling.proofs.fill.Statement.{statement}
 use Rattle.filling.proofs.fill.Tie as tie
 

@@ -9,7 +9,7 @@ use Rattle.words.specs.Verdict.{verdict}
 use Rattle.sharing.proofs.Accepts.{passes-read}
 use Rattle.sharing.proofs.Theorem.{few-in-all}
 use Rattle.sharing.proofs.Judged.{judge-model-says}
-use Rattle.translation.proofs.Refusals.{clash}
+use Rattle.checking.proofs.Answers.{clash}
 use Rattle.filling.specs.Filled.{handed}
 use Rattle.filling.proofs.Answers.{wrong-count, too-short, held, not-held}
 use Rattle.filling.proofs.fill_passed.Statement.{statement}

@@ -13,7 +13,7 @@ use Rattle.rules.specs.Translation.{picks}
 use Rattle.encodings.specs.Uses.{sharedBy}
 use Rattle.picking.specs.Picked.{picksFrom}
 use Rattle.picking.proofs.Picks.{Filling, begun, here-ranged, picked, place-le, ended, picks-from}
-use Rattle.translation.proofs.Kept.{few-constraints, none-left, head-inside, head-at}
+use Rattle.checking.proofs.Kept.{few-constraints, none-left, head-inside, head-at}
 use Rattle.encodings.proofs.Record.{placed-record}
 use Rattle.filling.proofs.Ranges.{block-picks}
 use Rattle.filling.proofs.write_picks.Statement.{statement}

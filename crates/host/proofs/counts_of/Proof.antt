@@ -1,6 +1,6 @@
 -- Case by case.
 use borrow.Author.Needs.{needs}
-use Rattle.translation.specs.Checked.{checked}
+use Rattle.checking.specs.Checked.{checked}
 use Rattle.host.specs.Structs.{countsOf}
 use Rattle.host.proofs.counts_of.Statement.{statement}
 use Rattle.host.proofs.counts_of.Tie as tie

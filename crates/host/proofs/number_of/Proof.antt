@@ -1,7 +1,7 @@
 -- Case by case.
 use borrow.Author.Needs.{needs}
 use Rattle.words.specs.Answer.{refusalNumber}
-use Rattle.translation.specs.Checked.{checked}
+use Rattle.checking.specs.Checked.{checked}
 use Rattle.host.proofs.number_of.Statement.{statement}
 use Rattle.host.proofs.number_of.Tie as tie
 

@@ -3,7 +3,7 @@ use mathlib.Core.Path.{refl, sym, ap, _∙_}
 use native.Mathlib.Omega.{arith}
 use borrow.Author.Needs.{needs}
 use Rattle.rules.specs.Check.{check}
-use Rattle.translation.specs.Checked.{checked}
+use Rattle.checking.specs.Checked.{checked}
 use Rattle.pairs.proofs.Front.{front, front-length, front-fits}
 use Rattle.pairs.proofs.Long.{check-refused, check-copied}
 use Rattle.pairs.proofs.pair_check.Statement.{statement}

@@ -6,7 +6,7 @@ use native.Mathlib.Omega.{arith}
 use borrow.Author.Needs.{needs}
 use lib.ListN.{length}
 use Rattle.rules.specs.Fill.{fill, filled}
-use Rattle.translation.proofs.Refusals.{clash}
+use Rattle.checking.proofs.Answers.{clash}
 use Rattle.filling.specs.Filled.{handed}
 use Rattle.pairs.proofs.Front.{front, front-length, front-fits}
 use Rattle.pairs.proofs.Long.{fill-refused, fill-copied, none-passes}

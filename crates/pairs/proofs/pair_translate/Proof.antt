@@ -7,7 +7,7 @@ use borrow.Author.Needs.{needs}
 use lib.ListN.{length}
 use Rattle.words.specs.Written.{wrote}
 use Rattle.rules.specs.Translate.{translate, translated}
-use Rattle.translation.proofs.Refusals.{clash}
+use Rattle.checking.proofs.Answers.{clash}
 use Rattle.pairs.proofs.Front.{front, front-length, front-fits}
 use Rattle.pairs.proofs.Long.{translate-refused, translate-copied}
 use Rattle.pairs.proofs.pair_translate.Statement.{statement}

@@ -1,8 +1,8 @@
 -- A refusal of the reading or of the check stands; else what comes after the check.
-use Rattle.translation.specs.Checked.{checked}
-use Rattle.translation.proofs.Refusals.{read-refused}
+use Rattle.checking.specs.Checked.{checked}
+use Rattle.checking.proofs.Answers.{counted, read-refused}
 use Rattle.reasoning.specs.Told.{told}
-use Rattle.reasoning.proofs.Whole.{stands, counts-are}
+use Rattle.reasoning.proofs.Whole.{stands}
 use borrow.Author.Needs.{needs}
 use Rattle.reasoning.proofs.reason.Statement.{statement}
 use Rattle.reasoning.proofs.reason.Tie as tie
@@ -16,7 +16,7 @@ returns c =
 reason-passed-requires : tie.Need-reason-passed-requires
 unfolding checked
 reason-passed-requires c κs =
-    let p = counts-are (c .before .before .before .before .before .before .before .before .before .before .before .before .before .before .before .before .before .before .before .before .before .before .before .before .before .before .before .before .before .before .before .before .before .args .ws .now) (rw (c .before .before .before .before .before .before .before .auxiliaries .given .1) at (c .before .before .before .before .before .before .before .before .before .check-read .ensures)) in
+    let p = counted (c .before .before .before .before .before .before .before .before .before .before .before .before .before .before .before .before .before .before .before .before .before .before .before .before .before .before .before .before .before .before .before .before .before .args .ws .now) (rw (c .before .before .before .before .before .before .before .auxiliaries .given .1) at (c .before .before .before .before .before .before .before .before .before .check-read .ensures)) in
     (c .before .before .before .before .before .before .before .before .before .before .before .before .before .before .before .before .before .before .before .before .before .model-bounds .ensures .0, c .before .before .before .before .before .before .before .before .before .before .before .before .before .before .before .before .before .before .before .before .before .model-bounds .ensures .1, p .0, p .2)
 
 returns-2 : tie.Need-returns-2

@@ -1,7 +1,7 @@
 -- A refusal of check stands; else what comes after it.
 use borrow.Author.Needs.{needs}
-use Rattle.translation.specs.Checked.{checked}
-use Rattle.translation.proofs.Refusals.{counted}
+use Rattle.checking.specs.Checked.{checked}
+use Rattle.checking.proofs.Answers.{counted}
 use Rattle.solutions.specs.Found.{found}
 use Rattle.solutions.proofs.All.{stands}
 use Rattle.solutions.proofs.solutions.Statement.{statement}

@@ -7,7 +7,7 @@ use Rattle.words.specs.Variables.{variables}
 use Rattle.models.proofs.Accepted.{few-words}
 use Rattle.modelreading.specs.Seen.{Seen}
 use Rattle.modelreading.proofs.Heads.{front-inside}
-use Rattle.translation.proofs.Kept.{Kept, kept}
+use Rattle.checking.proofs.Kept.{Kept, kept}
 use Rattle.solutions.specs.Found.{found}
 use Rattle.solutions.specs.Walk.{boundsTo}
 use Rattle.solutions.proofs.All.{seen-of, too-many-variables, too-many-lists, kept-list, sized}

@@ -6,14 +6,15 @@ use borrow.Author.Needs.{needs}
 use Rattle.words.specs.Written.{wrote}
 use Rattle.rules.specs.Translation.{systemWords}
 use Rattle.sharing.specs.SharedSolutions.{Passes}
-use Rattle.translation.specs.Checked.{checked}
-use Rattle.translation.proofs.Refusals.{counted, stands, too-short, writes, read-refused}
+use Rattle.checking.specs.Checked.{checked}
+use Rattle.checking.proofs.Answers.{counted, read-refused}
+use Rattle.translation.proofs.Refusals.{stands, too-short, writes}
 use Rattle.translation.proofs.translate.Statement.{statement}
 use Rattle.translation.proofs.translate.Tie as tie
 
 passed : (c : tie.After-words) → Passes (c .before .before .before .before .before .before .before .before .before .before .before .before .before .before .before .before .before .before .before .before .before .before .before .before .before .before .before .args .ws .now) × (c .words .given .0 .1 .1 .1 .1 .0 ≡ length (systemWords (c .before .before .before .before .before .before .before .before .before .before .before .before .before .before .before .before .before .before .before .before .before .before .before .before .before .before .before .args .ws .now)))
 unfolding checked
-passed c = counted (c .before .before .before .before .before .before .before .before .before .before .before .before .before .before .before .before .before .before .before .before .before .before .before .before .before .before .before .args .ws .now) (rw (c .words .given .1) at (c .before .before .check-read .ensures))
+passed c = let p = counted (c .before .before .before .before .before .before .before .before .before .before .before .before .before .before .before .before .before .before .before .before .before .before .before .before .before .before .before .args .ws .now) (rw (c .words .given .1) at (c .before .before .check-read .ensures)) in (p .0, p .3)
 
 returns : tie.Need-returns
 unfolding wrote

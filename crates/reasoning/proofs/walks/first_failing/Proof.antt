@@ -6,7 +6,7 @@ use Prim.Native.Nat.{_+_, _<_}
 use Rattle.words.specs.Word.{wordAt}
 use Rattle.words.proofs.Reading.{tail-is}
 use Rattle.models.specs.Model.{headed, builtin}
-use Rattle.translation.proofs.Kept.{few-constraints, head-inside, head-at}
+use Rattle.checking.proofs.Kept.{few-constraints, head-inside, head-at}
 use Rattle.reasoning.specs.Told.{told}
 use Rattle.reasoning.proofs.Walk.{sources-length, sources-small}
 use borrow.Author.Needs.{needs}

@@ -12,7 +12,7 @@ use Rattle.rules.specs.Shared.{choice}
 use Rattle.rules.specs.Translation.{blockOf}
 use Rattle.extremes.specs.Bounded.{boundsOf}
 use Rattle.encodings.specs.Uses.{sharedBy}
-use Rattle.translation.proofs.Kept.{few-constraints, none-left, head-inside, head-at}
+use Rattle.checking.proofs.Kept.{few-constraints, none-left, head-inside, head-at}
 use Rattle.encodings.proofs.Record.{placed-record}
 use Rattle.reasoning.proofs.Walk.{layable, room-after, own-there, Walking, walking, walk-ended, walk-stopped, walk-on}
 use borrow.Author.Needs.{needs}

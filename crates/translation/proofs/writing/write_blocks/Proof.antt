@@ -17,7 +17,7 @@ use Rattle.sharing.proofs.Theorem.{never-too-many}
 use Rattle.laying.specs.Part.{blockParts}
 use Rattle.laying.specs.Appends.{AppendsFitting, nothing}
 use Rattle.translation.proofs.Refusals.{system-length}
-use Rattle.translation.proofs.Kept.{few-variables, few-constraints, none-left, head-inside, head-at, summed-at}
+use Rattle.checking.proofs.Kept.{few-variables, few-constraints, none-left, head-inside, head-at, summed-at}
 use Rattle.encodings.proofs.Record.{placed-record}
 use Rattle.blocks.proofs.OneBlock.{told, placed-wide, placed-block}
 use Rattle.translation.proofs.Tail.{block-back}

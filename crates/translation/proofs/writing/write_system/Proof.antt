@@ -7,7 +7,7 @@ use borrow.Author.Needs.{needs}
 use Rattle.words.proofs.Overlay.{length-overlay}
 use Rattle.modelreading.proofs.Heads.{front-inside, front-words}
 use Rattle.sharing.proofs.Theorem.{never-too-many}
-use Rattle.translation.proofs.Kept.{few-sources}
+use Rattle.checking.proofs.Kept.{few-sources}
 use Rattle.translation.proofs.Refusals.{system-length, system-over}
 use Rattle.translation.proofs.writing.write_system.Statement.{statement}
 use Rattle.translation.proofs.writing.write_system.Tie as tie

@@ -1,8 +1,8 @@
 -- Each test as in the definition.
 use borrow.Author.Tests.{lt-ltb, le-ltb}
 use borrow.Author.Needs.{needs}
-use Rattle.translation.proofs.checking.fault_of.Statement.{statement}
-use Rattle.translation.proofs.checking.fault_of.Tie as tie
+use Rattle.checking.proofs.fault_of.Statement.{statement}
+use Rattle.checking.proofs.fault_of.Tie as tie
 
 returns-2 : tie.Need-returns-2
 returns-2 c = rw (c .before .before .if1 .left, lt-ltb _ _ (c .if2 .taken))

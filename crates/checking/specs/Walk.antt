@@ -6,17 +6,12 @@ use Prim.Native.Nat.{ℕ, _+_, _≤_}
 use lib.ListN.{length}
 use Rattle.integers.specs.declared.Bounds.{Bounds}
 use Rattle.words.specs.Answer.{Answer, counts, _else-answer_}
-use Rattle.words.specs.Variables.{variables}
-use Rattle.models.specs.Model.{Constraint, constraints}
+use Rattle.models.specs.Model.{Constraint}
 use Rattle.rules.specs.Block.{blockWords}
-use Rattle.rules.specs.Shared.{Encoded, noneYet}
-use Rattle.rules.specs.Translation.{bounds, shared, blockOf, eachBlock, blocksWords}
+use Rattle.rules.specs.Shared.{Encoded}
+use Rattle.rules.specs.Translation.{blockOf, eachBlock, blocksWords}
 use Rattle.rules.specs.InRange.{blockFault, blocksFault}
-use Rattle.translation.specs.declared.Cost.{Cost}
-
--- the words of all blocks
-abbrev pub allBlocks : List ℕ → List ℕ
-allBlocks ws = blocksWords (bounds ws) (shared ws) (length (variables ws)) noneYet (constraints ws)
+use Rattle.checking.specs.declared.Cost.{Cost}
 
 -- after k constraints with a auxiliaries, r rows and w words: v variables, of which e are encoded
 unfoldable pub countsFrom : (ℕ → Bounds) → (ℕ → Bool) → (v k a r w : ℕ) → Encoded → List Constraint → Answer

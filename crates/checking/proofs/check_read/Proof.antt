@@ -10,14 +10,14 @@ use Rattle.models.specs.Model.{headed, constraints}
 use Rattle.rules.specs.Shared.{choice, encodes, encodedAfter}
 use Rattle.extremes.specs.Bounded.{boundsOf}
 use Rattle.encodings.specs.Uses.{sharedBy}
-use Rattle.translation.specs.Checked.{checked}
-use Rattle.translation.specs.Walk.{Costs}
-use Rattle.translation.proofs.Kept.{few-variables, few-sources, few-constraints, none-left, head-inside, head-at, summed-at}
+use Rattle.checking.specs.Checked.{checked}
+use Rattle.checking.specs.Walk.{Costs}
+use Rattle.checking.proofs.Kept.{few-variables, few-sources, few-constraints, none-left, head-inside, head-at, summed-at}
 use Rattle.encodings.proofs.Record.{placed-record}
-use Rattle.translation.proofs.Costs.{placed-costs}
-use Rattle.translation.proofs.CheckWalk.{Checking, begun, more, stop, done, all-checked}
-use Rattle.translation.proofs.checking.check_read.Statement.{statement}
-use Rattle.translation.proofs.checking.check_read.Tie as tie
+use Rattle.checking.proofs.Costs.{placed-costs}
+use Rattle.checking.proofs.CheckWalk.{Checking, begun, more, stop, done, all-checked}
+use Rattle.checking.proofs.check_read.Statement.{statement}
+use Rattle.checking.proofs.check_read.Tie as tie
 
 abbrev Inv-loop : tie.InvT-loop
 Inv-loop ws heads ls us uses lows highs variables n k₀ a₀ r₀ w₀ e₀ k a r w e = Checking (boundsOf ls us) (sharedBy uses) variables (constraints ws) w₀ k a r w e

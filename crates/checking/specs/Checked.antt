@@ -1,7 +1,7 @@
 -- The answer, in 01's words, of each case of the enum that check answers.
 use Rattle.words.specs.Answer.{Answer, refused, counts}
-use Rattle.translation.specs.declared.Checked.{Checked}
-use Rattle.translation.specs.declared.Checked.the-variants.{Refused, Counts}
+use Rattle.checking.specs.declared.Checked.{Checked}
+use Rattle.checking.specs.declared.Checked.the-variants.{Refused, Counts}
 
 unfoldable pub checked : Checked → Answer
 checked (Refused r) = refused (r .number) (r .place)

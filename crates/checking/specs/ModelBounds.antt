@@ -2,7 +2,7 @@
 -- shared; and L and U of the constraints.
 use mathlib.Core.Path.{_≡_}
 use mathlib.Core.List.{List}
-use Prim.Native.Nat.{ℕ, _≤_}
+use Prim.Native.Nat.{ℕ}
 use lib.IntN.{ℤ}
 use lib.ListN.{replicate}
 use Rattle.integers.specs.Number.{+0}
@@ -11,8 +11,7 @@ use Rattle.modelreading.specs.Seen.{Seen, Kept}
 use Rattle.modelreading.specs.declared.Read.{Read}
 use Rattle.rules.specs.Translation.{bounds, shared}
 use Rattle.extremes.specs.Bounded.{boundsOf, Bounded}
-use Rattle.sharing.specs.SharedSolutions.{Passes}
-use Rattle.linearsums.specs.Places.{sumsUpTo, SumsKept}
+use Rattle.linearsums.specs.Places.{sumsUpTo}
 use Rattle.encodings.specs.Uses.{sharedBy}
 
 -- a list for the bounds of 256 variables
@@ -30,8 +29,3 @@ pub record ModelBounds (ws hs : List ℕ) (r : Read) (ls us : List ℤ) (uses : 
 -- L and U of each constraint
 abbrev pub modelSums : List ℕ → List ℕ → Read → List ℤ → List ℤ → List Bounds
 modelSums ws hs r ls us = sumsUpTo ws hs (boundsOf ls us) (r .constraints)
-
--- what writing n words of the row system to a list of so many wants: a model that passes the check, its bounds and its sums
-abbrev pub Writable : List ℕ → List ℕ → Read → List ℤ → List ℤ → List ℕ → List ℤ → List ℤ → ℕ → ℕ → Type 0
-Writable ws hs r ls us uses lows highs n room =
-    ModelBounds ws hs r ls us uses × SumsKept lows highs (r .constraints) (modelSums ws hs r ls us) × Passes ws × (n ≤ room)

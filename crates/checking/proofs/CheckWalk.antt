@@ -2,7 +2,7 @@
 use mathlib.Core.Path.{_≡_, refl, ap, sym, _∙_}
 use mathlib.Core.Bool.{Bool}
 use mathlib.Core.List.{List, [], _∷_, _++_}
-use Prim.Native.Nat.{ℕ, zero, suc, _+_, _*_, _≤_}
+use Prim.Native.Nat.{ℕ, _+_, _*_, _≤_}
 use native.Mathlib.Omega.{arith}
 use lib.IntN.{ℤ}
 use lib.ListN.{length, drop, length-append, drop-of-length-le}
@@ -10,9 +10,9 @@ use Rattle.integers.specs.declared.Bounds.{Bounds}
 use Rattle.words.specs.Word.{word}
 use Rattle.words.specs.Kind as Kind
 use Rattle.words.specs.Variables.{variables}
-use Rattle.words.specs.Refusal.{faultOr, accepted, _else-refuse_}
-use Rattle.words.specs.Answer.{Answer, refused, counts, _else-answer_}
-use Rattle.words.specs.declared.Refusal.{Refusal}
+use Rattle.words.specs.Refusal.{accepted, _else-refuse_}
+use Rattle.words.specs.Answer.{refused, counts, _else-answer_}
+use Rattle.words.proofs.Answers.{first-answers}
 use Rattle.models.specs.Model.{Constraint, constraints, sourceWords}
 use Rattle.models.specs.Reading.{readModel}
 use Rattle.modelreading.specs.declared.Read.{Read}
@@ -25,19 +25,14 @@ use Rattle.sharing.proofs.Accepts.{one-fine}
 use Rattle.extremes.specs.Bounded.{boundsOf}
 use Rattle.encodings.specs.Uses.{sharedBy, Recorded}
 use Rattle.encodings.proofs.Record.{none-many, recorded-none, recorded-after, length-after}
-use Rattle.translation.specs.Walk.{countsFrom, Costs}
-use Rattle.translation.specs.ModelBounds.{ModelBounds}
-use Rattle.translation.specs.declared.Cost.{Cost}
+use Rattle.checking.specs.Walk.{countsFrom, Costs}
+use Rattle.checking.specs.ModelBounds.{ModelBounds}
+use Rattle.checking.specs.declared.Cost.{Cost}
 
 -- ---- one constraint more, a fault, the end
 
 same-counts : {v k l a b r s w x : ℕ} → k ≡ l → a ≡ b → r ≡ s → w ≡ x → counts v k a r w ≡ counts v l b s x
 same-counts p q s t = cc
-
-fault-first : (n p : ℕ) (after : Refusal) (answer : Answer) → (n ≡ 0 → ⊥) → refused n p ≡ (faultOr n p after else-answer answer)
-unfolding _else-answer_
-fault-first zero p after answer f = absurd (f refl)
-fault-first (suc n) p after answer f = refl
 
 module _ (β : ℕ → Bounds) (s : ℕ → Bool) (v k a r w : ℕ) (d : Encoded) where
   one-more : (c : Constraint) (cs : List Constraint) → blockFault β s (v + a) d c ≡ 0 →
@@ -57,8 +52,8 @@ module _ (β : ℕ → Bounds) (s : ℕ → Bool) (v k a r w : ℕ) (d : Encoded
 
   fault-here : (c : Constraint) (cs : List Constraint) → (blockFault β s (v + a) d c ≡ 0 → ⊥) →
       refused (blockFault β s (v + a) d c) (c .place) ≡ countsFrom β s v k a r w d (c ∷ cs)
-  unfolding countsFrom blocksFaultIn
-  fault-here c cs f = fault-first (blockFault β s (v + a) d c) (c .place) _ _ f
+  unfolding countsFrom blocksFaultIn _else-refuse_
+  fault-here c cs f = first-answers (blockFault β s (v + a) d c) (c .place) _ _ f
 
   all-counted : counts v k a r w ≡ countsFrom β s v k a r w d []
   unfolding countsFrom blocksFaultIn blocksWords eachBlock _else-answer_

@@ -22,7 +22,7 @@ use Rattle.linearsums.specs.Places.{NoneFrom, SumsKept}
 use Rattle.linearsums.specs.Sum.{Summed}
 use Rattle.linearsums.proofs.Filling.{none-from}
 use Rattle.linearsums.proofs.Model.{sum-here}
-use Rattle.translation.specs.ModelBounds.{ModelBounds, modelSums}
+use Rattle.checking.specs.ModelBounds.{ModelBounds, modelSums}
 
 -- ---- the bounds
 

@@ -9,8 +9,8 @@ use Rattle.encodings.specs.Uses.{choosing, sharedBy}
 use Rattle.encodings.proofs.Record.{shares-by}
 use Rattle.blocks.specs.Coded.{hasAll}
 use Rattle.blocks.proofs.OneBlock.{all-28}
-use Rattle.translation.proofs.checking.has_all.Statement.{statement}
-use Rattle.translation.proofs.checking.has_all.Tie as tie
+use Rattle.checking.proofs.has_all.Statement.{statement}
+use Rattle.checking.proofs.has_all.Tie as tie
 
 and-if : (b p : Bool) → (p if b else false) ≡ (b && p)
 and-if true p = refl

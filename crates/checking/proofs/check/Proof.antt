@@ -1,9 +1,9 @@
 -- The reading, then the constraints, as in the definition.
 use borrow.Author.Needs.{needs}
-use Rattle.translation.specs.Checked.{checked}
-use Rattle.translation.proofs.Refusals.{read-refused}
-use Rattle.translation.proofs.check.Statement.{statement}
-use Rattle.translation.proofs.check.Tie as tie
+use Rattle.checking.specs.Checked.{checked}
+use Rattle.checking.proofs.Answers.{read-refused}
+use Rattle.checking.proofs.check.Statement.{statement}
+use Rattle.checking.proofs.check.Tie as tie
 
 returns : tie.Need-returns
 unfolding checked

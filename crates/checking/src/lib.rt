@@ -1,4 +1,4 @@
-// Check, after the reading: the faults 12 to 14 of each constraint, and the counts.
+// Check: what a model's row system needs, or its first fault.
 ghost use mathlib.Core.Path.{_≡_};
 ghost use Prim.Native.Nat.{_+_, _<_, _≤_};
 ghost use lib.Dec.{ltb};
@@ -10,12 +10,10 @@ ghost use Rattle.extremes.specs.Bounded.{boundsOf, Bounded};
 ghost use Rattle.linearsums.specs.Places.{SumsKept};
 ghost use Rattle.linearsums.specs.Sum.{Summed};
 ghost use Rattle.encodings.specs.Uses.{sharedBy, Recorded};
-ghost use Rattle.translation.specs.Checked.{checked};
+ghost use Rattle.checking.specs.Checked.{checked};
 ghost use Rattle.blocks.specs.Coded.{constraintOf, hasAll};
-ghost use Rattle.translation.specs.Walk.{Costs};
-ghost use Rattle.translation.specs.ModelBounds.{ModelBounds, noBounds, modelSums};
-use crate::Checked;
-use crate::Cost;
+ghost use Rattle.checking.specs.Walk.{Costs};
+ghost use Rattle.checking.specs.ModelBounds.{ModelBounds, noBounds, modelSums};
 use arguments::var_at;
 use blocks::block;
 use encodings::count_uses;
@@ -29,6 +27,7 @@ use laying::Laid;
 use linearsums::model_sums;
 use linearsums::sum_at;
 use modelreading::Read;
+use modelreading::read_model;
 use words::Refusal;
 use words::fault;
 use words::limit;
@@ -36,6 +35,27 @@ use words::payload_of;
 
 // The code of set_in_reif, which has an auxiliary for each value of its first argument, shared or not.
 const SET_IN_REIF: usize = 28;
+
+// What check answers.
+pub enum Checked {
+    Refused(Refusal),
+    // products count as rows; the words that translate needs
+    Counts {
+        variables: usize,
+        constraints: usize,
+        auxiliaries: usize,
+        rows: usize,
+        words: usize,
+    },
+}
+
+// What one constraint costs: its fault, 0 for none, and what its block counts.
+pub struct Cost {
+    pub fault: u32,
+    pub auxiliaries: usize,
+    pub rows: usize,
+    pub words: usize,
+}
 
 // The bounds and the uses of the variables of a model that was read without a fault go into three lists of 256 zeros, L and U of its constraints into two.
 pub fn model_bounds(
@@ -181,4 +201,34 @@ pub fn check_read(
         rows,
         words,
     }
+}
+
+// What the model needs, or its first fault of 1 to 14 and 18.
+pub fn check(ws: &[u32]) -> Checked
+    ensures { λ r. ⌜ checked r ≡ checkAnswer (now (ws .entry)) ⌝ }
+{
+    let mut heads = [0usize; 256];
+    let read = read_model(ws, &mut heads);
+    if read.number != fault::NONE {
+        return Checked::Refused(Refusal {
+            number: read.number,
+            place: read.place,
+        });
+    }
+    let mut lowers = [0i64; 256];
+    let mut uppers = [0i64; 256];
+    let mut uses = [0usize; 256];
+    let mut lows = [0i64; 256];
+    let mut highs = [0i64; 256];
+    model_bounds(
+        ws,
+        &heads,
+        read,
+        &mut lowers,
+        &mut uppers,
+        &mut uses,
+        &mut lows,
+        &mut highs,
+    );
+    check_read(ws, &heads, read, &lowers, &uppers, &uses, &lows, &highs)
 }

@@ -2,9 +2,9 @@
 use mathlib.Core.Path.{sym, _∙_}
 use borrow.Author.Needs.{needs}
 use Rattle.blocks.proofs.OneBlock.{told}
-use Rattle.translation.proofs.Costs.{wide-costs, laid-costs}
-use Rattle.translation.proofs.checking.cost_of.Statement.{statement}
-use Rattle.translation.proofs.checking.cost_of.Tie as tie
+use Rattle.checking.proofs.Costs.{wide-costs, laid-costs}
+use Rattle.checking.proofs.cost_of.Statement.{statement}
+use Rattle.checking.proofs.cost_of.Tie as tie
 
 returns : tie.Need-returns
 returns c = wide-costs (sym (c .before .too-wide .ensures) ∙ c .if1 .taken)

@@ -9,10 +9,10 @@ use Rattle.models.proofs.Accepted.{few-words}
 use Rattle.modelreading.specs.Seen.{Seen}
 use Rattle.modelreading.proofs.Heads.{front-inside, head-inside}
 use Rattle.encodings.specs.Uses.{sharedBy}
-use Rattle.translation.proofs.Kept.{Kept, kept}
-use Rattle.translation.proofs.Uses.{uses-shared}
-use Rattle.translation.proofs.checking.model_bounds.Statement.{statement}
-use Rattle.translation.proofs.checking.model_bounds.Tie as tie
+use Rattle.checking.proofs.Kept.{Kept, kept}
+use Rattle.checking.proofs.Uses.{uses-shared}
+use Rattle.checking.proofs.model_bounds.Statement.{statement}
+use Rattle.checking.proofs.model_bounds.Tie as tie
 
 seen : (c : tie.Start) → Seen (c .args .ws .now) (c .args .heads .now) (c .args .read)
 seen c = c .pre .0 .seen (c .pre .1)

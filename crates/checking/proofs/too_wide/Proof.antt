@@ -6,8 +6,8 @@ use Rattle.extremes.specs.Bounded.{boundsOf}
 use Rattle.encodings.specs.Uses.{sharedBy}
 use Rattle.blocks.specs.Coded.{constraintOf}
 use Rattle.blocks.proofs.OneBlock.{wide-by}
-use Rattle.translation.proofs.checking.too_wide.Statement.{statement}
-use Rattle.translation.proofs.checking.too_wide.Tie as tie
+use Rattle.checking.proofs.too_wide.Statement.{statement}
+use Rattle.checking.proofs.too_wide.Tie as tie
 
 width-of-requires : tie.Need-width-of-requires
 width-of-requires c κs = rw (back (c .before .bound-at .result) (c .before .bound-at .ok), c .before .bound-at .ensures, back (c .bound-at2 .result) (c .bound-at2 .ok), c .bound-at2 .ensures) (c .before .before .before .before .before .before .before .pre .0 _, c .before .before .before .before .before .before .before .pre .1 _)

@@ -14,8 +14,8 @@ use Rattle.rules.specs.InRange.{blockFault}
 use Rattle.laying.specs.declared.Laid.{Laid}
 use Rattle.blocks.specs.Coded.{constraintOf}
 use Rattle.blocks.proofs.OneBlock.{Told}
-use Rattle.translation.specs.Walk.{Costs}
-use Rattle.translation.specs.declared.Cost.{Cost}
+use Rattle.checking.specs.Walk.{Costs}
+use Rattle.checking.specs.declared.Cost.{Cost}
 
 fault-told : (β : ℕ → Bounds) (s : ℕ → Bool) (first : ℕ) (e : Encoded) (c : Constraint) {r : Laid} → tooWide β s c ≡ false → Told first (blockOf β s e c) r →
     _≡_ {A = ℕ} (13 if r .outside else 14 if ltb 4096 (first + r .auxiliaries) else 0) (blockFault β s first e c)

@@ -1,0 +1,4 @@
+-- What the contracts cite: the answer of check; and what only internal contracts cite, Walk and ModelBounds.
+pub mod Checked
+pub mod Walk
+pub mod ModelBounds
