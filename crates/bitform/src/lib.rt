@@ -152,37 +152,7 @@ fn form_checked(
     form_lines(ws, out, ls, us, firsts, counts, start, row, line, n, c)
 }
 
-// The same, with a row over bits and a line of the form to work with.
-fn form_rows(
-    ws: &[u32],
-    out: &mut [u32],
-    ls: &[i64],
-    us: &[i64],
-    firsts: &[usize],
-    counts: &[usize],
-    start: usize,
-    n: usize,
-) -> Written
-    requires { ⌜ BitsListed (now ws) (now ls) (now us) (now firsts) (now counts) start n ⌝ }
-    ensures { λ r. ⌜ Answered (now (ws .entry)) (now (out .entry)) (now (out .exit)) (wrote r) ⌝ }
-{
-    let mut row = [0i64; limit::BITS];
-    let mut line = [0i64; limit::BITS];
-    form_checked(
-        ws,
-        out,
-        ls,
-        us,
-        firsts,
-        counts,
-        start,
-        &mut row[..n],
-        &mut line[..n],
-        n,
-    )
-}
-
-// Of accepted words: 23, or what comes after.
+// Of accepted words: 23, or what comes after, with a row over bits and a line of the form to work with.
 fn form_accepted(ws: &[u32], out: &mut [u32]) -> Written
     requires { ⌜ readRows (now ws) ≡ accepted ⌝ }
     ensures { λ r. ⌜ Answered (now (ws .entry)) (now (out .entry)) (now (out .exit)) (wrote r) ⌝ }
@@ -197,7 +167,20 @@ fn form_accepted(ws: &[u32], out: &mut [u32]) -> Written
     if limit::BITS < n {
         return refuse(fault::TOO_MANY_BITS);
     }
-    form_rows(ws, out, &ls, &us, &firsts, &counts, start, n)
+    let mut row = [0i64; limit::BITS];
+    let mut line = [0i64; limit::BITS];
+    form_checked(
+        ws,
+        out,
+        &ls,
+        &us,
+        &firsts,
+        &counts,
+        start,
+        &mut row[..n],
+        &mut line[..n],
+        n,
+    )
 }
 
 // Writes the form to the front of the output; a refusal changes nothing.

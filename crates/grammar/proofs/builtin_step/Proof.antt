@@ -6,9 +6,12 @@ use Rattle.tokens.specs.Unread.{spanned}
 use Rattle.grammar.proofs.builtin_step.Statement.{statement}
 use Rattle.grammar.proofs.builtin_step.Tie as tie
 
-returns : tie.Need-returns
-unfolding step codeOf spanned
-returns c = rw (← c .before .before .code-at .ensures, ← c .before .word-of .ensures) (c .name-step .ensures)
-
 pub builtin-step-spec : {M : Type 1} → statement M
-builtin-step-spec = tie.close (tie.spec (λ c κs. search needs) (λ c κs. search needs) (λ c κs. search needs) returns)
+unfolding step codeOf spanned
+builtin-step-spec =
+    tie.close
+    (tie.spec
+    (λ c κs. search needs)
+    (λ c κs. search needs)
+    (λ c κs. search needs)
+    (λ c. rw (← c .before .before .code-at .ensures, ← c .before .word-of .ensures) (c .name-step .ensures)))

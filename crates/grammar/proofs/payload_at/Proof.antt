@@ -4,11 +4,5 @@ use borrow.Author.Tests.{eq-eqb, ne-eqb}
 use Rattle.grammar.proofs.payload_at.Statement.{statement}
 use Rattle.grammar.proofs.payload_at.Tie as tie
 
-returns : tie.Need-returns
-returns c = rw (eq-eqb _ _ (c .if1 .taken))
-
-returns-2 : tie.Need-returns-2
-returns-2 c = rw (ne-eqb _ _ (c .if1 .left))
-
 pub payload-at-spec : {M : Type 1} → statement M
-payload-at-spec = tie.close (tie.spec (λ c. search needs) (λ c. search needs) returns returns-2)
+payload-at-spec = tie.close (tie.spec (λ c. search needs) (λ c. search needs) (λ c. rw (eq-eqb _ _ (c .if1 .taken))) (λ c. rw (ne-eqb _ _ (c .if1 .left))))

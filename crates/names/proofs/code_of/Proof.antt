@@ -8,9 +8,6 @@ use Rattle.names.specs.Name.{builtinNames}
 use Rattle.names.proofs.code_of.Statement.{statement}
 use Rattle.names.proofs.code_of.Tie as tie
 
-returns : tie.Need-returns
-unfolding spellings unread tokensFrom tokenLength isGap any isLetter between isDigit inName startsNumber startsDots run inComment front builtinNames bytes listOf
-returns c = c .place-among .ensures
-
 pub code-of-spec : {M : Type 1} → statement M
-code-of-spec = tie.close (tie.spec (λ c. search needs) (λ c κs. search needs) returns)
+unfolding spellings unread tokensFrom tokenLength isGap any isLetter between isDigit inName startsNumber startsDots run inComment front builtinNames bytes listOf
+code-of-spec = tie.close (tie.spec (λ c. search needs) (λ c κs. search needs) (λ c. c .place-among .ensures))

@@ -3,9 +3,6 @@ use borrow.Author.Needs.{needs}
 use Rattle.names.proofs.is_declared_here.Statement.{statement}
 use Rattle.names.proofs.is_declared_here.Tie as tie
 
-returns : tie.Need-returns
-returns c = rw (c .before .before .before .if1 .taken) (c .same-bytes .ensures)
-
 pub is-declared-here-spec : {M : Type 1} → statement M
 is-declared-here-spec =
     tie.close
@@ -17,5 +14,5 @@ is-declared-here-spec =
     (λ c. search needs)
     (λ c. search needs)
     (λ c κs. search needs)
-    returns
+    (λ c. rw (c .before .before .before .if1 .taken) (c .same-bytes .ensures))
     (λ c. search needs))

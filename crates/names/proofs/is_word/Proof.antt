@@ -4,12 +4,6 @@ use borrow.Author.Tests.{eq-eqb, ne-eqb}
 use Rattle.names.proofs.is_word.Statement.{statement}
 use Rattle.names.proofs.is_word.Tie as tie
 
-returns : tie.Need-returns
-returns c = rw (eq-eqb _ _ (c .before .before .if1 .taken)) (c .same-bytes .ensures)
-
-returns-2 : tie.Need-returns-2
-returns-2 c = rw (ne-eqb _ _ (c .if1 .left))
-
 pub is-word-spec : {M : Type 1} → statement M
 is-word-spec =
     tie.close
@@ -18,5 +12,5 @@ is-word-spec =
     (λ c. search needs)
     (λ c. search needs)
     (λ c κs. search needs)
-    returns
-    returns-2)
+    (λ c. rw (eq-eqb _ _ (c .before .before .if1 .taken)) (c .same-bytes .ensures))
+    (λ c. rw (ne-eqb _ _ (c .if1 .left))))

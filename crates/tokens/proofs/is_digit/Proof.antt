@@ -4,9 +4,6 @@ use Rattle.tokens.specs.Byte.{isDigit}
 use Rattle.tokens.proofs.is_digit.Statement.{statement}
 use Rattle.tokens.proofs.is_digit.Tie as tie
 
-returns : tie.Need-returns
-unfolding isDigit
-returns c = c .is-between .ensures
-
 pub is-digit-spec : {M : Type 1} → statement M
-is-digit-spec = tie.close (tie.spec (λ c κs. search needs) returns)
+unfolding isDigit
+is-digit-spec = tie.close (tie.spec (λ c κs. search needs) (λ c. c .is-between .ensures))

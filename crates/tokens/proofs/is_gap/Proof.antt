@@ -5,9 +5,6 @@ use Rattle.tokens.specs.Byte.{bytes, isGap}
 use Rattle.tokens.proofs.is_gap.Statement.{statement}
 use Rattle.tokens.proofs.is_gap.Tie as tie
 
-returns : tie.Need-returns
-unfolding isGap bytes listOf
-returns c = c .is-one-of .ensures
-
 pub is-gap-spec : {M : Type 1} → statement M
-is-gap-spec = tie.close (tie.spec (λ c. search needs) (λ c κs. search needs) returns)
+unfolding isGap bytes listOf
+is-gap-spec = tie.close (tie.spec (λ c. search needs) (λ c κs. search needs) (λ c. c .is-one-of .ensures))

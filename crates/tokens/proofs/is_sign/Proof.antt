@@ -5,9 +5,6 @@ use Rattle.tokens.specs.Byte.{bytes, isSign}
 use Rattle.tokens.proofs.is_sign.Statement.{statement}
 use Rattle.tokens.proofs.is_sign.Tie as tie
 
-returns : tie.Need-returns
-unfolding isSign bytes listOf
-returns c = c .is-one-of .ensures
-
 pub is-sign-spec : {M : Type 1} → statement M
-is-sign-spec = tie.close (tie.spec (λ c. search needs) (λ c κs. search needs) returns)
+unfolding isSign bytes listOf
+is-sign-spec = tie.close (tie.spec (λ c. search needs) (λ c κs. search needs) (λ c. c .is-one-of .ensures))
