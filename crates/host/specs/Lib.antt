@@ -1,3 +1,2 @@
--- What the contracts cite: check over bytes, and the structs that the calls hand a host.
+-- What the contracts cite: check over bytes.
 pub mod Bytes
-pub mod Structs

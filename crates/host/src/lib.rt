@@ -2,20 +2,14 @@
 ghost use mathlib.Core.Path.{_≡_};
 ghost use Prim.Native.Nat.{_≤_};
 ghost use lib.ListN.{length};
-ghost use Rattle.words.specs.Answer.{refusalNumber};
-ghost use Rattle.words.specs.Verdict.{verdict};
-ghost use Rattle.words.specs.Written.{wrote};
 ghost use Rattle.encoding.specs.Bytes.{bytesWords};
 ghost use Rattle.models.specs.JudgeModel.{judgeModel};
 ghost use Rattle.rowsystems.specs.JudgeRows.{judgeRows};
 ghost use Rattle.rules.specs.Check.{check as checkAnswer};
 ghost use Rattle.rules.specs.Translate.{translate as translateAnswer, translated};
 ghost use Rattle.rules.specs.Fill.{fill as fillAnswer, filled};
-ghost use Rattle.sheets.specs.Printed.{printed};
 ghost use Rattle.sheets.specs.Sheet.{sheet as sheetAnswer, sheetPage};
-ghost use Rattle.checking.specs.Checked.{checked};
 ghost use Rattle.translation.specs.Shares.{Shares};
-ghost use Rattle.filling.specs.Filled.{handed};
 ghost use Rattle.filling.specs.HandsOver.{HandsOver};
 ghost use Rattle.filling.specs.Satisfied.{Satisfied};
 ghost use Rattle.pairs.specs.Calls.{pairCheck, pairTranslate, pairTranslated, pairJudge, pairFill, pairFilled};
@@ -24,297 +18,41 @@ ghost use Rattle.pairs.specs.Pair.{modelOf};
 ghost use Rattle.texts.specs.Text.{readText, textRead};
 ghost use Rattle.bitforms.specs.FormAnswer.{bitForm, bitFormed};
 ghost use Rattle.bitsharing.specs.FormShares.{FormShares};
-ghost use Rattle.solutions.specs.Found.{found};
 ghost use Rattle.solutions.specs.Solutions.{solutionsAnswer, solutionsListed};
-ghost use Rattle.integers.specs.Choice.{_if_else_};
 ghost use Rattle.reasons.specs.Reason.{reason as reasonAnswer};
-ghost use Rattle.reasoning.specs.Told.{told};
 ghost use Rattle.host.specs.Bytes.{checkBytes};
-ghost use Rattle.host.specs.Structs.{countsOf, explanationOf, judgementOf, listedOf, printedOf, writtenOf};
+ghost use Rattle.structs.specs.Structs.{countsOf, explanationOf, judgementOf, listedOf, printedOf, writtenOf};
 use bitform::bit_form;
-use checking::Checked;
 use checking::check;
 use encoding::words_of_bytes;
-use filling::Filled;
 use filling::fill;
 use modeljudge::judge_model;
 use pairs::pair_check;
 use pairs::pair_fill;
 use pairs::pair_judge_model;
 use pairs::pair_translate;
-use reasoning::Reasoned;
 use reasoning::reason;
 use rowjudge::judge_rows;
 use sheets::sheet;
-use solutions::Found;
 use solutions::solutions;
+use structs::Counts;
+use structs::Explanation;
+use structs::Judgement;
+use structs::Listed;
+use structs::Printed;
+use structs::Written;
+use structs::counts_of;
+use structs::explanation_of;
+use structs::filled_of;
+use structs::judgement_of;
+use structs::listed_of;
+use structs::number_of;
+use structs::printed_of;
+use structs::written_of;
 use texts::read_text;
 use translation::translate;
-use words::Verdict;
 use words::fault;
 use words::limit;
-
-// What a judge or fill answers a host, by what it said: 0 refused, with the fault and its place; 1 holds, in fill with how many values it wrote; 2 the variable out of bounds; 3 the false constraint or row.
-#[repr(C)]
-pub struct Judgement {
-    pub said: u32,
-    pub fault: u32,
-    pub at: usize,
-}
-
-// What check answers a host: the counts, or a fault and its place.
-#[repr(C)]
-pub struct Counts {
-    pub fault: u32,
-    pub place: usize,
-    pub variables: usize,
-    pub constraints: usize,
-    pub auxiliaries: usize,
-    pub rows: usize,
-    pub words: usize,
-}
-
-// What translate, text or bits answers a host: how many words it wrote, or a fault and its place.
-#[repr(C)]
-pub struct Written {
-    pub fault: u32,
-    pub place: usize,
-    pub words: usize,
-}
-
-// What sheet answers a host: how many bytes it wrote, or a fault and its place.
-#[repr(C)]
-pub struct Printed {
-    pub fault: u32,
-    pub place: usize,
-    pub bytes: usize,
-}
-
-// What listing the solutions answers a host: how many there are, or a fault and its place.
-#[repr(C)]
-pub struct Listed {
-    pub fault: u32,
-    pub place: usize,
-    pub solutions: usize,
-}
-
-// What reason answers a host, by the reason: 0 refused, with the fault and its place; 1 no row fails; 2 the variable out of bounds, in `place`; 3 the row fails and the constraint's builtin is false of the source values; 4 it is true, and auxiliaries in the row are wrong.
-#[repr(C)]
-pub struct Explanation {
-    pub reason: u32,
-    pub fault: u32,
-    pub place: usize,
-    pub row: usize,
-    pub constraint: usize,
-}
-
-// A judge's answer for a host.
-fn judgement_of(v: Verdict) -> Judgement
-    ensures { λ r. ⌜ r ≡ judgementOf (verdict v) ⌝ }
-{
-    match v {
-        Verdict::Refused(r) => Judgement {
-            said: 0,
-            fault: r.number,
-            at: r.place,
-        },
-        Verdict::Holds => Judgement {
-            said: 1,
-            fault: 0,
-            at: 0,
-        },
-        Verdict::OutOfBounds(i) => Judgement {
-            said: 2,
-            fault: 0,
-            at: i,
-        },
-        Verdict::False(i) => Judgement {
-            said: 3,
-            fault: 0,
-            at: i,
-        },
-    }
-}
-
-// Fill's answer for a host.
-fn filled_of(f: Filled) -> Judgement
-    ensures { λ r. ⌜ r ≡ judgementOf (handed f) ⌝ }
-{
-    match f {
-        Filled::Refused(r) => Judgement {
-            said: 0,
-            fault: r.number,
-            at: r.place,
-        },
-        Filled::Values(n) => Judgement {
-            said: 1,
-            fault: 0,
-            at: n,
-        },
-        Filled::OutOfBounds(i) => Judgement {
-            said: 2,
-            fault: 0,
-            at: i,
-        },
-        Filled::False(i) => Judgement {
-            said: 3,
-            fault: 0,
-            at: i,
-        },
-    }
-}
-
-// The reason of a failing row, by whether its builtin is true.
-fn reason_of(holds: bool) -> u32
-    ensures { λ r. ⌜ r ≡ (4 if holds else 3) ⌝ }
-{
-    if holds {
-        return 4;
-    }
-    3
-}
-
-// Reason's answer for a host.
-fn explanation_of(r: Reasoned) -> Explanation
-    ensures { λ e. ⌜ e ≡ explanationOf (told r) ⌝ }
-{
-    match r {
-        Reasoned::Refused(refusal) => Explanation {
-            reason: 0,
-            fault: refusal.number,
-            place: refusal.place,
-            row: 0,
-            constraint: 0,
-        },
-        Reasoned::OutOfBounds(i) => Explanation {
-            reason: 2,
-            fault: 0,
-            place: i,
-            row: 0,
-            constraint: 0,
-        },
-        Reasoned::Nothing => Explanation {
-            reason: 1,
-            fault: 0,
-            place: 0,
-            row: 0,
-            constraint: 0,
-        },
-        Reasoned::Because {
-            row,
-            constraint,
-            holds,
-        } => Explanation {
-            reason: reason_of(holds),
-            fault: 0,
-            place: 0,
-            row: row,
-            constraint: constraint,
-        },
-    }
-}
-
-// Check's answer for a host.
-fn counts_of(c: Checked) -> Counts
-    ensures { λ r. ⌜ r ≡ countsOf (checked c) ⌝ }
-{
-    match c {
-        Checked::Refused(r) => Counts {
-            fault: r.number,
-            place: r.place,
-            variables: 0,
-            constraints: 0,
-            auxiliaries: 0,
-            rows: 0,
-            words: 0,
-        },
-        Checked::Counts {
-            variables,
-            constraints,
-            auxiliaries,
-            rows,
-            words,
-        } => Counts {
-            fault: 0,
-            place: 0,
-            variables: variables,
-            constraints: constraints,
-            auxiliaries: auxiliaries,
-            rows: rows,
-            words: words,
-        },
-    }
-}
-
-// The number of check's refusal, 0 if it accepts.
-fn number_of(c: Checked) -> u32
-    ensures { λ r. ⌜ r ≡ refusalNumber (checked c) ⌝ }
-{
-    match c {
-        Checked::Refused(r) => r.number,
-        Checked::Counts {
-            variables: _,
-            constraints: _,
-            auxiliaries: _,
-            rows: _,
-            words: _,
-        } => fault::NONE,
-    }
-}
-
-// The answer of translate, text and bits for a host.
-fn written_of(w: words::Written) -> Written
-    ensures { λ r. ⌜ r ≡ writtenOf (wrote w) ⌝ }
-{
-    match w {
-        words::Written::Refused(r) => Written {
-            fault: r.number,
-            place: r.place,
-            words: 0,
-        },
-        words::Written::Words(n) => Written {
-            fault: 0,
-            place: 0,
-            words: n,
-        },
-    }
-}
-
-// Sheet's answer for a host.
-fn printed_of(p: sheets::Printed) -> Printed
-    ensures { λ r. ⌜ r ≡ printedOf (printed p) ⌝ }
-{
-    match p {
-        sheets::Printed::Refused(r) => Printed {
-            fault: r.number,
-            place: r.place,
-            bytes: 0,
-        },
-        sheets::Printed::Bytes(n) => Printed {
-            fault: 0,
-            place: 0,
-            bytes: n,
-        },
-    }
-}
-
-// The answer of listing the solutions for a host.
-fn listed_of(f: Found) -> Listed
-    ensures { λ r. ⌜ r ≡ listedOf (found f) ⌝ }
-{
-    match f {
-        Found::Refused(r) => Listed {
-            fault: r.number,
-            place: r.place,
-            solutions: 0,
-        },
-        Found::Solutions(n) => Listed {
-            fault: 0,
-            place: 0,
-            solutions: n,
-        },
-    }
-}
 
 // Models of so many words are copied to a short list: a list is cleared first.
 const SHORT: usize = 512;

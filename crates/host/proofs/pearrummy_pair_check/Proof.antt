@@ -1,7 +1,7 @@
 -- Check's answer for a candidate, as a host gets it.
 use mathlib.Core.Path.{ap, _∙_}
 use borrow.Author.Needs.{needs}
-use Rattle.host.specs.Structs.{countsOf}
+use Rattle.structs.specs.Structs.{countsOf}
 use Rattle.host.proofs.pearrummy_pair_check.Statement.{statement}
 use Rattle.host.proofs.pearrummy_pair_check.Tie as tie
 

@@ -1,7 +1,7 @@
 -- Fill's answer for a candidate, as a host gets it, and its output.
 use mathlib.Core.Path.{ap, _∙_}
 use borrow.Author.Needs.{needs}
-use Rattle.host.specs.Structs.{judgementOf}
+use Rattle.structs.specs.Structs.{judgementOf}
 use Rattle.host.proofs.pearrummy_pair_fill.Statement.{statement}
 use Rattle.host.proofs.pearrummy_pair_fill.Tie as tie
 

@@ -1,7 +1,7 @@
 -- The reason, as a host gets it.
 use mathlib.Core.Path.{ap, _∙_}
 use borrow.Author.Needs.{needs}
-use Rattle.host.specs.Structs.{explanationOf}
+use Rattle.structs.specs.Structs.{explanationOf}
 use Rattle.host.proofs.pearrummy_reason.Statement.{statement}
 use Rattle.host.proofs.pearrummy_reason.Tie as tie
 

@@ -1,7 +1,7 @@
 -- Sheet's answer, as a host gets it, and its page.
 use mathlib.Core.Path.{ap, _∙_}
 use borrow.Author.Needs.{needs}
-use Rattle.host.specs.Structs.{printedOf}
+use Rattle.structs.specs.Structs.{printedOf}
 use Rattle.host.proofs.pearrummy_sheet.Statement.{statement}
 use Rattle.host.proofs.pearrummy_sheet.Tie as tie
 

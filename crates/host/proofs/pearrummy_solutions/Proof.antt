@@ -1,7 +1,7 @@
 -- The answer of listing the solutions, as a host gets it, and its output.
 use mathlib.Core.Path.{ap, _∙_}
 use borrow.Author.Needs.{needs}
-use Rattle.host.specs.Structs.{listedOf}
+use Rattle.structs.specs.Structs.{listedOf}
 use Rattle.host.proofs.pearrummy_solutions.Statement.{statement}
 use Rattle.host.proofs.pearrummy_solutions.Tie as tie
 

@@ -1,7 +1,7 @@
 -- Text's answer, as a host gets it, and its words.
 use mathlib.Core.Path.{ap, _∙_}
 use borrow.Author.Needs.{needs}
-use Rattle.host.specs.Structs.{writtenOf}
+use Rattle.structs.specs.Structs.{writtenOf}
 use Rattle.host.proofs.pearrummy_text.Statement.{statement}
 use Rattle.host.proofs.pearrummy_text.Tie as tie
 

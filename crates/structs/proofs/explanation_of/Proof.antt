@@ -1,9 +1,9 @@
 -- Case by case.
 use borrow.Author.Needs.{needs}
 use Rattle.reasoning.specs.Told.{told}
-use Rattle.host.specs.Structs.{explanationOf}
-use Rattle.host.proofs.explanation_of.Statement.{statement}
-use Rattle.host.proofs.explanation_of.Tie as tie
+use Rattle.structs.specs.Structs.{explanationOf}
+use Rattle.structs.proofs.explanation_of.Statement.{statement}
+use Rattle.structs.proofs.explanation_of.Tie as tie
 
 pub explanation-of-spec : {M : Type 1} → statement M
 unfolding explanationOf told

@@ -1,9 +1,9 @@
 -- Case by case.
 use borrow.Author.Needs.{needs}
 use Rattle.checking.specs.Checked.{checked}
-use Rattle.host.specs.Structs.{countsOf}
-use Rattle.host.proofs.counts_of.Statement.{statement}
-use Rattle.host.proofs.counts_of.Tie as tie
+use Rattle.structs.specs.Structs.{countsOf}
+use Rattle.structs.proofs.counts_of.Statement.{statement}
+use Rattle.structs.proofs.counts_of.Tie as tie
 
 pub counts-of-spec : {M : Type 1} → statement M
 unfolding countsOf checked

@@ -3,12 +3,12 @@ use Prim.Native.Nat.{ℕ}
 use Rattle.integers.specs.Choice.{_if_else_}
 use Rattle.words.specs.Answer.{Answer, refused, counts, written, holds, outOfBounds, isFalse}
 use Rattle.reasons.specs.Reason.{Reason, refuse, outside, none, because}
-use Rattle.host.specs.declared.Counts.{Counts}
-use Rattle.host.specs.declared.Explanation.{Explanation}
-use Rattle.host.specs.declared.Judgement.{Judgement}
-use Rattle.host.specs.declared.Printed.{Printed}
-use Rattle.host.specs.declared.Listed.{Listed}
-use Rattle.host.specs.declared.Written.{Written}
+use Rattle.structs.specs.declared.Counts.{Counts}
+use Rattle.structs.specs.declared.Explanation.{Explanation}
+use Rattle.structs.specs.declared.Judgement.{Judgement}
+use Rattle.structs.specs.declared.Printed.{Printed}
+use Rattle.structs.specs.declared.Listed.{Listed}
+use Rattle.structs.specs.declared.Written.{Written}
 
 -- Of the judges and of fill, by what is said: 0 refused, 1 holds (in fill, `at` is how many values it wrote), 2 out of bounds, 3 false.
 unfoldable pub judgementOf : Answer → Judgement

@@ -1,9 +1,9 @@
 -- Case by case.
 use borrow.Author.Needs.{needs}
 use Rattle.words.specs.Verdict.{verdict}
-use Rattle.host.specs.Structs.{judgementOf}
-use Rattle.host.proofs.judgement_of.Statement.{statement}
-use Rattle.host.proofs.judgement_of.Tie as tie
+use Rattle.structs.specs.Structs.{judgementOf}
+use Rattle.structs.proofs.judgement_of.Statement.{statement}
+use Rattle.structs.proofs.judgement_of.Tie as tie
 
 pub judgement-of-spec : {M : Type 1} → statement M
 unfolding judgementOf verdict

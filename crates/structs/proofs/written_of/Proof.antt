@@ -1,9 +1,9 @@
 -- Case by case.
 use borrow.Author.Needs.{needs}
 use Rattle.words.specs.Written.{wrote}
-use Rattle.host.specs.Structs.{countOf, writtenOf}
-use Rattle.host.proofs.written_of.Statement.{statement}
-use Rattle.host.proofs.written_of.Tie as tie
+use Rattle.structs.specs.Structs.{countOf, writtenOf}
+use Rattle.structs.proofs.written_of.Statement.{statement}
+use Rattle.structs.proofs.written_of.Tie as tie
 
 pub written-of-spec : {M : Type 1} → statement M
 unfolding countOf writtenOf wrote

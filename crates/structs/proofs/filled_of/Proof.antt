@@ -1,9 +1,9 @@
 -- Case by case.
 use borrow.Author.Needs.{needs}
 use Rattle.filling.specs.Filled.{handed}
-use Rattle.host.specs.Structs.{judgementOf}
-use Rattle.host.proofs.filled_of.Statement.{statement}
-use Rattle.host.proofs.filled_of.Tie as tie
+use Rattle.structs.specs.Structs.{judgementOf}
+use Rattle.structs.proofs.filled_of.Statement.{statement}
+use Rattle.structs.proofs.filled_of.Tie as tie
 
 pub filled-of-spec : {M : Type 1} → statement M
 unfolding judgementOf handed

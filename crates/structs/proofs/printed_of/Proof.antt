@@ -1,9 +1,9 @@
 -- Case by case.
 use borrow.Author.Needs.{needs}
 use Rattle.sheets.specs.Printed.{printed}
-use Rattle.host.specs.Structs.{countOf, printedOf}
-use Rattle.host.proofs.printed_of.Statement.{statement}
-use Rattle.host.proofs.printed_of.Tie as tie
+use Rattle.structs.specs.Structs.{countOf, printedOf}
+use Rattle.structs.proofs.printed_of.Statement.{statement}
+use Rattle.structs.proofs.printed_of.Tie as tie
 
 pub printed-of-spec : {M : Type 1} → statement M
 unfolding countOf printedOf printed

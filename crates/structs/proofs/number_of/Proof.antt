@@ -2,8 +2,8 @@
 use borrow.Author.Needs.{needs}
 use Rattle.words.specs.Answer.{refusalNumber}
 use Rattle.checking.specs.Checked.{checked}
-use Rattle.host.proofs.number_of.Statement.{statement}
-use Rattle.host.proofs.number_of.Tie as tie
+use Rattle.structs.proofs.number_of.Statement.{statement}
+use Rattle.structs.proofs.number_of.Tie as tie
 
 pub number-of-spec : {M : Type 1} → statement M
 unfolding refusalNumber checked

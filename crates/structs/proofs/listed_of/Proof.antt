@@ -1,9 +1,9 @@
 -- Case by case.
 use borrow.Author.Needs.{needs}
 use Rattle.solutions.specs.Found.{found}
-use Rattle.host.specs.Structs.{countOf, listedOf}
-use Rattle.host.proofs.listed_of.Statement.{statement}
-use Rattle.host.proofs.listed_of.Tie as tie
+use Rattle.structs.specs.Structs.{countOf, listedOf}
+use Rattle.structs.proofs.listed_of.Statement.{statement}
+use Rattle.structs.proofs.listed_of.Tie as tie
 
 pub listed-of-spec : {M : Type 1} → statement M
 unfolding countOf listedOf found

@@ -1,0 +1,2 @@
+-- What the contracts cite: the struct of each answer.
+pub mod Structs
