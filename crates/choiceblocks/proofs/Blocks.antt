@@ -1,6 +1,6 @@
 -- The blocks of codes 24 to 28 and 33 as the code lays them.
 use mathlib.Core.Path.{_≡_, refl, sym, ap, ap₂, _∙_}
-use mathlib.Core.Bool.{Bool, true, false}
+use mathlib.Core.Bool.{Bool}
 use mathlib.Core.List.{List, [], _∷_, _++_, append-assoc, append-nil, map, flatMap}
 use Prim.Native.Nat.{ℕ, _+_, _-_, _<_}
 use native.Mathlib.Nat.{add-zero}
@@ -23,10 +23,10 @@ use Rattle.rules.specs.Block.{Ref, source, aux}
 use Rattle.rules.specs.Parts.{_─_≤0, bits, oneBit, chosen, products, one, nth, places, members}
 use Rattle.rules.specs.Rule.{block, rule, numberElement, variableElement, firstOnly, oneOf, inSet, inSetReified}
 use Rattle.laying.specs.Part.{blockParts, rowParts}
-use Rattle.laying.specs.Lists.{many, bitAt, belowAt, aboveAt}
+use Rattle.laying.specs.Lists.{many, bitAt, orderAt}
 use Rattle.rules.proofs.Lengths.{values-length}
 use Rattle.laying.proofs.Parts.{flatMap-append}
-use Rattle.laying.proofs.Lists.{length-vars, length-nums, bits-parts, weighted-many, below-parts, above-parts}
+use Rattle.laying.proofs.Lists.{length-vars, length-nums, bits-parts, weighted-many, order-parts}
 use Rattle.extremes.specs.Bounded.{boundsOf}
 use Rattle.choiceblocks.specs.Rows.{numberTermAt, valueAt, memberAt, oneRow, sumRow, choiceRows, gates, gatedRows, firstAt, oneOfParts, extremeOf}
 use Rattle.choiceblocks.proofs.OneHot.{many-below, one-row, sum-row, chosen-row, choice-rows, gates-parts, gated-rows, first-only-many}
@@ -84,12 +84,7 @@ module _ (first : ℕ) where
         (choice-rows first B i (products x (values B) 0 (length (values B)) ++ (chosen one (values B) (length (values B)) c ∷ []))
         ∙ ap (λ ps. choiceRows (B .lower) first (width B) i ++ ps) (gated-rows first ls us args (1 + count (B .lower)) x f (width B) same c [] ∙ append-nil _)))
 
-    -- the parts of the row of each x, those of the rows over later bits, then those of the block
-    order-parts : (up : Bool) (m : ℕ) → flatMap (rowParts first) (map (λ x. source (x if up else m) ─ source (m if up else x) ≤0) (vars args 1))
-        ≡ many (belowAt args 2 m if up else aboveAt args m 2) (size args 1)
-    order-parts true m = below-parts first args 1 m
-    order-parts false m = above-parts first args m 1
-
+    -- the parts of the rows over later bits, then those of the block
     first-only-parts : (up : Bool) (m : ℕ) → flatMap (rowParts first) (firstOnly (boundsOf ls us) (λ x. x if up else m) (λ x. m if up else x) (vars args 1) 0)
         ≡ many (firstAt ls us args 2 m up first (size args 1)) (size args 1 - 1)
     unfolding vars
@@ -98,13 +93,13 @@ module _ (first : ℕ) where
 
     pub extreme-parts : (up : Bool) → let m = var args 0 in
         blockParts first (extremeOf (boundsOf ls us) up m (vars args 1))
-        ≡ oneOfParts ls us args first ++ (many (belowAt args 2 m if up else aboveAt args m 2) (size args 1) ++ many (firstAt ls us args 2 m up first (size args 1)) (size args 1 - 1))
+        ≡ oneOfParts ls us args first ++ (many (orderAt args 2 m up) (size args 1) ++ many (firstAt ls us args 2 m up first (size args 1)) (size args 1 - 1))
     unfolding oneOf oneOfParts blockParts flatMap vars
     extreme-parts up =
         ap₂ (λ a b. a ++ b) (gates-parts first ls us args 2 (λ x. x) f n (λ k h. refl))
         (ap₂ (λ a b. a ++ b) (one-row first (listOf f n) ∙ ap (oneRow first) (listOf-length f n))
         (gated-rows first ls us args 2 (λ x. x) f n (λ k h. refl) m (order ++ first-only)
-        ∙ ap (λ ps. gatedRows args 2 first n m ++ ps) (flatMap-append (rowParts first) order first-only ∙ ap₂ (λ a b. a ++ b) (order-parts up m) (first-only-parts up m))))
+        ∙ ap (λ ps. gatedRows args 2 first n m ++ ps) (flatMap-append (rowParts first) order first-only ∙ ap₂ (λ a b. a ++ b) (order-parts first args 1 m up) (first-only-parts up m))))
         ∙ ap (λ ps. gates ls us args 2 n ++ ps) (sym (append-assoc (oneRow first n) _ _))
         ∙ sym (append-assoc (gates ls us args 2 n) _ _)
       where

@@ -20,7 +20,9 @@ use Rattle.rules.specs.Parts.{Z, bits, weighted, one, oneBit, chosen, products}
 use Rattle.rules.specs.Rule.{firstOnly}
 use Rattle.laying.specs.Part.{Part, bound, head, term, constant, boundParts, termParts, rowParts}
 use Rattle.laying.specs.Lists.{many, sameAt, labelAt, bitAt, productAt}
-use Rattle.laying.proofs.Parts.{flatMap-append, many-same}
+use Rattle.laying.specs.Appends.{Appends, GrowsBy}
+use Rattle.laying.specs.declared.Laid.{Laid}
+use Rattle.laying.proofs.Parts.{flatMap-append, many-same, went-then}
 use Rattle.rules.proofs.Lengths.{values-length, weighted-length}
 use Rattle.laying.proofs.Lists.{bounds-append, bits-parts, terms-append, labels-parts, same-parts, products-many}
 use Rattle.extremes.specs.Bounded.{boundsOf}
@@ -36,6 +38,12 @@ pub bounds-many : {A : Type 0} (q : A → Bounds) (f : ℕ → A) (n : ℕ) → 
 unfolding boundParts listOf many
 bounds-many q f zero = refl
 bounds-many q f (suc n) = ap (λ ps. bound (q (f 0) .lower) (q (f 0) .upper) ∷ ps) (bounds-many q (λ k. f (suc k)) n)
+
+-- a head, n terms and the last words went over a list: a row
+pub summed : {s t u r : Laid} {o p q z : List ℕ} (f : ℕ → List Part) (n : ℕ) {x : ℕ} → Appends s t o p (head Kind.equal (n + 1) ∷ []) × GrowsBy 10 s t → Appends t u p q (many f n) × GrowsBy 1000 t u →
+    Appends u r q z (term -1 x ∷ constant +0 ∷ []) × GrowsBy 20 u r → Appends s r o z (sumRow f n x) × GrowsBy 2000 s r
+unfolding sumRow
+summed f n a b d = (went-then (a .0) (went-then (b .0) (d .0)), omega (arith, a .1, b .1, d .1))
 
 module _ (first : ℕ) where
   pub terms-many : {A : Type 0} (t : A → Term Ref) (f : ℕ → A) (n : ℕ) → termParts first (map t (listOf f n)) ≡ many (λ k. term (t (f k) .coefficient) (numbered first (t (f k) .variable)) ∷ []) n

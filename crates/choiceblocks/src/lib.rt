@@ -22,7 +22,6 @@ use crate::rows::lay_gates;
 use crate::rows::lay_member_row;
 use crate::rows::lay_number_row;
 use crate::rows::lay_one_bit;
-use crate::rows::lay_order;
 use crate::rows::lay_value_row;
 use arguments::count_of;
 use arguments::past_at;
@@ -35,6 +34,7 @@ use extremes::members;
 use extremes::width_of;
 use laying::Laid;
 use laying::lay_bits;
+use laying::lay_order;
 
 pub mod rows;
 

@@ -10,7 +10,7 @@ ghost use Rattle.integers.specs.Number.{+0, +1, -1};
 ghost use Rattle.integers.specs.Lists.{all, listOf};
 ghost use Rattle.words.specs.Word.{inRange};
 ghost use Rattle.laying.specs.Part.{term, constant, numbersIn};
-ghost use Rattle.laying.specs.Lists.{many, sameAt, labelAt, belowAt, aboveAt};
+ghost use Rattle.laying.specs.Lists.{many, sameAt, labelAt};
 ghost use Rattle.laying.specs.Appends.{Appends, GrowsBy};
 ghost use Rattle.laying.specs.Room.{Room};
 ghost use Rattle.extremes.specs.Bounded.{Bounded};
@@ -26,8 +26,7 @@ use integers::minus;
 use integers::test::both;
 use laying::Laid;
 use laying::counted;
-use laying::lay_above;
-use laying::lay_below;
+use laying::first_if;
 use laying::lay_bits;
 use laying::lay_bound;
 use laying::lay_constant;
@@ -279,25 +278,6 @@ pub fn lay_gated(
     lay_one_row(out, t, v + n, n, m)
 }
 
-// x − m ≤ 0 for each of n variables x from place base on; m − x ≤ 0, where it is not `up`.
-pub fn lay_order(
-    out: &mut [u32],
-    s: Laid,
-    args: &[u32],
-    base: usize,
-    m: usize,
-    n: usize,
-    up: bool,
-) -> Laid
-    requires { ⌜ Room 200000 s × (n ≤ 66) × (base < 1000000000000) ⌝ }
-    ensures { λ r. ⌜ Appends s r (now (out .entry)) (now (out .exit)) (many (belowAt (now (args .entry)) base m if up else aboveAt (now (args .entry)) m base) n) × GrowsBy 200000 s r ⌝ }
-{
-    if up {
-        return lay_below(out, s, args, base, m, n);
-    }
-    lay_above(out, s, args, m, base, n)
-}
-
 // x − y + 1 ≤ 0 where one of n consecutive bits is 1: x − y + K×(their sum) + 1 − K ≤ 0, K = hi x − lo y + 1.
 fn lay_later(
     out: &mut [u32],
@@ -318,16 +298,6 @@ fn lay_later(
     let b = lay_term(out, a, -1, y);
     let c = lay_same(out, b, p, v, n);
     lay_constant(out, c, minus(1, p))
-}
-
-// x; y, where it is not `up`.
-fn first_if(up: bool, x: usize, y: usize) -> usize
-    ensures { λ r. ⌜ r ≡ (x if up else y) ⌝ }
-{
-    if up {
-        return x;
-    }
-    y
 }
 
 // The row of x and m; of m and x, where it is not `up`.

@@ -1,10 +1,12 @@
 -- The lists of the definitions as the loops lay them, and rows of given terms.
 use mathlib.Core.Path.{_≡_, refl, ap, ap₂, _∙_}
+use mathlib.Core.Bool.{Bool}
 use mathlib.Core.List.{List, [], _∷_, _++_, map, map-append, flatMap}
 use Prim.Native.Nat.{ℕ, zero, suc, _+_}
 use native.Mathlib.Omega.{arith}
 use lib.IntN.{ℤ}
 use lib.ListN.{length}
+use Rattle.integers.specs.Choice.{_if_else_}
 use Rattle.integers.specs.Number.{+0, +1}
 use Rattle.integers.specs.Lists.{listOf}
 use Rattle.integers.specs.Bounds.{width, values}
@@ -17,7 +19,7 @@ use Rattle.rowsystems.specs.Row.{Row, sum≤0, sum=0, renameTerms}
 use Rattle.rules.specs.Block.{Ref, source, numbered}
 use Rattle.rules.specs.Parts.{_─_≤0, sources, each, bits, weighted, products}
 use Rattle.laying.specs.Part.{bound, head, term, constant, times, boundParts, termParts, rowParts}
-use Rattle.laying.specs.Lists.{many, termAt, rowPartsOf, sumAt, eachAt, sameAt, labelAt, bitAt, productAt, belowAt, aboveAt}
+use Rattle.laying.specs.Lists.{many, termAt, rowPartsOf, sumAt, eachAt, sameAt, labelAt, bitAt, productAt, orderAt}
 use Rattle.laying.proofs.Parts.{many-same}
 
 -- ---- how long they are
@@ -143,12 +145,7 @@ module _ (first : ℕ) where
   rows-many q f zero = refl
   rows-many q f (suc n) = ap (λ ps. rowParts first (q (f 0)) ++ ps) (rows-many q (λ k. f (suc k)) n)
 
-  pub below-parts : (args : List ℕ) (i m : ℕ) →
-      flatMap (rowParts first) (map (λ x. source x ─ source m ≤0) (vars args i)) ≡ many (belowAt args (i + 1) m) (size args i)
+  pub order-parts : (args : List ℕ) (i m : ℕ) (up : Bool) →
+      flatMap (rowParts first) (map (λ x. source (x if up else m) ─ source (m if up else x) ≤0) (vars args i)) ≡ many (orderAt args (i + 1) m up) (size args i)
   unfolding vars _─_≤0 rowParts rowPartsOf termParts numbered many
-  below-parts args i m = rows-many (λ x. source x ─ source m ≤0) _ (size args i)
-
-  pub above-parts : (args : List ℕ) (r i : ℕ) →
-      flatMap (rowParts first) (map (λ x. source r ─ source x ≤0) (vars args i)) ≡ many (aboveAt args r (i + 1)) (size args i)
-  unfolding vars _─_≤0 rowParts rowPartsOf termParts numbered many
-  above-parts args r i = rows-many (λ x. source r ─ source x ≤0) _ (size args i)
+  order-parts args i m up = rows-many (λ x. source (x if up else m) ─ source (m if up else x) ≤0) _ (size args i)

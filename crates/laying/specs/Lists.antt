@@ -1,8 +1,10 @@
 -- What the loops lay, turn by turn; rows of given variables and coefficients.
+use mathlib.Core.Bool.{Bool}
 use mathlib.Core.List.{List, [], _∷_, _++_}
 use Prim.Native.Nat.{ℕ, zero, suc, _+_}
 use lib.IntN.{ℤ, pos}
 use lib.ListN.{length, getD}
+use Rattle.integers.specs.Choice.{_if_else_}
 use Rattle.integers.specs.Number.{_⊕_, +0, +1, -1}
 use Rattle.words.specs.Kind as Kind
 use Rattle.models.specs.Model.{var, num}
@@ -42,9 +44,6 @@ bitAt k = bound +0 +1 ∷ []
 abbrev pub productAt : List ℕ → ℕ → ℕ → ℕ → ℕ → List Part
 productAt args x z b k = times (z + k) (var args (x + k)) (b + k) ∷ []
 
--- x − m ≤ 0; r − x ≤ 0
-abbrev pub belowAt : List ℕ → ℕ → ℕ → ℕ → List Part
-belowAt args x m k = rowPartsOf Kind.atMost (var args (x + k) ∷ m ∷ []) (+1 ∷ -1 ∷ []) +0
-
-abbrev pub aboveAt : List ℕ → ℕ → ℕ → ℕ → List Part
-aboveAt args r x k = rowPartsOf Kind.atMost (r ∷ var args (x + k) ∷ []) (+1 ∷ -1 ∷ []) +0
+-- x − m ≤ 0, the variables x from a place on; m − x ≤ 0, where it is not up
+abbrev pub orderAt : List ℕ → ℕ → ℕ → Bool → ℕ → List Part
+orderAt args x m up k = rowPartsOf Kind.atMost ((var args (x + k) if up else m) ∷ (m if up else var args (x + k)) ∷ []) (+1 ∷ -1 ∷ []) +0

@@ -4,13 +4,14 @@ ghost use mathlib.Core.List.{[], _∷_};
 ghost use Prim.Native.Nat.{_+_, _<_, _≤_};
 ghost use lib.IntN.{natAbs};
 ghost use lib.ListN.{length};
+ghost use Rattle.integers.specs.Choice.{_if_else_};
 ghost use Rattle.integers.specs.Number.{_⊕_, neg, +1};
 ghost use Rattle.integers.specs.Lists.{all, listOf};
 ghost use Rattle.words.specs.Kind as Kind;
 ghost use Rattle.words.specs.Word.{inRange};
 ghost use Rattle.models.specs.Model.{num, size, past};
 ghost use Rattle.laying.specs.Part.{bound, head, term, constant, times};
-ghost use Rattle.laying.specs.Lists.{many, rowPartsOf, termAt, sumAt, eachAt, sameAt, labelAt, bitAt, productAt, belowAt, aboveAt};
+ghost use Rattle.laying.specs.Lists.{many, rowPartsOf, termAt, sumAt, eachAt, sameAt, labelAt, bitAt, productAt, orderAt};
 ghost use Rattle.laying.specs.Appends.{Appends, Over, CountsMore, GrowsBy, nothing};
 ghost use Rattle.laying.specs.Room.{Room};
 use arguments::num_at;
@@ -318,29 +319,28 @@ pub fn lay_products(
     t
 }
 
-// n rows x − m ≤ 0, x the variables from place base on.
-pub fn lay_below(out: &mut [u32], s: Laid, args: &[u32], base: usize, m: usize, n: usize) -> Laid
-    requires { ⌜ Room 200000 s × (n ≤ 66) × (base < 1000000000000) ⌝ }
-    ensures { λ r. ⌜ Appends s r (now (out .entry)) (now (out .exit)) (many (belowAt (now (args .entry)) base m) n) × GrowsBy 200000 s r ⌝ }
+// x; y, where it is not `up`.
+pub fn first_if(up: bool, x: usize, y: usize) -> usize
+    ensures { λ r. ⌜ r ≡ (x if up else y) ⌝ }
 {
-    if out.len() <= s.words {
-        return counted(s, 6 * n, 0, n, true);
+    if up {
+        return x;
     }
-    let mut t = s;
-    let mut k = 0;
-    while k < n {
-        let xs = [var_at(args, base + k), m];
-        let cs = [1, -1];
-        t = lay_row(out, t, kind::AT_MOST, &xs, &cs, 0);
-        k += 1;
-    }
-    t
+    y
 }
 
-// n rows r − x ≤ 0, x the variables from place base on.
-pub fn lay_above(out: &mut [u32], s: Laid, args: &[u32], r: usize, base: usize, n: usize) -> Laid
+// n rows x − m ≤ 0, x the variables from place base on; m − x ≤ 0, where it is not `up`.
+pub fn lay_order(
+    out: &mut [u32],
+    s: Laid,
+    args: &[u32],
+    base: usize,
+    m: usize,
+    n: usize,
+    up: bool,
+) -> Laid
     requires { ⌜ Room 200000 s × (n ≤ 66) × (base < 1000000000000) ⌝ }
-    ensures { λ t. ⌜ Appends s t (now (out .entry)) (now (out .exit)) (many (aboveAt (now (args .entry)) r base) n) × GrowsBy 200000 s t ⌝ }
+    ensures { λ r. ⌜ Appends s r (now (out .entry)) (now (out .exit)) (many (orderAt (now (args .entry)) base m up) n) × GrowsBy 200000 s r ⌝ }
 {
     if out.len() <= s.words {
         return counted(s, 6 * n, 0, n, true);
@@ -348,7 +348,8 @@ pub fn lay_above(out: &mut [u32], s: Laid, args: &[u32], r: usize, base: usize, 
     let mut t = s;
     let mut k = 0;
     while k < n {
-        let xs = [r, var_at(args, base + k)];
+        let x = var_at(args, base + k);
+        let xs = [first_if(up, x, m), first_if(up, m, x)];
         let cs = [1, -1];
         t = lay_row(out, t, kind::AT_MOST, &xs, &cs, 0);
         k += 1;

@@ -22,11 +22,11 @@ use arguments::var_at;
 use extremes::half_less;
 use integers::minus;
 use laying::Laid;
-use laying::lay_above;
 use laying::lay_bound;
 use laying::lay_constant;
 use laying::lay_each;
 use laying::lay_head;
+use laying::lay_order;
 use laying::lay_term;
 use words::kind;
 
@@ -72,7 +72,7 @@ pub fn array_bool_and(out: &mut [u32], s: Laid, args: &[u32]) -> Laid
     ensures size { λ r. ⌜ GrowsBy 1000000 s r ⌝ }
 {
     let r = var_at(args, past_at(args, 0));
-    let t = lay_above(out, s, args, r, 1, size_at(args, 0));
+    let t = lay_order(out, s, args, 1, r, size_at(args, 0), false);
     lay_all(out, t, args, r)
 }
 

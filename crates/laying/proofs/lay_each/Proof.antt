@@ -54,9 +54,6 @@ loop-again c =
     let var-at = c .before .before .before .var-at in
     (loop .inv .0, more (loop-test .taken) (loop .inv .1) (simp (var-at .ensures) at (c .before .before .lay-term .ensures)))
 
-same-length : tie.Need-same-length Inv-loop μ-loop
-same-length c = went-length (c .before .loop .inv .1 .went)
-
 returns-2 : tie.Need-returns-2 Inv-loop μ-loop
 returns-2 c =
     let size-at = c .before .before .before .before .before .before .size-at in
@@ -83,5 +80,5 @@ lay-each-spec =
     (λ c. search needs)
     (λ c. search needs)
     loop-again
-    same-length
+    (λ c. went-length (c .before .loop .inv .1 .went))
     returns-2)

@@ -16,9 +16,6 @@ Inv-loop out₀ xs cs t₀ k₀ out t k = Laying 10 (termAt xs cs) (length xs) t
 abbrev μ-loop : tie.MeasureT-loop
 μ-loop out₀ xs cs t₀ k₀ out t k = length xs - k
 
-loop-holds : tie.Need-loop-holds Inv-loop μ-loop
-loop-holds c = begun 10 _ _ _ _
-
 loop-again : tie.Need-loop-again Inv-loop μ-loop
 loop-again c =
     let p = c .before .before .before .before .before .before in
@@ -26,9 +23,6 @@ loop-again c =
     let lay-term = c .before .before .lay-term in
     let l = p in
     more (l .loop-test .taken) (l .before .loop .inv) (rw (back (getD (l .before .before .before .before .args .cs .now) (l .before .loop .k) (pos 0)) (lay-term-arg2 .given)) at (lay-term .ensures))
-
-same-length : tie.Need-same-length Inv-loop μ-loop
-same-length c = went-length (c .before .loop .inv .went)
 
 returns : tie.Need-returns Inv-loop μ-loop
 returns c = done 1000 (omega arith) (c .loop-test .left) (c .before .loop .inv)
@@ -39,7 +33,7 @@ lay-given-spec =
     (tie.spec
     Inv-loop
     μ-loop
-    loop-holds
+    (λ c. begun 10 _ _ _ _)
     (λ c. search needs)
     (λ c. search needs)
     (λ c. search needs)
@@ -48,5 +42,5 @@ lay-given-spec =
     (λ c. search needs)
     (λ c. search needs)
     loop-again
-    same-length
+    (λ c. went-length (c .before .loop .inv .went))
     returns)

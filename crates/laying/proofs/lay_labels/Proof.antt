@@ -45,9 +45,6 @@ returns c =
     let l = rw (back (plus .result) (plus .ok), plus .ensures, toZ-ofZ (s .fits .from), n) at (sym (in-range2 .ensures) ∙ r .1) in
     many-counted 2 0 0 1000 (sized-label (s .args .from) (s .args .v) (s .args .n) f l) (omega arith, omega arith, omega arith, omega arith) (leb-true _ _ (t .0)) (c .counted .ensures)
 
-loop-holds : tie.Need-loop-holds Inv-loop μ-loop
-loop-holds c = begun 10 _ _ _ _
-
 cast-plus-2 : tie.Need-cast-plus-2 Inv-loop μ-loop
 cast-plus-2 c = fits64 (pos (c .before .before .loop .k)) (omega arith)
 
@@ -62,9 +59,6 @@ loop-again c =
     let loop = c .before .before .before .before .before .before .loop in
     let plus2 = c .before .before .before .plus2 in
     more (loop-test .taken) (loop .inv) (rw (back (plus2 .result) (plus2 .ok), plus2 .ensures, toZ-pos w64 {n = loop .k} (omega arith)) at (c .before .before .lay-term .ensures))
-
-same-length : tie.Need-same-length Inv-loop μ-loop
-same-length c = went-length (c .before .loop .inv .went)
 
 returns-2 : tie.Need-returns-2 Inv-loop μ-loop
 returns-2 c =
@@ -86,7 +80,7 @@ lay-labels-spec =
     (λ c. search needs)
     (λ c κs. search needs)
     returns
-    loop-holds
+    (λ c. begun 10 _ _ _ _)
     cast-plus-2
     plus-requires-2
     (λ c. search needs)
@@ -94,5 +88,5 @@ lay-labels-spec =
     (λ c. search needs)
     (λ c. search needs)
     loop-again
-    same-length
+    (λ c. went-length (c .before .loop .inv .went))
     returns-2)

@@ -17,21 +17,12 @@ abbrev μ-loop : tie.MeasureT-loop
 returns : tie.Need-returns Inv-loop μ-loop
 returns c = many-counted 4 0 1 1000 (λ k h. sized-times _ _ _) (omega arith, omega arith, omega arith, omega arith) (c .before .if1 .taken) (c .counted .ensures)
 
-loop-holds : tie.Need-loop-holds Inv-loop μ-loop
-loop-holds c = begun 10 _ _ _ _
-
 loop-again : tie.Need-loop-again Inv-loop μ-loop
 loop-again c =
     let loop-test = c .before .before .before .before .before .loop-test in
     let loop = c .before .before .before .before .before .before .loop in
     let var-at = c .before .before .before .var-at in
     more (loop-test .taken) (loop .inv) (simp (var-at .ensures) at (c .before .before .lay-times .ensures))
-
-same-length : tie.Need-same-length Inv-loop μ-loop
-same-length c = went-length (c .before .loop .inv .went)
-
-returns-2 : tie.Need-returns-2 Inv-loop μ-loop
-returns-2 c = done 1000 (omega arith) (c .loop-test .left) (c .before .loop .inv)
 
 pub lay-products-spec : {M : Type 1} → statement M
 lay-products-spec =
@@ -42,7 +33,7 @@ lay-products-spec =
     (λ c. search needs)
     (λ c κs. search needs)
     returns
-    loop-holds
+    (λ c. begun 10 _ _ _ _)
     (λ c. search needs)
     (λ c. search needs)
     (λ c κs. search needs)
@@ -51,5 +42,5 @@ lay-products-spec =
     (λ c. search needs)
     (λ c. search needs)
     loop-again
-    same-length
-    returns-2)
+    (λ c. went-length (c .before .loop .inv .went))
+    (λ c. done 1000 (omega arith) (c .loop-test .left) (c .before .loop .inv)))

@@ -27,17 +27,11 @@ returns c =
     let r = rw (toZ-ofZ (s .fits .c)) at (sym (in-range .ensures) ∙ t .1) in
     many-counted 2 0 0 1000 (λ k h. sized-term _ _ r) (omega arith, omega arith, omega arith, omega arith) (leb-true _ _ (t .0)) (c .counted .ensures)
 
-loop-holds : tie.Need-loop-holds Inv-loop μ-loop
-loop-holds c = begun 10 _ _ _ _
-
 loop-again : tie.Need-loop-again Inv-loop μ-loop
 loop-again c =
     let loop-test = c .before .before .before .before .loop-test in
     let loop = c .before .before .before .before .before .loop in
     more (loop-test .taken) (loop .inv) (c .before .before .lay-term .ensures)
-
-same-length : tie.Need-same-length Inv-loop μ-loop
-same-length c = went-length (c .before .loop .inv .went)
 
 returns-2 : tie.Need-returns-2 Inv-loop μ-loop
 returns-2 c =
@@ -55,11 +49,11 @@ lay-same-spec =
     (λ c. search needs)
     (λ c κs. search needs)
     returns
-    loop-holds
+    (λ c. begun 10 _ _ _ _)
     (λ c. search needs)
     (λ c κs. search needs)
     (λ c. search needs)
     (λ c. search needs)
     loop-again
-    same-length
+    (λ c. went-length (c .before .loop .inv .went))
     returns-2)

@@ -13,9 +13,6 @@ Inv-loop out₀ args base m up v n ls us t₀ k₀ out t k = Laying 2000 (firstA
 abbrev μ-loop : tie.MeasureT-loop
 μ-loop out₀ args base m up v n ls us t₀ k₀ out t k = n - k
 
-loop-holds : tie.Need-loop-holds Inv-loop μ-loop
-loop-holds c = begun 2000 _ _ _ _
-
 add-loop : tie.Need-add-loop Inv-loop μ-loop
 add-loop c =
     let pre = c .before .before .before .pre in
@@ -34,9 +31,6 @@ loop-again c =
     let var-at = c .before .before .before .before .var-at in
     more (omega (arith, loop-test .taken)) (loop .inv) (rw (var-at .ensures) at (c .before .before .lay-later-of .ensures))
 
-same-length : tie.Need-same-length Inv-loop μ-loop
-same-length c = went-length (c .before .loop .inv .went)
-
 returns : tie.Need-returns Inv-loop μ-loop
 returns c =
     let pre = c .before .before .before .before .pre in
@@ -48,7 +42,7 @@ lay-first-only-spec =
     (tie.spec
     Inv-loop
     μ-loop
-    loop-holds
+    (λ c. begun 2000 _ _ _ _)
     add-loop
     (λ c. search needs)
     (λ c κs. search needs)
@@ -59,5 +53,5 @@ lay-first-only-spec =
     (λ c. search needs)
     (λ c. search needs)
     loop-again
-    same-length
+    (λ c. went-length (c .before .loop .inv .went))
     returns)

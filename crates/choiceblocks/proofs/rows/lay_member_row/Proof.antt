@@ -1,22 +1,12 @@
 -- A head, terms, and the last words of a row.
-use native.Mathlib.Omega.{arith}
 use mir.Facts.{toZ-ofZ}
 use borrow.Author.Needs.{needs}
-use Rattle.laying.proofs.Parts.{went-then}
-use Rattle.choiceblocks.specs.Rows.{sumRow}
+use Rattle.choiceblocks.proofs.OneHot.{summed}
 use Rattle.choiceblocks.proofs.rows.lay_member_row.Statement.{statement}
 use Rattle.choiceblocks.proofs.rows.lay_member_row.Tie as tie
 
 returns : tie.Need-returns
-unfolding sumRow
-returns c =
-    let at-lay-members = c .before .before .before .before .before .before in
-    let at-lay-head = at-lay-members .before .before .before .before in
-    let start = at-lay-head .before .before .before in
-    let a = at-lay-head .lay-head .ensures in
-    let b = rw (toZ-ofZ (start .fits .from)) at (at-lay-members .lay-members .ensures) in
-    let d = c .before .before .lay-last .ensures in
-    (went-then (a .0) (went-then (b .0) (d .0)), omega (arith, a .1, b .1, d .1))
+returns c = summed _ _ (c .before .before .before .before .before .before .before .before .before .before .lay-head .ensures) (rw (toZ-ofZ (c .before .before .before .before .before .before .before .before .before .before .before .before .before .fits .from)) at (c .before .before .before .before .before .before .lay-members .ensures)) (c .before .before .lay-last .ensures)
 
 pub lay-member-row-spec : {M : Type 1} → statement M
 lay-member-row-spec =

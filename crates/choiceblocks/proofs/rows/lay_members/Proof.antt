@@ -25,9 +25,6 @@ abbrev μ-loop : tie.MeasureT-loop
 returns : tie.Need-returns Inv-loop μ-loop
 returns c = many-counted 2 0 0 1000 (λ k h. sized-one _) (omega arith, omega arith, omega arith, omega arith) (c .before .if1 .taken) (c .counted .ensures)
 
-loop-holds : tie.Need-loop-holds Inv-loop μ-loop
-loop-holds c = begun 10 _ _ _ _
-
 minus-requires : tie.Need-minus-requires Inv-loop μ-loop
 minus-requires c κs =
     let s = c .before .before .before .before .before .before .before in
@@ -51,9 +48,6 @@ loop-again c =
     let bound-at = c .before .before .before .before .before .bound-at in
     more (loop-test .taken) (loop .inv) (rw (count-of .ensures, read (minus .ok) (minus .ensures), read (bound-at .ok) (bound-at .ensures)) at (c .before .before .lay-term .ensures))
 
-same-length : tie.Need-same-length Inv-loop μ-loop
-same-length c = went-length (c .before .loop .inv .went)
-
 returns-2 : tie.Need-returns-2 Inv-loop μ-loop
 returns-2 c =
     let s = c .before .before .before .before .before in
@@ -68,7 +62,7 @@ lay-members-spec =
     (λ c. search needs)
     (λ c κs. search needs)
     returns
-    loop-holds
+    (λ c. begun 10 _ _ _ _)
     (λ c κs. search needs)
     minus-requires
     (λ c κs. search needs)
@@ -77,5 +71,5 @@ lay-members-spec =
     (λ c. search needs)
     (λ c. search needs)
     loop-again
-    same-length
+    (λ c. went-length (c .before .loop .inv .went))
     returns-2)

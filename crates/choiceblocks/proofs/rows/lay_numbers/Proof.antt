@@ -21,21 +21,12 @@ returns c =
     let s = c .before .before .before .before .before .before in
     many-listed (λ k. num (s .args .args .now) (s .args .base + k)) _ 2 0 0 1000 (λ k. sized-any _ _) (omega arith, omega arith, omega arith, omega arith) (c .before .before .if1 .taken) (c .before .numbers-in-range .ensures) (c .counted .ensures)
 
-loop-holds : tie.Need-loop-holds Inv-loop μ-loop
-loop-holds c = begun 10 _ _ _ _
-
 loop-again : tie.Need-loop-again Inv-loop μ-loop
 loop-again c =
     let loop-test = c .before .before .before .before .before .loop-test in
     let loop = c .before .before .before .before .before .before .loop in
     let num-at = c .before .before .before .num-at in
     more (loop-test .taken) (loop .inv) (rw (read (num-at .ok) (num-at .ensures)) at (c .before .before .lay-term .ensures))
-
-same-length : tie.Need-same-length Inv-loop μ-loop
-same-length c = went-length (c .before .loop .inv .went)
-
-returns-2 : tie.Need-returns-2 Inv-loop μ-loop
-returns-2 c = done 1000 (omega arith) (c .loop-test .left) (c .before .loop .inv)
 
 pub lay-numbers-spec : {M : Type 1} → statement M
 lay-numbers-spec =
@@ -47,7 +38,7 @@ lay-numbers-spec =
     (λ c κs. search needs)
     (λ c κs. search needs)
     returns
-    loop-holds
+    (λ c. begun 10 _ _ _ _)
     (λ c. search needs)
     (λ c κs. search needs)
     (λ c. search needs)
@@ -55,5 +46,5 @@ lay-numbers-spec =
     (λ c. search needs)
     (λ c. search needs)
     loop-again
-    same-length
-    returns-2)
+    (λ c. went-length (c .before .loop .inv .went))
+    (λ c. done 1000 (omega arith) (c .loop-test .left) (c .before .loop .inv)))

@@ -1,20 +1,11 @@
 -- A head, terms, and the last words of a row.
-use native.Mathlib.Omega.{arith}
 use borrow.Author.Needs.{needs}
-use Rattle.laying.proofs.Parts.{went-then}
-use Rattle.choiceblocks.specs.Rows.{sumRow}
+use Rattle.choiceblocks.proofs.OneHot.{summed}
 use Rattle.choiceblocks.proofs.rows.lay_value_row.Statement.{statement}
 use Rattle.choiceblocks.proofs.rows.lay_value_row.Tie as tie
 
 returns : tie.Need-returns
-unfolding sumRow
-returns c =
-    let at-lay-values = c .before .before .before .before .before .before in
-    let at-lay-head = at-lay-values .before .before .before .before in
-    let a = at-lay-head .lay-head .ensures in
-    let b = at-lay-values .lay-values .ensures in
-    let d = c .before .before .lay-last .ensures in
-    (went-then (a .0) (went-then (b .0) (d .0)), omega (arith, a .1, b .1, d .1))
+returns c = summed _ _ (c .before .before .before .before .before .before .before .before .before .before .lay-head .ensures) (c .before .before .before .before .before .before .lay-values .ensures) (c .before .before .lay-last .ensures)
 
 pub lay-value-row-spec : {M : Type 1} → statement M
 lay-value-row-spec =

@@ -21,9 +21,6 @@ returns c =
     let a = s .args in
     many-tested (zeroAt (a .ls .now) (a .us .now) (a .args .now) (a .base)) (a .n) 2 1 0 1000 (λ k. sized-bound _ _) (omega arith, omega arith, omega arith, omega arith) (c .before .before .if1 .taken) (rw (c .before .zeros-in-range .ensures) at (c .counted .ensures))
 
-loop-holds : tie.Need-loop-holds Inv-loop μ-loop
-loop-holds c = begun 10 _ _ _ _
-
 loop-again : tie.Need-loop-again Inv-loop μ-loop
 loop-again c =
     let loop-test = c .before .before .before .before .before .before .before .before .before .loop-test in
@@ -35,12 +32,6 @@ loop-again c =
     let var-at = c .before .before .before .before .before .before .before .before .var-at in
     more (loop-test .taken) (loop .inv) (simp (read (zero-upper .ok) (zero-upper .ensures), read (zero-lower .ok) (zero-lower .ensures), read (bound-at2 .ok) (bound-at2 .ensures), read (bound-at .ok) (bound-at .ensures), var-at .ensures) at (c .before .before .lay-bound .ensures))
 
-same-length : tie.Need-same-length Inv-loop μ-loop
-same-length c = went-length (c .before .loop .inv .went)
-
-returns-2 : tie.Need-returns-2 Inv-loop μ-loop
-returns-2 c = done 1000 (omega arith) (c .loop-test .left) (c .before .loop .inv)
-
 pub lay-zeros-spec : {M : Type 1} → statement M
 lay-zeros-spec =
     tie.close
@@ -51,7 +42,7 @@ lay-zeros-spec =
     (λ c κs. search needs)
     (λ c κs. search needs)
     returns
-    loop-holds
+    (λ c. begun 10 _ _ _ _)
     (λ c. search needs)
     (λ c κs. search needs)
     (λ c κs. search needs)
@@ -62,5 +53,5 @@ lay-zeros-spec =
     (λ c. search needs)
     (λ c. search needs)
     loop-again
-    same-length
-    returns-2)
+    (λ c. went-length (c .before .loop .inv .went))
+    (λ c. done 1000 (omega arith) (c .loop-test .left) (c .before .loop .inv)))

@@ -1,5 +1,6 @@
 -- The rows r−x≤0, then the last row.
 use mathlib.Core.Path.{sym}
+use mathlib.Core.Bool.{false}
 use mathlib.Core.List.{[], _∷_, _++_, map, append-nil, flatMap}
 use native.Mathlib.Omega.{arith}
 use lib.IntN.{pos}
@@ -15,13 +16,13 @@ use Rattle.rules.specs.Parts.{_─_≤0, each}
 use Rattle.rules.specs.Rule.{block, rule}
 use Rattle.laying.specs.Part.{boundParts, blockParts}
 use Rattle.laying.proofs.Parts.{went-as}
-use Rattle.laying.proofs.Lists.{above-parts}
+use Rattle.laying.proofs.Lists.{order-parts}
 use Rattle.linearblocks.proofs.Rows.{rows-then}
 use Rattle.linearblocks.proofs.clause.array_bool_and.Statement.{statement}
 use Rattle.linearblocks.proofs.clause.array_bool_and.Tie as tie
 
-lay-above-requires : tie.Need-lay-above-requires
-lay-above-requires c κs =
+lay-order-requires : tie.Need-lay-order-requires
+lay-order-requires c κs =
     let s = c .before .before .before .before .before .before in
     (omega (arith, s .pre), rw (c .size-at .ensures) (omega (arith, size-le (s .args .args .now) 0)), omega arith)
 
@@ -32,14 +33,14 @@ returns c =
     let past-at = c .before .before .before .before .before .before .before .before .before .before .past-at in
     let var-at = c .before .before .before .before .before .before .before .before .before .var-at in
     let size-at = c .before .before .before .before .before .before .before .size-at in
-    let lay-above = c .before .before .before .before .before .before .lay-above in
+    let lay-order = c .before .before .before .before .before .before .lay-order in
     let lay-all = c .before .before .lay-all in
     let ws = s .args .args .now in
     let r = var ws (past ws 0) in
     let q = sum≤0 (each +1 (vars ws 0) ++ (-1 · source r ∷ [])) (+1 ⊖ pos (length (vars ws 0))) in
-    let t = rw (size-at .ensures, var-at .ensures, past-at .ensures) at (lay-above .ensures) in
+    let t = rw (size-at .ensures, var-at .ensures, past-at .ensures) at (lay-order .ensures) in
     let u = rw (var-at .ensures, past-at .ensures) at (lay-all .ensures) in
-    (λ first β. rows-then first (block [] (map (λ x. source r ─ source x ≤0) (vars ws 0))) (q ∷ []) (went-as (sym (above-parts first ws r 0)) (t .0)) (rw append-nil (u .0 first)), omega (arith, t .1, u .1))
+    (λ first β. rows-then first (block [] (map (λ x. source r ─ source x ≤0) (vars ws 0))) (q ∷ []) (went-as (sym (order-parts first ws 0 r false)) (t .0)) (rw append-nil (u .0 first)), omega (arith, t .1, u .1))
 
 pub array-bool-and-spec : {M : Type 1} → statement M
 array-bool-and-spec =
@@ -48,7 +49,7 @@ array-bool-and-spec =
     (λ c κs. search needs)
     (λ c κs. search needs)
     (λ c κs. search needs)
-    lay-above-requires
+    lay-order-requires
     (λ c κs. search needs)
     (λ c. search needs)
     returns)
