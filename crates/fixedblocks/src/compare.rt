@@ -9,8 +9,7 @@ ghost use Rattle.laying.specs.Appends.{Appends, GrowsBy};
 ghost use Rattle.laying.specs.Room.{BlockRoom};
 ghost use Rattle.extremes.specs.Bounded.{boundsOf, Bounded};
 use crate::rows::two_terms;
-use crate::rows::where_one;
-use crate::rows::where_zero;
+use crate::rows::where_bit;
 use laying::Laid;
 use laying::lay_bound;
 use words::kind;
@@ -37,8 +36,8 @@ pub fn int_ne(
     ensures { λ r. ⌜ Appends s r (now (out .entry)) (now (out .exit)) (blockParts first (rule (boundsOf (now (ls .entry)) (now (us .entry))) (int-ne a b))) × GrowsBy 10000 s r ⌝ }
 {
     let t = lay_bound(out, s, 0, 1);
-    let u = where_zero(out, t, first, a, b, 1, ls, us);
-    where_one(out, u, first, b, a, 1, ls, us)
+    let u = where_bit(out, t, first, a, b, 1, ls, us, false);
+    where_bit(out, u, first, b, a, 1, ls, us, true)
 }
 
 // 5 int_le_reif, with 0 and 1, and 30 int_lt_reif, with 1 and 0: a − b + d ≤ 0 where r is 1, b − a + e ≤ 0 where it is 0.
@@ -56,6 +55,6 @@ pub fn order_reif(
     requires { ⌜ BlockRoom s × Bounded (now ls) × Bounded (now us) × (natAbs d ≤ 1) × (natAbs e ≤ 1) ⌝ }
     ensures { λ q. ⌜ ((first : ℕ) → Appends s q (now (out .entry)) (now (out .exit)) (blockParts first (orderReified (boundsOf (now (ls .entry)) (now (us .entry))) d e a b r))) × GrowsBy 10000 s q ⌝ }
 {
-    let t = where_one(out, s, r, a, b, d, ls, us);
-    where_zero(out, t, r, b, a, e, ls, us)
+    let t = where_bit(out, s, r, a, b, d, ls, us, true);
+    where_bit(out, t, r, b, a, e, ls, us, false)
 }

@@ -11,8 +11,7 @@ ghost use Rattle.laying.specs.Room.{Room, BlockRoom};
 ghost use Rattle.extremes.specs.Bounded.{boundsOf, Bounded};
 use crate::rows::three_terms;
 use crate::rows::two_terms;
-use crate::rows::where_one;
-use crate::rows::where_zero;
+use crate::rows::where_bit;
 use extremes::bound_at;
 use extremes::end_product;
 use extremes::zero_lower;
@@ -97,7 +96,7 @@ pub fn touching(
     let bit = lay_bound(out, s, 0, 1);
     let one = two_terms(out, bit, kind::AT_MOST, x, -1, y, 0);
     let two = two_terms(out, one, kind::AT_MOST, u, -1, v, 0);
-    let three = where_zero(out, two, first, y, x, 0, ls, us);
-    let four = where_one(out, three, first, v, u, 0, ls, us);
-    where_one(out, four, first, x, y, 1, ls, us)
+    let three = where_bit(out, two, first, y, x, 0, ls, us, false);
+    let four = where_bit(out, three, first, v, u, 0, ls, us, true);
+    where_bit(out, four, first, x, y, 1, ls, us, true)
 }

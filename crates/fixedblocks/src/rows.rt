@@ -2,12 +2,12 @@
 ghost use mathlib.Core.List.{[], _∷_};
 ghost use Prim.Native.Nat.{_<_, _≤_};
 ghost use lib.IntN.{natAbs};
-ghost use Rattle.integers.specs.Number.{_⊖_, neg, +1, -1};
-ghost use Rattle.words.specs.Kind as Kind;
+ghost use Rattle.integers.specs.Number.{+1};
 ghost use Rattle.laying.specs.Lists.{rowPartsOf};
 ghost use Rattle.laying.specs.Appends.{Appends, GrowsBy};
 ghost use Rattle.laying.specs.Room.{Room};
 ghost use Rattle.extremes.specs.Bounded.{Bounded, gapPlus};
+ghost use Rattle.fixedblocks.specs.Rows.{whereRow};
 use extremes::gap_plus;
 use integers::minus;
 use integers::opposite;
@@ -45,8 +45,8 @@ pub fn three_terms(
     lay_row(out, s, kind, &xs, &cs, c)
 }
 
-// x − y + d ≤ 0 where z is 1: x − y + P×z + d − P ≤ 0, P = hi x − lo y + d.
-pub fn where_one(
+// x − y + d ≤ 0 where z is 1: x − y + P×z + d − P ≤ 0, P = hi x − lo y + d. Where z is 0, if it is not `one`: x − y − P×z + d ≤ 0.
+pub fn where_bit(
     out: &mut [u32],
     s: Laid,
     z: usize,
@@ -55,30 +55,15 @@ pub fn where_one(
     d: i64,
     ls: &[i64],
     us: &[i64],
+    one: bool,
 ) -> Laid
     requires { ⌜ Room 2000 s × Bounded (now ls) × Bounded (now us) × (natAbs d ≤ 1) ⌝ }
-    ensures { λ r. let P = gapPlus (now (ls .entry)) (now (us .entry)) x y d in ⌜ Appends s r (now (out .entry)) (now (out .exit)) (rowPartsOf Kind.atMost (x ∷ y ∷ z ∷ []) (+1 ∷ -1 ∷ P ∷ []) (d ⊖ P)) ⌝ }
+    ensures { λ r. let P = gapPlus (now (ls .entry)) (now (us .entry)) x y d in ⌜ Appends s r (now (out .entry)) (now (out .exit)) (whereRow one x y z P d) ⌝ }
     ensures size { λ r. ⌜ GrowsBy 2000 s r ⌝ }
 {
     let p = gap_plus(ls, us, x, y, d);
-    three_terms(out, s, kind::AT_MOST, x, -1, y, p, z, minus(d, p))
-}
-
-// x − y + d ≤ 0 where z is 0: x − y − P×z + d ≤ 0, P = hi x − lo y + d.
-pub fn where_zero(
-    out: &mut [u32],
-    s: Laid,
-    z: usize,
-    x: usize,
-    y: usize,
-    d: i64,
-    ls: &[i64],
-    us: &[i64],
-) -> Laid
-    requires { ⌜ Room 2000 s × Bounded (now ls) × Bounded (now us) × (natAbs d ≤ 1) ⌝ }
-    ensures { λ r. let P = gapPlus (now (ls .entry)) (now (us .entry)) x y d in ⌜ Appends s r (now (out .entry)) (now (out .exit)) (rowPartsOf Kind.atMost (x ∷ y ∷ z ∷ []) (+1 ∷ -1 ∷ neg P ∷ []) d) ⌝ }
-    ensures size { λ r. ⌜ GrowsBy 2000 s r ⌝ }
-{
-    let p = gap_plus(ls, us, x, y, d);
+    if one {
+        return three_terms(out, s, kind::AT_MOST, x, -1, y, p, z, minus(d, p));
+    }
     three_terms(out, s, kind::AT_MOST, x, -1, y, opposite(p), z, d)
 }

@@ -14,10 +14,7 @@ use Rattle.fixedblocks.proofs.boolean.bool_le_reif.Tie as tie
 returns : tie.Need-returns
 unfolding rule _─_≤0 blockParts boundParts flatMap rowParts termParts numbered rowPartsOf many
 returns c =
-    let lay-row = c .before .before .before .before .before .before .before .before .before .before .lay-row in
-    let two-terms = c .before .before .before .before .before .before .two-terms in
-    let three-terms = c .before .before .three-terms in
-    let w = then 2000 4000 (lay-row .ensures) (then 2000 2000 (two-terms .ensures) (three-terms .ensures)) in
+    let w = then 2000 4000 (c .before .before .before .before .before .before .before .before .before .before .lay-row .ensures) (then 2000 2000 (c .before .before .before .before .before .before .two-terms .ensures) (c .before .before .three-terms .ensures)) in
     ((λ β first. w .0), omega (arith, w .1))
 
 pub bool-le-reif-spec : {M : Type 1} → statement M

@@ -16,9 +16,9 @@ unfolding rule whereOne whereZero blockParts boundParts flatMap rowParts termPar
 returns c =
     let s = c .before .before .before .before .before .before .before .before .before .before .before .before .before in
     let lay-bound = c .before .before .before .before .before .before .before .before .before .before .lay-bound in
-    let where-zero = c .before .before .before .before .before .before .where-zero in
-    let where-one = c .before .before .where-one in
-    let w = then 10 4000 (lay-bound .ensures) (then 2000 2000 (where-zero .ensures) (where-one .ensures)) in
+    let row = c .before .before .before .before .before .before .where-bit in
+    let row2 = c .before .before .where-bit2 in
+    let w = then 10 4000 (lay-bound .ensures) (then 2000 2000 (row .ensures) (row2 .ensures)) in
     rw (add-zero (s .args .first)) (w .0, omega (arith, w .1))
 
 pub int-ne-spec : {M : Type 1} → statement M

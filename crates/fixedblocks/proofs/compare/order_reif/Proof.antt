@@ -15,8 +15,8 @@ returns : tie.Need-returns
 unfolding orderReified whereOne whereZero blockParts boundParts flatMap rowParts termParts numbered rowPartsOf many
 returns c =
     let s = c .before .before .before .before .before .before .before .before .before in
-    let t = rw (toZ-ofZ (s .fits .d)) at (c .before .before .before .before .before .before .where-one .ensures) in
-    let u = rw (toZ-ofZ (s .fits .e)) at (c .before .before .where-zero .ensures) in
+    let t = rw (toZ-ofZ (s .fits .d)) at (c .before .before .before .before .before .before .where-bit .ensures) in
+    let u = rw (toZ-ofZ (s .fits .e)) at (c .before .before .where-bit2 .ensures) in
     let w = then 2000 2000 t u in
     ((λ first. w .0), omega (arith, w .1))
 
