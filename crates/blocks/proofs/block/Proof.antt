@@ -19,38 +19,6 @@ use Rattle.blocks.proofs.OneBlock.{fitted, from, over-none, by-code, no
 use Rattle.blocks.proofs.block.Statement.{statement}
 use Rattle.blocks.proofs.block.Tie as tie
 
-choice-requires : tie.Need-choice-requires
-unfolding choosing
-choice-requires c κs =
-    let p = c .before .before .before .before .before .before .before .before .before .before .pre in
-    (c .before .before .before .before .before .from-nothing .ensures .1, p .0, p .1, p .2, p .3, p .4, rw (c .before .match .keys24) refl)
-
-choice-requires-2 : tie.Need-choice-requires-2
-unfolding choosing
-choice-requires-2 c κs =
-    let p = c .before .before .before .before .before .before .before .before .before .before .pre in
-    (c .before .before .before .before .before .from-nothing .ensures .1, p .0, p .1, p .2, p .3, p .4, rw (c .before .match .keys25) refl)
-
-choice-requires-3 : tie.Need-choice-requires-3
-unfolding choosing
-choice-requires-3 c κs =
-    let p = c .before .before .before .before .before .before .before .before .before .before .pre in
-    (c .before .before .before .before .before .from-nothing .ensures .1, p .0, p .1, p .2, p .3, p .4, rw (c .before .match .keys27) refl)
-
-choice-requires-4 : tie.Need-choice-requires-4
-unfolding choosing
-choice-requires-4 c κs =
-    let p = c .before .before .before .before .before .before .before .before .before .before .pre in
-    (c .before .before .before .before .before .from-nothing .ensures .1, p .0, p .1, p .2, p .3, p .4, rw (c .before .match .keys28) refl)
-
-returns : tie.Need-returns
-unfolding builtin builtins choosing
-returns c =
-    let v = c .before .before .before .before .before in
-    let s = c .before .before .before .before .before .before .before .before .before .before .before .before .before in
-    let w = rw (v .before .before .var-at .ensures, v .before .var-at2 .ensures) at (c .before .before .int-eq .ensures) in
-    rw (by-code _ _ _ _ _ 1 (c .before .before .before .before .match .keys1) refl) (from (v .before .before .before .from-nothing .ensures .0) (fitted (w .0 (boundsOf (s .args .ls .now) (s .args .us .now)) (s .args .first), w .1) (omega arith)))
-
 returns-2 : tie.Need-returns-2
 unfolding builtin builtins choosing rule _─_≤0 blockParts boundParts flatMap rowParts termParts numbered rowPartsOf many
 returns-2 c =
@@ -62,12 +30,6 @@ unfolding builtin builtins choosing rule _─_≤0 blockParts boundParts flatMap
 returns-3 c =
     let v = c .before .before .before .before .before in
     rw (by-code _ _ _ _ _ 3 (c .before .before .before .before .match .keys3) refl) (from (v .before .before .before .from-nothing .ensures .0) (fitted (rw (v .before .before .var-at .ensures, v .before .var-at2 .ensures) at (c .before .before .two-terms2 .ensures)) (omega arith)))
-
-returns-4 : tie.Need-returns-4
-unfolding builtin builtins choosing
-returns-4 c =
-    let v = c .before .before .before .before .before in
-    rw (by-code _ _ _ _ _ 4 (c .before .before .before .before .match .keys4) refl) (from (v .before .before .before .from-nothing .ensures .0) (fitted (rw (v .before .before .var-at .ensures, v .before .var-at2 .ensures) at (c .before .before .int-ne .ensures)) (omega arith)))
 
 returns-5 : tie.Need-returns-5
 unfolding builtin builtins choosing rule
@@ -83,37 +45,11 @@ returns-6 c =
     let v = c .before .before .before .before .before in
     rw (by-code _ _ _ _ _ 6 (c .before .before .before .before .match .keys6) refl) (from (v .before .before .before .from-nothing .ensures .0) (fitted (rw (v .before .before .var-at .ensures, v .before .var-at2 .ensures, v .var-at3 .ensures) at (c .before .before .three-terms .ensures)) (omega arith)))
 
-returns-7 : tie.Need-returns-7
-unfolding builtin builtins choosing
-returns-7 c =
-    let v = c .before .before .before .before .before in
-    rw (by-code _ _ _ _ _ 7 (c .before .before .before .before .match .keys7) refl) (from (v .before .before .before .from-nothing .ensures .0) (fitted (rw (v .before .before .var-at .ensures, v .before .var-at2 .ensures, v .var-at3 .ensures) at (c .before .before .int-times .ensures)) (omega arith)))
-
-returns-8 : tie.Need-returns-8
-unfolding builtin builtins choosing
-returns-8 c =
-    let v = c .before .before .before .before .before in
-    rw (by-code _ _ _ _ _ 8 (c .before .before .before .before .match .keys8) refl) (from (v .before .before .before .from-nothing .ensures .0) (fitted (rw (v .before .before .var-at .ensures, v .before .var-at2 .ensures) at (c .before .before .int-abs .ensures)) (omega arith)))
-
 returns-9 : tie.Need-returns-9
 unfolding builtin builtins choosing rule
 returns-9 c =
     let v = c .before .before .before .before .before in
     rw (by-code _ _ _ _ _ 9 (c .before .before .before .before .match .keys9) refl) (from (v .before .before .before .from-nothing .ensures .0) (fitted (rw (v .before .before .var-at .ensures, v .before .var-at2 .ensures, v .var-at3 .ensures) at (c .before .before .touching .ensures)) (omega arith)))
-
-returns-10 : tie.Need-returns-10
-unfolding builtin builtins choosing
-returns-10 c =
-    let s = c .before .before .before .before .before .before .before .before .before .before .before .before .before in
-    let w = c .before .before .int-lin-eq .ensures in
-    rw (by-code _ _ _ _ _ 10 (c .before .before .before .before .match .keys10) refl) (from (c .before .before .before .before .before .before .before .before .from-nothing .ensures .0) (fitted (w .0 (s .args .first) (boundsOf (s .args .ls .now) (s .args .us .now)), w .1) (omega arith)))
-
-returns-11 : tie.Need-returns-11
-unfolding builtin builtins choosing
-returns-11 c =
-    let s = c .before .before .before .before .before .before .before .before .before .before .before .before .before in
-    let w = c .before .before .int-lin-le .ensures in
-    rw (by-code _ _ _ _ _ 11 (c .before .before .before .before .match .keys11) refl) (from (c .before .before .before .before .before .before .before .before .from-nothing .ensures .0) (fitted (w .0 (s .args .first) (boundsOf (s .args .ls .now) (s .args .us .now)), w .1) (omega arith)))
 
 returns-12 : tie.Need-returns-12
 unfolding builtin builtins choosing sumOf formOf any
@@ -165,67 +101,10 @@ returns-17 c =
     let v = c .before .before .before .before .before in
     rw (by-code _ _ _ _ _ 17 (c .before .before .before .before .match .keys17) refl) (from (v .before .before .before .from-nothing .ensures .0) (fitted (rw (v .before .before .var-at .ensures, v .before .var-at2 .ensures) at (c .before .before .two-terms3 .ensures)) (omega arith)))
 
-returns-18 : tie.Need-returns-18
-unfolding builtin builtins choosing
-returns-18 c =
-    let v = c .before .before .before .before .before in
-    let s = c .before .before .before .before .before .before .before .before .before .before .before .before .before in
-    let w = rw (v .before .before .var-at .ensures, v .before .var-at2 .ensures, v .var-at3 .ensures) at (c .before .before .bool-and .ensures) in
-    rw (by-code _ _ _ _ _ 18 (c .before .before .before .before .match .keys18) refl) (from (v .before .before .before .from-nothing .ensures .0) (fitted (w .0 (boundsOf (s .args .ls .now) (s .args .us .now)) (s .args .first), w .1) (omega arith)))
-
-returns-19 : tie.Need-returns-19
-unfolding builtin builtins choosing
-returns-19 c =
-    let v = c .before .before .before .before .before in
-    let s = c .before .before .before .before .before .before .before .before .before .before .before .before .before in
-    let w = rw (v .before .before .var-at .ensures, v .before .var-at2 .ensures, v .var-at3 .ensures) at (c .before .before .bool-or .ensures) in
-    rw (by-code _ _ _ _ _ 19 (c .before .before .before .before .match .keys19) refl) (from (v .before .before .before .from-nothing .ensures .0) (fitted (w .0 (boundsOf (s .args .ls .now) (s .args .us .now)) (s .args .first), w .1) (omega arith)))
-
-returns-20 : tie.Need-returns-20
-unfolding builtin builtins choosing
-returns-20 c =
-    let v = c .before .before .before .before .before in
-    let s = c .before .before .before .before .before .before .before .before .before .before .before .before .before in
-    let w = rw (v .before .before .var-at .ensures, v .before .var-at2 .ensures, v .var-at3 .ensures) at (c .before .before .bool-xor .ensures) in
-    rw (by-code _ _ _ _ _ 20 (c .before .before .before .before .match .keys20) refl) (from (v .before .before .before .from-nothing .ensures .0) (fitted (w .0 (boundsOf (s .args .ls .now) (s .args .us .now)), w .1) (omega arith)))
-
-returns-21 : tie.Need-returns-21
-unfolding builtin builtins choosing
-returns-21 c =
-    let s = c .before .before .before .before .before .before .before .before .before .before .before .before .before in
-    let w = c .before .before .bool-clause .ensures in
-    rw (by-code _ _ _ _ _ 21 (c .before .before .before .before .match .keys21) refl) (from (c .before .before .before .before .before .before .before .before .from-nothing .ensures .0) (fitted (w .0 (s .args .first) (boundsOf (s .args .ls .now) (s .args .us .now)), w .1) (omega arith)))
-
-returns-22 : tie.Need-returns-22
-unfolding builtin builtins choosing
-returns-22 c =
-    let s = c .before .before .before .before .before .before .before .before .before .before .before .before .before in
-    let w = c .before .before .array-bool-and .ensures in
-    rw (by-code _ _ _ _ _ 22 (c .before .before .before .before .match .keys22) refl) (from (c .before .before .before .before .before .before .before .before .from-nothing .ensures .0) (fitted (w .0 (s .args .first) (boundsOf (s .args .ls .now) (s .args .us .now)), w .1) (omega arith)))
-
-returns-23 : tie.Need-returns-23
-unfolding builtin builtins choosing
-returns-23 c =
-    let s = c .before .before .before .before .before .before .before .before .before .before .before .before .before in
-    let w = c .before .before .array-bool-xor .ensures in
-    rw (by-code _ _ _ _ _ 23 (c .before .before .before .before .match .keys23) refl) (from (c .before .before .before .before .before .before .before .before .from-nothing .ensures .0) (fitted (w .0 (boundsOf (s .args .ls .now) (s .args .us .now)), w .1) (omega arith)))
-
-returns-24 : tie.Need-returns-24
-returns-24 c = rw (c .before .before .before .before .before .before .before .before .from-nothing .ensures .0) at (c .before .before .choice .ensures)
-
-returns-25 : tie.Need-returns-25
-returns-25 c = rw (c .before .before .before .before .before .before .before .before .from-nothing .ensures .0) at (c .before .before .choice2 .ensures)
-
 returns-26 : tie.Need-returns-26
 unfolding builtin builtins choosing rule
 returns-26 c =
     rw (by-code _ _ _ _ _ 26 (c .before .before .before .before .match .keys26) refl) (from (c .before .before .before .before .before .before .before .before .from-nothing .ensures .0) (fitted (c .before .before .array-int-extreme .ensures) (omega arith)))
-
-returns-27 : tie.Need-returns-27
-returns-27 c = rw (c .before .before .before .before .before .before .before .before .from-nothing .ensures .0) at (c .before .before .choice3 .ensures)
-
-returns-28 : tie.Need-returns-28
-returns-28 c = rw (c .before .before .before .before .before .before .before .before .from-nothing .ensures .0) at (c .before .before .choice4 .ensures)
 
 returns-29 : tie.Need-returns-29
 unfolding builtin builtins choosing rule
@@ -264,54 +143,10 @@ unfolding builtin builtins choosing rule
 returns-33 c =
     rw (by-code _ _ _ _ _ 33 (c .before .before .before .before .match .keys33) refl) (from (c .before .before .before .before .before .before .before .before .from-nothing .ensures .0) (fitted (c .before .before .array-int-extreme2 .ensures) (omega arith)))
 
-returns-34 : tie.Need-returns-34
-unfolding builtin builtins choosing
-returns-34 c =
-    let v = c .before .before .before .before .before in
-    let s = c .before .before .before .before .before .before .before .before .before .before .before .before .before in
-    let w = rw (v .before .before .var-at .ensures, v .before .var-at2 .ensures, v .var-at3 .ensures) at (c .before .before .bool-eq-reif .ensures) in
-    rw (by-code _ _ _ _ _ 34 (c .before .before .before .before .match .keys34) refl) (from (v .before .before .before .from-nothing .ensures .0) (fitted (w .0 (boundsOf (s .args .ls .now) (s .args .us .now)), w .1) (omega arith)))
-
-returns-35 : tie.Need-returns-35
-unfolding builtin builtins choosing
-returns-35 c =
-    let v = c .before .before .before .before .before in
-    let s = c .before .before .before .before .before .before .before .before .before .before .before .before .before in
-    let w = rw (v .before .before .var-at .ensures, v .before .var-at2 .ensures, v .var-at3 .ensures) at (c .before .before .bool-le-reif .ensures) in
-    rw (by-code _ _ _ _ _ 35 (c .before .before .before .before .match .keys35) refl) (from (v .before .before .before .from-nothing .ensures .0) (fitted (w .0 (boundsOf (s .args .ls .now) (s .args .us .now)) (s .args .first), w .1) (omega arith)))
-
-returns-36 : tie.Need-returns-36
-unfolding builtin builtins choosing
-returns-36 c =
-    let v = c .before .before .before .before .before in
-    let s = c .before .before .before .before .before .before .before .before .before .before .before .before .before in
-    let w = rw (v .before .before .var-at .ensures, v .before .var-at2 .ensures, v .var-at3 .ensures) at (c .before .before .bool-lt-reif .ensures) in
-    rw (by-code _ _ _ _ _ 36 (c .before .before .before .before .match .keys36) refl) (from (v .before .before .before .from-nothing .ensures .0) (fitted (w .0 (boundsOf (s .args .ls .now) (s .args .us .now)) (s .args .first), w .1) (omega arith)))
-
-returns-37 : tie.Need-returns-37
-unfolding builtin builtins choosing
-returns-37 c =
-    let v = c .before .before .before .before .before in
-    rw (by-code _ _ _ _ _ 37 (c .before .before .before .before .match .keys37) refl) (from (v .before .before .before .from-nothing .ensures .0) (fitted (rw (v .before .before .var-at .ensures, v .before .var-at2 .ensures, v .var-at3 .ensures) at (c .before .before .int-div .ensures)) (omega arith)))
-
-returns-38 : tie.Need-returns-38
-unfolding builtin builtins choosing
-returns-38 c =
-    let v = c .before .before .before .before .before in
-    rw (by-code _ _ _ _ _ 38 (c .before .before .before .before .match .keys38) refl) (from (v .before .before .before .from-nothing .ensures .0) (fitted (rw (v .before .before .var-at .ensures, v .before .var-at2 .ensures, v .var-at3 .ensures) at (c .before .before .int-mod .ensures)) (omega arith)))
-
 int-pow-requires : tie.Need-int-pow-requires
 int-pow-requires c κs =
     let s = c .before .before .before .before .before .before .before .before .before .before .before in
     (c .before .before .before .before .before .before .from-nothing .ensures .1, s .pre .0, rw (c .exponent-at .ensures) (exponent-le (s .args .args .now) 1), s .pre .1, s .pre .2)
-
-returns-39 : tie.Need-returns-39
-unfolding builtin builtins choosing
-returns-39 c =
-    let v = c .before .before .before .before .before .before in
-    let w = rw (v .before .before .var-at .ensures, c .before .before .before .exponent-at .ensures, v .var-at3 .ensures) at (c .before .before .int-pow .ensures) in
-    let e = c .before .before .before .before .before .match .keys39 in
-    rw (by-code _ _ _ _ _ 39 e refl) (from (v .before .before .before .from-nothing .ensures .0) (w .0, omega (arith, w .1)))
 
 other : tie.Need-returns-40
 other c =
@@ -321,6 +156,7 @@ other c =
     rw (over-none _ _ _ (s .args .code) (s .args .args .now) (none-choosing (s .args .code) none), default (s .args .code) (s .args .args .now) none) (from (c .before .before .before .before .before .before .before .before .from-nothing .ensures .0) (fitted (w .0 (boundsOf (s .args .ls .now) (s .args .us .now)) (s .args .first), w .1) (omega arith)))
 
 pub block-spec : {M : Type 1} → statement M
+unfolding builtin builtins choosing
 block-spec =
     tie.close
     (tie.spec
@@ -351,11 +187,11 @@ block-spec =
     (λ c κs. search needs)
     (λ c κs. search needs)
     (λ c κs. search needs)
-    choice-requires
-    choice-requires-2
+    (λ c κs. let p = c .before .before .before .before .before .before .before .before .before .before .pre in (c .before .before .before .before .before .from-nothing .ensures .1, p .0, p .1, p .2, p .3, p .4, rw (c .before .match .keys24) refl))
+    (λ c κs. let p = c .before .before .before .before .before .before .before .before .before .before .pre in (c .before .before .before .before .before .from-nothing .ensures .1, p .0, p .1, p .2, p .3, p .4, rw (c .before .match .keys25) refl))
     (λ c κs. search needs)
-    choice-requires-3
-    choice-requires-4
+    (λ c κs. let p = c .before .before .before .before .before .before .before .before .before .before .pre in (c .before .before .before .before .before .from-nothing .ensures .1, p .0, p .1, p .2, p .3, p .4, rw (c .before .match .keys27) refl))
+    (λ c κs. let p = c .before .before .before .before .before .before .before .before .before .before .pre in (c .before .before .before .before .before .from-nothing .ensures .1, p .0, p .1, p .2, p .3, p .4, rw (c .before .match .keys28) refl))
     (λ c κs. search needs)
     (λ c κs. search needs)
     (λ c κs. search needs)
@@ -370,27 +206,27 @@ block-spec =
     int-pow-requires
     (λ c κs. search needs)
     (λ c. search needs)
-    returns
+    (λ c. let v = c .before .before .before .before .before in let s = c .before .before .before .before .before .before .before .before .before .before .before .before .before in let w = rw (v .before .before .var-at .ensures, v .before .var-at2 .ensures) at (c .before .before .int-eq .ensures) in rw (by-code _ _ _ _ _ 1 (c .before .before .before .before .match .keys1) refl) (from (v .before .before .before .from-nothing .ensures .0) (fitted (w .0 (boundsOf (s .args .ls .now) (s .args .us .now)) (s .args .first), w .1) (omega arith))))
     (λ c. search needs)
     returns-2
     (λ c. search needs)
     returns-3
     (λ c. search needs)
-    returns-4
+    (λ c. let v = c .before .before .before .before .before in rw (by-code _ _ _ _ _ 4 (c .before .before .before .before .match .keys4) refl) (from (v .before .before .before .from-nothing .ensures .0) (fitted (rw (v .before .before .var-at .ensures, v .before .var-at2 .ensures) at (c .before .before .int-ne .ensures)) (omega arith))))
     (λ c. search needs)
     returns-5
     (λ c. search needs)
     returns-6
     (λ c. search needs)
-    returns-7
+    (λ c. let v = c .before .before .before .before .before in rw (by-code _ _ _ _ _ 7 (c .before .before .before .before .match .keys7) refl) (from (v .before .before .before .from-nothing .ensures .0) (fitted (rw (v .before .before .var-at .ensures, v .before .var-at2 .ensures, v .var-at3 .ensures) at (c .before .before .int-times .ensures)) (omega arith))))
     (λ c. search needs)
-    returns-8
+    (λ c. let v = c .before .before .before .before .before in rw (by-code _ _ _ _ _ 8 (c .before .before .before .before .match .keys8) refl) (from (v .before .before .before .from-nothing .ensures .0) (fitted (rw (v .before .before .var-at .ensures, v .before .var-at2 .ensures) at (c .before .before .int-abs .ensures)) (omega arith))))
     (λ c. search needs)
     returns-9
     (λ c. search needs)
-    returns-10
+    (λ c. let s = c .before .before .before .before .before .before .before .before .before .before .before .before .before in let w = c .before .before .int-lin-eq .ensures in rw (by-code _ _ _ _ _ 10 (c .before .before .before .before .match .keys10) refl) (from (c .before .before .before .before .before .before .before .before .from-nothing .ensures .0) (fitted (w .0 (s .args .first) (boundsOf (s .args .ls .now) (s .args .us .now)), w .1) (omega arith))))
     (λ c. search needs)
-    returns-11
+    (λ c. let s = c .before .before .before .before .before .before .before .before .before .before .before .before .before in let w = c .before .before .int-lin-le .ensures in rw (by-code _ _ _ _ _ 11 (c .before .before .before .before .match .keys11) refl) (from (c .before .before .before .before .before .before .before .before .from-nothing .ensures .0) (fitted (w .0 (s .args .first) (boundsOf (s .args .ls .now) (s .args .us .now)), w .1) (omega arith))))
     (λ c. search needs)
     returns-12
     (λ c. search needs)
@@ -404,27 +240,27 @@ block-spec =
     (λ c. search needs)
     returns-17
     (λ c. search needs)
-    returns-18
+    (λ c. let v = c .before .before .before .before .before in let s = c .before .before .before .before .before .before .before .before .before .before .before .before .before in let w = rw (v .before .before .var-at .ensures, v .before .var-at2 .ensures, v .var-at3 .ensures) at (c .before .before .bool-and .ensures) in rw (by-code _ _ _ _ _ 18 (c .before .before .before .before .match .keys18) refl) (from (v .before .before .before .from-nothing .ensures .0) (fitted (w .0 (boundsOf (s .args .ls .now) (s .args .us .now)) (s .args .first), w .1) (omega arith))))
     (λ c. search needs)
-    returns-19
+    (λ c. let v = c .before .before .before .before .before in let s = c .before .before .before .before .before .before .before .before .before .before .before .before .before in let w = rw (v .before .before .var-at .ensures, v .before .var-at2 .ensures, v .var-at3 .ensures) at (c .before .before .bool-or .ensures) in rw (by-code _ _ _ _ _ 19 (c .before .before .before .before .match .keys19) refl) (from (v .before .before .before .from-nothing .ensures .0) (fitted (w .0 (boundsOf (s .args .ls .now) (s .args .us .now)) (s .args .first), w .1) (omega arith))))
     (λ c. search needs)
-    returns-20
+    (λ c. let v = c .before .before .before .before .before in let s = c .before .before .before .before .before .before .before .before .before .before .before .before .before in let w = rw (v .before .before .var-at .ensures, v .before .var-at2 .ensures, v .var-at3 .ensures) at (c .before .before .bool-xor .ensures) in rw (by-code _ _ _ _ _ 20 (c .before .before .before .before .match .keys20) refl) (from (v .before .before .before .from-nothing .ensures .0) (fitted (w .0 (boundsOf (s .args .ls .now) (s .args .us .now)), w .1) (omega arith))))
     (λ c. search needs)
-    returns-21
+    (λ c. let s = c .before .before .before .before .before .before .before .before .before .before .before .before .before in let w = c .before .before .bool-clause .ensures in rw (by-code _ _ _ _ _ 21 (c .before .before .before .before .match .keys21) refl) (from (c .before .before .before .before .before .before .before .before .from-nothing .ensures .0) (fitted (w .0 (s .args .first) (boundsOf (s .args .ls .now) (s .args .us .now)), w .1) (omega arith))))
     (λ c. search needs)
-    returns-22
+    (λ c. let s = c .before .before .before .before .before .before .before .before .before .before .before .before .before in let w = c .before .before .array-bool-and .ensures in rw (by-code _ _ _ _ _ 22 (c .before .before .before .before .match .keys22) refl) (from (c .before .before .before .before .before .before .before .before .from-nothing .ensures .0) (fitted (w .0 (s .args .first) (boundsOf (s .args .ls .now) (s .args .us .now)), w .1) (omega arith))))
     (λ c. search needs)
-    returns-23
+    (λ c. let s = c .before .before .before .before .before .before .before .before .before .before .before .before .before in let w = c .before .before .array-bool-xor .ensures in rw (by-code _ _ _ _ _ 23 (c .before .before .before .before .match .keys23) refl) (from (c .before .before .before .before .before .before .before .before .from-nothing .ensures .0) (fitted (w .0 (boundsOf (s .args .ls .now) (s .args .us .now)), w .1) (omega arith))))
     (λ c. search needs)
-    returns-24
+    (λ c. rw (c .before .before .before .before .before .before .before .before .from-nothing .ensures .0) at (c .before .before .choice .ensures))
     (λ c. search needs)
-    returns-25
+    (λ c. rw (c .before .before .before .before .before .before .before .before .from-nothing .ensures .0) at (c .before .before .choice2 .ensures))
     (λ c. search needs)
     returns-26
     (λ c. search needs)
-    returns-27
+    (λ c. rw (c .before .before .before .before .before .before .before .before .from-nothing .ensures .0) at (c .before .before .choice3 .ensures))
     (λ c. search needs)
-    returns-28
+    (λ c. rw (c .before .before .before .before .before .before .before .before .from-nothing .ensures .0) at (c .before .before .choice4 .ensures))
     (λ c. search needs)
     returns-29
     (λ c. search needs)
@@ -436,16 +272,16 @@ block-spec =
     (λ c. search needs)
     returns-33
     (λ c. search needs)
-    returns-34
+    (λ c. let v = c .before .before .before .before .before in let s = c .before .before .before .before .before .before .before .before .before .before .before .before .before in let w = rw (v .before .before .var-at .ensures, v .before .var-at2 .ensures, v .var-at3 .ensures) at (c .before .before .bool-eq-reif .ensures) in rw (by-code _ _ _ _ _ 34 (c .before .before .before .before .match .keys34) refl) (from (v .before .before .before .from-nothing .ensures .0) (fitted (w .0 (boundsOf (s .args .ls .now) (s .args .us .now)), w .1) (omega arith))))
     (λ c. search needs)
-    returns-35
+    (λ c. let v = c .before .before .before .before .before in let s = c .before .before .before .before .before .before .before .before .before .before .before .before .before in let w = rw (v .before .before .var-at .ensures, v .before .var-at2 .ensures, v .var-at3 .ensures) at (c .before .before .bool-le-reif .ensures) in rw (by-code _ _ _ _ _ 35 (c .before .before .before .before .match .keys35) refl) (from (v .before .before .before .from-nothing .ensures .0) (fitted (w .0 (boundsOf (s .args .ls .now) (s .args .us .now)) (s .args .first), w .1) (omega arith))))
     (λ c. search needs)
-    returns-36
+    (λ c. let v = c .before .before .before .before .before in let s = c .before .before .before .before .before .before .before .before .before .before .before .before .before in let w = rw (v .before .before .var-at .ensures, v .before .var-at2 .ensures, v .var-at3 .ensures) at (c .before .before .bool-lt-reif .ensures) in rw (by-code _ _ _ _ _ 36 (c .before .before .before .before .match .keys36) refl) (from (v .before .before .before .from-nothing .ensures .0) (fitted (w .0 (boundsOf (s .args .ls .now) (s .args .us .now)) (s .args .first), w .1) (omega arith))))
     (λ c. search needs)
-    returns-37
+    (λ c. let v = c .before .before .before .before .before in rw (by-code _ _ _ _ _ 37 (c .before .before .before .before .match .keys37) refl) (from (v .before .before .before .from-nothing .ensures .0) (fitted (rw (v .before .before .var-at .ensures, v .before .var-at2 .ensures, v .var-at3 .ensures) at (c .before .before .int-div .ensures)) (omega arith))))
     (λ c. search needs)
-    returns-38
+    (λ c. let v = c .before .before .before .before .before in rw (by-code _ _ _ _ _ 38 (c .before .before .before .before .match .keys38) refl) (from (v .before .before .before .from-nothing .ensures .0) (fitted (rw (v .before .before .var-at .ensures, v .before .var-at2 .ensures, v .var-at3 .ensures) at (c .before .before .int-mod .ensures)) (omega arith))))
     (λ c. search needs)
-    returns-39
+    (λ c. let v = c .before .before .before .before .before .before in let w = rw (v .before .before .var-at .ensures, c .before .before .before .exponent-at .ensures, v .var-at3 .ensures) at (c .before .before .int-pow .ensures) in let e = c .before .before .before .before .before .match .keys39 in rw (by-code _ _ _ _ _ 39 e refl) (from (v .before .before .before .from-nothing .ensures .0) (w .0, omega (arith, w .1))))
     (λ c. search needs)
     other)
