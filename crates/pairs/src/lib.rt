@@ -2,6 +2,7 @@
 ghost use mathlib.Core.Path.{_≡_};
 ghost use Prim.Native.Nat.{_≤_, _<_};
 ghost use lib.ListN.{length};
+ghost use Rattle.integers.specs.Choice.{_if_else_};
 ghost use Rattle.words.specs.Overlay.{overlay};
 ghost use Rattle.words.specs.Verdict.{verdict};
 ghost use Rattle.words.specs.Written.{wrote};
@@ -53,27 +54,23 @@ fn ends_table(w: u32) -> bool
     w == SEPARATOR
 }
 
-// How many words the table has.
-fn table_words(ws: &[u32]) -> usize
-    ensures { λ r. ⌜ r ≡ before endsTable (now (ws .entry)) ⌝ }
+// Whether a word ends the table, or is the one between the candidates.
+fn stops(table: bool, w: u32) -> bool
+    ensures { λ r. ⌜ r ≡ (endsTable if table else separates) w ⌝ }
 {
-    let mut i = 0;
-    while i < ws.len() {
-        if ends_table(ws[i]) {
-            return i;
-        }
-        i += 1;
+    if table {
+        return ends_table(w);
     }
-    i
+    w == SEPARATOR
 }
 
-// The place of the word between the candidates; the number of words where there is none.
-fn separator_place(ws: &[u32]) -> usize
-    ensures { λ r. ⌜ r ≡ before separates (now (ws .entry)) ⌝ }
+// How many words stand before the end of the table, or before the word between the candidates; all of them where there is none.
+fn words_before(ws: &[u32], table: bool) -> usize
+    ensures { λ r. ⌜ r ≡ before (endsTable if table else separates) (now (ws .entry)) ⌝ }
 {
     let mut i = 0;
     while i < ws.len() {
-        if ws[i] == SEPARATOR {
+        if stops(table, ws[i]) {
             return i;
         }
         i += 1;
@@ -104,7 +101,7 @@ fn lay_second(ws: &[u32], d: usize, t: usize, out: &mut [u32])
 fn copy_model(ws: &[u32], candidate: u32, out: &mut [u32]) -> Copied
     ensures { λ r. ⌜ Copies candidate (now (ws .entry)) r (now (out .entry)) (now (out .exit)) ⌝ }
 {
-    let d = separator_place(ws);
+    let d = words_before(ws, false);
     if d == ws.len() {
         return Copied {
             number: fault::WORDS_END,
@@ -127,7 +124,7 @@ fn copy_model(ws: &[u32], candidate: u32, out: &mut [u32]) -> Copied
             words: d + 1,
         };
     }
-    let t = table_words(ws);
+    let t = words_before(ws, true);
     let n = ws.len() - (d + 1) + t;
     if limit::MODEL_WORDS < n {
         return Copied {

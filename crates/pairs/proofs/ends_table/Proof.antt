@@ -7,10 +7,6 @@ use borrow.Author.Needs.{needs}
 use Rattle.pairs.proofs.ends_table.Statement.{statement}
 use Rattle.pairs.proofs.ends_table.Tie as tie
 
-returns : tie.Need-returns
-unfolding endsTable
-returns c = rw (eq-eqb (kind _) 4 (sym (c .before .kind-of .ensures) ∙ c .if1 .taken))
-
 returns-2 : tie.Need-returns-2
 unfolding endsTable
 returns-2 c =
@@ -24,4 +20,11 @@ returns-3 c =
     rw (ne-eqb (kind _) 4 (λ e. c .before .if1 .left (kind-of ∙ e)), ne-eqb (kind _) 7 (λ e. c .if2 .left (kind-of ∙ e)))
 
 pub ends-table-spec : {M : Type 1} → statement M
-ends-table-spec = tie.close (tie.spec (λ c κs. search needs) returns returns-2 returns-3)
+unfolding endsTable
+ends-table-spec =
+    tie.close
+    (tie.spec
+    (λ c κs. search needs)
+    (λ c. rw (eq-eqb (kind _) 4 (sym (c .before .kind-of .ensures) ∙ c .if1 .taken)))
+    returns-2
+    returns-3)

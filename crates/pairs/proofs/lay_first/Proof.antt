@@ -7,9 +7,6 @@ use borrow.Author.Needs.{needs}
 use Rattle.pairs.proofs.lay_first.Statement.{statement}
 use Rattle.pairs.proofs.lay_first.Tie as tie
 
-slice-aggregate-lay : tie.Need-slice-aggregate-lay
-slice-aggregate-lay c = sym (length-take-le _ _ (omega (arith, c .before .before .before .before .pre)))
-
 lay-requires : tie.Need-lay-requires
 lay-requires c κs =
     let s = c .before .before .before .before in
@@ -25,7 +22,7 @@ pub lay-first-spec : {M : Type 1} → statement M
 lay-first-spec =
     tie.close
     (tie.spec
-    slice-aggregate-lay
+    (λ c. sym (length-take-le _ _ (omega (arith, c .before .before .before .before .pre))))
     lay-requires
     (λ c κs. search needs)
     (λ c. search needs)

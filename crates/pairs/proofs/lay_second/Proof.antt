@@ -9,9 +9,6 @@ use borrow.Author.Needs.{needs}
 use Rattle.pairs.proofs.lay_second.Statement.{statement}
 use Rattle.pairs.proofs.lay_second.Tie as tie
 
-slice-aggregate-lay : tie.Need-slice-aggregate-lay
-slice-aggregate-lay c = rw (c .before .before .before .before .pre .2) (sym (table-length (c .before .before .before .before .args .ws .now)))
-
 lay-requires : tie.Need-lay-requires
 lay-requires c κs =
     let s = c .before .before .before .before in
@@ -32,7 +29,7 @@ pub lay-second-spec : {M : Type 1} → statement M
 lay-second-spec =
     tie.close
     (tie.spec
-    slice-aggregate-lay
+    (λ c. rw (c .before .before .before .before .pre .2) (sym (table-length (c .before .before .before .before .args .ws .now))))
     lay-requires
     (λ c. search needs)
     (λ c. search needs)
