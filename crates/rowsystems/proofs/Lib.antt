@@ -1,4 +1,5 @@
 -- Laws for proofs about row systems.
+pub mod Starts
 pub mod ReadBack
 pub mod Numbers
 pub mod Walk

@@ -1,15 +1,14 @@
 -- Words that judge-rows accepts have no upper bound below its lower one.
-use mathlib.Core.Path.{_≡_, refl, sym, ap, _∙_}
+use mathlib.Core.Path.{_≡_, refl, sym, _∙_}
 use mathlib.Core.Logic.{_⊎_, inl, inr}
-use mathlib.Core.Bool.{Bool, true, false, not, _||_}
+use mathlib.Core.Bool.{Bool, true, false, not}
 use mathlib.Core.List.{List, [], _∷_}
-use Prim.Native.Nat.{ℕ, zero, suc, _+_}
+use Prim.Native.Nat.{ℕ, _+_}
 use native.Mathlib.Omega.{arith}
 use lib.Dec.{ltb, eqb}
 use lib.IntN.{ℤ, pos}
 use lib.Signed.{ltZ}
 use lib.ListN.{length}
-use borrow.Author.Tests.{eqb-true}
 use Rattle.integers.specs.Choice.{_if_else_}
 use Rattle.integers.specs.Bounds.{_to_, bit}
 use Rattle.integers.specs.declared.Bounds.{Bounds}
@@ -20,66 +19,31 @@ use Rattle.words.specs.Kind as Kind
 use Rattle.words.specs.Fault as Fault
 use Rattle.words.specs.Limit as Limit
 use Rattle.words.specs.Variables.{startsPair, variables}
-use Rattle.words.specs.Refusal.{accepted, faultOr, firstFault, _at-place_}
-use Rattle.words.specs.declared.Refusal.{Refusal}
+use Rattle.words.specs.Refusal.{accepted, firstFault, _at-place_}
+use Rattle.words.proofs.Reading.{passed}
 use Rattle.rowsystems.specs.declared.Due.{Due}
-use Rattle.rowsystems.specs.declared.Due.the-variants.{Source, SourceUpper, Item, AuxiliaryUpper, Terms, Coefficient, Result, FirstFactor, SecondFactor, Ended}
-use Rattle.rowsystems.specs.Reading.{State, fault, faultDue, faultItem, faultSource, faultUpper, faultVariable, faultNumber, faultResult, after, afterDue, afterItem, ended, faultEnd, begin, readRows}
+use Rattle.rowsystems.specs.declared.Due.the-variants.{Source, SourceUpper, Item, AuxiliaryUpper}
+use Rattle.rowsystems.specs.Reading.{State, fault, faultDue, faultItem, faultUpper, after, afterDue, afterItem, ended, faultEnd, begin, readRows}
+use Rattle.rowsystems.proofs.Starts.{Pair, pair-kind, at-head}
 
 abbrev pub Ordered : Bounds → Type 0
 Ordered B = B .lower ⊑ B .upper
 
--- ---- no fault
-
-no-fault : (n p : ℕ) (rest : Refusal) → faultOr n p rest ≡ accepted → (n ≡ 0) × (rest ≡ accepted)
-no-fault zero p rest e = (refl, e)
-no-fault (suc n) p rest e = absurd (never (ap (λ r. r .number) e))
-  where
-    never : suc n ≡ 0 → ⊥
-    never q = omega arith
-
--- a lower bound is kind 1 or 8
-pair-kind : (w : ℕ) → startsPair w ≡ true → (kind w ≡ 1) ⊎ (kind w ≡ 8)
-unfolding startsPair
-pair-kind w e = go (eqb (kind w) 1) refl e
-  where
-    go : (t : Bool) → eqb (kind w) 1 ≡ t → (t || eqb (kind w) 8) ≡ true → (kind w ≡ 1) ⊎ (kind w ≡ 8)
-    go true q e = inl (eqb-true (kind w) 1 q)
-    go false q e = inr (eqb-true (kind w) 8 e)
-
-choose : (t : Bool) (a b : ℕ) → ¬ (a ≡ 0) → ¬ (b ≡ 0) → ¬ ((a if t else b) ≡ 0)
-choose true a b h k = h
-choose false a b h k = k
+-- ---- a lower bound
 
 -- after it an upper bound is due
 abbrev Upper : ℕ → Due → Type 0
 Upper w d = (d ≡ SourceUpper w) ⊎ (d ≡ AuxiliaryUpper w)
 
-after-pair : (d : Due) (n w : ℕ) (ws : List ℕ) → (kind w ≡ 1) ⊎ (kind w ≡ 8) → faultDue d n w ws ≡ 0 → Upper w (afterDue d w)
-unfolding faultDue faultSource faultItem faultUpper faultVariable faultNumber faultResult afterDue afterItem
-after-pair Source n w ws (inl k) e = inl (rw k refl)
-after-pair Source n w ws (inr k) e = inr (rw k refl)
-after-pair (SourceUpper l) n w ws (inl k) e = absurd (let f = rw k at e in omega arith)
-after-pair (SourceUpper l) n w ws (inr k) e = absurd (let f = rw k at e in omega arith)
-after-pair Item n w ws (inl k) e = absurd (let f = rw k at e in omega arith)
-after-pair Item n w ws (inr k) e = inr (rw k refl)
-after-pair (AuxiliaryUpper l) n w ws (inl k) e = absurd (let f = rw k at e in omega arith)
-after-pair (AuxiliaryUpper l) n w ws (inr k) e = absurd (let f = rw k at e in omega arith)
-after-pair (Terms l) n w ws (inl k) e = absurd (choose (ltb 0 l) 3 3 (λ q. omega arith) (λ q. omega arith) (rw k at e))
-after-pair (Terms l) n w ws (inr k) e = absurd (choose (ltb 0 l) 3 3 (λ q. omega arith) (λ q. omega arith) (rw k at e))
-after-pair (Coefficient l) n w ws (inl k) e = absurd (let f = rw k at e in omega arith)
-after-pair (Coefficient l) n w ws (inr k) e = absurd (let f = rw k at e in omega arith)
-after-pair Result n w ws (inl k) e = absurd (let f = rw k at e in omega arith)
-after-pair Result n w ws (inr k) e = absurd (let f = rw k at e in omega arith)
-after-pair FirstFactor n w ws (inl k) e = absurd (let f = rw k at e in omega arith)
-after-pair FirstFactor n w ws (inr k) e = absurd (let f = rw k at e in omega arith)
-after-pair SecondFactor n w ws (inl k) e = absurd (let f = rw k at e in omega arith)
-after-pair SecondFactor n w ws (inr k) e = absurd (let f = rw k at e in omega arith)
-after-pair Ended n w ws k e = absurd (let f : 11 ≡ 0 = e in omega arith)
-
-after-is : (s : State) (w : ℕ) (ws : List ℕ) → (kind w ≡ 1) ⊎ (kind w ≡ 8) → fault s w ws ≡ 0 → Upper w (after s w .due)
-unfolding fault after
-after-is s w ws k e = after-pair (s .due) (s .variables) w ws k e
+after-is : (s : State) (w : ℕ) (ws : List ℕ) → Pair (kind w) → fault s w ws ≡ 0 → Upper w (after s w .due)
+unfolding fault after faultDue faultItem afterDue afterItem
+after-is s w ws k e = go (s .due) (at-head (s .due) (s .variables) w ws (inl k) e) k e
+  where
+    go : (d : Due) → (d ≡ Source) ⊎ (d ≡ Item) → Pair (kind w) → faultDue d (s .variables) w ws ≡ 0 → Upper w (afterDue d w)
+    go d (inl h) (inl k) e = inl (rw (h, k))
+    go d (inl h) (inr k) e = inr (rw (h, k))
+    go d (inr h) (inl k) e = absurd (let f = rw (h, k) at e in omega arith)
+    go d (inr h) (inr k) e = inr (rw (h, k))
 
 -- an upper bound without a fault is not below the lower one
 upper-fine : (k l w : ℕ) → faultUpper k l w ≡ 0 → signed l ⊑ signed w
@@ -99,16 +63,16 @@ upper-fine k l w e = go (eqb (kind w) k) (tooLow Limit.range w) (ltZ (signed w) 
 -- the words after a lower bound begin with an upper one that is not below it
 next-fine : (d : Due) (n p l : ℕ) (ws : List ℕ) → Upper l d → firstFault fault after ended (record { due = d; variables = n }) p ws ≡ accepted → signed l ⊑ signed (wordAt ws 0)
 unfolding firstFault fault faultDue ended faultEnd wordAt
-next-fine d n p l [] (inl u) e = absurd (let f = no-fault 2 p accepted (rw u at e) .0 in omega arith)
-next-fine d n p l [] (inr u) e = absurd (let f = no-fault 2 p accepted (rw u at e) .0 in omega arith)
-next-fine d n p l (w ∷ ws) (inl u) e = upper-fine Kind.upper l w (no-fault _ p _ (rw u at e) .0)
-next-fine d n p l (w ∷ ws) (inr u) e = upper-fine Kind.auxiliaryUpper l w (no-fault _ p _ (rw u at e) .0)
+next-fine d n p l [] (inl u) e = absurd (let f = passed 2 p accepted (rw u at e) .0 in omega arith)
+next-fine d n p l [] (inr u) e = absurd (let f = passed 2 p accepted (rw u at e) .0 in omega arith)
+next-fine d n p l (w ∷ ws) (inl u) e = upper-fine Kind.upper l w (passed _ p _ (rw u at e) .0)
+next-fine d n p l (w ∷ ws) (inr u) e = upper-fine Kind.auxiliaryUpper l w (passed _ p _ (rw u at e) .0)
 
 reading-ordered : (s : State) (p : ℕ) (ws : List ℕ) → firstFault fault after ended s p ws ≡ accepted → All Ordered (variables ws)
 unfolding firstFault variables
 reading-ordered s p [] e = tt
 reading-ordered s p (w ∷ ws) e =
-    let k = no-fault (fault s w ws) p (firstFault fault after ended (after s w) (p + 1) ws) e in
+    let k = passed (fault s w ws) p (firstFault fault after ended (after s w) (p + 1) ws) e in
     go (startsPair w) refl (eqb (kind w) Kind.boolean) (k .0) (k .1) (reading-ordered (after s w) (p + 1) ws (k .1))
   where
     zero-one-ordered : pos 0 ⊑ pos 1
@@ -131,5 +95,5 @@ unfolding readRows
 accepted-ordered ws e = go (ltb Limit.rowWords (length ws)) e
   where
     go : (t : Bool) → (Fault.tooManyWords at-place 0 if t else firstFault fault after ended begin 0 ws) ≡ accepted → All Ordered (variables ws)
-    go true e = absurd (let f = no-fault 1 0 accepted e .0 in omega arith)
+    go true e = absurd (let f = passed 1 0 accepted e .0 in omega arith)
     go false e = reading-ordered begin 0 ws e
