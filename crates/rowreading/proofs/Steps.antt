@@ -46,52 +46,14 @@ pub or-false : (a b : Bool) → (a || b) ≡ false → (a ≡ false) × (b ≡ f
 or-false true b e = false-true (sym e)
 or-false false b e = (refl, e)
 
-of-kind : (w k : ℕ) → startsKind k ≡ false → kind w ≡ k → startsKind (kind w) ≡ false
-of-kind w k z e = ap startsKind e ∙ z
-
 pub plain-started : (w : ℕ) → startsKind (kind w) ≡ false → started w ≡ 0
 unfolding started startsPair startsKind
 plain-started w e = rw (or-false ((eqb (kind w) Kind.lower || eqb (kind w) Kind.auxiliaryLower) || eqb (kind w) Kind.boolean) ((eqb (kind w) Kind.atMost || eqb (kind w) Kind.equal) || eqb (kind w) Kind.product) e .0)
 
--- the test of a kind, by each of the two ways in which it is written
-is-kind : (b : Bool) (x : ℕ) → 0 ≡ (Fault.wrongKind if not b else x) → b ≡ true
-is-kind true x e = refl
-is-kind false x e = absurd (omega arith)
+-- of a fault f of the word w: without it the word starts none of these, and only after the end is it that of one word more
+abbrev Inside : Due → ℕ → ℕ → Type 0
+Inside due w f = (0 ≡ f → startsKind (kind w) ≡ false) × (11 ≡ f → isEnded due ≡ true)
 
-no-upper : (k lower w : ℕ) → startsKind k ≡ false → 0 ≡ faultUpper k lower w → startsKind (kind w) ≡ false
-unfolding faultUpper
-no-upper k lower w z e = of-kind w k z (eqb-true (kind w) k (is-kind (eqb (kind w) k) _ e))
-
-no-variable : (n w : ℕ) → 0 ≡ faultVariable n w → startsKind (kind w) ≡ false
-unfolding faultVariable startsKind
-no-variable n w e = of-kind w Kind.variable refl (eqb-true (kind w) Kind.variable (is-kind (eqb (kind w) Kind.variable) _ e))
-
-no-number : (w : ℕ) → 0 ≡ faultNumber w → startsKind (kind w) ≡ false
-unfolding faultNumber startsKind
-no-number w e = of-kind w Kind.number refl (eqb-true (kind w) Kind.number (is-kind (eqb (kind w) Kind.number) _ e))
-
-no-result : (n w f g : ℕ) → 0 ≡ faultResult n w f g → startsKind (kind w) ≡ false
-unfolding faultResult startsKind
-no-result n w f g e = of-kind w Kind.variable refl (eqb-true (kind w) Kind.variable (is-kind (eqb (kind w) Kind.variable) _ e))
-
-plain-here : (due : Due) (n w : ℕ) (l : List ℕ) → T (inner due) → 0 ≡ faultDue due n w l → startsKind (kind w) ≡ false
-unfolding faultDue startsKind
-plain-here Source n w l i e = absurd i
-plain-here (SourceUpper lower) n w l i e = no-upper Kind.upper lower w refl e
-plain-here Item n w l i e = absurd i
-plain-here (AuxiliaryUpper lower) n w l i e = no-upper Kind.auxiliaryUpper lower w refl e
-plain-here (Terms left) n w l i e = go (ltb 0 left) e
-  where
-    go : (b : Bool) → 0 ≡ (faultVariable n w if b else faultNumber w) → startsKind (kind w) ≡ false
-    go true e = no-variable n w e
-    go false e = no-number w e
-plain-here (Coefficient left) n w l i e = no-number w e
-plain-here Result n w l i e = no-result n w _ _ e
-plain-here FirstFactor n w l i e = no-variable n w e
-plain-here SecondFactor n w l i e = no-variable n w e
-plain-here Ended n w l i e = absurd (omega arith)
-
--- the fault of a word after the end is no fault of another word
 never : (b : Bool) {x y : ℕ} → (11 ≡ x → ⊥) → (11 ≡ y → ⊥) → 11 ≡ (x if b else y) → ⊥
 never true f g e = f e
 never false f g e = g e
@@ -99,34 +61,47 @@ never false f g e = g e
 differs : {x : ℕ} → (eqb 11 x ≡ false) → 11 ≡ x → ⊥
 differs {x} f e = eqb-false 11 x f e
 
-not-upper : (k lower w : ℕ) → 11 ≡ faultUpper k lower w → ⊥
-unfolding faultUpper
-not-upper k lower w = never (not (eqb (kind w) k)) (differs {x = Fault.wrongKind} refl) (never (tooLow Limit.range w) (differs {x = Fault.lowestNumber} refl) (never (ltZ (signed w) (signed lower)) (differs {x = Fault.upperBelowLower} refl) (differs {x = Fault.none} refl)))
+-- where another kind than k has fault 3, and x is the fault of a word of kind k
+module _ (due : Due) where
+  of-kind : (k w x : ℕ) → startsKind k ≡ false → (11 ≡ x → ⊥) → Inside due w (Fault.wrongKind if not (eqb (kind w) k) else x)
+  of-kind k w x z n = go (eqb (kind w) k) refl
+    where
+      go : (b : Bool) → eqb (kind w) k ≡ b → Inside due w (Fault.wrongKind if not b else x)
+      go true e = (λ q. ap startsKind (eqb-true (kind w) k e) ∙ z, λ q. absurd (n q))
+      go false e = (λ q. absurd (omega arith), λ q. absurd (omega arith))
 
-not-variable : (n w : ℕ) → 11 ≡ faultVariable n w → ⊥
-unfolding faultVariable
-not-variable n w = never (not (eqb (kind w) Kind.variable)) (differs {x = Fault.wrongKind} refl) (never (leb n (payload w)) (differs {x = Fault.notDeclared} refl) (differs {x = Fault.none} refl))
+  upper-inside : (k lower w : ℕ) → startsKind k ≡ false → Inside due w (faultUpper k lower w)
+  unfolding faultUpper
+  upper-inside k lower w z = of-kind k w _ z (never (tooLow Limit.range w) (differs {x = Fault.lowestNumber} refl) (never (ltZ (signed w) (signed lower)) (differs {x = Fault.upperBelowLower} refl) (differs {x = Fault.none} refl)))
 
-not-number : (w : ℕ) → 11 ≡ faultNumber w → ⊥
-unfolding faultNumber
-not-number w = never (not (eqb (kind w) Kind.number)) (differs {x = Fault.wrongKind} refl) (never (tooLow Limit.range w) (differs {x = Fault.lowestNumber} refl) (differs {x = Fault.none} refl))
+  variable-inside : (n w : ℕ) → Inside due w (faultVariable n w)
+  unfolding faultVariable startsKind
+  variable-inside n w = of-kind Kind.variable w _ refl (never (leb n (payload w)) (differs {x = Fault.notDeclared} refl) (differs {x = Fault.none} refl))
 
-not-result : (n w f g : ℕ) → 11 ≡ faultResult n w f g → ⊥
-unfolding faultResult
-not-result n w f g = never (not (eqb (kind w) Kind.variable)) (differs {x = Fault.wrongKind} refl) (never (leb n (payload w)) (differs {x = Fault.notDeclared} refl) (never (notAbove w f g) (differs {x = Fault.resultNotAbove} refl) (differs {x = Fault.none} refl)))
+  number-inside : (w : ℕ) → Inside due w (faultNumber w)
+  unfolding faultNumber startsKind
+  number-inside w = of-kind Kind.number w _ refl (never (tooLow Limit.range w) (differs {x = Fault.lowestNumber} refl) (differs {x = Fault.none} refl))
 
-last-here : (due : Due) (n w : ℕ) (l : List ℕ) → T (inner due) → 11 ≡ faultDue due n w l → isEnded due ≡ true
-unfolding faultDue
-last-here Source n w l i e = absurd i
-last-here (SourceUpper lower) n w l i e = absurd (not-upper Kind.upper lower w e)
-last-here Item n w l i e = absurd i
-last-here (AuxiliaryUpper lower) n w l i e = absurd (not-upper Kind.auxiliaryUpper lower w e)
-last-here (Terms left) n w l i e = absurd (never (ltb 0 left) (not-variable n w) (not-number w) e)
-last-here (Coefficient left) n w l i e = absurd (not-number w e)
-last-here Result n w l i e = absurd (not-result n w _ _ e)
-last-here FirstFactor n w l i e = absurd (not-variable n w e)
-last-here SecondFactor n w l i e = absurd (not-variable n w e)
-last-here Ended n w l i e = refl
+  result-inside : (n w f g : ℕ) → Inside due w (faultResult n w f g)
+  unfolding faultResult startsKind
+  result-inside n w f g = of-kind Kind.variable w _ refl (never (leb n (payload w)) (differs {x = Fault.notDeclared} refl) (never (notAbove w f g) (differs {x = Fault.resultNotAbove} refl) (differs {x = Fault.none} refl)))
+
+word-inside : (due : Due) (n w : ℕ) (l : List ℕ) → T (inner due) → Inside due w (faultDue due n w l)
+unfolding faultDue startsKind
+word-inside Source n w l i = absurd i
+word-inside (SourceUpper lower) n w l i = upper-inside (SourceUpper lower) Kind.upper lower w refl
+word-inside Item n w l i = absurd i
+word-inside (AuxiliaryUpper lower) n w l i = upper-inside (AuxiliaryUpper lower) Kind.auxiliaryUpper lower w refl
+word-inside (Terms left) n w l i = go (ltb 0 left)
+  where
+    go : (b : Bool) → Inside (Terms left) w (faultVariable n w if b else faultNumber w)
+    go true = variable-inside (Terms left) n w
+    go false = number-inside (Terms left) w
+word-inside (Coefficient left) n w l i = number-inside (Coefficient left) w
+word-inside Result n w l i = result-inside Result n w _ _
+word-inside FirstFactor n w l i = variable-inside FirstFactor n w
+word-inside SecondFactor n w l i = variable-inside SecondFactor n w
+word-inside Ended n w l i = (λ e. absurd (omega arith), λ e. refl)
 
 -- ---- one word
 
@@ -141,14 +116,14 @@ step {ws} {due} {to} {n} {at} {f} i h e a = go (eqb f Fault.none) refl
         record {
           reads =
               go-on ws due n at z
-              ∙ ap (λ (k : ℕ). onward (afterDue due (wordAt ws at)) k (at + 1) ws) (ap (λ (s : ℕ). n + s) (plain-started (wordAt ws at) (plain-here due n (wordAt ws at) _ i z)) ∙ add-zero n)
+              ∙ ap (λ (k : ℕ). onward (afterDue due (wordAt ws at)) k (at + 1) ws) (ap (λ (s : ℕ). n + s) (plain-started (wordAt ws at) (word-inside due n (wordAt ws at) _ i .0 z)) ∙ add-zero n)
               ∙ rw (t, a);
           on = omega arith;
           inside = omega (arith, here ws due n at z);
-          plain = λ j l h. let k : at ≡ j = omega arith in rw (← k) (plain-here due n (wordAt ws at) _ i z);
-          last = λ k. last-here due n (wordAt ws at) _ i (sym k ∙ e);
+          plain = λ j l h. let k : at ≡ j = omega arith in rw (← k) (word-inside due n (wordAt ws at) _ i .0 z);
+          last = λ k. word-inside due n (wordAt ws at) _ i .1 (sym k ∙ e);
         }
-    go false t = record { reads = stop-at ws due n at f e (eqb-false f Fault.none t) ∙ rw t; on = omega arith; inside = h; plain = λ j l k. absurd (omega arith); last = λ k. last-here due n (wordAt ws at) _ i (sym k ∙ e) }
+    go false t = record { reads = stop-at ws due n at f e (eqb-false f Fault.none t) ∙ rw t; on = omega arith; inside = h; plain = λ j l k. absurd (omega arith); last = λ k. word-inside due n (wordAt ws at) _ i .1 (sym k ∙ e) }
 
 -- ---- one step after another
 

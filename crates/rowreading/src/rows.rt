@@ -22,14 +22,10 @@ pub fn starts_sum(w: u32) -> bool
 pub fn starts_row(w: u32) -> bool
     ensures { λ r. ⌜ r ≡ startsRow w ⌝ }
 {
-    let k = kind_of(w);
-    if k == kind::AT_MOST {
+    if starts_sum(w) {
         return true;
     }
-    if k == kind::EQUAL {
-        return true;
-    }
-    k == kind::PRODUCT
+    kind_of(w) == kind::PRODUCT
 }
 
 // The number of terms that a row's head word says.
