@@ -1,5 +1,5 @@
 -- What check's answer says: a refusal of the reading is check's, a refusal of check has its fault, and counts are those of a model that passes.
-use mathlib.Core.Path.{_≡_, refl, sym, _∙_}
+use mathlib.Core.Path.{_≡_, refl, sym, ap, _∙_}
 use mathlib.Core.Bool.{Bool}
 use mathlib.Core.List.{List, [], _∷_}
 use Prim.Native.Nat.{ℕ, zero, suc, _+_}
@@ -21,7 +21,7 @@ use Rattle.rules.specs.Translation.{bounds, shared, blockOf, auxiliaries, syste
 use Rattle.rules.specs.Check.{blocksFaultIn, checkFault, checkFaultIn, check, checkIn}
 use Rattle.rules.specs.InRange.{blockFault, blocksFault}
 use Rattle.sharing.specs.SharedSolutions.{Passes}
-use Rattle.sharing.proofs.Accepts.{no-fault}
+use Rattle.sharing.proofs.Accepts.{no-fault, passes-read}
 
 -- ---- a refusal whose number is 0 is `accepted`
 
@@ -62,6 +62,10 @@ pub read-refused : {ws hs : List ℕ} {r : Read} → Kept ws hs r → (r .number
 unfolding checkIn checkFaultIn
 read-refused {ws} {hs} {r} k f =
     rw (← k .refusal) (first-answers (r .number) (r .place) (blocksFault (bounds ws) (shared ws) (length (variables ws)) noneYet (constraints ws)) _ f)
+
+-- a model that passes is read without a fault
+pub read-passes : {ws hs : List ℕ} {r : Read} → Kept ws hs r → Passes ws → r .number ≡ 0
+read-passes {ws} k h = ap (λ (x : Refusal). x .number) (k .refusal ∙ passes-read ws h)
 
 -- a refusal of check stands before every other
 pub check-stands : (ws : List ℕ) {n p : ℕ} → refused n p ≡ check ws → (n ≡ 0 → ⊥) × ((after : Refusal) → (checkFault ws else-refuse after) ≡ (n at-place p))

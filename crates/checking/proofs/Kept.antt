@@ -18,11 +18,11 @@ use Rattle.modelreading.proofs.Heads.{front-inside, front-variables}
 use Rattle.rules.specs.Translation.{bounds}
 use Rattle.extremes.specs.Bounded.{boundsOf, Bounded}
 use Rattle.extremes.proofs.Kept.{lowersKept, uppersKept, kept-bounds, lowers-bounded, uppers-bounded}
-use Rattle.linearsums.specs.Places.{NoneFrom, SumsKept}
+use Rattle.linearsums.specs.Places.{NoneFrom}
 use Rattle.linearsums.specs.Sum.{Summed}
 use Rattle.linearsums.proofs.Filling.{none-from}
 use Rattle.linearsums.proofs.Model.{sum-here}
-use Rattle.checking.specs.ModelBounds.{ModelBounds, modelSums}
+use Rattle.checking.specs.ModelBounds.{ModelBounds, ModelSums}
 
 -- ---- the bounds
 
@@ -76,6 +76,6 @@ module _ {ws hs : List ℕ} {r : Read} {ls us : List ℤ} {uses : List ℕ} (m :
     pub head-at : drop k (constraints ws) ≡ headed ws (getD hs k 0) ∷ drop (k + 1) (constraints ws)
     head-at = Heads.head-at (m .seen .heads) k l
 
-    pub summed-at : (lows highs : List ℤ) → SumsKept lows highs (r .constraints) (modelSums ws hs r ls us) → Summed (boundsOf ls us) (payload (wordAt ws (getD hs k 0))) (drop (getD hs k 0 + 1) ws) (boundsOf lows highs k)
+    pub summed-at : (lows highs : List ℤ) → ModelSums ws hs r ls us lows highs → Summed (boundsOf ls us) (payload (wordAt ws (getD hs k 0))) (drop (getD hs k 0 + 1) ws) (boundsOf lows highs k)
     unfolding boundsIn
     summed-at lows highs kept = rw (kept k l) (sum-here ws hs (boundsOf ls us) (+0 to +0) (λ v. (m .lowers v, m .uppers v)) (r .constraints) k l few-constraints)

@@ -6,12 +6,11 @@ use Prim.Native.Nat.{ℕ}
 use lib.IntN.{ℤ}
 use lib.ListN.{replicate}
 use Rattle.integers.specs.Number.{+0}
-use Rattle.integers.specs.declared.Bounds.{Bounds}
 use Rattle.modelreading.specs.Seen.{Seen, Kept}
 use Rattle.modelreading.specs.declared.Read.{Read}
 use Rattle.rules.specs.Translation.{bounds, shared}
 use Rattle.extremes.specs.Bounded.{boundsOf, Bounded}
-use Rattle.linearsums.specs.Places.{sumsUpTo}
+use Rattle.linearsums.specs.Places.{sumsUpTo, SumsKept}
 use Rattle.encodings.specs.Uses.{sharedBy}
 
 -- a list for the bounds of 256 variables
@@ -27,5 +26,5 @@ pub record ModelBounds (ws hs : List ℕ) (r : Read) (ls us : List ℤ) (uses : 
   pub shares : sharedBy uses ≡ shared ws
 
 -- L and U of each constraint
-abbrev pub modelSums : List ℕ → List ℕ → Read → List ℤ → List ℤ → List Bounds
-modelSums ws hs r ls us = sumsUpTo ws hs (boundsOf ls us) (r .constraints)
+abbrev pub ModelSums : List ℕ → List ℕ → Read → List ℤ → List ℤ → List ℤ → List ℤ → Type 0
+ModelSums ws hs r ls us lows highs = SumsKept lows highs (r .constraints) (sumsUpTo ws hs (boundsOf ls us) (r .constraints))

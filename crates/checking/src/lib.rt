@@ -2,18 +2,18 @@
 ghost use mathlib.Core.Path.{_≡_};
 ghost use Prim.Native.Nat.{_+_, _<_, _≤_};
 ghost use lib.Dec.{ltb};
+ghost use lib.ListN.{length};
 ghost use Rattle.integers.specs.Choice.{_if_else_};
-ghost use Rattle.modelreading.specs.Seen.{Kept};
 ghost use Rattle.rules.specs.Shared.{noneYet};
 ghost use Rattle.rules.specs.Check.{tooWide, check as checkAnswer};
+ghost use Rattle.sharing.specs.SharedSolutions.{Passes};
 ghost use Rattle.extremes.specs.Bounded.{boundsOf, Bounded};
-ghost use Rattle.linearsums.specs.Places.{SumsKept};
 ghost use Rattle.linearsums.specs.Sum.{Summed};
 ghost use Rattle.encodings.specs.Uses.{sharedBy, Recorded};
 ghost use Rattle.checking.specs.Checked.{checked};
 ghost use Rattle.blocks.specs.Coded.{constraintOf, hasAll};
 ghost use Rattle.checking.specs.Walk.{Costs};
-ghost use Rattle.checking.specs.ModelBounds.{ModelBounds, noBounds, modelSums};
+ghost use Rattle.checking.specs.ModelBounds.{ModelBounds, ModelSums, noBounds};
 use arguments::var_at;
 use blocks::block;
 use encodings::count_uses;
@@ -49,42 +49,18 @@ pub enum Checked {
     },
 }
 
+// What is known of a model: what the reading kept, and check's answer.
+pub struct Known {
+    pub read: Read,
+    pub checked: Checked,
+}
+
 // What one constraint costs: its fault, 0 for none, and what its block counts.
 pub struct Cost {
     pub fault: u32,
     pub auxiliaries: usize,
     pub rows: usize,
     pub words: usize,
-}
-
-// The bounds and the uses of the variables of a model that was read without a fault go into three lists of 256 zeros, L and U of its constraints into two.
-pub fn model_bounds(
-    ws: &[u32],
-    heads: &[usize; 256],
-    read: Read,
-    lowers: &mut [i64],
-    uppers: &mut [i64],
-    uses: &mut [usize],
-    lows: &mut [i64],
-    highs: &mut [i64],
-)
-    requires { ⌜ Kept (now ws) (now heads) read × (read .number ≡ 0) × (now lowers ≡ noBounds) × (now uppers ≡ noBounds) × (now uses ≡ noneYet) × (now lows ≡ noBounds) × (now highs ≡ noBounds) ⌝ }
-    ensures bounds { λ r. ⌜ ModelBounds (now (ws .entry)) (now (heads .entry)) read (now (lowers .exit)) (now (uppers .exit)) (now (uses .exit)) ⌝ }
-    ensures sums { λ r. ⌜ SumsKept (now (lows .exit)) (now (highs .exit)) (read .constraints) (modelSums (now (ws .entry)) (now (heads .entry)) read (now (lowers .exit)) (now (uppers .exit))) ⌝ }
-{
-    let sources = read.sources;
-    keep_bounds(&ws[..sources], lowers, uppers);
-    count_uses(ws, heads, read.constraints, uses);
-    model_sums(
-        ws,
-        heads,
-        read.constraints,
-        lowers,
-        uppers,
-        read.variables,
-        lows,
-        highs,
-    )
 }
 
 // Whether a constraint has an auxiliary for each value of its first argument.
@@ -156,7 +132,7 @@ fn cost_of(
 }
 
 // The first fault of 12 to 14 of a model that was read without a fault, or what it needs.
-pub fn check_read(
+fn check_read(
     ws: &[u32],
     heads: &[usize; 256],
     read: Read,
@@ -166,7 +142,7 @@ pub fn check_read(
     lows: &[i64],
     highs: &[i64],
 ) -> Checked
-    requires { ⌜ ModelBounds (now ws) (now heads) read (now ls) (now us) (now uses) × SumsKept (now lows) (now highs) (read .constraints) (modelSums (now ws) (now heads) read (now ls) (now us)) ⌝ }
+    requires { ⌜ ModelBounds (now ws) (now heads) read (now ls) (now us) (now uses) × ModelSums (now ws) (now heads) read (now ls) (now us) (now lows) (now highs) ⌝ }
     ensures { λ r. ⌜ checked r ≡ checkAnswer (now (ws .entry)) ⌝ }
 {
     let variables = read.variables;
@@ -203,32 +179,67 @@ pub fn check_read(
     }
 }
 
+// Check's answer and what the reading kept. Where the model passes, its bounds and uses go into three lists of 256 zeros, L and U of its constraints into two.
+pub fn check_model(
+    ws: &[u32],
+    heads: &mut [usize; 256],
+    lowers: &mut [i64],
+    uppers: &mut [i64],
+    uses: &mut [usize],
+    lows: &mut [i64],
+    highs: &mut [i64],
+) -> Known
+    requires { ⌜ (length (now heads) ≡ 256) × (now lowers ≡ noBounds) × (now uppers ≡ noBounds) × (now uses ≡ noneYet) × (now lows ≡ noBounds) × (now highs ≡ noBounds) ⌝ }
+    ensures answer { λ r. ⌜ checked (r .checked) ≡ checkAnswer (now (ws .entry)) ⌝ }
+    ensures bounds { λ r. ⌜ (Passes (now (ws .entry)) → ModelBounds (now (ws .entry)) (now (heads .exit)) (r .read) (now (lowers .exit)) (now (uppers .exit)) (now (uses .exit))) ⌝ }
+    ensures sums { λ r. ⌜ (Passes (now (ws .entry)) → ModelSums (now (ws .entry)) (now (heads .exit)) (r .read) (now (lowers .exit)) (now (uppers .exit)) (now (lows .exit)) (now (highs .exit))) ⌝ }
+{
+    let read = read_model(ws, heads);
+    if read.number != fault::NONE {
+        return Known {
+            read,
+            checked: Checked::Refused(Refusal {
+                number: read.number,
+                place: read.place,
+            }),
+        };
+    }
+    let sources = read.sources;
+    keep_bounds(&ws[..sources], lowers, uppers);
+    count_uses(ws, heads, read.constraints, uses);
+    model_sums(
+        ws,
+        heads,
+        read.constraints,
+        lowers,
+        uppers,
+        read.variables,
+        lows,
+        highs,
+    );
+    let checked = check_read(ws, heads, read, lowers, uppers, uses, lows, highs);
+    Known { read, checked }
+}
+
 // What the model needs, or its first fault of 1 to 14 and 18.
 pub fn check(ws: &[u32]) -> Checked
     ensures { λ r. ⌜ checked r ≡ checkAnswer (now (ws .entry)) ⌝ }
 {
     let mut heads = [0usize; 256];
-    let read = read_model(ws, &mut heads);
-    if read.number != fault::NONE {
-        return Checked::Refused(Refusal {
-            number: read.number,
-            place: read.place,
-        });
-    }
     let mut lowers = [0i64; 256];
     let mut uppers = [0i64; 256];
     let mut uses = [0usize; 256];
     let mut lows = [0i64; 256];
     let mut highs = [0i64; 256];
-    model_bounds(
+    let known = check_model(
         ws,
-        &heads,
-        read,
+        &mut heads,
         &mut lowers,
         &mut uppers,
         &mut uses,
         &mut lows,
         &mut highs,
     );
-    check_read(ws, &heads, read, &lowers, &uppers, &uses, &lows, &highs)
+    let checked = known.checked;
+    checked
 }

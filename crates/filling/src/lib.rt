@@ -14,12 +14,10 @@ ghost use Rattle.filling.specs.PicksWritable.{PicksWritable};
 ghost use Rattle.filling.specs.Satisfied.{Satisfied};
 ghost use Rattle.filling.specs.HandsOver.{HandsOver};
 use checking::Checked;
-use checking::check_read;
-use checking::model_bounds;
+use checking::check_model;
 use encodings::record_encoding;
 use modeljudge::judge_read;
 use modelreading::Read;
-use modelreading::read_model;
 use picking::pick_constraint;
 use words::Refusal;
 use words::Verdict;
@@ -154,29 +152,23 @@ pub fn fill(ws: &[u32], values: &[i32], out: &mut [i32]) -> Filled
     ensures completes { λ r. ⌜ HandsOver (now (ws .entry)) (now (values .entry)) (handed r) (now (out .entry)) (now (out .exit)) ⌝ }
 {
     let mut heads = [0usize; 256];
-    let read = read_model(ws, &mut heads);
-    if read.number != fault::NONE {
-        return Filled::Refused(Refusal {
-            number: read.number,
-            place: read.place,
-        });
-    }
     let mut lowers = [0i64; 256];
     let mut uppers = [0i64; 256];
     let mut uses = [0usize; 256];
     let mut lows = [0i64; 256];
     let mut highs = [0i64; 256];
-    model_bounds(
+    let known = check_model(
         ws,
-        &heads,
-        read,
+        &mut heads,
         &mut lowers,
         &mut uppers,
         &mut uses,
         &mut lows,
         &mut highs,
     );
-    match check_read(ws, &heads, read, &lowers, &uppers, &uses, &lows, &highs) {
+    let read = known.read;
+    let checked = known.checked;
+    match checked {
         Checked::Refused(refusal) => Filled::Refused(refusal),
         Checked::Counts {
             variables: _,

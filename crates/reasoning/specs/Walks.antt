@@ -32,11 +32,10 @@ use Rattle.sharing.specs.SharedSolutions.{Passes}
 use Rattle.reasons.specs.Reason.{none, explained, inBlock, firstFailing}
 use Rattle.laying.specs.declared.Laid.{Laid}
 use Rattle.extremes.specs.Bounded.{boundsOf, Bounded}
-use Rattle.linearsums.specs.Places.{SumsKept}
 use Rattle.linearsums.specs.Sum.{Summed}
 use Rattle.encodings.specs.Uses.{sharedBy, Recorded}
 use Rattle.blocks.specs.Coded.{constraintOf, blockAt}
-use Rattle.checking.specs.ModelBounds.{ModelBounds, modelSums}
+use Rattle.checking.specs.ModelBounds.{ModelBounds, ModelSums}
 use Rattle.reasoning.specs.declared.Said.{Said}
 use Rattle.reasoning.specs.declared.Stopped.{Stopped}
 
@@ -112,13 +111,13 @@ pub record Judged (bounds : Bool) (vs : List ℤ) (first k : ℕ) (B : Block) (r
 -- a model that passes the check, with its bounds, its sums and how many auxiliaries it has
 abbrev pub CheckedModel : List ℕ → List ℕ → Read → List ℤ → List ℤ → List ℕ → List ℤ → List ℤ → ℕ → Type 0
 CheckedModel ws hs r ls us uses lows highs added =
-    ModelBounds ws hs r ls us uses × SumsKept lows highs (r .constraints) (modelSums ws hs r ls us) × Passes ws × (added ≡ length (auxiliaries ws))
+    ModelBounds ws hs r ls us uses × ModelSums ws hs r ls us lows highs × Passes ws × (added ≡ length (auxiliaries ws))
 
 -- a model that passes the check, with its bounds, its sums, and as many values as its row system has variables
 pub record PassedModel (ws hs : List ℕ) (r : Read) (ls us : List ℤ) (uses : List ℕ) (lows highs vs : List ℤ) : Type 0 where
   pub passes : Passes ws
   pub model : ModelBounds ws hs r ls us uses
-  pub sums-are : SumsKept lows highs (r .constraints) (modelSums ws hs r ls us)
+  pub sums-are : ModelSums ws hs r ls us lows highs
   pub counted : length vs ≡ length (variables ws) + length (auxiliaries ws)
 
 -- where a walk over the blocks stops, and the constraint whose block says so: the first auxiliary of all that is out of bounds; else the first row that

@@ -5,10 +5,8 @@ ghost use Rattle.reasons.specs.Reason.{reason as reasonAnswer, answerOr, none};
 ghost use Rattle.reasoning.specs.Told.{told};
 ghost use Rattle.reasoning.specs.Walks.{CheckedModel};
 use checking::Checked;
-use checking::check_read;
-use checking::model_bounds;
+use checking::check_model;
 use modelreading::Read;
-use modelreading::read_model;
 use variables::first_out_of_bounds;
 use walks::first_failing;
 use walks::walk;
@@ -99,29 +97,23 @@ pub fn reason(ws: &[u32], values: &[i32]) -> Reasoned
     ensures { λ r. ⌜ told r ≡ reasonAnswer (now (ws .entry)) (now (values .entry)) ⌝ }
 {
     let mut heads = [0usize; 256];
-    let read = read_model(ws, &mut heads);
-    if read.number != fault::NONE {
-        return Reasoned::Refused(Refusal {
-            number: read.number,
-            place: read.place,
-        });
-    }
     let mut lowers = [0i64; 256];
     let mut uppers = [0i64; 256];
     let mut uses = [0usize; 256];
     let mut lows = [0i64; 256];
     let mut highs = [0i64; 256];
-    model_bounds(
+    let known = check_model(
         ws,
-        &heads,
-        read,
+        &mut heads,
         &mut lowers,
         &mut uppers,
         &mut uses,
         &mut lows,
         &mut highs,
     );
-    match check_read(ws, &heads, read, &lowers, &uppers, &uses, &lows, &highs) {
+    let read = known.read;
+    let checked = known.checked;
+    match checked {
         Checked::Refused(refusal) => Reasoned::Refused(refusal),
         Checked::Counts {
             variables: _,

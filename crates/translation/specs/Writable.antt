@@ -9,8 +9,7 @@ use Rattle.modelreading.specs.declared.Read.{Read}
 use Rattle.rules.specs.Shared.{noneYet}
 use Rattle.rules.specs.Translation.{bounds, shared, blocksWords}
 use Rattle.sharing.specs.SharedSolutions.{Passes}
-use Rattle.linearsums.specs.Places.{SumsKept}
-use Rattle.checking.specs.ModelBounds.{ModelBounds, modelSums}
+use Rattle.checking.specs.ModelBounds.{ModelBounds, ModelSums}
 
 -- the words of all blocks
 abbrev pub allBlocks : List ℕ → List ℕ
@@ -19,4 +18,4 @@ allBlocks ws = blocksWords (bounds ws) (shared ws) (length (variables ws)) noneY
 -- what writing n words of the row system to a list of so many wants: a model that passes the check, its bounds and its sums
 abbrev pub Writable : List ℕ → List ℕ → Read → List ℤ → List ℤ → List ℕ → List ℤ → List ℤ → ℕ → ℕ → Type 0
 Writable ws hs r ls us uses lows highs n room =
-    ModelBounds ws hs r ls us uses × SumsKept lows highs (r .constraints) (modelSums ws hs r ls us) × Passes ws × (n ≤ room)
+    ModelBounds ws hs r ls us uses × ModelSums ws hs r ls us lows highs × Passes ws × (n ≤ room)

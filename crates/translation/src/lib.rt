@@ -5,9 +5,7 @@ ghost use Rattle.words.specs.Written.{wrote};
 ghost use Rattle.rules.specs.Translate.{translate as translateAnswer, translated};
 ghost use Rattle.translation.specs.Shares.{Shares};
 use checking::Checked;
-use checking::check_read;
-use checking::model_bounds;
-use modelreading::read_model;
+use checking::check_model;
 use words::Refusal;
 use words::Written;
 use words::fault;
@@ -22,29 +20,23 @@ pub fn translate(ws: &[u32], out: &mut [u32]) -> Written
     ensures shared { λ r. ⌜ Shares (now (ws .entry)) (wrote r) (now (out .exit)) ⌝ }
 {
     let mut heads = [0usize; 256];
-    let read = read_model(ws, &mut heads);
-    if read.number != fault::NONE {
-        return Written::Refused(Refusal {
-            number: read.number,
-            place: read.place,
-        });
-    }
     let mut lowers = [0i64; 256];
     let mut uppers = [0i64; 256];
     let mut uses = [0usize; 256];
     let mut lows = [0i64; 256];
     let mut highs = [0i64; 256];
-    model_bounds(
+    let known = check_model(
         ws,
-        &heads,
-        read,
+        &mut heads,
         &mut lowers,
         &mut uppers,
         &mut uses,
         &mut lows,
         &mut highs,
     );
-    match check_read(ws, &heads, read, &lowers, &uppers, &uses, &lows, &highs) {
+    let read = known.read;
+    let checked = known.checked;
+    match checked {
         Checked::Refused(refusal) => Written::Refused(refusal),
         Checked::Counts {
             variables: _,
