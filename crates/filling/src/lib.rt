@@ -33,14 +33,16 @@ pub enum Filled {
     False(usize),
 }
 
-// Lays values over the front of a list, those that fit.
-fn lay_values(out: &mut [i32], values: &[i32])
-    ensures { λ r. ⌜ now (out .exit) ≡ overlay (now (out .entry)) 0 (now (values .entry)) ⌝ }
+// Lays values over a list from a place on, those that fit.
+pub fn lay_values(out: &mut [i32], at: usize, values: &[i32])
+    requires { ⌜ at + length (now values) < 1099511627776 ⌝ }
+    ensures { λ r. ⌜ now (out .exit) ≡ overlay (now (out .entry)) at (now (values .entry)) ⌝ }
 {
     let mut i = 0;
     while i < values.len() {
-        if i < out.len() {
-            out[i] = values[i];
+        let place = at + i;
+        if place < out.len() {
+            out[place] = values[i];
         }
         i += 1;
     }
@@ -99,7 +101,7 @@ fn write_filled(
     requires { ⌜ ModelBounds (now ws) (now heads) read (now ls) (now us) (now uses) × Passes (now ws) × SatisfiesModel (now ws) (now values) ⌝ }
     ensures { λ r. ⌜ now (out .exit) ≡ overlay (now (out .entry)) 0 (now (values .entry) ++ picks (now (ws .entry)) (now (values .entry))) ⌝ }
 {
-    lay_values(out, values);
+    lay_values(out, 0, values);
     write_picks(ws, heads, read, ls, us, uses, values, out, values.len());
 }
 

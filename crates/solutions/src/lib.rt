@@ -2,7 +2,7 @@
 ghost use mathlib.Core.Path.{_≡_};
 ghost use mathlib.Core.Bool.{not};
 ghost use mathlib.Core.List.{flatten};
-ghost use Prim.Native.Nat.{min, _+_, _*_, _<_};
+ghost use Prim.Native.Nat.{min, _*_, _<_};
 ghost use lib.Dec.{ltb};
 ghost use lib.IntN.{natAbs};
 ghost use lib.ListN.{length, set};
@@ -23,6 +23,7 @@ use checking::check;
 use extremes::bound_at;
 use extremes::keep_bounds;
 use extremes::width_of;
+use filling::lay_values;
 use integers::plus;
 use integers::test::below;
 use modeljudge::first_false;
@@ -112,21 +113,6 @@ fn all_true(ws: &[u32], heads: &[usize; 256], m: usize, values: &[i32]) -> bool
     ensures { λ r. ⌜ r ≡ allTrue (now (ws .entry)) (now (values .entry)) ⌝ }
 {
     is_holds(first_false(ws, heads, m, values))
-}
-
-// Lays values over a list from a place on, those that fit.
-fn lay_values(out: &mut [i32], at: usize, values: &[i32])
-    requires { ⌜ at + length (now values) < 1099511627776 ⌝ }
-    ensures { λ r. ⌜ now (out .exit) ≡ overlay (now (out .entry)) at (now (values .entry)) ⌝ }
-{
-    let mut i = 0;
-    while i < values.len() {
-        let place = at + i;
-        if place < out.len() {
-            out[place] = values[i];
-        }
-        i += 1;
-    }
 }
 
 // Lays the solutions from a value list on over the front of a list, one after another; how many there are.

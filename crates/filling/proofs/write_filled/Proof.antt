@@ -1,10 +1,14 @@
 -- The values, then the picks of the definition, which are in the range.
 use mathlib.Core.Path.{_∙_}
+use native.Mathlib.Omega.{arith}
 use borrow.Author.Needs.{needs}
 use Rattle.picking.proofs.Picks.{values-then}
 use Rattle.filling.proofs.Ranges.{values-small, picks-ranged, picks-fit}
 use Rattle.filling.proofs.write_filled.Statement.{statement}
 use Rattle.filling.proofs.write_filled.Tie as tie
+
+lay-values-requires : tie.Need-lay-values-requires
+lay-values-requires c κs = let s = c .before .before .before in omega (arith, picks-fit (s .args .ws .now) (s .pre .1) (s .args .values .now) (s .pre .2))
 
 write-picks-requires : tie.Need-write-picks-requires
 write-picks-requires c κs =
@@ -22,7 +26,7 @@ pub write-filled-spec : {M : Type 1} → statement M
 write-filled-spec =
     tie.close
     (tie.spec
-    (λ c κs. search needs)
+    lay-values-requires
     write-picks-requires
     (λ c. search needs)
     returns)
