@@ -61,42 +61,6 @@ recorded c =
     let at = getD (a .heads .now) (l .constraints) 0 in
     placed-record (sharedBy (a .uses .now)) (a .read .variables + l .auxiliaries) (l .encoded) (headed (a .ws .now) at) (rw (c .before .before .before .before .before .before .before .before .before .payload-of .ensures, tail-is (a .ws .now) (at + 1)) at (c .record-encoding .ensures))
 
-add-words : tie.Need-add-words Inv-loop μ-loop
-add-words c = omega (arith, few-sources (c .before .before .before .pre .0))
-
-loop-holds : tie.Need-loop-holds Inv-loop μ-loop
-loop-holds c = begun _ _ _ _ _ (few-variables (c .before .before .before .pre .0))
-
-mul-place : tie.Need-mul-place Inv-loop μ-loop
-mul-place c = record { fits = omega (arith, few c) }
-
-element-copy-out-place : tie.Need-element-copy-out-place Inv-loop μ-loop
-element-copy-out-place c = few c
-
-mul-payload-of : tie.Need-mul-payload-of Inv-loop μ-loop
-mul-payload-of c = let h = inside (c .before) in search needs
-
-shared-slice-read-payload-of : tie.Need-shared-slice-read-payload-of Inv-loop μ-loop
-shared-slice-read-payload-of c = inside (c .before .before)
-
-add-first : tie.Need-add-first Inv-loop μ-loop
-add-first c = omega (arith, c .before .before .before .before .before .loop .inv .room)
-
-add-cost-of : tie.Need-add-cost-of Inv-loop μ-loop
-add-cost-of c = let h = inside (c .before .before .before .before) in search needs
-
-mul-cost-of : tie.Need-mul-cost-of Inv-loop μ-loop
-mul-cost-of c = let h = inside (c .before .before .before .before) in search needs
-
-sub-cost-of : tie.Need-sub-cost-of Inv-loop μ-loop
-sub-cost-of c = let h = inside (c .before .before .before .before) in search needs
-
-part-cost-of-start : tie.Need-part-cost-of-start Inv-loop μ-loop
-part-cost-of-start c = omega (arith, inside (c .before .before .before .before))
-
-slice-aggregate-cost-of : tie.Need-slice-aggregate-cost-of Inv-loop μ-loop
-slice-aggregate-cost-of c = sym (c .before .before .before .before .before .before .before .loop .inv .many)
-
 cost-of-requires : tie.Need-cost-of-requires Inv-loop μ-loop
 unfolding wordAt
 cost-of-requires c κs =
@@ -111,36 +75,6 @@ returns c =
     let m = c .before .before .before .before .before .before .before .before .before .before .before .before .before .before .pre .0 in
     let l = c .before .before .before .before .before .before .before .before .before .before .loop in
     stop (l .inv) (head-at m (l .constraints) (c .before .before .before .before .before .before .before .before .before .loop-test .taken)) (costs (c .before .before)) (c .if1 .taken) ∙ all-checked m
-
-slice-aggregate-record-encoding : tie.Need-slice-aggregate-record-encoding Inv-loop μ-loop
-slice-aggregate-record-encoding c = sym (c .before .before .before .before .before .before .before .before .before .before .before .loop .inv .many)
-
-add-record-encoding : tie.Need-add-record-encoding Inv-loop μ-loop
-add-record-encoding c = let h = inside (c .before .before .before .before .before .before .before .before .before .before) in search needs
-
-mul-record-encoding : tie.Need-mul-record-encoding Inv-loop μ-loop
-mul-record-encoding c = let h = inside (c .before .before .before .before .before .before .before .before .before .before) in search needs
-
-sub-record-encoding : tie.Need-sub-record-encoding Inv-loop μ-loop
-sub-record-encoding c = let h = inside (c .before .before .before .before .before .before .before .before .before .before) in search needs
-
-part-record-encoding-start : tie.Need-part-record-encoding-start Inv-loop μ-loop
-part-record-encoding-start c = omega (arith, inside (c .before .before .before .before .before .before .before .before .before .before))
-
-add-constraints : tie.Need-add-constraints Inv-loop μ-loop
-add-constraints c = omega (arith, few (c .before .before .before .before .before .before .before .before .before .before .before .before .before))
-
-add-auxiliaries : tie.Need-add-auxiliaries Inv-loop μ-loop
-add-auxiliaries c = omega (arith, fit (c .before .before .before .before .before .before .before))
-
-add-rows : tie.Need-add-rows Inv-loop μ-loop
-add-rows c = omega (arith, fit (c .before .before .before .before .before .before .before .before))
-
-add-words-2 : tie.Need-add-words-2 Inv-loop μ-loop
-add-words-2 c = omega (arith, fit (c .before .before .before .before .before .before .before .before .before))
-
-loop-less : tie.Need-loop-less Inv-loop μ-loop
-loop-less c = omega (arith, c .before .before .before .before .before .before .before .before .before .before .before .before .before .before .before .before .loop-test .taken)
 
 loop-again : tie.Need-loop-again Inv-loop μ-loop
 loop-again c =
@@ -160,34 +94,34 @@ check-read-spec =
     (tie.spec
     Inv-loop
     μ-loop
-    add-words
-    loop-holds
-    mul-place
-    element-copy-out-place
-    mul-payload-of
-    shared-slice-read-payload-of
+    (λ c. omega (arith, few-sources (c .before .before .before .pre .0)))
+    (λ c. begun _ _ _ _ _ (few-variables (c .before .before .before .pre .0)))
+    (λ c. record { fits = omega (arith, few c) })
+    few
+    (λ c. let h = inside (c .before) in search needs)
+    (λ c. inside (c .before .before))
     (λ c κs. search needs)
     (λ c κs. search needs)
-    add-first
-    add-cost-of
-    mul-cost-of
-    sub-cost-of
-    part-cost-of-start
+    (λ c. omega (arith, c .before .before .before .before .before .loop .inv .room))
+    (λ c. let h = inside (c .before .before .before .before) in search needs)
+    (λ c. let h = inside (c .before .before .before .before) in search needs)
+    (λ c. let h = inside (c .before .before .before .before) in search needs)
+    (λ c. omega (arith, inside (c .before .before .before .before)))
     (λ c. search needs)
-    slice-aggregate-cost-of
+    (λ c. sym (c .before .before .before .before .before .before .before .loop .inv .many))
     cost-of-requires
     returns
-    slice-aggregate-record-encoding
-    add-record-encoding
-    mul-record-encoding
-    sub-record-encoding
-    part-record-encoding-start
+    (λ c. sym (c .before .before .before .before .before .before .before .before .before .before .before .loop .inv .many))
+    (λ c. let h = inside (c .before .before .before .before .before .before .before .before .before .before) in search needs)
+    (λ c. let h = inside (c .before .before .before .before .before .before .before .before .before .before) in search needs)
+    (λ c. let h = inside (c .before .before .before .before .before .before .before .before .before .before) in search needs)
+    (λ c. omega (arith, inside (c .before .before .before .before .before .before .before .before .before .before)))
     (λ c. search needs)
     (λ c κs. search needs)
-    add-constraints
-    add-auxiliaries
-    add-rows
-    add-words-2
-    loop-less
+    (λ c. omega (arith, few (c .before .before .before .before .before .before .before .before .before .before .before .before .before)))
+    (λ c. omega (arith, fit (c .before .before .before .before .before .before .before)))
+    (λ c. omega (arith, fit (c .before .before .before .before .before .before .before .before)))
+    (λ c. omega (arith, fit (c .before .before .before .before .before .before .before .before .before)))
+    (λ c. omega (arith, c .before .before .before .before .before .before .before .before .before .before .before .before .before .before .before .before .loop-test .taken))
     loop-again
     returns-2)

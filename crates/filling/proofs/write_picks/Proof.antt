@@ -48,36 +48,6 @@ recorded c =
     let at = getD (a .heads .now) (l .k) 0 in
     placed-record (sharedBy (a .uses .now)) (l .at) (l .encoded) (headed (a .ws .now) at) (rw (c .before .before .before .before .before .before .before .before .payload-of .ensures, tail-is (a .ws .now) (at + 1)) at (c .record-encoding .ensures))
 
-loop-holds : tie.Need-loop-holds Inv-loop μ-loop
-loop-holds c = let s = c .before .before in begun _ _ _ _ _ _ _ (rw (← same s) (s .pre .2))
-
-mul-place : tie.Need-mul-place Inv-loop μ-loop
-mul-place c = record { fits = omega (arith, few c) }
-
-element-copy-out-place : tie.Need-element-copy-out-place Inv-loop μ-loop
-element-copy-out-place c = few c
-
-mul-payload-of : tie.Need-mul-payload-of Inv-loop μ-loop
-mul-payload-of c = let h = inside (c .before) in search needs
-
-shared-slice-read-payload-of : tie.Need-shared-slice-read-payload-of Inv-loop μ-loop
-shared-slice-read-payload-of c = inside (c .before .before)
-
-add-pick-constraint : tie.Need-add-pick-constraint Inv-loop μ-loop
-add-pick-constraint c = let h = inside (c .before .before .before .before) in search needs
-
-mul-pick-constraint : tie.Need-mul-pick-constraint Inv-loop μ-loop
-mul-pick-constraint c = let h = inside (c .before .before .before .before) in search needs
-
-sub-pick-constraint : tie.Need-sub-pick-constraint Inv-loop μ-loop
-sub-pick-constraint c = let h = inside (c .before .before .before .before) in search needs
-
-part-pick-constraint-start : tie.Need-part-pick-constraint-start Inv-loop μ-loop
-part-pick-constraint-start c = omega (arith, inside (c .before .before .before .before))
-
-slice-aggregate-pick-constraint : tie.Need-slice-aggregate-pick-constraint Inv-loop μ-loop
-slice-aggregate-pick-constraint c = sym (c .before .before .before .before .before .before .before .loop .inv .length-is)
-
 pick-constraint-requires : tie.Need-pick-constraint-requires Inv-loop μ-loop
 unfolding wordAt
 pick-constraint-requires c κs =
@@ -94,24 +64,6 @@ pick-constraint-requires c κs =
       ranged = rw (c .before .before .before .payload-of .ensures, tail-is (a .ws .now) (at + 1)) (here-ranged (l .inv) (head-at m (l .k) (c .before .before .before .before .before .before .loop-test .taken)) (block-picks (a .ls .now) (a .us .now) (a .uses .now) (l .encoded) (a .values .now) (headed (a .ws .now) at)));
     }
 
-slice-aggregate-record-encoding : tie.Need-slice-aggregate-record-encoding Inv-loop μ-loop
-slice-aggregate-record-encoding c = sym (c .before .before .before .before .before .before .before .before .before .before .loop .inv .length-is)
-
-add-record-encoding : tie.Need-add-record-encoding Inv-loop μ-loop
-add-record-encoding c = let h = inside (c .before .before .before .before .before .before .before .before .before) in search needs
-
-mul-record-encoding : tie.Need-mul-record-encoding Inv-loop μ-loop
-mul-record-encoding c = let h = inside (c .before .before .before .before .before .before .before .before .before) in search needs
-
-sub-record-encoding : tie.Need-sub-record-encoding Inv-loop μ-loop
-sub-record-encoding c = let h = inside (c .before .before .before .before .before .before .before .before .before) in search needs
-
-part-record-encoding-start : tie.Need-part-record-encoding-start Inv-loop μ-loop
-part-record-encoding-start c = omega (arith, inside (c .before .before .before .before .before .before .before .before .before))
-
-add-k : tie.Need-add-k Inv-loop μ-loop
-add-k c = omega (arith, few (c .before .before .before .before .before .before .before .before .before .before .before .before))
-
 loop-again : tie.Need-loop-again Inv-loop μ-loop
 unfolding wordAt
 loop-again c =
@@ -122,9 +74,6 @@ loop-again c =
     picked (l .inv) (head-at (s .pre .0) (l .k) (c .before .before .before .before .before .before .before .before .before .before .before .before .loop-test .taken)) (block-picks (a .ls .now) (a .us .now) (a .uses .now) (l .encoded) (a .values .now) (headed (a .ws .now) at))
     (rw (c .before .before .before .before .before .before .before .before .before .payload-of .ensures, tail-is (a .ws .now) (at + 1)) at (c .before .before .before .before .before .pick-constraint .ensures)) (recorded (c .before))
 
-same-length : tie.Need-same-length Inv-loop μ-loop
-same-length c = ap length (ended (c .before .loop .inv) (none-left (c .before .before .before .before .pre .0) (c .loop-test .left))) ∙ simp length-overlay
-
 returns : tie.Need-returns Inv-loop μ-loop
 returns c = let s = c .before .before .before .before in rw (same s) (ended (c .before .loop .inv) (none-left (s .pre .0) (c .loop-test .left)))
 
@@ -134,28 +83,28 @@ write-picks-spec =
     (tie.spec
     Inv-loop
     μ-loop
-    loop-holds
-    mul-place
-    element-copy-out-place
-    mul-payload-of
-    shared-slice-read-payload-of
+    (λ c. let s = c .before .before in begun _ _ _ _ _ _ _ (rw (← same s) (s .pre .2)))
+    (λ c. record { fits = omega (arith, few c) })
+    few
+    (λ c. let h = inside (c .before) in search needs)
+    (λ c. inside (c .before .before))
     (λ c κs. search needs)
-    add-pick-constraint
-    mul-pick-constraint
-    sub-pick-constraint
-    part-pick-constraint-start
+    (λ c. let h = inside (c .before .before .before .before) in search needs)
+    (λ c. let h = inside (c .before .before .before .before) in search needs)
+    (λ c. let h = inside (c .before .before .before .before) in search needs)
+    (λ c. omega (arith, inside (c .before .before .before .before)))
     (λ c. search needs)
-    slice-aggregate-pick-constraint
+    (λ c. sym (c .before .before .before .before .before .before .before .loop .inv .length-is))
     pick-constraint-requires
-    slice-aggregate-record-encoding
-    add-record-encoding
-    mul-record-encoding
-    sub-record-encoding
-    part-record-encoding-start
+    (λ c. sym (c .before .before .before .before .before .before .before .before .before .before .loop .inv .length-is))
+    (λ c. let h = inside (c .before .before .before .before .before .before .before .before .before) in search needs)
+    (λ c. let h = inside (c .before .before .before .before .before .before .before .before .before) in search needs)
+    (λ c. let h = inside (c .before .before .before .before .before .before .before .before .before) in search needs)
+    (λ c. omega (arith, inside (c .before .before .before .before .before .before .before .before .before)))
     (λ c. search needs)
     (λ c κs. search needs)
-    add-k
+    (λ c. omega (arith, few (c .before .before .before .before .before .before .before .before .before .before .before .before)))
     (λ c. search needs)
     loop-again
-    same-length
+    (λ c. ap length (ended (c .before .loop .inv) (none-left (c .before .before .before .before .pre .0) (c .loop-test .left))) ∙ simp length-overlay)
     returns)

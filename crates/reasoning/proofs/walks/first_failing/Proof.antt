@@ -26,33 +26,6 @@ returns : tie.Need-returns
 unfolding told
 returns c = c .before .before .walk .ensures .none-fails refl _ (sym (c .before .is-holds .ensures) ∙ c .if1 .taken)
 
-mul-place : tie.Need-mul-place
-mul-place c = record { fits = omega (arith, few c) }
-
-element-copy-out-place : tie.Need-element-copy-out-place
-element-copy-out-place c = few c
-
-mul-payload-of : tie.Need-mul-payload-of
-mul-payload-of c = let h = inside (c .before) in search needs
-
-shared-slice-read-payload-of : tie.Need-shared-slice-read-payload-of
-shared-slice-read-payload-of c = inside (c .before .before)
-
-add-holds : tie.Need-add-holds
-add-holds c = let h = inside (c .before .before .before) in search needs
-
-mul-holds : tie.Need-mul-holds
-mul-holds c = let h = inside (c .before .before .before) in search needs
-
-sub-holds : tie.Need-sub-holds
-sub-holds c = let h = inside (c .before .before .before) in search needs
-
-part-holds-start : tie.Need-part-holds-start
-part-holds-start c = omega (arith, inside (c .before .before .before))
-
-slice-aggregate-holds : tie.Need-slice-aggregate-holds
-slice-aggregate-holds c = sources-length (c .before .before .before .before .before .before .before .before .before .before .pre .0)
-
 holds-requires : tie.Need-holds-requires
 holds-requires c κs = sources-small (c .before .before .before .before .before .before .before .before .before .before .pre .0) (c .before .before .before .before .before .before .before .before .before .before .pre .1)
 
@@ -72,17 +45,17 @@ first-failing-spec =
     (λ c κs. search needs)
     (λ c κs. search needs)
     returns
-    mul-place
-    element-copy-out-place
-    mul-payload-of
-    shared-slice-read-payload-of
+    (λ c. record { fits = omega (arith, few c) })
+    few
+    (λ c. let h = inside (c .before) in search needs)
+    (λ c. inside (c .before .before))
     (λ c κs. search needs)
-    add-holds
-    mul-holds
-    sub-holds
-    part-holds-start
+    (λ c. let h = inside (c .before .before .before) in search needs)
+    (λ c. let h = inside (c .before .before .before) in search needs)
+    (λ c. let h = inside (c .before .before .before) in search needs)
+    (λ c. omega (arith, inside (c .before .before .before)))
     (λ c. search needs)
-    slice-aggregate-holds
+    (λ c. sources-length (c .before .before .before .before .before .before .before .before .before .before .pre .0))
     holds-requires
     (λ c κs. search needs)
     returns-2)

@@ -31,39 +31,6 @@ few c = omega (arith, c .loop-test .taken, few-constraints (c .before .before .b
 inside : (c : tie.In-loop Inv-loop μ-loop) → let a = c .before .before .before .before .args in getD (a .heads .now) (c .before .loop .k) 0 < length (a .ws .now)
 inside c = head-inside (c .before .before .before .before .pre .0 .model) (c .before .loop .k) (c .loop-test .taken)
 
-loop-holds : tie.Need-loop-holds Inv-loop μ-loop
-loop-holds c = (walking (c .before .before .pre .0), length-replicate {A = ℕ} 3072 0)
-
-mul-place : tie.Need-mul-place Inv-loop μ-loop
-mul-place c = record { fits = omega (arith, few c) }
-
-element-copy-out-place : tie.Need-element-copy-out-place Inv-loop μ-loop
-element-copy-out-place c = few c
-
-mul-payload-of : tie.Need-mul-payload-of Inv-loop μ-loop
-mul-payload-of c = let h = inside (c .before) in search needs
-
-shared-slice-read-payload-of : tie.Need-shared-slice-read-payload-of Inv-loop μ-loop
-shared-slice-read-payload-of c = inside (c .before .before)
-
-slice-aggregate-judge-block : tie.Need-slice-aggregate-judge-block Inv-loop μ-loop
-slice-aggregate-judge-block c = sym (c .before .before .before .before .before .before .loop .inv .1)
-
-add-judge-block : tie.Need-add-judge-block Inv-loop μ-loop
-add-judge-block c = let h = inside (c .before .before .before .before .before) in search needs
-
-mul-judge-block : tie.Need-mul-judge-block Inv-loop μ-loop
-mul-judge-block c = let h = inside (c .before .before .before .before .before) in search needs
-
-sub-judge-block : tie.Need-sub-judge-block Inv-loop μ-loop
-sub-judge-block c = let h = inside (c .before .before .before .before .before) in search needs
-
-part-judge-block-start : tie.Need-part-judge-block-start Inv-loop μ-loop
-part-judge-block-start c = omega (arith, inside (c .before .before .before .before .before))
-
-slice-aggregate-judge-block-2 : tie.Need-slice-aggregate-judge-block-2 Inv-loop μ-loop
-slice-aggregate-judge-block-2 c = sym (c .before .before .before .before .before .before .before .before .loop .inv .0 .walk .many)
-
 judge-block-requires : tie.Need-judge-block-requires Inv-loop μ-loop
 unfolding wordAt blockOf builtin choice
 judge-block-requires c κs =
@@ -79,24 +46,6 @@ returns c =
     let s = c .before .before .before .before .before .before .before .before .before .before .before .before .before .before .before in
     let l = c .before .before .before .before .before .before .before .before .before .before .before .before .loop in
     walk-stopped (l .inv .0) (head-at (s .pre .0 .model) (l .k) (c .before .before .before .before .before .before .before .before .before .before .before .loop-test .taken)) (rw (c .before .before .before .before .before .before .before .before .payload-of .ensures, tail-is (s .args .ws .now) (getD (s .args .heads .now) (l .k) 0 + 1)) at (c .before .before .before .judge-block .ensures)) (omega (arith, c .before .before .before .before .before .before .before .before .before .before .before .loop-test .taken, s .pre .0 .model .seen .heads .counted)) (sym (c .before .is-holds .ensures) ∙ not-true _ (c .if1 .taken))
-
-slice-aggregate-record-encoding : tie.Need-slice-aggregate-record-encoding Inv-loop μ-loop
-slice-aggregate-record-encoding c = sym (c .before .before .before .before .before .before .before .before .before .before .before .before .before .loop .inv .0 .walk .many)
-
-add-record-encoding : tie.Need-add-record-encoding Inv-loop μ-loop
-add-record-encoding c = let h = inside (c .before .before .before .before .before .before .before .before .before .before .before .before) in search needs
-
-mul-record-encoding : tie.Need-mul-record-encoding Inv-loop μ-loop
-mul-record-encoding c = let h = inside (c .before .before .before .before .before .before .before .before .before .before .before .before) in search needs
-
-sub-record-encoding : tie.Need-sub-record-encoding Inv-loop μ-loop
-sub-record-encoding c = let h = inside (c .before .before .before .before .before .before .before .before .before .before .before .before) in search needs
-
-part-record-encoding-start : tie.Need-part-record-encoding-start Inv-loop μ-loop
-part-record-encoding-start c = omega (arith, inside (c .before .before .before .before .before .before .before .before .before .before .before .before))
-
-add-k : tie.Need-add-k Inv-loop μ-loop
-add-k c = omega (arith, few (c .before .before .before .before .before .before .before .before .before .before .before .before .before .before .before))
 
 add-first : tie.Need-add-first Inv-loop μ-loop
 unfolding wordAt blockOf builtin choice
@@ -126,31 +75,31 @@ walk-spec =
     (tie.spec
     Inv-loop
     μ-loop
-    loop-holds
-    mul-place
-    element-copy-out-place
-    mul-payload-of
-    shared-slice-read-payload-of
+    (λ c. (walking (c .before .before .pre .0), length-replicate {A = ℕ} 3072 0))
+    (λ c. record { fits = omega (arith, few c) })
+    few
+    (λ c. let h = inside (c .before) in search needs)
+    (λ c. inside (c .before .before))
     (λ c κs. search needs)
     (λ c κs. search needs)
-    slice-aggregate-judge-block
-    add-judge-block
-    mul-judge-block
-    sub-judge-block
-    part-judge-block-start
+    (λ c. sym (c .before .before .before .before .before .before .loop .inv .1))
+    (λ c. let h = inside (c .before .before .before .before .before) in search needs)
+    (λ c. let h = inside (c .before .before .before .before .before) in search needs)
+    (λ c. let h = inside (c .before .before .before .before .before) in search needs)
+    (λ c. omega (arith, inside (c .before .before .before .before .before)))
     (λ c. search needs)
-    slice-aggregate-judge-block-2
+    (λ c. sym (c .before .before .before .before .before .before .before .before .loop .inv .0 .walk .many))
     judge-block-requires
     (λ c κs. search needs)
     returns
-    slice-aggregate-record-encoding
-    add-record-encoding
-    mul-record-encoding
-    sub-record-encoding
-    part-record-encoding-start
+    (λ c. sym (c .before .before .before .before .before .before .before .before .before .before .before .before .before .loop .inv .0 .walk .many))
+    (λ c. let h = inside (c .before .before .before .before .before .before .before .before .before .before .before .before) in search needs)
+    (λ c. let h = inside (c .before .before .before .before .before .before .before .before .before .before .before .before) in search needs)
+    (λ c. let h = inside (c .before .before .before .before .before .before .before .before .before .before .before .before) in search needs)
+    (λ c. omega (arith, inside (c .before .before .before .before .before .before .before .before .before .before .before .before)))
     (λ c. search needs)
     (λ c κs. search needs)
-    add-k
+    (λ c. omega (arith, few (c .before .before .before .before .before .before .before .before .before .before .before .before .before .before .before)))
     add-first
     add-rows
     (λ c. search needs)

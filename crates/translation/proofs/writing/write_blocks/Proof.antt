@@ -76,48 +76,6 @@ recorded c =
     let at = getD (a .heads .now) (l .k) 0 in
     placed-record (sharedBy (a .uses .now)) (l .first) (l .encoded) (headed (a .ws .now) at) (rw (c .before .before .before .before .before .before .before .before .before .before .payload-of .ensures, tail-is (a .ws .now) (at + 1)) at (c .record-encoding .ensures))
 
-loop-holds : tie.Need-loop-holds Inv-loop μ-loop
-loop-holds c = let m = c .before .before .before .pre .0 in begun _ _ _ _ _ _ (few-variables m) (all-fine m (c .before .before .before .pre .2))
-
-mul-place : tie.Need-mul-place Inv-loop μ-loop
-mul-place c = record { fits = omega (arith, few c) }
-
-element-copy-out-place : tie.Need-element-copy-out-place Inv-loop μ-loop
-element-copy-out-place c = few c
-
-mul-payload-of : tie.Need-mul-payload-of Inv-loop μ-loop
-mul-payload-of c = let h = inside (c .before) in search needs
-
-shared-slice-read-payload-of : tie.Need-shared-slice-read-payload-of Inv-loop μ-loop
-shared-slice-read-payload-of c = inside (c .before .before)
-
-mul-block : tie.Need-mul-block Inv-loop μ-loop
-mul-block c = let h = small (c .before .before .before .before .before) in search needs
-
-sub-block : tie.Need-sub-block Inv-loop μ-loop
-sub-block c = omega (arith, fits (c .before .before .before .before .before))
-
-part-block-start : tie.Need-part-block-start Inv-loop μ-loop
-part-block-start c = omega (arith, fits (c .before .before .before .before .before))
-
-part-block-end : tie.Need-part-block-end Inv-loop μ-loop
-part-block-end c = omega (arith, fits (c .before .before .before .before .before))
-
-add-block : tie.Need-add-block Inv-loop μ-loop
-add-block c = let h = inside (c .before .before .before .before .before) in search needs
-
-mul-block-2 : tie.Need-mul-block-2 Inv-loop μ-loop
-mul-block-2 c = let h = inside (c .before .before .before .before .before) in search needs
-
-sub-block-2 : tie.Need-sub-block-2 Inv-loop μ-loop
-sub-block-2 c = let h = inside (c .before .before .before .before .before) in search needs
-
-part-block-start-2 : tie.Need-part-block-start-2 Inv-loop μ-loop
-part-block-start-2 c = omega (arith, inside (c .before .before .before .before .before))
-
-slice-aggregate-block : tie.Need-slice-aggregate-block Inv-loop μ-loop
-slice-aggregate-block c = sym (c .before .before .before .before .before .before .before .before .loop .inv .many)
-
 block-requires : tie.Need-block-requires Inv-loop μ-loop
 unfolding wordAt
 block-requires c κs =
@@ -134,24 +92,6 @@ block-requires c κs =
       l .inv .recorded,
       rw (c .before .before .before .before .payload-of .ensures, tail-is (a .ws .now) (at + 1), c .before .before .before .sum-at .ensures) (summed-at m (l .k) t (a .lows .now) (a .highs .now) (s .pre .1)),
     )
-
-slice-aggregate-record-encoding : tie.Need-slice-aggregate-record-encoding Inv-loop μ-loop
-slice-aggregate-record-encoding c = sym (c .before .before .before .before .before .before .before .before .before .before .before .before .loop .inv .many)
-
-add-record-encoding : tie.Need-add-record-encoding Inv-loop μ-loop
-add-record-encoding c = let h = inside (c .before .before .before .before .before .before .before .before .before .before .before) in search needs
-
-mul-record-encoding : tie.Need-mul-record-encoding Inv-loop μ-loop
-mul-record-encoding c = let h = inside (c .before .before .before .before .before .before .before .before .before .before .before) in search needs
-
-sub-record-encoding : tie.Need-sub-record-encoding Inv-loop μ-loop
-sub-record-encoding c = let h = inside (c .before .before .before .before .before .before .before .before .before .before .before) in search needs
-
-part-record-encoding-start : tie.Need-part-record-encoding-start Inv-loop μ-loop
-part-record-encoding-start c = omega (arith, inside (c .before .before .before .before .before .before .before .before .before .before .before))
-
-add-k : tie.Need-add-k Inv-loop μ-loop
-add-k c = omega (arith, few (c .before .before .before .before .before .before .before .before .before .before .before .before .before .before))
 
 add-first : tie.Need-add-first Inv-loop μ-loop
 add-first c = omega (arith, c .before .before .before .before .before .before .before .before .before .before .before .before .before .before .before .before .loop .inv .room, c .before .before .before .before .before .before .before .block .ensures .1)
@@ -170,9 +110,6 @@ loop-again c =
     (block-back (l .first) (blockOf (boundsOf (a .ls .now) (a .us .now)) (sharedBy (a .uses .now)) (l .encoded) (headed (a .ws .now) (getD (a .heads .now) (l .k) 0))) (l .at) (l .out) (fits (c .before .before .before .before .before .before .before .before .before .before .before .before .before .before .before .before .before)) (not-outside (l .inv) h) w)
     (recorded (c .before .before .before))
 
-same-length : tie.Need-same-length Inv-loop μ-loop
-same-length c = c .before .loop .inv .same
-
 returns : tie.Need-returns Inv-loop μ-loop
 returns c =
     let m = c .before .before .before .before .before .pre .0 in
@@ -184,35 +121,35 @@ write-blocks-spec =
     (tie.spec
     Inv-loop
     μ-loop
-    loop-holds
-    mul-place
-    element-copy-out-place
-    mul-payload-of
-    shared-slice-read-payload-of
+    (λ c. let m = c .before .before .before .pre .0 in begun _ _ _ _ _ _ (few-variables m) (all-fine m (c .before .before .before .pre .2)))
+    (λ c. record { fits = omega (arith, few c) })
+    few
+    (λ c. let h = inside (c .before) in search needs)
+    (λ c. inside (c .before .before))
     (λ c κs. search needs)
     (λ c κs. search needs)
-    mul-block
-    sub-block
-    part-block-start
-    part-block-end
-    add-block
-    mul-block-2
-    sub-block-2
-    part-block-start-2
+    (λ c. let h = small (c .before .before .before .before .before) in search needs)
+    (λ c. omega (arith, fits (c .before .before .before .before .before)))
+    (λ c. omega (arith, fits (c .before .before .before .before .before)))
+    (λ c. omega (arith, fits (c .before .before .before .before .before)))
+    (λ c. let h = inside (c .before .before .before .before .before) in search needs)
+    (λ c. let h = inside (c .before .before .before .before .before) in search needs)
+    (λ c. let h = inside (c .before .before .before .before .before) in search needs)
+    (λ c. omega (arith, inside (c .before .before .before .before .before)))
     (λ c. search needs)
-    slice-aggregate-block
+    (λ c. sym (c .before .before .before .before .before .before .before .before .loop .inv .many))
     block-requires
-    slice-aggregate-record-encoding
-    add-record-encoding
-    mul-record-encoding
-    sub-record-encoding
-    part-record-encoding-start
+    (λ c. sym (c .before .before .before .before .before .before .before .before .before .before .before .before .loop .inv .many))
+    (λ c. let h = inside (c .before .before .before .before .before .before .before .before .before .before .before) in search needs)
+    (λ c. let h = inside (c .before .before .before .before .before .before .before .before .before .before .before) in search needs)
+    (λ c. let h = inside (c .before .before .before .before .before .before .before .before .before .before .before) in search needs)
+    (λ c. omega (arith, inside (c .before .before .before .before .before .before .before .before .before .before .before)))
     (λ c. search needs)
     (λ c κs. search needs)
-    add-k
+    (λ c. omega (arith, few (c .before .before .before .before .before .before .before .before .before .before .before .before .before .before)))
     add-first
     add-at
     (λ c. search needs)
     loop-again
-    same-length
+    (λ c. c .before .loop .inv .same)
     returns)
