@@ -3,26 +3,26 @@
 // Of a text each word is a byte; of a word above 255 the lowest byte counts.
 // A call that writes is lent the front of a longer list, as long as the room; what it may not write is looked at afterwards.
 use bitform::bit_form;
+use cases::input::Head;
+use cases::input::next_head;
+use cases::input::read_bytes;
+use cases::input::read_values;
+use cases::input::read_words;
+use cases::lent::BYTE_MARK;
+use cases::lent::VALUE_MARK;
+use cases::lent::WORD_MARK;
+use cases::lent::bytes_within;
+use cases::lent::values_within;
+use cases::lent::words_within;
+use cases::output::print_verdict;
 use checking::check;
 use filling::fill;
-use input::Head;
-use input::next_head;
-use input::read_bytes;
-use input::read_values;
-use input::read_words;
-use lent::BYTE_MARK;
-use lent::VALUE_MARK;
-use lent::WORD_MARK;
-use lent::bytes_within;
-use lent::values_within;
-use lent::words_within;
 use modeljudge::judge_model;
 use output::print_checked;
 use output::print_filled;
 use output::print_found;
 use output::print_printed;
 use output::print_reasoned;
-use output::print_verdict;
 use output::print_written;
 use pairs::pair_check;
 use pairs::pair_fill;
@@ -35,8 +35,6 @@ use solutions::solutions;
 use texts::read_text;
 use translation::translate;
 
-mod input;
-mod lent;
 mod output;
 
 // The calls, as a case numbers them.
