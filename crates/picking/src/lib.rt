@@ -172,31 +172,6 @@ fn values_product(args: &[u32], i: usize, j: usize, values: &[i32]) -> i64
     times(value_of(args, i, values), value_of(args, j, values))
 }
 
-// 4: whether a is above b.
-fn pick_ne(out: &mut [i32], at: usize, args: &[u32], values: &[i32]) -> usize
-    requires { ⌜ Pickable at [] [] (now values) (plainPicks (now values) 4 (now args)) ⌝ }
-    ensures { λ r. ⌜ Overlaid at r (now (out .entry)) (now (out .exit)) (plainPicks (now (values .entry)) 4 (now (args .entry))) ⌝ }
-{
-    let above = below(value_of(args, 1, values), value_of(args, 0, values));
-    put_bit(out, at, above)
-}
-
-// 7: the product of a and b.
-fn pick_times(out: &mut [i32], at: usize, args: &[u32], values: &[i32]) -> usize
-    requires { ⌜ Pickable at [] [] (now values) (plainPicks (now values) 7 (now args)) ⌝ }
-    ensures { λ r. ⌜ Overlaid at r (now (out .entry)) (now (out .exit)) (plainPicks (now (values .entry)) 7 (now (args .entry))) ⌝ }
-{
-    put(out, at, values_product(args, 0, 1, values))
-}
-
-// 8: the sign of x.
-fn pick_abs(out: &mut [i32], at: usize, args: &[u32], values: &[i32]) -> usize
-    requires { ⌜ Pickable at [] [] (now values) (plainPicks (now values) 8 (now args)) ⌝ }
-    ensures { λ r. ⌜ Overlaid at r (now (out .entry)) (now (out .exit)) (plainPicks (now (values .entry)) 8 (now (args .entry))) ⌝ }
-{
-    put_sign(out, at, value_of(args, 0, values))
-}
-
 // 9, 29: whether a is not c.
 fn pick_max(out: &mut [i32], at: usize, args: &[u32], values: &[i32]) -> usize
     requires { ⌜ Pickable at [] [] (now values) (plainPicks (now values) 9 (now args)) ⌝ }
@@ -204,14 +179,6 @@ fn pick_max(out: &mut [i32], at: usize, args: &[u32], values: &[i32]) -> usize
 {
     let same = equal(value_of(args, 0, values), value_of(args, 2, values));
     put_bit(out, at, !same)
-}
-
-// 12, 13, 32: the sum less the constant, and its sign.
-fn pick_linear(out: &mut [i32], at: usize, args: &[u32], values: &[i32]) -> usize
-    requires { ⌜ Pickable at [] [] (now values) (plainPicks (now values) 12 (now args)) ⌝ }
-    ensures { λ r. ⌜ Overlaid at r (now (out .entry)) (now (out .exit)) (plainPicks (now (values .entry)) 12 (now (args .entry))) ⌝ }
-{
-    put_signed(out, at, sum_less(args, values))
 }
 
 // 14, 31: a less b, and its sign.
@@ -224,14 +191,6 @@ fn pick_difference(out: &mut [i32], at: usize, args: &[u32], values: &[i32]) -> 
         at,
         minus(value_of(args, 0, values), value_of(args, 1, values)),
     )
-}
-
-// 15: the sum less the constant.
-fn pick_sum(out: &mut [i32], at: usize, args: &[u32], values: &[i32]) -> usize
-    requires { ⌜ Pickable at [] [] (now values) (plainPicks (now values) 15 (now args)) ⌝ }
-    ensures { λ r. ⌜ Overlaid at r (now (out .entry)) (now (out .exit)) (plainPicks (now (values .entry)) 15 (now (args .entry))) ⌝ }
-{
-    put(out, at, sum_less(args, values))
 }
 
 // 20, 34: the products of r with a and with b.
@@ -497,14 +456,18 @@ fn pick_block(
     ensures { λ r. ⌜ Overlaid at r (now (out .entry)) (now (out .exit)) (picksOf (now (ls .entry)) (now (us .entry)) (now (values .entry)) code (now (args .entry))) ⌝ }
 {
     match code {
-        4 => pick_ne(out, at, args, values),
-        7 => pick_times(out, at, args, values),
-        8 => pick_abs(out, at, args, values),
+        4 => put_bit(
+            out,
+            at,
+            below(value_of(args, 1, values), value_of(args, 0, values)),
+        ),
+        7 => put(out, at, values_product(args, 0, 1, values)),
+        8 => put_sign(out, at, value_of(args, 0, values)),
         9 => pick_max(out, at, args, values),
-        12 => pick_linear(out, at, args, values),
-        13 => pick_linear(out, at, args, values),
+        12 => put_signed(out, at, sum_less(args, values)),
+        13 => put_signed(out, at, sum_less(args, values)),
         14 => pick_difference(out, at, args, values),
-        15 => pick_sum(out, at, args, values),
+        15 => put(out, at, sum_less(args, values)),
         20 => pick_xor(out, at, args, values),
         23 => pick_odd(out, at, args, values),
         24 => pick_element(out, at, args, ls, us, values),
@@ -514,7 +477,7 @@ fn pick_block(
         28 => pick_set_reif(out, at, args, ls, us, values),
         29 => pick_max(out, at, args, values),
         31 => pick_difference(out, at, args, values),
-        32 => pick_linear(out, at, args, values),
+        32 => put_signed(out, at, sum_less(args, values)),
         33 => pick_maximum(out, at, args, values),
         34 => pick_xor(out, at, args, values),
         37 => pick_div(out, at, args, values),
