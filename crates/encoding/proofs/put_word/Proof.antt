@@ -5,12 +5,8 @@ use borrow.Author.Needs.{needs}
 use Rattle.encoding.proofs.put_word.Statement.{statement}
 use Rattle.encoding.proofs.put_word.Tie as tie
 
+returns-2 : tie.Need-returns-2
+returns-2 c = sym (set-out _ _ _ (c .if1 .left))
+
 pub put-word-spec : {M : Type 1} → statement M
-put-word-spec =
-    tie.close
-    (tie.spec
-    (λ c. search needs)
-    (λ c. search needs)
-    (λ c. search needs)
-    (λ c. search needs)
-    (λ c. sym (set-out _ _ _ (c .if1 .left))))
+put-word-spec = tie.close (tie.spec (λ c. search needs) (λ c. search needs) (λ c. search needs) (λ c. search needs) returns-2)

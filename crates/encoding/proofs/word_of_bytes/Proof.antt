@@ -5,15 +5,11 @@ use Rattle.encoding.specs.Bytes.{bytesWord}
 use Rattle.encoding.proofs.word_of_bytes.Statement.{statement}
 use Rattle.encoding.proofs.word_of_bytes.Tie as tie
 
-pub word-of-bytes-spec : {M : Type 1} → statement M
+returns : tie.Need-returns
 unfolding bytesWord
+returns c = refl
+
+pub word-of-bytes-spec : {M : Type 1} → statement M
 word-of-bytes-spec =
     tie.close
-    (tie.spec
-    (λ c. search needs)
-    (λ c. search needs)
-    (λ c. search needs)
-    (λ c. search needs)
-    (λ c. search needs)
-    (λ c. search needs)
-    (λ c. refl))
+    (tie.spec (λ c. search needs) (λ c. search needs) (λ c. search needs) (λ c. search needs) (λ c. search needs) (λ c. search needs) returns)
