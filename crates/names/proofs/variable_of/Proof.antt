@@ -29,84 +29,54 @@ next-token-requires : tie.Need-next-token-requires Inv-loop μ-loop
 next-token-requires c κs = omega (arith, c .loop-test .taken)
 
 returns : tie.Need-returns Inv-loop μ-loop
-returns c =
-    let text = c .before .before .before .before .before .before .args .text .now in
-    let p = c .before .before .before .before .before .before .args .place in
-    let x = take (c .before .before .before .before .before .before .args .stop - p) (drop p text) in
-    let k = c .before .before .before .before .loop .k in
-    let colon = c .before .before .before .before .loop .after-colon in
-    let inv = c .before .before .before .before .loop .inv .2 in
-    let m = c .before .before .next-token .ensures in
-    sym (inv ∙ look-end x k p colon (met-end m (c .if1 .taken)))
+returns c = let s = c .before .before .before .before in sym (s .loop .inv .2 ∙ look-end _ _ _ _ (met-end (c .before .before .next-token .ensures) (c .if1 .taken)))
 
 returns-2 : tie.Need-returns-2 Inv-loop μ-loop
 unfolding spanned
 returns-2 c =
-    let text = c .before .before .before .before .before .before .before .before .args .text .now in
-    let p = c .before .before .before .before .before .before .before .before .args .place in
-    let x = take (c .before .before .before .before .before .before .before .before .args .stop - p) (drop p text) in
-    let k = c .before .before .before .before .before .before .loop .k in
-    let colon = c .before .before .before .before .before .before .loop .after-colon in
-    let inv = c .before .before .before .before .before .before .loop .inv .2 in
-    let m = c .before .before .before .before .next-token .ensures in
-    sym (inv ∙ look-past x k p colon (spanned text (c .before .before .before .before .next-token .result)) (met-token m (c .before .before .if1 .left)) (c .if2 .taken))
+    let t = c .before .before .before .before in
+    let s = t .before .before in
+    sym (s .loop .inv .2 ∙ look-past _ _ _ _ (spanned (s .before .before .args .text .now) (t .next-token .result)) (met-token (t .next-token .ensures) (c .before .before .if1 .left)) (c .if2 .taken))
 
 is-declared-here-requires : tie.Need-is-declared-here-requires Inv-loop μ-loop
 is-declared-here-requires c κs = let m = c .before .before .before .before .next-token .ensures in (c .before .before .before .before .before .before .before .before .pre .0, c .before .before .before .before .before .before .before .before .pre .1, omega (arith, m .longer (c .before .before .if1 .left)), m .inside)
 
-add-result : tie.Need-add-result Inv-loop μ-loop
-add-result c = search needs
-
 returns-3 : tie.Need-returns-3 Inv-loop μ-loop
 unfolding spanned
 returns-3 c =
-    let text = c .before .before .before .before .before .before .before .before .before .before .args .text .now in
-    let p = c .before .before .before .before .before .before .before .before .before .before .args .place in
-    let x = take (c .before .before .before .before .before .before .before .before .before .before .args .stop - p) (drop p text) in
-    let k = c .before .before .before .before .before .before .before .before .loop .k in
-    let colon = c .before .before .before .before .before .before .before .before .loop .after-colon in
-    let inv = c .before .before .before .before .before .before .before .before .loop .inv .2 in
-    let m = c .before .before .before .before .before .before .next-token .ensures in
-    sym (inv ∙ look-here x k p colon (spanned text (c .before .before .before .before .before .before .next-token .result)) (met-token m (c .before .before .before .before .if1 .left)) (c .before .before .if2 .left) (c .before .is-declared-here .ensures) (c .if3 .taken))
-
-one-if-requires : tie.Need-one-if-requires Inv-loop μ-loop
-one-if-requires c κs = search needs
+    let t = c .before .before .before .before .before .before in
+    let s = t .before .before in
+    let m = met-token (t .next-token .ensures) (c .before .before .before .before .if1 .left) in
+    sym (s .loop .inv .2 ∙ look-here _ _ _ _ (spanned (s .before .before .args .text .now) (t .next-token .result)) m (c .before .before .if2 .left) (c .before .is-declared-here .ensures) (c .if3 .taken))
 
 add-k : tie.Need-add-k Inv-loop μ-loop
 add-k c = omega (arith, one-at-most (c .before .before .before .before .before .before .before .before .before .loop .after-colon), c .one-if .ensures, c .before .before .before .before .before .before .before .before .before .loop .inv .1, c .before .before .before .before .before .before .before .before .loop-test .taken)
 
 loop-less : tie.Need-loop-less Inv-loop μ-loop
 loop-less c =
-    let text = c .before .before .before .before .before .before .before .before .before .before .before .before .args .text .now in
-    let p = c .before .before .before .before .before .before .before .before .before .before .before .before .args .place in
-    let x = take (c .before .before .before .before .before .before .before .before .before .before .before .before .args .stop - p) (drop p text) in
-    let k = c .before .before .before .before .before .before .before .before .before .before .loop .k in
-    let colon = c .before .before .before .before .before .before .before .before .before .before .loop .after-colon in
-    let inv = c .before .before .before .before .before .before .before .before .before .before .loop .inv .2 in
-    let m = c .before .before .before .before .before .before .before .before .next-token .ensures in
-    omega (arith, m .longer (c .before .before .before .before .before .before .if1 .left), m .onward, m .inside, c .before .before .before .before .before .before .before .before .before .loop-test .taken)
+    let t = c .before .before .before .before .before .before .before .before in
+    let m = t .next-token .ensures in
+    omega (arith, m .longer (c .before .before .before .before .before .before .if1 .left), m .onward, m .inside, t .before .loop-test .taken)
 
 loop-again : tie.Need-loop-again Inv-loop μ-loop
 unfolding spanned
 loop-again c =
-    let text = c .before .before .before .before .before .before .before .before .before .before .before .before .args .text .now in
-    let p = c .before .before .before .before .before .before .before .before .before .before .before .before .args .place in
-    let x = take (c .before .before .before .before .before .before .before .before .before .before .before .before .args .stop - p) (drop p text) in
-    let k = c .before .before .before .before .before .before .before .before .before .before .loop .k in
-    let colon = c .before .before .before .before .before .before .before .before .before .before .loop .after-colon in
-    let inv = c .before .before .before .before .before .before .before .before .before .before .loop .inv .2 in
-    let m = c .before .before .before .before .before .before .before .before .next-token .ensures in (
+    let t = c .before .before .before .before .before .before .before .before in
+    let s = t .before .before in
+    let a = s .before .before .args in
+    let x = take (a .stop - a .place) (drop (a .place) (a .text .now)) in
+    let r = t .next-token .result in
+    let m = t .next-token .ensures in
+    let one = c .before .one-if .ensures in (
       m .inside,
-      omega (arith, one-at-most colon, c .before .one-if .ensures, c .before .before .before .before .before .before .before .before .before .before .loop .inv .1, m .longer (c .before .before .before .before .before .before .if1 .left), m .onward),
-      inv ∙ look-on x k p colon (spanned text (c .before .before .before .before .before .before .before .before .next-token .result)) (met-token m (c .before .before .before .before .before .before .if1 .left)) (c .before .before .before .before .if2 .left) (c .before .before .before .is-declared-here .ensures) (c .before .before .if3 .left) ∙ ap (λ (n : ℕ). lookUp x (k + n) (declaredFrom (eqb (c .before .before .before .before .before .before .before .before .next-token .result .sort) 58) p (unread text (c .before .before .before .before .before .before .before .before .next-token .result .stop)))) (sym (c .before .one-if .ensures)),
+      omega (arith, one-at-most (s .loop .after-colon), one, s .loop .inv .1, m .longer (c .before .before .before .before .before .before .if1 .left), m .onward),
+      s .loop .inv .2
+          ∙ look-on x (s .loop .k) (a .place) (s .loop .after-colon) (spanned (a .text .now) r) (met-token m (c .before .before .before .before .before .before .if1 .left)) (c .before .before .before .before .if2 .left) (c .before .before .before .is-declared-here .ensures) (c .before .before .if3 .left)
+          ∙ ap (λ (n : ℕ). lookUp x (s .loop .k + n) (declaredFrom (eqb (r .sort) 58) (a .place) (unread (a .text .now) (r .stop)))) (sym one),
     )
 
 returns-4 : tie.Need-returns-4 Inv-loop μ-loop
-returns-4 c =
-    let text = c .before .before .before .args .text .now in
-    let p = c .before .before .before .args .place in
-    let x = take (c .before .before .before .args .stop - p) (drop p text) in
-    sym (c .before .loop .inv .2 ∙ look-end x (c .before .loop .k) p (c .before .loop .after-colon) (none-left text (c .before .loop .i) (c .loop-test .left)))
+returns-4 c = let s = c .before in sym (s .loop .inv .2 ∙ look-end _ _ _ _ (none-left (s .before .before .args .text .now) (s .loop .i) (c .loop-test .left)))
 
 pub variable-of-spec : {M : Type 1} → statement M
 variable-of-spec =
@@ -119,9 +89,9 @@ variable-of-spec =
     returns
     returns-2
     is-declared-here-requires
-    add-result
+    (λ c. search needs)
     returns-3
-    one-if-requires
+    (λ c κs. search needs)
     add-k
     loop-less
     loop-again
