@@ -77,149 +77,129 @@ const VALUES: usize = 4200;
 const PAGE: usize = 32768;
 
 // Translate into the front of a list.
-fn answer_translate(words: &[u32], out: &mut [u32], room: usize) {
+fn translate_to(words: &[u32], out: &mut [u32], room: usize) {
     let k = words_within(out, room);
     let answer = translate(words, &mut out[..k]);
     print_written(answer, out);
 }
 
-// Fill into the front of a list.
-fn answer_fill(words: &[u32], values: &[i32], out: &mut [i32], room: usize) {
+// The same, a list being lent; so for each call that writes.
+fn answer_translate(words: &[u32], room: usize) {
+    let mut out = [WORD_MARK; ROW_WORDS];
+    translate_to(words, &mut out, room);
+}
+
+// Fill.
+fn fill_to(words: &[u32], values: &[i32], out: &mut [i32], room: usize) {
     let k = values_within(out, room);
     let answer = fill(words, values, &mut out[..k]);
     print_filled(answer, out);
 }
 
-// Every solution into the front of a list.
-fn answer_solutions(words: &[u32], out: &mut [i32], room: usize) {
+fn answer_fill(words: &[u32], values: &[i32], room: usize) {
+    let mut out = [VALUE_MARK; VALUES];
+    fill_to(words, values, &mut out, room);
+}
+
+// Every solution.
+fn solutions_to(words: &[u32], out: &mut [i32], room: usize) {
     let k = values_within(out, room);
     let answer = solutions(words, &mut out[..k]);
     print_found(answer, out);
 }
 
-// Sheet to the front of a page.
-fn answer_page(rows: &[u32], page: &mut [u8], room: usize) {
+fn answer_solutions(words: &[u32], room: usize) {
+    let mut out = [VALUE_MARK; VALUES];
+    solutions_to(words, &mut out, room);
+}
+
+// Sheet.
+fn sheet_to(rows: &[u32], page: &mut [u8], room: usize) {
     let k = bytes_within(page, room);
     let answer = sheet(rows, &mut page[..k]);
     print_printed(answer, page);
 }
 
-// The same, a page being lent.
 fn answer_sheet(rows: &[u32], room: usize) {
     let mut page = [BYTE_MARK; PAGE];
-    answer_page(rows, &mut page, room);
+    sheet_to(rows, &mut page, room);
 }
 
-// The form over bits into the front of a list.
-fn answer_form(rows: &[u32], out: &mut [u32], room: usize) {
+// The form over bits.
+fn form_to(rows: &[u32], out: &mut [u32], room: usize) {
     let k = words_within(out, room);
     let answer = bit_form(rows, &mut out[..k]);
     print_written(answer, out);
 }
 
-// The same, a list being lent.
 fn answer_bits(rows: &[u32], room: usize) {
     let mut out = [WORD_MARK; MODEL_WORDS];
-    answer_form(rows, &mut out, room);
+    form_to(rows, &mut out, room);
 }
 
-// Text into the front of a list.
-fn answer_words(text: &[u8], out: &mut [u32], room: usize) {
+// Text.
+fn text_to(text: &[u8], out: &mut [u32], room: usize) {
     let k = words_within(out, room);
     let answer = read_text(text, &mut out[..k]);
     print_written(answer, out);
 }
 
-// Translate of a candidate's model into the front of a list.
-fn answer_pair_translate(words: &[u32], candidate: u32, out: &mut [u32], room: usize) {
+// Translate of a candidate's model.
+fn pair_translate_to(words: &[u32], candidate: u32, out: &mut [u32], room: usize) {
     let k = words_within(out, room);
     let answer = pair_translate(words, candidate, &mut out[..k]);
     print_written(answer, out);
 }
 
-// Fill of a candidate's model into the front of a list.
-fn answer_pair_fill(words: &[u32], candidate: u32, values: &[i32], out: &mut [i32], room: usize) {
+fn answer_pair_translate(words: &[u32], candidate: u32, room: usize) {
+    let mut out = [WORD_MARK; ROW_WORDS];
+    pair_translate_to(words, candidate, &mut out, room);
+}
+
+// Fill of a candidate's model.
+fn pair_fill_to(words: &[u32], candidate: u32, values: &[i32], out: &mut [i32], room: usize) {
     let k = values_within(out, room);
     let answer = pair_fill(words, candidate, values, &mut out[..k]);
     print_filled(answer, out);
 }
 
+fn answer_pair_fill(words: &[u32], candidate: u32, values: &[i32], room: usize) {
+    let mut out = [VALUE_MARK; VALUES];
+    pair_fill_to(words, candidate, values, &mut out, room);
+}
+
 // The answer of a call on a pair, for a candidate.
-fn answer_candidate(
-    head: Head,
-    words: &[u32],
-    candidate: u32,
-    values: &[i32],
-    rows: &mut [u32],
-    filled: &mut [i32],
-) {
-    let call = head.call;
-    if call == PAIR_CHECK {
-        print_checked(pair_check(words, candidate));
-        return;
+fn answer_candidate(call: u32, words: &[u32], candidate: u32, values: &[i32], room: usize) {
+    match call {
+        PAIR_CHECK => print_checked(pair_check(words, candidate)),
+        PAIR_TRANSLATE => answer_pair_translate(words, candidate, room),
+        PAIR_JUDGE_MODEL => print_verdict(pair_judge_model(words, candidate, values)),
+        PAIR_FILL => answer_pair_fill(words, candidate, values, room),
+        _ => {
+            io::write_all(1, b"unknown\n");
+        }
     }
-    if call == PAIR_TRANSLATE {
-        answer_pair_translate(words, candidate, rows, head.room);
-        return;
-    }
-    if call == PAIR_JUDGE_MODEL {
-        print_verdict(pair_judge_model(words, candidate, values));
-        return;
-    }
-    if call == PAIR_FILL {
-        answer_pair_fill(words, candidate, values, filled, head.room);
-        return;
-    }
-    io::write_all(1, b"unknown\n");
 }
 
 // The same, the candidate being the first of the values.
-fn answer_pair(head: Head, words: &[u32], values: &[i32], rows: &mut [u32], filled: &mut [i32]) {
+fn answer_pair(call: u32, words: &[u32], values: &[i32], room: usize) {
     if 0 < values.len() {
-        let candidate = values[0];
-        if candidate == 1 {
-            answer_candidate(head, words, 1, &values[1..], rows, filled);
-            return;
-        }
-        answer_candidate(head, words, 2, &values[1..], rows, filled);
+        let candidate = if values[0] == 1 { 1 } else { 2 };
+        answer_candidate(call, words, candidate, &values[1..], room);
     }
 }
 
 // The answer of a call on a model.
-fn answer_call(head: Head, words: &[u32], values: &[i32], rows: &mut [u32], filled: &mut [i32]) {
-    let call = head.call;
-    if call == CHECK {
-        print_checked(check(words));
-        return;
+fn answer_call(call: u32, words: &[u32], values: &[i32], room: usize) {
+    match call {
+        CHECK => print_checked(check(words)),
+        TRANSLATE => answer_translate(words, room),
+        JUDGE_MODEL => print_verdict(judge_model(words, values)),
+        FILL => answer_fill(words, values, room),
+        REASON => print_reasoned(reason(words, values)),
+        SOLUTIONS => answer_solutions(words, room),
+        _ => answer_pair(call, words, values, room),
     }
-    if call == TRANSLATE {
-        answer_translate(words, rows, head.room);
-        return;
-    }
-    if call == JUDGE_MODEL {
-        print_verdict(judge_model(words, values));
-        return;
-    }
-    if call == FILL {
-        answer_fill(words, values, filled, head.room);
-        return;
-    }
-    if call == REASON {
-        print_reasoned(reason(words, values));
-        return;
-    }
-    if call == SOLUTIONS {
-        answer_solutions(words, filled, head.room);
-        return;
-    }
-    answer_pair(head, words, values, rows, filled);
-}
-
-// The same, lists being lent.
-fn answer_lent(head: Head, words: &[u32], values: &[i32]) {
-    let mut rows = [WORD_MARK; ROW_WORDS];
-    let mut filled = [VALUE_MARK; VALUES];
-    answer_call(head, words, values, &mut rows, &mut filled);
 }
 
 // Reads the words and values of a case on a model, and answers it.
@@ -232,7 +212,7 @@ fn answer_model(head: Head) {
     read_values(&mut values, m);
     let k = words_within(&model, n);
     let l = values_within(&values, m);
-    answer_lent(head, &model[..k], &values[..l]);
+    answer_call(head.call, &model[..k], &values[..l], head.room);
 }
 
 // Reads m values, and answers judge-rows.
@@ -244,17 +224,12 @@ fn answer_rows(rows: &[u32], m: usize) {
 }
 
 // The answer of a call on a row system.
-fn answer_system_call(head: Head, rows: &[u32]) {
-    let call = head.call;
-    if call == SHEET {
-        answer_sheet(rows, head.room);
-        return;
+fn answer_system_call(call: u32, rows: &[u32], m: usize, room: usize) {
+    match call {
+        SHEET => answer_sheet(rows, room),
+        BITS => answer_bits(rows, room),
+        _ => answer_rows(rows, m),
     }
-    if call == BITS {
-        answer_bits(rows, head.room);
-        return;
-    }
-    answer_rows(rows, head.values);
 }
 
 // Reads the words of a case on a row system, and answers it.
@@ -263,7 +238,7 @@ fn answer_system(head: Head) {
     let mut rows = [0u32; ROW_WORDS];
     read_words(&mut rows, n);
     let k = words_within(&rows, n);
-    answer_system_call(head, &rows[..k]);
+    answer_system_call(head.call, &rows[..k], head.values, head.room);
 }
 
 // Reads n bytes, and answers text.
@@ -272,21 +247,19 @@ fn answer_text(n: usize, room: usize) {
     read_bytes(&mut text, n);
     let k = bytes_within(&text, n);
     let mut out = [WORD_MARK; ROW_WORDS];
-    answer_words(&text[..k], &mut out, room);
+    text_to(&text[..k], &mut out, room);
 }
 
 // Reads the rest of a case and answers it.
 fn answer(head: Head) {
     let call = head.call;
-    if call == TEXT {
-        answer_text(head.words, head.room);
-        return;
+    match call {
+        TEXT => answer_text(head.words, head.room),
+        JUDGE_ROWS => answer_system(head),
+        SHEET => answer_system(head),
+        BITS => answer_system(head),
+        _ => answer_model(head),
     }
-    if call == JUDGE_ROWS || call == SHEET || call == BITS {
-        answer_system(head);
-        return;
-    }
-    answer_model(head);
 }
 
 // At most a million cases.
