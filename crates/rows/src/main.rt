@@ -9,12 +9,10 @@ use encoding::front_words;
 use lines::put_front;
 use lines::put_refusal;
 use translation::translate;
-use words::Refusal;
 use words::Written;
-use words::fault;
 
-// The words of a model at most, and the bytes of one word more.
-const WORDS: usize = 8192;
+// The words of a model at most and one more, and their bytes: translate refuses a longer model.
+const WORDS: usize = 8193;
 
 const BYTES: usize = 32772;
 
@@ -25,19 +23,11 @@ const PAGE: usize = 147456;
 
 // Writes what the program prints to the front of a page; answers how many bytes it has.
 fn rows_page(bytes: &[u8], page: &mut [u8]) -> usize
-    requires { ⌜ 147456 ≤ length (now page) ⌝ }
+    requires bytes { ⌜ length (now bytes) ≤ 32772 ⌝ }
+    requires page { ⌜ 147456 ≤ length (now page) ⌝ }
     ensures text { λ r. ⌜ take r (now (page .exit)) ≡ rowsText (bytesWords (now (bytes .entry))) ⌝ }
     ensures count { λ r. ⌜ Counts r (now (page .exit)) ⌝ }
 {
-    if WORDS < bytes.len() / 4 {
-        return put_refusal(
-            page,
-            Refusal {
-                number: fault::TOO_MANY_WORDS,
-                place: 0,
-            },
-        );
-    }
     let mut words = [0u32; WORDS];
     let n = front_words(bytes, &mut words);
     let mut out = [0u32; ROOM];
