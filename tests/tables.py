@@ -4,14 +4,14 @@
     tests/tables.py           write them
     tests/tables.py --check   only say whether they are up to date
 
-believed: the files of specs/ that the contracts of the calls for C, of the programs rows, sheet, text and bits and of the digits cite, and those that
+believed: the files of specs/ that the contracts of the calls for C and their structs, of the programs rows, sheet, text and bits and of the digits cite, and those that
 these stand on, with their lines, all and without signatures. edits: the must-fail edits with the first line of each, `# what is wrong`.
 Every `CRATE/EDIT` and `CRATE/specs/FILE` that the page names must be there."""
 import glob, os, re, sys
 
 TOP = os.path.dirname(os.path.dirname(os.path.abspath(__file__)))
 PAGE = os.path.join(TOP, 'docs', 'PROMISES.md')
-CONTRACTS = ['host', 'rows', 'sheet', 'text', 'bits', 'hexadecimal']
+CONTRACTS = ['structs', 'host', 'rows', 'sheet', 'text', 'bits', 'hexadecimal']
 
 
 def crates():

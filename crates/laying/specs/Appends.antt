@@ -33,7 +33,7 @@ pub record Over (s r : Laid) (out out′ ws : List ℕ) (a n : ℕ) (fit : Bool)
   pub outside : r .outside ≡ (s .outside || not fit)
   pub over : out′ ≡ overlay out (s .words) ws
 
--- as `Went`, and the words where all numbers are in the range: a block with another number is refused, and its words are never read
+-- as `Appends`, and the words where all numbers are in the range: a block with another number is refused, and its words are never read
 pub record AppendsFitting (s r : Laid) (out out′ : List ℕ) (ps : List Part) : Type 0 where
   pub counted : CountsMore s r (length (wordsIn ps)) (auxiliariesIn ps) (rowsIn ps) (all inRange (numbersIn ps))
   pub over : all inRange (numbersIn ps) ≡ true → out′ ≡ overlay out (s .words) (wordsIn ps)
