@@ -6,18 +6,20 @@ use Prim.Native.Nat.{ℕ, zero, suc, _+_, _*_, _<_, _≤_}
 use native.Mathlib.Numerals.{add-one}
 use native.Mathlib.Omega.{arith}
 use lib.IntN.{ℤ, pos}
-use lib.ListN.{length, length-append, getD, drop, drop-of-length-le}
+use lib.ListN.{length, length-append, getD, set, drop, drop-of-length-le}
 use lib.Seq.{set-out, drop-cons}
 use Rattle.integers.specs.Number.{_⊕_, +0, +1, -1}
 use Rattle.integers.specs.Lists.{all, listOf}
 use Rattle.integers.specs.Bounds.{within}
 use Rattle.integers.proofs.Linear.{_⊑_, linear}
 use Rattle.words.specs.Limit as Limit
-use Rattle.words.specs.Word.{inRange}
+use Rattle.words.specs.Kind as Kind
+use Rattle.words.specs.Word.{inRange, word, numberWord}
 use Rattle.words.specs.Overlay.{overlay}
+use Rattle.words.proofs.Overlay.{overlay-append}
 use Rattle.words.proofs.Word.{says-range}
 use Rattle.laying.specs.Part.{Part, bound, head, term, constant, times, partWords, partNumbers, partAuxiliaries, partRows, wordsIn, numbersIn, auxiliariesIn, rowsIn}
-use Rattle.laying.specs.Lists.{many, termAt, rowPartsOf, bitAt, labelAt}
+use Rattle.laying.specs.Lists.{many, termAt, rowPartsOf, sameAt, bitAt, labelAt}
 use Rattle.laying.specs.Appends.{Appends, CountsMore, GrowsBy}
 use Rattle.laying.specs.declared.Laid.{Laid}
 use Rattle.laying.proofs.Parts.{words-append, numbers-append, auxiliaries-append, rows-append, all-append, and-true, many-more}
@@ -54,6 +56,9 @@ sized-head kind n = record { words = refl; auxiliaries = refl; rows = refl; fits
 pub sized-any : (c : ℤ) (v : ℕ) → Sized (term c v ∷ []) 2 0 0 (inRange c)
 unfolding wordsIn numbersIn auxiliariesIn rowsIn flatMap all partWords partNumbers partAuxiliaries partRows
 sized-any c v = record { words = refl; auxiliaries = refl; rows = refl; fits = sym (and-true (inRange c)) }
+
+sized-fitting : (c : ℤ) (v : ℕ) → Sized (term c v ∷ []) 2 0 0 (fitting (term c v ∷ []))
+sized-fitting c v = let z = sized-any c v in record { words = z .words; auxiliaries = z .auxiliaries; rows = z .rows; fits = refl }
 
 pub sized-term : (c : ℤ) (v : ℕ) → inRange c ≡ true → Sized (term c v ∷ []) 2 0 0 true
 sized-term c v h = rw h at (sized-any c v)
@@ -196,3 +201,32 @@ fitting-more f k = ap fitting (many-more f k) ∙ ap (all inRange) (numbers-appe
 pub fitting-bound : (l u : ℤ) → fitting (bound l u ∷ []) ≡ (inRange l && inRange u)
 unfolding numbersIn flatMap all partNumbers
 fitting-bound l u = ap (λ (b : Bool). inRange l && b) (sym (and-true (inRange u)))
+
+-- ---- all of it fits
+
+-- one more term of a coefficient, word by word
+pub same-more : (o : List ℕ) (at : ℕ) (c : ℤ) (v k : ℕ) →
+    set (set (overlay o at (wordsIn (many (sameAt c v) k))) (at + 2 * k) (word Kind.variable (v + k))) (at + 2 * k + 1) (numberWord Kind.number c)
+    ≡ overlay o at (wordsIn (many (sameAt c v) (k + 1)))
+unfolding overlay wordsIn flatMap partWords
+same-more o at c v k =
+    let f = sameAt c v in
+    let ws = wordsIn (many f k) in
+    let n : length ws ≡ 2 * k = sized-each f 2 0 0 k (λ j. sized-fitting c (v + j)) .words in
+    let one : suc (at + 2 * k) ≡ at + 2 * k + 1 = omega arith in
+    rw (← one, ← n) (overlay-append o at ws (wordsIn (f k))) ∙ ap (overlay o at) (sym (words-append (many f k) (f k)) ∙ ap wordsIn (sym (many-more f k)))
+
+-- many lists whose words went over the list
+pub many-laid : {s t : Laid} {o p : List ℕ} {f : ℕ → List Part} {n W A R : ℕ} (w a r b : ℕ) → ((k : ℕ) → k < n → Sized (f k) w a r true) →
+    (W ≡ w * n) × (A ≡ a * n) × (R ≡ r * n) × (W + A + R ≤ b) → p ≡ overlay o (s .words) (wordsIn (many f n)) → CountsMore s t W A R true → Appends s t o p (many f n) × GrowsBy b s t
+many-laid {s} {t} {f = f} {n = n} w a r b h e l c =
+    let z = sized-many f w a r n h in (
+      record {
+        words = omega (arith, c .words, z .words, e .0);
+        auxiliaries = omega (arith, c .auxiliaries, z .auxiliaries, e .1);
+        rows = omega (arith, c .rows, z .rows, e .2);
+        outside = c .outside ∙ ap (λ (g : Bool). s .outside || not g) (sym (z .fits));
+        over = l;
+      },
+      omega (arith, c .words, c .auxiliaries, c .rows, e .3),
+    )

@@ -1,16 +1,17 @@
 // Laying the parts of a block over a lent list of words, and counting them.
 ghost use mathlib.Core.Path.{_≡_};
 ghost use mathlib.Core.List.{[], _∷_};
-ghost use Prim.Native.Nat.{_+_, _<_, _≤_};
+ghost use Prim.Native.Nat.{_+_, _*_, _<_, _≤_};
 ghost use lib.IntN.{natAbs};
 ghost use lib.ListN.{length};
 ghost use Rattle.integers.specs.Choice.{_if_else_};
 ghost use Rattle.integers.specs.Number.{_⊕_, neg, +1};
 ghost use Rattle.integers.specs.Lists.{all, listOf};
 ghost use Rattle.words.specs.Kind as Kind;
+ghost use Rattle.words.specs.Overlay.{overlay};
 ghost use Rattle.words.specs.Word.{inRange};
 ghost use Rattle.models.specs.Model.{num, size, past};
-ghost use Rattle.laying.specs.Part.{bound, head, term, constant, times};
+ghost use Rattle.laying.specs.Part.{bound, head, term, constant, times, wordsIn};
 ghost use Rattle.laying.specs.Lists.{many, rowPartsOf, termAt, sumAt, eachAt, sameAt, labelAt, bitAt, productAt, orderAt};
 ghost use Rattle.laying.specs.Appends.{Appends, Over, CountsMore, GrowsBy, nothing};
 ghost use Rattle.laying.specs.Room.{Room};
@@ -257,12 +258,31 @@ pub fn lay_bits(out: &mut [u32], s: Laid, n: usize) -> Laid
     t
 }
 
+// The words of c × each of n consecutive variables from v on, from a place on from which all of them fit.
+fn put_same(out: &mut [u32], at: usize, c: i64, v: usize, n: usize)
+    requires { ⌜ (at + 2 * n ≤ length (now out)) × (n ≤ 66) × (v < 1000000000000) ⌝ }
+    ensures { λ r. ⌜ now (out .exit) ≡ overlay (now (out .entry)) at (wordsIn (many (sameAt c v) n)) ⌝ }
+{
+    let number = number_word(kind::NUMBER, c);
+    let mut k = 0;
+    while k < n {
+        let place = at + 2 * k;
+        out[place] = word_of(kind::VARIABLE, v + k);
+        out[place + 1] = number;
+        k += 1;
+    }
+}
+
 // c × each of n consecutive variables from v on.
 pub fn lay_same(out: &mut [u32], s: Laid, c: i64, v: usize, n: usize) -> Laid
     requires { ⌜ Room 1000 s × (n ≤ 66) × (v < 1000000000000) ⌝ }
     ensures { λ r. ⌜ Appends s r (now (out .entry)) (now (out .exit)) (many (sameAt c v) n) × GrowsBy 1000 s r ⌝ }
 {
     if both(out.len() <= s.words, in_range(c)) {
+        return counted(s, 2 * n, 0, 0, true);
+    }
+    if both(s.words + 2 * n <= out.len(), in_range(c)) {
+        put_same(out, s.words, c, v, n);
         return counted(s, 2 * n, 0, 0, true);
     }
     let mut t = s;
