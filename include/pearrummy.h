@@ -171,7 +171,7 @@ struct pearrummy_printed pearrummy_sheet(const uint32_t *words, size_t words_cou
 struct pearrummy_written pearrummy_text(const uint8_t *text, size_t text_count, uint32_t *out, size_t out_count);
 
 /* Names the first row of a model's row system that values of its variables and auxiliaries fail, the constraint whose block holds it, and why;
- * faults 1 to 15 and 18. Stack: 29 KiB. */
+ * faults 1 to 15 and 18. Stack: 28 KiB. */
 struct pearrummy_explanation pearrummy_reason(const uint32_t *words, size_t words_count, const int32_t *values, size_t values_count);
 
 /* Lists every solution of a model with at most 8 variables and at most 65,536 value lists in its bounds: each once, one after another at the front
