@@ -6,7 +6,7 @@
 
 believed: the files of specs/ that the contracts of the calls for C and their structs, of the programs rows, sheet, text and bits and of the digits cite, and those that
 these stand on, with their lines, all and without signatures. edits: the must-fail edits with the first line of each, `# what is wrong`.
-Every `CRATE/EDIT` and `CRATE/specs/FILE` that the page names must be there."""
+Every `CRATE/EDIT`, `CRATE/specs/FILE` with the names behind it, and `CRATE::FUNCTION` that the page names must be there."""
 import glob, os, re, sys
 
 TOP = os.path.dirname(os.path.dirname(os.path.abspath(__file__)))
@@ -83,13 +83,21 @@ def edits_table():
 
 
 def check_names(page):
-    """The edits and definitions that the page names are there."""
+    """The edits, definitions, laws and functions that the page names are there."""
     for crate, name in re.findall(r'`(\w+)/(\w+)`', page):
         if crate in crates() and name not in ('specs', 'proofs', 'src') and not os.path.exists(os.path.join(TOP, 'crates', crate, 'must-fail', name + '.edit')):
             sys.exit(f'docs/PROMISES.md: there is no edit {crate}/{name}')
     for crate, folder, name in re.findall(r'`(\w+)/(specs|proofs)/(\w+)`', page):
         if not os.path.exists(os.path.join(TOP, 'crates', crate, folder, name + '.antt')):
             sys.exit(f'docs/PROMISES.md: there is no file {crate}/{folder}/{name}')
+    for crate, folder, file, names in re.findall(r'`(\w+)/(specs|proofs)/(\w+)`:? ((?:`[^`/:]+`(?:, | and )?)+)', page):
+        text = open(os.path.join(TOP, 'crates', crate, folder, file + '.antt')).read()
+        for name in re.findall(r'`([^`]+)`', names):
+            if not re.search(rf'(?<!\S){re.escape(name)}(?!\S)', text) and not os.path.exists(os.path.join(TOP, 'crates', crate, folder, name + '.antt')):
+                sys.exit(f'docs/PROMISES.md: {crate}/{folder}/{file} has no {name}')
+    for crate, name in re.findall(r'`(\w+)::(?:\w+::)?(\w+)`', page):
+        if crate in crates() and not any(re.search(rf'\bfn {name}\b', open(path).read()) for path in glob.glob(os.path.join(TOP, 'crates', crate, 'src', '*.rt'))):
+            sys.exit(f'docs/PROMISES.md: {crate} has no function {name}')
 
 
 def main():
