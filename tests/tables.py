@@ -6,7 +6,8 @@
 
 believed: the files of specs/ that the contracts of the calls for C and their structs, of the programs rows, sheet, text and bits and of the digits cite, and those that
 these stand on, with their lines, all and without signatures. edits: the must-fail edits with the first line of each, `# what is wrong`.
-Every `CRATE/EDIT`, `CRATE/specs/FILE` with the names behind it, and `CRATE::FUNCTION` that the page names must be there."""
+Every `CRATE/EDIT`, `CRATE/specs/FILE` or `CRATE/specs` FILE with the names behind it, and `CRATE::FUNCTION` that this page, README.md,
+docs/DECISIONS.md and docs/changes name must be there."""
 import glob, os, re, sys
 
 TOP = os.path.dirname(os.path.dirname(os.path.abspath(__file__)))
@@ -82,22 +83,27 @@ def edits_table():
             yield f'| `{crate}` | `{os.path.basename(path)[:-5]}` | {first[2:]} |'
 
 
-def check_names(page):
-    """The edits, definitions, laws and functions that the page names are there."""
+def check_names(where, page):
+    """The edits, definitions, laws and functions that a page names are there."""
+    known = set(crates())
     for crate, name in re.findall(r'`(\w+)/(\w+)`', page):
-        if crate in crates() and name not in ('specs', 'proofs', 'src') and not os.path.exists(os.path.join(TOP, 'crates', crate, 'must-fail', name + '.edit')):
-            sys.exit(f'docs/PROMISES.md: there is no edit {crate}/{name}')
-    for crate, folder, name in re.findall(r'`(\w+)/(specs|proofs)/(\w+)`', page):
-        if not os.path.exists(os.path.join(TOP, 'crates', crate, folder, name + '.antt')):
-            sys.exit(f'docs/PROMISES.md: there is no file {crate}/{folder}/{name}')
+        if crate in known and name not in ('specs', 'proofs', 'src') and not os.path.exists(os.path.join(TOP, 'crates', crate, 'must-fail', name + '.edit')):
+            sys.exit(f'{where}: there is no edit {crate}/{name}')
+    files = re.findall(r'`(\w+)/(specs|proofs)/(\w+)`', page)
+    for crate, folder, names in re.findall(r'`(\w+)/(specs|proofs)` ((?:[A-Z]\w+(?:, | and )?)+)', page):
+        files += [(crate, folder, name) for name in re.findall(r'[A-Z]\w+', names)]
+    for crate, folder, name in files:
+        path = os.path.join(TOP, 'crates', crate, folder, name)
+        if not os.path.exists(path + '.antt') and not os.path.isdir(path):
+            sys.exit(f'{where}: there is no file {crate}/{folder}/{name}')
     for crate, folder, file, names in re.findall(r'`(\w+)/(specs|proofs)/(\w+)`:? ((?:`[^`/:]+`(?:, | and )?)+)', page):
         text = open(os.path.join(TOP, 'crates', crate, folder, file + '.antt')).read()
         for name in re.findall(r'`([^`]+)`', names):
             if not re.search(rf'(?<!\S){re.escape(name)}(?!\S)', text) and not os.path.exists(os.path.join(TOP, 'crates', crate, folder, name + '.antt')):
-                sys.exit(f'docs/PROMISES.md: {crate}/{folder}/{file} has no {name}')
+                sys.exit(f'{where}: {crate}/{folder}/{file} has no {name}')
     for crate, name in re.findall(r'`(\w+)::(?:\w+::)?(\w+)`', page):
-        if crate in crates() and not any(re.search(rf'\bfn {name}\b', open(path).read()) for path in glob.glob(os.path.join(TOP, 'crates', crate, 'src', '*.rt'))):
-            sys.exit(f'docs/PROMISES.md: {crate} has no function {name}')
+        if crate in known and not any(re.search(rf'\b(fn|mod|enum|struct) {name}\b', open(path).read()) for path in glob.glob(os.path.join(TOP, 'crates', crate, 'src', '*.rt'))):
+            sys.exit(f'{where}: {crate} has no function, module or type {name}')
 
 
 def main():
@@ -108,7 +114,10 @@ def main():
             sys.exit(f'{PAGE}: no place for the table {name}')
         text = '\n'.join(table())
         new = mark.sub(lambda m: m.group(1) + text + '\n' + m.group(2), new)
-    check_names(new)
+    check_names('docs/PROMISES.md', new)
+    notes = sorted(os.listdir(os.path.join(TOP, 'docs', 'changes')))
+    for path in ['README.md', 'docs/DECISIONS.md', *('docs/changes/' + note for note in notes)]:
+        check_names(path, open(os.path.join(TOP, path)).read())
     if '--check' in sys.argv:
         if new != old:
             sys.exit('docs/PROMISES.md: its tables are not those of the tree; run tests/tables.py')
