@@ -3,7 +3,7 @@ use Prim.Native.Nat.{ℕ, _+_, _<_}
 use Rattle.laying.specs.Appends.{total}
 use Rattle.laying.specs.declared.Laid.{Laid}
 
--- for n more words, auxiliaries and rows; a writer that asks for it says that it adds at most n (`Near n`)
+-- for n more words, auxiliaries and rows; a writer that asks for it says that it adds at most n (`GrowsBy n`)
 abbrev pub Room : ℕ → Laid → Type 0
 Room n s = total s + n < 4294967296
 

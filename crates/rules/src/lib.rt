@@ -1,1 +1,1 @@
-// The rules of the 36 codes, as definitions: specs/ has them all. No code is needed here.
+// The rules of the 39 codes, as definitions: specs/ has them all. No code is needed here.

@@ -1,4 +1,4 @@
-// The variables of words, as both judges walk over them: their number, and the first one whose value is out of its bounds.
+// The variables of words, of models and of row systems alike: their number, and the first one whose value is out of its bounds.
 ghost use mathlib.Core.Path.{_≡_};
 ghost use lib.ListN.{length};
 ghost use Rattle.integers.specs.Bounds.{_to_, within};
