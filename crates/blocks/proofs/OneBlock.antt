@@ -23,7 +23,7 @@ use Rattle.rules.specs.Shared.{Encoded, choice, sharedRule, ruleAfter}
 use Rattle.rules.specs.Translation.{blockOf}
 use Rattle.rules.specs.Check.{tooWide}
 use Rattle.laying.specs.Part.{Part, blockParts}
-use Rattle.laying.specs.Appends.{Appends, AppendsFitting, GrowsBy, nothing}
+use Rattle.laying.specs.Appends.{someOutside, Appends, AppendsFitting, GrowsBy, nothing}
 use Rattle.laying.specs.declared.Laid.{Laid}
 use Rattle.laying.proofs.Alike.{went-fitting}
 use Rattle.laying.proofs.Blocks.{block-words, block-auxiliaries, block-rows, block-outside}
@@ -37,7 +37,7 @@ pub record Told (first : ℕ) (B : Block) (r : Laid) : Type 0 where
   pub words : r .words ≡ length (blockWords first B)
   pub auxiliaries : r .auxiliaries ≡ length (B .auxiliaries)
   pub rows : r .rows ≡ length (B .rows)
-  pub outside-is : r .outside ≡ outside B
+  pub outside-is : someOutside r ≡ outside B
 
 pub told : {first : ℕ} {B : Block} {r : Laid} {o o′ : List ℕ} → AppendsFitting nothing r o o′ (blockParts first B) → Told first B r
 told {first} {B} w = record {

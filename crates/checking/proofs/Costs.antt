@@ -6,11 +6,14 @@ use native.Mathlib.Omega.{arith}
 use lib.Dec.{ltb}
 use Rattle.integers.specs.Choice.{_if_else_}
 use Rattle.integers.specs.declared.Bounds.{Bounds}
+use Rattle.words.specs.Fault as Fault
+use Rattle.words.specs.Limit as Limit
 use Rattle.models.specs.Model.{Constraint, builtin}
 use Rattle.rules.specs.Shared.{Encoded, choice}
 use Rattle.rules.specs.Translation.{blockOf}
 use Rattle.rules.specs.Check.{tooWide, blockFaultIn}
 use Rattle.rules.specs.InRange.{blockFault}
+use Rattle.laying.specs.Appends.{someOutside}
 use Rattle.laying.specs.declared.Laid.{Laid}
 use Rattle.blocks.specs.Coded.{constraintOf}
 use Rattle.blocks.proofs.OneBlock.{Told}
@@ -18,7 +21,7 @@ use Rattle.checking.specs.Walk.{Costs}
 use Rattle.checking.specs.declared.Cost.{Cost}
 
 fault-told : (β : ℕ → Bounds) (s : ℕ → Bool) (first : ℕ) (e : Encoded) (c : Constraint) {r : Laid} → tooWide β s c ≡ false → Told first (blockOf β s e c) r →
-    _≡_ {A = ℕ} (13 if r .outside else 14 if ltb 4096 (first + r .auxiliaries) else 0) (blockFault β s first e c)
+    _≡_ {A = ℕ} (Fault.numberOutside if someOutside r else Fault.tooManyInAll if ltb Limit.inAll (first + r .auxiliaries) else Fault.none) (blockFault β s first e c)
 unfolding blockFaultIn
 fault-told β s first e c t n = rw (t, n .outside-is, n .auxiliaries)
 
@@ -27,7 +30,7 @@ unfolding blockFaultIn
 wide-costs t = record { fault = rw t; counted = λ z. absurd (omega arith); small = omega arith }
 
 pub laid-costs : {β : ℕ → Bounds} {s : ℕ → Bool} {first : ℕ} {e : Encoded} {c : Constraint} {n : ℕ} {b : Laid} → tooWide β s c ≡ false → Told first (blockOf β s e c) b → b .words + b .auxiliaries + b .rows ≤ 1000000 →
-    n ≡ (13 if b .outside else 14 if ltb 4096 (first + b .auxiliaries) else 0) →
+    n ≡ (Fault.numberOutside if someOutside b else Fault.tooManyInAll if ltb Limit.inAll (first + b .auxiliaries) else Fault.none) →
     Costs β s first e c (record { fault = n; auxiliaries = b .auxiliaries; rows = b .rows; words = b .words })
 laid-costs {β} {s} {first} {e} {c} t n l q = record {
   fault = q ∙ fault-told β s first e c t n;

@@ -4,9 +4,12 @@ ghost use Prim.Native.Nat.{_+_, _<_, _≤_};
 ghost use lib.Dec.{ltb};
 ghost use lib.ListN.{length};
 ghost use Rattle.integers.specs.Choice.{_if_else_};
+ghost use Rattle.words.specs.Fault as Fault;
+ghost use Rattle.words.specs.Limit as Limit;
 ghost use Rattle.rules.specs.Shared.{noneYet};
 ghost use Rattle.rules.specs.Check.{tooWide, check as checkAnswer};
 ghost use Rattle.sharing.specs.SharedSolutions.{Passes};
+ghost use Rattle.laying.specs.Appends.{someOutside};
 ghost use Rattle.extremes.specs.Bounded.{boundsOf, Bounded};
 ghost use Rattle.linearsums.specs.Sum.{Summed};
 ghost use Rattle.encodings.specs.Uses.{sharedBy, Recorded};
@@ -88,9 +91,9 @@ fn too_wide(code: usize, args: &[u32], ls: &[i64], us: &[i64], uses: &[usize]) -
 // 13 or 14 of a block whose auxiliaries are numbered from `first` on, 0 for none.
 fn fault_of(block: Laid, first: usize) -> u32
     requires { ⌜ (first < 10000) × (block .auxiliaries ≤ 1000000) ⌝ }
-    ensures { λ r. ⌜ r ≡ (13 if block .outside else 14 if ltb 4096 (first + block .auxiliaries) else 0) ⌝ }
+    ensures { λ r. ⌜ r ≡ (Fault.numberOutside if someOutside block else Fault.tooManyInAll if ltb Limit.inAll (first + block .auxiliaries) else Fault.none) ⌝ }
 {
-    if block.outside {
+    if 0 < block.outside {
         return fault::NUMBER_OUTSIDE;
     }
     if limit::IN_ALL < first + block.auxiliaries {

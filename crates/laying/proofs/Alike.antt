@@ -9,7 +9,7 @@ use Rattle.integers.specs.Lists.{all}
 use Rattle.words.specs.Word.{inRange}
 use Rattle.words.specs.Overlay.{overlay}
 use Rattle.laying.specs.Part.{Part, wordsIn, numbersIn, auxiliariesIn, rowsIn}
-use Rattle.laying.specs.Appends.{Appends, AppendsFitting}
+use Rattle.laying.specs.Appends.{someOutside, Appends, AppendsFitting}
 use Rattle.laying.specs.declared.Laid.{Laid}
 use Rattle.laying.proofs.Parts.{all-append, words-append, numbers-append, auxiliaries-append, rows-append, both-true}
 
@@ -42,7 +42,7 @@ went-alike {s} {r} {o} {o′} {ps} {qs} h w = record {
     words = w .words ∙ ap (λ n. s .words + n) (h .words);
     auxiliaries = w .auxiliaries ∙ ap (λ n. s .auxiliaries + n) (h .auxiliaries);
     rows = w .rows ∙ ap (λ n. s .rows + n) (h .rows);
-    outside = w .outside ∙ ap (λ b. s .outside || not b) (h .fits);
+    outside = w .outside ∙ ap (λ b. someOutside s || not b) (h .fits);
   };
   over = λ e. w .over ∙ ap (λ l. overlay o (s .words) (wordsIn l)) (h .same e);
 }

@@ -20,7 +20,7 @@ use Rattle.words.proofs.Overlay.{overlay-append}
 use Rattle.words.proofs.Word.{says-range}
 use Rattle.laying.specs.Part.{Part, bound, head, term, constant, times, partWords, partNumbers, partAuxiliaries, partRows, wordsIn, numbersIn, auxiliariesIn, rowsIn}
 use Rattle.laying.specs.Lists.{many, termAt, rowPartsOf, sameAt, bitAt, labelAt}
-use Rattle.laying.specs.Appends.{Appends, CountsMore, GrowsBy}
+use Rattle.laying.specs.Appends.{someOutside, Appends, CountsMore, GrowsBy}
 use Rattle.laying.specs.declared.Laid.{Laid}
 use Rattle.laying.proofs.Parts.{words-append, numbers-append, auxiliaries-append, rows-append, all-append, and-true, many-more}
 
@@ -173,7 +173,7 @@ no-room {s} {r} {o} {ps} z h c = record {
   words = omega (arith, c .words, z .words);
   auxiliaries = omega (arith, c .auxiliaries, z .auxiliaries);
   rows = omega (arith, c .rows, z .rows);
-  outside = c .outside ∙ ap (λ (b : Bool). s .outside || not b) (sym (z .fits));
+  outside = c .outside ∙ ap (λ (b : Bool). someOutside s || not b) (sym (z .fits));
   over = sym (overlay-past o (s .words) (wordsIn ps) h);
 }
 
@@ -225,7 +225,7 @@ many-laid {s} {t} {f = f} {n = n} w a r b h e l c =
         words = omega (arith, c .words, z .words, e .0);
         auxiliaries = omega (arith, c .auxiliaries, z .auxiliaries, e .1);
         rows = omega (arith, c .rows, z .rows, e .2);
-        outside = c .outside ∙ ap (λ (g : Bool). s .outside || not g) (sym (z .fits));
+        outside = c .outside ∙ ap (λ (g : Bool). someOutside s || not g) (sym (z .fits));
         over = l;
       },
       omega (arith, c .words, c .auxiliaries, c .rows, e .3),

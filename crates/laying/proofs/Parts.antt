@@ -13,7 +13,7 @@ use Rattle.words.specs.Overlay.{overlay}
 use Rattle.words.proofs.Overlay.{length-overlay, overlay-none, overlay-append}
 use Rattle.laying.specs.Part.{Part, partWords, partNumbers, partAuxiliaries, partRows, wordsIn, numbersIn, auxiliariesIn, rowsIn}
 use Rattle.laying.specs.Lists.{many}
-use Rattle.laying.specs.Appends.{Appends, Over, GrowsBy}
+use Rattle.laying.specs.Appends.{someOutside, Appends, Over, GrowsBy}
 use Rattle.laying.specs.declared.Laid.{Laid}
 
 -- ---- parts after parts
@@ -56,7 +56,7 @@ or-not true x y = refl
 or-not false true y = refl
 or-not false false y = refl
 
-or-false : (b : Bool) → b ≡ (b || false)
+pub or-false : (b : Bool) → b ≡ (b || false)
 or-false true = refl
 or-false false = refl
 
@@ -74,7 +74,7 @@ went-none s o = record {
   words = omega arith;
   auxiliaries = omega arith;
   rows = omega arith;
-  outside = or-false (s .outside);
+  outside = or-false (someOutside s);
   over = sym (overlay-none o (s .words));
 }
 
@@ -83,8 +83,8 @@ went-then {s} {r} {t} {o} {p} {q} {xs} {ys} f g = record {
   words = omega (arith, f .words, g .words, length-append (wordsIn xs) (wordsIn ys), ap length (words-append xs ys));
   auxiliaries = omega (arith, f .auxiliaries, g .auxiliaries, auxiliaries-append xs ys);
   rows = omega (arith, f .rows, g .rows, rows-append xs ys);
-  outside = g .outside ∙ ap (λ (b : Bool). b || not (all inRange (numbersIn ys))) (f .outside) ∙ or-not (s .outside) (all inRange (numbersIn xs)) (all inRange (numbersIn ys))
-      ∙ ap (λ (b : Bool). s .outside || not b) (sym (all-append inRange (numbersIn xs) (numbersIn ys)) ∙ ap (all inRange) (sym (numbers-append xs ys)));
+  outside = g .outside ∙ ap (λ (b : Bool). b || not (all inRange (numbersIn ys))) (f .outside) ∙ or-not (someOutside s) (all inRange (numbersIn xs)) (all inRange (numbersIn ys))
+      ∙ ap (λ (b : Bool). someOutside s || not b) (sym (all-append inRange (numbersIn xs) (numbersIn ys)) ∙ ap (all inRange) (sym (numbers-append xs ys)));
   over = g .over ∙ rw (f .over, f .words) (overlay-append o (s .words) (wordsIn xs) (wordsIn ys)) ∙ ap (overlay o (s .words)) (sym (words-append xs ys));
 }
 
@@ -95,7 +95,7 @@ went-one {s} p w e = record {
   words = w .words ∙ rw append-nil;
   auxiliaries = omega (arith, w .auxiliaries);
   rows = omega (arith, w .rows);
-  outside = w .outside ∙ ap (λ (b : Bool). s .outside || not b) e ∙ rw append-nil;
+  outside = w .outside ∙ ap (λ (b : Bool). someOutside s || not b) e ∙ rw append-nil;
   over = w .over ∙ rw append-nil;
 }
 

@@ -22,19 +22,18 @@ use arguments::var_at;
 use integers::opposite;
 use integers::plus;
 use integers::test::both;
-use integers::test::either;
 use words::in_range;
 use words::kind;
 use words::lay;
 use words::number_word;
 use words::word_of;
 
-// What was laid so far: words, auxiliaries, rows; and whether some number was outside the range.
+// What was laid so far: words, auxiliaries, rows; and 1 where some number was outside the range, else 0. It is a number and no bool, since a struct with a gap is slower to copy.
 pub struct Laid {
     pub words: usize,
     pub auxiliaries: usize,
     pub rows: usize,
-    pub outside: bool,
+    pub outside: usize,
 }
 
 // Nothing.
@@ -45,8 +44,18 @@ pub fn none_yet() -> Laid
         words: 0,
         auxiliaries: 0,
         rows: 0,
-        outside: false,
+        outside: 0,
     }
+}
+
+// 1 after numbers that do not fit, else what it was.
+fn outside_after(outside: usize, fit: bool) -> usize
+    ensures { λ r. ⌜ r ≡ (outside if fit else 1) ⌝ }
+{
+    if fit {
+        return outside;
+    }
+    1
 }
 
 // So many words, auxiliaries and rows more, whose numbers fit or not.
@@ -58,7 +67,7 @@ pub fn counted(s: Laid, words: usize, auxiliaries: usize, rows: usize, fit: bool
         words: s.words + words,
         auxiliaries: s.auxiliaries + auxiliaries,
         rows: s.rows + rows,
-        outside: either(s.outside, !fit),
+        outside: outside_after(s.outside, fit),
     }
 }
 
