@@ -15,6 +15,16 @@ use Rattle.choiceblocks.proofs.array_int_element.Tie as tie
 lay-choice-requires : tie.Need-lay-choice-requires
 lay-choice-requires c κs = rw (back (c .before .first-label .result) (c .before .first-label .ok)) (search needs)
 
+lay-number-row-requires : tie.Need-lay-number-row-requires
+lay-number-row-requires c κs =
+    let at-lay-choice = c .before .before .before .before .before in
+    let at-lay-bits = at-lay-choice .before .before .before .before .before .before in
+    let at-first-element = at-lay-bits .before .before in
+    let at-labels = at-first-element .before in
+    let start = at-labels .before .before .before in
+    let n = at-labels .labels .ensures in
+    (omega (arith, start .pre .0, at-lay-bits .lay-bits .ensures .1, at-lay-choice .lay-choice .ensures .1, n .1), omega (arith, n .1), omega (arith, at-first-element .first-element .ensures .1), omega (arith, start .pre .1))
+
 returns : tie.Need-returns
 unfolding places
 returns c =
@@ -48,6 +58,6 @@ array-int-element-spec =
     lay-choice-requires
     (λ c κs. search needs)
     (λ c κs. search needs)
-    (λ c κs. search needs)
+    lay-number-row-requires
     (λ c. search needs)
     returns)
