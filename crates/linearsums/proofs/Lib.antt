@@ -5,3 +5,4 @@ pub mod Filling
 pub mod Keeping
 pub mod Model
 pub mod Record
+pub mod Again

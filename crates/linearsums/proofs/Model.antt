@@ -1,13 +1,12 @@
 -- What the list of sums has for the constraint that stands at a place: L and U as the rules have them.
 use mathlib.Core.Path.{_≡_, refl, ap, ap₂, sym, _∙_, fun-ext}
 use mathlib.Core.Bool.{Bool, true, false}
-use mathlib.Core.Logic.{⊎-elim}
 use mathlib.Core.List.{List, [], _∷_}
-use Prim.Native.Nat.{ℕ, zero, suc, _+_, _-_, _<_, _≤_}
+use Prim.Native.Nat.{ℕ, _+_, _-_, _<_, _≤_}
 use native.Mathlib.Omega.{arith}
 use lib.Dec.{eqb}
 use lib.ListN.{getD, drop}
-use lib.Seq.{getD-drop, getD-set-same, getD-set-other}
+use lib.Seq.{getD-drop}
 use borrow.Author.Tests.{eq-eqb, ne-eqb, eqb-true, eqb-false}
 use Rattle.integers.specs.Choice.{_if_else_}
 use Rattle.integers.specs.Number.{+0, +1, -1}
@@ -22,8 +21,7 @@ use Rattle.rules.specs.Parts.{L, U}
 use Rattle.linearsums.specs.Sum.{noSum, ofTerms, ofTwo, formOf, linearSum, equalSum, sumOf, Summed}
 use Rattle.linearsums.specs.Places.{codeBefore, formBefore, sumSize, sumNumber, sumVariable, sumConstant, sumTerms, sumUpTo, sumBounds, sumsUpTo}
 use Rattle.linearsums.proofs.Size.{few-terms, upto-fits, upto-all}
-use Rattle.linearsums.proofs.Places.{sums-length}
-use Rattle.linearsums.proofs.Filling.{below-or-from}
+use Rattle.linearsums.proofs.Places.{in-list}
 
 -- a code has no sum, that of its terms, or a − b
 terms-left : (code : ℕ) → (formOf code ≡ noSum → ⊥) → (formOf code ≡ ofTwo → ⊥) → formOf code ≡ ofTerms
@@ -90,20 +88,12 @@ code-of-head : (ws : List ℕ) (at : ℕ) → codeBefore ws (at + 1) ≡ payload
 unfolding codeBefore
 code-of-head ws at = let e : at + 1 - 1 ≡ at = omega arith in rw (ne-eqb (at + 1) 0 (λ z. omega arith), e)
 
--- ---- the list of sums: that of constraint k, whatever stands past the list's end
+-- ---- what the list of sums has for constraint k, whatever stands past the list's end
 module _ (ws hs : List ℕ) (β : ℕ → Bounds) (d : Bounds) where
-  in-list : (n k : ℕ) → k < n → n ≤ 256 → getD (sumsUpTo ws hs β n) k d ≡ sumBounds ws (getD hs k 0 + 1) β
-  unfolding sumsUpTo
-  in-list zero k h l = absurd (omega arith)
-  in-list (suc n) k h l = ⊎-elim
-      (λ below. getD-set-other (sumsUpTo ws hs β n) n k (sumBounds ws (getD hs n 0 + 1) β) d (λ e. omega arith) ∙ in-list n k below (omega arith))
-      (λ from. let e : k ≡ n = omega arith in rw e (getD-set-same (sumsUpTo ws hs β n) n (sumBounds ws (getD hs n 0 + 1) β) d (omega (arith, sums-length ws hs β n))))
-      (below-or-from k n)
-
   pub sum-here : ((v : ℕ) → Near (β v .lower) × Near (β v .upper)) → (n k : ℕ) → k < n → n ≤ 256 → Summed β (payload (wordAt ws (getD hs k 0))) (drop (getD hs k 0 + 1) ws) (getD (sumsUpTo ws hs β n) k d)
   sum-here near n k h l =
       let a = getD hs k 0 + 1 in
-      rw (in-list n k h l)
+      rw (in-list ws hs β d n k h l)
       record {
         fits = rw (← upto-all ws a β) (upto-fits β near ws a (sumSize ws a) (few-terms ws a));
         is = sum-is ws a β (payload (wordAt ws (getD hs k 0))) (code-of-head ws (getD hs k 0));

@@ -69,11 +69,8 @@ abbrev pub HeadsInside : List ℕ → List ℕ → ℕ → Type 0
 HeadsInside ws hs n = (k : ℕ) → k < n → getD hs k 0 < length ws
 
 -- L and U of the sums of the first k constraints, whose heads stand at the places hs, in a list for 256 constraints
-unfoldable pub noSums : List Bounds
-noSums = replicate 256 (+0 to +0)
-
 unfoldable pub sumsUpTo : List ℕ → List ℕ → (ℕ → Bounds) → ℕ → List Bounds
-sumsUpTo ws hs β zero = noSums
+sumsUpTo ws hs β zero = replicate 256 (+0 to +0)
 sumsUpTo ws hs β (suc k) = set (sumsUpTo ws hs β k) k (sumBounds ws (getD hs k 0 + 1) β)
 
 -- two lists have L and U of the first n of them
@@ -87,6 +84,16 @@ BoundsNear Bs = (v : ℕ) → Near (boundsIn Bs v .lower) × Near (boundsIn Bs v
 -- 0 and 0 from the v-th variable on
 abbrev pub NoneFrom : (ℕ → Bounds) → ℕ → Type 0
 NoneFrom β v = (x : ℕ) → v ≤ x → β x ≡ (+0 to +0)
+
+-- what putting the sums of n constraints into two lists wants: few words, heads among them, bounds near 0, and 256 places in each
+abbrev pub Keepable : List ℕ → List ℕ → ℕ → List Bounds → List ℤ → List ℤ → Type 0
+Keepable ws hs n Bs lows highs =
+    (length ws < 1099511627776)
+    × (n ≤ 256)
+    × HeadsInside ws hs n
+    × BoundsNear Bs
+    × (length lows ≡ 256)
+    × (length highs ≡ 256)
 
 -- what working out the sums of n constraints wants: few words, heads among them, bounds of so many variables, and two lists of 256
 abbrev pub Summable : List ℕ → List ℕ → ℕ → List ℤ → List ℤ → ℕ → List ℤ → List ℤ → Type 0

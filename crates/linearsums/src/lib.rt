@@ -2,14 +2,14 @@
 ghost use mathlib.Core.Path.{_≡_};
 ghost use Prim.Native.Nat.{_+_, _<_, _≤_};
 ghost use lib.IntN.{natAbs};
-ghost use lib.ListN.{length, getD};
+ghost use lib.ListN.{getD, set};
 ghost use Rattle.integers.specs.Choice.{_if_else_};
 ghost use Rattle.integers.specs.Number.{_⊕_, _⊖_, _⊗_, minZ, maxZ, +0};
 ghost use Rattle.integers.specs.Bounds.{_to_, boundsIn};
 ghost use Rattle.words.specs.Small.{Near};
 ghost use Rattle.extremes.specs.Bounded.{boundsOf};
 ghost use Rattle.linearsums.specs.Sum.{formOf};
-ghost use Rattle.linearsums.specs.Places.{codeBefore, formBefore, sumSize, sumNumber, sumVariable, sumConstant, sumBounds, withTerm, BoundsNear, HeadsInside, NoneFrom, noSums, sumsUpTo, SumsKept, Summable};
+ghost use Rattle.linearsums.specs.Places.{codeBefore, formBefore, sumSize, sumNumber, sumVariable, sumConstant, sumBounds, withTerm, BoundsNear, NoneFrom, sumsUpTo, SumsKept, Keepable, Summable};
 use arguments::num_at;
 use arguments::past_at;
 use arguments::past_terms_at;
@@ -183,46 +183,6 @@ pub fn after_head(heads: &[usize; 256], k: usize) -> usize
     heads[k] + 1
 }
 
-// No sums yet.
-pub fn no_sums() -> [Bounds; 256]
-    ensures { λ r. ⌜ r ≡ noSums ⌝ }
-{
-    let none = Bounds { lower: 0, upper: 0 };
-    [none; 256]
-}
-
-// L and U of the sum of each of the n constraints, whose heads stand at these places.
-pub fn constraint_sums(
-    ws: &[u32],
-    heads: &[usize; 256],
-    n: usize,
-    bounds: &[Bounds],
-) -> [Bounds; 256]
-    requires { ⌜ (length (now ws) < 1099511627776) × (n ≤ 256) × HeadsInside (now ws) (now heads) n × BoundsNear (now bounds) ⌝ }
-    ensures { λ r. ⌜ r ≡ sumsUpTo (now (ws .entry)) (now (heads .entry)) (boundsIn (now (bounds .entry))) n ⌝ }
-{
-    let mut sums = no_sums();
-    let mut k = 0;
-    while k < n {
-        sums[k] = sum_bounds(ws, after_head(heads, k), bounds);
-        k += 1;
-    }
-    sums
-}
-
-// The same of bounds that are passed by value: they are lent as a list.
-pub fn lend_bounds(
-    ws: &[u32],
-    heads: &[usize; 256],
-    n: usize,
-    bounds: [Bounds; 256],
-) -> [Bounds; 256]
-    requires { ⌜ (length (now ws) < 1099511627776) × (n ≤ 256) × HeadsInside (now ws) (now heads) n × BoundsNear bounds ⌝ }
-    ensures { λ r. ⌜ r ≡ sumsUpTo (now (ws .entry)) (now (heads .entry)) (boundsIn bounds) n ⌝ }
-{
-    constraint_sums(ws, heads, n, &bounds)
-}
-
 // The bounds of the variables as records, from the lists of lower and of upper bounds; 0 and 0 past the last variable.
 fn records_of(ls: &[i64], us: &[i64], variables: usize) -> [Bounds; 256]
     requires { ⌜ (variables ≤ 256) × NoneFrom (boundsOf (now ls) (now us)) variables ⌝ }
@@ -242,16 +202,29 @@ fn records_of(ls: &[i64], us: &[i64], variables: usize) -> [Bounds; 256]
     records
 }
 
-// Puts the first n of these sums into two lists for 256, of L and of U.
-fn keep_sums(sums: [Bounds; 256], n: usize, lows: &mut [i64], highs: &mut [i64])
-    requires { ⌜ (n ≤ 256) × (length (now lows) ≡ 256) × (length (now highs) ≡ 256) ⌝ }
-    ensures { λ r. ⌜ SumsKept (now (lows .exit)) (now (highs .exit)) n sums ⌝ }
+// Puts L and U of constraint k into two lists.
+fn keep_sum<'a>(lows: &'a mut [i64], highs: &'a mut [i64], k: usize, sum: Bounds)
+    ensures { λ r. ⌜ (now (lows .exit) ≡ set (now (lows .entry)) k (sum .lower)) × (now (highs .exit) ≡ set (now (highs .entry)) k (sum .upper)) ⌝ }
+{
+    put(lows, k, sum.lower);
+    put(highs, k, sum.upper)
+}
+
+// Puts L and U of the sum of each of the n constraints, whose heads stand at these places, into two lists for 256.
+pub fn keep_sums(
+    ws: &[u32],
+    heads: &[usize; 256],
+    n: usize,
+    bounds: &[Bounds],
+    lows: &mut [i64],
+    highs: &mut [i64],
+)
+    requires { ⌜ Keepable (now ws) (now heads) n (now bounds) (now lows) (now highs) ⌝ }
+    ensures { λ r. ⌜ SumsKept (now (lows .exit)) (now (highs .exit)) n (sumsUpTo (now (ws .entry)) (now (heads .entry)) (boundsIn (now (bounds .entry))) n) ⌝ }
 {
     let mut k = 0;
     while k < n {
-        let sum = sums[k];
-        put(lows, k, sum.lower);
-        put(highs, k, sum.upper);
+        keep_sum(lows, highs, k, sum_bounds(ws, after_head(heads, k), bounds));
         k += 1;
     }
 }
@@ -280,6 +253,6 @@ pub fn model_sums(
     requires { ⌜ Summable (now ws) (now heads) n (now ls) (now us) variables (now lows) (now highs) ⌝ }
     ensures { λ r. ⌜ SumsKept (now (lows .exit)) (now (highs .exit)) n (sumsUpTo (now (ws .entry)) (now (heads .entry)) (boundsOf (now (ls .entry)) (now (us .entry))) n) ⌝ }
 {
-    let sums = lend_bounds(ws, heads, n, records_of(ls, us, variables));
-    keep_sums(sums, n, lows, highs)
+    let records = records_of(ls, us, variables);
+    keep_sums(ws, heads, n, &records, lows, highs)
 }
