@@ -37,7 +37,7 @@ static const char help[] =
     "  --json                   the answer as one line of JSON\n"
     "  --help, --version\n"
     "\n"
-    "Exit status: 0 holds or done, 1 false or out of bounds, 2 refused, 64 wrong usage or a file that cannot be read.\n"
+    "Exit status: 0 holds or done, 1 false or out of bounds, 2 refused, 64 wrong usage, a file that cannot be read or an answer that cannot be written.\n"
     "\n"
     "What is proved: every answer, row and value comes from a library whose calls are proved to give what their definitions say. What is not: this\n"
     "command around it, which reads the file, looks up names and lines in a text, and prints; and MiniZinc with its library and script.\n";
@@ -505,7 +505,7 @@ static int read_arguments(int n, char **a) {
     return DONE;
 }
 
-int main(int n, char **a) {
+static int run(int n, char **a) {
     for (int i = 1; i < n; i++) {
         if (!strcmp(a[i], "--help") || (i == 1 && !strcmp(a[i], "help"))) return fputs(help, stdout), DONE;
         if (!strcmp(a[i], "--version")) return printf("pearrummy %s, %d builtins\n", PEARRUMMY_VERSION, PEARRUMMY_CODES), DONE;
@@ -528,10 +528,12 @@ int main(int n, char **a) {
         find_places(&in);
     }
     if (commands[k].has_values && (failed = read_values())) return failed;
-    int status = commands[k].run();
-    if (fflush(stdout) || ferror(stdout)) {
-        fprintf(stderr, "pearrummy: the answer cannot be written\n");
-        return USAGE;
-    }
-    return status;
+    return commands[k].run();
+}
+
+int main(int n, char **a) {
+    int status = run(n, a);
+    if (!fflush(stdout) && !ferror(stdout)) return status;
+    fprintf(stderr, "pearrummy: the answer cannot be written\n");
+    return USAGE;
 }

@@ -2,8 +2,8 @@
 """Runs the command `pearrummy` as tests/command/runs.txt records it, in that folder, and compares what it prints and its exit status; where
 MiniZinc is installed also those of minizinc.txt.
 
-A run is a line `$ pearrummy ..`, perhaps with `< FILE`, then what stands on standard output, what stands on standard error behind `! `, and
-`[STATUS]`. --write records what the command prints now. The command, target/pearrummy, is there already."""
+A run is a line `$ pearrummy ..`, perhaps with `< FILE` or `> FILE` at its end, then what stands on standard output, what stands on standard error
+behind `! `, and `[STATUS]`. --write records what the command prints now. The command, target/pearrummy, is there already."""
 import difflib, os, shlex, shutil, subprocess, sys
 
 TOP = os.path.dirname(os.path.dirname(os.path.abspath(__file__)))
@@ -12,12 +12,13 @@ COMMAND = os.path.join(TOP, 'target', 'pearrummy')
 
 
 def output(line):
-    words, stdin = shlex.split(line[2:]), b''
-    if '<' in words:
-        stdin = open(os.path.join(FOLDER, words[words.index('<') + 1]), 'rb').read()
-        words = words[:words.index('<')]
-    run = subprocess.run([COMMAND] + words[1:], cwd=FOLDER, input=stdin, capture_output=True, timeout=60)
-    text, said = (out.decode('utf-8', 'backslashreplace') for out in (run.stdout, run.stderr))
+    words, stdin, stdout = shlex.split(line[2:]), subprocess.DEVNULL, subprocess.PIPE
+    if words[-2:-1] == ['<']:
+        *words, stdin = words[:-2] + [open(os.path.join(FOLDER, words[-1]), 'rb')]
+    elif words[-2:-1] == ['>']:
+        *words, stdout = words[:-2] + [open(os.path.join(FOLDER, words[-1]), 'wb')]
+    run = subprocess.run([COMMAND] + words[1:], cwd=FOLDER, stdin=stdin, stdout=stdout, stderr=subprocess.PIPE, timeout=60)
+    text, said = ((out or b'').decode('utf-8', 'backslashreplace') for out in (run.stdout, run.stderr))
     text += '' if text.endswith('\n') or not text else '\n(no line feed)\n'
     return text + ''.join(f'! {e}\n' for e in said.splitlines()) + f'[{run.returncode}]\n'
 
