@@ -30,7 +30,7 @@ static const char help[] =
     "\n"
     "  --text, --hex, --bytes   how FILE is read, whatever its name\n"
     "  --model, --rows          what its words are; else a row system is what ends in F0000000\n"
-    "  --candidate 1|2          the words are of two candidates over one variable table: check, translate, judge or fill the model of one\n"
+    "  --candidate 1|2          the words are of two candidates over one variable table; the command works on the model of one\n"
     "  --values FILE            the values stand in FILE, with blanks between them\n"
     "  --data FILE              data of a MiniZinc model\n"
     "  --out-bytes              words are written as bytes, the lowest first\n"
@@ -88,7 +88,7 @@ static void json_place(struct place place) {
 static int byte_of(uint32_t fault, size_t place, size_t *byte) {
     int of_text = fault >= PEARRUMMY_BREAKS_GRAMMAR && fault <= PEARRUMMY_OUTSIDE_RANGE;
     int has_place = fault >= PEARRUMMY_WORDS_END && fault <= PEARRUMMY_TOO_MANY_IN_ALL;
-    if (in.form != TEXT || option.candidate || !(of_text || ((has_place || fault == PEARRUMMY_LOWEST_NUMBER) && place < in.tokens_count))) return 0;
+    if (in.form != TEXT || !(of_text || ((has_place || fault == PEARRUMMY_LOWEST_NUMBER) && place < in.tokens_count))) return 0;
     *byte = of_text ? place : in.tokens[place];
     return 1;
 }
@@ -304,7 +304,6 @@ static int row_words(uint32_t **words, size_t *count) {
 static int translate(void) {
     uint32_t *words;
     size_t count;
-    if (is_rows()) return wrong_usage("these are the words of a row system; translate takes a model", NULL);
     int failed = row_words(&words, &count);
     if (!failed) print_words(words, count);
     return failed;
@@ -464,12 +463,16 @@ static int text(void) {
     return DONE;
 }
 
-static const struct {
+/* What a command takes besides a model, and whether it prints words. */
+enum { VALUES = 1, CANDIDATES = 2, ROWS = 4, WORDS = 8 };
+
+static const struct command {
     const char *name;
     int (*run)(void);
-    int has_values, has_candidates;
-} commands[] = {{"check", check, 0, 1}, {"translate", translate, 0, 1}, {"rows", show_rows, 0, 1}, {"sheet", sheet, 0, 1}, {"judge", judge, 1, 1}, {"fill", fill, 1, 1},
-                {"reason", reason, 1, 0}, {"solutions", solutions, 0, 0}, {"bits", bits, 0, 1}, {"text", text, 0, 0}};
+    int has;
+} commands[] = {{"check", check, CANDIDATES | ROWS}, {"translate", translate, CANDIDATES | WORDS}, {"rows", show_rows, CANDIDATES | ROWS},
+                {"sheet", sheet, CANDIDATES | ROWS}, {"judge", judge, VALUES | CANDIDATES | ROWS}, {"fill", fill, VALUES | CANDIDATES},
+                {"reason", reason, VALUES}, {"solutions", solutions, 0}, {"bits", bits, CANDIDATES | ROWS | WORDS}, {"text", text, ROWS | WORDS}};
 
 /* ---- The arguments */
 
@@ -501,6 +504,7 @@ static int read_arguments(int n, char **a) {
         else return wrong_usage("no such option", s);
     }
     if (option.model && option.rows) return wrong_usage("--model and --rows exclude each other", NULL);
+    if (option.candidate && option.rows) return wrong_usage("--candidate and --rows exclude each other", NULL);
     if (option.out_bytes && option.json) return wrong_usage("--out-bytes and --json exclude each other", NULL);
     return DONE;
 }
@@ -517,18 +521,24 @@ static int run(int n, char **a) {
     while (k < known && strcmp(commands[k].name, option.command)) k++;
     if (k == known) return wrong_usage("no such command", option.command);
     if (!option.file) return wrong_usage("a file is wanted, - for standard input", NULL);
-    if (!commands[k].has_values && (option.values_count || option.values_file)) return wrong_usage("this command takes no values", option.command);
-    if (!commands[k].has_candidates && option.candidate) return wrong_usage("this command takes no candidate", option.command);
+    const struct command *command = &commands[k];
+    if (!(command->has & VALUES) && (option.values_count || option.values_file)) return wrong_usage("this command takes no values", command->name);
+    if (!(command->has & CANDIDATES) && option.candidate) return wrong_usage("this command takes no candidate", command->name);
+    if (!(command->has & WORDS) && option.out_bytes) return wrong_usage("this command prints no words", command->name);
+    if (option.values_file && !strcmp(option.values_file, "-") && !strcmp(option.file, "-")) return wrong_usage("standard input holds the file or the values, not both", NULL);
     if ((failed = read_input(&in, option.file, option.form, option.data))) return failed;
+    if (option.data && !in.flattened) return wrong_usage("--data is of a MiniZinc model, and this file is not read as one", option.file);
     if (in.form == TEXT) {
+        if (option.rows || option.candidate) return wrong_usage("--rows and --candidate are of words, and this file is read as text", option.file);
         in.words = reserve(PEARRUMMY_MODEL_WORDS, sizeof *in.words);
         struct pearrummy_written w = pearrummy_text((const uint8_t *)in.bytes, in.size, in.words, PEARRUMMY_MODEL_WORDS);
         if (w.fault) return refuse(w.fault, w.place);
         in.count = w.words;
         find_places(&in);
     }
-    if (commands[k].has_values && (failed = read_values())) return failed;
-    return commands[k].run();
+    if (is_rows() && !(command->has & ROWS)) return wrong_usage("these are the words of a row system, and this command takes a model", command->name);
+    if (command->has & VALUES && (failed = read_values())) return failed;
+    return command->run();
 }
 
 int main(int n, char **a) {
