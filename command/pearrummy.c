@@ -152,7 +152,7 @@ static const char *const builtins[] = {
 /* A variable by its name in the text, v and its number, or for an auxiliary of a text # and its number. */
 static void print_variable(size_t v) {
     if (v < in.names_count) printf("%s", in.labels[v]);
-    else printf("%c%zu", in.names_count ? '#' : 'v', v);
+    else printf("%c%zu", in.form == TEXT ? '#' : 'v', v);
 }
 
 static void say_variable(const uint32_t *words, size_t count, size_t v) {
@@ -206,17 +206,17 @@ static int add_value(const char *text) {
     if (equals) {
         size_t length = (size_t)(equals - text);
         while (at < in.names_count && !is_name(in.labels[at], text, length) && !is_name(in.names[at], text, length)) at++;
-        if (!in.names_count) return wrong_usage("names of variables are known where the file is text or a MiniZinc model", text);
+        if (in.form != TEXT) return wrong_usage("names of variables are known where the file is text or a MiniZinc model", text);
         if (at == in.names_count) return wrong_usage("no variable has this name", text);
         if (is_given[at]) return wrong_usage("a second value of this variable", text);
         is_given[at] = 1;
         named_count++;
     }
-    const char *digits = equals ? equals + 1 : text;
+    const char *number = equals ? equals + 1 : text, *digits = number + (*number == '-');
     char *end;
     errno = 0;
-    long long value = strtoll(digits, &end, 10);
-    if (end == digits || *end || errno || value < INT32_MIN || value > INT32_MAX) return wrong_usage("no number of 32 bits", text);
+    long long value = strtoll(number, &end, 10);
+    if (*digits < '0' || *digits > '9' || *end || errno || value < INT32_MIN || value > INT32_MAX) return wrong_usage("no number of 32 bits", text);
     values[at] = (int32_t)value;
     values_count += !equals;
     return DONE;
@@ -226,6 +226,7 @@ static int read_values(void) {
     struct input file;
     memset(&file, 0, sizeof file);
     if (option.values_file && read_input(&file, option.values_file, TEXT, NULL)) return USAGE;
+    if (file.size && memchr(file.bytes, 0, file.size)) return wrong_usage("a zero byte stands among the values", option.values_file);
     size_t words = 0;
     for (size_t i = 0; i < file.size; i++) words += i == 0 || strchr(" \n\r\t", file.bytes[i - 1]) != NULL;
     values = reserve((size_t)option.values_count + words + in.names_count, sizeof *values);
