@@ -8,6 +8,7 @@
 #include <string.h>
 
 enum { DONE = 0, FALSE = 1, REFUSED = 2, USAGE = 64 };
+enum { LONGEST_TOLD = 40 }; /* so many bytes of a token stand in a message */
 
 static const char help[] =
     "pearrummy COMMAND [OPTION..] FILE [VALUE..]\n"
@@ -93,6 +94,16 @@ static int byte_of(uint32_t fault, size_t place, size_t *byte) {
     return 1;
 }
 
+/* A token of a file in a message: long ones are cut, and what a terminal does not print stands as its number, two hexadecimal digits a byte. */
+static void tell_token(const char *token, size_t length) {
+    fprintf(stderr, ", '");
+    for (size_t i = 0; i < length && i < LONGEST_TOLD; i++) {
+        unsigned char c = (unsigned char)token[i];
+        fprintf(stderr, c < 32 || c > 126 ? "\\x%02X" : "%c", c);
+    }
+    fprintf(stderr, length > LONGEST_TOLD ? "..'" : "'");
+}
+
 static int refuse(uint32_t fault, size_t place) {
     int placeless = fault == PEARRUMMY_TOO_MANY_WORDS || fault == PEARRUMMY_WRONG_VALUE_COUNT || fault == PEARRUMMY_OUTPUT_TOO_SHORT || fault >= PEARRUMMY_TOO_MANY_LISTS;
     size_t byte = 0;
@@ -116,7 +127,7 @@ static int refuse(uint32_t fault, size_t place) {
     if (in_model.file) fprintf(stderr, " at %s line %zu", in_model.file, in_model.line);
     else if (has_byte) fprintf(stderr, " at line %zu, column %zu%s", p.line, p.column, in.flattened ? " of its FlatZinc" : "");
     else if (!placeless) fprintf(stderr, " at word %zu", place);
-    if (has_byte && p.length) fprintf(stderr, ", '%.*s'", (int)p.length, in.bytes + byte);
+    if (has_byte && p.length) tell_token(in.bytes + byte, p.length);
     if (has_byte && !p.length) fprintf(stderr, ", the end of the text");
     fprintf(stderr, ": %s\n", pearrummy_fault_text(fault));
     return REFUSED;
@@ -164,7 +175,11 @@ static void say_variable(const uint32_t *words, size_t count, size_t v) {
         int32_t low = kind == 3 ? 0 : number_of(words[i]), high = kind == 3 || i + 1 == count ? 1 : number_of(words[i + 1]);
         if (option.json) {
             printf("{\"answer\":\"out of bounds\",\"variable\":%zu,", v);
-            if (v < in.names_count) printf("\"name\":\"%s\",", in.labels[v]);
+            if (v < in.names_count) {
+                printf("\"name\":");
+                json_string(in.labels[v], strlen(in.labels[v]), 1);
+                printf(",");
+            }
             printf("\"value\":%" PRId32 ",\"lower\":%" PRId32 ",\"upper\":%" PRId32 "}\n", values[v], low, high);
             return;
         }

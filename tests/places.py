@@ -228,6 +228,9 @@ def command():
                              ('judge --json tasks.mzn 1 1', '{"answer":"false","constraint":0,"builtin":"int_lt","file":"caf\u00e9.mzn","line":7}')):
             if said(line, f'{start} % caf\u00e9.mzn:7\nsolve satisfy;\n') != (wanted + '\n', 1):
                 fail(f'{line}: {answer(line, environment)}, not {wanted}')
+        found = said('judge --json tasks.mzn 9 1', 'var 0..3: x; % 0 a"b\\c\u00e9 % m.mzn:1\nvar 0..3: y; % 1\nsolve satisfy;\n')
+        if found != ('{"answer":"out of bounds","variable":0,"name":"a\\"b\\\\c\u00e9","value":9,"lower":0,"upper":3}\n', 1):
+            fail(f'a name with a quote in JSON: {found}')
         for note, place in NOTES.items():
             found = said('check tasks.mzn', ''.join(f'var 0..1: v{k}; % {k}{note}\n' for k in range(257)) + 'solve satisfy;\n')
             if found != (f"pearrummy: tasks.mzn: fault 6 at {place or 'line 257, column 5 of its FlatZinc'}, '0': a 257th variable starts\n", 2):
@@ -237,7 +240,7 @@ def command():
             found, status = said('judge tasks.mzn p[1]=1 y=1', whole[:end])
             if status != (1 if 'satisfy;' in whole[:end] else 2):
                 fail(f'the text "{whole[:end]}", the command: {found} {status}')
-        return len(ANSWERS) + len(COMMENTS) + len(NOTES) + len(whole) - len(start) + 13
+        return len(ANSWERS) + len(COMMENTS) + len(NOTES) + len(whole) - len(start) + 14
 
 
 def with_minizinc():
