@@ -20,20 +20,26 @@ static void *given(void *memory) {
 
 void *reserve(size_t count, size_t size) { return given(calloc(count ? count : 1, size)); }
 
+/* Far more than any text or words need that the library accepts, and an end for what has none. */
+enum { MOST_BYTES = 64 << 20 };
+
 static int read_all(struct input *in, FILE *file) {
     size_t room = 1 << 16;
     in->bytes = reserve(room, 1);
-    while ((in->size += fread(in->bytes + in->size, 1, room - in->size, file)) == room) in->bytes = given(realloc(in->bytes, room *= 2));
+    while ((in->size += fread(in->bytes + in->size, 1, room - in->size, file)) == room && room <= MOST_BYTES) in->bytes = given(realloc(in->bytes, room *= 2));
     if (ferror(file)) fprintf(stderr, "pearrummy: %s: it cannot be read\n", in->name);
-    return ferror(file) ? 64 : 0;
+    else if (in->size > MOST_BYTES) fprintf(stderr, "pearrummy: %s: it has more than 64 MiB\n", in->name);
+    return ferror(file) || in->size > MOST_BYTES ? 64 : 0;
+}
+
+static int unreadable(const char *name) {
+    fprintf(stderr, "pearrummy: %s: %s\n", name, strerror(errno));
+    return 64;
 }
 
 static int read_bytes(struct input *in) {
     FILE *file = strcmp(in->name, "-") ? fopen(in->name, "rb") : stdin;
-    if (!file) {
-        fprintf(stderr, "pearrummy: %s: %s\n", in->name, strerror(errno));
-        return 64;
-    }
+    if (!file) return unreadable(in->name);
     int failed = read_all(in, file);
     if (file != stdin) fclose(file);
     return failed;
@@ -42,8 +48,9 @@ static int read_bytes(struct input *in) {
 /* MiniZinc flattens the model with the library of this folder, and flatten.py, its "solver", prints the text. */
 static void run_minizinc(const char *model, const char *data, int out) {
     const char *folder = getenv("PEARRUMMY_MINIZINC");
-    static char solver[4096];
-    snprintf(solver, sizeof solver, "%s/rows.msc", folder ? folder : MINIZINC_FOLDER);
+    if (!folder) folder = MINIZINC_FOLDER;
+    char *solver = reserve(strlen(folder) + sizeof "/rows.msc", 1);
+    strcat(strcpy(solver, folder), "/rows.msc");
     dup2(out, 1);
     execlp("minizinc", "minizinc", "--solver", solver, "--no-half-reifications", "--keep-paths", model, data, (char *)NULL);
     fprintf(stderr, "pearrummy: %s: minizinc cannot be run: %s\n", model, strerror(errno));
@@ -52,17 +59,16 @@ static void run_minizinc(const char *model, const char *data, int out) {
 
 static int read_minizinc(struct input *in, const char *data) {
     int ends[2], status = 0;
-    if (access(in->name, R_OK) || pipe(ends)) {
-        fprintf(stderr, "pearrummy: %s: %s\n", in->name, strerror(errno));
-        return 64;
-    }
+    if (data && access(data, R_OK)) return unreadable(data);
+    if (access(in->name, R_OK) || pipe(ends)) return unreadable(in->name);
     pid_t child = fork();
     if (child == 0) run_minizinc(in->name, data, ends[1]);
+    FILE *file = child < 0 ? NULL : fdopen(ends[0], "rb");
+    if (!file) return unreadable(in->name);
     close(ends[1]);
-    FILE *file = fdopen(ends[0], "rb");
-    int failed = child < 0 || !file || read_all(in, file);
-    if (file) fclose(file);
-    if (child < 0 || waitpid(child, &status, 0) != child || failed) return 64;
+    int failed = read_all(in, file);
+    fclose(file);
+    if (waitpid(child, &status, 0) != child || failed) return 64;
     if (WIFEXITED(status) && WEXITSTATUS(status) == 127) return 64;
     if (WIFEXITED(status) && WEXITSTATUS(status) == 0 && in->size && memchr(in->bytes, ';', in->size)) return 0;
     fprintf(stderr, "pearrummy: %s: MiniZinc does not carry this model over to rows\n", in->name);
@@ -198,9 +204,10 @@ static size_t behind(const struct input *in, size_t from, size_t to, const char 
 struct place place_of(const struct input *in, size_t byte) {
     struct place place = {NULL, 0};
     size_t start = byte < in->size ? byte : in->size, end = start;
+    if (!in->flattened) return place;
     while (start > 0 && in->bytes[start - 1] != '\n') start--;
     while (end < in->size && in->bytes[end] != '\n') end++;
-    if (!in->flattened || start == end) return place;
+    if (start == end) return place;
     size_t from = behind(in, start, end, "; % "), colon = end;
     if (in->bytes[start] == 'v') from = behind(in, from, end, " % ");
     while (colon > from && is_digit(in->bytes[colon - 1])) colon--;
@@ -219,7 +226,7 @@ void find_places(struct input *in) {
     in->tokens = reserve(in->count, sizeof *in->tokens);
     char before = ';';
     int in_item = 0, in_constraint = 0, is_linear = 0, lists = 0;
-    size_t found = 0, last = 0;
+    size_t found = 0, last = 0, line = 1, counted = 0;
     for (size_t i = next_token(in, 0), end; i < in->size; i = next_token(in, end)) {
         end = token_end(in, i);
         char c = in->bytes[i];
@@ -234,7 +241,8 @@ void find_places(struct input *in) {
             in_item = 2;
             if (in_constraint && in->places_count < in->count) {
                 struct place place = place_of(in, i);
-                if (!place.file) place.line = position_of(in, i).line;
+                for (; counted < i; counted++) line += in->bytes[counted] == '\n';
+                if (!place.file) place.line = line;
                 in->places[in->places_count++] = place;
             }
         } else if (before == ':' && in->names_count < in->count) {
