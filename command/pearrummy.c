@@ -494,13 +494,17 @@ static const struct command {
 
 static int is_value(const char *text) { return (text[0] == '-' && text[1] >= '0' && text[1] <= '9') || text[0] != '-'; }
 
+static enum form form_of(const char *text) { return !strcmp(text, "--text") ? TEXT : !strcmp(text, "--hex") ? HEXADECIMAL : !strcmp(text, "--bytes") ? BYTES : BY_NAME; }
+
 static int read_arguments(int n, char **a) {
     option.values = reserve((size_t)n, sizeof *option.values);
     for (int i = 1; i < n; i++) {
         const char *s = a[i];
-        if (!strcmp(s, "--text")) option.form = TEXT;
-        else if (!strcmp(s, "--hex")) option.form = HEXADECIMAL;
-        else if (!strcmp(s, "--bytes")) option.form = BYTES;
+        enum form form = form_of(s);
+        int is_second = (!strcmp(s, "--values") && option.values_file) || (!strcmp(s, "--data") && option.data) || (!strcmp(s, "--candidate") && option.candidate);
+        if (is_second) return wrong_usage("a second time", s);
+        if (form != BY_NAME && option.form != BY_NAME && form != option.form) return wrong_usage("--text, --hex and --bytes exclude each other", NULL);
+        if (form != BY_NAME) option.form = form;
         else if (!strcmp(s, "--model")) option.model = 1;
         else if (!strcmp(s, "--rows")) option.rows = 1;
         else if (!strcmp(s, "--out-bytes")) option.out_bytes = 1;
