@@ -89,6 +89,7 @@ class Flattener:
                 self.tokens.append((t.lastgroup, t[0], line))
             line += t[0].count('\n')
         self.tokens.append(('end', '', line))
+        self.spelt = {spelt for sort, spelt, _ in self.tokens if sort == 'name'}
         self.at, self.line = 0, 1
         self.place = None       # "FILE:LINE" in the model, of the item that is read, where its path says it
         self.files = {}         # the files of the model, as paths name them
@@ -185,11 +186,11 @@ class Flattener:
 
     # Variables.
 
-    def fresh(self, wish):
-        """A name that the reader takes and that no variable has yet."""
+    def fresh(self, wish, own=None):
+        """A name that the reader takes and that no variable has: none that FlatZinc has, but the variable's own."""
         name = wish = wish if re.fullmatch('[A-Za-z][A-Za-z0-9_]{0,31}', wish, re.A) else 'n'
         k = 0
-        while name in self.types:
+        while name in self.types or name in self.spelt and name != own:
             k, name = k + 1, f'{wish[:20]}_{k + 1}'
         return name
 
@@ -276,7 +277,8 @@ class Flattener:
         self.parameters[name] = self.value()
         self.take(';')
         if 'output_array' in notes:
-            self.label(name, notes[notes.index('output_array') + 1:])
+            notes = notes[notes.index('output_array') + 1:]
+            self.label(name, notes[:notes.index(')')] if ')' in notes else [])
 
     def label(self, name, notes):
         """Model names of an output array's elements, from output_array([1..2,1..3])."""
@@ -297,13 +299,15 @@ class Flattener:
         if not self.see(':') or isinstance(domain, str) and domain not in ('bool', 'int') or type(domain) is int:
             self.fault('a domain that is no range, set of numbers, or bool')
         self.take(':')
-        given = self.step()[1]
+        sort, given = self.step()
+        if sort != 'name':
+            self.fault(f'"{given}" where a name is due')
         if domain == 'int':
             self.fault(f'{given} has no bounds: give it some in the model')
         if not domain or given in self.names:
             self.fault(f'{given} {"is declared twice" if domain else "has an empty domain"}')
         lo, hi = (0, 1) if domain == 'bool' else (domain[0], domain[-1]) if isinstance(domain, range) else (min(domain), max(domain))
-        name = self.names[given] = self.declare(self.fresh(given), lo, hi, 'B' if domain == 'bool' else 'I')
+        name = self.names[given] = self.declare(self.fresh(given, given), lo, hi, 'B' if domain == 'bool' else 'I')
         notes = self.annotations()
         if 'output_var' in notes or given != name:
             self.labels.setdefault(name, []).append(given)
@@ -441,6 +445,8 @@ def spelt(argument):
 
 def main():
     files = [a for a in sys.argv[1:] if not a.startswith('-')]
+    if len(files) > 1:
+        return f'{files[1]}: a second file, one is read'
     name = files[0] if files else 'standard input'
     try:
         with open(files[0] if files else 0, encoding='utf-8', errors='replace') as opened:

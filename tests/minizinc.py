@@ -49,6 +49,7 @@ FAULTS = {
     'var 1..3: x;\nconstraint set_in(x,3);\nsolve satisfy;': '2: set_in: 3 where a set of at most 32 numbers is due',
     'var bool: b;\nconstraint array_bool_xor([' + 'b,' * 32 + 'b]);\nsolve satisfy;': '2: array_bool_xor: a list of 33, 32 is the limit',
     'var 1..3: x;': '1: no solve item',
+    'var 1..3: 5; solve satisfy;': '1: "5" where a name is due',
     'var 1..3 x;': '1: a domain that is no range, set of numbers, or bool',
     'output [x];': '1: "output" begins no item known here',
     'var 1..3: x solve satisfy;': '1: ";" expected, not "satisfy"',
@@ -69,6 +70,13 @@ FAULTS = {
     'var 1..3: x;\nconstraint int_lin_eq([1],[x],x);\nsolve satisfy;': '2: int_lin_eq: x where a number is due',
     'var 1..3: x;\nvar bool: b;\nconstraint set_in_reif(x,0..99999999999999999999,b);\nsolve satisfy;':
         '3: set_in_reif: 100000000000000000000 members where a set of at most 32 numbers is due'}
+# Names: those of FlatZinc are kept, constants and parts have others, though they come first; of an array's annotations only its places are counted.
+NAMES = {
+    'var 3..3: a = 3;\nvar 0..9: c3:: output_var;\nsolve satisfy;':
+        'var 3..3: a; % 0\nvar 3..3: c3_1; % 1\nvar 0..9: c3; % 2 c3\nconstraint int_eq(a,c3_1);\nsolve satisfy;\n',
+    'var 0..1: _x:: output_var;\nvar 0..1: n:: output_var;\nsolve satisfy;': 'var 0..1: n_1; % 0 _x\nvar 0..1: n; % 1 n\nsolve satisfy;\n',
+    'var 0..1: x;\nvar 0..1: y;\narray [1..2] of var int: a:: output_array([1..2]):: other(7,8) = [x,y];\nsolve satisfy;':
+        'var 0..1: x; % 0 a[1]\nvar 0..1: y; % 1 a[2]\nsolve satisfy;\n'}
 # This redefinition is what must be seen: MiniZinc takes the clause for array_bool_or again and drops it.
 DROPPED = 'predicate array_bool_or(array[int] of var bool: as, var bool: r) = clause(as, [r]) /\\ forall (a in as) (a -> r);\n'
 
@@ -116,6 +124,9 @@ def recorded(names, expected):
             fail(f'{name}: text and check say: {said}')
     for fzn, wanted in FAULTS.items():
         if flattened(fzn) != (None, wanted):
+            fail(f'{flattened(fzn)} instead of {wanted} of:\n{fzn}')
+    for fzn, wanted in NAMES.items():
+        if flattened(fzn) != (wanted, None):
             fail(f'{flattened(fzn)} instead of {wanted} of:\n{fzn}')
 
 
@@ -355,7 +366,7 @@ def main():
     expected = json.loads(read(os.path.join(HERE, 'expected.json')))
     try:
         recorded(names, expected)
-        print(f'minizinc: {len(names)} recorded files, {len(FAULTS)} faults, {DAMAGED} damaged files of which {damaged(names)} give a text')
+        print(f'minizinc: {len(names)} recorded files, {len(FAULTS)} faults, {len(NAMES)} texts with names, {DAMAGED} damaged files of which {damaged(names)} give a text')
         if not solver.installed('minizinc', 'minizinc') or not solver.installed('fzn-gecode', 'flatzinc'):
             print('minizinc: MiniZinc or Gecode is not here, no model is flattened anew')
             return 0

@@ -188,10 +188,11 @@ def program():
         done = subprocess.run([sys.executable, SCRIPT], input=data.encode(), capture_output=True, timeout=60)
         if done.stderr != b'standard input:1: an objective: only "solve satisfy" has rows\n':
             fail(f'flatten.py says {done.stderr[-300:]} where a pipe stands for a model')
-    done = subprocess.run([sys.executable, SCRIPT, 'nowhere.fzn'], capture_output=True, timeout=60)
-    if done.returncode != 1 or done.stderr != b'nowhere.fzn: No such file or directory\n':
-        fail(f'flatten.py says {done.stderr[-300:]} of a file that is missing')
-    return len(wrong) + 2
+    for files, wanted in (['nowhere.fzn'], 'nowhere.fzn: No such file or directory'), (['a.fzn', 'b.fzn'], 'b.fzn: a second file, one is read'):
+        done = subprocess.run([sys.executable, SCRIPT, *files], capture_output=True, timeout=60)
+        if done.returncode != 1 or done.stdout or done.stderr.decode() != wanted + '\n':
+            fail(f'flatten.py says {done.stderr[-300:]} of {files}')
+    return len(wrong) + 3
 
 
 def answer(line, environment=None):
