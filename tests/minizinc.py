@@ -213,7 +213,7 @@ def gecode(fzn):
 
 def solved(text):
     """Gecode's solutions of a text, and the names of the model with those of the text."""
-    labels = {label: name for name, listed in re.findall(r'^var [^:]*: (\w+); % \d+((?: [^ %]+)*)', text, re.M) for label in listed.split()}
+    labels = {label: name for name, listed in re.findall(r'^var [^:]*: (\w+); % \d+((?: [^ %\n]+)*)', text, re.M) for label in listed.split()}
     fzn = re.sub(r'^(var [^:]*: \w+);', r'\1 :: output_var;', text, flags=re.M)
     return gecode(fzn), labels
 
@@ -245,6 +245,8 @@ def compare(name, expected, configuration=SOLVER, folder=HERE):
     theirs = gecode(compiled(model, *(('--solver', 'gecode') if expected.get("Gecode's library") else ('-G', 'std'))))
     if not expected.get('gecode is wrong'):
         common = sorted(label for label in labels if all(label in solution for solution in theirs))
+        if theirs and theirs[0] and not common:
+            fail(f'{name}: no name of the model is one of the text')
         mine, others = cut_down(ours, [labels[label] for label in common]), cut_down(theirs, common)
         if mine != others:
             fail(f'{name}: solutions over {common}, only by the text:\n{solver.few(mine - others)}\nonly by Gecode:\n{solver.few(others - mine)}')
@@ -359,12 +361,15 @@ def record(names):
 
 
 def main():
-    names = [a for a in sys.argv[1:] if a != '--record'] or sorted(os.path.basename(path)[:-4] for path in glob.glob(os.path.join(HERE, '*.mzn')))
+    every = sorted(os.path.basename(path)[:-4] for path in glob.glob(os.path.join(HERE, '*.mzn')))
+    names = [a for a in sys.argv[1:] if a != '--record'] or every
     if '--record' in sys.argv:
         record(names)
         return 0
     expected = json.loads(read(os.path.join(HERE, 'expected.json')))
     try:
+        if sorted(expected) != every:
+            fail(f'models and expected.json differ in {sorted(set(expected) ^ set(every))}')
         recorded(names, expected)
         print(f'minizinc: {len(names)} recorded files, {len(FAULTS)} faults, {len(NAMES)} texts with names, {DAMAGED} damaged files of which {damaged(names)} give a text')
         if not solver.installed('minizinc', 'minizinc') or not solver.installed('fzn-gecode', 'flatzinc'):
@@ -373,7 +378,7 @@ def main():
         chosen = [name for name in names if 'solutions' in expected[name]]
         with concurrent.futures.ThreadPoolExecutor(2) as pool:
             counts = list(pool.map(lambda name: compare(name, expected[name]), chosen))
-            more = list(pool.map(compare_random, range(RANDOM if len(names) == len(expected) else 0)))
+            more = list(pool.map(compare_random, range(RANDOM if names == every else 0)))
         dropped(expected)
         print(f'minizinc: {len(chosen)} models, {sum(counts)} solutions, {len(more)} random models, {sum(more)} solutions, 0 differences')
     except solver.Difference as difference:
