@@ -10,10 +10,11 @@ alone, are seen:
     every bit     up to 14 bits: over all lists of bits it is never below 0, and a value list inside its bounds satisfies the row system (the
                   model, through translate) exactly when some bits that read as it give 0
     its minimum   up to 30 bits: clasp, a solver that minimises such forms exactly, finds 0 with a value list's bits fixed exactly when the values
-                  satisfy the row system (the model)
+                  satisfy the row system (the model); where it takes too long, what it found until then is no less
 
 Nothing is known here of slacks and products: all bits behind those of the variables are just bits. Where clasp is missing, Debian's package is
-installed if that can be done; if not, one line says so. All other forms are only read. Exit status 1 at the first difference."""
+installed if that can be done; if not, one line says so. All other forms are only read. No row system and few models may be refused. Exit status 1
+at the first difference."""
 import itertools, math, random, shutil, subprocess, sys
 
 sys.dont_write_bytecode = True
@@ -161,7 +162,8 @@ class Form:
         return found
 
     def minimum(self, values):
-        """Its least value with the bits of the first variables fixed so that they read as values, by clasp; None if that takes too long."""
+        """Its least value with the bits of the first variables fixed so that they read as values, by clasp, and True; the least that it found, or
+        None, and False where that takes too long."""
         fixed = []
         for (low, mine), value in zip(self.variables, values):
             rest = value - low
@@ -172,14 +174,18 @@ class Form:
                 fixed.append(f'+1 x{bit + 1} = {int(one)} ;')
             if rest:
                 raise solver.Difference(f'bits: no bits read as {value}')
+        if not self.entries:
+            return self.constant, True
         terms = ' '.join(f'{entry:+} ' + (f'x{i + 1}' if i == j else f'x{i + 1} x{j + 1}') for (i, j), entry in self.entries.items())
         products = sum(i != j for i, j in self.entries)
         text = '\n'.join([f'* #variable= {self.bits} #constraint= {len(fixed)} #product= {products} sizeproduct= {2 * products}',
                           f'min: {terms} ;'] + fixed) + '\n'
         run = subprocess.run(['clasp', f'--time-limit={SECONDS}', '--quiet=2,0,2', '-'], input=text, capture_output=True, text=True)
-        if 's OPTIMUM FOUND' not in run.stdout:
-            return None
-        return self.constant + int([line for line in run.stdout.splitlines() if line.startswith('o ')][-1][2:]) if terms else self.constant
+        is_least = 's OPTIMUM FOUND' in run.stdout
+        if not is_least and 'c TIME LIMIT' not in run.stdout:
+            raise solver.Difference(f'clasp: status {run.returncode}, it says {run.stdout[-300:]}{run.stderr[-300:]}')
+        found = [int(line[2:]) for line in run.stdout.splitlines() if line.startswith('o ')]
+        return (self.constant + found[-1] if found else None), is_least
 
 
 def difference(what, ours, theirs):
@@ -213,10 +219,10 @@ def compare(rng, count, answer, bounds, sources, true):
         count.clasp += 1
         ones = [values for values in sorted(lists) if true(values)]
         for values in rng.sample(ones, min(FIXED // 2, len(ones))) + rng.sample(sorted(lists), min(FIXED // 2, len(lists))):
-            least = form.minimum(values)
-            count.lists += least is not None
-            count.late += least is None
-            if least is not None and (least < 0 or (least == 0) != true(values)):
+            least, is_least = form.minimum(values)
+            count.lists += is_least
+            count.late += not is_least
+            if least is not None and (least < 0 or not least and not true(values) or least and is_least and true(values)):
                 raise solver.Difference(f'the least value with {values} is {least}, which {"satisfies" if true(values) else "does not satisfy"} the rows or the model')
     else:
         count.read += 1
@@ -256,9 +262,11 @@ def main():
     number, seed = [int(a) for a in sys.argv[1:]] + [200, 1][len(sys.argv) - 1:]
     if not solver.installed('clasp', 'clasp'):
         print('bits: clasp is not here, forms of more than 14 bits are only read')
-    for name, tried in ('row systems', try_rows), ('models', try_models):
+    for name, tried, few in ('row systems', try_rows, 0), ('models', try_models, number // 20):
         try:
             count = tried(random.Random(seed), number)
+            if count.refused > few or count.clasp and not count.lists:
+                raise solver.Difference(f'{count.refused} {name} of {number} are refused, clasp ends with {count.lists} of {count.lists + count.late} value lists')
         except solver.Difference as found:
             print(f'bits: {found}')
             return 1
