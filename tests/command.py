@@ -20,24 +20,26 @@ def output(line):
     run = subprocess.run([COMMAND] + words[1:], cwd=FOLDER, stdin=stdin, stdout=stdout, stderr=subprocess.PIPE, timeout=60)
     text, said = ((out or b'').decode('utf-8', 'backslashreplace') for out in (run.stdout, run.stderr))
     text += '' if text.endswith('\n') or not text else '\n(no line feed)\n'
-    return text + ''.join(f'! {e}\n' for e in said.splitlines()) + f'[{run.returncode}]\n'
+    return text + ''.join(f'! {e}\n' for e in said.removesuffix('\n').split('\n') if said) + f'[{run.returncode}]\n'
 
 
 failed = 0
+if not shutil.which('minizinc'):
+    print('command: MiniZinc is not here, minizinc.txt is left out')
 for name in ['runs.txt'] + ['minizinc.txt'] * bool(shutil.which('minizinc')):
     path = os.path.join(FOLDER, name)
-    recorded = open(path).read()
+    recorded = open(path, newline='\n').read()
     printed, count = '', 0
-    for line in recorded.splitlines():
+    for line in recorded.split('\n'):
         if line.startswith('$ '):
             printed += line + '\n' + output(line) + '\n'
             count += 1
         elif line.startswith('# '):
             printed += line + '\n'
     if '--write' in sys.argv:
-        open(path, 'w').write(printed)
+        open(path, 'w', newline='\n').write(printed)
         recorded = printed
-    changes = list(difflib.unified_diff(recorded.splitlines(), printed.splitlines(), 'recorded', 'printed', lineterm=''))
+    changes = list(difflib.unified_diff(recorded.split('\n'), printed.split('\n'), 'recorded', 'printed', lineterm=''))
     for line in changes[:40]:
         print(line)
     statuses = {s: printed.count(f'\n[{s}]\n') for s in (0, 1, 2, 64)}

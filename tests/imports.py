@@ -23,11 +23,12 @@ def unused(path):
             yield from (name for name in m.groups() if name and name not in words)
 
 
-found = 0
+found = files = 0
 for ending in ('antt', 'rt'):
     for path in sorted(glob.glob(os.path.join(TOP, 'crates', '**', '*.' + ending), recursive=True)):
+        files += 1
         for name in unused(path):
             print(f'{os.path.relpath(path, TOP)}: imports {name} and does not use it')
             found += 1
-print(f'imports: {found} names are not used')
-sys.exit(found > 0)
+print(f'imports: {files} files, {found} names are not used')
+sys.exit(found > 0 or not files)
