@@ -8,10 +8,14 @@
 # make example    builds the examples in C with the proved library and runs them
 # make bench      measures the calls
 .PHONY: run test try library command install uninstall example bench
+# a library that is half made is not taken for a new one
+.DELETE_ON_ERROR:
 
 CC = gcc
 CFLAGS = -std=c11 -O2 -Wall -Wextra -Wpedantic -Werror
 PREFIX = /usr/local
+# quoted wherever it stands: its name may have blanks
+ROOT = $(DESTDIR)$(PREFIX)
 VERSION = $(shell sed -n 's/^.define PEARRUMMY_VERSION "\(.*\)"/\1/p' include/pearrummy.h)
 # what the library is made of: it is proved and built again only where one of these is newer
 SOURCES = crates.txt include/pearrummy.h library/fault_text.c $(shell find crates -name '*.rt' -o -name '*.antt')
@@ -41,21 +45,21 @@ command: library
 	$(CC) $(CFLAGS) -DMINIZINC_FOLDER='"$(abspath minizinc)"' -o target/pearrummy command/pearrummy.c command/input.c target/libpearrummy.a
 
 install: command
-	install -D -m 644 include/pearrummy.h $(DESTDIR)$(PREFIX)/include/pearrummy.h
-	install -D -m 644 target/libpearrummy.a $(DESTDIR)$(PREFIX)/lib/libpearrummy.a
+	install -D -m 644 include/pearrummy.h "$(ROOT)/include/pearrummy.h"
+	install -D -m 644 target/libpearrummy.a "$(ROOT)/lib/libpearrummy.a"
 	$(CC) $(CFLAGS) -DMINIZINC_FOLDER='"$(PREFIX)/share/pearrummy/minizinc"' -o target/pearrummy-installed command/pearrummy.c command/input.c target/libpearrummy.a
-	install -D -m 755 target/pearrummy-installed $(DESTDIR)$(PREFIX)/bin/pearrummy
-	install -D -m 644 minizinc/rows.msc $(DESTDIR)$(PREFIX)/share/pearrummy/minizinc/rows.msc
-	install -D -m 755 minizinc/flatten.py $(DESTDIR)$(PREFIX)/share/pearrummy/minizinc/flatten.py
-	install -D -m 644 -t $(DESTDIR)$(PREFIX)/share/pearrummy/minizinc/mznlib minizinc/mznlib/*.mzn
-	install -D -m 644 command/pearrummy.1 $(DESTDIR)$(PREFIX)/share/man/man1/pearrummy.1
-	install -D -m 644 docs/FORMAT.md $(DESTDIR)$(PREFIX)/share/doc/pearrummy/FORMAT.md
+	install -D -m 755 target/pearrummy-installed "$(ROOT)/bin/pearrummy"
+	install -D -m 644 minizinc/rows.msc "$(ROOT)/share/pearrummy/minizinc/rows.msc"
+	install -D -m 755 minizinc/flatten.py "$(ROOT)/share/pearrummy/minizinc/flatten.py"
+	install -D -m 644 -t "$(ROOT)/share/pearrummy/minizinc/mznlib" minizinc/mznlib/*.mzn
+	install -D -m 644 command/pearrummy.1 "$(ROOT)/share/man/man1/pearrummy.1"
+	install -D -m 644 docs/FORMAT.md "$(ROOT)/share/doc/pearrummy/FORMAT.md"
 	sed -e 's|@PREFIX@|$(PREFIX)|' -e 's|@VERSION@|$(VERSION)|' library/pearrummy.pc.in > target/pearrummy.pc
-	install -D -m 644 target/pearrummy.pc $(DESTDIR)$(PREFIX)/lib/pkgconfig/pearrummy.pc
+	install -D -m 644 target/pearrummy.pc "$(ROOT)/lib/pkgconfig/pearrummy.pc"
 
 uninstall:
-	rm -f $(addprefix $(DESTDIR)$(PREFIX)/,$(INSTALLED))
-	rm -rf $(DESTDIR)$(PREFIX)/share/pearrummy $(DESTDIR)$(PREFIX)/share/doc/pearrummy
+	rm -f $(foreach file,$(INSTALLED),"$(ROOT)/$(file)")
+	rm -rf "$(ROOT)/share/pearrummy" "$(ROOT)/share/doc/pearrummy"
 
 example:
 	bash tests/example.sh
