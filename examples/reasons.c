@@ -66,6 +66,7 @@ int main(void) {
     int32_t filled[PEARRUMMY_VALUES];
     struct pearrummy_judgement j = pearrummy_fill(model, w.words, plan, VARIABLES, filled, PEARRUMMY_VALUES);
     expect(j.said == PEARRUMMY_HOLDS);
+    if (status) return status; /* what follows reads what fill wrote */
     print_values("fill", filled, j.at);
     size_t count = j.at;
     expect(explain("these values", model, w.words, filled, count).reason == PEARRUMMY_NO_ROW_FAILS);
