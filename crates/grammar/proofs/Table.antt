@@ -17,7 +17,7 @@ use Rattle.grammar.specs.Machine.{numberedForm, isMissing, FormTable}
 use Rattle.grammar.specs.declared.Form.{Form}
 use Rattle.grammar.specs.declared.Form.the-variants.{Missing, One, Many}
 
-pub rule : (rows : List (List ℕ)) (c k : ℕ) → FormTable rows → c ≤ 39 → k < 4 → numberedForm (getD (getD rows c []) k 0) ≡ argumentForm c k
+pub rule : (rows : List (List ℕ)) (c k : ℕ) → FormTable rows → c < 40 → k < 4 → numberedForm (getD (getD rows c []) k 0) ≡ argumentForm c k
 unfolding numberedForm
 rule rows c k t h g =
     sym (List·getD-map numberedForm (getD rows c []) k 0)

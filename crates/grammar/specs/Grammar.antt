@@ -41,7 +41,7 @@ gives number w next = record { fault = number; word = w if eqb number Fault.none
 unfoldable pub fitting : Bool → ℕ → Due → Step
 fitting fits = gives (Fault.none if fits else Fault.breaksGrammar)
 
--- of a token of sort s that must have another sort, and having it must be right: "at one byte the lower number"
+-- of a token of sort s where one of `sort` is due, which must then be right: "at one byte the lower number"
 unfoldable pub ofSort : ℕ → ℕ → Bool → ℕ → ℕ → Due → Step
 ofSort sort s right number = gives ((Fault.none if right else number) if eqb s sort else Fault.breaksGrammar)
 

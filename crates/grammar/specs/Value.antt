@@ -8,11 +8,11 @@ use lib.ListN.{drop}
 use Rattle.integers.specs.Choice.{_if_else_}
 use Rattle.tokens.specs.Byte.{front}
 
--- the number of digits that come after those of n
+-- the number that the digits of n and then these spell
 unfoldable pub digitsFrom : ℕ → List ℕ → ℕ
 digitsFrom n [] = n
 digitsFrom n (b ∷ bs) = digitsFrom (n * 10 + (b - code "0")) bs
 
--- the number of digits, perhaps after a hyphen
+-- the number that digits spell, perhaps after a hyphen
 unfoldable pub valueOf : List ℕ → ℤ
 valueOf bs = negℤ (pos (digitsFrom 0 (drop 1 bs))) if eqb (front bs) (code "-") else pos (digitsFrom 0 bs)

@@ -1,8 +1,8 @@
--- Comparing names byte by byte, and looking one up token by token. For `same_bytes` and `variable_of`.
-use mathlib.Core.Path.{_≡_, refl, sym, _∙_}
+-- Comparing names byte by byte, and looking one up token by token. For `same_bytes` and `variable_of`, the symbol table, and names that are printed.
+use mathlib.Core.Path.{_≡_, refl, sym, ap, _∙_}
 use mathlib.Core.Bool.{Bool, true, false}
-use mathlib.Core.List.{List, [], _∷_}
-use Prim.Native.Nat.{ℕ, _+_, _<_, _≤_}
+use mathlib.Core.List.{List, [], _∷_, _++_}
+use Prim.Native.Nat.{ℕ, suc, _+_, _<_, _≤_}
 use native.Mathlib.Numerals.{add-one}
 use native.Mathlib.Nat.{add-zero}
 use native.Mathlib.Omega.{arith}
@@ -41,6 +41,27 @@ module _ (a b : List ℕ) (i : ℕ) where
       go : (t : Bool) → ltb i (length b) ≡ t → same [] (drop i b) ≡ eqb (length a) (length b)
       go true q = rw (cons b (ltb-true i (length b) q), ne-eqb (length a) (length b) (λ e. omega (arith, ltb-true i (length b) q, e, h, g)))
       go false q = rw (drop-of-length-le b (ltb-false i (length b) q), eq-eqb (length a) (length b) (omega (arith, ltb-false i (length b) q, h, g, k)))
+
+-- ---- a name is the same as itself
+
+pub same-self : (x : List ℕ) → same x x ≡ true
+unfolding same
+same-self [] = refl
+same-self (b ∷ bs) = rw (eq-eqb b b refl) (same-self bs)
+
+-- ---- a name among names and others after them: the first that is the same counts
+
+pub look-append : (x : List ℕ) (k : ℕ) (xs ys : List (List ℕ)) → lookUp x k (xs ++ ys) ≡ (lookUp x (k + length xs) ys if eqb (lookUp x k xs) 0 else lookUp x k xs)
+unfolding lookUp
+look-append x k [] ys = ap (λ (n : ℕ). lookUp x n ys) (sym (add-zero k))
+look-append x k (y ∷ xs) ys = go (same x y) (look-append x (k + 1) xs ys)
+  where
+    go : (b : Bool) → lookUp x (k + 1) (xs ++ ys) ≡ (lookUp x (k + 1 + length xs) ys if eqb (lookUp x (k + 1) xs) 0 else lookUp x (k + 1) xs)
+        → (k + 1 if b else lookUp x (k + 1) (xs ++ ys)) ≡ (lookUp x (k + suc (length xs)) ys if eqb (k + 1 if b else lookUp x (k + 1) xs) 0 else (k + 1 if b else lookUp x (k + 1) xs))
+    go true i = rw (ne-eqb (k + 1) 0 (λ e. omega (arith, e)))
+    go false i =
+        let e : k + 1 + length xs ≡ k + suc (length xs) = omega arith in
+        i ∙ ap (λ (n : ℕ). lookUp x n ys if eqb (lookUp x (k + 1) xs) 0 else lookUp x (k + 1) xs) e
 
 -- ---- a name among the spellings of tokens
 

@@ -3,12 +3,11 @@ use mathlib.Core.Path.{_≡_, refl, sym, ap, _∙_}
 use mathlib.Core.Bool.{Bool, true, false, _&&_, _||_}
 use mathlib.Core.List.{List, [], _∷_, _++_}
 use Prim.Native.Nat.{ℕ, zero, suc, _+_, _-_, _*_, _/_, _%_, _<_, _≤_}
-use native.Mathlib.Nat.{add-zero}
 use native.Mathlib.Omega.{arith}
 use lib.Dec.{eqb, ltb}
 use lib.IntN.{ℤ, pos, negsuc, negℤ}
 use lib.ListN.{length, length-append}
-use borrow.Author.Tests.{le-leb, eq-eqb, ne-eqb, eqb-true, ltb-true, ltb-false}
+use borrow.Author.Tests.{le-leb, ne-eqb, eqb-true, ltb-true, ltb-false}
 use Rattle.integers.specs.Choice.{_if_else_}
 use Rattle.integers.specs.Lists.{all, any, listOf}
 use Rattle.words.specs.Word.{payload, signed, word, complement, numberWord}
@@ -20,11 +19,12 @@ use Rattle.decimals.proofs.Digits.{decimal-length}
 use Rattle.tokens.specs.Byte.{bytes, front, between, isLetter, inName, isDigit, isGap}
 use Rattle.tokens.specs.Token.{tokensFrom}
 use Rattle.names.specs.Name.{same, lookUp}
+use Rattle.names.proofs.Names.{same-self, look-append}
 use Rattle.grammar.specs.Value.{digitsFrom, valueOf}
 use Rattle.printing.specs.ModelText.{variableName}
 use Rattle.printing.proofs.Spelled.{token, both-true, digit-range, spelled-name, spelled-digits, spelled-minus}
 
--- ---- lastDigits
+-- ---- digits
 
 all-append : (t : ℕ → Bool) (xs ys : List ℕ) → all t xs ≡ true → all t ys ≡ true → all t (xs ++ ys) ≡ true
 unfolding all
@@ -109,11 +109,6 @@ signed-back k w = ap (word k) (go (ltb (payload w) Limit.half) refl)
 
 -- ---- the names of variables
 
-same-refl : (xs : List ℕ) → same xs xs ≡ true
-unfolding same
-same-refl [] = refl
-same-refl (x ∷ xs) = rw (eq-eqb x x refl) (same-refl xs)
-
 same-onward : (xs ys : List ℕ) (n : ℕ) → same xs ys ≡ true → digitsFrom n xs ≡ digitsFrom n ys
 unfolding same digitsFrom
 same-onward [] [] n h = refl
@@ -126,7 +121,7 @@ same-onward (x ∷ xs) (y ∷ ys) n h = by (eqb x y) refl h (same-onward xs ys (
     by false e q more = absurd (let z : _≡_ {A = ℕ} 0 1 = cc in omega arith)
 
 name-same : (i : ℕ) → same (variableName i) (variableName i) ≡ true
-name-same i = same-refl (variableName i)
+name-same i = same-self (variableName i)
 
 name-other : (i j : ℕ) → (i ≡ j → ⊥) → same (variableName i) (variableName j) ≡ false
 unfolding same variableName
@@ -144,18 +139,6 @@ named (suc n) = named n ++ (variableName n ∷ [])
 named-length : (n : ℕ) → length (named n) ≡ n
 named-length zero = refl
 named-length (suc n) = length-append (named n) (variableName n ∷ []) ∙ omega (arith, named-length n)
-
--- a name among names before others
-look-append : (x : List ℕ) (k : ℕ) (xs ys : List (List ℕ)) → lookUp x k (xs ++ ys) ≡ (lookUp x (k + length xs) ys if eqb (lookUp x k xs) 0 else lookUp x k xs)
-unfolding lookUp
-look-append x k [] ys = ap (λ (n : ℕ). lookUp x n ys) (sym (add-zero k))
-look-append x k (y ∷ xs) ys = go (same x y) (look-append x (k + 1) xs ys)
-  where
-    go : (b : Bool) → lookUp x (k + 1) (xs ++ ys) ≡ (lookUp x (k + 1 + length xs) ys if eqb (lookUp x (k + 1) xs) 0 else lookUp x (k + 1) xs) → (k + 1 if b else lookUp x (k + 1) (xs ++ ys)) ≡ (lookUp x (k + suc (length xs)) ys if eqb (k + 1 if b else lookUp x (k + 1) xs) 0 else (k + 1 if b else lookUp x (k + 1) xs))
-    go true i = rw (ne-eqb (k + 1) 0 (λ e. omega (arith, e)))
-    go false i =
-        let e : k + 1 + length xs ≡ k + suc (length xs) = omega arith in
-        i ∙ ap (λ (n : ℕ). lookUp x n ys if eqb (lookUp x (k + 1) xs) 0 else lookUp x (k + 1) xs) e
 
 pub not-found : (n i : ℕ) → n ≤ i → lookUp (variableName i) 0 (named n) ≡ 0
 unfolding lookUp
@@ -177,7 +160,7 @@ found (suc n) i h = by (ltb i n) refl (found n i)
         look-append (variableName i) 0 (named n) (variableName n ∷ [])
         ∙ rw (not-found n i (omega (arith, ltb-false i n e)), same-number, name-same n) (omega (arith, named-length n))
 
--- a name has letters and lastDigits, at most 4
+-- a name has letters and digits, at most 4
 digit-in-name : (ds : List ℕ) → all isDigit ds ≡ true → all inName ds ≡ true
 unfolding all inName
 digit-in-name [] h = refl

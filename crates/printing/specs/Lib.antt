@@ -1,3 +1,3 @@
--- What the contracts cite: the text of a model.
+-- The text of a model, and that it is read again, stated.
 pub mod ModelText
 pub mod ReadAgain

@@ -2,9 +2,9 @@
 use mathlib.Core.Path.{_≡_, refl, sym, ap, _∙_}
 use mathlib.Core.Logic.{_⊎_, inl, inr}
 use mathlib.Core.Bool.{Bool, true, false}
-use mathlib.Core.List.{List, [], _∷_, _++_, append-nil}
-use Prim.Native.Nat.{ℕ, suc, _+_, _-_, _<_, _≤_}
-use native.Mathlib.Nat.{add-zero, zero-add}
+use mathlib.Core.List.{List, [], _∷_, append-nil}
+use Prim.Native.Nat.{ℕ, _+_, _-_, _<_, _≤_}
+use native.Mathlib.Nat.{zero-add}
 use native.Mathlib.Omega.{arith}
 use lib.Dec.{eqb, ltb}
 use lib.Seq.{getD-set-same, getD-set-other, set-out}
@@ -14,7 +14,8 @@ use Rattle.integers.specs.Choice.{_if_else_}
 use Rattle.integers.proofs.Tests.{false-true}
 use Rattle.tokens.specs.Unread.{bytesBetween}
 use Rattle.names.specs.Name.{same, lookUp}
-use Rattle.symbols.specs.Hash.{hash, cellAt, isMarked, withMark}
+use Rattle.names.proofs.Names.{same-self, look-append}
+use Rattle.symbols.specs.Hash.{hashes, hash, cellAt, isMarked, withMark}
 use Rattle.symbols.proofs.Filter.{cell-inside, size-kept, marked, stays-marked}
 use Rattle.symbols.specs.Symbol.{declaredBefore, numberIn, placeIn, lengthIn, Right, Slots, Indexed, AddsName}
 
@@ -31,25 +32,6 @@ same-equal (b ∷ bs) (c ∷ cs) e = go (eqb b c) refl (same-equal bs cs) e
     go true q i s = rw (eqb-true b c q, i s)
     go false q i s = false-true s
 
-same-self : (x : List ℕ) → same x x ≡ true
-unfolding same
-same-self [] = refl
-same-self (b ∷ bs) = rw (eq-eqb b b refl) (same-self bs)
-
--- ---- a name among names and others after them: the first that is the same counts
-
-after-names : (x : List ℕ) (k : ℕ) (xs ys : List (List ℕ)) → lookUp x k (xs ++ ys) ≡ (lookUp x (k + length xs) ys if eqb (lookUp x k xs) 0 else lookUp x k xs)
-unfolding lookUp
-after-names x k [] ys = ap (λ (n : ℕ). lookUp x n ys) (sym (add-zero k))
-after-names x k (y ∷ xs) ys = go (same x y) (after-names x (k + 1) xs ys)
-  where
-    go : (b : Bool) → lookUp x (k + 1) (xs ++ ys) ≡ (lookUp x (k + 1 + length xs) ys if eqb (lookUp x (k + 1) xs) 0 else lookUp x (k + 1) xs)
-        → (k + 1 if b else lookUp x (k + 1) (xs ++ ys)) ≡ (lookUp x (k + suc (length xs)) ys if eqb (k + 1 if b else lookUp x (k + 1) xs) 0 else (k + 1 if b else lookUp x (k + 1) xs))
-    go true i = rw (ne-eqb (k + 1) 0 (λ e. omega (arith, e)))
-    go false i =
-        let e : k + 1 + length xs ≡ k + suc (length xs) = omega arith in
-        i ∙ ap (λ (n : ℕ). lookUp x n ys if eqb (lookUp x (k + 1) xs) 0 else lookUp x (k + 1) xs) e
-
 -- ---- a list with one word set has at each place the word it had, or that one
 
 pub set-either : (l : List ℕ) (i e s : ℕ) → (getD (set l i e) s 0 ≡ getD l s 0) ⊎ (getD (set l i e) s 0 ≡ e)
@@ -64,7 +46,7 @@ set-either l i e s = go (eqb s i) refl (ltb i (length l)) refl
 
 module _ {bs : List ℕ} {place stop : ℕ} {colon : Bool} (d : AddsName bs place stop colon) where
   kept : (x : List ℕ) → (lookUp x 0 (declaredBefore bs place) ≡ 0 → ⊥) → lookUp x 0 (declaredBefore bs stop) ≡ lookUp x 0 (declaredBefore bs place)
-  kept x h = rw (d .names) (after-names x 0 (declaredBefore bs place) (bytesBetween bs place stop ∷ [] if colon else []) ∙ rw (ne-eqb (lookUp x 0 (declaredBefore bs place)) 0 h))
+  kept x h = rw (d .names) (look-append x 0 (declaredBefore bs place) (bytesBetween bs place stop ∷ [] if colon else []) ∙ rw (ne-eqb (lookUp x 0 (declaredBefore bs place)) 0 h))
 
   right-kept : {e : ℕ} → (numberIn e ≡ 0 → ⊥) → Right bs place e → Right bs stop e
   right-kept {e} n r = record { inside = r .inside; number = kept (bytesBetween bs (placeIn e) (placeIn e + lengthIn e)) (λ z. n (sym (r .number) ∙ z)) ∙ r .number }
@@ -83,7 +65,7 @@ module _ {bs : List ℕ} {place stop : ℕ} where
   module _ (d : AddsName bs place stop true) where
     later : (x : List ℕ) → lookUp x 0 (declaredBefore bs place) ≡ 0 → lookUp x 0 (declaredBefore bs stop) ≡ (length (declaredBefore bs place) + 1 if same x (bytesBetween bs place stop) else 0)
     unfolding lookUp
-    later x z = rw (d .names) (after-names x 0 (declaredBefore bs place) (bytesBetween bs place stop ∷ []) ∙ rw (eq-eqb (lookUp x 0 (declaredBefore bs place)) 0 z) (ap (λ (n : ℕ). n + 1 if same x (bytesBetween bs place stop) else 0) (zero-add (length (declaredBefore bs place)))))
+    later x z = rw (d .names) (look-append x 0 (declaredBefore bs place) (bytesBetween bs place stop ∷ []) ∙ rw (eq-eqb (lookUp x 0 (declaredBefore bs place)) 0 z) (ap (λ (n : ℕ). n + 1 if same x (bytesBetween bs place stop) else 0) (zero-add (length (declaredBefore bs place)))))
 
     new-name : (x : List ℕ) → lookUp x 0 (declaredBefore bs place) ≡ 0 → (lookUp x 0 (declaredBefore bs stop) ≡ 0 → ⊥) → x ≡ bytesBetween bs place stop
     new-name x z h = go (same x (bytesBetween bs place stop)) refl
@@ -139,7 +121,7 @@ module _ {bs : List ℕ} {place : ℕ} {filter slots : List ℕ} (i : Indexed bs
     marked-name m = record { size = i .size; marks = marks-new d filter filter (i .marks) (λ g e. e) m; right = slots-kept d (i .right) }
 
     -- a name that has none is entered
-    pub new-entry : {after : List ℕ} {e h : ℕ} → place ≤ stop → stop ≤ length bs → h < 4294967296 → h ≡ hash (bytesBetween bs place stop) → isMarked filter h ≡ false
+    pub new-entry : {after : List ℕ} {e h : ℕ} → place ≤ stop → stop ≤ length bs → h < hashes → h ≡ hash (bytesBetween bs place stop) → isMarked filter h ≡ false
         → ((numberIn e ≡ 0 → ⊥) → (numberIn e ≡ length (declaredBefore bs place) + 1) × (placeIn e ≡ place) × (lengthIn e ≡ stop - place))
         → ((s : ℕ) → (getD after s 0 ≡ getD slots s 0) ⊎ (getD after s 0 ≡ e)) → Indexed bs stop (withMark filter h) after
     new-entry {after} {e} {h} l k b q u w either =

@@ -12,7 +12,7 @@ use native.Mathlib.Numerals.{add-one}
 use lib.ListN.{length, getD, length-set, drop, drop-of-length-le}
 use lib.Seq.{getD-set-same, getD-set-other, drop-cons}
 use borrow.Author.Tests.{eqb-true, eqb-false, eq-eqb}
-use Rattle.symbols.specs.Hash.{mix, hashFrom, cellAt, maskOf, isMarked, withMark}
+use Rattle.symbols.specs.Hash.{hashes, filterWords, mix, hashFrom, cellAt, maskOf, isMarked, withMark}
 
 below-two : (x : ℕ) → x % 2 < 2
 below-two x = omega arith
@@ -31,7 +31,7 @@ or-assoc =
     ∙ ap₂ (λ (x y : ℕ). x * 2 + y) (ih (b / 2) (c / 2)) (max-assoc (n % 2) (b % 2) (c % 2))
     ∙ sym (or-step n (bitOr b c) ∙ ap₂ (λ (x y : ℕ). bitOr (n / 2) x * 2 + max (n % 2) y) (or-shr b c 1) (odd b c)))
 
-pub cell-inside : (h : ℕ) → h < 4294967296 → cellAt h < 16384
+pub cell-inside : (h : ℕ) → h < hashes → cellAt h < filterWords
 unfolding cellAt
 cell-inside h l = omega arith
 

@@ -15,6 +15,7 @@ use Rattle.tokens.specs.Unread.{bytesBetween, unread, spanned, Met}
 use Rattle.tokens.specs.declared.Span.{Span}
 use Rattle.tokens.proofs.Places.{met-token}
 use Rattle.names.specs.Name.{lookUp, declaredFrom}
+use Rattle.symbols.specs.Hash.{filterWords}
 use Rattle.symbols.specs.Symbol.{declaredBefore, numberIn, AddsName, Indexed}
 
 -- no token from a place on stands before it
@@ -104,12 +105,12 @@ pub record Tabled (bs : List ℕ) (i k : ℕ) (colon : Bool) (filter slots : Lis
   pub reached : Reached bs i k colon
   pub index : Indexed bs i filter slots
 
-pub empty : (bs : List ℕ) (m : ℕ) → Tabled bs 0 0 false (replicate 16384 0) (replicate m 0)
+pub empty : (bs : List ℕ) (m : ℕ) → Tabled bs 0 0 false (replicate filterWords 0) (replicate m 0)
 unfolding declaredBefore lookUp numberIn
 empty bs m = record {
   reached = begin bs;
   index = record {
-    size = length-replicate {A = ℕ} 16384 0;
+    size = length-replicate {A = ℕ} filterWords 0;
     marks = λ x h. absurd (h (rw (none-here false bs 0)));
     right = record { right = λ s h. absurd (h (rw (zeros m s))) };
   };

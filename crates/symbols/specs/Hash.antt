@@ -6,13 +6,20 @@ use lib.Bits.{bitOr}
 use lib.Dec.{eqb}
 use lib.ListN.{getD, set}
 
+-- a hash is below it, 2^32; how many words the filter has
+abbrev pub hashes : ℕ
+hashes = 4294967296
+
+abbrev pub filterWords : ℕ
+filterWords = 16384
+
 -- 2^32 over the golden ratio
 abbrev pub multiplier : ℕ
 multiplier = 2654435769
 
 -- the middle bits of a product
 unfoldable pub mix : ℕ → ℕ → ℕ
-mix h b = (h + b) * multiplier / 2 ^ 16 % 2 ^ 32
+mix h b = (h + b) * multiplier / 2 ^ 16 % hashes
 
 unfoldable pub hashFrom : ℕ → List ℕ → ℕ
 hashFrom h [] = mix h 0

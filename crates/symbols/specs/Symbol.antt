@@ -7,7 +7,7 @@ use lib.ListN.{length, getD}
 use Rattle.integers.specs.Choice.{_if_else_}
 use Rattle.tokens.specs.Unread.{bytesBetween, unread}
 use Rattle.names.specs.Name.{lookUp, declaredFrom}
-use Rattle.symbols.specs.Hash.{hash, isMarked}
+use Rattle.symbols.specs.Hash.{filterWords, hash, isMarked}
 
 -- the names declared before a place
 unfoldable pub declaredBefore : List ℕ → ℕ → List (List ℕ)
@@ -33,7 +33,7 @@ pub record Slots (bs : List ℕ) (p : ℕ) (slots : List ℕ) : Type 0 where
 
 -- the filter has every declared name, the slots are right
 pub record Indexed (bs : List ℕ) (p : ℕ) (filter slots : List ℕ) : Type 0 where
-  pub size : length filter ≡ 16384
+  pub size : length filter ≡ filterWords
   pub marks : (x : List ℕ) → (lookUp x 0 (declaredBefore bs p) ≡ 0 → ⊥) → isMarked filter (hash x) ≡ true
   pub right : Slots bs p slots
 

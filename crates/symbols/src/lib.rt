@@ -6,7 +6,7 @@ ghost use lib.ListN.{length, getD};
 ghost use Rattle.integers.specs.Choice.{_if_else_};
 ghost use Rattle.tokens.specs.Unread.{bytesBetween};
 ghost use Rattle.names.specs.Name.{lookUp};
-ghost use Rattle.symbols.specs.Hash.{mix, hash, cellAt, hashBit, maskOf, isMarked, withMark};
+ghost use Rattle.symbols.specs.Hash.{hashes, filterWords, mix, hash, cellAt, hashBit, maskOf, isMarked, withMark};
 ghost use Rattle.symbols.specs.Symbol.{declaredBefore, numberIn, placeIn, lengthIn, Right, Slots, Indexed, Enterable};
 use names::same_bytes;
 use names::variable_of;
@@ -42,15 +42,15 @@ fn wide(b: u8) -> u64
 
 // A hash and one byte more.
 fn mixed(h: u64, b: u64) -> u64
-    requires { ⌜ (h < 4294967296) × (b < 256) ⌝ }
-    ensures { λ r. ⌜ (r ≡ mix h b) × (r < 4294967296) ⌝ }
+    requires { ⌜ (h < hashes) × (b < 256) ⌝ }
+    ensures { λ r. ⌜ (r ≡ mix h b) × (r < hashes) ⌝ }
 {
     (h + b) * MULTIPLIER / MIDDLE % HASHES
 }
 
 // The hash of a name.
 fn hash_of(name: &[u8]) -> u64
-    ensures { λ r. ⌜ (r ≡ hash (now (name .entry))) × (r < 4294967296) ⌝ }
+    ensures { λ r. ⌜ (r ≡ hash (now (name .entry))) × (r < hashes) ⌝ }
 {
     let mut h = 0;
     let mut i = 0;
@@ -63,8 +63,8 @@ fn hash_of(name: &[u8]) -> u64
 
 // The word of the filter that has the bits of a hash.
 fn cell_of(h: u64) -> usize
-    requires { ⌜ h < 4294967296 ⌝ }
-    ensures { λ r. ⌜ (r ≡ cellAt h) × (r < 16384) ⌝ }
+    requires { ⌜ h < hashes ⌝ }
+    ensures { λ r. ⌜ (r ≡ cellAt h) × (r < filterWords) ⌝ }
 {
     (h * MULTIPLIER / TOP) as usize
 }
@@ -78,7 +78,7 @@ fn bit_of(g: u64) -> u64
 
 // The bits of a hash.
 fn mask_of(h: u64) -> u64
-    requires { ⌜ h < 4294967296 ⌝ }
+    requires { ⌜ h < hashes ⌝ }
     ensures { λ r. ⌜ r ≡ maskOf h ⌝ }
 {
     let g = h * MULTIPLIER;
@@ -87,7 +87,7 @@ fn mask_of(h: u64) -> u64
 
 // Whether the bits of a hash are set.
 fn is_marked(filter: &[u64; FILTER], h: u64) -> bool
-    requires { ⌜ h < 4294967296 ⌝ }
+    requires { ⌜ h < hashes ⌝ }
     ensures { λ r. ⌜ r ≡ isMarked (now (filter .entry)) h ⌝ }
 {
     let c = cell_of(h);
@@ -97,7 +97,7 @@ fn is_marked(filter: &[u64; FILTER], h: u64) -> bool
 
 // Sets the bits of a hash.
 fn mark(filter: &mut [u64; FILTER], h: u64)
-    requires { ⌜ h < 4294967296 ⌝ }
+    requires { ⌜ h < hashes ⌝ }
     ensures { λ r. ⌜ now (filter .exit) ≡ withMark (now (filter .entry)) h ⌝ }
 {
     let c = cell_of(h);
@@ -124,7 +124,7 @@ fn number_in(text: &[u8], e: u64, place: usize, stop: usize) -> usize
 
 // The number of the variable whose name stands between two places, if a slot has it; else 0.
 fn number_of(text: &[u8], slots: &[u64; SLOTS], h: u64, place: usize, stop: usize) -> usize
-    requires { ⌜ (h < 4294967296) × (place ≤ stop) × (stop ≤ length (now text)) × Slots (now text) place (now slots) ⌝ }
+    requires { ⌜ (h < hashes) × (place ≤ stop) × (stop ≤ length (now text)) × Slots (now text) place (now slots) ⌝ }
     ensures { λ r. ⌜ ((r ≡ 0 → ⊥) → lookUp (bytesBetween (now (text .entry)) place stop) 0 (declaredBefore (now (text .entry)) place) ≡ r) ⌝ }
 {
     let mut j = 0;
@@ -181,7 +181,7 @@ fn slot_word(k: usize, place: usize, len: usize) -> u64
 
 // Puts a word to the first empty slot of those that a name may stand in, if there is one.
 fn put_slot(slots: &mut [u64; SLOTS], h: u64, e: u64)
-    requires { ⌜ h < 4294967296 ⌝ }
+    requires { ⌜ h < hashes ⌝ }
     ensures { λ r. ⌜ ((s : ℕ) → (getD (now (slots .exit)) s 0 ≡ getD (now (slots .entry)) s 0) ⊎ (getD (now (slots .exit)) s 0 ≡ e)) ⌝ }
 {
     let mut j = 0;

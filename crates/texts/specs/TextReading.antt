@@ -3,6 +3,7 @@ use mathlib.Core.List.{List}
 use mathlib.Core.Path.{_≡_}
 use Prim.Native.Nat.{ℕ}
 use lib.ListN.{length}
+use Rattle.words.specs.Fault as Fault
 use Rattle.words.specs.Overlay.{overlay}
 use Rattle.words.specs.declared.Refusal.{Refusal}
 use Rattle.tokens.specs.Token.{tokens}
@@ -17,5 +18,5 @@ pub record Gives (f : Refusal) (n : ℕ) (r : TextReading) : Type 0 where
 pub record ReadsTokens (bs before : List ℕ) (r : TextReading) (out : List ℕ) : Type 0 where
   pub number : r .number ≡ tokensFault (tokens bs) (length bs) .number
   pub place : r .place ≡ tokensFault (tokens bs) (length bs) .place
-  pub count : r .number ≡ 0 → r .words ≡ length (tokensWords (tokens bs))
-  pub words : r .number ≡ 0 → out ≡ overlay before 0 (tokensWords (tokens bs))
+  pub count : r .number ≡ Fault.none → r .words ≡ length (tokensWords (tokens bs))
+  pub words : r .number ≡ Fault.none → out ≡ overlay before 0 (tokensWords (tokens bs))

@@ -1,5 +1,6 @@
 -- Inside the table its entry; past it no argument is left.
 use mathlib.Core.Path.{_∙_}
+use native.Mathlib.Omega.{arith}
 use Rattle.grammar.proofs.Table.{rule, past-codes, past-arguments}
 use borrow.Author.Needs.{needs}
 use Rattle.grammar.proofs.form_of.Statement.{statement}
@@ -12,7 +13,7 @@ returns-2 : tie.Need-returns-2
 returns-2 c = past-arguments (c .before .before .args .code) (c .before .before .args .k) (c .if2 .left)
 
 returns-3 : tie.Need-returns-3
-returns-3 c = past-codes (c .before .args .code) (c .before .args .k) (c .if1 .left)
+returns-3 c = past-codes (c .before .args .code) (c .before .args .k) (omega (arith, c .if1 .left))
 
 pub form-of-spec : {M : Type 1} → statement M
 form-of-spec =

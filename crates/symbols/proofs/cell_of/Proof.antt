@@ -4,9 +4,6 @@ use borrow.Author.Needs.{needs}
 use Rattle.symbols.proofs.cell_of.Statement.{statement}
 use Rattle.symbols.proofs.cell_of.Tie as tie
 
-returns : tie.Need-returns
-unfolding cellAt
-returns c = search needs
-
 pub cell-of-spec : {M : Type 1} → statement M
-cell-of-spec = tie.close (tie.spec (λ c. search needs) returns)
+unfolding cellAt
+cell-of-spec = tie.close (tie.spec (λ c. search needs) (λ c. search needs))

@@ -1,6 +1,6 @@
 -- The invariant: hashing the bytes that are left gives the hash of all.
 use Prim.Native.Nat.{ℕ, _+_, _-_, _<_, _≤_}
-use Rattle.symbols.specs.Hash.{mix, hash, hashFrom}
+use Rattle.symbols.specs.Hash.{hashes, mix, hash, hashFrom}
 use mathlib.Core.Path.{_≡_, refl, sym, ap, _∙_}
 use lib.ListN.{length, drop}
 use Rattle.symbols.proofs.Filter.{hash-on, hash-end}
@@ -10,7 +10,7 @@ use Rattle.symbols.proofs.hash_of.Statement.{statement}
 use Rattle.symbols.proofs.hash_of.Tie as tie
 
 abbrev Inv-loop : tie.InvT-loop
-Inv-loop name h₀ i₀ h i = (i ≤ length name) × (h < 4294967296) × (hash name ≡ hashFrom h (drop i name))
+Inv-loop name h₀ i₀ h i = (i ≤ length name) × (h < hashes) × (hash name ≡ hashFrom h (drop i name))
 
 abbrev μ-loop : tie.MeasureT-loop
 μ-loop name h₀ i₀ h i = length name - i

@@ -4,9 +4,6 @@ use borrow.Author.Needs.{needs}
 use Rattle.symbols.proofs.mixed.Statement.{statement}
 use Rattle.symbols.proofs.mixed.Tie as tie
 
-returns : tie.Need-returns
-unfolding mix
-returns c = search needs
-
 pub mixed-spec : {M : Type 1} → statement M
-mixed-spec = tie.close (tie.spec (λ c. search needs) (λ c. search needs) returns)
+unfolding mix
+mixed-spec = tie.close (tie.spec (λ c. search needs) (λ c. search needs) (λ c. search needs))

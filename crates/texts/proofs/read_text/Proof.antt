@@ -9,12 +9,6 @@ use borrow.Author.Needs.{needs}
 use Rattle.texts.proofs.read_text.Statement.{statement}
 use Rattle.texts.proofs.read_text.Tie as tie
 
-slice-aggregate-read-tokens : tie.Need-slice-aggregate-read-tokens
-slice-aggregate-read-tokens c = search needs
-
-read-tokens-requires : tie.Need-read-tokens-requires
-read-tokens-requires c κs = search needs
-
 returns : tie.Need-returns
 unfolding wrote
 returns c =
@@ -42,12 +36,6 @@ returns-3 c =
     let d = c .before .before .before .before .before .read-tokens in
     says-refused text out 16 0 (λ e. omega (arith, e)) (too-short (d .ensures) (length out) (c .before .before .if1 .left) (c .before .if2 .left) (c .if3 .taken))
 
-read-tokens-requires-2 : tie.Need-read-tokens-requires-2
-read-tokens-requires-2 c κs = search needs
-
-same-length : tie.Need-same-length
-same-length c = search needs
-
 returns-4 : tie.Need-returns-4
 unfolding wrote
 returns-4 c =
@@ -64,11 +52,11 @@ pub read-text-spec : {M : Type 1} → statement M
 read-text-spec =
     tie.close
     (tie.spec
-    slice-aggregate-read-tokens
-    read-tokens-requires
+    (λ c. search needs)
+    (λ c κs. search needs)
     returns
     returns-2
     returns-3
-    read-tokens-requires-2
-    same-length
+    (λ c κs. search needs)
+    (λ c. search needs)
     returns-4)
