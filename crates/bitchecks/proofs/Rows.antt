@@ -5,24 +5,25 @@ use mathlib.Core.List.{List}
 use Prim.Native.Nat.{ℕ, _+_, _*_, _≤_, _<_}
 use native.Mathlib.Omega.{arith}
 use lib.IntN.{ℤ, pos, natAbs}
-use lib.ListN.{length, getD, drop}
+use lib.ListN.{length, getD}
 use Rattle.integers.specs.Number.{_⊕_, _⊗_}
 use Rattle.integers.specs.Lists.{all}
 use Rattle.integers.proofs.Fits.{plus-size, times-size, mul-le}
 use Rattle.integers.proofs.Linear.{linear}
+use Rattle.integers.proofs.Places.{⊕-assoc}
 use Rattle.integers.proofs.Tests.{false-true}
 use Rattle.rowsystems.specs.OneWord.{startsRow}
 use Rattle.bitforms.specs.SumOver.{sumOver}
 use Rattle.bitforms.specs.BitRow.{BitRow}
 use Rattle.bitforms.specs.Energy.{square}
-use Rattle.bitforms.specs.RowParts.{constantOf}
+use Rattle.bitforms.specs.BitForm.{constantOf}
 use Rattle.bitforms.specs.FormAnswer.{rowFits}
 use Rattle.bitlines.specs.Sizes as Size
-use Rattle.bittables.specs.BitTables.{rowBy, rowsBy}
+use Rattle.bittables.specs.BitTables.{rowsBy}
 use Rattle.bitfilling.specs.Filled.{dense}
 use Rattle.bitfilling.proofs.Filling.{row-fits}
 use Rattle.bitfilling.proofs.Lines.{fits-sizes}
-use Rattle.bitfilling.proofs.Walk.{left-none, left-one, left-end}
+use Rattle.bitfilling.proofs.Walk.{rowsLeft, rowHere, left-none, left-one, left-end}
 use Rattle.bitchecks.specs.Checked.{RowChecked, RowsChecked}
 use Rattle.bitchecks.proofs.Limits.{fits}
 
@@ -54,8 +55,8 @@ pub record Checking (ws : List ℕ) (ls us : List ℤ) (firsts : List ℕ) (star
   pub small : first ≤ start + Size.ownBits * at
   pub size : natAbs constant ≤ 268435456 * at
   pub long : length row ≡ n
-  pub left : all (rowFits n) (rowsBy ls us firsts first (drop at ws)) ≡ all (rowFits n) (rowsBy ls us firsts start ws)
-  pub sum : constant ⊕ constantOf (rowsBy ls us firsts first (drop at ws)) ≡ constantOf (rowsBy ls us firsts start ws)
+  pub left : all (rowFits n) (rowsLeft ls us firsts ws first at) ≡ all (rowFits n) (rowsBy ls us firsts start ws)
+  pub sum : constant ⊕ constantOf (rowsLeft ls us firsts ws first at) ≡ constantOf (rowsBy ls us firsts start ws)
 
 nothing : (x : ℤ) → pos 0 ⊕ x ≡ x
 nothing = simp linear (omega arith)
@@ -85,16 +86,16 @@ module _ {ws : List ℕ} {ls us : List ℤ} {firsts : List ℕ} {start n : ℕ} 
 
   module _ (h : at < length ws) (z : startsRow (getD ws at 0) ≡ true) where
     abbrev this : BitRow
-    this = rowBy ls us firsts first (getD ws at 0) (drop (at + 1) ws)
+    this = rowHere ls us firsts ws first at
 
     abbrev others : List BitRow
-    others = rowsBy ls us firsts (first + this .own) (drop (at + 1) ws)
+    others = rowsLeft ls us firsts ws (first + this .own) (at + 1)
 
-    fits-both : all (rowFits n) (rowsBy ls us firsts first (drop at ws)) ≡ (rowFits n this && all (rowFits n) others)
+    fits-both : all (rowFits n) (rowsLeft ls us firsts ws first at) ≡ (rowFits n this && all (rowFits n) others)
     unfolding all
     fits-both = ap (all (rowFits n)) (left-one ls us firsts ws first at h z)
 
-    sums-both : constantOf (rowsBy ls us firsts first (drop at ws)) ≡ square (this .whole .constant) ⊕ constantOf others
+    sums-both : constantOf (rowsLeft ls us firsts ws first at) ≡ square (this .whole .constant) ⊕ constantOf others
     unfolding sumOver
     sums-both = ap constantOf (left-one ls us firsts ws first at h z)
 
@@ -109,14 +110,11 @@ module _ {ws : List ℕ} {ls us : List ℤ} {firsts : List ℕ} {start n : ℕ} 
           small = omega (arith, k .small);
           size = rw p (omega (arith, plus-size constant c, k .size, square-small s t));
           long = g ∙ k .long;
-          left = ap (λ m. all (rowFits n) (rowsBy ls us firsts (first + m) (drop (at + 1) ws))) o ∙ sym (fits-both ∙ rw (← (s .tested), t) refl) ∙ k .left;
+          left = ap (λ m. all (rowFits n) (rowsLeft ls us firsts ws (first + m) (at + 1))) o ∙ sym (fits-both ∙ rw (← (s .tested), t) refl) ∙ k .left;
           sum =
-              ap₂ (λ x m. x ⊕ constantOf (rowsBy ls us firsts (first + m) (drop (at + 1) ws))) (p ∙ ap (λ y. constant ⊕ y) (s .squared t)) o
-              ∙ grouped constant (square (this .whole .constant)) (constantOf others) ∙ ap (λ y. constant ⊕ y) (sym sums-both) ∙ k .sum;
+              ap₂ (λ x m. x ⊕ constantOf (rowsLeft ls us firsts ws (first + m) (at + 1))) (p ∙ ap (λ y. constant ⊕ y) (s .squared t)) o
+              ∙ ⊕-assoc constant (square (this .whole .constant)) (constantOf others) ∙ ap (λ y. constant ⊕ y) (sym sums-both) ∙ k .sum;
         }
-      where
-        grouped : (a b c : ℤ) → a ⊕ b ⊕ c ≡ a ⊕ (b ⊕ c)
-        grouped = simp linear (omega arith)
 
   pub checking-done : length ws ≤ at → RowsChecked n (rowsBy ls us firsts start ws) true constant
   unfolding all sumOver

@@ -7,7 +7,7 @@ use lib.IntN.{ℤ}
 use Rattle.integers.specs.Lists.{all}
 use Rattle.bitforms.specs.BitRow.{BitRow}
 use Rattle.bitforms.specs.Energy.{square}
-use Rattle.bitforms.specs.RowParts.{constantOf}
+use Rattle.bitforms.specs.BitForm.{constantOf}
 use Rattle.bitforms.specs.FormAnswer.{rowFits}
 
 -- of one row

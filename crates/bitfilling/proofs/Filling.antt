@@ -20,14 +20,14 @@ use Rattle.words.specs.Limit as Limit
 use Rattle.rowsystems.specs.Row.{sum≤0, sum=0, product}
 use Rattle.extremes.specs.Bounded.{boundsOf}
 use Rattle.bitforms.specs.Weights.{weights}
-use Rattle.bitforms.specs.OverBits.{scaled, weightedBits}
+use Rattle.bitforms.specs.OverBits.{scaled, overBits, weightedBits}
 use Rattle.bitforms.specs.BitRow.{BitRow, least, slackWeights, productWhole, bitRow}
 use Rattle.bitforms.specs.Matrix.{coefficientOf}
 use Rattle.bitforms.specs.FormAnswer.{rowFits}
 use Rattle.bitlines.specs.Dense.{addTerms, peak}
 use Rattle.bitlines.proofs.Dense.{add-append, add-length, add-coefficient}
 use Rattle.bittables.specs.BitTables.{spanIn, bitsOf, encodingBy}
-use Rattle.bitrows.specs.Terms.{overBits, cross}
+use Rattle.bitrows.specs.Terms.{cross}
 use Rattle.bitrows.proofs.Over.{over-bits}
 use Rattle.bitrows.proofs.Cross.{pairs-cross}
 use Rattle.bitfilling.specs.Filled.{dense}

@@ -22,10 +22,9 @@ use Rattle.rowsystems.specs.RowSystem.{termsIn}
 use Rattle.extremes.specs.Bounded.{boundsOf}
 use Rattle.bitforms.specs.SumOver.{sumOver}
 use Rattle.bitforms.specs.Weights.{weights}
-use Rattle.bitforms.specs.OverBits.{OverBits, weightedBits, scaled, over}
+use Rattle.bitforms.specs.OverBits.{OverBits, weightedBits, scaled, overBits, over}
 use Rattle.bitforms.specs.BitRow.{Pair, slackWeights, pairsWith, pairsOf, productWhole, bitRow}
-use Rattle.bitforms.specs.Matrix.{coefficientOf, squareEntry, onPair, pairEntry}
-use Rattle.bitforms.specs.RowParts.{rowEntry}
+use Rattle.bitforms.specs.Matrix.{coefficientOf, squareEntry, onPair, pairEntry, rowEntry}
 use Rattle.bitforms.proofs.Numbers.{with-length, pairs-all}
 use Rattle.bittables.specs.BitTables.{spanIn, bitsOf, rowOver, BitCounts}
 use Rattle.bitrows.specs.Terms.{termIn}
@@ -167,7 +166,7 @@ module _ (i : ℕ) where
 
     pub idle-row : (first own : ℕ) (q : Row ℕ) → own ≡ rowOver ls us firsts first q .own → NotAmong first own i → IdleRow (NoBitOf firsts counts i) q →
         (j : ℕ) → rowEntry (rowOver ls us firsts first q) i j ≡ +0
-    unfolding bitRow over productWhole IdleRow sumOver
+    unfolding bitRow over overBits productWhole IdleRow sumOver
     idle-row first own (sum≤0 ts c) e o h j =
         let s = slackWeights (boundsOf ls us) ts c in
         let T = flatMap (λ t. scaled (t .coefficient) (bitsOf ls us firsts (t .variable))) ts in

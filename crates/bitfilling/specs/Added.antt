@@ -9,10 +9,11 @@ use Rattle.integers.specs.Terms.{Term}
 use Rattle.words.specs.Limit as Limit
 use Rattle.rowsystems.specs.RowSystem.{variableAt}
 use Rattle.bitforms.specs.BitRow.{BitRow}
-use Rattle.bitforms.specs.RowParts.{rowEntry}
+use Rattle.bitforms.specs.Matrix.{rowEntry}
 use Rattle.bitlines.specs.Sizes as Size
 use Rattle.bitlines.specs.Dense.{peak, Adds}
 use Rattle.bitlines.specs.Line.{squareTerms}
+use Rattle.bittables.specs.BitTables.{NearFirsts}
 use Rattle.bitrows.specs.Terms.{pairsTerms}
 use Rattle.bitfilling.specs.Filled.{dense}
 
@@ -38,8 +39,8 @@ productPairs firsts counts args first i =
 
 -- the sizes of the lists of first bits and of numbers of bits
 pub record SmallTables (firsts counts : List ℕ) : Type 0 where
-  pub near-first : (v : ℕ) → getD firsts v 0 ≤ Size.allVariableBits
-  pub few : (v : ℕ) → getD counts v 0 ≤ Size.variableBits
+  pub near-first : NearFirsts firsts
+  pub few : (v : ℕ) → getD counts v 0 ≤ Size.mostWeights
 
 -- a line before and after a row is added
 pub record Added (r : BitRow) (i : ℕ) (line line′ : List ℤ) : Type 0 where

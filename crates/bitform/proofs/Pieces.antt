@@ -17,12 +17,11 @@ use Rattle.words.specs.Overlay.{overlay}
 use Rattle.words.specs.Word.{word, numberWord, inRange}
 use Rattle.words.proofs.Overlay.{overlay-append}
 use Rattle.bitforms.specs.BitForm.{bitRowsOf, bitCount, formConstant, formEntries}
-use Rattle.bitforms.specs.Matrix.{Entry, entryOf, entriesFrom, notZero}
+use Rattle.bitforms.specs.Matrix.{Entry, entryOf, lineEntries, entriesFrom, notZero}
 use Rattle.bitforms.specs.FormWords.{formWords}
 use Rattle.bitforms.specs.FormAnswer.{rowFits, formFits}
 use Rattle.bitlines.specs.Line.{entriesWords}
 use Rattle.bitlines.proofs.Writing.{words-append}
-use Rattle.bitwriting.specs.Lined.{lineOf}
 use Rattle.bitwriting.proofs.Putting.{line-words}
 
 -- 0 is in the range, so that leaving zeros out changes no test
@@ -79,12 +78,12 @@ module _ (ws : List ℕ) where
 
 -- at most 3,072 words a line
 pub lines-few : (e : ℕ → ℕ → ℤ) (i m : ℕ) → m ≤ 1024 → length (entriesWords (entriesFrom e i m)) ≤ 3072 * m
-unfolding entriesFrom lineOf entriesWords notZero flatMap
+unfolding entriesFrom entriesWords notZero flatMap
 lines-few e i zero h = omega arith
 lines-few e i (suc m) h =
     let r = lines-few e (suc i) m (omega arith) in
     let w = line-words e i (suc m) in
-    rw (words-append (lineOf e i (suc m)) (entriesFrom e (suc i) m), length-append (entriesWords (lineOf e i (suc m))) (entriesWords (entriesFrom e (suc i) m))) (omega arith)
+    rw (words-append (lineEntries (e i) i (suc m)) (entriesFrom e (suc i) m), length-append (entriesWords (lineEntries (e i) i (suc m))) (entriesWords (entriesFrom e (suc i) m))) (omega arith)
 
 -- ---- what does not fit
 

@@ -18,7 +18,7 @@ use Rattle.words.specs.Answer.{Answer, written, _else-answer_}
 use Rattle.words.specs.declared.Refusal.{Refusal}
 use Rattle.rowsystems.specs.Reading.{readRows}
 use Rattle.bitforms.specs.BitRow.{BitRow}
-use Rattle.bitforms.specs.Matrix.{coefficientOf}
+use Rattle.bitforms.specs.Matrix.{coefficientOf, Entry}
 use Rattle.bitforms.specs.BitForm.{bitRowsOf, bitCount, formConstant, formEntries}
 use Rattle.bitforms.specs.FormWords.{formWords}
 
@@ -33,9 +33,12 @@ rowFits n r =
     && all (λ i. leZ (absZ (coefficientOf (r .whole .terms) i)) (pos Limit.bitNumbers)) (listOf (λ i. i) n)
 
 -- "or an entry or the form's constant is outside the range"
+abbrev pub allInRange : List Entry → Bool
+allInRange xs = all (λ x. inRange (x .number)) xs
+
 unfoldable pub formFits : List ℕ → Bool
 formFits ws =
-    all (rowFits (bitCount ws)) (bitRowsOf ws) && (inRange (formConstant ws) && all (λ x. inRange (x .number)) (formEntries ws))
+    all (rowFits (bitCount ws)) (bitRowsOf ws) && (inRange (formConstant ws) && allInRange (formEntries ws))
 
 unfoldable pub numberFault : List ℕ → Refusal
 numberFault ws = accepted if formFits ws else Fault.formTooLarge at-place 0

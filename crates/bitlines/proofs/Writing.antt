@@ -14,10 +14,10 @@ use Rattle.words.specs.Kind as Kind
 use Rattle.words.specs.Overlay.{overlay}
 use Rattle.words.specs.Laid.{Laid}
 use Rattle.words.proofs.Rest.{all-left, lay-part, lay-last, none-left}
-use Rattle.bitforms.specs.Matrix.{Entry, notZero}
+use Rattle.bitforms.specs.Matrix.{Entry, entryAt, lineEntries, notZero}
 use Rattle.bitforms.specs.FormWords.{entryWords}
 use Rattle.bitforms.proofs.Lists.{list-more, flat-append}
-use Rattle.bitlines.specs.Line.{entry, lineEntries, entriesWords}
+use Rattle.bitlines.specs.Line.{entriesWords}
 
 -- ---- words after words
 
@@ -47,7 +47,7 @@ words-append xs ys = ap (flatMap entryWords) (zero-append xs ys) ∙ flat-append
 
 -- the entries of the first d bits are written
 pub record Writing (at i m : ℕ) (o : List ℕ) (line : List ℤ) (p : List ℕ) (next d : ℕ) : Type 0 where
-  pub done : Laid o at (entriesWords (lineEntries line i d)) p next
+  pub done : Laid o at (entriesWords (lineEntries (λ j. getD line j +0) i d)) p next
   pub place : d ≤ m
   pub small : next ≤ at + 3 * d
 
@@ -55,20 +55,20 @@ pub writing-begun : (at i m : ℕ) (o : List ℕ) (line : List ℤ) → Writing 
 unfolding lineEntries listOf entriesWords notZero flatMap
 writing-begun at i m o line = record { done = laid-none; place = omega arith; small = omega arith }
 
-one-size : (i j : ℕ) (v : ℤ) → length (entriesWords (entry i j v ∷ [])) ≤ 3
+one-size : (i j : ℕ) (v : ℤ) → length (entriesWords (entryAt i j v ∷ [])) ≤ 3
 unfolding entriesWords notZero flatMap entryWords
 one-size i j v = go (v == +0)
   where
-    go : (t : Bool) → length (flatMap entryWords ([] if t else entry i j v ∷ [])) ≤ 3
+    go : (t : Bool) → length (flatMap entryWords ([] if t else entryAt i j v ∷ [])) ≤ 3
     go true = omega arith
     go false = omega arith
 
 pub writing-more : {at i m next r d : ℕ} {o p q : List ℕ} {line : List ℤ} → d < m → Writing at i m o line p next d →
-    Laid p next (entriesWords (entry i (i + d) (getD line (i + d) +0) ∷ [])) q r → Writing at i m o line q r (d + 1)
+    Laid p next (entriesWords (entryAt i (i + d) (getD line (i + d) +0) ∷ [])) q r → Writing at i m o line q r (d + 1)
 unfolding lineEntries
 writing-more {at} {i} {m} {next} {r} {d} {o} {p} {q} {line} l w e = record {
   done =
-      let f : ℕ → Entry = λ k. entry i (i + k) (getD line (i + k) +0) in
+      let f : ℕ → Entry = λ k. entryAt i (i + k) (getD line (i + k) +0) in
       rw (list-more f d, words-append (listOf f d) (f d ∷ [])) (laid-then (w .done) e);
   place = omega arith;
   small = let s = w .small in let n = e .ends in let z = one-size i (i + d) (getD line (i + d) +0) in omega arith;
@@ -76,11 +76,11 @@ writing-more {at} {i} {m} {next} {r} {d} {o} {p} {q} {line} l w e = record {
 
 -- ---- one entry
 
-pub laid-zero : {at : ℕ} {o : List ℕ} (i j : ℕ) (v : ℤ) → (v == +0) ≡ true → Laid o at (entriesWords (entry i j v ∷ [])) o at
+pub laid-zero : {at : ℕ} {o : List ℕ} (i j : ℕ) (v : ℤ) → (v == +0) ≡ true → Laid o at (entriesWords (entryAt i j v ∷ [])) o at
 unfolding entriesWords notZero flatMap
 laid-zero i j v e = rw e laid-none
 
 pub laid-entry : {at : ℕ} {o p : List ℕ} (i j : ℕ) (v : ℤ) → (v == +0) ≡ false →
-    p ≡ overlay o at (word Kind.variable i ∷ word Kind.variable j ∷ numberWord Kind.number v ∷ []) → Laid o at (entriesWords (entry i j v ∷ [])) p (at + 3)
+    p ≡ overlay o at (word Kind.variable i ∷ word Kind.variable j ∷ numberWord Kind.number v ∷ []) → Laid o at (entriesWords (entryAt i j v ∷ [])) p (at + 3)
 unfolding entriesWords notZero flatMap entryWords
 laid-entry i j v e f = rw e (record { over = f; ends = refl })

@@ -5,17 +5,16 @@ use lib.Dec.{eqb}
 use lib.IntN.{ℤ, pos}
 use lib.ListN.{getD}
 use Rattle.integers.specs.Choice.{_if_else_}
-use Rattle.integers.specs.Number.{_⊕_, _⊗_, +0, +1, +2, -2}
+use Rattle.integers.specs.Number.{+0, +1, -2}
 use Rattle.integers.specs.Lists.{listOf}
 use Rattle.integers.specs.Terms.{Term, _·_}
 use Rattle.bitforms.specs.BitRow.{Pair}
-use Rattle.bitforms.specs.Matrix.{Entry, notZero}
+use Rattle.bitforms.specs.Matrix.{squareWith, Entry, notZero}
 use Rattle.bitforms.specs.FormWords.{entryWords}
 
 -- the entry of bits i ≤ j in the square of a row over bits, whose coefficients stand in a list
 unfoldable pub squareAt : List ℤ → ℤ → ℕ → ℕ → ℤ
-squareAt row c i j =
-    getD row i +0 ⊗ getD row i +0 ⊕ +2 ⊗ c ⊗ getD row i +0 if eqb i j else +2 ⊗ getD row i +0 ⊗ getD row j +0
+squareAt row c i j = squareWith (λ k. getD row k +0) c i j
 
 -- of bit i and the m bits from i on
 unfoldable pub squareTerms : List ℤ → ℤ → ℕ → ℕ → List (Term ℕ)
@@ -30,15 +29,9 @@ unfoldable pub pairTerms : Pair → ℕ → List (Term ℕ)
 pairTerms p i =
     onTerms (pos 3) (p .t) (p .t) i ++ (onTerms +1 (p .u) (p .v) i ++ (onTerms -2 (p .u) (p .t) i ++ onTerms -2 (p .v) (p .t) i))
 
+-- a product of bits; its weight stands in no entry, so that 0 does for it
 abbrev pub pairOf : ℕ → ℕ → ℕ → Pair
 pairOf u v t = record { weight = +0; u = u; v = v; t = t }
-
--- the entries of the line of bit i, of the m bits from i on
-abbrev pub entry : ℕ → ℕ → ℤ → Entry
-entry i j v = record { low = i; high = j; number = v }
-
-unfoldable pub lineEntries : List ℤ → ℕ → ℕ → List Entry
-lineEntries line i m = listOf (λ d. entry i (i + d) (getD line (i + d) +0)) m
 
 -- the words of entries, zeros left out
 unfoldable pub entriesWords : List Entry → List ℕ

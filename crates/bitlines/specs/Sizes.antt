@@ -3,9 +3,9 @@ use Prim.Native.Nat.{ℕ}
 
 -- ---- how many bits
 
--- of a variable; of a row's own, those of a product; of all variables, 64 for each of 4,096
-abbrev pub variableBits : ℕ
-variableBits = 62
+-- the weights of any width below 2^62, of a variable or a slack; of a row's own, those of a product; of all variables, counted as 64 for each of 4,096
+abbrev pub mostWeights : ℕ
+mostWeights = 62
 
 abbrev pub ownBits : ℕ
 ownBits = 3844

@@ -9,9 +9,10 @@ ghost use Rattle.words.specs.Limit as Limit;
 ghost use Rattle.words.specs.Laid.{Laid};
 ghost use Rattle.bitforms.specs.Weights.{weights};
 ghost use Rattle.bitforms.specs.OverBits.{weightedBits, scaled};
+ghost use Rattle.bitforms.specs.Matrix.{entryAt, lineEntries};
 ghost use Rattle.bitlines.specs.Sizes as Size;
 ghost use Rattle.bitlines.specs.Dense.{bump, addTerms, peak, Adds};
-ghost use Rattle.bitlines.specs.Line.{squareAt, squareTerms, onTerms, pairTerms, pairOf, entry, lineEntries, entriesWords};
+ghost use Rattle.bitlines.specs.Line.{squareAt, squareTerms, onTerms, pairTerms, pairOf, entriesWords};
 use integers::equal;
 use integers::plus;
 use integers::times;
@@ -141,7 +142,7 @@ pub fn add_pair(line: &mut [i64], u: usize, v: usize, t: usize, i: usize)
 // Writes the words of an entry, none for 0; the next place.
 pub fn put_entry(out: &mut [u32], at: usize, i: usize, j: usize, v: i64) -> usize
     requires { ⌜ at < Size.farthest ⌝ }
-    ensures { λ r. ⌜ Laid (now (out .entry)) at (entriesWords (entry i j v ∷ [])) (now (out .exit)) r ⌝ }
+    ensures { λ r. ⌜ Laid (now (out .entry)) at (entriesWords (entryAt i j v ∷ [])) (now (out .exit)) r ⌝ }
 {
     if equal(v, 0) {
         return at;
@@ -158,7 +159,7 @@ pub fn put_entry(out: &mut [u32], at: usize, i: usize, j: usize, v: i64) -> usiz
 // Writes the entries of bit i and the m bits from i on; the next place.
 pub fn put_line(out: &mut [u32], at: usize, line: &[i64], i: usize, m: usize) -> usize
     requires { ⌜ (at + 3 * m < Size.farthest) × (i + m ≤ Limit.bits) ⌝ }
-    ensures { λ r. ⌜ Laid (now (out .entry)) at (entriesWords (lineEntries (now (line .entry)) i m)) (now (out .exit)) r ⌝ }
+    ensures { λ r. ⌜ Laid (now (out .entry)) at (entriesWords (lineEntries (λ j. getD (now (line .entry)) j +0) i m)) (now (out .exit)) r ⌝ }
 {
     let mut next = at;
     let mut d = 0;

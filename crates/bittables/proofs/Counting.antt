@@ -29,7 +29,7 @@ few-from (suc b) (suc most) k (suc w) h =
     let r = few-from b most (2 * k) (suc w - k) (omega arith) in
     omega arith
 
-pub few-weights : (w : ℕ) → w < 4 * Size.sums → length (weights w) ≤ Size.variableBits
+pub few-weights : (w : ℕ) → w < 4 * Size.sums → length (weights w) ≤ Size.mostWeights
 unfolding weights
 few-weights w h = few-from 62 w 1 w (omega arith)
 
@@ -41,5 +41,5 @@ span-size ls us v l u = omega (arith, count-le (getD us v +0 ⊖ getD ls v +0), 
 
 -- ---- the number of a variable's bits
 
-pub counts-few : (ls us : List ℤ) (counts : List ℕ) → Bounded ls → Bounded us → BitCounts ls us counts → (v : ℕ) → getD counts v 0 ≤ Size.variableBits
+pub counts-few : (ls us : List ℤ) (counts : List ℕ) → Bounded ls → Bounded us → BitCounts ls us counts → (v : ℕ) → getD counts v 0 ≤ Size.mostWeights
 counts-few ls us counts l u k v = omega (arith, k v, few-weights (spanIn ls us v) (omega (arith, span-size ls us v l u)))

@@ -51,10 +51,10 @@ pub weights-by : (ls us : List ℤ) (v : ℕ) → weightsOf (boundsOf ls us v) �
 unfolding weightsOf spanIn
 weights-by ls us v = refl
 
-pub few-bits : (ls us : List ℤ) → Bounded ls → Bounded us → (v : ℕ) → bitsIn (boundsOf ls us v) ≤ Size.variableBits
+pub few-bits : (ls us : List ℤ) → Bounded ls → Bounded us → (v : ℕ) → bitsIn (boundsOf ls us v) ≤ Size.mostWeights
 few-bits ls us l u v = rw (weights-by ls us v) (few-weights (spanIn ls us v) (omega (arith, span-size ls us v l u)))
 
-pub few-after : (ls us : List ℤ) → Bounded ls → Bounded us → (n : ℕ) → bitsAfter 0 (listOf (boundsOf ls us) n) ≤ Size.variableBits * n
+pub few-after : (ls us : List ℤ) → Bounded ls → Bounded us → (n : ℕ) → bitsAfter 0 (listOf (boundsOf ls us) n) ≤ Size.mostWeights * n
 unfolding listOf bitsAfter
 few-after ls us l u zero = omega arith
 few-after ls us l u (suc n) =

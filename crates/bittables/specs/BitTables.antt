@@ -38,10 +38,13 @@ abbrev pub rowsBy : List ℤ → List ℤ → List ℕ → ℕ → List ℕ → 
 rowsBy ls us firsts first ws = bitRows (boundsOf ls us) (encodingBy ls us firsts) first (rows ws)
 
 -- the sizes of three of the lists, and what the fourth has in it
+abbrev pub NearFirsts : List ℕ → Type 0
+NearFirsts firsts = (v : ℕ) → getD firsts v 0 ≤ Size.allVariableBits
+
 pub record BitLists (ls us : List ℤ) (firsts : List ℕ) : Type 0 where
   pub near-lower : Bounded ls
   pub near-upper : Bounded us
-  pub near-first : (v : ℕ) → getD firsts v 0 ≤ Size.allVariableBits
+  pub near-first : NearFirsts firsts
 
 abbrev pub BitCounts : List ℤ → List ℤ → List ℕ → Type 0
 BitCounts ls us counts = (v : ℕ) → getD counts v 0 ≡ length (weights (spanIn ls us v))

@@ -23,7 +23,7 @@ use words::word_at;
 // How many weights a width has: they are added to no bits.
 pub fn weight_count(width: usize) -> usize
     requires { ⌜ width < 4 * Size.sums ⌝ }
-    ensures { λ r. ⌜ (r ≡ length (weights width)) × (r ≤ Size.variableBits) ⌝ }
+    ensures { λ r. ⌜ (r ≡ length (weights width)) × (r ≤ Size.mostWeights) ⌝ }
 {
     let mut nothing = [0i64; 0];
     add_weights(&mut nothing, 0, 0, width)

@@ -3,14 +3,10 @@ use mathlib.Core.Path.{_≡_}
 use mathlib.Core.Bool.{Bool, true}
 use mathlib.Core.List.{List}
 use Prim.Native.Nat.{ℕ}
-use Rattle.integers.specs.Lists.{all}
 use Rattle.words.specs.Laid.{Laid}
-use Rattle.words.specs.Word.{inRange}
 use Rattle.bitforms.specs.Matrix.{Entry}
+use Rattle.bitforms.specs.FormAnswer.{allInRange}
 use Rattle.bitlines.specs.Line.{entriesWords}
-
-abbrev pub allInRange : List Entry → Bool
-allInRange xs = all (λ x. inRange (x .number)) xs
 
 pub record EntriesPut (xs : List Entry) (out : List ℕ) (at : ℕ) (out′ : List ℕ) (fits : Bool) (end : ℕ) : Type 0 where
   pub tested : fits ≡ allInRange xs

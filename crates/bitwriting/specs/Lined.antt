@@ -2,24 +2,19 @@
 use mathlib.Core.Path.{_≡_}
 use mathlib.Core.Bool.{true}
 use mathlib.Core.List.{List}
-use Prim.Native.Nat.{ℕ, _+_, _<_, _≤_}
+use Prim.Native.Nat.{ℕ, _<_, _≤_}
 use lib.IntN.{ℤ}
 use lib.ListN.{length, getD}
 use Rattle.integers.specs.Number.{+0}
-use Rattle.integers.specs.Lists.{listOf, all}
+use Rattle.integers.specs.Lists.{all}
 use Rattle.bitforms.specs.BitRow.{BitRow}
-use Rattle.bitforms.specs.Matrix.{Entry, entryOf}
+use Rattle.bitforms.specs.Matrix.{entryOf}
 use Rattle.bitforms.specs.FormAnswer.{rowFits}
-use Rattle.bitlines.specs.Line.{entry}
 use Rattle.bittables.specs.BitTables.{rowsBy, RowTables}
 
 -- a list that holds it
 abbrev pub LineOf : List BitRow → ℕ → List ℤ → Type 0
 LineOf rs i line = (j : ℕ) → i ≤ j → j < length line → getD line j +0 ≡ entryOf rs i j
-
--- the entries of bit i and the m bits from i on
-unfoldable pub lineOf : (ℕ → ℕ → ℤ) → ℕ → ℕ → List Entry
-lineOf e i m = listOf (λ d. entry i (i + d) (e i (i + d))) m
 
 -- the words of rows and the lists of their bits, where all rows over n bits fit
 pub record Fitting (ws : List ℕ) (ls us : List ℤ) (firsts counts : List ℕ) (start n : ℕ) : Type 0 where

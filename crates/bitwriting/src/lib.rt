@@ -2,16 +2,17 @@
 ghost use mathlib.Core.Path.{_≡_};
 ghost use mathlib.Core.Bool.{true};
 ghost use Prim.Native.Nat.{_+_, _*_, _<_, _≤_};
+ghost use lib.ListN.{getD};
+ghost use Rattle.integers.specs.Number.{+0};
 ghost use Rattle.words.specs.Limit as Limit;
-ghost use Rattle.bitforms.specs.FormAnswer.{rowFits};
-ghost use Rattle.bitforms.specs.Matrix.{entriesFrom};
+ghost use Rattle.bitforms.specs.FormAnswer.{rowFits, allInRange};
+ghost use Rattle.bitforms.specs.Matrix.{lineEntries, entriesFrom};
 ghost use Rattle.bitlines.specs.Sizes as Size;
 ghost use Rattle.bitlines.specs.Dense.{peak};
-ghost use Rattle.bitlines.specs.Line.{lineEntries};
 ghost use Rattle.bittables.specs.BitTables.{rowBy, rowsBy, BitTables};
 ghost use Rattle.bitfilling.specs.Added.{LineAndRow, Added};
-ghost use Rattle.bitwriting.specs.Lined.{LineOf, lineOf, Fitting, entryBy};
-ghost use Rattle.bitwriting.specs.EntriesPut.{allInRange, EntriesPut};
+ghost use Rattle.bitwriting.specs.Lined.{LineOf, Fitting, entryBy};
+ghost use Rattle.bitwriting.specs.EntriesPut.{EntriesPut};
 use bitfilling::add_row;
 use bitfilling::clear;
 use bitfilling::holds_bit;
@@ -97,7 +98,7 @@ fn fill_line(
 // Whether the m entries from bit i on are in the range.
 fn entries_fit(line: &[i64], i: usize, m: usize) -> bool
     requires { ⌜ i + m ≤ Limit.bits ⌝ }
-    ensures { λ r. ⌜ r ≡ allInRange (lineEntries (now (line .entry)) i m) ⌝ }
+    ensures { λ r. ⌜ r ≡ allInRange (lineEntries (λ j. getD (now (line .entry)) j +0) i m) ⌝ }
 {
     let mut d = 0;
     while d < m {
@@ -125,7 +126,7 @@ fn put_one(
     m: usize,
 ) -> Lines
     requires { ⌜ Fitting (now ws) (now ls) (now us) (now firsts) (now counts) start (i + m) × LineAndRow (i + m) (now line) (now row) × (at + 3 * m < Size.farthest) ⌝ }
-    ensures { λ r. ⌜ EntriesPut (lineOf (entryBy (now (ls .entry)) (now (us .entry)) (now (firsts .entry)) start (now (ws .entry))) i m) (now (out .entry)) at (now (out .exit)) (r .fits) (r .at) ⌝ }
+    ensures { λ r. ⌜ EntriesPut (lineEntries (entryBy (now (ls .entry)) (now (us .entry)) (now (firsts .entry)) start (now (ws .entry)) i) i m) (now (out .entry)) at (now (out .exit)) (r .fits) (r .at) ⌝ }
 {
     fill_line(line, row, ws, ls, us, firsts, counts, start, i, m);
     if !entries_fit(line, i, m) {

@@ -6,14 +6,11 @@ use Rattle.bittables.proofs.Counting.{few-weights}
 use Rattle.bittables.proofs.weight_count.Statement.{statement}
 use Rattle.bittables.proofs.weight_count.Tie as tie
 
-add-weights-requires : tie.Need-add-weights-requires
-unfolding peak
-add-weights-requires c κs = search needs
-
 returns : tie.Need-returns
 returns c =
     let s = c .before .before .before in
     (search needs, omega (arith, c .before .add-weights .ensures .0, few-weights (s .args .width) (s .pre)))
 
 pub weight-count-spec : {M : Type 1} → statement M
-weight-count-spec = tie.close (tie.spec (λ c. search needs) add-weights-requires returns)
+unfolding peak
+weight-count-spec = tie.close (tie.spec (λ c. search needs) (λ c κs. search needs) returns)

@@ -11,13 +11,14 @@ use Rattle.integers.specs.Lists.{listOf, all}
 use Rattle.integers.proofs.Places.{all-more}
 use Rattle.words.specs.Word.{inRange}
 use Rattle.arguments.proofs.Size.{read}
-use Rattle.bitlines.specs.Line.{entry, lineEntries}
+use Rattle.bitforms.specs.Matrix.{entryAt, lineEntries}
+use Rattle.bitforms.specs.FormAnswer.{allInRange}
 use Rattle.bitwriting.proofs.Putting.{fails-at}
 use Rattle.bitwriting.proofs.entries_fit.Statement.{statement}
 use Rattle.bitwriting.proofs.entries_fit.Tie as tie
 
 abbrev Inv-loop : tie.InvT-loop
-Inv-loop line i m d₀ d = (d ≤ m) × (all (λ x. inRange (x .number)) (lineEntries line i d) ≡ true)
+Inv-loop line i m d₀ d = (d ≤ m) × (allInRange (lineEntries (λ j. getD line j +0) i d) ≡ true)
 
 abbrev μ-loop : tie.MeasureT-loop
 μ-loop line i m d₀ d = m - d
@@ -35,7 +36,7 @@ returns c =
     let s = c .before .before .before .before .before in
     let l = c .before .before .before .before .loop in
     let e = ap inRange (sym (read (c .before .before .number-at .ok) (c .before .before .number-at .ensures))) ∙ sym (c .before .in-range .ensures) ∙ not-true _ (c .if1 .taken) in
-    sym (fails-at (λ x. inRange (x .number)) (λ d. entry (s .args .i) (s .args .i + d) (getD (s .args .line .now) (s .args .i + d) +0)) (s .args .m) (l .d) (c .before .before .before .loop-test .taken) e)
+    sym (fails-at (λ x. inRange (x .number)) (λ d. entryAt (s .args .i) (s .args .i + d) (getD (s .args .line .now) (s .args .i + d) +0)) (s .args .m) (l .d) (c .before .before .before .loop-test .taken) e)
 
 loop-again : tie.Need-loop-again Inv-loop μ-loop
 unfolding lineEntries
@@ -43,7 +44,7 @@ loop-again c =
     let s = c .before .before .before .before .before in
     let l = c .before .before .before .before .loop in
     let e = ap inRange (sym (read (c .before .before .number-at .ok) (c .before .before .number-at .ensures))) ∙ sym (c .before .in-range .ensures) ∙ not-false _ (c .if1 .left) in
-    (omega (arith, c .before .before .before .loop-test .taken), all-more (λ x. inRange (x .number)) (λ d. entry (s .args .i) (s .args .i + d) (getD (s .args .line .now) (s .args .i + d) +0)) (l .d) ∙ rw (l .inv .1) e)
+    (omega (arith, c .before .before .before .loop-test .taken), all-more (λ x. inRange (x .number)) (λ d. entryAt (s .args .i) (s .args .i + d) (getD (s .args .line .now) (s .args .i + d) +0)) (l .d) ∙ rw (l .inv .1) e)
 
 returns-2 : tie.Need-returns-2 Inv-loop μ-loop
 returns-2 c =

@@ -4,7 +4,7 @@ use borrow.Author.Needs.{needs}
 use borrow.Author.Tests.{not-true, not-false}
 use Rattle.integers.proofs.Tests.{false-true}
 use Rattle.bittables.specs.BitTables.{rowsBy}
-use Rattle.bitwriting.specs.EntriesPut.{allInRange}
+use Rattle.bitforms.specs.FormAnswer.{allInRange}
 use Rattle.bitwriting.proofs.Putting.{line-entries}
 use Rattle.bitwriting.proofs.put_one.Statement.{statement}
 use Rattle.bitwriting.proofs.put_one.Tie as tie
