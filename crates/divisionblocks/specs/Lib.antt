@@ -1,2 +1,2 @@
--- What the contracts of the block writers of int_div and int_mod cite: the parts of a table's rows. No public promise speaks of them.
+-- What only internal contracts cite: the parts of a table's rows.
 pub mod Rows

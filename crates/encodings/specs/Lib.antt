@@ -1,2 +1,2 @@
--- What the contracts cite: how many constraints encode each variable, and which are shared by that.
+-- What only internal contracts cite: how many constraints encode each variable, and which are shared by that.
 pub mod Uses

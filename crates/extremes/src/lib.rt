@@ -151,7 +151,7 @@ pub fn nearer(from: i64, v: i64, above: i64) -> i64
     above
 }
 
-// The least number not below `from` in the list at place i, and `above` if that is not above it.
+// The least of the numbers in the list at place i that are not below `from` and are below `above`; `above` where there is none.
 pub fn least_from(args: &[u32], i: usize, from: i64, above: i64) -> i64
     requires { ⌜ i < 1099511627776 ⌝ }
     ensures { λ r. ⌜ r ≡ leastFrom (nums (now (args .entry)) i) from above ⌝ }

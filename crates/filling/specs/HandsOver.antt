@@ -1,5 +1,5 @@
--- Demand 3, its second half: "Where it does, fill hands over such values." For every model that passes the check and every list that satisfies
--- it, an output that is long enough gets the list followed by auxiliary values that make both together satisfy the row system, and the answer is
+-- Demand 3, its second half: fill hands over such auxiliary values. For every model that passes the check and every list that satisfies it, an
+-- output that is long enough gets the list followed by auxiliary values that make both together satisfy the row system, and the answer is
 -- how many values these are. 02, wish 10: they are the only such auxiliary values.
 use mathlib.Core.Path.{_≡_}
 use mathlib.Core.List.{List, _++_}

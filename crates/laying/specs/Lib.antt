@@ -1,4 +1,4 @@
--- What the contracts of the block writers cite: the parts of a block, lists of them, and what laying them does. No public promise speaks of them.
+-- What only internal contracts cite: the parts of a block, lists of them, what laying them does, and sizes.
 pub mod Part
 pub mod Lists
 pub mod Appends

@@ -1,4 +1,4 @@
--- Room for what is laid next: no count of words, auxiliaries and rows comes near 2^64.
+-- Room for what is laid next: the count of words, auxiliaries and rows stays below 2^32, so that none wraps.
 use Prim.Native.Nat.{ℕ, _+_, _<_}
 use Rattle.laying.specs.Appends.{total}
 use Rattle.laying.specs.declared.Laid.{Laid}

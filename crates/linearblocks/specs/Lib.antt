@@ -1,2 +1,2 @@
--- What the contracts of the linear block writers cite. No public promise speaks of it.
+-- What only internal contracts cite: the parts of the blocks of sums of terms, and of lists of Boolean variables.
 pub mod Rows

@@ -1,4 +1,4 @@
--- The parts of the blocks of 12 to 15, 31 and 32, as several writers lay them: x is auxiliary 0, z auxiliary 2.
+-- The parts of the blocks of 10 to 15, 21, 22, 31 and 32, as several writers lay them: in 12 to 15, 31 and 32, x is auxiliary 0 and z auxiliary 2.
 use mathlib.Core.Bool.{Bool}
 use mathlib.Core.List.{List, [], _∷_, _++_}
 use Prim.Native.Nat.{ℕ, _+_}

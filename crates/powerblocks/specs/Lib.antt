@@ -1,3 +1,3 @@
--- What the contracts of the block writer of int_pow cite: the bounds of its products, cut, and what is laid of them. No public promise speaks of them.
+-- What only internal contracts cite: the bounds of the products of int_pow, cut, and what is laid of them.
 pub mod Cut
 pub mod Chained

@@ -64,7 +64,7 @@ module _ (x : Reason) (K J : ℕ) (b : Bool) where
       go true h e = (eqb-true _ _ h, e)
       go false h e = let z : _≡_ {A = ℕ} 0 1 = cc in absurd (omega arith)
 
--- values that keep all bounds: the sourceValues keep theirs
+-- values that keep all bounds: those of the source variables keep theirs
 sources-kept : (Vs As : List Bounds) (vs : List ℤ) → firstOutOfBounds (value vs) 0 (Vs ++ As) holds ≡ holds → Keeps Vs (value (take (length Vs) vs))
 unfolding judge firstFalse value boundsIn
 sources-kept Vs As vs h =

@@ -17,7 +17,7 @@ use Rattle.rules.specs.Block.{Ref, source, aux}
 unfoldable pub Z : Bounds → Bounds
 Z B = minZ +0 (B .lower) to maxZ +0 (B .upper)
 
--- 7: "the least and largest of the four end products"
+-- 7: "least and largest of the four end products"
 unfoldable pub endProducts : Bounds → Bounds → Bounds
 endProducts A B =
     minZ (minZ (A .lower ⊗ B .lower) (A .lower ⊗ B .upper)) (minZ (A .upper ⊗ B .lower) (A .upper ⊗ B .upper))
@@ -79,7 +79,7 @@ unfoldable pub products : {A : Type 0} → (A → ℕ) → List A → ℕ → �
 products x [] k n = []
 products x (l ∷ ls) k n = product (aux n) (source (x l)) (aux k) ∷ products x ls (suc k) (suc n)
 
--- the j-th of a list, counted from 1
+-- the j-th of a list, counted from 1, the first for a j below 1; d past the list's end
 unfoldable pub nth : {A : Type 0} → A → List A → ℤ → A
 nth d xs j = getD xs (count j - 1) d
 
@@ -89,12 +89,12 @@ places I n = maxZ +1 (I .lower) to minZ (pos n) (I .upper)
 
 -- ---- the members of a set inside bounds, "rising, repeats counted once"
 
--- the least of the numbers that are not below `from`, and `above` if that is not above it
+-- the least of the numbers that are not below `from` and are below `above`; `above` where there is none
 unfoldable pub leastFrom : List ℤ → ℤ → ℤ → ℤ
 leastFrom [] from above = above
 leastFrom (v ∷ S) from above = leastFrom S from (v if leZ from v && ltZ v above else above)
 
--- at most k of them from `from` on
+-- the numbers of S from `from` to `upper`, rising, each once; at most k
 unfoldable pub rising : List ℤ → ℤ → ℕ → ℤ → List ℤ
 rising S upper zero from = []
 rising S upper (suc k) from =

@@ -1,4 +1,4 @@
--- 02, wish 13: the products of int_pow(x,k,z), "following 000, 3.1.25, halving the exponent until it is 1", and their values.
+-- 02, wish 13: the products of int_pow(x,k,z), "follow 000, 3.1.25, halving the exponent until it is 1", and their values.
 use mathlib.Core.List.{List, [], _∷_, _++_}
 use Prim.Native.Nat.{ℕ, zero, suc, _/_, _%_}
 use lib.Dec.{leb, eqb}
@@ -12,7 +12,7 @@ use Rattle.rules.specs.Block.{Ref, source, aux}
 use Rattle.rules.specs.Parts.{endProducts}
 
 -- "halving the exponent until it is 1: an even power is its half power squared; an odd one is that square, then x times it": by recursion on
--- the exponent, which halves at each step; the first number is as large as it, so that it is 1 before the steps end
+-- a number of steps, since the exponent halves; with as many steps as the exponent it is 1 before they end
 module _ {A : Type 0} (itself : A) (square times : A → A) where
   unfoldable pub byHalves : ℕ → ℕ → A
   byHalves zero k = itself

@@ -1,3 +1,3 @@
--- What the contracts cite: the row of the bits left out, and the other pieces of the blocks.
+-- What only internal contracts cite: the row of the bits left out, and the other pieces of the blocks.
 pub mod LeftOut
 pub mod Pieces

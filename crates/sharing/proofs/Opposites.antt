@@ -1,4 +1,4 @@
--- 02, wish 2: "The newer cabinets negate every coefficient on loading". Every coefficient, constant and bound that translate writes has its opposite in the range.
+-- 02, wish 2: every coefficient, constant and bound that translate writes has its opposite in the range.
 use mathlib.Core.Path.{_≡_}
 use mathlib.Core.Bool.{true}
 use mathlib.Core.List.{List}

@@ -41,7 +41,7 @@ SatisfiesRows system xs = Satisfies (variables system) (satisfied (value xs)) (r
 abbrev pub Completes : List ℕ → List ℕ → List ℤ → List ℤ → Type 0
 Completes model system vs xs = (length xs ≡ length (auxiliaries model)) × SatisfiesRows system (vs ++ xs)
 
--- "for EVERY list of whole numbers .. the list satisfies the model exactly when some list of auxiliary values makes both together satisfy the
--- row system"
+-- Demand 3, by those words: a list of whole numbers, of any length and size, satisfies the model exactly when some list of auxiliary values
+-- makes both together satisfy the row system
 abbrev pub SharedSolutions : List ℕ → List ℕ → Type 0
 SharedSolutions model system = (vs : List ℤ) → SatisfiesModel model vs ↔ ((xs : List ℤ) × Completes model system vs xs)

@@ -1,4 +1,5 @@
--- What the contracts cite: the value lists of bounds, the solutions of a model, one list after another, the walk through the lists.
+-- What the contracts cite: the value lists of bounds, the solutions of a model, the answer; and what only internal contracts cite, AllWithin, Odometer and
+-- Walk.
 pub mod Lists
 pub mod Solutions
 pub mod Found
