@@ -22,8 +22,8 @@ counted us (x ∷ xs) = set us x (getD us x 0 + 1)
 
 -- the uses of all, after those that are counted
 unfoldable pub usesFrom : List ℕ → List Constraint → List ℕ
-usesFrom us [] = us
-usesFrom us (c ∷ cs) = usesFrom (counted us (encodes (choice c))) cs
+usesFrom uses [] = uses
+usesFrom uses (c ∷ cs) = usesFrom (counted uses (encodes (choice c))) cs
 
 -- "for two or more constraints", by the counts
 abbrev pub sharedBy : List ℕ → ℕ → Bool

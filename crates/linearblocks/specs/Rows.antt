@@ -27,8 +27,8 @@ split args lower upper =
     block ((lower to upper) ∷ bit ∷ Z (lower to upper) ∷ []) (link args ∷ product (aux 2) (aux 1) (aux 0) ∷ [])
 
 -- x in given bounds: Σ−x−c=0
-unfoldable pub slack : List ℕ → ℤ → ℤ → Block
-slack args lower upper = block ((lower to upper) ∷ []) (link args ∷ [])
+unfoldable pub boundedSum : List ℕ → ℤ → ℤ → Block
+boundedSum args lower upper = block ((lower to upper) ∷ []) (link args ∷ [])
 
 -- x−2×z+p×r+q≤0; −x+2×z+u×r+v≤0
 unfoldable pub sizeRows : ℕ → ℤ → ℤ → ℤ → ℤ → List (Row Ref)

@@ -12,7 +12,7 @@ ghost use Rattle.laying.specs.Appends.{Appends, GrowsBy};
 ghost use Rattle.laying.specs.Room.{Room, BlockRoom};
 ghost use Rattle.linearblocks.specs.Rows.{sizeRows, atMostRows, termsReified, twoReified, atMostReified};
 use crate::sums::larger_size;
-use crate::sums::lay_slack;
+use crate::sums::lay_bounded_sum;
 use crate::sums::lay_split;
 use crate::sums::lay_sum;
 use arguments::past_terms_at;

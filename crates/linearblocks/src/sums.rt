@@ -88,7 +88,7 @@ pub fn lay_slack(
     first: usize,
 ) -> Laid
     requires { ⌜ BlockRoom s ⌝ }
-    ensures { λ r. ⌜ Appends s r (now (out .entry)) (now (out .exit)) (blockParts first (slack (now (args .entry)) lower upper)) × GrowsBy 10000 s r ⌝ }
+    ensures { λ r. ⌜ Appends s r (now (out .entry)) (now (out .exit)) (blockParts first (boundedSum (now (args .entry)) lower upper)) × GrowsBy 10000 s r ⌝ }
 {
     let t = lay_bound(out, s, lower, upper);
     lay_link(out, t, args, first)

@@ -35,7 +35,7 @@ next-ranges {s} {p} {r} {c = c} B h e n =
       range = q;
       lower-near = n .lower-near;
       upper-near = n .upper-near;
-      near = omega (arith, h .near, n .near);
+      size = omega (arith, h .size, n .size);
     }
 
 pub ranges-one : (s : Laid) (o : List ℕ) (l u : ℤ) (k : ℕ) → k < 2 → Small.Near l → Small.Near u →
@@ -43,7 +43,7 @@ pub ranges-one : (s : Laid) (o : List ℕ) (l u : ℤ) (k : ℕ) → k < 2 → S
 unfolding cutRanges noRange boundParts
 ranges-one s o l u k i h j =
     subst (λ c. RangesLaid s (record { laid = s; lower = l; upper = u }) o o c (20 * k)) (sym (at-one (noRange (l to u)) (cutSquared (l to u)) (cutMultiplied (l to u)) k (omega arith)))
-    (record { went = went-none s o; range = refl; lower-near = h; upper-near = j; near = omega arith })
+    (record { went = went-none s o; range = refl; lower-near = h; upper-near = j; size = omega arith })
 
 module _ {s : Laid} (B : Bounds) (k : ℕ) (two : 2 ≤ k) {p q : PowerBounds} {o o₁ o₂ : List ℕ} (h : RangesLaid s p o o₁ (cutRanges B (k / 2)) (20 * (k / 2)))
     (n : NextRange p q o₁ o₂ (p .lower to p .upper)) where
@@ -84,7 +84,7 @@ next-products {first} {s} {p} {r} {c = c} {factor = factor} f F h e n =
       went = went-as (one-more first c f (p .next) factor (p .held) (h .next) e (h .held)) (went-then (h .went) (n .went));
       held = n .held ∙ h .next;
       next = omega (arith, n .next, h .next, length-append (c .auxiliaries) (endProducts F (c .range) ∷ []));
-      near = omega (arith, h .near, n .near);
+      size = omega (arith, h .size, n .size);
       few = omega (arith, h .few, n .next);
     }
 
@@ -93,7 +93,7 @@ pub products-one : (first : ℕ) (s : Laid) (o : List ℕ) (x k : ℕ) → k < 2
 unfolding chain noProduct flatMap numbered
 products-one first s o x k i B =
     subst (λ c. ProductsLaid first s (record { laid = s; held = x; next = first }) o o c (20 * k)) (sym (at-one (noProduct B x) (squared B x) (multiplied B x) k (omega arith)))
-    (record { went = went-none s o; held = refl; next = omega arith; near = omega arith; few = omega arith })
+    (record { went = went-none s o; held = refl; next = omega arith; size = omega arith; few = omega arith })
 
 module _ {first : ℕ} {s : Laid} (x k : ℕ) (two : 2 ≤ k) {p q : Multiplied} {o o₁ o₂ : List ℕ} (B : Bounds) (h : ProductsLaid first s p o o₁ (chain B x (k / 2)) (20 * (k / 2)))
     (n : NextProduct p q o₁ o₂ (p .held)) where

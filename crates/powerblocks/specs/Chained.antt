@@ -22,13 +22,13 @@ pub record NextRange (p r : PowerBounds) (out out′ : List ℕ) (B : Bounds) : 
   pub range : (r .lower to r .upper) ≡ cutBounds (endProducts B (p .lower to p .upper))
   pub lower-near : Small.Near (r .lower)
   pub upper-near : Small.Near (r .upper)
-  pub near : GrowsBy 10 (p .laid) (r .laid)
+  pub size : GrowsBy 10 (p .laid) (r .laid)
 
 pub record NextProduct (p r : Multiplied) (out out′ : List ℕ) (factor : ℕ) : Type 0 where
   pub went : Appends (p .laid) (r .laid) out out′ (times (p .next) factor (p .held) ∷ [])
   pub held : r .held ≡ p .next
   pub next : r .next ≡ p .next + 1
-  pub near : GrowsBy 10 (p .laid) (r .laid)
+  pub size : GrowsBy 10 (p .laid) (r .laid)
 
 -- bounds of a chain went over the list after s
 pub record RangesLaid (s : Laid) (r : PowerBounds) (out out′ : List ℕ) (c : Ranges) (most : ℕ) : Type 0 where

@@ -13,7 +13,7 @@ use Rattle.integers.proofs.Tests.{false-true}
 use Rattle.words.specs.Answer.{Answer, holds, outOfBounds, isFalse, isHolds}
 use Rattle.words.specs.Judge.{firstFalse, firstOutOfBounds}
 use Rattle.reasons.specs.Reason.{Reason, inBlock, answerOr}
-use Rattle.reasoning.specs.Walks.{shift, Below}
+use Rattle.reasoning.specs.Walks.{shift, AtMost}
 
 -- ---- rows
 
@@ -53,12 +53,12 @@ outside-same ρ σ k [] after h = refl
 outside-same ρ σ k (B ∷ Bs) after h = rw (h k (omega arith), outside-same ρ σ (k + 1) Bs after (λ v l. h v (omega (arith, l)))) refl
 
 module _ (σ : Valuation) where
-  pub outside-below : (n k : ℕ) (Bs : List Bounds) → k + length Bs ≤ n → Below n (firstOutOfBounds σ k Bs holds)
+  pub outside-below : (n k : ℕ) (Bs : List Bounds) → k + length Bs ≤ n → AtMost n (firstOutOfBounds σ k Bs holds)
   unfolding firstOutOfBounds
   outside-below n k [] h = tt
   outside-below n k (B ∷ Bs) h = go (within B (σ k)) (outside-below n (k + 1) Bs (omega (arith, h)))
     where
-      go : (s : Bool) → Below n (firstOutOfBounds σ (k + 1) Bs holds) → Below n (firstOutOfBounds σ (k + 1) Bs holds if s else outOfBounds k)
+      go : (s : Bool) → AtMost n (firstOutOfBounds σ (k + 1) Bs holds) → AtMost n (firstOutOfBounds σ (k + 1) Bs holds if s else outOfBounds k)
       go true b = b
       go false b = omega (arith, h)
 

@@ -31,7 +31,7 @@ use Rattle.laying.specs.declared.Laid.{Laid}
 use Rattle.laying.proofs.Blocks.{block-words, block-outside}
 use Rattle.blocks.proofs.OneBlock.{told}
 use Rattle.words.proofs.Overlay.{front-over}
-use Rattle.reasoning.specs.Walks.{blockAndEnd, ReadsBack, Front, Judged, Below, shift}
+use Rattle.reasoning.specs.Walks.{blockAndEnd, ReadsBack, Front, Judged, AtMost, shift}
 use Rattle.reasoning.proofs.Counted.{outside-part, outside-below}
 
 -- a test that does not fail

@@ -74,7 +74,7 @@ pub record Front (first : ℕ) (B : Block) (r : Laid) (out : List ℕ) : Type 0 
   pub small : r .words + r .auxiliaries + r .rows ≤ 1000000
   pub front : take (r .words + 1) out ≡ blockAndEnd first B
 
--- the number of a variable counted on from k; it is at most n
+-- the number of a variable counted on from k
 abbrev pub shift : ℕ → Answer → Answer
 shift k (refused n p) = refused n p
 shift k (counts v c a r w) = counts v c a r w
@@ -83,13 +83,14 @@ shift k holds = holds
 shift k (outOfBounds i) = outOfBounds (k + i)
 shift k (isFalse i) = isFalse i
 
-abbrev pub Below : ℕ → Answer → Type 0
-Below n (refused m p) = Unit {0}
-Below n (counts v c a r w) = Unit {0}
-Below n (written m) = Unit {0}
-Below n holds = Unit {0}
-Below n (outOfBounds i) = i ≤ n
-Below n (isFalse i) = Unit {0}
+-- the number of a variable is at most n
+abbrev pub AtMost : ℕ → Answer → Type 0
+AtMost n (refused m p) = Unit {0}
+AtMost n (counts v c a r w) = Unit {0}
+AtMost n (written m) = Unit {0}
+AtMost n holds = Unit {0}
+AtMost n (outOfBounds i) = i ≤ n
+AtMost n (isFalse i) = Unit {0}
 
 -- what a block says of the values: the first auxiliary out of its bounds, where the bounds are asked; else the first row that fails, counted from k
 abbrev pub saidOf : Bool → List ℤ → ℕ → ℕ → Block → Answer

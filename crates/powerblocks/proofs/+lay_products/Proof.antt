@@ -37,7 +37,7 @@ pub +lay-products-spec : {M : Type 1} → statement M
     (λ c κs.
     let s = c .before .before .before .before .before .before .before in
     let h = c .before .before .before .lay-products .ensures bit in
-    (omega (arith, s .pre .1 .0, s .pre .1 .2, h .near), omega (arith, s .pre .1 .2, s .pre .1 .3, h .few)))
+    (omega (arith, s .pre .1 .0, s .pre .1 .2, h .size), omega (arith, s .pre .1 .2, s .pre .1 .3, h .few)))
     (λ c. went-length (c .before .before .before .next-product .ensures .went) ∙ went-length (c .before .before .before .before .before .before .before .lay-products .ensures bit .went))
     (λ c B.
     let s = c .before .before .before .before .before .before .before .before .before .before .before in
@@ -46,7 +46,7 @@ pub +lay-products-spec : {M : Type 1} → statement M
     let s = c .before .before .before .before .before .before .before .before .before .before .before .before in
     let h = c .before .before .before .before .before .before .before .before .lay-products .ensures bit in
     let n = c .before .before .before .before .next-product .ensures in
-    (omega (arith, s .pre .1 .0, s .pre .1 .2, h .near, n .near), omega (arith, s .pre .1 .2, s .pre .1 .3, h .few, n .next)))
+    (omega (arith, s .pre .1 .0, s .pre .1 .2, h .size, n .size), omega (arith, s .pre .1 .2, s .pre .1 .3, h .few, n .next)))
     (λ c. went-length (c .before .before .next-product2 .ensures .went) ∙ went-length (c .before .before .before .before .before .before .before .next-product .ensures .went) ∙ went-length (c .before .before .before .before .before .before .before .before .before .before .before .lay-products .ensures bit .went))
     (λ c B.
     let s = c .before .before .before .before .before .before .before .before .before .before .before .before .before .before .before in

@@ -39,7 +39,7 @@ pub +lay-ranges-spec : {M : Type 1} → statement M
     (λ c κs.
     let s = c .before .before .before .before .before .before .before .before .before in
     let h = c .before .before .before .before .before .lay-ranges .ensures in
-    rw (near-back _ (h .lower-near), near-back _ (h .upper-near)) (omega (arith, s .pre .1 .0, s .pre .1 .2, h .near), h .lower-near, h .upper-near, h .lower-near, h .upper-near))
+    rw (near-back _ (h .lower-near), near-back _ (h .upper-near)) (omega (arith, s .pre .1 .0, s .pre .1 .2, h .size), h .lower-near, h .upper-near, h .lower-near, h .upper-near))
     (λ c. went-length (c .before .before .before .next-range .ensures .went) ∙ went-length (c .before .before .before .before .before .before .before .before .before .lay-ranges .ensures .went))
     (λ c.
     let s = c .before .before .before .before .before .before .before .before .before .before .before .before .before in
@@ -50,7 +50,7 @@ pub +lay-ranges-spec : {M : Type 1} → statement M
     let s = c .before .before .before .before .before .before .before .before .before .before .before .before .before .before in
     let h = c .before .before .before .before .before .before .before .before .before .before .lay-ranges .ensures in
     let n = c .before .before .before .before .next-range .ensures in
-    rw (toZ-ofZ (s .fits .lower), toZ-ofZ (s .fits .upper)) (omega (arith, s .pre .1 .0, s .pre .1 .2, h .near, n .near), n .lower-near, n .upper-near, s .pre .1 .3, s .pre .1 .4))
+    rw (toZ-ofZ (s .fits .lower), toZ-ofZ (s .fits .upper)) (omega (arith, s .pre .1 .0, s .pre .1 .2, h .size, n .size), n .lower-near, n .upper-near, s .pre .1 .3, s .pre .1 .4))
     (λ c. went-length (c .before .before .next-range2 .ensures .went) ∙ went-length (c .before .before .before .before .before .before .before .next-range .ensures .went) ∙ went-length (c .before .before .before .before .before .before .before .before .before .before .before .before .before .lay-ranges .ensures .went))
     (λ c.
     let s = c .before .before .before .before .before .before .before .before .before .before .before .before .before .before .before .before .before in

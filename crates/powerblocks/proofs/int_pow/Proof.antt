@@ -29,12 +29,12 @@ lay-ranges-requires c κs =
 lay-products-requires : tie.Need-lay-products-requires
 lay-products-requires c κs =
     let s = c .before .before .before .before .before .before .before .before .before in
-    (omega (arith, s .pre .0, s .pre .2, c .before .before .before .lay-ranges .ensures .near), omega (arith, c .before .before .before .before .before .before .before .if1 .left), s .pre .2, s .pre .1)
+    (omega (arith, s .pre .0, s .pre .2, c .before .before .before .lay-ranges .ensures .size), omega (arith, c .before .before .before .before .before .before .before .if1 .left), s .pre .2, s .pre .1)
 
 lay-row-requires-2 : tie.Need-lay-row-requires-2
 lay-row-requires-2 c κs =
     let s = c .before .before .before .before .before .before .before .before .before .before .before .before .before .before .before in
-    (omega (arith, s .pre .0, s .pre .2, c .before .before .before .before .before .before .before .before .before .lay-ranges .ensures .near, c .before .before .before .before .before .lay-products .ensures bit .near), search needs, search needs, search needs)
+    (omega (arith, s .pre .0, s .pre .2, c .before .before .before .before .before .before .before .before .before .lay-ranges .ensures .size, c .before .before .before .before .before .lay-products .ensures bit .size), search needs, search needs, search needs)
 
 returns-2 : tie.Need-returns-2
 unfolding rule
@@ -48,7 +48,7 @@ returns-2 c =
     let w = c .before .before .lay-row2 .ensures in (
       went-alike (power-alike (s .args .first) β (s .args .x) (s .args .k) (s .args .z) (c .before .before .before .before .before .before .before .before .lay-products .result .held) (omega (arith, c .before .before .before .before .before .before .before .before .before .before .before .before .before .before .before .before .if1 .left)) (s .pre .3 (s .args .x)) (s .pre .4 (s .args .x)) (p .held))
           (went-then (r .went) (went-then (p .went) (w .0))),
-      omega (arith, s .pre .2, r .near, p .near, w .1),
+      omega (arith, s .pre .2, r .size, p .size, w .1),
     )
 
 pub int-pow-spec : {M : Type 1} → statement M

@@ -27,7 +27,7 @@ returns c =
       range = ap₂ (λ l u. l to u) l u;
       lower-near = omega (arith, ap natAbs l, near-cut (endProducts (s .args .lower to s .args .upper) (s .args .p .lower to s .args .p .upper) .lower));
       upper-near = omega (arith, ap natAbs u, near-cut (endProducts (s .args .lower to s .args .upper) (s .args .p .lower to s .args .p .upper) .upper));
-      near = w .1;
+      size = w .1;
     }
 
 pub next-range-spec : {M : Type 1} → statement M
