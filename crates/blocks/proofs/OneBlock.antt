@@ -24,6 +24,7 @@ use Rattle.rules.specs.Translation.{blockOf}
 use Rattle.rules.specs.Check.{tooWide}
 use Rattle.laying.specs.Part.{Part, blockParts}
 use Rattle.laying.specs.Appends.{someOutside, Appends, AppendsFitting, GrowsBy, nothing}
+use Rattle.laying.specs.Sizes.{blockSize}
 use Rattle.laying.specs.declared.Laid.{Laid}
 use Rattle.laying.proofs.Alike.{went-fitting}
 use Rattle.laying.proofs.Blocks.{block-words, block-auxiliaries, block-rows, block-outside}

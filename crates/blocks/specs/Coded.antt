@@ -18,6 +18,7 @@ use Rattle.laying.specs.Appends.{AppendsFitting}
 use Rattle.laying.specs.declared.Laid.{Laid}
 use Rattle.linearsums.specs.Sum.{Summed}
 use Rattle.integers.specs.declared.Bounds.{Bounds}
+use Rattle.words.specs.Limit as Limit
 
 -- its place plays no part in its block
 abbrev pub constraintOf : ℕ → List ℕ → Constraint
@@ -37,7 +38,7 @@ Narrow ls us uses code args = tooWide (boundsOf ls us) (sharedBy uses) (constrai
 
 -- what that leaves for the own rule of 28, which has an auxiliary for each value
 abbrev pub ReifiedNarrow : List ℤ → List ℤ → ℕ → List ℕ → Type 0
-ReifiedNarrow ls us code args = code ≡ 28 → width (boundsOf ls us (var args 0)) ≤ 64
+ReifiedNarrow ls us code args = code ≡ 28 → width (boundsOf ls us (var args 0)) ≤ Limit.setBits
 
 -- the sum of the constraint has these bounds
 abbrev pub SummedIn : List ℤ → List ℤ → ℕ → List ℕ → Bounds → Type 0

@@ -7,6 +7,7 @@ ghost use Rattle.rules.specs.Rule.{rule};
 ghost use Rattle.encodings.specs.Uses.{choosing, Recorded};
 ghost use Rattle.laying.specs.Appends.{GrowsBy};
 ghost use Rattle.laying.specs.Room.{BlockRoom};
+ghost use Rattle.laying.specs.Sizes.{firstNumbers, blockSize};
 ghost use Rattle.extremes.specs.Bounded.{boundsOf, Bounded};
 ghost use Rattle.blocks.specs.Coded.{Narrow, ReifiedNarrow, blockAt, Lays};
 use choiceblocks::array_int_element;
@@ -27,9 +28,9 @@ fn own_choice(
     us: &[i64],
     first: usize,
 ) -> Laid
-    requires { ⌜ BlockRoom s × (first < 10000) × Bounded (now ls) × Bounded (now us) × ReifiedNarrow (now ls) (now us) code (now args) × (choosing code ≡ true) ⌝ }
+    requires { ⌜ BlockRoom s × (first < firstNumbers) × Bounded (now ls) × Bounded (now us) × ReifiedNarrow (now ls) (now us) code (now args) × (choosing code ≡ true) ⌝ }
     ensures parts { λ r. ⌜ Lays (rule (boundsOf (now (ls .entry)) (now (us .entry))) (builtinOf code (now (args .entry)))) first s r (now (out .entry)) (now (out .exit)) ⌝ }
-    ensures size { λ r. ⌜ GrowsBy 1000000 s r ⌝ }
+    ensures size { λ r. ⌜ GrowsBy blockSize s r ⌝ }
 {
     match code {
         24 => array_int_element(out, s, args, ls, us, first),
@@ -51,9 +52,9 @@ pub fn choice(
     encoded: &[usize],
     first: usize,
 ) -> Laid
-    requires { ⌜ BlockRoom s × (first < 10000) × Bounded (now ls) × Bounded (now us) × Narrow (now ls) (now us) (now uses) code (now args) × Recorded (now encoded) × (choosing code ≡ true) ⌝ }
+    requires { ⌜ BlockRoom s × (first < firstNumbers) × Bounded (now ls) × Bounded (now us) × Narrow (now ls) (now us) (now uses) code (now args) × Recorded (now encoded) × (choosing code ≡ true) ⌝ }
     ensures parts { λ r. ⌜ Lays (blockAt (now (ls .entry)) (now (us .entry)) (now (uses .entry)) (now (encoded .entry)) code (now (args .entry))) first s r (now (out .entry)) (now (out .exit)) ⌝ }
-    ensures size { λ r. ⌜ GrowsBy 1000000 s r ⌝ }
+    ensures size { λ r. ⌜ GrowsBy blockSize s r ⌝ }
 {
     if first_shared(args, uses) {
         return shared_block(out, s, code, args, ls, us, encoded, first);

@@ -5,6 +5,7 @@ ghost use Prim.Native.Nat.{_<_};
 ghost use Rattle.encodings.specs.Uses.{Recorded};
 ghost use Rattle.laying.specs.Appends.{GrowsBy, nothing};
 ghost use Rattle.laying.specs.Room.{BlockRoom};
+ghost use Rattle.laying.specs.Sizes.{firstNumbers, blockSize};
 ghost use Rattle.extremes.specs.Bounded.{Bounded};
 ghost use Rattle.blocks.specs.Coded.{Narrow, blockAt, SummedIn, Lays};
 use crate::choices::choice;
@@ -47,9 +48,9 @@ pub fn block(
     sum: Bounds,
     first: usize,
 ) -> Laid
-    requires { ⌜ (first < 10000) × Bounded (now ls) × Bounded (now us) × Narrow (now ls) (now us) (now uses) code (now args) × Recorded (now encoded) × SummedIn (now ls) (now us) code (now args) sum ⌝ }
+    requires { ⌜ (first < firstNumbers) × Bounded (now ls) × Bounded (now us) × Narrow (now ls) (now us) (now uses) code (now args) × Recorded (now encoded) × SummedIn (now ls) (now us) code (now args) sum ⌝ }
     ensures parts { λ r. ⌜ Lays (blockAt (now (ls .entry)) (now (us .entry)) (now (uses .entry)) (now (encoded .entry)) code (now (args .entry))) first nothing r (now (out .entry)) (now (out .exit)) ⌝ }
-    ensures size { λ r. ⌜ GrowsBy 1000000 nothing r ⌝ }
+    ensures size { λ r. ⌜ GrowsBy blockSize nothing r ⌝ }
 {
     let s = from_nothing();
     let a = var_at(args, 0);

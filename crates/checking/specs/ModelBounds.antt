@@ -6,6 +6,7 @@ use Prim.Native.Nat.{ℕ}
 use lib.IntN.{ℤ}
 use lib.ListN.{replicate}
 use Rattle.integers.specs.Number.{+0}
+use Rattle.words.specs.Limit as Limit
 use Rattle.modelreading.specs.Seen.{Seen, Kept}
 use Rattle.modelreading.specs.declared.Read.{Read}
 use Rattle.rules.specs.Translation.{bounds, shared}

@@ -30,5 +30,5 @@ pub record CountsBlock (β : ℕ → Bounds) (s : ℕ → Bool) (first : ℕ) (e
 
 pub record Costs (β : ℕ → Bounds) (s : ℕ → Bool) (first : ℕ) (e : Encoded) (c : Constraint) (r : Cost) : Type 0 where
   pub fault : r .fault ≡ blockFault β s first e c
-  pub counted : r .fault ≡ 0 → CountsBlock β s first e c r
-  pub small : r .words + r .auxiliaries + r .rows ≤ 1000000
+  pub counted : r .fault ≡ Fault.none → CountsBlock β s first e c r
+  pub small : r .words + r .auxiliaries + r .rows ≤ blockSize

@@ -10,6 +10,7 @@ ghost use Rattle.rules.specs.Shared.{noneYet};
 ghost use Rattle.rules.specs.Check.{tooWide, check as checkAnswer};
 ghost use Rattle.sharing.specs.SharedSolutions.{Passes};
 ghost use Rattle.laying.specs.Appends.{someOutside};
+ghost use Rattle.laying.specs.Sizes.{firstNumbers, blockSize};
 ghost use Rattle.extremes.specs.Bounded.{boundsOf, Bounded};
 ghost use Rattle.linearsums.specs.Sum.{Summed};
 ghost use Rattle.encodings.specs.Uses.{sharedBy, Recorded};
@@ -113,7 +114,7 @@ fn cost_of(
     sum: Bounds,
     first: usize,
 ) -> Cost
-    requires { ⌜ (first < 10000) × Bounded (now ls) × Bounded (now us) × Recorded (now encoded) × Summed (boundsOf (now ls) (now us)) code (now args) sum ⌝ }
+    requires { ⌜ (first < firstNumbers) × Bounded (now ls) × Bounded (now us) × Recorded (now encoded) × Summed (boundsOf (now ls) (now us)) code (now args) sum ⌝ }
     ensures { λ r. ⌜ Costs (boundsOf (now (ls .entry)) (now (us .entry))) (sharedBy (now (uses .entry))) first (now (encoded .entry)) (constraintOf code (now (args .entry))) r ⌝ }
 {
     if too_wide(code, args, ls, us, uses) {

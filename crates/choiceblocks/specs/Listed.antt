@@ -5,9 +5,10 @@ use Prim.Native.Nat.{ℕ, _<_, _≤_}
 use lib.IntN.{ℤ, natAbs}
 use lib.ListN.{length, getD}
 use Rattle.integers.specs.Number.{+0}
+use Rattle.words.specs.Limit as Limit
 
 pub record Listed (vs : List ℤ) (n : ℕ) (out : List ℤ) : Type 0 where
   pub many : n ≡ length vs
-  pub few : n ≤ 32
+  pub few : n ≤ Limit.listLength
   pub same : (k : ℕ) → getD out k +0 ≡ getD vs k +0
   pub near : (k : ℕ) → natAbs (getD out k +0) < 1000000000

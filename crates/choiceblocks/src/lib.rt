@@ -12,6 +12,7 @@ ghost use Rattle.rules.specs.Rule.{rule};
 ghost use Rattle.laying.specs.Part.{blockParts};
 ghost use Rattle.laying.specs.Appends.{Appends, GrowsBy};
 ghost use Rattle.laying.specs.Room.{BlockRoom};
+ghost use Rattle.laying.specs.Sizes.{firstNumbers, blockSize};
 ghost use Rattle.extremes.specs.Bounded.{boundsOf, Bounded};
 ghost use Rattle.choiceblocks.specs.Listed.{Listed};
 ghost use Rattle.choiceblocks.specs.Rows.{oneOfParts, extremeBlock, numberElementOf, variableElementOf, setOf, setReifiedOf};
@@ -66,7 +67,7 @@ pub fn first_label(args: &[u32], ls: &[i64]) -> i64
 // How many places of that list it can have.
 pub fn labels(args: &[u32], ls: &[i64], us: &[i64]) -> usize
     requires { ⌜ Bounded (now ls) × Bounded (now us) ⌝ }
-    ensures { λ r. ⌜ (r ≡ width (places (boundsOf (now (ls .entry)) (now (us .entry)) (var (now (args .entry)) 0)) (size (now (args .entry)) 1))) × (r ≤ 32) ⌝ }
+    ensures { λ r. ⌜ (r ≡ width (places (boundsOf (now (ls .entry)) (now (us .entry)) (var (now (args .entry)) 0)) (size (now (args .entry)) 1))) × (r ≤ Limit.listLength) ⌝ }
 {
     let last = last_place(size_at(args, 1), bound_at(us, var_at(args, 0)));
     width_of(first_label(args, ls), last)
@@ -82,7 +83,7 @@ pub fn first_element(args: &[u32], ls: &[i64]) -> usize
 
 // Puts the members of the set at place 1 that the bounds of the variable at place 0 leave into a list of zeros; how many there are.
 pub fn members_of(args: &[u32], ls: &[i64], us: &[i64], vs: &mut [i64]) -> usize
-    requires { ⌜ Bounded (now us) × (now vs ≡ replicate 32 +0) ⌝ }
+    requires { ⌜ Bounded (now us) × (now vs ≡ replicate Limit.listLength +0) ⌝ }
     ensures { λ r. ⌜ Listed (members (nums (now (args .entry)) 1) (boundsOf (now (ls .entry)) (now (us .entry)) (var (now (args .entry)) 0))) r (now (vs .exit)) ⌝ }
 {
     let x = var_at(args, 0);
@@ -98,9 +99,9 @@ pub fn array_int_element(
     us: &[i64],
     first: usize,
 ) -> Laid
-    requires { ⌜ BlockRoom s × (first < 10000) × Bounded (now ls) × Bounded (now us) ⌝ }
+    requires { ⌜ BlockRoom s × (first < firstNumbers) × Bounded (now ls) × Bounded (now us) ⌝ }
     ensures parts { λ r. let β = boundsOf (now (ls .entry)) (now (us .entry)) in ⌜ Appends s r (now (out .entry)) (now (out .exit)) (blockParts first (rule β (numberElementOf (now (args .entry))))) ⌝ }
-    ensures size { λ r. ⌜ GrowsBy 1000000 s r ⌝ }
+    ensures size { λ r. ⌜ GrowsBy blockSize s r ⌝ }
 {
     let n = labels(args, ls, us);
     let base = first_element(args, ls);
@@ -118,9 +119,9 @@ pub fn array_var_int_element(
     us: &[i64],
     first: usize,
 ) -> Laid
-    requires { ⌜ BlockRoom s × (first < 10000) × Bounded (now ls) × Bounded (now us) ⌝ }
+    requires { ⌜ BlockRoom s × (first < firstNumbers) × Bounded (now ls) × Bounded (now us) ⌝ }
     ensures parts { λ r. let β = boundsOf (now (ls .entry)) (now (us .entry)) in ⌜ Appends s r (now (out .entry)) (now (out .exit)) (blockParts first (rule β (variableElementOf (now (args .entry))))) ⌝ }
-    ensures size { λ r. ⌜ GrowsBy 1000000 s r ⌝ }
+    ensures size { λ r. ⌜ GrowsBy blockSize s r ⌝ }
 {
     let n = labels(args, ls, us);
     let base = first_element(args, ls);
@@ -151,9 +152,9 @@ pub fn array_int_extreme(
     first: usize,
     up: bool,
 ) -> Laid
-    requires { ⌜ BlockRoom s × (first < 10000) × Bounded (now ls) × Bounded (now us) ⌝ }
+    requires { ⌜ BlockRoom s × (first < firstNumbers) × Bounded (now ls) × Bounded (now us) ⌝ }
     ensures parts { λ r. let β = boundsOf (now (ls .entry)) (now (us .entry)) in ⌜ Appends s r (now (out .entry)) (now (out .exit)) (blockParts first (extremeBlock β up (now (args .entry)))) ⌝ }
-    ensures size { λ r. ⌜ GrowsBy 1000000 s r ⌝ }
+    ensures size { λ r. ⌜ GrowsBy blockSize s r ⌝ }
 {
     let m = var_at(args, 0);
     let n = size_at(args, 1);
@@ -185,9 +186,9 @@ pub fn set_in_reif(
     us: &[i64],
     first: usize,
 ) -> Laid
-    requires { ⌜ BlockRoom s × (first < 10000) × Bounded (now ls) × Bounded (now us) × (width (boundsOf (now ls) (now us) (var (now args) 0)) ≤ 64) ⌝ }
+    requires { ⌜ BlockRoom s × (first < firstNumbers) × Bounded (now ls) × Bounded (now us) × (width (boundsOf (now ls) (now us) (var (now args) 0)) ≤ Limit.setBits) ⌝ }
     ensures parts { λ r. let β = boundsOf (now (ls .entry)) (now (us .entry)) in ⌜ Appends s r (now (out .entry)) (now (out .exit)) (blockParts first (rule β (setReifiedOf (now (args .entry))))) ⌝ }
-    ensures size { λ r. ⌜ GrowsBy 1000000 s r ⌝ }
+    ensures size { λ r. ⌜ GrowsBy blockSize s r ⌝ }
 {
     let lower = lower_label(args, ls);
     let mut vs = [0i64; 32];

@@ -9,6 +9,7 @@ ghost use Rattle.integers.specs.Choice.{_if_else_};
 ghost use Rattle.integers.specs.Number.{+0, +1, -1};
 ghost use Rattle.integers.specs.Lists.{all, listOf};
 ghost use Rattle.words.specs.Word.{inRange};
+ghost use Rattle.words.specs.Limit as Limit;
 ghost use Rattle.laying.specs.Part.{term, constant, numbersIn};
 ghost use Rattle.laying.specs.Lists.{many, sameAt, labelAt};
 ghost use Rattle.laying.specs.Appends.{Appends, GrowsBy};
@@ -41,7 +42,7 @@ use words::kind;
 
 // Whether Z of n variables, from place base on, is in the range.
 fn zeros_in_range(args: &[u32], base: usize, n: usize, ls: &[i64], us: &[i64]) -> bool
-    requires { ⌜ (n ≤ 66) × (base < 1000000000000) ⌝ }
+    requires { ⌜ (n ≤ Limit.terms) × (base < 1000000000000) ⌝ }
     ensures { λ r. ⌜ r ≡ all inRange (numbersIn (many (zeroAt (now (ls .entry)) (now (us .entry)) (now (args .entry)) base) n)) ⌝ }
 {
     let mut fit = true;
@@ -66,7 +67,7 @@ pub fn lay_zeros(
     ls: &[i64],
     us: &[i64],
 ) -> Laid
-    requires { ⌜ Room 1000 s × (n ≤ 66) × (base < 1000000000000) ⌝ }
+    requires { ⌜ Room 1000 s × (n ≤ Limit.terms) × (base < 1000000000000) ⌝ }
     ensures { λ r. ⌜ Appends s r (now (out .entry)) (now (out .exit)) (many (zeroAt (now (ls .entry)) (now (us .entry)) (now (args .entry)) base) n) × GrowsBy 1000 s r ⌝ }
 {
     if out.len() <= s.words {
@@ -199,7 +200,7 @@ pub fn lay_number_row(
     n: usize,
     c: usize,
 ) -> Laid
-    requires { ⌜ Room 2000 s × (n ≤ 66) × (base < 1000000000) × (v < 1000000000) ⌝ }
+    requires { ⌜ Room 2000 s × (n ≤ Limit.terms) × (base < 1000000000) × (v < 1000000000) ⌝ }
     ensures { λ r. ⌜ Appends s r (now (out .entry)) (now (out .exit)) (sumRow (numberTermAt (now (args .entry)) base v) n c) × GrowsBy 2000 s r ⌝ }
 {
     let t = lay_head(out, s, kind::EQUAL, n + 1);
@@ -227,7 +228,7 @@ pub fn lay_member_row(
     n: usize,
     r: usize,
 ) -> Laid
-    requires { ⌜ Room 2000 s × (n ≤ 66) × (v < 1000000000) × (natAbs from < 1000000000) × ((k : ℕ) → natAbs (getD (now vs) k +0) < 1000000000) ⌝ }
+    requires { ⌜ Room 2000 s × (n ≤ Limit.terms) × (v < 1000000000) × (natAbs from < 1000000000) × ((k : ℕ) → natAbs (getD (now vs) k +0) < 1000000000) ⌝ }
     ensures { λ t. ⌜ Appends s t (now (out .entry)) (now (out .exit)) (sumRow (memberAt (now (vs .entry)) from v) n r) × GrowsBy 2000 s t ⌝ }
 {
     let t = lay_head(out, s, kind::EQUAL, n + 1);
@@ -254,7 +255,7 @@ pub fn lay_gates(
     ls: &[i64],
     us: &[i64],
 ) -> Laid
-    requires { ⌜ Room 2000 s × (n ≤ 66) × (base < 1000000000000) ⌝ }
+    requires { ⌜ Room 2000 s × (n ≤ Limit.terms) × (base < 1000000000000) ⌝ }
     ensures { λ r. ⌜ Appends s r (now (out .entry)) (now (out .exit)) (gates (now (ls .entry)) (now (us .entry)) (now (args .entry)) base n) × GrowsBy 2000 s r ⌝ }
 {
     let t = lay_bits(out, s, n);
@@ -271,7 +272,7 @@ pub fn lay_gated(
     n: usize,
     m: usize,
 ) -> Laid
-    requires { ⌜ Room 4000 s × (n ≤ 66) × (base < 1000000000) × (v < 100000000) ⌝ }
+    requires { ⌜ Room 4000 s × (n ≤ Limit.terms) × (base < 1000000000) × (v < 100000000) ⌝ }
     ensures { λ r. ⌜ Appends s r (now (out .entry)) (now (out .exit)) (gatedRows (now (args .entry)) base v n m) × GrowsBy 4000 s r ⌝ }
 {
     let t = lay_products(out, s, args, base, v + n, v, n);
@@ -289,7 +290,7 @@ fn lay_later(
     ls: &[i64],
     us: &[i64],
 ) -> Laid
-    requires { ⌜ Room 2000 s × (n ≤ 66) × (v < 1000000000) × Bounded (now ls) × Bounded (now us) ⌝ }
+    requires { ⌜ Room 2000 s × (n ≤ Limit.terms) × (v < 1000000000) × Bounded (now ls) × Bounded (now us) ⌝ }
     ensures { λ r. ⌜ Appends s r (now (out .entry)) (now (out .exit)) (laterRow (now (ls .entry)) (now (us .entry)) x y v n) × GrowsBy 2000 s r ⌝ }
 {
     let p = gap_plus(ls, us, x, y, 1);
@@ -312,7 +313,7 @@ fn lay_later_of(
     ls: &[i64],
     us: &[i64],
 ) -> Laid
-    requires { ⌜ Room 2000 s × (n ≤ 66) × (v < 1000000000) × Bounded (now ls) × Bounded (now us) ⌝ }
+    requires { ⌜ Room 2000 s × (n ≤ Limit.terms) × (v < 1000000000) × Bounded (now ls) × Bounded (now us) ⌝ }
     ensures { λ r. ⌜ Appends s r (now (out .entry)) (now (out .exit)) (laterRow (now (ls .entry)) (now (us .entry)) (x if up else m) (m if up else x) v n) × GrowsBy 2000 s r ⌝ }
 {
     let lesser = first_if(up, x, m);
@@ -333,7 +334,7 @@ pub fn lay_first_only(
     ls: &[i64],
     us: &[i64],
 ) -> Laid
-    requires { ⌜ Room 200000 s × (n ≤ 66) × (base < 1000000000000) × (v < 100000000) × Bounded (now ls) × Bounded (now us) ⌝ }
+    requires { ⌜ Room 200000 s × (n ≤ Limit.terms) × (base < 1000000000000) × (v < 100000000) × Bounded (now ls) × Bounded (now us) ⌝ }
     ensures { λ r. ⌜ Appends s r (now (out .entry)) (now (out .exit)) (many (firstAt (now (ls .entry)) (now (us .entry)) (now (args .entry)) base m up v n) (n - 1)) × GrowsBy 200000 s r ⌝ }
 {
     let mut t = s;

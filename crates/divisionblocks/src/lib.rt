@@ -11,6 +11,7 @@ ghost use Rattle.rules.specs.Rule.{rule};
 ghost use Rattle.laying.specs.Part.{blockParts};
 ghost use Rattle.laying.specs.Appends.{Appends, GrowsBy};
 ghost use Rattle.laying.specs.Room.{Room, BlockRoom};
+ghost use Rattle.laying.specs.Sizes.{firstNumbers};
 ghost use Rattle.extremes.specs.Bounded.{boundsOf, Bounded};
 ghost use Rattle.divisionblocks.specs.Rows.{auxiliaryParts, tableParts, divisionParts};
 use extremes::bound_at;
@@ -104,7 +105,7 @@ pub fn int_div(
     us: &[i64],
     first: usize,
 ) -> Laid
-    requires { ⌜ BlockRoom s × (first < 10000) × Bounded (now ls) × Bounded (now us) ⌝ }
+    requires { ⌜ BlockRoom s × (first < firstNumbers) × Bounded (now ls) × Bounded (now us) ⌝ }
     ensures { λ r. ⌜ Appends s r (now (out .entry)) (now (out .exit)) (blockParts first (rule (boundsOf (now (ls .entry)) (now (us .entry))) (int-div n d q))) × GrowsBy 30000 s r ⌝ }
 {
     let ql = bound_at(ls, q);
@@ -131,7 +132,7 @@ pub fn int_mod(
     us: &[i64],
     first: usize,
 ) -> Laid
-    requires { ⌜ BlockRoom s × (first < 10000) × Bounded (now ls) × Bounded (now us) ⌝ }
+    requires { ⌜ BlockRoom s × (first < firstNumbers) × Bounded (now ls) × Bounded (now us) ⌝ }
     ensures { λ t. ⌜ Appends s t (now (out .entry)) (now (out .exit)) (blockParts first (rule (boundsOf (now (ls .entry)) (now (us .entry))) (int-mod n d r))) × GrowsBy 30000 s t ⌝ }
 {
     let qu = larger_size(bound_at(ls, n), bound_at(us, n));

@@ -3,7 +3,8 @@ use mathlib.Core.Bool.{Bool, _||_}
 use mathlib.Core.List.{List, [], _∷_}
 use Prim.Native.Nat.{ℕ, _+_, _<_}
 use lib.Dec.{eqb, ltb}
-use lib.ListN.{getD, set}
+use lib.ListN.{getD, set, replicate}
+use Rattle.words.specs.Limit as Limit
 use Rattle.models.specs.Model.{Constraint}
 use Rattle.rules.specs.Shared.{Choice, choice, encodes, Encoded, firstOf}
 

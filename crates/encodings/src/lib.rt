@@ -4,6 +4,7 @@ ghost use Prim.Native.Nat.{ℕ, _+_, _<_, _≤_};
 ghost use lib.Dec.{eqb};
 ghost use lib.ListN.{length, getD, set};
 ghost use Rattle.integers.specs.Choice.{_if_else_};
+ghost use Rattle.words.specs.Limit as Limit;
 ghost use Rattle.models.specs.Model.{constraints, var};
 ghost use Rattle.modelreading.specs.Seen.{Heads};
 ghost use Rattle.rules.specs.Shared.{encodes, shares, noneYet, encodedAfter};

@@ -12,7 +12,8 @@ ghost use Rattle.extremes.specs.Bounded.{boundsOf, Near, Bounded, withLo
 ghost use Rattle.extremes.specs.Kept.{lowerOf, upperOf};
 ghost use Rattle.words.specs.Variables.{variables};
 ghost use Rattle.words.specs.Overlay.{overlay};
-ghost use Rattle.models.specs.Model.{nums};
+ghost use Rattle.words.specs.Limit as Limit;
+ghost use Rattle.models.specs.Model.{var, nums};
 ghost use Rattle.rules.specs.Parts.{endProducts, halfLess, leastFrom, members};
 use arguments::count_of;
 use arguments::num_at;

@@ -8,6 +8,7 @@ ghost use Rattle.rules.specs.Rule.{rule};
 ghost use Rattle.laying.specs.Part.{bound, times, blockParts};
 ghost use Rattle.laying.specs.Appends.{Appends, GrowsBy};
 ghost use Rattle.laying.specs.Room.{BlockRoom};
+ghost use Rattle.laying.specs.Sizes.{firstNumbers};
 use crate::rows::three_terms;
 use crate::rows::two_terms;
 use laying::Laid;

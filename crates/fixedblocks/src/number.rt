@@ -8,6 +8,7 @@ ghost use Rattle.rules.specs.Rule.{rule, touching};
 ghost use Rattle.laying.specs.Part.{bound, blockParts};
 ghost use Rattle.laying.specs.Appends.{Appends, GrowsBy};
 ghost use Rattle.laying.specs.Room.{Room, BlockRoom};
+ghost use Rattle.laying.specs.Sizes.{firstNumbers};
 ghost use Rattle.extremes.specs.Bounded.{boundsOf, Bounded};
 use crate::rows::three_terms;
 use crate::rows::two_terms;
@@ -64,7 +65,7 @@ pub fn int_abs(
     us: &[i64],
     first: usize,
 ) -> Laid
-    requires { ⌜ BlockRoom s × (first < 10000) × Bounded (now us) ⌝ }
+    requires { ⌜ BlockRoom s × (first < firstNumbers) × Bounded (now us) ⌝ }
     ensures { λ r. ⌜ Appends s r (now (out .entry)) (now (out .exit)) (blockParts first (rule (boundsOf (now (ls .entry)) (now (us .entry))) (int-abs x y))) × GrowsBy 10000 s r ⌝ }
 {
     let t = lay_bound(out, s, 0, 1);

@@ -3,3 +3,4 @@ pub mod Part
 pub mod Lists
 pub mod Appends
 pub mod Room
+pub mod Sizes

@@ -10,6 +10,7 @@ ghost use Rattle.integers.specs.Lists.{all, listOf};
 ghost use Rattle.words.specs.Kind as Kind;
 ghost use Rattle.words.specs.Overlay.{overlay};
 ghost use Rattle.words.specs.Word.{inRange};
+ghost use Rattle.words.specs.Limit as Limit;
 ghost use Rattle.models.specs.Model.{num, size, past};
 ghost use Rattle.laying.specs.Part.{bound, head, term, constant, times, wordsIn};
 ghost use Rattle.laying.specs.Lists.{many, rowPartsOf, termAt, sumAt, eachAt, sameAt, labelAt, bitAt, productAt, orderAt};
@@ -162,7 +163,7 @@ fn lay_given(out: &mut [u32], s: Laid, xs: &[usize], cs: &[i64]) -> Laid
 
 // Whether numbers are in the range.
 fn all_in_range(cs: &[i64]) -> bool
-    requires { ⌜ length (now cs) ≤ 66 ⌝ }
+    requires { ⌜ length (now cs) ≤ Limit.terms ⌝ }
     ensures { λ r. ⌜ r ≡ all inRange (now (cs .entry)) ⌝ }
 {
     let mut k = 0;
@@ -201,7 +202,7 @@ pub fn lay_only_negative(out: &mut [u32], s: Laid, x: usize, b: usize, u: i64) -
 
 // Whether n numbers from a place on are in the range.
 pub fn numbers_in_range(args: &[u32], base: usize, n: usize) -> bool
-    requires { ⌜ (n ≤ 66) × (base < 1000000000001) ⌝ }
+    requires { ⌜ (n ≤ Limit.terms) × (base < 1000000000001) ⌝ }
     ensures { λ r. ⌜ r ≡ all inRange (listOf (λ k. num (now (args .entry)) (base + k)) n) ⌝ }
 {
     let mut fit = true;
@@ -269,7 +270,7 @@ pub fn lay_bits(out: &mut [u32], s: Laid, n: usize) -> Laid
 
 // The words of c × each of n consecutive variables from v on, from a place on from which all of them fit.
 fn put_same(out: &mut [u32], at: usize, c: i64, v: usize, n: usize)
-    requires { ⌜ (at + 2 * n ≤ length (now out)) × (n ≤ 66) × (v < 1000000000000) ⌝ }
+    requires { ⌜ (at + 2 * n ≤ length (now out)) × (n ≤ Limit.terms) × (v < 1000000000000) ⌝ }
     ensures { λ r. ⌜ now (out .exit) ≡ overlay (now (out .entry)) at (wordsIn (many (sameAt c v) n)) ⌝ }
 {
     let number = number_word(kind::NUMBER, c);
@@ -333,7 +334,7 @@ pub fn lay_products(
     b: usize,
     n: usize,
 ) -> Laid
-    requires { ⌜ Room 1000 s × (n ≤ 66) × (base < 1000000000000) × (z < 1000000000000) × (b < 1000000000000) ⌝ }
+    requires { ⌜ Room 1000 s × (n ≤ Limit.terms) × (base < 1000000000000) × (z < 1000000000000) × (b < 1000000000000) ⌝ }
     ensures { λ r. ⌜ Appends s r (now (out .entry)) (now (out .exit)) (many (productAt (now (args .entry)) base z b) n) × GrowsBy 1000 s r ⌝ }
 {
     if out.len() <= s.words {
@@ -368,7 +369,7 @@ pub fn lay_order(
     n: usize,
     up: bool,
 ) -> Laid
-    requires { ⌜ Room 200000 s × (n ≤ 66) × (base < 1000000000000) ⌝ }
+    requires { ⌜ Room 200000 s × (n ≤ Limit.terms) × (base < 1000000000000) ⌝ }
     ensures { λ r. ⌜ Appends s r (now (out .entry)) (now (out .exit)) (many (orderAt (now (args .entry)) base m up) n) × GrowsBy 200000 s r ⌝ }
 {
     if out.len() <= s.words {

@@ -15,6 +15,7 @@ ghost use Rattle.rules.specs.Parts.{each};
 ghost use Rattle.laying.specs.Part.{rowParts, blockParts};
 ghost use Rattle.laying.specs.Appends.{Appends, GrowsBy};
 ghost use Rattle.laying.specs.Room.{Room, BlockRoom};
+ghost use Rattle.laying.specs.Sizes.{blockSize};
 ghost use Rattle.linearblocks.specs.Rows.{allRow, clauseOf, andOf};
 use arguments::past_at;
 use arguments::size_at;

@@ -10,6 +10,7 @@ ghost use Rattle.linearsums.specs.Sum.{linearSum, equalSum, Fits};
 ghost use Rattle.laying.specs.Part.{rowParts, blockParts};
 ghost use Rattle.laying.specs.Appends.{Appends, GrowsBy};
 ghost use Rattle.laying.specs.Room.{Room, BlockRoom};
+ghost use Rattle.laying.specs.Sizes.{firstNumbers, blockSize};
 ghost use Rattle.linearblocks.specs.Rows.{sizeRows, atMostRows, termsReified, twoReified, atMostReified};
 use crate::sums::larger_size;
 use crate::sums::lay_bounded_sum;
@@ -68,7 +69,7 @@ fn lay_size(
     v: i64,
     first: usize,
 ) -> Laid
-    requires { ⌜ Room 10000 s × (first < 10000) ⌝ }
+    requires { ⌜ Room 10000 s × (first < firstNumbers) ⌝ }
     ensures { λ t. ⌜ Appends s t (now (out .entry)) (now (out .exit)) (flatMap (rowParts first) (sizeRows r p q u v)) × GrowsBy 10000 s t ⌝ }
 {
     let xs = [first, first + 2, r];
@@ -99,9 +100,9 @@ pub fn zero_reif(
     first: usize,
     equal: bool,
 ) -> Laid
-    requires { ⌜ BlockRoom s × (first < 10000) × Fits sum ⌝ }
+    requires { ⌜ BlockRoom s × (first < firstNumbers) × Fits sum ⌝ }
     ensures parts { λ r. let ws = now (args .entry) in ⌜ ((β : ℕ → Bounds) → sum ≡ linearSum β ws → Appends s r (now (out .entry)) (now (out .exit)) (blockParts first (termsReified β equal ws))) ⌝ }
-    ensures size { λ r. ⌜ GrowsBy 1000000 s r ⌝ }
+    ensures size { λ r. ⌜ GrowsBy blockSize s r ⌝ }
 {
     let lower = sum.lower;
     let upper = sum.upper;
@@ -121,9 +122,9 @@ pub fn two_reif(
     first: usize,
     equal: bool,
 ) -> Laid
-    requires { ⌜ BlockRoom s × (first < 10000) × Fits sum ⌝ }
+    requires { ⌜ BlockRoom s × (first < firstNumbers) × Fits sum ⌝ }
     ensures parts { λ r. let ws = now (args .entry) in ⌜ ((β : ℕ → Bounds) → sum ≡ equalSum β ws → Appends s r (now (out .entry)) (now (out .exit)) (blockParts first (twoReified β equal ws))) ⌝ }
-    ensures size { λ r. ⌜ GrowsBy 1000000 s r ⌝ }
+    ensures size { λ r. ⌜ GrowsBy blockSize s r ⌝ }
 {
     let a = word_at(args, 0);
     let b = word_at(args, 1);

@@ -8,7 +8,8 @@ ghost use Rattle.models.specs.Model.{num, pastTerms};
 ghost use Rattle.laying.specs.Part.{constant, rowParts, blockParts};
 ghost use Rattle.laying.specs.Appends.{Appends, GrowsBy};
 ghost use Rattle.laying.specs.Room.{Room, BlockRoom};
-ghost use Rattle.linearblocks.specs.Rows.{link, split, slack, sumParts};
+ghost use Rattle.laying.specs.Sizes.{firstNumbers};
+ghost use Rattle.linearblocks.specs.Rows.{link, split, boundedSum, sumParts};
 use arguments::num_at;
 use arguments::past_terms_at;
 use arguments::size_at;
@@ -103,7 +104,7 @@ pub fn lay_split(
     upper: i64,
     first: usize,
 ) -> Laid
-    requires { ⌜ BlockRoom s × (first < 10000) ⌝ }
+    requires { ⌜ BlockRoom s × (first < firstNumbers) ⌝ }
     ensures { λ r. ⌜ Appends s r (now (out .entry)) (now (out .exit)) (blockParts first (split (now (args .entry)) lower upper)) × GrowsBy 10000 s r ⌝ }
 {
     let x = lay_bound(out, s, lower, upper);

@@ -4,6 +4,7 @@ ghost use Prim.Native.Nat.{_≤_, _<_};
 ghost use lib.ListN.{length};
 ghost use Rattle.integers.specs.Choice.{_if_else_};
 ghost use Rattle.words.specs.Overlay.{overlay};
+ghost use Rattle.words.specs.Limit as Limit;
 ghost use Rattle.words.specs.Verdict.{verdict};
 ghost use Rattle.words.specs.Written.{wrote};
 ghost use Rattle.checking.specs.Checked.{checked};
@@ -80,7 +81,7 @@ fn words_before(ws: &[u32], table: bool) -> usize
 
 // Lays the first candidate's model over the front of a list.
 fn lay_first(ws: &[u32], d: usize, out: &mut [u32])
-    requires { ⌜ (d ≡ before separates (now ws)) × (d < length (now ws)) × (d < 8192) ⌝ }
+    requires { ⌜ (d ≡ before separates (now ws)) × (d < length (now ws)) × (d < Limit.modelWords) ⌝ }
     ensures { λ r. ⌜ now (out .exit) ≡ overlay (now (out .entry)) 0 (firstModel (now (ws .entry))) ⌝ }
 {
     lay(out, 0, &ws[..d]);
@@ -90,7 +91,7 @@ fn lay_first(ws: &[u32], d: usize, out: &mut [u32])
 
 // Lays the second candidate's model, a table of t words and what follows the word at place d, over the front of a list.
 fn lay_second(ws: &[u32], d: usize, t: usize, out: &mut [u32])
-    requires { ⌜ (d ≡ before separates (now ws)) × (d < length (now ws)) × (t ≡ before endsTable (now ws)) × (length (secondModel (now ws)) ≤ 8192) ⌝ }
+    requires { ⌜ (d ≡ before separates (now ws)) × (d < length (now ws)) × (t ≡ before endsTable (now ws)) × (length (secondModel (now ws)) ≤ Limit.modelWords) ⌝ }
     ensures { λ r. ⌜ now (out .exit) ≡ overlay (now (out .entry)) 0 (secondModel (now (ws .entry))) ⌝ }
 {
     lay(out, 0, &ws[..t]);

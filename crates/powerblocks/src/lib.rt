@@ -2,11 +2,13 @@
 ghost use Prim.Native.Nat.{_+_, _*_, _<_, _≤_};
 ghost use Rattle.integers.specs.Bounds.{_to_};
 ghost use Rattle.words.specs.Small as Small;
+ghost use Rattle.words.specs.Limit as Limit;
 ghost use Rattle.models.specs.Builtin.{int-pow};
 ghost use Rattle.rules.specs.Rule.{rule};
 ghost use Rattle.laying.specs.Part.{blockParts};
 ghost use Rattle.laying.specs.Appends.{AppendsFitting, GrowsBy};
 ghost use Rattle.laying.specs.Room.{Room, BlockRoom};
+ghost use Rattle.laying.specs.Sizes.{firstNumbers};
 ghost use Rattle.extremes.specs.Bounded.{boundsOf, Bounded};
 ghost use Rattle.powerblocks.specs.Cut.{cutRanges};
 ghost use Rattle.powerblocks.specs.Chained.{NextRange, RangesLaid, NextProduct, PowerLaid};
@@ -114,7 +116,7 @@ pub fn int_pow(
     us: &[i64],
     first: usize,
 ) -> Laid
-    requires { ⌜ BlockRoom s × (first < 10000) × (k ≤ 27) × Bounded (now ls) × Bounded (now us) ⌝ }
+    requires { ⌜ BlockRoom s × (first < firstNumbers) × (k ≤ Limit.exponent) × Bounded (now ls) × Bounded (now us) ⌝ }
     ensures { λ r. let β = boundsOf (now (ls .entry)) (now (us .entry)) in ⌜ AppendsFitting s r (now (out .entry)) (now (out .exit)) (blockParts first (rule β (int-pow x k z))) × GrowsBy 30000 s r ⌝ }
 {
     if k == 0 {

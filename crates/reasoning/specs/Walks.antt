@@ -30,6 +30,7 @@ use Rattle.rules.specs.Translation.{auxiliaries}
 use Rattle.rules.specs.Check.{tooWide}
 use Rattle.sharing.specs.SharedSolutions.{Passes}
 use Rattle.reasons.specs.Reason.{none, explained, inBlock, firstFailing}
+use Rattle.laying.specs.Sizes.{blockSize}
 use Rattle.laying.specs.declared.Laid.{Laid}
 use Rattle.extremes.specs.Bounded.{boundsOf, Bounded}
 use Rattle.linearsums.specs.Sum.{Summed}
@@ -38,6 +39,10 @@ use Rattle.blocks.specs.Coded.{constraintOf, blockAt}
 use Rattle.checking.specs.ModelBounds.{ModelBounds, ModelSums}
 use Rattle.reasoning.specs.declared.Said.{Said}
 use Rattle.reasoning.specs.declared.Stopped.{Stopped}
+
+-- the most words of a block
+abbrev pub blockWordsMost : ℕ
+blockWordsMost = 2800
 
 -- a block's words and an end word; its rows, numbered
 abbrev pub blockAndEnd : ℕ → Block → List ℕ
@@ -48,7 +53,7 @@ rowsAt first B = map (rename (numbered first)) (B .rows)
 
 -- they are few, all numbers are in the range, the bounds are read first, then the rows
 pub record ReadsBack (first : ℕ) (B : Block) : Type 0 where
-  pub few : length (blockWords first B) ≤ 2800
+  pub few : length (blockWords first B) ≤ blockWordsMost
   pub fits : outside B ≡ false
   pub the-bounds : variables (blockAndEnd first B) ≡ B .auxiliaries
   pub bounds-first : 2 * length (B .auxiliaries) ≤ length (blockWords first B)
@@ -58,7 +63,7 @@ pub record ReadsBack (first : ℕ) (B : Block) : Type 0 where
 
 -- what the writer of a block needs
 pub record Layable (ls us : List ℤ) (uses : List ℕ) (e : Encoded) (code : ℕ) (args : List ℕ) (sum : Bounds) (first : ℕ) : Type 0 where
-  pub near : first ≤ 4096
+  pub near : first ≤ Limit.inAll
   pub lowers : Bounded ls
   pub uppers : Bounded us
   pub narrow : tooWide (boundsOf ls us) (sharedBy uses) (constraintOf code args) ≡ false
@@ -99,7 +104,7 @@ saidOf bounds vs first k B = firstOutOfBounds (value vs) first (B .auxiliaries) 
 -- what judging the block of a constraint wants: a list for its words, values of its auxiliaries, and values near 0 where the rows are asked
 pub record Judgeable (bounds : Bool) (ls us : List ℤ) (uses : List ℕ) (e : Encoded) (code : ℕ) (args : List ℕ) (sum : Bounds) (first : ℕ) (words : List ℕ) (vs : List ℤ) : Type 0 where
   pub layable : Layable ls us uses e code args sum first
-  pub room : 2801 ≤ length words
+  pub room : blockWordsMost + 1 ≤ length words
   pub there : first + length (blockAt ls us uses e code args .auxiliaries) ≤ length vs
   pub small : bounds ≡ false → Small vs
 
@@ -107,7 +112,7 @@ pub record Judged (bounds : Bool) (vs : List ℤ) (first k : ℕ) (B : Block) (r
   pub says : verdict (r .said) ≡ saidOf bounds vs first k B
   pub auxiliaries : r .auxiliaries ≡ length (B .auxiliaries)
   pub rows : r .rows ≡ length (B .rows)
-  pub few : r .rows ≤ 1000000
+  pub few : r .rows ≤ blockSize
 
 -- a model that passes the check, with its bounds, its sums and how many auxiliaries it has
 abbrev pub CheckedModel : List ℕ → List ℕ → Read → List ℤ → List ℤ → List ℕ → List ℤ → List ℤ → ℕ → Type 0

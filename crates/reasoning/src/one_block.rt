@@ -1,10 +1,12 @@
 // One block, laid into a lent list and judged there by itself.
 ghost use mathlib.Core.Path.{_≡_};
-ghost use Prim.Native.Nat.{_≤_};
+ghost use Prim.Native.Nat.{_+_, _≤_};
 ghost use lib.ListN.{length};
 ghost use Rattle.words.specs.Verdict.{verdict};
+ghost use Rattle.words.specs.Limit as Limit;
+ghost use Rattle.laying.specs.Sizes.{blockSize};
 ghost use Rattle.blocks.specs.Coded.{blockAt};
-ghost use Rattle.reasoning.specs.Walks.{Layable, Front, Judgeable, Judged, shift, Below};
+ghost use Rattle.reasoning.specs.Walks.{blockWordsMost, Layable, Front, Judgeable, Judged, shift, AtMost};
 use crate::Said;
 use crate::rows::first_false;
 use blocks::block;
@@ -28,7 +30,7 @@ fn lay_block(
     sum: Bounds,
     first: usize,
 ) -> Laid
-    requires { ⌜ Layable (now ls) (now us) (now uses) (now encoded) code (now args) sum first × (2801 ≤ length (now words)) ⌝ }
+    requires { ⌜ Layable (now ls) (now us) (now uses) (now encoded) code (now args) sum first × (blockWordsMost + 1 ≤ length (now words)) ⌝ }
     ensures { λ r. ⌜ Front first (blockAt (now (ls .entry)) (now (us .entry)) (now (uses .entry)) (now (encoded .entry)) code (now (args .entry))) r (now (words .exit)) ⌝ }
 {
     let laid = block(words, code, args, ls, us, uses, encoded, sum, first);
@@ -39,7 +41,7 @@ fn lay_block(
 
 // The number of a variable counted on from k.
 fn counted_on(answer: Verdict, k: usize) -> Verdict
-    requires { ⌜ Below 1000000 (verdict answer) × (k ≤ 4096) ⌝ }
+    requires { ⌜ AtMost blockSize (verdict answer) × (k ≤ Limit.inAll) ⌝ }
     ensures { λ r. ⌜ verdict r ≡ shift k (verdict answer) ⌝ }
 {
     match answer {

@@ -6,6 +6,7 @@ ghost use Prim.Native.Nat.{_<_, _≤_};
 ghost use lib.IntN.{natAbs};
 ghost use Rattle.integers.specs.Choice.{_if_else_};
 ghost use Rattle.integers.specs.Number.{+1};
+ghost use Rattle.words.specs.Limit as Limit;
 ghost use Rattle.laying.specs.Part.{term};
 ghost use Rattle.laying.specs.Lists.{many};
 ghost use Rattle.laying.specs.Appends.{Appends, GrowsBy};
@@ -54,7 +55,7 @@ fn lay_left_bits(
     v: usize,
     n: usize,
 ) -> Laid
-    requires { ⌜ Room 1000 s × (n ≤ 66) × (v < 1000000000000) × (natAbs from < 1000000000000) ⌝ }
+    requires { ⌜ Room 1000 s × (n ≤ Limit.terms) × (v < 1000000000000) × (natAbs from < 1000000000000) ⌝ }
     ensures { λ r. ⌜ Appends s r (now (out .entry)) (now (out .exit)) (many (leftAt code (now (args .entry)) from v) n) × GrowsBy 1000 s r ⌝ }
 {
     let mut t = s;
@@ -69,8 +70,8 @@ fn lay_left_bits(
 
 // How many of n values from `from` on are left out.
 fn count_left(code: usize, args: &[u32], from: i64, n: usize) -> usize
-    requires { ⌜ (n ≤ 66) × (natAbs from < 1000000000000) ⌝ }
-    ensures { λ r. ⌜ (r ≡ leftCount code (now (args .entry)) from n) × (r ≤ 66) ⌝ }
+    requires { ⌜ (n ≤ Limit.terms) × (natAbs from < 1000000000000) ⌝ }
+    ensures { λ r. ⌜ (r ≡ leftCount code (now (args .entry)) from n) × (r ≤ Limit.terms) ⌝ }
 {
     let mut m = 0;
     let mut k = 0;
@@ -92,7 +93,7 @@ pub fn lay_left_row(
     v: usize,
     n: usize,
 ) -> Laid
-    requires { ⌜ Room 2000 s × (n ≤ 66) × (v < 1000000000) × (natAbs from < 1000000000) ⌝ }
+    requires { ⌜ Room 2000 s × (n ≤ Limit.terms) × (v < 1000000000) × (natAbs from < 1000000000) ⌝ }
     ensures { λ r. ⌜ Appends s r (now (out .entry)) (now (out .exit)) (leftRow code (now (args .entry)) from v n) × GrowsBy 2000 s r ⌝ }
 {
     let m = count_left(code, args, from, n);

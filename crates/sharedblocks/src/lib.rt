@@ -5,10 +5,12 @@ ghost use Prim.Native.Nat.{_+_, _<_, _≤_};
 ghost use lib.ListN.{length, getD};
 ghost use Rattle.integers.specs.Number.{+0};
 ghost use Rattle.integers.specs.Bounds.{width};
+ghost use Rattle.words.specs.Limit as Limit;
 ghost use Rattle.models.specs.Model.{var};
 ghost use Rattle.rules.specs.Shared.{newBits};
 ghost use Rattle.laying.specs.Appends.{Appends, GrowsBy};
 ghost use Rattle.laying.specs.Room.{Room, BlockRoom};
+ghost use Rattle.laying.specs.Sizes.{firstNumbers, blockSize};
 ghost use Rattle.extremes.specs.Bounded.{boundsOf, Bounded};
 ghost use Rattle.encodings.specs.Uses.{choosing, Recorded};
 ghost use Rattle.sharedblocks.specs.Pieces.{bitsFrom, placeBit, Encodable, newBitParts, newRowParts, leftOutParts, sharedParts, zeroParts, ownRowParts, numbersRow, productRows, membersRow};
@@ -37,7 +39,7 @@ mod left_out;
 
 // The number of the first bit of the variable at place 0: the block's own bits are numbered from `first` on.
 fn first_bit(args: &[u32], encoded: &[usize], first: usize) -> usize
-    requires { ⌜ (first < 10000) × Recorded (now encoded) ⌝ }
+    requires { ⌜ (first < firstNumbers) × Recorded (now encoded) ⌝ }
     ensures { λ r. ⌜ (r ≡ bitsFrom (now (encoded .entry)) first (var (now (args .entry)) 0)) × (r < 10000) ⌝ }
 {
     let known = entry_of(encoded, var_at(args, 0));
@@ -49,7 +51,7 @@ fn first_bit(args: &[u32], encoded: &[usize], first: usize) -> usize
 
 // The number of the bit of the first place of the list at place 1 that the variable at place 0 can have.
 fn place_bit(args: &[u32], ls: &[i64], encoded: &[usize], first: usize) -> usize
-    requires { ⌜ (first < 10000) × Bounded (now ls) × Recorded (now encoded) ⌝ }
+    requires { ⌜ (first < firstNumbers) × Bounded (now ls) × Recorded (now encoded) ⌝ }
     ensures { λ r. ⌜ (r ≡ placeBit (now (encoded .entry)) first (var (now (args .entry)) 0) (getD (now (ls .entry)) (var (now (args .entry)) 0) +0)) × (r < 1000000000) ⌝ }
 {
     first_bit(args, encoded, first) + count_of(minus(first_label(args, ls), lower_label(args, ls)))
@@ -57,8 +59,8 @@ fn place_bit(args: &[u32], ls: &[i64], encoded: &[usize], first: usize) -> usize
 
 // How many bits the block adds.
 fn new_bits(args: &[u32], ls: &[i64], us: &[i64], encoded: &[usize]) -> usize
-    requires { ⌜ Bounded (now ls) × Bounded (now us) × (width (boundsOf (now ls) (now us) (var (now args) 0)) ≤ 64) ⌝ }
-    ensures { λ r. ⌜ (r ≡ length (newBits (boundsOf (now (ls .entry)) (now (us .entry))) (now (encoded .entry)) (var (now (args .entry)) 0))) × (r ≤ 64) ⌝ }
+    requires { ⌜ Bounded (now ls) × Bounded (now us) × (width (boundsOf (now ls) (now us) (var (now args) 0)) ≤ Limit.setBits) ⌝ }
+    ensures { λ r. ⌜ (r ≡ length (newBits (boundsOf (now (ls .entry)) (now (us .entry))) (now (encoded .entry)) (var (now (args .entry)) 0))) × (r ≤ Limit.setBits) ⌝ }
 {
     if entry_of(encoded, var_at(args, 0)) == 0 {
         return width_at(args, ls, us);
@@ -75,7 +77,7 @@ fn lay_new_bits(
     us: &[i64],
     encoded: &[usize],
 ) -> Laid
-    requires { ⌜ Room 2000 s × Bounded (now ls) × Bounded (now us) × (width (boundsOf (now ls) (now us) (var (now args) 0)) ≤ 64) ⌝ }
+    requires { ⌜ Room 2000 s × Bounded (now ls) × Bounded (now us) × (width (boundsOf (now ls) (now us) (var (now args) 0)) ≤ Limit.setBits) ⌝ }
     ensures { λ r. ⌜ Appends s r (now (out .entry)) (now (out .exit)) (newBitParts (now (ls .entry)) (now (us .entry)) (now (encoded .entry)) (now (args .entry))) × GrowsBy 2000 s r ⌝ }
 {
     lay_bits(out, s, new_bits(args, ls, us, encoded))
@@ -251,7 +253,7 @@ pub fn shared_block(
     first: usize,
 ) -> Laid
     requires { ⌜ BlockRoom s × Encodable (now ls) (now us) (now encoded) first (now args) × (choosing code ≡ true) ⌝ }
-    ensures { λ r. ⌜ Appends s r (now (out .entry)) (now (out .exit)) (sharedParts (now (ls .entry)) (now (us .entry)) (now (encoded .entry)) first code (now (args .entry))) × GrowsBy 1000000 s r ⌝ }
+    ensures { λ r. ⌜ Appends s r (now (out .entry)) (now (out .exit)) (sharedParts (now (ls .entry)) (now (us .entry)) (now (encoded .entry)) first code (now (args .entry))) × GrowsBy blockSize s r ⌝ }
 {
     let t = lay_new_bits(out, s, args, ls, us, encoded);
     let z = lay_kept_zeros(out, t, code, args, ls, us);

@@ -1,6 +1,6 @@
 -- What the walk through the value lists wants of the bounds of the first variables, which stand in two lists, and what it finds.
 use mathlib.Core.List.{List}
-use Prim.Native.Nat.{ℕ, _≤_}
+use Prim.Native.Nat.{ℕ, _+_, _≤_}
 use lib.IntN.{ℤ}
 use lib.ListN.{length}
 use Rattle.integers.specs.Lists.{listOf}
@@ -12,6 +12,10 @@ use Rattle.solutions.specs.Lists.{valueLists, listCount}
 use Rattle.solutions.specs.AllWithin.{AllWithin, lowestList}
 use Rattle.solutions.specs.Odometer.{listsFrom}
 use Rattle.solutions.specs.Solutions.{allTrue}
+
+-- counting the lists stops at one more than are listed
+abbrev pub cap : ℕ
+cap = Limit.listedLists + 1
 
 -- the bounds of the first n variables
 abbrev pub boundsTo : List ℤ → List ℤ → ℕ → List Bounds

@@ -17,7 +17,7 @@ ghost use Rattle.solutions.specs.AllWithin.{lowestList};
 ghost use Rattle.solutions.specs.Odometer.{isLast, nextList};
 ghost use Rattle.solutions.specs.Solutions.{allTrue, solutionsAnswer, solutionsListed};
 ghost use Rattle.solutions.specs.Found.{found};
-ghost use Rattle.solutions.specs.Walk.{boundsTo, solutionsFrom, solutionsIn, Walkable, ListsSized};
+ghost use Rattle.solutions.specs.Walk.{cap, boundsTo, solutionsFrom, solutionsIn, Walkable, ListsSized};
 use checking::Checked;
 use checking::check;
 use extremes::bound_at;
@@ -46,7 +46,7 @@ pub enum Found {
 
 // A count, or 65,537 if it is more.
 fn capped(n: usize) -> usize
-    ensures { λ r. ⌜ r ≡ min n 65537 ⌝ }
+    ensures { λ r. ⌜ r ≡ min n cap ⌝ }
 {
     if n < CAP { n } else { CAP }
 }
@@ -54,7 +54,7 @@ fn capped(n: usize) -> usize
 // How many value lists the bounds of n variables leave, capped.
 fn list_count(ls: &[i64], us: &[i64], n: usize) -> usize
     requires { ⌜ Bounded (now ls) × Bounded (now us) ⌝ }
-    ensures { λ r. ⌜ r ≡ min (listCount (boundsTo (now (ls .entry)) (now (us .entry)) n)) 65537 ⌝ }
+    ensures { λ r. ⌜ r ≡ min (listCount (boundsTo (now (ls .entry)) (now (us .entry)) n)) cap ⌝ }
 {
     let mut count = 1;
     let mut i = 0;
