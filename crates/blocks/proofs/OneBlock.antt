@@ -49,11 +49,16 @@ told {first} {B} w = record {
 }
 
 -- what is laid, as the contract has it; the same after nothing
-pub fitted : {s r : Laid} {o o′ : List ℕ} {ps : List Part} {n : ℕ} → Appends s r o o′ ps × GrowsBy n s r → n ≤ 1000000 → AppendsFitting s r o o′ ps × GrowsBy 1000000 s r
+pub fitted : {s r : Laid} {o o′ : List ℕ} {ps : List Part} {n : ℕ} → Appends s r o o′ ps × GrowsBy n s r → n ≤ blockSize → AppendsFitting s r o o′ ps × GrowsBy blockSize s r
 fitted w h = (went-fitting (w .0), omega (arith, w .1))
 
-pub from : {s r : Laid} {o o′ : List ℕ} {ps : List Part} → s ≡ nothing → AppendsFitting s r o o′ ps × GrowsBy 1000000 s r → AppendsFitting nothing r o o′ ps × GrowsBy 1000000 nothing r
+pub from : {s r : Laid} {o o′ : List ℕ} {ps : List Part} → s ≡ nothing → AppendsFitting s r o o′ ps × GrowsBy blockSize s r → AppendsFitting nothing r o o′ ps × GrowsBy blockSize nothing r
 from e w = rw e at w
+
+-- of a block whose parts hold where the bounds of its sum are given
+pub summed-fits : {s r : Laid} {o o′ : List ℕ} {Given : (ℕ → Bounds) → Type 0} {ps : (ℕ → Bounds) → List Part} (β : ℕ → Bounds) → s ≡ nothing →
+    ((γ : ℕ → Bounds) → Given γ → Appends s r o o′ (ps γ)) × GrowsBy blockSize s r → Given β → AppendsFitting nothing r o o′ (ps β) × GrowsBy blockSize nothing r
+summed-fits β e w h = from e (fitted (w .0 β h, w .1) (omega arith))
 
 -- ---- fault 12
 

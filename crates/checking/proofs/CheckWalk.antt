@@ -11,7 +11,7 @@ use Rattle.words.specs.Word.{word}
 use Rattle.words.specs.Kind as Kind
 use Rattle.words.specs.Variables.{variables}
 use Rattle.words.specs.Refusal.{accepted, _else-refuse_}
-use Rattle.words.specs.Answer.{refused, counts, _else-answer_}
+use Rattle.words.specs.Answer.{Answer, refused, counts, _else-answer_}
 use Rattle.words.proofs.Answers.{first-answers}
 use Rattle.models.specs.Model.{Constraint, constraints, sourceWords}
 use Rattle.models.specs.Reading.{readModel}
@@ -25,9 +25,20 @@ use Rattle.sharing.proofs.Accepts.{one-fine}
 use Rattle.extremes.specs.Bounded.{boundsOf}
 use Rattle.encodings.specs.Uses.{sharedBy, Recorded}
 use Rattle.encodings.proofs.Record.{none-many, recorded-none, recorded-after, length-after}
-use Rattle.checking.specs.Walk.{countsFrom, Costs}
+use Rattle.checking.specs.Walk.{Costs}
 use Rattle.checking.specs.ModelBounds.{ModelBounds}
 use Rattle.checking.specs.declared.Cost.{Cost}
+
+-- ---- what check says of the constraints that are left
+
+-- after k constraints with a auxiliaries, r rows and w words: v variables, of which e are encoded
+unfoldable pub countsFrom : (ℕ → Bounds) → (ℕ → Bool) → (v k a r w : ℕ) → Encoded → List Constraint → Answer
+countsFrom β s v k a r w e cs =
+    blocksFault β s (v + a) e cs
+    else-answer counts v (k + length cs)
+    (a + length (eachBlock β s (λ first d c. blockOf β s d c .auxiliaries) (v + a) e cs))
+    (r + length (eachBlock β s (λ first d c. blockOf β s d c .rows) (v + a) e cs))
+    (w + length (blocksWords β s (v + a) e cs))
 
 -- ---- one constraint more, a fault, the end
 

@@ -18,10 +18,10 @@ use Rattle.models.specs.Model.{Constraint, constraints, builtin}
 use Rattle.models.specs.Reading.{readModel}
 use Rattle.models.proofs.Arguments.{integerArguments}
 use Rattle.models.proofs.Accepted.{TypedIn, typed, few-variables}
-use Rattle.rules.specs.Shared.{Choice, choice, encodes, sharedIn, noneYet}
+use Rattle.rules.specs.Shared.{Choice, choice, encodes, sharedIn}
 use Rattle.rules.specs.Translation.{shared}
 use Rattle.sharing.proofs.Choices.{View, is-element, is-var-element, is-set, is-set-reif, other, view}
-use Rattle.encodings.specs.Uses.{usesFrom, sharedBy}
+use Rattle.encodings.specs.Uses.{noUses, usesFrom, sharedBy}
 use Rattle.encodings.proofs.Record.{none-yet, none-many}
 use Rattle.encodings.proofs.Uses.{uses-length, uses-are}
 
@@ -40,15 +40,15 @@ module _ (Bs : List Bounds) (v : ℕ) (h : length Bs ≤ v) where
   none-use [] t = refl
   none-use (c ∷ cs) t = rw (unused (view c) (t .0)) (omega (arith, none-use cs (t .1)))
 
-pub uses-shared : (ws : List ℕ) → readModel ws ≡ accepted → sharedBy (usesFrom noneYet (constraints ws)) ≡ shared ws
+pub uses-shared : (ws : List ℕ) → readModel ws ≡ accepted → sharedBy (usesFrom noUses (constraints ws)) ≡ shared ws
 unfolding shared sharedIn
 uses-shared ws h = fun-ext (λ v. ap (ltb 1) (at v (decLt v 256)))
   where
     cs : List Constraint
     cs = constraints ws
 
-    at : (v : ℕ) → Dec (v < 256) → getD (usesFrom noneYet cs) v 0 ≡ howMany (λ c. any (eqb v) (encodes (choice c))) cs
-    at v (yes p) = omega (arith, uses-are noneYet cs v (omega (arith, none-many, p)), none-yet v)
+    at : (v : ℕ) → Dec (v < 256) → getD (usesFrom noUses cs) v 0 ≡ howMany (λ c. any (eqb v) (encodes (choice c))) cs
+    at v (yes p) = omega (arith, uses-are noUses cs v (omega (arith, none-many, p)), none-yet v)
     at v (no n) =
-        List·getD-eq-default (usesFrom noneYet cs) 0 (omega (arith, n, uses-length noneYet cs, none-many))
+        List·getD-eq-default (usesFrom noUses cs) 0 (omega (arith, n, uses-length noUses cs, none-many))
         ∙ sym (none-use (variables ws) v (omega (arith, n, few-variables ws h)) cs (typed ws h))

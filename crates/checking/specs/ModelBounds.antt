@@ -14,9 +14,12 @@ use Rattle.extremes.specs.Bounded.{boundsOf, Bounded}
 use Rattle.linearsums.specs.Places.{sumsUpTo, SumsKept}
 use Rattle.encodings.specs.Uses.{sharedBy}
 
--- a list for the bounds of 256 variables
+-- lists for the bounds of the variables, and for L and U of the constraints
 abbrev pub noBounds : List ℤ
-noBounds = replicate 256 +0
+noBounds = replicate Limit.variables +0
+
+abbrev pub noEnds : List ℤ
+noEnds = replicate Limit.constraints +0
 
 pub record ModelBounds (ws hs : List ℕ) (r : Read) (ls us : List ℤ) (uses : List ℕ) : Type 0 where
   pub kept : Kept ws hs r

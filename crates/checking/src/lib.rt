@@ -6,18 +6,17 @@ ghost use lib.ListN.{length};
 ghost use Rattle.integers.specs.Choice.{_if_else_};
 ghost use Rattle.words.specs.Fault as Fault;
 ghost use Rattle.words.specs.Limit as Limit;
-ghost use Rattle.rules.specs.Shared.{noneYet};
 ghost use Rattle.rules.specs.Check.{tooWide, check as checkAnswer};
 ghost use Rattle.sharing.specs.SharedSolutions.{Passes};
 ghost use Rattle.laying.specs.Appends.{someOutside};
 ghost use Rattle.laying.specs.Sizes.{firstNumbers, blockSize};
 ghost use Rattle.extremes.specs.Bounded.{boundsOf, Bounded};
 ghost use Rattle.linearsums.specs.Sum.{Summed};
-ghost use Rattle.encodings.specs.Uses.{sharedBy, Recorded};
+ghost use Rattle.encodings.specs.Uses.{noUses, sharedBy, Recorded};
 ghost use Rattle.checking.specs.Checked.{checked};
 ghost use Rattle.blocks.specs.Coded.{constraintOf, hasAll};
 ghost use Rattle.checking.specs.Walk.{Costs};
-ghost use Rattle.checking.specs.ModelBounds.{ModelBounds, ModelSums, noBounds};
+ghost use Rattle.checking.specs.ModelBounds.{ModelBounds, ModelSums, noBounds, noEnds};
 use arguments::var_at;
 use blocks::block;
 use encodings::count_uses;
@@ -91,7 +90,7 @@ fn too_wide(code: usize, args: &[u32], ls: &[i64], us: &[i64], uses: &[usize]) -
 
 // 13 or 14 of a block whose auxiliaries are numbered from `first` on, 0 for none.
 fn fault_of(block: Laid, first: usize) -> u32
-    requires { ⌜ (first < 10000) × (block .auxiliaries ≤ 1000000) ⌝ }
+    requires { ⌜ (first < firstNumbers) × (block .auxiliaries ≤ blockSize) ⌝ }
     ensures { λ r. ⌜ r ≡ (Fault.numberOutside if someOutside block else Fault.tooManyInAll if ltb Limit.inAll (first + block .auxiliaries) else Fault.none) ⌝ }
 {
     if 0 < block.outside {
@@ -193,7 +192,7 @@ pub fn check_model(
     lows: &mut [i64],
     highs: &mut [i64],
 ) -> Known
-    requires { ⌜ (length (now heads) ≡ 256) × (now lowers ≡ noBounds) × (now uppers ≡ noBounds) × (now uses ≡ noneYet) × (now lows ≡ noBounds) × (now highs ≡ noBounds) ⌝ }
+    requires { ⌜ (length (now heads) ≡ Limit.constraints) × (now lowers ≡ noBounds) × (now uppers ≡ noBounds) × (now uses ≡ noUses) × (now lows ≡ noEnds) × (now highs ≡ noEnds) ⌝ }
     ensures answer { λ r. ⌜ checked (r .checked) ≡ checkAnswer (now (ws .entry)) ⌝ }
     ensures bounds { λ r. ⌜ (Passes (now (ws .entry)) → ModelBounds (now (ws .entry)) (now (heads .exit)) (r .read) (now (lowers .exit)) (now (uppers .exit)) (now (uses .exit))) ⌝ }
     ensures sums { λ r. ⌜ (Passes (now (ws .entry)) → ModelSums (now (ws .entry)) (now (heads .exit)) (r .read) (now (lowers .exit)) (now (uppers .exit)) (now (lows .exit)) (now (highs .exit))) ⌝ }

@@ -19,9 +19,9 @@ use Rattle.models.specs.Builtin.{array-int-element, array-var-int-element, set-
 use Rattle.models.specs.Model.{size, var, num, vars, nums}
 use Rattle.arguments.proofs.Walk.{getD-listOf}
 use Rattle.rowsystems.specs.Row.{Row, sum=0}
-use Rattle.rules.specs.Block.{Ref, source, aux}
+use Rattle.rules.specs.Block.{Ref, source, aux, block}
 use Rattle.rules.specs.Parts.{_─_≤0, bits, oneBit, chosen, products, one, nth, places, members}
-use Rattle.rules.specs.Rule.{block, rule, numberElement, variableElement, firstOnly, oneOf, inSet, inSetReified}
+use Rattle.rules.specs.Rule.{rule, numberElement, variableElement, firstOnly, oneOf, inSet, inSetReified}
 use Rattle.laying.specs.Part.{blockParts, rowParts}
 use Rattle.laying.specs.Lists.{many, bitAt, orderAt}
 use Rattle.rules.proofs.Lengths.{values-length}

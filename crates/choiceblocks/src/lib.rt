@@ -29,7 +29,7 @@ use arguments::past_at;
 use arguments::size_at;
 use arguments::var_at;
 use extremes::bound_at;
-use extremes::first_place;
+use extremes::first_label;
 use extremes::last_place;
 use extremes::members;
 use extremes::width_of;
@@ -56,15 +56,7 @@ pub fn width_at(args: &[u32], ls: &[i64], us: &[i64]) -> usize
     width_of(lower_label(args, ls), upper)
 }
 
-// The first place of the list at place 1 that it can have as an index.
-pub fn first_label(args: &[u32], ls: &[i64]) -> i64
-    requires { ⌜ Bounded (now ls) ⌝ }
-    ensures { λ r. ⌜ (r ≡ maxZ +1 (getD (now (ls .entry)) (var (now (args .entry)) 0) +0)) × (natAbs r ≤ Limit.half) ⌝ }
-{
-    first_place(lower_label(args, ls))
-}
-
-// How many places of that list it can have.
+// How many places of the list at place 1 it can have as an index.
 pub fn labels(args: &[u32], ls: &[i64], us: &[i64]) -> usize
     requires { ⌜ Bounded (now ls) × Bounded (now us) ⌝ }
     ensures { λ r. ⌜ (r ≡ width (places (boundsOf (now (ls .entry)) (now (us .entry)) (var (now (args .entry)) 0)) (size (now (args .entry)) 1))) × (r ≤ Limit.listLength) ⌝ }
@@ -132,7 +124,7 @@ pub fn array_var_int_element(
 
 // What array_int_maximum and array_int_minimum begin with: m is one of the list.
 fn lay_one_of(out: &mut [u32], s: Laid, args: &[u32], ls: &[i64], us: &[i64], first: usize) -> Laid
-    requires { ⌜ BlockRoom s × (first < 10000) ⌝ }
+    requires { ⌜ BlockRoom s × (first < firstNumbers) ⌝ }
     ensures { λ r. ⌜ Appends s r (now (out .entry)) (now (out .exit)) (oneOfParts (now (ls .entry)) (now (us .entry)) (now (args .entry)) first) × GrowsBy 10000 s r ⌝ }
 {
     let m = var_at(args, 0);
@@ -165,9 +157,9 @@ pub fn array_int_extreme(
 
 // The block of set_in.
 pub fn set_in(out: &mut [u32], s: Laid, args: &[u32], ls: &[i64], us: &[i64], first: usize) -> Laid
-    requires { ⌜ BlockRoom s × (first < 10000) × Bounded (now ls) × Bounded (now us) ⌝ }
+    requires { ⌜ BlockRoom s × (first < firstNumbers) × Bounded (now ls) × Bounded (now us) ⌝ }
     ensures parts { λ r. let β = boundsOf (now (ls .entry)) (now (us .entry)) in ⌜ Appends s r (now (out .entry)) (now (out .exit)) (blockParts first (rule β (setOf (now (args .entry))))) ⌝ }
-    ensures size { λ r. ⌜ GrowsBy 1000000 s r ⌝ }
+    ensures size { λ r. ⌜ GrowsBy blockSize s r ⌝ }
 {
     let x = var_at(args, 0);
     let mut vs = [0i64; 32];

@@ -89,7 +89,7 @@ pub fn lay_zeros(
 
 // The numbers from place base on × n consecutive variables.
 fn lay_numbers(out: &mut [u32], s: Laid, args: &[u32], base: usize, v: usize, n: usize) -> Laid
-    requires { ⌜ Room 1000 s × (n ≤ 66) × (base < 1000000000000) × (v < 1000000000000) ⌝ }
+    requires { ⌜ Room 1000 s × (n ≤ Limit.terms) × (base < 1000000000000) × (v < 1000000000000) ⌝ }
     ensures { λ r. ⌜ Appends s r (now (out .entry)) (now (out .exit)) (many (numberTermAt (now (args .entry)) base v) n) × GrowsBy 1000 s r ⌝ }
 {
     if out.len() <= s.words {
@@ -119,7 +119,7 @@ fn values_in_range(vs: &[i64], n: usize) -> bool
 
 // The first n numbers of a list × n consecutive variables.
 fn lay_values(out: &mut [u32], s: Laid, vs: &[i64], v: usize, n: usize) -> Laid
-    requires { ⌜ Room 1000 s × (n ≤ 66) × (v < 1000000000000) ⌝ }
+    requires { ⌜ Room 1000 s × (n ≤ Limit.terms) × (v < 1000000000000) ⌝ }
     ensures { λ r. ⌜ Appends s r (now (out .entry)) (now (out .exit)) (many (valueAt (now (vs .entry)) v) n) × GrowsBy 1000 s r ⌝ }
 {
     if out.len() <= s.words {
@@ -136,7 +136,7 @@ fn lay_values(out: &mut [u32], s: Laid, vs: &[i64], v: usize, n: usize) -> Laid
 
 // Σ of the variables that the first n numbers of a list label; v has the label `from`.
 fn lay_members(out: &mut [u32], s: Laid, vs: &[i64], from: i64, v: usize, n: usize) -> Laid
-    requires { ⌜ Room 1000 s × (n ≤ 66) × (v < 1000000000000) × (natAbs from < 1000000000) × ((k : ℕ) → natAbs (getD (now vs) k +0) < 1000000000) ⌝ }
+    requires { ⌜ Room 1000 s × (n ≤ Limit.terms) × (v < 1000000000000) × (natAbs from < 1000000000) × ((k : ℕ) → natAbs (getD (now vs) k +0) < 1000000000) ⌝ }
     ensures { λ r. ⌜ Appends s r (now (out .entry)) (now (out .exit)) (many (memberAt (now (vs .entry)) from v) n) × GrowsBy 1000 s r ⌝ }
 {
     if out.len() <= s.words {
@@ -162,7 +162,7 @@ fn lay_last(out: &mut [u32], s: Laid, x: usize) -> Laid
 
 // Σb − 1 = 0 over n consecutive variables.
 pub fn lay_one_bit(out: &mut [u32], s: Laid, v: usize, n: usize) -> Laid
-    requires { ⌜ Room 2000 s × (n ≤ 66) × (v < 1000000000) ⌝ }
+    requires { ⌜ Room 2000 s × (n ≤ Limit.terms) × (v < 1000000000) ⌝ }
     ensures { λ r. ⌜ Appends s r (now (out .entry)) (now (out .exit)) (oneRow v n) × GrowsBy 2000 s r ⌝ }
 {
     let t = lay_head(out, s, kind::EQUAL, n);
@@ -172,7 +172,7 @@ pub fn lay_one_bit(out: &mut [u32], s: Laid, v: usize, n: usize) -> Laid
 
 // Σz − m = 0 over n consecutive variables.
 pub fn lay_one_row(out: &mut [u32], s: Laid, v: usize, n: usize, m: usize) -> Laid
-    requires { ⌜ Room 2000 s × (n ≤ 66) × (v < 1000000000) ⌝ }
+    requires { ⌜ Room 2000 s × (n ≤ Limit.terms) × (v < 1000000000) ⌝ }
     ensures { λ r. ⌜ Appends s r (now (out .entry)) (now (out .exit)) (sumRow (sameAt +1 v) n m) × GrowsBy 2000 s r ⌝ }
 {
     let t = lay_head(out, s, kind::EQUAL, n + 1);
@@ -182,7 +182,7 @@ pub fn lay_one_row(out: &mut [u32], s: Laid, v: usize, n: usize, m: usize) -> La
 
 // Σj×b − x = 0 over n consecutive labels from `from` on.
 fn lay_label_row(out: &mut [u32], s: Laid, from: i64, v: usize, n: usize, x: usize) -> Laid
-    requires { ⌜ Room 2000 s × (n ≤ 66) × (v < 1000000000) × (natAbs from < 1000000000) ⌝ }
+    requires { ⌜ Room 2000 s × (n ≤ Limit.terms) × (v < 1000000000) × (natAbs from < 1000000000) ⌝ }
     ensures { λ r. ⌜ Appends s r (now (out .entry)) (now (out .exit)) (sumRow (labelAt from v) n x) × GrowsBy 2000 s r ⌝ }
 {
     let t = lay_head(out, s, kind::EQUAL, n + 1);
@@ -210,7 +210,7 @@ pub fn lay_number_row(
 
 // Σv×b − x = 0 over the first n numbers of a list.
 pub fn lay_value_row(out: &mut [u32], s: Laid, vs: &[i64], v: usize, n: usize, x: usize) -> Laid
-    requires { ⌜ Room 2000 s × (n ≤ 66) × (v < 1000000000) ⌝ }
+    requires { ⌜ Room 2000 s × (n ≤ Limit.terms) × (v < 1000000000) ⌝ }
     ensures { λ r. ⌜ Appends s r (now (out .entry)) (now (out .exit)) (sumRow (valueAt (now (vs .entry)) v) n x) × GrowsBy 2000 s r ⌝ }
 {
     let t = lay_head(out, s, kind::EQUAL, n + 1);
@@ -238,7 +238,7 @@ pub fn lay_member_row(
 
 // One of n consecutive bits is 1; their labels rise from `from` on, and x is the label of that bit.
 pub fn lay_choice(out: &mut [u32], s: Laid, from: i64, v: usize, n: usize, x: usize) -> Laid
-    requires { ⌜ Room 4000 s × (n ≤ 66) × (v < 1000000000) × (natAbs from < 1000000000) ⌝ }
+    requires { ⌜ Room 4000 s × (n ≤ Limit.terms) × (v < 1000000000) × (natAbs from < 1000000000) ⌝ }
     ensures { λ r. ⌜ Appends s r (now (out .entry)) (now (out .exit)) (choiceRows from v n x) × GrowsBy 4000 s r ⌝ }
 {
     let t = lay_one_bit(out, s, v, n);

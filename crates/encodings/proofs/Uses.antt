@@ -12,8 +12,8 @@ use borrow.Author.Tests.{eq-eqb, ne-eqb}
 use Rattle.integers.specs.Choice.{_if_else_}
 use Rattle.integers.specs.Lists.{any, howMany}
 use Rattle.models.specs.Model.{Constraint, var}
-use Rattle.rules.specs.Shared.{choice, encodes, noneYet}
-use Rattle.encodings.specs.Uses.{choiceOf, choosing, counted, usesFrom}
+use Rattle.rules.specs.Shared.{choice, encodes}
+use Rattle.encodings.specs.Uses.{choiceOf, choosing, counted, noUses, usesFrom}
 use Rattle.encodings.proofs.Record.{encodes-by, none-yet, none-many}
 
 pub counted-le : (us xs : List ℕ) (v : ℕ) → getD (counted us xs) v 0 ≤ getD us v 0 + 1
@@ -65,11 +65,11 @@ uses-length us (c ∷ cs) = uses-length (counted us (encodes (choice c))) cs ∙
 
 -- the first k constraints are counted
 pub record Counting (cs : List Constraint) (us : List ℕ) (k : ℕ) : Type 0 where
-  pub rest : usesFrom us (drop k cs) ≡ usesFrom noneYet cs
+  pub rest : usesFrom us (drop k cs) ≡ usesFrom noUses cs
   pub low : (v : ℕ) → getD us v 0 ≤ k
   pub many : length us ≡ 256
 
-pub begun : (cs : List Constraint) {us : List ℕ} → us ≡ noneYet → Counting cs us 0
+pub begun : (cs : List Constraint) {us : List ℕ} → us ≡ noUses → Counting cs us 0
 begun cs e = rw e record { rest = refl; low = λ v. omega (arith, none-yet v); many = none-many }
 
 module _ {cs : List Constraint} {us : List ℕ} {k : ℕ} (l : Counting cs us k) where
@@ -84,6 +84,6 @@ module _ {cs : List Constraint} {us : List ℕ} {k : ℕ} (l : Counting cs us k)
         many = counted-length us xs ∙ l .many;
       }
 
-  pub done : length cs ≤ k → us ≡ usesFrom noneYet cs
+  pub done : length cs ≤ k → us ≡ usesFrom noUses cs
   unfolding usesFrom
   done h = sym (ap (usesFrom us) (drop-of-length-le cs h)) ∙ l .rest

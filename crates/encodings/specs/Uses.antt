@@ -18,8 +18,12 @@ choosing code = eqb code 24 || (eqb code 25 || (eqb code 27 || eqb code 28))
 
 -- one use more of a variable that a constraint encodes
 unfoldable pub counted : List ℕ → List ℕ → List ℕ
-counted us [] = us
-counted us (x ∷ xs) = set us x (getD us x 0 + 1)
+counted uses [] = uses
+counted uses (x ∷ xs) = set uses x (getD uses x 0 + 1)
+
+-- no use of any variable so far
+abbrev pub noUses : List ℕ
+noUses = replicate Limit.variables 0
 
 -- the uses of all, after those that are counted
 unfoldable pub usesFrom : List ℕ → List Constraint → List ℕ
@@ -28,7 +32,11 @@ usesFrom uses (c ∷ cs) = usesFrom (counted uses (encodes (choice c))) cs
 
 -- "for two or more constraints", by the counts
 abbrev pub sharedBy : List ℕ → ℕ → Bool
-sharedBy us v = ltb 1 (getD us v 0)
+sharedBy uses v = ltb 1 (getD uses v 0)
+
+-- no count comes near what would wrap
+abbrev pub UsesFew : List ℕ → Type 0
+UsesFew uses = (v : ℕ) → getD uses v 0 < 1000000
 
 -- the first bits that are recorded are numbers of auxiliaries, far below what would wrap
 abbrev pub Recorded : Encoded → Type 0

@@ -1,14 +1,14 @@
 // Which variables two or more constraints choose by, and the record of those that are encoded.
 ghost use mathlib.Core.Path.{_≡_};
-ghost use Prim.Native.Nat.{ℕ, _+_, _<_, _≤_};
+ghost use Prim.Native.Nat.{_+_, _<_, _≤_};
 ghost use lib.Dec.{eqb};
 ghost use lib.ListN.{length, getD, set};
 ghost use Rattle.integers.specs.Choice.{_if_else_};
 ghost use Rattle.words.specs.Limit as Limit;
 ghost use Rattle.models.specs.Model.{constraints, var};
 ghost use Rattle.modelreading.specs.Seen.{Heads};
-ghost use Rattle.rules.specs.Shared.{encodes, shares, noneYet, encodedAfter};
-ghost use Rattle.encodings.specs.Uses.{choiceOf, choosing, counted, usesFrom, sharedBy};
+ghost use Rattle.rules.specs.Shared.{encodes, shares, encodedAfter};
+ghost use Rattle.encodings.specs.Uses.{choiceOf, choosing, counted, noUses, usesFrom, UsesFew, sharedBy};
 use arguments::var_at;
 use words::payload_of;
 
@@ -47,7 +47,7 @@ fn add_use(uses: &mut [usize], x: usize)
 
 // Counts the use of the variable that a constraint encodes.
 fn count_use(code: usize, args: &[u32], uses: &mut [usize])
-    requires { ⌜ (1 ≤ 1) × ((v : ℕ) → getD (now uses) v 0 < 1000000) ⌝ }
+    requires { ⌜ UsesFew (now uses) ⌝ }
     ensures { λ r. ⌜ now (uses .exit) ≡ counted (now (uses .entry)) (encodes (choiceOf code (now (args .entry)))) ⌝ }
 {
     if chooses(code) {
@@ -58,8 +58,8 @@ fn count_use(code: usize, args: &[u32], uses: &mut [usize])
 
 // Counts into a list of 256 zeros how many constraints of a model encode each variable; n heads are kept.
 pub fn count_uses(ws: &[u32], heads: &[usize; 256], n: usize, uses: &mut [usize])
-    requires { ⌜ (length (now ws) ≤ 8192) × Heads (now ws) (now heads) n × (now uses ≡ noneYet) ⌝ }
-    ensures { λ r. ⌜ now (uses .exit) ≡ usesFrom noneYet (constraints (now (ws .entry))) ⌝ }
+    requires { ⌜ (length (now ws) ≤ Limit.modelWords) × Heads (now ws) (now heads) n × (now uses ≡ noUses) ⌝ }
+    ensures { λ r. ⌜ now (uses .exit) ≡ usesFrom noUses (constraints (now (ws .entry))) ⌝ }
 {
     let mut k = 0;
     while k < n {

@@ -18,6 +18,7 @@ ghost use Rattle.rules.specs.Parts.{endProducts, halfLess, leastFrom, members};
 use arguments::count_of;
 use arguments::num_at;
 use arguments::size_at;
+use arguments::var_at;
 use integers::largest;
 use integers::least;
 use integers::minus;
@@ -109,10 +110,18 @@ pub fn width_of(lower: i64, upper: i64) -> usize
 }
 
 // The first place of a list that an index with this lower bound can have.
-pub fn first_place(lower: i64) -> i64
+fn first_place(lower: i64) -> i64
     ensures { λ r. ⌜ r ≡ maxZ +1 lower ⌝ }
 {
     largest(1, lower)
+}
+
+// The first place that the variable at place 0 can have as an index.
+pub fn first_label(args: &[u32], ls: &[i64]) -> i64
+    requires { ⌜ Bounded (now ls) ⌝ }
+    ensures { λ r. ⌜ (r ≡ maxZ +1 (getD (now (ls .entry)) (var (now (args .entry)) 0) +0)) × (natAbs r ≤ Limit.half) ⌝ }
+{
+    first_place(bound_at(ls, var_at(args, 0)))
 }
 
 // The last place of a list of n elements that an index with this upper bound can have.

@@ -38,7 +38,7 @@ pub fn bool_or(out: &mut [u32], s: Laid, a: usize, b: usize, r: usize) -> Laid
 
 // 20 and 34: x is r×a and y is r×b.
 fn two_products(out: &mut [u32], s: Laid, a: usize, b: usize, r: usize, first: usize) -> Laid
-    requires { ⌜ BlockRoom s × (first < 10000) ⌝ }
+    requires { ⌜ BlockRoom s × (first < firstNumbers) ⌝ }
     ensures { λ q. ⌜ Appends s q (now (out .entry)) (now (out .exit)) (bound +0 +1 ∷ bound +0 +1 ∷ times first r a ∷ times (first + 1) r b ∷ []) × GrowsBy 40 s q ⌝ }
 {
     let t = lay_bound(out, s, 0, 1);
@@ -49,7 +49,7 @@ fn two_products(out: &mut [u32], s: Laid, a: usize, b: usize, r: usize, first: u
 
 // 20 bool_xor: x is r×a and y is r×b; a − x is b − y, and x + y is r.
 pub fn bool_xor(out: &mut [u32], s: Laid, a: usize, b: usize, r: usize, first: usize) -> Laid
-    requires { ⌜ BlockRoom s × (first < 10000) ⌝ }
+    requires { ⌜ BlockRoom s × (first < firstNumbers) ⌝ }
     ensures { λ q. ⌜ ((β : ℕ → Bounds) → Appends s q (now (out .entry)) (now (out .exit)) (blockParts first (rule β (bool-xor a b r)))) × GrowsBy 10000 s q ⌝ }
 {
     let x = first;
@@ -63,7 +63,7 @@ pub fn bool_xor(out: &mut [u32], s: Laid, a: usize, b: usize, r: usize, first: u
 
 // 34 bool_eq_reif: x is r×a and y is r×b; x is y, and 1 + x + y is r + a + b.
 pub fn bool_eq_reif(out: &mut [u32], s: Laid, a: usize, b: usize, r: usize, first: usize) -> Laid
-    requires { ⌜ BlockRoom s × (first < 10000) ⌝ }
+    requires { ⌜ BlockRoom s × (first < firstNumbers) ⌝ }
     ensures { λ q. ⌜ ((β : ℕ → Bounds) → Appends s q (now (out .entry)) (now (out .exit)) (blockParts first (rule β (bool-eq-reif a b r)))) × GrowsBy 10000 s q ⌝ }
 {
     let x = first;

@@ -1,4 +1,4 @@
--- The lists of the definitions as the loops lay them, and rows of given terms.
+-- The lists of the definitions as the loops lay them.
 use mathlib.Core.Path.{_≡_, refl, ap, ap₂, _∙_}
 use mathlib.Core.Bool.{Bool}
 use mathlib.Core.List.{List, [], _∷_, _++_, map, map-append, flatMap}
@@ -13,13 +13,12 @@ use Rattle.integers.specs.Bounds.{width, values}
 use Rattle.integers.specs.Terms.{Term}
 use Rattle.integers.specs.declared.Bounds.{Bounds}
 use Rattle.integers.proofs.Lists.{listOf-length}
-use Rattle.words.specs.Kind as Kind
 use Rattle.models.specs.Model.{size, past, vars, nums, terms}
-use Rattle.rowsystems.specs.Row.{Row, sum≤0, sum=0, renameTerms}
+use Rattle.rowsystems.specs.Row.{Row, renameTerms}
 use Rattle.rules.specs.Block.{Ref, source, numbered}
 use Rattle.rules.specs.Parts.{_─_≤0, sources, each, bits, weighted, products}
-use Rattle.laying.specs.Part.{bound, head, term, constant, times, boundParts, termParts, rowParts}
-use Rattle.laying.specs.Lists.{many, termAt, rowPartsOf, sumAt, eachAt, sameAt, labelAt, bitAt, productAt, orderAt}
+use Rattle.laying.specs.Part.{bound, term, times, boundParts, termParts, rowParts}
+use Rattle.laying.specs.Lists.{many, rowPartsOf, sumAt, eachAt, sameAt, labelAt, bitAt, orderAt}
 use Rattle.laying.proofs.Parts.{many-same}
 
 -- ---- how long they are
@@ -111,33 +110,7 @@ module _ (first : ℕ) where
       (products-many x (λ j. f (suc j)) n (suc k) (suc m)
       ∙ many-same _ _ (λ j. ap₂ (λ (z b : ℕ). times z (x (f (suc j))) b ∷ []) (further first m j) (further first k j)) n)
 
-  pub products-parts : (args : List ℕ) (i k m : ℕ) →
-      flatMap (rowParts first) (products (λ x. x) (vars args i) k m) ≡ many (productAt args (i + 1) (first + m) (first + k)) (size args i)
-  unfolding vars
-  products-parts args i k m = products-many (λ x. x) _ (size args i) k m
-
   -- ---- rows
-
-  -- a row of given terms; for a literal list of terms both lists compute
-  given : (ts : List (Term Ref)) →
-      termParts first ts ≡ many (termAt (map (λ t. numbered first (t .variable)) ts) (map (λ t. t .coefficient) ts)) (length (map (λ t. numbered first (t .variable)) ts))
-  unfolding termParts many
-  given [] = refl
-  given (t ∷ ts) = ap (λ ps. term (t .coefficient) (numbered first (t .variable)) ∷ ps) (given ts)
-
-  count : (ts : List (Term Ref)) → length ts ≡ length (map (λ t. numbered first (t .variable)) ts)
-  count [] = refl
-  count (t ∷ ts) = ap suc (count ts)
-
-  pub row-atMost : (ts : List (Term Ref)) (c : ℤ) →
-      rowParts first (sum≤0 ts c) ≡ rowPartsOf Kind.atMost (map (λ t. numbered first (t .variable)) ts) (map (λ t. t .coefficient) ts) c
-  unfolding rowParts rowPartsOf
-  row-atMost ts c = ap₂ (λ (n : ℕ) ps. head Kind.atMost n ∷ (ps ++ (constant c ∷ []))) (count ts) (given ts)
-
-  pub row-equal : (ts : List (Term Ref)) (c : ℤ) →
-      rowParts first (sum=0 ts c) ≡ rowPartsOf Kind.equal (map (λ t. numbered first (t .variable)) ts) (map (λ t. t .coefficient) ts) c
-  unfolding rowParts rowPartsOf
-  row-equal ts c = ap₂ (λ (n : ℕ) ps. head Kind.equal n ∷ (ps ++ (constant c ∷ []))) (count ts) (given ts)
 
   -- a row for each of a list by places
   pub rows-many : {A : Type 0} (q : A → Row Ref) (f : ℕ → A) (n : ℕ) → flatMap (rowParts first) (map q (listOf f n)) ≡ many (λ k. rowParts first (q (f k))) n

@@ -149,7 +149,7 @@ pub fn lay_times(out: &mut [u32], s: Laid, r: usize, f: usize, g: usize) -> Laid
 
 // The terms of given variables and coefficients.
 fn lay_given(out: &mut [u32], s: Laid, xs: &[usize], cs: &[i64]) -> Laid
-    requires { ⌜ Room 1000 s × (length (now xs) ≤ 66) × (length (now cs) ≡ length (now xs)) ⌝ }
+    requires { ⌜ Room 1000 s × (length (now xs) ≤ Limit.terms) × (length (now cs) ≡ length (now xs)) ⌝ }
     ensures { λ r. ⌜ Appends s r (now (out .entry)) (now (out .exit)) (many (termAt (now (xs .entry)) (now (cs .entry))) (length (now (xs .entry)))) × GrowsBy 1000 s r ⌝ }
 {
     let mut t = s;
@@ -178,7 +178,7 @@ fn all_in_range(cs: &[i64]) -> bool
 
 // A row of a kind, of given variables and coefficients.
 pub fn lay_row(out: &mut [u32], s: Laid, kind: u32, xs: &[usize], cs: &[i64], c: i64) -> Laid
-    requires { ⌜ Room 2000 s × (kind < 16) × (length (now xs) ≤ 66) × (length (now cs) ≡ length (now xs)) ⌝ }
+    requires { ⌜ Room 2000 s × (kind < 16) × (length (now xs) ≤ Limit.terms) × (length (now cs) ≡ length (now xs)) ⌝ }
     ensures { λ r. ⌜ Appends s r (now (out .entry)) (now (out .exit)) (rowPartsOf kind (now (xs .entry)) (now (cs .entry)) c) × GrowsBy 2000 s r ⌝ }
 {
     if out.len() <= s.words {
@@ -253,7 +253,7 @@ pub fn lay_each(out: &mut [u32], s: Laid, args: &[u32], i: usize, c: i64) -> Lai
 
 // The bounds of n bits.
 pub fn lay_bits(out: &mut [u32], s: Laid, n: usize) -> Laid
-    requires { ⌜ Room 1000 s × (n ≤ 66) ⌝ }
+    requires { ⌜ Room 1000 s × (n ≤ Limit.terms) ⌝ }
     ensures { λ r. ⌜ Appends s r (now (out .entry)) (now (out .exit)) (many bitAt n) × GrowsBy 1000 s r ⌝ }
 {
     if out.len() <= s.words {
@@ -285,7 +285,7 @@ fn put_same(out: &mut [u32], at: usize, c: i64, v: usize, n: usize)
 
 // c × each of n consecutive variables from v on.
 pub fn lay_same(out: &mut [u32], s: Laid, c: i64, v: usize, n: usize) -> Laid
-    requires { ⌜ Room 1000 s × (n ≤ 66) × (v < 1000000000000) ⌝ }
+    requires { ⌜ Room 1000 s × (n ≤ Limit.terms) × (v < 1000000000000) ⌝ }
     ensures { λ r. ⌜ Appends s r (now (out .entry)) (now (out .exit)) (many (sameAt c v) n) × GrowsBy 1000 s r ⌝ }
 {
     if both(out.len() <= s.words, in_range(c)) {
@@ -306,7 +306,7 @@ pub fn lay_same(out: &mut [u32], s: Laid, c: i64, v: usize, n: usize) -> Laid
 
 // Consecutive numbers × consecutive variables, n of them.
 pub fn lay_labels(out: &mut [u32], s: Laid, from: i64, v: usize, n: usize) -> Laid
-    requires { ⌜ Room 1000 s × (n ≤ 66) × (v < 1000000000000) × (natAbs from < 1000000000000) ⌝ }
+    requires { ⌜ Room 1000 s × (n ≤ Limit.terms) × (v < 1000000000000) × (natAbs from < 1000000000000) ⌝ }
     ensures { λ r. ⌜ Appends s r (now (out .entry)) (now (out .exit)) (many (labelAt from v) n) × GrowsBy 1000 s r ⌝ }
 {
     if both(

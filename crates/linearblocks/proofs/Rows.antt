@@ -14,8 +14,8 @@ use Rattle.words.specs.Kind as Kind
 use Rattle.words.specs.Word.{payload, signed, wordAt}
 use Rattle.models.specs.Model.{var, num, size, past, terms, pastTerms}
 use Rattle.rowsystems.specs.Row.{Row}
-use Rattle.rules.specs.Block.{Ref, aux, Block, numbered}
-use Rattle.rules.specs.Rule.{block, onlyNegative, zeroReified}
+use Rattle.rules.specs.Block.{Ref, aux, Block, numbered, block}
+use Rattle.rules.specs.Rule.{onlyNegative, zeroReified}
 use Rattle.linearsums.specs.Sum.{linearSum, equalSum}
 use Rattle.laying.specs.Part.{Part, head, term, constant, boundParts, termParts, rowParts, blockParts}
 use Rattle.laying.specs.Lists.{many, rowPartsOf}

@@ -12,9 +12,9 @@ use Rattle.models.specs.Builtin.{Builtin, bool-clause, array-bool-and, int-lin-
 use Rattle.models.specs.Model.{var, num, vars, terms, past, pastTerms}
 use Rattle.builtins.specs.Coded.{linearReified}
 use Rattle.rowsystems.specs.Row.{Row, sum≤0, sum=0, product}
-use Rattle.rules.specs.Block.{Ref, source, aux, Block}
+use Rattle.rules.specs.Block.{Ref, source, aux, Block, block}
 use Rattle.rules.specs.Parts.{Z, sources, each}
-use Rattle.rules.specs.Rule.{block, rule, zeroReified}
+use Rattle.rules.specs.Rule.{rule, zeroReified}
 use Rattle.laying.specs.Part.{Part, head, constant, termParts}
 
 -- Σ−x−c=0

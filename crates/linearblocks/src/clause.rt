@@ -43,7 +43,7 @@ fn one_less(n: usize) -> i64
 pub fn bool_clause(out: &mut [u32], s: Laid, args: &[u32]) -> Laid
     requires { ⌜ BlockRoom s ⌝ }
     ensures parts { λ r. ⌜ ((first : ℕ) (β : ℕ → Bounds) → Appends s r (now (out .entry)) (now (out .exit)) (blockParts first (rule β (clauseOf (now (args .entry)))))) ⌝ }
-    ensures size { λ r. ⌜ GrowsBy 1000000 s r ⌝ }
+    ensures size { λ r. ⌜ GrowsBy blockSize s r ⌝ }
 {
     let second = past_at(args, 0);
     let m = size_at(args, second);
@@ -70,7 +70,7 @@ fn lay_all(out: &mut [u32], s: Laid, args: &[u32], r: usize) -> Laid
 pub fn array_bool_and(out: &mut [u32], s: Laid, args: &[u32]) -> Laid
     requires { ⌜ BlockRoom s ⌝ }
     ensures parts { λ r. ⌜ ((first : ℕ) (β : ℕ → Bounds) → Appends s r (now (out .entry)) (now (out .exit)) (blockParts first (rule β (andOf (now (args .entry)))))) ⌝ }
-    ensures size { λ r. ⌜ GrowsBy 1000000 s r ⌝ }
+    ensures size { λ r. ⌜ GrowsBy blockSize s r ⌝ }
 {
     let r = var_at(args, past_at(args, 0));
     let t = lay_order(out, s, args, 1, r, size_at(args, 0), false);
@@ -91,7 +91,7 @@ fn lay_odd(out: &mut [u32], s: Laid, args: &[u32], first: usize) -> Laid
 // array_bool_xor: t from 0 to (n−1)/2: Σ−2×t−1=0.
 pub fn array_bool_xor(out: &mut [u32], s: Laid, args: &[u32], first: usize) -> Laid
     requires { ⌜ BlockRoom s ⌝ }
-    ensures { λ r. ⌜ ((β : ℕ → Bounds) → Appends s r (now (out .entry)) (now (out .exit)) (blockParts first (rule β (array-bool-xor (vars (now (args .entry)) 0))))) × GrowsBy 1000000 s r ⌝ }
+    ensures { λ r. ⌜ ((β : ℕ → Bounds) → Appends s r (now (out .entry)) (now (out .exit)) (blockParts first (rule β (array-bool-xor (vars (now (args .entry)) 0))))) × GrowsBy blockSize s r ⌝ }
 {
     let t = lay_bound(out, s, 0, half_less(size_at(args, 0)));
     lay_odd(out, t, args, first)

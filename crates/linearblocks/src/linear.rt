@@ -27,10 +27,13 @@ use laying::lay_row;
 use words::kind;
 use words::word_at;
 
+// The number −1 as a payload, of 28 bits.
+const MINUS_ONE: u32 = 268435455;
+
 // int_lin_eq: Σ−c=0.
 pub fn int_lin_eq(out: &mut [u32], s: Laid, args: &[u32]) -> Laid
     requires { ⌜ BlockRoom s ⌝ }
-    ensures { λ r. ⌜ ((first : ℕ) (β : ℕ → Bounds) → Appends s r (now (out .entry)) (now (out .exit)) (blockParts first (rule β (linear int-lin-eq (now (args .entry)))))) × GrowsBy 1000000 s r ⌝ }
+    ensures { λ r. ⌜ ((first : ℕ) (β : ℕ → Bounds) → Appends s r (now (out .entry)) (now (out .exit)) (blockParts first (rule β (linear int-lin-eq (now (args .entry)))))) × GrowsBy blockSize s r ⌝ }
 {
     lay_sum(out, s, kind::EQUAL, args)
 }
@@ -38,16 +41,16 @@ pub fn int_lin_eq(out: &mut [u32], s: Laid, args: &[u32]) -> Laid
 // int_lin_le: Σ−c≤0.
 pub fn int_lin_le(out: &mut [u32], s: Laid, args: &[u32]) -> Laid
     requires { ⌜ BlockRoom s ⌝ }
-    ensures { λ r. ⌜ ((first : ℕ) (β : ℕ → Bounds) → Appends s r (now (out .entry)) (now (out .exit)) (blockParts first (rule β (linear int-lin-le (now (args .entry)))))) × GrowsBy 1000000 s r ⌝ }
+    ensures { λ r. ⌜ ((first : ℕ) (β : ℕ → Bounds) → Appends s r (now (out .entry)) (now (out .exit)) (blockParts first (rule β (linear int-lin-le (now (args .entry)))))) × GrowsBy blockSize s r ⌝ }
 {
     lay_sum(out, s, kind::AT_MOST, args)
 }
 
 // int_lin_ne: x in L..U, b, z in Z(x): Σ−x−c=0; z:=b×x; −x+2×z+1≤0; x+(U+1)×b−U≤0.
 pub fn int_lin_ne(out: &mut [u32], s: Laid, args: &[u32], sum: Bounds, first: usize) -> Laid
-    requires { ⌜ BlockRoom s × (first < 10000) × Fits sum ⌝ }
+    requires { ⌜ BlockRoom s × (first < firstNumbers) × Fits sum ⌝ }
     ensures parts { λ r. let ws = now (args .entry) in ⌜ ((β : ℕ → Bounds) → sum ≡ linearSum β ws → Appends s r (now (out .entry)) (now (out .exit)) (blockParts first (rule β (linear int-lin-ne ws)))) ⌝ }
-    ensures size { λ r. ⌜ GrowsBy 1000000 s r ⌝ }
+    ensures size { λ r. ⌜ GrowsBy blockSize s r ⌝ }
 {
     let lower = sum.lower;
     let upper = sum.upper;
@@ -81,7 +84,7 @@ fn lay_size(
 
 // x−2×z+W×r−W≤0; −x+2×z−r+1≤0. Where it is not `equal`: x−2×z−W×r≤0; −x+2×z+r≤0.
 fn lay_zero(out: &mut [u32], s: Laid, w: i64, r: usize, first: usize, equal: bool) -> Laid
-    requires { ⌜ Room 10000 s × (first < 10000) × (natAbs w ≤ 1152921504606846976) ⌝ }
+    requires { ⌜ Room 10000 s × (first < firstNumbers) × (natAbs w ≤ 1152921504606846976) ⌝ }
     ensures { λ t. ⌜ Appends s t (now (out .entry)) (now (out .exit)) (flatMap (rowParts first) (zeroRows equal w r)) × GrowsBy 10000 s t ⌝ }
 {
     let less = opposite(w);
@@ -130,13 +133,13 @@ pub fn two_reif(
     let b = word_at(args, 1);
     let r = word_at(args, 2);
     // the length 2, the numbers 1 and −1, the variables, the number 0, the variable r
-    let words = [2, 1, 268435455, a, b, 0, r];
+    let words = [2, 1, MINUS_ONE, a, b, 0, r];
     zero_reif(out, s, &words, sum, first, equal)
 }
 
 // x+U×r−U≤0; −x+(L−1)×r+1≤0, x the variable `first`.
 fn lay_at_most(out: &mut [u32], s: Laid, lower: i64, upper: i64, r: usize, first: usize) -> Laid
-    requires { ⌜ Room 10000 s × (first < 10000) × (natAbs lower ≤ 1152921504606846976) × (natAbs upper ≤ 1152921504606846976) ⌝ }
+    requires { ⌜ Room 10000 s × (first < firstNumbers) × (natAbs lower ≤ 1152921504606846976) × (natAbs upper ≤ 1152921504606846976) ⌝ }
     ensures { λ t. ⌜ Appends s t (now (out .entry)) (now (out .exit)) (flatMap (rowParts first) (atMostRows lower upper r)) × GrowsBy 10000 s t ⌝ }
 {
     let xs = [first, r];
@@ -148,13 +151,13 @@ fn lay_at_most(out: &mut [u32], s: Laid, lower: i64, upper: i64, r: usize, first
 
 // int_lin_le_reif: x in L..U: Σ−x−c=0; x+U×r−U≤0; −x+(L−1)×r+1≤0.
 pub fn int_lin_le_reif(out: &mut [u32], s: Laid, args: &[u32], sum: Bounds, first: usize) -> Laid
-    requires { ⌜ BlockRoom s × (first < 10000) × Fits sum ⌝ }
+    requires { ⌜ BlockRoom s × (first < firstNumbers) × Fits sum ⌝ }
     ensures parts { λ r. let ws = now (args .entry) in ⌜ ((β : ℕ → Bounds) → sum ≡ linearSum β ws → Appends s r (now (out .entry)) (now (out .exit)) (blockParts first (atMostReified β ws))) ⌝ }
-    ensures size { λ r. ⌜ GrowsBy 1000000 s r ⌝ }
+    ensures size { λ r. ⌜ GrowsBy blockSize s r ⌝ }
 {
     let lower = sum.lower;
     let upper = sum.upper;
     let r = var_at(args, past_terms_at(args, 0) + 1);
-    let t = lay_slack(out, s, args, lower, upper, first);
+    let t = lay_bounded_sum(out, s, args, lower, upper, first);
     lay_at_most(out, t, lower, upper, r, first)
 }

@@ -80,7 +80,7 @@ pub fn lay_link(out: &mut [u32], s: Laid, args: &[u32], first: usize) -> Laid
 }
 
 // x in given bounds: Σ−x−c=0.
-pub fn lay_slack(
+pub fn lay_bounded_sum(
     out: &mut [u32],
     s: Laid,
     args: &[u32],

@@ -7,6 +7,7 @@ use native.Mathlib.Omega.{arith}
 use lib.IntN.{ℤ}
 use lib.ListN.{length, drop, length-append, drop-of-length-le}
 use Rattle.integers.specs.Terms.{value}
+use Rattle.words.specs.Laid.{Laid}
 use Rattle.words.specs.Overlay.{overlay}
 use Rattle.words.proofs.Overlay.{overlay-append}
 use Rattle.words.specs.Variables.{variables}
@@ -17,9 +18,13 @@ use Rattle.rules.specs.Translation.{bounds, shared, blockOf, eachBlock, picks}
 use Rattle.encodings.specs.Uses.{choiceOf, sharedBy}
 use Rattle.encodings.proofs.Record.{none-many, length-after}
 use Rattle.extremes.specs.Bounded.{boundsOf}
-use Rattle.picking.specs.Overlaid.{Overlaid}
-use Rattle.picking.specs.Picked.{Ranged, picksAfter, picksFrom}
+use Rattle.picking.specs.Picked.{Ranged, picksAfter}
 use Rattle.picking.proofs.Writing.{ranged-left, ranged-right}
+
+-- for constraints, one after another, the first auxiliary numbered `first`
+unfoldable pub picksFrom : List ℤ → List ℤ → List ℕ → List ℤ → ℕ → Encoded → List Constraint → List ℤ
+picksFrom ls us uses vs first e cs =
+    eachBlock (boundsOf ls us) (sharedBy uses) (λ n d c. pickAfter (boundsOf ls us) (sharedBy uses) d (value vs) (choice c) (builtin c)) first e cs
 
 -- of a model, where the lists hold the bounds of the variables and their uses
 pub picks-from : (ls us : List ℤ) (uses : List ℕ) (vs : List ℤ) (ws : List ℕ) → boundsOf ls us ≡ bounds ws → sharedBy uses ≡ shared ws →
@@ -64,9 +69,9 @@ module _ {ls us : List ℤ} {uses : List ℕ} {vs : List ℤ} {cs : List Constra
       pub here-ranged : Ranged here
       here-ranged = ranged-left here rest (rw split at (f .ranged))
 
-      pub picked : {r : ℕ} {out′ : List ℤ} {d′ : Encoded} → Overlaid at r out out′ here → d′ ≡ next → Filling ls us uses vs cs start out₀ out′ (k + 1) r d′
+      pub picked : {r : ℕ} {out′ : List ℤ} {d′ : Encoded} → Laid out at here out′ r → d′ ≡ next → Filling ls us uses vs cs start out₀ out′ (k + 1) r d′
       picked w g =
-          rw (g, w .next)
+          rw (g, w .ends)
           record {
             many = omega (arith, length-append here rest, rw split at (f .many));
             over = rw (w .over) (overlay-append out at here rest ∙ rw split at (f .over));

@@ -1,12 +1,11 @@
 -- The products of a power, written by halves.
-use mathlib.Core.Path.{_≡_, refl, sym, ap, ap₂, _∙_, subst}
+use mathlib.Core.Path.{_≡_, refl, sym, ap₂, _∙_, subst}
 use mathlib.Core.Bool.{true}
 use mathlib.Core.List.{List, [], _∷_, _++_}
 use Prim.Native.Nat.{ℕ, zero, suc, _+_, _*_, _/_, _%_, _≤_, _<_}
 use native.Mathlib.Decide.{ℕ-discrete}
 use native.Mathlib.Omega.{arith}
 use lib.IntN.{ℤ}
-use lib.ListN.{length}
 use mir.Syntax.{w64}
 use mir.Val.{toZ, ofZ}
 use mir.Facts.{toZ-ofZ}
@@ -17,16 +16,16 @@ use Rattle.integers.proofs.Fits.{fits64}
 use Rattle.words.specs.Limit as Limit
 use Rattle.words.specs.Small as Small
 use Rattle.words.proofs.Word.{says-range}
-use Rattle.words.proofs.Overlay.{length-overlay}
 use Rattle.words.specs.Word.{inRange}
+use Rattle.words.specs.Laid.{Laid}
+use Rattle.words.proofs.LaidThen.{laid-then, laid-none}
 use Rattle.rules.specs.Power.{Values, nextValue, noValue, squaredValue, multipliedValue, powerValues}
 use Rattle.rules.specs.Pick.{powerPick}
 use Rattle.rules.proofs.Power.{at-one, at-even, at-odd}
-use Rattle.picking.specs.Overlaid.{Overlaid}
 use Rattle.picking.specs.Picked.{Ranged}
 use Rattle.picking.specs.Powered.{NextPower, PowersPut}
 use Rattle.picking.specs.declared.Powered.{Powered}
-use Rattle.picking.proofs.Writing.{picked-then, picked-none, ranged-left, ranged-right}
+use Rattle.picking.proofs.Writing.{ranged-left, ranged-right}
 
 -- a number of the range is near 0, and one near 0 is read back
 pub range-near : (v : ℤ) → inRange v ≡ true → Small.Near v
@@ -38,9 +37,6 @@ range-near v e = core v (says-range v .0 e)
 pub near-back : (v : ℤ) → Small.Near v → toZ w64 (ofZ w64 v) ≡ v
 near-back v h = toZ-ofZ (fits64 v (omega arith))
 
-pub picked-length : {at r : ℕ} {o o′ ps : List ℤ} → Overlaid at r o o′ ps → length o′ ≡ length o
-picked-length {at} {r} {o} {o′} {ps} w = ap length (w .over) ∙ length-overlay o at ps
-
 -- ---- one product more
 
 next-put : {at : ℕ} {p r : Powered} {o o₁ o₂ : List ℤ} {v : Values} {m : ℕ} {a : ℤ} (f : ℤ) → PowersPut at p o o₁ v m → a ≡ f → NextPower p r o₁ o₂ a →
@@ -48,17 +44,17 @@ next-put : {at : ℕ} {p r : Powered} {o o₁ o₂ : List ℤ} {v : Values} {m :
 unfolding nextValue
 next-put {at} {p} {r} {o} {o₁} {o₂} {v} f h e n =
     record {
-      picked = subst (λ y. Overlaid at (r .at) o o₂ (v .picked ++ (y ∷ []))) (ap₂ _⊗_ e (h .held)) (picked-then (h .picked) (n .picked));
+      picked = subst (λ y. Laid o at (v .picked ++ (y ∷ [])) o₂ (r .at)) (ap₂ _⊗_ e (h .held)) (laid-then (h .picked) (n .picked));
       held = n .held ∙ ap₂ _⊗_ e (h .held);
       near = n .near;
-      few = omega (arith, h .few, n .picked .next);
+      few = omega (arith, h .few, n .picked .ends);
     }
 
 pub powers-one : (at : ℕ) (o : List ℤ) (x : ℤ) (k : ℕ) → k < 2 → Small.Near x → PowersPut at (record { at = at; held = x }) o o (powerValues x k) (20 * k)
 unfolding powerValues noValue
 powers-one at o x k l h =
     subst (λ v. PowersPut at (record { at = at; held = x }) o o v (20 * k)) (sym (at-one (noValue x) (squaredValue x) (multipliedValue x) k (omega arith)))
-    (record { picked = picked-none at o; held = refl; near = h; few = omega arith })
+    (record { picked = laid-none; held = refl; near = h; few = omega arith })
 
 -- ---- a power by its half
 

@@ -1,12 +1,11 @@
--- Laws of writing numbers over a list: the list's length, one list after another, one number at a time; numbers of the range.
+-- Laws of writing numbers over a list one at a time, and of numbers of the range.
 use mathlib.Core.Path.{_≡_, refl, sym, ap, _∙_}
 use mathlib.Core.Bool.{true}
 use mathlib.Core.List.{List, [], _∷_, _++_}
 use Prim.Native.Nat.{ℕ, zero, suc, _+_, _<_}
 use native.Mathlib.Omega.{arith}
-use native.Mathlib.Nat.{add-zero}
 use lib.IntN.{ℤ, pos, negsuc}
-use lib.ListN.{length, getD, drop, length-append}
+use lib.ListN.{length, getD, drop}
 use mir.Syntax.{w32}
 use mir.Val.{SFits}
 use Rattle.integers.specs.Number.{+0}
@@ -14,25 +13,14 @@ use Rattle.integers.specs.Terms.{value}
 use Rattle.integers.proofs.Linear.{arithZ}
 use Rattle.integers.specs.Bounds.{within}
 use Rattle.words.specs.Word.{inRange}
+use Rattle.words.specs.Laid.{Laid}
 use Rattle.words.specs.Overlay.{overlay}
 use Rattle.words.proofs.Word.{says-range}
-use Rattle.words.proofs.Overlay.{overlay-append, overlay-step}
-use Rattle.picking.specs.Overlaid.{Overlaid}
+use Rattle.words.proofs.Overlay.{overlay-step}
 use Rattle.picking.specs.Picked.{Ranged}
 
-module _ {at r : ℕ} {out out′ ps : List ℤ} (w : Overlaid at r out out′ ps) where
-  pub picked-then : {r′ : ℕ} {out″ qs : List ℤ} → Overlaid r r′ out′ out″ qs → Overlaid at r′ out out″ (ps ++ qs)
-  picked-then {r′} {out″} {qs} v = record {
-    next = omega (arith, w .next, v .next, length-append ps qs);
-    over = v .over ∙ rw (w .over, w .next) (overlay-append out at ps qs);
-  }
-
-pub picked-none : (at : ℕ) (out : List ℤ) → Overlaid at at out out []
-unfolding overlay
-picked-none at out = record { next = sym (add-zero at); over = refl }
-
 -- the k-th number of a list that is written from `at` on: what is left to write
-pub picked-step : (at k : ℕ) (ps : List ℤ) {r : ℕ} {out out′ whole : List ℤ} → Overlaid (at + k) r out out′ (getD ps k +0 ∷ []) → k < length ps →
+pub picked-step : (at k : ℕ) (ps : List ℤ) {r : ℕ} {out out′ whole : List ℤ} → Laid out (at + k) (getD ps k +0 ∷ []) out′ r → k < length ps →
     overlay out (at + k) (drop k ps) ≡ whole → overlay out′ (at + (k + 1)) (drop (k + 1) ps) ≡ whole
 unfolding overlay
 picked-step at k ps {out} w l h =

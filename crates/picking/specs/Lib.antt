@@ -1,5 +1,4 @@
--- What the contracts cite: numbers written over a list, one number among zeros, the products of a power.
-pub mod Overlaid
+-- What only internal contracts cite: what is picked for one constraint, one number among zeros, the products of a power.
 pub mod Picked
 pub mod Only
 pub mod Powered

@@ -1,23 +1,26 @@
--- The numbers that fill writes for one constraint and for all, and what writing them wants.
+-- The numbers that fill writes for one constraint, and what writing them wants.
 use mathlib.Core.Path.{_≡_}
 use mathlib.Core.Bool.{true}
 use mathlib.Core.List.{List, [], map}
-use Prim.Native.Nat.{ℕ, _<_}
+use Prim.Native.Nat.{ℕ, _+_, _<_}
 use lib.IntN.{ℤ, pos}
 use lib.ListN.{length, getD}
 use Rattle.integers.specs.Number.{_⊗_, _==_, +0, +1}
 use Rattle.integers.specs.Bounds.{_to_, within, values}
 use Rattle.integers.specs.Terms.{value}
 use Rattle.words.specs.Word.{inRange}
-use Rattle.models.specs.Model.{Constraint, var, vars, builtin}
+use Rattle.words.specs.Laid.{Laid}
+use Rattle.models.specs.Model.{var, vars, builtin}
 use Rattle.arguments.specs.Small.{Small}
 use Rattle.rules.specs.Parts.{nth}
 use Rattle.rules.specs.Pick.{bitOf, pick}
-use Rattle.rules.specs.Shared.{choice, Encoded, keep, newPick, sharedPick, pickAfter}
-use Rattle.rules.specs.Translation.{eachBlock}
+use Rattle.rules.specs.Shared.{Encoded, keep, newPick, sharedPick, pickAfter}
 use Rattle.encodings.specs.Uses.{choiceOf, sharedBy}
 use Rattle.extremes.specs.Bounded.{boundsOf, Bounded}
-use Rattle.picking.specs.Overlaid.{Overlaid}
+
+-- n places more do not wrap
+abbrev pub RoomAt : ℕ → ℕ → Type 0
+RoomAt n at = at + n < 4398046511104
 
 -- every number is in the range, and so fits 32 bits
 abbrev pub Ranged : List ℤ → Type 0
@@ -45,7 +48,7 @@ picksAfter ls us uses e vs code args =
 
 -- they went over the list, and r is the place after them
 abbrev pub PickedOver : ℕ → ℕ → List ℤ → List ℤ → List ℤ → List ℤ → List ℕ → Encoded → List ℤ → ℕ → List ℕ → Type 0
-PickedOver at r out out′ ls us uses e vs code args = Overlaid at r out out′ (picksAfter ls us uses e vs code args)
+PickedOver at r out out′ ls us uses e vs code args = Laid out at (picksAfter ls us uses e vs code args) out′ r
 
 -- over a shared variable: the new bits, and all picks
 abbrev pub newPicks : List ℤ → List ℤ → Encoded → List ℤ → List ℕ → List ℤ
@@ -53,11 +56,6 @@ newPicks ls us e vs args = newPick (boundsOf ls us) e (value vs) (var args 0)
 
 abbrev pub sharedPicks : List ℤ → List ℤ → Encoded → List ℤ → ℕ → List ℕ → List ℤ
 sharedPicks ls us e vs code args = sharedPick (boundsOf ls us) e (value vs) (choiceOf code args)
-
--- for constraints, one after another, the first auxiliary numbered `first`
-unfoldable pub picksFrom : List ℤ → List ℤ → List ℕ → List ℤ → ℕ → Encoded → List Constraint → List ℤ
-picksFrom ls us uses vs first e cs =
-    eachBlock (boundsOf ls us) (sharedBy uses) (λ n d c. pickAfter (boundsOf ls us) (sharedBy uses) d (value vs) (choice c) (builtin c)) first e cs
 
 -- what writing them wants: a place that does not wrap, bounds and values near 0, and numbers of the range
 pub record Pickable (at : ℕ) (ls us vs ps : List ℤ) : Type 0 where

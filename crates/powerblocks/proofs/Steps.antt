@@ -55,14 +55,14 @@ module _ {s : Laid} (B : Bounds) (k : ℕ) (two : 2 ≤ k) {p q : PowerBounds} {
   unfolding cutRanges
   ranges-even e =
       subst (λ c. RangesLaid s q o o₂ c (20 * k)) (sym (at-even (noRange B) (cutSquared B) (cutMultiplied B) k two e))
-      (record { went = square .went; range = square .range; lower-near = square .lower-near; upper-near = square .upper-near; near = omega (arith, square .near) })
+      (record { went = square .went; range = square .range; lower-near = square .lower-near; upper-near = square .upper-near; size = omega (arith, square .size) })
 
   pub ranges-odd : ¬ (k % 2 ≡ 0) → {r : PowerBounds} {o₃ : List ℕ} → NextRange q r o₂ o₃ B → RangesLaid s r o o₃ (cutRanges B k) (20 * k)
   unfolding cutRanges cutMultiplied
   ranges-odd e {r} {o₃} m =
       let t = next-ranges B square refl m in
       subst (λ c. RangesLaid s r o o₃ c (20 * k)) (sym (at-odd (noRange B) (cutSquared B) (cutMultiplied B) k two e))
-      (record { went = t .went; range = t .range; lower-near = t .lower-near; upper-near = t .upper-near; near = omega (arith, t .near) })
+      (record { went = t .went; range = t .range; lower-near = t .lower-near; upper-near = t .upper-near; size = omega (arith, t .size) })
 
 -- ---- products
 
@@ -106,11 +106,11 @@ module _ {first : ℕ} {s : Laid} (x k : ℕ) (two : 2 ≤ k) {p q : Multiplied}
   products-even e =
       let t = squared-products in
       subst (λ c. ProductsLaid first s q o o₂ c (20 * k)) (sym (at-even (noProduct B x) (squared B x) (multiplied B x) k two e))
-      (record { went = t .went; held = t .held; next = t .next; near = omega (arith, t .near); few = omega (arith, t .few) })
+      (record { went = t .went; held = t .held; next = t .next; size = omega (arith, t .size); few = omega (arith, t .few) })
 
   pub products-odd : ¬ (k % 2 ≡ 0) → {r : Multiplied} {o₃ : List ℕ} → NextProduct q r o₂ o₃ x → ProductsLaid first s r o o₃ (chain B x k) (20 * k)
   unfolding chain multiplied numbered
   products-odd e {r} {o₃} m =
       let t = next-products (source x) B squared-products refl m in
       subst (λ c. ProductsLaid first s r o o₃ c (20 * k)) (sym (at-odd (noProduct B x) (squared B x) (multiplied B x) k two e))
-      (record { went = t .went; held = t .held; next = t .next; near = omega (arith, t .near); few = omega (arith, t .few) })
+      (record { went = t .went; held = t .held; next = t .next; size = omega (arith, t .size); few = omega (arith, t .few) })

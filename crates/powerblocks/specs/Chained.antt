@@ -36,14 +36,14 @@ pub record RangesLaid (s : Laid) (r : PowerBounds) (out out′ : List ℕ) (c : 
   pub range : (r .lower to r .upper) ≡ c .range
   pub lower-near : Small.Near (r .lower)
   pub upper-near : Small.Near (r .upper)
-  pub near : GrowsBy most s (r .laid)
+  pub size : GrowsBy most s (r .laid)
 
 -- products of a chain, whose auxiliaries are numbered from `first` on
 pub record ProductsLaid (first : ℕ) (s : Laid) (r : Multiplied) (out out′ : List ℕ) (c : Chain) (most : ℕ) : Type 0 where
   pub went : Appends s (r .laid) out out′ (flatMap (rowParts first) (c .products))
   pub held : r .held ≡ numbered first (c .result)
   pub next : r .next ≡ first + length (c .auxiliaries)
-  pub near : GrowsBy most s (r .laid)
+  pub size : GrowsBy most s (r .laid)
   pub few : r .next ≤ first + most
 
 -- those of a power, whatever the bounds of its variable

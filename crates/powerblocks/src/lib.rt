@@ -54,7 +54,7 @@ fn next_range(out: &mut [u32], p: PowerBounds, lower: i64, upper: i64) -> PowerB
 
 // The bounds of the products of a power from 1 on, of a variable within bounds.
 fn lay_ranges(out: &mut [u32], s: Laid, k: usize, lower: i64, upper: i64) -> PowerBounds
-    requires { ⌜ Room (20 * k) s × (1 ≤ k) × (k ≤ 27) × Small.Near lower × Small.Near upper ⌝ }
+    requires { ⌜ Room (20 * k) s × (1 ≤ k) × (k ≤ Limit.exponent) × Small.Near lower × Small.Near upper ⌝ }
     ensures { λ r. ⌜ RangesLaid s r (now (out .entry)) (now (out .exit)) (cutRanges (lower to upper) k) (20 * k) ⌝ }
 {
     if k < 2 {
@@ -87,7 +87,7 @@ fn next_product(out: &mut [u32], p: Multiplied, factor: usize) -> Multiplied
 
 // The products of a power from 1 on of the variable x; their auxiliaries are numbered from `first` on.
 fn lay_products(out: &mut [u32], s: Laid, k: usize, x: usize, first: usize) -> Multiplied
-    requires { ⌜ Room (20 * k) s × (1 ≤ k) × (k ≤ 27) × (first < 10000) ⌝ }
+    requires { ⌜ Room (20 * k) s × (1 ≤ k) × (k ≤ Limit.exponent) × (first < firstNumbers) ⌝ }
     ensures { λ r. ⌜ PowerLaid first s r (now (out .entry)) (now (out .exit)) x k (20 * k) ⌝ }
 {
     if k < 2 {

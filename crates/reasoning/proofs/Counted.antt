@@ -63,17 +63,6 @@ module _ (σ : Valuation) where
       go false b = omega (arith, h)
 
   -- a value is out of bounds: what comes after plays no part
-  pub outside-here : (k : ℕ) (Bs : List Bounds) (after : Answer) → isHolds (firstOutOfBounds σ k Bs holds) ≡ false → firstOutOfBounds σ k Bs holds ≡ firstOutOfBounds σ k Bs after
-  unfolding firstOutOfBounds isHolds
-  outside-here k [] after e = false-true (sym e)
-  outside-here k (B ∷ Bs) after e = go (within B (σ k)) e (outside-here (k + 1) Bs after)
-    where
-      go : (s : Bool) → isHolds (firstOutOfBounds σ (k + 1) Bs holds if s else outOfBounds k) ≡ false →
-          (isHolds (firstOutOfBounds σ (k + 1) Bs holds) ≡ false → firstOutOfBounds σ (k + 1) Bs holds ≡ firstOutOfBounds σ (k + 1) Bs after) →
-          (firstOutOfBounds σ (k + 1) Bs holds if s else outOfBounds k) ≡ (firstOutOfBounds σ (k + 1) Bs after if s else outOfBounds k)
-      go true e more = more e
-      go false e more = refl
-
   pub answer-here : (k : ℕ) (Bs : List Bounds) (x y : Reason) → isHolds (firstOutOfBounds σ k Bs holds) ≡ false → answerOr (firstOutOfBounds σ k Bs holds) x ≡ answerOr (firstOutOfBounds σ k Bs holds) y
   unfolding firstOutOfBounds isHolds
   answer-here k [] x y e = false-true (sym e)

@@ -90,7 +90,7 @@ module _ {first : ℕ} {B : Block} {l : Laid} {o : List ℕ} (d : ReadsBack firs
       here : a ≡ firstOutOfBounds (value part) 0 (B .auxiliaries) holds
       here = e ∙ ap (λ (Bs : List Bounds). firstOutOfBounds (value part) 0 Bs holds) the-bounds
 
-      pub outside-few : Below 1000000 a
+      pub outside-few : AtMost 1000000 a
       outside-few = rw here (outside-below (value part) 1000000 0 (B .auxiliaries) (omega (arith, f .auxiliaries, f .small)))
 
       pub outside-said : {k : ℕ} {w : Verdict} → verdict w ≡ shift first a → Judged true vs first k B (record { said = w; auxiliaries = l .auxiliaries; rows = l .rows })
@@ -102,9 +102,6 @@ module _ {first : ℕ} {B : Block} {l : Laid} {o : List ℕ} (d : ReadsBack firs
       }
 
   -- from the place after the bounds on
-  abbrev start : ℕ
-  start = 2 * l .auxiliaries
-
   pub after-bounds : Placed (take (l .words + 1) o) (2 * l .auxiliaries)
   after-bounds = record { within = omega (arith, prefix-length, f .words, f .auxiliaries, d .bounds-first); few = omega (arith, prefix-length, f .words, d .few) }
 

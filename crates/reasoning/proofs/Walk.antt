@@ -19,7 +19,7 @@ use Rattle.words.specs.Judge.{firstFalse, firstOutOfBounds}
 use Rattle.words.specs.Verdict.{verdict}
 use Rattle.words.specs.Small.{Near, Small}
 use Rattle.words.proofs.Answers.{is-holds}
-use Rattle.variables.proofs.After.{next}
+use Rattle.variables.proofs.After.{next, found}
 use Rattle.models.specs.Meaning.{meaning}
 use Rattle.models.specs.Model.{Constraint, constraints, headed, builtin}
 use Rattle.models.proofs.Accepted as Accepted
@@ -43,7 +43,7 @@ use Rattle.reasoning.specs.Walks.{PassedModel, ReadsBack, Layable, Judge
 use Rattle.reasoning.specs.declared.Said.{Said}
 use Rattle.reasoning.specs.declared.Stopped.{Stopped}
 use Rattle.reasoning.proofs.OneBlock as OneBlock
-use Rattle.reasoning.proofs.Counted.{fails-here, outside-here, outside-then}
+use Rattle.reasoning.proofs.Counted.{fails-here, outside-then}
 
 -- the constraints cs are left, the next auxiliary is `first`, and d is the record
 pub record Due (β : ℕ → Bounds) (s : ℕ → Bool) (cs : List Constraint) (first : ℕ) (d : Encoded) : Type 0 where
@@ -207,7 +207,7 @@ module _ {bounds : Bool} {β : ℕ → Bounds} {s : ℕ → Bool} {ws : List ℕ
       pub walk-stopped : k < length (constraints ws) → isHolds (verdict (r .said)) ≡ false → Stops bounds ws vs (record { said = r .said; constraint = k })
       unfolding isHolds
       walk-stopped l n = record {
-        outside = λ t. said-bounds t ∙ outside-here (value vs) first A (firstOutOfBounds (value vs) (first + length A) As holds) (rw (said-bounds t) at n) ∙ joined t;
+        outside = λ t. said-bounds t ∙ found (value vs) (firstOutOfBounds (value vs) (first + length A) As holds) first A (rw (said-bounds t) at n) ∙ joined t;
         none-fails = λ f σ h. false-true (sym n ∙ h);
         one-fails = λ f σ c′ m e′. let q : c′ ≡ c = cc in rw q (stop-rows f σ n);
         within = λ m. l;

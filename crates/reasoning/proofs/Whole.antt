@@ -17,7 +17,7 @@ use Rattle.words.specs.Answer.{Answer, refused, holds, isHolds, _else-answer_}
 use Rattle.words.specs.Judge.{firstOutOfBounds}
 use Rattle.words.specs.Small.{Small}
 use Rattle.words.proofs.Answers.{is-holds}
-use Rattle.variables.proofs.After.{next}
+use Rattle.variables.proofs.After.{next, found}
 use Rattle.variables.proofs.Small.{small}
 use Rattle.rules.specs.Translation.{auxiliaries, systemWords}
 use Rattle.rules.specs.Check.{check}
@@ -26,7 +26,7 @@ use Rattle.sharing.specs.SharedSolutions.{Passes}
 use Rattle.checking.proofs.Answers.{check-stands, refused-first}
 use Rattle.reasons.specs.Reason.{Reason, refuse, none, explained, answerOr, firstFailing, reasonFault, reason}
 use Rattle.reasons.proofs.Judged.{all-bounds}
-use Rattle.reasoning.proofs.Counted.{outside-same, outside-here, outside-then, answer-here}
+use Rattle.reasoning.proofs.Counted.{outside-same, outside-then, answer-here}
 
 -- check's refusal stands
 module _ (ws : List ℕ) (vs : List ℤ) where
@@ -77,7 +77,7 @@ module _ (ws : List ℕ) (passes : Passes ws) (vs : List ℤ) where
       pub source-outside : isHolds a ≡ false → answerOr a none ≡ reason ws vs
       source-outside f =
           let g = e ∙ same-sources in
-          said (g ∙ outside-here (value vs) 0 (variables ws) (firstOutOfBounds (value vs) n (auxiliaries ws) holds) (sym (ap isHolds g) ∙ f) ∙ sym apart) f
+          said (g ∙ found (value vs) (firstOutOfBounds (value vs) n (auxiliaries ws) holds) 0 (variables ws) (sym (ap isHolds g) ∙ f) ∙ sym apart) f
 
       module _ (t : isHolds a ≡ true) {b : Answer} (d : b ≡ firstOutOfBounds (value vs) (length (variables ws)) (auxiliaries ws) holds) where
         all-of : b ≡ firstOutOfBounds (value vs) 0 Bs holds

@@ -12,6 +12,7 @@ use Rattle.words.specs.Word.{word}
 use Rattle.words.specs.Kind as Kind
 use Rattle.words.specs.Variables.{variables}
 use Rattle.words.specs.Answer.{Answer, refused, counts, written, holds, outOfBounds, isFalse, isHolds}
+use Rattle.words.specs.Limit as Limit
 use Rattle.words.specs.Refusal.{accepted}
 use Rattle.words.specs.Judge.{firstFalse, firstOutOfBounds}
 use Rattle.words.specs.Small.{Small}
@@ -76,7 +77,7 @@ pub record Front (first : ℕ) (B : Block) (r : Laid) (out : List ℕ) : Type 0 
   pub words : r .words ≡ length (blockWords first B)
   pub auxiliaries : r .auxiliaries ≡ length (B .auxiliaries)
   pub rows : r .rows ≡ length (B .rows)
-  pub small : r .words + r .auxiliaries + r .rows ≤ 1000000
+  pub small : r .words + r .auxiliaries + r .rows ≤ blockSize
   pub front : take (r .words + 1) out ≡ blockAndEnd first B
 
 -- the number of a variable counted on from k

@@ -19,7 +19,7 @@ use words::Verdict;
 use words::is_holds;
 use words::payload_of;
 
-// More words than a block has, at most 2,800, and its end word.
+// More words than a block has, at most 2,800 (`blockWordsMost`), and its end word.
 const BLOCK: usize = 3072;
 
 // Block after block, until one says something: of the bounds of all auxiliaries, or of the rows.

@@ -9,7 +9,7 @@ use Rattle.integers.specs.Terms.{Term}
 use Rattle.integers.specs.declared.Bounds.{Bounds}
 use Rattle.integers.proofs.Lists.{listOf-length}
 use Rattle.rowsystems.specs.Row.{renameTerms}
-use Rattle.rules.specs.Parts.{sources, each, weighted}
+use Rattle.rules.specs.Parts.{sources, each, bits, weighted}
 
 pub sources-length : (ts : List (Term ℕ)) → length (sources ts) ≡ length ts
 unfolding sources renameTerms
@@ -18,6 +18,10 @@ sources-length ts = length-map ts _
 pub each-length : (c : ℤ) (vs : List ℕ) → length (each c vs) ≡ length vs
 unfolding each
 each-length c vs = length-map vs _
+
+pub bits-length : {A : Type 0} (ls : List A) → length (bits ls) ≡ length ls
+unfolding bits
+bits-length ls = length-map ls _
 
 pub weighted-length : {A : Type 0} (w : A → ℤ) (ls : List A) (k : ℕ) → length (weighted w ls k) ≡ length ls
 unfolding weighted

@@ -285,14 +285,14 @@ members-member S B v =
 
 -- ---- the values of bounds that lie in others: those of both
 
-values-empty : (l u : ℤ) → u ⊏ l → values (l to u) ≡ []
+pub values-empty : (l u : ℤ) → u ⊏ l → values (l to u) ≡ []
 unfolding values width listOf
 values-empty l u h = rw (none l u h)
   where
     none : (l u : ℤ) → u ⊏ l → count (u ⊖ l ⊕ +1) ≡ 0
     none = simp linear (omega arith)
 
-values-first-one : (l u : ℤ) → l ⊑ u → values (l to u) ≡ l ∷ values (l ⊕ +1 to u)
+pub values-first-one : (l u : ℤ) → l ⊑ u → values (l to u) ≡ l ∷ values (l ⊕ +1 to u)
 values-first-one l u h = values-split l u l (omega arithZ) h ∙ rw (values-empty l (l ⊖ +1) (less l))
   where
     less : (l : ℤ) → l ⊖ +1 ⊏ l

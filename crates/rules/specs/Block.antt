@@ -19,6 +19,9 @@ pub record Block : Type 0 where
   pub auxiliaries : List Bounds
   pub rows : List (Row Ref)
 
+abbrev pub block : List Bounds → List (Row Ref) → Block
+block auxiliaries rows = record { auxiliaries = auxiliaries; rows = rows }
+
 -- "Auxiliaries are numbered on from the sources": the block's own from `first` on
 unfoldable pub numbered : ℕ → Ref → ℕ
 numbered first (source v) = v

@@ -10,13 +10,10 @@ use Rattle.integers.specs.Terms.{Term, _·_}
 use Rattle.integers.specs.declared.Bounds.{Bounds}
 use Rattle.rowsystems.specs.Row.{Row, sum≤0, sum=0, product}
 use Rattle.models.specs.Builtin.{Builtin, int-eq, int-le, int-lt, int-ne, int-le-reif, int-plus, int-times, int-abs, int-max, int-lin-eq, int-lin-le, int-lin-ne, int-lin-eq-reif, int-eq-reif, int-lin-le-reif, bool2int, bool-not, bool-and, bool-or, bool-xor, bool-clause, array-bool-and, array-bool-xor, array-int-element, array-var-int-element, array-int-maximum, set-in, set-in-reif, int-min, int-lt-reif, int-ne-reif, int-lin-ne-reif, array-int-minimum, bool-eq-reif, bool-le-reif, bool-lt-reif, int-div, int-mod, int-pow}
-use Rattle.rules.specs.Block.{Ref, source, aux, Block}
+use Rattle.rules.specs.Block.{Ref, source, aux, Block, block}
 use Rattle.rules.specs.Parts.{Z, endProducts, L, U, halfLess, _─_≤0, _─_=0, sources, each, bits, weighted, one, oneBit, chosen, products, nth, places, members}
 use Rattle.rules.specs.Division.{divisionRows, quotientBounds, remainderRow}
 use Rattle.rules.specs.Power.{chain}
-
-abbrev pub block : List Bounds → List (Row Ref) → Block
-block auxiliaries rows = record { auxiliaries = auxiliaries; rows = rows }
 
 -- two rows of 13, where Σ is equal to c, and of 32, where it is not
 unfoldable pub zeroRows : Bool → ℤ → ℕ → List (Row Ref)

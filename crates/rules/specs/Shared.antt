@@ -17,9 +17,9 @@ use Rattle.rowsystems.specs.Row.{Row, sum=0, product}
 use Rattle.models.specs.Builtin.{Builtin}
 use Rattle.models.specs.Meaning.{member}
 use Rattle.models.specs.Model.{Constraint, var, vars, nums, past}
-use Rattle.rules.specs.Block.{Ref, source, aux, Block}
+use Rattle.rules.specs.Block.{Ref, source, aux, Block, block}
 use Rattle.rules.specs.Parts.{Z, bits, one, oneBit, chosen, nth}
-use Rattle.rules.specs.Rule.{block, rule}
+use Rattle.rules.specs.Rule.{rule}
 use Rattle.rules.specs.Pick.{bitOf, firstBit, pick}
 
 -- ---- which variables are shared

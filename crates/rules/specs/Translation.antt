@@ -40,11 +40,13 @@ module _ (β : ℕ → Bounds) (s : ℕ → Bool) where
 abbrev pub ofBlocks : {A : Type 0} → List ℕ → (ℕ → Encoded → Constraint → List A) → List A
 ofBlocks ws f = eachBlock (bounds ws) (shared ws) f (length (variables ws)) noneYet (constraints ws)
 
+-- their words
+abbrev pub allBlocks : List ℕ → List ℕ
+allBlocks ws = blocksWords (bounds ws) (shared ws) (length (variables ws)) noneYet (constraints ws)
+
 -- 01, Words: "1, 2, 3 as above, copied"
 unfoldable pub systemWords : List ℕ → List ℕ
-systemWords ws =
-    sourceWords ws
-    ++ (blocksWords (bounds ws) (shared ws) (length (variables ws)) noneYet (constraints ws) ++ (word Kind.rowsEnd 0 ∷ []))
+systemWords ws = sourceWords ws ++ (allBlocks ws ++ (word Kind.rowsEnd 0 ∷ []))
 
 -- all auxiliaries and all rows, products among them; what fill picks for all auxiliaries
 unfoldable pub auxiliaries : List ℕ → List Bounds

@@ -22,7 +22,7 @@ use Rattle.models.specs.Model.{size, var, num, vars, nums, past}
 use Rattle.rules.specs.Block.{Ref, numbered}
 use Rattle.rules.specs.Parts.{Z, bits, chosen, one, nth, places, members}
 use Rattle.rules.specs.Shared.{bitProducts, Encoded, choice, firstOf, valueBit, newBits, newRows, kept, leftOut, keptSum, sharedRule}
-use Rattle.rules.proofs.Lengths.{values-length}
+use Rattle.rules.proofs.Lengths.{bits-length, values-length}
 use Rattle.rules.proofs.Members.{members-values, places-kept}
 use Rattle.laying.specs.Part.{times, boundParts, termParts, rowParts, blockParts}
 use Rattle.laying.specs.Lists.{many, sameAt, productAt}
@@ -52,9 +52,6 @@ new-bits β e x = go (eqb (firstOf e x) 0)
   where
     go : (b : Bool) → boundParts (bits (values (β x)) if b else []) ≡ many lists.bitAt (length (bits (values (β x)) if b else []))
     go true = bits-parts (values (β x)) ∙ ap (many lists.bitAt) (sym (bits-length (values (β x))))
-      where
-        bits-length : {A : Type 0} (ls : List A) → length (bits ls) ≡ length ls
-        bits-length ls = length-map ls _
     go false = refl
 
 pub own-bits : (β : ℕ → Bounds) (e : Encoded) (x : ℕ) → eqb (firstOf e x) 0 ≡ true → length (newBits β e x) ≡ width (β x)

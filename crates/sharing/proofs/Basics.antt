@@ -18,9 +18,9 @@ use Rattle.integers.proofs.Tests.{Says, In, says-equal, says-beq, false-true}
 use Rattle.models.specs.Builtin.{Builtin}
 use Rattle.models.specs.Meaning.{meaning, on, _iff_}
 use Rattle.rowsystems.specs.Row.{Row}
-use Rattle.rules.specs.Block.{Ref, Block}
+use Rattle.rules.specs.Block.{Ref, Block, block}
 use Rattle.rules.specs.Parts.{_─_≤0, _─_=0}
-use Rattle.rules.specs.Rule.{block, rule}
+use Rattle.rules.specs.Rule.{rule}
 use Rattle.rules.specs.Pick.{pick, bitOf}
 use Rattle.sharing.proofs.Good.{Good, Are, Sat}
 use Rattle.sharing.proofs.Fits.{Fits}

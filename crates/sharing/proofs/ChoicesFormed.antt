@@ -27,8 +27,7 @@ use Rattle.rules.specs.Block.{source, aux}
 use Rattle.rules.specs.Parts.{Z, bits, one, oneBit, chosen, nth}
 use Rattle.rules.specs.Check.{tooWide}
 use Rattle.rules.specs.Shared.{Choice, choice, encodes, shares, Encoded, firstOf, encodedAfter, valueBit, newBits, newRows, kept, leftOut, keptSum, sharedRule, bitProducts, keep}
-use Rattle.rules.proofs.Lengths.{values-length}
-use Rattle.sharing.proofs.OneHot.{bits-length}
+use Rattle.rules.proofs.Lengths.{values-length, bits-length}
 use Rattle.rules.proofs.Members.{keep-both, values-member, keep-member}
 use Rattle.sharing.proofs.Places.{value-place}
 use Rattle.sharing.proofs.Elements.{nth-all}

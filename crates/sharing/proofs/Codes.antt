@@ -41,9 +41,8 @@ use Rattle.rules.specs.Check.{tooWide}
 use Rattle.rules.specs.Division.{divisionTable, tableRow, divisionRows, remainderRow}
 use Rattle.rules.specs.Rule.{rule, linked, signSplit, onlyNegative, whereOne, whereZero, orderReified, absolute, touching, linNotEqual, zeroRows, zeroReified, linLessEqualReified, sameRows, sameReified, numberElement, variableElement, oneOf, inSet, inSetReified, division, leftOver}
 use Rattle.rules.specs.Pick.{pick, signPick, signedPick, divisionPick, leftOverPick}
-use Rattle.sharing.proofs.OneHot.{bits-length}
 use Rattle.rules.proofs.Members.{members-length}
-use Rattle.rules.proofs.Lengths.{sources-length, each-length, weighted-length, values-length}
+use Rattle.rules.proofs.Lengths.{sources-length, each-length, weighted-length, values-length, bits-length}
 use Rattle.sharing.proofs.Places.{value-place, places-length, all-nth, members-in}
 use Rattle.sharing.proofs.Formed.{TermIn, RowIn, Formed, Short, bit-ordered, Z-ordered, endProducts-ordered, L-U-ordered, bits-ordered, signed-ordered, gated-ordered, append-in, sources-terms, each-in, less-in, chosen-in, choice-in, products-in, linked-in, zeroReified-formed, oneOf-formed, division-formed, leftOver-formed}
 use Rattle.sharing.proofs.Sizes.{total, rowSize, total-append, total-map, total-same, products-size, firstOnly-size}

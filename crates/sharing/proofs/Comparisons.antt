@@ -16,9 +16,9 @@ use Rattle.integers.proofs.Tests.{Says, In, says-le, says-lt, says-equal, says-
 use Rattle.models.specs.Builtin.{int-eq, int-le, int-lt, int-ne, int-le-reif, int-lt-reif}
 use Rattle.models.specs.Meaning.{meaning, on, _iff_}
 use Rattle.models.proofs.Arguments.{integerArguments, booleanArguments}
-use Rattle.rules.specs.Block.{source}
+use Rattle.rules.specs.Block.{source, block}
 use Rattle.rules.specs.Parts.{_─_=0}
-use Rattle.rules.specs.Rule.{block, rule, whereOne, whereZero, orderReified}
+use Rattle.rules.specs.Rule.{rule, whereOne, whereZero, orderReified}
 use Rattle.rules.specs.Pick.{pick}
 use Rattle.sharing.proofs.Good.{Good, see}
 use Rattle.sharing.proofs.Basics.{Correct, Exact, agree, says-as, says-reified, equal-row, not-above-row, one-row, Decides, one-bit, not-not}

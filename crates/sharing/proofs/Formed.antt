@@ -21,8 +21,7 @@ use Rattle.rules.specs.Block.{Ref, source, aux, Block}
 use Rattle.rules.specs.Parts.{Z, endProducts, extreme, L, U, _─_≤0, sources, each, bits, weighted, one, oneBit, chosen, products}
 use Rattle.rules.specs.Division.{M, divisionTable, tableRow, divisionRows, quotientBounds, remainderRow}
 use Rattle.rules.specs.Rule.{linked, signSplit, onlyNegative, zeroRows, zeroReified, firstOnly, oneOf, division, leftOver}
-use Rattle.rules.proofs.Lengths.{sources-length, weighted-length}
-use Rattle.sharing.proofs.OneHot.{bits-length}
+use Rattle.rules.proofs.Lengths.{sources-length, weighted-length, bits-length}
 
 -- ---- what well formed means, over n variables of the model and m auxiliaries of the block
 

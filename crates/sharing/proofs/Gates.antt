@@ -18,7 +18,8 @@ use Rattle.integers.proofs.Tests.{In, All, Any}
 use Rattle.rules.specs.Parts.{Z, bits, one, oneBit, chosen, products}
 use Rattle.rules.specs.Pick.{firstBit, gatedPick}
 use Rattle.sharing.proofs.Good.{Sat, see, Each, Keeps, Are}
-use Rattle.sharing.proofs.OneHot.{bitSum, From, from-zero, from-head, from-tail, chosen-law, Chooses, one-hot-sound, firstBit-length, bits-length, one-hot-complete}
+use Rattle.rules.proofs.Lengths.{bits-length}
+use Rattle.sharing.proofs.OneHot.{bitSum, From, from-zero, from-head, from-tail, chosen-law, Chooses, one-hot-sound, firstBit-length, one-hot-complete}
 
 -- ---- lists in two parts
 

@@ -17,6 +17,7 @@ use Rattle.integers.proofs.Bits.{Bit, to-bit, bit-case, bits as zero-one}
 use Rattle.integers.proofs.Tests.{false-true, says-equal, In, Any, Member}
 use Rattle.rules.specs.Parts.{bits, weighted, one, oneBit, chosen}
 use Rattle.rules.specs.Pick.{firstBit}
+use Rattle.rules.proofs.Lengths.{bits-length}
 use Rattle.sharing.proofs.Good.{dot, Sat, see, Keeps}
 
 -- ---- sums
@@ -143,10 +144,6 @@ firstBit-length t (l ∷ ls) = go (t l) (firstBit-length t ls)
     go : (b : Bool) → length (firstBit t ls) ≡ length ls → length (pos 1 ∷ map (λ m. pos 0) ls if b else pos 0 ∷ firstBit t ls) ≡ suc (length ls)
     go true e = ap suc (length-map ls (λ m. pos 0))
     go false e = ap suc e
-
-pub bits-length : {A : Type 0} (ls : List A) → length (bits ls) ≡ length ls
-unfolding bits
-bits-length ls = length-map ls (λ l. bit)
 
 pub bits-filled : {A : Type 0} (t : A → Bool) (ls : List A) → length (firstBit t ls) ≡ length (bits ls)
 bits-filled t ls = firstBit-length t ls ∙ sym (bits-length ls)

@@ -25,7 +25,7 @@ use Rattle.rules.specs.Shared.{Choice, choice, encodes, shares, Encoded, noneYe
 use Rattle.rules.specs.Translation.{bounds, shared, blockOf, eachBlock, auxiliaries}
 use Rattle.rules.proofs.Members.{keep-both, members-values, places-kept}
 use Rattle.sharing.specs.Auxiliaries.{ownAuxiliaries, leavesOut, isFirst, leftAtFirst}
-use Rattle.sharing.proofs.OneHot.{bits-length}
+use Rattle.rules.proofs.Lengths.{bits-length}
 use Rattle.sharing.proofs.Codes.{any-one}
 use Rattle.sharing.proofs.Choices.{View, is-element, is-var-element, is-set, is-set-reif, other, view, not-shared}
 use Rattle.sharing.proofs.Assembly.{after, auxiliariesFrom}

@@ -1,46 +1,20 @@
 -- The lists from a list on: that list, then those from the next one on; from the first list on they are all.
-use mathlib.Core.Path.{_≡_, refl, sym, ap, _∙_, fun-ext}
+use mathlib.Core.Path.{_≡_, refl, sym, ap, _∙_}
 use mathlib.Core.Bool.{Bool, true, false, not, _&&_}
 use mathlib.Core.List.{List, [], _∷_, _++_, flatMap}
-use Prim.Native.Nat.{ℕ, suc}
 use native.Mathlib.Omega.{arith}
-use lib.IntN.{ℤ, pos}
+use lib.IntN.{ℤ}
 use lib.Signed.{ltZ}
 use Rattle.integers.specs.Choice.{_if_else_}
-use Rattle.integers.specs.Number.{_⊕_, _⊖_, count, +1}
-use Rattle.integers.specs.Lists.{listOf}
-use Rattle.integers.specs.Bounds.{_to_, within, width, values}
+use Rattle.integers.specs.Number.{_⊕_, +1}
+use Rattle.integers.specs.Bounds.{_to_, within, values}
 use Rattle.integers.specs.declared.Bounds.{Bounds}
 use Rattle.integers.proofs.Linear.{_⊑_, _⊏_, linear}
 use Rattle.integers.proofs.Tests.{says-lt, says-within, false-true}
+use Rattle.rules.proofs.Members.{values-empty, values-first-one}
 use Rattle.solutions.specs.Lists.{begun, valueLists}
 use Rattle.solutions.specs.AllWithin.{AllWithin, lowestList}
 use Rattle.solutions.specs.Odometer.{isLast, turned, nextList, listsFrom}
-
--- ---- the values from a number on
-
-values-step : (l u : ℤ) → l ⊑ u → values (l to u) ≡ l ∷ values (l ⊕ +1 to u)
-unfolding values width listOf
-values-step l u h =
-    let e : count (u ⊖ l ⊕ +1) ≡ suc (count (u ⊖ (l ⊕ +1) ⊕ +1)) = wider l u h in
-    ap (listOf (λ k. l ⊕ pos k)) e ∙ ap (λ z. z ∷ listOf (λ k. l ⊕ pos (suc k)) (count (u ⊖ (l ⊕ +1) ⊕ +1))) (plain l)
-    ∙ ap (λ (f : ℕ → ℤ). l ∷ listOf f (count (u ⊖ (l ⊕ +1) ⊕ +1))) (fun-ext (moved l))
-  where
-    wider : (l u : ℤ) → l ⊑ u → count (u ⊖ l ⊕ +1) ≡ suc (count (u ⊖ (l ⊕ +1) ⊕ +1))
-    wider = simp linear (omega arith)
-
-    plain : (l : ℤ) → l ⊕ pos 0 ≡ l
-    plain = simp linear (omega arith)
-
-    moved : (l : ℤ) (k : ℕ) → l ⊕ pos (suc k) ≡ l ⊕ +1 ⊕ pos k
-    moved = simp linear (omega arith)
-
-values-none : (l u : ℤ) → u ⊏ l → values (l to u) ≡ []
-unfolding values width listOf
-values-none l u h = ap (listOf (λ k. l ⊕ pos k)) (none l u h)
-  where
-    none : (l u : ℤ) → u ⊏ l → count (u ⊖ l ⊕ +1) ≡ 0
-    none = simp linear (omega arith)
 
 -- ---- tests
 
@@ -74,7 +48,7 @@ from-lowest [] [] h = refl
 from-lowest [] (v ∷ vs) h = refl
 from-lowest (B ∷ Bs) [] h = absurd h
 from-lowest (B ∷ Bs) (v ∷ vs) h =
-    rw (from-lowest Bs vs (h .1), values-step (B .lower) (B .upper) (ordered B v (h .0)))
+    rw (from-lowest Bs vs (h .1), values-first-one (B .lower) (B .upper) (ordered B v (h .0)))
 
 -- after the last list comes the first
 next-lowest : (Bs : List Bounds) (vs : List ℤ) → AllWithin Bs vs → isLast Bs vs ≡ true → nextList Bs vs ≡ lowestList Bs
@@ -105,8 +79,8 @@ from-next (B ∷ Bs) (v ∷ vs) h = go (isLast Bs vs) refl (ltZ v (B .upper)) re
         ≡ (v ∷ vs) ∷ (begun (listsFrom Bs (nextList Bs vs)) (turned B v if l else v) ++ flatMap (begun (valueLists Bs)) (values ((turned B v if l else v) ⊕ +1 to B .upper)) if not (l && not t) else [])
     go false e t f r = rw r
     go true e true f r =
-        rw (r, f, next-lowest Bs vs (h .1) e, from-lowest Bs vs (h .1), values-step (v ⊕ +1) (B .upper) (below v (B .upper) f))
-    go true e false f r = rw (r, values-none (v ⊕ +1) (B .upper) (not-below v (B .upper) f))
+        rw (r, f, next-lowest Bs vs (h .1) e, from-lowest Bs vs (h .1), values-first-one (v ⊕ +1) (B .upper) (below v (B .upper) f))
+    go true e false f r = rw (r, values-empty (v ⊕ +1) (B .upper) (not-below v (B .upper) f))
 
 pub next-inside : (Bs : List Bounds) (vs : List ℤ) → AllWithin Bs vs → AllWithin Bs (nextList Bs vs)
 unfolding nextList turned

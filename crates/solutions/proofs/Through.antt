@@ -46,9 +46,6 @@ module _ (t : List ℤ → Bool) (Bs : List Bounds) (vs₀ : List ℤ) where
     pub some-left : count < length (listsFrom Bs vs₀)
     some-left = omega (arith, c .few, ap length (from-next Bs vs (c .inside)))
 
-    pub fewer : length (left (not (isLast Bs vs)) Bs (nextList Bs vs)) < length (listsFrom Bs vs)
-    fewer = omega (arith, ap length (from-next Bs vs (c .inside)))
-
     pub counts : t vs ≡ true → Counting (nextList Bs vs) (count + 1) (not (isLast Bs vs))
     counts h = record {
       inside = next-inside Bs vs (c .inside);
@@ -73,19 +70,11 @@ module _ (t : List ℤ → Bool) (Bs : List Bounds) (vs₀ : List ℤ) where
   count-turn {vs} {count} {more} c e count′ (inl h) vs′ more′ f g = let d : Counting vs count true = rw e at c in rw (f, g, h .1) (counts d (h .0))
   count-turn {vs} {count} {more} c e count′ (inr h) vs′ more′ f g = let d : Counting vs count true = rw e at c in rw (f, g, h .1) (passes d (h .0))
 
-  pub count-less : {vs : List ℤ} {count : ℕ} {more : Bool} → Counting vs count more → more ≡ true → (vs′ : List ℤ) (more′ : Bool) →
-      vs′ ≡ nextList Bs vs → more′ ≡ not (isLast Bs vs) → length (left more′ Bs vs′) < length (left more Bs vs)
-  count-less {vs} {count} {more} c e vs′ more′ f g = let d : Counting vs count true = rw e at c in rw (f, g, e) (fewer d)
-
   pub count-room : {vs : List ℤ} {count : ℕ} {more : Bool} → Counting vs count more → more ≡ true → length (listsFrom Bs vs₀) ≤ 65536 → count < 65536
   count-room {vs} {count} {more} c e l = let d : Counting vs count true = rw e at c in omega (arith, some-left d)
 
   pub count-done : {vs : List ℤ} {count : ℕ} {more : Bool} → Counting vs count more → more ≡ false → count ≡ length (keep t (listsFrom Bs vs₀))
   count-done {vs} {count} {more} c e = let d : Counting vs count false = rw e at c in counted d
-
-  -- as many values as bounds
-  pub count-length : {vs : List ℤ} {count : ℕ} {more : Bool} → Counting vs count more → length vs ≡ length Bs
-  count-length {vs} c = inside-says Bs vs (c .inside) .0
 
 -- ---- writing: each list has at most 8 values
 

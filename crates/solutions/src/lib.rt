@@ -34,7 +34,7 @@ use words::is_holds;
 use words::limit;
 use words::value_at;
 
-// One more value list than are listed.
+// One more value list than are listed, `cap`.
 const CAP: usize = 65537;
 
 // What listing the solutions answers.

@@ -12,7 +12,7 @@ use Rattle.words.proofs.Overlay.{front-over}
 use Rattle.words.specs.Refusal.{_at-place_, _else-refuse_, roomFault}
 use Rattle.words.specs.Answer.{Answer, refused, written, _else-answer_}
 use Rattle.models.specs.Model.{sourceWords}
-use Rattle.rules.specs.Translation.{systemWords}
+use Rattle.rules.specs.Translation.{systemWords, allBlocks}
 use Rattle.rules.specs.Check.{check}
 use Rattle.rules.specs.Translate.{translateFaultIn, translate, translateIn, translated, translatedIn}
 use Rattle.rules.specs.InRange.{translateFault}
@@ -20,7 +20,6 @@ use Rattle.sharing.specs.SharedSolutions.{Passes, SharedSolutions}
 use Rattle.sharing.specs.ExactlyOne.{ExactlyOne, AsManySolutions}
 use Rattle.sharing.proofs.Theorem.{shared-solutions, exactly-one, as-many-solutions}
 use Rattle.checking.proofs.Answers.{clash, refused-first, check-stands}
-use Rattle.translation.specs.Writable.{allBlocks}
 use Rattle.translation.specs.Shares.{Shares}
 use Rattle.translation.proofs.Over.{three-over}
 

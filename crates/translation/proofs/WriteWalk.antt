@@ -14,7 +14,7 @@ use Rattle.modelreading.specs.declared.Read.{Read}
 use Rattle.rules.specs.Block.{blockWords}
 use Rattle.rules.specs.InRange.{outside}
 use Rattle.rules.specs.Shared.{Encoded, noneYet, choice, encodes, encodedAfter}
-use Rattle.rules.specs.Translation.{blockOf, eachBlock, blocksWords}
+use Rattle.rules.specs.Translation.{blockOf, eachBlock, blocksWords, allBlocks}
 use Rattle.rules.specs.Check.{tooWide}
 use Rattle.laying.specs.declared.Laid.{Laid}
 use Rattle.extremes.specs.Bounded.{boundsOf}
@@ -22,7 +22,6 @@ use Rattle.encodings.specs.Uses.{sharedBy, Recorded}
 use Rattle.encodings.proofs.Record.{none-many, recorded-none, recorded-after, length-after}
 use Rattle.sharing.specs.SharedSolutions.{Passes}
 use Rattle.sharing.proofs.Accepts.{Fine, passes-fine}
-use Rattle.translation.specs.Writable.{allBlocks}
 use Rattle.checking.specs.ModelBounds.{ModelBounds}
 use Rattle.blocks.proofs.OneBlock.{Told}
 

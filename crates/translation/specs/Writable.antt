@@ -1,19 +1,10 @@
--- What writing the row system of a model wants, and the words of its blocks.
+-- What writing the row system of a model wants.
 use mathlib.Core.List.{List}
 use Prim.Native.Nat.{ℕ, _≤_}
 use lib.IntN.{ℤ}
-use lib.ListN.{length}
-use Rattle.words.specs.Variables.{variables}
-use Rattle.models.specs.Model.{constraints}
 use Rattle.modelreading.specs.declared.Read.{Read}
-use Rattle.rules.specs.Shared.{noneYet}
-use Rattle.rules.specs.Translation.{bounds, shared, blocksWords}
 use Rattle.sharing.specs.SharedSolutions.{Passes}
 use Rattle.checking.specs.ModelBounds.{ModelBounds, ModelSums}
-
--- the words of all blocks
-abbrev pub allBlocks : List ℕ → List ℕ
-allBlocks ws = blocksWords (bounds ws) (shared ws) (length (variables ws)) noneYet (constraints ws)
 
 -- what writing n words of the row system to a list of so many wants: a model that passes the check, its bounds and its sums
 abbrev pub Writable : List ℕ → List ℕ → Read → List ℤ → List ℤ → List ℕ → List ℤ → List ℤ → ℕ → ℕ → Type 0

@@ -6,6 +6,7 @@ pub mod Sources
 pub mod Machine
 pub mod Overlay
 pub mod Rest
+pub mod LaidThen
 pub mod Reading
 pub mod Judge
 pub mod Answers

@@ -15,7 +15,7 @@ use Rattle.laying.specs.Lists.{many, rowPartsOf}
 use Rattle.extremes.specs.Bounded.{boundsOf}
 use Rattle.linearsums.specs.Sum.{formOf, sumOf}
 use Rattle.encodings.specs.Uses.{choosing}
-use Rattle.blocks.proofs.OneBlock.{fitted, from, over-none, by-code, none-choosing}
+use Rattle.blocks.proofs.OneBlock.{fitted, from, summed-fits, over-none, by-code, none-choosing}
 use Rattle.blocks.proofs.block.Statement.{statement}
 use Rattle.blocks.proofs.block.Tie as tie
 
@@ -56,36 +56,28 @@ unfolding builtin builtins choosing sumOf formOf any
 returns-12 c =
     let s = c .before .before .before .before .before .before .before .before .before .before .before .before .before in
     let e : s .args .code ≡ 12 = c .before .before .before .before .match .keys12 in
-    let is = (rw e at (s .pre .5)) .is (λ z. omega arith) in
-    let w = c .before .before .int-lin-ne .ensures in
-    rw (by-code _ _ _ _ _ 12 e refl) (from (c .before .before .before .before .before .before .before .before .from-nothing .ensures .0) (fitted (w .0 (boundsOf (s .args .ls .now) (s .args .us .now)) is, w .1) (omega arith)))
+    rw (by-code _ _ _ _ _ 12 e refl) (summed-fits (boundsOf (s .args .ls .now) (s .args .us .now)) (c .before .before .before .before .before .before .before .before .from-nothing .ensures .0) (c .before .before .int-lin-ne .ensures) ((rw e at (s .pre .5)) .is (λ z. omega arith)))
 
 returns-13 : tie.Need-returns-13
 unfolding builtin builtins choosing rule sumOf formOf any
 returns-13 c =
     let s = c .before .before .before .before .before .before .before .before .before .before .before .before .before in
     let e : s .args .code ≡ 13 = c .before .before .before .before .match .keys13 in
-    let is = (rw e at (s .pre .5)) .is (λ z. omega arith) in
-    let w = c .before .before .zero-reif .ensures in
-    rw (by-code _ _ _ _ _ 13 e refl) (from (c .before .before .before .before .before .before .before .before .from-nothing .ensures .0) (fitted (w .0 (boundsOf (s .args .ls .now) (s .args .us .now)) is, w .1) (omega arith)))
+    rw (by-code _ _ _ _ _ 13 e refl) (summed-fits (boundsOf (s .args .ls .now) (s .args .us .now)) (c .before .before .before .before .before .before .before .before .from-nothing .ensures .0) (c .before .before .zero-reif .ensures) ((rw e at (s .pre .5)) .is (λ z. omega arith)))
 
 returns-14 : tie.Need-returns-14
 unfolding builtin builtins choosing rule sumOf formOf any
 returns-14 c =
     let s = c .before .before .before .before .before .before .before .before .before .before .before .before .before in
     let e : s .args .code ≡ 14 = c .before .before .before .before .match .keys14 in
-    let is = (rw e at (s .pre .5)) .is (λ z. omega arith) in
-    let w = c .before .before .two-reif .ensures in
-    rw (by-code _ _ _ _ _ 14 e refl) (from (c .before .before .before .before .before .before .before .before .from-nothing .ensures .0) (fitted (w .0 (boundsOf (s .args .ls .now) (s .args .us .now)) is, w .1) (omega arith)))
+    rw (by-code _ _ _ _ _ 14 e refl) (summed-fits (boundsOf (s .args .ls .now) (s .args .us .now)) (c .before .before .before .before .before .before .before .before .from-nothing .ensures .0) (c .before .before .two-reif .ensures) ((rw e at (s .pre .5)) .is (λ z. omega arith)))
 
 returns-15 : tie.Need-returns-15
 unfolding builtin builtins choosing sumOf formOf any
 returns-15 c =
     let s = c .before .before .before .before .before .before .before .before .before .before .before .before .before in
     let e : s .args .code ≡ 15 = c .before .before .before .before .match .keys15 in
-    let is = (rw e at (s .pre .5)) .is (λ z. omega arith) in
-    let w = c .before .before .int-lin-le-reif .ensures in
-    rw (by-code _ _ _ _ _ 15 e refl) (from (c .before .before .before .before .before .before .before .before .from-nothing .ensures .0) (fitted (w .0 (boundsOf (s .args .ls .now) (s .args .us .now)) is, w .1) (omega arith)))
+    rw (by-code _ _ _ _ _ 15 e refl) (summed-fits (boundsOf (s .args .ls .now) (s .args .us .now)) (c .before .before .before .before .before .before .before .before .from-nothing .ensures .0) (c .before .before .int-lin-le-reif .ensures) ((rw e at (s .pre .5)) .is (λ z. omega arith)))
 
 returns-16 : tie.Need-returns-16
 unfolding builtin builtins choosing rule
@@ -125,18 +117,14 @@ unfolding builtin builtins choosing rule sumOf formOf any
 returns-31 c =
     let s = c .before .before .before .before .before .before .before .before .before .before .before .before .before in
     let e : s .args .code ≡ 31 = c .before .before .before .before .match .keys31 in
-    let is = (rw e at (s .pre .5)) .is (λ z. omega arith) in
-    let w = c .before .before .two-reif2 .ensures in
-    rw (by-code _ _ _ _ _ 31 e refl) (from (c .before .before .before .before .before .before .before .before .from-nothing .ensures .0) (fitted (w .0 (boundsOf (s .args .ls .now) (s .args .us .now)) is, w .1) (omega arith)))
+    rw (by-code _ _ _ _ _ 31 e refl) (summed-fits (boundsOf (s .args .ls .now) (s .args .us .now)) (c .before .before .before .before .before .before .before .before .from-nothing .ensures .0) (c .before .before .two-reif2 .ensures) ((rw e at (s .pre .5)) .is (λ z. omega arith)))
 
 returns-32 : tie.Need-returns-32
 unfolding builtin builtins choosing rule sumOf formOf any
 returns-32 c =
     let s = c .before .before .before .before .before .before .before .before .before .before .before .before .before in
     let e : s .args .code ≡ 32 = c .before .before .before .before .match .keys32 in
-    let is = (rw e at (s .pre .5)) .is (λ z. omega arith) in
-    let w = c .before .before .zero-reif2 .ensures in
-    rw (by-code _ _ _ _ _ 32 e refl) (from (c .before .before .before .before .before .before .before .before .from-nothing .ensures .0) (fitted (w .0 (boundsOf (s .args .ls .now) (s .args .us .now)) is, w .1) (omega arith)))
+    rw (by-code _ _ _ _ _ 32 e refl) (summed-fits (boundsOf (s .args .ls .now) (s .args .us .now)) (c .before .before .before .before .before .before .before .before .from-nothing .ensures .0) (c .before .before .zero-reif2 .ensures) ((rw e at (s .pre .5)) .is (λ z. omega arith)))
 
 returns-33 : tie.Need-returns-33
 unfolding builtin builtins choosing rule

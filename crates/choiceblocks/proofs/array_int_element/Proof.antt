@@ -15,15 +15,12 @@ use Rattle.choiceblocks.proofs.array_int_element.Tie as tie
 lay-choice-requires : tie.Need-lay-choice-requires
 lay-choice-requires c κs = rw (back (c .before .first-label .result) (c .before .first-label .ok)) (search needs)
 
+-- what is asked of the start and of the number of places
 lay-number-row-requires : tie.Need-lay-number-row-requires
 lay-number-row-requires c κs =
-    let at-lay-choice = c .before .before .before .before .before in
-    let at-lay-bits = at-lay-choice .before .before .before .before .before .before in
-    let at-first-element = at-lay-bits .before .before in
-    let at-labels = at-first-element .before in
-    let start = at-labels .before .before .before in
-    let n = at-labels .labels .ensures in
-    (omega (arith, start .pre .0, at-lay-bits .lay-bits .ensures .1, at-lay-choice .lay-choice .ensures .1, n .1), omega (arith, n .1), omega (arith, at-first-element .first-element .ensures .1), omega (arith, start .pre .1))
+    let p = c .before .before .before .before .before .before .before .before .before .before .before .before .before .before .before .before .before .pre in
+    let n = c .before .before .before .before .before .before .before .before .before .before .before .before .before .before .labels .ensures in
+    search needs
 
 returns : tie.Need-returns
 unfolding places

@@ -6,7 +6,7 @@ use Rattle.encodings.proofs.count_use.Statement.{statement}
 use Rattle.encodings.proofs.count_use.Tie as tie
 
 add-use-requires : tie.Need-add-use-requires
-add-use-requires c κs = c .before .before .before .before .before .before .pre .1 _
+add-use-requires c κs = c .before .before .before .before .before .before .pre _
 
 returns : tie.Need-returns
 unfolding choiceOf counted

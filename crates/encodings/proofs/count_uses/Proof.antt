@@ -54,7 +54,7 @@ part-count-use-start : tie.Need-part-count-use-start Inv-loop μ-loop
 part-count-use-start c = omega (arith, inside (c .before .before .before))
 
 count-use-requires : tie.Need-count-use-requires Inv-loop μ-loop
-count-use-requires c κs = (omega arith, λ v. omega (arith, c .before .before .before .before .before .before .loop .inv .low v, few (c .before .before .before .before .before)))
+count-use-requires c κs v = omega (arith, c .before .before .before .before .before .before .loop .inv .low v, few (c .before .before .before .before .before))
 
 add-k : tie.Need-add-k Inv-loop μ-loop
 add-k c = omega (arith, few (c .before .before .before .before .before .before .before .before))

@@ -11,8 +11,7 @@ use Rattle.models.specs.Model.{headed, constraints}
 use Rattle.rules.specs.Shared.{noneYet, choice, encodes, encodedAfter}
 use Rattle.rules.specs.Translation.{picks}
 use Rattle.encodings.specs.Uses.{sharedBy}
-use Rattle.picking.specs.Picked.{picksFrom}
-use Rattle.picking.proofs.Picks.{Filling, begun, here-ranged, picked, place-le, ended, picks-from}
+use Rattle.picking.proofs.Picks.{picksFrom, Filling, begun, here-ranged, picked, place-le, ended, picks-from}
 use Rattle.checking.proofs.Kept.{few-constraints, none-left, head-inside, head-at}
 use Rattle.encodings.proofs.Record.{placed-record}
 use Rattle.filling.proofs.Ranges.{block-picks}

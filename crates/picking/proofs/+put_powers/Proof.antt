@@ -5,7 +5,8 @@ use native.Mathlib.Omega.{arith}
 use mir.Facts.{toZ-ofZ}
 use borrow.Fn.Kinds.{In}
 use borrow.Fn.PlainCycle.{Measures, is, falls, and}
-use Rattle.picking.proofs.Powers.{near-back, picked-length, powers-one, half-ranged, square-in, odd-in, square-put, even-put, odd-put}
+use Rattle.words.proofs.Rest.{laid-length}
+use Rattle.picking.proofs.Powers.{near-back, powers-one, half-ranged, square-in, odd-in, square-put, even-put, odd-put}
 use Rattle.picking.proofs.put_powers.Reads as put-powers
 use Rattle.picking.proofs.put_powers.Kinds as put-powers-kinds
 use Rattle.picking.proofs.+put_powers.Lts-put_powers as put-powers-lts
@@ -39,7 +40,7 @@ pub +put-powers-spec : {M : Type 1} → statement M
     let s = c .before .before .before .before .before .before in
     let h = rw (toZ-ofZ (s .fits .x)) at (c .before .before .before .put-powers .ensures) in
     rw (near-back _ (h .near)) (omega (arith, s .pre .1 .0, s .pre .1 .3, h .few), h .near, h .near, rw (h .held) (square-in (s .args .x) (s .args .k) (c .before .before .before .before .before .if1 .left) (s .pre .1 .4))))
-    (λ c. picked-length (c .before .before .put-next .ensures .picked) ∙ picked-length (c .before .before .before .before .before .before .put-powers .ensures .picked))
+    (λ c. laid-length (c .before .before .put-next .ensures .picked) ∙ laid-length (c .before .before .before .before .before .before .put-powers .ensures .picked))
     (λ c.
     let s = c .before .before .before .before .before .before .before .before .before in
     let h = rw (toZ-ofZ (s .fits .x)) at (c .before .before .before .before .before .before .put-powers .ensures) in
@@ -51,7 +52,7 @@ pub +put-powers-spec : {M : Type 1} → statement M
     let n = rw (near-back _ (h .near)) at (c .before .before .before .put-next .ensures) in
     let q = square-put (s .args .x) (s .args .k) (c .before .before .before .before .before .before .before .before .before .if1 .left) h n in
     rw (toZ-ofZ (s .fits .x)) (omega (arith, s .pre .1 .0, s .pre .1 .3, q .few), s .pre .1 .1, n .near, rw (q .held) (odd-in (s .args .x) (s .args .k) (c .before .before .before .before .before .before .before .before .before .if1 .left) (s .pre .1 .4) (c .before .if2 .left))))
-    (λ c. picked-length (c .before .put-next2 .ensures .picked) ∙ picked-length (c .before .before .before .before .before .put-next .ensures .picked) ∙ picked-length (c .before .before .before .before .before .before .before .before .before .put-powers .ensures .picked))
+    (λ c. laid-length (c .before .put-next2 .ensures .picked) ∙ laid-length (c .before .before .before .before .before .put-next .ensures .picked) ∙ laid-length (c .before .before .before .before .before .before .before .before .before .put-powers .ensures .picked))
     (λ c.
     let s = c .before .before .before .before .before .before .before .before .before .before .before .before in
     let h = rw (toZ-ofZ (s .fits .x)) at (c .before .before .before .before .before .before .before .before .before .put-powers .ensures) in

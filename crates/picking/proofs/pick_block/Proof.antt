@@ -3,10 +3,10 @@ use mathlib.Core.Path.{refl}
 use mathlib.Core.List.{[], _∷_}
 use borrow.Author.Needs.{needs}
 use Rattle.integers.specs.Lists.{any}
+use Rattle.words.proofs.LaidThen.{laid-none}
 use Rattle.models.specs.Model.{builtin, builtins}
 use Rattle.arguments.proofs.Size.{read}
 use Rattle.rules.specs.Pick.{bitOf, pick}
-use Rattle.picking.proofs.Writing.{picked-none}
 use Rattle.picking.proofs.Bare.{none-picked}
 use Rattle.picking.proofs.OfCode.{plainly}
 use Rattle.picking.proofs.pick_block.Statement.{statement}
@@ -16,7 +16,7 @@ other : tie.Need-returns-24
 unfolding pick any
 other c =
     let a = c .before .before .args in
-    rw (none-picked (39 ∷ 38 ∷ 37 ∷ 34 ∷ 33 ∷ 32 ∷ 31 ∷ 29 ∷ 28 ∷ 27 ∷ 26 ∷ 25 ∷ 24 ∷ 23 ∷ 20 ∷ 15 ∷ 14 ∷ 13 ∷ 12 ∷ 9 ∷ 8 ∷ 7 ∷ 4 ∷ []) refl (a .ls .now) (a .us .now) (a .values .now) (a .code) (a .args .now) (c .match .rest)) (picked-none (a .at) (a .out .now))
+    rw (none-picked (39 ∷ 38 ∷ 37 ∷ 34 ∷ 33 ∷ 32 ∷ 31 ∷ 29 ∷ 28 ∷ 27 ∷ 26 ∷ 25 ∷ 24 ∷ 23 ∷ 20 ∷ 15 ∷ 14 ∷ 13 ∷ 12 ∷ 9 ∷ 8 ∷ 7 ∷ 4 ∷ []) refl (a .ls .now) (a .us .now) (a .values .now) (a .code) (a .args .now) (c .match .rest)) (laid-none)
 
 pub pick-block-spec : {M : Type 1} → statement M
 unfolding bitOf pick builtin builtins

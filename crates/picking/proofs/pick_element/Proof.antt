@@ -12,7 +12,7 @@ put-labels-requires c κs =
     let s = c .before .before .before .before .before in
     let first-label = c .before .before .first-label in (
       search needs,
-      rw (back (first-label .result) (first-label .ok), first-label .ensures) (labels-near (s .args .ls .now) (s .args .us .now) (s .args .args .now) (s .pre .1) (s .pre .2) .0),
+      rw (back (first-label .result) (first-label .ok), first-label .ensures .0) (labels-near (s .args .ls .now) (s .args .us .now) (s .args .args .now) (s .pre .1) (s .pre .2) .0),
       rw (back (c .before .last-label .result) (c .before .last-label .ok), c .before .last-label .ensures) (labels-near (s .args .ls .now) (s .args .us .now) (s .args .args .now) (s .pre .1) (s .pre .2) .1),
       rw (back (c .value-of .result) (c .value-of .ok), c .value-of .ensures) (s .pre .3 (var (s .args .args .now) 0)),
     )
@@ -23,7 +23,7 @@ returns c =
     let first-label = c .before .before .before .before .first-label in
     let last-label = c .before .before .before .last-label in
     let value-of = c .before .before .value-of in
-    rw (element-picks (s .args .ls .now) (s .args .us .now) (s .args .values .now) (s .args .args .now)) (rw (back (first-label .result) (first-label .ok), first-label .ensures, back (last-label .result) (last-label .ok), last-label .ensures, back (value-of .result) (value-of .ok), value-of .ensures) at (c .before .put-labels .ensures))
+    rw (element-picks (s .args .ls .now) (s .args .us .now) (s .args .values .now) (s .args .args .now)) (rw (back (first-label .result) (first-label .ok), first-label .ensures .0, back (last-label .result) (last-label .ok), last-label .ensures, back (value-of .result) (value-of .ok), value-of .ensures) at (c .before .put-labels .ensures))
 
 pub pick-element-spec : {M : Type 1} → statement M
 pick-element-spec =

@@ -3,9 +3,9 @@ use Prim.Native.Nat.{suc}
 use native.Mathlib.Omega.{arith}
 use borrow.Author.Needs.{needs}
 use Rattle.integers.proofs.Fits.{back}
+use Rattle.words.proofs.LaidThen.{laid-then}
 use Rattle.models.specs.Model.{var, builtin, builtins}
 use Rattle.rules.specs.Pick.{leftOverPick, pick}
-use Rattle.picking.proofs.Writing.{picked-then}
 use Rattle.picking.proofs.pick_mod.Statement.{statement}
 use Rattle.picking.proofs.pick_mod.Tie as tie
 
@@ -35,7 +35,7 @@ put-division-requires c κs =
     let value-of = c .before .before .before .before .before .before .value-of in
     let s = c .before .before .before .before .before .before .before .before in
     rw (back (quotient-of .result) (quotient-of .ok), back (value-of .result) (value-of .ok), value-of .ensures, back (value-of2 .result) (value-of2 .ok), value-of2 .ensures) (
-      omega (arith, s .pre .place, put .ensures .next),
+      omega (arith, s .pre .place, put .ensures .ends),
       s .pre .small (var (s .args .args .now) 1),
       quotient-of .ensures .1,
       λ k. rw (quotient-of .ensures .0, back (value-of .result) (value-of .ok), value-of .ensures, back (value-of2 .result) (value-of2 .ok), value-of2 .ensures) (s .pre .ranged (suc k)),
@@ -49,7 +49,7 @@ returns c =
     let value-of2 = c .before .before .before .before .before .before .before .value-of2 in
     let value-of = c .before .before .before .before .before .before .before .before .value-of in
     rw (back (quotient-of .result) (quotient-of .ok), quotient-of .ensures .0, back (value-of .result) (value-of .ok), value-of .ensures, back (value-of2 .result) (value-of2 .ok), value-of2 .ensures) at
-    (picked-then (put .ensures) (c .before .put-division .ensures))
+    (laid-then (put .ensures) (c .before .put-division .ensures))
 
 pub pick-mod-spec : {M : Type 1} → statement M
 pick-mod-spec =

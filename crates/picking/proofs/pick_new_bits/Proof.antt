@@ -2,8 +2,8 @@
 use mathlib.Core.Path.{sym, _∙_}
 use borrow.Author.Tests.{eq-eqb, ne-eqb}
 use borrow.Author.Needs.{needs}
+use Rattle.words.proofs.LaidThen.{laid-none}
 use Rattle.rules.specs.Shared.{newPick}
-use Rattle.picking.proofs.Writing.{picked-none}
 use Rattle.picking.proofs.Codes.{set-picks}
 use Rattle.picking.proofs.pick_new_bits.Statement.{statement}
 use Rattle.picking.proofs.pick_new_bits.Tie as tie
@@ -19,7 +19,7 @@ returns-2 : tie.Need-returns-2
 unfolding newPick
 returns-2 c =
     let e = rw (c .before .before .var-at .ensures) at (c .before .entry-of .ensures) in
-    rw (ne-eqb _ _ (λ z. c .if1 .left (e ∙ z))) (picked-none _ _)
+    rw (ne-eqb _ _ (λ z. c .if1 .left (e ∙ z))) laid-none
 
 pub pick-new-bits-spec : {M : Type 1} → statement M
 pick-new-bits-spec =

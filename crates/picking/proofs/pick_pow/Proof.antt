@@ -4,10 +4,10 @@ use Prim.Native.Nat.{_≤_}
 use native.Mathlib.Omega.{arith}
 use borrow.Author.Needs.{needs}
 use Rattle.integers.proofs.Fits.{back}
+use Rattle.words.proofs.LaidThen.{laid-none}
 use Rattle.models.specs.Model.{var, exponentAt, builtin, builtins}
 use Rattle.arguments.proofs.Size.{exponent-le}
 use Rattle.rules.specs.Pick.{powerPick, pick}
-use Rattle.picking.proofs.Writing.{picked-none}
 use Rattle.picking.proofs.Powers.{pick-some}
 use Rattle.picking.proofs.pick_pow.Statement.{statement}
 use Rattle.picking.proofs.pick_pow.Tie as tie
@@ -17,7 +17,7 @@ unfolding powerPick pick builtin builtins
 returns c =
     let s = c .before .before .before .before in
     let e : exponentAt (s .args .args .now) 1 ≡ 0 = sym (c .before .exponent-at .ensures) ∙ c .if1 .taken in
-    rw e (picked-none (s .args .at) (s .args .out .now))
+    rw e laid-none
 
 put-powers-requires : tie.Need-put-powers-requires
 unfolding pick builtin builtins

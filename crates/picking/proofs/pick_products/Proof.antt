@@ -23,17 +23,17 @@ near : (c : tie.After-last-label) → Near (toZ w64 (ofZ w64 (c .before .first-l
 near c =
     let s = c .before .before .before in
     let n = labels-near (s .args .ls .now) (s .args .us .now) (s .args .args .now) (s .pre .1) (s .pre .2) in
-    (rw (back (c .before .first-label .result) (c .before .first-label .ok), c .before .first-label .ensures) (n .0), rw (back (c .last-label .result) (c .last-label .ok), c .last-label .ensures) (n .1))
+    (rw (back (c .before .first-label .result) (c .before .first-label .ok), c .before .first-label .ensures .0) (n .0), rw (back (c .last-label .result) (c .last-label .ok), c .last-label .ensures) (n .1))
 
 wide : (c : tie.After-width-of) → let a = c .before .before .before .before .args in c .width-of .result ≡ width (firstLabel (a .ls .now) (a .us .now) (a .values .now) (a .args .now) to lastLabel (a .ls .now) (a .us .now) (a .values .now) (a .args .now))
-wide c = c .width-of .ensures ∙ rw (back (c .before .before .first-label .result) (c .before .before .first-label .ok), c .before .before .first-label .ensures, back (c .before .last-label .result) (c .before .last-label .ok), c .before .last-label .ensures)
+wide c = c .width-of .ensures ∙ rw (back (c .before .before .first-label .result) (c .before .before .first-label .ok), c .before .before .first-label .ensures .0, back (c .before .last-label .result) (c .before .last-label .ok), c .before .last-label .ensures)
 
 picks : (c : tie.After-place-of) → let a = c .before .before .before .before .before .before .args in let σ = value (a .values .now) in let ws = a .args .now in
     productPicks (a .ls .now) (a .us .now) (a .values .now) ws ≡ onlyAt (c .before .before .width-of .result) (c .place-of .result) (σ (var ws (1 + count (σ (var ws 0)))))
 picks c =
     let a = c .before .before .before .before .before .before .args in
     let w = wide (c .before .before) in
-    rw w (product-picks (a .ls .now) (a .us .now) (a .values .now) (a .args .now) (c .place-of .result) (rw (back (c .before .value-of .result) (c .before .value-of .ok), c .before .value-of .ensures, back (c .before .before .before .before .first-label .result) (c .before .before .before .before .first-label .ok), c .before .before .before .before .first-label .ensures, w) at (c .place-of .ensures)))
+    rw w (product-picks (a .ls .now) (a .us .now) (a .values .now) (a .args .now) (c .place-of .result) (rw (back (c .before .value-of .result) (c .before .value-of .ok), c .before .value-of .ensures, back (c .before .before .before .before .first-label .result) (c .before .before .before .before .first-label .ok), c .before .before .before .before .first-label .ensures .0, w) at (c .place-of .ensures)))
 
 counted : (c : tie.After-count-of) → c .count-of .result ≡ count (value (c .before .before .before .before .before .before .before .before .args .values .now) (var (c .before .before .before .before .before .before .before .before .args .args .now) 0))
 counted c = c .count-of .ensures ∙ rw (back (c .before .before .before .value-of .result) (c .before .before .before .value-of .ok), c .before .before .before .value-of .ensures)

@@ -1,9 +1,9 @@
 -- Each code by its own function; the others pick nothing.
 use borrow.Author.Tests.{ne-eqb}
 use borrow.Author.Needs.{needs}
+use Rattle.words.proofs.LaidThen.{laid-none}
 use Rattle.rules.specs.Shared.{choice, sharedPick}
 use Rattle.encodings.specs.Uses.{choiceOf}
-use Rattle.picking.proofs.Writing.{picked-none}
 use Rattle.picking.proofs.pick_shared.Statement.{statement}
 use Rattle.picking.proofs.pick_shared.Tie as tie
 
@@ -11,7 +11,7 @@ other : tie.Need-returns-5
 unfolding choiceOf choice sharedPick
 other c =
     let r = c .match .rest in
-    rw (ne-eqb _ 24 (r .0 .0 .0 .1), ne-eqb _ 25 (r .0 .0 .1), ne-eqb _ 27 (r .0 .1), ne-eqb _ 28 (r .1)) (picked-none _ _)
+    rw (ne-eqb _ 24 (r .0 .0 .0 .1), ne-eqb _ 25 (r .0 .0 .1), ne-eqb _ 27 (r .0 .1), ne-eqb _ 28 (r .1)) laid-none
 
 pub pick-shared-spec : {M : Type 1} → statement M
 unfolding choiceOf choice sharedPick

@@ -2,9 +2,9 @@
 use native.Mathlib.Omega.{arith}
 use borrow.Author.Needs.{needs}
 use Rattle.integers.proofs.Fits.{back}
+use Rattle.words.proofs.LaidThen.{laid-then}
 use Rattle.models.specs.Model.{builtin, builtins}
 use Rattle.rules.specs.Pick.{pick}
-use Rattle.picking.proofs.Writing.{picked-then}
 use Rattle.picking.proofs.pick_xor.Statement.{statement}
 use Rattle.picking.proofs.pick_xor.Tie as tie
 
@@ -17,7 +17,7 @@ unfolding pick builtin builtins
 put-requires-2 c κs =
     let s = c .before .before .before .before .before .before .before in
     let put = c .before .before .before .put in
-    (omega (arith, put .ensures .next), rw (back (c .values-product2 .result) (c .values-product2 .ok), c .values-product2 .ensures) (s .pre .ranged 1))
+    (omega (arith, put .ensures .ends), rw (back (c .values-product2 .result) (c .values-product2 .ok), c .values-product2 .ensures) (s .pre .ranged 1))
 
 returns : tie.Need-returns
 unfolding pick builtin builtins
@@ -25,7 +25,7 @@ returns c =
     let values-product = c .before .before .before .before .before .before .values-product in
     let put = c .before .before .before .before .before .put in
     let values-product2 = c .before .before .values-product2 in
-    rw (back (values-product .result) (values-product .ok), values-product .ensures, back (values-product2 .result) (values-product2 .ok), values-product2 .ensures) at (picked-then (put .ensures) (c .before .put2 .ensures))
+    rw (back (values-product .result) (values-product .ok), values-product .ensures, back (values-product2 .result) (values-product2 .ok), values-product2 .ensures) at (laid-then (put .ensures) (c .before .put2 .ensures))
 
 pub pick-xor-spec : {M : Type 1} → statement M
 pick-xor-spec =

@@ -21,7 +21,7 @@ same-length c = ap length (written c) ∙ simp length-set
 
 returns : tie.Need-returns
 unfolding overlay
-returns c = record { next = search needs; over = written c }
+returns c = record { over = written c; ends = search needs }
 
 pub put-spec : {M : Type 1} → statement M
 put-spec = tie.close (tie.spec cast-out (λ c. search needs) (λ c. search needs) (λ c. search needs) same-length returns)

@@ -3,14 +3,14 @@ use native.Mathlib.Omega.{arith}
 use mir.Facts.{toZ-ofZ}
 use borrow.Author.Needs.{needs}
 use Rattle.integers.proofs.Fits.{back, mul-le}
+use Rattle.words.proofs.LaidThen.{laid-then}
 use Rattle.rules.specs.Pick.{divisionPick}
-use Rattle.picking.proofs.Writing.{picked-then}
 use Rattle.picking.proofs.Division.{division-pick}
 use Rattle.picking.proofs.put_division.Statement.{statement}
 use Rattle.picking.proofs.put_division.Tie as tie
 
 put-bit-requires-2 : tie.Need-put-bit-requires-2
-put-bit-requires-2 c κs = omega (arith, c .before .before .put-bit .ensures .next, c .before .before .before .before .before .before .pre .0)
+put-bit-requires-2 c κs = omega (arith, c .before .before .put-bit .ensures .ends, c .before .before .before .before .before .before .pre .0)
 
 times-requires : tie.Need-times-requires
 times-requires c κs =
@@ -23,7 +23,7 @@ put-requires c κs =
     let put-bit2 = c .before .before .before .put-bit2 in
     let put-bit = c .before .before .before .before .before .before .put-bit in
     let s = c .before .before .before .before .before .before .before .before .before .before in (
-      omega (arith, put-bit .ensures .next, put-bit2 .ensures .next, s .pre .0),
+      omega (arith, put-bit .ensures .ends, put-bit2 .ensures .ends, s .pre .0),
       rw (back (c .times .result) (c .times .ok), c .times .ensures, toZ-ofZ (s .fits .d), toZ-ofZ (s .fits .q)) (s .pre .3 2),
     )
 
@@ -33,7 +33,7 @@ put-bit-requires-3 c κs =
     let put-bit2 = c .before .before .before .before .before .before .before .put-bit2 in
     let put-bit = c .before .before .before .before .before .before .before .before .before .before .put-bit in
     let s = c .before .before .before .before .before .before .before .before .before .before .before .before .before .before in
-    omega (arith, put-bit .ensures .next, put-bit2 .ensures .next, put .ensures .next, s .pre .0)
+    omega (arith, put-bit .ensures .ends, put-bit2 .ensures .ends, put .ensures .ends, s .pre .0)
 
 returns : tie.Need-returns
 returns c =
@@ -47,7 +47,7 @@ returns c =
     let s = c .before .before .before .before .before .before .before .before .before .before .before .before .before .before .before .before in
     rw division-pick
     (rw (both .ensures, at-most .ensures, below .ensures, back (times .result) (times .ok), times .ensures, toZ-ofZ (s .fits .n), toZ-ofZ (s .fits .d), toZ-ofZ (s .fits .q)) at
-    (picked-then (put-bit .ensures) (picked-then (put-bit2 .ensures) (picked-then (put .ensures) (c .before .put-bit3 .ensures)))))
+    (laid-then (put-bit .ensures) (laid-then (put-bit2 .ensures) (laid-then (put .ensures) (c .before .put-bit3 .ensures)))))
 
 pub put-division-spec : {M : Type 1} → statement M
 put-division-spec =

@@ -54,7 +54,7 @@ same-length : tie.Need-same-length Inv-loop μ-loop
 same-length c = ap length (ended c) ∙ simp length-overlay
 
 returns : tie.Need-returns Inv-loop μ-loop
-returns c = record { next = rw (only-length (c .before .before .args .n) (c .before .before .args .h) (c .before .before .args .v)); over = ended c }
+returns c = record { over = ended c; ends = rw (only-length (c .before .before .args .n) (c .before .before .args .h) (c .before .before .args .v)) }
 
 pub put-only-spec : {M : Type 1} → statement M
 put-only-spec =

@@ -11,9 +11,9 @@ use Rattle.integers.specs.Terms.{_·_}
 use Rattle.models.specs.Model.{var, vars, past}
 use Rattle.arguments.proofs.Size.{size-le}
 use Rattle.rowsystems.specs.Row.{sum≤0}
-use Rattle.rules.specs.Block.{source}
+use Rattle.rules.specs.Block.{source, block}
 use Rattle.rules.specs.Parts.{_─_≤0, each}
-use Rattle.rules.specs.Rule.{block, rule}
+use Rattle.rules.specs.Rule.{rule}
 use Rattle.laying.specs.Part.{boundParts, blockParts}
 use Rattle.laying.proofs.Parts.{went-as}
 use Rattle.laying.proofs.Lists.{order-parts}
