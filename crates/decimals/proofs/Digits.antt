@@ -1,4 +1,4 @@
--- The lastDigits of a number: its last one and those before, and how many there are.
+-- The digits of a number: its last one and those before, and how many there are.
 use mathlib.Core.Path.{_≡_, refl}
 use mathlib.Core.Bool.{Bool, true, false}
 use mathlib.Core.List.{List, [], _∷_, _++_}
@@ -23,7 +23,7 @@ digits-enough (suc j) (suc k) n h l = by (ltb 9 n) refl (λ p q. digits-enough j
     by true e more = rw (more (omega (arith, ltb-true)) (omega (arith, ltb-true)))
     by false e more = refl
 
--- the lastDigits before the last one, none of a number below 10
+-- the digits before the last one, none of a number below 10
 abbrev pub front : ℕ → List ℕ
 front n = decimal (n / 10) if ltb 9 n else []
 

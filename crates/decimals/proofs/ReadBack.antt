@@ -12,7 +12,7 @@ use Rattle.integers.specs.Choice.{_if_else_}
 use Rattle.decimals.specs.Column.{blanks, right, left}
 use Rattle.decimals.specs.Decimal.{lastDigits, decimal, numeral}
 
--- ---- a reader: the number that the lastDigits of a text add to n, and whether the text has a hyphen; blanks say nothing
+-- ---- a reader: the number that the digits of a text add to n, and whether the text has a hyphen; blanks say nothing
 
 abbrev onward : ℕ → List ℕ → ℕ
 onward n [] = n
@@ -46,7 +46,7 @@ unfolding blanks
 only-blanks n zero = refl
 only-blanks n (suc k) = only-blanks n k
 
--- ---- lastDigits
+-- ---- digits
 
 onward-append : (n : ℕ) (xs ys : List ℕ) → onward n (xs ++ ys) ≡ onward (onward n xs) ys
 onward-append n [] ys = refl

@@ -2,8 +2,9 @@
 use mathlib.Core.Bool.{Bool}
 use mathlib.Core.List.{List, [], _∷_, _++_}
 use Prim.Native.Nat.{ℕ}
+use Prim.Native.Char.{code}
 use Rattle.integers.specs.Choice.{_if_else_}
 use Rattle.decimals.specs.Decimal.{decimal}
 
 unfoldable pub marked : Bool → ℕ → List ℕ
-marked minus n = (45 ∷ [] if minus else []) ++ decimal n
+marked minus n = (code "-" ∷ [] if minus else []) ++ decimal n

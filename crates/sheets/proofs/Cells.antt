@@ -21,6 +21,7 @@ use Rattle.decimals.specs.Column.{blanks, right}
 use Rattle.decimals.specs.Decimal.{decimal, numeral}
 use Rattle.decimals.proofs.Columns.{length-blanks, length-right, length-left}
 use Rattle.decimals.proofs.Digits.{decimal-length, numeral-length}
+use Rattle.words.specs.Bytes.{bytes}
 use Rattle.rowsystems.specs.Row.{product}
 use Rattle.rowsystems.specs.RowSystem.{termsIn, numberAt, variableAt, constantIn}
 use Rattle.sheets.specs.Lines.{cell, lineEnd, termText, roomAfter, termLines, sumLines, rowLines}
@@ -175,5 +176,5 @@ laid-row p at a x y t p′ end c h k l =
 pub product-lines : (k a b c : ℕ) →
     sumLines k (58 ∷ 61 ∷ []) (termsIn (a ∷ 1 ∷ b ∷ 1 ∷ c ∷ 1 ∷ 0 ∷ []) 3) (constantIn (a ∷ 1 ∷ b ∷ 1 ∷ c ∷ 1 ∷ 0 ∷ []) 3)
     ≡ rowLines k (product (payload a) (payload b) (payload c))
-unfolding rowLines termsIn listOf numberAt variableAt constantIn wordAt signed payload
+unfolding rowLines bytes termsIn listOf numberAt variableAt constantIn wordAt signed payload
 product-lines k a b c = refl

@@ -7,6 +7,7 @@ use native.Mathlib.Omega.{arith}
 use lib.Dec.{ltb}
 use lib.IntN.{ℤ, pos, negsuc}
 use lib.ListN.{length, length-append}
+use Rattle.integers.specs.Lists.{listOf}
 use Rattle.integers.specs.Choice.{_if_else_}
 use Rattle.integers.specs.Number.{+0, +1}
 use Rattle.integers.specs.Terms.{Term, _·_}
@@ -16,6 +17,7 @@ use Rattle.words.specs.Small.{Near}
 use Rattle.decimals.specs.Column.{blanks, right, left}
 use Rattle.decimals.specs.Decimal.{lastDigits, decimal, numeral}
 use Rattle.decimals.proofs.Columns.{length-blanks, length-right}
+use Rattle.words.specs.Bytes.{bytes}
 use Rattle.rowsystems.specs.Reading.{readRows}
 use Rattle.rowsystems.specs.Row.{Row, sum≤0, sum=0, product}
 use Rattle.rowsystems.specs.RowSystem.{rows}
@@ -128,7 +130,7 @@ sum-in-lines k x y ts c {rest} {n} l hx hy f h r =
     (a-line C (length-right 80 (numeral c) (omega (arith, number-fits c h))) (printed-right 80 _ (printed-numeral c)) r))
 
 row-in-lines : (k : ℕ) (row : Row ℕ) {rest : List ℕ} {n : ℕ} → k < 1000000 → RowFits row → InLines rest n → InLines (rowLines k row ++ rest) (lineCount row + n)
-unfolding rowLines
+unfolding rowLines bytes listOf
 row-in-lines k (sum≤0 ts c) {n = n} l h r =
     let e : linesOf 3 (length ts) + 1 + n ≡ linesOf 3 (length ts) + (1 + n) = omega arith in
     rw e (sum-in-lines k 60 61 ts c l (omega arith, omega arith) (omega arith, omega arith) (h .0) (h .1) r)

@@ -8,6 +8,7 @@ use lib.Dec.{ltb, eqb}
 use lib.IntN.{ℤ}
 use lib.ListN.{length, length-append, getD, take}
 use borrow.Author.Tests.{ltb-false}
+use Rattle.integers.specs.Lists.{listOf}
 use Rattle.integers.specs.Choice.{_if_else_}
 use Rattle.integers.specs.Number.{+0, +1}
 use Rattle.integers.specs.Terms.{Term, _·_}
@@ -23,6 +24,7 @@ use Rattle.decimals.specs.Column.{blanks, right, left}
 use Rattle.decimals.specs.Decimal.{decimal, numeral}
 use Rattle.decimals.proofs.Columns.{length-blanks, blank-at, length-right}
 use Rattle.decimals.proofs.ReadBack.{same-right, same-left}
+use Rattle.words.specs.Bytes.{bytes}
 use Rattle.rowsystems.specs.Reading.{readRows}
 use Rattle.rowsystems.specs.Row.{Row, sum≤0, sum=0, product}
 use Rattle.rowsystems.specs.RowSystem.{rows}
@@ -176,7 +178,7 @@ row-by (sum=0 ts c) = refl
 row-by (product r f g) = refl
 
 lines-by : (k : ℕ) (row : Row ℕ) → rowLines k row ≡ sumLines k (first row ∷ second row ∷ []) (terms row) (constant row)
-unfolding rowLines
+unfolding rowLines bytes listOf
 lines-by k (sum≤0 ts c) = refl
 lines-by k (sum=0 ts c) = refl
 lines-by k (product r f g) = refl

@@ -1,10 +1,11 @@
--- What the contracts cite: words, the named numbers of documents 01 and 02, laying words over a list, faults and answers, both judges.
+-- What the contracts cite: words, the named numbers of documents 01 and 02, text as bytes, laying words over a list, faults and answers, both judges.
 pub mod Kind
 pub mod Limit
 pub mod Fault
 pub mod Word
 pub mod Small
 pub mod Variables
+pub mod Bytes
 pub mod Overlay
 pub mod Laid
 pub mod Refusal

@@ -1,6 +1,8 @@
 -- The row by its head: each kind with its sign.
 use native.Mathlib.Omega.{arith}
 use borrow.Author.Tests.{eq-eqb, ne-eqb}
+use Rattle.integers.specs.Lists.{listOf}
+use Rattle.words.specs.Bytes.{bytes}
 use Rattle.rowsystems.specs.OneWord.{rowOf}
 use Rattle.rowsystems.proofs.Sizes.{count-few}
 use Rattle.sheets.specs.Lines.{rowLines}
@@ -14,7 +16,7 @@ put-sum-requires c κs =
     (s .pre .0, s .pre .1, omega (arith, c .term-count .ensures, count-few (s .args .head)))
 
 returns : tie.Need-returns
-unfolding rowOf rowLines
+unfolding rowOf rowLines bytes listOf
 returns c = rw (← c .before .before .before .before .before .before .kind-of .ensures, eq-eqb _ _ (c .before .before .before .before .before .if1 .taken), ← c .before .before .before .term-count .ensures) (c .before .before .put-sum .ensures)
 
 put-sum-requires-2 : tie.Need-put-sum-requires-2
@@ -23,7 +25,7 @@ put-sum-requires-2 c κs =
     (s .pre .0, s .pre .1, omega (arith, c .term-count2 .ensures, count-few (s .args .head)))
 
 returns-2 : tie.Need-returns-2
-unfolding rowOf rowLines
+unfolding rowOf rowLines bytes listOf
 returns-2 c = rw (← c .before .before .before .before .before .before .before .kind-of .ensures, ne-eqb _ _ (c .before .before .before .before .before .before .if1 .left), eq-eqb _ _ (c .before .before .before .before .before .if2 .taken), ← c .before .before .before .term-count2 .ensures) (c .before .before .put-sum2 .ensures)
 
 returns-3 : tie.Need-returns-3
