@@ -54,7 +54,7 @@ use translation::translate;
 use words::fault;
 use words::limit;
 
-// Models of so many words are copied to a short list: a list is cleared first.
+// Models of at most so many words are copied to a shorter list, since the whole list is cleared first.
 const SHORT: usize = 512;
 
 // Check over bytes whose words fit the list that they are copied to.

@@ -19,10 +19,6 @@ pub mag-le : (z : ℤ) → mag z ≤ natAbs z
 mag-le (pos n) = omega arith
 mag-le (negsuc n) = omega arith
 
-pub abs-le : (z : ℤ) → natAbs z ≤ suc (mag z)
-abs-le (pos n) = omega arith
-abs-le (negsuc n) = omega arith
-
 pub fits64 : (z : ℤ) → natAbs z < 9223372036854775808 → SFits w64 z
 fits64 z h = record { sfits = omega (arith, mag-le z) }
 

@@ -1,4 +1,5 @@
--- Whole numbers of any size. Each name here stays shut in a proof until the proof opens it, so that a row keeps the shape in which it was written.
+-- 01, The words of demand 3: "Whole numbers, their sums and their products have no limit of size there."
+-- Their sums, differences and products, the lesser and the larger of two, absolute values, whether two are equal.
 use mathlib.Core.Bool.{Bool, false}
 use Prim.Native.Nat.{ℕ}
 use lib.Dec.{eqb}

@@ -1,13 +1,12 @@
 -- Where a code has arguments: no code above the last has one, and no code has a fourth.
 use mathlib.Core.Path.{_≡_, refl, sym}
-use mathlib.Core.Bool.{Bool, true, false}
 use mathlib.Core.List.{List, [], _∷_}
 use Prim.Native.Nat.{ℕ, zero, suc, _<_, _≤_}
 use native.Mathlib.Omega.{arith}
 use native.Mathlib.Nat.{le-trans}
 use lib.Dec.{leb}
 use lib.ListN.{length, getD, List·getD-eq-default}
-use borrow.Author.Tests.{leb-true, leb-false, le-leb}
+use borrow.Author.Tests.{leb-true, le-leb}
 use Rattle.integers.specs.Lists.{all}
 use Rattle.integers.proofs.Tests.{All, says-all}
 use Rattle.models.specs.Table as Table
@@ -32,10 +31,3 @@ past-codes code k h = rw (List·getD-eq-default shapes [] {n = code} h)
 pub past-arguments : (code k : ℕ) → 3 ≤ k → 0 ≡ argument code k
 unfolding argument
 past-arguments code k h = sym (List·getD-eq-default (getD shapes code []) 0 {n = k} (le-trans (element Short shapes [] (omega arith) all-short code) h))
-
-pub argument-place : (code k : ℕ) → (0 ≡ argument code k → ⊥) → k < 3
-argument-place code k f = go (leb 3 k) refl
-  where
-    go : (b : Bool) → leb 3 k ≡ b → k < 3
-    go true e = absurd (f (past-arguments code k (leb-true 3 k e)))
-    go false e = omega (arith, leb-false 3 k e)

@@ -71,7 +71,7 @@ argumentsFrom code k = Arguments 0 0 0 code k
 abbrev pub heads : Due
 heads = argumentsFrom 0 0
 
--- r is past the numbers of a list but for the last `left` of them; past its variables, of a type; past a list after its length word w; past an argument; past all arguments of a code
+-- r is past the numbers of a list but for the last `left` of them
 abbrev pub NumbersRead : List ℕ → ℕ → ℕ → ℕ → Step → Type 0
 NumbersRead ws n at left r = (ts : List ℕ) (c l type code k : ℕ) → StepsTo ws ts c (Arguments n l type code k) at (Arguments left l type code k) r
 
@@ -79,16 +79,20 @@ NumbersRead ws n at left r = (ts : List ℕ) (c l type code k : ℕ) → StepsTo
 pub record NumbersPassed (ws : List ℕ) (at end r : ℕ) : Type 0 where
   pub on : at ≤ r
   pub most : r ≤ end
-  pub read : (n : ℕ) → end ≤ at + n → NumbersRead ws n at (at + n - r) (record { number = 0; at = r })
+  pub read : (n : ℕ) → end ≤ at + n → NumbersRead ws n at (at + n - r) (record { number = Fault.none; at = r })
 
+-- r is past the variables of a list, of a type, but for the last `left` of them
 abbrev pub VariablesRead : List ℕ → List ℕ → ℕ → ℕ → ℕ → ℕ → Step → Type 0
 VariablesRead ws ts type n at left r = (c code k : ℕ) → StepsTo ws ts c (Arguments 0 n type code k) at (Arguments 0 left type code k) r
 
+-- r is past a list of n elements, after its length word w
 abbrev pub ListRead : List ℕ → List ℕ → ℕ → ℕ → ℕ → Step → Type 0
 ListRead ws ts arg n at r = (c code k w : ℕ) → n ≡ payload w → StepsTo ws ts c (afterArgument arg code k w) at (argumentsFrom code k) r
 
+-- r is past an argument
 abbrev pub ArgumentRead : List ℕ → List ℕ → ℕ → ℕ → Step → Type 0
 ArgumentRead ws ts arg at r = (c code k : ℕ) → arg ≡ argument code k → StepsTo ws ts c (argumentsFrom code k) at (argumentsFrom code (k + 1)) r
 
+-- r is past all arguments of a code
 abbrev pub ArgumentsRead : List ℕ → List ℕ → ℕ → ℕ → Step → Type 0
 ArgumentsRead ws ts code at r = (c : ℕ) → StepsTo ws ts c (argumentsFrom code 0) at heads r

@@ -6,6 +6,7 @@ use lib.Dec.{eqb}
 use lib.ListN.{length, getD, drop, take}
 use Rattle.integers.specs.Choice.{_if_else_}
 use Rattle.words.specs.Fault as Fault
+use Rattle.words.specs.Limit as Limit
 use Rattle.words.specs.Refusal.{_at-place_, accepted}
 use Rattle.words.specs.Variables.{variables}
 use Rattle.models.specs.Model.{headed, constraintsFrom, constraints, sourceWords}
@@ -24,17 +25,17 @@ pub record Passed (ws : List ℕ) (at to : ℕ) : Type 0 where
 -- the step r leads past a variable of the type d, after v variables, or to the first fault
 pub record Declares (ws : List ℕ) (v at d : ℕ) (r : Step) : Type 0 where
   pub reads : (ts : List ℕ) → length ts ≡ v → onward Start ts 0 at ws ≡ (onward Start (ts ++ (d ∷ [])) 0 (r .at) ws if eqb (r .number) Fault.none else stopped ws (r .number) (r .at))
-  pub room : r .number ≡ 0 → v < 256
-  pub on : r .number ≡ 0 → at < r .at
-  pub inside : r .number ≡ 0 → r .at ≤ length ws
-  pub passed : r .number ≡ 0 → Passed ws at (r .at)
+  pub room : r .number ≡ Fault.none → v < Limit.variables
+  pub on : r .number ≡ Fault.none → at < r .at
+  pub inside : r .number ≡ Fault.none → r .at ≤ length ws
+  pub passed : r .number ≡ Fault.none → Passed ws at (r .at)
 
 abbrev pub VariableRead : List ℕ → ℕ → ℕ → ℕ → Step → Type 0
 VariableRead ws v at w r = (d : ℕ) → d ≡ getD (declared w) 0 0 → (d ≡ 0 → ⊥) → Declares ws v at d r
 
 -- the first n of hs are the places of the constraints' heads
 pub record Heads (ws hs : List ℕ) (n : ℕ) : Type 0 where
-  pub room : n ≤ 256
+  pub room : n ≤ Limit.constraints
   pub counted : n ≡ length (constraints ws)
   pub places : map (headed ws) (take n hs) ≡ constraints ws
 
@@ -48,4 +49,4 @@ pub record Seen (ws hs : List ℕ) (r : Read) : Type 0 where
 -- what reading answers
 pub record Kept (ws : List ℕ) (hs : List ℕ) (r : Read) : Type 0 where
   pub refusal : r .number at-place r .place ≡ readModel ws
-  pub seen : r .number ≡ 0 → Seen ws hs r
+  pub seen : r .number ≡ Fault.none → Seen ws hs r

@@ -176,7 +176,7 @@ pub fn of_count(most: usize, w: u32) -> u32
 
 // Of a word that is to name a variable of a type among the first v.
 pub fn of_variable(types: &[u32; 256], v: usize, wanted: u32, w: u32) -> u32
-    requires { ⌜ (v ≤ 256) × (1 ≤ wanted) ⌝ }
+    requires { ⌜ (v ≤ Limit.variables) × (1 ≤ wanted) ⌝ }
     ensures { λ r. ⌜ r ≡ faultVariable (getD (take v (now (types .entry))) (payload w) 0) wanted w ⌝ }
 {
     if words::kind_of(w) != kind::VARIABLE {

@@ -36,7 +36,7 @@ fn step_over(number: u32, at: usize) -> Step
 
 // Where n words from a place on end, or all the words.
 fn end_of(ws: &[u32], at: usize, n: usize) -> usize
-    requires { ⌜ Placed (now ws) at × (n ≤ 32) ⌝ }
+    requires { ⌜ Placed (now ws) at × (n ≤ Limit.listLength) ⌝ }
     ensures { λ r. ⌜ Ends (now (ws .entry)) at n r ⌝ }
 {
     let end = at + n;
@@ -59,7 +59,7 @@ fn past_numbers(ws: &[u32], at: usize, end: usize) -> usize
 
 // n numbers from a place on.
 fn numbers_at(ws: &[u32], at: usize, n: usize) -> Step
-    requires { ⌜ Placed (now ws) at × (n ≤ 32) ⌝ }
+    requires { ⌜ Placed (now ws) at × (n ≤ Limit.listLength) ⌝ }
     ensures { λ r. ⌜ NumbersRead (now (ws .entry)) n at 0 r ⌝ }
 {
     let end = end_of(ws, at, n);
@@ -85,7 +85,7 @@ fn numbers_at(ws: &[u32], at: usize, n: usize) -> Step
 
 // n variables of a type from a place on.
 fn variables_at(ws: &[u32], at: usize, n: usize, wanted: u32, types: &[u32; 256], v: usize) -> Step
-    requires { ⌜ Placed (now ws) at × (n ≤ 32) × (v ≤ 256) × (1 ≤ wanted) ⌝ }
+    requires { ⌜ Placed (now ws) at × (n ≤ Limit.listLength) × (v ≤ Limit.variables) × (1 ≤ wanted) ⌝ }
     ensures { λ r. ⌜ VariablesRead (now (ws .entry)) (take v (now (types .entry))) wanted n at 0 r ⌝ }
 {
     let end = end_of(ws, at, n);
@@ -111,7 +111,7 @@ fn variables_at(ws: &[u32], at: usize, n: usize, wanted: u32, types: &[u32; 256]
 
 // A list, whose length word was read: its numbers, its variables, or both.
 fn list_at(ws: &[u32], at: usize, n: usize, argument: u32, types: &[u32; 256], v: usize) -> Step
-    requires { ⌜ Placed (now ws) at × (n ≤ 32) × (v ≤ 256) × (5 ≤ argument) ⌝ }
+    requires { ⌜ Placed (now ws) at × (n ≤ Limit.listLength) × (v ≤ Limit.variables) × (5 ≤ argument) ⌝ }
     ensures { λ r. ⌜ ListRead (now (ws .entry)) (take v (now (types .entry))) argument n at r ⌝ }
 {
     if argument == shapes::NUMBERS {
@@ -132,7 +132,7 @@ fn list_at(ws: &[u32], at: usize, n: usize, argument: u32, types: &[u32; 256], v
 
 // One argument.
 fn argument_at(ws: &[u32], at: usize, argument: u32, types: &[u32; 256], v: usize) -> Step
-    requires { ⌜ Placed (now ws) at × (v ≤ 256) × (1 ≤ argument) ⌝ }
+    requires { ⌜ Placed (now ws) at × (v ≤ Limit.variables) × (1 ≤ argument) ⌝ }
     ensures { λ r. ⌜ ArgumentRead (now (ws .entry)) (take v (now (types .entry))) argument at r ⌝ }
 {
     let w = word_at(ws, at);
@@ -161,7 +161,7 @@ pub fn arguments_at(
     types: &[u32; 256],
     v: usize,
 ) -> Step
-    requires { ⌜ Placed (now ws) at × (v ≤ 256) × (now lists ≡ table) ⌝ }
+    requires { ⌜ Placed (now ws) at × (v ≤ Limit.variables) × (now lists ≡ table) ⌝ }
     ensures { λ r. ⌜ ArgumentsRead (now (ws .entry)) (take v (now (types .entry))) code at r ⌝ }
 {
     let mut place = at;

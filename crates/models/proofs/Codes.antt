@@ -10,10 +10,6 @@ use Rattle.models.specs.Shape.{shapeOf, shapes}
 use Rattle.models.specs.Builtin.{Builtin, int-eq}
 use Rattle.models.specs.Model.{given, builtins}
 
-infixr 1 _&_
-abbrev pub _&_ : {A B : Type 0} → A → B → A × B
-a & b = (a, b)
-
 -- the shapes of a row's arguments, and its builtin by the words after the head
 abbrev pub shapesOf : Code → List ℕ
 shapesOf c = map shapeOf (c .sorts)

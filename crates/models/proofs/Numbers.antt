@@ -23,7 +23,7 @@ use Rattle.words.proofs.Reading.{not-too-many, each-word, same-reading}
 use Rattle.models.specs.Shape as Shape
 use Rattle.models.specs.Shape.{argument}
 use Rattle.models.specs.Reading.{faultHead, faultStartIn, faultUpperIn, faultNumberIn, faultVariable, faultCountIn, faultArgumentIn, faultDueIn, faultIn, after, ended, begin, readModel, readModelIn}
-use Rattle.models.specs.InRange.{faultStart, faultNumber, faultCount, faultArgument, faultDue, fault}
+use Rattle.models.specs.InRange.{faultStart, faultNumber, faultCount, faultDue, fault}
 use Rattle.models.specs.declared.Due.{Due}
 use Rattle.models.specs.declared.Due.the-variants.{Start, Upper, Arguments, Ended}
 use Rattle.models.proofs.Sound.{is-variable, is-upper, at-constraint, at-end, is-head, at-lower, at-boolean, at-head, is-start}
@@ -58,7 +58,7 @@ module _ (w : ℕ) where
     | at-head n m h ↦ head-in c h s
   ]
 
-  argument-in : (t c arg : ℕ) → faultArgument t c arg w ≡ 0 → NumberIn w
+  argument-in : (t c arg : ℕ) → faultArgumentIn Limit.range t c arg w ≡ 0 → NumberIn w
   unfolding faultArgumentIn
   argument-in t c arg e = elim (either _ (eqb arg Shape.none) _ e) [
     | inl h ↦ head-in c (h .1)

@@ -1,5 +1,6 @@
 -- 01, Rules of the 28 codes, and 02, wishes 1, 6 and 13: the builtins in the order of their codes, with their names of the arguments.
 -- A variable argument is the variable's number; parallel lists of numbers and variables are a list of terms.
+-- 01's as is as₁ here.
 use mathlib.Core.List.{List}
 use Prim.Native.Nat.{ℕ}
 use lib.IntN.{ℤ}
@@ -38,5 +39,5 @@ pub data Builtin : Type 0 where
   -- 37, 38
   int-div : (n d q : ℕ) → Builtin
   int-mod : (n d r : ℕ) → Builtin
-  -- 39
+  -- 39; k is the exponent itself, not a variable
   int-pow : (x k z : ℕ) → Builtin

@@ -2,7 +2,7 @@
 use mathlib.Core.List.{List}
 use Prim.Native.Nat.{ℕ}
 use Rattle.words.specs.Limit as Limit
-use Rattle.models.specs.Reading.{State, faultStartIn, faultUpperIn, faultNumberIn, faultCountIn, faultArgumentIn, faultDueIn, faultIn}
+use Rattle.models.specs.Reading.{State, faultStartIn, faultUpperIn, faultNumberIn, faultCountIn, faultDueIn, faultIn}
 use Rattle.models.specs.declared.Due.{Due}
 
 abbrev pub faultStart : ℕ → ℕ → ℕ → ℕ
@@ -16,9 +16,6 @@ faultNumber = faultNumberIn Limit.range
 
 abbrev pub faultCount : ℕ → ℕ → ℕ
 faultCount = faultCountIn Limit.range
-
-abbrev pub faultArgument : ℕ → ℕ → ℕ → ℕ → ℕ
-faultArgument = faultArgumentIn Limit.range
 
 abbrev pub faultDue : Due → ℕ → ℕ → ℕ → ℕ → ℕ
 faultDue = faultDueIn Limit.range

@@ -1,3 +1,4 @@
+-- 01, Numbered faults: "judge-model 1 to 11 and 15"; 02, wish 2: "18, in all five calls".
 -- Judge-model: 1 to 11 and 18, then 15, then whether the values keep every bound and every builtin is true of them.
 use mathlib.Core.List.{List}
 use Prim.Native.Nat.{ℕ}

@@ -81,7 +81,7 @@ meaning σ (bool-not a b) = not (σ a == σ b)
 meaning σ (bool-and a b r) = on σ r iff on σ a && on σ b
 meaning σ (bool-or a b r) = on σ r iff on σ a || on σ b
 meaning σ (bool-xor a b r) = on σ r iff not (σ a == σ b)
--- 21, 22: 000, 3.2.7, 3.2.1. 23: 02, Wish 5, "an odd number are 1"
+-- 21, 22: 000, 3.2.7, 3.2.1. 23: 02, wish 5, "an odd number are 1"
 meaning σ (bool-clause xs ys) = any (on σ) xs || any (off σ) ys
 meaning σ (array-bool-and xs r) = on σ r iff all (on σ) xs
 meaning σ (array-bool-xor xs) = odd (howMany (on σ) xs)

@@ -56,7 +56,8 @@ module _ (ws : List ℕ) where
   unfoldable pub exponentAt : ℕ → ℕ
   exponentAt i = var i if leb (var i) Limit.exponent else Limit.exponent
 
-  -- the list whose length word is at place i: of variables, of numbers; and the place after it
+  -- 01, Words: "A list argument is a 6 with its length n, then its n arguments."
+  -- The list whose length word is at place i: of variables, of numbers; and the place after it
   unfoldable pub vars : ℕ → List ℕ
   vars i = listOf (λ k. var (i + 1 + k)) (size i)
 
@@ -66,7 +67,8 @@ module _ (ws : List ℕ) where
   unfoldable pub past : ℕ → ℕ
   past i = i + 1 + size i
 
-  -- parallel lists, as terms; and the place after them
+  -- 01, Words: "Parallel lists share one length word: all numbers, then all variables."
+  -- These lists, as terms; and the place after them
   unfoldable pub terms : ℕ → List (Term ℕ)
   terms i = listOf (λ k. num (i + 1 + k) · var (past i + k)) (size i)
 
@@ -101,7 +103,7 @@ module _ (ws : List ℕ) where
   given i [] b = b
   given i (s ∷ ss) f = given (placeAfter i s) ss (f (argumentAt i s))
 
--- by code, from the words after the head
+-- by code, from the words after the head; accepted words have no code 0 and none past the last, for which int_eq(0,0) stands
 unfoldable pub builtins : List (List ℕ → Builtin)
 builtins = (λ ws. int-eq 0 0) ∷ map (λ (c : Code) ws. given ws 0 (c .sorts) (c .make)) codes
 

@@ -1,4 +1,4 @@
--- Reading a model: faults 1 to 11 and 18, the leftmost faulty word, at one word by list order, 18 directly after 3.
+-- 01, Numbered faults; 02, wish 2. Reading a model: faults 1 to 11 and 18, the leftmost faulty word, at one word by list order, 18 directly after 3.
 use mathlib.Core.Bool.{not, _||_}
 use mathlib.Core.List.{List, [], _∷_, _++_}
 use Prim.Native.Nat.{ℕ, _+_, _-_}
@@ -15,7 +15,7 @@ use Rattle.words.specs.Refusal.{_at-place_, firstFault}
 use Rattle.words.specs.declared.Refusal.{Refusal}
 use Rattle.models.specs.Table as Table
 use Rattle.models.specs.Shape as Shape
-use Rattle.models.specs.Shape.{argument}
+use Rattle.models.specs.Shape.{isVariable, isOneWord, argument}
 use Rattle.models.specs.declared.Due.{Due}
 use Rattle.models.specs.declared.Due.the-variants.{Start, Upper, Arguments, Ended}
 
@@ -36,7 +36,7 @@ faultHead c w =
     else (Fault.payloadAboveZero if ltb 0 (payload w) else Fault.none) if eqb (kind w) Kind.modelEnd
     else Fault.wrongKind
 
--- of a variable whose type is to be `type`, and is t: 3, 10
+-- of a word that is to name a variable of type `type`; t is the type of the one it names, none where that is not declared: 3, 10
 unfoldable pub faultVariable : ℕ → ℕ → ℕ → ℕ
 faultVariable t type w =
     Fault.wrongKind if not (eqb (kind w) Kind.variable)
@@ -83,7 +83,7 @@ module _ (range : Bounds) where
   unfoldable pub faultArgumentIn : ℕ → ℕ → ℕ → ℕ → ℕ
   faultArgumentIn t c arg w =
       faultHead c w if eqb arg Shape.none
-      else faultVariable t arg w if ltb arg Shape.number
+      else faultVariable t arg w if isVariable arg
       else faultNumberIn w if eqb arg Shape.number
       else faultCountIn Limit.exponent w if eqb arg Shape.exponent
       else faultCountIn Limit.listLength w
@@ -109,7 +109,7 @@ afterHead w = Arguments 0 0 0 (payload w) 0 if eqb (kind w) Kind.constraint else
 -- after the word at an argument; k is the place of the next argument
 unfoldable pub afterArgument : ℕ → ℕ → ℕ → ℕ → Due
 afterArgument arg code k w =
-    Arguments 0 0 0 code k if leb arg Shape.exponent
+    Arguments 0 0 0 code k if isOneWord arg
     else Arguments (payload w) 0 0 code k if eqb arg Shape.numbers
     else Arguments 0 (payload w) Shape.integer code k if eqb arg Shape.integers
     else Arguments 0 (payload w) Shape.boolean code k if eqb arg Shape.booleans

@@ -1,6 +1,8 @@
 -- The arguments of each code as numbers: what the reader expects after a constraint's head word.
+use mathlib.Core.Bool.{Bool}
 use mathlib.Core.List.{List, [], _∷_, map}
 use Prim.Native.Nat.{ℕ}
+use lib.Dec.{ltb, leb}
 use lib.ListN.{getD}
 use Rattle.models.specs.Table as Table
 use Rattle.models.specs.Table.{Sort, Code, codes}
@@ -34,6 +36,13 @@ booleans = 7
 -- 01, Words: "Parallel lists share one length word: all numbers, then all variables."
 abbrev pub parallel : ℕ
 parallel = 8
+
+-- of an argument that is not none: whether it is a variable; whether it is one word, with no list after it
+abbrev pub isVariable : ℕ → Bool
+isVariable arg = ltb arg number
+
+abbrev pub isOneWord : ℕ → Bool
+isOneWord arg = leb arg exponent
 
 abbrev pub shapeOf : Sort → ℕ
 shapeOf Table.integer = integer

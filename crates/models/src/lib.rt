@@ -10,7 +10,7 @@ pub enum Due {
     Arguments {
         numbers: usize,
         variables: usize,
-        kind: u32,
+        wanted: u32,
         code: usize,
         k: usize,
     },

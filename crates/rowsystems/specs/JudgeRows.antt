@@ -1,3 +1,4 @@
+-- 01, Numbered faults: "judge-rows 1 to 5, 9 to 11, 14, 15, 17"; 02, wish 2: "18, in all five calls".
 -- Judge-rows: the faults of the words, then 15, then whether the values keep every bound and satisfy every row and product.
 use mathlib.Core.List.{List}
 use Prim.Native.Nat.{ℕ}

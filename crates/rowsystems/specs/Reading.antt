@@ -1,4 +1,4 @@
--- Reading a row system: faults 1 to 5, 9 to 11, 14, 17, 18, the leftmost faulty word, at one word by list order, 18 directly after 3.
+-- 01, Numbered faults; 02, wish 2. Reading a row system: faults 1 to 5, 9 to 11, 14, 17, 18, the leftmost faulty word, at one word by list order, 18 directly after 3.
 use mathlib.Core.Bool.{Bool, not, _&&_, _||_}
 use mathlib.Core.List.{List}
 use Prim.Native.Nat.{ℕ, _+_, _-_}

@@ -22,7 +22,7 @@ variableAt ws i = payload (wordAt ws i)
 unfoldable pub numberAt : List ℕ → ℕ → ℤ
 numberAt ws i = signed (wordAt ws i)
 
--- n terms, and the constant after them
+-- 01, Words: "each term a 5 and a 6 (coefficient), then a 6 (constant)": n terms, and the constant after them
 unfoldable pub termsIn : List ℕ → ℕ → List (Term ℕ)
 termsIn ws n = listOf (λ k. numberAt ws (2 * k + 1) · variableAt ws (2 * k)) n
 

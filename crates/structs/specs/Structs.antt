@@ -31,7 +31,7 @@ countsOf holds = noCounts 0 0
 countsOf (outOfBounds i) = noCounts 0 0
 countsOf (isFalse i) = noCounts 0 0
 
--- Of the calls that write: a fault, its place, and how many were written.
+-- Of the calls that write: a fault, its place, and what the call counts: words, bytes or solutions.
 unfoldable pub countOf : {A : Type 0} → (ℕ → ℕ → ℕ → A) → Answer → A
 countOf made (refused n p) = made n p 0
 countOf made (written n) = made 0 0 n

@@ -19,7 +19,7 @@ use Rattle.words.specs.Variables.{startsPair, variables}
 use Rattle.words.specs.Word.{kind, signed, wordAt}
 use Rattle.words.proofs.Reading.{word-then, word-ahead}
 use Rattle.variables.specs.Start.{starts, pairBounds}
-use Rattle.variables.specs.Counted.{VariablesBefore}
+use Rattle.variables.proofs.Counted.{VariablesBefore}
 
 -- the variables of a list that begins with a word
 first-none : (w : ℕ) (ws : List ℕ) → starts w ≡ false → variables (w ∷ ws) ≡ variables ws

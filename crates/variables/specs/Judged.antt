@@ -1,4 +1,4 @@
--- What both judges answer before they look at constraints or rows.
+-- What judge-model answers before it looks at constraints.
 use mathlib.Core.List.{List}
 use Prim.Native.Nat.{ℕ}
 use lib.IntN.{ℤ}

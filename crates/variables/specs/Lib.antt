@@ -1,4 +1,3 @@
--- What the contracts cite: the words that start a variable, how many stand before a place, and what judges answer of the values.
+-- What the contracts cite: the words that start a variable, and what judge-model answers of the values.
 pub mod Start
-pub mod Counted
 pub mod Judged

@@ -80,9 +80,6 @@ pub none-passed : {A : Type 0} (t : A → Bool) (whole : List A) → Passed t wh
 none-passed t whole = record { few = omega arith; rest = refl }
 
 module _ {A : Type 0} {t : A → Bool} {whole left : List A} {k at : ℕ} (p : Passed t whole k at left) where
-  pub pass-none : {xs : List A} → left ≡ xs → Passed t whole k (at + 1) xs
-  pass-none e = record { few = omega (arith, p .few); rest = rw e at (p .rest) }
-
   pub pass-one : {x : A} {xs : List A} → left ≡ x ∷ xs → t x ≡ true → Passed t whole (k + 1) (at + 1) xs
   unfolding firstFalse
   pass-one e b = record { few = omega (arith, p .few); rest = rw (e, b) at (p .rest) }

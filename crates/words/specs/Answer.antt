@@ -1,4 +1,5 @@
--- 01, Five calls, and 02: what the calls answer. For each enum of the code a definition of its crate gives the answer of each of its cases.
+-- 01, Five calls, and 02: what the calls answer, but for reason, whose answers have a type of their own.
+-- For each enum of the code a definition of its crate gives the answer of each of its cases.
 use mathlib.Core.Bool.{Bool, true, false}
 use Prim.Native.Nat.{ℕ, zero, suc}
 use Rattle.words.specs.declared.Refusal.{Refusal}
@@ -8,7 +9,7 @@ pub data Answer : Type 0 where
   refused : (number place : ℕ) → Answer
   -- "Check answers variables, constraints, auxiliaries, rows and words needed; products count as rows throughout."
   counts : (variables constraints auxiliaries rows words : ℕ) → Answer
-  -- how many words translate wrote, how many values fill wrote, how many bytes sheet wrote
+  -- how many words translate, text and bits wrote, values fill wrote, bytes sheet wrote, solutions were listed
   written : ℕ → Answer
   -- "answer "holds", else the first variable out of bounds, else the first false constraint or row, counted from 0"
   holds : Answer

@@ -4,7 +4,7 @@ use Prim.Native.Nat.{ℕ}
 abbrev pub none : ℕ
 none = 0
 
--- "More than 8,192 model words, or 131,072 row words", with 02 262,144 row words
+-- "More than 8,192 model words, or 131,072 row words"; 02, wish 10: "the limit on row words rises to 262,144"; wish 8: "then 1 above 8,192 words"
 abbrev pub tooManyWords : ℕ
 tooManyWords = 1
 
@@ -36,7 +36,7 @@ tooManyConstraints = 7
 abbrev pub unknownCode : ℕ
 unknownCode = 8
 
--- "A list length is outside 0 to 32, or a term number above 66."
+-- "A list length is outside 0 to 32, or a term number above 66."; 02, wish 13: "A k outside its limits is fault 9."
 abbrev pub lengthOutside : ℕ
 lengthOutside = 9
 
@@ -48,7 +48,7 @@ notDeclared = 10
 abbrev pub wordAfterEnd : ℕ
 wordAfterEnd = 11
 
--- "A code 28 needs more than 64 auxiliaries."
+-- "A code 28 needs more than 64 auxiliaries."; 02, wish 7: "also comes when a shared list needs more than 64 auxiliaries"
 abbrev pub setTooWide : ℕ
 setTooWide = 12
 

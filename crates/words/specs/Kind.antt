@@ -24,7 +24,7 @@ number = 6
 abbrev pub modelEnd : ℕ
 modelEnd = 7
 
--- "8 and 9 lower and upper bound of an auxiliary; A a row "sum ≤ 0" and B "sum = 0", payload the number of terms; C a product; F the end"
+-- "8 and 9 lower and upper bound of an auxiliary; A a row "sum ≤ 0" and B "sum = 0", payload the number of terms, ..; C a product, ..; F the end"
 abbrev pub auxiliaryLower : ℕ
 auxiliaryLower = 8
 

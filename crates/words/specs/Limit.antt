@@ -14,25 +14,32 @@ highest = pos 134217727
 abbrev pub range : Bounds
 range = lowest to highest
 
+-- 01, Words: "the top 4 are its kind, the low 28 its payload": how many payloads there are, and the last of them
+abbrev pub payloads : ℕ
+payloads = 268435456
+
+abbrev pub lastPayload : ℕ
+lastPayload = 268435455
+
 -- 01, Words: "Signed payloads are two's complement": from 2^27 on a payload is a negative number, first of all the lowest 28-bit one
 abbrev pub half : ℕ
 half = 134217728
 
--- Numbered faults, 1: "More than 8,192 model words, or 131,072 row words"; 02, wish 10: "the limit on row words rises to 262,144"
+-- 01, Numbered faults, 1: "More than 8,192 model words, or 131,072 row words"; 02, wish 10: "the limit on row words rises to 262,144"
 abbrev pub modelWords : ℕ
 modelWords = 8192
 
 abbrev pub rowWords : ℕ
 rowWords = 262144
 
--- 6: "A 257th variable starts in a model." 7: "A 257th constraint starts."
+-- 01, Numbered faults, 6: "A 257th variable starts in a model."; 7: "A 257th constraint starts."
 abbrev pub variables : ℕ
 variables = 256
 
 abbrev pub constraints : ℕ
 constraints = 256
 
--- 9: "A list length is outside 0 to 32, or a term number above 66."
+-- 01, Numbered faults, 9: "A list length is outside 0 to 32, or a term number above 66."
 abbrev pub listLength : ℕ
 listLength = 32
 
@@ -43,11 +50,11 @@ terms = 66
 abbrev pub exponent : ℕ
 exponent = 27
 
--- 12: "A code 28 needs more than 64 auxiliaries."
+-- 01, Numbered faults, 12: "A code 28 needs more than 64 auxiliaries."; 02, wish 7: "also comes when a shared list needs more than 64 auxiliaries"
 abbrev pub setBits : ℕ
 setBits = 64
 
--- 14: "Variables and auxiliaries pass 4,096"
+-- 01, Numbered faults, 14: "Variables and auxiliaries pass 4,096"
 abbrev pub inAll : ℕ
 inAll = 4096
 

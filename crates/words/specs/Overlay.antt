@@ -1,4 +1,5 @@
 -- Laying a list over another one, from a place on; what does not fit is left out, and what stands beyond keeps its values.
+-- 01, Five calls: "words past the end keep their values".
 use mathlib.Core.List.{List, [], _∷_}
 use Prim.Native.Nat.{ℕ, suc}
 use lib.ListN.{set}

@@ -11,14 +11,14 @@ use Rattle.integers.specs.declared.Bounds.{Bounds}
 use Rattle.words.specs.Limit as Limit
 
 unfoldable pub kind : ℕ → ℕ
-kind w = w / 268435456
+kind w = w / Limit.payloads
 
 unfoldable pub payload : ℕ → ℕ
-payload w = w % 268435456
+payload w = w % Limit.payloads
 
 -- "Signed payloads are two's complement": below 2^27 the payload itself, else the payload less 2^28
 unfoldable pub signed : ℕ → ℤ
-signed w = pos (payload w) if ltb (payload w) Limit.half else negsuc (268435455 - payload w)
+signed w = pos (payload w) if ltb (payload w) Limit.half else negsuc (Limit.lastPayload - payload w)
 
 -- whether a number is in the range
 abbrev pub inRange : ℤ → Bool
@@ -30,11 +30,12 @@ tooLow range w = not (within range (signed w))
 
 -- the word of a kind and a payload, and of a kind and a number of the range
 unfoldable pub word : ℕ → ℕ → ℕ
-word k p = k * 268435456 + p % 268435456
+word k p = k * Limit.payloads + p % Limit.payloads
 
+-- the payload of a number of the range
 unfoldable pub complement : ℤ → ℕ
-complement (pos n) = n % 268435456
-complement (negsuc n) = 268435455 - n % 268435456
+complement (pos n) = n % Limit.payloads
+complement (negsuc n) = Limit.lastPayload - n % Limit.payloads
 
 unfoldable pub numberWord : ℕ → ℤ → ℕ
 numberWord k z = word k (complement z)

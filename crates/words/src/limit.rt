@@ -20,7 +20,7 @@ pub const LIST_LENGTH: usize = 32;
 pub const TERMS: usize = 66;
 // the exponent of a power
 pub const EXPONENT: usize = 27;
-// auxiliaries of a code 28
+// auxiliaries of a code 28, and of a list that constraints share
 pub const SET_BITS: usize = 64;
 // variables and auxiliaries together
 pub const IN_ALL: usize = 4096;

@@ -4,7 +4,7 @@ use mathlib.Core.Logic.{⊎-elim}
 use Prim.Native.Nat.{_-_}
 use lib.ListN.{length}
 use borrow.Author.Needs.{needs}
-use Rattle.variables.specs.Counted.{VariablesBefore}
+use Rattle.variables.proofs.Counted.{VariablesBefore}
 use Rattle.variables.proofs.Walk.{count-none, count-one, counted}
 use Rattle.variables.proofs.count_variables.Statement.{statement}
 use Rattle.variables.proofs.count_variables.Tie as tie

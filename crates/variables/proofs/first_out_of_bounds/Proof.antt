@@ -11,7 +11,7 @@ use Rattle.integers.specs.Terms.{value}
 use Rattle.words.specs.Verdict.{verdict}
 use Rattle.words.specs.Word.{wordAt}
 use Rattle.variables.specs.Start.{pairBounds}
-use Rattle.variables.specs.Counted.{VariablesBefore}
+use Rattle.variables.proofs.Counted.{VariablesBefore}
 use Rattle.variables.proofs.Walk.{count-none, count-one, words-left, none-left, Kept, keep-none, keep-one, break-one, keep-all}
 use Rattle.variables.proofs.first_out_of_bounds.Statement.{statement}
 use Rattle.variables.proofs.first_out_of_bounds.Tie as tie
