@@ -121,9 +121,13 @@ room-for room n e = go (ltb room n) refl e
     go false h e = omega (arith, ltb-false)
 
 -- more is read than there is room for, or not
-pub too-long : (room n : ℕ) (f : Refusal) → room < n → (roomFault room n else-refuse f) ≡ (Fault.outputTooShort at-place 0)
+too-long : (room n : ℕ) (f : Refusal) → room < n → (roomFault room n else-refuse f) ≡ (Fault.outputTooShort at-place 0)
 unfolding roomFault _else-refuse_
 too-long room n f h = rw (lt-ltb room n h)
+
+pub front-too-long : (room n : ℕ) (f : Refusal) (text : List ℕ) {page later : List ℕ} {end : ℕ} → room < n → Laid page 0 (refusalLine Fault.outputTooShort 0) later end → end ≤ length page →
+    Front later end ((roomFault room n else-refuse f) else-print text)
+front-too-long room n f text h l e = front-fault _ text l e (omega arith) (too-long room n f h)
 
 pub short-enough : (room n : ℕ) (f : Refusal) → n ≤ room → f ≡ (roomFault room n else-refuse f)
 unfolding roomFault _else-refuse_

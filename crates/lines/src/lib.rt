@@ -1,12 +1,14 @@
 // The lines that the programs print, laid over a page of bytes; each function answers where they end.
 ghost use Prim.Native.Nat.{_+_, _<_, _≤_};
 ghost use lib.ListN.{length, take};
+ghost use Rattle.words.specs.Fault as Fault;
 ghost use Rattle.words.specs.Laid.{Laid};
 ghost use Rattle.lines.specs.Lines.{wordLine, wordLines, refusalLine};
 use decimals::put_byte;
 use decimals::put_decimal;
 use hexadecimal::digits_of;
 use words::Refusal;
+use words::fault;
 
 // Bytes.
 fn put_bytes(page: &mut [u8], at: usize, bytes: &[u8]) -> usize
@@ -69,4 +71,18 @@ pub fn put_refusal(page: &mut [u8], r: Refusal) -> usize
     let end = put_decimal(page, blank + 1, place);
     put_byte(page, end, 10);
     end + 1
+}
+
+// Refusal 16, where what is read is longer than the program has room for.
+pub fn put_too_long(page: &mut [u8]) -> usize
+    ensures text { λ e. ⌜ Laid (now (page .entry)) 0 (refusalLine Fault.outputTooShort 0) (now (page .exit)) e ⌝ }
+    ensures end { λ e. ⌜ e ≤ 40 ⌝ }
+{
+    put_refusal(
+        page,
+        Refusal {
+            number: fault::OUTPUT_TOO_SHORT,
+            place: 0,
+        },
+    )
 }

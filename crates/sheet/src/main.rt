@@ -3,15 +3,14 @@ ghost use mathlib.Core.Path.{_≡_};
 ghost use lib.ListN.{length, take};
 ghost use Rattle.io.specs.Counts.{Counts};
 ghost use Rattle.encoding.specs.Bytes.{bytesWords};
-ghost use Rattle.sheet.specs.Text.{printedSheet};
+ghost use Rattle.sheet.specs.Text.{pageBytes, printedSheet};
 use encoding::front_words;
 use lines::put_refusal;
+use lines::put_too_long;
 use sheets::Printed;
 use sheets::sheet;
-use words::Refusal;
-use words::fault;
 
-// The words that are read at most, and the bytes of one word more.
+// The words above which it says 16, and the bytes of one word more.
 const WORDS: usize = 16384;
 
 const BYTES: usize = 65540;
@@ -21,18 +20,12 @@ const PAGE: usize = 262144;
 
 // Writes what the program prints to the front of a page; answers how many bytes it has.
 fn sheet_page(bytes: &[u8], page: &mut [u8]) -> usize
-    requires { ⌜ length (now page) ≡ 262144 ⌝ }
+    requires { ⌜ length (now page) ≡ pageBytes ⌝ }
     ensures text { λ r. ⌜ take r (now (page .exit)) ≡ printedSheet (bytesWords (now (bytes .entry))) ⌝ }
     ensures count { λ r. ⌜ Counts r (now (page .exit)) ⌝ }
 {
     if WORDS < bytes.len() / 4 {
-        return put_refusal(
-            page,
-            Refusal {
-                number: fault::OUTPUT_TOO_SHORT,
-                place: 0,
-            },
-        );
+        return put_too_long(page);
     }
     let mut words = [0u32; WORDS];
     let n = front_words(bytes, &mut words);

@@ -7,22 +7,23 @@ use Rattle.words.specs.Written.{wrote}
 use Rattle.encoding.specs.Bytes.{bytesWords}
 use Rattle.encoding.proofs.Words.{quarter}
 use Rattle.bitforms.specs.FormAnswer.{bitForm, bitFormed}
-use Rattle.lines.proofs.Printed.{front-fault, front-refused, front-lines, too-long, short-enough}
+use Rattle.lines.specs.Lines.{programWords}
+use Rattle.lines.proofs.Printed.{front-too-long, front-refused, front-lines, short-enough}
 use Rattle.bits.specs.Text.{formText}
 use Rattle.bits.proofs.Text.{fits}
 use Rattle.bits.proofs.form_page.Statement.{statement}
 use Rattle.bits.proofs.form_page.Tie as tie
 
-few : (c : tie.Else1) → length (bytesWords (c .before .before .before .args .bytes .now)) ≤ 16384
+few : (c : tie.Else1) → length (bytesWords (c .before .before .before .args .bytes .now)) ≤ programWords
 few c = rw (quarter (c .before .before .before .args .bytes .now)) at (c .if1 .left)
 
 returns : tie.Need-returns
 unfolding formText
 returns c =
     let s = c .before .before .before .before .before .before .before in
-    let put = c .before .before .put-refusal in
-    front-fault _ _ (put .ensures .0) (omega (arith, put .ensures .1, s .pre)) (omega arith)
-    (too-long 16384 (length (bytesWords (s .args .bytes .now))) _ (rw (quarter (s .args .bytes .now)) at (c .before .before .before .before .if1 .taken)))
+    let put = c .before .before .put-too-long in
+    front-too-long programWords (length (bytesWords (s .args .bytes .now))) _ _ (rw (quarter (s .args .bytes .now)) at (c .before .before .before .before .if1 .taken))
+    (put .ensures .0) (omega (arith, put .ensures .1, s .pre))
 
 front-words-requires : tie.Need-front-words-requires
 front-words-requires c κs = few (c .before)
@@ -32,9 +33,9 @@ unfolding formText wrote bitForm
 returns-2 c =
     let w = c .before .before .before .before .before .before .before .before .before .before .before .before in
     let s = w .before .before .before .before .before in
-    let put = c .before .before .put-refusal2 in
+    let put = c .before .before .put-refusal in
     let says = rw (c .before .before .before .before .before .r .given .1, w .front-words .ensures .0) at (c .before .before .before .before .before .before .before .before .bit-form .ensures .0) in
-    front-refused _ _ (put .ensures .0) (omega (arith, put .ensures .1, s .pre)) _ says (short-enough 16384 (length (bytesWords (s .args .bytes .now))) _ (few (w .before .before)))
+    front-refused _ _ (put .ensures .0) (omega (arith, put .ensures .1, s .pre)) _ says (short-enough programWords (length (bytesWords (s .args .bytes .now))) _ (few (w .before .before)))
 
 returns-3 : tie.Need-returns-3
 unfolding formText wrote bitForm bitFormed
@@ -43,7 +44,7 @@ returns-3 c =
     let s = w .before .before .before .before .before in
     let ws = bytesWords (s .args .bytes .now) in
     let form = rw (c .before .before .before .before .before .before .k .given .1, w .front-words .ensures .0) at (c .before .before .before .before .before .before .before .before .before .bit-form .ensures) in
-    front-lines (record { answer = form .0; output = form .1 .0; room = fits ws 16384 }) (short-enough 16384 (length ws) _ (few (w .before .before)))
+    front-lines (record { answer = form .0; output = form .1 .0; room = fits ws programWords }) (short-enough programWords (length ws) _ (few (w .before .before)))
     (c .before .before .put-front .ensures) (s .pre)
 
 pub form-page-spec : {M : Type 1} → statement M

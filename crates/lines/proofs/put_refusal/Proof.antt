@@ -2,6 +2,8 @@
 use Prim.Native.Nat.{_≤_}
 use native.Mathlib.Omega.{arith}
 use borrow.Author.Needs.{needs}
+use Rattle.integers.specs.Lists.{listOf}
+use Rattle.words.specs.Bytes.{bytes}
 use Rattle.lines.proofs.Lines.{laid-refusal, number-fits, place-fits}
 use Rattle.lines.proofs.put_refusal.Statement.{statement}
 use Rattle.lines.proofs.put_refusal.Tie as tie
@@ -25,6 +27,7 @@ add-result : tie.Need-add-result
 add-result c = omega (arith, place-ends (c .before .before .before .before .before .before))
 
 returns : tie.Need-returns
+unfolding bytes listOf
 returns c =
     let s = c .before .before .before .before .before .before .before .before .before .before .before .before .before .before .before .before .before .before .before .before .before .before .before in
     let start = c .before .before .before .before .before .before .before .before .before .before .before .before .before .before .before .before .before .before .put-bytes in
