@@ -6,9 +6,9 @@
 
 believed: the files of specs/ that the contracts of the calls for C and their structs, of the programs rows, sheet, text and bits and of the digits cite, and those that
 these stand on, with their lines, all and without signatures. edits: the must-fail edits with the first line of each, `# what is wrong`.
-Every `CRATE/EDIT`, `CRATE/specs/FILE` or `CRATE/specs` FILE with the names behind it, and `CRATE::FUNCTION` that this page, README.md,
-docs/DECISIONS.md and docs/changes name must be there."""
-import glob, os, re, sys
+Every `CRATE/EDIT`, `CRATE/specs/FILE` or `CRATE/specs` FILE with the names behind it, `CRATE::FUNCTION`, and any other file, crate or module that this
+page, README.md, docs/DECISIONS.md and docs/changes name must be there."""
+import functools, glob, os, re, sys
 
 TOP = os.path.dirname(os.path.dirname(os.path.abspath(__file__)))
 PAGE = os.path.join(TOP, 'docs', 'PROMISES.md')
@@ -19,6 +19,11 @@ def crates():
     for line in open(os.path.join(TOP, 'crates.txt')):
         if m := re.match(r'(\w+):', line):
             yield m.group(1)
+
+
+@functools.cache
+def modules():
+    return {name for path in glob.glob(os.path.join(TOP, 'crates', '*', 'src', '*.rt')) for name in re.findall(r'^(?:pub )?mod (\w+);', open(path).read(), re.M)}
 
 
 def cited(path):
@@ -84,8 +89,15 @@ def edits_table():
 
 
 def check_names(where, page):
-    """The edits, definitions, laws and functions that a page names are there."""
+    """The edits, definitions, laws, functions and files that a page names are there."""
     known = set(crates())
+    for path in re.findall(r'`(\w+(?:/[\w.*-]+)+)`', page):
+        crate, *rest = path.split('/')
+        places = [path, *('crates/' + path + ending for ending in ('', '.antt', '.rt')), '/'.join(['crates', crate, 'must-fail', *rest]) + '.edit']
+        if not any(glob.glob(os.path.join(TOP, place)) for place in places):
+            sys.exit(f'{where}: there is no {path}')
+    for name in set(re.findall(r'`(\w+)::', page)) - known - modules():
+        sys.exit(f'{where}: there is no crate or module {name}')
     for crate, name in re.findall(r'`(\w+)/(\w+)`', page):
         if crate in known and name not in ('specs', 'proofs', 'src') and not os.path.exists(os.path.join(TOP, 'crates', crate, 'must-fail', name + '.edit')):
             sys.exit(f'{where}: there is no edit {crate}/{name}')
