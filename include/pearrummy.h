@@ -17,10 +17,10 @@ extern "C" {
 #endif
 
 /* The second number rises with every change of an answer: a builtin, a call, a row or a limit more. */
-#define PEARRUMMY_VERSION "1.14.2"
+#define PEARRUMMY_VERSION "1.14.3"
 #define PEARRUMMY_VERSION_MAJOR 1
 #define PEARRUMMY_VERSION_MINOR 14
-#define PEARRUMMY_VERSION_PATCH 2
+#define PEARRUMMY_VERSION_PATCH 3
 
 /* Limits; what passes one is refused. */
 #define PEARRUMMY_MODEL_WORDS 8192
