@@ -22,7 +22,7 @@ use rowreading::rows::starts_row;
 use words::limit;
 
 // Whether rows over bits fit, and then the sum of their constants' squares.
-pub struct Checked {
+pub struct RowsFit {
     pub fits: bool,
     pub constant: i64,
 }
@@ -77,25 +77,25 @@ fn check_row(
     us: &[i64],
     firsts: &[usize],
     first: usize,
-) -> Checked
+) -> RowsFit
     requires { ⌜ BitLists (now ls) (now us) (now firsts) × (first < Size.farthest) ⌝ }
     ensures { λ r. ⌜ RowChecked (length (now (row .entry))) (rowBy (now (ls .entry)) (now (us .entry)) (now (firsts .entry)) first head (now (args .entry))) (r .fits) (r .constant) ⌝ }
 {
     let c = row_constant(head, args, ls);
     if !within_limit(c) {
-        return Checked {
+        return RowsFit {
             fits: false,
             constant: 0,
         };
     }
     fill_row(row, head, args, ls, us, firsts, first);
     if !all_within(row) {
-        return Checked {
+        return RowsFit {
             fits: false,
             constant: 0,
         };
     }
-    Checked {
+    RowsFit {
         fits: true,
         constant: times(c, c),
     }
@@ -110,7 +110,7 @@ pub fn check_rows(
     counts: &[usize],
     start: usize,
     row: &mut [i64],
-) -> Checked
+) -> RowsFit
     requires { ⌜ RowTables (now ws) (now ls) (now us) (now firsts) (now counts) start ⌝ }
     ensures { λ r. ⌜ RowsChecked (length (now (row .entry))) (rowsBy (now (ls .entry)) (now (us .entry)) (now (firsts .entry)) start (now (ws .entry))) (r .fits) (r .constant) ⌝ }
 {
@@ -129,7 +129,7 @@ pub fn check_rows(
             first += own_bits(head, &ws[at..], ls, us, counts);
         }
     }
-    Checked {
+    RowsFit {
         fits: true,
         constant,
     }

@@ -12,7 +12,7 @@ use Rattle.integers.specs.Bounds.{within}
 use Rattle.integers.specs.Lists.{all}
 use Rattle.integers.proofs.Tests.{says-equal, false-true}
 use Rattle.words.specs.Kind as Kind
-use Rattle.words.specs.Laid.{Laid}
+use Rattle.words.specs.LaidAt.{LaidAt}
 use Rattle.words.specs.Overlay.{overlay}
 use Rattle.words.specs.Word.{word, numberWord, inRange}
 use Rattle.words.proofs.Overlay.{overlay-append}
@@ -60,7 +60,7 @@ module _ (ws : List ℕ) where
 
   -- the constant, the entries, the end
   pub parts-laid : (out a b c : List ℕ) (end : ℕ) → a ≡ overlay out 0 (numberWord Kind.number (formConstant ws) ∷ []) →
-      Laid a 1 (entriesWords entriesOf) b end → c ≡ overlay b end (word Kind.rowsEnd 0 ∷ []) → c ≡ overlay out 0 (formWords ws)
+      LaidAt a 1 (entriesWords entriesOf) b end → c ≡ overlay b end (word Kind.rowsEnd 0 ∷ []) → c ≡ overlay out 0 (formWords ws)
   parts-laid out a b c end e l f =
       f ∙ ap₂ (λ x n. overlay x n (word Kind.rowsEnd 0 ∷ [])) (l .over) (l .ends)
       ∙ overlay-append a 1 (entriesWords entriesOf) (word Kind.rowsEnd 0 ∷ [])

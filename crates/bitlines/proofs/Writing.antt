@@ -12,7 +12,7 @@ use Rattle.integers.specs.Lists.{listOf}
 use Rattle.words.specs.Word.{word, numberWord}
 use Rattle.words.specs.Kind as Kind
 use Rattle.words.specs.Overlay.{overlay}
-use Rattle.words.specs.Laid.{Laid}
+use Rattle.words.specs.LaidAt.{LaidAt}
 use Rattle.words.proofs.Rest.{all-left, lay-part, lay-last, none-left}
 use Rattle.bitforms.specs.Matrix.{Entry, entryAt, lineEntries, notZero}
 use Rattle.bitforms.specs.FormWords.{entryWords}
@@ -21,10 +21,10 @@ use Rattle.bitlines.specs.Line.{entriesWords}
 
 -- ---- words after words
 
-laid-then : {a b c : ℕ} {o p q us vs : List ℕ} → Laid o a us p b → Laid p b vs q c → Laid o a (us ++ vs) q c
+laid-then : {a b c : ℕ} {o p q us vs : List ℕ} → LaidAt o a us p b → LaidAt p b vs q c → LaidAt o a (us ++ vs) q c
 laid-then {a} {b} {c} {o} {p} {q} {us} {vs} x y = lay-last (lay-part (all-left o a (us ++ vs)) x) y
 
-laid-none : {a : ℕ} {o : List ℕ} → Laid o a [] o a
+laid-none : {a : ℕ} {o : List ℕ} → LaidAt o a [] o a
 laid-none {a} {o} = none-left (all-left o a [])
 
 -- ---- entries after entries
@@ -47,7 +47,7 @@ words-append xs ys = ap (flatMap entryWords) (zero-append xs ys) ∙ flat-append
 
 -- the entries of the first d bits are written
 pub record Writing (at i m : ℕ) (o : List ℕ) (line : List ℤ) (p : List ℕ) (next d : ℕ) : Type 0 where
-  pub done : Laid o at (entriesWords (lineEntries (λ j. getD line j +0) i d)) p next
+  pub done : LaidAt o at (entriesWords (lineEntries (λ j. getD line j +0) i d)) p next
   pub place : d ≤ m
   pub small : next ≤ at + 3 * d
 
@@ -64,7 +64,7 @@ one-size i j v = go (v == +0)
     go false = omega arith
 
 pub writing-more : {at i m next r d : ℕ} {o p q : List ℕ} {line : List ℤ} → d < m → Writing at i m o line p next d →
-    Laid p next (entriesWords (entryAt i (i + d) (getD line (i + d) +0) ∷ [])) q r → Writing at i m o line q r (d + 1)
+    LaidAt p next (entriesWords (entryAt i (i + d) (getD line (i + d) +0) ∷ [])) q r → Writing at i m o line q r (d + 1)
 unfolding lineEntries
 writing-more {at} {i} {m} {next} {r} {d} {o} {p} {q} {line} l w e = record {
   done =
@@ -76,11 +76,11 @@ writing-more {at} {i} {m} {next} {r} {d} {o} {p} {q} {line} l w e = record {
 
 -- ---- one entry
 
-pub laid-zero : {at : ℕ} {o : List ℕ} (i j : ℕ) (v : ℤ) → (v == +0) ≡ true → Laid o at (entriesWords (entryAt i j v ∷ [])) o at
+pub laid-zero : {at : ℕ} {o : List ℕ} (i j : ℕ) (v : ℤ) → (v == +0) ≡ true → LaidAt o at (entriesWords (entryAt i j v ∷ [])) o at
 unfolding entriesWords notZero flatMap
 laid-zero i j v e = rw e laid-none
 
 pub laid-entry : {at : ℕ} {o p : List ℕ} (i j : ℕ) (v : ℤ) → (v == +0) ≡ false →
-    p ≡ overlay o at (word Kind.variable i ∷ word Kind.variable j ∷ numberWord Kind.number v ∷ []) → Laid o at (entriesWords (entryAt i j v ∷ [])) p (at + 3)
+    p ≡ overlay o at (word Kind.variable i ∷ word Kind.variable j ∷ numberWord Kind.number v ∷ []) → LaidAt o at (entriesWords (entryAt i j v ∷ [])) p (at + 3)
 unfolding entriesWords notZero flatMap entryWords
 laid-entry i j v e f = rw e (record { over = f; ends = refl })

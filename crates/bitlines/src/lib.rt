@@ -6,7 +6,7 @@ ghost use lib.IntN.{natAbs};
 ghost use lib.ListN.{length, getD};
 ghost use Rattle.integers.specs.Number.{_⊕_, _⊗_, +0, +2};
 ghost use Rattle.words.specs.Limit as Limit;
-ghost use Rattle.words.specs.Laid.{Laid};
+ghost use Rattle.words.specs.LaidAt.{LaidAt};
 ghost use Rattle.bitforms.specs.Weights.{weights};
 ghost use Rattle.bitforms.specs.OverBits.{weightedBits, scaled};
 ghost use Rattle.bitforms.specs.Matrix.{entryAt, lineEntries};
@@ -142,7 +142,7 @@ pub fn add_pair(line: &mut [i64], u: usize, v: usize, t: usize, i: usize)
 // Writes the words of an entry, none for 0; the next place.
 pub fn put_entry(out: &mut [u32], at: usize, i: usize, j: usize, v: i64) -> usize
     requires { ⌜ at < Size.farthest ⌝ }
-    ensures { λ r. ⌜ Laid (now (out .entry)) at (entriesWords (entryAt i j v ∷ [])) (now (out .exit)) r ⌝ }
+    ensures { λ r. ⌜ LaidAt (now (out .entry)) at (entriesWords (entryAt i j v ∷ [])) (now (out .exit)) r ⌝ }
 {
     if equal(v, 0) {
         return at;
@@ -159,7 +159,7 @@ pub fn put_entry(out: &mut [u32], at: usize, i: usize, j: usize, v: i64) -> usiz
 // Writes the entries of bit i and the m bits from i on; the next place.
 pub fn put_line(out: &mut [u32], at: usize, line: &[i64], i: usize, m: usize) -> usize
     requires { ⌜ (at + 3 * m < Size.farthest) × (i + m ≤ Limit.bits) ⌝ }
-    ensures { λ r. ⌜ Laid (now (out .entry)) at (entriesWords (lineEntries (λ j. getD (now (line .entry)) j +0) i m)) (now (out .exit)) r ⌝ }
+    ensures { λ r. ⌜ LaidAt (now (out .entry)) at (entriesWords (lineEntries (λ j. getD (now (line .entry)) j +0) i m)) (now (out .exit)) r ⌝ }
 {
     let mut next = at;
     let mut d = 0;

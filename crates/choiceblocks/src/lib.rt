@@ -14,7 +14,7 @@ ghost use Rattle.laying.specs.Appends.{Appends, GrowsBy};
 ghost use Rattle.laying.specs.Room.{BlockRoom};
 ghost use Rattle.laying.specs.Sizes.{firstNumbers, blockSize};
 ghost use Rattle.extremes.specs.Bounded.{boundsOf, Bounded};
-ghost use Rattle.choiceblocks.specs.Listed.{Listed};
+ghost use Rattle.choiceblocks.specs.FrontListed.{FrontListed};
 ghost use Rattle.choiceblocks.specs.Rows.{oneOfParts, extremeBlock, numberElementOf, variableElementOf, setOf, setReifiedOf};
 use crate::rows::lay_choice;
 use crate::rows::lay_first_only;
@@ -76,7 +76,7 @@ pub fn first_element(args: &[u32], ls: &[i64]) -> usize
 // Puts the members of the set at place 1 that the bounds of the variable at place 0 leave into a list of zeros; how many there are.
 pub fn members_of(args: &[u32], ls: &[i64], us: &[i64], vs: &mut [i64]) -> usize
     requires { ⌜ Bounded (now us) × (now vs ≡ replicate Limit.listLength +0) ⌝ }
-    ensures { λ r. ⌜ Listed (members (nums (now (args .entry)) 1) (boundsOf (now (ls .entry)) (now (us .entry)) (var (now (args .entry)) 0))) r (now (vs .exit)) ⌝ }
+    ensures { λ r. ⌜ FrontListed (members (nums (now (args .entry)) 1) (boundsOf (now (ls .entry)) (now (us .entry)) (var (now (args .entry)) 0))) r (now (vs .exit)) ⌝ }
 {
     let x = var_at(args, 0);
     members(args, 1, bound_at(ls, x), bound_at(us, x), vs)

@@ -3,7 +3,7 @@ ghost use mathlib.Core.Path.{_≡_};
 ghost use Prim.Native.Nat.{_+_, _<_, _≤_};
 ghost use lib.IntN.{natAbs};
 ghost use lib.ListN.{length, set};
-ghost use Rattle.words.specs.Laid.{Laid};
+ghost use Rattle.words.specs.LaidAt.{LaidAt};
 ghost use Rattle.words.specs.Overlay.{overlay};
 ghost use Rattle.decimals.specs.Ahead.{byteOf, minusAfter, ahead};
 ghost use Rattle.decimals.specs.Column.{blanks, right, left};
@@ -111,7 +111,7 @@ fn digits_of(n: usize) -> usize
 // A number; answers where it ends.
 pub fn put_decimal(page: &mut [u8], at: usize, n: usize) -> usize
     requires { ⌜ at + length (decimal n) < 1099511627776 ⌝ }
-    ensures { λ r. ⌜ Laid (now (page .entry)) at (decimal n) (now (page .exit)) r ⌝ }
+    ensures { λ r. ⌜ LaidAt (now (page .entry)) at (decimal n) (now (page .exit)) r ⌝ }
 {
     let digits = digits_of(n);
     put_right(page, at, digits, false, n);

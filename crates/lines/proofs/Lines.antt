@@ -5,7 +5,7 @@ use Prim.Native.Nat.{ℕ, suc, _+_, _*_, _<_, _≤_}
 use native.Mathlib.Omega.{arith}
 use lib.ListN.{length, getD, drop, set, drop-of-length-le, length-append}
 use lib.Seq.{drop-cons}
-use Rattle.words.specs.Laid.{Laid}
+use Rattle.words.specs.LaidAt.{LaidAt}
 use Rattle.words.proofs.Rest.{all-left, lay-part, lay-last, laid-one}
 use Rattle.decimals.specs.Decimal.{decimal}
 use Rattle.decimals.proofs.Digits.{decimal-length}
@@ -17,7 +17,7 @@ pub length-word : (w : ℕ) → length (wordLine w) ≡ 9
 unfolding wordLine digits
 length-word w = refl
 
-pub laid-word : (page : List ℕ) (at w : ℕ) (later : List ℕ) (end : ℕ) → Laid page at (digits w) later end → Laid page at (wordLine w) (set later end 10) (end + 1)
+pub laid-word : (page : List ℕ) (at w : ℕ) (later : List ℕ) (end : ℕ) → LaidAt page at (digits w) later end → LaidAt page at (wordLine w) (set later end 10) (end + 1)
 unfolding wordLine
 laid-word page at w later end l = lay-last (lay-part {xs = digits w} {ys = 10 ∷ []} (all-left page at (wordLine w)) l) (laid-one later end 10)
 
@@ -36,7 +36,7 @@ unfolding wordLines
 words-none ws k h = rw (drop-of-length-le ws h)
 
 -- a refusal
-pub laid-refusal : (page : List ℕ) (m n : ℕ) (p q r : List ℕ) (a b c : ℕ) → Laid page 0 refusedWord p a → Laid p a (decimal m) q b → Laid (set q b 32) (b + 1) (decimal n) r c → Laid page 0 (refusalLine m n) (set r c 10) (c + 1)
+pub laid-refusal : (page : List ℕ) (m n : ℕ) (p q r : List ℕ) (a b c : ℕ) → LaidAt page 0 refusedWord p a → LaidAt p a (decimal m) q b → LaidAt (set q b 32) (b + 1) (decimal n) r c → LaidAt page 0 (refusalLine m n) (set r c 10) (c + 1)
 unfolding refusalLine
 laid-refusal page m n p q r a b c f g h =
     let one = lay-part {xs = refusedWord} {ys = decimal m ++ (32 ∷ (decimal n ++ (10 ∷ [])))} (all-left page 0 (refusalLine m n)) f in

@@ -11,7 +11,7 @@ use borrow.Author.Tests.{ne-eqb, lt-ltb, le-ltb, ltb-false}
 use Rattle.integers.specs.Choice.{_if_else_}
 use Rattle.words.specs.Answer.{refused, written, refusedOr, _else-answer_}
 use Rattle.words.specs.Fault as Fault
-use Rattle.words.specs.Laid.{Laid}
+use Rattle.words.specs.LaidAt.{LaidAt}
 use Rattle.words.specs.Overlay.{overlay}
 use Rattle.words.specs.Refusal.{_at-place_, accepted, faultOr, _else-refuse_, roomFault}
 use Rattle.words.specs.declared.Refusal.{Refusal}
@@ -25,7 +25,7 @@ abbrev pub Front : List ℕ → ℕ → List ℕ → Type 0
 Front list n text = (take n list ≡ text) × ((n ≤ length list) × (n ≡ length (take n list)))
 
 -- what is laid over the front of a list that is long enough
-pub front-is : {list text later : List ℕ} {end : ℕ} → Laid list 0 text later end → end ≤ length list → Front later end text
+pub front-is : {list text later : List ℕ} {end : ℕ} → LaidAt list 0 text later end → end ≤ length list → Front later end text
 front-is {list} {text} {later} {end} l h =
     let n = laid-length l in
     let e : end ≡ length text = omega (arith, l .ends) in
@@ -49,7 +49,7 @@ refused-fault f m p k e = go (f .number) (f .place) e
     go zero q e = let z : _≡_ {A = ℕ} 0 1 = cc in absurd (omega arith)
     go (suc n) q e = (omega arith, (cc, cc))
 
-module _ (f : Refusal) (text : List ℕ) {page later : List ℕ} {m p end : ℕ} (l : Laid page 0 (refusalLine m p) later end) (h : end ≤ length page) where
+module _ (f : Refusal) (text : List ℕ) {page later : List ℕ} {m p end : ℕ} (l : LaidAt page 0 (refusalLine m p) later end) (h : end ≤ length page) where
   -- a call answers a refusal, whose fault is the program's; the program finds a fault itself
   pub front-refused : {g : Refusal} (k : ℕ) → refused m p ≡ (g else-answer written k) → g ≡ f → Front later end (f else-print text)
   front-refused {g} k e s =
@@ -95,7 +95,7 @@ module _ {f : Refusal} {text list later : List ℕ} {n : ℕ} (w : Wrote f text 
     pub front-text : Front later n (g else-print text)
     front-text = same-front _ _ _ _ front-wrote (print-text g text (rw s at (fault-none .0)))
 
-    pub front-lines : {page after : List ℕ} {end : ℕ} → Laid page 0 (wordLines (take n later)) after end → 9 * length list ≤ length page → Front after end (g else-print wordLines text)
+    pub front-lines : {page after : List ℕ} {end : ℕ} → LaidAt page 0 (wordLines (take n later)) after end → 9 * length list ≤ length page → Front after end (g else-print wordLines text)
     front-lines l h =
         let k = front-wrote in
         same-front _ _ _ _ (front-is l (omega (arith, l .ends, length-words (take n later), k .1 .1, fault-none .1, w .room (fault-none .0))))
@@ -125,7 +125,7 @@ too-long : (room n : ℕ) (f : Refusal) → room < n → (roomFault room n else-
 unfolding roomFault _else-refuse_
 too-long room n f h = rw (lt-ltb room n h)
 
-pub front-too-long : (room n : ℕ) (f : Refusal) (text : List ℕ) {page later : List ℕ} {end : ℕ} → room < n → Laid page 0 (refusalLine Fault.outputTooShort 0) later end → end ≤ length page →
+pub front-too-long : (room n : ℕ) (f : Refusal) (text : List ℕ) {page later : List ℕ} {end : ℕ} → room < n → LaidAt page 0 (refusalLine Fault.outputTooShort 0) later end → end ≤ length page →
     Front later end ((roomFault room n else-refuse f) else-print text)
 front-too-long room n f text h l e = front-fault _ text l e (omega arith) (too-long room n f h)
 

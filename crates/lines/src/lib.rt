@@ -2,7 +2,7 @@
 ghost use Prim.Native.Nat.{_+_, _<_, _≤_};
 ghost use lib.ListN.{length, take};
 ghost use Rattle.words.specs.Fault as Fault;
-ghost use Rattle.words.specs.Laid.{Laid};
+ghost use Rattle.words.specs.LaidAt.{LaidAt};
 ghost use Rattle.lines.specs.Lines.{wordLine, wordLines, refusalLine};
 use decimals::put_byte;
 use decimals::put_decimal;
@@ -13,7 +13,7 @@ use words::fault;
 // Bytes.
 fn put_bytes(page: &mut [u8], at: usize, bytes: &[u8]) -> usize
     requires { ⌜ at + length (now bytes) < 1099511627776 ⌝ }
-    ensures { λ r. ⌜ Laid (now (page .entry)) at (now (bytes .entry)) (now (page .exit)) r ⌝ }
+    ensures { λ r. ⌜ LaidAt (now (page .entry)) at (now (bytes .entry)) (now (page .exit)) r ⌝ }
 {
     let mut i = 0;
     while i < bytes.len() {
@@ -26,7 +26,7 @@ fn put_bytes(page: &mut [u8], at: usize, bytes: &[u8]) -> usize
 // A word, on a line.
 fn put_word(page: &mut [u8], at: usize, w: u32) -> usize
     requires { ⌜ at + 9 < 1099511627776 ⌝ }
-    ensures { λ r. ⌜ Laid (now (page .entry)) at (wordLine w) (now (page .exit)) r ⌝ }
+    ensures { λ r. ⌜ LaidAt (now (page .entry)) at (wordLine w) (now (page .exit)) r ⌝ }
 {
     let end = put_bytes(page, at, &digits_of(w));
     put_byte(page, end, 10);
@@ -36,7 +36,7 @@ fn put_word(page: &mut [u8], at: usize, w: u32) -> usize
 // Words, each on a line.
 fn put_words(page: &mut [u8], words: &[u32]) -> usize
     requires { ⌜ length (now words) < 1073741824 ⌝ }
-    ensures { λ r. ⌜ Laid (now (page .entry)) 0 (wordLines (now (words .entry))) (now (page .exit)) r ⌝ }
+    ensures { λ r. ⌜ LaidAt (now (page .entry)) 0 (wordLines (now (words .entry))) (now (page .exit)) r ⌝ }
 {
     let mut to = 0;
     let mut k = 0;
@@ -50,7 +50,7 @@ fn put_words(page: &mut [u8], words: &[u32]) -> usize
 // The first n words of a list, each on a line.
 pub fn put_front(page: &mut [u8], words: &[u32], n: usize) -> usize
     requires { ⌜ length (now words) < 1073741824 ⌝ }
-    ensures { λ r. ⌜ Laid (now (page .entry)) 0 (wordLines (take n (now (words .entry)))) (now (page .exit)) r ⌝ }
+    ensures { λ r. ⌜ LaidAt (now (page .entry)) 0 (wordLines (take n (now (words .entry)))) (now (page .exit)) r ⌝ }
 {
     if n < words.len() {
         return put_words(page, &words[..n]);
@@ -60,7 +60,7 @@ pub fn put_front(page: &mut [u8], words: &[u32], n: usize) -> usize
 
 // "refused", the fault's number and its place, on a line.
 pub fn put_refusal(page: &mut [u8], r: Refusal) -> usize
-    ensures text { λ e. ⌜ Laid (now (page .entry)) 0 (refusalLine (r .number) (r .place)) (now (page .exit)) e ⌝ }
+    ensures text { λ e. ⌜ LaidAt (now (page .entry)) 0 (refusalLine (r .number) (r .place)) (now (page .exit)) e ⌝ }
     ensures end { λ e. ⌜ e ≤ 40 ⌝ }
 {
     let number = r.number as usize;
@@ -75,7 +75,7 @@ pub fn put_refusal(page: &mut [u8], r: Refusal) -> usize
 
 // Refusal 16, where what is read is longer than the program has room for.
 pub fn put_too_long(page: &mut [u8]) -> usize
-    ensures text { λ e. ⌜ Laid (now (page .entry)) 0 (refusalLine Fault.outputTooShort 0) (now (page .exit)) e ⌝ }
+    ensures text { λ e. ⌜ LaidAt (now (page .entry)) 0 (refusalLine Fault.outputTooShort 0) (now (page .exit)) e ⌝ }
     ensures end { λ e. ⌜ e ≤ 40 ⌝ }
 {
     put_refusal(

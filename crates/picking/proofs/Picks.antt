@@ -7,7 +7,7 @@ use native.Mathlib.Omega.{arith}
 use lib.IntN.{ℤ}
 use lib.ListN.{length, drop, length-append, drop-of-length-le}
 use Rattle.integers.specs.Terms.{value}
-use Rattle.words.specs.Laid.{Laid}
+use Rattle.words.specs.LaidAt.{LaidAt}
 use Rattle.words.specs.Overlay.{overlay}
 use Rattle.words.proofs.Overlay.{overlay-append}
 use Rattle.words.specs.Variables.{variables}
@@ -69,7 +69,7 @@ module _ {ls us : List ℤ} {uses : List ℕ} {vs : List ℤ} {cs : List Constra
       pub here-ranged : Ranged here
       here-ranged = ranged-left here rest (rw split at (f .ranged))
 
-      pub picked : {r : ℕ} {out′ : List ℤ} {d′ : Encoded} → Laid out at here out′ r → d′ ≡ next → Filling ls us uses vs cs start out₀ out′ (k + 1) r d′
+      pub picked : {r : ℕ} {out′ : List ℤ} {d′ : Encoded} → LaidAt out at here out′ r → d′ ≡ next → Filling ls us uses vs cs start out₀ out′ (k + 1) r d′
       picked w g =
           rw (g, w .ends)
           record {

@@ -17,7 +17,7 @@ use Rattle.words.specs.Limit as Limit
 use Rattle.words.specs.Small as Small
 use Rattle.words.proofs.Word.{says-range}
 use Rattle.words.specs.Word.{inRange}
-use Rattle.words.specs.Laid.{Laid}
+use Rattle.words.specs.LaidAt.{LaidAt}
 use Rattle.words.proofs.LaidThen.{laid-then, laid-none}
 use Rattle.rules.specs.Power.{Values, nextValue, noValue, squaredValue, multipliedValue, powerValues}
 use Rattle.rules.specs.Pick.{powerPick}
@@ -44,7 +44,7 @@ next-put : {at : ℕ} {p r : Powered} {o o₁ o₂ : List ℤ} {v : Values} {m :
 unfolding nextValue
 next-put {at} {p} {r} {o} {o₁} {o₂} {v} f h e n =
     record {
-      picked = subst (λ y. Laid o at (v .picked ++ (y ∷ [])) o₂ (r .at)) (ap₂ _⊗_ e (h .held)) (laid-then (h .picked) (n .picked));
+      picked = subst (λ y. LaidAt o at (v .picked ++ (y ∷ [])) o₂ (r .at)) (ap₂ _⊗_ e (h .held)) (laid-then (h .picked) (n .picked));
       held = n .held ∙ ap₂ _⊗_ e (h .held);
       near = n .near;
       few = omega (arith, h .few, n .picked .ends);

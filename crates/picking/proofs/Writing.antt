@@ -13,14 +13,14 @@ use Rattle.integers.specs.Terms.{value}
 use Rattle.integers.proofs.Linear.{arithZ}
 use Rattle.integers.specs.Bounds.{within}
 use Rattle.words.specs.Word.{inRange}
-use Rattle.words.specs.Laid.{Laid}
+use Rattle.words.specs.LaidAt.{LaidAt}
 use Rattle.words.specs.Overlay.{overlay}
 use Rattle.words.proofs.Word.{says-range}
 use Rattle.words.proofs.Overlay.{overlay-step}
 use Rattle.picking.specs.Picked.{Ranged}
 
 -- the k-th number of a list that is written from `at` on: what is left to write
-pub picked-step : (at k : ℕ) (ps : List ℤ) {r : ℕ} {out out′ whole : List ℤ} → Laid out (at + k) (getD ps k +0 ∷ []) out′ r → k < length ps →
+pub picked-step : (at k : ℕ) (ps : List ℤ) {r : ℕ} {out out′ whole : List ℤ} → LaidAt out (at + k) (getD ps k +0 ∷ []) out′ r → k < length ps →
     overlay out (at + k) (drop k ps) ≡ whole → overlay out′ (at + (k + 1)) (drop (k + 1) ps) ≡ whole
 unfolding overlay
 picked-step at k ps {out} w l h =

@@ -9,7 +9,7 @@ use Rattle.integers.specs.Number.{_⊗_, _==_, +0, +1}
 use Rattle.integers.specs.Bounds.{_to_, within, values}
 use Rattle.integers.specs.Terms.{value}
 use Rattle.words.specs.Word.{inRange}
-use Rattle.words.specs.Laid.{Laid}
+use Rattle.words.specs.LaidAt.{LaidAt}
 use Rattle.models.specs.Model.{var, vars, builtin}
 use Rattle.arguments.specs.Small.{Small}
 use Rattle.rules.specs.Parts.{nth}
@@ -48,7 +48,7 @@ picksAfter ls us uses e vs code args =
 
 -- they went over the list, and r is the place after them
 abbrev pub PickedOver : ℕ → ℕ → List ℤ → List ℤ → List ℤ → List ℤ → List ℕ → Encoded → List ℤ → ℕ → List ℕ → Type 0
-PickedOver at r out out′ ls us uses e vs code args = Laid out at (picksAfter ls us uses e vs code args) out′ r
+PickedOver at r out out′ ls us uses e vs code args = LaidAt out at (picksAfter ls us uses e vs code args) out′ r
 
 -- over a shared variable: the new bits, and all picks
 abbrev pub newPicks : List ℤ → List ℤ → Encoded → List ℤ → List ℕ → List ℤ

@@ -12,7 +12,7 @@ ghost use Rattle.integers.specs.Bounds.{_to_, values};
 ghost use Rattle.integers.specs.Terms.{value, sum};
 ghost use Rattle.words.specs.Word.{inRange};
 ghost use Rattle.words.specs.Limit as Limit;
-ghost use Rattle.words.specs.Laid.{Laid};
+ghost use Rattle.words.specs.LaidAt.{LaidAt};
 ghost use Rattle.models.specs.Model.{var, num, size, terms, pastTerms};
 ghost use Rattle.arguments.specs.Small.{Small};
 ghost use Rattle.rules.specs.Pick.{signPick, signedPick, firstBit, divisionPick};
@@ -49,7 +49,7 @@ use integers::times;
 // Writes a number at a place, if that is inside the list; the place after it.
 pub fn put(out: &mut [i32], at: usize, v: i64) -> usize
     requires { ⌜ RoomAt 1 at × (inRange v ≡ true) ⌝ }
-    ensures { λ r. ⌜ Laid (now (out .entry)) at (v ∷ []) (now (out .exit)) r ⌝ }
+    ensures { λ r. ⌜ LaidAt (now (out .entry)) at (v ∷ []) (now (out .exit)) r ⌝ }
 {
     if at < out.len() {
         out[at] = v as i32;
@@ -60,7 +60,7 @@ pub fn put(out: &mut [i32], at: usize, v: i64) -> usize
 // Writes a number where the test is true, else 0.
 fn put_if(out: &mut [i32], at: usize, test: bool, v: i64) -> usize
     requires { ⌜ RoomAt 1 at × (inRange (v if test else +0) ≡ true) ⌝ }
-    ensures { λ r. ⌜ Laid (now (out .entry)) at ((v if test else +0) ∷ []) (now (out .exit)) r ⌝ }
+    ensures { λ r. ⌜ LaidAt (now (out .entry)) at ((v if test else +0) ∷ []) (now (out .exit)) r ⌝ }
 {
     if test {
         return put(out, at, v);
@@ -71,7 +71,7 @@ fn put_if(out: &mut [i32], at: usize, test: bool, v: i64) -> usize
 // Writes 1 where the test is true, else 0.
 fn put_bit(out: &mut [i32], at: usize, test: bool) -> usize
     requires { ⌜ RoomAt 1 at ⌝ }
-    ensures { λ r. ⌜ Laid (now (out .entry)) at ((+1 if test else +0) ∷ []) (now (out .exit)) r ⌝ }
+    ensures { λ r. ⌜ LaidAt (now (out .entry)) at ((+1 if test else +0) ∷ []) (now (out .exit)) r ⌝ }
 {
     put_if(out, at, test, 1)
 }
@@ -79,7 +79,7 @@ fn put_bit(out: &mut [i32], at: usize, test: bool) -> usize
 // Writes n numbers: v at the h-th, counted from 0, and 0 at all others.
 fn put_only(out: &mut [i32], at: usize, n: usize, h: usize, v: i64) -> usize
     requires { ⌜ RoomAt n at × Ranged (onlyAt n h v) ⌝ }
-    ensures { λ r. ⌜ Laid (now (out .entry)) at (onlyAt n h v) (now (out .exit)) r ⌝ }
+    ensures { λ r. ⌜ LaidAt (now (out .entry)) at (onlyAt n h v) (now (out .exit)) r ⌝ }
 {
     let mut k = 0;
     while k < n {
@@ -92,7 +92,7 @@ fn put_only(out: &mut [i32], at: usize, n: usize, h: usize, v: i64) -> usize
 // Writes 1 and x for a negative x, else 0 and 0.
 fn put_sign(out: &mut [i32], at: usize, x: i64) -> usize
     requires { ⌜ RoomAt 2 at × Ranged (signPick x) ⌝ }
-    ensures { λ r. ⌜ Laid (now (out .entry)) at (signPick x) (now (out .exit)) r ⌝ }
+    ensures { λ r. ⌜ LaidAt (now (out .entry)) at (signPick x) (now (out .exit)) r ⌝ }
 {
     let negative = below(x, 0);
     let next = put_bit(out, at, negative);
@@ -102,7 +102,7 @@ fn put_sign(out: &mut [i32], at: usize, x: i64) -> usize
 // Writes x, then its sign.
 fn put_signed(out: &mut [i32], at: usize, x: i64) -> usize
     requires { ⌜ RoomAt 3 at × Ranged (signedPick x) ⌝ }
-    ensures { λ r. ⌜ Laid (now (out .entry)) at (signedPick x) (now (out .exit)) r ⌝ }
+    ensures { λ r. ⌜ LaidAt (now (out .entry)) at (signedPick x) (now (out .exit)) r ⌝ }
 {
     let next = put(out, at, x);
     put_sign(out, next, x)
@@ -122,7 +122,7 @@ fn place_of(v: i64, first: i64, n: usize) -> usize
 // Writes a bit for each value of the bounds: 1 for v.
 fn put_labels(out: &mut [i32], at: usize, lower: i64, upper: i64, v: i64) -> usize
     requires { ⌜ RoomAt 1000000000 at × Near lower × Near upper × Near v ⌝ }
-    ensures { λ r. ⌜ Laid (now (out .entry)) at (firstBit (λ j. j == v) (values (lower to upper))) (now (out .exit)) r ⌝ }
+    ensures { λ r. ⌜ LaidAt (now (out .entry)) at (firstBit (λ j. j == v) (values (lower to upper))) (now (out .exit)) r ⌝ }
 {
     let n = width_of(lower, upper);
     let h = place_of(v, lower, n);
@@ -132,7 +132,7 @@ fn put_labels(out: &mut [i32], at: usize, lower: i64, upper: i64, v: i64) -> usi
 // Writes n bits, 1 at the h-th, then the products of the bits and numbers of which the h-th is x.
 fn put_gated(out: &mut [i32], at: usize, n: usize, h: usize, x: i64) -> usize
     requires { ⌜ RoomAt (n + n) at × Ranged (onlyAt n h +1 ++ onlyAt n h x) ⌝ }
-    ensures { λ r. ⌜ Laid (now (out .entry)) at (onlyAt n h +1 ++ onlyAt n h x) (now (out .exit)) r ⌝ }
+    ensures { λ r. ⌜ LaidAt (now (out .entry)) at (onlyAt n h +1 ++ onlyAt n h x) (now (out .exit)) r ⌝ }
 {
     let next = put_only(out, at, n, h, 1);
     put_only(out, next, n, h, x)
@@ -176,7 +176,7 @@ fn values_product(args: &[u32], i: usize, j: usize, values: &[i32]) -> i64
 // 9, 29: whether a is not c.
 fn pick_max(out: &mut [i32], at: usize, args: &[u32], values: &[i32]) -> usize
     requires { ⌜ Pickable at [] [] (now values) (plainPicks (now values) 9 (now args)) ⌝ }
-    ensures { λ r. ⌜ Laid (now (out .entry)) at (plainPicks (now (values .entry)) 9 (now (args .entry))) (now (out .exit)) r ⌝ }
+    ensures { λ r. ⌜ LaidAt (now (out .entry)) at (plainPicks (now (values .entry)) 9 (now (args .entry))) (now (out .exit)) r ⌝ }
 {
     let same = equal(value_of(args, 0, values), value_of(args, 2, values));
     put_bit(out, at, !same)
@@ -185,7 +185,7 @@ fn pick_max(out: &mut [i32], at: usize, args: &[u32], values: &[i32]) -> usize
 // 14, 31: a less b, and its sign.
 fn pick_difference(out: &mut [i32], at: usize, args: &[u32], values: &[i32]) -> usize
     requires { ⌜ Pickable at [] [] (now values) (plainPicks (now values) 14 (now args)) ⌝ }
-    ensures { λ r. ⌜ Laid (now (out .entry)) at (plainPicks (now (values .entry)) 14 (now (args .entry))) (now (out .exit)) r ⌝ }
+    ensures { λ r. ⌜ LaidAt (now (out .entry)) at (plainPicks (now (values .entry)) 14 (now (args .entry))) (now (out .exit)) r ⌝ }
 {
     put_signed(
         out,
@@ -197,7 +197,7 @@ fn pick_difference(out: &mut [i32], at: usize, args: &[u32], values: &[i32]) -> 
 // 20, 34: the products of r with a and with b.
 fn pick_xor(out: &mut [i32], at: usize, args: &[u32], values: &[i32]) -> usize
     requires { ⌜ Pickable at [] [] (now values) (plainPicks (now values) 20 (now args)) ⌝ }
-    ensures { λ r. ⌜ Laid (now (out .entry)) at (plainPicks (now (values .entry)) 20 (now (args .entry))) (now (out .exit)) r ⌝ }
+    ensures { λ r. ⌜ LaidAt (now (out .entry)) at (plainPicks (now (values .entry)) 20 (now (args .entry))) (now (out .exit)) r ⌝ }
 {
     let next = put(out, at, values_product(args, 2, 0, values));
     put(out, next, values_product(args, 2, 1, values))
@@ -206,7 +206,7 @@ fn pick_xor(out: &mut [i32], at: usize, args: &[u32], values: &[i32]) -> usize
 // 23: half of one less than how many are 1.
 fn pick_odd(out: &mut [i32], at: usize, args: &[u32], values: &[i32]) -> usize
     requires { ⌜ Pickable at [] [] (now values) (plainPicks (now values) 23 (now args)) ⌝ }
-    ensures { λ r. ⌜ Laid (now (out .entry)) at (plainPicks (now (values .entry)) 23 (now (args .entry))) (now (out .exit)) r ⌝ }
+    ensures { λ r. ⌜ LaidAt (now (out .entry)) at (plainPicks (now (values .entry)) 23 (now (args .entry))) (now (out .exit)) r ⌝ }
 {
     put(out, at, half_less(how_many(args, 0, 1, values)))
 }
@@ -228,7 +228,7 @@ fn pick_element(
     values: &[i32],
 ) -> usize
     requires { ⌜ RoomAt 1000000000 at × Bounded (now ls) × Bounded (now us) × Small (now values) ⌝ }
-    ensures { λ r. ⌜ Laid (now (out .entry)) at (picksOf (now (ls .entry)) (now (us .entry)) (now (values .entry)) 24 (now (args .entry))) (now (out .exit)) r ⌝ }
+    ensures { λ r. ⌜ LaidAt (now (out .entry)) at (picksOf (now (ls .entry)) (now (us .entry)) (now (values .entry)) 24 (now (args .entry))) (now (out .exit)) r ⌝ }
 {
     put_labels(
         out,
@@ -249,7 +249,7 @@ fn pick_products(
     values: &[i32],
 ) -> usize
     requires { ⌜ RoomAt 1000000000 at × Bounded (now ls) × Bounded (now us) × Small (now values) × Ranged (productPicks (now ls) (now us) (now values) (now args)) ⌝ }
-    ensures { λ r. ⌜ Laid (now (out .entry)) at (productPicks (now (ls .entry)) (now (us .entry)) (now (values .entry)) (now (args .entry))) (now (out .exit)) r ⌝ }
+    ensures { λ r. ⌜ LaidAt (now (out .entry)) at (productPicks (now (ls .entry)) (now (us .entry)) (now (values .entry)) (now (args .entry))) (now (out .exit)) r ⌝ }
 {
     let first = first_label(args, ls);
     let n = width_of(first, last_label(args, us));
@@ -268,7 +268,7 @@ fn pick_var_element(
     values: &[i32],
 ) -> usize
     requires { ⌜ Pickable at (now ls) (now us) (now values) (picksOf (now ls) (now us) (now values) 25 (now args)) ⌝ }
-    ensures { λ r. ⌜ Laid (now (out .entry)) at (picksOf (now (ls .entry)) (now (us .entry)) (now (values .entry)) 25 (now (args .entry))) (now (out .exit)) r ⌝ }
+    ensures { λ r. ⌜ LaidAt (now (out .entry)) at (picksOf (now (ls .entry)) (now (us .entry)) (now (values .entry)) 25 (now (args .entry))) (now (out .exit)) r ⌝ }
 {
     let next = pick_element(out, at, args, ls, us, values);
     pick_products(out, next, args, ls, us, values)
@@ -277,7 +277,7 @@ fn pick_var_element(
 // 26, 33: a bit for each element, 1 for the first that is m; the products of the bits and the elements.
 fn pick_maximum(out: &mut [i32], at: usize, args: &[u32], values: &[i32]) -> usize
     requires { ⌜ Pickable at [] [] (now values) (plainPicks (now values) 26 (now args)) ⌝ }
-    ensures { λ r. ⌜ Laid (now (out .entry)) at (plainPicks (now (values .entry)) 26 (now (args .entry))) (now (out .exit)) r ⌝ }
+    ensures { λ r. ⌜ LaidAt (now (out .entry)) at (plainPicks (now (values .entry)) 26 (now (args .entry))) (now (out .exit)) r ⌝ }
 {
     let h = first_equal(args, 1, value_of(args, 0, values), values);
     put_gated(out, at, size_at(args, 1), h, value_of(args, 2 + h, values))
@@ -307,7 +307,7 @@ fn pick_member(
     values: &[i32],
 ) -> usize
     requires { ⌜ RoomAt 1000000000 at × Bounded (now us) ⌝ }
-    ensures { λ r. ⌜ Laid (now (out .entry)) at (picksOf (now (ls .entry)) (now (us .entry)) (now (values .entry)) 27 (now (args .entry))) (now (out .exit)) r ⌝ }
+    ensures { λ r. ⌜ LaidAt (now (out .entry)) at (picksOf (now (ls .entry)) (now (us .entry)) (now (values .entry)) 27 (now (args .entry))) (now (out .exit)) r ⌝ }
 {
     let x = var_at(args, 0);
     let mut inside = [0i64; 32];
@@ -326,7 +326,7 @@ fn pick_set_reif(
     values: &[i32],
 ) -> usize
     requires { ⌜ RoomAt 1000000000 at × Bounded (now ls) × Bounded (now us) × Small (now values) ⌝ }
-    ensures { λ r. ⌜ Laid (now (out .entry)) at (picksOf (now (ls .entry)) (now (us .entry)) (now (values .entry)) 28 (now (args .entry))) (now (out .exit)) r ⌝ }
+    ensures { λ r. ⌜ LaidAt (now (out .entry)) at (picksOf (now (ls .entry)) (now (us .entry)) (now (values .entry)) 28 (now (args .entry))) (now (out .exit)) r ⌝ }
 {
     let x = var_at(args, 0);
     put_labels(
@@ -341,7 +341,7 @@ fn pick_set_reif(
 // 37, 38: whether n is not negative, whether d is positive, d×q, and whether both.
 fn put_division(out: &mut [i32], at: usize, n: i64, d: i64, q: i64) -> usize
     requires { ⌜ RoomAt 4 at × Near d × Near q × Ranged (divisionPick n d q) ⌝ }
-    ensures { λ r. ⌜ Laid (now (out .entry)) at (divisionPick n d q) (now (out .exit)) r ⌝ }
+    ensures { λ r. ⌜ LaidAt (now (out .entry)) at (divisionPick n d q) (now (out .exit)) r ⌝ }
 {
     let alpha = at_most(0, n);
     let beta = below(0, d);
@@ -354,7 +354,7 @@ fn put_division(out: &mut [i32], at: usize, n: i64, d: i64, q: i64) -> usize
 // 37: the signs and the product of the division.
 fn pick_div(out: &mut [i32], at: usize, args: &[u32], values: &[i32]) -> usize
     requires { ⌜ Pickable at [] [] (now values) (plainPicks (now values) 37 (now args)) ⌝ }
-    ensures { λ r. ⌜ Laid (now (out .entry)) at (plainPicks (now (values .entry)) 37 (now (args .entry))) (now (out .exit)) r ⌝ }
+    ensures { λ r. ⌜ LaidAt (now (out .entry)) at (plainPicks (now (values .entry)) 37 (now (args .entry))) (now (out .exit)) r ⌝ }
 {
     put_division(
         out,
@@ -379,7 +379,7 @@ fn quotient_of(n: i64, d: i64) -> i64
 // 38: the quotient, then as in 37.
 fn pick_mod(out: &mut [i32], at: usize, args: &[u32], values: &[i32]) -> usize
     requires { ⌜ Pickable at [] [] (now values) (plainPicks (now values) 38 (now args)) ⌝ }
-    ensures { λ r. ⌜ Laid (now (out .entry)) at (plainPicks (now (values .entry)) 38 (now (args .entry))) (now (out .exit)) r ⌝ }
+    ensures { λ r. ⌜ LaidAt (now (out .entry)) at (plainPicks (now (values .entry)) 38 (now (args .entry))) (now (out .exit)) r ⌝ }
 {
     let n = value_of(args, 0, values);
     let d = value_of(args, 1, values);
@@ -425,7 +425,7 @@ fn put_powers(out: &mut [i32], at: usize, x: i64, k: usize) -> Powered
 // 39: the products of the power, none for k=0.
 fn pick_pow(out: &mut [i32], at: usize, args: &[u32], values: &[i32]) -> usize
     requires { ⌜ Pickable at [] [] (now values) (plainPicks (now values) 39 (now args)) ⌝ }
-    ensures { λ r. ⌜ Laid (now (out .entry)) at (plainPicks (now (values .entry)) 39 (now (args .entry))) (now (out .exit)) r ⌝ }
+    ensures { λ r. ⌜ LaidAt (now (out .entry)) at (plainPicks (now (values .entry)) 39 (now (args .entry))) (now (out .exit)) r ⌝ }
 {
     let x = value_of(args, 0, values);
     let k = exponent_at(args, 1);
@@ -447,7 +447,7 @@ fn pick_block(
     values: &[i32],
 ) -> usize
     requires { ⌜ Pickable at (now ls) (now us) (now values) (picksOf (now ls) (now us) (now values) code (now args)) ⌝ }
-    ensures { λ r. ⌜ Laid (now (out .entry)) at (picksOf (now (ls .entry)) (now (us .entry)) (now (values .entry)) code (now (args .entry))) (now (out .exit)) r ⌝ }
+    ensures { λ r. ⌜ LaidAt (now (out .entry)) at (picksOf (now (ls .entry)) (now (us .entry)) (now (values .entry)) code (now (args .entry))) (now (out .exit)) r ⌝ }
 {
     match code {
         4 => put_bit(
@@ -492,7 +492,7 @@ fn pick_new_bits(
     values: &[i32],
 ) -> usize
     requires { ⌜ RoomAt 1000000000 at × Bounded (now ls) × Bounded (now us) × Small (now values) ⌝ }
-    ensures { λ r. ⌜ Laid (now (out .entry)) at (newPicks (now (ls .entry)) (now (us .entry)) (now (encoded .entry)) (now (values .entry)) (now (args .entry))) (now (out .exit)) r ⌝ }
+    ensures { λ r. ⌜ LaidAt (now (out .entry)) at (newPicks (now (ls .entry)) (now (us .entry)) (now (encoded .entry)) (now (values .entry)) (now (args .entry))) (now (out .exit)) r ⌝ }
 {
     if entry_of(encoded, var_at(args, 0)) == 0 {
         return pick_set_reif(out, at, args, ls, us, values);
@@ -511,7 +511,7 @@ fn pick_shared_var_element(
     values: &[i32],
 ) -> usize
     requires { ⌜ Pickable at (now ls) (now us) (now values) (sharedPicks (now ls) (now us) (now encoded) (now values) 25 (now args)) ⌝ }
-    ensures { λ r. ⌜ Laid (now (out .entry)) at (sharedPicks (now (ls .entry)) (now (us .entry)) (now (encoded .entry)) (now (values .entry)) 25 (now (args .entry))) (now (out .exit)) r ⌝ }
+    ensures { λ r. ⌜ LaidAt (now (out .entry)) at (sharedPicks (now (ls .entry)) (now (us .entry)) (now (encoded .entry)) (now (values .entry)) 25 (now (args .entry))) (now (out .exit)) r ⌝ }
 {
     let next = pick_new_bits(out, at, args, ls, us, encoded, values);
     pick_products(out, next, args, ls, us, values)
@@ -529,7 +529,7 @@ fn pick_shared(
     values: &[i32],
 ) -> usize
     requires { ⌜ Pickable at (now ls) (now us) (now values) (sharedPicks (now ls) (now us) (now encoded) (now values) code (now args)) ⌝ }
-    ensures { λ r. ⌜ Laid (now (out .entry)) at (sharedPicks (now (ls .entry)) (now (us .entry)) (now (encoded .entry)) (now (values .entry)) code (now (args .entry))) (now (out .exit)) r ⌝ }
+    ensures { λ r. ⌜ LaidAt (now (out .entry)) at (sharedPicks (now (ls .entry)) (now (us .entry)) (now (encoded .entry)) (now (values .entry)) code (now (args .entry))) (now (out .exit)) r ⌝ }
 {
     match code {
         24 => pick_new_bits(out, at, args, ls, us, encoded, values),

@@ -31,7 +31,7 @@ use Rattle.laying.specs.declared.Laid.{Laid}
 use Rattle.laying.proofs.Blocks.{block-words, block-outside}
 use Rattle.blocks.proofs.OneBlock.{told}
 use Rattle.words.proofs.Overlay.{front-over}
-use Rattle.reasoning.specs.Walks.{blockAndEnd, ReadsBack, Front, Judged, AtMost, shift}
+use Rattle.reasoning.specs.Walks.{blockAndEnd, ReadsBack, Front, BlockJudged, AtMost, shift}
 use Rattle.reasoning.proofs.Counted.{outside-part, outside-below}
 
 -- a test that does not fail
@@ -93,7 +93,7 @@ module _ {first : ℕ} {B : Block} {l : Laid} {o : List ℕ} (d : ReadsBack firs
       pub outside-few : AtMost 1000000 a
       outside-few = rw here (outside-below (value part) 1000000 0 (B .auxiliaries) (omega (arith, f .auxiliaries, f .small)))
 
-      pub outside-said : {k : ℕ} {w : Verdict} → verdict w ≡ shift first a → Judged true vs first k B (record { said = w; auxiliaries = l .auxiliaries; rows = l .rows })
+      pub outside-said : {k : ℕ} {w : Verdict} → verdict w ≡ shift first a → BlockJudged true vs first k B (record { said = w; auxiliaries = l .auxiliaries; rows = l .rows })
       outside-said g = record {
         says = g ∙ ap (shift first) here ∙ sym (outside-part (value vs) (value part) first 0 (B .auxiliaries) same-value) ∙ ap (λ (k : ℕ). firstOutOfBounds (value vs) k (B .auxiliaries) holds) (add-zero first);
         auxiliaries = f .auxiliaries;
@@ -112,7 +112,7 @@ module _ {first : ℕ} {B : Block} {l : Laid} {o : List ℕ} (d : ReadsBack firs
   no-variables = rw (f .front, f .auxiliaries) (d .no-more)
 
   pub failing-said : (vs : List ℤ) (k : ℕ) {w : Verdict} → verdict w ≡ firstFalse (satisfied (value vs)) k (rows (drop (2 * l .auxiliaries) (take (l .words + 1) o))) →
-      Judged false vs first k B (record { said = w; auxiliaries = l .auxiliaries; rows = l .rows })
+      BlockJudged false vs first k B (record { said = w; auxiliaries = l .auxiliaries; rows = l .rows })
   failing-said vs k e = record {
     says = e ∙ ap (λ (xs : List (Row ℕ)). firstFalse (satisfied (value vs)) k xs) (rw (f .front, f .auxiliaries) (d .the-rows));
     auxiliaries = f .auxiliaries;

@@ -39,7 +39,7 @@ use Rattle.sharing.proofs.Theorem.{well-formed}
 use Rattle.checking.proofs.Kept.{head-at, summed-at}
 use Rattle.reasons.specs.Reason.{Reason, none, explained, inBlock, firstFailing}
 use Rattle.reasons.proofs.Judged.{explainedFrom}
-use Rattle.reasoning.specs.Walks.{PassedModel, ReadsBack, Layable, Judged, Stops, saidOf, rowsAt}
+use Rattle.reasoning.specs.Walks.{PassedModel, ReadsBack, Layable, BlockJudged, Stops, saidOf, rowsAt}
 use Rattle.reasoning.specs.declared.Said.{Said}
 use Rattle.reasoning.specs.declared.Stopped.{Stopped}
 use Rattle.reasoning.proofs.OneBlock as OneBlock
@@ -194,7 +194,7 @@ module _ {bounds : Bool} {β : ℕ → Bounds} {s : ℕ → Bool} {ws : List ℕ
     unfolding firstFailing eachBlock
     joined-rows f σ = rw e at (b .failing f σ)
 
-    module _ {r : Said} (o : Judged bounds vs first rows (blockOf β s d c) r) where
+    module _ {r : Said} (o : BlockJudged bounds vs first rows (blockOf β s d c) r) where
       said-bounds : bounds ≡ true → verdict (r .said) ≡ firstOutOfBounds (value vs) first A holds
       said-bounds t = o .says ∙ ap (λ x. saidOf x vs first rows (blockOf β s d c)) t
 

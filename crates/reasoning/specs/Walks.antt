@@ -109,7 +109,7 @@ pub record Judgeable (bounds : Bool) (ls us : List ℤ) (uses : List ℕ) (e : E
   pub there : first + length (blockAt ls us uses e code args .auxiliaries) ≤ length vs
   pub small : bounds ≡ false → Small vs
 
-pub record Judged (bounds : Bool) (vs : List ℤ) (first k : ℕ) (B : Block) (r : Said) : Type 0 where
+pub record BlockJudged (bounds : Bool) (vs : List ℤ) (first k : ℕ) (B : Block) (r : Said) : Type 0 where
   pub says : verdict (r .said) ≡ saidOf bounds vs first k B
   pub auxiliaries : r .auxiliaries ≡ length (B .auxiliaries)
   pub rows : r .rows ≡ length (B .rows)

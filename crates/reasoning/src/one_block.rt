@@ -6,7 +6,7 @@ ghost use Rattle.words.specs.Verdict.{verdict};
 ghost use Rattle.words.specs.Limit as Limit;
 ghost use Rattle.laying.specs.Sizes.{blockSize};
 ghost use Rattle.blocks.specs.Coded.{blockAt};
-ghost use Rattle.reasoning.specs.Walks.{blockWordsMost, Layable, Front, Judgeable, Judged, shift, AtMost};
+ghost use Rattle.reasoning.specs.Walks.{blockWordsMost, Layable, Front, Judgeable, BlockJudged, shift, AtMost};
 use crate::Said;
 use crate::rows::first_false;
 use blocks::block;
@@ -68,7 +68,7 @@ pub fn judge_block(
     bounds: bool,
 ) -> Said
     requires { ⌜ Judgeable bounds (now ls) (now us) (now uses) (now encoded) code (now args) sum first (now words) (now values) × (k ≤ 1000000000) ⌝ }
-    ensures { λ r. ⌜ Judged bounds (now (values .entry)) first k (blockAt (now (ls .entry)) (now (us .entry)) (now (uses .entry)) (now (encoded .entry)) code (now (args .entry))) r ⌝ }
+    ensures { λ r. ⌜ BlockJudged bounds (now (values .entry)) first k (blockAt (now (ls .entry)) (now (us .entry)) (now (uses .entry)) (now (encoded .entry)) code (now (args .entry))) r ⌝ }
 {
     let laid = lay_block(words, code, args, ls, us, uses, encoded, sum, first);
     if bounds {

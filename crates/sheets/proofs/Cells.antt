@@ -10,7 +10,7 @@ use Rattle.integers.specs.Lists.{listOf}
 use Rattle.integers.specs.Terms.{Term, _·_}
 use Rattle.integers.proofs.Lists.{listOf-length}
 use Rattle.integers.proofs.Places.{getD-listOf}
-use Rattle.words.specs.Laid.{Laid}
+use Rattle.words.specs.LaidAt.{LaidAt}
 use Rattle.words.specs.Overlay.{overlay}
 use Rattle.words.specs.Small.{Near}
 use Rattle.words.specs.Word.{signed, payload, wordAt}
@@ -80,7 +80,7 @@ lay-cell p at a b e =
     rw (f, g) (lay-then p at a (at + 10) (32 ∷ 118 ∷ b) (omega arith))
 
 -- the end of a line
-pub laid-end : (p : List ℕ) (at room : ℕ) → Laid p at (lineEnd room) (set (overlay p at (blanks (23 * room + 3))) (at + 23 * room + 3) 10) (at + 23 * room + 3 + 1)
+pub laid-end : (p : List ℕ) (at room : ℕ) → LaidAt p at (lineEnd room) (set (overlay p at (blanks (23 * room + 3))) (at + 23 * room + 3) 10) (at + 23 * room + 3 + 1)
 unfolding lineEnd overlay
 laid-end p at room = record {
   over = lay-then p at (blanks (23 * room + 3)) (at + 23 * room + 3) (10 ∷ []) (rw (length-blanks (23 * room + 3)) (omega arith));
@@ -122,11 +122,11 @@ module _ (t : Term ℕ) where
 
 -- a term is laid in a line with room for it, and in the next line
 module _ {p : List ℕ} {at : ℕ} {p′ : List ℕ} (t : Term ℕ) (fits : Fits t) where
-  pub in-line : (room : ℕ) → 0 < room → p′ ≡ overlay p at (cell t) → Laid p at (termText room t) p′ (at + 23)
+  pub in-line : (room : ℕ) → 0 < room → p′ ≡ overlay p at (cell t) → LaidAt p at (termText room t) p′ (at + 23)
   in-line room h e = rw (term-some t room h) (record { over = e; ends = ended at (cell t) 23 (at + 23) (cell-length t fits) refl })
 
-  pub in-next-line : {p₁ : List ℕ} {s : ℕ} → (room : ℕ) → room ≤ 0 → Laid p at (lineEnd 0) p₁ s → p′ ≡ overlay (overlay p₁ s (blanks 8)) (s + 8) (cell t) →
-      Laid p at (termText room t) p′ (s + 31)
+  pub in-next-line : {p₁ : List ℕ} {s : ℕ} → (room : ℕ) → room ≤ 0 → LaidAt p at (lineEnd 0) p₁ s → p′ ≡ overlay (overlay p₁ s (blanks 8)) (s + 8) (cell t) →
+      LaidAt p at (termText room t) p′ (s + 31)
   in-next-line {s} room h l e =
       rw (term-none t room h) (record {
         over = rw (l .over) at e ∙ lay-three p at (lineEnd 0) (blanks 8) (cell t) s (s + 8) (l .ends) (ap (λ (k : ℕ). s + k) (sym (length-blanks 8)));
@@ -153,7 +153,7 @@ module _ (ws : List ℕ) (n k : ℕ) where
 
 -- ---- rows
 
-laid-two : (p : List ℕ) (at x y : ℕ) → Laid p (at + 6) (x ∷ y ∷ []) (set (set p (at + 6) x) (at + 7) y) (at + 8)
+laid-two : (p : List ℕ) (at x y : ℕ) → LaidAt p (at + 6) (x ∷ y ∷ []) (set (set p (at + 6) x) (at + 7) y) (at + 8)
 unfolding overlay
 laid-two p at x y =
     let e : at + 7 ≡ suc (at + 6) = omega arith in
@@ -161,8 +161,8 @@ laid-two p at x y =
 
 -- the parts of a row: number, sign, terms, constant
 pub laid-row : (p : List ℕ) (at : ℕ) (a : List ℕ) (x y : ℕ) (t p′ : List ℕ) (end : ℕ) (c : List ℕ) → length a ≡ 6 → length c ≡ 80 →
-    Laid (set (set (overlay p at a) (at + 6) x) (at + 7) y) (at + 8) t p′ end →
-    Laid p at (a ++ ((x ∷ y ∷ []) ++ (t ++ (c ++ (10 ∷ []))))) (set (overlay p′ end c) (end + 80) 10) (end + 81)
+    LaidAt (set (set (overlay p at a) (at + 6) x) (at + 7) y) (at + 8) t p′ end →
+    LaidAt p at (a ++ ((x ∷ y ∷ []) ++ (t ++ (c ++ (10 ∷ []))))) (set (overlay p′ end c) (end + 80) 10) (end + 81)
 laid-row p at a x y t p′ end c h k l =
     let whole = a ++ ((x ∷ y ∷ []) ++ (t ++ (c ++ (10 ∷ [])))) in
     let r₁ = lay-part {xs = a} {ys = (x ∷ y ∷ []) ++ (t ++ (c ++ (10 ∷ [])))} (all-left p at whole) (laid-part p at a (at + 6) (omega arith)) in

@@ -2,7 +2,7 @@
 ghost use mathlib.Core.Path.{_≡_};
 ghost use Prim.Native.Nat.{_≤_};
 ghost use lib.ListN.{length};
-ghost use Rattle.words.specs.Laid.{Laid};
+ghost use Rattle.words.specs.LaidAt.{LaidAt};
 ghost use Rattle.words.specs.Limit as Limit;
 ghost use Rattle.sheets.specs.Printed.{printed};
 ghost use Rattle.sheets.specs.Sheet.{sheetText, sheet as sheetAnswer, sheetPage};
@@ -23,7 +23,7 @@ pub enum Printed {
 // The lines of all rows, as far as the page goes; answers how many bytes there are.
 fn put_rows(ws: &[u32], page: &mut [u8]) -> usize
     requires { ⌜ length (now ws) ≤ Limit.rowWords ⌝ }
-    ensures { λ r. ⌜ Laid (now (page .entry)) 0 (sheetText (now (ws .entry))) (now (page .exit)) r ⌝ }
+    ensures { λ r. ⌜ LaidAt (now (page .entry)) 0 (sheetText (now (ws .entry))) (now (page .exit)) r ⌝ }
 {
     let mut at = 0;
     let mut to = 0;

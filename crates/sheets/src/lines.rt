@@ -3,7 +3,7 @@ ghost use mathlib.Core.Path.{_≡_};
 ghost use mathlib.Core.List.{[], _∷_};
 ghost use Prim.Native.Nat.{_+_, _*_, _<_, _≤_};
 ghost use Rattle.integers.specs.Terms.{_·_};
-ghost use Rattle.words.specs.Laid.{Laid};
+ghost use Rattle.words.specs.LaidAt.{LaidAt};
 ghost use Rattle.words.specs.Limit as Limit;
 ghost use Rattle.words.specs.Overlay.{overlay};
 ghost use Rattle.words.specs.Word.{signed};
@@ -37,7 +37,7 @@ fn put_cell(page: &mut [u8], at: usize, number: u32, variable: usize)
 // The blanks after the last term of a line with room for more, and the line feed.
 fn put_line_end(page: &mut [u8], at: usize, room: usize) -> usize
     requires { ⌜ (at + 81 < 1099511627776) × (room ≤ 3) ⌝ }
-    ensures { λ r. ⌜ Laid (now (page .entry)) at (lineEnd room) (now (page .exit)) r ⌝ }
+    ensures { λ r. ⌜ LaidAt (now (page .entry)) at (lineEnd room) (now (page .exit)) r ⌝ }
 {
     let end = at + 23 * room + 3;
     put_blanks(page, at, 23 * room + 3);
@@ -48,7 +48,7 @@ fn put_line_end(page: &mut [u8], at: usize, room: usize) -> usize
 // A term where the line has room for so many.
 fn put_term(page: &mut [u8], at: usize, room: usize, number: u32, variable: usize) -> usize
     requires { ⌜ (at + 120 < 1099511627776) × (variable < 268435456) ⌝ }
-    ensures { λ r. ⌜ Laid (now (page .entry)) at (termText room (signed number · variable)) (now (page .exit)) r ⌝ }
+    ensures { λ r. ⌜ LaidAt (now (page .entry)) at (termText room (signed number · variable)) (now (page .exit)) r ⌝ }
 {
     if 0 < room {
         put_cell(page, at, number, variable);
@@ -70,7 +70,7 @@ fn room_after(room: usize) -> usize
 // The terms of a row, up to the end of their last line.
 fn put_terms(page: &mut [u8], at: usize, ws: &[u32], n: usize) -> usize
     requires { ⌜ (at + 2500 < 1099511627776) × (n ≤ Limit.terms) ⌝ }
-    ensures { λ r. ⌜ Laid (now (page .entry)) at (termLines 3 (termsIn (now (ws .entry)) n)) (now (page .exit)) r × (r ≤ at + 2400) ⌝ }
+    ensures { λ r. ⌜ LaidAt (now (page .entry)) at (termLines 3 (termsIn (now (ws .entry)) n)) (now (page .exit)) r × (r ≤ at + 2400) ⌝ }
 {
     let mut to = at;
     let mut room: usize = 3;
@@ -100,7 +100,7 @@ fn put_sum(
     n: usize,
 ) -> usize
     requires { ⌜ (at + 2600 < 1099511627776) × (k < 1000000) × (n ≤ Limit.terms) ⌝ }
-    ensures { λ r. ⌜ Laid (now (page .entry)) at (sumLines k (first ∷ second ∷ []) (termsIn (now (ws .entry)) n) (constantIn (now (ws .entry)) n)) (now (page .exit)) r × (r ≤ at + 2500) ⌝ }
+    ensures { λ r. ⌜ LaidAt (now (page .entry)) at (sumLines k (first ∷ second ∷ []) (termsIn (now (ws .entry)) n) (constantIn (now (ws .entry)) n)) (now (page .exit)) r × (r ≤ at + 2500) ⌝ }
 {
     put_right(page, at, 6, false, k);
     put_byte(page, at + 6, first);
@@ -114,7 +114,7 @@ fn put_sum(
 // A product, as a row of three terms with coefficient 1 and the constant 0.
 fn put_product(page: &mut [u8], at: usize, k: usize, ws: &[u32]) -> usize
     requires { ⌜ (at + 2600 < 1099511627776) × (k < 1000000) ⌝ }
-    ensures { λ r. let ws = now (ws .entry) in ⌜ Laid (now (page .entry)) at (rowLines k (product (variableAt ws 0) (variableAt ws 1) (variableAt ws 2))) (now (page .exit)) r × (r ≤ at + 2500) ⌝ }
+    ensures { λ r. let ws = now (ws .entry) in ⌜ LaidAt (now (page .entry)) at (rowLines k (product (variableAt ws 0) (variableAt ws 1) (variableAt ws 2))) (now (page .exit)) r × (r ≤ at + 2500) ⌝ }
 {
     let row = [word_at(ws, 0), 1, word_at(ws, 1), 1, word_at(ws, 2), 1, 0];
     put_sum(page, at, k, 58, 61, &row, 3)
@@ -123,7 +123,7 @@ fn put_product(page: &mut [u8], at: usize, k: usize, ws: &[u32]) -> usize
 // The row or product with this head, before the words ws.
 pub fn put_row(page: &mut [u8], at: usize, k: usize, head: u32, ws: &[u32]) -> usize
     requires { ⌜ (at + 2600 < 1099511627776) × (k < 1000000) ⌝ }
-    ensures { λ r. ⌜ Laid (now (page .entry)) at (rowLines k (rowOf head (now (ws .entry)))) (now (page .exit)) r × (r ≤ at + 2500) ⌝ }
+    ensures { λ r. ⌜ LaidAt (now (page .entry)) at (rowLines k (rowOf head (now (ws .entry)))) (now (page .exit)) r × (r ≤ at + 2500) ⌝ }
 {
     let head_kind = kind_of(head);
     if head_kind == kind::AT_MOST {

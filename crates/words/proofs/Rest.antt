@@ -4,7 +4,7 @@ use mathlib.Core.List.{List, [], _∷_, _++_}
 use Prim.Native.Nat.{ℕ, _+_}
 use native.Mathlib.Omega.{arith}
 use lib.ListN.{length, length-append, set}
-use Rattle.words.specs.Laid.{Laid}
+use Rattle.words.specs.LaidAt.{LaidAt}
 use Rattle.words.specs.Overlay.{overlay}
 use Rattle.words.proofs.Overlay.{overlay-append, overlay-none, length-overlay}
 
@@ -18,16 +18,16 @@ module _ {A : Type 0} where
 
   module _ {before : List A} {at : ℕ} {whole now : List A} {to : ℕ} where
     -- a part is laid; the last part; no part is left
-    pub lay-part : {xs ys later : List A} {end : ℕ} → Rest before at whole now to (xs ++ ys) → Laid now to xs later end → Rest before at whole later end ys
+    pub lay-part : {xs ys later : List A} {end : ℕ} → Rest before at whole now to (xs ++ ys) → LaidAt now to xs later end → Rest before at whole later end ys
     lay-part {xs} {ys} r l = record {
       over = rw (l .over, l .ends) (overlay-append now to xs ys ∙ r .over);
       ends = omega (arith, l .ends, r .ends, length-append xs ys);
     }
 
-    pub lay-last : {xs later : List A} {end : ℕ} → Rest before at whole now to xs → Laid now to xs later end → Laid before at whole later end
+    pub lay-last : {xs later : List A} {end : ℕ} → Rest before at whole now to xs → LaidAt now to xs later end → LaidAt before at whole later end
     lay-last r l = record { over = l .over ∙ r .over; ends = l .ends ∙ r .ends }
 
-    pub none-left : Rest before at whole now to [] → Laid before at whole now to
+    pub none-left : Rest before at whole now to [] → LaidAt before at whole now to
     none-left r = record { over = sym (overlay-none now to) ∙ r .over; ends = omega (arith, r .ends) }
 
     -- the rest, written otherwise
@@ -35,13 +35,13 @@ module _ {A : Type 0} where
     same-rest e r = record { over = ap (overlay now to) (sym e) ∙ r .over; ends = ap (λ (l : List A). to + length l) (sym e) ∙ r .ends }
 
   -- the list keeps its length
-  pub laid-length : {out : List A} {at : ℕ} {text later : List A} {end : ℕ} → Laid out at text later end → length later ≡ length out
+  pub laid-length : {out : List A} {at : ℕ} {text later : List A} {end : ℕ} → LaidAt out at text later end → length later ≡ length out
   laid-length {out} {at} {text} l = ap length (l .over) ∙ length-overlay out at text
 
   -- a part by its length; one element
-  pub laid-part : (out : List A) (at : ℕ) (xs : List A) (end : ℕ) → end ≡ at + length xs → Laid out at xs (overlay out at xs) end
+  pub laid-part : (out : List A) (at : ℕ) (xs : List A) (end : ℕ) → end ≡ at + length xs → LaidAt out at xs (overlay out at xs) end
   laid-part out at xs end e = record { over = refl; ends = e }
 
-  pub laid-one : (out : List A) (at : ℕ) (x : A) → Laid out at (x ∷ []) (set out at x) (at + 1)
+  pub laid-one : (out : List A) (at : ℕ) (x : A) → LaidAt out at (x ∷ []) (set out at x) (at + 1)
   unfolding overlay
   laid-one out at x = record { over = refl; ends = refl }

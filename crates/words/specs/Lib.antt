@@ -7,7 +7,7 @@ pub mod Small
 pub mod Variables
 pub mod Bytes
 pub mod Overlay
-pub mod Laid
+pub mod LaidAt
 pub mod Refusal
 pub mod Answer
 pub mod Judge

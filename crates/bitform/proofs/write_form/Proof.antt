@@ -4,7 +4,7 @@ use mathlib.Core.Bool.{true}
 use native.Mathlib.Omega.{arith}
 use mir.Facts.{toZ-ofZ}
 use borrow.Author.Needs.{needs}
-use Rattle.words.specs.Laid.{Laid}
+use Rattle.words.specs.LaidAt.{LaidAt}
 use Rattle.bitforms.specs.BitForm.{bitRowsOf, bitCount}
 use Rattle.bitforms.specs.Matrix.{entryOf}
 use Rattle.bitlines.specs.Line.{entriesWords}
@@ -18,7 +18,7 @@ put-lines-requires c κs =
     let l = s .pre .0 in
     (record { listed = l .listed; fits = rw (l .rows-are, l .count) (fits-inside (s .args .ws .now) (s .pre .3) .0) }, s .pre .1, omega arith)
 
-laid : (c : tie.After-put-lines) → let s = c .before .before .before .before .before .before .before .before .before .before .before .before in Laid (c .before .before .before .before .before .before .put-constant .last .0) 1 (entriesWords (entriesOf (s .args .ws .now))) (c .put-lines .last .0) (c .put-lines .result .at)
+laid : (c : tie.After-put-lines) → let s = c .before .before .before .before .before .before .before .before .before .before .before .before in LaidAt (c .before .before .before .before .before .before .put-constant .last .0) 1 (entriesWords (entriesOf (s .args .ws .now))) (c .put-lines .last .0) (c .put-lines .result .at)
 laid c =
     let s = c .before .before .before .before .before .before .before .before .before .before .before .before in
     let l = s .pre .0 in

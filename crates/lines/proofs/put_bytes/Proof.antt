@@ -6,7 +6,7 @@ use native.Mathlib.Nat.{add-zero}
 use borrow.Author.Needs.{needs}
 use lib.ListN.{length, drop, drop-of-length-le}
 use Rattle.words.specs.Overlay.{overlay}
-use Rattle.words.specs.Laid.{Laid}
+use Rattle.words.specs.LaidAt.{LaidAt}
 use Rattle.words.proofs.Overlay.{overlay-none, overlay-step}
 use Rattle.words.proofs.Rest.{laid-length}
 use Rattle.lines.proofs.put_bytes.Statement.{statement}
@@ -19,7 +19,7 @@ abbrev μ-loop : tie.MeasureT-loop
 μ-loop page₀ at bytes i₀ page i = length bytes - i
 
 -- after the loop all bytes are laid
-ended : (c : tie.After-loop Inv-loop μ-loop) → Laid (c .before .before .before .before .args .page .now) (c .before .before .before .before .args .at) (c .before .before .before .before .args .bytes .now) (c .before .loop .page) (c .before .before .before .before .args .at + c .before .loop .i)
+ended : (c : tie.After-loop Inv-loop μ-loop) → LaidAt (c .before .before .before .before .args .page .now) (c .before .before .before .before .args .at) (c .before .before .before .before .args .bytes .now) (c .before .loop .page) (c .before .before .before .before .args .at + c .before .loop .i)
 ended c = record {
   over = sym (overlay-none _ _) ∙ rw (drop-of-length-le (c .before .before .before .before .args .bytes .now) (c .loop-test .left)) at (c .before .loop .inv .1);
   ends = omega (arith, c .loop-test .left, c .before .loop .inv .0);

@@ -4,7 +4,7 @@ use borrow.Author.Needs.{needs}
 use Prim.Native.Nat.{_*_, _-_, _≤_}
 use mathlib.Core.Path.{_≡_}
 use lib.ListN.{length, getD, drop}
-use Rattle.words.specs.Laid.{Laid}
+use Rattle.words.specs.LaidAt.{LaidAt}
 use Rattle.words.proofs.Rest.{Rest, all-left, lay-part, same-rest, none-left, laid-length}
 use Rattle.lines.specs.Lines.{wordLines}
 use Rattle.lines.proofs.Lines.{length-word, words-then, words-none}
@@ -18,7 +18,7 @@ abbrev μ-loop : tie.MeasureT-loop
 μ-loop page₀ words to₀ k₀ page to k = length words - k
 
 -- after the loop all lines are laid
-ended : (c : tie.After-loop Inv-loop μ-loop) → Laid (c .before .before .before .before .args .page .now) 0 (wordLines (c .before .before .before .before .args .words .now)) (c .before .loop .page) (c .before .loop .to)
+ended : (c : tie.After-loop Inv-loop μ-loop) → LaidAt (c .before .before .before .before .args .page .now) 0 (wordLines (c .before .before .before .before .args .words .now)) (c .before .loop .page) (c .before .loop .to)
 ended c = none-left (same-rest (words-none (c .before .before .before .before .args .words .now) (c .before .loop .k) (c .loop-test .left)) (c .before .loop .inv .1))
 
 loop-holds : tie.Need-loop-holds Inv-loop μ-loop

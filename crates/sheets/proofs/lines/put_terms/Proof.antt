@@ -2,7 +2,7 @@
 use Rattle.sheets.proofs.Cells.{end-length}
 use Rattle.integers.specs.Terms.{_·_}
 use Rattle.sheets.specs.Lines.{termText}
-use Rattle.words.specs.Laid.{Laid}
+use Rattle.words.specs.LaidAt.{LaidAt}
 use native.Mathlib.Omega.{arith}
 use borrow.Author.Needs.{needs}
 use Prim.Native.Nat.{_+_, _-_, _*_, _≤_}
@@ -25,7 +25,7 @@ abbrev μ-loop : tie.MeasureT-loop
 laid : (c : tie.After-put-term Inv-loop μ-loop) →
     let s = c .before .before .before .before .before .before .before .before .before in
     let l = c .before .before .before .before .before .before .loop in
-    Laid (l .page) (l .to) (termText (l .room) (numberAt (s .args .ws .now) (2 * l .k + 1) · variableAt (s .args .ws .now) (2 * l .k))) (c .put-term .last .0) (c .put-term .result)
+    LaidAt (l .page) (l .to) (termText (l .room) (numberAt (s .args .ws .now) (2 * l .k + 1) · variableAt (s .args .ws .now) (2 * l .k))) (c .put-term .last .0) (c .put-term .result)
 unfolding numberAt variableAt
 laid c = rw (← c .before .before .before .word-at .ensures, ← c .before .before .word-at2 .ensures, ← c .before .payload-of .ensures) (c .put-term .ensures)
 

@@ -7,7 +7,7 @@ use lib.ListN.{length, getD}
 use Rattle.integers.specs.Number.{+0}
 use Rattle.words.specs.Limit as Limit
 
-pub record Listed (vs : List ℤ) (n : ℕ) (out : List ℤ) : Type 0 where
+pub record FrontListed (vs : List ℤ) (n : ℕ) (out : List ℤ) : Type 0 where
   pub many : n ≡ length vs
   pub few : n ≤ Limit.listLength
   pub same : (k : ℕ) → getD out k +0 ≡ getD vs k +0

@@ -5,6 +5,6 @@ use Prim.Native.Nat.{ℕ, _+_}
 use lib.ListN.{length}
 use Rattle.words.specs.Overlay.{overlay}
 
-pub record Laid {A : Type 0} (before : List A) (at : ℕ) (text after : List A) (end : ℕ) : Type 0 where
+pub record LaidAt {A : Type 0} (before : List A) (at : ℕ) (text after : List A) (end : ℕ) : Type 0 where
   pub over : after ≡ overlay before at text
   pub ends : end ≡ at + length text
