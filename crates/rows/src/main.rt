@@ -1,9 +1,10 @@
 // Reads the bytes of a model's words from standard input and prints the words of its row system, one a line, or the refusal.
 ghost use mathlib.Core.Path.{_≡_};
-ghost use Prim.Native.Nat.{_≤_};
+ghost use Prim.Native.Nat.{_*_, _≤_};
 ghost use lib.ListN.{length, take};
 ghost use Rattle.io.specs.Counts.{Counts};
 ghost use Rattle.encoding.specs.Bytes.{bytesWords};
+ghost use Rattle.lines.specs.Lines.{programWords};
 ghost use Rattle.rows.specs.Text.{rowsText};
 use encoding::front_words;
 use lines::put_front;
@@ -24,7 +25,7 @@ const PAGE: usize = 147456;
 // Writes what the program prints to the front of a page; answers how many bytes it has.
 fn rows_page(bytes: &[u8], page: &mut [u8]) -> usize
     requires bytes { ⌜ length (now bytes) ≤ 32772 ⌝ }
-    requires page { ⌜ 147456 ≤ length (now page) ⌝ }
+    requires page { ⌜ 9 * programWords ≤ length (now page) ⌝ }
     ensures text { λ r. ⌜ take r (now (page .exit)) ≡ rowsText (bytesWords (now (bytes .entry))) ⌝ }
     ensures count { λ r. ⌜ Counts r (now (page .exit)) ⌝ }
 {

@@ -6,6 +6,7 @@ use Rattle.words.specs.Written.{wrote}
 use Rattle.encoding.specs.Bytes.{bytesWords}
 use Rattle.encoding.proofs.Words.{quarter}
 use Rattle.rules.specs.Translate.{translateIn, translatedIn}
+use Rattle.lines.specs.Lines.{programWords}
 use Rattle.lines.proofs.Printed.{front-refused, front-lines}
 use Rattle.rows.specs.Text.{rowsText}
 use Rattle.rows.proofs.Text.{fits}
@@ -33,7 +34,7 @@ returns-2 c =
     let s = w .before .before .before .before in
     let ws = bytesWords (s .args .bytes .now) in
     let system = rw (c .before .before .before .before .before .before .k .given .1, w .front-words .ensures .0) at (c .before .before .before .before .before .before .before .before .before .translate .ensures) in
-    front-lines (record { answer = system .0; output = system .1 .0; room = fits ws 16384 }) refl (c .before .before .put-front .ensures) (s .pre .1)
+    front-lines (record { answer = system .0; output = system .1 .0; room = fits ws programWords }) refl (c .before .before .put-front .ensures) (s .pre .1)
 
 pub rows-page-spec : {M : Type 1} → statement M
 rows-page-spec =
