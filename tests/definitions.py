@@ -133,7 +133,7 @@ def write_crates(cases):
     for crate in needed_crates():  # what is proved already is not proved again
         if os.path.exists(stamp_of(crate)):
             shutil.copy(stamp_of(crate), os.path.join(SCRATCH, 'target', 'stamp', crate))
-            shutil.copytree(os.path.join(ROOT, 'target', 'rlib', f'{crate}.rlib'), os.path.join(SCRATCH, 'target', 'rlib', f'{crate}.rlib'), symlinks=True)
+            shutil.copytree(os.path.join(ROOT, 'target', 'rlib', f'{crate}.rlib'), os.path.join(SCRATCH, 'target', 'rlib', f'{crate}.rlib'), symlinks=True, copy_function=os.link)
     modules = list(definitions())
     seen, uses, opened = {'written'}, [], []  # also an answer
     for crate, module, names in modules:
