@@ -24,7 +24,7 @@ BITS = 10        # the call's number in suite
 ALL = 14         # so many bits are tried on all lists
 MOST = 30        # so many by clasp, which takes too long over many larger ones
 FIXED = 4        # so many value lists of a larger form clasp is asked
-SECONDS = 1      # so long clasp may take over one of them
+CONFLICTS = 200000  # so many conflicts clasp may meet over one of them: as many on a busy machine as on an idle one
 
 
 # Row systems: bounds, and rows, each its kind, its terms and its constant, as solver.row_system gives them.
@@ -180,9 +180,9 @@ class Form:
         products = sum(i != j for i, j in self.entries)
         text = '\n'.join([f'* #variable= {self.bits} #constraint= {len(fixed)} #product= {products} sizeproduct= {2 * products}',
                           f'min: {terms} ;'] + fixed) + '\n'
-        run = subprocess.run(['clasp', f'--time-limit={SECONDS}', '--quiet=2,0,2', '-'], input=text, capture_output=True, text=True)
+        run = subprocess.run(['clasp', f'--solve-limit={CONFLICTS}', '--quiet=2,0,2', '-'], input=text, capture_output=True, text=True)
         is_least = 's OPTIMUM FOUND' in run.stdout
-        if not is_least and 'c TIME LIMIT' not in run.stdout:
+        if not is_least and '\ns SATISFIABLE\n' not in run.stdout and '\ns UNKNOWN\n' not in run.stdout:
             raise solver.Difference(f'clasp: status {run.returncode}, it says {run.stdout[-300:]}{run.stderr[-300:]}')
         found = [int(line[2:]) for line in run.stdout.splitlines() if line.startswith('o ')]
         return (self.constant + found[-1] if found else None), is_least
