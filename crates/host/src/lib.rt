@@ -39,15 +39,15 @@ use structs::Counts;
 use structs::Explanation;
 use structs::Judgement;
 use structs::Listed;
-use structs::Printed;
-use structs::Written;
+use structs::PrintedBytes;
+use structs::WrittenWords;
 use structs::counts_of;
 use structs::explanation_of;
 use structs::filled_of;
 use structs::judgement_of;
 use structs::listed_of;
-use structs::number_of;
 use structs::printed_of;
+use structs::refusal_number;
 use structs::written_of;
 use texts::read_text;
 use translation::translate;
@@ -63,7 +63,7 @@ fn check_in(bytes: &[u8], words: &mut [u32]) -> u32
     ensures { λ r. ⌜ r ≡ checkBytes (now (bytes .entry)) ⌝ }
 {
     let n = words_of_bytes(bytes, words);
-    number_of(check(&words[..n]))
+    refusal_number(check(&words[..n]))
 }
 
 // Check over bytes, four to a word, the lowest first, 1 to 3 spare bytes left off: the number of the refusal, 0 if accepted.
@@ -92,7 +92,7 @@ pub extern "C" fn pearrummy_check(words: &[u32]) -> Counts
 
 // Translate; the words of the row system go to the front of the output.
 #[no_mangle]
-pub extern "C" fn pearrummy_translate(words: &[u32], out: &mut [u32]) -> Written
+pub extern "C" fn pearrummy_translate(words: &[u32], out: &mut [u32]) -> WrittenWords
     ensures answer { λ r. ⌜ r ≡ writtenOf (translateAnswer (now (words .entry)) (length (now (out .entry)))) ⌝ }
     ensures output { λ r. ⌜ now (out .exit) ≡ translated (now (words .entry)) (now (out .entry)) ⌝ }
     ensures shared { λ r. ⌜ Shares (now (words .entry)) (translateAnswer (now (words .entry)) (length (now (out .entry)))) (now (out .exit)) ⌝ }
@@ -129,7 +129,7 @@ pub extern "C" fn pearrummy_fill(words: &[u32], values: &[i32], out: &mut [i32])
 
 // Sheet; the lines of the rows go to the front of the page.
 #[no_mangle]
-pub extern "C" fn pearrummy_sheet(words: &[u32], page: &mut [u8]) -> Printed
+pub extern "C" fn pearrummy_sheet(words: &[u32], page: &mut [u8]) -> PrintedBytes
     ensures answer { λ r. ⌜ r ≡ printedOf (sheetAnswer (now (words .entry)) (length (now (page .entry)))) ⌝ }
     ensures page { λ r. ⌜ now (page .exit) ≡ sheetPage (now (words .entry)) (now (page .entry)) ⌝ }
 {
@@ -138,7 +138,7 @@ pub extern "C" fn pearrummy_sheet(words: &[u32], page: &mut [u8]) -> Printed
 
 // Text; the words of the model that a text of FlatZinc writes go to the front of the output.
 #[no_mangle]
-pub extern "C" fn pearrummy_text(text: &[u8], out: &mut [u32]) -> Written
+pub extern "C" fn pearrummy_text(text: &[u8], out: &mut [u32]) -> WrittenWords
     ensures answer { λ r. ⌜ r ≡ writtenOf (readText (now (text .entry)) (length (now (out .entry)))) ⌝ }
     ensures output { λ r. ⌜ now (out .exit) ≡ textRead (now (text .entry)) (now (out .entry)) ⌝ }
 {
@@ -168,7 +168,7 @@ pub extern "C" fn pearrummy_pair_translate(
     words: &[u32],
     candidate: u32,
     out: &mut [u32],
-) -> Written
+) -> WrittenWords
     ensures answer { λ r. ⌜ r ≡ writtenOf (pairTranslate candidate (now (words .entry)) (length (now (out .entry)))) ⌝ }
     ensures output { λ r. ⌜ now (out .exit) ≡ pairTranslated candidate (now (words .entry)) (now (out .entry)) ⌝ }
     ensures shared { λ r. ⌜ Shares (modelOf candidate (now (words .entry))) (pairTranslate candidate (now (words .entry)) (length (now (out .entry)))) (now (out .exit)) ⌝ }
@@ -214,7 +214,7 @@ pub extern "C" fn pearrummy_reason(words: &[u32], values: &[i32]) -> Explanation
 
 // Bits; the words of the form of a row system go to the front of the output.
 #[no_mangle]
-pub extern "C" fn pearrummy_bits(words: &[u32], out: &mut [u32]) -> Written
+pub extern "C" fn pearrummy_bits(words: &[u32], out: &mut [u32]) -> WrittenWords
     ensures answer { λ r. ⌜ r ≡ writtenOf (bitForm (now (words .entry)) (length (now (out .entry)))) ⌝ }
     ensures output { λ r. ⌜ now (out .exit) ≡ bitFormed (now (words .entry)) (now (out .entry)) ⌝ }
     ensures shared { λ r. ⌜ FormShares (now (words .entry)) (bitForm (now (words .entry)) (length (now (out .entry)))) (now (out .exit)) ⌝ }

@@ -6,9 +6,9 @@ use Rattle.reasons.specs.Reason.{Reason, refuse, outside, none, because}
 use Rattle.structs.specs.declared.Counts.{Counts}
 use Rattle.structs.specs.declared.Explanation.{Explanation}
 use Rattle.structs.specs.declared.Judgement.{Judgement}
-use Rattle.structs.specs.declared.Printed.{Printed}
+use Rattle.structs.specs.declared.PrintedBytes.{PrintedBytes}
 use Rattle.structs.specs.declared.Listed.{Listed}
-use Rattle.structs.specs.declared.Written.{Written}
+use Rattle.structs.specs.declared.WrittenWords.{WrittenWords}
 
 -- Of the judges and of fill, by what is said: 0 refused, 1 holds (in fill, `at` is how many values it wrote), 2 out of bounds, 3 false.
 unfoldable pub judgementOf : Answer → Judgement
@@ -41,10 +41,10 @@ countOf made (outOfBounds i) = made 0 0 0
 countOf made (isFalse i) = made 0 0 0
 
 -- Of translate, text and bits; of sheet; of solutions.
-unfoldable pub writtenOf : Answer → Written
+unfoldable pub writtenOf : Answer → WrittenWords
 writtenOf = countOf (λ n p k. record { fault = n; place = p; words = k })
 
-unfoldable pub printedOf : Answer → Printed
+unfoldable pub printedOf : Answer → PrintedBytes
 printedOf = countOf (λ n p k. record { fault = n; place = p; bytes = k })
 
 unfoldable pub listedOf : Answer → Listed

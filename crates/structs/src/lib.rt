@@ -39,7 +39,7 @@ pub struct Counts {
 
 // What translate, text or bits answers a host: how many words it wrote, or a fault and its place.
 #[repr(C)]
-pub struct Written {
+pub struct WrittenWords {
     pub fault: u32,
     pub place: usize,
     pub words: usize,
@@ -47,7 +47,7 @@ pub struct Written {
 
 // What sheet answers a host: how many bytes it wrote, or a fault and its place.
 #[repr(C)]
-pub struct Printed {
+pub struct PrintedBytes {
     pub fault: u32,
     pub place: usize,
     pub bytes: usize,
@@ -210,7 +210,7 @@ pub fn counts_of(c: Checked) -> Counts
 }
 
 // The number of check's refusal, 0 if it accepts.
-pub fn number_of(c: Checked) -> u32
+pub fn refusal_number(c: Checked) -> u32
     ensures { λ r. ⌜ r ≡ refusalNumber (checked c) ⌝ }
 {
     match c {
@@ -226,16 +226,16 @@ pub fn number_of(c: Checked) -> u32
 }
 
 // The answer of translate, text and bits for a host.
-pub fn written_of(w: words::Written) -> Written
+pub fn written_of(w: words::Written) -> WrittenWords
     ensures { λ r. ⌜ r ≡ writtenOf (wrote w) ⌝ }
 {
     match w {
-        words::Written::Refused(r) => Written {
+        words::Written::Refused(r) => WrittenWords {
             fault: r.number,
             place: r.place,
             words: 0,
         },
-        words::Written::Words(n) => Written {
+        words::Written::Words(n) => WrittenWords {
             fault: 0,
             place: 0,
             words: n,
@@ -244,16 +244,16 @@ pub fn written_of(w: words::Written) -> Written
 }
 
 // Sheet's answer for a host.
-pub fn printed_of(p: sheets::Printed) -> Printed
+pub fn printed_of(p: sheets::Printed) -> PrintedBytes
     ensures { λ r. ⌜ r ≡ printedOf (printed p) ⌝ }
 {
     match p {
-        sheets::Printed::Refused(r) => Printed {
+        sheets::Printed::Refused(r) => PrintedBytes {
             fault: r.number,
             place: r.place,
             bytes: 0,
         },
-        sheets::Printed::Bytes(n) => Printed {
+        sheets::Printed::Bytes(n) => PrintedBytes {
             fault: 0,
             place: 0,
             bytes: n,

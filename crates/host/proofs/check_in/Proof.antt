@@ -19,7 +19,7 @@ slice-aggregate-check c = c .before .before .before .words-of-bytes .ensures .0 
 
 returns : tie.Need-returns
 unfolding checkBytes
-returns c = c .number-of .ensures ∙ ap refusalNumber (c .before .check .ensures ∙ ap check (front (c .before .before .before .before .before)))
+returns c = c .refusal-number .ensures ∙ ap refusalNumber (c .before .check .ensures ∙ ap check (front (c .before .before .before .before .before)))
 
 pub check-in-spec : {M : Type 1} → statement M
 check-in-spec =
