@@ -1,4 +1,4 @@
--- The table of arguments: its entries are the forms of the definition; no code above 39 has an argument, and no code a fifth. For `form_of`.
+-- The table of arguments: its entries are the forms of the definition; no code above 39 has an argument, and no code a fifth. For `argument_form`.
 use mathlib.Core.Path.{_≡_, refl, sym, ap, _∙_}
 use mathlib.Core.Bool.{Bool, true, false, not}
 use mathlib.Core.List.{List, [], _∷_, map, flatMap, flatten}

@@ -1,5 +1,5 @@
 -- The grammar; 02, wish 8: "var lo..hi: name;" or "var bool: name;" items, then "constraint builtin(arguments);" items, then one "solve satisfy;".
--- What is due and the token met give a step: the token's fault, the word that it writes and what is due next. `Due`, `Form` and `Step` are
+-- What is due and the token met give a step: the token's fault, the word that it writes and what is due next. `Due`, `Form` and `TokenStep` are
 -- declared in grammar/src/lib.rt.
 use mathlib.Core.Bool.{Bool, true, false, _&&_, _||_}
 use mathlib.Core.List.{List}
@@ -19,7 +19,7 @@ use Rattle.grammar.specs.Brackets.{fitsInside, lengthFrom}
 use Rattle.grammar.specs.Form.{argumentForms, argumentForm}
 use Rattle.grammar.specs.declared.Form.{Form}
 use Rattle.grammar.specs.declared.Form.the-variants.{Missing, One, Many}
-use Rattle.grammar.specs.declared.Step.{Step}
+use Rattle.grammar.specs.declared.TokenStep.{TokenStep}
 use Rattle.grammar.specs.declared.Due.{Due}
 use Rattle.grammar.specs.declared.Due.the-variants.{Item, Domain, Dots, Upper, Colon, Name, Semicolon, Builtin, Opening, Argument, Next, Inside, Satisfy}
 
@@ -34,33 +34,33 @@ abbrev pub endStage : ℕ
 endStage = 2
 
 -- the step of a token with a fault, by its number, or with none: a token with a fault writes no word; 0 is no word
-unfoldable pub gives : ℕ → ℕ → Due → Step
+unfoldable pub gives : ℕ → ℕ → Due → TokenStep
 gives number w next = record { fault = number; word = w if eqb number Fault.none else 0; next = next }
 
 -- of a token that fits or breaks the grammar
-unfoldable pub fitting : Bool → ℕ → Due → Step
+unfoldable pub fitting : Bool → ℕ → Due → TokenStep
 fitting fits = gives (Fault.none if fits else Fault.breaksGrammar)
 
 -- of a token of sort s where one of `sort` is due, which must then be right: "at one byte the lower number"
-unfoldable pub ofSort : ℕ → ℕ → Bool → ℕ → ℕ → Due → Step
+unfoldable pub ofSort : ℕ → ℕ → Bool → ℕ → ℕ → Due → TokenStep
 ofSort sort s right number = gives ((Fault.none if right else number) if eqb s sort else Fault.breaksGrammar)
 
 -- of a name that is right, or is unknown or declared twice; of a number, with its word of a kind
-unfoldable pub nameStep : ℕ → Bool → ℕ → Due → Step
+unfoldable pub nameStep : ℕ → Bool → ℕ → Due → TokenStep
 nameStep s right = ofSort Token.name s right Fault.wrongName
 
-unfoldable pub numberStep : ℕ → Token → Due → Step
+unfoldable pub numberStep : ℕ → Token → Due → TokenStep
 numberStep kind t = let z = valueOf (t .spelling) in ofSort Token.number (t .sort) (inRange z) Fault.outsideRange (numberWord kind z)
 
 -- of an argument or element of one token: a number, or the name of a variable
-unfoldable pub singleStep : List Token → ℕ → Token → Due → Step
+unfoldable pub singleStep : List Token → ℕ → Token → Due → TokenStep
 singleStep all sort t next =
     let v = variableOf all t in
     numberStep Kind.number t next if eqb sort Token.number else nameStep (t .sort) (ltb 0 v) (word Kind.variable (v - 1)) next
 
 -- of the argument before the k-th of code c; n is the length of the list before it. A list writes its length, and of parallel ones only the first:
 -- 01, Words: "Parallel lists share one length word"; "parallel lists of unequal length, at the second unless the grammar breaks inside it, break the grammar"
-unfoldable pub argumentStep : Form → List Token → ℕ → ℕ → ℕ → Token → List Token → Step
+unfoldable pub argumentStep : Form → List Token → ℕ → ℕ → ℕ → Token → List Token → TokenStep
 argumentStep Missing all c k n t ts = fitting false 0 (Semicolon constraintStage)
 argumentStep (One sort) all c k n t ts = singleStep all sort t (Next c k n)
 argumentStep (Many opening element closing second) all c k n t ts =
@@ -70,7 +70,7 @@ argumentStep (Many opening element closing second) all c k n t ts =
 
 -- of token t before the tokens ts, where this is due; `all` has the tokens of the text. "A wrong count (at the closing bracket or the first argument
 -- too many)": a comma always fits after an argument, and what stands after it does not where no argument is left
-unfoldable pub step : List Token → Due → Token → List Token → Step
+unfoldable pub step : List Token → Due → Token → List Token → TokenStep
 step all (Item stage) t ts =
     fitting (eqb stage declarationStage) 0 Domain if isWord "var" t
     else fitting (leb stage constraintStage) 0 Builtin if isWord "constraint" t

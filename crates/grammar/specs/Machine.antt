@@ -38,8 +38,8 @@ abbrev pub FormTable : List (List ℕ) → Type 0
 FormTable rows = map (map numberedForm) rows ≡ listOf (λ c. listOf (argumentForm c) 4) (suc last)
 
 -- what the byte of a digit adds to a number, and whether a byte is a hyphen
-abbrev pub digitOf : ℕ → ℕ
-digitOf b = b - code "0"
+abbrev pub digitValue : ℕ → ℕ
+digitValue b = b - code "0"
 
 abbrev pub isHyphen : ℕ → Bool
 isHyphen b = eqb b (code "-")

@@ -11,12 +11,12 @@ use Rattle.words.specs.Refusal.{accepted}
 use Rattle.tokens.specs.Token.{Token, tokensFrom}
 use Rattle.names.specs.Name.{declaredFrom}
 use Rattle.grammar.specs.Grammar as Grammar
-use Rattle.grammar.specs.declared.Step.{Step}
+use Rattle.grammar.specs.declared.TokenStep.{TokenStep}
 use Rattle.grammar.specs.declared.Due.{Due}
 use Rattle.texts.specs.Text.{faultFrom, wordsFrom}
 
 -- the step of a token without a fault
-abbrev pub passes : ℕ → Due → Step
+abbrev pub passes : ℕ → Due → TokenStep
 passes w next = record { fault = 0; word = w; next = next }
 
 module _ (all : List Token) (end : ℕ) where

@@ -17,7 +17,7 @@ use Rattle.tokens.specs.Unread.{unread, spanned, Stands, Met}
 use Rattle.tokens.specs.declared.Span.{Span}
 use Rattle.tokens.proofs.Places.{met-token, none-left}
 use Rattle.grammar.specs.Grammar.{step}
-use Rattle.grammar.specs.declared.Step.{Step}
+use Rattle.grammar.specs.declared.TokenStep.{TokenStep}
 use Rattle.grammar.specs.declared.Due.{Due}
 use Rattle.grammar.specs.declared.Due.the-variants.{Item}
 use Rattle.texts.specs.TextReading.{Gives, ReadsTokens}
@@ -58,10 +58,10 @@ module _ {bs before out : List ℕ} {i n : ℕ} {due : Due} (l : Left bs before 
     abbrev rest : List Token
     rest = unread bs (t .stop)
 
-    abbrev met : Step
+    abbrev met : TokenStep
     met = step (tokens bs) due token rest
 
-    module _ {s : Step} (f : s ≡ met) where
+    module _ {s : TokenStep} (f : s ≡ met) where
       -- it has a fault
       pub stop-fault : (s .fault ≡ 0 → ⊥) → tokensFault (tokens bs) (length bs) ≡ s .fault at-place (t .place)
       unfolding faultFrom spanned
@@ -155,7 +155,7 @@ module _ (bs : List ℕ) where
   unfolding spanned
   last-token = let e : length bs - length bs ≡ 0 = omega arith in rw e
 
-  module _ (due : Due) {s : Step} (f : s ≡ step (tokens bs) due (spanned bs last) (unread bs (length bs))) where
+  module _ (due : Due) {s : TokenStep} (f : s ≡ step (tokens bs) due (spanned bs last) (unread bs (length bs))) where
     last-fault : faultFrom (tokens bs) (length bs) due [] ≡ faultOr (s .fault) (length bs) accepted
     unfolding faultFrom
     last-fault = let e : s ≡ step (tokens bs) due (endOf (length bs)) [] = rw (last-token, none-left bs (length bs) (omega arith)) at f in rw (← e)

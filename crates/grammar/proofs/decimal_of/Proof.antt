@@ -24,14 +24,14 @@ mul-capped : tie.Need-mul-capped Inv-loop μ-loop
 mul-capped c = omega (arith, cap-most (c .before .loop .v), c .before .loop .inv .1)
 
 add-capped : tie.Need-add-capped Inv-loop μ-loop
-add-capped c = omega (arith, cap-most (c .before .before .before .loop .v), c .before .before .before .loop .inv .1, c .digit-of .ensures, c .before .shared-slice-known2 .given (c .before .before .before .loop .i))
+add-capped c = omega (arith, cap-most (c .before .before .before .loop .v), c .before .before .before .loop .inv .1, c .digit-value .ensures, c .before .shared-slice-known2 .given (c .before .before .before .loop .i))
 
 loop-again : tie.Need-loop-again Inv-loop μ-loop
 loop-again c =
     let ds = c .before .before .before .before .before .before .args .digits .now in
     let v = c .before .before .before .before .loop .v in
     let i = c .before .before .before .before .loop .i in
-    let e = c .capped .ensures ∙ ap (λ (d : ℕ). cap (v * 10 + d)) (c .before .digit-of .ensures) in (
+    let e = c .capped .ensures ∙ ap (λ (d : ℕ). cap (v * 10 + d)) (c .before .digit-value .ensures) in (
       omega (arith, c .before .before .before .loop-test .taken),
       c .capped .ensures ∙ sym (cap-again _) ∙ ap cap (sym (c .capped .ensures)),
       c .before .before .before .before .loop .inv .2 ∙ digits-on ds i v (c .before .before .before .loop-test .taken) ∙ ap (λ (n : ℕ). cap (digitsFrom n (drop (i + 1) ds))) (sym e),

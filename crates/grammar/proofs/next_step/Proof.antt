@@ -13,7 +13,7 @@ returns c = λ bs. rw (eq-eqb _ _ (c .before .if1 .taken)) (c .fitting .ensures)
 
 returns-2 : tie.Need-returns-2
 unfolding step spanned
-returns-2 c = λ bs. rw (ne-eqb _ _ (c .before .before .before .before .before .if1 .left), eq-eqb _ _ (c .before .before .before .if2 .taken), ← none-left (c .before .before .before .before .before .before .before .args .code) (c .before .before .before .before .before .before .before .args .k), ← c .before .before .form-of .ensures, ← c .before .is-missing .ensures) (c .fitting2 .ensures)
+returns-2 c = λ bs. rw (ne-eqb _ _ (c .before .before .before .before .before .if1 .left), eq-eqb _ _ (c .before .before .before .if2 .taken), ← none-left (c .before .before .before .before .before .before .before .args .code) (c .before .before .before .before .before .before .before .args .k), ← c .before .before .argument-form .ensures, ← c .before .is-missing .ensures) (c .fitting2 .ensures)
 
 returns-3 : tie.Need-returns-3
 unfolding step spanned

@@ -3,8 +3,8 @@ use mathlib.Core.Path.{_∙_}
 use native.Mathlib.Omega.{arith}
 use Rattle.grammar.proofs.Table.{rule, past-codes, past-arguments}
 use borrow.Author.Needs.{needs}
-use Rattle.grammar.proofs.form_of.Statement.{statement}
-use Rattle.grammar.proofs.form_of.Tie as tie
+use Rattle.grammar.proofs.argument_form.Statement.{statement}
+use Rattle.grammar.proofs.argument_form.Tie as tie
 
 returns : tie.Need-returns
 returns c = c .form-at .ensures ∙ rule (c .before .before .before .before .args .rows .now) (c .before .before .before .before .args .code) (c .before .before .before .before .args .k) (c .before .before .before .before .pre) (c .before .before .before .if1 .taken) (c .before .before .if2 .taken)
@@ -15,8 +15,8 @@ returns-2 c = past-arguments (c .before .before .args .code) (c .before .before 
 returns-3 : tie.Need-returns-3
 returns-3 c = past-codes (c .before .args .code) (c .before .args .k) (omega (arith, c .if1 .left))
 
-pub form-of-spec : {M : Type 1} → statement M
-form-of-spec =
+pub argument-form-spec : {M : Type 1} → statement M
+argument-form-spec =
     tie.close
     (tie.spec
     (λ c. search needs)
