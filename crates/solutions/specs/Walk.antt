@@ -14,8 +14,8 @@ use Rattle.solutions.specs.Odometer.{listsFrom}
 use Rattle.solutions.specs.Solutions.{allTrue}
 
 -- counting the lists stops at one more than are listed
-abbrev pub cap : ℕ
-cap = Limit.listedLists + 1
+abbrev pub countCap : ℕ
+countCap = Limit.listedLists + 1
 
 -- the bounds of the first n variables
 abbrev pub boundsTo : List ℤ → List ℤ → ℕ → List Bounds

@@ -17,7 +17,7 @@ ghost use Rattle.solutions.specs.AllWithin.{lowestList};
 ghost use Rattle.solutions.specs.Odometer.{isLast, nextList};
 ghost use Rattle.solutions.specs.Solutions.{allTrue, solutionsAnswer, solutionsListed};
 ghost use Rattle.solutions.specs.Found.{found};
-ghost use Rattle.solutions.specs.Walk.{cap, boundsTo, solutionsFrom, solutionsIn, Walkable, ListsSized};
+ghost use Rattle.solutions.specs.Walk.{countCap, boundsTo, solutionsFrom, solutionsIn, Walkable, ListsSized};
 use checking::Checked;
 use checking::check;
 use extremes::bound_at;
@@ -34,7 +34,7 @@ use words::is_holds;
 use words::limit;
 use words::value_at;
 
-// One more value list than are listed, `cap`.
+// One more value list than are listed, `countCap`.
 const CAP: usize = 65537;
 
 // What listing the solutions answers.
@@ -45,8 +45,8 @@ pub enum Found {
 }
 
 // A count, or 65,537 if it is more.
-fn capped(n: usize) -> usize
-    ensures { λ r. ⌜ r ≡ min n cap ⌝ }
+fn capped_count(n: usize) -> usize
+    ensures { λ r. ⌜ r ≡ min n countCap ⌝ }
 {
     if n < CAP { n } else { CAP }
 }
@@ -54,13 +54,13 @@ fn capped(n: usize) -> usize
 // How many value lists the bounds of n variables leave, capped.
 fn list_count(ls: &[i64], us: &[i64], n: usize) -> usize
     requires { ⌜ Bounded (now ls) × Bounded (now us) ⌝ }
-    ensures { λ r. ⌜ r ≡ min (listCount (boundsTo (now (ls .entry)) (now (us .entry)) n)) cap ⌝ }
+    ensures { λ r. ⌜ r ≡ min (listCount (boundsTo (now (ls .entry)) (now (us .entry)) n)) countCap ⌝ }
 {
     let mut count = 1;
     let mut i = 0;
     while i < n {
-        let width = capped(width_of(bound_at(ls, i), bound_at(us, i)));
-        count = capped(count * width);
+        let width = capped_count(width_of(bound_at(ls, i), bound_at(us, i)));
+        count = capped_count(count * width);
         i += 1;
     }
     count

@@ -23,16 +23,16 @@ width-of-requires c κs =
     let s = c .before .before .before .before in
     rw (back (c .before .bound-at .result) (c .before .bound-at .ok), c .before .bound-at .ensures, back (c .bound-at2 .result) (c .bound-at2 .ok), c .bound-at2 .ensures) (s .pre .0 _, s .pre .1 _)
 
-mul-capped : tie.Need-mul-capped Inv-loop μ-loop
-mul-capped c = omega (arith, mul-le (c .before .before .before .before .before .loop .inv .small) (capped-le (c .before .width-of .result) _ (c .capped .ensures)))
+mul-capped-count : tie.Need-mul-capped-count Inv-loop μ-loop
+mul-capped-count c = omega (arith, mul-le (c .before .before .before .before .before .loop .inv .small) (capped-le (c .before .width-of .result) _ (c .capped-count .ensures)))
 
 loop-again : tie.Need-loop-again Inv-loop μ-loop
 loop-again c =
     let lower = c .before .before .before .before .bound-at in
     let upper = c .before .before .before .bound-at2 in
     more _ _ (c .before .before .before .before .before .before .loop .inv) (c .before .before .before .before .before .loop-test .taken) _ _
-    (c .before .capped .ensures ∙ rw (c .before .before .width-of .ensures, back (lower .result) (lower .ok), lower .ensures, back (upper .result) (upper .ok), upper .ensures))
-    (c .capped2 .ensures)
+    (c .before .capped-count .ensures ∙ rw (c .before .before .width-of .ensures, back (lower .result) (lower .ok), lower .ensures, back (upper .result) (upper .ok), upper .ensures))
+    (c .capped-count2 .ensures)
 
 returns : tie.Need-returns Inv-loop μ-loop
 returns c = done _ _ (c .before .loop .inv) (c .loop-test .left)
@@ -48,7 +48,7 @@ list-count-spec =
     (λ c κs. search needs)
     width-of-requires
     (λ c κs. search needs)
-    mul-capped
+    mul-capped-count
     (λ c κs. search needs)
     (λ c. search needs)
     (λ c. search needs)
