@@ -3,7 +3,7 @@ use crate::lent::first_marked;
 use crate::lent::marked_bytes;
 use crate::lent::marked_values;
 use crate::lent::marked_words;
-use hexadecimal::digits_of;
+use hexadecimal::hex_digits;
 use words::Refusal;
 use words::Verdict;
 use words::word_at;
@@ -31,7 +31,7 @@ fn print_end(kept: bool) {
 // A word, a blank before it.
 fn print_word(w: u32) {
     io::write_all(1, b" ");
-    io::write_all(1, &digits_of(w));
+    io::write_all(1, &hex_digits(w));
 }
 
 // The first n words of a list, a blank before each.
@@ -45,7 +45,7 @@ fn print_words(words: &[u32], n: usize) {
 
 // A byte, as two hexadecimal digits.
 fn print_byte(b: u8) {
-    let digits = digits_of(b as u32);
+    let digits = hex_digits(b as u32);
     let pair = [digits[6], digits[7]];
     io::write_all(1, &pair);
 }

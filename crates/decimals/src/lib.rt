@@ -96,7 +96,7 @@ pub fn put_number(page: &mut [u8], at: usize, columns: usize, v: i64)
 }
 
 // How many digits a number has.
-fn digits_of(n: usize) -> usize
+fn digit_count(n: usize) -> usize
     ensures { λ r. ⌜ r ≡ length (decimal n) ⌝ }
 {
     let mut count: usize = 1;
@@ -113,7 +113,7 @@ pub fn put_decimal(page: &mut [u8], at: usize, n: usize) -> usize
     requires { ⌜ at + length (decimal n) < 1099511627776 ⌝ }
     ensures { λ r. ⌜ LaidAt (now (page .entry)) at (decimal n) (now (page .exit)) r ⌝ }
 {
-    let digits = digits_of(n);
+    let digits = digit_count(n);
     put_right(page, at, digits, false, n);
     at + digits
 }

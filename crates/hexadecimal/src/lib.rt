@@ -5,7 +5,7 @@ ghost use lib.ListN.{length};
 ghost use Rattle.hexadecimal.specs.Digits.{digit, digits};
 
 // The digit of a number below 16.
-fn digit_of(n: u32) -> u8
+fn hex_digit(n: u32) -> u8
     requires { ⌜ n < 16 ⌝ }
     ensures { λ r. ⌜ r ≡ digit n ⌝ }
 {
@@ -13,18 +13,18 @@ fn digit_of(n: u32) -> u8
 }
 
 // The digits of a word.
-pub fn digits_of(w: u32) -> [u8; 8]
+pub fn hex_digits(w: u32) -> [u8; 8]
     ensures text { λ r. ⌜ r ≡ digits w ⌝ }
     ensures eight { λ r. ⌜ 8 ≡ length r ⌝ }
 {
     [
-        digit_of(w / 268435456 % 16),
-        digit_of(w / 16777216 % 16),
-        digit_of(w / 1048576 % 16),
-        digit_of(w / 65536 % 16),
-        digit_of(w / 4096 % 16),
-        digit_of(w / 256 % 16),
-        digit_of(w / 16 % 16),
-        digit_of(w % 16),
+        hex_digit(w / 268435456 % 16),
+        hex_digit(w / 16777216 % 16),
+        hex_digit(w / 1048576 % 16),
+        hex_digit(w / 65536 % 16),
+        hex_digit(w / 4096 % 16),
+        hex_digit(w / 256 % 16),
+        hex_digit(w / 16 % 16),
+        hex_digit(w % 16),
     ]
 }

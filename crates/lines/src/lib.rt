@@ -6,7 +6,7 @@ ghost use Rattle.words.specs.LaidAt.{LaidAt};
 ghost use Rattle.lines.specs.Lines.{wordLine, wordLines, refusalLine};
 use decimals::put_byte;
 use decimals::put_decimal;
-use hexadecimal::digits_of;
+use hexadecimal::hex_digits;
 use words::Refusal;
 use words::fault;
 
@@ -24,24 +24,24 @@ fn put_bytes(page: &mut [u8], at: usize, bytes: &[u8]) -> usize
 }
 
 // A word, on a line.
-fn put_word(page: &mut [u8], at: usize, w: u32) -> usize
+fn put_word_line(page: &mut [u8], at: usize, w: u32) -> usize
     requires { ⌜ at + 9 < 1099511627776 ⌝ }
     ensures { λ r. ⌜ LaidAt (now (page .entry)) at (wordLine w) (now (page .exit)) r ⌝ }
 {
-    let end = put_bytes(page, at, &digits_of(w));
+    let end = put_bytes(page, at, &hex_digits(w));
     put_byte(page, end, 10);
     end + 1
 }
 
 // Words, each on a line.
-fn put_words(page: &mut [u8], words: &[u32]) -> usize
+fn put_word_lines(page: &mut [u8], words: &[u32]) -> usize
     requires { ⌜ length (now words) < 1073741824 ⌝ }
     ensures { λ r. ⌜ LaidAt (now (page .entry)) 0 (wordLines (now (words .entry))) (now (page .exit)) r ⌝ }
 {
     let mut to = 0;
     let mut k = 0;
     while k < words.len() {
-        to = put_word(page, to, words[k]);
+        to = put_word_line(page, to, words[k]);
         k += 1;
     }
     to
@@ -53,9 +53,9 @@ pub fn put_front(page: &mut [u8], words: &[u32], n: usize) -> usize
     ensures { λ r. ⌜ LaidAt (now (page .entry)) 0 (wordLines (take n (now (words .entry)))) (now (page .exit)) r ⌝ }
 {
     if n < words.len() {
-        return put_words(page, &words[..n]);
+        return put_word_lines(page, &words[..n]);
     }
-    put_words(page, words)
+    put_word_lines(page, words)
 }
 
 // "refused", the fault's number and its place, on a line.

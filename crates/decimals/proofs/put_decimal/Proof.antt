@@ -9,12 +9,12 @@ use Rattle.decimals.proofs.put_decimal.Statement.{statement}
 use Rattle.decimals.proofs.put_decimal.Tie as tie
 
 put-right-requires : tie.Need-put-right-requires
-put-right-requires c κs = (omega (arith, c .before .before .before .pre, c .before .digits-of .ensures), rw (alone, c .before .digits-of .ensures) (omega arith))
+put-right-requires c κs = (omega (arith, c .before .before .before .pre, c .before .digit-count .ensures), rw (alone, c .before .digit-count .ensures) (omega arith))
 
 returns : tie.Need-returns
 returns c =
     let s = c .before .before .before .before .before .before in
-    rw (c .before .before .put-right .ensures, c .before .before .before .before .digits-of .ensures, alone, right-self)
+    rw (c .before .before .put-right .ensures, c .before .before .before .before .digit-count .ensures, alone, right-self)
     (laid-part (s .args .page .now) (s .args .at) (decimal (s .args .n)) _ (omega arith))
 
 pub put-decimal-spec : {M : Type 1} → statement M

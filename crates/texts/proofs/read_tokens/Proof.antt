@@ -48,8 +48,8 @@ same-length-2 c = same-room (c .before .before .before .before .before .before .
 returns-2 : tie.Need-returns-2 Inv-loop μ-loop
 returns-2 c = stop-reads (c .before .before .before .before .before .before .before .before .before .before .loop .inv .0) (c .before .before .before .before .before .before .before .before .next-token .ensures) (c .before .before .before .before .before .before .if1 .left) (c .before .before .step-of .ensures) (c .if2 .taken)
 
-put-requires : tie.Need-put-requires Inv-loop μ-loop
-put-requires c κs = omega (arith, c .before .before .before .before .before .before .before .before .before .before .before .loop .inv .0 .fewer, c .before .before .before .before .before .before .before .before .before .before .loop-test .taken)
+append-word-requires : tie.Need-append-word-requires Inv-loop μ-loop
+append-word-requires c κs = omega (arith, c .before .before .before .before .before .before .before .before .before .before .before .loop .inv .0 .fewer, c .before .before .before .before .before .before .before .before .before .before .loop-test .taken)
 
 declare-requires : tie.Need-declare-requires Inv-loop μ-loop
 declare-requires c κs = let m = c .before .before .before .before .before .before .before .before .before .before .before .before .before .before .next-token .ensures in let b = c .before .before .before .before .before .before .before .before .before .before .before .before .before .before .before .before .loop .inv .1 in (omega (arith, m .longer (c .before .before .before .before .before .before .before .before .before .before .before .before .if1 .left)), m .inside, few (c .before .before .before .before .before .before .before .before .before .before .before .before .before .before .before), count-here b m (c .before .before .before .before .before .before .before .before .before .before .before .before .if1 .left), declares (b .reached) m (c .before .before .before .before .before .before .before .before .before .before .before .before .if1 .left), index-here b m (c .before .before .before .before .before .before .before .before .before .before .before .before .if1 .left))
@@ -58,7 +58,7 @@ loop-less : tie.Need-loop-less Inv-loop μ-loop
 loop-less c = let m = c .before .before .before .before .before .before .before .before .before .before .before .before .before .before .before .before .next-token .ensures in omega (arith, m .longer (c .before .before .before .before .before .before .before .before .before .before .before .before .before .before .if1 .left), m .onward, m .inside, c .before .before .before .before .before .before .before .before .before .before .before .before .before .before .before .before .before .loop-test .taken)
 
 loop-again : tie.Need-loop-again Inv-loop μ-loop
-loop-again c = let m = c .before .before .before .before .before .before .before .before .before .before .before .before .before .before .before .before .next-token .ensures in (rw (c .before .before .before .before .before .before .put .ensures .0, c .before .before .before .before .before .before .put .ensures .1) (again (c .before .before .before .before .before .before .before .before .before .before .before .before .before .before .before .before .before .before .loop .inv .0) m (c .before .before .before .before .before .before .before .before .before .before .before .before .before .before .if1 .left) (c .before .before .before .before .before .before .before .before .before .before .step-of .ensures) (c .before .before .before .before .before .before .before .before .if2 .left)), next-table (c .before .before .before .before .before .before .before .before .before .before .before .before .before .before .before .before .before .before .loop .inv .1) m (c .before .before .before .before .before .before .before .before .before .before .before .before .before .before .if1 .left) (c .before .declare .ensures .0) (c .before .declare .ensures .1), c .before .before .before .before .before .before .before .before .before .before .before .before .before .before .before .before .before .before .loop .inv .2)
+loop-again c = let m = c .before .before .before .before .before .before .before .before .before .before .before .before .before .before .before .before .next-token .ensures in (rw (c .before .before .before .before .before .before .append-word .ensures .0, c .before .before .before .before .before .before .append-word .ensures .1) (again (c .before .before .before .before .before .before .before .before .before .before .before .before .before .before .before .before .before .before .loop .inv .0) m (c .before .before .before .before .before .before .before .before .before .before .before .before .before .before .if1 .left) (c .before .before .before .before .before .before .before .before .before .before .step-of .ensures) (c .before .before .before .before .before .before .before .before .if2 .left)), next-table (c .before .before .before .before .before .before .before .before .before .before .before .before .before .before .before .before .before .before .loop .inv .1) m (c .before .before .before .before .before .before .before .before .before .before .before .before .before .before .if1 .left) (c .before .declare .ensures .0) (c .before .declare .ensures .1), c .before .before .before .before .before .before .before .before .before .before .before .before .before .before .before .before .before .before .loop .inv .2)
 
 ended-requires-2 : tie.Need-ended-requires-2 Inv-loop μ-loop
 ended-requires-2 c κs = (index-end (c .before .before .before .before .loop .inv .1) (c .before .before .before .before .loop .inv .0 .inside) (none-left (c .before .before .before .before .before .before .before .args .text .now) (c .before .before .before .before .loop .at) (c .before .before .before .loop-test .left)), c .before .before .before .before .loop .inv .2)
@@ -83,7 +83,7 @@ read-tokens-spec =
     step-of-requires
     same-length-2
     returns-2
-    put-requires
+    append-word-requires
     declare-requires
     loop-less
     loop-again

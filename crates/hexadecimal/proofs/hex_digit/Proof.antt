@@ -2,8 +2,8 @@
 use borrow.Author.Needs.{needs}
 use borrow.Author.Tests.{le-ltb, lt-ltb}
 use Rattle.hexadecimal.specs.Digits.{digit}
-use Rattle.hexadecimal.proofs.digit_of.Statement.{statement}
-use Rattle.hexadecimal.proofs.digit_of.Tie as tie
+use Rattle.hexadecimal.proofs.hex_digit.Statement.{statement}
+use Rattle.hexadecimal.proofs.hex_digit.Tie as tie
 
 returns : tie.Need-returns
 unfolding digit
@@ -13,6 +13,6 @@ returns-2 : tie.Need-returns-2
 unfolding digit
 returns-2 c = rw (le-ltb _ _ (c .if1 .left))
 
-pub digit-of-spec : {M : Type 1} → statement M
-digit-of-spec =
+pub hex-digit-spec : {M : Type 1} → statement M
+hex-digit-spec =
     tie.close (tie.spec (λ c. search needs) (λ c. search needs) (λ c. search needs) (λ c. search needs) returns returns-2)

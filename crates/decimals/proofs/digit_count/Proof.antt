@@ -6,8 +6,8 @@ use Prim.Native.Nat.{_+_, _≤_, _<_}
 use lib.ListN.{length}
 use Rattle.decimals.specs.Decimal.{decimal}
 use Rattle.decimals.proofs.Digits.{decimal-small, decimal-more}
-use Rattle.decimals.proofs.digits_of.Statement.{statement}
-use Rattle.decimals.proofs.digits_of.Tie as tie
+use Rattle.decimals.proofs.digit_count.Statement.{statement}
+use Rattle.decimals.proofs.digit_count.Tie as tie
 
 abbrev Inv-loop : tie.InvT-loop
 Inv-loop n count₀ rest₀ count rest = (0 < count) × (count + rest ≤ n + 1) × (length (decimal n) + 1 ≡ count + length (decimal rest))
@@ -21,6 +21,6 @@ loop-again c = omega (arith, decimal-more (c .before .loop .rest) (c .loop-test 
 returns : tie.Need-returns Inv-loop μ-loop
 returns c = omega (arith, decimal-small (c .before .loop .rest) (c .loop-test .left))
 
-pub digits-of-spec : {M : Type 1} → statement M
-digits-of-spec =
+pub digit-count-spec : {M : Type 1} → statement M
+digit-count-spec =
     tie.close (tie.spec Inv-loop μ-loop (λ c. search needs) (λ c. search needs) (λ c. search needs) loop-again returns)

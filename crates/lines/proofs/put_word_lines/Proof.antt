@@ -8,8 +8,8 @@ use Rattle.words.specs.LaidAt.{LaidAt}
 use Rattle.words.proofs.Rest.{Rest, all-left, lay-part, same-rest, none-left, laid-length}
 use Rattle.lines.specs.Lines.{wordLines}
 use Rattle.lines.proofs.Lines.{length-word, words-then, words-none}
-use Rattle.lines.proofs.put_words.Statement.{statement}
-use Rattle.lines.proofs.put_words.Tie as tie
+use Rattle.lines.proofs.put_word_lines.Statement.{statement}
+use Rattle.lines.proofs.put_word_lines.Tie as tie
 
 abbrev Inv-loop : tie.InvT-loop
 Inv-loop page₀ words to₀ k₀ page to k = ((k ≤ length words) × (to ≡ 9 * k)) × Rest page₀ 0 (wordLines words) page to (wordLines (drop k words))
@@ -28,7 +28,7 @@ loop-again : tie.Need-loop-again Inv-loop μ-loop
 loop-again c =
     let s = c .before .before .before .before .before .before .before .before .before in
     let l = c .before .before .before .before .before .before .loop in
-    let put = c .before .before .put-word in (
+    let put = c .before .before .put-word-line in (
       (omega (arith, c .before .before .before .before .before .loop-test .taken), omega (arith, put .ensures .ends, length-word (getD (s .args .words .now) (l .k) 0), l .inv .0 .1)),
       lay-part (same-rest (words-then (s .args .words .now) (l .k) (c .before .before .before .before .before .loop-test .taken)) (l .inv .1)) (put .ensures),
     )
@@ -39,8 +39,8 @@ same-length c = laid-length (ended c)
 returns : tie.Need-returns Inv-loop μ-loop
 returns c = ended c
 
-pub put-words-spec : {M : Type 1} → statement M
-put-words-spec =
+pub put-word-lines-spec : {M : Type 1} → statement M
+put-word-lines-spec =
     tie.close
     (tie.spec
     Inv-loop
