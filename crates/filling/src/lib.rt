@@ -34,7 +34,7 @@ pub enum Filled {
 }
 
 // Lays values over a list from a place on, those that fit.
-pub fn lay_values(out: &mut [i32], at: usize, values: &[i32])
+pub fn copy_values(out: &mut [i32], at: usize, values: &[i32])
     requires { ⌜ at + length (now values) < 1099511627776 ⌝ }
     ensures { λ r. ⌜ now (out .exit) ≡ overlay (now (out .entry)) at (now (values .entry)) ⌝ }
 {
@@ -101,7 +101,7 @@ fn write_filled(
     requires { ⌜ ModelBounds (now ws) (now heads) read (now ls) (now us) (now uses) × Passes (now ws) × SatisfiesModel (now ws) (now values) ⌝ }
     ensures { λ r. ⌜ now (out .exit) ≡ overlay (now (out .entry)) 0 (now (values .entry) ++ picks (now (ws .entry)) (now (values .entry))) ⌝ }
 {
-    lay_values(out, 0, values);
+    copy_values(out, 0, values);
     write_picks(ws, heads, read, ls, us, uses, values, out, values.len());
 }
 

@@ -47,7 +47,7 @@ use integers::test::both;
 use integers::times;
 
 // Writes a number at a place, if that is inside the list; the place after it.
-pub fn put(out: &mut [i32], at: usize, v: i64) -> usize
+pub fn put_pick(out: &mut [i32], at: usize, v: i64) -> usize
     requires { ⌜ RoomAt 1 at × (inRange v ≡ true) ⌝ }
     ensures { λ r. ⌜ LaidAt (now (out .entry)) at (v ∷ []) (now (out .exit)) r ⌝ }
 {
@@ -63,9 +63,9 @@ fn put_if(out: &mut [i32], at: usize, test: bool, v: i64) -> usize
     ensures { λ r. ⌜ LaidAt (now (out .entry)) at ((v if test else +0) ∷ []) (now (out .exit)) r ⌝ }
 {
     if test {
-        return put(out, at, v);
+        return put_pick(out, at, v);
     }
-    put(out, at, 0)
+    put_pick(out, at, 0)
 }
 
 // Writes 1 where the test is true, else 0.
@@ -104,7 +104,7 @@ fn put_signed(out: &mut [i32], at: usize, x: i64) -> usize
     requires { ⌜ RoomAt 3 at × Ranged (signedPick x) ⌝ }
     ensures { λ r. ⌜ LaidAt (now (out .entry)) at (signedPick x) (now (out .exit)) r ⌝ }
 {
-    let next = put(out, at, x);
+    let next = put_pick(out, at, x);
     put_sign(out, next, x)
 }
 
@@ -199,8 +199,8 @@ fn pick_xor(out: &mut [i32], at: usize, args: &[u32], values: &[i32]) -> usize
     requires { ⌜ Pickable at [] [] (now values) (plainPicks (now values) 20 (now args)) ⌝ }
     ensures { λ r. ⌜ LaidAt (now (out .entry)) at (plainPicks (now (values .entry)) 20 (now (args .entry))) (now (out .exit)) r ⌝ }
 {
-    let next = put(out, at, values_product(args, 2, 0, values));
-    put(out, next, values_product(args, 2, 1, values))
+    let next = put_pick(out, at, values_product(args, 2, 0, values));
+    put_pick(out, next, values_product(args, 2, 1, values))
 }
 
 // 23: half of one less than how many are 1.
@@ -208,7 +208,7 @@ fn pick_odd(out: &mut [i32], at: usize, args: &[u32], values: &[i32]) -> usize
     requires { ⌜ Pickable at [] [] (now values) (plainPicks (now values) 23 (now args)) ⌝ }
     ensures { λ r. ⌜ LaidAt (now (out .entry)) at (plainPicks (now (values .entry)) 23 (now (args .entry))) (now (out .exit)) r ⌝ }
 {
-    put(out, at, half_less(how_many(args, 0, 1, values)))
+    put_pick(out, at, half_less(how_many(args, 0, 1, values)))
 }
 
 // 24, 25: the last label.
@@ -347,7 +347,7 @@ fn put_division(out: &mut [i32], at: usize, n: i64, d: i64, q: i64) -> usize
     let beta = below(0, d);
     let second = put_bit(out, at, alpha);
     let third = put_bit(out, second, beta);
-    let fourth = put(out, third, times(d, q));
+    let fourth = put_pick(out, third, times(d, q));
     put_bit(out, fourth, both(alpha, beta))
 }
 
@@ -384,7 +384,7 @@ fn pick_mod(out: &mut [i32], at: usize, args: &[u32], values: &[i32]) -> usize
     let n = value_of(args, 0, values);
     let d = value_of(args, 1, values);
     let q = quotient_of(n, d);
-    let next = put(out, at, q);
+    let next = put_pick(out, at, q);
     put_division(out, next, n, d, q)
 }
 
@@ -401,7 +401,7 @@ fn put_next(out: &mut [i32], p: Powered, factor: i64) -> Powered
 {
     let v = times(factor, p.held);
     Powered {
-        at: put(out, p.at, v),
+        at: put_pick(out, p.at, v),
         held: v,
     }
 }
@@ -455,13 +455,13 @@ fn pick_block(
             at,
             below(value_of(args, 1, values), value_of(args, 0, values)),
         ),
-        7 => put(out, at, values_product(args, 0, 1, values)),
+        7 => put_pick(out, at, values_product(args, 0, 1, values)),
         8 => put_sign(out, at, value_of(args, 0, values)),
         9 => pick_max(out, at, args, values),
         12 => put_signed(out, at, sum_less(args, values)),
         13 => put_signed(out, at, sum_less(args, values)),
         14 => pick_difference(out, at, args, values),
-        15 => put(out, at, sum_less(args, values)),
+        15 => put_pick(out, at, sum_less(args, values)),
         20 => pick_xor(out, at, args, values),
         23 => pick_odd(out, at, args, values),
         24 => pick_element(out, at, args, ls, us, values),

@@ -86,7 +86,7 @@ fn next_product(out: &mut [u32], p: Multiplied, factor: usize) -> Multiplied
 }
 
 // The products of a power from 1 on of the variable x; their auxiliaries are numbered from `first` on.
-fn lay_products(out: &mut [u32], s: Laid, k: usize, x: usize, first: usize) -> Multiplied
+fn lay_power(out: &mut [u32], s: Laid, k: usize, x: usize, first: usize) -> Multiplied
     requires { ⌜ Room (20 * k) s × (1 ≤ k) × (k ≤ Limit.exponent) × (first < firstNumbers) ⌝ }
     ensures { λ r. ⌜ PowerLaid first s r (now (out .entry)) (now (out .exit)) x k (20 * k) ⌝ }
 {
@@ -97,7 +97,7 @@ fn lay_products(out: &mut [u32], s: Laid, k: usize, x: usize, first: usize) -> M
             next: first,
         };
     }
-    let half = lay_products(out, s, k / 2, x, first);
+    let half = lay_power(out, s, k / 2, x, first);
     let square = next_product(out, half, half.held);
     if k % 2 == 0 {
         return square;
@@ -127,7 +127,7 @@ pub fn int_pow(
     let lower = bound_at(ls, x);
     let upper = bound_at(us, x);
     let ranged = lay_ranges(out, s, k, lower, upper);
-    let chained = lay_products(out, ranged.laid, k, x, first);
+    let chained = lay_power(out, ranged.laid, k, x, first);
     let xs = [chained.held, z];
     let cs = [1, -1];
     lay_row(out, chained.laid, kind::EQUAL, &xs, &cs, 0)

@@ -23,7 +23,7 @@ use checking::check;
 use extremes::bound_at;
 use extremes::keep_bounds;
 use extremes::width_of;
-use filling::lay_values;
+use filling::copy_values;
 use integers::plus;
 use integers::test::below;
 use modeljudge::first_false;
@@ -134,7 +134,7 @@ fn write_from(
     let mut more = true;
     while more {
         if all_true(ws, heads, m, values) {
-            lay_values(out, at, values);
+            copy_values(out, at, values);
             at += values.len();
             count += 1;
         }

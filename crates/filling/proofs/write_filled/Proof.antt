@@ -7,8 +7,8 @@ use Rattle.filling.proofs.Ranges.{values-small, picks-ranged, picks-fit
 use Rattle.filling.proofs.write_filled.Statement.{statement}
 use Rattle.filling.proofs.write_filled.Tie as tie
 
-lay-values-requires : tie.Need-lay-values-requires
-lay-values-requires c κs = let s = c .before .before .before in omega (arith, picks-fit (s .args .ws .now) (s .pre .1) (s .args .values .now) (s .pre .2))
+copy-values-requires : tie.Need-copy-values-requires
+copy-values-requires c κs = let s = c .before .before .before in omega (arith, picks-fit (s .args .ws .now) (s .pre .1) (s .args .values .now) (s .pre .2))
 
 write-picks-requires : tie.Need-write-picks-requires
 write-picks-requires c κs =
@@ -20,13 +20,13 @@ write-picks-requires c κs =
 returns : tie.Need-returns
 returns c =
     let a = c .before .before .before .before .before .before .before .before .args in
-    rw (c .before .before .before .before .lay-values .ensures) at (c .before .write-picks .ensures) ∙ values-then (a .out .now) (a .values .now) _
+    rw (c .before .before .before .before .copy-values .ensures) at (c .before .write-picks .ensures) ∙ values-then (a .out .now) (a .values .now) _
 
 pub write-filled-spec : {M : Type 1} → statement M
 write-filled-spec =
     tie.close
     (tie.spec
-    lay-values-requires
+    copy-values-requires
     write-picks-requires
     (λ c. search needs)
     returns)

@@ -15,9 +15,9 @@ quotient-of-requires c κs =
     let s = c .before .before .before in
     rw (back (c .before .value-of .result) (c .before .value-of .ok), c .before .value-of .ensures) (s .pre .small (var (s .args .args .now) 0))
 
-put-requires : tie.Need-put-requires
+put-pick-requires : tie.Need-put-pick-requires
 unfolding leftOverPick pick builtin builtins
-put-requires c κs =
+put-pick-requires c κs =
     let quotient-of = c .before .quotient-of in
     let value-of2 = c .before .before .value-of2 in
     let value-of = c .before .before .before .value-of in
@@ -29,7 +29,7 @@ put-requires c κs =
 put-division-requires : tie.Need-put-division-requires
 unfolding leftOverPick pick builtin builtins
 put-division-requires c κs =
-    let put = c .before .before .put in
+    let put = c .before .before .put-pick in
     let quotient-of = c .before .before .before .before .quotient-of in
     let value-of2 = c .before .before .before .before .before .value-of2 in
     let value-of = c .before .before .before .before .before .before .value-of in
@@ -44,7 +44,7 @@ put-division-requires c κs =
 returns : tie.Need-returns
 unfolding leftOverPick pick builtin builtins
 returns c =
-    let put = c .before .before .before .before .put in
+    let put = c .before .before .before .before .put-pick in
     let quotient-of = c .before .before .before .before .before .before .quotient-of in
     let value-of2 = c .before .before .before .before .before .before .before .value-of2 in
     let value-of = c .before .before .before .before .before .before .before .before .value-of in
@@ -58,7 +58,7 @@ pick-mod-spec =
     (λ c κs. search needs)
     (λ c κs. search needs)
     quotient-of-requires
-    put-requires
+    put-pick-requires
     put-division-requires
     (λ c. search needs)
     returns)

@@ -17,9 +17,9 @@ times-requires c κs =
     let s = c .before .before .before .before .before .before .before .before .before in
     rw (toZ-ofZ (s .fits .d), toZ-ofZ (s .fits .q)) (omega (arith, mul-le (s .pre .1) (s .pre .2)))
 
-put-requires : tie.Need-put-requires
+put-pick-requires : tie.Need-put-pick-requires
 unfolding divisionPick
-put-requires c κs =
+put-pick-requires c κs =
     let put-bit2 = c .before .before .before .put-bit2 in
     let put-bit = c .before .before .before .before .before .before .put-bit in
     let s = c .before .before .before .before .before .before .before .before .before .before in (
@@ -29,7 +29,7 @@ put-requires c κs =
 
 put-bit-requires-3 : tie.Need-put-bit-requires-3
 put-bit-requires-3 c κs =
-    let put = c .before .before .before .put in
+    let put = c .before .before .before .put-pick in
     let put-bit2 = c .before .before .before .before .before .before .before .put-bit2 in
     let put-bit = c .before .before .before .before .before .before .before .before .before .before .put-bit in
     let s = c .before .before .before .before .before .before .before .before .before .before .before .before .before .before in
@@ -38,7 +38,7 @@ put-bit-requires-3 c κs =
 returns : tie.Need-returns
 returns c =
     let both = c .before .before .both in
-    let put = c .before .before .before .before .before .put in
+    let put = c .before .before .before .before .before .put-pick in
     let times = c .before .before .before .before .before .before .times in
     let put-bit2 = c .before .before .before .before .before .before .before .before .before .put-bit2 in
     let put-bit = c .before .before .before .before .before .before .before .before .before .before .before .before .put-bit in
@@ -58,7 +58,7 @@ put-division-spec =
     (λ c κs. search needs)
     put-bit-requires-2
     times-requires
-    put-requires
+    put-pick-requires
     (λ c κs. search needs)
     put-bit-requires-3
     (λ c. search needs)

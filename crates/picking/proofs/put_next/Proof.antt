@@ -14,8 +14,8 @@ times-requires c κs =
     let s = c .before in
     rw (toZ-ofZ (s .fits .factor), near-back (s .args .p .held) (s .pre .2)) (omega (arith, mul-le (s .pre .1) (s .pre .2)))
 
-put-requires : tie.Need-put-requires
-put-requires c κs =
+put-pick-requires : tie.Need-put-pick-requires
+put-pick-requires c κs =
     let s = c .before .before .before in
     let times = c .before .times in
     (s .pre .0, rw (back (times .result) (times .ok), times .ensures, toZ-ofZ (s .fits .factor), near-back (s .args .p .held) (s .pre .2)) (s .pre .3))
@@ -26,10 +26,10 @@ returns c =
     let times = c .before .before .before .times in
     let e = rw (toZ-ofZ (s .fits .factor), near-back (s .args .p .held) (s .pre .2)) at (times .ensures) in
     rw (back (times .result) (times .ok)) record {
-      picked = rw (back (times .result) (times .ok), e) at (c .before .put .ensures);
+      picked = rw (back (times .result) (times .ok), e) at (c .before .put-pick .ensures);
       held = e;
       near = omega (arith, ap natAbs e, range-near _ (s .pre .3));
     }
 
 pub put-next-spec : {M : Type 1} → statement M
-put-next-spec = tie.close (tie.spec times-requires put-requires (λ c. search needs) returns)
+put-next-spec = tie.close (tie.spec times-requires put-pick-requires (λ c. search needs) returns)

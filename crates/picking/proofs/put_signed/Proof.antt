@@ -8,17 +8,17 @@ use Rattle.rules.specs.Pick.{signedPick}
 use Rattle.picking.proofs.put_signed.Statement.{statement}
 use Rattle.picking.proofs.put_signed.Tie as tie
 
-put-requires : tie.Need-put-requires
+put-pick-requires : tie.Need-put-pick-requires
 unfolding signedPick
-put-requires c κs = (search needs, rw (toZ-ofZ (c .before .fits .x)) (c .before .pre .1 0))
+put-pick-requires c κs = (search needs, rw (toZ-ofZ (c .before .fits .x)) (c .before .pre .1 0))
 
 put-sign-requires : tie.Need-put-sign-requires
 unfolding signedPick
-put-sign-requires c κs = (omega (arith, c .before .before .put .ensures .ends), rw (toZ-ofZ (c .before .before .before .before .fits .x)) (λ k. c .before .before .before .before .pre .1 (suc k)))
+put-sign-requires c κs = (omega (arith, c .before .before .put-pick .ensures .ends), rw (toZ-ofZ (c .before .before .before .before .fits .x)) (λ k. c .before .before .before .before .pre .1 (suc k)))
 
 returns : tie.Need-returns
 unfolding signedPick
-returns c = rw (toZ-ofZ (c .before .before .before .before .before .before .fits .x)) at (laid-then (c .before .before .before .before .put .ensures) (c .before .put-sign .ensures))
+returns c = rw (toZ-ofZ (c .before .before .before .before .before .before .fits .x)) at (laid-then (c .before .before .before .before .put-pick .ensures) (c .before .put-sign .ensures))
 
 pub put-signed-spec : {M : Type 1} → statement M
-put-signed-spec = tie.close (tie.spec put-requires put-sign-requires (λ c. search needs) returns)
+put-signed-spec = tie.close (tie.spec put-pick-requires put-sign-requires (λ c. search needs) returns)

@@ -26,15 +26,15 @@ lay-ranges-requires c κs =
     rw (back (bound-at .result) (bound-at .ok), bound-at .ensures, back (bound-at2 .result) (bound-at2 .ok), bound-at2 .ensures)
     (omega (arith, s .pre .0), omega (arith, c .before .before .before .if1 .left), s .pre .2, s .pre .3 (s .args .x), s .pre .4 (s .args .x))
 
-lay-products-requires : tie.Need-lay-products-requires
-lay-products-requires c κs =
+lay-power-requires : tie.Need-lay-power-requires
+lay-power-requires c κs =
     let s = c .before .before .before .before .before .before .before .before .before in
     (omega (arith, s .pre .0, s .pre .2, c .before .before .before .lay-ranges .ensures .size), omega (arith, c .before .before .before .before .before .before .before .if1 .left), s .pre .2, s .pre .1)
 
 lay-row-requires-2 : tie.Need-lay-row-requires-2
 lay-row-requires-2 c κs =
     let s = c .before .before .before .before .before .before .before .before .before .before .before .before .before .before .before in
-    (omega (arith, s .pre .0, s .pre .2, c .before .before .before .before .before .before .before .before .before .lay-ranges .ensures .size, c .before .before .before .before .before .lay-products .ensures bit .size), search needs, search needs, search needs)
+    (omega (arith, s .pre .0, s .pre .2, c .before .before .before .before .before .before .before .before .before .lay-ranges .ensures .size, c .before .before .before .before .before .lay-power .ensures bit .size), search needs, search needs, search needs)
 
 returns-2 : tie.Need-returns-2
 unfolding rule
@@ -44,9 +44,9 @@ returns-2 c =
     let bound-at2 = c .before .before .before .before .before .before .before .before .before .before .before .before .before .before .bound-at2 in
     let β = boundsOf (s .args .ls .now) (s .args .us .now) in
     let r = rw (back (bound-at .result) (bound-at .ok), bound-at .ensures, back (bound-at2 .result) (bound-at2 .ok), bound-at2 .ensures) at (c .before .before .before .before .before .before .before .before .before .before .before .before .lay-ranges .ensures) in
-    let p = c .before .before .before .before .before .before .before .before .lay-products .ensures (β (s .args .x)) in
+    let p = c .before .before .before .before .before .before .before .before .lay-power .ensures (β (s .args .x)) in
     let w = c .before .before .lay-row2 .ensures in (
-      went-alike (power-alike (s .args .first) β (s .args .x) (s .args .k) (s .args .z) (c .before .before .before .before .before .before .before .before .lay-products .result .held) (omega (arith, c .before .before .before .before .before .before .before .before .before .before .before .before .before .before .before .before .if1 .left)) (s .pre .3 (s .args .x)) (s .pre .4 (s .args .x)) (p .held))
+      went-alike (power-alike (s .args .first) β (s .args .x) (s .args .k) (s .args .z) (c .before .before .before .before .before .before .before .before .lay-power .result .held) (omega (arith, c .before .before .before .before .before .before .before .before .before .before .before .before .before .before .before .before .if1 .left)) (s .pre .3 (s .args .x)) (s .pre .4 (s .args .x)) (p .held))
           (went-then (r .went) (went-then (p .went) (w .0))),
       omega (arith, s .pre .2, r .size, p .size, w .1),
     )
@@ -63,7 +63,7 @@ int-pow-spec =
     (λ c κs. search needs)
     (λ c κs. search needs)
     lay-ranges-requires
-    lay-products-requires
+    lay-power-requires
     (λ c. search needs)
     (λ c. search needs)
     lay-row-requires-2

@@ -32,8 +32,8 @@ all-true-requires c κs =
     let s = c .before .before .before .before in
     (s .pre .0, inside-small (s .args .ls .now) (s .args .us .now) _ _ (s .pre .1 .lowers) (s .pre .1 .uppers) (c .before .before .loop .inv .1 .inside))
 
-lay-values-requires : tie.Need-lay-values-requires Inv-loop μ-loop
-lay-values-requires c κs = omega (arith, list-place _ _ _ _ (c .before .before .before .before .before .before .loop .inv .1) (c .before .before .before .before .before .loop-test .taken) (c .before .before .before .before .before .before .before .before .pre .1 .few))
+copy-values-requires : tie.Need-copy-values-requires Inv-loop μ-loop
+copy-values-requires c κs = omega (arith, list-place _ _ _ _ (c .before .before .before .before .before .before .loop .inv .1) (c .before .before .before .before .before .loop-test .taken) (c .before .before .before .before .before .before .before .before .pre .1 .few))
 
 add-at : tie.Need-add-at Inv-loop μ-loop
 add-at c = omega (arith, list-place _ _ _ _ (c .before .before .before .before .before .before .before .before .loop .inv .1) (c .before .before .before .before .before .before .before .loop-test .taken) (c .before .before .before .before .before .before .before .before .before .before .pre .1 .few))
@@ -80,7 +80,7 @@ write-from-spec =
     μ-loop
     loop-holds
     all-true-requires
-    lay-values-requires
+    copy-values-requires
     add-at
     add-count
     step-requires

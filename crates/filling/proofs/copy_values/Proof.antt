@@ -13,8 +13,8 @@ use lib.Seq.{set-out}
 use Rattle.integers.specs.Number.{+0}
 use Rattle.words.specs.Overlay.{overlay}
 use Rattle.words.proofs.Overlay.{length-overlay, overlay-none, overlay-step}
-use Rattle.filling.proofs.lay_values.Statement.{statement}
-use Rattle.filling.proofs.lay_values.Tie as tie
+use Rattle.filling.proofs.copy_values.Statement.{statement}
+use Rattle.filling.proofs.copy_values.Tie as tie
 
 abbrev Inv-loop : tie.InvT-loop
 Inv-loop out₀ at values i₀ out i = (i ≤ length values) × (overlay out (at + i) (drop i values) ≡ overlay out₀ at values)
@@ -50,8 +50,8 @@ same-length c = ap length (ended c) ∙ simp length-overlay
 returns : tie.Need-returns Inv-loop μ-loop
 returns c = ended c
 
-pub lay-values-spec : {M : Type 1} → statement M
-lay-values-spec =
+pub copy-values-spec : {M : Type 1} → statement M
+copy-values-spec =
     tie.close
     (tie.spec
     Inv-loop

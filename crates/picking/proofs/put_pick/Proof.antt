@@ -7,8 +7,8 @@ use mir.Facts.{toZ-ofZ}
 use borrow.Author.Needs.{needs}
 use Rattle.words.specs.Overlay.{overlay}
 use Rattle.picking.proofs.Writing.{fits32}
-use Rattle.picking.proofs.put.Statement.{statement}
-use Rattle.picking.proofs.put.Tie as tie
+use Rattle.picking.proofs.put_pick.Statement.{statement}
+use Rattle.picking.proofs.put_pick.Tie as tie
 
 written : (c : tie.Joined1) → c .if1 .out ≡ set (c .before .args .out .now) (c .before .args .at) (c .before .args .v)
 written c = ⊎-elim (λ w. w .1 ∙ rw (toZ-ofZ (c .before .fits .v), toZ-ofZ (fits32 (c .before .args .v) (c .before .pre .1)))) (λ w. w .1 ∙ sym (set-out _ _ _ (w .0 .left))) (c .if1 .came)
@@ -23,5 +23,5 @@ returns : tie.Need-returns
 unfolding overlay
 returns c = record { over = written c; ends = search needs }
 
-pub put-spec : {M : Type 1} → statement M
-put-spec = tie.close (tie.spec cast-out (λ c. search needs) (λ c. search needs) (λ c. search needs) same-length returns)
+pub put-pick-spec : {M : Type 1} → statement M
+put-pick-spec = tie.close (tie.spec cast-out (λ c. search needs) (λ c. search needs) (λ c. search needs) same-length returns)
