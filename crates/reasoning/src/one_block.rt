@@ -8,7 +8,7 @@ ghost use Rattle.laying.specs.Sizes.{blockSize};
 ghost use Rattle.blocks.specs.Coded.{blockAt};
 ghost use Rattle.reasoning.specs.Walks.{blockWordsMost, Layable, Front, Judgeable, BlockJudged, shift, AtMost};
 use crate::Said;
-use crate::rows::first_false;
+use crate::rows::first_false_row;
 use blocks::block;
 use integers::Bounds;
 use laying::Laid;
@@ -82,7 +82,7 @@ pub fn judge_block(
             rows: laid.rows,
         };
     }
-    let found = first_false(
+    let found = first_false_row(
         &words[..laid.words + 1],
         values,
         first + laid.auxiliaries,

@@ -17,7 +17,7 @@ use rowsystems::Due;
 use words::Verdict;
 
 // The first row or product from a place on that is false, counted from k; the words from there on are rows, products and the end, over n variables.
-pub fn first_false(ws: &[u32], values: &[i32], n: usize, start: usize, k: usize) -> Verdict
+pub fn first_false_row(ws: &[u32], values: &[i32], n: usize, start: usize, k: usize) -> Verdict
     requires { ⌜ Placed (now ws) start × ValuesKnown (now values) n × (onward Due.Item n start (now ws) ≡ accepted) × (variables (drop start (now ws)) ≡ []) × (n ≤ 1000000000) × (k ≤ 1000000000) ⌝ }
     ensures { λ r. ⌜ verdict r ≡ firstFalse (satisfied (value (now (values .entry)))) k (rows (drop start (now (ws .entry)))) ⌝ }
 {

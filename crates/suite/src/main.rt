@@ -251,7 +251,7 @@ fn answer_text(n: usize, room: usize) {
 }
 
 // Reads the rest of a case and answers it.
-fn answer(head: Head) {
+fn answer_case(head: Head) {
     let call = head.call;
     match call {
         TEXT => answer_text(head.words, head.room),
@@ -270,7 +270,7 @@ fn main() {
         if !head.there {
             return;
         }
-        answer(head);
+        answer_case(head);
         left -= 1;
     }
 }

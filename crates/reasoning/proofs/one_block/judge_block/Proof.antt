@@ -17,20 +17,20 @@ counted-on-requires c κs = (outside-few (c .before .before .before .before .bef
 returns : tie.Need-returns
 returns c = rw (c .before .before .before .before .before .before .if1 .taken) (outside-said (c .before .before .before .before .before .before .before .before .before .before .before .before .before .before .before .pre .0 .layable .reads) (c .before .before .before .before .before .before .before .before .before .lay-block .ensures) (c .before .before .before .before .before .before .before .before .before .before .before .before .before .before .before .args .values .now) (c .before .before .before .before .before .before .before .before .before .before .before .before .before .before .before .pre .0 .there) (c .before .first-out-of-bounds .ensures) (c .counted-on .ensures))
 
-slice-aggregate-first-false : tie.Need-slice-aggregate-first-false
-slice-aggregate-first-false c = prefix-length (c .before .before .before .before .before .before .before .before .before .before .before .pre .0 .layable .reads) (c .before .before .before .before .before .lay-block .ensures)
+slice-aggregate-first-false-row : tie.Need-slice-aggregate-first-false-row
+slice-aggregate-first-false-row c = prefix-length (c .before .before .before .before .before .before .before .before .before .before .before .pre .0 .layable .reads) (c .before .before .before .before .before .lay-block .ensures)
 
-add-first-false-2 : tie.Need-add-first-false-2
-add-first-false-2 c = let h = c .before .before .before .before .before .before .lay-block .ensures .small in let g = c .before .before .before .before .before .before .before .before .before .before .before .before .pre .0 .layable .near in search needs
+add-first-false-row-2 : tie.Need-add-first-false-row-2
+add-first-false-row-2 c = let h = c .before .before .before .before .before .before .lay-block .ensures .small in let g = c .before .before .before .before .before .before .before .before .before .before .before .before .pre .0 .layable .near in search needs
 
-mul-first-false : tie.Need-mul-first-false
-mul-first-false c = let h = c .before .before .before .before .before .before .before .lay-block .ensures .small in search needs
+mul-first-false-row : tie.Need-mul-first-false-row
+mul-first-false-row c = let h = c .before .before .before .before .before .before .before .lay-block .ensures .small in search needs
 
-first-false-requires : tie.Need-first-false-requires
-first-false-requires c κs = let s = c .before .before .before .before .before .before .before .before .before .before .before .before .before in let d = s .pre .0 .layable .reads in let f = c .before .before .before .before .before .before .before .lay-block .ensures in (after-bounds d f, (omega (arith, f .auxiliaries, s .pre .0 .there), λ x l. s .pre .0 .small (c .before .before .before .before .if1 .left) x), rows-accepted d f, no-variables d f, omega (arith, f .small, s .pre .0 .layable .near), s .pre .1)
+first-false-row-requires : tie.Need-first-false-row-requires
+first-false-row-requires c κs = let s = c .before .before .before .before .before .before .before .before .before .before .before .before .before in let d = s .pre .0 .layable .reads in let f = c .before .before .before .before .before .before .before .lay-block .ensures in (after-bounds d f, (omega (arith, f .auxiliaries, s .pre .0 .there), λ x l. s .pre .0 .small (c .before .before .before .before .if1 .left) x), rows-accepted d f, no-variables d f, omega (arith, f .small, s .pre .0 .layable .near), s .pre .1)
 
 returns-2 : tie.Need-returns-2
-returns-2 c = rw (c .before .before .before .before .before .if1 .left) (failing-said (c .before .before .before .before .before .before .before .before .before .before .before .before .before .before .pre .0 .layable .reads) (c .before .before .before .before .before .before .before .before .lay-block .ensures) (c .before .before .before .before .before .before .before .before .before .before .before .before .before .before .args .values .now) (c .before .before .before .before .before .before .before .before .before .before .before .before .before .before .args .k) (c .first-false .ensures))
+returns-2 c = rw (c .before .before .before .before .before .if1 .left) (failing-said (c .before .before .before .before .before .before .before .before .before .before .before .before .before .before .pre .0 .layable .reads) (c .before .before .before .before .before .before .before .before .lay-block .ensures) (c .before .before .before .before .before .before .before .before .before .before .before .before .before .before .args .values .now) (c .before .before .before .before .before .before .before .before .before .before .before .before .before .before .args .k) (c .first-false-row .ensures))
 
 pub judge-block-spec : {M : Type 1} → statement M
 judge-block-spec =
@@ -51,9 +51,9 @@ judge-block-spec =
     returns
     (λ c. search needs)
     (λ c. search needs)
-    slice-aggregate-first-false
-    add-first-false-2
-    mul-first-false
-    first-false-requires
+    slice-aggregate-first-false-row
+    add-first-false-row-2
+    mul-first-false-row
+    first-false-row-requires
     (λ c. search needs)
     returns-2)

@@ -5,8 +5,8 @@ use Rattle.words.specs.Judge.{firstOutOfBounds}
 use Rattle.words.specs.declared.Refusal.{Refusal}
 use Rattle.rowreading.specs.Item.{startDue}
 use Rattle.rowjudge.specs.Passing.{judgedOn}
-use Rattle.reasoning.proofs.rows.first_false.Statement.{statement}
-use Rattle.reasoning.proofs.rows.first_false.Tie as tie
+use Rattle.reasoning.proofs.rows.first_false_row.Statement.{statement}
+use Rattle.reasoning.proofs.rows.first_false_row.Tie as tie
 
 judge-on-requires : tie.Need-judge-on-requires
 judge-on-requires c κs =
@@ -24,5 +24,5 @@ returns c =
     let p = c .before .before .pre in
     c .judge-on .ensures .says (accepts c) (omega (arith, rw (p .3) at (c .judge-on .ensures .counts (accepts c)), p .1 .0)) ∙ rw (p .3)
 
-pub first-false-spec : {M : Type 1} → statement M
-first-false-spec = tie.close (tie.spec judge-on-requires returns)
+pub first-false-row-spec : {M : Type 1} → statement M
+first-false-row-spec = tie.close (tie.spec judge-on-requires returns)
