@@ -25,10 +25,10 @@ use bitrows::add_terms;
 use bitrows::add_variable;
 use bitrows::row_constant;
 use bitrows::slack_of;
+use bittables::count_at;
+use bittables::row_variable;
 use bittables::signed_at;
-use bittables::size_at;
 use bittables::span_at;
-use bittables::variable_at;
 use extremes::bound_at;
 use integers::equal;
 use integers::opposite;
@@ -75,9 +75,9 @@ fn add_product(
     requires { ⌜ BitLists (now ls) (now us) (now firsts) × (first < Size.farthest) × (peak (now row) < Size.sums) ⌝ }
     ensures { λ r. ⌜ now (row .exit) ≡ addTerms (now (row .entry)) (rowOver (now (ls .entry)) (now (us .entry)) (now (firsts .entry)) first (productIn (now (args .entry))) .whole .terms) ⌝ }
 {
-    let f = variable_at(args, 1);
-    let g = variable_at(args, 2);
-    add_variable(row, ls, us, firsts, variable_at(args, 0), 1);
+    let f = row_variable(args, 1);
+    let g = row_variable(args, 2);
+    add_variable(row, ls, us, firsts, row_variable(args, 0), 1);
     add_less_lower(row, ls, us, firsts, g, f);
     add_less_lower(row, ls, us, firsts, f, g);
     add_crossed(row, ls, us, f, g, first)
@@ -138,14 +138,14 @@ fn add_product_pairs(
     requires { ⌜ SmallTables (now firsts) (now counts) × (first < Size.farthest) × (peak (now line) < 2 * Size.sums) ⌝ }
     ensures { λ r. ⌜ Adds (productPairs (now (firsts .entry)) (now (counts .entry)) (now (args .entry)) first i) (8 * Size.ownBits) (now (line .entry)) (now (line .exit)) ⌝ }
 {
-    let f = variable_at(args, 1);
-    let g = variable_at(args, 2);
+    let f = row_variable(args, 1);
+    let g = row_variable(args, 2);
     add_pairs(
         line,
-        size_at(firsts, f),
-        size_at(counts, f),
-        size_at(firsts, g),
-        size_at(counts, g),
+        count_at(firsts, f),
+        count_at(counts, f),
+        count_at(firsts, g),
+        count_at(counts, g),
         first,
         i,
     )
@@ -215,7 +215,7 @@ fn among(first: usize, n: usize, i: usize) -> bool
 fn holds_variable(firsts: &[usize], counts: &[usize], v: usize, i: usize) -> bool
     ensures { λ r. ⌜ (r ≡ false → NoBitOf (now (firsts .entry)) (now (counts .entry)) i v) ⌝ }
 {
-    among(size_at(firsts, v), size_at(counts, v), i)
+    among(count_at(firsts, v), count_at(counts, v), i)
 }
 
 // Whether it is a bit of the variable of term k, with a coefficient that is not 0.
@@ -226,7 +226,7 @@ fn holds_term(args: &[u32], k: usize, firsts: &[usize], counts: &[usize], i: usi
     if equal(signed_at(args, 2 * k + 1), 0) {
         return false;
     }
-    holds_variable(firsts, counts, variable_at(args, 2 * k), i)
+    holds_variable(firsts, counts, row_variable(args, 2 * k), i)
 }
 
 // Whether that is so of one of n terms.
@@ -248,13 +248,13 @@ fn holds_terms(args: &[u32], n: usize, firsts: &[usize], counts: &[usize], i: us
 fn holds_product(args: &[u32], firsts: &[usize], counts: &[usize], i: usize) -> bool
     ensures { λ r. ⌜ (r ≡ false → IdleRow (NoBitOf (now (firsts .entry)) (now (counts .entry)) i) (productIn (now (args .entry)))) ⌝ }
 {
-    if holds_variable(firsts, counts, variable_at(args, 0), i) {
+    if holds_variable(firsts, counts, row_variable(args, 0), i) {
         return true;
     }
-    if holds_variable(firsts, counts, variable_at(args, 1), i) {
+    if holds_variable(firsts, counts, row_variable(args, 1), i) {
         return true;
     }
-    holds_variable(firsts, counts, variable_at(args, 2), i)
+    holds_variable(firsts, counts, row_variable(args, 2), i)
 }
 
 // Whether the row or product with this head, and `own` bits of its own from `first` on, may have entries in the line of bit i.

@@ -70,7 +70,7 @@ fn greater(a: usize, b: usize) -> usize
 }
 
 // The number at a place of the list, 0 past the last one.
-pub fn number_at(row: &[i64], i: usize) -> i64
+pub fn coefficient_at(row: &[i64], i: usize) -> i64
     ensures { λ r. ⌜ r ≡ getD (now (row .entry)) i +0 ⌝ }
 {
     if i < row.len() {
@@ -101,9 +101,9 @@ pub fn square_at(row: &[i64], c: i64, i: usize, j: usize) -> i64
     ensures { λ r. ⌜ r ≡ squareAt (now (row .entry)) c i j ⌝ }
 {
     if i == j {
-        return on_diagonal(number_at(row, i), c);
+        return on_diagonal(coefficient_at(row, i), c);
     }
-    off_diagonal(number_at(row, i), number_at(row, j))
+    off_diagonal(coefficient_at(row, i), coefficient_at(row, j))
 }
 
 // Adds the entries of bit i and the m bits from i on in the square of a row over bits to a line.
@@ -164,7 +164,7 @@ pub fn put_line(out: &mut [u32], at: usize, line: &[i64], i: usize, m: usize) ->
     let mut next = at;
     let mut d = 0;
     while d < m {
-        next = put_entry(out, next, i, i + d, number_at(line, i + d));
+        next = put_entry(out, next, i, i + d, coefficient_at(line, i + d));
         d += 1;
     }
     next

@@ -30,7 +30,7 @@ pub fn weight_count(width: usize) -> usize
 }
 
 // The number of a list at a place, 0 past the last one.
-pub fn size_at(sizes: &[usize], v: usize) -> usize
+pub fn count_at(sizes: &[usize], v: usize) -> usize
     ensures { λ r. ⌜ r ≡ getD (now (sizes .entry)) v 0 ⌝ }
 {
     if v < sizes.len() {
@@ -48,7 +48,7 @@ pub fn span_at(ls: &[i64], us: &[i64], v: usize) -> usize
 }
 
 // The variable at place i of the words after a head.
-pub fn variable_at(args: &[u32], i: usize) -> usize
+pub fn row_variable(args: &[u32], i: usize) -> usize
     ensures { λ r. ⌜ r ≡ variableAt (now (args .entry)) i ⌝ }
 {
     payload_of(word_at(args, i))

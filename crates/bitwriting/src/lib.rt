@@ -16,7 +16,7 @@ ghost use Rattle.bitwriting.specs.EntriesPut.{EntriesPut};
 use bitfilling::add_row;
 use bitfilling::clear;
 use bitfilling::holds_bit;
-use bitlines::number_at;
+use bitlines::coefficient_at;
 use bitlines::put_line;
 use bitrows::own_bits;
 use rowreading::rows::starts_row;
@@ -102,7 +102,7 @@ fn entries_fit(line: &[i64], i: usize, m: usize) -> bool
 {
     let mut d = 0;
     while d < m {
-        if !in_range(number_at(line, i + d)) {
+        if !in_range(coefficient_at(line, i + d)) {
             return false;
         }
         d += 1;

@@ -26,7 +26,7 @@ returns : tie.Need-returns
 returns c =
     let s = c .before .before .before .before .before .before .before .before .before .before .before .before .before .before .before .before .before in
     c .before .add-crossed .ensures
-    ∙ rw (c .before .before .before .before .add-less-lower2 .ensures .sum, c .before .before .before .before .before .before .before .add-less-lower .ensures .sum, c .before .before .before .before .before .before .before .before .before .before .add-variable .ensures .sum, c .before .before .before .before .before .before .before .before .before .before .before .variable-at3 .ensures, c .before .before .before .before .before .before .before .before .before .before .before .before .before .before .variable-at .ensures, c .before .before .before .before .before .before .before .before .before .before .before .before .before .variable-at2 .ensures)
+    ∙ rw (c .before .before .before .before .add-less-lower2 .ensures .sum, c .before .before .before .before .before .before .before .add-less-lower .ensures .sum, c .before .before .before .before .before .before .before .before .before .before .add-variable .ensures .sum, c .before .before .before .before .before .before .before .before .before .before .before .row-variable3 .ensures, c .before .before .before .before .before .before .before .before .before .before .before .before .before .before .row-variable .ensures, c .before .before .before .before .before .before .before .before .before .before .before .before .before .row-variable2 .ensures)
     (product-added (s .args .row .now) (s .args .ls .now) (s .args .us .now) (s .args .firsts .now) (s .args .first) _ _ _)
 
 pub add-product-spec : {M : Type 1} → statement M

@@ -11,13 +11,13 @@ use Rattle.bitfilling.proofs.add_product_pairs.Tie as tie
 add-pairs-requires : tie.Need-add-pairs-requires
 add-pairs-requires c κs =
     let s = c .before .before .before .before .before .before .before .before .before .before in
-    let f = c .before .before .before .before .before .before .variable-at .result in
-    let g = c .before .before .before .before .before .variable-at2 .result in (
-      omega (arith, c .before .before .before .size-at .ensures, s .pre .0 .near-first f),
-      omega (arith, c .before .size-at3 .ensures, s .pre .0 .near-first g),
+    let f = c .before .before .before .before .before .before .row-variable .result in
+    let g = c .before .before .before .before .before .row-variable2 .result in (
+      omega (arith, c .before .before .before .count-at .ensures, s .pre .0 .near-first f),
+      omega (arith, c .before .count-at3 .ensures, s .pre .0 .near-first g),
       s .pre .1,
-      omega (arith, c .before .before .size-at2 .ensures, s .pre .0 .few f),
-      omega (arith, c .size-at4 .ensures, s .pre .0 .few g),
+      omega (arith, c .before .before .count-at2 .ensures, s .pre .0 .few f),
+      omega (arith, c .count-at4 .ensures, s .pre .0 .few g),
       s .pre .2,
     )
 
@@ -25,10 +25,10 @@ returns : tie.Need-returns
 unfolding productPairs
 returns c =
     let s = c .before .before .before .before .before .before .before .before .before .before .before .before in
-    let f = c .before .before .before .before .before .before .before .before .variable-at .result in
-    let g = c .before .before .before .before .before .before .before .variable-at2 .result in
-    let few : c .before .before .before .before .size-at2 .result * c .before .before .size-at4 .result ≤ Size.ownBits = rw (c .before .before .before .before .size-at2 .ensures, c .before .before .size-at4 .ensures) (mul-le (s .pre .0 .few f) (s .pre .0 .few g)) in record {
-      sum = rw (← c .before .before .before .before .before .before .before .before .variable-at .ensures, ← c .before .before .before .before .before .before .before .variable-at2 .ensures, ← c .before .before .before .before .before .size-at .ensures, ← c .before .before .before .before .size-at2 .ensures, ← c .before .before .before .size-at3 .ensures, ← c .before .before .size-at4 .ensures) (c .before .add-pairs .ensures .sum);
+    let f = c .before .before .before .before .before .before .before .before .row-variable .result in
+    let g = c .before .before .before .before .before .before .before .row-variable2 .result in
+    let few : c .before .before .before .before .count-at2 .result * c .before .before .count-at4 .result ≤ Size.ownBits = rw (c .before .before .before .before .count-at2 .ensures, c .before .before .count-at4 .ensures) (mul-le (s .pre .0 .few f) (s .pre .0 .few g)) in record {
+      sum = rw (← c .before .before .before .before .before .before .before .before .row-variable .ensures, ← c .before .before .before .before .before .before .before .row-variable2 .ensures, ← c .before .before .before .before .before .count-at .ensures, ← c .before .before .before .before .count-at2 .ensures, ← c .before .before .before .count-at3 .ensures, ← c .before .before .count-at4 .ensures) (c .before .add-pairs .ensures .sum);
       small = omega (arith, c .before .add-pairs .ensures .small, few);
     }
 

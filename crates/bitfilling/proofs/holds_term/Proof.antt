@@ -11,7 +11,7 @@ returns : tie.Need-returns
 returns c e = let n = c .before .before .signed-at in inl (says-equal _ _ .0 (rw (read (n .ok) (n .ensures .0)) at (sym (c .before .equal .ensures) ∙ c .if1 .taken)))
 
 returns-2 : tie.Need-returns-2
-returns-2 c e = inr (rw (c .before .variable-at .ensures) at (c .holds-variable .ensures e))
+returns-2 c e = inr (rw (c .before .row-variable .ensures) at (c .holds-variable .ensures e))
 
 pub holds-term-spec : {M : Type 1} → statement M
 holds-term-spec =

@@ -27,15 +27,15 @@ loop-holds : tie.Need-loop-holds Inv-loop μ-loop
 unfolding lineEntries listOf all
 loop-holds c = (search needs, refl)
 
-add-number-at : tie.Need-add-number-at Inv-loop μ-loop
-add-number-at c = omega (arith, c .loop-test .taken, c .before .before .pre)
+add-coefficient-at : tie.Need-add-coefficient-at Inv-loop μ-loop
+add-coefficient-at c = omega (arith, c .loop-test .taken, c .before .before .pre)
 
 returns : tie.Need-returns Inv-loop μ-loop
 unfolding lineEntries
 returns c =
     let s = c .before .before .before .before .before in
     let l = c .before .before .before .before .loop in
-    let e = ap inRange (sym (read (c .before .before .number-at .ok) (c .before .before .number-at .ensures))) ∙ sym (c .before .in-range .ensures) ∙ not-true _ (c .if1 .taken) in
+    let e = ap inRange (sym (read (c .before .before .coefficient-at .ok) (c .before .before .coefficient-at .ensures))) ∙ sym (c .before .in-range .ensures) ∙ not-true _ (c .if1 .taken) in
     sym (fails-at (λ x. inRange (x .number)) (λ d. entryAt (s .args .i) (s .args .i + d) (getD (s .args .line .now) (s .args .i + d) +0)) (s .args .m) (l .d) (c .before .before .before .loop-test .taken) e)
 
 loop-again : tie.Need-loop-again Inv-loop μ-loop
@@ -43,7 +43,7 @@ unfolding lineEntries
 loop-again c =
     let s = c .before .before .before .before .before in
     let l = c .before .before .before .before .loop in
-    let e = ap inRange (sym (read (c .before .before .number-at .ok) (c .before .before .number-at .ensures))) ∙ sym (c .before .in-range .ensures) ∙ not-false _ (c .if1 .left) in
+    let e = ap inRange (sym (read (c .before .before .coefficient-at .ok) (c .before .before .coefficient-at .ensures))) ∙ sym (c .before .in-range .ensures) ∙ not-false _ (c .if1 .left) in
     (omega (arith, c .before .before .before .loop-test .taken), all-more (λ x. inRange (x .number)) (λ d. entryAt (s .args .i) (s .args .i + d) (getD (s .args .line .now) (s .args .i + d) +0)) (l .d) ∙ rw (l .inv .1) e)
 
 returns-2 : tie.Need-returns-2 Inv-loop μ-loop
@@ -59,7 +59,7 @@ entries-fit-spec =
     Inv-loop
     μ-loop
     loop-holds
-    add-number-at
+    add-coefficient-at
     (λ c κs. search needs)
     (λ c κs. search needs)
     returns
