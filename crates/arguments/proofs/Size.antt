@@ -9,15 +9,15 @@ use lib.IntN.{ℤ, pos, negsuc, natAbs}
 use lib.Signed.{leZ, mag}
 use mir.Syntax.{w64}
 use mir.Val.{toZ, ofZ}
-use Rattle.integers.specs.Number.{_⊗_, count}
+use Rattle.integers.specs.Number.{_⊗_, neg, maxZ, absZ, count}
 use Rattle.integers.specs.Terms.{value}
 use Rattle.integers.proofs.Tests.{false-true, capped}
 use Rattle.integers.proofs.Fits.{back}
+use Rattle.integers.proofs.Linear.{linear}
 use Rattle.words.specs.Word.{wordAt}
-use Rattle.words.specs.Small.{Near}
 use Rattle.words.proofs.Word.{signed-near, product-size as near-product}
+use Rattle.words.specs.Small.{Near, Small}
 use Rattle.models.specs.Model.{var, num, size, exponentAt}
-use Rattle.arguments.specs.Small.{Small}
 
 -- a list has at most 32 elements
 pub size-le : (ws : List ℕ) (i : ℕ) → size ws i ≤ 32
@@ -34,8 +34,17 @@ pub num-size : (ws : List ℕ) (i : ℕ) → Near (num ws i)
 unfolding num
 num-size ws i = signed-near (wordAt ws i)
 
+-- a value of a small list
+pub value-near : (vs : List ℤ) → Small vs → (x : ℕ) → Near (value vs x)
+unfolding value
+value-near vs small x = small x
+
 pub product-size : (ws : List ℕ) (vs : List ℤ) → Small vs → (a x : ℕ) → natAbs (num ws a ⊗ value vs (var ws x)) ≤ 18014398509481984
-product-size ws vs small a x = near-product (num ws a) (value vs (var ws x)) (num-size ws a) (small (var ws x))
+product-size ws vs small a x = near-product (num ws a) (value vs (var ws x)) (num-size ws a) (value-near vs small (var ws x))
+
+-- an absolute value
+pub abs-max : (x : ℤ) → maxZ x (neg x) ≡ absZ x
+abs-max = simp linear (omega arith)
 
 -- a number as a count
 pub count-from : (z : ℤ) → leZ (pos 0) z ≡ true → count z ≡ mag z

@@ -8,7 +8,7 @@ ghost use lib.ListN.{length};
 ghost use Rattle.integers.specs.Number.{absZ};
 ghost use Rattle.integers.specs.Lists.{all};
 ghost use Rattle.words.specs.Limit as Limit;
-ghost use Rattle.extremes.specs.Bounded.{Bounded};
+ghost use Rattle.words.specs.Small.{Small};
 ghost use Rattle.bitforms.specs.BitRow.{bitsWith};
 ghost use Rattle.bitlines.specs.Sizes as Size;
 ghost use Rattle.bittables.specs.BitTables.{rowBy, rowsBy, BitLists, BitCounts, RowTables};
@@ -29,7 +29,7 @@ pub struct RowsFit {
 
 // How many bits there are, after `start` bits of variables.
 pub fn count_bits(ws: &[u32], ls: &[i64], us: &[i64], counts: &[usize], start: usize) -> usize
-    requires { ⌜ (length (now ws) ≤ Limit.rowWords) × Bounded (now ls) × Bounded (now us) × BitCounts (now ls) (now us) (now counts) × (start ≤ Size.allVariableBits) ⌝ }
+    requires { ⌜ (length (now ws) ≤ Limit.rowWords) × Small (now ls) × Small (now us) × BitCounts (now ls) (now us) (now counts) × (start ≤ Size.allVariableBits) ⌝ }
     ensures { λ r. ⌜ ((firsts : List ℕ) → r ≡ bitsWith start (rowsBy (now (ls .entry)) (now (us .entry)) firsts start (now (ws .entry)))) ⌝ }
 {
     let mut first = start;

@@ -18,7 +18,7 @@ use Rattle.integers.proofs.Tests.{says-le, says-and}
 use Rattle.integers.proofs.Places.{getD-listOf, map-listOf, all-map}
 use Rattle.words.specs.Limit as Limit
 use Rattle.rowsystems.specs.Row.{sum≤0, sum=0, product}
-use Rattle.extremes.specs.Bounded.{boundsOf}
+use Rattle.extremes.specs.BoundLists.{boundsOf}
 use Rattle.bitforms.specs.Weights.{weights}
 use Rattle.bitforms.specs.OverBits.{scaled, overBits, weightedBits}
 use Rattle.bitforms.specs.BitRow.{BitRow, least, slackWeights, productWhole, bitRow}

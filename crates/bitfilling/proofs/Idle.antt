@@ -19,7 +19,7 @@ use Rattle.integers.proofs.Lists.{all-append, all-implies, all-both}
 use Rattle.integers.proofs.Tests.{All}
 use Rattle.rowsystems.specs.Row.{Row, sum≤0, sum=0, product}
 use Rattle.rowsystems.specs.RowSystem.{termsIn}
-use Rattle.extremes.specs.Bounded.{boundsOf}
+use Rattle.extremes.specs.BoundLists.{boundsOf}
 use Rattle.bitforms.specs.SumOver.{sumOver}
 use Rattle.bitforms.specs.Weights.{weights}
 use Rattle.bitforms.specs.OverBits.{OverBits, weightedBits, scaled, overBits, over}

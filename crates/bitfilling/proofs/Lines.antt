@@ -13,7 +13,7 @@ use Rattle.integers.proofs.Tests.{says-and}
 use Rattle.words.specs.Limit as Limit
 use Rattle.rowsystems.specs.Row.{product}
 use Rattle.rowsystems.specs.RowSystem.{variableAt}
-use Rattle.extremes.specs.Bounded.{boundsOf}
+use Rattle.extremes.specs.BoundLists.{boundsOf}
 use Rattle.bitforms.specs.Weights.{weights}
 use Rattle.bitforms.specs.BitRow.{BitRow, bitRow}
 use Rattle.bitforms.specs.FormAnswer.{rowFits}

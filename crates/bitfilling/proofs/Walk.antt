@@ -7,7 +7,7 @@ use lib.IntN.{ℤ}
 use lib.ListN.{length, getD, drop}
 use Rattle.rowsystems.specs.OneWord.{startsRow}
 use Rattle.rowsystems.proofs.Walk.{starts-none, starts-one, none-left}
-use Rattle.extremes.specs.Bounded.{boundsOf}
+use Rattle.extremes.specs.BoundLists.{boundsOf}
 use Rattle.bitforms.specs.BitRow.{BitRow, bitRows}
 use Rattle.bittables.specs.BitTables.{encodingBy, rowBy, rowsBy}
 

@@ -5,8 +5,8 @@ ghost use Prim.Native.Nat.{_+_, _*_, _<_, _≤_};
 ghost use lib.ListN.{length, getD, replicate};
 ghost use Rattle.integers.specs.Number.{neg, +0};
 ghost use Rattle.words.specs.Limit as Limit;
+ghost use Rattle.words.specs.Small.{Small};
 ghost use Rattle.rowsystems.specs.OneWord.{rowOf};
-ghost use Rattle.extremes.specs.Bounded.{Bounded};
 ghost use Rattle.bitforms.specs.Weights.{weights};
 ghost use Rattle.bitforms.specs.OverBits.{scaled};
 ghost use Rattle.bitforms.specs.FormAnswer.{rowFits};
@@ -57,7 +57,7 @@ fn add_less_lower(row: &mut [i64], ls: &[i64], us: &[i64], firsts: &[usize], v: 
 
 // Adds, for each bit of f and each of g, less the product of their weights to the bits from `first` on.
 fn add_crossed(row: &mut [i64], ls: &[i64], us: &[i64], f: usize, g: usize, first: usize)
-    requires { ⌜ Bounded (now ls) × Bounded (now us) × (first < Size.farthest) × (peak (now row) < 4 * Size.sums) ⌝ }
+    requires { ⌜ Small (now ls) × Small (now us) × (first < Size.farthest) × (peak (now row) < 4 * Size.sums) ⌝ }
     ensures { λ r. ⌜ now (row .exit) ≡ addTerms (now (row .entry)) (cross first (weights (spanIn (now (ls .entry)) (now (us .entry)) f)) (weights (spanIn (now (ls .entry)) (now (us .entry)) g))) ⌝ }
 {
     add_products(row, first, span_at(ls, us, f), span_at(ls, us, g));

@@ -15,10 +15,11 @@ use Rattle.words.specs.Overlay.{overlay}
 use Rattle.words.specs.Variables.{variables}
 use Rattle.words.specs.Refusal.{accepted, faultOr, firstFault, _at-place_}
 use Rattle.words.specs.declared.Refusal.{Refusal}
+use Rattle.words.specs.Small.{Small}
 use Rattle.rowsystems.proofs.Sizes.{few-words}
 use Rattle.rowsystems.specs.Reading.{State, fault, after, ended, begin, readRows}
-use Rattle.extremes.specs.Bounded.{boundsOf, Bounded}
-use Rattle.extremes.proofs.Kept.{lowersKept, uppersKept, lowers-bounded, uppers-bounded}
+use Rattle.extremes.specs.BoundLists.{boundsOf}
+use Rattle.extremes.proofs.Kept.{lowersKept, uppersKept, lowers-small, uppers-small}
 use Rattle.bitforms.specs.Encoding.{weightsOf, bitsAfter}
 use Rattle.bitforms.specs.BitRow.{bitsWith}
 use Rattle.bitforms.specs.BitForm.{bitCount}
@@ -89,8 +90,8 @@ pub record Kept (ws : List ℕ) (ls us : List ℤ) (firsts counts : List ℕ) (s
   pub begins : start ≡ bitsAfter 0 (variables ws)
 
 pub bounds-kept : (ws : List ℕ) {ls us : List ℤ} {n : ℕ} → readRows ws ≡ accepted → ls ≡ lowersKept ws 4096 → us ≡ uppersKept ws 4096 → n ≡ length (variables ws) →
-    Bounded ls × Bounded us × (n ≤ 4096)
-bounds-kept ws r e f g = (rw e (lowers-bounded ws 4096 (few ws r)), rw f (uppers-bounded ws 4096 (few ws r)), rw g (few ws r))
+    Small ls × Small us × (n ≤ 4096)
+bounds-kept ws r e f g = (rw e (lowers-small ws 4096 (few ws r)), rw f (uppers-small ws 4096 (few ws r)), rw g (few ws r))
 
 pub all-kept : (ws : List ℕ) {ls us : List ℤ} {firsts counts : List ℕ} {start n : ℕ} → readRows ws ≡ accepted → ls ≡ lowersKept ws 4096 → us ≡ uppersKept ws 4096 → n ≡ length (variables ws) →
     KeptBits (listOf (boundsOf ls us) n) (replicate 4096 0) (replicate 4096 0) firsts counts start → Kept ws ls us firsts counts start
@@ -106,7 +107,7 @@ module _ (ws : List ℕ) (r : readRows ws ≡ accepted) {ls us : List ℤ} {firs
   pub tables-kept : BitTables ls us firsts counts
   tables-kept = rw (k .lowers, k .uppers, k .numbers, k .sizes) (kept-tables ws (few ws r))
 
-  pub counting-needs : (length ws ≤ Limit.rowWords) × Bounded ls × Bounded us × BitCounts ls us counts × (start ≤ Size.allVariableBits)
+  pub counting-needs : (length ws ≤ Limit.rowWords) × Small ls × Small us × BitCounts ls us counts × (start ≤ Size.allVariableBits)
   counting-needs =
       let t = tables-kept in
       (few-words ws (ap (λ x. x .number) r), t .lists .near-lower, t .lists .near-upper, t .counted, omega (arith, k .begins, kept-few ws (few ws r)))

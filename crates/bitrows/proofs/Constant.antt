@@ -19,7 +19,7 @@ use Rattle.words.specs.Word.{kind}
 use Rattle.rowsystems.specs.Row.{sum≤0, sum=0, product}
 use Rattle.rowsystems.specs.RowSystem.{termCount, termsIn, constantIn, variableAt}
 use Rattle.rowsystems.specs.OneWord.{rowOf}
-use Rattle.extremes.specs.Bounded.{boundsOf}
+use Rattle.extremes.specs.BoundLists.{boundsOf}
 use Rattle.bitforms.specs.SumOver.{sumOver}
 use Rattle.bitforms.specs.Weights.{weights}
 use Rattle.bitforms.specs.BitRow.{leastTerm, least, pairsWith, pairsOf}

@@ -7,7 +7,7 @@ use lib.IntN.{ℤ}
 use lib.ListN.{length, getD}
 use Rattle.integers.specs.Number.{_⊖_, +0}
 use Rattle.integers.proofs.Fits.{minus-size}
-use Rattle.extremes.specs.Bounded.{Bounded}
+use Rattle.words.specs.Small.{Small}
 use Rattle.extremes.proofs.Size.{count-le}
 use Rattle.bitforms.specs.Weights.{weightsFrom, weights}
 use Rattle.bitlines.specs.Sizes as Size
@@ -35,11 +35,11 @@ few-weights w h = few-from 62 w 1 w (omega arith)
 
 -- ---- the width of a variable
 
-pub span-size : (ls us : List ℤ) (v : ℕ) → Bounded ls → Bounded us → spanIn ls us v ≤ Size.widest
+pub span-size : (ls us : List ℤ) (v : ℕ) → Small ls → Small us → spanIn ls us v ≤ Size.widest
 unfolding spanIn
 span-size ls us v l u = omega (arith, count-le (getD us v +0 ⊖ getD ls v +0), minus-size (getD us v +0) (getD ls v +0), l v, u v)
 
 -- ---- the number of a variable's bits
 
-pub counts-few : (ls us : List ℤ) (counts : List ℕ) → Bounded ls → Bounded us → BitCounts ls us counts → (v : ℕ) → getD counts v 0 ≤ Size.mostWeights
+pub counts-few : (ls us : List ℤ) (counts : List ℕ) → Small ls → Small us → BitCounts ls us counts → (v : ℕ) → getD counts v 0 ≤ Size.mostWeights
 counts-few ls us counts l u k v = omega (arith, k v, few-weights (spanIn ls us v) (omega (arith, span-size ls us v l u)))

@@ -11,7 +11,8 @@ use Rattle.integers.specs.declared.Bounds.{Bounds}
 use Rattle.integers.proofs.Lists.{listOf-length}
 use Rattle.words.specs.Overlay.{overlay}
 use Rattle.words.proofs.Overlay.{overlay-append}
-use Rattle.extremes.specs.Bounded.{boundsOf, Bounded}
+use Rattle.words.specs.Small.{Small}
+use Rattle.extremes.specs.BoundLists.{boundsOf}
 use Rattle.bitforms.specs.Weights.{weights}
 use Rattle.bitforms.specs.Encoding.{weightsOf, bitsAfter}
 use Rattle.bitforms.proofs.Lists.{list-last, list-more}
@@ -51,10 +52,10 @@ pub weights-by : (ls us : List ℤ) (v : ℕ) → weightsOf (boundsOf ls us v) �
 unfolding weightsOf spanIn
 weights-by ls us v = refl
 
-pub few-bits : (ls us : List ℤ) → Bounded ls → Bounded us → (v : ℕ) → bitsIn (boundsOf ls us v) ≤ Size.mostWeights
+pub few-bits : (ls us : List ℤ) → Small ls → Small us → (v : ℕ) → bitsIn (boundsOf ls us v) ≤ Size.mostWeights
 few-bits ls us l u v = rw (weights-by ls us v) (few-weights (spanIn ls us v) (omega (arith, span-size ls us v l u)))
 
-pub few-after : (ls us : List ℤ) → Bounded ls → Bounded us → (n : ℕ) → bitsAfter 0 (listOf (boundsOf ls us) n) ≤ Size.mostWeights * n
+pub few-after : (ls us : List ℤ) → Small ls → Small us → (n : ℕ) → bitsAfter 0 (listOf (boundsOf ls us) n) ≤ Size.mostWeights * n
 unfolding listOf bitsAfter
 few-after ls us l u zero = omega arith
 few-after ls us l u (suc n) =

@@ -12,8 +12,8 @@ use Rattle.integers.specs.declared.Bounds.{Bounds}
 use Rattle.words.specs.Overlay.{overlay}
 use Rattle.words.specs.Variables.{variables}
 use Rattle.rowsystems.specs.RowSystem.{rows}
-use Rattle.extremes.specs.Bounded.{boundsOf}
-use Rattle.extremes.proofs.Kept.{over-zeros, lowersKept, uppersKept, kept-bounds, lowers-bounded, uppers-bounded}
+use Rattle.extremes.specs.BoundLists.{boundsOf}
+use Rattle.extremes.proofs.Kept.{over-zeros, lowersKept, uppersKept, kept-bounds, lowers-small, uppers-small}
 use Rattle.bitforms.specs.Weights.{weightsFrom, weights}
 use Rattle.bitforms.specs.OverBits.{OverBits, weightedBits}
 use Rattle.bitforms.specs.Encoding.{weightsOf, encodings, bitsAfter}
@@ -78,7 +78,7 @@ module _ (ws : List ℕ) (few : length (variables ws) ≤ 4096) where
   kept-few = rw kept-variables at (bounded (length (variables ws)) few)
     where
       bounded : (n : ℕ) → n ≤ 4096 → bitsAfter 0 (listOf (boundsOf ls us) n) ≤ 253952
-      bounded n l = omega (arith, few-after ls us (lowers-bounded ws 4096 few) (uppers-bounded ws 4096 few) n)
+      bounded n l = omega (arith, few-after ls us (lowers-small ws 4096 few) (uppers-small ws 4096 few) n)
 
   first-kept : (v : ℕ) → getD (firstsKept ws) v 0 ≡ getD (firstsFrom 0 (variables ws)) v 0
   first-kept v = over-zeros 0 4096 (firstsFrom 0 (variables ws)) (omega (arith, firsts-length 0 (variables ws))) v
@@ -89,8 +89,8 @@ module _ (ws : List ℕ) (few : length (variables ws) ≤ 4096) where
   pub kept-tables : BitTables (lowersKept ws 4096) (uppersKept ws 4096) (firstsKept ws) (countsKept ws)
   kept-tables = record {
     lists = record {
-      near-lower = lowers-bounded ws 4096 few;
-      near-upper = uppers-bounded ws 4096 few;
+      near-lower = lowers-small ws 4096 few;
+      near-upper = uppers-small ws 4096 few;
       near-first = λ v. rw (first-kept v) (omega (arith, firsts-at 0 (variables ws) v, kept-few));
     };
     counted = λ v.

@@ -7,10 +7,11 @@ use lib.ListN.{length, getD}
 use Rattle.integers.specs.Number.{_⊖_, count, +0}
 use Rattle.integers.specs.Terms.{Term}
 use Rattle.words.specs.Limit as Limit
+use Rattle.words.specs.Small.{Small}
 use Rattle.rowsystems.specs.RowSystem.{rows}
 use Rattle.rowsystems.specs.Row.{Row}
 use Rattle.rowsystems.specs.OneWord.{rowOf}
-use Rattle.extremes.specs.Bounded.{boundsOf, Bounded}
+use Rattle.extremes.specs.BoundLists.{boundsOf}
 use Rattle.bitforms.specs.Weights.{weights}
 use Rattle.bitforms.specs.OverBits.{OverBits, weightedBits}
 use Rattle.bitforms.specs.BitRow.{BitRow, bitRow, bitRows}
@@ -42,8 +43,8 @@ abbrev pub NearFirsts : List ℕ → Type 0
 NearFirsts firsts = (v : ℕ) → getD firsts v 0 ≤ Size.allVariableBits
 
 pub record BitLists (ls us : List ℤ) (firsts : List ℕ) : Type 0 where
-  pub near-lower : Bounded ls
-  pub near-upper : Bounded us
+  pub near-lower : Small ls
+  pub near-upper : Small us
   pub near-first : NearFirsts firsts
 
 abbrev pub BitCounts : List ℤ → List ℤ → List ℕ → Type 0

@@ -5,9 +5,9 @@ ghost use Prim.Native.Nat.{_*_, _<_, _≤_};
 ghost use lib.ListN.{length, getD, set};
 ghost use Rattle.integers.specs.Lists.{listOf};
 ghost use Rattle.words.specs.Limit as Limit;
-ghost use Rattle.words.specs.Small.{Near};
+ghost use Rattle.words.specs.Small.{Near, Small};
 ghost use Rattle.rowsystems.specs.RowSystem.{variableAt, numberAt};
-ghost use Rattle.extremes.specs.Bounded.{boundsOf, Bounded};
+ghost use Rattle.extremes.specs.BoundLists.{boundsOf};
 ghost use Rattle.bitforms.specs.Weights.{weights};
 ghost use Rattle.bitlines.specs.Sizes as Size;
 ghost use Rattle.bittables.specs.BitTables.{spanIn};
@@ -41,7 +41,7 @@ pub fn count_at(sizes: &[usize], v: usize) -> usize
 
 // The width of a variable.
 pub fn span_at(ls: &[i64], us: &[i64], v: usize) -> usize
-    requires { ⌜ Bounded (now ls) × Bounded (now us) ⌝ }
+    requires { ⌜ Small (now ls) × Small (now us) ⌝ }
     ensures { λ r. ⌜ (r ≡ spanIn (now (ls .entry)) (now (us .entry)) v) × (r ≤ Size.widest) ⌝ }
 {
     count_of(minus(bound_at(us, v), bound_at(ls, v)))
@@ -78,7 +78,7 @@ pub fn keep_bits(
     firsts: &mut [usize],
     counts: &mut [usize],
 ) -> usize
-    requires { ⌜ Bounded (now ls) × Bounded (now us) × (n ≤ Limit.inAll) ⌝ }
+    requires { ⌜ Small (now ls) × Small (now us) × (n ≤ Limit.inAll) ⌝ }
     ensures { λ r. ⌜ KeptBits (listOf (boundsOf (now (ls .entry)) (now (us .entry))) n) (now (firsts .entry)) (now (counts .entry)) (now (firsts .exit)) (now (counts .exit)) r ⌝ }
 {
     let mut at = 0;

@@ -11,7 +11,7 @@ use Rattle.rules.specs.Block.{Block}
 use Rattle.rules.specs.Shared.{Encoded}
 use Rattle.rules.specs.Translation.{blockOf}
 use Rattle.rules.specs.Check.{tooWide}
-use Rattle.extremes.specs.Bounded.{boundsOf}
+use Rattle.extremes.specs.BoundLists.{boundsOf}
 use Rattle.encodings.specs.Uses.{choosing, sharedBy}
 use Rattle.laying.specs.Part.{blockParts}
 use Rattle.laying.specs.Appends.{AppendsFitting}

@@ -2,13 +2,14 @@
 ghost use mathlib.Core.Path.{_≡_};
 ghost use mathlib.Core.Bool.{true};
 ghost use Prim.Native.Nat.{_<_};
+ghost use Rattle.words.specs.Small.{Small};
 ghost use Rattle.builtins.specs.Coded.{builtinOf};
 ghost use Rattle.rules.specs.Rule.{rule};
 ghost use Rattle.encodings.specs.Uses.{choosing, Recorded};
 ghost use Rattle.laying.specs.Appends.{GrowsBy};
 ghost use Rattle.laying.specs.Room.{BlockRoom};
 ghost use Rattle.laying.specs.Sizes.{firstNumbers, blockSize};
-ghost use Rattle.extremes.specs.Bounded.{boundsOf, Bounded};
+ghost use Rattle.extremes.specs.BoundLists.{boundsOf};
 ghost use Rattle.blocks.specs.Coded.{Narrow, ReifiedNarrow, blockAt, Lays};
 use choiceblocks::array_int_element;
 use choiceblocks::array_var_int_element;
@@ -28,7 +29,7 @@ fn own_choice(
     us: &[i64],
     first: usize,
 ) -> Laid
-    requires { ⌜ BlockRoom s × (first < firstNumbers) × Bounded (now ls) × Bounded (now us) × ReifiedNarrow (now ls) (now us) code (now args) × (choosing code ≡ true) ⌝ }
+    requires { ⌜ BlockRoom s × (first < firstNumbers) × Small (now ls) × Small (now us) × ReifiedNarrow (now ls) (now us) code (now args) × (choosing code ≡ true) ⌝ }
     ensures parts { λ r. ⌜ Lays (rule (boundsOf (now (ls .entry)) (now (us .entry))) (builtinOf code (now (args .entry)))) first s r (now (out .entry)) (now (out .exit)) ⌝ }
     ensures size { λ r. ⌜ GrowsBy blockSize s r ⌝ }
 {
@@ -52,7 +53,7 @@ pub fn choice(
     encoded: &[usize],
     first: usize,
 ) -> Laid
-    requires { ⌜ BlockRoom s × (first < firstNumbers) × Bounded (now ls) × Bounded (now us) × Narrow (now ls) (now us) (now uses) code (now args) × Recorded (now encoded) × (choosing code ≡ true) ⌝ }
+    requires { ⌜ BlockRoom s × (first < firstNumbers) × Small (now ls) × Small (now us) × Narrow (now ls) (now us) (now uses) code (now args) × Recorded (now encoded) × (choosing code ≡ true) ⌝ }
     ensures parts { λ r. ⌜ Lays (blockAt (now (ls .entry)) (now (us .entry)) (now (uses .entry)) (now (encoded .entry)) code (now (args .entry))) first s r (now (out .entry)) (now (out .exit)) ⌝ }
     ensures size { λ r. ⌜ GrowsBy blockSize s r ⌝ }
 {

@@ -2,11 +2,11 @@
 ghost use mathlib.Core.Path.{_≡_};
 ghost use mathlib.Core.Bool.{false};
 ghost use Prim.Native.Nat.{_<_};
+ghost use Rattle.words.specs.Small.{Small};
 ghost use Rattle.encodings.specs.Uses.{Recorded};
 ghost use Rattle.laying.specs.Appends.{GrowsBy, nothing};
 ghost use Rattle.laying.specs.Room.{BlockRoom};
 ghost use Rattle.laying.specs.Sizes.{firstNumbers, blockSize};
-ghost use Rattle.extremes.specs.Bounded.{Bounded};
 ghost use Rattle.blocks.specs.Coded.{Narrow, blockAt, SummedIn, Lays};
 use crate::choices::choice;
 use arguments::exponent_at;
@@ -48,7 +48,7 @@ pub fn block(
     sum: Bounds,
     first: usize,
 ) -> Laid
-    requires { ⌜ (first < firstNumbers) × Bounded (now ls) × Bounded (now us) × Narrow (now ls) (now us) (now uses) code (now args) × Recorded (now encoded) × SummedIn (now ls) (now us) code (now args) sum ⌝ }
+    requires { ⌜ (first < firstNumbers) × Small (now ls) × Small (now us) × Narrow (now ls) (now us) (now uses) code (now args) × Recorded (now encoded) × SummedIn (now ls) (now us) code (now args) sum ⌝ }
     ensures parts { λ r. ⌜ Lays (blockAt (now (ls .entry)) (now (us .entry)) (now (uses .entry)) (now (encoded .entry)) code (now (args .entry))) first nothing r (now (out .entry)) (now (out .exit)) ⌝ }
     ensures size { λ r. ⌜ GrowsBy blockSize nothing r ⌝ }
 {

@@ -1,4 +1,4 @@
--- A code that is none, the absolute value as a maximum, and division by zero.
+-- A code that is none, and division by zero.
 use mathlib.Core.Path.{_≡_, refl, ap}
 use mathlib.Core.Bool.{Bool, true, false, not}
 use mathlib.Core.List.{List}
@@ -8,9 +8,8 @@ use lib.IntN.{ℤ}
 use lib.Signed.{quotZ, remZ}
 use lib.ListN.{getD, List·getD-eq-default}
 use Rattle.integers.specs.Choice.{_if_else_}
-use Rattle.integers.specs.Number.{neg, maxZ, absZ, _==_, +0}
+use Rattle.integers.specs.Number.{_==_, +0}
 use Rattle.integers.specs.Terms.{Valuation}
-use Rattle.integers.proofs.Linear.{linear}
 use Rattle.integers.proofs.Tests.{says-equal}
 use Rattle.models.specs.Table as Table
 use Rattle.models.specs.Builtin.{Builtin, int-eq}
@@ -40,9 +39,6 @@ default code ws h = go code (none-of Table.last code h)
 pub no-code : (σ : Valuation) (code : ℕ) (ws : List ℕ) → None Table.last code → meaning σ (builtinOf code ws) ≡ true
 unfolding meaning
 no-code σ code ws h = rw (default code ws h) (says-equal (σ 0) (σ 0) .1 refl)
-
-pub abs-max : (x : ℤ) → maxZ x (neg x) ≡ absZ x
-abs-max = simp linear (omega arith)
 
 -- by zero there is neither quotient nor remainder
 pub by-zero : (left : Bool) (n d c : ℤ) → not (d == +0) ≡ false → false ≡ (remainder if left else quotient) n d c

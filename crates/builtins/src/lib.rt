@@ -1,8 +1,8 @@
 // Whether a builtin is true of values: by its code and the words of its arguments.
 ghost use mathlib.Core.Path.{_≡_};
 ghost use Rattle.integers.specs.Terms.{value};
+ghost use Rattle.words.specs.Small.{Small};
 ghost use Rattle.models.specs.Meaning.{meaning};
-ghost use Rattle.arguments.specs.Small.{Small};
 ghost use Rattle.builtins.specs.Coded.{builtinOf};
 
 mod boolean;

@@ -2,10 +2,10 @@
 ghost use mathlib.Core.Path.{_≡_};
 ghost use Prim.Native.Nat.{_+_};
 ghost use Rattle.integers.specs.Terms.{value};
+ghost use Rattle.words.specs.Small.{Small};
 ghost use Rattle.models.specs.Builtin.{int-lin-eq, int-lin-le, int-lin-eq-reif, int-lin-ne-reif, int-lin-le-reif};
 ghost use Rattle.models.specs.Meaning.{meaning, on, _iff_};
 ghost use Rattle.models.specs.Model.{var, pastTerms};
-ghost use Rattle.arguments.specs.Small.{Small};
 ghost use Rattle.builtins.specs.Coded.{linear, linearReified};
 use arguments::is_on;
 use arguments::num_at;

@@ -22,7 +22,7 @@ use Rattle.rules.specs.Translation.{bounds, shared, blockOf, eachBlock, blocksW
 use Rattle.rules.specs.Check.{blocksFaultIn, checkFaultIn, check, checkIn}
 use Rattle.rules.specs.InRange.{blockFault, blocksFault}
 use Rattle.sharing.proofs.Accepts.{one-fine}
-use Rattle.extremes.specs.Bounded.{boundsOf}
+use Rattle.extremes.specs.BoundLists.{boundsOf}
 use Rattle.encodings.specs.Uses.{sharedBy, Recorded}
 use Rattle.encodings.proofs.Record.{none-many, recorded-none, recorded-after, length-after}
 use Rattle.checking.specs.Walk.{Costs}

@@ -9,6 +9,7 @@ use Rattle.integers.specs.Number.{+0}
 use Rattle.integers.specs.Bounds.{_to_, boundsIn}
 use Rattle.words.specs.Variables.{variables}
 use Rattle.words.specs.Word.{payload, wordAt}
+use Rattle.words.specs.Small.{Small}
 use Rattle.models.specs.Model.{headed, constraints}
 use Rattle.models.proofs.Accepted as Accepted
 use Rattle.modelreading.specs.Seen.{Seen}
@@ -16,8 +17,8 @@ use Rattle.modelreading.specs.declared.Read.{Read}
 use Rattle.modelreading.proofs.Heads as Heads
 use Rattle.modelreading.proofs.Heads.{front-inside, front-variables}
 use Rattle.rules.specs.Translation.{bounds}
-use Rattle.extremes.specs.Bounded.{boundsOf, Bounded}
-use Rattle.extremes.proofs.Kept.{lowersKept, uppersKept, kept-bounds, lowers-bounded, uppers-bounded}
+use Rattle.extremes.specs.BoundLists.{boundsOf}
+use Rattle.extremes.proofs.Kept.{lowersKept, uppersKept, kept-bounds, lowers-small, uppers-small}
 use Rattle.linearsums.specs.Places.{NoneFrom}
 use Rattle.linearsums.specs.Sum.{Summed}
 use Rattle.linearsums.proofs.Filling.{none-from}
@@ -28,8 +29,8 @@ use Rattle.checking.specs.ModelBounds.{ModelBounds, ModelSums}
 
 pub record Kept (ws : List ℕ) (n : ℕ) (ls us : List ℤ) : Type 0 where
   pub same : boundsOf ls us ≡ bounds ws
-  pub lowers : Bounded ls
-  pub uppers : Bounded us
+  pub lowers : Small ls
+  pub uppers : Small us
   pub few : n ≤ 256
   pub rest : NoneFrom (boundsOf ls us) n
 
@@ -44,8 +45,8 @@ kept {ws} {hs} {r} {n} {ls} {us} s k =
     let same : boundsOf ls us ≡ bounds ws = ap₂ boundsOf l u ∙ kept-bounds ws 256 f in
     record {
       same = same;
-      lowers = rw l (lowers-bounded ws 256 f);
-      uppers = rw u (uppers-bounded ws 256 f);
+      lowers = rw l (lowers-small ws 256 f);
+      uppers = rw u (uppers-small ws 256 f);
       few = omega (arith, f, s .variables-counted);
       rest = none-from (variables ws) same (s .variables-counted);
     }

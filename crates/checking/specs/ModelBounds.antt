@@ -7,10 +7,11 @@ use lib.IntN.{ℤ}
 use lib.ListN.{replicate}
 use Rattle.integers.specs.Number.{+0}
 use Rattle.words.specs.Limit as Limit
+use Rattle.words.specs.Small.{Small}
 use Rattle.modelreading.specs.Seen.{Seen, Kept}
 use Rattle.modelreading.specs.declared.Read.{Read}
 use Rattle.rules.specs.Translation.{bounds, shared}
-use Rattle.extremes.specs.Bounded.{boundsOf, Bounded}
+use Rattle.extremes.specs.BoundLists.{boundsOf}
 use Rattle.linearsums.specs.Places.{sumsUpTo, SumsKept}
 use Rattle.encodings.specs.Uses.{sharedBy}
 
@@ -25,8 +26,8 @@ pub record ModelBounds (ws hs : List ℕ) (r : Read) (ls us : List ℤ) (uses : 
   pub kept : Kept ws hs r
   pub seen : Seen ws hs r
   pub same : boundsOf ls us ≡ bounds ws
-  pub lowers : Bounded ls
-  pub uppers : Bounded us
+  pub lowers : Small ls
+  pub uppers : Small us
   pub shares : sharedBy uses ≡ shared ws
 
 -- L and U of each constraint

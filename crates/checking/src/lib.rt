@@ -6,11 +6,12 @@ ghost use lib.ListN.{length};
 ghost use Rattle.integers.specs.Choice.{_if_else_};
 ghost use Rattle.words.specs.Fault as Fault;
 ghost use Rattle.words.specs.Limit as Limit;
+ghost use Rattle.words.specs.Small.{Small};
 ghost use Rattle.rules.specs.Check.{tooWide, check as checkAnswer};
 ghost use Rattle.sharing.specs.SharedSolutions.{Passes};
 ghost use Rattle.laying.specs.Appends.{someOutside};
 ghost use Rattle.laying.specs.Sizes.{firstNumbers, blockSize};
-ghost use Rattle.extremes.specs.Bounded.{boundsOf, Bounded};
+ghost use Rattle.extremes.specs.BoundLists.{boundsOf};
 ghost use Rattle.linearsums.specs.Sum.{Summed};
 ghost use Rattle.encodings.specs.Uses.{noUses, sharedBy, Recorded};
 ghost use Rattle.checking.specs.Checked.{checked};
@@ -78,7 +79,7 @@ fn has_all(code: usize, args: &[u32], uses: &[usize]) -> bool
 
 // Whether it needs more than 64 of them.
 fn too_wide(code: usize, args: &[u32], ls: &[i64], us: &[i64], uses: &[usize]) -> bool
-    requires { ⌜ Bounded (now ls) × Bounded (now us) ⌝ }
+    requires { ⌜ Small (now ls) × Small (now us) ⌝ }
     ensures { λ r. ⌜ r ≡ tooWide (boundsOf (now (ls .entry)) (now (us .entry))) (sharedBy (now (uses .entry))) (constraintOf code (now (args .entry))) ⌝ }
 {
     if has_all(code, args, uses) {
@@ -113,7 +114,7 @@ fn cost_of(
     sum: Bounds,
     first: usize,
 ) -> Cost
-    requires { ⌜ (first < firstNumbers) × Bounded (now ls) × Bounded (now us) × Recorded (now encoded) × Summed (boundsOf (now ls) (now us)) code (now args) sum ⌝ }
+    requires { ⌜ (first < firstNumbers) × Small (now ls) × Small (now us) × Recorded (now encoded) × Summed (boundsOf (now ls) (now us)) code (now args) sum ⌝ }
     ensures { λ r. ⌜ Costs (boundsOf (now (ls .entry)) (now (us .entry))) (sharedBy (now (uses .entry))) first (now (encoded .entry)) (constraintOf code (now (args .entry))) r ⌝ }
 {
     if too_wide(code, args, ls, us, uses) {

@@ -27,7 +27,7 @@ use Rattle.laying.specs.Lists.{many, bitAt, orderAt}
 use Rattle.rules.proofs.Lengths.{values-length}
 use Rattle.laying.proofs.Parts.{flatMap-append}
 use Rattle.laying.proofs.Lists.{length-vars, length-nums, bits-parts, weighted-many, order-parts}
-use Rattle.extremes.specs.Bounded.{boundsOf}
+use Rattle.extremes.specs.BoundLists.{boundsOf}
 use Rattle.choiceblocks.specs.Rows.{numberTermAt, valueAt, memberAt, oneRow, sumRow, choiceRows, gates, gatedRows, firstAt, oneOfParts, extremeOf}
 use Rattle.choiceblocks.proofs.OneHot.{many-below, one-row, sum-row, chosen-row, choice-rows, gates-parts, gated-rows, first-only-many}
 use Rattle.choiceblocks.proofs.Members.{value-terms, member-terms}

@@ -25,7 +25,7 @@ use Rattle.laying.specs.declared.Laid.{Laid}
 use Rattle.laying.proofs.Parts.{flatMap-append, many-same, went-then}
 use Rattle.rules.proofs.Lengths.{values-length, weighted-length}
 use Rattle.laying.proofs.Lists.{bounds-append, bits-parts, terms-append, labels-parts, same-parts, products-many}
-use Rattle.extremes.specs.Bounded.{boundsOf}
+use Rattle.extremes.specs.BoundLists.{boundsOf}
 use Rattle.choiceblocks.specs.Rows.{zeroAt, oneRow, sumRow, choiceRows, gates, gatedRows, laterRow}
 
 -- the same at every place below n

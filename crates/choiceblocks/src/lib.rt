@@ -6,6 +6,7 @@ ghost use lib.ListN.{getD, replicate};
 ghost use Rattle.integers.specs.Number.{maxZ, count, +0, +1};
 ghost use Rattle.integers.specs.Bounds.{width};
 ghost use Rattle.words.specs.Limit as Limit;
+ghost use Rattle.words.specs.Small.{Small};
 ghost use Rattle.models.specs.Model.{var, nums, size};
 ghost use Rattle.rules.specs.Parts.{places, members};
 ghost use Rattle.rules.specs.Rule.{rule};
@@ -13,7 +14,7 @@ ghost use Rattle.laying.specs.Part.{blockParts};
 ghost use Rattle.laying.specs.Appends.{Appends, GrowsBy};
 ghost use Rattle.laying.specs.Room.{BlockRoom};
 ghost use Rattle.laying.specs.Sizes.{firstNumbers, blockSize};
-ghost use Rattle.extremes.specs.Bounded.{boundsOf, Bounded};
+ghost use Rattle.extremes.specs.BoundLists.{boundsOf};
 ghost use Rattle.choiceblocks.specs.FrontListed.{FrontListed};
 ghost use Rattle.choiceblocks.specs.Rows.{oneOfParts, extremeBlock, numberElementOf, variableElementOf, setOf, setReifiedOf};
 use crate::rows::lay_choice;
@@ -41,7 +42,7 @@ pub mod rows;
 
 // The lower bound of the variable at place 0.
 pub fn lower_label(args: &[u32], ls: &[i64]) -> i64
-    requires { ⌜ Bounded (now ls) ⌝ }
+    requires { ⌜ Small (now ls) ⌝ }
     ensures { λ r. ⌜ (r ≡ getD (now (ls .entry)) (var (now (args .entry)) 0) +0) × (natAbs r ≤ Limit.half) ⌝ }
 {
     bound_at(ls, var_at(args, 0))
@@ -49,7 +50,7 @@ pub fn lower_label(args: &[u32], ls: &[i64]) -> i64
 
 // How many values its bounds leave.
 pub fn width_at(args: &[u32], ls: &[i64], us: &[i64]) -> usize
-    requires { ⌜ Bounded (now ls) × Bounded (now us) ⌝ }
+    requires { ⌜ Small (now ls) × Small (now us) ⌝ }
     ensures { λ r. ⌜ r ≡ width (boundsOf (now (ls .entry)) (now (us .entry)) (var (now (args .entry)) 0)) ⌝ }
 {
     let upper = bound_at(us, var_at(args, 0));
@@ -58,7 +59,7 @@ pub fn width_at(args: &[u32], ls: &[i64], us: &[i64]) -> usize
 
 // How many places of the list at place 1 it can have as an index.
 pub fn labels(args: &[u32], ls: &[i64], us: &[i64]) -> usize
-    requires { ⌜ Bounded (now ls) × Bounded (now us) ⌝ }
+    requires { ⌜ Small (now ls) × Small (now us) ⌝ }
     ensures { λ r. ⌜ (r ≡ width (places (boundsOf (now (ls .entry)) (now (us .entry)) (var (now (args .entry)) 0)) (size (now (args .entry)) 1))) × (r ≤ Limit.listLength) ⌝ }
 {
     let last = last_place(size_at(args, 1), bound_at(us, var_at(args, 0)));
@@ -67,7 +68,7 @@ pub fn labels(args: &[u32], ls: &[i64], us: &[i64]) -> usize
 
 // Where the element at the first of these places stands.
 pub fn first_element(args: &[u32], ls: &[i64]) -> usize
-    requires { ⌜ Bounded (now ls) ⌝ }
+    requires { ⌜ Small (now ls) ⌝ }
     ensures { λ r. ⌜ (r ≡ 1 + count (maxZ +1 (getD (now (ls .entry)) (var (now (args .entry)) 0) +0))) × (r < 1000000000) ⌝ }
 {
     1 + count_of(first_label(args, ls))
@@ -75,7 +76,7 @@ pub fn first_element(args: &[u32], ls: &[i64]) -> usize
 
 // Puts the members of the set at place 1 that the bounds of the variable at place 0 leave into a list of zeros; how many there are.
 pub fn members_of(args: &[u32], ls: &[i64], us: &[i64], vs: &mut [i64]) -> usize
-    requires { ⌜ Bounded (now us) × (now vs ≡ replicate Limit.listLength +0) ⌝ }
+    requires { ⌜ Small (now us) × (now vs ≡ replicate Limit.listLength +0) ⌝ }
     ensures { λ r. ⌜ FrontListed (members (nums (now (args .entry)) 1) (boundsOf (now (ls .entry)) (now (us .entry)) (var (now (args .entry)) 0))) r (now (vs .exit)) ⌝ }
 {
     let x = var_at(args, 0);
@@ -91,7 +92,7 @@ pub fn array_int_element(
     us: &[i64],
     first: usize,
 ) -> Laid
-    requires { ⌜ BlockRoom s × (first < firstNumbers) × Bounded (now ls) × Bounded (now us) ⌝ }
+    requires { ⌜ BlockRoom s × (first < firstNumbers) × Small (now ls) × Small (now us) ⌝ }
     ensures parts { λ r. let β = boundsOf (now (ls .entry)) (now (us .entry)) in ⌜ Appends s r (now (out .entry)) (now (out .exit)) (blockParts first (rule β (numberElementOf (now (args .entry))))) ⌝ }
     ensures size { λ r. ⌜ GrowsBy blockSize s r ⌝ }
 {
@@ -111,7 +112,7 @@ pub fn array_var_int_element(
     us: &[i64],
     first: usize,
 ) -> Laid
-    requires { ⌜ BlockRoom s × (first < firstNumbers) × Bounded (now ls) × Bounded (now us) ⌝ }
+    requires { ⌜ BlockRoom s × (first < firstNumbers) × Small (now ls) × Small (now us) ⌝ }
     ensures parts { λ r. let β = boundsOf (now (ls .entry)) (now (us .entry)) in ⌜ Appends s r (now (out .entry)) (now (out .exit)) (blockParts first (rule β (variableElementOf (now (args .entry))))) ⌝ }
     ensures size { λ r. ⌜ GrowsBy blockSize s r ⌝ }
 {
@@ -144,7 +145,7 @@ pub fn array_int_extreme(
     first: usize,
     up: bool,
 ) -> Laid
-    requires { ⌜ BlockRoom s × (first < firstNumbers) × Bounded (now ls) × Bounded (now us) ⌝ }
+    requires { ⌜ BlockRoom s × (first < firstNumbers) × Small (now ls) × Small (now us) ⌝ }
     ensures parts { λ r. let β = boundsOf (now (ls .entry)) (now (us .entry)) in ⌜ Appends s r (now (out .entry)) (now (out .exit)) (blockParts first (extremeBlock β up (now (args .entry)))) ⌝ }
     ensures size { λ r. ⌜ GrowsBy blockSize s r ⌝ }
 {
@@ -157,7 +158,7 @@ pub fn array_int_extreme(
 
 // The block of set_in.
 pub fn set_in(out: &mut [u32], s: Laid, args: &[u32], ls: &[i64], us: &[i64], first: usize) -> Laid
-    requires { ⌜ BlockRoom s × (first < firstNumbers) × Bounded (now ls) × Bounded (now us) ⌝ }
+    requires { ⌜ BlockRoom s × (first < firstNumbers) × Small (now ls) × Small (now us) ⌝ }
     ensures parts { λ r. let β = boundsOf (now (ls .entry)) (now (us .entry)) in ⌜ Appends s r (now (out .entry)) (now (out .exit)) (blockParts first (rule β (setOf (now (args .entry))))) ⌝ }
     ensures size { λ r. ⌜ GrowsBy blockSize s r ⌝ }
 {
@@ -178,7 +179,7 @@ pub fn set_in_reif(
     us: &[i64],
     first: usize,
 ) -> Laid
-    requires { ⌜ BlockRoom s × (first < firstNumbers) × Bounded (now ls) × Bounded (now us) × (width (boundsOf (now ls) (now us) (var (now args) 0)) ≤ Limit.setBits) ⌝ }
+    requires { ⌜ BlockRoom s × (first < firstNumbers) × Small (now ls) × Small (now us) × (width (boundsOf (now ls) (now us) (var (now args) 0)) ≤ Limit.setBits) ⌝ }
     ensures parts { λ r. let β = boundsOf (now (ls .entry)) (now (us .entry)) in ⌜ Appends s r (now (out .entry)) (now (out .exit)) (blockParts first (rule β (setReifiedOf (now (args .entry))))) ⌝ }
     ensures size { λ r. ⌜ GrowsBy blockSize s r ⌝ }
 {

@@ -10,11 +10,11 @@ ghost use Rattle.integers.specs.Number.{+0, +1, -1};
 ghost use Rattle.integers.specs.Lists.{all, listOf};
 ghost use Rattle.words.specs.Word.{inRange};
 ghost use Rattle.words.specs.Limit as Limit;
+ghost use Rattle.words.specs.Small.{Small};
 ghost use Rattle.laying.specs.Part.{term, constant, numbersIn};
 ghost use Rattle.laying.specs.Lists.{many, sameAt, labelAt};
 ghost use Rattle.laying.specs.Appends.{Appends, GrowsBy};
 ghost use Rattle.laying.specs.Room.{Room};
-ghost use Rattle.extremes.specs.Bounded.{Bounded};
 ghost use Rattle.choiceblocks.specs.Rows.{zeroAt, numberTermAt, valueAt, memberAt, oneRow, sumRow, choiceRows, gates, gatedRows, laterRow, firstAt};
 use arguments::count_of;
 use arguments::num_at;
@@ -290,7 +290,7 @@ fn lay_later(
     ls: &[i64],
     us: &[i64],
 ) -> Laid
-    requires { ⌜ Room 2000 s × (n ≤ Limit.terms) × (v < 1000000000) × Bounded (now ls) × Bounded (now us) ⌝ }
+    requires { ⌜ Room 2000 s × (n ≤ Limit.terms) × (v < 1000000000) × Small (now ls) × Small (now us) ⌝ }
     ensures { λ r. ⌜ Appends s r (now (out .entry)) (now (out .exit)) (laterRow (now (ls .entry)) (now (us .entry)) x y v n) × GrowsBy 2000 s r ⌝ }
 {
     let p = gap_plus(ls, us, x, y, 1);
@@ -313,7 +313,7 @@ fn lay_later_of(
     ls: &[i64],
     us: &[i64],
 ) -> Laid
-    requires { ⌜ Room 2000 s × (n ≤ Limit.terms) × (v < 1000000000) × Bounded (now ls) × Bounded (now us) ⌝ }
+    requires { ⌜ Room 2000 s × (n ≤ Limit.terms) × (v < 1000000000) × Small (now ls) × Small (now us) ⌝ }
     ensures { λ r. ⌜ Appends s r (now (out .entry)) (now (out .exit)) (laterRow (now (ls .entry)) (now (us .entry)) (x if up else m) (m if up else x) v n) × GrowsBy 2000 s r ⌝ }
 {
     let lesser = first_if(up, x, m);
@@ -334,7 +334,7 @@ pub fn lay_first_only(
     ls: &[i64],
     us: &[i64],
 ) -> Laid
-    requires { ⌜ Room 200000 s × (n ≤ Limit.terms) × (base < 1000000000000) × (v < 100000000) × Bounded (now ls) × Bounded (now us) ⌝ }
+    requires { ⌜ Room 200000 s × (n ≤ Limit.terms) × (base < 1000000000000) × (v < 100000000) × Small (now ls) × Small (now us) ⌝ }
     ensures { λ r. ⌜ Appends s r (now (out .entry)) (now (out .exit)) (many (firstAt (now (ls .entry)) (now (us .entry)) (now (args .entry)) base m up v n) (n - 1)) × GrowsBy 200000 s r ⌝ }
 {
     let mut t = s;

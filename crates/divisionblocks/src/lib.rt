@@ -4,7 +4,7 @@ ghost use Prim.Native.Nat.{_+_, _<_, _≤_};
 ghost use lib.IntN.{natAbs};
 ghost use Rattle.integers.specs.Number.{maxZ, absZ};
 ghost use Rattle.integers.specs.Bounds.{_to_};
-ghost use Rattle.words.specs.Small as Small;
+ghost use Rattle.words.specs.Small.{Near, Small};
 ghost use Rattle.models.specs.Builtin.{int-div, int-mod};
 ghost use Rattle.rules.specs.Division.{M, divisionTable};
 ghost use Rattle.rules.specs.Rule.{rule};
@@ -12,7 +12,7 @@ ghost use Rattle.laying.specs.Part.{blockParts};
 ghost use Rattle.laying.specs.Appends.{Appends, GrowsBy};
 ghost use Rattle.laying.specs.Room.{Room, BlockRoom};
 ghost use Rattle.laying.specs.Sizes.{firstNumbers};
-ghost use Rattle.extremes.specs.Bounded.{boundsOf, Bounded};
+ghost use Rattle.extremes.specs.BoundLists.{boundsOf};
 ghost use Rattle.divisionblocks.specs.Rows.{auxiliaryParts, tableParts, divisionParts};
 use extremes::bound_at;
 use extremes::product_end;
@@ -39,7 +39,7 @@ fn lay_auxiliaries(out: &mut [u32], s: Laid, pl: i64, pu: i64) -> Laid
 
 // The table, by the bounds of n and d and those of p.
 fn table_of(n: usize, d: usize, ls: &[i64], us: &[i64], pl: i64, pu: i64) -> [[i64; 7]; 10]
-    requires { ⌜ Bounded (now ls) × Bounded (now us) × (natAbs pl ≤ 18014398509481984) × (natAbs pu ≤ 18014398509481984) ⌝ }
+    requires { ⌜ Small (now ls) × Small (now us) × (natAbs pl ≤ 18014398509481984) × (natAbs pu ≤ 18014398509481984) ⌝ }
     ensures { λ r. let β = boundsOf (now (ls .entry)) (now (us .entry)) in ⌜ r ≡ divisionTable (β n) (β d) (M (β n) (β d) (pl to pu)) ⌝ }
 {
     let nl = bound_at(ls, n);
@@ -82,7 +82,7 @@ fn lay_division(
     ql: i64,
     qu: i64,
 ) -> Laid
-    requires { ⌜ Room 22000 s × (v < 20000) × Bounded (now ls) × Bounded (now us) × Small.Near ql × Small.Near qu ⌝ }
+    requires { ⌜ Room 22000 s × (v < 20000) × Small (now ls) × Small (now us) × Near ql × Near qu ⌝ }
     ensures { λ r. let β = boundsOf (now (ls .entry)) (now (us .entry)) in ⌜ Appends s r (now (out .entry)) (now (out .exit)) (divisionParts (β n) (β d) (ql to qu) n d q v) × GrowsBy 22000 s r ⌝ }
 {
     let dl = bound_at(ls, d);
@@ -105,7 +105,7 @@ pub fn int_div(
     us: &[i64],
     first: usize,
 ) -> Laid
-    requires { ⌜ BlockRoom s × (first < firstNumbers) × Bounded (now ls) × Bounded (now us) ⌝ }
+    requires { ⌜ BlockRoom s × (first < firstNumbers) × Small (now ls) × Small (now us) ⌝ }
     ensures { λ r. ⌜ Appends s r (now (out .entry)) (now (out .exit)) (blockParts first (rule (boundsOf (now (ls .entry)) (now (us .entry))) (int-div n d q))) × GrowsBy 30000 s r ⌝ }
 {
     let ql = bound_at(ls, q);
@@ -115,8 +115,8 @@ pub fn int_div(
 
 // The larger of two absolute values.
 fn larger_size(l: i64, u: i64) -> i64
-    requires { ⌜ Small.Near l × Small.Near u ⌝ }
-    ensures { λ r. ⌜ (r ≡ maxZ (absZ l) (absZ u)) × Small.Near r ⌝ }
+    requires { ⌜ Near l × Near u ⌝ }
+    ensures { λ r. ⌜ (r ≡ maxZ (absZ l) (absZ u)) × Near r ⌝ }
 {
     largest(largest(l, opposite(l)), largest(u, opposite(u)))
 }
@@ -132,7 +132,7 @@ pub fn int_mod(
     us: &[i64],
     first: usize,
 ) -> Laid
-    requires { ⌜ BlockRoom s × (first < firstNumbers) × Bounded (now ls) × Bounded (now us) ⌝ }
+    requires { ⌜ BlockRoom s × (first < firstNumbers) × Small (now ls) × Small (now us) ⌝ }
     ensures { λ t. ⌜ Appends s t (now (out .entry)) (now (out .exit)) (blockParts first (rule (boundsOf (now (ls .entry)) (now (us .entry))) (int-mod n d r))) × GrowsBy 30000 s t ⌝ }
 {
     let qu = larger_size(bound_at(ls, n), bound_at(us, n));

@@ -5,7 +5,7 @@ ghost use lib.IntN.{natAbs};
 ghost use lib.ListN.{length};
 ghost use Rattle.integers.specs.Number.{_⊖_, neg, maxZ};
 ghost use Rattle.integers.specs.Bounds.{_to_};
-ghost use Rattle.words.specs.Small as Small;
+ghost use Rattle.words.specs.Small.{Near};
 ghost use Rattle.rules.specs.Division.{M, divisionTable};
 ghost use Rattle.laying.specs.Lists.{many};
 ghost use Rattle.laying.specs.Appends.{Appends, GrowsBy};
@@ -21,7 +21,7 @@ use words::kind;
 
 // The larger of p−n and n−p, over the bounds.
 fn apart(nl: i64, nu: i64, pl: i64, pu: i64) -> i64
-    requires { ⌜ Small.Near nl × Small.Near nu × (natAbs pl ≤ 18014398509481984) × (natAbs pu ≤ 18014398509481984) ⌝ }
+    requires { ⌜ Near nl × Near nu × (natAbs pl ≤ 18014398509481984) × (natAbs pu ≤ 18014398509481984) ⌝ }
     ensures { λ r. ⌜ (r ≡ maxZ (pu ⊖ nl) (nu ⊖ pl)) × (natAbs r ≤ 18014398643699712) ⌝ }
 {
     largest(minus(pu, nl), minus(nu, pl))
@@ -29,15 +29,15 @@ fn apart(nl: i64, nu: i64, pl: i64, pu: i64) -> i64
 
 // The larger of −d and d.
 fn either_way(dl: i64, du: i64) -> i64
-    requires { ⌜ Small.Near dl × Small.Near du ⌝ }
-    ensures { λ r. ⌜ (r ≡ maxZ (neg dl) du) × Small.Near r ⌝ }
+    requires { ⌜ Near dl × Near du ⌝ }
+    ensures { λ r. ⌜ (r ≡ maxZ (neg dl) du) × Near r ⌝ }
 {
     largest(opposite(dl), du)
 }
 
 // M: the larger of p−n and n−p, with the larger of −d and d, and 1, added where that is more.
 pub fn m_of(nl: i64, nu: i64, dl: i64, du: i64, pl: i64, pu: i64) -> i64
-    requires { ⌜ Small.Near nl × Small.Near nu × Small.Near dl × Small.Near du × (natAbs pl ≤ 18014398509481984) × (natAbs pu ≤ 18014398509481984) ⌝ }
+    requires { ⌜ Near nl × Near nu × Near dl × Near du × (natAbs pl ≤ 18014398509481984) × (natAbs pu ≤ 18014398509481984) ⌝ }
     ensures { λ r. ⌜ (r ≡ M (nl to nu) (dl to du) (pl to pu)) × (natAbs r < 36028797018963968) ⌝ }
 {
     let a = apart(nl, nu, pl, pu);
@@ -47,7 +47,7 @@ pub fn m_of(nl: i64, nu: i64, dl: i64, du: i64, pl: i64, pu: i64) -> i64
 
 // The coefficients of n, d, p, α, β, γ and the constant of each row.
 pub fn numbers(nl: i64, nu: i64, dl: i64, du: i64, m: i64) -> [[i64; 7]; 10]
-    requires { ⌜ Small.Near nl × Small.Near nu × Small.Near dl × Small.Near du × (natAbs m < 36028797018963968) ⌝ }
+    requires { ⌜ Near nl × Near nu × Near dl × Near du × (natAbs m < 36028797018963968) ⌝ }
     ensures { λ r. ⌜ r ≡ divisionTable (nl to nu) (dl to du) m ⌝ }
 {
     let minus_m = opposite(m);

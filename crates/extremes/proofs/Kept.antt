@@ -15,11 +15,12 @@ use Rattle.integers.specs.declared.Bounds.{Bounds}
 use Rattle.words.specs.Word.{signed, wordAt}
 use Rattle.words.specs.Variables.{variables, startsPair}
 use Rattle.words.specs.Overlay.{overlay}
+use Rattle.words.specs.Small.{Small}
 use Rattle.variables.specs.Start as Start
 use Rattle.variables.specs.Start.{starts}
 use Rattle.variables.proofs.Walk.{at-none, at-one}
 use Rattle.variables.proofs.Small.{bounds-near}
-use Rattle.extremes.specs.Bounded.{boundsOf, Bounded}
+use Rattle.extremes.specs.BoundLists.{boundsOf}
 use Rattle.extremes.specs.Kept.{lowerOf, upperOf}
 
 -- ---- one word more
@@ -144,8 +145,8 @@ module _ (ws : List ℕ) (n : ℕ) (few : length (variables ws) ≤ n) where
   pub kept-bounds : boundsOf (lowersKept ws n) (uppersKept ws n) ≡ boundsIn (variables ws)
   kept-bounds = fun-ext (λ v. ap₂ (λ l u. l to u) (lower-kept v) (upper-kept v))
 
-  pub lowers-bounded : Bounded (lowersKept ws n)
-  lowers-bounded v = rw (lower-kept v) (bounds-near ws v .0)
+  pub lowers-small : Small (lowersKept ws n)
+  lowers-small v = rw (lower-kept v) (bounds-near ws v .0)
 
-  pub uppers-bounded : Bounded (uppersKept ws n)
-  uppers-bounded v = rw (upper-kept v) (bounds-near ws v .1)
+  pub uppers-small : Small (uppersKept ws n)
+  uppers-small v = rw (upper-kept v) (bounds-near ws v .1)

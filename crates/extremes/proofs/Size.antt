@@ -13,8 +13,8 @@ use Rattle.integers.specs.declared.Bounds.{Bounds}
 use Rattle.integers.proofs.Fits.{plus-size, minus-size}
 use Rattle.integers.proofs.Linear.{linear, rep}
 pub use Rattle.words.proofs.Word.{product-size}
+use Rattle.words.specs.Small.{Near, Small}
 use Rattle.rules.specs.Parts.{places}
-use Rattle.extremes.specs.Bounded.{Near, Bounded}
 
 -- one of two
 chosen-size : (t : Bool) (a b : ℤ) {m : ℕ} → natAbs a ≤ m → natAbs b ≤ m → natAbs (a if t else b) ≤ m
@@ -44,7 +44,7 @@ pub places-width : (I : Bounds) (n : ℕ) → width (places I n) ≤ n
 unfolding places width
 places-width I n = rw (rep (I .lower), rep (I .upper)) (simp linear (omega arith))
 
-module _ (ls us : List ℤ) (l : Bounded ls) (u : Bounded us) where
+module _ (ls us : List ℤ) (l : Small ls) (u : Small us) where
   -- differences of bounds
   pub gap-size : (a b : ℕ) → natAbs (getD us a +0 ⊖ getD ls b +0) ≤ 268435456
   gap-size a b = omega (arith, minus-size (getD us a +0) (getD ls b +0), u a, l b)

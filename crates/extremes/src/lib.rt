@@ -8,11 +8,12 @@ ghost use lib.ListN.{length, getD, set};
 ghost use Rattle.integers.specs.Choice.{_if_else_};
 ghost use Rattle.integers.specs.Number.{_⊖_, _⊗_, minZ, maxZ, +0, +1};
 ghost use Rattle.integers.specs.Bounds.{_to_, width};
-ghost use Rattle.extremes.specs.Bounded.{boundsOf, Near, Bounded, withLowers, withUppers, gapPlus};
+ghost use Rattle.extremes.specs.BoundLists.{boundsOf, withLowers, withUppers, gapPlus};
 ghost use Rattle.extremes.specs.Kept.{lowerOf, upperOf};
 ghost use Rattle.words.specs.Variables.{variables};
 ghost use Rattle.words.specs.Overlay.{overlay};
 ghost use Rattle.words.specs.Limit as Limit;
+ghost use Rattle.words.specs.Small.{Near, Small};
 ghost use Rattle.models.specs.Model.{var, nums};
 ghost use Rattle.rules.specs.Parts.{endProducts, halfLess, leastFrom, members};
 use arguments::count_of;
@@ -73,7 +74,7 @@ pub fn product_end(al: i64, au: i64, bl: i64, bu: i64, up: bool) -> i64
 
 // Of the bounds of two variables.
 pub fn end_product(ls: &[i64], us: &[i64], a: usize, b: usize, up: bool) -> i64
-    requires { ⌜ Bounded (now ls) × Bounded (now us) ⌝ }
+    requires { ⌜ Small (now ls) × Small (now us) ⌝ }
     ensures { λ r. let β = boundsOf (now (ls .entry)) (now (us .entry)) in ⌜ r ≡ (endProducts (β a) (β b) .upper if up else endProducts (β a) (β b) .lower) ⌝ }
 {
     product_end(
@@ -87,7 +88,7 @@ pub fn end_product(ls: &[i64], us: &[i64], a: usize, b: usize, up: bool) -> i64
 
 // hi a − lo b
 fn gap(ls: &[i64], us: &[i64], a: usize, b: usize) -> i64
-    requires { ⌜ Bounded (now ls) × Bounded (now us) ⌝ }
+    requires { ⌜ Small (now ls) × Small (now us) ⌝ }
     ensures { λ r. ⌜ r ≡ getD (now (us .entry)) a +0 ⊖ getD (now (ls .entry)) b +0 ⌝ }
 {
     minus(bound_at(us, a), bound_at(ls, b))
@@ -95,7 +96,7 @@ fn gap(ls: &[i64], us: &[i64], a: usize, b: usize) -> i64
 
 // hi a − lo b + d
 pub fn gap_plus(ls: &[i64], us: &[i64], a: usize, b: usize, d: i64) -> i64
-    requires { ⌜ Bounded (now ls) × Bounded (now us) × (natAbs d ≤ 1) ⌝ }
+    requires { ⌜ Small (now ls) × Small (now us) × (natAbs d ≤ 1) ⌝ }
     ensures { λ r. ⌜ r ≡ gapPlus (now (ls .entry)) (now (us .entry)) a b d ⌝ }
 {
     plus(gap(ls, us, a, b), d)
@@ -118,7 +119,7 @@ fn first_place(lower: i64) -> i64
 
 // The first place that the variable at place 0 can have as an index.
 pub fn first_label(args: &[u32], ls: &[i64]) -> i64
-    requires { ⌜ Bounded (now ls) ⌝ }
+    requires { ⌜ Small (now ls) ⌝ }
     ensures { λ r. ⌜ (r ≡ maxZ +1 (getD (now (ls .entry)) (var (now (args .entry)) 0) +0)) × (natAbs r ≤ Limit.half) ⌝ }
 {
     first_place(bound_at(ls, var_at(args, 0)))

@@ -9,9 +9,8 @@ use lib.ListN.{length}
 use Rattle.integers.specs.Terms.{value}
 use Rattle.integers.proofs.Linear.{arithZ}
 use Rattle.words.specs.Word.{inRange}
-use Rattle.words.specs.Small.{Near}
+use Rattle.words.specs.Small.{Near, Small}
 use Rattle.words.proofs.Word.{says-range}
-use Rattle.arguments.specs.Small.{Small}
 use Rattle.models.specs.Model.{Constraint, builtin}
 use Rattle.rules.specs.Shared.{Encoded, choice}
 use Rattle.rules.specs.Translation.{blockOf, picks}
@@ -19,7 +18,7 @@ use Rattle.sharing.specs.SharedSolutions.{Passes, SatisfiesModel}
 use Rattle.sharing.proofs.Theorem.{few-in-all, fill-counts}
 use Rattle.sharing.proofs.Assembly.{picked}
 use Rattle.sharing.proofs.Ranges.{fill-in-range}
-use Rattle.extremes.specs.Bounded.{boundsOf}
+use Rattle.extremes.specs.BoundLists.{boundsOf}
 use Rattle.encodings.specs.Uses.{choiceOf, sharedBy}
 use Rattle.picking.specs.Picked.{Ranged, picksAfter}
 use Rattle.picking.proofs.Writing.{value-ranged, ranged-left, ranged-right}
@@ -33,7 +32,6 @@ module _ (ws : List ℕ) (passes : Passes ws) (vs : List ℤ) (s : SatisfiesMode
   all-ranged = value-ranged _ (fill-in-range ws passes vs s)
 
   pub values-small : Small vs
-  unfolding value
   values-small x = near _ (ranged-left vs (picks ws vs) all-ranged x)
 
   pub picks-ranged : Ranged (picks ws vs)

@@ -2,12 +2,13 @@
 ghost use Prim.Native.Nat.{ℕ, _≤_};
 ghost use lib.IntN.{natAbs};
 ghost use Rattle.integers.specs.declared.Bounds.{Bounds};
+ghost use Rattle.words.specs.Small.{Small};
 ghost use Rattle.models.specs.Builtin.{int-eq, int-ne};
 ghost use Rattle.rules.specs.Rule.{rule, orderReified};
 ghost use Rattle.laying.specs.Part.{blockParts};
 ghost use Rattle.laying.specs.Appends.{Appends, GrowsBy};
 ghost use Rattle.laying.specs.Room.{BlockRoom};
-ghost use Rattle.extremes.specs.Bounded.{boundsOf, Bounded};
+ghost use Rattle.extremes.specs.BoundLists.{boundsOf};
 use crate::rows::two_terms;
 use crate::rows::where_bit;
 use laying::Laid;
@@ -32,7 +33,7 @@ pub fn int_ne(
     us: &[i64],
     first: usize,
 ) -> Laid
-    requires { ⌜ BlockRoom s × Bounded (now ls) × Bounded (now us) ⌝ }
+    requires { ⌜ BlockRoom s × Small (now ls) × Small (now us) ⌝ }
     ensures { λ r. ⌜ Appends s r (now (out .entry)) (now (out .exit)) (blockParts first (rule (boundsOf (now (ls .entry)) (now (us .entry))) (int-ne a b))) × GrowsBy 10000 s r ⌝ }
 {
     let t = lay_bound(out, s, 0, 1);
@@ -52,7 +53,7 @@ pub fn order_reif(
     ls: &[i64],
     us: &[i64],
 ) -> Laid
-    requires { ⌜ BlockRoom s × Bounded (now ls) × Bounded (now us) × (natAbs d ≤ 1) × (natAbs e ≤ 1) ⌝ }
+    requires { ⌜ BlockRoom s × Small (now ls) × Small (now us) × (natAbs d ≤ 1) × (natAbs e ≤ 1) ⌝ }
     ensures { λ q. ⌜ ((first : ℕ) → Appends s q (now (out .entry)) (now (out .exit)) (blockParts first (orderReified (boundsOf (now (ls .entry)) (now (us .entry))) d e a b r))) × GrowsBy 10000 s q ⌝ }
 {
     let t = where_bit(out, s, r, a, b, d, ls, us, true);

@@ -3,13 +3,14 @@ ghost use mathlib.Core.List.{[], _∷_};
 ghost use Prim.Native.Nat.{_<_};
 ghost use lib.ListN.{getD};
 ghost use Rattle.integers.specs.Number.{minZ, maxZ, +0};
+ghost use Rattle.words.specs.Small.{Small};
 ghost use Rattle.models.specs.Builtin.{int-times, int-abs};
 ghost use Rattle.rules.specs.Rule.{rule, touching};
 ghost use Rattle.laying.specs.Part.{bound, blockParts};
 ghost use Rattle.laying.specs.Appends.{Appends, GrowsBy};
 ghost use Rattle.laying.specs.Room.{Room, BlockRoom};
 ghost use Rattle.laying.specs.Sizes.{firstNumbers};
-ghost use Rattle.extremes.specs.Bounded.{boundsOf, Bounded};
+ghost use Rattle.extremes.specs.BoundLists.{boundsOf};
 use crate::rows::three_terms;
 use crate::rows::two_terms;
 use crate::rows::where_bit;
@@ -35,7 +36,7 @@ pub fn int_times(
     us: &[i64],
     first: usize,
 ) -> Laid
-    requires { ⌜ BlockRoom s × Bounded (now ls) × Bounded (now us) ⌝ }
+    requires { ⌜ BlockRoom s × Small (now ls) × Small (now us) ⌝ }
     ensures { λ r. ⌜ Appends s r (now (out .entry)) (now (out .exit)) (blockParts first (rule (boundsOf (now (ls .entry)) (now (us .entry))) (int-times a b c))) × GrowsBy 10000 s r ⌝ }
 {
     let lower = end_product(ls, us, a, b, false);
@@ -65,7 +66,7 @@ pub fn int_abs(
     us: &[i64],
     first: usize,
 ) -> Laid
-    requires { ⌜ BlockRoom s × (first < firstNumbers) × Bounded (now us) ⌝ }
+    requires { ⌜ BlockRoom s × (first < firstNumbers) × Small (now us) ⌝ }
     ensures { λ r. ⌜ Appends s r (now (out .entry)) (now (out .exit)) (blockParts first (rule (boundsOf (now (ls .entry)) (now (us .entry))) (int-abs x y))) × GrowsBy 10000 s r ⌝ }
 {
     let t = lay_bound(out, s, 0, 1);
@@ -91,7 +92,7 @@ pub fn touching(
     us: &[i64],
     first: usize,
 ) -> Laid
-    requires { ⌜ BlockRoom s × Bounded (now ls) × Bounded (now us) ⌝ }
+    requires { ⌜ BlockRoom s × Small (now ls) × Small (now us) ⌝ }
     ensures { λ r. ⌜ Appends s r (now (out .entry)) (now (out .exit)) (blockParts first (touching (boundsOf (now (ls .entry)) (now (us .entry))) x y u v)) × GrowsBy 20000 s r ⌝ }
 {
     let bit = lay_bound(out, s, 0, 1);

@@ -3,10 +3,11 @@ ghost use mathlib.Core.List.{[], _∷_};
 ghost use Prim.Native.Nat.{_<_, _≤_};
 ghost use lib.IntN.{natAbs};
 ghost use Rattle.integers.specs.Number.{+1};
+ghost use Rattle.words.specs.Small.{Small};
 ghost use Rattle.laying.specs.Lists.{rowPartsOf};
 ghost use Rattle.laying.specs.Appends.{Appends, GrowsBy};
 ghost use Rattle.laying.specs.Room.{Room};
-ghost use Rattle.extremes.specs.Bounded.{Bounded, gapPlus};
+ghost use Rattle.extremes.specs.BoundLists.{gapPlus};
 ghost use Rattle.fixedblocks.specs.Rows.{whereRow};
 use extremes::gap_plus;
 use integers::minus;
@@ -57,7 +58,7 @@ pub fn where_bit(
     us: &[i64],
     one: bool,
 ) -> Laid
-    requires { ⌜ Room 2000 s × Bounded (now ls) × Bounded (now us) × (natAbs d ≤ 1) ⌝ }
+    requires { ⌜ Room 2000 s × Small (now ls) × Small (now us) × (natAbs d ≤ 1) ⌝ }
     ensures { λ r. let P = gapPlus (now (ls .entry)) (now (us .entry)) x y d in ⌜ Appends s r (now (out .entry)) (now (out .exit)) (whereRow one x y z P d) ⌝ }
     ensures size { λ r. ⌜ GrowsBy 2000 s r ⌝ }
 {

@@ -10,7 +10,8 @@ use lib.Seq.{getD-set-same, getD-set-other}
 use Rattle.integers.specs.Number.{+0}
 use Rattle.integers.specs.Bounds.{_to_, boundsIn}
 use Rattle.integers.specs.declared.Bounds.{Bounds}
-use Rattle.extremes.specs.Bounded.{boundsOf, Bounded}
+use Rattle.words.specs.Small.{Small}
+use Rattle.extremes.specs.BoundLists.{boundsOf}
 use Rattle.linearsums.specs.Places.{BoundsNear, NoneFrom}
 
 abbrev none : Bounds
@@ -49,7 +50,7 @@ module _ {ls us : List ℤ} {Bs : List Bounds} {v : ℕ} (f : Filling ls us Bs v
   done n h rest = fun-ext (λ j. ⊎-elim (λ below. f .filled j below) (λ from. f .left j from ∙ sym (rest j (omega arith))) (below-or-from j v))
 
 -- records are near 0 where the lists are
-pub records-near : (Bs : List Bounds) (ls us : List ℤ) → boundsIn Bs ≡ boundsOf ls us → Bounded ls → Bounded us → BoundsNear Bs
+pub records-near : (Bs : List Bounds) (ls us : List ℤ) → boundsIn Bs ≡ boundsOf ls us → Small ls → Small us → BoundsNear Bs
 records-near Bs ls us e l u v = rw e (l v, u v)
 
 -- past the last record of a list there is none; so it is with bounds that are the list's

@@ -11,11 +11,11 @@ use Rattle.integers.specs.Bounds.{_to_, boundsIn}
 use Rattle.integers.specs.Lists.{listOf}
 use Rattle.integers.specs.Terms.{Term, _·_}
 use Rattle.integers.specs.declared.Bounds.{Bounds}
-use Rattle.words.specs.Small.{Near}
+use Rattle.words.specs.Small.{Near, Small}
 use Rattle.words.specs.Word.{payload, wordAt}
 use Rattle.models.specs.Model.{var, num, size, past, pastTerms}
 use Rattle.rules.specs.Parts.{L, U}
-use Rattle.extremes.specs.Bounded.{boundsOf, Bounded}
+use Rattle.extremes.specs.BoundLists.{boundsOf}
 use Rattle.linearsums.specs.Sum.{noSum, ofTerms, ofTwo, formOf}
 
 module _ (ws : List ℕ) where
@@ -103,7 +103,7 @@ Summable ws hs n ls us v lows highs =
     × HeadsInside ws hs n
     × (v ≤ 256)
     × NoneFrom (boundsOf ls us) v
-    × Bounded ls
-    × Bounded us
+    × Small ls
+    × Small us
     × (length lows ≡ 256)
     × (length highs ≡ 256)

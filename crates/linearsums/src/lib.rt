@@ -7,7 +7,7 @@ ghost use Rattle.integers.specs.Choice.{_if_else_};
 ghost use Rattle.integers.specs.Number.{_⊕_, _⊖_, _⊗_, minZ, maxZ, +0};
 ghost use Rattle.integers.specs.Bounds.{_to_, boundsIn};
 ghost use Rattle.words.specs.Small.{Near};
-ghost use Rattle.extremes.specs.Bounded.{boundsOf};
+ghost use Rattle.extremes.specs.BoundLists.{boundsOf};
 ghost use Rattle.linearsums.specs.Sum.{formOf};
 ghost use Rattle.linearsums.specs.Places.{codeBefore, formBefore, sumSize, sumNumber, sumVariable, sumConstant, sumBounds, withTerm, BoundsNear, NoneFrom, sumsUpTo, SumsKept, Keepable, Summable};
 use arguments::num_at;

@@ -17,7 +17,7 @@ use Rattle.models.specs.Table.{Code, codes}
 use Rattle.models.specs.Model.{builtin, builtins}
 use Rattle.models.proofs.Codes.{makeOf}
 use Rattle.rules.specs.Pick.{pick}
-use Rattle.extremes.specs.Bounded.{boundsOf}
+use Rattle.extremes.specs.BoundLists.{boundsOf}
 use Rattle.picking.specs.Picked.{picksOf}
 
 -- a code is none of the keys, which are listed from the last to the first: what a match tells its default

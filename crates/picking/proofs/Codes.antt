@@ -14,13 +14,14 @@ use Rattle.integers.specs.Bounds.{_to_, width, values}
 use Rattle.integers.specs.Terms.{_·_, value, sum}
 use Rattle.integers.proofs.Linear.{_⊑_, linear, rep}
 use Rattle.integers.proofs.Tests.{says-equal}
+use Rattle.words.specs.Small.{Small}
 use Rattle.models.specs.Model.{var, size, vars, nums, builtin, builtins}
 use Rattle.arguments.proofs.Walk.{length-listOf, getD-listOf}
 use Rattle.rules.specs.Parts.{nth, places}
 use Rattle.rules.specs.Pick.{pick, firstBit, gatedPick}
 use Rattle.rules.proofs.Members.{places-kept}
 use Rattle.rules.specs.Shared.{Encoded, firstOf, newPick}
-use Rattle.extremes.specs.Bounded.{boundsOf, Bounded}
+use Rattle.extremes.specs.BoundLists.{boundsOf}
 use Rattle.extremes.proofs.Size.{width-size}
 use Rattle.picking.specs.Picked.{picksOf, productPicks}
 use Rattle.picking.specs.Only.{onlyAt, FirstAt}
@@ -119,12 +120,12 @@ module _ (ls us vs : List ℤ) (ws : List ℕ) where
       ∙ ap₂ (λ a b. a ++ b) (sym (element-picks ∙ label-bits firstLabel lastLabel (value vs (var ws 0)) (p .0) (p .1))) (sym (product-picks (p .0) (p .1)))
 
   -- how many bits 24 has, and how many are new where its variable is shared
-  pub element-length : Bounded ls → Bounded us → length (picksOf ls us vs 24 ws) ≤ 268435457
+  pub element-length : Small ls → Small us → length (picksOf ls us vs 24 ws) ≤ 268435457
   element-length l u =
       let n = labels-near ls us ws l u in
       omega (arith, ap length element-picks, bits-length firstLabel lastLabel (value vs (var ws 0)), width-size firstLabel lastLabel (n .0) (n .1))
 
-  pub new-length : (e : Encoded) → Bounded ls → Bounded us → length (newPick (boundsOf ls us) e (value vs) (var ws 0)) ≤ 268435457
+  pub new-length : (e : Encoded) → Small ls → Small us → length (newPick (boundsOf ls us) e (value vs) (var ws 0)) ≤ 268435457
   unfolding newPick
   new-length e l u = go (eqb (firstOf e (var ws 0)) 0)
     where

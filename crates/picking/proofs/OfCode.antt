@@ -3,10 +3,10 @@ use mathlib.Core.List.{List, []}
 use Prim.Native.Nat.{ℕ}
 use native.Mathlib.Omega.{arith}
 use lib.IntN.{ℤ}
-use Rattle.extremes.specs.Bounded.{Bounded}
+use Rattle.words.specs.Small.{Small}
 use Rattle.picking.specs.Picked.{Pickable}
 
-no-bounds : Bounded []
+no-bounds : Small []
 no-bounds x = omega arith
 
 pub plainly : {at : ℕ} {ls us vs ps : List ℤ} → Pickable at ls us vs ps → Pickable at [] [] vs ps

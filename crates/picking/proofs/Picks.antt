@@ -17,7 +17,7 @@ use Rattle.rules.specs.Shared.{Encoded, noneYet, choice, encodes, encodedAfter,
 use Rattle.rules.specs.Translation.{bounds, shared, blockOf, eachBlock, picks}
 use Rattle.encodings.specs.Uses.{choiceOf, sharedBy}
 use Rattle.encodings.proofs.Record.{none-many, length-after}
-use Rattle.extremes.specs.Bounded.{boundsOf}
+use Rattle.extremes.specs.BoundLists.{boundsOf}
 use Rattle.picking.specs.Picked.{Ranged, picksAfter}
 use Rattle.picking.proofs.Writing.{ranged-left, ranged-right}
 

@@ -14,7 +14,7 @@ use Rattle.integers.proofs.Linear.{linear}
 use Rattle.integers.proofs.Tests.{In}
 use Rattle.integers.proofs.Fits.{fits64}
 use Rattle.words.specs.Limit as Limit
-use Rattle.words.specs.Small as Small
+use Rattle.words.specs.Small.{Near}
 use Rattle.words.proofs.Word.{says-range}
 use Rattle.words.specs.Word.{inRange}
 use Rattle.words.specs.LaidAt.{LaidAt}
@@ -28,13 +28,13 @@ use Rattle.picking.specs.declared.Powered.{Powered}
 use Rattle.picking.proofs.Writing.{ranged-left, ranged-right}
 
 -- a number of the range is near 0, and one near 0 is read back
-pub range-near : (v : ℤ) → inRange v ≡ true → Small.Near v
+pub range-near : (v : ℤ) → inRange v ≡ true → Near v
 range-near v e = core v (says-range v .0 e)
   where
-    core : (v : ℤ) → In Limit.range v → Small.Near v
+    core : (v : ℤ) → In Limit.range v → Near v
     core = simp linear (omega arith)
 
-pub near-back : (v : ℤ) → Small.Near v → toZ w64 (ofZ w64 v) ≡ v
+pub near-back : (v : ℤ) → Near v → toZ w64 (ofZ w64 v) ≡ v
 near-back v h = toZ-ofZ (fits64 v (omega arith))
 
 -- ---- one product more
@@ -50,7 +50,7 @@ next-put {at} {p} {r} {o} {o₁} {o₂} {v} f h e n =
       few = omega (arith, h .few, n .picked .ends);
     }
 
-pub powers-one : (at : ℕ) (o : List ℤ) (x : ℤ) (k : ℕ) → k < 2 → Small.Near x → PowersPut at (record { at = at; held = x }) o o (powerValues x k) (20 * k)
+pub powers-one : (at : ℕ) (o : List ℤ) (x : ℤ) (k : ℕ) → k < 2 → Near x → PowersPut at (record { at = at; held = x }) o o (powerValues x k) (20 * k)
 unfolding powerValues noValue
 powers-one at o x k l h =
     subst (λ v. PowersPut at (record { at = at; held = x }) o o v (20 * k)) (sym (at-one (noValue x) (squaredValue x) (multipliedValue x) k (omega arith)))

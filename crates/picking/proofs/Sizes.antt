@@ -8,15 +8,15 @@ use Rattle.integers.specs.Number.{_⊗_, minZ, maxZ, count, +0, +1}
 use Rattle.integers.specs.Lists.{listOf}
 use Rattle.integers.specs.Terms.{Term, value, sum}
 use Rattle.integers.proofs.Fits.{plus-size}
+use Rattle.words.specs.Small.{Near, Small}
 use Rattle.models.specs.Model.{var, size, past, terms}
-use Rattle.arguments.specs.Small.{Small}
 use Rattle.arguments.proofs.Size.{size-le, product-size}
 use Rattle.rules.specs.Parts.{places}
-use Rattle.extremes.specs.Bounded.{boundsOf, Near, Bounded}
+use Rattle.extremes.specs.BoundLists.{boundsOf}
 use Rattle.extremes.proofs.Size.{places-near}
 
 -- the first and the last label of 24 and 25
-pub labels-near : (ls us : List ℤ) (ws : List ℕ) → Bounded ls → Bounded us →
+pub labels-near : (ls us : List ℤ) (ws : List ℕ) → Small ls → Small us →
     Near (maxZ +1 (getD ls (var ws 0) +0)) × Near (minZ (pos (size ws 1)) (getD us (var ws 0) +0))
 unfolding places
 labels-near ls us ws l u = places-near (boundsOf ls us (var ws 0)) (size ws 1) (size-le ws 1) (l (var ws 0)) (u (var ws 0))

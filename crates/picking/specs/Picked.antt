@@ -10,13 +10,13 @@ use Rattle.integers.specs.Bounds.{_to_, within, values}
 use Rattle.integers.specs.Terms.{value}
 use Rattle.words.specs.Word.{inRange}
 use Rattle.words.specs.LaidAt.{LaidAt}
+use Rattle.words.specs.Small.{Small}
 use Rattle.models.specs.Model.{var, vars, builtin}
-use Rattle.arguments.specs.Small.{Small}
 use Rattle.rules.specs.Parts.{nth}
 use Rattle.rules.specs.Pick.{bitOf, pick}
 use Rattle.rules.specs.Shared.{Encoded, keep, newPick, sharedPick, pickAfter}
 use Rattle.encodings.specs.Uses.{choiceOf, sharedBy}
-use Rattle.extremes.specs.Bounded.{boundsOf, Bounded}
+use Rattle.extremes.specs.BoundLists.{boundsOf}
 
 -- n places more do not wrap
 abbrev pub RoomAt : ℕ → ℕ → Type 0
@@ -60,7 +60,7 @@ sharedPicks ls us e vs code args = sharedPick (boundsOf ls us) e (value vs) (cho
 -- what writing them wants: a place that does not wrap, bounds and values near 0, and numbers of the range
 pub record Pickable (at : ℕ) (ls us vs ps : List ℤ) : Type 0 where
   pub place : at < 1099511627776
-  pub lowers : Bounded ls
-  pub uppers : Bounded us
+  pub lowers : Small ls
+  pub uppers : Small us
   pub small : Small vs
   pub ranged : Ranged ps

@@ -13,11 +13,10 @@ ghost use Rattle.integers.specs.Terms.{value, sum};
 ghost use Rattle.words.specs.Word.{inRange};
 ghost use Rattle.words.specs.Limit as Limit;
 ghost use Rattle.words.specs.LaidAt.{LaidAt};
+ghost use Rattle.words.specs.Small.{Near, Small};
 ghost use Rattle.models.specs.Model.{var, num, size, terms, pastTerms};
-ghost use Rattle.arguments.specs.Small.{Small};
 ghost use Rattle.rules.specs.Pick.{signPick, signedPick, firstBit, divisionPick};
 ghost use Rattle.rules.specs.Power.{powerValues};
-ghost use Rattle.extremes.specs.Bounded.{Near, Bounded};
 ghost use Rattle.picking.specs.Picked.{Ranged, RoomAt, Pickable, picksOf, plainPicks, productPicks, newPicks, sharedPicks, picksAfter, PickedOver};
 ghost use Rattle.picking.specs.Powered.{NextPower, PowersPut};
 ghost use Rattle.picking.specs.Only.{onlyAt, FirstAt};
@@ -227,7 +226,7 @@ fn pick_element(
     us: &[i64],
     values: &[i32],
 ) -> usize
-    requires { ⌜ RoomAt 1000000000 at × Bounded (now ls) × Bounded (now us) × Small (now values) ⌝ }
+    requires { ⌜ RoomAt 1000000000 at × Small (now ls) × Small (now us) × Small (now values) ⌝ }
     ensures { λ r. ⌜ LaidAt (now (out .entry)) at (picksOf (now (ls .entry)) (now (us .entry)) (now (values .entry)) 24 (now (args .entry))) (now (out .exit)) r ⌝ }
 {
     put_labels(
@@ -248,7 +247,7 @@ fn pick_products(
     us: &[i64],
     values: &[i32],
 ) -> usize
-    requires { ⌜ RoomAt 1000000000 at × Bounded (now ls) × Bounded (now us) × Small (now values) × Ranged (productPicks (now ls) (now us) (now values) (now args)) ⌝ }
+    requires { ⌜ RoomAt 1000000000 at × Small (now ls) × Small (now us) × Small (now values) × Ranged (productPicks (now ls) (now us) (now values) (now args)) ⌝ }
     ensures { λ r. ⌜ LaidAt (now (out .entry)) at (productPicks (now (ls .entry)) (now (us .entry)) (now (values .entry)) (now (args .entry))) (now (out .exit)) r ⌝ }
 {
     let first = first_label(args, ls);
@@ -306,7 +305,7 @@ fn pick_member(
     us: &[i64],
     values: &[i32],
 ) -> usize
-    requires { ⌜ RoomAt 1000000000 at × Bounded (now us) ⌝ }
+    requires { ⌜ RoomAt 1000000000 at × Small (now us) ⌝ }
     ensures { λ r. ⌜ LaidAt (now (out .entry)) at (picksOf (now (ls .entry)) (now (us .entry)) (now (values .entry)) 27 (now (args .entry))) (now (out .exit)) r ⌝ }
 {
     let x = var_at(args, 0);
@@ -325,7 +324,7 @@ fn pick_set_reif(
     us: &[i64],
     values: &[i32],
 ) -> usize
-    requires { ⌜ RoomAt 1000000000 at × Bounded (now ls) × Bounded (now us) × Small (now values) ⌝ }
+    requires { ⌜ RoomAt 1000000000 at × Small (now ls) × Small (now us) × Small (now values) ⌝ }
     ensures { λ r. ⌜ LaidAt (now (out .entry)) at (picksOf (now (ls .entry)) (now (us .entry)) (now (values .entry)) 28 (now (args .entry))) (now (out .exit)) r ⌝ }
 {
     let x = var_at(args, 0);
@@ -491,7 +490,7 @@ fn pick_new_bits(
     encoded: &[usize],
     values: &[i32],
 ) -> usize
-    requires { ⌜ RoomAt 1000000000 at × Bounded (now ls) × Bounded (now us) × Small (now values) ⌝ }
+    requires { ⌜ RoomAt 1000000000 at × Small (now ls) × Small (now us) × Small (now values) ⌝ }
     ensures { λ r. ⌜ LaidAt (now (out .entry)) at (newPicks (now (ls .entry)) (now (us .entry)) (now (encoded .entry)) (now (values .entry)) (now (args .entry))) (now (out .exit)) r ⌝ }
 {
     if entry_of(encoded, var_at(args, 0)) == 0 {

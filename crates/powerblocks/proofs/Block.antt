@@ -6,7 +6,7 @@ use native.Mathlib.Omega.{arith}
 use Rattle.integers.specs.Number.{+0, +1, -1}
 use Rattle.integers.specs.declared.Bounds.{Bounds}
 use Rattle.words.specs.Kind as Kind
-use Rattle.words.specs.Small as Small
+use Rattle.words.specs.Small.{Near}
 use Rattle.rules.specs.Block.{Ref, source, numbered}
 use Rattle.rules.specs.Parts.{_─_=0}
 use Rattle.rules.specs.Power.{chain}
@@ -39,7 +39,7 @@ module _ (first : ℕ) (β : ℕ → Bounds) (x : ℕ) where
       (flatMap-append (rowParts first) (c .products) ((c .result ─ source z =0) ∷ []) ∙ ap (λ l. flatMap (rowParts first) (c .products) ++ l) (sym (last-row (c .result) z)))
 
   -- with the bounds cut
-  pub power-alike : (k z held : ℕ) → 1 ≤ k → Small.Near (β x .lower) → Small.Near (β x .upper) → let c = chain (β x) x k in held ≡ numbered first (c .result) →
+  pub power-alike : (k z held : ℕ) → 1 ≤ k → Near (β x .lower) → Near (β x .upper) → let c = chain (β x) x k in held ≡ numbered first (c .result) →
       Alike (blockParts first (powered β x k z))
       (boundParts (cutRanges (β x) k .auxiliaries) ++ (flatMap (rowParts first) (c .products) ++ rowPartsOf Kind.equal (held ∷ z ∷ []) (+1 ∷ -1 ∷ []) +0))
   power-alike zero z held l h i e = absurd (omega arith)

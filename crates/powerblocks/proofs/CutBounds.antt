@@ -19,7 +19,7 @@ use Rattle.integers.proofs.Tests.{In, says-within}
 use Rattle.integers.proofs.Fits.{fits64}
 use Rattle.integers.proofs.Cut.{cut-inside, cut-product, cut-min, cut-max, cut-size, same-test}
 use Rattle.words.specs.Limit as Limit
-use Rattle.words.specs.Small as Small
+use Rattle.words.specs.Small.{Near}
 use Rattle.words.specs.Word.{inRange}
 use Rattle.rules.specs.Parts.{endProducts}
 use Rattle.rules.specs.Power.{Chain, next, noProduct, squared, multiplied, chain}
@@ -32,11 +32,11 @@ use Rattle.powerblocks.specs.Cut.{pastRange, cutBounds, Ranges, cutNext,
 from-one : +1 ⊑ pastRange
 from-one = omega arithZ
 
-pub near-cut : (v : ℤ) → Small.Near (cut pastRange v)
+pub near-cut : (v : ℤ) → Near (cut pastRange v)
 near-cut v = cut-size pastRange v from-one
 
 -- what is read back of a number near 0
-pub near-back : (v : ℤ) → Small.Near v → toZ w64 (ofZ w64 v) ≡ v
+pub near-back : (v : ℤ) → Near v → toZ w64 (ofZ w64 v) ≡ v
 near-back v h = toZ-ofZ (fits64 v (omega arith))
 
 -- ---- the range
@@ -54,13 +54,13 @@ range-not-cut v e = let k = wider v (says-within Limit.range v .0 e) in cut-insi
     wider : (v : ℤ) → In Limit.range v → (neg pastRange ⊑ v) × (v ⊑ pastRange)
     wider = simp linear (omega arith)
 
-pub near-not-cut : (B : Bounds) → Small.Near (B .lower) → Small.Near (B .upper) → B ≡ cutBounds B
+pub near-not-cut : (B : Bounds) → Near (B .lower) → Near (B .upper) → B ≡ cutBounds B
 near-not-cut B h k = sym (ap₂ (λ l u. l to u) (one (B .lower) h) (one (B .upper) k))
   where
-    inside : (v : ℤ) → Small.Near v → (neg pastRange ⊑ v) × (v ⊑ pastRange)
+    inside : (v : ℤ) → Near v → (neg pastRange ⊑ v) × (v ⊑ pastRange)
     inside = simp linear (omega arith)
 
-    one : (v : ℤ) → Small.Near v → cut pastRange v ≡ v
+    one : (v : ℤ) → Near v → cut pastRange v ≡ v
     one v h = let k = inside v h in cut-inside pastRange v (k .0) (k .1)
 
 -- ---- end products

@@ -7,7 +7,7 @@ use lib.IntN.{ℤ}
 use lib.ListN.{length, length-append}
 use Rattle.integers.specs.Bounds.{_to_}
 use Rattle.integers.specs.declared.Bounds.{Bounds}
-use Rattle.words.specs.Small as Small
+use Rattle.words.specs.Small.{Near}
 use Rattle.rowsystems.specs.Row.{product}
 use Rattle.rules.specs.Block.{Ref, source, aux, numbered}
 use Rattle.rules.specs.Parts.{endProducts}
@@ -38,7 +38,7 @@ next-ranges {s} {p} {r} {c = c} B h e n =
       size = omega (arith, h .size, n .size);
     }
 
-pub ranges-one : (s : Laid) (o : List ℕ) (l u : ℤ) (k : ℕ) → k < 2 → Small.Near l → Small.Near u →
+pub ranges-one : (s : Laid) (o : List ℕ) (l u : ℤ) (k : ℕ) → k < 2 → Near l → Near u →
     RangesLaid s (record { laid = s; lower = l; upper = u }) o o (cutRanges (l to u) k) (20 * k)
 unfolding cutRanges noRange boundParts
 ranges-one s o l u k i h j =

@@ -5,7 +5,7 @@ use Prim.Native.Nat.{ℕ, _+_, _≤_}
 use lib.ListN.{length}
 use Rattle.integers.specs.Bounds.{_to_}
 use Rattle.integers.specs.declared.Bounds.{Bounds}
-use Rattle.words.specs.Small as Small
+use Rattle.words.specs.Small.{Near}
 use Rattle.rules.specs.Block.{numbered}
 use Rattle.rules.specs.Parts.{endProducts}
 use Rattle.rules.specs.Power.{Chain, chain}
@@ -20,8 +20,8 @@ use Rattle.powerblocks.specs.declared.Multiplied.{Multiplied}
 pub record NextRange (p r : PowerBounds) (out out′ : List ℕ) (B : Bounds) : Type 0 where
   pub went : Appends (p .laid) (r .laid) out out′ (bound (r .lower) (r .upper) ∷ [])
   pub range : (r .lower to r .upper) ≡ cutBounds (endProducts B (p .lower to p .upper))
-  pub lower-near : Small.Near (r .lower)
-  pub upper-near : Small.Near (r .upper)
+  pub lower-near : Near (r .lower)
+  pub upper-near : Near (r .upper)
   pub size : GrowsBy 10 (p .laid) (r .laid)
 
 pub record NextProduct (p r : Multiplied) (out out′ : List ℕ) (factor : ℕ) : Type 0 where
@@ -34,8 +34,8 @@ pub record NextProduct (p r : Multiplied) (out out′ : List ℕ) (factor : ℕ)
 pub record RangesLaid (s : Laid) (r : PowerBounds) (out out′ : List ℕ) (c : Ranges) (most : ℕ) : Type 0 where
   pub went : Appends s (r .laid) out out′ (boundParts (c .auxiliaries))
   pub range : (r .lower to r .upper) ≡ c .range
-  pub lower-near : Small.Near (r .lower)
-  pub upper-near : Small.Near (r .upper)
+  pub lower-near : Near (r .lower)
+  pub upper-near : Near (r .upper)
   pub size : GrowsBy most s (r .laid)
 
 -- products of a chain, whose auxiliaries are numbered from `first` on

@@ -1,7 +1,7 @@
 // The block of int_pow: a chain of squares and products, by recursion on the exponent, which halves until it is 1.
 ghost use Prim.Native.Nat.{_+_, _*_, _<_, _≤_};
 ghost use Rattle.integers.specs.Bounds.{_to_};
-ghost use Rattle.words.specs.Small as Small;
+ghost use Rattle.words.specs.Small.{Near, Small};
 ghost use Rattle.words.specs.Limit as Limit;
 ghost use Rattle.models.specs.Builtin.{int-pow};
 ghost use Rattle.rules.specs.Rule.{rule};
@@ -9,7 +9,7 @@ ghost use Rattle.laying.specs.Part.{blockParts};
 ghost use Rattle.laying.specs.Appends.{AppendsFitting, GrowsBy};
 ghost use Rattle.laying.specs.Room.{Room, BlockRoom};
 ghost use Rattle.laying.specs.Sizes.{firstNumbers};
-ghost use Rattle.extremes.specs.Bounded.{boundsOf, Bounded};
+ghost use Rattle.extremes.specs.BoundLists.{boundsOf};
 ghost use Rattle.powerblocks.specs.Cut.{cutRanges};
 ghost use Rattle.powerblocks.specs.Chained.{NextRange, RangesLaid, NextProduct, PowerLaid};
 use extremes::bound_at;
@@ -40,7 +40,7 @@ pub struct Multiplied {
 
 // The bounds of one more product: of a factor within bounds and the power.
 fn next_range(out: &mut [u32], p: PowerBounds, lower: i64, upper: i64) -> PowerBounds
-    requires { ⌜ Room 10 (p .laid) × Small.Near (p .lower) × Small.Near (p .upper) × Small.Near lower × Small.Near upper ⌝ }
+    requires { ⌜ Room 10 (p .laid) × Near (p .lower) × Near (p .upper) × Near lower × Near upper ⌝ }
     ensures { λ r. ⌜ NextRange p r (now (out .entry)) (now (out .exit)) (lower to upper) ⌝ }
 {
     let l = cut_to(PAST, product_end(lower, upper, p.lower, p.upper, false));
@@ -54,7 +54,7 @@ fn next_range(out: &mut [u32], p: PowerBounds, lower: i64, upper: i64) -> PowerB
 
 // The bounds of the products of a power from 1 on, of a variable within bounds.
 fn lay_ranges(out: &mut [u32], s: Laid, k: usize, lower: i64, upper: i64) -> PowerBounds
-    requires { ⌜ Room (20 * k) s × (1 ≤ k) × (k ≤ Limit.exponent) × Small.Near lower × Small.Near upper ⌝ }
+    requires { ⌜ Room (20 * k) s × (1 ≤ k) × (k ≤ Limit.exponent) × Near lower × Near upper ⌝ }
     ensures { λ r. ⌜ RangesLaid s r (now (out .entry)) (now (out .exit)) (cutRanges (lower to upper) k) (20 * k) ⌝ }
 {
     if k < 2 {
@@ -116,7 +116,7 @@ pub fn int_pow(
     us: &[i64],
     first: usize,
 ) -> Laid
-    requires { ⌜ BlockRoom s × (first < firstNumbers) × (k ≤ Limit.exponent) × Bounded (now ls) × Bounded (now us) ⌝ }
+    requires { ⌜ BlockRoom s × (first < firstNumbers) × (k ≤ Limit.exponent) × Small (now ls) × Small (now us) ⌝ }
     ensures { λ r. let β = boundsOf (now (ls .entry)) (now (us .entry)) in ⌜ AppendsFitting s r (now (out .entry)) (now (out .exit)) (blockParts first (rule β (int-pow x k z))) × GrowsBy 30000 s r ⌝ }
 {
     if k == 0 {

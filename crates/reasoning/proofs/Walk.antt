@@ -29,7 +29,7 @@ use Rattle.rules.specs.Block.{numbered}
 use Rattle.rules.specs.Shared.{Encoded, noneYet, choice, encodes, encodedAfter}
 use Rattle.rules.specs.Translation.{bounds, shared, blockOf, eachBlock, auxiliaries}
 use Rattle.rules.specs.Check.{tooWide}
-use Rattle.extremes.specs.Bounded.{boundsOf}
+use Rattle.extremes.specs.BoundLists.{boundsOf}
 use Rattle.encodings.specs.Uses.{sharedBy, Recorded}
 use Rattle.encodings.proofs.Record.{recorded-none, recorded-after, none-many, length-after}
 use Rattle.sharing.specs.SharedSolutions.{Passes}
@@ -236,7 +236,6 @@ module _ {ws hs : List ℕ} {r : Read} {ls us : List ℤ} {uses : List ℕ} {low
   sources-length = sym (length-take-le (r .variables) vs enough-values)
 
   pub sources-small : Small vs → Small (take (r .variables) vs)
-  unfolding value
   sources-small h x = go (ltb x (r .variables)) refl
     where
       n : ℕ

@@ -33,7 +33,7 @@ use Rattle.sharing.specs.SharedSolutions.{Passes}
 use Rattle.reasons.specs.Reason.{none, explained, inBlock, firstFailing}
 use Rattle.laying.specs.Sizes.{blockSize}
 use Rattle.laying.specs.declared.Laid.{Laid}
-use Rattle.extremes.specs.Bounded.{boundsOf, Bounded}
+use Rattle.extremes.specs.BoundLists.{boundsOf}
 use Rattle.linearsums.specs.Sum.{Summed}
 use Rattle.encodings.specs.Uses.{sharedBy, Recorded}
 use Rattle.blocks.specs.Coded.{constraintOf, blockAt}
@@ -65,8 +65,8 @@ pub record ReadsBack (first : ℕ) (B : Block) : Type 0 where
 -- what the writer of a block needs
 pub record Layable (ls us : List ℤ) (uses : List ℕ) (e : Encoded) (code : ℕ) (args : List ℕ) (sum : Bounds) (first : ℕ) : Type 0 where
   pub near : first ≤ Limit.inAll
-  pub lowers : Bounded ls
-  pub uppers : Bounded us
+  pub lowers : Small ls
+  pub uppers : Small us
   pub narrow : tooWide (boundsOf ls us) (sharedBy uses) (constraintOf code args) ≡ false
   pub recorded : Recorded e
   pub summed : Summed (boundsOf ls us) code args sum

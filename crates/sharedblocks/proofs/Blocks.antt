@@ -29,7 +29,7 @@ use Rattle.laying.specs.Lists.{many, sameAt, productAt}
 use Rattle.laying.specs.Lists as lists
 use Rattle.laying.proofs.Parts.{flatMap-append, many-same}
 use Rattle.laying.proofs.Lists.{length-vars, length-nums, bits-parts, bounds-append, same-parts}
-use Rattle.extremes.specs.Bounded.{boundsOf}
+use Rattle.extremes.specs.BoundLists.{boundsOf}
 use Rattle.encodings.specs.Uses.{choiceOf, choosing}
 use Rattle.choiceblocks.specs.Rows.{zeroAt, numberTermAt, memberAt, sumRow, choiceRows}
 use Rattle.choiceblocks.proofs.OneHot.{many-below, terms-many, bounds-many, sum-row, chosen-row, choice-rows}

@@ -9,13 +9,14 @@ use Rattle.integers.specs.Number.{_⊖_, maxZ, count, +0, +1}
 use Rattle.integers.specs.Bounds.{_to_, within, width, values}
 use Rattle.integers.specs.declared.Bounds.{Bounds}
 use Rattle.words.specs.Limit as Limit
+use Rattle.words.specs.Small.{Small}
 use Rattle.models.specs.Meaning.{member}
 use Rattle.models.specs.Model.{var, vars, nums, past}
 use Rattle.rules.specs.Parts.{Z, one, nth, chosen}
 use Rattle.rules.specs.Shared.{keep, Encoded, firstOf, valueBit, newBits, newRows, leftOut, sharedRule, bitProducts, keptSum}
 use Rattle.laying.specs.Part.{Part, boundParts, rowParts, blockParts}
 use Rattle.laying.specs.Sizes.{firstNumbers}
-use Rattle.extremes.specs.Bounded.{boundsOf, Bounded}
+use Rattle.extremes.specs.BoundLists.{boundsOf}
 use Rattle.encodings.specs.Uses.{choiceOf, Recorded}
 use Rattle.sharedblocks.specs.LeftOut.{keeps}
 
@@ -29,7 +30,7 @@ placeBit e first x l = bitsFrom e first x + count (maxZ +1 l ⊖ l)
 
 -- what laying a block wants: numbers of auxiliaries that do not wrap, bounds near 0, a variable of at most 64 values
 abbrev pub Encodable : List ℤ → List ℤ → Encoded → ℕ → List ℕ → Type 0
-Encodable ls us e first args = (first < firstNumbers) × Bounded ls × Bounded us × (width (boundsOf ls us (var args 0)) ≤ Limit.setBits) × Recorded e
+Encodable ls us e first args = (first < firstNumbers) × Small ls × Small us × (width (boundsOf ls us (var args 0)) ≤ Limit.setBits) × Recorded e
 
 -- given the bounds of the variables and the record of encoded ones: the new bits, their rows, the row of the bits left out, the whole block
 module _ (ls us : List ℤ) (e : Encoded) where

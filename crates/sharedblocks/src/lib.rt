@@ -6,12 +6,13 @@ ghost use lib.ListN.{length, getD};
 ghost use Rattle.integers.specs.Number.{+0};
 ghost use Rattle.integers.specs.Bounds.{width};
 ghost use Rattle.words.specs.Limit as Limit;
+ghost use Rattle.words.specs.Small.{Small};
 ghost use Rattle.models.specs.Model.{var};
 ghost use Rattle.rules.specs.Shared.{newBits};
 ghost use Rattle.laying.specs.Appends.{Appends, GrowsBy};
 ghost use Rattle.laying.specs.Room.{Room, BlockRoom};
 ghost use Rattle.laying.specs.Sizes.{firstNumbers, blockSize};
-ghost use Rattle.extremes.specs.Bounded.{boundsOf, Bounded};
+ghost use Rattle.extremes.specs.BoundLists.{boundsOf};
 ghost use Rattle.encodings.specs.Uses.{choosing, Recorded};
 ghost use Rattle.sharedblocks.specs.Pieces.{bitsFrom, placeBit, Encodable, newBitParts, newRowParts, leftOutParts, sharedParts, zeroParts, ownRowParts, numbersRow, productRows, membersRow};
 use crate::left_out::lay_left_row;
@@ -51,7 +52,7 @@ fn first_bit(args: &[u32], encoded: &[usize], first: usize) -> usize
 
 // The number of the bit of the first place of the list at place 1 that the variable at place 0 can have.
 fn place_bit(args: &[u32], ls: &[i64], encoded: &[usize], first: usize) -> usize
-    requires { ⌜ (first < firstNumbers) × Bounded (now ls) × Recorded (now encoded) ⌝ }
+    requires { ⌜ (first < firstNumbers) × Small (now ls) × Recorded (now encoded) ⌝ }
     ensures { λ r. ⌜ (r ≡ placeBit (now (encoded .entry)) first (var (now (args .entry)) 0) (getD (now (ls .entry)) (var (now (args .entry)) 0) +0)) × (r < 1000000000) ⌝ }
 {
     first_bit(args, encoded, first) + count_of(minus(first_label(args, ls), lower_label(args, ls)))
@@ -59,7 +60,7 @@ fn place_bit(args: &[u32], ls: &[i64], encoded: &[usize], first: usize) -> usize
 
 // How many bits the block adds.
 fn new_bits(args: &[u32], ls: &[i64], us: &[i64], encoded: &[usize]) -> usize
-    requires { ⌜ Bounded (now ls) × Bounded (now us) × (width (boundsOf (now ls) (now us) (var (now args) 0)) ≤ Limit.setBits) ⌝ }
+    requires { ⌜ Small (now ls) × Small (now us) × (width (boundsOf (now ls) (now us) (var (now args) 0)) ≤ Limit.setBits) ⌝ }
     ensures { λ r. ⌜ (r ≡ length (newBits (boundsOf (now (ls .entry)) (now (us .entry))) (now (encoded .entry)) (var (now (args .entry)) 0))) × (r ≤ Limit.setBits) ⌝ }
 {
     if entry_of(encoded, var_at(args, 0)) == 0 {
@@ -77,7 +78,7 @@ fn lay_new_bits(
     us: &[i64],
     encoded: &[usize],
 ) -> Laid
-    requires { ⌜ Room 2000 s × Bounded (now ls) × Bounded (now us) × (width (boundsOf (now ls) (now us) (var (now args) 0)) ≤ Limit.setBits) ⌝ }
+    requires { ⌜ Room 2000 s × Small (now ls) × Small (now us) × (width (boundsOf (now ls) (now us) (var (now args) 0)) ≤ Limit.setBits) ⌝ }
     ensures { λ r. ⌜ Appends s r (now (out .entry)) (now (out .exit)) (newBitParts (now (ls .entry)) (now (us .entry)) (now (encoded .entry)) (now (args .entry))) × GrowsBy 2000 s r ⌝ }
 {
     lay_bits(out, s, new_bits(args, ls, us, encoded))
@@ -163,7 +164,7 @@ fn lay_kept_zeros(
     ls: &[i64],
     us: &[i64],
 ) -> Laid
-    requires { ⌜ Room 5000 s × Bounded (now ls) × Bounded (now us) ⌝ }
+    requires { ⌜ Room 5000 s × Small (now ls) × Small (now us) ⌝ }
     ensures { λ r. ⌜ Appends s r (now (out .entry)) (now (out .exit)) (zeroParts (now (ls .entry)) (now (us .entry)) code (now (args .entry))) × GrowsBy 5000 s r ⌝ }
 {
     if code == 25 {

@@ -31,7 +31,7 @@ use Rattle.sharing.specs.SharedSolutions.{Passes}
 use Rattle.sharing.proofs.Accepts.{passes-read}
 use Rattle.checking.proofs.Kept.{Kept}
 use Rattle.checking.proofs.Answers.{refused-first, check-stands}
-use Rattle.extremes.specs.Bounded.{boundsOf}
+use Rattle.extremes.specs.BoundLists.{boundsOf}
 use Rattle.rules.specs.Shared.{keep}
 use Rattle.solutions.specs.Lists.{valueLists, listCount}
 use Rattle.solutions.specs.AllWithin.{AllWithin, lowestList}

@@ -12,7 +12,6 @@ use mir.Val.{SFits}
 use Rattle.integers.specs.Number.{+0}
 use Rattle.integers.specs.Lists.{listOf}
 use Rattle.integers.specs.Bounds.{_to_, boundsIn}
-use Rattle.integers.specs.Terms.{value}
 use Rattle.integers.specs.declared.Bounds.{Bounds}
 use Rattle.integers.proofs.Fits.{mag-le}
 use Rattle.integers.proofs.Linear.{_⊑_, linear}
@@ -20,7 +19,7 @@ use Rattle.integers.proofs.Lists.{listOf-length}
 use Rattle.integers.proofs.Places.{getD-listOf, map-listOf}
 use Rattle.integers.proofs.Tests.{says-within}
 use Rattle.words.specs.Small.{Near, Small}
-use Rattle.extremes.specs.Bounded.{boundsOf, Bounded}
+use Rattle.extremes.specs.BoundLists.{boundsOf}
 use Rattle.solutions.specs.AllWithin.{AllWithin, lowestList}
 use Rattle.solutions.specs.Walk.{boundsTo}
 
@@ -66,7 +65,7 @@ inside-near (B ∷ Bs) [] h f x = absurd h
 inside-near (B ∷ Bs) (v ∷ vs) h f zero = near (B .lower) v (B .upper) (f 0 .0) (f 0 .1) (says-within B v .0 (h .0))
 inside-near (B ∷ Bs) (v ∷ vs) h f (suc x) = inside-near Bs vs (h .1) (λ y. f (suc y)) x
 
-bounds-near : (ls us : List ℤ) → Bounded ls → Bounded us → (n x : ℕ) → Near (boundsIn (boundsTo ls us n) x .lower) × Near (boundsIn (boundsTo ls us n) x .upper)
+bounds-near : (ls us : List ℤ) → Small ls → Small us → (n x : ℕ) → Near (boundsIn (boundsTo ls us n) x .lower) × Near (boundsIn (boundsTo ls us n) x .upper)
 unfolding boundsIn
 bounds-near ls us p q n x = go (decLt x n)
   where
@@ -74,6 +73,5 @@ bounds-near ls us p q n x = go (decLt x n)
     go (yes l) = rw (getD-listOf (boundsOf ls us) n x (+0 to +0) l) (p x, q x)
     go (no l) = let m : length (boundsTo ls us n) ≤ x = omega (arith, listOf-length (boundsOf ls us) n) in rw (List·getD-eq-default (boundsTo ls us n) (+0 to +0) m) (omega arith, omega arith)
 
-pub inside-small : (ls us vs : List ℤ) (n : ℕ) → Bounded ls → Bounded us → AllWithin (boundsTo ls us n) vs → Small vs
-unfolding value
+pub inside-small : (ls us vs : List ℤ) (n : ℕ) → Small ls → Small us → AllWithin (boundsTo ls us n) vs → Small vs
 inside-small ls us vs n p q h = inside-near (boundsTo ls us n) vs h (bounds-near ls us p q n)

@@ -6,7 +6,8 @@ use lib.ListN.{length}
 use Rattle.integers.specs.Lists.{listOf}
 use Rattle.integers.specs.declared.Bounds.{Bounds}
 use Rattle.words.specs.Limit as Limit
-use Rattle.extremes.specs.Bounded.{boundsOf, Bounded}
+use Rattle.words.specs.Small.{Small}
+use Rattle.extremes.specs.BoundLists.{boundsOf}
 use Rattle.rules.specs.Shared.{keep}
 use Rattle.solutions.specs.Lists.{valueLists, listCount}
 use Rattle.solutions.specs.AllWithin.{AllWithin, lowestList}
@@ -27,16 +28,16 @@ solutionsFrom ws ls us vs = keep (allTrue ws) (listsFrom (boundsTo ls us (length
 
 -- what the walk from the list vs on wants
 pub record Walkable (ls us vs : List ℤ) : Type 0 where
-  pub lowers : Bounded ls
-  pub uppers : Bounded us
+  pub lowers : Small ls
+  pub uppers : Small us
   pub inside : AllWithin (boundsTo ls us (length vs)) vs
   pub few : length (listsFrom (boundsTo ls us (length vs)) vs) ≤ Limit.listedLists
   pub short : length vs ≤ Limit.listedVariables
 
 -- what the walk through all lists wants
 pub record ListsSized (ls us : List ℤ) (n : ℕ) : Type 0 where
-  pub lowers : Bounded ls
-  pub uppers : Bounded us
+  pub lowers : Small ls
+  pub uppers : Small us
   pub inside : AllWithin (boundsTo ls us n) (lowestList (boundsTo ls us n))
   pub few : listCount (boundsTo ls us n) ≤ Limit.listedLists
   pub short : n ≤ Limit.listedVariables

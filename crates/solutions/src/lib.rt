@@ -8,9 +8,8 @@ ghost use lib.IntN.{natAbs};
 ghost use lib.ListN.{length, set};
 ghost use Rattle.words.specs.Overlay.{overlay};
 ghost use Rattle.words.specs.Variables.{variables};
-ghost use Rattle.arguments.specs.Small.{Small};
+ghost use Rattle.words.specs.Small.{Small};
 ghost use Rattle.modelreading.specs.Seen.{Heads};
-ghost use Rattle.extremes.specs.Bounded.{Bounded};
 ghost use Rattle.sharing.specs.SharedSolutions.{Passes};
 ghost use Rattle.solutions.specs.Lists.{listCount};
 ghost use Rattle.solutions.specs.AllWithin.{lowestList};
@@ -53,7 +52,7 @@ fn capped_count(n: usize) -> usize
 
 // How many value lists the bounds of n variables leave, capped.
 fn list_count(ls: &[i64], us: &[i64], n: usize) -> usize
-    requires { ⌜ Bounded (now ls) × Bounded (now us) ⌝ }
+    requires { ⌜ Small (now ls) × Small (now us) ⌝ }
     ensures { λ r. ⌜ r ≡ min (listCount (boundsTo (now (ls .entry)) (now (us .entry)) n)) countCap ⌝ }
 {
     let mut count = 1;
@@ -78,7 +77,7 @@ fn put_value(values: &mut [i32], at: usize, v: i64)
 
 // Puts the first value list into a list.
 fn set_lowest(ls: &[i64], us: &[i64], values: &mut [i32])
-    requires { ⌜ Bounded (now ls) ⌝ }
+    requires { ⌜ Small (now ls) ⌝ }
     ensures { λ r. ⌜ now (values .exit) ≡ lowestList (boundsTo (now (ls .entry)) (now (us .entry)) (length (now (values .entry)))) ⌝ }
 {
     let mut i = 0;
@@ -90,7 +89,7 @@ fn set_lowest(ls: &[i64], us: &[i64], values: &mut [i32])
 
 // Puts the next value list there, the first one after the last; whether it is not the first one.
 fn step(ls: &[i64], us: &[i64], values: &mut [i32]) -> bool
-    requires { ⌜ Bounded (now ls) × Bounded (now us) × Small (now values) ⌝ }
+    requires { ⌜ Small (now ls) × Small (now us) × Small (now values) ⌝ }
     ensures more { λ r. ⌜ r ≡ not (isLast (boundsTo (now (ls .entry)) (now (us .entry)) (length (now (values .entry)))) (now (values .entry))) ⌝ }
     ensures list { λ r. ⌜ now (values .exit) ≡ nextList (boundsTo (now (ls .entry)) (now (us .entry)) (length (now (values .entry)))) (now (values .entry)) ⌝ }
 {

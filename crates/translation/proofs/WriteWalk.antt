@@ -17,7 +17,7 @@ use Rattle.rules.specs.Shared.{Encoded, noneYet, choice, encodes, encodedAfter}
 use Rattle.rules.specs.Translation.{blockOf, eachBlock, blocksWords, allBlocks}
 use Rattle.rules.specs.Check.{tooWide}
 use Rattle.laying.specs.declared.Laid.{Laid}
-use Rattle.extremes.specs.Bounded.{boundsOf}
+use Rattle.extremes.specs.BoundLists.{boundsOf}
 use Rattle.encodings.specs.Uses.{sharedBy, Recorded}
 use Rattle.encodings.proofs.Record.{none-many, recorded-none, recorded-after, length-after}
 use Rattle.sharing.specs.SharedSolutions.{Passes}

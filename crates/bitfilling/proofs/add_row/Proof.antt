@@ -4,7 +4,7 @@ use mathlib.Core.List.{flatMap}
 use native.Mathlib.Omega.{arith}
 use borrow.Author.Needs.{needs}
 use borrow.Author.Tests.{eq-eqb, ne-eqb}
-use Rattle.extremes.specs.Bounded.{boundsOf}
+use Rattle.extremes.specs.BoundLists.{boundsOf}
 use Rattle.bitforms.specs.BitRow.{bitRow}
 use Rattle.bitlines.specs.Dense.{addTerms}
 use Rattle.bitlines.specs.Line.{pairTerms}

@@ -9,7 +9,7 @@ use borrow.Author.Needs.{needs}
 use Rattle.integers.proofs.Fits.{back, plus-size}
 use Rattle.rowsystems.specs.RowSystem.{termsIn, constantIn}
 use Rattle.arguments.proofs.Size.{read}
-use Rattle.extremes.specs.Bounded.{boundsOf}
+use Rattle.extremes.specs.BoundLists.{boundsOf}
 use Rattle.bitforms.specs.SumOver.{sumOver}
 use Rattle.bitforms.specs.BitRow.{leastTerm, least}
 use Rattle.bitlines.specs.Sizes as Size

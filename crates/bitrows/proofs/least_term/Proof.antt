@@ -4,7 +4,7 @@ use mathlib.Core.Bool.{false}
 use borrow.Author.Needs.{needs}
 use Rattle.integers.proofs.Fits.{back}
 use Rattle.arguments.proofs.Size.{read}
-use Rattle.extremes.specs.Bounded.{boundsOf}
+use Rattle.extremes.specs.BoundLists.{boundsOf}
 use Rattle.extremes.proofs.Size.{pick-size, product-size}
 use Rattle.bitforms.specs.BitRow.{leastTerm}
 use Rattle.bitrows.specs.Terms.{termIn}

@@ -12,7 +12,7 @@ use Rattle.rules.specs.Parts.{_─_≤0}
 use Rattle.rules.specs.Rule.{rule}
 use Rattle.laying.specs.Part.{boundParts, termParts, rowParts, blockParts}
 use Rattle.laying.specs.Lists.{many, rowPartsOf}
-use Rattle.extremes.specs.Bounded.{boundsOf}
+use Rattle.extremes.specs.BoundLists.{boundsOf}
 use Rattle.linearsums.specs.Sum.{formOf, sumOf}
 use Rattle.encodings.specs.Uses.{choosing}
 use Rattle.blocks.proofs.OneBlock.{fitted, from, summed-fits, over-none, by-code, none-choosing}

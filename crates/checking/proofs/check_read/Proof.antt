@@ -8,7 +8,7 @@ use Rattle.words.specs.Word.{wordAt}
 use Rattle.words.proofs.Reading.{tail-is}
 use Rattle.models.specs.Model.{headed, constraints}
 use Rattle.rules.specs.Shared.{choice, encodes, encodedAfter}
-use Rattle.extremes.specs.Bounded.{boundsOf}
+use Rattle.extremes.specs.BoundLists.{boundsOf}
 use Rattle.encodings.specs.Uses.{sharedBy}
 use Rattle.checking.specs.Checked.{checked}
 use Rattle.checking.specs.Walk.{Costs}

@@ -2,7 +2,7 @@
 use mathlib.Core.Path.{sym, _∙_}
 use borrow.Author.Needs.{needs}
 use Rattle.integers.proofs.Fits.{back}
-use Rattle.extremes.specs.Bounded.{boundsOf}
+use Rattle.extremes.specs.BoundLists.{boundsOf}
 use Rattle.encodings.specs.Uses.{sharedBy}
 use Rattle.blocks.specs.Coded.{constraintOf}
 use Rattle.blocks.proofs.OneBlock.{wide-by}

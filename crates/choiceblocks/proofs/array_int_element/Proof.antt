@@ -7,7 +7,7 @@ use Rattle.models.specs.Model.{var, past}
 use Rattle.arguments.proofs.Size.{read}
 use Rattle.rules.specs.Parts.{places}
 use Rattle.laying.proofs.Parts.{went-then, went-as}
-use Rattle.extremes.specs.Bounded.{boundsOf}
+use Rattle.extremes.specs.BoundLists.{boundsOf}
 use Rattle.choiceblocks.proofs.Blocks.{number-element}
 use Rattle.choiceblocks.proofs.array_int_element.Statement.{statement}
 use Rattle.choiceblocks.proofs.array_int_element.Tie as tie

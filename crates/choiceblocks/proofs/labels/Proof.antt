@@ -10,7 +10,7 @@ use Rattle.models.specs.Model.{var, size}
 use Rattle.arguments.proofs.Size.{read, size-le}
 use Rattle.rules.specs.Parts.{places}
 use Rattle.extremes.proofs.Size.{pick-size, places-width}
-use Rattle.extremes.specs.Bounded.{boundsOf}
+use Rattle.extremes.specs.BoundLists.{boundsOf}
 use Rattle.choiceblocks.proofs.labels.Statement.{statement}
 use Rattle.choiceblocks.proofs.labels.Tie as tie
 

@@ -7,7 +7,7 @@ use Rattle.arguments.proofs.Size.{read}
 use Rattle.rules.specs.Parts.{members}
 use Rattle.extremes.proofs.Kept.{over-zeros}
 use Rattle.extremes.proofs.Rising.{members-length}
-use Rattle.extremes.specs.Bounded.{boundsOf}
+use Rattle.extremes.specs.BoundLists.{boundsOf}
 use Rattle.choiceblocks.proofs.Members.{members-size}
 use Rattle.choiceblocks.proofs.members_of.Statement.{statement}
 use Rattle.choiceblocks.proofs.members_of.Tie as tie

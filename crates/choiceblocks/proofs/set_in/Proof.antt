@@ -4,7 +4,7 @@ use native.Mathlib.Omega.{arith}
 use borrow.Author.Needs.{needs}
 use Rattle.models.specs.Model.{var, nums}
 use Rattle.laying.proofs.Parts.{went-then, went-as}
-use Rattle.extremes.specs.Bounded.{boundsOf}
+use Rattle.extremes.specs.BoundLists.{boundsOf}
 use Rattle.choiceblocks.proofs.Blocks.{in-set}
 use Rattle.choiceblocks.proofs.set_in.Statement.{statement}
 use Rattle.choiceblocks.proofs.set_in.Tie as tie

@@ -6,7 +6,7 @@ use Rattle.integers.proofs.Fits.{back}
 use Rattle.models.specs.Model.{var, nums, past}
 use Rattle.arguments.proofs.Size.{read}
 use Rattle.laying.proofs.Parts.{went-then, went-as}
-use Rattle.extremes.specs.Bounded.{boundsOf}
+use Rattle.extremes.specs.BoundLists.{boundsOf}
 use Rattle.choiceblocks.proofs.Blocks.{in-set-reified}
 use Rattle.choiceblocks.proofs.set_in_reif.Statement.{statement}
 use Rattle.choiceblocks.proofs.set_in_reif.Tie as tie

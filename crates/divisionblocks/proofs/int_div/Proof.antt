@@ -4,7 +4,7 @@ use borrow.Author.Needs.{needs}
 use Rattle.integers.proofs.Fits.{back}
 use Rattle.rules.specs.Rule.{rule}
 use Rattle.laying.proofs.Parts.{went-as}
-use Rattle.extremes.specs.Bounded.{boundsOf}
+use Rattle.extremes.specs.BoundLists.{boundsOf}
 use Rattle.divisionblocks.proofs.Blocks.{division-parts}
 use Rattle.divisionblocks.proofs.int_div.Statement.{statement}
 use Rattle.divisionblocks.proofs.int_div.Tie as tie

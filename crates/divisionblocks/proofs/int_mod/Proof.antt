@@ -5,7 +5,7 @@ use Rattle.integers.proofs.Fits.{back, neg-size}
 use Rattle.rules.specs.Division.{quotientBounds}
 use Rattle.rules.specs.Rule.{rule}
 use Rattle.laying.proofs.Parts.{went-then, went-as}
-use Rattle.extremes.specs.Bounded.{boundsOf}
+use Rattle.extremes.specs.BoundLists.{boundsOf}
 use Rattle.divisionblocks.proofs.Blocks.{leftOver-parts}
 use Rattle.divisionblocks.proofs.int_mod.Statement.{statement}
 use Rattle.divisionblocks.proofs.int_mod.Tie as tie

@@ -4,7 +4,7 @@ use native.Mathlib.Omega.{arith}
 use lib.IntN.{natAbs}
 use mir.Facts.{toZ-ofZ}
 use borrow.Author.Needs.{needs}
-use Rattle.builtins.proofs.Coded.{abs-max}
+use Rattle.arguments.proofs.Size.{abs-max}
 use Rattle.integers.proofs.Fits.{back}
 use Rattle.divisionblocks.proofs.Largest.{larger-size}
 use Rattle.divisionblocks.proofs.larger_size.Statement.{statement}

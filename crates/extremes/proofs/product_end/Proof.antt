@@ -11,8 +11,8 @@ use Rattle.integers.specs.Bounds.{_to_}
 use Rattle.integers.specs.Choice.{_if_else_}
 use Rattle.integers.specs.Number.{_⊗_, minZ, maxZ}
 use Rattle.integers.specs.declared.Bounds.{Bounds}
+use Rattle.words.specs.Small.{Near}
 use Rattle.rules.specs.Parts.{endProducts}
-use Rattle.extremes.specs.Bounded.{Near}
 use Rattle.extremes.proofs.Size.{pick-size, product-size}
 use Rattle.extremes.proofs.product_end.Statement.{statement}
 use Rattle.extremes.proofs.product_end.Tie as tie

@@ -42,7 +42,7 @@ use denote.Triple.Clauses.{ensured, lasts}
 use denote.Exit.{yes}
 use Rattle.integers.specs.Bounds.{boundsIn}
 use Rattle.integers.specs.declared.Bounds.{Bounds}
-use Rattle.extremes.specs.Bounded.{boundsOf}
+use Rattle.extremes.specs.BoundLists.{boundsOf}
 use Rattle.linearsums.specs.Places.{NoneFrom, sumsUpTo, SumsKept, Keepable, Summable}
 use Rattle.linearsums.proofs.Filling.{records-near}
 use Rattle.linearsums.proofs.Record.{R, Heads, Arr, arr, arr-typed, room256, Lies, laid, freed}

@@ -8,6 +8,7 @@ use Rattle.integers.proofs.Fits.{back}
 use Rattle.integers.specs.Terms.{value}
 use Rattle.integers.specs.Number.{_⊖_}
 use Rattle.models.specs.Model.{var, builtin, builtins}
+use Rattle.arguments.proofs.Size.{value-near}
 use Rattle.rules.specs.Pick.{pick}
 use Rattle.picking.proofs.Codes.{difference}
 use Rattle.picking.proofs.pick_difference.Statement.{statement}
@@ -22,7 +23,7 @@ minus-requires : tie.Need-minus-requires
 unfolding pick builtin builtins
 minus-requires c κs =
     let s = c .before .before .before .before in
-    rw (back (c .before .value-of .result) (c .before .value-of .ok), c .before .value-of .ensures, back (c .value-of2 .result) (c .value-of2 .ok), c .value-of2 .ensures) (omega (arith, (s .pre .small (var (s .args .args .now) 0)), (s .pre .small (var (s .args .args .now) 1))))
+    rw (back (c .before .value-of .result) (c .before .value-of .ok), c .before .value-of .ensures, back (c .value-of2 .result) (c .value-of2 .ok), c .value-of2 .ensures) (omega (arith, value-near (s .args .values .now) (s .pre .small) (var (s .args .args .now) 0), value-near (s .args .values .now) (s .pre .small) (var (s .args .args .now) 1)))
 
 put-signed-requires : tie.Need-put-signed-requires
 unfolding pick builtin builtins

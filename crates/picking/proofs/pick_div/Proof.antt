@@ -3,6 +3,7 @@ use native.Mathlib.Omega.{arith}
 use borrow.Author.Needs.{needs}
 use Rattle.integers.proofs.Fits.{back}
 use Rattle.models.specs.Model.{var, builtin, builtins}
+use Rattle.arguments.proofs.Size.{value-near}
 use Rattle.rules.specs.Pick.{pick}
 use Rattle.picking.proofs.pick_div.Statement.{statement}
 use Rattle.picking.proofs.pick_div.Tie as tie
@@ -14,7 +15,7 @@ put-division-requires c κs =
     let value-of = c .before .before .value-of in
     let s = c .before .before .before .before .before in
     rw (back (value-of .result) (value-of .ok), value-of .ensures, back (value-of2 .result) (value-of2 .ok), value-of2 .ensures, back (c .value-of3 .result) (c .value-of3 .ok), c .value-of3 .ensures)
-    (omega (arith, s .pre .place), s .pre .small (var (s .args .args .now) 1), s .pre .small (var (s .args .args .now) 2), s .pre .ranged)
+    (omega (arith, s .pre .place), value-near (s .args .values .now) (s .pre .small) (var (s .args .args .now) 1), value-near (s .args .values .now) (s .pre .small) (var (s .args .args .now) 2), s .pre .ranged)
 
 returns : tie.Need-returns
 unfolding pick builtin builtins

@@ -2,6 +2,7 @@
 use borrow.Author.Needs.{needs}
 use Rattle.integers.proofs.Fits.{back}
 use Rattle.models.specs.Model.{var}
+use Rattle.arguments.proofs.Size.{value-near}
 use Rattle.picking.proofs.Sizes.{labels-near}
 use Rattle.picking.proofs.Codes.{element-picks}
 use Rattle.picking.proofs.pick_element.Statement.{statement}
@@ -14,7 +15,7 @@ put-labels-requires c κs =
       search needs,
       rw (back (first-label .result) (first-label .ok), first-label .ensures .0) (labels-near (s .args .ls .now) (s .args .us .now) (s .args .args .now) (s .pre .1) (s .pre .2) .0),
       rw (back (c .before .last-label .result) (c .before .last-label .ok), c .before .last-label .ensures) (labels-near (s .args .ls .now) (s .args .us .now) (s .args .args .now) (s .pre .1) (s .pre .2) .1),
-      rw (back (c .value-of .result) (c .value-of .ok), c .value-of .ensures) (s .pre .3 (var (s .args .args .now) 0)),
+      rw (back (c .value-of .result) (c .value-of .ok), c .value-of .ensures) (value-near (s .args .values .now) (s .pre .3) (var (s .args .args .now) 0)),
     )
 
 returns : tie.Need-returns

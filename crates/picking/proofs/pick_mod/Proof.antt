@@ -5,6 +5,7 @@ use borrow.Author.Needs.{needs}
 use Rattle.integers.proofs.Fits.{back}
 use Rattle.words.proofs.LaidThen.{laid-then}
 use Rattle.models.specs.Model.{var, builtin, builtins}
+use Rattle.arguments.proofs.Size.{value-near}
 use Rattle.rules.specs.Pick.{leftOverPick, pick}
 use Rattle.picking.proofs.pick_mod.Statement.{statement}
 use Rattle.picking.proofs.pick_mod.Tie as tie
@@ -13,7 +14,7 @@ quotient-of-requires : tie.Need-quotient-of-requires
 unfolding pick builtin builtins
 quotient-of-requires c κs =
     let s = c .before .before .before in
-    rw (back (c .before .value-of .result) (c .before .value-of .ok), c .before .value-of .ensures) (s .pre .small (var (s .args .args .now) 0))
+    rw (back (c .before .value-of .result) (c .before .value-of .ok), c .before .value-of .ensures) (value-near (s .args .values .now) (s .pre .small) (var (s .args .args .now) 0))
 
 put-pick-requires : tie.Need-put-pick-requires
 unfolding leftOverPick pick builtin builtins
@@ -36,7 +37,7 @@ put-division-requires c κs =
     let s = c .before .before .before .before .before .before .before .before in
     rw (back (quotient-of .result) (quotient-of .ok), back (value-of .result) (value-of .ok), value-of .ensures, back (value-of2 .result) (value-of2 .ok), value-of2 .ensures) (
       omega (arith, s .pre .place, put .ensures .ends),
-      s .pre .small (var (s .args .args .now) 1),
+      value-near (s .args .values .now) (s .pre .small) (var (s .args .args .now) 1),
       quotient-of .ensures .1,
       λ k. rw (quotient-of .ensures .0, back (value-of .result) (value-of .ok), value-of .ensures, back (value-of2 .result) (value-of2 .ok), value-of2 .ensures) (s .pre .ranged (suc k)),
     )

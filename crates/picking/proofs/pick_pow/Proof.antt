@@ -6,7 +6,7 @@ use borrow.Author.Needs.{needs}
 use Rattle.integers.proofs.Fits.{back}
 use Rattle.words.proofs.LaidThen.{laid-none}
 use Rattle.models.specs.Model.{var, exponentAt, builtin, builtins}
-use Rattle.arguments.proofs.Size.{exponent-le}
+use Rattle.arguments.proofs.Size.{exponent-le, value-near}
 use Rattle.rules.specs.Pick.{powerPick, pick}
 use Rattle.picking.proofs.Powers.{pick-some}
 use Rattle.picking.proofs.pick_pow.Statement.{statement}
@@ -27,7 +27,7 @@ put-powers-requires c κs =
     let exponent-at = c .before .before .exponent-at in
     let one : 1 ≤ exponentAt (s .args .args .now) 1 = omega (arith, exponent-at .ensures, c .before .if1 .left) in
     rw (back (value-of .result) (value-of .ok), value-of .ensures, exponent-at .ensures)
-    (omega (arith, s .pre .place, exponent-le (s .args .args .now) 1), s .pre .small (var (s .args .args .now) 0), one, exponent-le (s .args .args .now) 1, rw (pick-some _ _ one) at (s .pre .ranged))
+    (omega (arith, s .pre .place, exponent-le (s .args .args .now) 1), value-near (s .args .values .now) (s .pre .small) (var (s .args .args .now) 0), one, exponent-le (s .args .args .now) 1, rw (pick-some _ _ one) at (s .pre .ranged))
 
 returns-2 : tie.Need-returns-2
 unfolding pick builtin builtins

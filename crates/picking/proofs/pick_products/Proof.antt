@@ -9,8 +9,9 @@ use Rattle.integers.specs.Number.{count}
 use Rattle.integers.specs.Bounds.{_to_, width}
 use Rattle.integers.specs.Terms.{value}
 use Rattle.integers.proofs.Fits.{back}
+use Rattle.words.specs.Small.{Near}
 use Rattle.models.specs.Model.{var}
-use Rattle.extremes.specs.Bounded.{Near}
+use Rattle.arguments.proofs.Size.{value-near}
 use Rattle.extremes.proofs.Size.{width-size}
 use Rattle.picking.specs.Picked.{productPicks}
 use Rattle.picking.specs.Only.{onlyAt}
@@ -42,12 +43,12 @@ width-of-requires : tie.Need-width-of-requires
 width-of-requires c κs = near c
 
 place-of-requires : tie.Need-place-of-requires
-place-of-requires c κs = (rw (back (c .value-of .result) (c .value-of .ok), c .value-of .ensures) (c .before .before .before .before .before .pre .3 (var (c .before .before .before .before .before .args .args .now) 0)), near (c .before .before) .0)
+place-of-requires c κs = (rw (back (c .value-of .result) (c .value-of .ok), c .value-of .ensures) (value-near (c .before .before .before .before .before .args .values .now) (c .before .before .before .before .before .pre .3) (var (c .before .before .before .before .before .args .args .now) 0)), near (c .before .before) .0)
 
 add-value-of : tie.Need-add-value-of
 add-value-of c =
     let s = c .before .before .before .before .before .before .before .before in
-    omega (arith, counted c, count-le (value (s .args .values .now) (var (s .args .args .now) 0)), s .pre .3 (var (s .args .args .now) 0))
+    omega (arith, counted c, count-le (value (s .args .values .now) (var (s .args .args .now) 0)), value-near (s .args .values .now) (s .pre .3) (var (s .args .args .now) 0))
 
 put-only-requires : tie.Need-put-only-requires
 put-only-requires c κs =

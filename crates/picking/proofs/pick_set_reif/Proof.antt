@@ -2,6 +2,7 @@
 use borrow.Author.Needs.{needs}
 use Rattle.integers.proofs.Fits.{back}
 use Rattle.models.specs.Model.{var}
+use Rattle.arguments.proofs.Size.{value-near}
 use Rattle.picking.proofs.Codes.{set-picks}
 use Rattle.picking.proofs.pick_set_reif.Statement.{statement}
 use Rattle.picking.proofs.pick_set_reif.Tie as tie
@@ -14,7 +15,7 @@ put-labels-requires c κs =
       search needs,
       rw (back (bound-at .result) (bound-at .ok), bound-at .ensures) (s .pre .1 (var-at .result)),
       rw (back (c .before .bound-at2 .result) (c .before .bound-at2 .ok), c .before .bound-at2 .ensures) (s .pre .2 (var-at .result)),
-      rw (back (c .value-of .result) (c .value-of .ok), c .value-of .ensures) (s .pre .3 (var (s .args .args .now) 0)),
+      rw (back (c .value-of .result) (c .value-of .ok), c .value-of .ensures) (value-near (s .args .values .now) (s .pre .3) (var (s .args .args .now) 0)),
     )
 
 returns : tie.Need-returns

@@ -5,7 +5,7 @@ use Rattle.integers.specs.Terms.{value}
 use Rattle.words.proofs.LaidThen.{laid-then}
 use Rattle.models.specs.Model.{var}
 use Rattle.rules.specs.Shared.{choice, newPick, sharedPick}
-use Rattle.extremes.specs.Bounded.{boundsOf}
+use Rattle.extremes.specs.BoundLists.{boundsOf}
 use Rattle.encodings.specs.Uses.{choiceOf}
 use Rattle.picking.specs.Picked.{productPicks}
 use Rattle.picking.proofs.Writing.{ranged-right}

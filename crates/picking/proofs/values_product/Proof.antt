@@ -4,13 +4,14 @@ use native.Mathlib.Omega.{arith}
 use borrow.Author.Needs.{needs}
 use Rattle.integers.proofs.Fits.{back, mul-le}
 use Rattle.models.specs.Model.{var}
+use Rattle.arguments.proofs.Size.{value-near}
 use Rattle.picking.proofs.values_product.Statement.{statement}
 use Rattle.picking.proofs.values_product.Tie as tie
 
 times-requires : tie.Need-times-requires
 times-requires c κs =
     let s = c .before .before .before in
-    rw (back (c .before .value-of .result) (c .before .value-of .ok), c .before .value-of .ensures, back (c .value-of2 .result) (c .value-of2 .ok), c .value-of2 .ensures) (omega (arith, mul-le (s .pre (var (s .args .args .now) (s .args .i))) (s .pre (var (s .args .args .now) (s .args .j)))))
+    rw (back (c .before .value-of .result) (c .before .value-of .ok), c .before .value-of .ensures, back (c .value-of2 .result) (c .value-of2 .ok), c .value-of2 .ensures) (omega (arith, mul-le (value-near (s .args .values .now) (s .pre) (var (s .args .args .now) (s .args .i))) (value-near (s .args .values .now) (s .pre) (var (s .args .args .now) (s .args .j)))))
 
 returns : tie.Need-returns
 returns c =

@@ -6,7 +6,7 @@ use Rattle.integers.proofs.Fits.{back}
 use Rattle.rules.specs.Rule.{rule}
 use Rattle.laying.proofs.Parts.{went-then, went-as}
 use Rattle.laying.proofs.Alike.{went-alike, went-fitting}
-use Rattle.extremes.specs.Bounded.{boundsOf}
+use Rattle.extremes.specs.BoundLists.{boundsOf}
 use Rattle.powerblocks.proofs.Block.{none-parts, power-alike}
 use Rattle.powerblocks.proofs.int_pow.Statement.{statement}
 use Rattle.powerblocks.proofs.int_pow.Tie as tie

@@ -5,7 +5,7 @@ use Rattle.integers.proofs.Fits.{back}
 use Rattle.laying.proofs.Parts.{went-as}
 use mathlib.Core.Path.{sym}
 use Rattle.models.specs.Model.{var}
-use Rattle.extremes.specs.Bounded.{boundsOf}
+use Rattle.extremes.specs.BoundLists.{boundsOf}
 use Rattle.sharedblocks.proofs.LeftOut.{left-out}
 use borrow.Author.Needs.{needs}
 use Rattle.sharedblocks.proofs.lay_left_out.Statement.{statement}

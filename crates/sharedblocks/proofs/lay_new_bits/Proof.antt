@@ -3,7 +3,7 @@ use native.Mathlib.Omega.{arith}
 use Rattle.laying.proofs.Parts.{went-as}
 use mathlib.Core.Path.{sym}
 use Rattle.models.specs.Model.{var}
-use Rattle.extremes.specs.Bounded.{boundsOf}
+use Rattle.extremes.specs.BoundLists.{boundsOf}
 use Rattle.sharedblocks.proofs.Blocks.{new-bits}
 use borrow.Author.Needs.{needs}
 use Rattle.sharedblocks.proofs.lay_new_bits.Statement.{statement}

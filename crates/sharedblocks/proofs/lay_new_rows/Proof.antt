@@ -5,7 +5,7 @@ use Rattle.integers.proofs.Fits.{back}
 use mathlib.Core.Path.{sym, _∙_}
 use borrow.Author.Tests.{eq-eqb, ne-eqb}
 use Rattle.models.specs.Model.{var}
-use Rattle.extremes.specs.Bounded.{boundsOf}
+use Rattle.extremes.specs.BoundLists.{boundsOf}
 use Rattle.laying.proofs.Parts.{went-none, went-as}
 use Rattle.sharedblocks.proofs.Blocks.{own-rows, no-rows}
 use borrow.Author.Needs.{needs}

@@ -3,7 +3,7 @@ use native.Mathlib.Omega.{arith}
 use mathlib.Core.Path.{sym, _∙_}
 use borrow.Author.Tests.{eq-eqb, ne-eqb}
 use Rattle.models.specs.Model.{var}
-use Rattle.extremes.specs.Bounded.{boundsOf}
+use Rattle.extremes.specs.BoundLists.{boundsOf}
 use Rattle.sharedblocks.proofs.Blocks.{own-bits, no-bits}
 use borrow.Author.Needs.{needs}
 use Rattle.sharedblocks.proofs.new_bits.Statement.{statement}

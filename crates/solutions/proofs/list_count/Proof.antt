@@ -4,7 +4,7 @@ use native.Mathlib.Omega.{arith}
 use borrow.Author.Needs.{needs}
 use Prim.Native.Nat.{_-_}
 use Rattle.integers.proofs.Fits.{back, mul-le}
-use Rattle.extremes.specs.Bounded.{boundsOf}
+use Rattle.extremes.specs.BoundLists.{boundsOf}
 use Rattle.solutions.proofs.Counts.{Capping, begun-count, more, done, capped-le}
 use Rattle.solutions.proofs.list_count.Statement.{statement}
 use Rattle.solutions.proofs.list_count.Tie as tie

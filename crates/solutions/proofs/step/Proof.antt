@@ -8,7 +8,7 @@ use lib.ListN.{length, getD, length-set}
 use Rattle.integers.specs.Number.{+0, +1}
 use Rattle.integers.specs.Terms.{value}
 use Rattle.integers.proofs.Fits.{back, plus-size}
-use Rattle.extremes.specs.Bounded.{boundsOf}
+use Rattle.extremes.specs.BoundLists.{boundsOf}
 use Rattle.solutions.proofs.Stepping.{Stepping, begun-step, done-step, same-value, over, up}
 use Rattle.solutions.proofs.step.Statement.{statement}
 use Rattle.solutions.proofs.step.Tie as tie

@@ -5,7 +5,7 @@ use native.Mathlib.Omega.{arith}
 use lib.ListN.{length}
 use Rattle.integers.proofs.Lists.{listOf-length}
 use Rattle.words.proofs.Overlay.{length-overlay}
-use Rattle.extremes.specs.Bounded.{boundsOf}
+use Rattle.extremes.specs.BoundLists.{boundsOf}
 use Rattle.solutions.specs.Solutions.{allTrue}
 use Rattle.solutions.specs.Walk.{boundsTo}
 use Rattle.solutions.proofs.Odometer.{left}

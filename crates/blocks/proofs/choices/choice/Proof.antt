@@ -2,7 +2,7 @@
 use mathlib.Core.Path.{sym, _∙_}
 use native.Mathlib.Omega.{arith}
 use borrow.Author.Needs.{needs}
-use Rattle.extremes.specs.Bounded.{boundsOf}
+use Rattle.extremes.specs.BoundLists.{boundsOf}
 use Rattle.encodings.specs.Uses.{sharedBy}
 use Rattle.blocks.specs.Coded.{constraintOf}
 use Rattle.blocks.proofs.OneBlock.{narrow, all-28, shared-narrow, over-shared, over-own, fitted}

@@ -4,13 +4,12 @@ use native.Mathlib.Omega.{arith}
 use borrow.Author.Needs.{needs}
 use Rattle.models.specs.Meaning.{meaning}
 use Rattle.models.specs.Model.{var}
-use Rattle.arguments.proofs.Size.{read}
-use Rattle.builtins.proofs.Coded.{abs-max}
+use Rattle.arguments.proofs.Size.{read, abs-max, value-near}
 use Rattle.builtins.proofs.number.int_abs.Statement.{statement}
 use Rattle.builtins.proofs.number.int_abs.Tie as tie
 
 opposite-requires : tie.Need-opposite-requires
-opposite-requires c κs = rw (read (c .value-of .ok) (c .value-of .ensures)) (omega (arith, c .before .before .pre (var (c .before .before .args .args .now) 0)))
+opposite-requires c κs = rw (read (c .value-of .ok) (c .value-of .ensures)) (omega (arith, value-near (c .before .before .args .values .now) (c .before .before .pre) (var (c .before .before .args .args .now) 0)))
 
 returns : tie.Need-returns
 unfolding meaning

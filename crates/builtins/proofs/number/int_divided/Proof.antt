@@ -4,7 +4,7 @@ use native.Mathlib.Omega.{arith}
 use borrow.Author.Needs.{needs}
 use Rattle.integers.proofs.Fits.{above-zero}
 use Rattle.models.specs.Model.{var}
-use Rattle.arguments.proofs.Size.{read}
+use Rattle.arguments.proofs.Size.{read, value-near}
 use Rattle.builtins.proofs.Coded.{by-zero, by-other}
 use Rattle.builtins.proofs.number.int_divided.Statement.{statement}
 use Rattle.builtins.proofs.number.int_divided.Tie as tie
@@ -15,7 +15,7 @@ divided-requires c κs =
     let value-of = c .before .before .before .value-of in
     let value-of2 = c .before .before .value-of2 in
     rw (read (value-of .ok) (value-of .ensures), read (value-of2 .ok) (value-of2 .ensures)) (
-      omega (arith, s .pre (var (s .args .args .now) 0)),
+      omega (arith, value-near (s .args .values .now) (s .pre) (var (s .args .args .now) 0)),
       above-zero _ (rw (c .before .equal .ensures, read (value-of2 .ok) (value-of2 .ensures)) at (c .if1 .taken)),
     )
 

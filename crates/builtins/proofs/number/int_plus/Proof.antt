@@ -4,14 +4,14 @@ use native.Mathlib.Omega.{arith}
 use borrow.Author.Needs.{needs}
 use Rattle.models.specs.Meaning.{meaning}
 use Rattle.models.specs.Model.{var}
-use Rattle.arguments.proofs.Size.{read}
+use Rattle.arguments.proofs.Size.{read, value-near}
 use Rattle.builtins.proofs.number.int_plus.Statement.{statement}
 use Rattle.builtins.proofs.number.int_plus.Tie as tie
 
 plus-requires : tie.Need-plus-requires
 plus-requires c κs =
     let s = c .before .before .before in
-    rw (read (c .before .value-of .ok) (c .before .value-of .ensures), read (c .value-of2 .ok) (c .value-of2 .ensures)) (omega (arith, s .pre (var (s .args .args .now) 0), s .pre (var (s .args .args .now) 1)))
+    rw (read (c .before .value-of .ok) (c .before .value-of .ensures), read (c .value-of2 .ok) (c .value-of2 .ensures)) (omega (arith, value-near (s .args .values .now) (s .pre) (var (s .args .args .now) 0), value-near (s .args .values .now) (s .pre) (var (s .args .args .now) 1)))
 
 returns : tie.Need-returns
 unfolding meaning

@@ -5,14 +5,14 @@ use borrow.Author.Needs.{needs}
 use Rattle.integers.proofs.Fits.{mul-le}
 use Rattle.models.specs.Meaning.{meaning}
 use Rattle.models.specs.Model.{var}
-use Rattle.arguments.proofs.Size.{read}
+use Rattle.arguments.proofs.Size.{read, value-near}
 use Rattle.builtins.proofs.number.int_times.Statement.{statement}
 use Rattle.builtins.proofs.number.int_times.Tie as tie
 
 times-requires : tie.Need-times-requires
 times-requires c κs =
     let s = c .before .before .before in
-    rw (read (c .before .value-of .ok) (c .before .value-of .ensures), read (c .value-of2 .ok) (c .value-of2 .ensures)) (omega (arith, mul-le (s .pre (var (s .args .args .now) 0)) (s .pre (var (s .args .args .now) 1))))
+    rw (read (c .before .value-of .ok) (c .before .value-of .ensures), read (c .value-of2 .ok) (c .value-of2 .ensures)) (omega (arith, mul-le (value-near (s .args .values .now) (s .pre) (var (s .args .args .now) 0)) (value-near (s .args .values .now) (s .pre) (var (s .args .args .now) 1))))
 
 returns : tie.Need-returns
 unfolding meaning

@@ -4,7 +4,7 @@ use native.Mathlib.Omega.{arith}
 use borrow.Author.Needs.{needs}
 use Rattle.models.specs.Meaning.{power, meaning}
 use Rattle.models.specs.Model.{var, exponentAt}
-use Rattle.arguments.proofs.Size.{read}
+use Rattle.arguments.proofs.Size.{read, value-near}
 use Rattle.builtins.proofs.CutPower.{power-equal}
 use Rattle.builtins.proofs.power.int_pow.Statement.{statement}
 use Rattle.builtins.proofs.power.int_pow.Tie as tie
@@ -22,7 +22,7 @@ power-of-requires : tie.Need-power-of-requires
 power-of-requires c κs =
     let s = c .before .before .before .before .before in
     let value-of = c .before .before .before .value-of in
-    (rw (read (value-of .ok) (value-of .ensures)) (s .pre (var (s .args .args .now) 0)), omega (arith, c .if1 .left))
+    (rw (read (value-of .ok) (value-of .ensures)) (value-near (s .args .values .now) (s .pre) (var (s .args .args .now) 0)), omega (arith, c .if1 .left))
 
 returns-2 : tie.Need-returns-2
 unfolding meaning
@@ -33,7 +33,7 @@ returns-2 c =
     let exponent-at = c .before .before .before .before .exponent-at in
     let value-of2 = c .before .before .before .value-of2 in
     c .equal2 .ensures
-    ∙ rw (read (power-of .ok) (power-of .ensures), read (value-of .ok) (value-of .ensures), read (value-of2 .ok) (value-of2 .ensures), exponent-at .ensures) (power-equal _ _ (s .pre (var (s .args .args .now) 2)))
+    ∙ rw (read (power-of .ok) (power-of .ensures), read (value-of .ok) (value-of .ensures), read (value-of2 .ok) (value-of2 .ensures), exponent-at .ensures) (power-equal _ _ (value-near (s .args .values .now) (s .pre) (var (s .args .args .now) 2)))
 
 pub int-pow-spec : {M : Type 1} → statement M
 int-pow-spec =

@@ -2,8 +2,7 @@
 use mathlib.Core.Path.{_∙_}
 use mir.Facts.{toZ-ofZ}
 use borrow.Author.Needs.{needs}
-use Rattle.arguments.proofs.Size.{read}
-use Rattle.builtins.proofs.Coded.{abs-max}
+use Rattle.arguments.proofs.Size.{read, abs-max}
 use Rattle.linearblocks.proofs.sums.size_of.Statement.{statement}
 use Rattle.linearblocks.proofs.sums.size_of.Tie as tie
 

@@ -1,5 +1,6 @@
 -- The block is laid to the front of the list; its bounds are read there and those values are theirs, counted on from `first`; or its rows, counted from k.
 use native.Mathlib.Omega.{arith}
+use Rattle.integers.specs.Terms.{value}
 use Rattle.reasoning.proofs.Fronted.{prefix-length, part-length, outside-few, outside-said, after-bounds, rows-accepted, no-variables, failing-said}
 use borrow.Author.Needs.{needs}
 use Rattle.reasoning.proofs.one_block.judge_block.Statement.{statement}
@@ -27,6 +28,7 @@ mul-first-false-row : tie.Need-mul-first-false-row
 mul-first-false-row c = let h = c .before .before .before .before .before .before .before .lay-block .ensures .small in search needs
 
 first-false-row-requires : tie.Need-first-false-row-requires
+unfolding value
 first-false-row-requires c κs = let s = c .before .before .before .before .before .before .before .before .before .before .before .before .before in let d = s .pre .0 .layable .reads in let f = c .before .before .before .before .before .before .before .lay-block .ensures in (after-bounds d f, (omega (arith, f .auxiliaries, s .pre .0 .there), λ x l. s .pre .0 .small (c .before .before .before .before .if1 .left) x), rows-accepted d f, no-variables d f, omega (arith, f .small, s .pre .0 .layable .near), s .pre .1)
 
 returns-2 : tie.Need-returns-2

@@ -10,7 +10,7 @@ use Rattle.words.proofs.Reading.{tail-is}
 use Rattle.models.specs.Model.{headed, builtin}
 use Rattle.rules.specs.Shared.{choice}
 use Rattle.rules.specs.Translation.{blockOf}
-use Rattle.extremes.specs.Bounded.{boundsOf}
+use Rattle.extremes.specs.BoundLists.{boundsOf}
 use Rattle.encodings.specs.Uses.{sharedBy}
 use Rattle.checking.proofs.Kept.{few-constraints, none-left, head-inside, head-at}
 use Rattle.encodings.proofs.Record.{placed-record}

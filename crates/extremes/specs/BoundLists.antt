@@ -7,14 +7,9 @@ use Rattle.integers.specs.Number.{_⊕_, _⊖_, +0}
 use Rattle.integers.specs.Bounds.{_to_}
 use Rattle.integers.specs.declared.Bounds.{Bounds}
 use Rattle.words.specs.Overlay.{overlay}
-pub use Rattle.words.specs.Small.{Near}
 
 abbrev pub boundsOf : List ℤ → List ℤ → ℕ → Bounds
 boundsOf ls us v = getD ls v +0 to getD us v +0
-
--- all of a list as near to 0 as signed payloads are
-abbrev pub Bounded : List ℤ → Type 0
-Bounded ls = (v : ℕ) → Near (getD ls v +0)
 
 -- the bounds of variables, from the first on, laid over such lists
 abbrev pub withLowers : List ℤ → List Bounds → List ℤ

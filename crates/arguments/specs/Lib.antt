@@ -1,2 +1,0 @@
--- What the contracts cite: values that are small enough for sums of 64 bits.
-pub mod Small
