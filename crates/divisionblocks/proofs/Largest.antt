@@ -44,9 +44,9 @@ pub M-size : (a w : ℤ) → natAbs a ≤ 18014398643699712 → Near w → natAb
 M-size a w h k = omega (arith, pick-size true a (a ⊕ w ⊕ +1) {m = 18014398777917441} (omega arith) (omega (arith, plus-size (a ⊕ w) +1, plus-size a w)))
 
 -- 38: the larger of two absolute values
-pub larger-size : (l u : ℤ) → Near l → Near u → Near (maxZ (absZ l) (absZ u))
+pub larger-near : (l u : ℤ) → Near l → Near u → Near (maxZ (absZ l) (absZ u))
 unfolding absZ
-larger-size l u h k = pick-size true (absZ l) (absZ u) (omega (arith, abs-size l)) (omega (arith, abs-size u))
+larger-near l u h k = pick-size true (absZ l) (absZ u) (omega (arith, abs-size l)) (omega (arith, abs-size u))
   where
     abs-size : (x : ℤ) → natAbs (absZ x) ≡ natAbs x
     abs-size (pos n) = refl

@@ -2,7 +2,6 @@
 ghost use mathlib.Core.Path.{_≡_};
 ghost use Prim.Native.Nat.{_+_, _<_, _≤_};
 ghost use lib.IntN.{natAbs};
-ghost use Rattle.integers.specs.Number.{maxZ, absZ};
 ghost use Rattle.integers.specs.Bounds.{_to_};
 ghost use Rattle.words.specs.Small.{Near, Small};
 ghost use Rattle.models.specs.Builtin.{int-div, int-mod};
@@ -15,8 +14,8 @@ ghost use Rattle.laying.specs.Sizes.{firstNumbers};
 ghost use Rattle.extremes.specs.BoundLists.{boundsOf};
 ghost use Rattle.divisionblocks.specs.Rows.{auxiliaryParts, tableParts, divisionParts};
 use extremes::bound_at;
+use extremes::larger_size;
 use extremes::product_end;
-use integers::largest;
 use integers::opposite;
 use laying::Laid;
 use laying::lay_bits;
@@ -111,14 +110,6 @@ pub fn int_div(
     let ql = bound_at(ls, q);
     let qu = bound_at(us, q);
     lay_division(out, s, n, d, q, first, ls, us, ql, qu)
-}
-
-// The larger of two absolute values.
-fn larger_size(l: i64, u: i64) -> i64
-    requires { ⌜ Near l × Near u ⌝ }
-    ensures { λ r. ⌜ (r ≡ maxZ (absZ l) (absZ u)) × Near r ⌝ }
-{
-    largest(largest(l, opposite(l)), largest(u, opposite(u)))
 }
 
 // 38 int_mod: n is d times a quotient and r, with the rows of int_div for the quotient.

@@ -6,7 +6,7 @@ ghost use lib.IntN.{pos, natAbs};
 ghost use lib.Signed.{leZ, ltZ};
 ghost use lib.ListN.{length, getD, set};
 ghost use Rattle.integers.specs.Choice.{_if_else_};
-ghost use Rattle.integers.specs.Number.{_⊖_, _⊗_, minZ, maxZ, +0, +1};
+ghost use Rattle.integers.specs.Number.{_⊖_, _⊗_, minZ, maxZ, absZ, +0, +1};
 ghost use Rattle.integers.specs.Bounds.{_to_, width};
 ghost use Rattle.extremes.specs.BoundLists.{boundsOf, withLowers, withUppers, gapPlus};
 ghost use Rattle.extremes.specs.Kept.{lowerOf, upperOf};
@@ -23,6 +23,7 @@ use arguments::var_at;
 use integers::largest;
 use integers::least;
 use integers::minus;
+use integers::opposite;
 use integers::pick;
 use integers::plus;
 use integers::test::at_most;
@@ -48,6 +49,22 @@ pub fn times_ends(a: i64, lower: i64, upper: i64, up: bool) -> i64
     ensures { λ r. ⌜ r ≡ (maxZ if up else minZ) (a ⊗ lower) (a ⊗ upper) ⌝ }
 {
     pick(times(a, lower), times(a, upper), up)
+}
+
+// The absolute value.
+fn absolute(v: i64) -> i64
+    requires { ⌜ natAbs v < 9223372036854775808 ⌝ }
+    ensures { λ r. ⌜ r ≡ absZ v ⌝ }
+{
+    largest(v, opposite(v))
+}
+
+// The larger of two absolute values.
+pub fn larger_size(a: i64, b: i64) -> i64
+    requires { ⌜ (natAbs a ≤ 1152921504606846976) × (natAbs b ≤ 1152921504606846976) ⌝ }
+    ensures { λ r. ⌜ (r ≡ maxZ (absZ a) (absZ b)) × (natAbs r ≤ 1152921504606846976) ⌝ }
+{
+    largest(absolute(a), absolute(b))
 }
 
 // The lower bound of Z: the lesser of 0 and a lower bound.
@@ -144,7 +161,7 @@ pub fn half_less(n: usize) -> i64
 }
 
 // Puts a number into a list, if the place is one of its places.
-pub fn put(out: &mut [i64], at: usize, v: i64)
+pub fn put_bound(out: &mut [i64], at: usize, v: i64)
     ensures { λ r. ⌜ now (out .exit) ≡ set (now (out .entry)) at v ⌝ }
 {
     if at < out.len() {
@@ -191,7 +208,7 @@ pub fn members(args: &[u32], i: usize, lower: i64, upper: i64, out: &mut [i64]) 
         if below(upper, v) {
             return k;
         }
-        put(out, k, v);
+        put_bound(out, k, v);
         from = plus(v, 1);
         k += 1;
         left -= 1;
@@ -229,8 +246,8 @@ pub fn keep_bounds(ws: &[u32], lowers: &mut [i64], uppers: &mut [i64]) -> usize
     while i < ws.len() {
         let w = word_at(ws, i);
         if variables::starts_variable(w) {
-            put(lowers, n, lower_of(w));
-            put(uppers, n, upper_of(w, word_at(ws, i + 1)));
+            put_bound(lowers, n, lower_of(w));
+            put_bound(uppers, n, upper_of(w, word_at(ws, i + 1)));
             n += 1;
         }
         i += 1;

@@ -1,9 +1,8 @@
-// What several linear blocks share: the constant c, absolute values, and rows that begin with the sum.
+// What several linear blocks share: the constant c, and rows that begin with the sum.
 ghost use mathlib.Core.Path.{_≡_};
 ghost use mathlib.Core.List.{[], _∷_};
-ghost use Prim.Native.Nat.{ℕ, _<_, _≤_};
-ghost use lib.IntN.{natAbs};
-ghost use Rattle.integers.specs.Number.{neg, maxZ, absZ};
+ghost use Prim.Native.Nat.{ℕ, _<_};
+ghost use Rattle.integers.specs.Number.{neg};
 ghost use Rattle.models.specs.Model.{num, pastTerms};
 ghost use Rattle.laying.specs.Part.{constant, rowParts, blockParts};
 ghost use Rattle.laying.specs.Appends.{Appends, GrowsBy};
@@ -15,7 +14,6 @@ use arguments::past_terms_at;
 use arguments::size_at;
 use extremes::zero_lower;
 use extremes::zero_upper;
-use integers::largest;
 use integers::opposite;
 use laying::Laid;
 use laying::lay_bound;
@@ -25,22 +23,6 @@ use laying::lay_term;
 use laying::lay_terms;
 use laying::lay_times;
 use words::kind;
-
-// The absolute value.
-fn size_of(v: i64) -> i64
-    requires { ⌜ natAbs v < 9223372036854775808 ⌝ }
-    ensures { λ r. ⌜ r ≡ absZ v ⌝ }
-{
-    largest(v, opposite(v))
-}
-
-// The larger of two absolute values.
-pub fn larger_size(a: i64, b: i64) -> i64
-    requires { ⌜ (natAbs a ≤ 1152921504606846976) × (natAbs b ≤ 1152921504606846976) ⌝ }
-    ensures { λ r. ⌜ (r ≡ maxZ (absZ a) (absZ b)) × (natAbs r ≤ 1152921504606846976) ⌝ }
-{
-    largest(size_of(a), size_of(b))
-}
 
 // The constant after the terms.
 fn constant_of(args: &[u32]) -> i64

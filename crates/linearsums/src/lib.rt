@@ -16,7 +16,7 @@ use arguments::past_terms_at;
 use arguments::size_at;
 use arguments::var_at;
 use extremes::bound_at;
-use extremes::put;
+use extremes::put_bound;
 use extremes::times_ends;
 use integers::Bounds;
 use integers::minus;
@@ -206,8 +206,8 @@ fn records_of(ls: &[i64], us: &[i64], variables: usize) -> [Bounds; 256]
 fn keep_sum<'a>(lows: &'a mut [i64], highs: &'a mut [i64], k: usize, sum: Bounds)
     ensures { λ r. ⌜ (now (lows .exit) ≡ set (now (lows .entry)) k (sum .lower)) × (now (highs .exit) ≡ set (now (highs .entry)) k (sum .upper)) ⌝ }
 {
-    put(lows, k, sum.lower);
-    put(highs, k, sum.upper)
+    put_bound(lows, k, sum.lower);
+    put_bound(highs, k, sum.upper)
 }
 
 // Puts L and U of the sum of each of the n constraints, whose heads stand at these places, into two lists for 256.

@@ -1,11 +1,15 @@
 -- The bounds of a quotient, the division with it, and the last row.
 use native.Mathlib.Omega.{arith}
 use borrow.Author.Needs.{needs}
+use lib.ListN.{getD}
+use Rattle.integers.specs.Number.{+0}
 use Rattle.integers.proofs.Fits.{back, neg-size}
+use Rattle.words.specs.Small.{Near}
 use Rattle.rules.specs.Division.{quotientBounds}
 use Rattle.rules.specs.Rule.{rule}
 use Rattle.laying.proofs.Parts.{went-then, went-as}
 use Rattle.extremes.specs.BoundLists.{boundsOf}
+use Rattle.divisionblocks.proofs.Largest.{larger-near}
 use Rattle.divisionblocks.proofs.Blocks.{leftOver-parts}
 use Rattle.divisionblocks.proofs.int_mod.Statement.{statement}
 use Rattle.divisionblocks.proofs.int_mod.Tie as tie
@@ -14,7 +18,17 @@ larger-size-requires : tie.Need-larger-size-requires
 larger-size-requires c κs =
     let s = c .before .before .before in
     let bound-at = c .before .bound-at in
-    rw (back (bound-at .result) (bound-at .ok), bound-at .ensures, back (c .bound-at2 .result) (c .bound-at2 .ok), c .bound-at2 .ensures) (s .pre .2 (s .args .n), s .pre .3 (s .args .n))
+    rw (back (bound-at .result) (bound-at .ok), bound-at .ensures, back (c .bound-at2 .result) (c .bound-at2 .ok), c .bound-at2 .ensures) (omega (arith, s .pre .2 (s .args .n)), omega (arith, s .pre .3 (s .args .n)))
+
+-- the larger of the bounds' absolute values is as near to 0 as the bounds
+quotient-near : (c : tie.After-larger-size) → Near (c .larger-size .result)
+quotient-near c =
+    let s = c .before .before .before .before in
+    let a = s .args in
+    let bound-at = c .before .before .bound-at in
+    let bound-at2 = c .before .bound-at2 in
+    rw (c .larger-size .ensures .0, back (bound-at .result) (bound-at .ok), bound-at .ensures, back (bound-at2 .result) (bound-at2 .ok), bound-at2 .ensures)
+    (larger-near (getD (a .ls .now) (a .n) +0) (getD (a .us .now) (a .n) +0) (s .pre .2 (a .n)) (s .pre .3 (a .n)))
 
 opposite-requires : tie.Need-opposite-requires
 opposite-requires c κs = rw (back (c .larger-size .result) (c .larger-size .ok)) (omega (arith, c .larger-size .ensures .1))
@@ -24,9 +38,10 @@ lay-division-requires c κs =
     let l = c .before .before .before .before .before in
     let opposite = l .opposite in
     let larger-size = l .before .larger-size in
+    let near = quotient-near (l .before) in
     let s = l .before .before .before .before .before in
     rw (back (opposite .result) (opposite .ok), opposite .ensures, back (larger-size .result) (larger-size .ok))
-    (omega (arith, s .pre .0, c .before .before .before .lay-bound .ensures .1), omega (arith, s .pre .1), s .pre .2, s .pre .3, omega (arith, neg-size (larger-size .result), larger-size .ensures .1), larger-size .ensures .1)
+    (omega (arith, s .pre .0, c .before .before .before .lay-bound .ensures .1), omega (arith, s .pre .1), s .pre .2, s .pre .3, omega (arith, neg-size (larger-size .result), near), near)
 
 returns : tie.Need-returns
 unfolding rule quotientBounds

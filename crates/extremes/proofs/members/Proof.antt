@@ -66,8 +66,8 @@ loop-again c =
     let p = c .before .before .before .before .before .before in
     let below = c .before .before .before .before .before .below in
     let if1 = c .before .before .before .before .if1 in
-    let put = c .before .before .put in
-    rw (put .ensures, back (c .plus2 .result) (c .plus2 .ok), c .plus2 .ensures, back (least-from .result) (least-from .ok))
+    let bound = c .before .before .put-bound in
+    rw (bound .ensures, back (c .plus2 .result) (c .plus2 .ok), c .plus2 .ensures, back (least-from .result) (least-from .ok))
     (found (loop .left) (least-from .result) (c .before .before .before .before .before .before .before .loop-test .taken) (least p) (rw (back (least-from .result) (least-from .ok)) at (sym (below .ensures) ∙ if1 .left)) (loop .inv))
 
 same-length-2 : tie.Need-same-length-2 Inv-loop μ-loop
