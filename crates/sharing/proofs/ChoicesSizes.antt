@@ -67,12 +67,12 @@ bitProducts-size f b [] k = omega arith
 bitProducts-size f b (l ∷ ls) k = omega (arith, bitProducts-size f b ls (suc k))
 
 -- at most 112 words, 8 more for each word of its constraint and 40 for each of its auxiliaries, and never more than 2,800
-abbrev Small : Builtin → Block → Type 0
-Small b B =
+abbrev SmallBlock : Builtin → Block → Type 0
+SmallBlock b B =
     let n = 2 * length (B .auxiliaries) + total rowSize (B .rows) in
     (n ≤ 8 * (1 + builtinWords b) + 40 * length (B .auxiliaries) + 112) × (n ≤ 2800)
 
-shared-small : (β : ℕ → Bounds) (e : Encoded) (s : ℕ → Bool) {ch : Choice} {b : Builtin} → View ch b → shares s ch ≡ true → Narrow β ch → Small b (sharedRule β e ch)
+shared-small : (β : ℕ → Bounds) (e : Encoded) (s : ℕ → Bool) {ch : Choice} {b : Builtin} → View ch b → shares s ch ≡ true → Narrow β ch → SmallBlock b (sharedRule β e ch)
 unfolding builtinWords sharedRule encodes keptSum chosen
 shared-small β e s (is-element i ns c) h w =
     let t = within (+1 to pos (length ns)) in
@@ -97,7 +97,7 @@ block-size first β s e c n = rw (block-length first (blockOf β s e c)) (go (sh
     b : Builtin
     b = builtin c
 
-    go : (t : Bool) → shares s (choice c) ≡ t → Small b (sharedRule β e (choice c) if t else rule β b)
+    go : (t : Bool) → shares s (choice c) ≡ t → SmallBlock b (sharedRule β e (choice c) if t else rule β b)
     go true h = shared-small β e s (view c) h (narrow β s c n h)
     go false h = omega (arith, laws β b .small (sized β s c n))
 

@@ -50,8 +50,8 @@ use Rattle.sharing.proofs.Sizes.{total, rowSize, total-append, total-ma
 pub ruleset lengths = (length-append, length-map, sources-length, each-length, bits-length, weighted-length, total-append, total-map, products-size)
 
 -- at most 8 words for each word of its constraint and 40 for each of its auxiliaries, and never more than 2,800
-abbrev pub Small : (ℕ → Bounds) → Builtin → Type 0
-Small β b =
+abbrev pub SmallRule : (ℕ → Bounds) → Builtin → Type 0
+SmallRule β b =
     let n = 2 * length (rule β b .auxiliaries) + total rowSize (rule β b .rows) in
     (n ≤ 8 * (1 + builtinWords b) + 40 * length (rule β b .auxiliaries)) × (n ≤ 2800)
 
@@ -64,15 +64,15 @@ pub record Laws (β : ℕ → Bounds) (b : Builtin) : Type 1 where
   -- the sizes that its block needs: lists of at most 32 elements, the x of 28 with at most 64 values
   pub Sizes : Type 0
   pub correct : (σ : Valuation) → Correct β σ b
-  pub small : Sizes → Small β b
+  pub small : Sizes → SmallRule β b
   pub formed : Sizes → WellFormed β b
 
 -- of a builtin with lists, whose block needs them to be of these sizes
-abbrev pub limited : {β : ℕ → Bounds} {b : Builtin} (S : Type 0) → ((σ : Valuation) → Correct β σ b) → (S → Small β b) → (S → WellFormed β b) → Laws β b
+abbrev pub limited : {β : ℕ → Bounds} {b : Builtin} (S : Type 0) → ((σ : Valuation) → Correct β σ b) → (S → SmallRule β b) → (S → WellFormed β b) → Laws β b
 limited S c s f = record { Sizes = S; correct = c; small = s; formed = f }
 
 -- of a builtin without
-abbrev pub fixed : {β : ℕ → Bounds} {b : Builtin} → ((σ : Valuation) → Correct β σ b) → Small β b → WellFormed β b → Laws β b
+abbrev pub fixed : {β : ℕ → Bounds} {b : Builtin} → ((σ : Valuation) → Correct β σ b) → SmallRule β b → WellFormed β b → Laws β b
 fixed c s f = limited (Unit {0}) c (λ _. s) (λ _. f)
 
 unfoldable pub laws : (β : ℕ → Bounds) (b : Builtin) → Laws β b
@@ -259,10 +259,10 @@ narrow-28 β s c e d = ltb-false _ _ (sym (any-one _ _) ∙ (rw d at e))
 
 pub sized : (β : ℕ → Bounds) (s : ℕ → Bool) (c : Constraint) → tooWide β s c ≡ false → laws β (builtin c) .Sizes
 unfolding builtin builtins laws vars nums terms
-sized β s c e = entry Small builtins (λ ws. int-eq 0 0) table (λ k ws w. tt) (c .code) (c .arguments) (narrow-28 β s c e)
+sized β s c e = entry Sized builtins (λ ws. int-eq 0 0) table (λ k ws w. tt) (c .code) (c .arguments) (narrow-28 β s c e)
   where
-    Small : ℕ → (List ℕ → Builtin) → Type 0
-    Small k f = (ws : List ℕ) → (k ≡ 28 → width (β (var ws 0)) ≤ Limit.setBits) → laws β (f ws) .Sizes
+    Sized : ℕ → (List ℕ → Builtin) → Type 0
+    Sized k f = (ws : List ℕ) → (k ≡ 28 → width (β (var ws 0)) ≤ Limit.setBits) → laws β (f ws) .Sizes
 
-    table : AllAt Small builtins
+    table : AllAt Sized builtins
     table = simp (listOf-length, size-small, exponent-small, function-unit, pair-unit) (λ ws w. w refl, tt)
