@@ -26,13 +26,10 @@ use Rattle.models.proofs.Constraints.{starts-one}
 use Rattle.modelreading.specs.declared.items.Step.{Step}
 use Rattle.modelreading.specs.declared.Read.{Read}
 use Rattle.modelreading.specs.Onward.{onward, stopped, Placed, heads, argumentsFrom, ArgumentsRead}
-use Rattle.modelreading.specs.Seen.{Declares, Seen, Kept}
+use Rattle.modelreading.specs.Seen.{Declares, VariablesSeen, VariablesKept, Seen, Kept}
 use Rattle.modelreading.proofs.Onward.{faultAt, here, go-on, stop-here, end-here, stop-at, start-heads, head-fault, head-after}
 use Rattle.modelreading.proofs.Steps.{gone, halted, present}
 use Rattle.modelreading.proofs.Variable.{none-declared, none-posed}
-
-abbrev pub whole : List ℕ → Refusal
-whole ws = onward Start [] 0 0 ws
 
 -- ---- what is answered
 
@@ -44,55 +41,78 @@ stopped-some ws f p z = go (ltb p (length ws))
     go true e = z e
     go false e = omega arith
 
-pub kept-fault : {ws hs : List ℕ} (f p : ℕ) {r : Read} → (f ≡ 0 → ⊥) → stopped ws f p ≡ readModel ws → r .number at-place r .place ≡ stopped ws f p → Kept ws hs r
-kept-fault {ws} {hs} f p z w e = record { refusal = e ∙ w; seen = λ n. absurd (stopped-some ws f p z (ap (λ (x : Refusal). x .number) (sym e) ∙ n)) }
+some : (ws : List ℕ) (f p : ℕ) {n q : ℕ} → (f ≡ 0 → ⊥) → n at-place q ≡ stopped ws f p → n ≡ 0 → ⊥
+some ws f p z e n = stopped-some ws f p z (ap (λ (x : Refusal). x .number) (sym e) ∙ n)
+
+module _ {ws : List ℕ} (f p : ℕ) {r : Read} (z : f ≡ 0 → ⊥) (w : stopped ws f p ≡ readModel ws) (e : r .number at-place r .place ≡ stopped ws f p) where
+  pub variables-fault : {types : List ℕ} → VariablesKept ws types r
+  variables-fault = record { refusal = λ n. e ∙ w; seen = λ n. absurd (some ws f p z e n) }
+
+  pub kept-fault : {hs : List ℕ} → Kept ws hs r
+  kept-fault = record { refusal = e ∙ w; seen = λ n. absurd (some ws f p z e n) }
+
+-- a fault of the variables is the model's
+pub variables-refused : {ws types hs : List ℕ} {r : Read} → VariablesKept ws types r → (r .number ≡ 0 → ⊥) → Kept ws hs r
+variables-refused k z = record { refusal = k .refusal z; seen = λ n. absurd (z n) }
 
 pub too-long : (ws : List ℕ) → 8192 < length ws → stopped ws 1 0 ≡ readModel ws
 unfolding stopped readModelIn
 too-long ws h = rw (lt-ltb 8192 (length ws) h, lt-ltb 0 (length ws) (omega arith))
 
-pub all-read : (ws : List ℕ) → length ws ≤ 8192 → whole ws ≡ readModel ws
+all-read : (ws : List ℕ) → length ws ≤ 8192 → onward Start [] 0 0 ws ≡ readModel ws
 unfolding readModelIn onward
 all-read ws h = rw (le-ltb 8192 (length ws) h)
 
 -- ---- the variables
 
-pub record Opening (ws types : List ℕ) (v at : ℕ) : Type 0 where
-  pub few : v ≤ 256
-  pub full : length types ≡ 256
-  pub placed : Placed ws at
-  pub rest : onward Start (take v types) 0 at ws ≡ whole ws
-  pub declares : v + length (variables (drop at ws)) ≡ length (variables ws)
-  pub front : at + length (sourceWords (drop at ws)) ≡ length (sourceWords ws)
-  pub same : constraintsFrom at (drop at ws) ≡ constraints ws
+-- the variables so far, where another may stand
+abbrev pub Opening : List ℕ → List ℕ → ℕ → ℕ → Type 0
+Opening ws types v at = (length types ≡ 256) × VariablesSeen Start ws types v at
 
 pub opening : {ws types : List ℕ} → length ws ≤ 8192 → length types ≡ 256 → Opening ws types 0 0
 unfolding constraints
-opening l f = record { few = omega arith; full = f; placed = record { within = omega arith; few = l }; rest = refl; declares = omega arith; front = omega arith; same = refl }
+opening {ws} {types} l f = (f, record { few = omega arith; placed = record { within = omega arith; few = l }; rest = all-read ws l; declares = omega arith; front = omega arith; same = refl })
 
-module _ {ws types : List ℕ} {v at : ℕ} (o : Opening ws types v at) {d : ℕ} {r : Step} (g : Declares ws v at d r) where
+module _ {ws types : List ℕ} {v at : ℕ} (f : length types ≡ 256) (o : VariablesSeen Start ws types v at) {d : ℕ} {r : Step} (g : Declares ws v at d r) where
   counted : length (take v types) ≡ v
-  counted = length-take-le v types (omega (arith, o .few, o .full))
+  counted = length-take-le v types (omega (arith, o .few, f))
 
-  pub opening-halted : (r .number ≡ 0 → ⊥) → stopped ws (r .number) (r .at) ≡ whole ws
+  pub opening-halted : (r .number ≡ 0 → ⊥) → stopped ws (r .number) (r .at) ≡ readModel ws
   opening-halted z = sym (g .reads (take v types) counted ∙ rw (ne-eqb (r .number) 0 z)) ∙ o .rest
 
   pub opened : r .number ≡ 0 → Opening ws (set types v d) (v + 1) (r .at)
   opened z =
       let p = g .passed z in
-      let e : take (v + 1) (set types v d) ≡ take v types ++ (d ∷ []) = rw add-one (take-suc-set types v d (omega (arith, o .full, g .room z))) in
-      record {
-        few = omega (arith, g .room z);
-        full = length-set types v d ∙ o .full;
-        placed = record { within = g .inside z; few = o .placed .few };
-        rest =
-            ap (λ (ts : List ℕ). onward Start ts 0 (r .at) ws) e
-            ∙ sym (g .reads (take v types) counted ∙ rw (eq-eqb (r .number) 0 z))
-            ∙ o .rest;
-        declares = omega (arith, o .declares, p .one-variable);
-        front = sym (p .more-sources) ∙ o .front;
-        same = sym (p .same-constraints) ∙ o .same;
-      }
+      let e : take (v + 1) (set types v d) ≡ take v types ++ (d ∷ []) = rw add-one (take-suc-set types v d (omega (arith, f, g .room z))) in (
+        length-set types v d ∙ f,
+        record {
+          few = omega (arith, g .room z);
+          placed = record { within = g .inside z; few = o .placed .few };
+          rest =
+              ap (λ (ts : List ℕ). onward Start ts 0 (r .at) ws) e
+              ∙ sym (g .reads (take v types) counted ∙ rw (eq-eqb (r .number) 0 z))
+              ∙ o .rest;
+          declares = omega (arith, o .declares, p .one-variable);
+          front = sym (p .more-sources) ∙ o .front;
+          same = sym (p .same-constraints) ∙ o .same;
+        },
+      )
+
+undeclared : (w k : ℕ) → 0 ≡ getD (declared w) 0 0 → kind w ≡ k → (k ≡ 1) ⊎ (k ≡ 3) → ⊥
+unfolding declared
+undeclared w k e q (inl h) = let y : _≡_ {A = ℕ} 0 1 = rw (q, h) at e in omega arith
+undeclared w k e q (inr h) = let y : _≡_ {A = ℕ} 0 2 = rw (q, h) at e in omega arith
+
+-- a word that starts no variable ends them
+pub all-opened : {ws types : List ℕ} {v at : ℕ} → VariablesSeen Start ws types v at → 0 ≡ getD (declared (wordAt ws at)) 0 0 → VariablesSeen heads ws types v at
+all-opened {ws} {types} {v} {at} o e = record {
+  few = o .few;
+  placed = o .placed;
+  rest = sym (start-heads ws (take v types) 0 at (λ q. undeclared (wordAt ws at) 1 e q (inl refl)) (λ q. undeclared (wordAt ws at) 3 e q (inr refl))) ∙ o .rest;
+  declares = o .declares;
+  front = o .front;
+  same = o .same;
+}
 
 -- ---- the constraints; `sources` is the place where they begin
 
@@ -101,29 +121,14 @@ pub record Posing (ws types hs : List ℕ) (v sources c at : ℕ) : Type 0 where
   pub room : c ≤ 256
   pub full : length hs ≡ 256
   pub placed : Placed ws at
-  pub rest : onward heads (take v types) c at ws ≡ whole ws
+  pub rest : onward heads (take v types) c at ws ≡ readModel ws
   pub declares : v + length (variables (drop at ws)) ≡ length (variables ws)
   pub front : sources + length (sourceWords (drop sources ws)) ≡ length (sourceWords ws)
   pub began : (sources ≡ at) ⊎ (3 < kind (wordAt ws sources))
   pub posed : map (headed ws) (take c hs) ++ constraintsFrom at (drop at ws) ≡ constraints ws
 
-undeclared : (w k : ℕ) → 0 ≡ getD (declared w) 0 0 → kind w ≡ k → (k ≡ 1) ⊎ (k ≡ 3) → ⊥
-unfolding declared
-undeclared w k e q (inl h) = let y : _≡_ {A = ℕ} 0 1 = rw (q, h) at e in omega arith
-undeclared w k e q (inr h) = let y : _≡_ {A = ℕ} 0 2 = rw (q, h) at e in omega arith
-
-pub posing : {ws types hs : List ℕ} {v at : ℕ} → Opening ws types v at → 0 ≡ getD (declared (wordAt ws at)) 0 0 → length hs ≡ 256 → Posing ws types hs v at 0 at
-posing {ws} {types} {hs} {v} {at} o e f = record {
-  few = o .few;
-  room = omega arith;
-  full = f;
-  placed = o .placed;
-  rest = sym (start-heads ws (take v types) 0 at (λ q. undeclared (wordAt ws at) 1 e q (inl refl)) (λ q. undeclared (wordAt ws at) 3 e q (inr refl))) ∙ o .rest;
-  declares = o .declares;
-  front = o .front;
-  began = inl refl;
-  posed = o .same;
-}
+pub posing : {ws types hs : List ℕ} {v at : ℕ} → VariablesSeen heads ws types v at → length hs ≡ 256 → Posing ws types hs v at 0 at
+posing o f = record { few = o .few; room = omega arith; full = f; placed = o .placed; rest = o .rest; declares = o .declares; front = o .front; began = inl refl; posed = o .same }
 
 module _ {ws types hs : List ℕ} {v sources c at : ℕ} (p : Posing ws types hs v sources c at) {f : ℕ} (e : f ≡ faultHead c (wordAt ws at)) where
   abbrev ts : List ℕ
@@ -135,7 +140,7 @@ module _ {ws types hs : List ℕ} {v sources c at : ℕ} (p : Posing ws types hs
   at-head : f ≡ faultAt ws ts heads c at
   at-head = e ∙ sym (head-fault ws ts c at)
 
-  pub head-halted : (f ≡ 0 → ⊥) → stopped ws f at ≡ whole ws
+  pub head-halted : (f ≡ 0 → ⊥) → stopped ws f at ≡ readModel ws
   unfolding faultEnd
   head-halted z = sym (stop-at ws ts heads c at f refl at-head z) ∙ p .rest
 
@@ -143,7 +148,7 @@ module _ {ws types hs : List ℕ} {v sources c at : ℕ} (p : Posing ws types hs
     pub head-here : at < length ws
     head-here = here ws ts heads c at (sym z ∙ at-head)
 
-    passed : onward (afterHead w) (ts ++ declared w) (c + started w) (at + 1) ws ≡ whole ws
+    passed : onward (afterHead w) (ts ++ declared w) (c + started w) (at + 1) ws ≡ readModel ws
     passed = rw (← head-after w) (sym (go-on ws ts heads c at (sym z ∙ at-head))) ∙ p .rest
 
     -- a constraint
@@ -154,12 +159,12 @@ module _ {ws types hs : List ℕ} {v sources c at : ℕ} (p : Posing ws types hs
         | at-end k ↦ absurd (n k)
       ]
 
-      due-arguments : onward (argumentsFrom (payload w) 0) ts (c + 1) (at + 1) ws ≡ whole ws
+      due-arguments : onward (argumentsFrom (payload w) 0) ts (c + 1) (at + 1) ws ≡ readModel ws
       unfolding afterHead declared started
       due-arguments = rw (posing-one .1, append-nil ts) at passed
 
       module _ {r : Step} (g : ArgumentsRead ws ts (payload w) (at + 1) r) where
-        pub arguments-halted : (r .number ≡ 0 → ⊥) → stopped ws (r .number) (r .at) ≡ whole ws
+        pub arguments-halted : (r .number ≡ 0 → ⊥) → stopped ws (r .number) (r .at) ≡ readModel ws
         arguments-halted y = sym (halted (g (c + 1)) y) ∙ due-arguments
 
         one-more : map (headed ws) (take (c + 1) (set hs c at)) ≡ map (headed ws) (take c hs) ++ (headed ws at ∷ [])
@@ -189,16 +194,16 @@ module _ {ws types hs : List ℕ} {v sources c at : ℕ} (p : Posing ws types hs
 
     -- the end
     module _ (k : kind w ≡ 7) where
-      ended : onward Ended ts c (at + 1) ws ≡ whole ws
+      ended : onward Ended ts c (at + 1) ws ≡ readModel ws
       unfolding afterHead declared started
       ended = rw (k, append-nil ts, add-zero c) at passed
 
-      pub after-end : at + 1 < length ws → stopped ws 11 (at + 1) ≡ whole ws
+      pub after-end : at + 1 < length ws → stopped ws 11 (at + 1) ≡ readModel ws
       unfolding stopped faultDueIn
       after-end l = rw (lt-ltb (at + 1) (length ws) l) (sym (stop-here ws ts Ended c (at + 1) 11 l refl (λ (q : _≡_ {A = ℕ} 11 0). omega arith)) ∙ ended)
 
       module _ (l : length ws ≤ at + 1) where
-        pub no-fault : accepted ≡ whole ws
+        pub no-fault : accepted ≡ readModel ws
         unfolding faultEnd
         no-fault = sym (end-here ws ts Ended c (at + 1) l) ∙ ended
 
@@ -222,7 +227,7 @@ module _ {ws types hs : List ℕ} {v sources c at : ℕ} (p : Posing ws types hs
 
         pub seen : Seen ws hs (record { number = 0; place = 0; variables = v; sources = sources; constraints = c })
         seen = record {
-          accepts = sym (no-fault ∙ all-read ws (p .placed .few));
+          accepts = sym no-fault;
           variables-counted = omega (arith, p .declares, no-variable);
           sources-counted = omega (arith, p .front, no-source);
           heads = record {

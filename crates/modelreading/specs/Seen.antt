@@ -11,8 +11,9 @@ use Rattle.words.specs.Refusal.{_at-place_, accepted}
 use Rattle.words.specs.Variables.{variables}
 use Rattle.models.specs.Model.{headed, constraintsFrom, constraints, sourceWords}
 use Rattle.models.specs.Reading.{declared, readModel}
+use Rattle.models.specs.declared.Due.{Due}
 use Rattle.models.specs.declared.Due.the-variants.{Start}
-use Rattle.modelreading.specs.Onward.{onward, stopped}
+use Rattle.modelreading.specs.Onward.{onward, stopped, Placed, heads}
 use Rattle.modelreading.specs.declared.items.Step.{Step}
 use Rattle.modelreading.specs.declared.Read.{Read}
 
@@ -32,6 +33,20 @@ pub record Declares (ws : List ℕ) (v at d : ℕ) (r : Step) : Type 0 where
 
 abbrev pub VariableRead : List ℕ → ℕ → ℕ → ℕ → Step → Type 0
 VariableRead ws v at w r = (d : ℕ) → d ≡ getD (declared w) 0 0 → (d ≡ 0 → ⊥) → Declares ws v at d r
+
+-- what is kept of v variables that take the words up to a place, where something is due: their types, and what the words after it hold
+pub record VariablesSeen (due : Due) (ws types : List ℕ) (v at : ℕ) : Type 0 where
+  pub few : v ≤ Limit.variables
+  pub placed : Placed ws at
+  pub rest : onward due (take v types) 0 at ws ≡ readModel ws
+  pub declares : v + length (variables (drop at ws)) ≡ length (variables ws)
+  pub front : at + length (sourceWords (drop at ws)) ≡ length (sourceWords ws)
+  pub same : constraintsFrom at (drop at ws) ≡ constraints ws
+
+-- what reading the variables answers
+pub record VariablesKept (ws types : List ℕ) (r : Read) : Type 0 where
+  pub refusal : (r .number ≡ Fault.none → ⊥) → r .number at-place r .place ≡ readModel ws
+  pub seen : r .number ≡ Fault.none → VariablesSeen heads ws types (r .variables) (r .sources)
 
 -- the first n of hs are the places of the constraints' heads
 pub record Heads (ws hs : List ℕ) (n : ℕ) : Type 0 where

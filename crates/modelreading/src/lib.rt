@@ -1,9 +1,12 @@
 // The reader of a model: the first faulty word, by faults 1 to 11 and 18; and of an accepted model what it saw.
 ghost use mathlib.Core.Path.{_≡_};
+ghost use Prim.Native.Nat.{_≤_};
 ghost use lib.ListN.{length};
+ghost use Rattle.words.specs.Limit as Limit;
 ghost use Rattle.words.specs.Refusal.{_at-place_};
+ghost use Rattle.modelreading.specs.Onward as Onward;
 ghost use Rattle.modelreading.specs.Onward.{stopped};
-ghost use Rattle.modelreading.specs.Seen.{Kept};
+ghost use Rattle.modelreading.specs.Seen.{VariablesSeen, VariablesKept, Kept};
 
 pub mod faults;
 pub mod items;
@@ -45,16 +48,11 @@ fn refused(ws: &[u32], number: u32, place: usize) -> Read
     }
 }
 
-// The first fault of a model and its place; of an accepted model what it has, and in heads the places of its constraints.
-pub fn read_model(ws: &[u32], heads: &mut [usize; 256]) -> Read
-    requires { ⌜ length (now heads) ≡ 256 ⌝ }
-    ensures { λ r. ⌜ Kept (now (ws .entry)) (now (heads .exit)) r ⌝ }
+// The variables of a model: the first fault and its place; or how many there are, how many words they take, and in types their types.
+fn read_variables(ws: &[u32], types: &mut [u32; 256]) -> Read
+    requires { ⌜ (length (now ws) ≤ Limit.modelWords) × (length (now types) ≡ 256) ⌝ }
+    ensures { λ r. ⌜ VariablesKept (now (ws .entry)) (now (types .exit)) r ⌝ }
 {
-    if limit::MODEL_WORDS < ws.len() {
-        return refused(ws, fault::TOO_MANY_WORDS, 0);
-    }
-    let table = shapes::SHAPES;
-    let mut types = [shapes::NONE; 256];
     let mut v = 0;
     let mut at = 0;
     loop {
@@ -71,7 +69,28 @@ pub fn read_model(ws: &[u32], heads: &mut [usize; 256]) -> Read
         v += 1;
         at = variable.at;
     }
-    let sources = at;
+    Read {
+        number: fault::NONE,
+        place: 0,
+        variables: v,
+        sources: at,
+        constraints: 0,
+    }
+}
+
+// The constraints of a model after its variables, which take so many words: what the model has, or its first fault and its place.
+fn read_constraints(
+    ws: &[u32],
+    types: &[u32; 256],
+    v: usize,
+    sources: usize,
+    heads: &mut [usize; 256],
+) -> Read
+    requires { ⌜ VariablesSeen Onward.heads (now ws) (now types) v sources × (length (now heads) ≡ 256) ⌝ }
+    ensures { λ r. ⌜ Kept (now (ws .entry)) (now (heads .exit)) r ⌝ }
+{
+    let table = shapes::table();
+    let mut at = sources;
     let mut c = 0;
     loop {
         let head = word_at(ws, at);
@@ -84,7 +103,7 @@ pub fn read_model(ws: &[u32], heads: &mut [usize; 256]) -> Read
         }
         heads[c] = at;
         c += 1;
-        let arguments = arguments_at(ws, at + 1, payload_of(head), &table, &types, v);
+        let arguments = arguments_at(ws, at + 1, payload_of(head), &table, types, v);
         if arguments.number != fault::NONE {
             return refused(ws, arguments.number, arguments.at);
         }
@@ -100,4 +119,20 @@ pub fn read_model(ws: &[u32], heads: &mut [usize; 256]) -> Read
         sources,
         constraints: c,
     }
+}
+
+// The first fault of a model and its place; of an accepted model what it has, and in heads the places of its constraints.
+pub fn read_model(ws: &[u32], heads: &mut [usize; 256]) -> Read
+    requires { ⌜ length (now heads) ≡ 256 ⌝ }
+    ensures { λ r. ⌜ Kept (now (ws .entry)) (now (heads .exit)) r ⌝ }
+{
+    if limit::MODEL_WORDS < ws.len() {
+        return refused(ws, fault::TOO_MANY_WORDS, 0);
+    }
+    let mut types = [shapes::NONE; 256];
+    let read = read_variables(ws, &mut types);
+    if read.number != fault::NONE {
+        return read;
+    }
+    read_constraints(ws, &types, read.variables, read.sources, heads)
 }

@@ -72,6 +72,13 @@ pub const SHAPES: [[u32; MOST]; CODES + 1] = [
     [INTEGER, EXPONENT, INTEGER],
 ];
 
+// The table, laid out once a reading and lent to each look-up.
+pub fn table() -> [[u32; MOST]; CODES + 1]
+    ensures { λ r. ⌜ r ≡ table ⌝ }
+{
+    SHAPES
+}
+
 // The k-th argument of a code, counted from 0, in the lent table.
 pub fn argument_of(shapes: &[[u32; MOST]; CODES + 1], code: usize, k: usize) -> u32
     requires { ⌜ now shapes ≡ table ⌝ }
