@@ -23,13 +23,14 @@ use Rattle.models.specs.Reading.{faultHead, faultEnd, faultDueIn, afterHead, de
 use Rattle.models.specs.declared.Due.the-variants.{Start, Ended}
 use Rattle.models.proofs.Sound.{is-head, at-constraint, at-end}
 use Rattle.models.proofs.Constraints.{starts-one}
-use Rattle.modelreading.specs.declared.items.Step.{Step}
+use Rattle.modelitems.specs.Onward.{onward, stopped, Placed, heads, argumentsFrom, ArgumentsRead}
+use Rattle.modelitems.specs.Variable.{Declares}
+use Rattle.modelitems.specs.declared.items.Step.{Step}
+use Rattle.modelitems.proofs.Onward.{faultAt, here, go-on, stop-here, end-here, stop-at, start-heads, head-fault, head-after}
+use Rattle.modelitems.proofs.Steps.{gone, halted, present}
+use Rattle.modelitems.proofs.Variable.{none-declared, none-posed}
+use Rattle.modelreading.specs.Seen.{VariablesSeen, VariablesKept, Seen, Kept}
 use Rattle.modelreading.specs.declared.Read.{Read}
-use Rattle.modelreading.specs.Onward.{onward, stopped, Placed, heads, argumentsFrom, ArgumentsRead}
-use Rattle.modelreading.specs.Seen.{Declares, VariablesSeen, VariablesKept, Seen, Kept}
-use Rattle.modelreading.proofs.Onward.{faultAt, here, go-on, stop-here, end-here, stop-at, start-heads, head-fault, head-after}
-use Rattle.modelreading.proofs.Steps.{gone, halted, present}
-use Rattle.modelreading.proofs.Variable.{none-declared, none-posed}
 
 -- ---- what is answered
 

@@ -1,4 +1,2 @@
--- What the contracts cite: the table of arguments, reading on from a place, and what reading keeps.
-pub mod Argument
-pub mod Onward
+-- What the contracts cite: what reading keeps.
 pub mod Seen

@@ -1,38 +1,17 @@
 -- What reading keeps of a model.
 use mathlib.Core.Path.{_≡_}
-use mathlib.Core.List.{List, [], _∷_, _++_, map}
-use Prim.Native.Nat.{ℕ, _+_, _<_, _≤_}
-use lib.Dec.{eqb}
-use lib.ListN.{length, getD, drop, take}
-use Rattle.integers.specs.Choice.{_if_else_}
+use mathlib.Core.List.{List, map}
+use Prim.Native.Nat.{ℕ, _+_, _≤_}
+use lib.ListN.{length, drop, take}
 use Rattle.words.specs.Fault as Fault
 use Rattle.words.specs.Limit as Limit
 use Rattle.words.specs.Refusal.{_at-place_, accepted}
 use Rattle.words.specs.Variables.{variables}
 use Rattle.models.specs.Model.{headed, constraintsFrom, constraints, sourceWords}
-use Rattle.models.specs.Reading.{declared, readModel}
+use Rattle.models.specs.Reading.{readModel}
 use Rattle.models.specs.declared.Due.{Due}
-use Rattle.models.specs.declared.Due.the-variants.{Start}
-use Rattle.modelreading.specs.Onward.{onward, stopped, Placed, heads}
-use Rattle.modelreading.specs.declared.items.Step.{Step}
+use Rattle.modelitems.specs.Onward.{onward, Placed, heads}
 use Rattle.modelreading.specs.declared.Read.{Read}
-
--- a variable's words stand from one place to another
-pub record Passed (ws : List ℕ) (at to : ℕ) : Type 0 where
-  pub one-variable : length (variables (drop at ws)) ≡ length (variables (drop to ws)) + 1
-  pub more-sources : at + length (sourceWords (drop at ws)) ≡ to + length (sourceWords (drop to ws))
-  pub same-constraints : constraintsFrom at (drop at ws) ≡ constraintsFrom to (drop to ws)
-
--- the step r leads past a variable of the type d, after v variables, or to the first fault
-pub record Declares (ws : List ℕ) (v at d : ℕ) (r : Step) : Type 0 where
-  pub reads : (ts : List ℕ) → length ts ≡ v → onward Start ts 0 at ws ≡ (onward Start (ts ++ (d ∷ [])) 0 (r .at) ws if eqb (r .number) Fault.none else stopped ws (r .number) (r .at))
-  pub room : r .number ≡ Fault.none → v < Limit.variables
-  pub on : r .number ≡ Fault.none → at < r .at
-  pub inside : r .number ≡ Fault.none → r .at ≤ length ws
-  pub passed : r .number ≡ Fault.none → Passed ws at (r .at)
-
-abbrev pub VariableRead : List ℕ → ℕ → ℕ → ℕ → Step → Type 0
-VariableRead ws v at w r = (d : ℕ) → d ≡ getD (declared w) 0 0 → (d ≡ 0 → ⊥) → Declares ws v at d r
 
 -- what is kept of v variables that take the words up to a place, where something is due: their types, and what the words after it hold
 pub record VariablesSeen (due : Due) (ws types : List ℕ) (v at : ℕ) : Type 0 where

@@ -4,17 +4,14 @@ ghost use Prim.Native.Nat.{_≤_};
 ghost use lib.ListN.{length};
 ghost use Rattle.words.specs.Limit as Limit;
 ghost use Rattle.words.specs.Refusal.{_at-place_};
-ghost use Rattle.modelreading.specs.Onward as Onward;
-ghost use Rattle.modelreading.specs.Onward.{stopped};
+ghost use Rattle.modelitems.specs.Onward as Onward;
+ghost use Rattle.modelitems.specs.Onward.{stopped};
 ghost use Rattle.modelreading.specs.Seen.{VariablesSeen, VariablesKept, Kept};
-
-pub mod faults;
-pub mod items;
-pub mod shapes;
-
-use items::arguments_at;
-use items::declared_by;
-use items::variable_at;
+use modelitems::faults::of_head;
+use modelitems::items::arguments_at;
+use modelitems::items::declared_by;
+use modelitems::items::variable_at;
+use modelitems::shapes;
 use words::fault;
 use words::kind;
 use words::kind_of;
@@ -94,16 +91,17 @@ fn read_constraints(
     let mut c = 0;
     loop {
         let head = word_at(ws, at);
-        let number = faults::of_head(c, head);
+        let number = of_head(c, head);
         if number != fault::NONE {
             return refused(ws, number, at);
         }
         if kind_of(head) == kind::MODEL_END {
             break;
         }
+        let first = at + 1;
         heads[c] = at;
         c += 1;
-        let arguments = arguments_at(ws, at + 1, payload_of(head), &table, types, v);
+        let arguments = arguments_at(ws, first, payload_of(head), &table, types, v);
         if arguments.number != fault::NONE {
             return refused(ws, arguments.number, arguments.at);
         }

@@ -6,7 +6,7 @@ use borrow.Author.Needs.{needs}
 use lib.ListN.{length, take}
 use Rattle.words.specs.Word.{kind, payload, wordAt}
 use Rattle.models.specs.Reading.{faultHead}
-use Rattle.modelreading.specs.Onward.{ArgumentsRead}
+use Rattle.modelitems.specs.Onward.{ArgumentsRead}
 use Rattle.modelreading.proofs.Loop.{Posing, kept-fault, posing, head-halted, head-here, posing-one, arguments-halted, posing-on, after-end, no-fault, seen}
 use Rattle.modelreading.proofs.read_constraints.Statement.{statement}
 use Rattle.modelreading.proofs.read_constraints.Tie as tie
@@ -46,6 +46,9 @@ inside : (c : tie.Else2 Inv-loop μ-loop) →
     p .loop .at < length (p .before .before .before .args .ws .now)
 inside c = let o = c .before .before .before in head-here (o .before .before .loop .inv) (head o) (c .before .before .if1 .left)
 
+add-first : tie.Need-add-first Inv-loop μ-loop
+add-first c = record { fits = omega (arith, inside c, c .before .before .before .before .before .loop .inv .placed .few) }
+
 mul-heads : tie.Need-mul-heads Inv-loop μ-loop
 mul-heads c = record { fits = omega (arith, room c) }
 
@@ -54,9 +57,6 @@ element-write-heads c = room c
 
 add-c : tie.Need-add-c Inv-loop μ-loop
 add-c c = record { fits = omega (arith, room c) }
-
-add-arguments-at : tie.Need-add-arguments-at Inv-loop μ-loop
-add-arguments-at c = record { fits = omega (arith, inside c, c .before .before .before .before .before .loop .inv .placed .few) }
 
 arguments-at-requires : tie.Need-arguments-at-requires Inv-loop μ-loop
 arguments-at-requires c κs =
@@ -127,10 +127,10 @@ read-constraints-spec =
     (λ c κs. search needs)
     returns
     (λ c κs. search needs)
+    add-first
     mul-heads
     element-write-heads
     add-c
-    add-arguments-at
     (λ c κs. search needs)
     arguments-at-requires
     (λ c κs. search needs)

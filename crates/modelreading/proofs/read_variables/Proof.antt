@@ -4,7 +4,7 @@ use native.Mathlib.Omega.{arith}
 use borrow.Author.Needs.{needs}
 use mathlib.Core.Path.{refl, sym, _∙_}
 use lib.ListN.{length}
-use Rattle.modelreading.specs.Seen.{Declares}
+use Rattle.modelitems.specs.Variable.{Declares}
 use Rattle.modelreading.proofs.Loop.{Opening, variables-fault, opening, opening-halted, opened, all-opened}
 use Rattle.modelreading.proofs.read_variables.Statement.{statement}
 use Rattle.modelreading.proofs.read_variables.Tie as tie

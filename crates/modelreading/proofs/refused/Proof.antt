@@ -1,6 +1,6 @@
 -- The code tests as the definition does.
 use borrow.Author.Tests.{le-ltb, lt-ltb}
-use Rattle.modelreading.specs.Onward.{stopped}
+use Rattle.modelitems.specs.Onward.{stopped}
 use Rattle.modelreading.proofs.refused.Statement.{statement}
 use Rattle.modelreading.proofs.refused.Tie as tie
 
