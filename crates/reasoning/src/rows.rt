@@ -11,7 +11,7 @@ ghost use Rattle.words.specs.Verdict.{verdict};
 ghost use Rattle.rowsystems.specs.Row.{satisfied};
 ghost use Rattle.rowsystems.specs.RowSystem.{rows};
 ghost use Rattle.rowreading.specs.Onward.{onward, Placed};
-ghost use Rattle.rowjudge.specs.Passing.{ValuesKnown};
+ghost use Rattle.rowterms.specs.Values.{ValuesKnown};
 use rowjudge::judge_on;
 use rowsystems::Due;
 use words::Verdict;

@@ -33,7 +33,9 @@ use Rattle.rowreading.specs.declared.items.Step.{Step}
 use Rattle.rowreading.proofs.Counts.{CountedFrom, none-counted, count-none, count-one, count-plain, counted, along, plain-variables}
 use Rattle.rowreading.proofs.Steps.{or-false}
 use Rattle.rowsystems.specs.OneWord.{startsRow, rowOf}
-use Rattle.rowjudge.specs.Passing.{ValuesKnown, ItemPassed, judgedOn}
+use Rattle.rowterms.specs.Values.{ValuesKnown}
+use Rattle.rowitems.specs.Passing.{ItemPassed}
+use Rattle.rowjudge.specs.Judging.{judgedOn}
 use Rattle.rowsystems.proofs.Walk.{starts-none, starts-one, none-left}
 
 -- ---- the rows so far: whether all k are true, else the first wrong one

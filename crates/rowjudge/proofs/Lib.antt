@@ -1,4 +1,2 @@
 -- Laws for the proofs of judge-rows.
-pub mod Sums
-pub mod Passing
 pub mod Judging

@@ -1,2 +1,2 @@
--- What the contracts cite: reading and judging an item at once.
-pub mod Passing
+-- What the contracts cite: judging from a place on.
+pub mod Judging

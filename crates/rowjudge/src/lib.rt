@@ -11,9 +11,10 @@ ghost use Rattle.words.specs.Verdict.{verdict};
 ghost use Rattle.rowsystems.specs.JudgeRows.{judgeRows};
 ghost use Rattle.rowreading.specs.Item.{startDue};
 ghost use Rattle.rowreading.specs.Onward.{onward, Placed};
-ghost use Rattle.rowjudge.specs.Passing.{JudgedOn, ValuesKnown};
-use items::see_item;
-use items::see_variable;
+ghost use Rattle.rowterms.specs.Values.{ValuesKnown};
+ghost use Rattle.rowjudge.specs.Judging.{JudgedOn};
+use rowitems::see_item;
+use rowitems::see_variable;
 use rowreading::read_on;
 use rowreading::refusal_at;
 use variables::starts_variable;
@@ -25,8 +26,6 @@ use words::kind_of;
 use words::limit;
 use words::value_at;
 use words::word_at;
-
-pub mod items;
 
 // The refusal of the words, else of the number of values, else what is judged.
 fn answer(read: Refusal, as_many: bool, judged: Verdict) -> Verdict

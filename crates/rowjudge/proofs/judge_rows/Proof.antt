@@ -14,7 +14,7 @@ use Rattle.rowsystems.specs.JudgeRows.{judgeRows, judgeAccepted}
 use Rattle.rowsystems.specs.Reading.{readRows}
 use Rattle.rowreading.specs.Item.{startDue}
 use Rattle.rowreading.specs.Onward.{onward}
-use Rattle.rowjudge.specs.Passing.{judgedOn}
+use Rattle.rowjudge.specs.Judging.{judgedOn}
 use Rattle.rowjudge.proofs.Judging.{first-refusal, none-first, same-answer}
 use Rattle.rowjudge.proofs.judge_rows.Statement.{statement}
 use Rattle.rowjudge.proofs.judge_rows.Tie as tie

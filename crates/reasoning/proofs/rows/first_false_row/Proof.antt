@@ -4,7 +4,7 @@ use native.Mathlib.Omega.{arith}
 use Rattle.words.specs.Judge.{firstOutOfBounds}
 use Rattle.words.specs.declared.Refusal.{Refusal}
 use Rattle.rowreading.specs.Item.{startDue}
-use Rattle.rowjudge.specs.Passing.{judgedOn}
+use Rattle.rowjudge.specs.Judging.{judgedOn}
 use Rattle.reasoning.proofs.rows.first_false_row.Statement.{statement}
 use Rattle.reasoning.proofs.rows.first_false_row.Tie as tie
 

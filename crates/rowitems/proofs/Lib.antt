@@ -1,0 +1,2 @@
+-- Laws for the proofs about items.
+pub mod Passing

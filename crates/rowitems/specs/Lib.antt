@@ -1,0 +1,2 @@
+-- What the contracts cite: reading past an item.
+pub mod Passing

@@ -1,0 +1,3 @@
+-- Laws for the proofs about terms and factors.
+pub mod Sums
+pub mod Steps
