@@ -1,5 +1,5 @@
 -- The one pass: what it knows at a place, past an item, and where it stops.
-use mathlib.Core.Path.{_≡_, refl, sym, _∙_}
+use mathlib.Core.Path.{_≡_, refl, sym, ap, _∙_}
 use mathlib.Core.Bool.{Bool, true, false, _||_}
 use mathlib.Core.List.{List, _∷_}
 use Prim.Native.Nat.{ℕ, zero, suc, _+_, _<_, _≤_}
@@ -19,6 +19,7 @@ use Rattle.words.specs.Kind as Kind
 use Rattle.words.specs.Refusal.{_at-place_, accepted, faultOr, _else-refuse_, countFault}
 use Rattle.words.specs.Small.{Near}
 use Rattle.words.specs.Variables.{startsPair, variables}
+use Rattle.words.specs.Verdict.{verdict}
 use Rattle.words.specs.Word.{kind, signed, wordAt}
 use Rattle.words.specs.declared.Refusal.{Refusal}
 use Rattle.words.proofs.Word.{between-near, signed-near}
@@ -31,11 +32,13 @@ use Rattle.rowreading.specs.Item.{startDue}
 use Rattle.rowreading.specs.Onward.{startsKind, Plain, onward, stopped, resumed}
 use Rattle.rowreading.specs.declared.items.Step.{Step}
 use Rattle.rowreading.proofs.Counts.{CountedFrom, none-counted, count-none, count-one, count-plain, counted, along, plain-variables}
+use Rattle.rowreading.proofs.Onward.{at-the-end}
 use Rattle.rowreading.proofs.Steps.{or-false}
 use Rattle.rowsystems.specs.OneWord.{startsRow, rowOf}
 use Rattle.rowterms.specs.Values.{ValuesKnown}
 use Rattle.rowitems.specs.Passing.{ItemPassed}
-use Rattle.rowjudge.specs.Judging.{judgedOn}
+use Rattle.rowjudge.specs.Judging.{ValueOrFar, judgedOn, JudgedOn}
+use Rattle.rowjudge.specs.declared.Judged.{Judged}
 use Rattle.rowsystems.proofs.Walk.{starts-none, starts-one, none-left}
 
 -- ---- the rows so far: whether all k are true, else the first wrong one
@@ -44,14 +47,9 @@ abbrev pub tells : (Row ℕ → Bool) → ℕ → Bool → ℕ → List (Row ℕ
 tells t k all wrong xs = firstFalse t k xs if all else isFalse wrong
 
 module _ (t : Row ℕ → Bool) (k wrong : ℕ) (x : Row ℕ) (xs : List (Row ℕ)) where
-  pub row-holds : (all : Bool) → t x ≡ true → tells t (k + 1) all wrong xs ≡ tells t k all wrong (x ∷ xs)
+  pub row-told : tells t (k + 1) (t x) k xs ≡ tells t k true wrong (x ∷ xs)
   unfolding firstFalse
-  row-holds true e = rw e
-  row-holds false e = refl
-
-  pub row-fails : t x ≡ false → tells t (k + 1) false k xs ≡ tells t k true wrong (x ∷ xs)
-  unfolding firstFalse
-  row-fails e = rw e
+  row-told = refl
 
 -- ---- what the pass knows at a place, past n variables and k rows and products
 
@@ -117,23 +115,33 @@ module _ {ws : List ℕ} {vs : List ℤ} {before start first n k : ℕ} {all : B
   abbrev w : ℕ
   w = wordAt ws at
 
-  pub variable-judged : {b : ℕ} → starts w ≡ true → n + 1 ≤ length vs → within (pairBounds w (wordAt ws (at + 1))) (value vs n) ≡ true →
+  -- a number within bounds is a value that is there
+  there : (v : ℤ) → ValueOrFar vs n v → within (pairBounds w (wordAt ws (at + 1))) v ≡ true → n < length vs
+  there v f e = go (ltb n (length vs)) refl
+    where
+      go : (b : Bool) → ltb n (length vs) ≡ b → n < length vs
+      go true q = ltb-true n (length vs) q
+      go false q = absurd (f .1 (ltb-false n (length vs) q) (kept-near w (wordAt ws (at + 1)) v e))
+
+  pub variable-judged : {v : ℤ} {b : ℕ} → starts w ≡ true → ValueOrFar vs n v → within (pairBounds w (wordAt ws (at + 1))) v ≡ true →
       Plain ws (at + 1) b → at + 1 ≤ b → b ≤ length ws → Judging ws vs before start first (n + 1) k all wrong b
   unfolding wordAt firstOutOfBounds
-  variable-judged s f e p l m =
+  variable-judged {v} s f e p l m =
+      let known = there v f e in
+      let kept = rw (f .0 known) at e in
       plain-to
       (record {
         few = omega (arith, j .few);
         counted = count-one (j .counted) h s;
-        known = known-more vs n (j .known) f (kept-near w (wordAt ws (at + 1)) (value vs n) e);
-        told = rw (at-one ws at h s, e, starts-none ws at h (variable-no-row w s)) at (j .told);
+        known = known-more vs n (j .known) (omega arith) (kept-near w (wordAt ws (at + 1)) (value vs n) kept);
+        told = rw (at-one ws at h s, kept, starts-none ws at h (variable-no-row w s)) at (j .told);
       })
       p l m
 
   -- a value out of its bounds is what is named
-  pub outside : starts w ≡ true → within (pairBounds w (wordAt ws (at + 1))) (value vs n) ≡ false → outOfBounds n ≡ judgedOn ws vs before start first
+  pub outside : {v : ℤ} → starts w ≡ true → ValueOrFar vs n v → within (pairBounds w (wordAt ws (at + 1))) v ≡ false → n < length vs → outOfBounds n ≡ judgedOn ws vs before start first
   unfolding wordAt firstOutOfBounds
-  outside s e = rw (at-one ws at h s, e) at (j .told)
+  outside s f e known = rw (at-one ws at h s, rw (f .0 known) at e) at (j .told)
 
   pub row-judged : {more : Bool} {wrong' b : ℕ} → starts w ≡ false → startsRow w ≡ true →
       tells (satisfied (value vs)) (k + 1) more wrong' (rows (drop (at + 1) ws)) ≡ tells (satisfied (value vs)) k all wrong (rowOf w (drop (at + 1) ws) ∷ rows (drop (at + 1) ws)) →
@@ -160,23 +168,26 @@ module _ {ws : List ℕ} {s : Bool} {n at m : ℕ} {d : Due} {r : Step} (g : Ite
   unfolding resumed
   halts z = g .reads ∙ rw (ne-eqb (r .number) 0 z)
 
-pub record Exit (ws : List ℕ) (vs : List ℤ) (sources : Bool) (before start first n k : ℕ) (all : Bool) (wrong number at : ℕ) : Type 0 where
-  pub some : number ≡ 0 → ⊥
-  pub reads : stopped ws number at ≡ onward (startDue sources) before start ws
-  pub judged : number ≡ Fault.wordAfterEnd → Judging ws vs before start first n k all wrong at
+module _ {ws : List ℕ} {vs : List ℤ} {before start first n k : ℕ} {all : Bool} {wrong at : ℕ} where
+  all-counted : Judging ws vs before start first n k all wrong at → length ws ≤ at → n ≡ before + length (variables (drop start ws))
+  all-counted j h = counted (j .counted) h
 
-pub exit : {ws : List ℕ} {vs : List ℤ} {sources : Bool} {before start first n k : ℕ} {all : Bool} {wrong at : ℕ} {s : Bool} {m : ℕ} {d : Due} {r : Step} →
-    Judging ws vs before start first n k all wrong at → ItemPassed ws s n at d m r → (r .number ≡ 0 → ⊥) → onward (startDue s) n at ws ≡ onward (startDue sources) before start ws →
-    Exit ws vs sources before start first n k all wrong (r .number) (r .at)
-exit j g z e = record { some = z; reads = sym (halts g z) ∙ e; judged = λ i. plain-to j (g .last i) (g .on) (g .inside) }
-
-module _ {ws : List ℕ} {vs : List ℤ} {before start first n k : ℕ} {all : Bool} {wrong at : ℕ} (j : Judging ws vs before start first n k all wrong at) (h : length ws ≤ at) where
-  pub all-counted : n ≡ before + length (variables (drop start ws))
-  all-counted = counted (j .counted) h
-
-  pub all-judged : (holds if all else isFalse wrong) ≡ judgedOn ws vs before start first
+  all-judged : Judging ws vs before start first n k all wrong at → length ws ≤ at → (holds if all else isFalse wrong) ≡ judgedOn ws vs before start first
   unfolding firstFalse firstOutOfBounds
-  all-judged = rw (at-last ws at h, none-left ws at h) at (j .told)
+  all-judged j h = rw (at-last ws at h, none-left ws at h) at (j .told)
+
+-- a fault past the end word is none, and all is judged
+pub stops : {ws : List ℕ} {vs : List ℤ} {sources : Bool} {before start first n k : ℕ} {all : Bool} {wrong at : ℕ} {s : Bool} {m : ℕ} {d : Due} {r : Step} {q : Judged} →
+    Judging ws vs before start first n k all wrong at → ItemPassed ws s n at d m r → (r .number ≡ 0 → ⊥) → onward (startDue s) n at ws ≡ onward (startDue sources) before start ws →
+    q .refusal ≡ stopped ws (r .number) (r .at) → q .variables ≡ n → verdict (q .said) ≡ (holds if all else isFalse wrong) →
+    JudgedOn ws vs sources before start first q
+stops {ws} {vs} {n = n} {k} {all} {wrong} {r = r} {q} j g z e a b c =
+    let end : q .refusal .number ≡ 0 → (r .number ≡ Fault.wordAfterEnd) × (length ws ≤ r .at) = λ i. at-the-end ws (r .number) (r .at) z (ap (λ (x : Refusal). x .number) (sym a) ∙ i) in
+    record {
+      reads = a ∙ sym (halts g z) ∙ e;
+      counts = λ i. b ∙ all-counted (plain-to j (g .last (end i .0)) (g .on) (g .inside)) (end i .1);
+      says = λ i h. c ∙ all-judged (plain-to j (g .last (end i .0)) (g .on) (g .inside)) (end i .1);
+    }
 
 -- 15, by a count of the variables that is right where the words are accepted
 pub first-refusal : (read : Refusal) (ws : List ℕ) (vs : List ℤ) (n : ℕ) → (read .number ≡ 0 → n ≡ length (variables ws)) →

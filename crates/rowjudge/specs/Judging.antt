@@ -2,12 +2,13 @@
 use mathlib.Core.Path.{_≡_}
 use mathlib.Core.Bool.{Bool}
 use mathlib.Core.List.{List}
-use Prim.Native.Nat.{ℕ, _+_, _≤_}
+use Prim.Native.Nat.{ℕ, _+_, _<_, _≤_}
 use lib.IntN.{ℤ}
 use lib.ListN.{length, drop}
 use Rattle.integers.specs.Terms.{value}
 use Rattle.words.specs.Answer.{Answer}
 use Rattle.words.specs.Judge.{firstFalse, firstOutOfBounds}
+use Rattle.words.specs.Small.{Near}
 use Rattle.words.specs.Variables.{variables}
 use Rattle.words.specs.Verdict.{verdict}
 use Rattle.rowsystems.specs.Row.{satisfied}
@@ -15,6 +16,10 @@ use Rattle.rowsystems.specs.RowSystem.{rows}
 use Rattle.rowreading.specs.Item.{startDue}
 use Rattle.rowreading.specs.Onward.{onward}
 use Rattle.rowjudge.specs.declared.Judged.{Judged}
+
+-- the value of variable x; where it is missing, a number that is within no bounds
+abbrev pub ValueOrFar : List ℤ → ℕ → ℤ → Type 0
+ValueOrFar vs x v = (x < length vs → v ≡ value vs x) × (length vs ≤ x → Near v → ⊥)
 
 -- what the values say of the words from a place on, with n variables and k rows before it
 unfoldable pub judgedOn : List ℕ → List ℤ → ℕ → ℕ → ℕ → Answer

@@ -1,6 +1,7 @@
-// Judge-rows in one pass: each item is read, and its bounds, its row or its product judged, before the next.
+// Judge-rows: the words of a row system and the values of its variables are read in one pass.
+// Each item is read, and its bounds, its row or its product judged, before the next.
 ghost use mathlib.Core.Path.{_≡_};
-ghost use Prim.Native.Nat.{_+_, _≤_};
+ghost use Prim.Native.Nat.{_+_, _<_, _≤_};
 ghost use lib.ListN.{length, drop};
 ghost use Rattle.integers.specs.Choice.{_if_else_};
 ghost use Rattle.words.specs.Answer.{holds, outOfBounds, isFalse, _else-answer_};
@@ -10,13 +11,14 @@ ghost use Rattle.words.specs.Variables.{variables};
 ghost use Rattle.words.specs.Verdict.{verdict};
 ghost use Rattle.rowsystems.specs.JudgeRows.{judgeRows};
 ghost use Rattle.rowreading.specs.Item.{startDue};
-ghost use Rattle.rowreading.specs.Onward.{onward, Placed};
+ghost use Rattle.rowreading.specs.Onward.{onward, stopped, Placed};
 ghost use Rattle.rowterms.specs.Values.{ValuesKnown};
-ghost use Rattle.rowjudge.specs.Judging.{JudgedOn};
+ghost use Rattle.rowjudge.specs.Judging.{JudgedOn, ValueOrFar};
 use rowitems::see_item;
 use rowitems::see_variable;
 use rowreading::read_on;
 use rowreading::refusal_at;
+use rowterms::known_value;
 use variables::starts_variable;
 use words::Refusal;
 use words::Verdict;
@@ -24,7 +26,6 @@ use words::fault;
 use words::kind;
 use words::kind_of;
 use words::limit;
-use words::value_at;
 use words::word_at;
 
 // The refusal of the words, else of the number of values, else what is judged.
@@ -60,20 +61,47 @@ pub struct Judged {
     pub said: Verdict,
 }
 
+// Where reading stops with a fault at a place, past n variables.
+fn judge_end(ws: &[u32], number: u32, at: usize, n: usize, all: bool, wrong: usize) -> Judged
+    ensures refusal { λ r. ⌜ r .refusal ≡ stopped (now (ws .entry)) number at ⌝ }
+    ensures variables { λ r. ⌜ r .variables ≡ n ⌝ }
+    ensures said { λ r. ⌜ verdict (r .said) ≡ (holds if all else isFalse wrong) ⌝ }
+{
+    let refusal = refusal_at(ws, number, at);
+    Judged {
+        refusal,
+        variables: n,
+        said: told(all, wrong),
+    }
+}
+
 // Where the value of variable x is missing or out of its bounds, the rest is read and not judged: what such values add up to may pass 64 bits.
-fn judge_rest(ws: &[u32], sources: bool, n: usize, at: usize, x: usize) -> Judged
-    requires { ⌜ Placed (now ws) at × (n ≤ 2000000000) ⌝ }
-    ensures refusal { λ r. ⌜ r .refusal ≡ onward (startDue sources) n at (now (ws .entry)) ⌝ }
-    ensures variables { λ r. ⌜ (r .refusal .number ≡ 0 → r .variables ≡ n + length (variables (drop at (now (ws .entry))))) ⌝ }
+fn judge_rest(ws: &[u32], sources: bool, x: usize, at: usize) -> Judged
+    requires { ⌜ Placed (now ws) at × (x < 2000000000) ⌝ }
+    ensures refusal { λ r. ⌜ r .refusal ≡ onward (startDue sources) (x + 1) at (now (ws .entry)) ⌝ }
+    ensures variables { λ r. ⌜ (r .refusal .number ≡ 0 → r .variables ≡ x + 1 + length (variables (drop at (now (ws .entry))))) ⌝ }
     ensures said { λ r. ⌜ verdict (r .said) ≡ outOfBounds x ⌝ }
 {
-    let read = read_on(ws, sources, n, at);
+    let read = read_on(ws, sources, x + 1, at);
     let refusal = read.refusal;
     Judged {
         refusal,
         variables: read.variables,
         said: Verdict::OutOfBounds(x),
     }
+}
+
+// A number that is within no bounds.
+const FAR: i64 = 1099511627776;
+
+// The value of variable x; where it is missing, a number that is within no bounds.
+fn value_or_far(values: &[i32], x: usize) -> i64
+    ensures { λ r. ⌜ ValueOrFar (now (values .entry)) x r ⌝ }
+{
+    if x < values.len() {
+        return known_value(values, x);
+    }
+    FAR
 }
 
 // The items from a place on, with so many variables and k rows before it, whose values are known.
@@ -94,47 +122,32 @@ pub fn judge_on(
     let mut rows = k;
     let mut all = true;
     let mut wrong = 0;
-    let mut number = fault::NONE;
     loop {
         let head = word_at(ws, at);
         if starts_variable(head) {
-            let seen = see_variable(ws, sources, head, n, at, value_at(values, n));
-            number = seen.number;
+            let seen = see_variable(ws, sources, head, n, at, value_or_far(values, n));
+            if seen.number != fault::NONE {
+                return judge_end(ws, seen.number, seen.at, n, all, wrong);
+            }
             at = seen.at;
-            if number != fault::NONE {
-                break;
-            }
-            let x = n;
-            n += 1;
             sources = kind_of(head) != kind::AUXILIARY_LOWER;
-            if values.len() < n {
-                return judge_rest(ws, sources, n, at, x);
-            }
             if !seen.holds {
-                return judge_rest(ws, sources, n, at, x);
+                return judge_rest(ws, sources, n, at);
             }
+            n += 1;
         } else {
             let seen = see_item(ws, sources, head, n, at, values);
-            number = seen.number;
-            at = seen.at;
-            if number != fault::NONE {
-                break;
+            if seen.number != fault::NONE {
+                return judge_end(ws, seen.number, seen.at, n, all, wrong);
             }
-            if !seen.holds {
-                if all {
-                    all = false;
-                    wrong = rows;
-                }
+            at = seen.at;
+            sources = false;
+            if all {
+                all = seen.holds;
+                wrong = rows;
             }
             rows += 1;
-            sources = false;
         }
-    }
-    let refusal = refusal_at(ws, number, at);
-    Judged {
-        refusal,
-        variables: n,
-        said: told(all, wrong),
     }
 }
 

@@ -58,7 +58,7 @@ fn is_true(head: u32, total: i64) -> bool
 }
 
 // The value of a variable whose value is there.
-fn known_value(values: &[i32], x: usize) -> i64
+pub fn known_value(values: &[i32], x: usize) -> i64
     requires { ⌜ x < length (now values) ⌝ }
     ensures { λ r. ⌜ r ≡ value (now (values .entry)) x ⌝ }
 {

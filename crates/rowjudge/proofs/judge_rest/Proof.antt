@@ -10,5 +10,6 @@ unfolding verdict
 judge-rest-spec =
     tie.close
     (tie.spec
+    (λ c. search needs)
     (λ c κs. search needs)
     (λ c. (c .before .read-on .ensures .0, (c .before .read-on .ensures .1, refl))))
