@@ -24,7 +24,7 @@ use Rattle.rowsystems.specs.RowSystem.{variableAt, termsIn, constantIn, termCou
 use Rattle.rowsystems.specs.OneWord.{startsSum, startsRow, rowOf}
 use Rattle.rowsystems.specs.declared.Due.{Due}
 use Rattle.rowsystems.specs.declared.Due.the-variants as due
-use Rattle.rowreading.specs.Item.{faultAtHead}
+use Rattle.rowfaults.specs.Head.{faultAtHead}
 use Rattle.rowreading.specs.Onward.{startsKind, Plain, isEnded, resumed, StepsTo}
 use Rattle.rowreading.specs.declared.items.Step.{Step}
 use Rattle.rowreading.proofs.Heads.{head-here, head-halted, head-on}

@@ -4,7 +4,7 @@ use mathlib.Core.Bool.{Bool, true, false, _||_}
 use mathlib.Core.List.{List}
 use Prim.Native.Nat.{ℕ, zero, suc, _+_, _-_, _<_, _≤_}
 use native.Mathlib.Omega.{arith}
-use borrow.Author.Tests.{ne-eqb, eqb-true, eqb-false}
+use borrow.Author.Tests.{ne-eqb}
 use lib.Dec.{eqb}
 use lib.ListN.{length}
 use Rattle.integers.proofs.Places.{bit-le}
@@ -12,13 +12,13 @@ use Rattle.words.specs.Fault as Fault
 use Rattle.words.specs.Kind as Kind
 use Rattle.words.specs.Word.{kind, wordAt}
 use Rattle.words.specs.Variables.{startsPair}
-use Rattle.variables.specs.Start.{starts}
-use Rattle.rowsystems.specs.Reading.{faultLower, faultSource, faultItem, faultDue, afterDue, started}
+use Rattle.rowsystems.specs.Reading.{faultItem, faultDue, afterDue, started}
 use Rattle.rowsystems.specs.declared.Due.the-variants as due
 use Rattle.rowreading.specs.declared.items.Item.{Item}
 use Rattle.rowreading.specs.declared.items.Item.the-variants.{Variable, Boolean, Auxiliary, Row, Product, End}
 use Rattle.rowreading.specs.declared.items.Step.{Step}
-use Rattle.rowreading.specs.Item.{startDue, faultAtHead, dueWith, itemTerms, dueAfter}
+use Rattle.rowfaults.specs.Head.{faultAtHead}
+use Rattle.rowreading.specs.Item.{startDue, dueWith, itemTerms, dueAfter}
 use Rattle.rowreading.specs.Onward.{onward, stopped, StepsTo}
 use Rattle.rowreading.proofs.Onward.{faultAt, here, go-on, stop-at}
 
@@ -36,24 +36,6 @@ not-kind k n w f e = ne-eqb (kind w) k (λ q. omega (arith, f q, e))
 not-source : (n w : ℕ) → 0 ≡ faultItem n w → (eqb (kind w) Kind.lower ≡ false) × (eqb (kind w) Kind.boolean ≡ false)
 unfolding faultItem
 not-source n w e = (not-kind Kind.lower n w (λ q. rw q) e, not-kind Kind.boolean n w (λ q. rw q) e)
-
--- by the kind of a word that starts a variable
-pub auxiliary-head : (s : Bool) (n w : ℕ) → kind w ≡ Kind.auxiliaryLower → faultAtHead s n w ≡ faultLower n w
-unfolding faultAtHead faultSource faultItem
-auxiliary-head true n w k = rw k
-auxiliary-head false n w k = rw k
-
-pub boolean-kind : (w : ℕ) → starts w ≡ true → (kind w ≡ Kind.lower → ⊥) → (kind w ≡ Kind.auxiliaryLower → ⊥) → kind w ≡ Kind.boolean
-unfolding starts startsPair
-boolean-kind w s f g = eqb-true (kind w) Kind.boolean (rw (ne-eqb (kind w) Kind.lower f, ne-eqb (kind w) Kind.auxiliaryLower g) at s)
-
-pub no-source-head : (n w : ℕ) → starts w ≡ true → (kind w ≡ Kind.auxiliaryLower → ⊥) → faultAtHead false n w ≡ Fault.wrongKind
-unfolding faultAtHead faultItem
-no-source-head n w s f = go (eqb (kind w) Kind.lower) refl
-  where
-    go : (b : Bool) → eqb (kind w) Kind.lower ≡ b → faultItem n w ≡ Fault.wrongKind
-    go true e = rw (eqb-true (kind w) Kind.lower e)
-    go false e = rw (boolean-kind w s (eqb-false (kind w) Kind.lower e) f)
 
 after-head : (s : Bool) (n w : ℕ) → 0 ≡ faultAtHead s n w → afterDue (startDue s) w ≡ afterDue due.Source w
 unfolding faultAtHead startDue afterDue

@@ -1,8 +1,7 @@
--- The items of a row system: the fault of a head word, and what is due after it.
+-- The items of a row system: what is due at a head word, and after it.
 use mathlib.Core.Bool.{Bool, true, false}
 use Prim.Native.Nat.{ℕ}
 use Rattle.integers.specs.Choice.{_if_else_}
-use Rattle.rowsystems.specs.Reading.{faultItem, faultSource}
 use Rattle.rowsystems.specs.declared.Due.{Due}
 use Rattle.rowsystems.specs.declared.Due.the-variants as due
 use Rattle.rowreading.specs.declared.items.Item.{Item}
@@ -11,10 +10,6 @@ use Rattle.rowreading.specs.declared.items.Item.the-variants.{Variable, 
 -- what is due at a head, where sources may still stand and where not
 unfoldable pub startDue : Bool → Due
 startDue sources = due.Source if sources else due.Item
-
--- the fault of the word that starts an item
-unfoldable pub faultAtHead : Bool → ℕ → ℕ → ℕ
-faultAtHead sources n w = faultSource n w if sources else faultItem n w
 
 -- what is due in an item with so many terms left
 unfoldable pub dueWith : Item → ℕ → Due

@@ -6,12 +6,12 @@ ghost use Rattle.words.specs.Variables.{variables};
 ghost use Rattle.rowsystems.specs.Reading.{readRows, started};
 ghost use Rattle.rowreading.specs.Item.{startDue};
 ghost use Rattle.rowreading.specs.Onward.{onward, stopped, Placed};
-use faults::fault_head;
 use items::item_of;
 use items::read_rest;
 use items::read_term;
 use items::sources_after;
 use items::terms_of;
+use rowfaults::fault_head;
 use words::Refusal;
 use words::fault;
 use words::kind;
@@ -19,7 +19,6 @@ use words::kind_of;
 use words::limit;
 use words::word_at;
 
-pub mod faults;
 pub mod items;
 pub mod rows;
 

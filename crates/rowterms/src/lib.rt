@@ -14,11 +14,11 @@ ghost use Rattle.rowterms.specs.Values.{stepOf, ValuesKnown, isTrue, row
 use integers::equal;
 use integers::plus;
 use integers::times;
-use rowreading::faults::fault_number;
-use rowreading::faults::fault_result;
-use rowreading::faults::fault_variable;
-use rowreading::faults::is_number;
-use rowreading::faults::is_variable;
+use rowfaults::fault_number;
+use rowfaults::fault_result;
+use rowfaults::fault_variable;
+use rowfaults::is_number;
+use rowfaults::is_variable;
 use rowreading::items::number_at;
 use rowreading::items::read_term;
 use rowsystems::Due;

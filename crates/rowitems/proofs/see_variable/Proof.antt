@@ -7,8 +7,8 @@ use lib.ListN.{length}
 use Rattle.words.specs.Variables.{startsPair}
 use Rattle.variables.specs.Start.{pairBounds}
 use Rattle.rowsystems.specs.Reading.{afterDue, afterItem, started}
+use Rattle.rowfaults.proofs.Heads.{boolean-kind}
 use Rattle.rowreading.specs.Item.{startDue}
-use Rattle.rowreading.proofs.Heads.{boolean-kind}
 use Rattle.rowreading.proofs.Inner.{source-upper, auxiliary-upper, no-word}
 use Rattle.rowitems.proofs.Passing.{Head, head-there, head-stops, head-then, one-started}
 use borrow.Author.Needs.{needs}

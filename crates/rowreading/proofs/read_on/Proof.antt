@@ -9,7 +9,8 @@ use borrow.Author.Needs.{needs}
 use lib.ListN.{length}
 use Rattle.words.specs.Word.{wordAt}
 use Rattle.words.specs.declared.Refusal.{Refusal}
-use Rattle.rowreading.specs.Item.{faultAtHead, startDue, dueWith, itemTerms, dueAfter}
+use Rattle.rowfaults.specs.Head.{faultAtHead}
+use Rattle.rowreading.specs.Item.{startDue, dueWith, itemTerms, dueAfter}
 use Rattle.rowreading.specs.Onward.{onward, stopped, Placed}
 use Rattle.rowreading.proofs.Counts.{CountedFrom, none-counted, count-plain, count-head, counted}
 use Rattle.rowreading.proofs.Heads.{started-few, head-here, head-halted, head-gone, term-gone}

@@ -1,0 +1,2 @@
+-- Laws for the proofs about faults.
+pub mod Heads

@@ -1,0 +1,2 @@
+-- What the contracts cite: the fault of a head word.
+pub mod Head
