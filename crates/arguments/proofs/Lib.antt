@@ -1,3 +1,2 @@
 -- Laws for proofs about arguments.
-pub mod Walk
 pub mod Size

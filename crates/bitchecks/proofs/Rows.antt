@@ -9,9 +9,8 @@ use lib.ListN.{length, getD}
 use Rattle.integers.specs.Number.{_⊕_, _⊗_}
 use Rattle.integers.specs.Lists.{all}
 use Rattle.integers.proofs.Fits.{plus-size, times-size, mul-le}
-use Rattle.integers.proofs.Linear.{linear}
-use Rattle.integers.proofs.Places.{⊕-assoc}
 use Rattle.integers.proofs.Tests.{false-true}
+use Rattle.integers.proofs.Sums.{⊕-assoc, zero-plus, plus-zero}
 use Rattle.rowsystems.specs.OneWord.{startsRow}
 use Rattle.bitforms.specs.SumOver.{sumOver}
 use Rattle.bitforms.specs.BitRow.{BitRow}
@@ -58,9 +57,6 @@ pub record Checking (ws : List ℕ) (ls us : List ℤ) (firsts : List ℕ) (star
   pub left : all (rowFits n) (rowsLeft ls us firsts ws first at) ≡ all (rowFits n) (rowsBy ls us firsts start ws)
   pub sum : constant ⊕ constantOf (rowsLeft ls us firsts ws first at) ≡ constantOf (rowsBy ls us firsts start ws)
 
-nothing : (x : ℤ) → pos 0 ⊕ x ≡ x
-nothing = simp linear (omega arith)
-
 pub checking-begun : (ws : List ℕ) (ls us : List ℤ) (firsts : List ℕ) (start : ℕ) (row : List ℤ) → Checking ws ls us firsts start (length row) row (pos 0) start 0
 checking-begun ws ls us firsts start row = record {
   place = omega arith;
@@ -68,7 +64,7 @@ checking-begun ws ls us firsts start row = record {
   size = omega arith;
   long = refl;
   left = refl;
-  sum = nothing _;
+  sum = zero-plus _;
 }
 
 module _ {ws : List ℕ} {ls us : List ℤ} {firsts : List ℕ} {start n : ℕ} {row : List ℤ} {constant : ℤ} {first at : ℕ} (k : Checking ws ls us firsts start n row constant first at) where
@@ -120,7 +116,4 @@ module _ {ws : List ℕ} {ls us : List ℤ} {firsts : List ℕ} {start n : ℕ} 
   unfolding all sumOver
   checking-done h =
       let e = left-end ls us firsts ws first at h in
-      record { tested = ap (all (rowFits n)) (sym e) ∙ k .left; summed = λ t. last constant ∙ ap (λ rs. constant ⊕ constantOf rs) (sym e) ∙ k .sum }
-    where
-      last : (x : ℤ) → x ≡ x ⊕ pos 0
-      last = simp linear (omega arith)
+      record { tested = ap (all (rowFits n)) (sym e) ∙ k .left; summed = λ t. sym (plus-zero constant) ∙ ap (λ rs. constant ⊕ constantOf rs) (sym e) ∙ k .sum }

@@ -7,15 +7,16 @@ use native.Mathlib.Omega.{arith}
 use native.Mathlib.Decide.{ℕ-discrete}
 use lib.IntN.{ℤ, pos, natAbs}
 use lib.ListN.{length, getD, set, replicate, length-set, length-replicate, getD-replicate}
-use lib.Seq.{getD-set-same, getD-set-other}
+use lib.Seq.{getD-set-same, getD-set-other, ext-getD}
 use lib.Signed.{leZ}
-use Rattle.integers.specs.Number.{_⊕_, _⊗_, neg, absZ, count, +0, +1}
+use Rattle.integers.specs.Number.{_⊕_, neg, absZ, count, +0, +1}
 use Rattle.integers.specs.Lists.{listOf, all}
 use Rattle.integers.specs.Terms.{Term, _·_}
 use Rattle.integers.proofs.Linear.{linear, _⊑_}
 use Rattle.integers.proofs.Lists.{listOf-length}
 use Rattle.integers.proofs.Tests.{says-le, says-and}
 use Rattle.integers.proofs.Places.{getD-listOf, map-listOf, all-map}
+use Rattle.integers.proofs.Sums.{zero-plus, one-times}
 use Rattle.words.specs.Limit as Limit
 use Rattle.rowsystems.specs.Row.{sum≤0, sum=0, product}
 use Rattle.extremes.specs.BoundLists.{boundsOf}
@@ -33,13 +34,6 @@ use Rattle.bitrows.proofs.Cross.{pairs-cross}
 use Rattle.bitfilling.specs.Filled.{dense}
 
 -- ---- zeros
-
--- lists that agree at every place are the same
-same-lists : (xs ys : List ℤ) → length xs ≡ length ys → ((i : ℕ) → i < length xs → getD xs i +0 ≡ getD ys i +0) → xs ≡ ys
-same-lists [] [] l h = refl
-same-lists [] (y ∷ ys) l h = absurd (omega arith)
-same-lists (x ∷ xs) [] l h = absurd (omega arith)
-same-lists (x ∷ xs) (y ∷ ys) l h = ap₂ (λ a b. a ∷ b) (h 0 (omega arith)) (same-lists xs ys (omega arith) (λ i k. h (suc i) (omega arith)))
 
 -- the numbers before place i are 0
 pub record Cleared (first row : List ℤ) (i : ℕ) : Type 0 where
@@ -63,7 +57,7 @@ cleared-more {first} {row} {i} h s = record {
 
 pub cleared-done : {first row : List ℤ} {i : ℕ} → length row ≤ i → Cleared first row i → row ≡ replicate (length first) +0
 cleared-done {first} {row} {i} h s =
-    same-lists row (replicate (length first) +0) (s .same ∙ sym (length-replicate (length first) +0))
+    ext-getD +0 row (replicate (length first) +0) (s .same ∙ sym (length-replicate (length first) +0))
     (λ j l. s .zeros j (omega arith) ∙ sym (getD-replicate (length first) j +0 +0 (omega (arith, s .same))))
 
 pub zeros-peak : (n : ℕ) → peak (replicate n +0) ≡ 0
@@ -81,15 +75,12 @@ pub dense-at : (n : ℕ) (ts : List (Term ℕ)) (i : ℕ) → i < n → getD (de
 unfolding dense
 dense-at n ts i h =
     let l = length-replicate n +0 in
-    add-coefficient (replicate n +0) ts i (omega arith) ∙ ap (λ a. a ⊕ coefficientOf ts i) (getD-replicate n i +0 +0 h) ∙ none (coefficientOf ts i)
-  where
-    none : (a : ℤ) → pos 0 ⊕ a ≡ a
-    none = simp linear (omega arith)
+    add-coefficient (replicate n +0) ts i (omega arith) ∙ ap (λ a. a ⊕ coefficientOf ts i) (getD-replicate n i +0 +0 h) ∙ zero-plus (coefficientOf ts i)
 
 pub dense-is : (n : ℕ) (ts : List (Term ℕ)) → dense n ts ≡ map (coefficientOf ts) (listOf (λ i. i) n)
 dense-is n ts =
     let l = dense-length n ts in
-    same-lists (dense n ts) (listOf (coefficientOf ts) n) (l ∙ sym (listOf-length (coefficientOf ts) n)) (λ i h. dense-at n ts i (omega arith) ∙ sym (getD-listOf (coefficientOf ts) n i +0 (omega arith)))
+    ext-getD +0 (dense n ts) (listOf (coefficientOf ts) n) (l ∙ sym (listOf-length (coefficientOf ts) n)) (λ i h. dense-at n ts i (omega arith) ∙ sym (getD-listOf (coefficientOf ts) n i +0 (omega arith)))
     ∙ sym (map-listOf (coefficientOf ts) (λ i. i) n)
 
 -- ---- what fits
@@ -116,10 +107,7 @@ row-fits n r = ap (λ b. leZ (absZ (r .whole .constant)) (pos Limit.bitNumbers) 
 scaled-one : (ts : List (Term ℕ)) → scaled +1 ts ≡ ts
 unfolding scaled
 scaled-one [] = refl
-scaled-one (t ∷ ts) = ap₂ (λ k l. k · t .variable ∷ l) (one (t .coefficient)) (scaled-one ts)
-  where
-    one : (a : ℤ) → pos 1 ⊗ a ≡ a
-    one = simp linear (omega arith)
+scaled-one (t ∷ ts) = ap₂ (λ k l. k · t .variable ∷ l) (one-times (t .coefficient)) (scaled-one ts)
 
 pub product-added : (xs ls us : List ℤ) (firsts : List ℕ) (first r f g : ℕ) →
     addTerms (addTerms (addTerms (addTerms xs (scaled +1 (bitsOf ls us firsts r))) (scaled (neg (getD ls f +0)) (bitsOf ls us firsts g))) (scaled (neg (getD ls g +0)) (bitsOf ls us firsts f)))

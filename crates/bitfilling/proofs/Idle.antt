@@ -17,6 +17,7 @@ use Rattle.integers.specs.Terms.{Term, _·_}
 use Rattle.integers.proofs.Linear.{linear}
 use Rattle.integers.proofs.Lists.{all-append, all-implies, all-both}
 use Rattle.integers.proofs.Tests.{All}
+use Rattle.integers.proofs.Sums.{both-zero, zero-times}
 use Rattle.rowsystems.specs.Row.{Row, sum≤0, sum=0, product}
 use Rattle.rowsystems.specs.RowSystem.{termsIn}
 use Rattle.extremes.specs.BoundLists.{boundsOf}
@@ -45,11 +46,8 @@ module _ (i : ℕ) where
   still-coefficient : (ts : List (Term ℕ)) → All Still ts → coefficientOf ts i ≡ pos 0
   unfolding coefficientOf sumOver
   still-coefficient [] h = refl
-  still-coefficient (t ∷ ts) h = none _ _ (one (h .0)) (still-coefficient ts (h .1))
+  still-coefficient (t ∷ ts) h = both-zero _ _ (one (h .0)) (still-coefficient ts (h .1))
     where
-      none : (a b : ℤ) → a ≡ pos 0 → b ≡ pos 0 → a ⊕ b ≡ pos 0
-      none = simp linear (omega arith)
-
       either : (b : Bool) → (pos 0 if b else +0) ≡ pos 0
       either true = refl
       either false = refl
@@ -74,10 +72,7 @@ module _ (i : ℕ) where
   scaled-still k (t ∷ ts) (inl e) = (inl (none k (t .coefficient) e), scaled-still k ts (inl e))
     where
       none : (k a : ℤ) → k ≡ pos 0 → k ⊗ a ≡ pos 0
-      none k a e = rw e (zeros a)
-        where
-          zeros : (a : ℤ) → pos 0 ⊗ a ≡ pos 0
-          zeros = simp linear (omega arith)
+      none k a e = rw e (zero-times a)
 
   weighted-others : (first : ℕ) (ws : List ℕ) → NotAmong first (length ws) i → Others (weightedBits first ws)
   unfolding weightedBits

@@ -1,8 +1,8 @@
 -- Accepted words: the reader's number says so, and the lists of the variables' bits are the row system's.
-use mathlib.Core.Path.{_≡_, refl, ap, _∙_}
+use mathlib.Core.Path.{_≡_, ap, _∙_}
 use mathlib.Core.Bool.{Bool, true, false}
-use mathlib.Core.List.{List, [], _∷_, map}
-use Prim.Native.Nat.{ℕ, zero, suc, _+_, _≤_}
+use mathlib.Core.List.{List, map}
+use Prim.Native.Nat.{ℕ, _≤_}
 use native.Mathlib.Omega.{arith}
 use lib.Dec.{ltb}
 use lib.IntN.{ℤ}
@@ -13,11 +13,11 @@ use Rattle.words.specs.Fault as Fault
 use Rattle.words.specs.Limit as Limit
 use Rattle.words.specs.Overlay.{overlay}
 use Rattle.words.specs.Variables.{variables}
-use Rattle.words.specs.Refusal.{accepted, faultOr, firstFault, _at-place_}
-use Rattle.words.specs.declared.Refusal.{Refusal}
-use Rattle.words.specs.Small.{Small}
+use Rattle.words.specs.Refusal.{accepted, firstFault, _at-place_}
+use Rattle.words.proofs.Reading.{read-without}
 use Rattle.rowsystems.proofs.Sizes.{few-words}
-use Rattle.rowsystems.specs.Reading.{State, fault, after, ended, begin, readRows}
+use Rattle.rowsystems.specs.Reading.{fault, after, ended, begin, readRows}
+use Rattle.words.specs.Small.{Small}
 use Rattle.extremes.specs.BoundLists.{boundsOf}
 use Rattle.extremes.proofs.Kept.{lowersKept, uppersKept, lowers-small, uppers-small}
 use Rattle.bitforms.specs.Encoding.{weightsOf, bitsAfter}
@@ -32,17 +32,6 @@ use Rattle.bitform.specs.Answered.{BitsListed}
 
 -- ---- the reader
 
-none-or : (n p : ℕ) (rest : Refusal) → faultOr n p rest .number ≡ 0 → (n ≡ 0) × (rest .number ≡ 0)
-none-or zero p rest e = (refl, e)
-none-or (suc n) p rest e = absurd (omega arith)
-
-reading-accepts : (s : State) (p : ℕ) (ws : List ℕ) → firstFault fault after ended s p ws .number ≡ 0 → firstFault fault after ended s p ws ≡ accepted
-unfolding firstFault
-reading-accepts s p [] e = let k = none-or (ended s) p accepted e .0 in rw k refl
-reading-accepts s p (w ∷ ws) e =
-    let k = none-or (fault s w ws) p (firstFault fault after ended (after s w) (p + 1) ws) e in
-    rw (k .0) (reading-accepts (after s w) (p + 1) ws (k .1))
-
 pub accepts : (ws : List ℕ) → readRows ws .number ≡ 0 → readRows ws ≡ accepted
 unfolding readRows
 accepts ws e = go (ltb Limit.rowWords (length ws)) e
@@ -50,7 +39,7 @@ accepts ws e = go (ltb Limit.rowWords (length ws)) e
     go : (t : Bool) → (Fault.tooManyWords at-place 0 if t else firstFault fault after ended begin 0 ws) .number ≡ 0 →
         (Fault.tooManyWords at-place 0 if t else firstFault fault after ended begin 0 ws) ≡ accepted
     go true e = absurd (omega arith)
-    go false e = reading-accepts begin 0 ws e
+    go false e = read-without fault after ended begin 0 ws e
 
 -- ---- the lists
 

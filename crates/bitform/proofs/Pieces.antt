@@ -10,7 +10,8 @@ use Rattle.integers.specs.Choice.{_if_else_}
 use Rattle.integers.specs.Number.{_==_, +0}
 use Rattle.integers.specs.Bounds.{within}
 use Rattle.integers.specs.Lists.{all}
-use Rattle.integers.proofs.Tests.{says-equal, false-true}
+use Rattle.integers.proofs.Tests.{says-equal}
+use Rattle.integers.proofs.Booleans.{both-true}
 use Rattle.words.specs.Kind as Kind
 use Rattle.words.specs.LaidAt.{LaidAt}
 use Rattle.words.specs.Overlay.{overlay}
@@ -37,10 +38,6 @@ zeros-pass (x ∷ xs) = go (x .number == +0) refl (zeros-pass xs)
         all (λ y. inRange (y .number)) (notZero xs if t else x ∷ notZero xs) ≡ (inRange (x .number) && all (λ y. inRange (y .number)) xs)
     go true e h = h ∙ sym (rw (zero-in (x .number) e) refl)
     go false e h = ap (λ b. inRange (x .number) && b) h
-
-both : (a b : Bool) → (a && b) ≡ true → (a ≡ true) × (b ≡ true)
-both true b h = (refl, h)
-both false b h = false-true h
 
 module _ (ws : List ℕ) where
   -- all entries in rising order
@@ -72,8 +69,8 @@ module _ (ws : List ℕ) where
   pub fits-inside : formFits ws ≡ true → (all (rowFits (bitCount ws)) (bitRowsOf ws) ≡ true) × (all (λ x. inRange (x .number)) entriesOf ≡ true)
   unfolding formFits formEntries
   fits-inside h =
-      let b = both (all (rowFits (bitCount ws)) (bitRowsOf ws)) _ h in
-      let d = both (inRange (formConstant ws)) _ (b .1) in
+      let b = both-true (all (rowFits (bitCount ws)) (bitRowsOf ws)) _ h in
+      let d = both-true (inRange (formConstant ws)) _ (b .1) in
       (b .0, sym (zeros-pass entriesOf) ∙ d .1)
 
 -- at most 3,072 words a line

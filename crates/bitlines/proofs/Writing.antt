@@ -9,6 +9,7 @@ use lib.ListN.{length, getD}
 use Rattle.integers.specs.Choice.{_if_else_}
 use Rattle.integers.specs.Number.{_==_, +0}
 use Rattle.integers.specs.Lists.{listOf}
+use Rattle.integers.proofs.Lists.{flatMap-append}
 use Rattle.words.specs.Word.{word, numberWord}
 use Rattle.words.specs.Kind as Kind
 use Rattle.words.specs.Overlay.{overlay}
@@ -16,7 +17,7 @@ use Rattle.words.specs.LaidAt.{LaidAt}
 use Rattle.words.proofs.Rest.{all-left, lay-part, lay-last, none-left}
 use Rattle.bitforms.specs.Matrix.{Entry, entryAt, lineEntries, notZero}
 use Rattle.bitforms.specs.FormWords.{entryWords}
-use Rattle.bitforms.proofs.Lists.{list-more, flat-append}
+use Rattle.bitforms.proofs.Lists.{list-more}
 use Rattle.bitlines.specs.Line.{entriesWords}
 
 -- ---- words after words
@@ -41,7 +42,7 @@ zero-append (x ∷ xs) ys = go (x .number == +0) (zero-append xs ys)
 
 pub words-append : (xs ys : List Entry) → entriesWords (xs ++ ys) ≡ entriesWords xs ++ entriesWords ys
 unfolding entriesWords
-words-append xs ys = ap (flatMap entryWords) (zero-append xs ys) ∙ flat-append entryWords (notZero xs) (notZero ys)
+words-append xs ys = ap (flatMap entryWords) (zero-append xs ys) ∙ flatMap-append entryWords (notZero xs) (notZero ys)
 
 -- ---- one entry more
 

@@ -13,7 +13,8 @@ use Rattle.integers.specs.Lists.{listOf}
 use Rattle.integers.specs.Terms.{Term, sum}
 use Rattle.integers.specs.declared.Bounds.{Bounds}
 use Rattle.integers.proofs.Linear.{linear}
-use Rattle.integers.proofs.Places.{one-more, ⊕-assoc, ⊕-zero}
+use Rattle.integers.proofs.Places.{one-more}
+use Rattle.integers.proofs.Sums.{⊕-assoc, ⊕-zero}
 use Rattle.words.specs.Kind as Kind
 use Rattle.words.specs.Word.{kind}
 use Rattle.rowsystems.specs.Row.{sum≤0, sum=0, product}

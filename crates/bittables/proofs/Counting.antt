@@ -7,8 +7,8 @@ use lib.IntN.{ℤ}
 use lib.ListN.{length, getD}
 use Rattle.integers.specs.Number.{_⊖_, +0}
 use Rattle.integers.proofs.Fits.{minus-size}
+use Rattle.integers.proofs.Sums.{count-le}
 use Rattle.words.specs.Small.{Small}
-use Rattle.extremes.proofs.Size.{count-le}
 use Rattle.bitforms.specs.Weights.{weightsFrom, weights}
 use Rattle.bitlines.specs.Sizes as Size
 use Rattle.bittables.specs.BitTables.{spanIn, BitCounts}

@@ -9,6 +9,7 @@ use Rattle.integers.specs.Number.{_⊖_, count, +0}
 use Rattle.integers.specs.Lists.{listOf}
 use Rattle.integers.specs.Bounds.{_to_, boundsIn}
 use Rattle.integers.specs.declared.Bounds.{Bounds}
+use Rattle.integers.proofs.Places.{bounds-listed}
 use Rattle.words.specs.Overlay.{overlay}
 use Rattle.words.specs.Variables.{variables}
 use Rattle.rowsystems.specs.RowSystem.{rows}
@@ -25,11 +26,6 @@ use Rattle.bittables.specs.KeptBits.{firstsFrom}
 use Rattle.bittables.proofs.Keeping.{bitsIn, firsts-length, weights-by, few-after}
 
 -- ---- variable by variable, 0 past the last one
-
-pub all-of : (Bs : List Bounds) → listOf (boundsIn Bs) (length Bs) ≡ Bs
-unfolding listOf boundsIn
-all-of [] = refl
-all-of (B ∷ Bs) = ap (λ l. B ∷ l) (all-of Bs)
 
 no-weights : weightsOf (+0 to +0) ≡ []
 unfolding weightsOf weights weightsFrom count _⊖_
@@ -72,7 +68,7 @@ module _ (ws : List ℕ) (few : length (variables ws) ≤ 4096) where
 
   -- the bounds of the lists are the variables
   pub kept-variables : listOf (boundsOf (lowersKept ws 4096) (uppersKept ws 4096)) (length (variables ws)) ≡ variables ws
-  kept-variables = ap (λ β. listOf β (length (variables ws))) (kept-bounds ws 4096 few) ∙ all-of (variables ws)
+  kept-variables = ap (λ β. listOf β (length (variables ws))) (kept-bounds ws 4096 few) ∙ bounds-listed (variables ws)
 
   pub kept-few : bitsAfter 0 (variables ws) ≤ 253952
   kept-few = rw kept-variables at (bounded (length (variables ws)) few)

@@ -4,13 +4,12 @@ use mathlib.Core.Bool.{true, false}
 use mathlib.Core.List.{List}
 use Prim.Native.Nat.{ℕ, _+_, _*_, _<_, _≤_}
 use native.Mathlib.Omega.{arith}
-use lib.IntN.{ℤ, pos}
+use lib.IntN.{ℤ}
 use lib.ListN.{length, getD, replicate, length-replicate, getD-replicate}
 use Rattle.integers.specs.Number.{_⊕_, +0}
 use Rattle.integers.specs.Lists.{all}
-use Rattle.integers.proofs.Linear.{linear}
-use Rattle.integers.proofs.Places.{⊕-assoc}
 use Rattle.integers.proofs.Tests.{says-and}
+use Rattle.integers.proofs.Sums.{⊕-assoc, plus-zero, first-zero, second-zero}
 use Rattle.words.specs.Limit as Limit
 use Rattle.rowsystems.specs.OneWord.{startsRow, rowOf}
 use Rattle.bitforms.specs.SumOver.{sumOver}
@@ -32,12 +31,9 @@ pub none-added : (ls us : List ℤ) (firsts counts : List ℕ) → BitCounts ls 
     own ≡ rowBy ls us firsts first head args .own → NotAmong first own i × IdleRow (NoBitOf firsts counts i) (rowOf head args) → Added (rowBy ls us firsts first head args) i line line
 none-added ls us firsts counts k first own head args i line e h = record {
   same = refl;
-  entries = λ j u v. none (getD line j +0) _ (idle-row i ls us firsts counts k first own (rowOf head args) e (h .0) (h .1) j);
+  entries = λ j u v. sym (second-zero (getD line j +0) _ _ refl (idle-row i ls us firsts counts k first own (rowOf head args) e (h .0) (h .1) j));
   small = omega arith;
 }
-  where
-    none : (a b : ℤ) → b ≡ pos 0 → a ≡ a ⊕ b
-    none = simp linear (omega arith)
 
 -- ---- the walk over the rows
 
@@ -56,13 +52,10 @@ lining-begun ws ls us firsts start i n row f r m = record {
   place = omega arith;
   near = omega arith;
   fits = f;
-  entries = λ j h l. none (getD (replicate n +0) j +0) _ (getD-replicate n j +0 +0 l);
+  entries = λ j h l. first-zero (getD (replicate n +0) j +0) _ _ (getD-replicate n j +0 +0 l) refl;
   small = omega (arith, zeros-peak n);
   sized = record { line-size = length-replicate n +0; row-size = r; few = m };
 }
-  where
-    none : (a b : ℤ) → a ≡ pos 0 → a ⊕ b ≡ b
-    none = simp linear (omega arith)
 
 module _ {ws : List ℕ} {ls us : List ℤ} {firsts : List ℕ} {start i n : ℕ} {line row : List ℤ} {first at : ℕ} (k : Lining ws ls us firsts start i n line row first at) where
   module _ (h : at < length ws) (z : startsRow (getD ws at 0) ≡ true) where
@@ -107,7 +100,4 @@ module _ {ws : List ℕ} {ls us : List ℤ} {firsts : List ℕ} {start i n : ℕ
   pub lining-done : length ws ≤ at → LineOf (rowsBy ls us firsts start ws) i line
   unfolding entryOf sumOver
   lining-done h j u v =
-      none (getD line j +0) ∙ ap (λ rs. getD line j +0 ⊕ entryOf rs i j) (sym (left-end ls us firsts ws first at h)) ∙ k .entries j u (omega (arith, k .sized .line-size))
-    where
-      none : (a : ℤ) → a ≡ a ⊕ pos 0
-      none = simp linear (omega arith)
+      sym (plus-zero (getD line j +0)) ∙ ap (λ rs. getD line j +0 ⊕ entryOf rs i j) (sym (left-end ls us firsts ws first at h)) ∙ k .entries j u (omega (arith, k .sized .line-size))

@@ -10,6 +10,8 @@ use Rattle.integers.specs.Choice.{_if_else_}
 use Rattle.integers.specs.Number.{_==_, +0}
 use Rattle.integers.specs.Lists.{listOf, all}
 use Rattle.integers.proofs.Lists.{listOf-length}
+use Rattle.integers.proofs.Booleans.{and-false}
+use Rattle.integers.proofs.Places.{all-append}
 use Rattle.words.specs.Word.{inRange}
 use Rattle.words.proofs.Rest.{Rest, all-left, lay-part, same-rest, none-left, laid-length}
 use Rattle.bitforms.specs.Matrix.{Entry, entryOf, entryAt, lineEntries, entriesFrom, notZero}
@@ -62,19 +64,6 @@ unfolding all listOf
 fails-at t f zero d h e = absurd (omega arith)
 fails-at t f (suc m) zero h e = rw e refl
 fails-at t f (suc m) (suc d) h e = ap (λ b. t (f 0) && b) (fails-at t (λ k. f (suc k)) m d (omega arith) e) ∙ and-false (t (f 0))
-  where
-    and-false : (b : Bool) → (b && false) ≡ false
-    and-false true = refl
-    and-false false = refl
-
-all-append : (t : Entry → Bool) (xs ys : List Entry) → all t (xs ++ ys) ≡ (all t xs && all t ys)
-unfolding all
-all-append t [] ys = refl
-all-append t (x ∷ xs) ys = ap (λ b. t x && b) (all-append t xs ys) ∙ sym (and-assoc (t x) (all t xs) (all t ys))
-  where
-    and-assoc : (a b c : Bool) → ((a && b) && c) ≡ (a && (b && c))
-    and-assoc true b c = refl
-    and-assoc false b c = refl
 
 pub record Putting (e : ℕ → ℕ → ℤ) (n at : ℕ) (out₀ out : List ℕ) (to i : ℕ) (line row : List ℤ) : Type 0 where
   pub place : i ≤ n

@@ -12,6 +12,7 @@ use Rattle.integers.specs.Choice.{_if_else_}
 use Rattle.integers.specs.Lists.{any}
 use Rattle.integers.specs.Bounds.{width}
 use Rattle.integers.specs.declared.Bounds.{Bounds}
+use Rattle.integers.proofs.Booleans.{or-false, or-true}
 use Rattle.models.specs.Model.{Constraint, var, builtin}
 use Rattle.models.specs.Table as Table
 use Rattle.builtins.specs.Coded.{builtinOf}
@@ -70,10 +71,6 @@ module _ (β : ℕ → Bounds) (s : ℕ → Bool) (c : Constraint) where
   unfolding tooWide any hasAll
   wide-by = rw (encodes-by c) (go (choosing (c .code)))
     where
-      or-false : (b : Bool) → (b || false) ≡ b
-      or-false true = refl
-      or-false false = refl
-
       go : (b : Bool) → any (λ x. (eqb (c .code) 28 || s x) && ltb 64 (width (β x))) (x ∷ [] if b else []) ≡ ((b && (eqb (c .code) 28 || s x)) && ltb 64 (width (β x)))
       go true = or-false ((eqb (c .code) 28 || s x) && ltb 64 (width (β x)))
       go false = refl
@@ -89,10 +86,6 @@ all-28 s args e = rw e refl
 pub shared-narrow : (β : ℕ → Bounds) (s : ℕ → Bool) (code : ℕ) (args : List ℕ) → tooWide β s (constraintOf code args) ≡ false → choosing code ≡ true → s (var args 0) ≡ true → width (β (var args 0)) ≤ 64
 unfolding hasAll
 shared-narrow β s code args w h t = narrow β s (constraintOf code args) w (rw (h, t) (or-true (eqb code 28)))
-  where
-    or-true : (b : Bool) → (b || true) ≡ true
-    or-true true = refl
-    or-true false = refl
 
 -- ---- whose rule the block is
 

@@ -12,8 +12,9 @@ use Rattle.integers.specs.Choice.{_if_else_}
 use Rattle.integers.specs.Number.{_==_, count, +0}
 use Rattle.integers.specs.Lists.{listOf}
 use Rattle.integers.proofs.Tests.{capped}
+use Rattle.integers.proofs.Lists.{listOf-length}
+use Rattle.integers.proofs.Places.{getD-listOf}
 use Rattle.models.specs.Meaning.{element}
-use Rattle.arguments.proofs.Walk.{length-listOf, getD-listOf}
 use Rattle.builtins.specs.Coded.{indexIn}
 
 pub index-le : (n : ℕ) (z : ℤ) → indexIn n z ≤ n
@@ -44,7 +45,7 @@ module _ (g : ℕ → ℤ) (n : ℕ) (c z : ℤ) (r : ℕ) (at : r ≡ indexIn n
       go true e f =
           let k : count z - 1 < n = omega (arith, leb-true (count z) n e) in
           let p : 1 + 1 + (count z - 1) ≡ 1 + r = omega arith in
-          rw (le-leb 1 (count z) (omega arith), length-listOf, e, getD-listOf, p)
+          rw (le-leb 1 (count z) (omega arith), listOf-length, e, getD-listOf, p)
       go false e f = absurd (omega arith)
 
   pub outside : r < 1 → false ≡ element z list c
@@ -53,5 +54,5 @@ module _ (g : ℕ → ℤ) (n : ℕ) (c z : ℤ) (r : ℕ) (at : r ≡ indexIn n
     where
       go : (b a : Bool) → leb (count z) n ≡ b → leb 1 (count z) ≡ a → r ≡ (count z if b else 0) → false ≡ tests (count z)
       go true a e d f = rw (lt-leb 1 (count z) (omega arith))
-      go false true e d f = rw (d, length-listOf, e)
+      go false true e d f = rw (d, listOf-length, e)
       go false false e d f = rw d

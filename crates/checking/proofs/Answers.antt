@@ -12,6 +12,7 @@ use Rattle.words.specs.Refusal.{_at-place_, accepted, _else-refuse_}
 use Rattle.words.specs.Answer.{Answer, refused, counts, refusedOr, _else-answer_}
 use Rattle.words.proofs.Answers.{first-answers}
 use Rattle.words.proofs.Reading as Reading
+use Rattle.words.proofs.Reading.{passed-number}
 use Rattle.models.specs.Model.{Constraint, constraints}
 use Rattle.models.specs.Reading.{readModel}
 use Rattle.modelreading.specs.Seen.{Kept}
@@ -21,7 +22,7 @@ use Rattle.rules.specs.Translation.{bounds, shared, blockOf, auxiliaries, syste
 use Rattle.rules.specs.Check.{blocksFaultIn, checkFault, checkFaultIn, check, checkIn}
 use Rattle.rules.specs.InRange.{blockFault, blocksFault}
 use Rattle.sharing.specs.SharedSolutions.{Passes}
-use Rattle.sharing.proofs.Accepts.{no-fault, passes-read}
+use Rattle.sharing.proofs.Accepts.{passes-read}
 
 -- ---- a refusal whose number is 0 is `accepted`
 
@@ -29,14 +30,14 @@ blocks-zero : (β : ℕ → Bounds) (s : ℕ → Bool) (first : ℕ) (e : Encode
 unfolding blocksFaultIn
 blocks-zero β s first e [] z = refl
 blocks-zero β s first e (c ∷ cs) z =
-    let h = no-fault (blockFault β s first e c) (c .place) _ z in
+    let h = passed-number (blockFault β s first e c) (c .place) _ z in
     sym (Reading.no-fault (blockFault β s first e c) (c .place) _ (h .0))
     ∙ blocks-zero β s (first + length (blockOf β s e c .auxiliaries)) (encodedAfter s first e (encodes (choice c))) cs (h .1)
 
 check-zero : (ws : List ℕ) → checkFault ws .number ≡ 0 → Passes ws
 unfolding checkFaultIn _else-refuse_
 check-zero ws e =
-    let h = no-fault (readModel ws .number) (readModel ws .place) _ e in
+    let h = passed-number (readModel ws .number) (readModel ws .place) _ e in
     sym (Reading.no-fault (readModel ws .number) (readModel ws .place) _ (h .0)) ∙ blocks-zero (bounds ws) (shared ws) (length (variables ws)) noneYet (constraints ws) (h .1)
 
 -- ---- check's answer

@@ -13,11 +13,11 @@ use Rattle.integers.specs.Lists.{listOf}
 use Rattle.integers.specs.Bounds.{width, values}
 use Rattle.integers.specs.declared.Bounds.{Bounds}
 use Rattle.integers.specs.Terms.{_·_}
-use Rattle.integers.proofs.Lists.{listOf-length}
+use Rattle.integers.proofs.Lists.{listOf-length, flatMap-append}
 use Rattle.integers.proofs.Linear.{linear}
+use Rattle.integers.proofs.Places.{getD-listOf}
 use Rattle.models.specs.Builtin.{array-int-element, array-var-int-element, set-in, set-in-reif}
 use Rattle.models.specs.Model.{size, var, num, vars, nums}
-use Rattle.arguments.proofs.Walk.{getD-listOf}
 use Rattle.rowsystems.specs.Row.{Row, sum=0}
 use Rattle.rules.specs.Block.{Ref, source, aux, block}
 use Rattle.rules.specs.Parts.{_─_≤0, bits, oneBit, chosen, products, one, nth, places, members}
@@ -25,7 +25,6 @@ use Rattle.rules.specs.Rule.{rule, numberElement, variableElement, firstOnly, o
 use Rattle.laying.specs.Part.{blockParts, rowParts}
 use Rattle.laying.specs.Lists.{many, bitAt, orderAt}
 use Rattle.rules.proofs.Lengths.{values-length}
-use Rattle.laying.proofs.Parts.{flatMap-append}
 use Rattle.laying.proofs.Lists.{length-vars, length-nums, bits-parts, weighted-many, order-parts}
 use Rattle.extremes.specs.BoundLists.{boundsOf}
 use Rattle.choiceblocks.specs.Rows.{numberTermAt, valueAt, memberAt, oneRow, sumRow, choiceRows, gates, gatedRows, firstAt, oneOfParts, extremeOf}

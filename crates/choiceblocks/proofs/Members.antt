@@ -1,5 +1,5 @@
 -- The members of a set, read back from the list that they were put into, and their rows.
-use mathlib.Core.Path.{_≡_, refl, sym, ap, _∙_, fun-ext}
+use mathlib.Core.Path.{_≡_, sym, ap, _∙_, fun-ext}
 use mathlib.Core.Bool.{Bool, true, false}
 use mathlib.Core.List.{List, [], _∷_, map}
 use Prim.Native.Nat.{ℕ, zero, suc, _+_, _≤_}
@@ -13,6 +13,7 @@ use Rattle.integers.specs.Number.{_⊕_, _⊖_, count, +0, +1}
 use Rattle.integers.specs.Lists.{listOf}
 use Rattle.integers.specs.Terms.{_·_}
 use Rattle.integers.specs.declared.Bounds.{Bounds}
+use Rattle.integers.proofs.Places.{by-places}
 use Rattle.words.specs.Limit as Limit
 use Rattle.words.specs.Small.{Near}
 use Rattle.models.specs.Model.{nums}
@@ -39,11 +40,6 @@ rising-size ws i upper h (suc n) from k = let v = leastFrom (nums ws i) from (up
 pub members-size : (ws : List ℕ) (i : ℕ) (B : Bounds) → Near (B .upper) → (k : ℕ) → natAbs (getD (members (nums ws i) B) k +0) ≤ Limit.half + 1
 unfolding members
 members-size ws i B h k = rising-size ws i (B .upper) h (length (nums ws i)) (B .lower) k
-
-by-places : {A : Type 0} (d : A) (xs : List A) → listOf (λ k. getD xs k d) (length xs) ≡ xs
-unfolding listOf
-by-places d [] = refl
-by-places d (x ∷ xs) = ap (λ l. x ∷ l) (by-places d xs)
 
 -- a list that reads as the members do
 module _ (first : ℕ) (out vs : List ℤ) (same : (k : ℕ) → getD out k +0 ≡ getD vs k +0) where

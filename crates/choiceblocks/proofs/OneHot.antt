@@ -11,7 +11,7 @@ use Rattle.integers.specs.Lists.{listOf}
 use Rattle.integers.specs.Bounds.{width, values}
 use Rattle.integers.specs.Terms.{Term, _·_}
 use Rattle.integers.specs.declared.Bounds.{Bounds}
-use Rattle.integers.proofs.Lists.{listOf-length}
+use Rattle.integers.proofs.Lists.{listOf-length, flatMap-append}
 use Rattle.words.specs.Kind as Kind
 use Rattle.models.specs.Model.{var}
 use Rattle.rowsystems.specs.Row.{Row, sum≤0, sum=0}
@@ -22,7 +22,7 @@ use Rattle.laying.specs.Part.{Part, bound, head, term, constant, boundParts, te
 use Rattle.laying.specs.Lists.{many, sameAt, labelAt, bitAt, productAt}
 use Rattle.laying.specs.Appends.{Appends, GrowsBy}
 use Rattle.laying.specs.declared.Laid.{Laid}
-use Rattle.laying.proofs.Parts.{flatMap-append, many-same, went-then}
+use Rattle.laying.proofs.Parts.{many-same, went-then}
 use Rattle.rules.proofs.Lengths.{values-length, weighted-length}
 use Rattle.laying.proofs.Lists.{bounds-append, bits-parts, terms-append, labels-parts, same-parts, products-many}
 use Rattle.extremes.specs.BoundLists.{boundsOf}

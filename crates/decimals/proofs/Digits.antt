@@ -1,5 +1,5 @@
 -- The digits of a number: its last one and those before, and how many there are.
-use mathlib.Core.Path.{_≡_, refl}
+use mathlib.Core.Path.{_≡_, refl, _∙_}
 use mathlib.Core.Bool.{Bool, true, false}
 use mathlib.Core.List.{List, [], _∷_, _++_}
 use Prim.Native.Nat.{ℕ, zero, suc, _+_, _*_, _/_, _%_, _^_, _≤_, _<_}
@@ -58,3 +58,18 @@ pub numeral-length : (k : ℕ) (z : ℤ) → natAbs z < 10 ^ suc k → length (n
 unfolding numeral
 numeral-length k (pos n) h = omega (arith, decimal-length k n h)
 numeral-length k (negsuc n) h = omega (arith, decimal-length k (suc n) h)
+
+-- ---- a reader of one digit after the other gives the number back
+module _ (read : List ℕ → ℕ) (none : read [] ≡ 0) (last : (xs : List ℕ) (d : ℕ) → read (xs ++ ((48 + d) ∷ [])) ≡ 10 * read xs + d) where
+  digits-back : (k n : ℕ) → n < k → read (lastDigits k n) ≡ n
+  unfolding lastDigits
+  digits-back zero n h = absurd (omega arith)
+  digits-back (suc k) n h = by (ltb 9 n) refl (digits-back k (n / 10))
+    where
+      by : (t : Bool) → ltb 9 n ≡ t → (n / 10 < k → read (lastDigits k (n / 10)) ≡ n / 10) → read ((lastDigits k (n / 10) if t else []) ++ ((48 + n % 10) ∷ [])) ≡ n
+      by true e more = last (lastDigits k (n / 10)) (n % 10) ∙ rw (more (omega (arith, ltb-true))) (omega arith)
+      by false e more = last [] (n % 10) ∙ rw none (omega (arith, ltb-false))
+
+  pub decimal-back : (n : ℕ) → read (decimal n) ≡ n
+  unfolding decimal
+  decimal-back n = digits-back (suc n) n (omega arith)

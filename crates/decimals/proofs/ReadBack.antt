@@ -2,12 +2,13 @@
 use mathlib.Core.Path.{_≡_, refl, sym, ap, _∙_}
 use mathlib.Core.Bool.{Bool, true, false}
 use mathlib.Core.List.{List, [], _∷_, _++_}
-use Prim.Native.Nat.{ℕ, zero, suc, _+_, _-_, _*_, _/_, _%_, _<_}
+use Prim.Native.Nat.{ℕ, zero, suc, _+_, _-_, _*_, _/_, _%_}
 use native.Mathlib.Omega.{arith}
 use lib.Dec.{ltb, eqb}
 use lib.IntN.{ℤ, pos, negsuc}
 use lib.ListN.{length}
-use borrow.Author.Tests.{ltb-true, ltb-false, lt-ltb, ne-eqb}
+use borrow.Author.Tests.{lt-ltb, ne-eqb}
+use Rattle.decimals.proofs.Digits.{decimal-back}
 use Rattle.integers.specs.Choice.{_if_else_}
 use Rattle.decimals.specs.Column.{blanks, right, left}
 use Rattle.decimals.specs.Decimal.{lastDigits, decimal, numeral}
@@ -55,20 +56,8 @@ onward-append n (x ∷ xs) ys = onward-append (10 * n + (x - 48) if ltb 47 x els
 one-digit : (n d : ℕ) → onward n ((48 + d) ∷ []) ≡ 10 * n + d
 one-digit n d = let e : 48 + d - 48 ≡ d = omega arith in rw (lt-ltb 47 (48 + d) (omega arith), e)
 
-digits-back : (k n : ℕ) → n < k → onward 0 (lastDigits k n) ≡ n
-unfolding lastDigits
-digits-back zero n h = absurd (omega arith)
-digits-back (suc k) n h = by (ltb 9 n) refl (digits-back k (n / 10))
-  where
-    by : (t : Bool) → ltb 9 n ≡ t → (n / 10 < k → onward 0 (lastDigits k (n / 10)) ≡ n / 10) → onward 0 ((lastDigits k (n / 10) if t else []) ++ ((48 + n % 10) ∷ [])) ≡ n
-    by true e more =
-        onward-append 0 (lastDigits k (n / 10)) ((48 + n % 10) ∷ [])
-        ∙ rw (more (omega (arith, ltb-true))) (one-digit (n / 10) (n % 10) ∙ omega arith)
-    by false e more = one-digit 0 (n % 10) ∙ omega (arith, ltb-false)
-
-decimal-back : (n : ℕ) → onward 0 (decimal n) ≡ n
-unfolding decimal
-decimal-back n = digits-back (suc n) n (omega arith)
+number-back : (n : ℕ) → onward 0 (decimal n) ≡ n
+number-back = decimal-back (onward 0) refl (λ xs d. onward-append 0 xs ((48 + d) ∷ []) ∙ one-digit (onward 0 xs) d)
 
 no-hyphen : (xs : List ℕ) (d : ℕ) → hyphened xs ≡ false → hyphened (xs ++ ((48 + d) ∷ [])) ≡ false
 no-hyphen [] d h = rw (ne-eqb (48 + d) 45 (λ e. omega arith))
@@ -95,8 +84,8 @@ decimal-plain n = digits-plain (suc n) n
 
 numeral-back : (z : ℤ) → number (numeral z) ≡ z
 unfolding numeral
-numeral-back (pos n) = rw (decimal-plain n, decimal-back n)
-numeral-back (negsuc n) = let e : suc n - 1 ≡ n = omega arith in rw (decimal-back (suc n), e)
+numeral-back (pos n) = rw (decimal-plain n, number-back n)
+numeral-back (negsuc n) = let e : suc n - 1 ≡ n = omega arith in rw (number-back (suc n), e)
 
 right-back : (columns : ℕ) (z : ℤ) → number (right columns (numeral z)) ≡ z
 unfolding right
@@ -108,7 +97,7 @@ left-back : (columns n : ℕ) → onward 0 (left columns (decimal n)) ≡ n
 unfolding left
 left-back columns n =
     onward-append 0 (decimal n) (blanks (columns - length (decimal n)))
-    ∙ only-blanks (onward 0 (decimal n)) (columns - length (decimal n)) ∙ decimal-back n
+    ∙ only-blanks (onward 0 (decimal n)) (columns - length (decimal n)) ∙ number-back n
 
 -- two numbers with the same text right in columns, and left in columns
 pub same-right : (columns : ℕ) (a b : ℤ) → right columns (numeral a) ≡ right columns (numeral b) → a ≡ b

@@ -7,6 +7,7 @@ use native.Mathlib.Omega.{arith}
 use lib.IntN.{ℤ}
 use Rattle.integers.specs.Number.{+0, +1, -1}
 use Rattle.integers.specs.declared.Bounds.{Bounds}
+use Rattle.integers.proofs.Lists.{flatMap-append}
 use Rattle.words.specs.Kind as Kind
 use Rattle.rules.specs.Block.{Ref, source, aux, numbered}
 use Rattle.rules.specs.Parts.{endProducts}
@@ -14,7 +15,6 @@ use Rattle.rules.specs.Division.{M, divisionTable, tableRow, divisionRows, quot
 use Rattle.rules.specs.Rule.{division, leftOver}
 use Rattle.laying.specs.Part.{bound, boundParts, termParts, rowParts, blockParts}
 use Rattle.laying.specs.Lists.{many, rowPartsOf}
-use Rattle.laying.proofs.Parts.{flatMap-append}
 use Rattle.divisionblocks.specs.Rows.{auxiliaryParts, tableParts, divisionParts}
 
 module _ (first : ℕ) where

@@ -2,14 +2,16 @@
 use mathlib.Core.Path.{_≡_, refl}
 use mathlib.Core.Bool.{Bool, true, false, _&&_, _||_}
 use mathlib.Core.List.{List, [], _∷_}
-use Prim.Native.Nat.{ℕ, zero, suc, _<_}
+use Prim.Native.Nat.{ℕ, _<_}
 use native.Mathlib.Omega.{arith}
 use native.Mathlib.Decide.{ℕ-discrete, decLt}
 use lib.Dec.{eqb}
-use lib.ListN.{length, getD, set, replicate, length-set, length-replicate}
+use lib.ListN.{length, getD, set, length-set, length-replicate}
 use lib.Seq.{set-out, getD-set-same, getD-set-other}
 use Rattle.integers.specs.Choice.{_if_else_}
 use Rattle.integers.specs.Lists.{any}
+use Rattle.integers.proofs.Booleans.{or-false}
+use Rattle.integers.proofs.Places.{getD-many}
 use Rattle.models.specs.Model.{Constraint, var, vars, nums, past}
 use Rattle.rules.specs.Shared.{of-element, of-var-element, of-set, of-set-reif, no-choice, choice, encodes, shares, Encoded, noneYet, firstOf, encodedAfter}
 use Rattle.encodings.specs.Uses.{choiceOf, choosing, Recorded}
@@ -35,10 +37,6 @@ pub shares-by : (s : ℕ → Bool) (code : ℕ) (args : List ℕ) → shares s (
 unfolding shares any choiceOf
 shares-by s code args = rw (encodes-by (record { place = 0; code = code; arguments = args })) (go (choosing code))
   where
-    or-false : (p : Bool) → (p || false) ≡ p
-    or-false true = refl
-    or-false false = refl
-
     go : (b : Bool) → any s (var args 0 ∷ [] if b else []) ≡ (s (var args 0) if b else false)
     go true = or-false (s (var args 0))
     go false = refl
@@ -72,12 +70,7 @@ placed-record s first e c h = h
 
 -- nothing is recorded yet
 pub none-yet : (v : ℕ) → _≡_ {A = ℕ} (getD noneYet v 0) 0
-none-yet v = zeros 256 v
-  where
-    zeros : (n v : ℕ) → _≡_ {A = ℕ} (getD (replicate n 0) v 0) 0
-    zeros zero v = refl
-    zeros (suc n) zero = refl
-    zeros (suc n) (suc v) = zeros n v
+none-yet v = getD-many {A = ℕ} 256 v 0
 
 pub none-many : length noneYet ≡ 256
 none-many = length-replicate {A = ℕ} 256 0

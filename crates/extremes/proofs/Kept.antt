@@ -12,10 +12,12 @@ use Rattle.integers.specs.Choice.{_if_else_}
 use Rattle.integers.specs.Number.{+0, +1}
 use Rattle.integers.specs.Bounds.{_to_, bit, boundsIn}
 use Rattle.integers.specs.declared.Bounds.{Bounds}
+use Rattle.integers.proofs.Places.{getD-many}
 use Rattle.words.specs.Word.{signed, wordAt}
 use Rattle.words.specs.Variables.{variables, startsPair}
 use Rattle.words.specs.Overlay.{overlay}
 use Rattle.words.specs.Small.{Small}
+use Rattle.words.proofs.Overlay.{before-laid}
 use Rattle.variables.specs.Start as Start
 use Rattle.variables.specs.Start.{starts}
 use Rattle.variables.proofs.Walk.{at-none, at-one}
@@ -93,15 +95,10 @@ module _ {ws : List ℕ} {ls₀ us₀ ls us : List ℤ} {i n : ℕ} (k : Keeping
 
 -- a list laid over zeros reads as the list does
 module _ {A : Type 0} (d : A) where
-  before : (xs out : List A) (at v : ℕ) → v < at → getD (overlay out at xs) v d ≡ getD out v d
-  unfolding overlay
-  before [] out at v h = refl
-  before (x ∷ xs) out at v h = before xs (set out at x) (suc at) v (omega arith) ∙ getD-set-other out at v x d (λ e. omega arith)
-
   laid : (xs out : List A) (at : ℕ) → at + length xs ≤ length out → ((v : ℕ) → at ≤ v → getD out v d ≡ d) → (v : ℕ) → getD (overlay out at xs) (at + v) d ≡ getD xs v d
   unfolding overlay
   laid [] out at h z v = z (at + v) (omega arith)
-  laid (x ∷ xs) out at h z zero = let e : at + 0 ≡ at = omega arith in rw e (before xs (set out at x) (suc at) at (omega arith) ∙ getD-set-same out at x d (omega arith))
+  laid (x ∷ xs) out at h z zero = let e : at + 0 ≡ at = omega arith in rw e (before-laid d (set out at x) (suc at) xs at (omega arith) ∙ getD-set-same out at x d (omega arith))
   laid (x ∷ xs) out at h z (suc v) =
       let e : at + suc v ≡ suc at + v = omega arith in
       let n = length-set out at x in
@@ -110,12 +107,7 @@ module _ {A : Type 0} (d : A) where
   pub over-zeros : (n : ℕ) (xs : List A) → length xs ≤ n → (v : ℕ) → getD (overlay (replicate n d) 0 xs) v d ≡ getD xs v d
   over-zeros n xs few v =
       let e : v ≡ 0 + v = omega arith in
-      ap (λ (w : ℕ). getD (overlay (replicate n d) 0 xs) w d) e ∙ laid xs (replicate n d) 0 (omega (arith, length-replicate n d)) (λ w l. zeros n w) v
-    where
-      zeros : (n w : ℕ) → getD (replicate n d) w d ≡ d
-      zeros zero w = refl
-      zeros (suc n) zero = refl
-      zeros (suc n) (suc w) = zeros n w
+      ap (λ (w : ℕ). getD (overlay (replicate n d) 0 xs) w d) e ∙ laid xs (replicate n d) 0 (omega (arith, length-replicate n d)) (λ w l. getD-many n w d) v
 
 mapped : (f : Bounds → ℤ) → f (+0 to +0) ≡ +0 → (Bs : List Bounds) (v : ℕ) → getD (map f Bs) v +0 ≡ f (boundsIn Bs v)
 unfolding boundsIn

@@ -14,12 +14,12 @@ use Rattle.integers.specs.Lists.{listOf}
 use Rattle.integers.specs.Bounds.{_to_}
 use Rattle.integers.specs.declared.Bounds.{Bounds}
 use Rattle.integers.proofs.Fits.{plus-size}
+use Rattle.integers.proofs.Lists.{listOf-length}
 use Rattle.words.specs.Limit as Limit
 use Rattle.words.specs.Small.{Near}
 use Rattle.words.specs.Overlay.{overlay}
 use Rattle.models.specs.Model.{num, nums, size}
 use Rattle.arguments.proofs.Size.{size-le, num-size}
-use Rattle.arguments.proofs.Walk.{length-listOf}
 use Rattle.rules.specs.Parts.{leastFrom, rising, members}
 
 -- one place more
@@ -59,7 +59,7 @@ rising-length S upper (suc k) from = let v = leastFrom S from (upper ⊕ +1) in 
 
 pub members-length : (ws : List ℕ) (i : ℕ) (B : Bounds) → length (members (nums ws i) B) ≤ 32
 unfolding members nums
-members-length ws i B = let n = length-listOf (λ k. num ws (i + 1 + k)) (size ws i) in omega (arith, rising-length (nums ws i) (B .upper) (length (nums ws i)) (B .lower), size-le ws i)
+members-length ws i B = let n = listOf-length (λ k. num ws (i + 1 + k)) (size ws i) in omega (arith, rising-length (nums ws i) (B .upper) (length (nums ws i)) (B .lower), size-le ws i)
 
 -- k members stand in a list, and `left` more may follow from `from` on
 pub record Rising (S : List ℤ) (upper : ℤ) (all : List ℤ) (out₀ out : List ℤ) (k left : ℕ) (from : ℤ) : Type 0 where
@@ -71,8 +71,8 @@ pub record Rising (S : List ℤ) (upper : ℤ) (all : List ℤ) (out₀ out : Li
 pub begun : (ws : List ℕ) (i : ℕ) (upper from : ℤ) (out : List ℤ) → Rising (nums ws i) upper (members (nums ws i) (from to upper)) out out 0 (size ws i) from
 unfolding members nums
 begun ws i upper from out = record {
-  many = rw length-listOf (omega arith);
-  over = rw length-listOf;
+  many = rw listOf-length (omega arith);
+  over = rw listOf-length;
   fuel = omega (arith, size-le ws i);
   same = refl;
 }

@@ -3,15 +3,16 @@ use mathlib.Core.Bool.{Bool, true, false}
 use mathlib.Core.List.{List}
 use Prim.Native.Nat.{ℕ, _≤_}
 use native.Mathlib.Omega.{arith}
-use lib.IntN.{ℤ, pos, negsuc, natAbs}
+use lib.IntN.{ℤ, pos, natAbs}
 use lib.ListN.{getD}
 use lib.Signed.{leZ}
 use Rattle.integers.specs.Choice.{_if_else_}
-use Rattle.integers.specs.Number.{_⊕_, _⊖_, minZ, maxZ, count, +0, +1}
+use Rattle.integers.specs.Number.{_⊕_, _⊖_, minZ, maxZ, +0, +1}
 use Rattle.integers.specs.Bounds.{_to_, width}
 use Rattle.integers.specs.declared.Bounds.{Bounds}
 use Rattle.integers.proofs.Fits.{plus-size, minus-size}
 use Rattle.integers.proofs.Linear.{linear, rep}
+use Rattle.integers.proofs.Sums.{count-le}
 pub use Rattle.words.proofs.Word.{product-size}
 use Rattle.words.specs.Small.{Near, Small}
 use Rattle.rules.specs.Parts.{places}
@@ -27,11 +28,6 @@ pick-size true a b h k = chosen-size (leZ a b) b a k h
 pick-size false a b h k = chosen-size (leZ a b) a b h k
 
 -- how many values two bounds leave, and the places of a list of n elements
-pub count-le : (z : ℤ) → count z ≤ natAbs z
-unfolding count
-count-le (pos n) = omega arith
-count-le (negsuc n) = omega arith
-
 pub width-size : (l u : ℤ) → Near l → Near u → width (l to u) ≤ 268435457
 unfolding width
 width-size l u h k = omega (arith, count-le (u ⊖ l ⊕ +1), plus-size (u ⊖ l) +1, minus-size u l)

@@ -1,16 +1,13 @@
 -- What fill writes of a model that passes the check, where the values satisfy it: numbers in the range, at places that do not wrap.
 use mathlib.Core.Path.{_≡_}
-use mathlib.Core.Bool.{true}
 use mathlib.Core.List.{List, _++_}
 use Prim.Native.Nat.{ℕ, _+_, _<_}
 use native.Mathlib.Omega.{arith}
-use lib.IntN.{ℤ, pos, negsuc}
+use lib.IntN.{ℤ}
 use lib.ListN.{length}
 use Rattle.integers.specs.Terms.{value}
-use Rattle.integers.proofs.Linear.{arithZ}
-use Rattle.words.specs.Word.{inRange}
-use Rattle.words.specs.Small.{Near, Small}
-use Rattle.words.proofs.Word.{says-range}
+use Rattle.words.proofs.Word.{range-near}
+use Rattle.words.specs.Small.{Small}
 use Rattle.models.specs.Model.{Constraint, builtin}
 use Rattle.rules.specs.Shared.{Encoded, choice}
 use Rattle.rules.specs.Translation.{blockOf, picks}
@@ -23,16 +20,12 @@ use Rattle.encodings.specs.Uses.{choiceOf, sharedBy}
 use Rattle.picking.specs.Picked.{Ranged, picksAfter}
 use Rattle.picking.proofs.Writing.{value-ranged, ranged-left, ranged-right}
 
-near : (z : ℤ) → inRange z ≡ true → Near z
-near (pos n) e = omega (arithZ, says-range (pos n) .0 e .1)
-near (negsuc n) e = omega (arithZ, says-range (negsuc n) .0 e .0)
-
 module _ (ws : List ℕ) (passes : Passes ws) (vs : List ℤ) (s : SatisfiesModel ws vs) where
   all-ranged : Ranged (vs ++ picks ws vs)
   all-ranged = value-ranged _ (fill-in-range ws passes vs s)
 
   pub values-small : Small vs
-  values-small x = near _ (ranged-left vs (picks ws vs) all-ranged x)
+  values-small x = range-near _ (ranged-left vs (picks ws vs) all-ranged x)
 
   pub picks-ranged : Ranged (picks ws vs)
   picks-ranged = ranged-right vs (picks ws vs) all-ranged

@@ -10,7 +10,8 @@ use lib.ListN.{length, getD, List·getD-eq-default, List·getD-map}
 use borrow.Author.Tests.{leb-true, leb-false, le-leb, lt-leb}
 use Rattle.integers.specs.Lists.{listOf, all}
 use Rattle.integers.proofs.Places.{getD-listOf}
-use Rattle.integers.proofs.Tests.{All, says-all, false-true}
+use Rattle.integers.proofs.Tests.{says-all, false-true}
+use Rattle.integers.proofs.Lists.{all-or-past}
 use Rattle.models.specs.Table.{Code, codes}
 use Rattle.grammar.specs.Form.{inText, argumentForms, argumentForm}
 use Rattle.grammar.specs.Machine.{numberedForm, isMissing, FormTable}
@@ -34,18 +35,13 @@ past-codes c k h = sym (ap (λ (r : List Form). getD r k Missing) (no-arguments 
 
 -- what the arguments of every code pass
 module _ (test : List Form → Bool) (nil : test [] ≡ true) (holds : all test (listOf argumentForms 40) ≡ true) where
-  element : (xs : List (List Form)) → All (λ r. test r ≡ true) xs → (i : ℕ) → test (getD xs i []) ≡ true
-  element [] h i = nil
-  element (x ∷ xs) h zero = h .0
-  element (x ∷ xs) h (suc i) = element xs (h .1) i
-
   every : (c : ℕ) → test (argumentForms c) ≡ true
   every c = go (leb c 39) refl
     where
       go : (b : Bool) → leb c 39 ≡ b → test (argumentForms c) ≡ true
       go true e =
           let h : c < 40 = omega (arith, leb-true c 39 e) in
-          rw (getD-listOf argumentForms 40 c [] h) at (element (listOf argumentForms 40) (says-all test (λ r. test r ≡ true) (λ r. (λ q. q, λ q. q)) (listOf argumentForms 40) .0 holds) c)
+          rw (getD-listOf argumentForms 40 c [] h) at (all-or-past (λ r. test r ≡ true) (listOf argumentForms 40) [] (says-all test (λ r. test r ≡ true) (λ r. (λ q. q, λ q. q)) (listOf argumentForms 40) .0 holds) nil c)
       go false e = rw (no-arguments c (leb-false c 39 e)) nil
 
 abbrev Short : List Form → Bool

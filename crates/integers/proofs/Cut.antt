@@ -1,15 +1,15 @@
 -- Numbers cut to −S..S. A product of cut numbers, cut again, is the product cut: what has left −S..S does not come back, and 64 bits suffice
 -- for products of many factors. For the code of int_pow.
-use mathlib.Core.Path.{_≡_, refl, sym, ap, _∙_}
+use mathlib.Core.Path.{_≡_, sym, ap, _∙_}
 use mathlib.Core.Logic.{_↔_}
-use mathlib.Core.Bool.{Bool, true, false}
 use Prim.Native.Nat.{_≤_}
 use native.Mathlib.Omega.{arith}
 use lib.IntN.{ℤ, natAbs}
 use Rattle.integers.specs.Number.{_⊗_, neg, minZ, maxZ, cut, _==_, +0, +1}
 use Rattle.integers.proofs.Linear.{_⊑_, _⊏_, rep, linear, from₃, dec⊑}
 use Rattle.integers.proofs.Product.{product-order, ⊗-comm}
-use Rattle.integers.proofs.Tests.{Says, says-equal}
+use Rattle.integers.proofs.Sums.{times-zero}
+use Rattle.integers.proofs.Tests.{says-equal, same-test}
 
 -- ---- one number
 
@@ -32,16 +32,6 @@ cut-neg = simp linear (omega arith)
 pub cut-size : (S a : ℤ) → +1 ⊑ S → natAbs (cut S a) ≤ natAbs S
 unfolding cut
 cut-size = simp linear (omega arith)
-
--- two tests that say what is equivalent are the same
-pub same-test : {t u : Bool} {P Q : Type 0} → Says t P → Says u Q → P ↔ Q → t ≡ u
-same-test {t} {u} {P} {Q} s r e = go t u s r
-  where
-    go : (t u : Bool) → Says t P → Says u Q → t ≡ u
-    go true true s r = refl
-    go true false s r = sym (r .1 (e .0 (s .0 refl)))
-    go false true s r = s .1 (e .1 (r .0 refl))
-    go false false s r = refl
 
 -- a number inside −S..S is equal to one where it is equal to that cut
 pub cut-equal : (S a b : ℤ) → neg S ⊏ b → b ⊏ S → (cut S a == b) ≡ (a == b)
@@ -78,12 +68,9 @@ module _ (S : ℤ) (h : +1 ⊑ S) where
       is-zero : (b : ℤ) → +0 ⊑ b → ¬ (+1 ⊑ b) → b ≡ +0
       is-zero = simp linear (omega arith)
 
-      zero-product : (a : ℤ) → a ⊗ +0 ≡ +0
-      zero-product = simp linear (omega arith)
-
       go : Dec (+1 ⊑ b) → cut S (S ⊗ b) ≡ cut S (a ⊗ b)
       go (yes k) = cut-high S (S ⊗ b) h (past-product S b (itself S) k) ∙ sym (cut-high S (a ⊗ b) h (past-product a b i k))
-      go (no n) = let e = is-zero b j n in ap (cut S) (ap (λ z. S ⊗ z) e ∙ zero-product S ∙ sym (ap (λ z. a ⊗ z) e ∙ zero-product a))
+      go (no n) = let e = is-zero b j n in ap (cut S) (ap (λ z. S ⊗ z) e ∙ times-zero S ∙ sym (ap (λ z. a ⊗ z) e ∙ times-zero a))
 
   -- the cut product with the opposite of b
   flipped : (a b : ℤ) → cut S (a ⊗ b) ≡ neg (cut S (a ⊗ neg b))

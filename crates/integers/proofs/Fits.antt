@@ -7,7 +7,7 @@ use native.Mathlib.Nat.{mul-le-mul-left, mul-le-mul-right, le-trans, div-le-self
 use lib.Dec.{T, ltb, ltb→lt, eqb}
 use lib.IntN.{ℤ, pos, negsuc, negℤ, _+ℤ_, _*ℤ_, natAbs, subℕ}
 use lib.Signed.{mag, quotZ, remZ}
-use mir.Syntax.{w64}
+use mir.Syntax.{w32, w64}
 use mir.Val.{toZ, ofZ, SFits}
 use mir.Facts.{toZ-ofZ}
 use borrow.Author.Tests.{eqb-true, eqb-false}
@@ -21,6 +21,9 @@ mag-le (negsuc n) = omega arith
 
 pub fits64 : (z : ℤ) → natAbs z < 9223372036854775808 → SFits w64 z
 fits64 z h = record { sfits = omega (arith, mag-le z) }
+
+pub fits32 : (z : ℤ) → natAbs z < 2147483648 → SFits w32 z
+fits32 z h = record { sfits = omega (arith, mag-le z) }
 
 -- what is read back of a number that a call gave: `back (c .f .result) (c .f .ok)`
 pub back : (z : ℤ) → mag z < 9223372036854775808 → toZ w64 (ofZ w64 z) ≡ z

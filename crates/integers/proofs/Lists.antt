@@ -1,7 +1,7 @@
--- Laws of `All` and `Any` over lists.
-use mathlib.Core.Path.{_≡_, refl, subst, sym, ap}
+-- Laws of `All` and `Any` over lists; lists made of lists.
+use mathlib.Core.Path.{_≡_, refl, subst, sym, ap, _∙_}
 use mathlib.Core.Logic.{_⊎_, inl, inr, _↔_}
-use mathlib.Core.List.{List, [], _∷_, _++_, map}
+use mathlib.Core.List.{List, [], _∷_, _++_, map, flatMap, append-assoc}
 use Prim.Native.Nat.{ℕ, zero, suc, _<_}
 use native.Mathlib.Omega.{arith}
 use lib.ListN.{length, getD}
@@ -55,7 +55,24 @@ all-at P d [] k l h = absurd (omega arith)
 all-at P d (x ∷ xs) zero l h = h .0
 all-at P d (x ∷ xs) (suc k) l h = all-at P d xs k (omega arith) (h .1)
 
+-- and the one that stands past the end
+pub all-or-past : {A : Type 0} (P : A → Type 0) (xs : List A) (d : A) → All P xs → P d → (k : ℕ) → P (getD xs k d)
+all-or-past P [] d h p k = p
+all-or-past P (x ∷ xs) d h p zero = h .0
+all-or-past P (x ∷ xs) d h p (suc k) = all-or-past P xs d (h .1) p k
+
+-- what holds at every place
+pub all-listOf : {A : Type 0} (P : A → Type 0) (f : ℕ → A) (n : ℕ) → ((k : ℕ) → k < n → P (f k)) → All P (listOf f n)
+unfolding listOf
+all-listOf P f zero h = tt
+all-listOf P f (suc n) h = (h 0 (omega arith), all-listOf P (λ k. f (suc k)) n (λ k l. h (suc k) (omega arith)))
+
 pub listOf-length : {A : Type 0} (f : ℕ → A) (n : ℕ) → length (listOf f n) ≡ n
 unfolding listOf
 listOf-length f zero = refl
 listOf-length f (suc n) = ap suc (listOf-length (λ k. f (suc k)) n)
+
+pub flatMap-append : {A B : Type 0} (f : A → List B) (xs ys : List A) → flatMap f (xs ++ ys) ≡ flatMap f xs ++ flatMap f ys
+unfolding flatMap
+flatMap-append f [] ys = refl
+flatMap-append f (x ∷ xs) ys = ap (λ l. f x ++ l) (flatMap-append f xs ys) ∙ sym (append-assoc (f x) (flatMap f xs) (flatMap f ys))

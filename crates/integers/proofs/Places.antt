@@ -1,20 +1,24 @@
 -- Lists by places, for loops that go through a list from its front: one element more, and tests by counting.
 use mathlib.Core.Path.{_≡_, refl, ap, sym, _∙_}
 use mathlib.Core.Bool.{Bool, true, false, _&&_, _||_}
-use mathlib.Core.List.{List, [], _∷_, map}
+use mathlib.Core.List.{List, [], _∷_, _++_, map}
 use Prim.Native.Nat.{ℕ, zero, suc, _+_, _<_, _≤_, compare·suc-suc}
 use native.Mathlib.Numerals.{add-one}
 use native.Mathlib.Nat.{zero-add}
 use native.Mathlib.Omega.{arith}
 use lib.Dec.{ltb, eqb}
 use lib.IntN.{ℤ}
-use lib.ListN.{length, getD}
+use lib.ListN.{length, getD, drop, replicate, drop-of-length-le}
+use lib.Seq.{drop-cons}
 use borrow.Author.Tests.{lt-ltb, ne-eqb}
 use Rattle.integers.specs.Choice.{_if_else_}
 use Rattle.integers.specs.Number.{_⊕_, _⊗_, +0}
 use Rattle.integers.specs.Lists.{listOf, all, any, howMany}
 use Rattle.integers.specs.Terms.{Term, sum}
-use Rattle.integers.proofs.Linear.{linear}
+use Rattle.integers.specs.Bounds.{_to_, boundsIn}
+use Rattle.integers.specs.declared.Bounds.{Bounds}
+use Rattle.integers.proofs.Booleans.{and-assoc, and-true, or-assoc, or-false, bit-le}
+use Rattle.integers.proofs.Sums.{⊕-assoc, ⊕-zero}
 
 -- what is put together from the left, `F (x ∷ xs)` from `g x` and `F xs`, also grows at the right
 module _ {A B : Type 0} (F : List A → B) (op : B → B → B) (g : A → B)
@@ -30,28 +34,6 @@ module _ {A B : Type 0} (F : List A → B) (op : B → B → B) (g : A → B)
       ∙ ap (λ b. op b (g (f (suc k)))) (sym (cons (f 0) (listOf (λ i. f (suc i)) k)))
 
 -- ---- by how a list is used
-
-and-assoc : (a b c : Bool) → ((a && b) && c) ≡ (a && (b && c))
-and-assoc true b c = refl
-and-assoc false b c = refl
-
-and-true : (a : Bool) → (a && true) ≡ a
-and-true true = refl
-and-true false = refl
-
-or-assoc : (a b c : Bool) → ((a || b) || c) ≡ (a || (b || c))
-or-assoc true b c = refl
-or-assoc false b c = refl
-
-or-false : (a : Bool) → (a || false) ≡ a
-or-false true = refl
-or-false false = refl
-
-pub ⊕-assoc : (a b c : ℤ) → (a ⊕ b) ⊕ c ≡ a ⊕ (b ⊕ c)
-⊕-assoc = simp linear (omega arith)
-
-pub ⊕-zero : (a : ℤ) → a ⊕ +0 ≡ +0 ⊕ a
-⊕-zero = simp linear (omega arith)
 
 module _ {A : Type 0} (t : A → Bool) (f : ℕ → A) (k : ℕ) where
   pub all-more : all t (listOf f (k + 1)) ≡ (all t (listOf f k) && t (f k))
@@ -84,14 +66,41 @@ module _ {A : Type 0} where
   map-listOf g f zero = refl
   map-listOf g f (suc n) = ap (λ l. g (f 0) ∷ l) (map-listOf g (λ i. f (suc i)) n)
 
+  -- a list by its places
+  pub by-places : (d : A) (xs : List A) → listOf (λ k. getD xs k d) (length xs) ≡ xs
+  unfolding listOf
+  by-places d [] = refl
+  by-places d (x ∷ xs) = ap (λ l. x ∷ l) (by-places d xs)
+
+  -- one element many times, and past its end
+  pub getD-many : (n k : ℕ) (d : A) → getD (replicate n d) k d ≡ d
+  getD-many zero k d = refl
+  getD-many (suc n) zero d = refl
+  getD-many (suc n) (suc k) d = getD-many n k d
+
+pub bounds-listed : (Bs : List Bounds) → listOf (boundsIn Bs) (length Bs) ≡ Bs
+unfolding boundsIn
+bounds-listed Bs = by-places (+0 to +0) Bs
+
+-- ---- tests of what is left of a list, from a place on
+
+module _ {A : Type 0} (t : A → Bool) (d : A) (xs : List A) (k : ℕ) where
+  pub rest-more : k < length xs → t (getD xs k d) ≡ true → all t (drop k xs) ≡ all t (drop (k + 1) xs)
+  unfolding all
+  rest-more h e = ap (all t) (drop-cons xs k d h) ∙ rw (e, add-one k)
+
+  pub rest-not : k < length xs → t (getD xs k d) ≡ false → all t (drop k xs) ≡ false
+  unfolding all
+  rest-not h e = ap (all t) (drop-cons xs k d h) ∙ rw e
+
+  pub rest-end : length xs ≤ k → all t (drop k xs) ≡ true
+  unfolding all
+  rest-end h = ap (all t) (drop-of-length-le xs h)
+
 -- ---- tests by counting
 
-pub bit-le : (b : Bool) → (1 if b else 0) ≤ 1
-bit-le true = omega arith
-bit-le false = omega arith
-
 module _ {A : Type 0} (t : A → Bool) where
-  howMany-le : (xs : List A) → howMany t xs ≤ length xs
+  pub howMany-le : (xs : List A) → howMany t xs ≤ length xs
   unfolding howMany
   howMany-le [] = omega arith
   howMany-le (x ∷ xs) = omega (arith, bit-le (t x), howMany-le xs)
@@ -118,6 +127,11 @@ module _ {A : Type 0} (t : A → Bool) where
   unfolding any
   any-map g [] = refl
   any-map g (x ∷ xs) = ap (λ b. t (g x) || b) (any-map g xs)
+
+  pub all-append : (xs ys : List A) → all t (xs ++ ys) ≡ (all t xs && all t ys)
+  unfolding all
+  all-append [] ys = refl
+  all-append (x ∷ xs) ys = ap (λ b. t x && b) (all-append xs ys) ∙ sym (and-assoc (t x) (all t xs) (all t ys))
 
   pub all-map : {B : Type 0} (g : B → A) (xs : List B) → all t (map g xs) ≡ all (λ x. t (g x)) xs
   unfolding all

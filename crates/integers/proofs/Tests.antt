@@ -1,5 +1,5 @@
 -- What a test says: `Says t A`, the test t is true exactly where A holds.
-use mathlib.Core.Path.{_≡_, refl, sym, ap, subst}
+use mathlib.Core.Path.{_≡_, refl, sym, ap, subst, _∙_}
 use mathlib.Core.Logic.{_⊎_, inl, inr, _↔_}
 use mathlib.Core.Bool.{Bool, true, false, not, _&&_, _||_, Bool·beq}
 use mathlib.Core.List.{List, [], _∷_}
@@ -14,6 +14,7 @@ use Rattle.integers.specs.Lists.{all, any}
 use Rattle.integers.specs.Bounds.{within}
 use Rattle.integers.specs.declared.Bounds.{Bounds}
 use Rattle.integers.proofs.Linear.{_⊑_, _⊏_, by-le}
+use Rattle.integers.proofs.Sums.{not-less}
 
 abbrev pub Says : Bool → Type 0 → Type 0
 Says t A = (t ≡ true) ↔ A
@@ -56,7 +57,20 @@ equal-self (negsuc a) = eq-eqb a a refl
 pub says-equal : (a b : ℤ) → Says (a == b) (a ≡ b)
 says-equal a b = (is-equal a b, λ e. rw e (equal-self b))
 
+pub not-below : (a b : ℤ) → ltZ a b ≡ false → b ⊑ a
+not-below a b e = not-less a b (λ h. false-true (sym e ∙ says-lt a b .1 h))
+
 -- ---- the operations on tests
+
+-- two tests that say what is equivalent are the same
+pub same-test : {t u : Bool} {A B : Type 0} → Says t A → Says u B → A ↔ B → t ≡ u
+same-test {t} {u} {A} {B} s r e = go t u s r
+  where
+    go : (t u : Bool) → Says t A → Says u B → t ≡ u
+    go true true s r = refl
+    go true false s r = sym (r .1 (e .0 (s .0 refl)))
+    go false true s r = s .1 (e .1 (r .0 refl))
+    go false false s r = refl
 
 pub says-not : {t : Bool} {A : Type 0} → Says t A → Says (not t) (¬ A)
 says-not {t} {A} s = go t s

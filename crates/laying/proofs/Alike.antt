@@ -6,12 +6,14 @@ use Prim.Native.Nat.{ℕ, _+_}
 use native.Mathlib.Omega.{arith}
 use lib.ListN.{length, length-append}
 use Rattle.integers.specs.Lists.{all}
+use Rattle.integers.proofs.Places.{all-append}
+use Rattle.integers.proofs.Booleans.{both-true}
 use Rattle.words.specs.Word.{inRange}
 use Rattle.words.specs.Overlay.{overlay}
 use Rattle.laying.specs.Part.{Part, wordsIn, numbersIn, auxiliariesIn, rowsIn}
 use Rattle.laying.specs.Appends.{someOutside, Appends, AppendsFitting}
 use Rattle.laying.specs.declared.Laid.{Laid}
-use Rattle.laying.proofs.Parts.{all-append, words-append, numbers-append, auxiliaries-append, rows-append, both-true}
+use Rattle.laying.proofs.Parts.{words-append, numbers-append, auxiliaries-append, rows-append}
 
 pub record Alike (ps qs : List Part) : Type 0 where
   pub words : length (wordsIn qs) ≡ length (wordsIn ps)

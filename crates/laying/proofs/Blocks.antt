@@ -5,7 +5,7 @@ use mathlib.Core.List.{List, [], _∷_, _++_, flatMap, map}
 use Prim.Native.Nat.{ℕ}
 use native.Mathlib.Omega.{arith}
 use lib.IntN.{ℤ}
-use lib.ListN.{length}
+use lib.ListN.{length, length-map}
 use Rattle.integers.specs.Lists.{all}
 use Rattle.integers.specs.Terms.{Term}
 use Rattle.integers.specs.declared.Bounds.{Bounds}
@@ -63,15 +63,10 @@ module _ (first : ℕ) where
 
   -- ---- of a row: a head, terms, a constant
 
-  renamed-length : (ts : List (Term Ref)) → length (renameTerms (numbered first) ts) ≡ length ts
-  unfolding renameTerms
-  renamed-length [] = refl
-  renamed-length (t ∷ ts) = omega (arith, renamed-length ts)
-
   sum-words : (k : ℕ) (ts : List (Term Ref)) (c : ℤ) → wordsIn (head k (length ts) ∷ (termParts first ts ++ (constant c ∷ []))) ≡ sumWords k (renameTerms (numbered first) ts) c
-  unfolding sumWords wordsIn flatMap partWords
+  unfolding sumWords wordsIn flatMap partWords renameTerms
   sum-words k ts c =
-      ap₂ (λ (n : ℕ) l. word k n ∷ l) (sym (renamed-length ts))
+      ap₂ (λ (n : ℕ) l. word k n ∷ l) (sym (length-map ts _))
       (words-append (termParts first ts) (constant c ∷ []) ∙ ap (λ l. l ++ (numberWord Kind.number c ∷ [])) (term-words ts))
 
   sum-numbers : (k : ℕ) (ts : List (Term Ref)) (c : ℤ) → numbersIn (head k (length ts) ∷ (termParts first ts ++ (constant c ∷ []))) ≡ map (λ t. t .coefficient) ts ++ (c ∷ [])

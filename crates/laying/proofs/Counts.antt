@@ -1,17 +1,18 @@
 -- Parts for which the list has no room: they are counted, and the list stays as it is.
 use mathlib.Core.Path.{_≡_, refl, sym, ap, ap₂, _∙_}
-use mathlib.Core.Bool.{Bool, true, false, not, _&&_, _||_}
+use mathlib.Core.Bool.{Bool, true, not, _&&_, _||_}
 use mathlib.Core.List.{List, [], _∷_, _++_, flatMap}
 use Prim.Native.Nat.{ℕ, zero, suc, _+_, _*_, _<_, _≤_}
-use native.Mathlib.Numerals.{add-one}
 use native.Mathlib.Omega.{arith}
 use lib.IntN.{ℤ, pos}
-use lib.ListN.{length, length-append, getD, set, drop, drop-of-length-le}
-use lib.Seq.{set-out, drop-cons}
+use lib.ListN.{length, length-append, set}
+use lib.Seq.{set-out}
 use Rattle.integers.specs.Number.{_⊕_, +0, +1, -1}
 use Rattle.integers.specs.Lists.{all, listOf}
 use Rattle.integers.specs.Bounds.{within}
 use Rattle.integers.proofs.Linear.{_⊑_, linear}
+use Rattle.integers.proofs.Places.{all-append}
+use Rattle.integers.proofs.Booleans.{and-true}
 use Rattle.words.specs.Limit as Limit
 use Rattle.words.specs.Kind as Kind
 use Rattle.words.specs.Word.{inRange, word, numberWord}
@@ -22,7 +23,7 @@ use Rattle.laying.specs.Part.{Part, bound, head, term, constant, times, 
 use Rattle.laying.specs.Lists.{many, termAt, rowPartsOf, sameAt, bitAt, labelAt}
 use Rattle.laying.specs.Appends.{someOutside, Appends, CountsMore, GrowsBy}
 use Rattle.laying.specs.declared.Laid.{Laid}
-use Rattle.laying.proofs.Parts.{words-append, numbers-append, auxiliaries-append, rows-append, all-append, and-true, many-more}
+use Rattle.laying.proofs.Parts.{words-append, numbers-append, auxiliaries-append, rows-append, many-more}
 
 -- whether the numbers of parts are in the range
 abbrev pub fitting : List Part → Bool
@@ -55,7 +56,7 @@ sized-head kind n = record { words = refl; auxiliaries = refl; rows = refl; fits
 
 pub sized-any : (c : ℤ) (v : ℕ) → Sized (term c v ∷ []) 2 0 0 (inRange c)
 unfolding wordsIn numbersIn auxiliariesIn rowsIn flatMap all partWords partNumbers partAuxiliaries partRows
-sized-any c v = record { words = refl; auxiliaries = refl; rows = refl; fits = sym (and-true (inRange c)) }
+sized-any c v = record { words = refl; auxiliaries = refl; rows = refl; fits = and-true (inRange c) }
 
 sized-fitting : (c : ℤ) (v : ℕ) → Sized (term c v ∷ []) 2 0 0 (fitting (term c v ∷ []))
 sized-fitting c v = let z = sized-any c v in record { words = z .words; auxiliaries = z .auxiliaries; rows = z .rows; fits = refl }
@@ -65,7 +66,7 @@ sized-term c v h = rw h at (sized-any c v)
 
 sized-constant : (c : ℤ) → Sized (constant c ∷ []) 1 0 1 (inRange c)
 unfolding wordsIn numbersIn auxiliariesIn rowsIn flatMap all partWords partNumbers partAuxiliaries partRows
-sized-constant c = record { words = refl; auxiliaries = refl; rows = refl; fits = sym (and-true (inRange c)) }
+sized-constant c = record { words = refl; auxiliaries = refl; rows = refl; fits = and-true (inRange c) }
 
 pub sized-bound : (l u : ℤ) → Sized (bound l u ∷ []) 2 1 0 (fitting (bound l u ∷ []))
 unfolding wordsIn auxiliariesIn rowsIn flatMap partWords partAuxiliaries partRows
@@ -92,21 +93,6 @@ between = simp linear (omega arith)
 
 pub sized-label : (from : ℤ) (v n : ℕ) → inRange from ≡ true → inRange (from ⊕ pos n) ≡ true → (k : ℕ) → k < n → Sized (labelAt from v k) 2 0 0 true
 sized-label from v n f l k h = sized-term _ (v + k) (says-range (from ⊕ pos k) .1 (between from k n h (says-range from .0 f) (says-range (from ⊕ pos n) .0 l)))
-
--- ---- whether numbers are in the range, one after the other
-
-module _ (cs : List ℤ) (k : ℕ) where
-  pub range-more : k < length cs → inRange (getD cs k +0) ≡ true → all inRange (drop k cs) ≡ all inRange (drop (k + 1) cs)
-  unfolding all
-  range-more h r = ap (all inRange) (drop-cons cs k +0 h) ∙ rw (r, add-one k)
-
-  pub range-not : k < length cs → inRange (getD cs k +0) ≡ false → all inRange (drop k cs) ≡ false
-  unfolding all
-  range-not h r = ap (all inRange) (drop-cons cs k +0 h) ∙ rw r
-
-  pub range-end : length cs ≤ k → all inRange (drop k cs) ≡ true
-  unfolding all
-  range-end h = ap (all inRange) (drop-of-length-le cs h)
 
 -- ---- rows
 
@@ -200,7 +186,7 @@ fitting-more f k = ap fitting (many-more f k) ∙ ap (all inRange) (numbers-appe
 
 pub fitting-bound : (l u : ℤ) → fitting (bound l u ∷ []) ≡ (inRange l && inRange u)
 unfolding numbersIn flatMap all partNumbers
-fitting-bound l u = ap (λ (b : Bool). inRange l && b) (sym (and-true (inRange u)))
+fitting-bound l u = ap (λ (b : Bool). inRange l && b) (and-true (inRange u))
 
 -- ---- all of it fits
 

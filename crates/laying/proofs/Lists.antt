@@ -48,10 +48,10 @@ bits-parts [] = refl
 bits-parts (l ∷ ls) = ap (λ ps. bound +0 +1 ∷ ps) (bits-parts ls)
 
 -- one auxiliary further on
-further : (first k j : ℕ) → first + suc k + j ≡ first + k + suc j
+pub further : (first k j : ℕ) → first + suc k + j ≡ first + k + suc j
 further first k j = omega arith
 
-here : (first k : ℕ) → first + k ≡ first + k + 0
+pub here : (first k : ℕ) → first + k ≡ first + k + 0
 here first k = omega arith
 
 module _ (first : ℕ) where

@@ -7,7 +7,9 @@ use native.Mathlib.Numerals.{add-one}
 use native.Mathlib.Omega.{arith}
 use lib.ListN.{length, length-append}
 use Rattle.integers.specs.Lists.{all}
-use Rattle.integers.proofs.Tests.{false-true}
+use Rattle.integers.proofs.Lists.{flatMap-append}
+use Rattle.integers.proofs.Places.{all-append}
+use Rattle.integers.proofs.Booleans.{or-false}
 use Rattle.words.specs.Word.{inRange}
 use Rattle.words.specs.Overlay.{overlay}
 use Rattle.words.proofs.Overlay.{length-overlay, overlay-none, overlay-append}
@@ -17,20 +19,6 @@ use Rattle.laying.specs.Appends.{someOutside, Appends, Over, GrowsBy}
 use Rattle.laying.specs.declared.Laid.{Laid}
 
 -- ---- parts after parts
-
-pub flatMap-append : {A B : Type 0} (f : A → List B) (xs ys : List A) → flatMap f (xs ++ ys) ≡ flatMap f xs ++ flatMap f ys
-unfolding flatMap
-flatMap-append f [] ys = refl
-flatMap-append f (x ∷ xs) ys = ap (λ l. f x ++ l) (flatMap-append f xs ys) ∙ sym (append-assoc (f x) (flatMap f xs) (flatMap f ys))
-
-pub all-append : {A : Type 0} (t : A → Bool) (xs ys : List A) → all t (xs ++ ys) ≡ (all t xs && all t ys)
-unfolding all
-all-append t [] ys = refl
-all-append t (x ∷ xs) ys = ap (λ b. t x && b) (all-append t xs ys) ∙ sym (assoc (t x) (all t xs) (all t ys))
-  where
-    assoc : (a b c : Bool) → ((a && b) && c) ≡ (a && (b && c))
-    assoc true b c = refl
-    assoc false b c = refl
 
 pub words-append : (ps qs : List Part) → wordsIn (ps ++ qs) ≡ wordsIn ps ++ wordsIn qs
 unfolding wordsIn
@@ -56,25 +44,13 @@ or-not true x y = refl
 or-not false true y = refl
 or-not false false y = refl
 
-pub or-false : (b : Bool) → b ≡ (b || false)
-or-false true = refl
-or-false false = refl
-
-pub and-true : (b : Bool) → b ≡ (b && true)
-and-true true = refl
-and-true false = refl
-
-pub both-true : (a b : Bool) → (a && b) ≡ true → (a ≡ true) × (b ≡ true)
-both-true true b e = (refl, e)
-both-true false b e = false-true e
-
 pub went-none : (s : Laid) (o : List ℕ) → Appends s s o o []
 unfolding wordsIn numbersIn auxiliariesIn rowsIn flatMap all
 went-none s o = record {
   words = omega arith;
   auxiliaries = omega arith;
   rows = omega arith;
-  outside = or-false (someOutside s);
+  outside = sym (or-false (someOutside s));
   over = sym (overlay-none o (s .words));
 }
 

@@ -10,6 +10,7 @@ use Rattle.integers.specs.Lists.{listOf}
 use Rattle.integers.specs.Number.{_⊕_, neg, +0, +1, -1}
 use Rattle.integers.specs.Terms.{Term, _·_}
 use Rattle.integers.specs.declared.Bounds.{Bounds}
+use Rattle.integers.proofs.Lists.{flatMap-append}
 use Rattle.words.specs.Kind as Kind
 use Rattle.words.specs.Word.{payload, signed, wordAt}
 use Rattle.models.specs.Model.{var, num, size, past, terms, pastTerms}
@@ -21,7 +22,7 @@ use Rattle.laying.specs.Part.{Part, head, term, constant, boundParts, termParts
 use Rattle.laying.specs.Lists.{many, rowPartsOf}
 use Rattle.laying.specs.Appends.{Appends}
 use Rattle.laying.specs.declared.Laid.{Laid}
-use Rattle.laying.proofs.Parts.{flatMap-append, went-then}
+use Rattle.laying.proofs.Parts.{went-then}
 use Rattle.laying.proofs.Lists.{terms-append}
 use Rattle.linearblocks.specs.Rows.{termsReified}
 

@@ -10,6 +10,7 @@ use lib.Seq.{getD-set-same, getD-set-other}
 use Rattle.integers.specs.Number.{+0}
 use Rattle.integers.specs.Bounds.{_to_, boundsIn}
 use Rattle.integers.specs.declared.Bounds.{Bounds}
+use Rattle.integers.proofs.Places.{getD-many}
 use Rattle.words.specs.Small.{Small}
 use Rattle.extremes.specs.BoundLists.{boundsOf}
 use Rattle.linearsums.specs.Places.{BoundsNear, NoneFrom}
@@ -22,11 +23,6 @@ below-or-from i zero = inr (omega arith)
 below-or-from zero (suc v) = inl (omega arith)
 below-or-from (suc i) (suc v) = ⊎-elim (λ h. inl (omega arith)) (λ h. inr (omega arith)) (below-or-from i v)
 
-zeros : (n i : ℕ) → getD (replicate n none) i none ≡ none
-zeros zero i = refl
-zeros (suc n) zero = refl
-zeros (suc n) (suc i) = zeros n i
-
 -- the first v records are filled
 pub record Filling (ls us : List ℤ) (Bs : List Bounds) (v : ℕ) : Type 0 where
   pub many : length Bs ≡ 256
@@ -34,7 +30,7 @@ pub record Filling (ls us : List ℤ) (Bs : List Bounds) (v : ℕ) : Type 0 wher
   pub left : (j : ℕ) → v ≤ j → getD Bs j none ≡ none
 
 pub begun : (ls us : List ℤ) → Filling ls us (replicate 256 none) 0
-begun ls us = record { many = length-replicate 256 none; filled = λ j h. absurd (omega arith); left = λ j h. zeros 256 j }
+begun ls us = record { many = length-replicate 256 none; filled = λ j h. absurd (omega arith); left = λ j h. getD-many 256 j none }
 
 module _ {ls us : List ℤ} {Bs : List Bounds} {v : ℕ} (f : Filling ls us Bs v) where
   pub more : v < 256 → Filling ls us (set Bs v (boundsOf ls us v)) (v + 1)

@@ -15,10 +15,11 @@ use Rattle.integers.specs.Terms.{Term, _·_}
 use Rattle.integers.specs.declared.Bounds.{Bounds}
 use Rattle.integers.proofs.Fits.{plus-size, minus-size}
 use Rattle.integers.proofs.Linear.{linear}
+use Rattle.integers.proofs.Places.{one-more}
+use Rattle.integers.proofs.Sums.{⊕-assoc, ⊕-zero}
 use Rattle.words.specs.Small.{Near}
 use Rattle.models.specs.Model.{num, size, pastTerms}
 use Rattle.arguments.proofs.Size.{size-le, num-size}
-use Rattle.arguments.proofs.Walk.{one-more, ⊕-assoc, ⊕-zero}
 use Rattle.rules.specs.Parts.{extreme, L, U}
 use Rattle.extremes.proofs.Size.{pick-size, product-size}
 use Rattle.linearsums.specs.Sum.{noSum, ofTerms, ofTwo}

@@ -12,6 +12,7 @@ use borrow.Author.Tests.{ltb-true, ltb-false, eqb-true, eqb-false, ne-eqb, le-le
 use Rattle.integers.specs.Choice.{_if_else_}
 use Rattle.integers.specs.Lists.{listOf}
 use Rattle.integers.proofs.Tests.{All}
+use Rattle.integers.proofs.Lists.{all-listOf}
 use Rattle.words.specs.Word.{payload, wordAt}
 use Rattle.models.specs.Shape as Shape
 use Rattle.models.specs.Shape.{argument}
@@ -150,11 +151,6 @@ module _ (ts ws : List ℕ) (c : ℕ) where
       each a f (suc j) b = let e : i + 1 + j ≡ i + suc j = omega arith in rw e at (f j (omega arith))
 
 -- ---- one argument
-
-all-listOf : {A : Type 0} (P : A → Type 0) (f : ℕ → A) (n : ℕ) → ((j : ℕ) → j < n → P (f j)) → All P (listOf f n)
-unfolding listOf
-all-listOf P f zero h = tt
-all-listOf P f (suc n) h = (h 0 (omega arith), all-listOf P (λ i. f (suc i)) n (λ j b. h (suc j) (omega arith)))
 
 all-if : {A : Type 0} (P : A → Type 0) (f : ℕ → A) (n : ℕ) (t : Bool) → ((j : ℕ) → j < (n if t else 0) → P (f j)) → All P (listOf f n if t else [])
 all-if P f n true h = all-listOf P f n h

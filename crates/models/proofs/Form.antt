@@ -11,6 +11,7 @@ use borrow.Author.Tests.{ltb-true, lt-ltb, ne-eqb}
 use Rattle.integers.specs.Lists.{all}
 use Rattle.integers.specs.Bounds.{_to_}
 use Rattle.integers.proofs.Tests.{All, says-all}
+use Rattle.integers.proofs.Lists.{all-or-past}
 use Rattle.words.specs.Word.{kind, payload, signed, wordAt}
 use Rattle.words.proofs.Sources.{Ordered}
 use Rattle.models.specs.Table as Table
@@ -43,14 +44,9 @@ pub data Model : List ℕ → List ℕ → Type 0 where
 
 -- ---- no code has an argument of the shape 0
 
-all-at : {A : Type 0} (P : A → Type 0) (xs : List A) (d : A) → All P xs → P d → (n : ℕ) → P (getD xs n d)
-all-at P [] d h k n = k
-all-at P (x ∷ xs) d h k zero = h .0
-all-at P (x ∷ xs) d h k (suc n) = all-at P xs d (h .1) k n
-
 shaped : (code : ℕ) → All (λ s. 1 ≤ s) (getD shapes code [])
 unfolding shapes all
-shaped code = all-at (All (λ s. 1 ≤ s)) shapes [] (says-all (all (ltb 0)) (All (λ s. 1 ≤ s)) (says-all (ltb 0) (λ s. 1 ≤ s) (λ s. (ltb-true 0 s, lt-ltb 0 s))) shapes .0 refl) tt code
+shaped code = all-or-past (All (λ s. 1 ≤ s)) shapes [] (says-all (all (ltb 0)) (All (λ s. 1 ≤ s)) (says-all (ltb 0) (λ s. 1 ≤ s) (λ s. (ltb-true 0 s, lt-ltb 0 s))) shapes .0 refl) tt code
 
 -- ---- where a constraint or the end may stand
 

@@ -8,17 +8,19 @@ use native.Mathlib.Omega.{arith}
 use native.Mathlib.Nat.{add-zero}
 use native.Mathlib.Numerals.{add-one}
 use lib.Dec.{ltb, leb, eqb}
-use lib.Signed.{ltZ, ltZ-no}
+use lib.Signed.{ltZ}
 use lib.ListN.{length, getD, drop, drop-of-length-le}
 use lib.Seq.{drop-cons}
 use borrow.Author.Tests.{ltb-true, ltb-false, leb-false, eqb-true, eqb-false, not-false, ne-eqb}
 use Rattle.integers.specs.Choice.{_if_else_}
 use Rattle.integers.proofs.Linear.{_⊑_}
+use Rattle.integers.proofs.Booleans.{neither}
+use Rattle.integers.proofs.Tests.{not-below}
 use Rattle.words.specs.Word.{kind, payload, signed, inRange, wordAt}
 use Rattle.words.specs.Fault as Fault
 use Rattle.words.specs.Refusal.{accepted, firstFault}
 use Rattle.words.proofs.Reading.{passed}
-use Rattle.words.proofs.Choices.{not-first, not-second, either, neither, of-kind, of-range}
+use Rattle.words.proofs.Choices.{not-first, not-second, either, of-kind, of-range}
 use Rattle.models.specs.Table as Table
 use Rattle.models.specs.Reading.{State, faultHead, faultStartIn, faultUpperIn, faultNumberIn, faultVariable, faultCountIn, afterDue, declared, started, after, ended}
 use Rattle.models.specs.InRange.{faultStart, faultUpper, faultNumber, faultCount, fault}
@@ -34,9 +36,6 @@ pub sound : (ws : List ℕ) (s : State) (p : ℕ) → firstFault fault after end
 unfolding firstFault
 sound [] s p e = passed (ended s) p accepted e .0
 sound (w ∷ ws) s p e = let h = passed (fault s w ws) p _ e in (h .0, sound ws (after s w) (p + 1) (h .1))
-
-not-below : (a b : _) → ltZ a b ≡ false → b ⊑ a
-not-below a b e = ltZ-no (rw e tt)
 
 -- ---- one word without a fault
 

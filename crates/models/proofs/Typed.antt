@@ -2,7 +2,7 @@
 -- and its Boolean ones as Boolean, and its words are those that the reader takes. For `typed` of Accepted, and for the number of words of a block.
 use mathlib.Core.Path.{_≡_, refl, ap, subst}
 use mathlib.Core.Bool.{Bool, true, false, not, _&&_}
-use mathlib.Core.List.{List, [], _∷_, _++_, map}
+use mathlib.Core.List.{List, [], _∷_, map}
 use Prim.Native.Nat.{ℕ, zero, suc, _+_, _≤_}
 use native.Mathlib.Omega.{arith}
 use lib.Dec.{eqb}
@@ -12,7 +12,7 @@ use borrow.Author.Tests.{eqb-true}
 use Rattle.integers.specs.Choice.{_if_else_}
 use Rattle.integers.specs.Lists.{listOf}
 use Rattle.integers.specs.Terms.{_·_}
-use Rattle.integers.proofs.Lists.{all-implies, listOf-length}
+use Rattle.integers.proofs.Lists.{all-implies, listOf-length, all-append}
 use Rattle.integers.proofs.Tests.{All}
 use Rattle.models.specs.Table.{Sort, integer, boolean, number, exponent, numbers, set, integers, booleans, parallel, Code, codes, last}
 use Rattle.models.specs.Shape as Shape
@@ -44,14 +44,10 @@ same-arguments = all-same made there codes refl
 
 -- ---- lists
 
-all-append : {A : Type 0} (P : A → Type 0) (xs ys : List A) → All P xs → All P ys → All P (xs ++ ys)
-all-append P [] ys h k = k
-all-append P (x ∷ xs) ys h k = (h .0, all-append P xs ys (h .1) k)
-
 all-joined : (P : ℕ → Type 0) (xss : List (List ℕ)) → All (All P) xss → All P (joined xss)
 all-joined P [] h = tt
 all-joined P (xs ∷ []) h = h .0
-all-joined P (xs ∷ ys ∷ zss) h = all-append P xs (joined (ys ∷ zss)) (h .0) (all-joined P (ys ∷ zss) (h .1))
+all-joined P (xs ∷ ys ∷ zss) h = all-append P xs (joined (ys ∷ zss)) .1 (h .0, all-joined P (ys ∷ zss) (h .1))
 
 when : {A : Type 0} (P : A → Type 0) (t u : Bool) (xs : List A) → (t ≡ true → All P xs) → All P (xs if t && u else [])
 when P true true xs h = h refl
@@ -117,15 +113,15 @@ module _ (ws : List ℕ) where
         let vs = namedIn s (argumentAt ws i s) in
         let a : eqb (typeOf s) t ≡ true → All (Named ts t) vs = of-type t i s (h .0) in
         let r = all-named t (placeAfter ws i s) ss (subst (λ j. FitAll ws ts j (map shapeOf ss)) (same-place i s) (h .1)) in (
-          all-append (Named ts t) (vs if eqb (typeOf s) t && not (isList s) else []) _ (when (Named ts t) (eqb (typeOf s) t) (not (isList s)) vs a) (r .0),
-          all-append (All (Named ts t)) (vs ∷ [] if eqb (typeOf s) t && isList s else []) _ (when (All (Named ts t)) (eqb (typeOf s) t) (isList s) (vs ∷ []) (λ e. (a e, tt))) (r .1),
+          all-append (Named ts t) (vs if eqb (typeOf s) t && not (isList s) else []) _ .1 (when (Named ts t) (eqb (typeOf s) t) (not (isList s)) vs a, r .0),
+          all-append (All (Named ts t)) (vs ∷ [] if eqb (typeOf s) t && isList s else []) _ .1 (when (All (Named ts t)) (eqb (typeOf s) t) (isList s) (vs ∷ []) (λ e. (a e, tt)), r .1),
         )
 
     variables-named : (t : ℕ) (ss : List Sort) → FitAll ws ts 0 (map shapeOf ss) → All (Named ts t) (variablesOf t (argumentsAt ws 0 ss))
     variables-named t ss h =
         let gs = argumentsAt ws 0 ss in
         let r = all-named t 0 ss h in
-        all-append (Named ts t) (alone t gs) (joined (lists t gs)) (r .0) (all-joined (Named ts t) (lists t gs) (r .1))
+        all-append (Named ts t) (alone t gs) (joined (lists t gs)) .1 (r .0, all-joined (Named ts t) (lists t gs) (r .1))
 
 -- ---- by code
 

@@ -3,13 +3,12 @@ use mathlib.Core.Path.{_≡_, refl, sym, ap, _∙_}
 use mathlib.Core.Bool.{Bool, true, false}
 use mathlib.Core.List.{List, [], _∷_, _++_}
 use Prim.Native.Nat.{ℕ, suc, _+_, _<_, _≤_}
-use native.Mathlib.Numerals.{add-one}
 use native.Mathlib.Nat.{add-zero}
 use native.Mathlib.Omega.{arith}
 use lib.Dec.{eqb, ltb}
-use lib.Seq.{drop-cons}
 use lib.ListN.{length, getD, drop, drop-of-length-le}
 use borrow.Author.Tests.{eq-eqb, ne-eqb, lt-ltb, le-ltb, ltb-true, ltb-false}
+use Rattle.words.proofs.Reading.{word-then}
 use Rattle.integers.specs.Choice.{_if_else_}
 use Rattle.integers.proofs.Tests.{false-true}
 use Rattle.tokens.specs.Token.{Token}
@@ -19,27 +18,24 @@ use Rattle.names.specs.Name.{same, lookUp, declaredFrom}
 -- ---- two lists of bytes from a place on
 
 module _ (a b : List ℕ) (i : ℕ) where
-  cons : (l : List ℕ) → i < length l → drop i l ≡ getD l i 0 ∷ drop (i + 1) l
-  cons l h = rw (add-one i) (drop-cons l i 0 h)
-
   pub same-on : i < length a → i < length b → getD a i 0 ≡ getD b i 0 → same (drop i a) (drop i b) ≡ same (drop (i + 1) a) (drop (i + 1) b)
   unfolding same
-  same-on h k e = rw (cons a h, cons b k, eq-eqb (getD a i 0) (getD b i 0) e)
+  same-on h k e = rw (word-then a i h, word-then b i k, eq-eqb (getD a i 0) (getD b i 0) e)
 
   pub same-off : i < length a → i < length b → (getD a i 0 ≡ getD b i 0 → ⊥) → same (drop i a) (drop i b) ≡ false
   unfolding same
-  same-off h k e = rw (cons a h, cons b k, ne-eqb (getD a i 0) (getD b i 0) e)
+  same-off h k e = rw (word-then a i h, word-then b i k, ne-eqb (getD a i 0) (getD b i 0) e)
 
   pub same-short : i < length a → length b ≤ i → same (drop i a) (drop i b) ≡ false
   unfolding same
-  same-short h k = rw (cons a h, drop-of-length-le b k)
+  same-short h k = rw (word-then a i h, drop-of-length-le b k)
 
   pub same-end : length a ≤ i → i ≤ length a → i ≤ length b → same (drop i a) (drop i b) ≡ eqb (length a) (length b)
   unfolding same
   same-end h g k = rw (drop-of-length-le a h) (go (ltb i (length b)) refl)
     where
       go : (t : Bool) → ltb i (length b) ≡ t → same [] (drop i b) ≡ eqb (length a) (length b)
-      go true q = rw (cons b (ltb-true i (length b) q), ne-eqb (length a) (length b) (λ e. omega (arith, ltb-true i (length b) q, e, h, g)))
+      go true q = rw (word-then b i (ltb-true i (length b) q), ne-eqb (length a) (length b) (λ e. omega (arith, ltb-true i (length b) q, e, h, g)))
       go false q = rw (drop-of-length-le b (ltb-false i (length b) q), eq-eqb (length a) (length b) (omega (arith, ltb-false i (length b) q, h, g, k)))
 
 -- ---- a name is the same as itself
@@ -80,10 +76,6 @@ module _ (x : List ℕ) (k : ℕ) where
     spelled-on s = rw (q, s)
 
 -- ---- a name among the declared ones
-
-pub one-at-most : (b : Bool) → (1 if b else 0) ≤ 1
-one-at-most true = omega arith
-one-at-most false = omega arith
 
 module _ (x : List ℕ) (k p : ℕ) (t : Token) {ts us : List Token} (q : ts ≡ t ∷ us) (h : t .place < p) where
   here : same x (t .spelling) ≡ true → lookUp x k (declaredFrom true p ts) ≡ k + 1

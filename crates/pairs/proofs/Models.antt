@@ -1,12 +1,13 @@
 -- The two models of a pair: how long they are, that both begin with the table, and laying them over a list piece by piece.
 use mathlib.Core.Path.{_≡_, refl, ap, _∙_}
-use mathlib.Core.Bool.{Bool, true, false, _||_}
+use mathlib.Core.Bool.{true, _||_}
 use mathlib.Core.List.{List, [], _∷_, _++_, append-assoc}
 use Prim.Native.Nat.{ℕ, _+_, _-_, _≤_}
 use native.Mathlib.Omega.{arith}
 use lib.Dec.{eqb}
 use lib.ListN.{length, take, drop, length-append, length-drop}
 use lib.Seq.{length-take-le, take-add}
+use Rattle.integers.proofs.Booleans.{or-true}
 use Rattle.words.specs.Word.{kind, word}
 use Rattle.words.specs.Overlay.{overlay}
 use Rattle.words.proofs.Overlay.{overlay-append}
@@ -16,10 +17,6 @@ use Rattle.pairs.proofs.Before.{before-le, before-mono}
 separator-ends : (w : ℕ) → separates w ≡ true → endsTable w ≡ true
 unfolding endsTable
 separator-ends w h = rw h (or-true (eqb (kind w) 4 || eqb (kind w) 7))
-  where
-    or-true : (a : Bool) → (a || true) ≡ true
-    or-true true = refl
-    or-true false = refl
 
 module _ (ws : List ℕ) where
   abbrev pub D : ℕ

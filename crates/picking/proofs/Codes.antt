@@ -14,9 +14,10 @@ use Rattle.integers.specs.Bounds.{_to_, width, values}
 use Rattle.integers.specs.Terms.{_·_, value, sum}
 use Rattle.integers.proofs.Linear.{_⊑_, linear, rep}
 use Rattle.integers.proofs.Tests.{says-equal}
+use Rattle.integers.proofs.Lists.{listOf-length}
+use Rattle.integers.proofs.Places.{getD-listOf}
 use Rattle.words.specs.Small.{Small}
 use Rattle.models.specs.Model.{var, size, vars, nums, builtin, builtins}
-use Rattle.arguments.proofs.Walk.{length-listOf, getD-listOf}
 use Rattle.rules.specs.Parts.{nth, places}
 use Rattle.rules.specs.Pick.{pick, firstBit, gatedPick}
 use Rattle.rules.proofs.Members.{places-kept}
@@ -45,7 +46,7 @@ module _ (ls us vs : List ℤ) (ws : List ℕ) where
   -- 24
   pub element-picks : picksOf ls us vs 24 ws ≡ firstBit (λ j. j == value vs (var ws 0)) (values (firstLabel to lastLabel))
   unfolding pick builtin builtins places nums
-  element-picks = rw length-listOf
+  element-picks = rw listOf-length
 
   -- 28
   pub set-picks : picksOf ls us vs 28 ws ≡ firstBit (λ v. v == value vs (var ws 0)) (values (getD ls (var ws 0) +0 to getD us (var ws 0) +0))
@@ -78,7 +79,7 @@ module _ (ls us vs : List ℤ) (ws : List ℕ) where
 
   vars-length : length (vars ws 1) ≡ size ws 1
   unfolding vars
-  vars-length = length-listOf _ _
+  vars-length = listOf-length _ _
 
   abbrev labels : ℕ
   labels = width (firstLabel to lastLabel)

@@ -1,10 +1,11 @@
 -- What 37 and 38 pick, as the code writes it.
-use mathlib.Core.Path.{_≡_, refl, sym, ap}
+use mathlib.Core.Path.{_≡_, refl, ap}
 use mathlib.Core.Bool.{Bool, true, false, not, _&&_}
 use mathlib.Core.List.{[], _∷_}
 use native.Mathlib.Nat.{div-zero}
 use lib.IntN.{ℤ, pos, negsuc}
 use lib.Signed.{leZ, ltZ, quotZ}
+use borrow.Author.Tests.{not-false}
 use Rattle.integers.specs.Choice.{_if_else_}
 use Rattle.integers.specs.Number.{_⊗_, _==_, +0, +1}
 use Rattle.integers.proofs.Tests.{says-equal}
@@ -25,12 +26,8 @@ division-pick n d q = ap (λ g. (+1 if leZ +0 n else +0) ∷ (+1 if ltZ +0 d els
 
 -- by zero the quotient of the definition is 0
 pub by-zero : (n d : ℤ) → not (d == +0) ≡ false → +0 ≡ quotZ n d
-by-zero n d e = rw (says-equal d +0 .0 (holds (d == +0) e)) (go n)
+by-zero n d e = rw (says-equal d +0 .0 (not-false (d == +0) e)) (go n)
   where
-    holds : (t : Bool) → not t ≡ false → t ≡ true
-    holds true e = refl
-    holds false e = sym e
-
     go : (n : ℤ) → +0 ≡ quotZ n +0
     go (pos n) = rw div-zero
     go (negsuc n) = rw div-zero

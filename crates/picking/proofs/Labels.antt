@@ -1,5 +1,5 @@
 -- Laws of labels that rise by 1 from a first one: how many they are, and the place of a value among them.
-use mathlib.Core.Path.{_≡_, refl, sym, ap, _∙_}
+use mathlib.Core.Path.{_≡_, refl, ap, _∙_}
 use mathlib.Core.Bool.{Bool, true, false}
 use Prim.Native.Nat.{ℕ, _<_}
 use native.Mathlib.Omega.{arith}
@@ -9,7 +9,7 @@ use lib.ListN.{length}
 use Rattle.integers.specs.Number.{_⊕_, _⊖_, _==_, count, +1}
 use Rattle.integers.specs.Bounds.{_to_, width, values}
 use Rattle.integers.proofs.Linear.{_⊑_, _⊏_, linear, rep}
-use Rattle.integers.proofs.Tests.{says-equal, says-lt, false-true}
+use Rattle.integers.proofs.Tests.{says-equal, says-lt, not-below}
 use Rattle.rules.specs.Pick.{firstBit}
 use Rattle.picking.specs.Only.{onlyAt, FirstAt}
 use Rattle.picking.proofs.Only.{only-length, first-bit}
@@ -20,12 +20,6 @@ not-equal a b n = by (a == b) refl
     by : (t : Bool) → (a == b) ≡ t → t ≡ false
     by true e = absurd (n (says-equal a b .0 e))
     by false e = refl
-
-pub not-below : (a b : ℤ) → ltZ a b ≡ false → b ⊑ a
-not-below a b e = other a b (λ l. false-true (sym e ∙ says-lt a b .1 l))
-  where
-    other : (a b : ℤ) → ¬ (a ⊏ b) → b ⊑ a
-    other = simp linear (omega arith)
 
 -- ---- the place of a value
 

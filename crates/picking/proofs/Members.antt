@@ -1,18 +1,18 @@
 -- The bits of the members of a set, whose numbers stand at the front of a list.
-use mathlib.Core.Path.{_≡_, refl, sym, ap, _∙_}
+use mathlib.Core.Path.{_≡_, sym, ap, _∙_}
 use mathlib.Core.Bool.{Bool}
-use mathlib.Core.List.{List, [], _∷_}
-use Prim.Native.Nat.{ℕ, zero, suc, _+_, _<_, _≤_}
+use mathlib.Core.List.{List}
+use Prim.Native.Nat.{ℕ, _<_, _≤_}
 use native.Mathlib.Omega.{arith}
 use native.Mathlib.Nat.{zero-add}
 use lib.IntN.{ℤ}
-use lib.ListN.{length, getD, set, length-set}
-use lib.Seq.{getD-set-same, getD-set-other}
+use lib.ListN.{length, getD}
 use Rattle.integers.specs.Number.{_==_, +0, +1}
 use Rattle.integers.specs.Bounds.{_to_}
-use Rattle.integers.specs.Lists.{listOf}
 use Rattle.integers.specs.Terms.{value}
+use Rattle.integers.proofs.Places.{by-places}
 use Rattle.words.specs.Overlay.{overlay}
+use Rattle.words.proofs.Overlay.{laid-at}
 use Rattle.models.specs.Model.{var, nums, builtin, builtins}
 use Rattle.rules.specs.Parts.{members}
 use Rattle.rules.specs.Pick.{pick, firstBit}
@@ -20,29 +20,6 @@ use Rattle.extremes.proofs.Rising.{members-length}
 use Rattle.picking.specs.Picked.{picksOf}
 use Rattle.picking.specs.Only.{onlyAt, FirstAt}
 use Rattle.picking.proofs.Only.{first-bit}
-
--- ---- what is laid over a list can be read there
-
-module _ {A : Type 0} (d : A) where
-  before : (out : List A) (at : ℕ) (xs : List A) (k : ℕ) → k < at → getD (overlay out at xs) k d ≡ getD out k d
-  unfolding overlay
-  before out at [] k l = refl
-  before out at (x ∷ xs) k l = before (set out at x) (suc at) xs k (omega arith) ∙ getD-set-other out at k x d (λ e. omega arith)
-
-  laid-at : (out : List A) (at : ℕ) (xs : List A) (k : ℕ) → k < length xs → at + length xs ≤ length out → getD (overlay out at xs) (at + k) d ≡ getD xs k d
-  unfolding overlay
-  laid-at out at [] k l m = absurd (omega arith)
-  laid-at out at (x ∷ xs) zero l m =
-      let e : at + 0 ≡ at = omega arith in
-      rw e (before (set out at x) (suc at) xs at (omega arith) ∙ getD-set-same out at x d (omega arith))
-  laid-at out at (x ∷ xs) (suc k) l m =
-      let e : at + suc k ≡ suc at + k = omega arith in
-      rw e (laid-at (set out at x) (suc at) xs k (omega arith) (omega (arith, length-set out at x)))
-
-  by-places : (xs : List A) → listOf (λ k. getD xs k d) (length xs) ≡ xs
-  unfolding listOf
-  by-places [] = refl
-  by-places (x ∷ xs) = ap (λ l. x ∷ l) (by-places xs)
 
 -- ---- the bits
 

@@ -12,7 +12,7 @@ use borrow.Author.Tests.{ne-eqb, ltb-true, ltb-false}
 use Rattle.integers.specs.Choice.{_if_else_}
 use Rattle.integers.specs.Number.{_⊗_, +0, +1}
 use Rattle.integers.specs.Lists.{listOf}
-use Rattle.integers.proofs.Linear.{linear, rep}
+use Rattle.integers.proofs.Sums.{times-zero, zero-times, times-one, one-times}
 use Rattle.integers.specs.Bounds.{within}
 use Rattle.words.specs.Word.{inRange}
 use Rattle.rules.specs.Pick.{bitOf, signPick, firstBit, gatedPick}
@@ -84,23 +84,17 @@ none-more t k h e j l = by (ltb j k) refl
 
 -- ---- a bit times a number
 
-zero-times : (x : ℤ) → x ⊗ +0 ≡ +0
-zero-times = simp linear (omega arith)
-
-times-one : (x : ℤ) → x ⊗ +1 ≡ x
-times-one = simp linear (omega arith)
-
 pub bit-times : (t : Bool) (x : ℤ) → bitOf t ⊗ x ≡ (x if t else +0)
 unfolding bitOf
-bit-times true x = rw (rep x) (simp linear (omega arith))
-bit-times false x = rw (rep x) (simp linear (omega arith))
+bit-times true x = one-times x
+bit-times false x = zero-times x
 
 module _ {A : Type 0} (x : A → ℤ) where
   times-only : (f : ℕ → A) (n h : ℕ) → zipWith (λ l b. x l ⊗ b) (listOf f n) (onlyAt n h +1) ≡ onlyAt n h (x (f h))
   unfolding listOf onlyAt zipWith
   times-only f zero h = refl
   times-only f (suc n) zero = rw times-one (ap (λ zs. x (f 0) ∷ zs) (times-only (λ i. f (suc i)) n n ∙ only-none n n n _ _ (omega arith) (omega arith)))
-  times-only f (suc n) (suc h) = rw zero-times (ap (λ zs. +0 ∷ zs) (times-only (λ i. f (suc i)) n h))
+  times-only f (suc n) (suc h) = rw times-zero (ap (λ zs. +0 ∷ zs) (times-only (λ i. f (suc i)) n h))
 
   pub gated : (t : A → Bool) (f : ℕ → A) (n h : ℕ) → FirstAt (λ k. t (f k)) n h →
       gatedPick x t (listOf f n) ≡ onlyAt n h +1 ++ onlyAt n h (x (f h))
@@ -118,7 +112,7 @@ module _ {A : Type 0} (x : A → ℤ) where
       (times-bits t (λ i. f (suc i)) n n (record { before = λ k l m. later (suc k) (omega arith) (omega arith); here = λ l. absurd (omega arith) }) (λ k l m. absurd (omega arith))
       ∙ only-none n n n _ _ (omega arith) (omega arith)))
   times-bits t f (suc n) (suc h) w later =
-      rw (w .before 0 (omega arith) (omega arith), zero-times)
+      rw (w .before 0 (omega arith) (omega arith), times-zero)
       (ap (λ zs. +0 ∷ zs)
       (times-bits t (λ i. f (suc i)) n h (record { before = λ k l m. w .before (suc k) (omega arith) (omega arith); here = λ l. w .here (omega arith) })
       (λ k l m. later (suc k) (omega arith) (omega arith))))

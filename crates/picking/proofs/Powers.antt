@@ -6,16 +6,8 @@ use Prim.Native.Nat.{ℕ, zero, suc, _+_, _*_, _/_, _%_, _≤_, _<_}
 use native.Mathlib.Decide.{ℕ-discrete}
 use native.Mathlib.Omega.{arith}
 use lib.IntN.{ℤ}
-use mir.Syntax.{w64}
-use mir.Val.{toZ, ofZ}
-use mir.Facts.{toZ-ofZ}
 use Rattle.integers.specs.Number.{_⊗_}
-use Rattle.integers.proofs.Linear.{linear}
-use Rattle.integers.proofs.Tests.{In}
-use Rattle.integers.proofs.Fits.{fits64}
-use Rattle.words.specs.Limit as Limit
 use Rattle.words.specs.Small.{Near}
-use Rattle.words.proofs.Word.{says-range}
 use Rattle.words.specs.Word.{inRange}
 use Rattle.words.specs.LaidAt.{LaidAt}
 use Rattle.words.proofs.LaidThen.{laid-then, laid-none}
@@ -26,16 +18,6 @@ use Rattle.picking.specs.Picked.{Ranged}
 use Rattle.picking.specs.Powered.{NextPower, PowersPut}
 use Rattle.picking.specs.declared.Powered.{Powered}
 use Rattle.picking.proofs.Writing.{ranged-left, ranged-right}
-
--- a number of the range is near 0, and one near 0 is read back
-pub range-near : (v : ℤ) → inRange v ≡ true → Near v
-range-near v e = core v (says-range v .0 e)
-  where
-    core : (v : ℤ) → In Limit.range v → Near v
-    core = simp linear (omega arith)
-
-pub near-back : (v : ℤ) → Near v → toZ w64 (ofZ w64 v) ≡ v
-near-back v h = toZ-ofZ (fits64 v (omega arith))
 
 -- ---- one product more
 

@@ -2,9 +2,9 @@
 use mathlib.Core.List.{List}
 use Prim.Native.Nat.{ℕ, zero, suc, _+_, _*_, _≤_}
 use native.Mathlib.Omega.{arith}
-use lib.IntN.{ℤ, pos, negsuc, natAbs}
+use lib.IntN.{ℤ, pos, natAbs}
 use lib.ListN.{getD}
-use Rattle.integers.specs.Number.{_⊗_, minZ, maxZ, count, +0, +1}
+use Rattle.integers.specs.Number.{_⊗_, minZ, maxZ, +0, +1}
 use Rattle.integers.specs.Lists.{listOf}
 use Rattle.integers.specs.Terms.{Term, value, sum}
 use Rattle.integers.proofs.Fits.{plus-size}
@@ -20,12 +20,6 @@ pub labels-near : (ls us : List ℤ) (ws : List ℕ) → Small ls → Small us �
     Near (maxZ +1 (getD ls (var ws 0) +0)) × Near (minZ (pos (size ws 1)) (getD us (var ws 0) +0))
 unfolding places
 labels-near ls us ws l u = places-near (boundsOf ls us (var ws 0)) (size ws 1) (size-le ws 1) (l (var ws 0)) (u (var ws 0))
-
--- a number as a count
-pub count-le : (z : ℤ) → count z ≤ natAbs z
-unfolding count
-count-le (pos n) = omega arith
-count-le (negsuc n) = omega arith
 
 -- a sum of products with small values
 sum-of-size : (σ : ℕ → ℤ) (m : ℕ) (f : ℕ → Term ℕ) (n : ℕ) → ((k : ℕ) → natAbs (f k .coefficient ⊗ σ (f k .variable)) ≤ m) →

@@ -5,6 +5,7 @@ use Prim.Native.Nat.{ℕ, zero, suc, _≤_}
 use native.Mathlib.Omega.{arith}
 use Rattle.integers.specs.Number.{+0, +1, -1}
 use Rattle.integers.specs.declared.Bounds.{Bounds}
+use Rattle.integers.proofs.Lists.{flatMap-append}
 use Rattle.words.specs.Kind as Kind
 use Rattle.words.specs.Small.{Near}
 use Rattle.rules.specs.Block.{Ref, source, numbered}
@@ -13,7 +14,6 @@ use Rattle.rules.specs.Power.{chain}
 use Rattle.rules.specs.Rule.{powered}
 use Rattle.laying.specs.Part.{boundParts, termParts, rowParts, blockParts}
 use Rattle.laying.specs.Lists.{many, rowPartsOf}
-use Rattle.laying.proofs.Parts.{flatMap-append}
 use Rattle.laying.proofs.Alike.{Alike, alike-then}
 use Rattle.powerblocks.specs.Cut.{cutRanges}
 use Rattle.powerblocks.proofs.CutBounds.{near-not-cut, cut-ranges, alike-bounds}

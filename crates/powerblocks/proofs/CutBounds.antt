@@ -7,17 +7,14 @@ use mathlib.Core.List.{List, [], _∷_, _++_, map, map-append, flatMap}
 use Prim.Native.Nat.{ℕ, _≤_}
 use native.Mathlib.Omega.{arith}
 use lib.IntN.{ℤ}
-use mir.Syntax.{w64}
-use mir.Val.{toZ, ofZ}
-use mir.Facts.{toZ-ofZ}
 use Rattle.integers.specs.Number.{_⊗_, neg, minZ, maxZ, cut, +1}
 use Rattle.integers.specs.Bounds.{_to_}
 use Rattle.integers.specs.Lists.{all}
 use Rattle.integers.specs.declared.Bounds.{Bounds}
 use Rattle.integers.proofs.Linear.{_⊑_, linear, arithZ}
-use Rattle.integers.proofs.Tests.{In, says-within}
-use Rattle.integers.proofs.Fits.{fits64}
-use Rattle.integers.proofs.Cut.{cut-inside, cut-product, cut-min, cut-max, cut-size, same-test}
+use Rattle.integers.proofs.Tests.{In, says-within, same-test}
+use Rattle.integers.proofs.Cut.{cut-inside, cut-product, cut-min, cut-max, cut-size}
+use Rattle.integers.proofs.Booleans.{both-true}
 use Rattle.words.specs.Limit as Limit
 use Rattle.words.specs.Small.{Near}
 use Rattle.words.specs.Word.{inRange}
@@ -26,7 +23,6 @@ use Rattle.rules.specs.Power.{Chain, next, noProduct, squared, multiplied, chai
 use Rattle.rules.proofs.Power.{by-halves}
 use Rattle.laying.specs.Part.{bound, partWords, partNumbers, partAuxiliaries, partRows, wordsIn, numbersIn, auxiliariesIn, rowsIn, boundParts}
 use Rattle.laying.proofs.Alike.{Alike}
-use Rattle.laying.proofs.Parts.{both-true}
 use Rattle.powerblocks.specs.Cut.{pastRange, cutBounds, Ranges, cutNext, noRange, cutSquared, cutMultiplied, cutRanges}
 
 from-one : +1 ⊑ pastRange
@@ -34,10 +30,6 @@ from-one = omega arithZ
 
 pub near-cut : (v : ℤ) → Near (cut pastRange v)
 near-cut v = cut-size pastRange v from-one
-
--- what is read back of a number near 0
-pub near-back : (v : ℤ) → Near v → toZ w64 (ofZ w64 v) ≡ v
-near-back v h = toZ-ofZ (fits64 v (omega arith))
 
 -- ---- the range
 

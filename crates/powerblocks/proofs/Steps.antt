@@ -7,6 +7,7 @@ use lib.IntN.{ℤ}
 use lib.ListN.{length, length-append}
 use Rattle.integers.specs.Bounds.{_to_}
 use Rattle.integers.specs.declared.Bounds.{Bounds}
+use Rattle.integers.proofs.Lists.{flatMap-append}
 use Rattle.words.specs.Small.{Near}
 use Rattle.rowsystems.specs.Row.{product}
 use Rattle.rules.specs.Block.{Ref, source, aux, numbered}
@@ -15,7 +16,7 @@ use Rattle.rules.specs.Power.{Chain, next, noProduct, squared, multiplied, chai
 use Rattle.rules.proofs.Power.{at-one, at-even, at-odd}
 use Rattle.laying.specs.Part.{bound, times, boundParts, rowParts}
 use Rattle.laying.specs.declared.Laid.{Laid}
-use Rattle.laying.proofs.Parts.{flatMap-append, went-none, went-then, went-as}
+use Rattle.laying.proofs.Parts.{went-none, went-then, went-as}
 use Rattle.laying.proofs.Lists.{bounds-append}
 use Rattle.powerblocks.specs.Cut.{cutBounds, Ranges, cutNext, noRange, cutSquared, cutMultiplied, cutRanges}
 use Rattle.powerblocks.specs.Chained.{NextRange, RangesLaid, NextProduct, ProductsLaid}

@@ -11,9 +11,10 @@ use lib.ListN.{length, getD, drop, drop-of-length-le, length-drop, List·getD-eq
 use borrow.Author.Tests.{le-leb, lt-leb, leb-true, ltb-true, ltb-false, eqb-false, ne-eqb, not-true}
 use Rattle.integers.specs.Choice.{_if_else_}
 use Rattle.integers.specs.Lists.{all, any, listOf}
-use Rattle.integers.proofs.Lists.{all-at, listOf-length}
+use Rattle.integers.proofs.Lists.{all-at, listOf-length, all-or-past}
 use Rattle.integers.proofs.Places.{getD-listOf}
 use Rattle.integers.proofs.Tests.{All, says-all, says-and}
+use Rattle.integers.proofs.Booleans.{both-true}
 use Rattle.models.specs.Table.{Code, codes}
 use Rattle.models.specs.Shape as Shape
 use Rattle.models.specs.Shape.{shapes}
@@ -22,7 +23,6 @@ use Rattle.grammar.specs.Machine.{numberedForm}
 use Rattle.grammar.specs.declared.Form.{Form}
 use Rattle.grammar.specs.declared.Form.the-variants.{Missing, One, Many}
 use Rattle.printing.specs.ModelText.{bracket, takesSet}
-use Rattle.printing.proofs.Spelled.{both-true}
 
 -- ---- lists
 
@@ -32,11 +32,6 @@ head-of [] (suc j) y ys e = absurd (let z : _≡_ {A = ℕ} 0 1 = cc in omega ar
 head-of (x ∷ xs) zero y ys e = (cc, cc)
 head-of (x ∷ xs) (suc j) y ys e = head-of xs j y ys e
 
-all-in : {A : Type 0} (P : A → Type 0) (xs : List A) (d : A) → All P xs → P d → (n : ℕ) → P (getD xs n d)
-all-in P [] d h k n = k
-all-in P (x ∷ xs) d h k zero = h .0
-all-in P (x ∷ xs) d h k (suc n) = all-in P xs d (h .1) k n
-
 -- ---- shapes are 1 to 8
 
 abbrev Shaped : ℕ → Type 0
@@ -45,7 +40,7 @@ Shaped s = (1 ≤ s) × (s ≤ 8)
 shaped : (code : ℕ) → All Shaped (getD shapes code [])
 unfolding shapes all
 shaped code =
-    all-in (All Shaped) shapes []
+    all-or-past (All Shaped) shapes []
     (says-all (all (λ s. leb 1 s && leb s 8)) (All Shaped) (says-all (λ s. leb 1 s && leb s 8) Shaped (λ s. says-and (leb-true 1 s, le-leb 1 s) (leb-true s 8, le-leb s 8))) shapes .0 refl)
     tt code
 

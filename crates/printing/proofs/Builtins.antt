@@ -11,11 +11,12 @@ use Rattle.integers.specs.Lists.{all, any, listOf}
 use Rattle.integers.proofs.Lists.{all-at, listOf-length}
 use Rattle.integers.proofs.Places.{getD-listOf}
 use Rattle.integers.proofs.Tests.{says-all}
+use Rattle.integers.proofs.Booleans.{both-true}
 use Rattle.tokens.specs.Byte.{bytes, front, between, isLetter, inName, isDigit, isGap}
 use Rattle.tokens.specs.Token.{tokensFrom}
 use Rattle.names.specs.Name.{same, lookUp, builtinNames}
 use Rattle.printing.specs.ModelText.{builtinName}
-use Rattle.printing.proofs.Spelled.{token, both-true, spelled-name}
+use Rattle.printing.proofs.Spelled.{token, spelled-name}
 
 abbrev isNameOf : List ℕ → ℕ → Bool
 isNameOf [] code = false

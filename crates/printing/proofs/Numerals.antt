@@ -10,11 +10,14 @@ use lib.ListN.{length, length-append}
 use borrow.Author.Tests.{le-leb, ne-eqb, eqb-true, ltb-true, ltb-false}
 use Rattle.integers.specs.Choice.{_if_else_}
 use Rattle.integers.specs.Lists.{all, any, listOf}
+use Rattle.integers.proofs.Booleans.{both-true}
+use Rattle.integers.proofs.Places.{all-append}
 use Rattle.words.specs.Word.{payload, signed, word, complement, numberWord}
 use Rattle.words.specs.Limit as Limit
 use Rattle.words.proofs.Word.{payload-below}
 use Rattle.decimals.specs.Decimal as Decimal
 use Rattle.decimals.specs.Decimal.{lastDigits, numeral}
+use Rattle.decimals.proofs.Digits as Digits
 use Rattle.decimals.proofs.Digits.{decimal-length}
 use Rattle.tokens.specs.Byte.{bytes, front, between, isLetter, inName, isDigit, isGap}
 use Rattle.tokens.specs.Token.{tokensFrom}
@@ -22,14 +25,9 @@ use Rattle.names.specs.Name.{same, lookUp}
 use Rattle.names.proofs.Names.{same-self, look-append}
 use Rattle.grammar.specs.Value.{digitsFrom, valueOf}
 use Rattle.printing.specs.ModelText.{variableName}
-use Rattle.printing.proofs.Spelled.{token, both-true, digit-range, spelled-name, spelled-digits, spelled-minus}
+use Rattle.printing.proofs.Spelled.{token, digit-range, spelled-name, spelled-digits, spelled-minus}
 
 -- ---- digits
-
-all-append : (t : ℕ → Bool) (xs ys : List ℕ) → all t xs ≡ true → all t ys ≡ true → all t (xs ++ ys) ≡ true
-unfolding all
-all-append t [] ys h k = k
-all-append t (x ∷ xs) ys h k = let q = both-true (t x) (all t xs) h in rw (q .0) (all-append t xs ys (q .1) k)
 
 one-digit : (d : ℕ) → d < 10 → all isDigit ((48 + d) ∷ []) ≡ true
 unfolding all isDigit between
@@ -41,7 +39,7 @@ digits-are zero n = refl
 digits-are (suc k) n = go (ltb 9 n) (digits-are k (n / 10))
   where
     go : (b : Bool) → all isDigit (lastDigits k (n / 10)) ≡ true → all isDigit ((lastDigits k (n / 10) if b else []) ++ ((48 + n % 10) ∷ [])) ≡ true
-    go true h = all-append isDigit (lastDigits k (n / 10)) _ h (one-digit (n % 10) (omega arith))
+    go true h = rw (all-append isDigit (lastDigits k (n / 10)), h) (one-digit (n % 10) (omega arith))
     go false h = one-digit (n % 10) (omega arith)
 
 pub decimal-digits : (n : ℕ) → all isDigit (Decimal.decimal n) ≡ true
@@ -64,24 +62,13 @@ unfolding digitsFrom
 decimal-append n [] ys = refl
 decimal-append n (x ∷ xs) ys = decimal-append (n * 10 + (x - 48)) xs ys
 
-digit-back : (n d : ℕ) → digitsFrom n ((48 + d) ∷ []) ≡ n * 10 + d
+digit-back : (n d : ℕ) → digitsFrom n ((48 + d) ∷ []) ≡ 10 * n + d
 unfolding digitsFrom
 digit-back n d = omega arith
 
-digits-back : (k n : ℕ) → n < k → digitsFrom 0 (lastDigits k n) ≡ n
-unfolding lastDigits
-digits-back zero n h = absurd (omega arith)
-digits-back (suc k) n h = by (ltb 9 n) refl (digits-back k (n / 10))
-  where
-    by : (t : Bool) → ltb 9 n ≡ t → (n / 10 < k → digitsFrom 0 (lastDigits k (n / 10)) ≡ n / 10) → digitsFrom 0 ((lastDigits k (n / 10) if t else []) ++ ((48 + n % 10) ∷ [])) ≡ n
-    by true e more =
-        decimal-append 0 (lastDigits k (n / 10)) ((48 + n % 10) ∷ [])
-        ∙ rw (more (omega (arith, ltb-true))) (digit-back (n / 10) (n % 10) ∙ omega arith)
-    by false e more = digit-back 0 (n % 10) ∙ omega (arith, ltb-false)
-
 pub decimal-back : (n : ℕ) → digitsFrom 0 (Decimal.decimal n) ≡ n
-unfolding Decimal.decimal
-decimal-back n = digits-back (suc n) n (omega arith)
+unfolding digitsFrom
+decimal-back = Digits.decimal-back (digitsFrom 0) refl (λ xs d. decimal-append 0 xs ((48 + d) ∷ []) ∙ digit-back (digitsFrom 0 xs) d)
 
 -- ---- a number's token
 

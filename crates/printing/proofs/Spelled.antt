@@ -12,15 +12,12 @@ use borrow.Author.Tests.{le-leb, lt-leb, leb-true, ne-eqb}
 use Rattle.integers.specs.Choice.{_if_else_}
 use Rattle.integers.specs.Lists.{all, any, listOf}
 use Rattle.integers.proofs.Tests.{false-true}
+use Rattle.integers.proofs.Booleans.{both-true}
 use Rattle.tokens.specs.Byte.{bytes, front, run, between, isLetter, inName, isDigit, isGap, isSign}
 use Rattle.tokens.specs.Token.{Token, tokenLength, sortOf, startsNumber, startsDots, tokensFrom}
 
 abbrev pub token : ℕ → ℕ → List ℕ → Token
 token s p bs = record { sort = s; place = p; spelling = bs }
-
-pub both-true : (a b : Bool) → a && b ≡ true → (a ≡ true) × (b ≡ true)
-both-true true b h = (refl, h)
-both-true false b h = false-true h
 
 -- what is left of a token is passed
 skipped : (p : ℕ) (xs ys : List ℕ) → tokensFrom (length xs) p (xs ++ ys) ≡ tokensFrom 0 (p + length xs) ys

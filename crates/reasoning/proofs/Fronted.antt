@@ -1,6 +1,6 @@
 -- A block that was laid and ended is the front of its list; judged by itself, its bounds and its rows.
-use mathlib.Core.Path.{_≡_, ap, ap₂, sym, _∙_, refl}
-use mathlib.Core.Bool.{Bool, true, false, not}
+use mathlib.Core.Path.{_≡_, ap, ap₂, sym, _∙_}
+use mathlib.Core.Bool.{true, false}
 use mathlib.Core.List.{List, [], _∷_, _++_}
 use Prim.Native.Nat.{ℕ, _+_, _-_, _*_, _≤_, _<_}
 use native.Mathlib.Omega.{arith}
@@ -8,6 +8,7 @@ use native.Mathlib.Nat.{add-zero}
 use lib.IntN.{ℤ, pos}
 use lib.ListN.{length, length-append, length-drop, take, drop}
 use lib.Seq.{length-take-le, getD-take, getD-drop}
+use borrow.Author.Tests.{not-false}
 use Rattle.integers.specs.Terms.{value}
 use Rattle.integers.specs.declared.Bounds.{Bounds}
 use Rattle.words.specs.Word.{word}
@@ -34,11 +35,6 @@ use Rattle.words.proofs.Overlay.{front-over}
 use Rattle.reasoning.specs.Walks.{blockAndEnd, ReadsBack, Front, BlockJudged, AtMost, shift}
 use Rattle.reasoning.proofs.Counted.{outside-part, outside-below}
 
--- a test that does not fail
-in-range : (t : Bool) → not t ≡ false → t ≡ true
-in-range true e = refl
-in-range false e = sym e
-
 pub fronted : {first : ℕ} {B : Block} {r : Laid} {o o₁ o₂ : List ℕ} → ReadsBack first B → 2801 ≤ length o → AppendsFitting nothing r o o₁ (blockParts first B) → GrowsBy 1000000 nothing r →
     o₂ ≡ overlay o₁ (r .words) (word Kind.rowsEnd 0 ∷ []) → Front first B r o₂
 fronted {first} {B} {r} {o} {o₁} {o₂} d h w n e =
@@ -50,7 +46,7 @@ fronted {first} {B} {r} {o} {o₁} {o₂} d h w n e =
     let z : r .words ≡ 0 + length W = omega (arith, t .words) in
     let k : r .words + 1 ≡ length (W ++ E) = omega (arith, t .words, size) in
     let fits : length (W ++ E) ≤ length o = omega (arith, size, f, h) in
-    let over : o₂ ≡ overlay o 0 (W ++ E) = e ∙ ap₂ (λ (l : List ℕ) (m : ℕ). overlay l m E) (w .over (in-range _ (block-outside first B ∙ d .fits)) ∙ ap (overlay o 0) (block-words first B)) z ∙ overlay-append o 0 W E in
+    let over : o₂ ≡ overlay o 0 (W ++ E) = e ∙ ap₂ (λ (l : List ℕ) (m : ℕ). overlay l m E) (w .over (not-false _ (block-outside first B ∙ d .fits)) ∙ ap (overlay o 0) (block-words first B)) z ∙ overlay-append o 0 W E in
     record {
       words = t .words;
       auxiliaries = t .auxiliaries;

@@ -1,7 +1,7 @@
 -- Of the source values and fill's picks: every row of a block whose builtin is true holds, whichever blocks its bits are of. So a row that fails of
 -- other auxiliaries names one whose value is not fill's.
 use mathlib.Core.Path.{_≡_, refl, sym, ap₂, _∙_, subst}
-use mathlib.Core.Bool.{Bool, true, false, not, _&&_, _||_}
+use mathlib.Core.Bool.{Bool, true, false, not, _&&_}
 use mathlib.Core.List.{List, [], _∷_, _++_, map}
 use Prim.Native.Nat.{ℕ, _+_, _<_}
 use lib.Dec.{ltb}
@@ -14,6 +14,7 @@ use Rattle.integers.specs.Terms.{Valuation, Term, value}
 use Rattle.integers.specs.declared.Bounds.{Bounds}
 use Rattle.integers.proofs.Linear.{_⊑_}
 use Rattle.integers.proofs.Tests.{says-equal, All, false-true}
+use Rattle.integers.proofs.Booleans.{neither}
 use Rattle.models.specs.Model.{Constraint, builtin}
 use Rattle.models.specs.Meaning.{meaning}
 use Rattle.rowsystems.specs.Row.{Row, sum≤0, sum=0, product, satisfied}
@@ -69,10 +70,6 @@ module _ (ρ τ : Valuation) where
 module _ (n : ℕ) (ρ τ : Valuation) (before : (v : ℕ) → v < n → ρ v ≡ τ v) where
   abbrev differs : ℕ → Bool
   differs x = not (ltb x n) && not (ρ x == τ x)
-
-  neither : (s u : Bool) → (s || u) ≡ false → (s ≡ false) × (u ≡ false)
-  neither true u e = (e, absurd (false-true (sym e)))
-  neither false u e = (refl, e)
 
   one-same : (x : ℕ) → differs x ≡ false → ρ x ≡ τ x
   one-same x = go (ltb x n) refl (ρ x == τ x) (says-equal (ρ x) (τ x) .0)

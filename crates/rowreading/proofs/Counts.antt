@@ -6,6 +6,7 @@ use Prim.Native.Nat.{ℕ, zero, suc, _+_, _-_, _<_, _≤_}
 use native.Mathlib.Omega.{arith}
 use lib.Dec.{eqb}
 use lib.ListN.{length, drop}
+use Rattle.integers.proofs.Booleans.{neither}
 use Rattle.words.specs.Kind as Kind
 use Rattle.words.specs.Variables.{startsPair, variables}
 use Rattle.words.specs.Word.{kind, wordAt}
@@ -13,7 +14,6 @@ use Rattle.variables.specs.Start.{starts}
 use Rattle.variables.proofs.Walk.{at-none, at-one, at-last}
 use Rattle.rowsystems.specs.Reading.{started}
 use Rattle.rowreading.specs.Onward.{startsKind, Plain}
-use Rattle.rowreading.proofs.Steps.{or-false}
 
 -- what a word that starts nothing does not change, no such words change
 pub along : {A : Type 0} (ws : List ℕ) (f : List ℕ → A) →
@@ -30,7 +30,7 @@ along {A} ws f one a b p l h = let e : a + (b - a) ≡ b = omega arith in rw e a
 -- a word that starts nothing starts no variable
 none-starts : (w : ℕ) → startsKind (kind w) ≡ false → starts w ≡ false
 unfolding startsKind starts startsPair
-none-starts w e = or-false ((eqb (kind w) Kind.lower || eqb (kind w) Kind.auxiliaryLower) || eqb (kind w) Kind.boolean) ((eqb (kind w) Kind.atMost || eqb (kind w) Kind.equal) || eqb (kind w) Kind.product) e .0
+none-starts w e = neither ((eqb (kind w) Kind.lower || eqb (kind w) Kind.auxiliaryLower) || eqb (kind w) Kind.boolean) ((eqb (kind w) Kind.atMost || eqb (kind w) Kind.equal) || eqb (kind w) Kind.product) e .0
 
 pub plain-variables : (ws : List ℕ) (a b : ℕ) → Plain ws a b → a ≤ b → b ≤ length ws → variables (drop a ws) ≡ variables (drop b ws)
 unfolding wordAt

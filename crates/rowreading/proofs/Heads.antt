@@ -5,9 +5,9 @@ use mathlib.Core.List.{List}
 use Prim.Native.Nat.{ℕ, zero, suc, _+_, _-_, _<_, _≤_}
 use native.Mathlib.Omega.{arith}
 use borrow.Author.Tests.{ne-eqb}
+use Rattle.integers.proofs.Booleans.{bit-le}
 use lib.Dec.{eqb}
 use lib.ListN.{length}
-use Rattle.integers.proofs.Places.{bit-le}
 use Rattle.words.specs.Fault as Fault
 use Rattle.words.specs.Kind as Kind
 use Rattle.words.specs.Word.{kind, wordAt}

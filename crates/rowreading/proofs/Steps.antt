@@ -11,6 +11,8 @@ use lib.Signed.{ltZ}
 use lib.ListN.{length}
 use Rattle.integers.specs.Choice.{_if_else_}
 use Rattle.integers.proofs.Tests.{false-true}
+use Rattle.integers.proofs.Booleans.{neither}
+pub use Rattle.integers.proofs.Booleans.{neither as or-false}
 use Rattle.words.specs.Fault as Fault
 use Rattle.words.specs.Kind as Kind
 use Rattle.words.specs.Limit as Limit
@@ -42,13 +44,9 @@ stepped f at = go (eqb f Fault.none) refl
 abbrev pub inner : Due → Bool
 inner due = ltb 0 (stage due)
 
-pub or-false : (a b : Bool) → (a || b) ≡ false → (a ≡ false) × (b ≡ false)
-or-false true b e = false-true (sym e)
-or-false false b e = (refl, e)
-
 pub plain-started : (w : ℕ) → startsKind (kind w) ≡ false → started w ≡ 0
 unfolding started startsPair startsKind
-plain-started w e = rw (or-false ((eqb (kind w) Kind.lower || eqb (kind w) Kind.auxiliaryLower) || eqb (kind w) Kind.boolean) ((eqb (kind w) Kind.atMost || eqb (kind w) Kind.equal) || eqb (kind w) Kind.product) e .0)
+plain-started w e = rw (neither ((eqb (kind w) Kind.lower || eqb (kind w) Kind.auxiliaryLower) || eqb (kind w) Kind.boolean) ((eqb (kind w) Kind.atMost || eqb (kind w) Kind.equal) || eqb (kind w) Kind.product) e .0)
 
 -- of a fault f of the word w: without it the word starts none of these, and only after the end is it that of one word more
 abbrev Inside : Due → ℕ → ℕ → Type 0

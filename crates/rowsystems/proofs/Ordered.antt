@@ -1,19 +1,19 @@
 -- Words that judge-rows accepts have no upper bound below its lower one.
-use mathlib.Core.Path.{_≡_, refl, sym, _∙_}
+use mathlib.Core.Path.{_≡_, refl}
 use mathlib.Core.Logic.{_⊎_, inl, inr}
 use mathlib.Core.Bool.{Bool, true, false, not}
 use mathlib.Core.List.{List, [], _∷_}
 use Prim.Native.Nat.{ℕ, _+_}
 use native.Mathlib.Omega.{arith}
 use lib.Dec.{ltb, eqb}
-use lib.IntN.{ℤ, pos}
+use lib.IntN.{pos}
 use lib.Signed.{ltZ}
 use lib.ListN.{length}
 use Rattle.integers.specs.Choice.{_if_else_}
 use Rattle.integers.specs.Bounds.{_to_, bit}
 use Rattle.integers.specs.declared.Bounds.{Bounds}
-use Rattle.integers.proofs.Linear.{_⊑_, _⊏_, linear, arithZ}
-use Rattle.integers.proofs.Tests.{All, says-lt, false-true}
+use Rattle.integers.proofs.Linear.{_⊑_, arithZ}
+use Rattle.integers.proofs.Tests.{All, not-below}
 use Rattle.words.specs.Word.{kind, signed, tooLow, wordAt}
 use Rattle.words.specs.Kind as Kind
 use Rattle.words.specs.Fault as Fault
@@ -54,10 +54,7 @@ upper-fine k l w e = go (eqb (kind w) k) (tooLow Limit.range w) (ltZ (signed w) 
         (Fault.wrongKind if not t else Fault.lowestNumber if d else Fault.upperBelowLower if u else Fault.none) ≡ 0 → signed l ⊑ signed w
     go true true u q e = absurd (omega arith)
     go true false true q e = absurd (omega arith)
-    go true false false q e = not-below (signed w) (signed l) (λ h. false-true (sym q ∙ says-lt (signed w) (signed l) .1 h))
-      where
-        not-below : (x y : ℤ) → ¬ (x ⊏ y) → y ⊑ x
-        not-below = simp linear (omega arith)
+    go true false false q e = not-below (signed w) (signed l) q
     go false d u q e = absurd (omega arith)
 
 -- the words after a lower bound begin with an upper one that is not below it

@@ -16,6 +16,7 @@ use Rattle.integers.specs.Terms.{Term, _·_}
 use Rattle.integers.specs.declared.Bounds.{Bounds}
 use Rattle.integers.proofs.Linear.{_⊑_, arithZ}
 use Rattle.integers.proofs.Tests.{All, says-not, says-lt}
+use Rattle.integers.proofs.Lists.{all-append}
 use Rattle.words.specs.Word.{kind, payload, signed, inRange, tooLow, word, numberWord, wordAt}
 use Rattle.words.specs.Kind as Kind
 use Rattle.words.specs.Limit as Limit
@@ -48,10 +49,6 @@ Items n ws Bs Rs = Reads (state Source n) ws Bs Rs × Reads (state Item n) ws Bs
 -- every number is of the range, as check's 13 leaves it
 abbrev pub Ranged : List ℤ → Type 0
 Ranged zs = All (λ z. inRange z ≡ true) zs
-
-split : (xs ys : List ℤ) → Ranged (xs ++ ys) → Ranged xs × Ranged ys
-split [] ys h = (tt, h)
-split (x ∷ xs) ys h = let k = split xs ys (h .1) in ((h .0, k .0), k .1)
 
 not-below : {a b : ℤ} → a ⊑ b → ltZ b a ≡ false
 not-below {a} {b} h = not-true (ltZ b a) (says-not (says-lt b a) .1 (λ k. omega arithZ))
@@ -93,7 +90,7 @@ auxiliaries : {n : ℕ} {ws : List ℕ} {Bs : List Bounds} {Rs : List (Row ℕ)}
 unfolding flatMap
 auxiliaries [] room h o r = rw add-zero at r
 auxiliaries {n} (A ∷ As) room h o r =
-    let k = split (boundNumbers A) (flatMap boundNumbers As) h in
+    let k = all-append (λ z. inRange z ≡ true) (boundNumbers A) (flatMap boundNumbers As) .0 h in
     rw append-assoc (auxiliary A (omega arith) (k .0) (o .0) (auxiliaries As (omega arith) (k .1) (o .1) (rw (one-more n (length As)) at r)))
 
 -- ---- Rows, over variables of any type that f numbers
@@ -160,7 +157,7 @@ module _ {X : Type 0} (f : X → ℕ) {n : ℕ} (room : n ≤ Limit.inAll) where
         let w = kind-word k (length (renameTerms f ts)) in
         let l = length-rename ts in
         let p : payload (word k (length (renameTerms f ts))) ≡ length ts = payload-word k _ (omega arith) ∙ l in
-        let ranged = split (map (λ t. t .coefficient) ts) (c ∷ []) h in
+        let ranged = all-append (λ z. inRange z ≡ true) (map (λ t. t .coefficient) ts) (c ∷ []) .0 h in
         let constant = signed-number Kind.number c (ranged .1 .0) in
         let body : Reads (state (Terms (length ts)) n) (flatMap termWords (renameTerms f ts) ++ last) Bs Rs = terms-accepted ts (ranged .0) d (record {
           accepts = λ q. simp (kind-number, constant, ranged .1 .0, add-zero) (r .1 .accepts (q + 1));
@@ -192,7 +189,7 @@ module _ {X : Type 0} (f : X → ℕ) {n : ℕ} (room : n ≤ Limit.inAll) where
   unfolding flatMap
   rows-read [] h d r = r
   rows-read (q ∷ qs) h d r =
-      let k = split (rowNumbers q) (flatMap rowNumbers qs) h in
+      let k = all-append (λ z. inRange z ≡ true) (rowNumbers q) (flatMap rowNumbers qs) .0 h in
       rw append-assoc (row (rows-read qs (k .1) (d .1) r) q (k .0) (d .0))
 
 -- ---- A block, the sources, the whole
@@ -204,7 +201,7 @@ pub block : {X : Type 0} {n : ℕ} {ws : List ℕ} {Bs : List Bounds} {Rs : List
     Items (n + length As) ws Bs Rs →
     Items n ((flatMap boundWords As ++ flatMap (λ q. rowWords (rename f q)) qs) ++ ws) (As ++ Bs) (map (rename f) qs ++ Rs)
 block f As qs room h o d r =
-    let k = split (flatMap boundNumbers As) (flatMap rowNumbers qs) h in
+    let k = all-append (λ z. inRange z ≡ true) (flatMap boundNumbers As) (flatMap rowNumbers qs) .0 h in
     rw append-assoc (auxiliaries As room (k .0) o (rows-read f room qs (k .1) d r))
 
 sources : {n : ℕ} {src ws : List ℕ} {Bs Cs : List Bounds} {Rs : List (Row ℕ)} → Sources src Bs → n + length Bs ≤ Limit.inAll →

@@ -16,6 +16,7 @@ use Rattle.integers.specs.declared.Bounds.{Bounds}
 use Rattle.integers.proofs.Linear.{_⊑_, _⊏_, linear, arithZ, dec⊑}
 use Rattle.integers.proofs.Lists.{any-map, all-members}
 use Rattle.integers.proofs.Tests.{Says, false-true, says-le, says-lt, says-and, says-within, says-equal, says-any, In, All, Any, Member}
+use Rattle.integers.proofs.Sums.{not-less, plus-zero}
 use Rattle.models.specs.Meaning.{member}
 use Rattle.rules.specs.Parts.{places, leastFrom, rising, members}
 use Rattle.rules.specs.Shared.{keep}
@@ -130,16 +131,13 @@ values-split l u v h k =
     let below = count (v ⊖ +1 ⊖ l ⊕ +1) in
     let above = count (u ⊖ (v ⊕ +1) ⊕ +1) in
     listOf-append (λ j. l ⊕ pos j) (λ j. v ⊕ pos j) below (suc above) _ (sizes l u v h k) (λ j. place l v j h)
-    ∙ ap₂ (λ x f. listOf (λ j. l ⊕ pos j) below ++ x ∷ listOf f above) (first v) (fun-ext (next v))
+    ∙ ap₂ (λ x f. listOf (λ j. l ⊕ pos j) below ++ x ∷ listOf f above) (plus-zero v) (fun-ext (next v))
   where
     sizes : (l u v : ℤ) → l ⊑ v → v ⊑ u → count (u ⊖ l ⊕ +1) ≡ count (v ⊖ +1 ⊖ l ⊕ +1) + suc (count (u ⊖ (v ⊕ +1) ⊕ +1))
     sizes = simp linear (omega arith)
 
     place : (l v : ℤ) (j : ℕ) → l ⊑ v → l ⊕ pos (count (v ⊖ +1 ⊖ l ⊕ +1) + j) ≡ v ⊕ pos j
     place = simp linear (omega arith)
-
-    first : (v : ℤ) → v ⊕ pos 0 ≡ v
-    first = simp linear (omega arith)
 
     next : (v : ℤ) (j : ℕ) → v ⊕ pos (suc j) ≡ v ⊕ +1 ⊕ pos j
     next = simp linear (omega arith)
@@ -163,9 +161,6 @@ values-first t l u v h k e n =
 -- v is the least of the numbers that are not below `from`, or `above` if that is not above it
 abbrev Least : List ℤ → ℤ → ℤ → ℤ → Type 0
 Least S from above v = (v ⊑ above) × All (λ w. from ⊑ w → v ⊑ w) S × ((v ≡ above) ⊎ (Member v S × (from ⊑ v)))
-
-not-less : (a b : ℤ) → ¬ (a ⊏ b) → b ⊑ a
-not-less = simp linear (omega arith)
 
 least : (S : List ℤ) (from above : ℤ) → Least S from above (leastFrom S from above)
 unfolding leastFrom

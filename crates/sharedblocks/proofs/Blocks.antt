@@ -17,6 +17,7 @@ use Rattle.integers.specs.declared.Bounds.{Bounds}
 use Rattle.integers.specs.Terms.{Term, _·_}
 use Rattle.integers.proofs.Linear.{linear}
 use Rattle.integers.proofs.Tests.{false-true}
+use Rattle.integers.proofs.Lists.{flatMap-append}
 use Rattle.models.specs.Meaning.{member}
 use Rattle.models.specs.Model.{size, var, num, vars, nums, past}
 use Rattle.rules.specs.Block.{Ref, numbered}
@@ -27,8 +28,8 @@ use Rattle.rules.proofs.Members.{members-values, places-kept}
 use Rattle.laying.specs.Part.{times, boundParts, termParts, rowParts, blockParts}
 use Rattle.laying.specs.Lists.{many, sameAt, productAt}
 use Rattle.laying.specs.Lists as lists
-use Rattle.laying.proofs.Parts.{flatMap-append, many-same}
-use Rattle.laying.proofs.Lists.{length-vars, length-nums, bits-parts, bounds-append, same-parts}
+use Rattle.laying.proofs.Parts.{many-same}
+use Rattle.laying.proofs.Lists.{length-vars, length-nums, bits-parts, bounds-append, same-parts, here, further}
 use Rattle.extremes.specs.BoundLists.{boundsOf}
 use Rattle.encodings.specs.Uses.{choiceOf, choosing}
 use Rattle.choiceblocks.specs.Rows.{zeroAt, numberTermAt, memberAt, sumRow, choiceRows}
@@ -76,10 +77,10 @@ no-rows β e x first h = rw h
 -- the bit of the first place of a list that x can have, and of the k-th after it
 place-number : (β : ℕ → Bounds) (e : Encoded) (first x n k : ℕ) → numbered first (valueBit β e x (places (β x) n .lower ⊕ pos k)) ≡ placeBit e first x (β x .lower) + k
 unfolding places
-place-number β e first x n k = bit-number β e first x (maxZ +1 (β x .lower) ⊕ pos k) ∙ further (bitsFrom e first x) (β x .lower) k
+place-number β e first x n k = bit-number β e first x (maxZ +1 (β x .lower) ⊕ pos k) ∙ later-bit (bitsFrom e first x) (β x .lower) k
   where
-    further : (b : ℕ) (l : ℤ) (k : ℕ) → b + count (maxZ +1 l ⊕ pos k ⊖ l) ≡ b + count (maxZ +1 l ⊖ l) + k
-    further = simp linear (omega arith)
+    later-bit : (b : ℕ) (l : ℤ) (k : ℕ) → b + count (maxZ +1 l ⊕ pos k ⊖ l) ≡ b + count (maxZ +1 l ⊖ l) + k
+    later-bit = simp linear (omega arith)
 
 products-many : (first : ℕ) {A : Type 0} (x : A → ℕ) (b : A → Ref) (f : ℕ → A) (n m : ℕ) →
     flatMap (rowParts first) (bitProducts x b (listOf f n) m) ≡ many (λ j. times (first + m + j) (x (f j)) (numbered first (b (f j))) ∷ []) n
@@ -89,12 +90,6 @@ products-many first x b f (suc n) m =
     ap₂ (λ (z : ℕ) ps. times z (x (f 0)) (numbered first (b (f 0))) ∷ ps) (here first m)
     (products-many first x b (λ j. f (suc j)) n (suc m)
     ∙ many-same _ _ (λ j. ap (λ (z : ℕ). times z (x (f (suc j))) (numbered first (b (f (suc j)))) ∷ []) (further first m j)) n)
-  where
-    here : (first k : ℕ) → first + k ≡ first + k + 0
-    here first k = omega arith
-
-    further : (first k j : ℕ) → first + suc k + j ≡ first + k + suc j
-    further first k j = omega arith
 
 module _ (ls us : List ℤ) (args : List ℕ) where
   abbrev β : ℕ → Bounds

@@ -14,7 +14,7 @@ use Rattle.integers.specs.Lists.{listOf, all}
 use Rattle.integers.specs.Bounds.{width, values}
 use Rattle.integers.specs.Terms.{Term, _·_}
 use Rattle.integers.specs.declared.Bounds.{Bounds}
-use Rattle.integers.proofs.Linear.{linear}
+use Rattle.integers.proofs.Sums.{count-from}
 use Rattle.words.specs.Kind as Kind
 use Rattle.rowsystems.specs.Row.{sum=0}
 use Rattle.rules.specs.Block.{Ref, source, aux, numbered}
@@ -95,11 +95,8 @@ left-out β e first x code args = rw (none-left-out t (listOf f n)) (go (all t (
     ts : List (Term Ref)
     ts = map (λ v. +1 · valueBit β e x v) out
 
-    place : (l : ℤ) (k : ℕ) → count (l ⊕ pos k ⊖ l) ≡ k
-    place = simp linear (omega arith)
-
     at-place : (k : ℕ) → numbered first (valueBit β e x (f k)) ≡ bitsFrom e first x + k
-    at-place k = bit-number β e first x (f k) ∙ ap (λ (j : ℕ). bitsFrom e first x + j) (place (β x .lower) k)
+    at-place k = bit-number β e first x (f k) ∙ ap (λ (j : ℕ). bitsFrom e first x + j) (count-from (β x .lower) k)
 
     go : (b : Bool) → flatMap (rowParts first) ([] if b else sum=0 ts +0 ∷ [])
         ≡ ([] if b else head Kind.equal (length out) ∷ (many (leftAt code args (β x .lower) (bitsFrom e first x)) n ++ (constant +0 ∷ [])))

@@ -1,8 +1,8 @@
 -- What a model that passes the check gives: its words are read without a fault, and so much of each block.
-use mathlib.Core.Path.{_≡_, refl, ap, _∙_}
+use mathlib.Core.Path.{_≡_, refl, ap}
 use mathlib.Core.Bool.{Bool, true, false}
 use mathlib.Core.List.{List, [], _∷_}
-use Prim.Native.Nat.{ℕ, zero, suc, _+_, _≤_}
+use Prim.Native.Nat.{ℕ, _+_, _≤_}
 use native.Mathlib.Omega.{arith}
 use lib.Dec.{ltb}
 use lib.ListN.{length}
@@ -12,8 +12,9 @@ use Rattle.integers.specs.declared.Bounds.{Bounds}
 use Rattle.words.specs.Fault as Fault
 use Rattle.words.specs.Limit as Limit
 use Rattle.words.specs.Variables.{variables}
-use Rattle.words.specs.Refusal.{_at-place_, accepted, faultOr, _else-refuse_, firstFault}
+use Rattle.words.specs.Refusal.{_at-place_, accepted, _else-refuse_, firstFault}
 use Rattle.words.specs.declared.Refusal.{Refusal}
+use Rattle.words.proofs.Reading.{read-without, passed-number}
 use Rattle.models.specs.Reading.{after, ended, begin, readModel, readModelIn}
 use Rattle.models.specs.InRange.{fault}
 use Rattle.models.specs.Model.{Constraint, constraints}
@@ -24,23 +25,7 @@ use Rattle.rules.specs.Check.{tooWide, blockFaultIn, blocksFaultIn, checkFaultI
 use Rattle.rules.specs.InRange.{blockFault, blocksFault}
 use Rattle.sharing.specs.SharedSolutions.{Passes}
 
--- a fault makes a refusal, whose number is not 0
-pub no-fault : (n p : ℕ) (after : Refusal) → faultOr n p after .number ≡ 0 → (n ≡ 0) × (after .number ≡ 0)
-no-fault zero p after e = (refl, e)
-no-fault (suc n) p after e = absurd (omega (arith, e))
-
-then-after : (n p : ℕ) (after : Refusal) → n ≡ 0 → faultOr n p after ≡ after
-then-after n p after e = rw e refl
-
 -- ---- a reading without a fault is `accepted`
-
-module _ {S : Type 0} (fault : S → ℕ → List ℕ → ℕ) (next : S → ℕ → S) (ended : S → ℕ) where
-  pub read-without : (s : S) (p : ℕ) (ws : List ℕ) → firstFault fault next ended s p ws .number ≡ 0 → firstFault fault next ended s p ws ≡ accepted
-  unfolding firstFault
-  read-without s p [] e = then-after (ended s) p accepted (no-fault (ended s) p accepted e .0)
-  read-without s p (w ∷ ws) e =
-      let f = no-fault (fault s w ws) p (firstFault fault next ended (next s w) (p + 1) ws) e in
-      then-after (fault s w ws) p (firstFault fault next ended (next s w) (p + 1) ws) (f .0) ∙ read-without (next s w) (p + 1) ws (f .1)
 
 pub read-zero : (ws : List ℕ) → readModel ws .number ≡ 0 → readModel ws ≡ accepted
 unfolding readModelIn
@@ -83,7 +68,7 @@ all-fine β s first e [] h = tt
 all-fine β s first e (c ∷ cs) h =
     let n = first + length (blockOf β s e c .auxiliaries) in
     let d = encodedAfter s first e (encodes (choice c)) in
-    let f = no-fault (blockFault β s first e c) (c .place) (blocksFault β s n d cs) h in
+    let f = passed-number (blockFault β s first e c) (c .place) (blocksFault β s n d cs) h in
     let o = one-fine β s first e c (f .0) in
     (o .0, o .1, o .2, all-fine β s n d cs (f .1))
 
@@ -91,10 +76,10 @@ all-fine β s first e (c ∷ cs) h =
 
 pub passes-read : (ws : List ℕ) → Passes ws → readModel ws ≡ accepted
 unfolding checkFaultIn _else-refuse_
-passes-read ws h = read-zero ws (no-fault (readModel ws .number) (readModel ws .place) _ (ap (λ (r : Refusal). r .number) h) .0)
+passes-read ws h = read-zero ws (passed-number (readModel ws .number) (readModel ws .place) _ (ap (λ (r : Refusal). r .number) h) .0)
 
 pub passes-fine : (ws : List ℕ) → Passes ws → Fine (bounds ws) (shared ws) (length (variables ws)) noneYet (constraints ws)
 unfolding checkFaultIn _else-refuse_
 passes-fine ws h =
     all-fine (bounds ws) (shared ws) (length (variables ws)) noneYet (constraints ws)
-    (no-fault (readModel ws .number) (readModel ws .place) _ (ap (λ (r : Refusal). r .number) h) .1)
+    (passed-number (readModel ws .number) (readModel ws .place) _ (ap (λ (r : Refusal). r .number) h) .1)

@@ -16,6 +16,7 @@ use Rattle.integers.proofs.Linear.{_⊑_, _⊏_, rep, linear, from₁, from₂,
 use Rattle.integers.proofs.Bits.{to-bit, bit-case}
 use Rattle.integers.proofs.Product.{between, ⊗-comm}
 use Rattle.integers.proofs.Tests.{Says, In, says-lt, says-equal, says-not}
+use Rattle.integers.proofs.Sums.{zero-times, one-times}
 use Rattle.models.specs.Builtin.{int-plus, int-times, int-abs, int-max, int-min}
 use Rattle.models.specs.Meaning.{meaning}
 use Rattle.models.proofs.Arguments.{integerArguments}
@@ -28,15 +29,9 @@ use Rattle.sharing.proofs.Basics.{Represents, Correct, Exact, agree, sa
 
 -- ---- 8, 12 to 14, 31, 32: b is 0 or 1, z := b×x
 
-zero-times : (x : ℤ) → +0 ⊗ x ≡ +0
-zero-times = simp linear (omega arith)
-
 -- a product with 0 or 1 is 0 or the other factor
 pub bit-product : (b x z : ℤ) → In bit b → z ≡ b ⊗ x → (z ≡ +0) ⊎ (z ≡ x)
-bit-product b x z h e = bit-case (to-bit b (h .0) (h .1)) (λ p. inl (e ∙ rw p (zero-times x))) (λ p. inr (e ∙ rw p (whole x)))
-  where
-    whole : (x : ℤ) → +1 ⊗ x ≡ x
-    whole = simp linear (omega arith)
+bit-product b x z h e = bit-case (to-bit b (h .0) (h .1)) (λ p. inl (e ∙ rw p (zero-times x))) (λ p. inr (e ∙ rw p (one-times x)))
 
 -- the z that is picked is x where x is negative, else 0
 pub sign-product : (x : ℤ) → bitOf (ltZ x +0) ⊗ x ≡ minZ +0 x

@@ -16,7 +16,7 @@ use Rattle.integers.specs.Terms.{Term}
 use Rattle.integers.specs.declared.Bounds.{Bounds}
 use Rattle.integers.proofs.Linear.{_⊑_, arithZ}
 use Rattle.integers.proofs.Lists.{all-implies, all-append}
-use Rattle.integers.proofs.Tests.{All, Says, false-true, says-within, says-all}
+use Rattle.integers.proofs.Tests.{All, says-within, says-all, same-test}
 use Rattle.words.specs.Word.{kind, payload, inRange, complement, numberWord}
 use Rattle.words.specs.Kind as Kind
 use Rattle.words.specs.Limit as Limit
@@ -92,21 +92,12 @@ pub record WithoutLowest (ws : List ℕ) : Type 0 where
 word-alike : (w : ℕ) → NotLowest w → Alike before Limit.range w
 word-alike w h s = never-too-low w ∙ sym (lowest-alone w ∙ ne-eqb _ _ (h s))
 
-same-test : {t u : Bool} {A B : Type 0} → Says t A → Says u B → (A → B) → (B → A) → t ≡ u
-same-test {t} {u} {A} {B} p q f g = go t u p q
-  where
-    go : (t u : Bool) → Says t A → Says u B → t ≡ u
-    go true true p q = refl
-    go true false p q = false-true (q .1 (f (p .0 refl)))
-    go false true p q = false-true (p .1 (g (q .0 refl)))
-    go false false p q = refl
-
 above-lowest : (z : ℤ) → before .lower ⊑ z → z ≢ before .lower → Limit.lowest ⊑ z
 above-lowest (pos n) h l = omega arithZ
 above-lowest (negsuc n) h l = let k : n ≢ 134217727 = λ e. l (ap negsuc e) in omega (arithZ, h, k)
 
 number-alike : (z : ℤ) → z ≢ before .lower → within before z ≡ within Limit.range z
-number-alike z n = same-test (says-within before z) (says-within Limit.range z) (λ h. (above-lowest z (h .0) n, h .1)) (λ h. (omega (arithZ, h .0), h .1))
+number-alike z n = same-test (says-within before z) (says-within Limit.range z) (λ h. (above-lowest z (h .0) n, h .1), λ h. (omega (arithZ, h .0), h .1))
 
 numbers-alike : (zs : List ℤ) → All (λ z. z ≢ before .lower) zs → all (within before) zs ≡ all (within Limit.range) zs
 unfolding all

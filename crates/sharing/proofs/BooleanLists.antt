@@ -18,6 +18,7 @@ use Rattle.integers.proofs.Linear.{_⊑_, linear, arithZ, from₁}
 use Rattle.integers.proofs.Bits.{Bit, b0, b1, Reified, reified-0, reified-1, bit-case}
 use Rattle.integers.proofs.Lists.{all-append, all-map}
 use Rattle.integers.proofs.Tests.{Says, In, All, says-or, false-true}
+use Rattle.integers.proofs.Places.{howMany-le}
 use Rattle.models.specs.Builtin.{bool-clause, array-bool-and, array-bool-xor}
 use Rattle.models.specs.Meaning.{meaning, on, off, odd}
 use Rattle.models.proofs.Arguments.{booleanArguments}
@@ -32,15 +33,6 @@ use Rattle.sharing.proofs.Basics.{Correct, Exact, agree, says-as, says-
 -- ---- how many elements pass a test
 
 module _ {A : Type 0} (t : A → Bool) where
-  how-many-bound : (xs : List A) → howMany t xs ≤ length xs
-  unfolding howMany
-  how-many-bound [] = omega arith
-  how-many-bound (x ∷ xs) = more (t x) _ _ (how-many-bound xs)
-    where
-      more : (b : Bool) (k n : ℕ) → k ≤ n → (1 if b else 0) + k ≤ suc n
-      more true k n h = omega arith
-      more false k n h = omega arith
-
   pub says-some : (xs : List A) → Says (any t xs) (1 ≤ howMany t xs)
   unfolding any howMany
   says-some [] = (λ e. false-true e, λ h. absurd (omega arith))
@@ -53,7 +45,7 @@ module _ {A : Type 0} (t : A → Bool) where
   pub says-every : (xs : List A) → Says (all t xs) (length xs ≤ howMany t xs)
   unfolding all howMany
   says-every [] = (λ e. omega arith, λ h. refl)
-  says-every (x ∷ xs) = more (t x) _ _ _ (says-every xs) (how-many-bound xs)
+  says-every (x ∷ xs) = more (t x) _ _ _ (says-every xs) (howMany-le t xs)
     where
       more : (b u : Bool) (k n : ℕ) → Says u (n ≤ k) → k ≤ n → Says (b && u) (suc n ≤ (1 if b else 0) + k)
       more true u k n s h = says-as s (omega arith)
@@ -91,7 +83,7 @@ module _ (σ : Valuation) where
   unfolding any howMany on off _==_
   says-some-off [] h = (λ e. false-true e, λ k. absurd (omega arith))
   says-some-off (v ∷ vs) h =
-      bit-case (h .0) (λ e. rw e (λ t. omega (arith, how-many-bound (on σ) vs), λ k. refl))
+      bit-case (h .0) (λ e. rw e (λ t. omega (arith, howMany-le (on σ) vs), λ k. refl))
       (λ e. rw e (says-as (says-some-off vs (h .1)) (omega arith)))
 
   -- r is at most each of them: always for 0, and for 1 where all are 1
@@ -104,7 +96,7 @@ module _ (σ : Valuation) where
   all-from-one [] h = (λ g. omega arith, λ l. tt)
   all-from-one (v ∷ vs) h =
       let r = all-from-one vs (h .1) in
-      bit-case (h .0) (λ e. rw e (λ g. absurd (none (g .0)), λ l. absurd (omega (arith, how-many-bound (on σ) vs))))
+      bit-case (h .0) (λ e. rw e (λ g. absurd (none (g .0)), λ l. absurd (omega (arith, howMany-le (on σ) vs))))
       (λ e. rw e (λ g. omega (arith, r .0 (g .1)), λ l. (omega arithZ, r .1 (omega arith))))
     where
       none : ¬ (+1 ⊑ +0)
@@ -119,7 +111,7 @@ module _ (σ : Valuation) where
       last = simp linear (omega arith)
   and-rows b1 vs h =
       let a = all-from-one vs h in
-      (λ g. reified-1 _ .1 (a .0 (g .0)), λ m. (a .1 (reified-1 _ .0 m), last _ _ (how-many-bound (on σ) vs)))
+      (λ g. reified-1 _ .1 (a .0 (g .0)), λ m. (a .1 (reified-1 _ .0 m), last _ _ (howMany-le (on σ) vs)))
     where
       last : (k n : ℕ) → k ≤ n → +1 ⊗ pos k ⊕ (-1 ⊗ +1 ⊕ +0) ⊕ (+1 ⊖ pos n) ⊑ +0
       last = simp linear (omega arith)
@@ -156,7 +148,7 @@ module _ (β : ℕ → Bounds) (σ : Valuation) where
   bool-clause-exact xs ys α f =
       let h = all-append (λ v. Bit (σ v)) xs ys .0 (f .zero-one) in
       agree (says-or (says-some (on σ) xs) (says-some-off σ ys (h .1)))
-      (one-row (rw (dot-each σ α -1 xs (h .0) (each +1 ys), dot-each-only σ α +1 ys (h .1)) (sound _ _ _, holds _ _ _ (how-many-bound (on σ) ys))))
+      (one-row (rw (dot-each σ α -1 xs (h .0) (each +1 ys), dot-each-only σ α +1 ys (h .1)) (sound _ _ _, holds _ _ _ (howMany-le (on σ) ys))))
     where
       sound : (n k m : ℕ) → -1 ⊗ pos n ⊕ (+1 ⊗ pos k ⊕ +0) ⊕ (+1 ⊖ pos m) ⊑ +0 → (1 ≤ n) ⊎ (k < m)
       sound zero k m h = inr (from₁ h (simp linear (omega arith)))
@@ -187,7 +179,7 @@ module _ (β : ℕ → Bounds) (σ : Valuation) where
   array-bool-xor-correct xs = record {
     sound = λ α f g. eq-eqb (n % 2) 1 (odd-row n (α 0) (rw (row f α) at (g .1 .0)));
     complete = λ f m rest. (
-      (half-in n (length xs) (how-many-bound (on σ) xs), tt),
+      (half-in n (length xs) (howMany-le (on σ) xs), tt),
       (rw (row f (value (pos (halfLess n) ∷ rest))) (row-odd n (eqb-true (n % 2) 1 m)), tt),
     );
     filled = refl;

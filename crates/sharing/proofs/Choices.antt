@@ -11,12 +11,11 @@ use lib.IntN.{ℤ, pos}
 use borrow.Author.Tests.{eqb-true}
 use lib.ListN.{length, getD, length-map, length-append}
 use Rattle.integers.specs.Choice.{_if_else_}
-use Rattle.integers.specs.Number.{_⊕_, _⊗_, _==_, count, +0, +1}
+use Rattle.integers.specs.Number.{_⊗_, _==_, count, +0, +1}
 use Rattle.integers.specs.Lists.{any}
 use Rattle.integers.specs.Bounds.{_to_, within, values}
 use Rattle.integers.specs.Terms.{Valuation, _·_, value}
 use Rattle.integers.specs.declared.Bounds.{Bounds}
-use Rattle.integers.proofs.Linear.{linear}
 use Rattle.integers.proofs.Bits.{Bit, b0, b1}
 use Rattle.integers.proofs.Lists.{all-append, all-members}
 use Rattle.integers.proofs.Tests.{says-within, In, All, Member, false-true}
@@ -30,7 +29,7 @@ use Rattle.rules.specs.Pick.{bitOf}
 use Rattle.rules.specs.Shared.{Choice, of-element, of-var-element, of-set, of-set-reif, no-choice, choice, encodes, shares, Encoded, valueBit, newBits, newRows, kept, leftOut, sharedRule, newPick, sharedPick, bitProducts, keep}
 use Rattle.sharing.proofs.Good.{dot, Good, Sat, see, Keeps, Are}
 use Rattle.sharing.proofs.Fits.{Fits}
-use Rattle.sharing.proofs.OneHot.{bitSum, From, from-head, from-tail, chosen-law}
+use Rattle.sharing.proofs.OneHot.{bitSum, From, from-head, from-tail, chosen-law, with-bit}
 use Rattle.sharing.proofs.Gates.{keeps-append, are-append, from-append, gate-in}
 use Rattle.rules.proofs.Members.{values-member, keep-member}
 use Rattle.sharing.proofs.Elements.{says-element, says-variable-element, nth-all}
@@ -99,10 +98,7 @@ products-sum : (f : ℤ → ℕ) (b : ℤ → Ref) (ls : List ℤ) (n : ℕ) (ρ
 unfolding bitProducts
 products-sum f b [] n ρ α δ p h = refl
 products-sum f b (l ∷ ls) n ρ α δ p h =
-    step _ _ _ _ (sym (from-head n α δ p) ∙ h .0) (products-sum f b ls (suc n) ρ α (λ j. δ (suc j)) (from-tail n α δ p) (h .1))
-  where
-    step : (d p s t : ℤ) → d ≡ p → s ≡ t → pos 1 ⊗ d ⊕ s ≡ p ⊕ t
-    step = simp linear (omega arith)
+    with-bit _ _ _ _ (sym (from-head n α δ p) ∙ h .0) (products-sum f b ls (suc n) ρ α (λ j. δ (suc j)) (from-tail n α δ p) (h .1))
 
 bit-of-test : (t : Bool) → Bit (bitOf t)
 unfolding bitOf

@@ -23,6 +23,7 @@ use Rattle.models.specs.Meaning.{member}
 use Rattle.models.specs.Model.{Constraint}
 use Rattle.models.proofs.Arguments.{integerArguments, booleanArguments}
 use Rattle.rowsystems.specs.Row.{sum=0}
+use Rattle.rowsystems.proofs.Ordered.{Ordered}
 use Rattle.rules.specs.Block.{source, aux}
 use Rattle.rules.specs.Parts.{Z, bits, one, oneBit, chosen, nth}
 use Rattle.rules.specs.Check.{tooWide}
@@ -31,7 +32,7 @@ use Rattle.rules.proofs.Lengths.{values-length, bits-length}
 use Rattle.rules.proofs.Members.{keep-both, values-member, keep-member}
 use Rattle.sharing.proofs.Places.{value-place}
 use Rattle.sharing.proofs.Elements.{nth-all}
-use Rattle.sharing.proofs.Formed.{RefIn, TermIn, RowIn, Ordered, Formed, bits-ordered, Z-ordered, less-in, chosen-in, choice-in}
+use Rattle.sharing.proofs.Formed.{RefIn, TermIn, RowIn, Formed, bits-ordered, Z-ordered, less-in, chosen-in, choice-in}
 use Rattle.sharing.proofs.Codes.{any-one}
 use Rattle.sharing.proofs.Encoding.{says-eqb, entered}
 use Rattle.sharing.proofs.Choices.{View, is-element, is-var-element, is-set, is-set-reif, other, view, not-shared}

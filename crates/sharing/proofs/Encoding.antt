@@ -12,7 +12,7 @@ use lib.ListN.{length, set}
 use lib.Seq.{set-out, getD-set-same, getD-set-other}
 use borrow.Author.Tests.{eqb-true, eq-eqb}
 use Rattle.integers.specs.Choice.{_if_else_}
-use Rattle.integers.specs.Number.{_⊕_, _⊖_, _⊗_, _==_, count, +0, +1}
+use Rattle.integers.specs.Number.{_⊕_, _⊗_, _==_, +0, +1}
 use Rattle.integers.specs.Lists.{all, any}
 use Rattle.integers.specs.Bounds.{width, values}
 use Rattle.integers.specs.Terms.{Valuation, value}
@@ -20,6 +20,7 @@ use Rattle.integers.specs.declared.Bounds.{Bounds}
 use Rattle.integers.proofs.Linear.{linear}
 use Rattle.integers.proofs.Lists.{all-members}
 use Rattle.integers.proofs.Tests.{Says, says-all, says-and, In, All, Member, false-true}
+use Rattle.integers.proofs.Sums.{count-from}
 use Rattle.rowsystems.specs.Row.{sum=0}
 use Rattle.rules.specs.Block.{source, aux}
 use Rattle.rules.specs.Parts.{bits, one, oneBit, chosen}
@@ -89,11 +90,8 @@ module _ (β : ℕ → Bounds) (e : Encoded) (x : ℕ) (ρ α : Valuation) where
   pub kept-value : Coded → (w : ℤ → ℤ) (t : ℤ → Bool) → dot (see ρ α) (kept β e w t x) ≡ (w (ρ x) if t (ρ x) else +0)
   unfolding kept valueBit values width
   kept-value c w t =
-      dot-kept w t (λ k. β x .lower ⊕ pos k) _ (valueBit β e x) (see ρ α) bitValue (λ k. ap bitValue (place (β x .lower) k))
+      dot-kept w t (λ k. β x .lower ⊕ pos k) _ (valueBit β e x) (see ρ α) bitValue (λ k. ap bitValue (count-from (β x .lower) k))
       ∙ c .1 (λ v. w v if t v else +0)
-    where
-      place : (l : ℤ) (k : ℕ) → count (l ⊕ pos k ⊖ l) ≡ k
-      place = simp linear (omega arith)
 
   -- the last row of 24 and 28
   pub keptSum-law : Coded → (w : ℤ → ℤ) (t : ℤ → Bool) (y : ℕ) → Sat (see ρ α) (keptSum β e w t x y) ↔ ((w (ρ x) if t (ρ x) else +0) ≡ ρ y)

@@ -15,11 +15,12 @@ use Rattle.integers.specs.declared.Bounds.{Bounds}
 use Rattle.integers.proofs.Linear.{_⊑_, _⊏_, linear, arithZ}
 use Rattle.integers.proofs.Bits.{Bit, to-bit, bit-case, bits as zero-one}
 use Rattle.integers.proofs.Tests.{Says, false-true, says-equal, In, All, Member}
+use Rattle.integers.proofs.Sums.{times-zero}
 use Rattle.rules.specs.Parts.{bits, weighted, one, oneBit, chosen}
 use Rattle.rules.specs.Rule.{firstOnly}
 use Rattle.rules.specs.Pick.{firstBit}
 use Rattle.sharing.proofs.Good.{dot, Sat, see, Keeps, Are}
-use Rattle.sharing.proofs.OneHot.{bitSum, From, from-zero, from-tail, dot-weighted, oneBit-law, chosen-law, keeps-bit, skip, take, not-negative, all-zero, chooses, zeros}
+use Rattle.sharing.proofs.OneHot.{bitSum, From, from-zero, from-tail, dot-weighted, oneBit-law, chosen-law, keeps-bit, skip, take, not-negative, all-zero, chooses, zeros, bit-zero}
 use Rattle.rules.proofs.Members.{Distinct}
 
 -- where a later bit is 1, P holds of the label
@@ -42,12 +43,9 @@ zero-bits : {A : Type 0} (P : A → Type 0) (ls : List A) (γ : Valuation) → K
 unfolding bits
 zero-bits P [] γ h e = (tt, tt)
 zero-bits P (l ∷ ls) γ h e =
-    let z = step (γ 0) (keeps-bit _ (h .0)) _ (not-negative ls (λ j. γ (suc j)) (h .1)) e in
+    let z = bit-zero (γ 0) (keeps-bit _ (h .0)) _ (not-negative ls (λ j. γ (suc j)) (h .1)) e in
     let r = zero-bits P ls (λ j. γ (suc j)) (h .1) (z .1) in
     ((z .0, r .0), (λ f. zero-one-differ _ (z .1) f, r .1))
-  where
-    step : (x : ℤ) → Bit x → (s : ℤ) → pos 0 ⊑ s → pos 1 ⊗ x ⊕ s ≡ pos 0 → (x ≡ pos 0) × (s ≡ pos 0)
-    step = simp zero-one (simp linear (omega arith))
 
 -- bits that add up to 1: the first is 1 and the others add up to 0, or it is 0 and they add up to 1
 first-or-later : {A : Type 0} (w : A → ℤ) (X : ℤ) (l : A) (ls : List A) (γ : Valuation) → Keeps (bits (l ∷ ls)) γ → bitSum one (l ∷ ls) γ ≡ pos 1 →
@@ -117,10 +115,7 @@ value-bits ls σ α x d k s c =
 -- ---- the last rows of 26 and 33
 
 constant-sum : {A : Type 0} (K : ℤ) (ls : List A) (γ : Valuation) → bitSum (λ l. K) ls γ ≡ K ⊗ bitSum one ls γ
-constant-sum K [] γ = none K
-  where
-    none : (K : ℤ) → pos 0 ≡ K ⊗ pos 0
-    none = simp linear (omega arith)
+constant-sum K [] γ = sym (times-zero K)
 constant-sum K (l ∷ ls) γ = rw (constant-sum K ls (λ j. γ (suc j))) (grouped K (γ 0) _)
   where
     grouped : (K g t : ℤ) → K ⊗ g ⊕ K ⊗ t ≡ K ⊗ (pos 1 ⊗ g ⊕ t)

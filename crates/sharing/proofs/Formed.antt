@@ -17,6 +17,7 @@ use Rattle.words.specs.Limit as Limit
 use Rattle.models.specs.Model.{terms}
 use Rattle.models.proofs.Arguments.{variablesIn}
 use Rattle.rowsystems.specs.Row.{Row, sum≤0, sum=0, product, renameTerms}
+use Rattle.rowsystems.proofs.Ordered.{Ordered}
 use Rattle.rules.specs.Block.{Ref, source, aux, Block}
 use Rattle.rules.specs.Parts.{Z, endProducts, extreme, L, U, _─_≤0, sources, each, bits, weighted, one, oneBit, chosen, products}
 use Rattle.rules.specs.Division.{M, divisionTable, tableRow, divisionRows, quotientBounds, remainderRow}
@@ -42,9 +43,6 @@ RowIn n m (sum≤0 ts c) = TermsIn n m ts
 RowIn n m (sum=0 ts c) = TermsIn n m ts
 RowIn n m (product (source v) f g) = ⊥
 RowIn n m (product (aux k) f g) = (k < m) × RefIn n k f × RefIn n k g
-
-abbrev pub Ordered : Bounds → Type 0
-Ordered B = B .lower ⊑ B .upper
 
 abbrev pub Formed : ℕ → Block → Type 0
 Formed n B = All Ordered (B .auxiliaries) × All (RowIn n (length (B .auxiliaries))) (B .rows)

@@ -8,7 +8,7 @@ use Prim.Native.Nat.{ℕ, zero, suc, _+_}
 use lib.IntN.{ℤ, pos}
 use lib.ListN.{length, length-map, length-append}
 use lib.Seq.{getD-append-add}
-use Rattle.integers.specs.Number.{_⊕_, _⊗_}
+use Rattle.integers.specs.Number.{_⊗_}
 use Rattle.integers.specs.Terms.{Valuation, value}
 use Rattle.integers.specs.Bounds.{_to_}
 use Rattle.integers.specs.declared.Bounds.{Bounds}
@@ -19,7 +19,7 @@ use Rattle.rules.specs.Parts.{Z, bits, one, oneBit, chosen, products}
 use Rattle.rules.specs.Pick.{firstBit, gatedPick}
 use Rattle.sharing.proofs.Good.{Sat, see, Each, Keeps, Are}
 use Rattle.rules.proofs.Lengths.{bits-length}
-use Rattle.sharing.proofs.OneHot.{bitSum, From, from-zero, from-head, from-tail, chosen-law, Chooses, one-hot-sound, firstBit-length, one-hot-complete}
+use Rattle.sharing.proofs.OneHot.{bitSum, From, from-zero, from-head, from-tail, chosen-law, Chooses, one-hot-sound, firstBit-length, one-hot-complete, with-bit}
 
 -- ---- lists in two parts
 
@@ -67,10 +67,7 @@ products-law x (l ∷ ls) k n σ α γ δ p q =
 
 pub gated-sum : {A : Type 0} (f : A → ℤ) (ls : List A) (γ δ : Valuation) → Gated f ls γ δ → bitSum one ls δ ≡ bitSum f ls γ
 gated-sum f [] γ δ g = refl
-gated-sum f (l ∷ ls) γ δ g = step _ _ _ _ (g .0) (gated-sum f ls (λ j. γ (suc j)) (λ j. δ (suc j)) (g .1))
-  where
-    step : (d p s t : ℤ) → d ≡ p → s ≡ t → pos 1 ⊗ d ⊕ s ≡ p ⊕ t
-    step = simp linear (omega arith)
+gated-sum f (l ∷ ls) γ δ g = with-bit _ _ _ _ (g .0) (gated-sum f ls (λ j. γ (suc j)) (λ j. δ (suc j)) (g .1))
 
 -- Σ of the products − m = 0: m is the chosen label's variable
 pub gates-at : {A : Type 0} (x : A → ℕ) (ls : List A) (n m : ℕ) (σ α : Valuation) (l : A) → Chooses ls α l → All (Sat (see σ α)) (products x ls 0 n) →

@@ -1,8 +1,8 @@
 -- 26 array_int_maximum, 33 array_int_minimum: their blocks hold exactly where m is the largest, or the least, of the list.
 use mathlib.Core.Path.{_≡_, refl, sym, ap, _∙_}
 use mathlib.Core.Logic.{_↔_}
-use mathlib.Core.Bool.{Bool, true, _&&_, _||_}
-use mathlib.Core.List.{List, [], _∷_, _++_, map, append-assoc}
+use mathlib.Core.Bool.{Bool, true, _&&_}
+use mathlib.Core.List.{List, _∷_, _++_, map, append-assoc}
 use Prim.Native.Nat.{ℕ, _+_}
 use native.Mathlib.Omega.{arith}
 use lib.IntN.{ℤ}
@@ -15,6 +15,7 @@ use Rattle.integers.specs.declared.Bounds.{Bounds}
 use Rattle.integers.proofs.Linear.{_⊑_, _⊏_, linear, arithZ}
 use Rattle.integers.proofs.Lists.{all-append, all-map, all-implies, any-map}
 use Rattle.integers.proofs.Tests.{Says, In, says-le, says-equal, says-and, says-any, says-all, All, Any}
+use Rattle.integers.proofs.Places.{any-map as any-values, all-map as all-values}
 use Rattle.models.specs.Builtin.{array-int-maximum, array-int-minimum}
 use Rattle.models.specs.Meaning.{meaning, maximum, minimum}
 use Rattle.models.proofs.Arguments.{integerArguments}
@@ -28,17 +29,6 @@ use Rattle.sharing.proofs.Basics.{Represents, Correct, not-above-row}
 use Rattle.sharing.proofs.OneHot.{from-zero, oneBit-law, chosen-law, chosen-one}
 use Rattle.sharing.proofs.Gates.{products-law, gated-sum, gates-at, gates-keep, gates-sound, gates-complete, gates-filled, gates-are}
 use Rattle.sharing.proofs.FirstOnly.{FirstOnly, first-implies, hot-bits, first-rows, first-picked}
-
--- a test of values is a test of variables
-any-values : {A B : Type 0} (t : B → Bool) (f : A → B) (xs : List A) → any t (map f xs) ≡ any (λ x. t (f x)) xs
-unfolding any
-any-values t f [] = refl
-any-values t f (x ∷ xs) = ap (λ b. t (f x) || b) (any-values t f xs)
-
-all-values : {A B : Type 0} (t : B → Bool) (f : A → B) (xs : List A) → all t (map f xs) ≡ all (λ x. t (f x)) xs
-unfolding all
-all-values t f [] = refl
-all-values t f (x ∷ xs) = ap (λ b. t (f x) && b) (all-values t f xs)
 
 -- m is one of the list, and a test t of each says P
 says-one-of : (σ : Valuation) (m : ℤ) (t : ℤ → Bool) (P : ℤ → Type 0) → ((x : ℤ) → Says (t x) (P x)) → (xs : List ℕ) →

@@ -15,6 +15,7 @@ use Rattle.integers.specs.Bounds.{bit}
 use Rattle.integers.proofs.Linear.{_⊑_, linear, arithZ}
 use Rattle.integers.proofs.Bits.{Bit, to-bit, bit-case, bits as zero-one}
 use Rattle.integers.proofs.Tests.{false-true, says-equal, In, Any, Member}
+use Rattle.integers.proofs.Sums.{⊕-assoc, zero-plus}
 use Rattle.rules.specs.Parts.{bits, weighted, one, oneBit, chosen}
 use Rattle.rules.specs.Pick.{firstBit}
 use Rattle.rules.proofs.Lengths.{bits-length}
@@ -22,15 +23,9 @@ use Rattle.sharing.proofs.Good.{dot, Sat, see, Keeps}
 
 -- ---- sums
 
-plus-assoc : (a b c : ℤ) → a ⊕ (b ⊕ c) ≡ a ⊕ b ⊕ c
-plus-assoc = simp linear (omega arith)
-
-plus-zero : (a : ℤ) → a ≡ pos 0 ⊕ a
-plus-zero = simp linear (omega arith)
-
 pub dot-append : {X : Type 0} (ρ : X → ℤ) (ts us : List (Term X)) → dot ρ (ts ++ us) ≡ dot ρ ts ⊕ dot ρ us
-dot-append ρ [] us = plus-zero _
-dot-append ρ (t ∷ ts) us = ap (λ s. t .coefficient ⊗ ρ (t .variable) ⊕ s) (dot-append ρ ts us) ∙ plus-assoc _ _ _
+dot-append ρ [] us = sym (zero-plus _)
+dot-append ρ (t ∷ ts) us = ap (λ s. t .coefficient ⊗ ρ (t .variable) ⊕ s) (dot-append ρ ts us) ∙ sym (⊕-assoc _ _ _)
 
 -- Σ w × bit over the labels, the bits from 0 on
 abbrev pub bitSum : {A : Type 0} → (A → ℤ) → List A → Valuation → ℤ
@@ -96,15 +91,20 @@ not-negative (l ∷ ls) γ h = step (γ 0) (keeps-bit _ (h .0)) _ (not-negative 
     step : (x : ℤ) → Bit x → (s : ℤ) → pos 0 ⊑ s → pos 0 ⊑ pos 1 ⊗ x ⊕ s
     step = simp zero-one (simp linear (omega arith))
 
+-- where the sum with a bit in front is 0, both are
+pub bit-zero : (x : ℤ) → Bit x → (s : ℤ) → pos 0 ⊑ s → pos 1 ⊗ x ⊕ s ≡ pos 0 → (x ≡ pos 0) × (s ≡ pos 0)
+bit-zero = simp zero-one (simp linear (omega arith))
+
+-- a sum with a bit in front, of sums that are the same
+pub with-bit : (d p s t : ℤ) → d ≡ p → s ≡ t → pos 1 ⊗ d ⊕ s ≡ p ⊕ t
+with-bit = simp linear (omega arith)
+
 pub all-zero : {A : Type 0} (w : A → ℤ) (ls : List A) (γ : Valuation) → Keeps (bits ls) γ → bitSum one ls γ ≡ pos 0 → bitSum w ls γ ≡ pos 0
 unfolding bits
 all-zero w [] γ h e = refl
 all-zero w (l ∷ ls) γ h e =
-    let z = step (γ 0) (keeps-bit _ (h .0)) _ (not-negative ls (λ j. γ (suc j)) (h .1)) e in
+    let z = bit-zero (γ 0) (keeps-bit _ (h .0)) _ (not-negative ls (λ j. γ (suc j)) (h .1)) e in
     rw (z .0) (skip _ _ _ (all-zero w ls (λ j. γ (suc j)) (h .1) (z .1)))
-  where
-    step : (x : ℤ) → Bit x → (s : ℤ) → pos 0 ⊑ s → pos 1 ⊗ x ⊕ s ≡ pos 0 → (x ≡ pos 0) × (s ≡ pos 0)
-    step = simp zero-one (simp linear (omega arith))
 
 pub chooses : {A : Type 0} (ls : List A) (γ : Valuation) → Keeps (bits ls) γ → bitSum one ls γ ≡ pos 1 → (l : A) × Chooses ls γ l
 unfolding bits

@@ -14,6 +14,7 @@ use Rattle.integers.proofs.Linear.{linear}
 use Rattle.integers.proofs.Lists.{all-append}
 use Rattle.integers.proofs.Tests.{In, All, says-equal}
 use Rattle.rowsystems.specs.Row.{product}
+use Rattle.rowsystems.proofs.Ordered.{Ordered}
 use Rattle.models.specs.Builtin.{int-pow}
 use Rattle.models.specs.Meaning.{power, meaning}
 use Rattle.models.proofs.Arguments.{integerArguments}
@@ -30,7 +31,7 @@ use Rattle.sharing.proofs.Basics.{Correct, equal-row}
 use Rattle.sharing.proofs.OneHot.{From, from-head}
 use Rattle.sharing.proofs.Gates.{keeps-append, are-append, from-append}
 use Rattle.sharing.proofs.Arithmetic.{product-kept}
-use Rattle.sharing.proofs.Formed.{RefIn, RowIn, Ordered, Formed, endProducts-ordered}
+use Rattle.sharing.proofs.Formed.{RefIn, RowIn, Formed, endProducts-ordered}
 use Rattle.sharing.proofs.Sizes.{total, rowSize, total-append}
 
 -- ---- a chain and its values

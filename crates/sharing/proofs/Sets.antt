@@ -15,6 +15,7 @@ use Rattle.integers.specs.declared.Bounds.{Bounds}
 use Rattle.integers.proofs.Linear.{linear, arithZ}
 use Rattle.integers.proofs.Bits.{Bit, b0, b1}
 use Rattle.integers.proofs.Tests.{Says, false-true}
+use Rattle.integers.proofs.Sums.{count-from}
 use Rattle.models.specs.Builtin.{set-in, set-in-reif}
 use Rattle.models.specs.Meaning.{meaning, on, member}
 use Rattle.models.proofs.Arguments.{integerArguments, booleanArguments}
@@ -85,13 +86,10 @@ third-row B S r σ α v c =
       dot-append (see σ α) (map (λ v. +1 · aux (count (v ⊖ B .lower))) (members S B)),
       members-values S B,
       dot-kept one (λ v. member v S) (λ k. B .lower ⊕ pos k) (count (B .upper ⊖ B .lower ⊕ +1)) (λ v. aux (count (v ⊖ B .lower))) (see σ α) α
-          (λ k. ap α (place (B .lower) k)),
+          (λ k. ap α (count-from (B .lower) k)),
       c .1 (λ v. bitOf (member v S)),
     )
     (less-variable _ _)
-  where
-    place : (l : ℤ) (k : ℕ) → count (l ⊕ pos k ⊖ l) ≡ k
-    place = simp linear (omega arith)
 
 pub says-bit : (t : Bool) {r : ℤ} → Bit r → Says (Bool·beq (r == +1) t) (bitOf t ≡ r)
 unfolding bitOf _==_

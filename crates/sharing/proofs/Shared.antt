@@ -1,18 +1,19 @@
 -- A list satisfies a model exactly where some auxiliaries make it satisfy rows that are the model's blocks, numbered on; the picks do, and no others.
-use mathlib.Core.Path.{_≡_, refl, sym, ap₂, _∙_, subst, fun-ext}
+use mathlib.Core.Path.{_≡_, sym, ap₂, _∙_, subst, fun-ext}
 use mathlib.Core.Logic.{_↔_}
 use mathlib.Core.Bool.{Bool, true}
 use mathlib.Core.List.{List, [], _++_, append-nil}
-use Prim.Native.Nat.{ℕ, zero, suc, _+_, _<_}
+use Prim.Native.Nat.{ℕ, _+_, _<_}
 use native.Mathlib.Omega.{arith}
 use lib.IntN.{ℤ, pos}
-use lib.ListN.{length, getD, replicate, length-append, List·getD-append}
+use lib.ListN.{length, length-append, List·getD-append}
 use Rattle.integers.specs.Bounds.{bit, boundsIn}
 use Rattle.integers.specs.Terms.{Valuation, value}
 use Rattle.integers.specs.declared.Bounds.{Bounds}
 use Rattle.integers.proofs.Bits.{Bit, to-bit}
 use Rattle.integers.proofs.Lists.{all-implies, all-both}
 use Rattle.integers.proofs.Tests.{In, All}
+use Rattle.integers.proofs.Places.{getD-many}
 use Rattle.words.specs.Limit as Limit
 use Rattle.words.specs.Variables.{variables}
 use Rattle.models.specs.Meaning.{meaning}
@@ -85,12 +86,7 @@ left-length a b m n e f = omega arith
 
 -- nothing is recorded at first
 pub none-first : (x : ℕ) → firstOf noneYet x ≡ 0
-none-first x = zeros Limit.variables x
-  where
-    zeros : (n x : ℕ) → _≡_ {A = ℕ} (getD (replicate n 0) x 0) 0
-    zeros zero x = refl
-    zeros (suc n) zero = refl
-    zeros (suc n) (suc x) = zeros n x
+none-first x = getD-many {A = ℕ} Limit.variables x 0
 
 pub none-held : (β : ℕ → Bounds) (ρ : Valuation) → Held β ρ noneYet
 none-held β ρ x h = absurd (h (none-first x))

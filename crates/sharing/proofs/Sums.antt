@@ -1,17 +1,18 @@
 -- Σ as×bs over source variables: what it is in a row, and that Σ − c stays between L and U.
-use mathlib.Core.Path.{_≡_, refl, ap, _∙_}
+use mathlib.Core.Path.{_≡_, refl, ap, _∙_, sym}
 use mathlib.Core.Logic.{_↔_}
 use mathlib.Core.List.{List, [], _∷_, _++_}
 use Prim.Native.Nat.{ℕ}
 use native.Mathlib.Omega.{arith}
 use lib.IntN.{ℤ}
-use Rattle.integers.specs.Number.{_⊕_, _⊖_, _⊗_, minZ, maxZ, +0}
+use Rattle.integers.specs.Number.{_⊕_, _⊖_, _⊗_, minZ, maxZ}
 use Rattle.integers.specs.Bounds.{_to_}
 use Rattle.integers.specs.Terms.{Valuation, Term, sum}
 use Rattle.integers.specs.declared.Bounds.{Bounds}
 use Rattle.integers.proofs.Linear.{_⊑_, rep, linear, from₁}
 use Rattle.integers.proofs.Product.{between}
 use Rattle.integers.proofs.Tests.{In, All}
+use Rattle.integers.proofs.Sums.{⊕-assoc, zero-plus}
 use Rattle.models.proofs.Arguments.{variablesIn}
 use Rattle.rowsystems.specs.Row.{renameTerms}
 use Rattle.rules.specs.Block.{Ref}
@@ -23,14 +24,8 @@ module _ (σ α : Valuation) where
   -- Σ as×bs and more terms
   pub dot-sources : (ts : List (Term ℕ)) (more : List (Term Ref)) → dot (see σ α) (sources ts ++ more) ≡ sum σ ts ⊕ dot (see σ α) more
   unfolding sources renameTerms sum
-  dot-sources [] more = none _
-    where
-      none : (a : ℤ) → a ≡ +0 ⊕ a
-      none = simp linear (omega arith)
-  dot-sources (t ∷ ts) more = ap (λ s. t .coefficient ⊗ σ (t .variable) ⊕ s) (dot-sources ts more) ∙ grouped _ _ _
-    where
-      grouped : (a b c : ℤ) → a ⊕ (b ⊕ c) ≡ a ⊕ b ⊕ c
-      grouped = simp linear (omega arith)
+  dot-sources [] more = sym (zero-plus _)
+  dot-sources (t ∷ ts) more = ap (λ s. t .coefficient ⊗ σ (t .variable) ⊕ s) (dot-sources ts more) ∙ sym (⊕-assoc _ _ _)
 
   -- Σ as×bs alone
   pub dot-sources-only : (ts : List (Term ℕ)) → dot (see σ α) (sources ts) ≡ sum σ ts

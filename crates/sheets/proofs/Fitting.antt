@@ -1,13 +1,13 @@
 -- The numbers of every row that words say fit their columns: payloads have 28 bits, whatever the words are.
 use mathlib.Core.Bool.{Bool, true, false}
 use mathlib.Core.List.{List, [], _∷_}
-use Prim.Native.Nat.{ℕ, zero, suc, _+_, _*_, _<_}
+use Prim.Native.Nat.{ℕ, _+_, _*_, _<_}
 use lib.Dec.{eqb}
 use Rattle.integers.specs.Choice.{_if_else_}
-use Rattle.integers.specs.Lists.{listOf}
 use Rattle.integers.specs.Number.{+1}
 use Rattle.integers.specs.Terms.{_·_}
 use Rattle.integers.proofs.Tests.{All}
+use Rattle.integers.proofs.Lists.{all-listOf}
 use native.Mathlib.Omega.{arith}
 use Rattle.words.specs.Kind as Kind
 use Rattle.words.specs.Small.{Near}
@@ -26,14 +26,9 @@ RowFits (product r f g) = (r < 268435456) × (f < 268435456) × (g < 268435456)
 pub one-fits : (x : ℕ) → x < 268435456 → Fits (+1 · x)
 one-fits x h = record { number = omega arith; variable = h }
 
-all-listOf : {A : Type 0} (P : A → Type 0) (f : ℕ → A) → ((k : ℕ) → P (f k)) → (n : ℕ) → All P (listOf f n)
-unfolding listOf
-all-listOf P f h zero = tt
-all-listOf P f h (suc n) = (h 0, all-listOf P (λ i. f (suc i)) (λ i. h (suc i)) n)
-
 terms-fit : (ws : List ℕ) (n : ℕ) → All Fits (termsIn ws n)
 unfolding termsIn numberAt variableAt
-terms-fit ws n = all-listOf Fits _ (λ k. record { number = signed-near (wordAt ws (2 * k + 1)); variable = payload-below (wordAt ws (2 * k)) }) n
+terms-fit ws n = all-listOf Fits _ n (λ k l. record { number = signed-near (wordAt ws (2 * k + 1)); variable = payload-below (wordAt ws (2 * k)) })
 
 pub rows-fit : (ws : List ℕ) → All RowFits (rows ws)
 unfolding rows constantIn numberAt variableAt

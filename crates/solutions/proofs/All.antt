@@ -1,5 +1,5 @@
 -- From the first list on, all lists are gone through; and what each answer of the call says.
-use mathlib.Core.Path.{_≡_, refl, sym, ap, _∙_}
+use mathlib.Core.Path.{_≡_, sym, ap, _∙_}
 use mathlib.Core.Bool.{Bool, true, false, _||_}
 use mathlib.Core.List.{List, [], _∷_, flatten}
 use Prim.Native.Nat.{ℕ, suc, _*_, _<_, _≤_}
@@ -9,13 +9,13 @@ use lib.IntN.{ℤ}
 use lib.ListN.{length}
 use borrow.Author.Tests.{lt-ltb, le-ltb, ltb-true, ltb-false, ne-eqb}
 use Rattle.integers.specs.Choice.{_if_else_}
-use Rattle.integers.specs.Lists.{listOf}
-use Rattle.integers.specs.Bounds.{boundsIn}
 use Rattle.integers.specs.declared.Bounds.{Bounds}
 use Rattle.integers.proofs.Fits.{mul-le}
 use Rattle.integers.proofs.Linear.{_⊑_, linear}
 use Rattle.integers.proofs.Lists.{listOf-length}
 use Rattle.integers.proofs.Tests.{All, says-within}
+use Rattle.integers.proofs.Booleans.{or-true}
+use Rattle.integers.proofs.Places.{bounds-listed}
 use Rattle.words.specs.Overlay.{overlay}
 use Rattle.words.specs.Variables.{variables}
 use Rattle.words.specs.Refusal.{_at-place_, accepted, _else-refuse_, roomFault}
@@ -65,11 +65,6 @@ module _ {ls us : List ℤ} {n : ℕ} (s : ListsSized ls us n) (vs : List ℤ) (
 
 -- ---- the bounds of a model
 
-pub bounds-listed : (Bs : List Bounds) → listOf (boundsIn Bs) (length Bs) ≡ Bs
-unfolding listOf boundsIn
-bounds-listed [] = refl
-bounds-listed (B ∷ Bs) = ap (λ l. B ∷ l) (bounds-listed Bs)
-
 pub ordered-inside : (Bs : List Bounds) → All Ordered Bs → AllWithin Bs (lowestList Bs)
 unfolding lowestList
 ordered-inside [] h = tt
@@ -93,10 +88,6 @@ module _ (ws : List ℕ) (passes : Passes ws) (out : List ℤ) where
 
   pub too-many-lists : 65536 < listCount (variables ws) → Gives ws out (refused 22 0) out
   too-many-lists l = too-large (rw (lt-ltb 65536 (listCount (variables ws)) l) (or-true (ltb 8 (length (variables ws)))))
-    where
-      or-true : (b : Bool) → (b || true) ≡ true
-      or-true true = refl
-      or-true false = refl
 
   module _ (l : length (variables ws) ≤ 8) (m : listCount (variables ws) ≤ 65536) where
     small : listsFault (variables ws) ≡ accepted

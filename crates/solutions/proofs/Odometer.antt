@@ -1,16 +1,18 @@
 -- The lists from a list on: that list, then those from the next one on; from the first list on they are all.
-use mathlib.Core.Path.{_≡_, refl, sym, ap, _∙_}
+use mathlib.Core.Path.{_≡_, refl, ap}
 use mathlib.Core.Bool.{Bool, true, false, not, _&&_}
 use mathlib.Core.List.{List, [], _∷_, _++_, flatMap}
 use native.Mathlib.Omega.{arith}
 use lib.IntN.{ℤ}
 use lib.Signed.{ltZ}
+use borrow.Author.Tests.{not-true}
 use Rattle.integers.specs.Choice.{_if_else_}
 use Rattle.integers.specs.Number.{_⊕_, +1}
 use Rattle.integers.specs.Bounds.{_to_, within, values}
 use Rattle.integers.specs.declared.Bounds.{Bounds}
 use Rattle.integers.proofs.Linear.{_⊑_, _⊏_, linear}
-use Rattle.integers.proofs.Tests.{says-lt, says-within, false-true}
+use Rattle.integers.proofs.Tests.{says-lt, says-within, not-below}
+use Rattle.integers.proofs.Booleans.{both-true}
 use Rattle.rules.proofs.Members.{values-empty, values-first-one}
 use Rattle.solutions.specs.Lists.{begun, valueLists}
 use Rattle.solutions.specs.AllWithin.{AllWithin, lowestList}
@@ -24,10 +26,10 @@ below v u e = at v u (says-lt v u .0 e)
     at : (v u : ℤ) → v ⊏ u → v ⊕ +1 ⊑ u
     at = simp linear (omega arith)
 
-not-below : (v u : ℤ) → ltZ v u ≡ false → u ⊏ v ⊕ +1
-not-below v u e = at v u (λ h. false-true (sym e ∙ says-lt v u .1 h))
+past : (v u : ℤ) → ltZ v u ≡ false → u ⊏ v ⊕ +1
+past v u e = at v u (not-below v u e)
   where
-    at : (v u : ℤ) → ¬ (v ⊏ u) → u ⊏ v ⊕ +1
+    at : (v u : ℤ) → u ⊑ v → u ⊏ v ⊕ +1
     at = simp linear (omega arith)
 
 ordered : (B : Bounds) (v : ℤ) → within B v ≡ true → B .lower ⊑ B .upper
@@ -35,10 +37,6 @@ ordered B v h = at (B .lower) v (B .upper) (says-within B v .0 h)
   where
     at : (l v u : ℤ) → (l ⊑ v) × (v ⊑ u) → l ⊑ u
     at = simp linear (omega arith)
-
-and-true : (a b : Bool) → (a && b) ≡ true → (a ≡ true) × (b ≡ true)
-and-true true b e = (refl, e)
-and-true false b e = false-true e
 
 -- ---- the first list
 
@@ -56,12 +54,8 @@ unfolding isLast nextList turned lowestList
 next-lowest [] vs h e = refl
 next-lowest (B ∷ Bs) [] h e = absurd h
 next-lowest (B ∷ Bs) (v ∷ vs) h e =
-    let f = and-true (isLast Bs vs) _ e in
-    rw (f .0, flip (ltZ v (B .upper)) (f .1)) (ap (λ l. B .lower ∷ l) (next-lowest Bs vs (h .1) (f .0)))
-  where
-    flip : (b : Bool) → not b ≡ true → b ≡ false
-    flip true e = sym e
-    flip false e = refl
+    let f = both-true (isLast Bs vs) _ e in
+    rw (f .0, not-true (ltZ v (B .upper)) (f .1)) (ap (λ l. B .lower ∷ l) (next-lowest Bs vs (h .1) (f .0)))
 
 -- ---- THE LAW: that list, then those from the next one on
 abbrev pub left : Bool → List Bounds → List ℤ → List (List ℤ)
@@ -80,7 +74,7 @@ from-next (B ∷ Bs) (v ∷ vs) h = go (isLast Bs vs) refl (ltZ v (B .upper)) re
     go false e t f r = rw r
     go true e true f r =
         rw (r, f, next-lowest Bs vs (h .1) e, from-lowest Bs vs (h .1), values-first-one (v ⊕ +1) (B .upper) (below v (B .upper) f))
-    go true e false f r = rw (r, values-empty (v ⊕ +1) (B .upper) (not-below v (B .upper) f))
+    go true e false f r = rw (r, values-empty (v ⊕ +1) (B .upper) (past v (B .upper) f))
 
 pub next-inside : (Bs : List Bounds) (vs : List ℤ) → AllWithin Bs vs → AllWithin Bs (nextList Bs vs)
 unfolding nextList turned

@@ -12,7 +12,7 @@ use Rattle.integers.specs.Lists.{listOf}
 use Rattle.integers.specs.Bounds.{values}
 use Rattle.integers.specs.declared.Bounds.{Bounds}
 use Rattle.integers.proofs.Linear.{_⊏_, linear, arithZ, rep}
-use Rattle.integers.proofs.Lists.{all-append, all-mapped, all-made}
+use Rattle.integers.proofs.Lists.{all-append, all-mapped, all-made, all-listOf}
 use Rattle.integers.proofs.Tests.{All}
 use Rattle.words.specs.Variables.{variables}
 use Rattle.rules.specs.Shared.{keep}
@@ -62,15 +62,10 @@ module _ (ls : List (List ℤ)) where
       sorted-append (begun ls v) (flatMap (begun ls) vs) (sorted-begun v ls s) (sorted-flat s vs (r .1))
       (all-made (λ x. v ∷ x) (λ x. All (Before x) (flatMap (begun ls) vs)) (λ x. above v x vs (r .0)) ls)
 
-all-listOf : {A : Type 0} (P : A → Type 0) (f : ℕ → A) (n : ℕ) → ((k : ℕ) → P (f k)) → All P (listOf f n)
-unfolding listOf
-all-listOf P f zero h = tt
-all-listOf P f (suc n) h = (h 0, all-listOf P (λ k. f (suc k)) n (λ k. h (suc k)))
-
 rising-listOf : (f : ℕ → ℤ) (n : ℕ) → ((j k : ℕ) → j < k → f j ⊏ f k) → Rising (listOf f n)
 unfolding listOf Rising
 rising-listOf f zero h = tt
-rising-listOf f (suc n) h = (all-listOf (λ u. f 0 ⊏ u) (λ k. f (suc k)) n (λ k. h 0 (suc k) (omega arith)), rising-listOf (λ k. f (suc k)) n (λ j k l. h (suc j) (suc k) (omega arith)))
+rising-listOf f (suc n) h = (all-listOf (λ u. f 0 ⊏ u) (λ k. f (suc k)) n (λ k l. h 0 (suc k) (omega arith)), rising-listOf (λ k. f (suc k)) n (λ j k l. h (suc j) (suc k) (omega arith)))
 
 higher : (l : ℤ) (j k : ℕ) → j < k → l ⊕ pos j ⊏ l ⊕ pos k
 higher l j k = rw (rep l) (simp linear (omega arith))

@@ -4,27 +4,22 @@ use mathlib.Core.List.{List, [], _∷_}
 use Prim.Native.Nat.{ℕ, zero, suc, _+_, _<_, _≤_}
 use native.Mathlib.Omega.{arith}
 use native.Mathlib.Decide.{ℕ-discrete, decLt}
-use lib.IntN.{ℤ, natAbs}
+use lib.IntN.{ℤ}
 use lib.ListN.{length, getD, set, length-set, List·getD-eq-default}
 use lib.Seq.{getD-set-same, getD-set-other, ext-getD}
-use mir.Syntax.{w32}
-use mir.Val.{SFits}
 use Rattle.integers.specs.Number.{+0}
 use Rattle.integers.specs.Lists.{listOf}
 use Rattle.integers.specs.Bounds.{_to_, boundsIn}
 use Rattle.integers.specs.declared.Bounds.{Bounds}
-use Rattle.integers.proofs.Fits.{mag-le}
-use Rattle.integers.proofs.Linear.{_⊑_, linear}
 use Rattle.integers.proofs.Lists.{listOf-length}
 use Rattle.integers.proofs.Places.{getD-listOf, map-listOf}
 use Rattle.integers.proofs.Tests.{says-within}
 use Rattle.words.specs.Small.{Near, Small}
+use Rattle.words.proofs.Word.{between-near}
+use Rattle.words.specs.Small.{Small}
 use Rattle.extremes.specs.BoundLists.{boundsOf}
 use Rattle.solutions.specs.AllWithin.{AllWithin, lowestList}
 use Rattle.solutions.specs.Walk.{boundsTo}
-
-pub fits32 : (z : ℤ) → natAbs z < 2147483648 → SFits w32 z
-fits32 z h = record { sfits = omega (arith, mag-le z) }
 
 -- ---- the loop that sets the first list: the values before i are set
 pub record Setting (ls vs₀ vs : List ℤ) (i : ℕ) : Type 0 where
@@ -54,15 +49,12 @@ module _ {ls vs₀ vs : List ℤ} {i : ℕ} (s : Setting ls vs₀ vs i) where
 
 -- ---- values inside bounds that are near 0 are near 0
 
-near : (l v u : ℤ) → Near l → Near u → (l ⊑ v) × (v ⊑ u) → Near v
-near = simp linear (omega arith)
-
 inside-near : (Bs : List Bounds) (vs : List ℤ) → AllWithin Bs vs → ((x : ℕ) → Near (boundsIn Bs x .lower) × Near (boundsIn Bs x .upper)) → (x : ℕ) → Near (getD vs x +0)
 unfolding boundsIn
 inside-near [] [] h f x = omega arith
 inside-near [] (v ∷ vs) h f x = absurd h
 inside-near (B ∷ Bs) [] h f x = absurd h
-inside-near (B ∷ Bs) (v ∷ vs) h f zero = near (B .lower) v (B .upper) (f 0 .0) (f 0 .1) (says-within B v .0 (h .0))
+inside-near (B ∷ Bs) (v ∷ vs) h f zero = let w = says-within B v .0 (h .0) in between-near (B .lower) v (B .upper) (w .0) (w .1) (f 0 .0) (f 0 .1)
 inside-near (B ∷ Bs) (v ∷ vs) h f (suc x) = inside-near Bs vs (h .1) (λ y. f (suc y)) x
 
 bounds-near : (ls us : List ℤ) → Small ls → Small us → (n x : ℕ) → Near (boundsIn (boundsTo ls us n) x .lower) × Near (boundsIn (boundsTo ls us n) x .upper)

@@ -6,9 +6,10 @@ use Prim.Native.Nat.{ℕ, zero, suc, _+_, _-_, _<_, _≤_}
 use native.Mathlib.Nat.{add-zero}
 use native.Mathlib.Omega.{arith}
 use lib.Dec.{eqb}
-use lib.ListN.{replicate, length-replicate, getD, length, take, drop, length-append}
+use lib.ListN.{replicate, length-replicate, length, take, drop, length-append}
 use borrow.Author.Tests.{lt-ltb, le-ltb}
 use Rattle.integers.specs.Choice.{_if_else_}
+use Rattle.integers.proofs.Places.{getD-many}
 use Rattle.tokens.specs.Byte.{isGap}
 use Rattle.tokens.specs.Token.{tokensFrom, tokenLength, sortOf}
 use Rattle.tokens.specs.Unread.{bytesBetween, unread, spanned, Met}
@@ -95,11 +96,6 @@ same-index {bs} {p} {q} {filter} {slots} e x = record {
   right = record { right = λ s h. let r = x .right .right s h in record { inside = r .inside; number = rw e (r .number) } };
 }
 
-zeros : (m s : ℕ) → _≡_ {A = ℕ} (getD (replicate m 0) s 0) 0
-zeros zero s = refl
-zeros (suc m) zero = refl
-zeros (suc m) (suc s) = zeros m s
-
 -- The names declared up to a place, and the table that has them.
 pub record Tabled (bs : List ℕ) (i k : ℕ) (colon : Bool) (filter slots : List ℕ) : Type 0 where
   pub reached : Reached bs i k colon
@@ -112,7 +108,7 @@ empty bs m = record {
   index = record {
     size = length-replicate {A = ℕ} filterWords 0;
     marks = λ x h. absurd (h (rw (none-here false bs 0)));
-    right = record { right = λ s h. absurd (h (rw (zeros m s))) };
+    right = record { right = λ s h. absurd (h (rw (getD-many {A = ℕ} m s 0))) };
   };
 }
 

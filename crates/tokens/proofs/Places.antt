@@ -4,12 +4,12 @@ use mathlib.Core.Bool.{Bool, true, false, _&&_}
 use mathlib.Core.List.{List, [], _∷_}
 use Prim.Native.Nat.{ℕ, zero, suc, _+_, _-_, _<_, _≤_}
 use native.Mathlib.Nat.{add-zero}
-use native.Mathlib.Numerals.{add-one}
 use native.Mathlib.Omega.{arith}
 use lib.Dec.{eqb, leb}
-use lib.Seq.{drop-cons, drop-drop, getD-drop}
+use lib.Seq.{drop-drop, getD-drop}
 use lib.ListN.{length, getD, drop, length-drop, drop-of-length-le}
 use borrow.Author.Tests.{le-leb, lt-leb, eq-eqb, ne-eqb}
+use Rattle.words.proofs.Reading.{word-then}
 use Rattle.integers.specs.Choice.{_if_else_}
 use Rattle.integers.specs.Lists.{any}
 use Rattle.integers.proofs.Tests.{false-true}
@@ -66,9 +66,6 @@ later (suc k) p (x ∷ xs) = let e : p + 1 + k ≡ p + suc k = omega arith in la
 -- ---- places
 
 module _ (bs : List ℕ) where
-  step : (i : ℕ) → i < length bs → drop i bs ≡ getD bs i 0 ∷ drop (i + 1) bs
-  step i l = rw (add-one i) (drop-cons bs i 0 l)
-
   pub front-drop : (i : ℕ) → front (drop i bs) ≡ getD bs i 0
   unfolding front
   front-drop i = getD-drop i bs 0 0 ∙ ap (λ (n : ℕ). getD bs n 0) (add-zero i)
@@ -76,11 +73,11 @@ module _ (bs : List ℕ) where
   -- a run from a place on: one more byte, none more, none at the end
   pub run-on : (t : ℕ → Bool) (i : ℕ) → i < length bs → t (getD bs i 0) ≡ true → i + run t (drop i bs) ≡ i + 1 + run t (drop (i + 1) bs)
   unfolding run
-  run-on t i l e = let d : run t (drop i bs) ≡ suc (run t (drop (i + 1) bs)) = ap (run t) (step i l) ∙ rw e in omega (arith, d)
+  run-on t i l e = let d : run t (drop i bs) ≡ suc (run t (drop (i + 1) bs)) = ap (run t) (word-then bs i l) ∙ rw e in omega (arith, d)
 
   pub run-off : (t : ℕ → Bool) (i : ℕ) → i < length bs → t (getD bs i 0) ≡ false → i + run t (drop i bs) ≡ i
   unfolding run
-  run-off t i l e = let d : run t (drop i bs) ≡ 0 = ap (run t) (step i l) ∙ rw e in omega (arith, d)
+  run-off t i l e = let d : run t (drop i bs) ≡ 0 = ap (run t) (word-then bs i l) ∙ rw e in omega (arith, d)
 
   pub run-end : (t : ℕ → Bool) (i : ℕ) → length bs ≤ i → i + run t (drop i bs) ≡ i
   unfolding run
@@ -90,11 +87,11 @@ module _ (bs : List ℕ) where
   module _ (b i : ℕ) where
     pub any-here : i < length bs → b ≡ getD bs i 0 → any (eqb b) (drop i bs) ≡ true
     unfolding any
-    any-here l e = ap (any (eqb b)) (step i l) ∙ rw (eq-eqb b (getD bs i 0) e)
+    any-here l e = ap (any (eqb b)) (word-then bs i l) ∙ rw (eq-eqb b (getD bs i 0) e)
 
     pub any-on : i < length bs → (b ≡ getD bs i 0 → ⊥) → any (eqb b) (drop i bs) ≡ any (eqb b) (drop (i + 1) bs)
     unfolding any
-    any-on l e = ap (any (eqb b)) (step i l) ∙ rw (ne-eqb b (getD bs i 0) e)
+    any-on l e = ap (any (eqb b)) (word-then bs i l) ∙ rw (ne-eqb b (getD bs i 0) e)
 
     pub any-end : length bs ≤ i → any (eqb b) (drop i bs) ≡ false
     unfolding any
@@ -142,7 +139,7 @@ module _ (bs : List ℕ) where
 
     gap-opened : isGap (getD bs i 0) ≡ true → unread bs i ≡ rest
     unfolding unread tokensFrom
-    gap-opened e = ap (tokensFrom 0 i) (step i l) ∙ rw e
+    gap-opened e = ap (tokensFrom 0 i) (word-then bs i l) ∙ rw e
 
     pub gap-here : isGap (getD bs i 0) ≡ true → unread bs i ≡ unread bs (stopAt bs i)
     gap-here e = gap-opened e ∙ rest-unread
@@ -151,7 +148,7 @@ module _ (bs : List ℕ) where
     unfolding unread tokensFrom spanned sortAt stopAt
     token-opened e =
         let d : i + len - i ≡ len = omega arith in
-        ap (tokensFrom 0 i) (step i l) ∙ rw (d, step i l, e)
+        ap (tokensFrom 0 i) (word-then bs i l) ∙ rw (d, word-then bs i l, e)
 
     pub token-here : isGap (getD bs i 0) ≡ false → unread bs i ≡ spanned bs here ∷ unread bs (stopAt bs i)
     token-here e = token-opened e ∙ ap (λ (ts : List Token). spanned bs here ∷ ts) rest-unread

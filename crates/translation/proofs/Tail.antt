@@ -1,6 +1,6 @@
 -- A tail that was lent, to the end of a list, and came back with words laid over its front.
-use mathlib.Core.Path.{_≡_, refl, sym, ap, _∙_}
-use mathlib.Core.Bool.{Bool, true, false, not}
+use mathlib.Core.Path.{_≡_, sym, ap, _∙_}
+use mathlib.Core.Bool.{false}
 use mathlib.Core.List.{List, [], _∷_, _++_, append-nil}
 use Prim.Native.Nat.{ℕ, suc, _+_, _-_, _≤_}
 use native.Mathlib.Omega.{arith}
@@ -8,6 +8,7 @@ use native.Mathlib.Nat.{add-zero}
 use lib.ListN.{length, take, drop, set, take-append-drop, length-drop}
 use lib.Seq.{take-set-le, drop-set-add, take-all, drop-length}
 use borrow.Rule.Slice.PartMut.{putMid, midOf, post-is}
+use borrow.Author.Tests.{not-false}
 use Rattle.words.specs.Overlay.{overlay}
 use Rattle.rules.specs.Block.{Block, blockWords}
 use Rattle.rules.specs.InRange.{outside}
@@ -33,8 +34,4 @@ tail-back a o ws h =
 pub block-back : (first : ℕ) (B : Block) (at : ℕ) (out : List ℕ) {b : Laid} {out′ : List ℕ} → at ≤ length out → outside B ≡ false →
     AppendsFitting nothing b (midOf at (length out - at) out) out′ (blockParts first B) → putMid at (length out - at) out out′ ≡ overlay out at (blockWords first B)
 block-back first B at out h f w =
-    ap (putMid at (length out - at) out) (w .over (fits _ (block-outside first B ∙ f)) ∙ ap (overlay _ 0) (block-words first B)) ∙ tail-back at out (blockWords first B) h
-  where
-    fits : (t : Bool) → not t ≡ false → t ≡ true
-    fits true e = refl
-    fits false e = sym e
+    ap (putMid at (length out - at) out) (w .over (not-false _ (block-outside first B ∙ f)) ∙ ap (overlay _ 0) (block-words first B)) ∙ tail-back at out (blockWords first B) h

@@ -1,7 +1,7 @@
 -- Faults as choices: what a choice that is 0, no fault, says of its tests. For the laws of both readers.
 use mathlib.Core.Path.{_≡_, refl}
 use mathlib.Core.Logic.{_⊎_, inl, inr}
-use mathlib.Core.Bool.{Bool, true, false, not, _||_}
+use mathlib.Core.Bool.{Bool, true, false, not}
 use Prim.Native.Nat.{ℕ, suc}
 use native.Mathlib.Omega.{arith}
 use lib.Dec.{eqb}
@@ -23,10 +23,6 @@ not-second a false b e = absurd (omega arith)
 pub either : (a : ℕ) (t : Bool) (b : ℕ) → (a if t else b) ≡ 0 → ((t ≡ true) × (a ≡ 0)) ⊎ ((t ≡ false) × (b ≡ 0))
 either a true b e = inl (refl, e)
 either a false b e = inr (refl, e)
-
-pub neither : (t u : Bool) → (t || u) ≡ false → (t ≡ false) × (u ≡ false)
-neither true u e = absurd (let z : _≡_ {A = ℕ} 0 1 = cc in omega arith)
-neither false u e = (refl, e)
 
 -- of a kind k, and with no other fault x
 pub of-kind : (w k x : ℕ) → (Fault.wrongKind if not (eqb (kind w) k) else x) ≡ 0 → (kind w ≡ k) × (x ≡ 0)

@@ -1,11 +1,11 @@
--- Laws of laying a list over another one: its length, one list after another, one element at a time, the last element first; the front afterwards.
+-- Laws of laying a list over another one: its length, one list after another, one element at a time, the last element first; its elements and the front afterwards.
 use mathlib.Core.Path.{_≡_, refl, sym, ap, _∙_}
 use mathlib.Core.List.{List, [], _∷_, _++_, append-nil, append-assoc}
-use Prim.Native.Nat.{ℕ, suc, _+_, _≤_, _<_}
+use Prim.Native.Nat.{ℕ, zero, suc, _+_, _≤_, _<_}
 use native.Mathlib.Omega.{arith}
 use native.Mathlib.Nat.{add-zero, zero-add}
 use lib.ListN.{set, getD, take, drop, length, length-set}
-use lib.Seq.{drop-cons, set-comm, take-suc-set}
+use lib.Seq.{drop-cons, set-comm, take-suc-set, getD-set-same, getD-set-other}
 use Rattle.words.specs.Overlay.{overlay}
 
 module _ {A : Type 0} where
@@ -45,6 +45,22 @@ module _ {A : Type 0} where
       last-first (set out at y) (suc at) xs x
       ∙ ap (λ (n : ℕ). overlay (set (set out at y) n x) (suc at) xs) e
       ∙ ap (λ (l : List A). overlay l (suc at) xs) (set-comm out at (at + suc (length xs)) y x (λ e. omega arith))
+
+  -- an element before what is laid, and one of what is laid
+  pub before-laid : (d : A) (out : List A) (at : ℕ) (xs : List A) (k : ℕ) → k < at → getD (overlay out at xs) k d ≡ getD out k d
+  unfolding overlay
+  before-laid d out at [] k l = refl
+  before-laid d out at (x ∷ xs) k l = before-laid d (set out at x) (suc at) xs k (omega arith) ∙ getD-set-other out at k x d (λ e. omega arith)
+
+  pub laid-at : (d : A) (out : List A) (at : ℕ) (xs : List A) (k : ℕ) → k < length xs → at + length xs ≤ length out → getD (overlay out at xs) (at + k) d ≡ getD xs k d
+  unfolding overlay
+  laid-at d out at [] k l m = absurd (omega arith)
+  laid-at d out at (x ∷ xs) zero l m =
+      let e : at + 0 ≡ at = omega arith in
+      rw e (before-laid d (set out at x) (suc at) xs at (omega arith) ∙ getD-set-same out at x d (omega arith))
+  laid-at d out at (x ∷ xs) (suc k) l m =
+      let e : at + suc k ≡ suc at + k = omega arith in
+      rw e (laid-at d (set out at x) (suc at) xs k (omega arith) (omega (arith, length-set out at x)))
 
   from : (out : List A) (at : ℕ) (xs : List A) → at + length xs ≤ length out → take (at + length xs) (overlay out at xs) ≡ take at out ++ xs
   unfolding overlay

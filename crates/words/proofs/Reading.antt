@@ -25,6 +25,11 @@ pub passed : (n p : ℕ) (r : Refusal) → faultOr n p r ≡ accepted → (n ≡
 passed zero p r e = (refl, e)
 passed (suc n) p r e = let z : suc n ≡ 0 = ap (λ (x : Refusal). x .number) e in absurd (omega arith)
 
+-- the same by the number of the refusal, which is 0 where there is none
+pub passed-number : (n p : ℕ) (r : Refusal) → faultOr n p r .number ≡ 0 → (n ≡ 0) × (r .number ≡ 0)
+passed-number zero p r e = (refl, e)
+passed-number (suc n) p r e = absurd (omega arith)
+
 -- a limit on the number of words comes first
 pub not-too-many : (n : ℕ) (t : Bool) (r : Refusal) → (suc n at-place 0 if t else r) ≡ accepted → (t ≡ false) × (r ≡ accepted)
 not-too-many n true r e = let z : suc n ≡ 0 = ap (λ (x : Refusal). x .number) e in absurd (omega arith)
@@ -58,6 +63,15 @@ module _ {S : Type 0} (fault : S → ℕ → List ℕ → ℕ) (next : S → ℕ
   pub at-end : length ws ≤ at → faultOr (ended s) at accepted ≡ firstFault fault next ended s at (drop at ws)
   unfolding firstFault
   at-end h = rw (drop-of-length-le ws h)
+
+-- a reading without a fault is `accepted`
+module _ {S : Type 0} (fault : S → ℕ → List ℕ → ℕ) (next : S → ℕ → S) (ended : S → ℕ) where
+  pub read-without : (s : S) (p : ℕ) (ws : List ℕ) → firstFault fault next ended s p ws .number ≡ 0 → firstFault fault next ended s p ws ≡ accepted
+  unfolding firstFault
+  read-without s p [] e = let f = passed-number (ended s) p accepted e .0 in rw f refl
+  read-without s p (w ∷ ws) e =
+      let f = passed-number (fault s w ws) p (firstFault fault next ended (next s w) (p + 1) ws) e in
+      rw (f .0) (read-without (next s w) (p + 1) ws (f .1))
 
 -- what holds of each word without a fault holds of all words of a reading without one
 module _ {S : Type 0} (fault : S → ℕ → List ℕ → ℕ) (next : S → ℕ → S) (ended : S → ℕ) (Q : ℕ → Type 0) (one : (s : S) (w : ℕ) (ws : List ℕ) → fault s w ws ≡ 0 → Q w) where

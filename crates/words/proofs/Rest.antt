@@ -1,12 +1,13 @@
 -- A text laid part after part: what is left to lay. Laying the rest from here gives what laying the whole gives. For loops that write to a lent list.
 use mathlib.Core.Path.{_≡_, refl, sym, ap, _∙_}
 use mathlib.Core.List.{List, [], _∷_, _++_}
-use Prim.Native.Nat.{ℕ, _+_}
+use Prim.Native.Nat.{ℕ, _+_, _≤_, _<_}
 use native.Mathlib.Omega.{arith}
-use lib.ListN.{length, length-append, set}
+use native.Mathlib.Nat.{add-zero}
+use lib.ListN.{length, length-append, getD, set, drop, drop-of-length-le}
 use Rattle.words.specs.LaidAt.{LaidAt}
 use Rattle.words.specs.Overlay.{overlay}
-use Rattle.words.proofs.Overlay.{overlay-append, overlay-none, length-overlay}
+use Rattle.words.proofs.Overlay.{overlay-append, overlay-none, overlay-step, length-overlay}
 
 module _ {A : Type 0} where
   pub record Rest (before : List A) (at : ℕ) (whole now : List A) (to : ℕ) (rest : List A) : Type 0 where
@@ -45,3 +46,18 @@ module _ {A : Type 0} where
   pub laid-one : (out : List A) (at : ℕ) (x : A) → LaidAt out at (x ∷ []) (set out at x) (at + 1)
   unfolding overlay
   laid-one out at x = record { over = refl; ends = refl }
+
+  -- ---- one element after the other: the first i of xs are laid
+  pub record FirstLaid (before : List A) (at : ℕ) (xs now : List A) (i : ℕ) : Type 0 where
+    pub inside : i ≤ length xs
+    pub over : overlay now (at + i) (drop i xs) ≡ overlay before at xs
+
+  pub none-laid : (out : List A) (at : ℕ) (xs : List A) → FirstLaid out at xs out 0
+  none-laid out at xs = record { inside = omega arith; over = rw add-zero }
+
+  module _ {before : List A} {at : ℕ} {xs now : List A} {i : ℕ} (f : FirstLaid before at xs now i) where
+    pub one-laid : (d : A) {later : List A} → i < length xs → later ≡ set now (at + i) (getD xs i d) → FirstLaid before at xs later (i + 1)
+    one-laid d h e = record { inside = omega arith; over = rw e (sym (overlay-step d now at xs i h) ∙ f .over) }
+
+    pub all-laid : length xs ≤ i → LaidAt before at xs now (at + i)
+    all-laid h = record { over = sym (overlay-none now (at + i)) ∙ rw (drop-of-length-le xs h) at (f .over); ends = omega (arith, f .inside) }

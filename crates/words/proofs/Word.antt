@@ -5,12 +5,15 @@ use Prim.Native.Nat.{ℕ, _-_, _*_, _%_, _≤_, _<_}
 use native.Mathlib.Omega.{arith}
 use lib.Dec.{ltb}
 use lib.IntN.{ℤ, pos, negsuc, natAbs}
+use mir.Syntax.{w64}
+use mir.Val.{toZ, ofZ}
+use mir.Facts.{toZ-ofZ}
 use borrow.Author.Tests.{ltb-true, ltb-false, lt-ltb, le-ltb}
 use Rattle.integers.specs.Choice.{_if_else_}
 use Rattle.integers.specs.Number.{_⊗_}
 use Rattle.integers.specs.Bounds.{_to_}
 use Rattle.integers.specs.declared.Bounds.{Bounds}
-use Rattle.integers.proofs.Fits.{times-size, mul-le}
+use Rattle.integers.proofs.Fits.{fits64, times-size, mul-le}
 use Rattle.integers.proofs.Linear.{_⊑_, linear, arithZ}
 use Rattle.integers.proofs.Tests.{Says, In, says-within}
 use Rattle.words.specs.Word.{kind, payload, signed, inRange, tooLow, word, complement, numberWord}
@@ -78,6 +81,13 @@ between-near = simp linear (omega arith)
 
 pub signed-near : (w : ℕ) → Near (signed w)
 signed-near w = between-near (before .lower) (signed w) (before .upper) (signed-in w .0) (signed-in w .1) (omega arith) (omega arith)
+
+-- a number of the range is near to 0, and is read back
+pub range-near : (z : ℤ) → inRange z ≡ true → Near z
+range-near z e = between-near Limit.lowest z Limit.highest (says-range z .0 e .0) (says-range z .0 e .1) (omega arith) (omega arith)
+
+pub near-back : (z : ℤ) → Near z → toZ w64 (ofZ w64 z) ≡ z
+near-back z h = toZ-ofZ (fits64 z (omega arith))
 
 -- products of such numbers
 pub factors-fit : (a b : ℤ) → Near a → Near b → natAbs a * natAbs b ≤ 18014398509481984

@@ -1,7 +1,7 @@
 -- The count is above 0.
 use mir.Facts.{toZ-ofZ}
 use borrow.Author.Needs.{needs}
-use Rattle.arguments.proofs.Walk.{any-count}
+use Rattle.integers.proofs.Places.{any-count}
 use Rattle.arguments.proofs.any_equal.Statement.{statement}
 use Rattle.arguments.proofs.any_equal.Tie as tie
 

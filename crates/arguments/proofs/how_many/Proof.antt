@@ -9,9 +9,10 @@ use borrow.Author.Needs.{needs}
 use Rattle.integers.specs.Number.{_==_}
 use Rattle.integers.specs.Lists.{listOf, howMany}
 use Rattle.integers.specs.Terms.{value}
+use Rattle.integers.proofs.Places.{howMany-more}
+use Rattle.integers.proofs.Booleans.{bit-le}
 use Rattle.models.specs.Model.{var, vars}
 use Rattle.arguments.proofs.Size.{size-le, read}
-use Rattle.arguments.proofs.Walk.{howMany-more, bit-le}
 use Rattle.arguments.proofs.how_many.Statement.{statement}
 use Rattle.arguments.proofs.how_many.Tie as tie
 

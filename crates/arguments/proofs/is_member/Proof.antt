@@ -8,10 +8,10 @@ use mir.Facts.{toZ-ofZ}
 use borrow.Author.Needs.{needs}
 use Rattle.integers.specs.Number.{_==_}
 use Rattle.integers.specs.Lists.{listOf, any}
+use Rattle.integers.proofs.Places.{any-more}
 use Rattle.models.specs.Model.{num, nums}
 use Rattle.models.specs.Meaning.{member}
 use Rattle.arguments.proofs.Size.{size-le, read}
-use Rattle.arguments.proofs.Walk.{any-more}
 use Rattle.arguments.proofs.is_member.Statement.{statement}
 use Rattle.arguments.proofs.is_member.Tie as tie
 

@@ -10,9 +10,9 @@ use borrow.Author.Needs.{needs}
 use Rattle.integers.specs.Choice.{_if_else_}
 use Rattle.integers.specs.Lists.{listOf, all}
 use Rattle.integers.specs.Terms.{value}
+use Rattle.integers.proofs.Places.{all-more}
 use Rattle.models.specs.Model.{var, vars}
 use Rattle.arguments.proofs.Size.{size-le, read}
-use Rattle.arguments.proofs.Walk.{all-more}
 use Rattle.arguments.proofs.none_past.Statement.{statement}
 use Rattle.arguments.proofs.none_past.Tie as tie
 

@@ -10,8 +10,8 @@ use Rattle.integers.specs.Number.{_⊕_, _⊗_}
 use Rattle.integers.specs.Lists.{listOf}
 use Rattle.integers.specs.Terms.{_·_, value, sum}
 use Rattle.integers.proofs.Fits.{plus-size}
+use Rattle.integers.proofs.Places.{sum-more}
 use Rattle.models.specs.Model.{var, num, past, terms}
-use Rattle.arguments.proofs.Walk.{sum-more}
 use Rattle.arguments.proofs.Size.{size-le, product-size, read}
 use Rattle.arguments.proofs.sum_of.Statement.{statement}
 use Rattle.arguments.proofs.sum_of.Tie as tie

@@ -1,36 +1,36 @@
--- Every number is tested; the invariant is `Testing`.
+-- The loop's invariant: all numbers fit exactly if those not passed do.
 use borrow.Author.Needs.{needs}
-use mathlib.Core.Path.{sym, _∙_}
-use Prim.Native.Nat.{_-_}
+use mathlib.Core.Path.{_≡_, refl, sym, _∙_}
+use Prim.Native.Nat.{_-_, _≤_}
+use native.Mathlib.Omega.{arith}
 use borrow.Author.Tests.{not-true, not-false}
 use Rattle.integers.proofs.Fits.{back}
-use lib.ListN.{length}
-use Rattle.bitchecks.proofs.Limits.{Testing, testing-begun, testing-more, fails, passes}
+use Rattle.integers.proofs.Places.{rest-more, rest-not, rest-end}
+use Rattle.integers.specs.Number.{+0}
+use Rattle.integers.specs.Lists.{all}
+use lib.ListN.{length, drop}
+use Rattle.bitchecks.proofs.Limits.{fits}
 use Rattle.bitchecks.proofs.all_within.Statement.{statement}
 use Rattle.bitchecks.proofs.all_within.Tie as tie
 use Rattle.bitchecks.proofs.within_limit.Reads as within-limit-reads
 
 abbrev Inv-loop : tie.InvT-loop
-Inv-loop row i₀ i = Testing row i
+Inv-loop row i₀ i = (i ≤ length row) × (all fits row ≡ all fits (drop i row))
 
 abbrev μ-loop : tie.MeasureT-loop
 μ-loop row i₀ i = length row - i
 
-loop-holds : tie.Need-loop-holds Inv-loop μ-loop
-loop-holds c = testing-begun _
-
 returns : tie.Need-returns Inv-loop μ-loop
 returns c =
-    fails (c .before .before .before .before .loop .inv) (c .before .before .before .loop-test .taken)
-    (sym (rw (back _ (c .before .before .within-limit-arg .given)) at (c .before .within-limit .ensures)) ∙ not-true _ (c .if1 .taken))
+    sym (c .before .before .before .before .loop .inv .1 ∙ rest-not fits +0 _ _ (c .before .before .before .loop-test .taken)
+    (sym (rw (back _ (c .before .before .within-limit-arg .given)) at (c .before .within-limit .ensures)) ∙ not-true _ (c .if1 .taken)))
 
 loop-again : tie.Need-loop-again Inv-loop μ-loop
-loop-again c =
-    testing-more (c .before .before .before .before .loop .inv) (c .before .before .before .loop-test .taken)
-    (sym (rw (back _ (c .before .before .within-limit-arg .given)) at (c .before .within-limit .ensures)) ∙ not-false _ (c .if1 .left))
-
-returns-2 : tie.Need-returns-2 Inv-loop μ-loop
-returns-2 c = passes (c .before .loop .inv) (c .loop-test .left)
+loop-again c = (
+  omega arith,
+  c .before .before .before .before .loop .inv .1 ∙ rest-more fits +0 _ _ (c .before .before .before .loop-test .taken)
+      (sym (rw (back _ (c .before .before .within-limit-arg .given)) at (c .before .within-limit .ensures)) ∙ not-false _ (c .if1 .left)),
+)
 
 pub all-within-spec : {M : Type 1} → statement M
 all-within-spec =
@@ -38,7 +38,7 @@ all-within-spec =
     (tie.spec
     Inv-loop
     μ-loop
-    loop-holds
+    (λ c. (omega arith, refl))
     (λ c. search needs)
     (λ c. search needs)
     (λ c κs. search needs)
@@ -46,4 +46,4 @@ all-within-spec =
     (λ c. search needs)
     (λ c. search needs)
     loop-again
-    returns-2)
+    (λ c. sym (c .before .loop .inv .1 ∙ rest-end fits +0 _ _ (c .loop-test .left))))

@@ -25,9 +25,6 @@ is-constant c = let a = c .before .before .before .args in c .row-constant .ensu
 tests : (c : tie.After-within-limit) → fits (c .before .row-constant .result) ≡ c .within-limit .result
 tests c = let n = c .before .row-constant in sym (rw (back (n .result) (n .ok)) at (c .within-limit .ensures))
 
-returns : tie.Need-returns
-returns c = constant-out _ _ (is-constant (c .before .before)) (pos 0) (tests (c .before) ∙ not-true _ (c .if1 .taken))
-
 returns-2 : tie.Need-returns-2
 returns-2 c =
     terms-out _ _ (is-constant (c .before .before .before .before .before .before .before .before)) (tests (c .before .before .before .before .before .before .before) ∙ not-false _ (c .before .before .before .before .before .before .if1 .left)) (c .before .before .before .before .fill-row .ensures) (pos 0) (sym (c .before .all-within .ensures) ∙ not-true _ (c .if2 .taken))
@@ -49,7 +46,7 @@ check-row-spec =
     (tie.spec
     (λ c κs. search needs)
     (λ c κs. search needs)
-    returns
+    (λ c. constant-out _ _ (is-constant (c .before .before)) (pos 0) (tests (c .before) ∙ not-true _ (c .if1 .taken)))
     (λ c κs. search needs)
     (λ c κs. search needs)
     (λ c. search needs)

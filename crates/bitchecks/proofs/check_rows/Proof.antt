@@ -24,17 +24,11 @@ Inv-loop ws ls us firsts counts start row₀ constant₀ first₀ at₀ row cons
 abbrev μ-loop : tie.MeasureT-loop
 μ-loop ws ls us firsts counts start row₀ constant₀ first₀ at₀ row constant first at = length ws - at
 
-loop-holds : tie.Need-loop-holds Inv-loop μ-loop
-loop-holds c = checking-begun _ _ _ _ _ _
-
 check-row-requires : tie.Need-check-row-requires Inv-loop μ-loop
 check-row-requires c κs =
     let s = c .before .before .before .before .before .before .before .before .before .before in
     let loop = c .before .before .before .before .before .before .loop in
     (s .pre .tables .lists, omega (arith, loop .inv .small, loop .inv .place, s .pre .few-words, s .pre .near-start))
-
-same-length : tie.Need-same-length Inv-loop μ-loop
-same-length c = c .before .before .before .check-row .kept .0 ∙ c .before .before .before .before .before .before .before .before .before .before .loop .inv .long
 
 returns : tie.Need-returns Inv-loop μ-loop
 returns c =
@@ -75,9 +69,6 @@ loop-again-2 : tie.Need-loop-again-2 Inv-loop μ-loop
 loop-again-2 c =
     checking-none (c .before .before .before .before .loop .inv) (c .before .before .before .loop-test .taken) (sym (c .before .starts-row .ensures) ∙ c .if1 .left)
 
-same-length-2 : tie.Need-same-length-2 Inv-loop μ-loop
-same-length-2 c = c .before .loop .inv .long
-
 returns-2 : tie.Need-returns-2 Inv-loop μ-loop
 returns-2 c =
     checking-done (c .before .loop .inv) (c .loop-test .left)
@@ -88,7 +79,7 @@ check-rows-spec =
     (tie.spec
     Inv-loop
     μ-loop
-    loop-holds
+    (λ c. checking-begun _ _ _ _ _ _)
     (λ c. search needs)
     (λ c. search needs)
     (λ c. search needs)
@@ -98,7 +89,7 @@ check-rows-spec =
     (λ c. search needs)
     (λ c. search needs)
     check-row-requires
-    same-length
+    (λ c. c .before .before .before .check-row .kept .0 ∙ c .before .before .before .before .before .before .before .before .before .before .loop .inv .long)
     returns
     plus-requires
     (λ c. search needs)
@@ -111,5 +102,5 @@ check-rows-spec =
     loop-again
     (λ c. search needs)
     loop-again-2
-    same-length-2
+    (λ c. c .before .loop .inv .long)
     returns-2)

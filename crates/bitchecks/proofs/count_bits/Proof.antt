@@ -16,9 +16,6 @@ Inv-loop ws ls us counts start first₀ at₀ first at = Counting ws ls us start
 abbrev μ-loop : tie.MeasureT-loop
 μ-loop ws ls us counts start first₀ at₀ first at = length ws - at
 
-loop-holds : tie.Need-loop-holds Inv-loop μ-loop
-loop-holds c = counting-begun _ _ _ _
-
 loop-again : tie.Need-loop-again Inv-loop μ-loop
 loop-again c =
     let s = c .before .before .before .before .before .before .before .before .before in
@@ -30,16 +27,13 @@ loop-again-2 : tie.Need-loop-again-2 Inv-loop μ-loop
 loop-again-2 c =
     counting-none (c .before .before .before .before .loop .inv) (c .before .before .before .loop-test .taken) (sym (c .before .starts-row .ensures) ∙ c .if1 .left)
 
-returns : tie.Need-returns Inv-loop μ-loop
-returns c = counting-done (c .before .loop .inv) (c .loop-test .left)
-
 pub count-bits-spec : {M : Type 1} → statement M
 count-bits-spec =
     tie.close
     (tie.spec
     Inv-loop
     μ-loop
-    loop-holds
+    (λ c. counting-begun _ _ _ _)
     (λ c. search needs)
     (λ c. search needs)
     (λ c. search needs)
@@ -54,4 +48,4 @@ count-bits-spec =
     loop-again
     (λ c. search needs)
     loop-again-2
-    returns)
+    (λ c. counting-done (c .before .loop .inv) (c .loop-test .left)))

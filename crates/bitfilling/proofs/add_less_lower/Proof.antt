@@ -8,9 +8,6 @@ use Rattle.arguments.proofs.Size.{read}
 use Rattle.bitfilling.proofs.add_less_lower.Statement.{statement}
 use Rattle.bitfilling.proofs.add_less_lower.Tie as tie
 
-opposite-requires : tie.Need-opposite-requires
-opposite-requires c κs = rw (read (c .bound-at .ok) (c .bound-at .ensures)) (omega (arith, c .before .before .before .pre .0 .near-lower (c .before .before .before .args .f)))
-
 add-variable-requires : tie.Need-add-variable-requires
 add-variable-requires c κs =
     let s = c .before .before .before .before in
@@ -27,7 +24,7 @@ add-less-lower-spec =
     tie.close
     (tie.spec
     (λ c κs. search needs)
-    opposite-requires
+    (λ c κs. rw (read (c .bound-at .ok) (c .bound-at .ensures)) (omega (arith, c .before .before .before .pre .0 .near-lower (c .before .before .before .args .f))))
     add-variable-requires
     (λ c. search needs)
     returns)

@@ -6,9 +6,6 @@ use Rattle.bitfilling.proofs.Filling.{product-added}
 use Rattle.bitfilling.proofs.add_product.Statement.{statement}
 use Rattle.bitfilling.proofs.add_product.Tie as tie
 
-add-variable-requires : tie.Need-add-variable-requires
-add-variable-requires c κs = let s = c .before .before .before .before .before .before in (s .pre .0, search needs, omega (arith, s .pre .2))
-
 add-less-lower-requires : tie.Need-add-less-lower-requires
 add-less-lower-requires c κs = let s = c .before .before .before .before .before .before .before .before .before in (s .pre .0, omega (arith, s .pre .2, c .before .before .add-variable .ensures .small))
 
@@ -36,7 +33,7 @@ add-product-spec =
     (λ c κs. search needs)
     (λ c κs. search needs)
     (λ c κs. search needs)
-    add-variable-requires
+    (λ c κs. let s = c .before .before .before .before .before .before in (s .pre .0, search needs, omega (arith, s .pre .2)))
     add-less-lower-requires
     add-less-lower-requires-2
     add-crossed-requires

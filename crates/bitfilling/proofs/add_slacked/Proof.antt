@@ -6,12 +6,6 @@ use Rattle.bitfilling.proofs.Filling.{slacked-added}
 use Rattle.bitfilling.proofs.add_slacked.Statement.{statement}
 use Rattle.bitfilling.proofs.add_slacked.Tie as tie
 
-add-terms-requires : tie.Need-add-terms-requires
-add-terms-requires c κs = let s = c .before .before .before in (s .pre .0, s .pre .1, s .pre .3)
-
-slack-of-requires : tie.Need-slack-of-requires
-slack-of-requires c κs = let s = c .before .before .before .before .before .before in (s .pre .0 .near-lower, s .pre .0 .near-upper, s .pre .1)
-
 add-weights-requires : tie.Need-add-weights-requires
 add-weights-requires c κs =
     let s = c .before .before .before .before .before .before .before in
@@ -26,8 +20,8 @@ pub add-slacked-spec : {M : Type 1} → statement M
 add-slacked-spec =
     tie.close
     (tie.spec
-    add-terms-requires
-    slack-of-requires
+    (λ c κs. let s = c .before .before .before in (s .pre .0, s .pre .1, s .pre .3))
+    (λ c κs. let s = c .before .before .before .before .before .before in (s .pre .0 .near-lower, s .pre .0 .near-upper, s .pre .1))
     add-weights-requires
     (λ c. search needs)
     returns)

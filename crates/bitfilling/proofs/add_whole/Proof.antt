@@ -8,12 +8,6 @@ use Rattle.bitfilling.proofs.Lines.{fits-sizes}
 use Rattle.bitfilling.proofs.add_whole.Statement.{statement}
 use Rattle.bitfilling.proofs.add_whole.Tie as tie
 
-fill-row-requires : tie.Need-fill-row-requires
-fill-row-requires c κs = let s = c .before .before .before in (s .pre .0 .0, s .pre .0 .1)
-
-row-constant-requires : tie.Need-row-constant-requires
-row-constant-requires c κs = c .before .before .before .before .before .before .before .pre .0 .0 .near-lower
-
 add-square-requires : tie.Need-add-square-requires
 add-square-requires c κs =
     let s = c .before .before .before .before .before .before .before .before in
@@ -34,8 +28,8 @@ pub add-whole-spec : {M : Type 1} → statement M
 add-whole-spec =
     tie.close
     (tie.spec
-    fill-row-requires
-    row-constant-requires
+    (λ c κs. let s = c .before .before .before in (s .pre .0 .0, s .pre .0 .1))
+    (λ c κs. c .before .before .before .before .before .before .before .pre .0 .0 .near-lower)
     add-square-requires
     (λ c. search needs)
     (λ c. search needs)

@@ -12,29 +12,17 @@ Inv-loop row₀ i₀ row i = Cleared row₀ row i
 abbrev μ-loop : tie.MeasureT-loop
 μ-loop row₀ i₀ row i = length row₀ - i
 
-loop-holds : tie.Need-loop-holds Inv-loop μ-loop
-loop-holds c = cleared-begun _
-
-loop-again : tie.Need-loop-again Inv-loop μ-loop
-loop-again c = cleared-more (c .loop-test .taken) (c .before .loop .inv)
-
-same-length : tie.Need-same-length Inv-loop μ-loop
-same-length c = c .before .loop .inv .same
-
-returns : tie.Need-returns Inv-loop μ-loop
-returns c = cleared-done (c .loop-test .left) (c .before .loop .inv)
-
 pub clear-spec : {M : Type 1} → statement M
 clear-spec =
     tie.close
     (tie.spec
     Inv-loop
     μ-loop
-    loop-holds
+    (λ c. cleared-begun _)
     (λ c. search needs)
     (λ c. search needs)
     (λ c. search needs)
     (λ c. search needs)
-    loop-again
-    same-length
-    returns)
+    (λ c. cleared-more (c .loop-test .taken) (c .before .loop .inv))
+    (λ c. c .before .loop .inv .same)
+    (λ c. cleared-done (c .loop-test .left) (c .before .loop .inv)))

@@ -16,12 +16,6 @@ Inv-loop args n firsts counts i k₀ k = (k ≤ n) × ((j : ℕ) → j < k → I
 abbrev μ-loop : tie.MeasureT-loop
 μ-loop args n firsts counts i k₀ k = n - k
 
-loop-holds : tie.Need-loop-holds Inv-loop μ-loop
-loop-holds c = (omega arith, λ j l. absurd (omega arith))
-
-holds-term-requires : tie.Need-holds-term-requires Inv-loop μ-loop
-holds-term-requires c κs = omega (arith, c .before .loop .inv .0, c .before .before .before .before .before .pre)
-
 returns : tie.Need-returns Inv-loop μ-loop
 returns c e = false-true (sym e)
 
@@ -44,8 +38,8 @@ holds-terms-spec =
     (tie.spec
     Inv-loop
     μ-loop
-    loop-holds
-    holds-term-requires
+    (λ c. (omega arith, λ j l. absurd (omega arith)))
+    (λ c κs. omega (arith, c .before .loop .inv .0, c .before .before .before .before .before .pre))
     returns
     (λ c. search needs)
     (λ c. search needs)

@@ -14,9 +14,6 @@ use Rattle.bitform.proofs.form_checked.Reads as form-checked-reads
 use Rattle.bitform.proofs.refuse.Reads as refuse-reads
 use Rattle.extremes.proofs.keep_bounds.Reads as keep-bounds-reads
 
-keep-bounds-requires : tie.Need-keep-bounds-requires
-keep-bounds-requires c κs = omega (arith, few-words (c .before .before .before .before .args .ws .now) (ap (λ x. x .number) (c .before .before .before .before .pre)))
-
 keep-bits-requires : tie.Need-keep-bits-requires
 keep-bits-requires c κs =
     let s = c .before .before .before .before .before .before .before .before .before .before .before in
@@ -38,12 +35,6 @@ returns c =
     let e = counted-is (s .args .ws .now) (s .pre) k (c .before .before .count-bits .ensures) in
     rw (c .refuse .ensures) (too-many (s .args .ws .now) (s .args .out .now) (s .pre) (omega (arith, e, c .before .if1 .taken)))
 
-slice-aggregate-form-checked-5 : tie.Need-slice-aggregate-form-checked-5
-slice-aggregate-form-checked-5 c = sym (length-take-le _ _ (c .before .before .before .before .before .before .if1 .left))
-
-slice-aggregate-form-checked-6 : tie.Need-slice-aggregate-form-checked-6
-slice-aggregate-form-checked-6 c = sym (length-take-le _ _ (c .before .before .before .before .before .before .before .if1 .left))
-
 form-checked-requires : tie.Need-form-checked-requires
 form-checked-requires c κs =
     let s = c .before .before .before .before .before .before .before .before .before .before .before .before .before .before .before .before .before .before .before .before .before .before .before .before .before .before in
@@ -58,7 +49,7 @@ form-accepted-spec =
     (tie.spec
     (λ c. search needs)
     (λ c. search needs)
-    keep-bounds-requires
+    (λ c κs. omega (arith, few-words (c .before .before .before .before .args .ws .now) (ap (λ x. x .number) (c .before .before .before .before .pre))))
     (λ c. search needs)
     (λ c. search needs)
     (λ c. search needs)
@@ -75,9 +66,9 @@ form-accepted-spec =
     (λ c. search needs)
     (λ c. search needs)
     (λ c. search needs)
-    slice-aggregate-form-checked-5
+    (λ c. sym (length-take-le _ _ (c .before .before .before .before .before .before .if1 .left)))
     (λ c. search needs)
-    slice-aggregate-form-checked-6
+    (λ c. sym (length-take-le _ _ (c .before .before .before .before .before .before .before .if1 .left)))
     form-checked-requires
     (λ c. search needs)
     (λ c. search needs))

@@ -13,9 +13,6 @@ use Rattle.bitform.proofs.Pieces.{row-unfit, constant-unfit}
 use Rattle.bitform.proofs.form_checked.Statement.{statement}
 use Rattle.bitform.proofs.form_checked.Tie as tie
 
-check-rows-requires : tie.Need-check-rows-requires
-check-rows-requires c κs = c .before .before .before .before .before .pre .0 .listed
-
 -- whether all rows fit, and their constant, of the row system itself
 fits : (c : tie.After-check-rows) → let s = c .before .before .before .before .before .before in all (rowFits (bitCount (s .args .ws .now))) (bitRowsOf (s .args .ws .now)) ≡ c .check-rows .result .fits
 fits c =
@@ -57,7 +54,7 @@ pub form-checked-spec : {M : Type 1} → statement M
 form-checked-spec =
     tie.close
     (tie.spec
-    check-rows-requires
+    (λ c κs. c .before .before .before .before .before .pre .0 .listed)
     (λ c κs. search needs)
     (λ c. search needs)
     returns

@@ -23,12 +23,6 @@ Inv-loop args n ls us so-far₀ k₀ so-far k = (k ≤ n) × (toZ w64 so-far ≡
 abbrev μ-loop : tie.MeasureT-loop
 μ-loop args n ls us so-far₀ k₀ so-far k = n - k
 
-loop-holds : tie.Need-loop-holds Inv-loop μ-loop
-loop-holds c = (search needs, least-none _ _, search needs)
-
-least-term-requires : tie.Need-least-term-requires Inv-loop μ-loop
-least-term-requires c κs = let s = c .before .before .before in (s .pre .0, s .pre .1, omega (arith, c .loop-test .taken, s .pre .2))
-
 plus-requires : tie.Need-plus-requires Inv-loop μ-loop
 plus-requires c κs =
     rw (back (c .least-term .result) (c .least-term .ok)) (omega (arith, c .before .before .loop .inv .0, c .before .before .loop .inv .2, c .least-term .ensures .1, c .before .before .before .before .pre .2))
@@ -63,8 +57,8 @@ least-of-spec =
     (tie.spec
     Inv-loop
     μ-loop
-    loop-holds
-    least-term-requires
+    (λ c. (search needs, least-none _ _, search needs))
+    (λ c κs. let s = c .before .before .before in (s .pre .0, s .pre .1, omega (arith, c .loop-test .taken, s .pre .2)))
     plus-requires
     (λ c. search needs)
     (λ c. search needs)

@@ -18,9 +18,6 @@ use Rattle.bitrows.proofs.own_bits.Tie as tie
 slack-of-requires : tie.Need-slack-of-requires
 slack-of-requires c κs = (c .before .before .before .before .before .pre .0, c .before .before .before .before .before .pre .1, omega (arith, c .term-count .ensures, count-few (c .before .before .before .before .before .args .head)))
 
-weight-count-requires : tie.Need-weight-count-requires
-weight-count-requires c κs = omega (arith, c .slack-of .ensures .1)
-
 returns : tie.Need-returns
 unfolding bitRow slackWeights
 returns c =
@@ -56,7 +53,7 @@ own-bits-spec =
     (λ c κs. search needs)
     (λ c κs. search needs)
     slack-of-requires
-    weight-count-requires
+    (λ c κs. omega (arith, c .slack-of .ensures .1))
     returns
     returns-2
     (λ c κs. search needs)

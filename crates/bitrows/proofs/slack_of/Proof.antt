@@ -4,8 +4,8 @@ use native.Mathlib.Omega.{arith}
 use borrow.Author.Needs.{needs}
 use Rattle.integers.specs.Number.{neg, count}
 use Rattle.integers.proofs.Fits.{back, neg-size}
+use Rattle.integers.proofs.Sums.{count-le}
 use Rattle.arguments.proofs.Size.{read}
-use Rattle.extremes.proofs.Size.{count-le}
 use Rattle.bitrows.proofs.slack_of.Statement.{statement}
 use Rattle.bitrows.proofs.slack_of.Tie as tie
 

@@ -19,15 +19,6 @@ Inv-loop ls us n firsts₀ counts₀ at₀ v₀ firsts counts at v = Keeping ls 
 abbrev μ-loop : tie.MeasureT-loop
 μ-loop ls us n firsts₀ counts₀ at₀ v₀ firsts counts at v = n - v
 
-loop-holds : tie.Need-loop-holds Inv-loop μ-loop
-loop-holds c = keeping-begun _ _ _ _ _
-
-span-at-requires : tie.Need-span-at-requires Inv-loop μ-loop
-span-at-requires c κs = let s = c .before .before .before .before in (s .pre .0, s .pre .1)
-
-weight-count-requires : tie.Need-weight-count-requires Inv-loop μ-loop
-weight-count-requires c κs = omega (arith, c .span-at .ensures .1)
-
 add-at : tie.Need-add-at Inv-loop μ-loop
 add-at c =
     let s = c .before .before .before .before .before .before .before .before .before .before .before .before .before .before in
@@ -38,12 +29,6 @@ loop-again : tie.Need-loop-again Inv-loop μ-loop
 loop-again c =
     rw (c .before .before .before .before .before .before .put-size .ensures, c .before .before .put-size2 .ensures)
     (keeping-more (c .before .before .before .before .before .before .before .before .before .before .loop-test .taken) (c .before .before .before .before .before .before .before .before .weight-count .ensures .0 ∙ ap (λ w. length (weights w)) (c .before .before .before .before .before .before .before .before .before .span-at .ensures .0)) (c .before .before .before .before .before .before .before .before .before .before .before .loop .inv))
-
-same-length : tie.Need-same-length Inv-loop μ-loop
-same-length c = ap length (c .before .loop .inv .kept .numbers) ∙ length-overlay _ _ _
-
-same-length-2 : tie.Need-same-length-2 Inv-loop μ-loop
-same-length-2 c = ap length (c .before .loop .inv .kept .sizes) ∙ length-overlay _ _ _
 
 returns : tie.Need-returns Inv-loop μ-loop
 returns c =
@@ -57,15 +42,15 @@ keep-bits-spec =
     (tie.spec
     Inv-loop
     μ-loop
-    loop-holds
-    span-at-requires
-    weight-count-requires
+    (λ c. keeping-begun _ _ _ _ _)
+    (λ c κs. let s = c .before .before .before .before in (s .pre .0, s .pre .1))
+    (λ c κs. omega (arith, c .span-at .ensures .1))
     (λ c κs. search needs)
     (λ c κs. search needs)
     add-at
     (λ c. search needs)
     (λ c. search needs)
     loop-again
-    same-length
-    same-length-2
+    (λ c. ap length (c .before .loop .inv .kept .numbers) ∙ length-overlay _ _ _)
+    (λ c. ap length (c .before .loop .inv .kept .sizes) ∙ length-overlay _ _ _)
     returns)

@@ -7,12 +7,6 @@ use Rattle.bitwriting.proofs.Lining.{none-added}
 use Rattle.bitwriting.proofs.add_to_line.Statement.{statement}
 use Rattle.bitwriting.proofs.add_to_line.Tie as tie
 
-own-bits-requires : tie.Need-own-bits-requires
-own-bits-requires c κs = let t = c .before .before .before .pre .0 .0 in (t .lists .near-lower, t .lists .near-upper, t .counted)
-
-add-row-requires : tie.Need-add-row-requires
-add-row-requires c κs = c .before .before .before .before .before .before .before .before .pre
-
 add-result : tie.Need-add-result
 add-result c = record { fits = omega (arith, c .before .before .before .before .before .before .before .before .before .before .before .pre .0 .1, c .before .before .before .before .before .before .before .own-bits .ensures .1) }
 
@@ -22,9 +16,6 @@ returns c =
     let o = c .before .before .before .before .before .before .before .own-bits .ensures in
     let r = c .before .before .add-row .ensures in
     (r, (ap (λ n. a .first + n) (o .0 (a .firsts .now) (a .first)), omega (arith, o .1)))
-
-add-result-2 : tie.Need-add-result-2
-add-result-2 c = record { fits = omega (arith, c .before .before .before .before .before .before .pre .0 .1, c .before .before .own-bits .ensures .1) }
 
 returns-2 : tie.Need-returns-2
 returns-2 c =
@@ -38,12 +29,12 @@ pub add-to-line-spec : {M : Type 1} → statement M
 add-to-line-spec =
     tie.close
     (tie.spec
-    own-bits-requires
+    (λ c κs. let t = c .before .before .before .pre .0 .0 in (t .lists .near-lower, t .lists .near-upper, t .counted))
     (λ c κs. search needs)
-    add-row-requires
+    (λ c κs. c .before .before .before .before .before .before .before .before .pre)
     add-result
     (λ c. search needs)
     (λ c. search needs)
     returns
-    add-result-2
+    (λ c. record { fits = omega (arith, c .before .before .before .before .before .before .pre .0 .1, c .before .before .own-bits .ensures .1) })
     returns-2)

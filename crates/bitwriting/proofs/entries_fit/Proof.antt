@@ -27,9 +27,6 @@ loop-holds : tie.Need-loop-holds Inv-loop μ-loop
 unfolding lineEntries listOf all
 loop-holds c = (search needs, refl)
 
-add-coefficient-at : tie.Need-add-coefficient-at Inv-loop μ-loop
-add-coefficient-at c = omega (arith, c .loop-test .taken, c .before .before .pre)
-
 returns : tie.Need-returns Inv-loop μ-loop
 unfolding lineEntries
 returns c =
@@ -59,7 +56,7 @@ entries-fit-spec =
     Inv-loop
     μ-loop
     loop-holds
-    add-coefficient-at
+    (λ c. omega (arith, c .loop-test .taken, c .before .before .pre))
     (λ c κs. search needs)
     (λ c κs. search needs)
     returns

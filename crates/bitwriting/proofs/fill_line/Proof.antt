@@ -38,18 +38,6 @@ loop-again c =
     let t = tail-is (s .args .ws .now) (l .at + 1) in
     lining-one (l .inv) (c .before .before .before .before .before .before .before .before .before .loop-test .taken) (sym (c .before .before .before .before .before .before .before .starts-row .ensures) ∙ c .before .before .before .before .before .before .if1 .taken) (rw t at (e .0)) (c .before .before .add-to-line .kept .1 .0) (rw t at (e .1))
 
-loop-again-2 : tie.Need-loop-again-2 Inv-loop μ-loop
-loop-again-2 c = lining-none (c .before .before .before .before .loop .inv) (c .before .before .before .loop-test .taken) (sym (c .before .starts-row .ensures) ∙ c .if1 .left)
-
-same-length : tie.Need-same-length Inv-loop μ-loop
-same-length c = c .before .loop .inv .sized .line-size ∙ sym (c .before .before .before .before .before .before .before .before .pre .1 .line-size)
-
-same-length-2 : tie.Need-same-length-2 Inv-loop μ-loop
-same-length-2 c = c .before .loop .inv .sized .row-size ∙ sym (c .before .before .before .before .before .before .before .before .pre .1 .row-size)
-
-returns : tie.Need-returns Inv-loop μ-loop
-returns c = lining-done (c .before .loop .inv) (c .loop-test .left)
-
 pub fill-line-spec : {M : Type 1} → statement M
 fill-line-spec =
     tie.close
@@ -70,7 +58,7 @@ fill-line-spec =
     (λ c. search needs)
     loop-again
     (λ c. search needs)
-    loop-again-2
-    same-length
-    same-length-2
-    returns)
+    (λ c. lining-none (c .before .before .before .before .loop .inv) (c .before .before .before .loop-test .taken) (sym (c .before .starts-row .ensures) ∙ c .if1 .left))
+    (λ c. c .before .loop .inv .sized .line-size ∙ sym (c .before .before .before .before .before .before .before .before .pre .1 .line-size))
+    (λ c. c .before .loop .inv .sized .row-size ∙ sym (c .before .before .before .before .before .before .before .before .pre .1 .row-size))
+    (λ c. lining-done (c .before .loop .inv) (c .loop-test .left)))

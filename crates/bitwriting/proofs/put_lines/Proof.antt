@@ -17,9 +17,6 @@ Inv-loop out₀ at n line₀ row₀ ws ls us firsts counts start to₀ i₀ out 
 abbrev μ-loop : tie.MeasureT-loop
 μ-loop out₀ at n line₀ row₀ ws ls us firsts counts start to₀ i₀ out line row to i = n - i
 
-loop-holds : tie.Need-loop-holds Inv-loop μ-loop
-loop-holds c = let s = c .before .before .before .before in putting-begun _ (s .args .n) (s .args .at) (s .args .out .now) (s .args .line .now) (s .args .row .now) (s .pre .1)
-
 put-one-requires : tie.Need-put-one-requires Inv-loop μ-loop
 put-one-requires c κs =
     let s = c .before .before .before .before .before .before .before .before .before in
@@ -41,25 +38,13 @@ loop-again c =
     let p = c .before .before .before .before .before .before .put-one in
     putting-more (l .inv) (c .before .before .before .before .before .before .before .before .before .before .loop-test .taken) (p .ensures) (not-false _ (c .if1 .left)) (p .kept .1 .1 .0) (p .kept .1 .1 .1 .0)
 
-same-length-4 : tie.Need-same-length-4 Inv-loop μ-loop
-same-length-4 c = c .before .loop .inv .same-out
-
-same-length-5 : tie.Need-same-length-5 Inv-loop μ-loop
-same-length-5 c = c .before .loop .inv .sized .line-size ∙ sym (c .before .before .before .before .before .before .pre .1 .line-size)
-
-same-length-6 : tie.Need-same-length-6 Inv-loop μ-loop
-same-length-6 c = c .before .loop .inv .sized .row-size ∙ sym (c .before .before .before .before .before .before .pre .1 .row-size)
-
-returns-2 : tie.Need-returns-2 Inv-loop μ-loop
-returns-2 c = putting-done (c .before .loop .inv) (c .loop-test .left)
-
 pub put-lines-spec : {M : Type 1} → statement M
 put-lines-spec =
     tie.close
     (tie.spec
     Inv-loop
     μ-loop
-    loop-holds
+    (λ c. let s = c .before .before .before .before in putting-begun _ (s .args .n) (s .args .at) (s .args .out .now) (s .args .line .now) (s .args .row .now) (s .pre .1))
     (λ c. search needs)
     put-one-requires
     (λ c. search needs)
@@ -69,7 +54,7 @@ put-lines-spec =
     (λ c. search needs)
     (λ c. search needs)
     loop-again
-    same-length-4
-    same-length-5
-    same-length-6
-    returns-2)
+    (λ c. c .before .loop .inv .same-out)
+    (λ c. c .before .loop .inv .sized .line-size ∙ sym (c .before .before .before .before .before .before .pre .1 .line-size))
+    (λ c. c .before .loop .inv .sized .row-size ∙ sym (c .before .before .before .before .before .before .pre .1 .row-size))
+    (λ c. putting-done (c .before .loop .inv) (c .loop-test .left)))

@@ -9,9 +9,6 @@ use Rattle.bitwriting.proofs.Putting.{line-entries}
 use Rattle.bitwriting.proofs.put_one.Statement.{statement}
 use Rattle.bitwriting.proofs.put_one.Tie as tie
 
-fill-line-requires : tie.Need-fill-line-requires
-fill-line-requires c κs = let p = c .before .before .before .before .before .before .pre in (p .0, p .1)
-
 returns : tie.Need-returns
 returns c =
     let s = c .before .before .before .before .before .before .before .before .before .before .before .before in
@@ -32,7 +29,7 @@ pub put-one-spec : {M : Type 1} → statement M
 put-one-spec =
     tie.close
     (tie.spec
-    fill-line-requires
+    (λ c κs. let p = c .before .before .before .before .before .before .pre in (p .0, p .1))
     (λ c κs. c .before .before .before .before .before .before .before .before .before .before .pre .1 .few)
     (λ c. search needs)
     (λ c. search needs)

@@ -42,9 +42,6 @@ returns c =
     let k = c .before .before .read-model .ensures in
     (read-refused k (c .if1 .taken), (λ p. absurd (c .if1 .taken (read-passes k p)), λ p. absurd (c .if1 .taken (read-passes k p))))
 
-slice-aggregate-keep-bounds : tie.Need-slice-aggregate-keep-bounds
-slice-aggregate-keep-bounds c = sym (length-take-le _ _ (front-inside (seen (c .before))))
-
 keep-bounds-requires : tie.Need-keep-bounds-requires
 keep-bounds-requires c κs = let v = seen (c .before .before .before) in rw (length-take-le _ _ (front-inside v)) (omega (arith, front-inside v, few-words (c .before .before .before .before .before .before .before .before .before .args .ws .now) (v .accepts)))
 
@@ -70,7 +67,7 @@ check-model-spec =
     (tie.spec
     (λ c κs. search needs)
     returns
-    slice-aggregate-keep-bounds
+    (λ c. sym (length-take-le _ _ (front-inside (seen (c .before)))))
     keep-bounds-requires
     count-uses-requires
     model-sums-requires

@@ -6,12 +6,6 @@ use Rattle.checking.proofs.Costs.{wide-costs, laid-costs}
 use Rattle.checking.proofs.cost_of.Statement.{statement}
 use Rattle.checking.proofs.cost_of.Tie as tie
 
-returns : tie.Need-returns
-returns c = wide-costs (sym (c .before .too-wide .ensures) ∙ c .if1 .taken)
-
-block-requires : tie.Need-block-requires
-block-requires c κs = let p = c .before .before .before .before .before .before .pre in (p .0, p .1, p .2, sym (c .before .before .too-wide .ensures) ∙ c .before .if1 .left, p .3, p .4)
-
 returns-2 : tie.Need-returns-2
 returns-2 c = laid-costs (sym (c .before .before .before .before .before .too-wide .ensures) ∙ c .before .before .before .before .if1 .left) (told (c .before .before .block .ensures .0)) (c .before .before .block .ensures .1) (c .fault-of .ensures)
 
@@ -20,8 +14,8 @@ cost-of-spec =
     tie.close
     (tie.spec
     (λ c κs. search needs)
-    returns
+    (λ c. wide-costs (sym (c .before .too-wide .ensures) ∙ c .if1 .taken))
     (λ c. search needs)
-    block-requires
+    (λ c κs. let p = c .before .before .before .before .before .before .pre in (p .0, p .1, p .2, sym (c .before .before .too-wide .ensures) ∙ c .before .if1 .left, p .3, p .4))
     (λ c κs. search needs)
     returns-2)

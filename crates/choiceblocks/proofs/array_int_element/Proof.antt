@@ -12,9 +12,6 @@ use Rattle.choiceblocks.proofs.Blocks.{number-element}
 use Rattle.choiceblocks.proofs.array_int_element.Statement.{statement}
 use Rattle.choiceblocks.proofs.array_int_element.Tie as tie
 
-lay-choice-requires : tie.Need-lay-choice-requires
-lay-choice-requires c κs = rw (back (c .before .first-label .result) (c .before .first-label .ok)) (search needs)
-
 -- what is asked of the start and of the number of places
 lay-number-row-requires : tie.Need-lay-number-row-requires
 lay-number-row-requires c κs =
@@ -52,7 +49,7 @@ array-int-element-spec =
     (λ c κs. search needs)
     (λ c κs. search needs)
     (λ c κs. search needs)
-    lay-choice-requires
+    (λ c κs. rw (back (c .before .first-label .result) (c .before .first-label .ok)) (search needs))
     (λ c κs. search needs)
     (λ c κs. search needs)
     lay-number-row-requires

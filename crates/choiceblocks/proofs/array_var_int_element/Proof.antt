@@ -11,9 +11,6 @@ use Rattle.choiceblocks.proofs.Blocks.{variable-element}
 use Rattle.choiceblocks.proofs.array_var_int_element.Statement.{statement}
 use Rattle.choiceblocks.proofs.array_var_int_element.Tie as tie
 
-lay-choice-requires : tie.Need-lay-choice-requires
-lay-choice-requires c κs = rw (back (c .before .first-label .result) (c .before .first-label .ok)) (search needs)
-
 lay-gated-requires : tie.Need-lay-gated-requires
 lay-gated-requires c κs =
     let p = c .before .before .before .before .before in
@@ -55,7 +52,7 @@ array-var-int-element-spec =
     (λ c κs. search needs)
     (λ c κs. search needs)
     (λ c κs. search needs)
-    lay-choice-requires
+    (λ c κs. rw (back (c .before .first-label .result) (c .before .first-label .ok)) (search needs))
     (λ c κs. search needs)
     (λ c κs. search needs)
     lay-gated-requires

@@ -4,7 +4,7 @@ use Prim.Native.Nat.{ℕ, _+_}
 use native.Mathlib.Omega.{arith}
 use borrow.Author.Needs.{needs}
 use Rattle.integers.proofs.Fits.{back}
-use Rattle.extremes.proofs.Size.{count-le}
+use Rattle.integers.proofs.Sums.{count-le}
 use Rattle.choiceblocks.proofs.first_element.Statement.{statement}
 use Rattle.choiceblocks.proofs.first_element.Tie as tie
 

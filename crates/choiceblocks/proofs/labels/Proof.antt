@@ -14,9 +14,6 @@ use Rattle.extremes.specs.BoundLists.{boundsOf}
 use Rattle.choiceblocks.proofs.labels.Statement.{statement}
 use Rattle.choiceblocks.proofs.labels.Tie as tie
 
-last-place-requires : tie.Need-last-place-requires
-last-place-requires c κs = omega (arith, c .before .before .size-at .ensures, size-le (c .before .before .before .before .args .args .now) 1)
-
 width-of-requires : tie.Need-width-of-requires
 width-of-requires c κs =
     let p = c .before .before .before .before in
@@ -47,7 +44,7 @@ labels-spec =
     (λ c κs. search needs)
     (λ c κs. search needs)
     (λ c κs. search needs)
-    last-place-requires
+    (λ c κs. omega (arith, c .before .before .size-at .ensures, size-le (c .before .before .before .before .args .args .now) 1))
     (λ c κs. search needs)
     width-of-requires
     returns)

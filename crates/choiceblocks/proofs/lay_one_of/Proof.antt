@@ -11,9 +11,6 @@ use Rattle.choiceblocks.proofs.lay_one_of.Tie as tie
 few : (c : tie.After-size-at) → c .size-at .result ≤ 32
 few c = omega (arith, c .size-at .ensures, size-le (c .before .before .before .before .args .args .now) 1)
 
-lay-gates-requires : tie.Need-lay-gates-requires
-lay-gates-requires c κs = (omega arith, omega (arith, few (c .before)), omega arith)
-
 lay-one-bit-requires : tie.Need-lay-one-bit-requires
 lay-one-bit-requires c κs =
     let s = c .before .before .before .before .before .before .before .before .before in
@@ -48,7 +45,7 @@ lay-one-of-spec =
     (tie.spec
     (λ c κs. search needs)
     (λ c κs. search needs)
-    lay-gates-requires
+    (λ c κs. (omega arith, omega (arith, few (c .before)), omega arith))
     lay-one-bit-requires
     lay-gated-requires
     (λ c. search needs)

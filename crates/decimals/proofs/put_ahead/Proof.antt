@@ -16,9 +16,6 @@ Inv-loop page₀ at columns minus rest left₀ hyphen₀ digits₀ page left hyp
 abbrev μ-loop : tie.MeasureT-loop
 μ-loop page₀ at columns minus rest left₀ hyphen₀ digits₀ page left hyphen digits = left
 
-loop-holds : tie.Need-loop-holds Inv-loop μ-loop
-loop-holds c = (search needs, refl)
-
 loop-again : tie.Need-loop-again Inv-loop μ-loop
 loop-again c =
     let s = c .before .before .before .before .before .before .before .before .before in
@@ -30,16 +27,13 @@ same-length c =
     let s = c .before .before .before in
     sym (ap length (no-columns (c .before .loop .page) (s .args .at) _ _ _ (c .loop-test .left))) ∙ ap length (c .before .loop .inv .1) ∙ simp length-overlay
 
-returns : tie.Need-returns Inv-loop μ-loop
-returns c = sym (no-columns _ _ _ _ _ (c .loop-test .left)) ∙ c .before .loop .inv .1
-
 pub put-ahead-spec : {M : Type 1} → statement M
 put-ahead-spec =
     tie.close
     (tie.spec
     Inv-loop
     μ-loop
-    loop-holds
+    (λ c. (search needs, refl))
     (λ c. search needs)
     (λ c. search needs)
     (λ c κs. search needs)
@@ -48,4 +42,4 @@ put-ahead-spec =
     (λ c. search needs)
     loop-again
     same-length
-    returns)
+    (λ c. sym (no-columns _ _ _ _ _ (c .loop-test .left)) ∙ c .before .loop .inv .1))

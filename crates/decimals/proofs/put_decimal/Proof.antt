@@ -8,9 +8,6 @@ use borrow.Author.Needs.{needs}
 use Rattle.decimals.proofs.put_decimal.Statement.{statement}
 use Rattle.decimals.proofs.put_decimal.Tie as tie
 
-put-right-requires : tie.Need-put-right-requires
-put-right-requires c κs = (omega (arith, c .before .before .before .pre, c .before .digit-count .ensures), rw (alone, c .before .digit-count .ensures) (omega arith))
-
 returns : tie.Need-returns
 returns c =
     let s = c .before .before .before .before .before .before in
@@ -22,7 +19,7 @@ put-decimal-spec =
     tie.close
     (tie.spec
     (λ c κs. search needs)
-    put-right-requires
+    (λ c κs. (omega (arith, c .before .before .before .pre, c .before .digit-count .ensures), rw (alone, c .before .digit-count .ensures) (omega arith)))
     (λ c. search needs)
     (λ c. search needs)
     returns)

@@ -6,16 +6,10 @@ use borrow.Author.Needs.{needs}
 use Rattle.decimals.proofs.put_right.Statement.{statement}
 use Rattle.decimals.proofs.put_right.Tie as tie
 
-sub-put-byte : tie.Need-sub-put-byte
-sub-put-byte c = omega (arith, marked-some (c .before .before .args .minus) (c .before .before .args .n), c .before .before .pre .1)
-
 sub-put-ahead : tie.Need-sub-put-ahead
 sub-put-ahead c =
     let s = c .before .before .before .before .before .before in
     omega (arith, marked-some (s .args .minus) (s .args .n), s .pre .1)
-
-put-ahead-requires : tie.Need-put-ahead-requires
-put-ahead-requires c κs = omega (arith, c .before .before .before .before .before .before .pre .0)
 
 returns : tie.Need-returns
 returns c =
@@ -27,11 +21,11 @@ put-right-spec =
     tie.close
     (tie.spec
     (λ c. search needs)
-    sub-put-byte
+    (λ c. omega (arith, marked-some (c .before .before .args .minus) (c .before .before .args .n), c .before .before .pre .1))
     (λ c. search needs)
     (λ c. search needs)
     (λ c κs. search needs)
     sub-put-ahead
-    put-ahead-requires
+    (λ c κs. omega (arith, c .before .before .before .before .before .before .pre .0))
     (λ c. search needs)
     returns)

@@ -30,9 +30,6 @@ quotient-near c =
     rw (c .larger-size .ensures .0, back (bound-at .result) (bound-at .ok), bound-at .ensures, back (bound-at2 .result) (bound-at2 .ok), bound-at2 .ensures)
     (larger-near (getD (a .ls .now) (a .n) +0) (getD (a .us .now) (a .n) +0) (s .pre .2 (a .n)) (s .pre .3 (a .n)))
 
-opposite-requires : tie.Need-opposite-requires
-opposite-requires c κs = rw (back (c .larger-size .result) (c .larger-size .ok)) (omega (arith, c .larger-size .ensures .1))
-
 lay-division-requires : tie.Need-lay-division-requires
 lay-division-requires c κs =
     let l = c .before .before .before .before .before in
@@ -68,7 +65,7 @@ int-mod-spec =
     (λ c κs. search needs)
     (λ c κs. search needs)
     larger-size-requires
-    opposite-requires
+    (λ c κs. rw (back (c .larger-size .result) (c .larger-size .ok)) (omega (arith, c .larger-size .ensures .1)))
     (λ c κs. search needs)
     (λ c. search needs)
     lay-division-requires

@@ -15,9 +15,6 @@ product-end-requires c κs =
     let bound-at2 = c .bound-at2 in
     rw (back (bound-at .result) (bound-at .ok), bound-at .ensures, back (bound-at2 .result) (bound-at2 .ok), bound-at2 .ensures, toZ-ofZ (s .fits .ql), toZ-ofZ (s .fits .qu)) (s .pre .2 (s .args .d), s .pre .3 (s .args .d), s .pre .4, s .pre .5)
 
-product-end-requires-2 : tie.Need-product-end-requires-2
-product-end-requires-2 c κs = product-end-requires (c .before) κs
-
 table-of-requires : tie.Need-table-of-requires
 table-of-requires c κs =
     let s = c .before .before .before .before .before in
@@ -47,7 +44,7 @@ lay-division-spec =
     (λ c κs. search needs)
     (λ c κs. search needs)
     product-end-requires
-    product-end-requires-2
+    (λ c κs. product-end-requires (c .before) κs)
     table-of-requires
     (λ c κs. search needs)
     (λ c κs. search needs)

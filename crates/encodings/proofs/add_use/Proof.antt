@@ -5,9 +5,6 @@ use borrow.Author.Needs.{needs}
 use Rattle.encodings.proofs.add_use.Statement.{statement}
 use Rattle.encodings.proofs.add_use.Tie as tie
 
-returns-2 : tie.Need-returns-2
-returns-2 c = sym (set-out _ _ _ (c .if1 .left))
-
 pub add-use-spec : {M : Type 1} → statement M
 add-use-spec =
     tie.close
@@ -19,4 +16,4 @@ add-use-spec =
     (λ c. search needs)
     (λ c. search needs)
     (λ c. search needs)
-    returns-2)
+    (λ c. sym (set-out _ _ _ (c .if1 .left))))

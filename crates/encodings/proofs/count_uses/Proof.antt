@@ -26,38 +26,8 @@ few c = omega (arith, c .loop-test .taken, c .before .before .before .before .pr
 inside : (c : tie.In-loop Inv-loop μ-loop) → let a = c .before .before .before .before .args in getD (a .heads .now) (c .before .loop .k) 0 < length (a .ws .now)
 inside c = head-inside (c .before .before .before .before .pre .1) (c .before .loop .k) (c .loop-test .taken)
 
-loop-holds : tie.Need-loop-holds Inv-loop μ-loop
-loop-holds c = begun _ (c .before .before .pre .2)
-
-mul-place : tie.Need-mul-place Inv-loop μ-loop
-mul-place c = record { fits = omega (arith, few c) }
-
-element-copy-out-place : tie.Need-element-copy-out-place Inv-loop μ-loop
-element-copy-out-place c = few c
-
-mul-payload-of : tie.Need-mul-payload-of Inv-loop μ-loop
-mul-payload-of c = let h = inside (c .before) in search needs
-
-shared-slice-read-payload-of : tie.Need-shared-slice-read-payload-of Inv-loop μ-loop
-shared-slice-read-payload-of c = inside (c .before .before)
-
-add-count-use : tie.Need-add-count-use Inv-loop μ-loop
-add-count-use c = let h = inside (c .before .before .before) in search needs
-
-mul-count-use : tie.Need-mul-count-use Inv-loop μ-loop
-mul-count-use c = let h = inside (c .before .before .before) in search needs
-
-sub-count-use : tie.Need-sub-count-use Inv-loop μ-loop
-sub-count-use c = let h = inside (c .before .before .before) in search needs
-
-part-count-use-start : tie.Need-part-count-use-start Inv-loop μ-loop
-part-count-use-start c = omega (arith, inside (c .before .before .before))
-
 count-use-requires : tie.Need-count-use-requires Inv-loop μ-loop
 count-use-requires c κs v = omega (arith, c .before .before .before .before .before .before .loop .inv .low v, few (c .before .before .before .before .before))
-
-add-k : tie.Need-add-k Inv-loop μ-loop
-add-k c = omega (arith, few (c .before .before .before .before .before .before .before .before))
 
 loop-again : tie.Need-loop-again Inv-loop μ-loop
 unfolding wordAt
@@ -66,32 +36,26 @@ loop-again c =
     let l = c .before .before .before .before .before .before .before .before .before .loop in
     more (l .inv) (head-at (c .before .before .before .before .before .before .before .before .before .before .before .before .pre .1) (l .k) (c .before .before .before .before .before .before .before .before .loop-test .taken)) (rw (c .before .before .before .before .before .payload-of .ensures, tail-is (a .ws .now) (getD (a .heads .now) (l .k) 0 + 1)) at (c .before .before .count-use .ensures))
 
-same-length : tie.Need-same-length Inv-loop μ-loop
-same-length c = c .before .loop .inv .many ∙ sym (ap length (c .before .before .before .before .pre .2) ∙ none-many)
-
-returns : tie.Need-returns Inv-loop μ-loop
-returns c = done (c .before .loop .inv) (omega (arith, c .loop-test .left, c .before .before .before .before .pre .1 .counted))
-
 pub count-uses-spec : {M : Type 1} → statement M
 count-uses-spec =
     tie.close
     (tie.spec
     Inv-loop
     μ-loop
-    loop-holds
-    mul-place
-    element-copy-out-place
-    mul-payload-of
-    shared-slice-read-payload-of
+    (λ c. begun _ (c .before .before .pre .2))
+    (λ c. record { fits = omega (arith, few c) })
+    (λ c. few c)
+    (λ c. let h = inside (c .before) in search needs)
+    (λ c. inside (c .before .before))
     (λ c κs. search needs)
-    add-count-use
-    mul-count-use
-    sub-count-use
-    part-count-use-start
+    (λ c. let h = inside (c .before .before .before) in search needs)
+    (λ c. let h = inside (c .before .before .before) in search needs)
+    (λ c. let h = inside (c .before .before .before) in search needs)
+    (λ c. omega (arith, inside (c .before .before .before)))
     (λ c. search needs)
     count-use-requires
-    add-k
+    (λ c. omega (arith, few (c .before .before .before .before .before .before .before .before)))
     (λ c. search needs)
     loop-again
-    same-length
-    returns)
+    (λ c. c .before .loop .inv .many ∙ sym (ap length (c .before .before .before .before .pre .2) ∙ none-many))
+    (λ c. done (c .before .loop .inv) (omega (arith, c .loop-test .left, c .before .before .before .before .pre .1 .counted))))

@@ -7,15 +7,6 @@ use borrow.Author.Needs.{needs}
 use Rattle.encodings.proofs.record_first.Statement.{statement}
 use Rattle.encodings.proofs.record_first.Tie as tie
 
-returns : tie.Need-returns
-returns c = rw (eq-eqb _ _ (c .if2 .taken))
-
-returns-2 : tie.Need-returns-2
-returns-2 c = rw (ne-eqb _ _ (c .if2 .left))
-
-returns-3 : tie.Need-returns-3
-returns-3 c = let a = c .before .args in rw (List·getD-eq-default (a .encoded .now) 0 (c .if1 .left)) (sym (set-out (a .encoded .now) (a .x) _ (c .if1 .left)))
-
 pub record-first-spec : {M : Type 1} → statement M
 record-first-spec =
     tie.close
@@ -25,6 +16,6 @@ record-first-spec =
     (λ c. search needs)
     (λ c. search needs)
     (λ c. search needs)
-    returns
-    returns-2
-    returns-3)
+    (λ c. rw (eq-eqb _ _ (c .if2 .taken)))
+    (λ c. rw (ne-eqb _ _ (c .if2 .left)))
+    (λ c. let a = c .before .args in rw (List·getD-eq-default (a .encoded .now) 0 (c .if1 .left)) (sym (set-out (a .encoded .now) (a .x) _ (c .if1 .left)))))

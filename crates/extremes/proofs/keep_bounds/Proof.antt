@@ -18,12 +18,6 @@ Inv-loop ws lowers₀ uppers₀ i₀ n₀ lowers uppers i n = Keeping ws lowers�
 abbrev μ-loop : tie.MeasureT-loop
 μ-loop ws lowers₀ uppers₀ i₀ n₀ lowers uppers i n = length ws - i
 
-loop-holds : tie.Need-loop-holds Inv-loop μ-loop
-loop-holds c = begun _ _ _
-
-add-n : tie.Need-add-n Inv-loop μ-loop
-add-n c = omega (arith, c .before .before .before .before .before .before .before .before .before .before .before .before .before .loop .inv .few)
-
 loop-again : tie.Need-loop-again Inv-loop μ-loop
 loop-again c =
     let s = c .before .before .before .before .before .before in
@@ -35,22 +29,13 @@ loop-again c =
     rw (l, u, w .12) (kept (loop .inv) (c .before .before .before .loop-test .taken) (rw (word-at .ensures) at (sym (c .before .starts-variable .ensures) ∙ w .0 .taken))))
     (λ w. rw (w .1, w .2, w .3) (passed (loop .inv) (c .before .before .before .loop-test .taken) (rw (word-at .ensures) at (sym (c .before .starts-variable .ensures) ∙ w .0 .left)))) (c .if1 .came)
 
-same-length : tie.Need-same-length Inv-loop μ-loop
-same-length c = c .before .loop .inv .same-lowers
-
-same-length-2 : tie.Need-same-length-2 Inv-loop μ-loop
-same-length-2 c = c .before .loop .inv .same-uppers
-
-returns : tie.Need-returns Inv-loop μ-loop
-returns c = ended (c .before .loop .inv) (c .loop-test .left)
-
 pub keep-bounds-spec : {M : Type 1} → statement M
 keep-bounds-spec =
     tie.close
     (tie.spec
     Inv-loop
     μ-loop
-    loop-holds
+    (λ c. begun _ _ _)
     (λ c κs. search needs)
     (λ c κs. search needs)
     (λ c κs. search needs)
@@ -59,10 +44,10 @@ keep-bounds-spec =
     (λ c κs. search needs)
     (λ c κs. search needs)
     (λ c κs. search needs)
-    add-n
+    (λ c. omega (arith, c .before .before .before .before .before .before .before .before .before .before .before .before .before .loop .inv .few))
     (λ c. search needs)
     (λ c. search needs)
     loop-again
-    same-length
-    same-length-2
-    returns)
+    (λ c. c .before .loop .inv .same-lowers)
+    (λ c. c .before .loop .inv .same-uppers)
+    (λ c. ended (c .before .loop .inv) (c .loop-test .left)))

@@ -34,15 +34,6 @@ small c =
     let loop = c .before .before .loop in
     rw (least c) (set-size (s .args .args .now) (s .args .i) (toZ w64 (loop .from)) _ (rw (toZ-ofZ (s .fits .upper)) (s .pre .1)))
 
-plus-requires : tie.Need-plus-requires Inv-loop μ-loop
-plus-requires c κs = rw (toZ-ofZ (c .before .fits .upper)) (omega (arith, c .before .pre .1))
-
-loop-holds : tie.Need-loop-holds Inv-loop μ-loop
-loop-holds c = rw (c .size-at .ensures) (begun (c .before .before .before .args .args .now) (c .before .before .before .args .i) _ _ _)
-
-same-length : tie.Need-same-length Inv-loop μ-loop
-same-length c = c .before .before .before .before .loop .inv .same
-
 returns : tie.Need-returns Inv-loop μ-loop
 returns c =
     let s = c .before .before .before .before .before .before .before .before in
@@ -56,9 +47,6 @@ plus-requires-2 c κs =
     let p = c .before .before .before .before .before in
     rw (back (least-from .result) (least-from .ok)) (omega (arith, small p))
 
-add-k : tie.Need-add-k Inv-loop μ-loop
-add-k c = omega (arith, c .before .before .before .before .before .before .before .before .loop .inv .fuel)
-
 loop-again : tie.Need-loop-again Inv-loop μ-loop
 loop-again c =
     let loop = c .before .before .before .before .before .before .before .before .loop in
@@ -69,9 +57,6 @@ loop-again c =
     let bound = c .before .before .put-bound in
     rw (bound .ensures, back (c .plus2 .result) (c .plus2 .ok), c .plus2 .ensures, back (least-from .result) (least-from .ok))
     (found (loop .left) (least-from .result) (c .before .before .before .before .before .before .before .loop-test .taken) (least p) (rw (back (least-from .result) (least-from .ok)) at (sym (below .ensures) ∙ if1 .left)) (loop .inv))
-
-same-length-2 : tie.Need-same-length-2 Inv-loop μ-loop
-same-length-2 c = c .before .loop .inv .same
 
 returns-2 : tie.Need-returns-2 Inv-loop μ-loop
 returns-2 c =
@@ -84,18 +69,18 @@ members-spec =
     (tie.spec
     Inv-loop
     μ-loop
-    plus-requires
+    (λ c κs. rw (toZ-ofZ (c .before .fits .upper)) (omega (arith, c .before .pre .1)))
     (λ c κs. search needs)
-    loop-holds
+    (λ c. rw (c .size-at .ensures) (begun (c .before .before .before .args .args .now) (c .before .before .before .args .i) _ _ _))
     (λ c κs. search needs)
     (λ c κs. search needs)
-    same-length
+    (λ c. c .before .before .before .before .loop .inv .same)
     returns
     (λ c κs. search needs)
     plus-requires-2
-    add-k
+    (λ c. omega (arith, c .before .before .before .before .before .before .before .before .loop .inv .fuel))
     (λ c. search needs)
     (λ c. search needs)
     loop-again
-    same-length-2
+    (λ c. c .before .loop .inv .same)
     returns-2)

@@ -1,23 +1,20 @@
--- The invariant: laying the rest of the values from here gives what laying them all gives.
+-- The invariant: the values before place i are laid.
 use mathlib.Core.Path.{_≡_, sym, ap, _∙_}
 use mathlib.Core.Logic.{⊎-elim}
-use Prim.Native.Nat.{_+_, _-_, _≤_}
-use native.Mathlib.Omega.{arith}
-use native.Mathlib.Nat.{add-zero}
+use Prim.Native.Nat.{_+_, _-_}
 use mir.Syntax.{w32}
 use mir.Val.{SFits}
 use mir.Facts.{toZ-ofZ}
 use borrow.Author.Needs.{needs}
-use lib.ListN.{length, getD, drop, set, drop-of-length-le}
+use lib.ListN.{length, getD, set}
 use lib.Seq.{set-out}
 use Rattle.integers.specs.Number.{+0}
-use Rattle.words.specs.Overlay.{overlay}
-use Rattle.words.proofs.Overlay.{length-overlay, overlay-none, overlay-step}
+use Rattle.words.proofs.Rest.{FirstLaid, none-laid, one-laid, all-laid, laid-length}
 use Rattle.filling.proofs.copy_values.Statement.{statement}
 use Rattle.filling.proofs.copy_values.Tie as tie
 
 abbrev Inv-loop : tie.InvT-loop
-Inv-loop out₀ at values i₀ out i = (i ≤ length values) × (overlay out (at + i) (drop i values) ≡ overlay out₀ at values)
+Inv-loop out₀ at values i₀ out i = FirstLaid out₀ at values out i
 
 abbrev μ-loop : tie.MeasureT-loop
 μ-loop out₀ at values i₀ out i = length values - i
@@ -30,33 +27,13 @@ written c =
     let loop = c .before .before .loop in
     ⊎-elim (λ w. let f : SFits w32 (getD (s .args .values .now) (loop .i) +0) = record { sfits = w .1 .given } in w .2 ∙ ap (set (loop .out) (s .args .at + loop .i)) (toZ-ofZ f)) (λ w. w .1 ∙ sym (set-out _ _ _ (w .0 .left))) (c .if1 .came)
 
-ended : (c : tie.After-loop Inv-loop μ-loop) → c .before .loop .out ≡ overlay (c .before .before .args .out .now) (c .before .before .args .at) (c .before .before .args .values .now)
-ended c = sym (overlay-none _ _) ∙ rw (drop-of-length-le (c .before .before .args .values .now) (c .loop-test .left)) at (c .before .loop .inv .1)
-
-loop-holds : tie.Need-loop-holds Inv-loop μ-loop
-loop-holds c = (search needs, rw add-zero)
-
-loop-again : tie.Need-loop-again Inv-loop μ-loop
-loop-again c = (
-  omega arith,
-  rw (written c)
-      (sym (overlay-step +0 (c .before .before .loop .out) (c .before .before .before .args .at) (c .before .before .before .args .values .now) (c .before .before .loop .i) (c .before .loop-test .taken))
-      ∙ c .before .before .loop .inv .1),
-)
-
-same-length : tie.Need-same-length Inv-loop μ-loop
-same-length c = ap length (ended c) ∙ simp length-overlay
-
-returns : tie.Need-returns Inv-loop μ-loop
-returns c = ended c
-
 pub copy-values-spec : {M : Type 1} → statement M
 copy-values-spec =
     tie.close
     (tie.spec
     Inv-loop
     μ-loop
-    loop-holds
+    (λ c. none-laid _ _ _)
     (λ c. search needs)
     (λ c. search needs)
     (λ c. search needs)
@@ -64,6 +41,6 @@ copy-values-spec =
     (λ c. search needs)
     (λ c. search needs)
     (λ c. search needs)
-    loop-again
-    same-length
-    returns)
+    (λ c. one-laid (c .before .before .loop .inv) +0 (c .before .loop-test .taken) (written c))
+    (λ c. laid-length (all-laid (c .before .loop .inv) (c .loop-test .left)))
+    (λ c. all-laid (c .before .loop .inv) (c .loop-test .left) .over))

@@ -24,17 +24,11 @@ returns c =
     let s = c .before .before .before in
     wrong-count (s .args .ws .now) (s .pre .1) (s .args .values .now) (s .args .out .now) (λ e. c .if1 .taken (e ∙ sym (counted s)))
 
-add-if2 : tie.Need-add-if2
-add-if2 c = let s = c .before .before .before in record { fits = omega (arith, counted s, s .pre .2, few-in-all (s .args .ws .now) (s .pre .1)) }
-
 returns-2 : tie.Need-returns-2
 unfolding handed
 returns-2 c =
     let s = c .before .before .before .before in
     too-short (s .args .ws .now) (s .pre .1) (s .args .values .now) (s .args .out .now) (c .before .if1 .left ∙ counted s) (rw (counted s, s .pre .2) at (c .if2 .taken))
-
-judge-read-requires : tie.Need-judge-read-requires
-judge-read-requires c κs = c .before .before .before .before .pre .0 .kept
 
 write-filled-requires : tie.Need-write-filled-requires
 unfolding verdict
@@ -74,9 +68,9 @@ fill-passed-spec =
     tie.close
     (tie.spec
     returns
-    add-if2
+    (λ c. let s = c .before .before .before in record { fits = omega (arith, counted s, s .pre .2, few-in-all (s .args .ws .now) (s .pre .1)) })
     returns-2
-    judge-read-requires
+    (λ c κs. c .before .before .before .before .pre .0 .kept)
     (λ c. search needs)
     (λ c. search needs)
     write-filled-requires

@@ -7,9 +7,6 @@ use Rattle.filling.proofs.Ranges.{values-small, picks-ranged, picks-fit
 use Rattle.filling.proofs.write_filled.Statement.{statement}
 use Rattle.filling.proofs.write_filled.Tie as tie
 
-copy-values-requires : tie.Need-copy-values-requires
-copy-values-requires c κs = let s = c .before .before .before in omega (arith, picks-fit (s .args .ws .now) (s .pre .1) (s .args .values .now) (s .pre .2))
-
 write-picks-requires : tie.Need-write-picks-requires
 write-picks-requires c κs =
     let s = c .before .before .before .before .before .before in
@@ -26,7 +23,7 @@ pub write-filled-spec : {M : Type 1} → statement M
 write-filled-spec =
     tie.close
     (tie.spec
-    copy-values-requires
+    (λ c κs. let s = c .before .before .before in omega (arith, picks-fit (s .args .ws .now) (s .pre .1) (s .args .values .now) (s .pre .2)))
     write-picks-requires
     (λ c. search needs)
     returns)

@@ -73,9 +73,6 @@ loop-again c =
     picked (l .inv) (head-at (s .pre .0) (l .k) (c .before .before .before .before .before .before .before .before .before .before .before .before .loop-test .taken)) (block-picks (a .ls .now) (a .us .now) (a .uses .now) (l .encoded) (a .values .now) (headed (a .ws .now) at))
     (rw (c .before .before .before .before .before .before .before .before .before .payload-of .ensures, tail-is (a .ws .now) (at + 1)) at (c .before .before .before .before .before .pick-constraint .ensures)) (recorded (c .before))
 
-returns : tie.Need-returns Inv-loop μ-loop
-returns c = let s = c .before .before .before .before in rw (same s) (ended (c .before .loop .inv) (none-left (s .pre .0) (c .loop-test .left)))
-
 pub write-picks-spec : {M : Type 1} → statement M
 write-picks-spec =
     tie.close
@@ -106,4 +103,4 @@ write-picks-spec =
     (λ c. search needs)
     loop-again
     (λ c. ap length (ended (c .before .loop .inv) (none-left (c .before .before .before .before .pre .0) (c .loop-test .left))) ∙ simp length-overlay)
-    returns)
+    (λ c. let s = c .before .before .before .before in rw (same s) (ended (c .before .loop .inv) (none-left (s .pre .0) (c .loop-test .left)))))

@@ -9,12 +9,6 @@ use Rattle.grammar.proofs.argument_form.Tie as tie
 returns : tie.Need-returns
 returns c = c .form-at .ensures ∙ rule (c .before .before .before .before .args .rows .now) (c .before .before .before .before .args .code) (c .before .before .before .before .args .k) (c .before .before .before .before .pre) (c .before .before .before .if1 .taken) (c .before .before .if2 .taken)
 
-returns-2 : tie.Need-returns-2
-returns-2 c = past-arguments (c .before .before .args .code) (c .before .before .args .k) (c .if2 .left)
-
-returns-3 : tie.Need-returns-3
-returns-3 c = past-codes (c .before .args .code) (c .before .args .k) (omega (arith, c .if1 .left))
-
 pub argument-form-spec : {M : Type 1} → statement M
 argument-form-spec =
     tie.close
@@ -25,5 +19,5 @@ argument-form-spec =
     (λ c. search needs)
     (λ c κs. search needs)
     returns
-    returns-2
-    returns-3)
+    (λ c. past-arguments (c .before .before .args .code) (c .before .before .args .k) (c .if2 .left))
+    (λ c. past-codes (c .before .args .code) (c .before .args .k) (omega (arith, c .if1 .left))))

@@ -20,9 +20,6 @@ loop-holds : tie.Need-loop-holds Inv-loop μ-loop
 unfolding cap
 loop-holds c = (omega arith, refl, refl)
 
-mul-capped : tie.Need-mul-capped Inv-loop μ-loop
-mul-capped c = omega (arith, cap-most (c .before .loop .v), c .before .loop .inv .1)
-
 add-capped : tie.Need-add-capped Inv-loop μ-loop
 add-capped c = omega (arith, cap-most (c .before .before .before .loop .v), c .before .before .before .loop .inv .1, c .digit-value .ensures, c .before .shared-slice-known2 .given (c .before .before .before .loop .i))
 
@@ -47,7 +44,7 @@ decimal-of-spec =
     Inv-loop
     μ-loop
     loop-holds
-    mul-capped
+    (λ c. omega (arith, cap-most (c .before .loop .v), c .before .loop .inv .1))
     (λ c. search needs)
     (λ c κs. search needs)
     add-capped

@@ -17,12 +17,6 @@ Inv-loop text at element closing opening i₀ n₀ before₀ i n before = (i ≤
 abbrev μ-loop : tie.MeasureT-loop
 μ-loop text at element closing opening i₀ n₀ before₀ i n before = length text - i
 
-loop-holds : tie.Need-loop-holds Inv-loop μ-loop
-loop-holds c = (c .before .pre, omega arith, refl)
-
-next-token-requires : tie.Need-next-token-requires Inv-loop μ-loop
-next-token-requires c κs = omega (arith, c .loop-test .taken)
-
 returns : tie.Need-returns Inv-loop μ-loop
 returns c = let a = c .before .before .before .before .before .before .args in let l = c .before .before .before .before .loop in sym (l .inv .2 ∙ length-end (a .element) (a .closing) (l .before) (l .n) (met-end (c .before .before .next-token .ensures) (c .if1 .taken)))
 
@@ -56,8 +50,8 @@ length-ahead-spec =
     (tie.spec
     Inv-loop
     μ-loop
-    loop-holds
-    next-token-requires
+    (λ c. (c .before .pre, omega arith, refl))
+    (λ c κs. omega (arith, c .loop-test .taken))
     returns
     (λ c κs. search needs)
     add-result

@@ -8,9 +8,6 @@ use borrow.Author.Needs.{needs}
 use Rattle.grammar.proofs.number_step.Statement.{statement}
 use Rattle.grammar.proofs.number_step.Tie as tie
 
-magnitude-of-requires : tie.Need-magnitude-of-requires
-magnitude-of-requires c κs = (c .before .before .before .pre .0 .some (c .if1 .taken), c .before .before .before .pre .0 .inside)
-
 returns : tie.Need-returns
 unfolding numberStep ofSort gives spanned
 returns c = let s = c .before .before .before .before .before .before in rw (eq-eqb _ _ (c .before .before .before .if1 .taken), outside (s .args .text .now) (s .args .t .place) (s .args .t .stop) (s .pre .0 .some (c .before .before .before .if1 .taken)) (s .pre .0 .inside) (c .before .before .magnitude-of .ensures) (c .before .if2 .taken)) (c .gives .ensures)
@@ -30,7 +27,7 @@ pub number-step-spec : {M : Type 1} → statement M
 number-step-spec =
     tie.close
     (tie.spec
-    magnitude-of-requires
+    (λ c κs. (c .before .before .before .pre .0 .some (c .if1 .taken), c .before .before .before .pre .0 .inside))
     (λ c κs. search needs)
     returns
     payload-at-requires

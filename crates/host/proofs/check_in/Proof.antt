@@ -14,9 +14,6 @@ use Rattle.host.proofs.check_in.Tie as tie
 front : (c : tie.After-words-of-bytes) → take (c .words-of-bytes .result) (c .words-of-bytes .last .1 .0) ≡ bytesWords (c .before .before .before .before .args .bytes .now)
 front c = rw (c .words-of-bytes .ensures .0, c .words-of-bytes .ensures .1) (front-over _ (bytesWords (c .before .before .before .before .args .bytes .now)) (c .before .before .before .before .pre))
 
-slice-aggregate-check : tie.Need-slice-aggregate-check
-slice-aggregate-check c = c .before .before .before .words-of-bytes .ensures .0 ∙ sym (ap length (front (c .before .before .before)))
-
 returns : tie.Need-returns
 unfolding checkBytes
 returns c = c .refusal-number .ensures ∙ ap refusalNumber (c .before .check .ensures ∙ ap check (front (c .before .before .before .before .before)))
@@ -27,7 +24,7 @@ check-in-spec =
     (tie.spec
     (λ c κs. search needs)
     (λ c. search needs)
-    slice-aggregate-check
+    (λ c. c .before .before .before .words-of-bytes .ensures .0 ∙ sym (ap length (front (c .before .before .before))))
     (λ c κs. search needs)
     (λ c κs. search needs)
     (λ c. search needs)

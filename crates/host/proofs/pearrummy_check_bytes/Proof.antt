@@ -6,23 +6,14 @@ use Rattle.host.proofs.Refused.{too-many}
 use Rattle.host.proofs.pearrummy_check_bytes.Statement.{statement}
 use Rattle.host.proofs.pearrummy_check_bytes.Tie as tie
 
-returns : tie.Need-returns
-returns c = too-many (c .before .before .args .bytes .now) (rw (quarter (c .before .before .args .bytes .now)) at (c .if1 .taken))
-
-check-in-requires : tie.Need-check-in-requires
-check-in-requires c κs = omega (arith, quarter (c .before .before .before .before .args .bytes .now), c .before .if2 .taken)
-
-check-in-requires-2 : tie.Need-check-in-requires-2
-check-in-requires-2 c κs = omega (arith, quarter (c .before .before .before .before .args .bytes .now), c .before .before .if1 .left)
-
 pub pearrummy-check-bytes-spec : {M : Type 1} → statement M
 pearrummy-check-bytes-spec =
     tie.close
     (tie.spec
-    returns
+    (λ c. too-many (c .before .before .args .bytes .now) (rw (quarter (c .before .before .args .bytes .now)) at (c .if1 .taken)))
     (λ c. search needs)
-    check-in-requires
+    (λ c κs. omega (arith, quarter (c .before .before .before .before .args .bytes .now), c .before .if2 .taken))
     (λ c. search needs)
     (λ c. search needs)
-    check-in-requires-2
+    (λ c κs. omega (arith, quarter (c .before .before .before .before .args .bytes .now), c .before .before .if1 .left))
     (λ c. search needs))

@@ -6,9 +6,10 @@ use lib.ListN.{length, drop}
 use borrow.Author.Tests.{not-true, not-false}
 use borrow.Author.Needs.{needs}
 use Rattle.integers.specs.Lists.{all}
+use Rattle.integers.specs.Number.{+0}
 use Rattle.integers.proofs.Fits.{back}
+use Rattle.integers.proofs.Places.{rest-more, rest-not, rest-end}
 use Rattle.words.specs.Word.{inRange}
-use Rattle.laying.proofs.Counts.{range-more, range-not, range-end}
 use Rattle.laying.proofs.all_in_range.Statement.{statement}
 use Rattle.laying.proofs.all_in_range.Tie as tie
 
@@ -18,23 +19,17 @@ Inv-loop cs k₀ k = (k ≤ length cs) × (all inRange cs ≡ all inRange (drop 
 abbrev μ-loop : tie.MeasureT-loop
 μ-loop cs k₀ k = length cs - k
 
-loop-holds : tie.Need-loop-holds Inv-loop μ-loop
-loop-holds c = (omega arith, refl)
-
 returns : tie.Need-returns Inv-loop μ-loop
 returns c =
     let loop = c .before .before .before .before .loop in
     let loop-test = c .before .before .before .loop-test in
-    sym (loop .inv .1 ∙ range-not _ _ (loop-test .taken) (rw (back _ (c .before .before .in-range-arg .given)) at (sym (c .before .in-range .ensures) ∙ not-true _ (c .if1 .taken))))
+    sym (loop .inv .1 ∙ rest-not inRange +0 _ _ (loop-test .taken) (rw (back _ (c .before .before .in-range-arg .given)) at (sym (c .before .in-range .ensures) ∙ not-true _ (c .if1 .taken))))
 
 loop-again : tie.Need-loop-again Inv-loop μ-loop
 loop-again c =
     let loop = c .before .before .before .before .loop in
     let loop-test = c .before .before .before .loop-test in
-    (omega arith, loop .inv .1 ∙ range-more _ _ (loop-test .taken) (rw (back _ (c .before .before .in-range-arg .given)) at (sym (c .before .in-range .ensures) ∙ not-false _ (c .if1 .left))))
-
-returns-2 : tie.Need-returns-2 Inv-loop μ-loop
-returns-2 c = sym (c .before .loop .inv .1 ∙ range-end _ _ (c .loop-test .left))
+    (omega arith, loop .inv .1 ∙ rest-more inRange +0 _ _ (loop-test .taken) (rw (back _ (c .before .before .in-range-arg .given)) at (sym (c .before .in-range .ensures) ∙ not-false _ (c .if1 .left))))
 
 pub all-in-range-spec : {M : Type 1} → statement M
 all-in-range-spec =
@@ -42,7 +37,7 @@ all-in-range-spec =
     (tie.spec
     Inv-loop
     μ-loop
-    loop-holds
+    (λ c. (omega arith, refl))
     (λ c. search needs)
     (λ c. search needs)
     (λ c κs. search needs)
@@ -50,4 +45,4 @@ all-in-range-spec =
     (λ c. search needs)
     (λ c. search needs)
     loop-again
-    returns-2)
+    (λ c. sym (c .before .loop .inv .1 ∙ rest-end inRange +0 _ _ (c .loop-test .left))))

@@ -14,9 +14,6 @@ Inv-loop out₀ n t₀ k₀ out t k = Laying 10 bitAt n t₀ t out₀ out k
 abbrev μ-loop : tie.MeasureT-loop
 μ-loop out₀ n t₀ k₀ out t k = n - k
 
-returns : tie.Need-returns Inv-loop μ-loop
-returns c = many-counted 2 1 0 1000 (λ k h. sized-bit k) (omega arith, omega arith, omega arith, omega arith) (c .before .if1 .taken) (c .counted .ensures)
-
 loop-again : tie.Need-loop-again Inv-loop μ-loop
 loop-again c =
     let loop-test = c .before .before .before .before .loop-test in
@@ -31,7 +28,7 @@ lay-bits-spec =
     μ-loop
     (λ c. search needs)
     (λ c κs. search needs)
-    returns
+    (λ c. many-counted 2 1 0 1000 (λ k h. sized-bit k) (omega arith, omega arith, omega arith, omega arith) (c .before .if1 .taken) (c .counted .ensures))
     (λ c. begun 10 _ _ _ _)
     (λ c κs. search needs)
     (λ c. search needs)

@@ -1,13 +1,14 @@
 -- What `lay_part` laid is the part's words.
-use mathlib.Core.Path.{ap}
+use mathlib.Core.Path.{ap, sym}
 use mathlib.Core.Bool.{_&&_}
 use native.Mathlib.Omega.{arith}
 use mir.Facts.{toZ-ofZ}
 use borrow.Author.Needs.{needs}
 use Rattle.integers.specs.Lists.{all}
+use Rattle.integers.proofs.Booleans.{and-true}
 use Rattle.words.specs.Word.{inRange}
 use Rattle.laying.specs.Part.{bound, partWords, partNumbers, partAuxiliaries, partRows}
-use Rattle.laying.proofs.Parts.{and-true, went-one}
+use Rattle.laying.proofs.Parts.{went-one}
 use Rattle.laying.proofs.lay_bound.Statement.{statement}
 use Rattle.laying.proofs.lay_bound.Tie as tie
 
@@ -23,7 +24,7 @@ returns c =
     let lay-part = c .before .before .lay-part in
     let a = p in
     let w = simp (number-word .ensures, number-word2 .ensures, both .ensures, in-range .ensures, in-range2 .ensures, toZ-ofZ (a .fits .lower), toZ-ofZ (a .fits .upper)) at (lay-part .ensures) in
-    (went-one (bound (a .args .lower) (a .args .upper)) w (ap (λ b. inRange (a .args .lower) && b) (and-true _)), omega (arith, w .words, w .auxiliaries, w .rows))
+    (went-one (bound (a .args .lower) (a .args .upper)) w (ap (λ b. inRange (a .args .lower) && b) (sym (and-true _))), omega (arith, w .words, w .auxiliaries, w .rows))
 
 pub lay-bound-spec : {M : Type 1} → statement M
 lay-bound-spec =

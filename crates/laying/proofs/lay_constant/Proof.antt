@@ -2,9 +2,11 @@
 use native.Mathlib.Omega.{arith}
 use mir.Facts.{toZ-ofZ}
 use borrow.Author.Needs.{needs}
+use mathlib.Core.Path.{sym}
 use Rattle.integers.specs.Lists.{all}
+use Rattle.integers.proofs.Booleans.{and-true}
 use Rattle.laying.specs.Part.{constant, partWords, partNumbers, partAuxiliaries, partRows}
-use Rattle.laying.proofs.Parts.{and-true, went-one}
+use Rattle.laying.proofs.Parts.{went-one}
 use Rattle.laying.proofs.lay_constant.Statement.{statement}
 use Rattle.laying.proofs.lay_constant.Tie as tie
 
@@ -17,7 +19,7 @@ returns c =
     let lay-part = c .before .before .lay-part in
     let a = p in
     let w = simp (number-word .ensures, in-range .ensures, toZ-ofZ (a .fits .c)) at (lay-part .ensures) in
-    (went-one (constant (a .args .c)) w (and-true _), omega (arith, w .words, w .auxiliaries, w .rows))
+    (went-one (constant (a .args .c)) w (sym (and-true _)), omega (arith, w .words, w .auxiliaries, w .rows))
 
 pub lay-constant-spec : {M : Type 1} → statement M
 lay-constant-spec =

@@ -7,9 +7,10 @@ use mir.Syntax.{w64}
 use mir.Val.{toZ}
 use borrow.Author.Needs.{needs}
 use borrow.Author.Tests.{leb-true}
+use Rattle.integers.proofs.Booleans.{both-true}
 use Rattle.arguments.proofs.Size.{size-le}
 use Rattle.laying.specs.Lists.{eachAt}
-use Rattle.laying.proofs.Parts.{Laying, begun, more, done, went-length, both-true}
+use Rattle.laying.proofs.Parts.{Laying, begun, more, done, went-length}
 use Rattle.laying.proofs.Counts.{sized-term, many-counted}
 use Rattle.laying.proofs.lay_each.Statement.{statement}
 use Rattle.laying.proofs.lay_each.Tie as tie

@@ -24,9 +24,6 @@ loop-again c =
     let l = p in
     more (l .loop-test .taken) (l .before .loop .inv) (rw (back (getD (l .before .before .before .before .args .cs .now) (l .before .loop .k) (pos 0)) (lay-term-arg2 .given)) at (lay-term .ensures))
 
-returns : tie.Need-returns Inv-loop μ-loop
-returns c = done 1000 (omega arith) (c .loop-test .left) (c .before .loop .inv)
-
 pub lay-given-spec : {M : Type 1} → statement M
 lay-given-spec =
     tie.close
@@ -43,4 +40,4 @@ lay-given-spec =
     (λ c. search needs)
     loop-again
     (λ c. went-length (c .before .loop .inv .went))
-    returns)
+    (λ c. done 1000 (omega arith) (c .loop-test .left) (c .before .loop .inv)))

@@ -9,8 +9,9 @@ use mir.Val.{toZ}
 use borrow.Author.Needs.{needs}
 use borrow.Author.Tests.{leb-true}
 use Rattle.integers.proofs.Fits.{back, fits64}
+use Rattle.integers.proofs.Booleans.{both-true}
 use Rattle.laying.specs.Lists.{labelAt}
-use Rattle.laying.proofs.Parts.{Laying, begun, more, done, went-length, both-true}
+use Rattle.laying.proofs.Parts.{Laying, begun, more, done, went-length}
 use Rattle.laying.proofs.Counts.{sized-label, many-counted}
 use Rattle.laying.proofs.lay_labels.Statement.{statement}
 use Rattle.laying.proofs.lay_labels.Tie as tie
@@ -45,9 +46,6 @@ returns c =
     let l = rw (back (plus .result) (plus .ok), plus .ensures, toZ-ofZ (s .fits .from), n) at (sym (in-range2 .ensures) ∙ r .1) in
     many-counted 2 0 0 1000 (sized-label (s .args .from) (s .args .v) (s .args .n) f l) (omega arith, omega arith, omega arith, omega arith) (leb-true _ _ (t .0)) (c .counted .ensures)
 
-cast-plus-2 : tie.Need-cast-plus-2 Inv-loop μ-loop
-cast-plus-2 c = fits64 (pos (c .before .before .loop .k)) (omega arith)
-
 plus-requires-2 : tie.Need-plus-requires-2 Inv-loop μ-loop
 plus-requires-2 c κs =
     let s = c .before .before .before .before .before .before .before .before .before .before .before in
@@ -81,7 +79,7 @@ lay-labels-spec =
     (λ c κs. search needs)
     returns
     (λ c. begun 10 _ _ _ _)
-    cast-plus-2
+    (λ c. fits64 (pos (c .before .before .loop .k)) (omega arith))
     plus-requires-2
     (λ c. search needs)
     (λ c κs. search needs)

@@ -6,9 +6,6 @@ use Rattle.arguments.proofs.Size.{read}
 use Rattle.laying.proofs.lay_only_negative.Statement.{statement}
 use Rattle.laying.proofs.lay_only_negative.Tie as tie
 
-plus-requires : tie.Need-plus-requires
-plus-requires c κs = rw (toZ-ofZ (c .before .fits .u)) (omega (arith, c .before .pre .1))
-
 opposite-requires : tie.Need-opposite-requires
 opposite-requires c κs =
     let s = c .before .before .before .before .before in
@@ -25,7 +22,7 @@ pub lay-only-negative-spec : {M : Type 1} → statement M
 lay-only-negative-spec =
     tie.close
     (tie.spec
-    plus-requires
+    (λ c κs. rw (toZ-ofZ (c .before .fits .u)) (omega (arith, c .before .pre .1)))
     (λ c. search needs)
     (λ c. search needs)
     opposite-requires

@@ -14,9 +14,6 @@ Inv-loop out₀ args base m n up t₀ k₀ out t k = Laying 2000 (orderAt args b
 abbrev μ-loop : tie.MeasureT-loop
 μ-loop out₀ args base m n up t₀ k₀ out t k = n - k
 
-returns : tie.Need-returns Inv-loop μ-loop
-returns c = many-counted 6 0 1 200000 (λ k h. sized-pair _ _ _) (omega arith, omega arith, omega arith, omega arith) (c .before .if1 .taken) (c .counted .ensures)
-
 loop-again : tie.Need-loop-again Inv-loop μ-loop
 loop-again c =
     let v = c .before .before .before .before .before .before .before .before in
@@ -30,7 +27,7 @@ lay-order-spec =
     μ-loop
     (λ c. search needs)
     (λ c κs. search needs)
-    returns
+    (λ c. many-counted 6 0 1 200000 (λ k h. sized-pair _ _ _) (omega arith, omega arith, omega arith, omega arith) (c .before .if1 .taken) (c .counted .ensures))
     (λ c. begun 2000 _ _ _ _)
     (λ c. search needs)
     (λ c κs. search needs)

@@ -14,9 +14,6 @@ Inv-loop out₀ args base z b n t₀ k₀ out t k = Laying 10 (productAt args ba
 abbrev μ-loop : tie.MeasureT-loop
 μ-loop out₀ args base z b n t₀ k₀ out t k = n - k
 
-returns : tie.Need-returns Inv-loop μ-loop
-returns c = many-counted 4 0 1 1000 (λ k h. sized-times _ _ _) (omega arith, omega arith, omega arith, omega arith) (c .before .if1 .taken) (c .counted .ensures)
-
 loop-again : tie.Need-loop-again Inv-loop μ-loop
 loop-again c =
     let loop-test = c .before .before .before .before .before .loop-test in
@@ -32,7 +29,7 @@ lay-products-spec =
     μ-loop
     (λ c. search needs)
     (λ c κs. search needs)
-    returns
+    (λ c. many-counted 4 0 1 1000 (λ k h. sized-times _ _ _) (omega arith, omega arith, omega arith, omega arith) (c .before .if1 .taken) (c .counted .ensures))
     (λ c. begun 10 _ _ _ _)
     (λ c. search needs)
     (λ c. search needs)

@@ -9,9 +9,10 @@ use lib.Dec.{leb}
 use lib.ListN.{length}
 use borrow.Author.Needs.{needs}
 use borrow.Author.Tests.{leb-true}
+use Rattle.integers.proofs.Booleans.{both-true}
 use Rattle.words.proofs.Overlay.{length-overlay}
 use Rattle.laying.specs.Lists.{sameAt}
-use Rattle.laying.proofs.Parts.{Laying, begun, more, done, went-length, both-true}
+use Rattle.laying.proofs.Parts.{Laying, begun, more, done, went-length}
 use Rattle.laying.proofs.Counts.{sized-term, many-counted, many-laid}
 use Rattle.laying.proofs.lay_same.Statement.{statement}
 use Rattle.laying.proofs.lay_same.Tie as tie

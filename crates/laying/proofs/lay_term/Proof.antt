@@ -2,9 +2,11 @@
 use native.Mathlib.Omega.{arith}
 use mir.Facts.{toZ-ofZ}
 use borrow.Author.Needs.{needs}
+use mathlib.Core.Path.{sym}
 use Rattle.integers.specs.Lists.{all}
+use Rattle.integers.proofs.Booleans.{and-true}
 use Rattle.laying.specs.Part.{term, partWords, partNumbers, partAuxiliaries, partRows}
-use Rattle.laying.proofs.Parts.{and-true, went-one}
+use Rattle.laying.proofs.Parts.{went-one}
 use Rattle.laying.proofs.lay_term.Statement.{statement}
 use Rattle.laying.proofs.lay_term.Tie as tie
 
@@ -18,7 +20,7 @@ returns c =
     let lay-part = c .before .before .lay-part in
     let a = p in
     let w = simp (word-of .ensures, number-word .ensures, in-range .ensures, toZ-ofZ (a .fits .coefficient)) at (lay-part .ensures) in
-    (went-one (term (a .args .coefficient) (a .args .v)) w (and-true _), omega (arith, w .words, w .auxiliaries, w .rows))
+    (went-one (term (a .args .coefficient) (a .args .v)) w (sym (and-true _)), omega (arith, w .words, w .auxiliaries, w .rows))
 
 pub lay-term-spec : {M : Type 1} → statement M
 lay-term-spec =

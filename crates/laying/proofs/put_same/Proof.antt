@@ -26,12 +26,6 @@ abbrev μ-loop : tie.MeasureT-loop
 same : (c : tie.At-loop Inv-loop μ-loop) → length (c .loop .out) ≡ length (c .before .before .before .args .out .now)
 same c = ap length (c .loop .inv .1) ∙ length-overlay _ _ _
 
-slice-write-out : tie.Need-slice-write-out Inv-loop μ-loop
-slice-write-out c = omega (arith, same (c .before .before), c .before .before .before .before .before .pre .0, c .before .loop-test .taken)
-
-slice-write-out-2 : tie.Need-slice-write-out-2 Inv-loop μ-loop
-slice-write-out-2 c = rw length-set (omega (arith, same (c .before .before), c .before .before .before .before .before .pre .0, c .before .loop-test .taken))
-
 loop-again : tie.Need-loop-again Inv-loop μ-loop
 loop-again c =
     let number-word = c .before .before .before .number-word in
@@ -57,10 +51,10 @@ put-same-spec =
     (λ c. search needs)
     (λ c κs. search needs)
     (λ c. search needs)
-    slice-write-out
+    (λ c. omega (arith, same (c .before .before), c .before .before .before .before .before .pre .0, c .before .loop-test .taken))
     (λ c. search needs)
     (λ c. search needs)
-    slice-write-out-2
+    (λ c. rw length-set (omega (arith, same (c .before .before), c .before .before .before .before .before .pre .0, c .before .loop-test .taken)))
     (λ c. search needs)
     (λ c. search needs)
     loop-again

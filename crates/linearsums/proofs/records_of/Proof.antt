@@ -13,16 +13,10 @@ Inv-loop ls us variables records₀ v₀ records v = Filling ls us records v
 abbrev μ-loop : tie.MeasureT-loop
 μ-loop ls us variables records₀ v₀ records v = variables - v
 
-loop-holds : tie.Need-loop-holds Inv-loop μ-loop
-loop-holds c = begun _ _
-
 loop-again : tie.Need-loop-again Inv-loop μ-loop
 loop-again c =
     let loop = c .before .before .before .loop in
     rw (read (c .before .bound-at .ok) (c .before .bound-at .ensures), read (c .bound-at2 .ok) (c .bound-at2 .ensures)) (more (loop .inv) (omega (arith, c .before .before .loop-test .taken, c .before .before .before .before .pre .0)))
-
-returns : tie.Need-returns Inv-loop μ-loop
-returns c = done (c .before .loop .inv) _ (c .loop-test .left) (c .before .before .pre .1)
 
 pub records-of-spec : {M : Type 1} → statement M
 records-of-spec =
@@ -30,7 +24,7 @@ records-of-spec =
     (tie.spec
     Inv-loop
     μ-loop
-    loop-holds
+    (λ c. begun _ _)
     (λ c κs. search needs)
     (λ c κs. search needs)
     (λ c. search needs)
@@ -38,4 +32,4 @@ records-of-spec =
     (λ c. search needs)
     (λ c. search needs)
     loop-again
-    returns)
+    (λ c. done (c .before .loop .inv) _ (c .loop-test .left) (c .before .before .pre .1)))

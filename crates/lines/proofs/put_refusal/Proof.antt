@@ -17,14 +17,8 @@ place-ends c = omega (arith, place-fits (c .before .before .before .before .befo
 put-decimal-requires : tie.Need-put-decimal-requires
 put-decimal-requires c κs = omega (arith, number-fits (c .before .before .before .before .before .before .before .before .args .r .number) (c .before .before .before .before .before .before .struct-known .given .0 .fits), c .before .before .before .put-bytes .ensures .ends)
 
-add-put-decimal : tie.Need-add-put-decimal
-add-put-decimal c = omega (arith, number-ends (c .before .before .before .before .before .before .before))
-
 put-decimal-requires-2 : tie.Need-put-decimal-requires-2
 put-decimal-requires-2 c κs = omega (arith, place-fits (c .before .before .before .before .before .before .before .before .before .before .before .before .before .before .before .before .args .r .place) (c .before .before .before .before .before .before .before .before .before .before .before .before .before .before .struct-known .given .1 .0 .fits), number-ends (c .before .before .before .before .before .before .before))
-
-add-result : tie.Need-add-result
-add-result c = omega (arith, place-ends (c .before .before .before .before .before .before))
 
 returns : tie.Need-returns
 unfolding bytes listOf
@@ -49,9 +43,9 @@ put-refusal-spec =
     (λ c κs. search needs)
     put-decimal-requires
     (λ c κs. search needs)
-    add-put-decimal
+    (λ c. omega (arith, number-ends (c .before .before .before .before .before .before .before)))
     put-decimal-requires-2
     (λ c κs. search needs)
-    add-result
+    (λ c. omega (arith, place-ends (c .before .before .before .before .before .before)))
     (λ c. search needs)
     returns)

@@ -21,9 +21,6 @@ abbrev μ-loop : tie.MeasureT-loop
 ended : (c : tie.After-loop Inv-loop μ-loop) → LaidAt (c .before .before .before .before .args .page .now) 0 (wordLines (c .before .before .before .before .args .words .now)) (c .before .loop .page) (c .before .loop .to)
 ended c = none-left (same-rest (words-none (c .before .before .before .before .args .words .now) (c .before .loop .k) (c .loop-test .left)) (c .before .loop .inv .1))
 
-loop-holds : tie.Need-loop-holds Inv-loop μ-loop
-loop-holds c = ((search needs, search needs), all-left _ _ _)
-
 loop-again : tie.Need-loop-again Inv-loop μ-loop
 loop-again c =
     let s = c .before .before .before .before .before .before .before .before .before in
@@ -33,24 +30,18 @@ loop-again c =
       lay-part (same-rest (words-then (s .args .words .now) (l .k) (c .before .before .before .before .before .loop-test .taken)) (l .inv .1)) (put .ensures),
     )
 
-same-length : tie.Need-same-length Inv-loop μ-loop
-same-length c = laid-length (ended c)
-
-returns : tie.Need-returns Inv-loop μ-loop
-returns c = ended c
-
 pub put-word-lines-spec : {M : Type 1} → statement M
 put-word-lines-spec =
     tie.close
     (tie.spec
     Inv-loop
     μ-loop
-    loop-holds
+    (λ c. ((search needs, search needs), all-left _ _ _))
     (λ c. search needs)
     (λ c. search needs)
     (λ c κs. search needs)
     (λ c. search needs)
     (λ c. search needs)
     loop-again
-    same-length
-    returns)
+    (λ c. laid-length (ended c))
+    (λ c. ended c))

@@ -36,33 +36,6 @@ said c =
     let at = getD (s .args .heads .now) (c .before .before .before .before .before .before .loop .k) 0 in
     sym (c .holds .ensures ∙ rw (c .before .before .payload-of .ensures, tail-is (s .args .ws .now) (at + 1)))
 
-loop-holds : tie.Need-loop-holds Inv-loop μ-loop
-loop-holds c = (omega arith, none-passed _ _)
-
-mul-at : tie.Need-mul-at Inv-loop μ-loop
-mul-at c = record { fits = omega (arith, c .loop-test .taken, c .before .before .before .pre .0 .room) }
-
-element-copy-out-at : tie.Need-element-copy-out-at Inv-loop μ-loop
-element-copy-out-at c = omega (arith, c .loop-test .taken, c .before .before .before .pre .0 .room)
-
-mul-payload-of : tie.Need-mul-payload-of Inv-loop μ-loop
-mul-payload-of c = let h = inside (c .before) in search needs
-
-shared-slice-read-payload-of : tie.Need-shared-slice-read-payload-of Inv-loop μ-loop
-shared-slice-read-payload-of c = inside (c .before .before)
-
-add-holds : tie.Need-add-holds Inv-loop μ-loop
-add-holds c = let h = inside (c .before .before .before) in search needs
-
-mul-holds : tie.Need-mul-holds Inv-loop μ-loop
-mul-holds c = let h = inside (c .before .before .before) in search needs
-
-sub-holds : tie.Need-sub-holds Inv-loop μ-loop
-sub-holds c = let h = inside (c .before .before .before) in search needs
-
-part-holds-start : tie.Need-part-holds-start Inv-loop μ-loop
-part-holds-start c = omega (arith, inside (c .before .before .before))
-
 returns : tie.Need-returns Inv-loop μ-loop
 unfolding verdict
 returns c =
@@ -88,16 +61,16 @@ first-false-spec =
     (tie.spec
     Inv-loop
     μ-loop
-    loop-holds
-    mul-at
-    element-copy-out-at
-    mul-payload-of
-    shared-slice-read-payload-of
+    (λ c. (omega arith, none-passed _ _))
+    (λ c. record { fits = omega (arith, c .loop-test .taken, c .before .before .before .pre .0 .room) })
+    (λ c. omega (arith, c .loop-test .taken, c .before .before .before .pre .0 .room))
+    (λ c. let h = inside (c .before) in search needs)
+    (λ c. inside (c .before .before))
     (λ c κs. search needs)
-    add-holds
-    mul-holds
-    sub-holds
-    part-holds-start
+    (λ c. let h = inside (c .before .before .before) in search needs)
+    (λ c. let h = inside (c .before .before .before) in search needs)
+    (λ c. let h = inside (c .before .before .before) in search needs)
+    (λ c. omega (arith, inside (c .before .before .before)))
     (λ c. search needs)
     (λ c κs. search needs)
     returns

@@ -42,9 +42,6 @@ returns c =
     let s = c .before .before .before in
     rw (← s .pre .refusal) (first-answers (s .args .read .number) (s .args .read .place) (countFault (s .args .ws .now) (s .args .values .now)) _ (c .if1 .taken))
 
-slice-aggregate-judge-values : tie.Need-slice-aggregate-judge-values
-slice-aggregate-judge-values c = sym (length-take-le _ _ (front-inside (kept (c .before))))
-
 first-false-requires : tie.Need-first-false-requires
 first-false-requires c κs =
     let p = c .before .before .before .before in
@@ -67,7 +64,7 @@ judge-read-spec =
     tie.close
     (tie.spec
     returns
-    slice-aggregate-judge-values
+    (λ c. sym (length-take-le _ _ (front-inside (kept (c .before)))))
     (λ c κs. search needs)
     (λ c κs. search needs)
     first-false-requires

@@ -20,25 +20,10 @@ Inv-loop name names i₀ k₀ i k =
 abbrev μ-loop : tie.MeasureT-loop
 μ-loop name names i₀ k₀ i k = length names - i
 
-loop-holds : tie.Need-loop-holds Inv-loop μ-loop
-loop-holds c = (omega arith, omega arith, refl)
-
-next-token-requires : tie.Need-next-token-requires Inv-loop μ-loop
-next-token-requires c κs = omega (arith, c .loop-test .taken)
-
 returns : tie.Need-returns Inv-loop μ-loop
 returns c =
     let s = c .before .before .before .before in
     sym (s .loop .inv .2 ∙ none-spelled (s .before .before .before .args .name .now) (s .loop .k) (met-end (c .before .before .next-token .ensures) (c .if1 .taken)))
-
-sub-same-bytes : tie.Need-sub-same-bytes Inv-loop μ-loop
-sub-same-bytes c = let m = c .before .before .next-token .ensures in omega (arith, m .longer (c .if1 .left))
-
-part-same-bytes-start : tie.Need-part-same-bytes-start Inv-loop μ-loop
-part-same-bytes-start c = let m = c .before .before .next-token .ensures in omega (arith, m .longer (c .if1 .left))
-
-part-same-bytes-end : tie.Need-part-same-bytes-end Inv-loop μ-loop
-part-same-bytes-end c = c .before .before .next-token .ensures .inside
 
 returns-2 : tie.Need-returns-2 Inv-loop μ-loop
 unfolding spanned
@@ -77,12 +62,12 @@ place-among-spec =
     (tie.spec
     Inv-loop
     μ-loop
-    loop-holds
-    next-token-requires
+    (λ c. (omega arith, omega arith, refl))
+    (λ c κs. omega (arith, c .loop-test .taken))
     returns
-    sub-same-bytes
-    part-same-bytes-start
-    part-same-bytes-end
+    (λ c. let m = c .before .before .next-token .ensures in omega (arith, m .longer (c .if1 .left)))
+    (λ c. let m = c .before .before .next-token .ensures in omega (arith, m .longer (c .if1 .left)))
+    (λ c. c .before .before .next-token .ensures .inside)
     (λ c κs. search needs)
     (λ c. search needs)
     returns-2

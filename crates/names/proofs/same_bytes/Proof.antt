@@ -15,9 +15,6 @@ Inv-loop a b i₀ i = (i ≤ length a) × (i ≤ length b) × (same a b ≡ same
 abbrev μ-loop : tie.MeasureT-loop
 μ-loop a b i₀ i = length a - i
 
-loop-holds : tie.Need-loop-holds Inv-loop μ-loop
-loop-holds c = (omega arith, omega arith, refl)
-
 loop-again : tie.Need-loop-again Inv-loop μ-loop
 loop-again c = (omega (arith, c .before .before .before .before .loop-test .taken), omega (arith, c .before .before .before .if1 .taken), c .before .before .before .before .before .loop .inv .2 ∙ same-on (c .before .before .before .before .before .before .args .a .now) (c .before .before .before .before .before .before .args .b .now) (c .before .before .before .before .before .loop .i) (c .before .before .before .before .loop-test .taken) (c .before .before .before .if1 .taken) (c .if2 .taken))
 
@@ -36,7 +33,7 @@ same-bytes-spec =
     (tie.spec
     Inv-loop
     μ-loop
-    loop-holds
+    (λ c. (omega arith, omega arith, refl))
     (λ c. search needs)
     (λ c. search needs)
     (λ c. search needs)

@@ -4,12 +4,13 @@ use mathlib.Core.Bool.{false}
 use Prim.Native.Nat.{ℕ, _+_, _-_, _≤_}
 use native.Mathlib.Omega.{arith}
 use borrow.Author.Needs.{needs}
+use Rattle.integers.proofs.Booleans.{bit-le}
 use lib.Dec.{eqb}
 use lib.ListN.{length, take, drop}
 use Rattle.tokens.specs.Unread.{unread, spanned}
 use Rattle.names.specs.Name.{lookUp, declaredFrom}
 use Rattle.tokens.proofs.Places.{none-left, met-token, met-end}
-use Rattle.names.proofs.Names.{look-end, look-past, look-here, look-on, one-at-most}
+use Rattle.names.proofs.Names.{look-end, look-past, look-here, look-on}
 use Rattle.names.proofs.variable_of.Statement.{statement}
 use Rattle.names.proofs.variable_of.Tie as tie
 
@@ -21,15 +22,6 @@ Inv-loop text place stop i₀ k₀ after-colon₀ i k after-colon =
 
 abbrev μ-loop : tie.MeasureT-loop
 μ-loop text place stop i₀ k₀ after-colon₀ i k after-colon = length text - i
-
-loop-holds : tie.Need-loop-holds Inv-loop μ-loop
-loop-holds c = (omega arith, omega arith, refl)
-
-next-token-requires : tie.Need-next-token-requires Inv-loop μ-loop
-next-token-requires c κs = omega (arith, c .loop-test .taken)
-
-returns : tie.Need-returns Inv-loop μ-loop
-returns c = let s = c .before .before .before .before in sym (s .loop .inv .2 ∙ look-end _ _ _ _ (met-end (c .before .before .next-token .ensures) (c .if1 .taken)))
 
 returns-2 : tie.Need-returns-2 Inv-loop μ-loop
 unfolding spanned
@@ -50,7 +42,7 @@ returns-3 c =
     sym (s .loop .inv .2 ∙ look-here _ _ _ _ (spanned (s .before .before .args .text .now) (t .next-token .result)) m (c .before .before .if2 .left) (c .before .is-declared-here .ensures) (c .if3 .taken))
 
 add-k : tie.Need-add-k Inv-loop μ-loop
-add-k c = omega (arith, one-at-most (c .before .before .before .before .before .before .before .before .before .loop .after-colon), c .one-if .ensures, c .before .before .before .before .before .before .before .before .before .loop .inv .1, c .before .before .before .before .before .before .before .before .loop-test .taken)
+add-k c = omega (arith, bit-le (c .before .before .before .before .before .before .before .before .before .loop .after-colon), c .one-if .ensures, c .before .before .before .before .before .before .before .before .before .loop .inv .1, c .before .before .before .before .before .before .before .before .loop-test .taken)
 
 loop-less : tie.Need-loop-less Inv-loop μ-loop
 loop-less c =
@@ -69,14 +61,11 @@ loop-again c =
     let m = t .next-token .ensures in
     let one = c .before .one-if .ensures in (
       m .inside,
-      omega (arith, one-at-most (s .loop .after-colon), one, s .loop .inv .1, m .longer (c .before .before .before .before .before .before .if1 .left), m .onward),
+      omega (arith, bit-le (s .loop .after-colon), one, s .loop .inv .1, m .longer (c .before .before .before .before .before .before .if1 .left), m .onward),
       s .loop .inv .2
           ∙ look-on x (s .loop .k) (a .place) (s .loop .after-colon) (spanned (a .text .now) r) (met-token m (c .before .before .before .before .before .before .if1 .left)) (c .before .before .before .before .if2 .left) (c .before .before .before .is-declared-here .ensures) (c .before .before .if3 .left)
           ∙ ap (λ (n : ℕ). lookUp x (s .loop .k + n) (declaredFrom (eqb (r .sort) 58) (a .place) (unread (a .text .now) (r .stop)))) (sym one),
     )
-
-returns-4 : tie.Need-returns-4 Inv-loop μ-loop
-returns-4 c = let s = c .before in sym (s .loop .inv .2 ∙ look-end _ _ _ _ (none-left (s .before .before .args .text .now) (s .loop .i) (c .loop-test .left)))
 
 pub variable-of-spec : {M : Type 1} → statement M
 variable-of-spec =
@@ -84,9 +73,9 @@ variable-of-spec =
     (tie.spec
     Inv-loop
     μ-loop
-    loop-holds
-    next-token-requires
-    returns
+    (λ c. (omega arith, omega arith, refl))
+    (λ c κs. omega (arith, c .loop-test .taken))
+    (λ c. let s = c .before .before .before .before in sym (s .loop .inv .2 ∙ look-end _ _ _ _ (met-end (c .before .before .next-token .ensures) (c .if1 .taken))))
     returns-2
     is-declared-here-requires
     (λ c. search needs)
@@ -95,4 +84,4 @@ variable-of-spec =
     add-k
     loop-less
     loop-again
-    returns-4)
+    (λ c. let s = c .before in sym (s .loop .inv .2 ∙ look-end _ _ _ _ (none-left (s .before .before .args .text .now) (s .loop .i) (c .loop-test .left)))))

@@ -15,30 +15,18 @@ Inv-loop ws table i₀ i = Passed (endsTable if table else separates) ws i
 abbrev μ-loop : tie.MeasureT-loop
 μ-loop ws table i₀ i = length ws - i
 
-loop-holds : tie.Need-loop-holds Inv-loop μ-loop
-loop-holds c = begun _ _
-
-returns : tie.Need-returns Inv-loop μ-loop
-returns c = no-more _ (c .before .before .before .before .loop .inv) (c .before .before .before .loop-test .taken) (sym (c .before .stops .ensures) ∙ c .if1 .taken)
-
-loop-again : tie.Need-loop-again Inv-loop μ-loop
-loop-again c = one-more _ (c .before .before .before .before .loop .inv) (c .before .before .before .loop-test .taken) (sym (c .before .stops .ensures) ∙ c .if1 .left)
-
-returns-2 : tie.Need-returns-2 Inv-loop μ-loop
-returns-2 c = at-end _ (c .before .loop .inv) (c .loop-test .left)
-
 pub words-before-spec : {M : Type 1} → statement M
 words-before-spec =
     tie.close
     (tie.spec
     Inv-loop
     μ-loop
-    loop-holds
+    (λ c. begun _ _)
     (λ c. search needs)
     (λ c. search needs)
     (λ c κs. search needs)
-    returns
+    (λ c. no-more _ (c .before .before .before .before .loop .inv) (c .before .before .before .loop-test .taken) (sym (c .before .stops .ensures) ∙ c .if1 .taken))
     (λ c. search needs)
     (λ c. search needs)
-    loop-again
-    returns-2)
+    (λ c. one-more _ (c .before .before .before .before .loop .inv) (c .before .before .before .loop-test .taken) (sym (c .before .stops .ensures) ∙ c .if1 .left))
+    (λ c. at-end _ (c .before .loop .inv) (c .loop-test .left)))

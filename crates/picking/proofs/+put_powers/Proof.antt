@@ -6,7 +6,8 @@ use mir.Facts.{toZ-ofZ}
 use borrow.Fn.Kinds.{In}
 use borrow.Fn.PlainCycle.{Measures, is, falls, and}
 use Rattle.words.proofs.Rest.{laid-length}
-use Rattle.picking.proofs.Powers.{near-back, powers-one, half-ranged, square-in, odd-in, square-put, even-put, odd-put}
+use Rattle.words.proofs.Word.{near-back}
+use Rattle.picking.proofs.Powers.{powers-one, half-ranged, square-in, odd-in, square-put, even-put, odd-put}
 use Rattle.picking.proofs.put_powers.Reads as put-powers
 use Rattle.picking.proofs.put_powers.Kinds as put-powers-kinds
 use Rattle.picking.proofs.+put_powers.Lts-put_powers as put-powers-lts

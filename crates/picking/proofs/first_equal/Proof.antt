@@ -25,9 +25,6 @@ abbrev μ-loop : tie.MeasureT-loop
 tested : (c : tie.After-equal Inv-loop μ-loop) → c .equal .result ≡ (value (c .before .before .before .before .before .before .args .values .now) (var (c .before .before .before .before .before .before .args .args .now) (c .before .before .before .before .before .before .args .i + 1 + c .before .before .before .loop .k)) == toZ w64 (ofZ w64 (c .before .before .before .before .before .before .args .v)))
 tested c = c .equal .ensures ∙ rw (back (c .before .value-of .result) (c .before .value-of .ok), c .before .value-of .ensures)
 
-loop-holds : tie.Need-loop-holds Inv-loop μ-loop
-loop-holds c = (search needs, omega (arith, size-le (c .before .before .args .args .now) (c .before .before .args .i)), λ j l. absurd (omega arith))
-
 returns : tie.Need-returns Inv-loop μ-loop
 returns c = (
   omega arith,
@@ -59,7 +56,7 @@ first-equal-spec =
     Inv-loop
     μ-loop
     (λ c κs. search needs)
-    loop-holds
+    (λ c. (search needs, omega (arith, size-le (c .before .before .args .args .now) (c .before .before .args .i)), λ j l. absurd (omega arith)))
     (λ c. search needs)
     (λ c. search needs)
     (λ c κs. search needs)

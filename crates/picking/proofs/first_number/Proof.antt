@@ -23,9 +23,6 @@ abbrev μ-loop : tie.MeasureT-loop
 tested : (c : tie.After-equal Inv-loop μ-loop) → c .equal .result ≡ (getD (c .before .before .before .before .args .numbers .now) (c .before .before .before .loop .k) +0 == toZ w64 (ofZ w64 (c .before .before .before .before .args .v)))
 tested c = c .equal .ensures ∙ rw (back (c .before .bound-at .result) (c .before .bound-at .ok), c .before .bound-at .ensures)
 
-loop-holds : tie.Need-loop-holds Inv-loop μ-loop
-loop-holds c = (search needs, λ j l. absurd (omega arith))
-
 returns : tie.Need-returns Inv-loop μ-loop
 returns c =
     record {
@@ -52,7 +49,7 @@ first-number-spec =
     (tie.spec
     Inv-loop
     μ-loop
-    loop-holds
+    (λ c. (search needs, λ j l. absurd (omega arith)))
     (λ c κs. search needs)
     (λ c κs. search needs)
     returns

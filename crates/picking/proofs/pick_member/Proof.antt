@@ -50,9 +50,6 @@ put-only-requires c κs =
     let p = c .before .before .before .before .before in
     (omega (arith, many p, let a = s .args in members-length (a .args .now) 1 (getD (a .ls .now) (var (a .args .now) 0) +0 to getD (a .us .now) (var (a .args .now) 0) +0)), bits-ranged (members .result) (c .before .first-number .result))
 
-returns : tie.Need-returns
-returns c = rw (picks (c .before .before .before)) (c .before .put-only .ensures)
-
 pub pick-member-spec : {M : Type 1} → statement M
 pick-member-spec =
     tie.close
@@ -67,4 +64,4 @@ pick-member-spec =
     (λ c κs. search needs)
     put-only-requires
     (λ c. search needs)
-    returns)
+    (λ c. rw (picks (c .before .before .before)) (c .before .put-only .ensures)))

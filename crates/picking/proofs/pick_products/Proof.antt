@@ -9,13 +9,14 @@ use Rattle.integers.specs.Number.{count}
 use Rattle.integers.specs.Bounds.{_to_, width}
 use Rattle.integers.specs.Terms.{value}
 use Rattle.integers.proofs.Fits.{back}
+use Rattle.integers.proofs.Sums.{count-le}
 use Rattle.words.specs.Small.{Near}
 use Rattle.models.specs.Model.{var}
 use Rattle.arguments.proofs.Size.{value-near}
 use Rattle.extremes.proofs.Size.{width-size}
 use Rattle.picking.specs.Picked.{productPicks}
 use Rattle.picking.specs.Only.{onlyAt}
-use Rattle.picking.proofs.Sizes.{labels-near, count-le}
+use Rattle.picking.proofs.Sizes.{labels-near}
 use Rattle.picking.proofs.Codes.{product-picks, firstLabel, lastLabel}
 use Rattle.picking.proofs.pick_products.Statement.{statement}
 use Rattle.picking.proofs.pick_products.Tie as tie
@@ -38,9 +39,6 @@ picks c =
 
 counted : (c : tie.After-count-of) → c .count-of .result ≡ count (value (c .before .before .before .before .before .before .before .before .args .values .now) (var (c .before .before .before .before .before .before .before .before .args .args .now) 0))
 counted c = c .count-of .ensures ∙ rw (back (c .before .before .before .value-of .result) (c .before .before .before .value-of .ok), c .before .before .before .value-of .ensures)
-
-width-of-requires : tie.Need-width-of-requires
-width-of-requires c κs = near c
 
 place-of-requires : tie.Need-place-of-requires
 place-of-requires c κs = (rw (back (c .value-of .result) (c .value-of .ok), c .value-of .ensures) (value-near (c .before .before .before .before .before .args .values .now) (c .before .before .before .before .before .pre .3) (var (c .before .before .before .before .before .args .args .now) 0)), near (c .before .before) .0)
@@ -67,7 +65,7 @@ pick-products-spec =
     (tie.spec
     (λ c κs. search needs)
     (λ c κs. search needs)
-    width-of-requires
+    (λ c κs. near c)
     (λ c κs. search needs)
     place-of-requires
     (λ c κs. search needs)

@@ -3,8 +3,8 @@ use native.Mathlib.Omega.{arith}
 use mir.Facts.{toZ-ofZ}
 use borrow.Author.Needs.{needs}
 use Rattle.integers.proofs.Fits.{back}
-use Rattle.integers.proofs.Tests.{says-lt}
-use Rattle.picking.proofs.Labels.{not-below, label-at, label-none}
+use Rattle.integers.proofs.Tests.{says-lt, not-below}
+use Rattle.picking.proofs.Labels.{label-at, label-none}
 use Rattle.picking.proofs.place_of.Statement.{statement}
 use Rattle.picking.proofs.place_of.Tie as tie
 

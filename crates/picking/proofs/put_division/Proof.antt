@@ -9,9 +9,6 @@ use Rattle.picking.proofs.Division.{division-pick}
 use Rattle.picking.proofs.put_division.Statement.{statement}
 use Rattle.picking.proofs.put_division.Tie as tie
 
-put-bit-requires-2 : tie.Need-put-bit-requires-2
-put-bit-requires-2 c κs = omega (arith, c .before .before .put-bit .ensures .ends, c .before .before .before .before .before .before .pre .0)
-
 times-requires : tie.Need-times-requires
 times-requires c κs =
     let s = c .before .before .before .before .before .before .before .before .before in
@@ -56,7 +53,7 @@ put-division-spec =
     (λ c κs. search needs)
     (λ c κs. search needs)
     (λ c κs. search needs)
-    put-bit-requires-2
+    (λ c κs. omega (arith, c .before .before .put-bit .ensures .ends, c .before .before .before .before .before .before .pre .0))
     times-requires
     put-pick-requires
     (λ c κs. search needs)

@@ -4,8 +4,8 @@ use native.Mathlib.Omega.{arith}
 use lib.IntN.{natAbs}
 use mir.Facts.{toZ-ofZ}
 use borrow.Author.Needs.{needs}
+use Rattle.words.proofs.Word.{range-near, near-back}
 use Rattle.integers.proofs.Fits.{back, mul-le}
-use Rattle.picking.proofs.Powers.{range-near, near-back}
 use Rattle.picking.proofs.put_next.Statement.{statement}
 use Rattle.picking.proofs.put_next.Tie as tie
 

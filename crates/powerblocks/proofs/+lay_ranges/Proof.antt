@@ -5,9 +5,9 @@ use native.Mathlib.Omega.{arith}
 use mir.Facts.{toZ-ofZ}
 use borrow.Fn.Kinds.{In}
 use borrow.Fn.PlainCycle.{Measures, is, falls, and}
+use Rattle.words.proofs.Word.{near-back}
 use Rattle.integers.specs.Bounds.{_to_}
 use Rattle.laying.proofs.Parts.{went-length}
-use Rattle.powerblocks.proofs.CutBounds.{near-back}
 use Rattle.powerblocks.proofs.Steps.{ranges-one, ranges-even, ranges-odd}
 use Rattle.powerblocks.proofs.lay_ranges.Reads as lay-ranges
 use Rattle.powerblocks.proofs.lay_ranges.Kinds as lay-ranges-kinds

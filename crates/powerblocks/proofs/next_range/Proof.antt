@@ -4,10 +4,11 @@ use native.Mathlib.Omega.{arith}
 use lib.IntN.{natAbs}
 use mir.Facts.{toZ-ofZ}
 use borrow.Author.Needs.{needs}
+use Rattle.words.proofs.Word.{near-back}
 use Rattle.integers.specs.Bounds.{_to_}
 use Rattle.integers.proofs.Fits.{back}
 use Rattle.rules.specs.Parts.{endProducts}
-use Rattle.powerblocks.proofs.CutBounds.{near-cut, near-back}
+use Rattle.powerblocks.proofs.CutBounds.{near-cut}
 use Rattle.powerblocks.proofs.next_range.Statement.{statement}
 use Rattle.powerblocks.proofs.next_range.Tie as tie
 

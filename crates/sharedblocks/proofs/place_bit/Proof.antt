@@ -4,8 +4,8 @@ use Rattle.arguments.proofs.Size.{read}
 use mathlib.Core.Path.{ap₂, _∙_}
 use Prim.Native.Nat.{ℕ, _+_}
 use Rattle.integers.proofs.Fits.{back, minus-size}
+use Rattle.integers.proofs.Sums.{count-le}
 use Rattle.integers.specs.Number.{_⊖_, count}
-use Rattle.extremes.proofs.Size.{count-le}
 use borrow.Author.Needs.{needs}
 use Rattle.sharedblocks.proofs.place_bit.Statement.{statement}
 use Rattle.sharedblocks.proofs.place_bit.Tie as tie

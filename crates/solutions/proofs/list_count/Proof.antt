@@ -15,16 +15,10 @@ Inv-loop ls us n count₀ i₀ count i = Capping (boundsOf ls us) n count i
 abbrev μ-loop : tie.MeasureT-loop
 μ-loop ls us n count₀ i₀ count i = n - i
 
-loop-holds : tie.Need-loop-holds Inv-loop μ-loop
-loop-holds c = begun-count _ _
-
 width-of-requires : tie.Need-width-of-requires Inv-loop μ-loop
 width-of-requires c κs =
     let s = c .before .before .before .before in
     rw (back (c .before .bound-at .result) (c .before .bound-at .ok), c .before .bound-at .ensures, back (c .bound-at2 .result) (c .bound-at2 .ok), c .bound-at2 .ensures) (s .pre .0 _, s .pre .1 _)
-
-mul-capped-count : tie.Need-mul-capped-count Inv-loop μ-loop
-mul-capped-count c = omega (arith, mul-le (c .before .before .before .before .before .loop .inv .small) (capped-le (c .before .width-of .result) _ (c .capped-count .ensures)))
 
 loop-again : tie.Need-loop-again Inv-loop μ-loop
 loop-again c =
@@ -34,23 +28,20 @@ loop-again c =
     (c .before .capped-count .ensures ∙ rw (c .before .before .width-of .ensures, back (lower .result) (lower .ok), lower .ensures, back (upper .result) (upper .ok), upper .ensures))
     (c .capped-count2 .ensures)
 
-returns : tie.Need-returns Inv-loop μ-loop
-returns c = done _ _ (c .before .loop .inv) (c .loop-test .left)
-
 pub list-count-spec : {M : Type 1} → statement M
 list-count-spec =
     tie.close
     (tie.spec
     Inv-loop
     μ-loop
-    loop-holds
+    (λ c. begun-count _ _)
     (λ c κs. search needs)
     (λ c κs. search needs)
     width-of-requires
     (λ c κs. search needs)
-    mul-capped-count
+    (λ c. omega (arith, mul-le (c .before .before .before .before .before .loop .inv .small) (capped-le (c .before .width-of .result) _ (c .capped-count .ensures))))
     (λ c κs. search needs)
     (λ c. search needs)
     (λ c. search needs)
     loop-again
-    returns)
+    (λ c. done _ _ (c .before .loop .inv) (c .loop-test .left)))

@@ -2,8 +2,8 @@
 use mathlib.Core.Path.{sym}
 use lib.Seq.{set-out}
 use mir.Facts.{toZ-ofZ}
-use Rattle.solutions.proofs.Values.{fits32}
 use borrow.Author.Needs.{needs}
+use Rattle.integers.proofs.Fits.{fits32}
 use Rattle.solutions.proofs.put_value.Statement.{statement}
 use Rattle.solutions.proofs.put_value.Tie as tie
 

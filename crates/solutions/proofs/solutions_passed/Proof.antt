@@ -36,16 +36,10 @@ returns c =
     let s = c .before .before .before .before in
     too-many-variables (s .args .ws .now) (s .pre) (s .args .out .now) (omega (arith, seen (c .before) .variables-counted, c .if1 .taken))
 
-slice-aggregate-keep-bounds : tie.Need-slice-aggregate-keep-bounds
-slice-aggregate-keep-bounds c = sym (length-take-le _ _ (front-inside (seen (c .before .before))))
-
 keep-bounds-requires : tie.Need-keep-bounds-requires
 keep-bounds-requires c κs =
     let s = seen (c .before .before .before .before) in
     rw (length-take-le _ _ (front-inside s)) (omega (arith, front-inside s, few-words (c .before .before .before .before .before .before .before .args .ws .now) (s .accepts)))
-
-list-count-requires : tie.Need-list-count-requires
-list-count-requires c κs = let k = held (c .before .before .before .before) in (k .lowers, k .uppers)
 
 returns-2 : tie.Need-returns-2
 unfolding found
@@ -70,13 +64,13 @@ solutions-passed-spec =
     (tie.spec
     (λ c κs. search needs)
     returns
-    slice-aggregate-keep-bounds
+    (λ c. sym (length-take-le _ _ (front-inside (seen (c .before .before)))))
     (λ c. search needs)
     (λ c. search needs)
     keep-bounds-requires
     (λ c. search needs)
     (λ c. search needs)
-    list-count-requires
+    (λ c κs. let k = held (c .before .before .before .before) in (k .lowers, k .uppers))
     returns-2
     (λ c. search needs)
     (λ c. search needs)

@@ -34,9 +34,6 @@ test c =
     let upper = c .before .bound-at in
     c .below .ensures ∙ rw (back (value .result) (value .ok), back (upper .result) (upper .ok), upper .ensures, same (c .before .before))
 
-loop-holds : tie.Need-loop-holds Inv-loop μ-loop
-loop-holds c = (refl, begun-step _ _)
-
 plus-requires : tie.Need-plus-requires Inv-loop μ-loop
 unfolding value
 plus-requires c κs =
@@ -51,9 +48,6 @@ put-value-requires c κs =
     let k = value .before .before .before .loop .k - 1 in
     rw (back (c .plus .result) (c .plus .ok), c .plus .ensures, back (value .value-at .result) (value .value-at .ok), same value)
     (omega (arith, s .pre .2 k, plus-size (getD (s .args .values .now) k +0) +1))
-
-same-length : tie.Need-same-length Inv-loop μ-loop
-same-length c = ap length (c .before .put-value .ensures) ∙ simp length-set (c .before .before .before .before .before .before .before .before .before .before .loop .inv .0)
 
 returns : tie.Need-returns Inv-loop μ-loop
 returns c =
@@ -77,30 +71,24 @@ loop-again c =
           (over _ _ (loop .inv .1) (loop .k - 1) (omega arith) (sym (test (c .before .before .before .before .before)) ∙ c .before .before .before .before .if1 .left)),
     )
 
-same-length-2 : tie.Need-same-length-2 Inv-loop μ-loop
-same-length-2 c = c .before .loop .inv .0
-
-returns-2 : tie.Need-returns-2 Inv-loop μ-loop
-returns-2 c = done-step _ _ (c .before .loop .inv .1) (c .loop-test .left)
-
 pub step-spec : {M : Type 1} → statement M
 step-spec =
     tie.close
     (tie.spec
     Inv-loop
     μ-loop
-    loop-holds
+    (λ c. (refl, begun-step _ _))
     (λ c. search needs)
     (λ c κs. search needs)
     (λ c κs. search needs)
     (λ c κs. search needs)
     plus-requires
     put-value-requires
-    same-length
+    (λ c. ap length (c .before .put-value .ensures) ∙ simp length-set (c .before .before .before .before .before .before .before .before .before .before .loop .inv .0))
     returns
     (λ c κs. search needs)
     put-value-requires-2
     (λ c. search needs)
     loop-again
-    same-length-2
-    returns-2)
+    (λ c. c .before .loop .inv .0)
+    (λ c. done-step _ _ (c .before .loop .inv .1) (c .loop-test .left)))

@@ -63,15 +63,6 @@ loop-again c =
       list-turn _ _ _ _ (loop .inv .1) goes-on _ _ (⊎-elim (λ w. inl (true-of ∙ w .0 .taken, (w .5 ∙ w .3 .ensures, w .7))) (λ w. inr (true-of ∙ w .0 .left, (w .1, w .3))) came) _ _ (l .1) (l .0),
     )
 
-same-length : tie.Need-same-length Inv-loop μ-loop
-same-length c = list-length _ _ _ _ (c .before .loop .inv .1) ∙ listOf-length _ _
-
-same-length-2 : tie.Need-same-length-2 Inv-loop μ-loop
-same-length-2 c = ap length (list-done _ _ _ _ (c .before .loop .inv .1) (c .loop-test .left)) ∙ simp length-overlay
-
-returns : tie.Need-returns Inv-loop μ-loop
-returns c = (count-done _ _ _ (c .before .loop .inv .0) (c .loop-test .left), list-done _ _ _ _ (c .before .loop .inv .1) (c .loop-test .left))
-
 pub write-from-spec : {M : Type 1} → statement M
 write-from-spec =
     tie.close
@@ -86,6 +77,6 @@ write-from-spec =
     step-requires
     loop-less
     loop-again
-    same-length
-    same-length-2
-    returns)
+    (λ c. list-length _ _ _ _ (c .before .loop .inv .1) ∙ listOf-length _ _)
+    (λ c. ap length (list-done _ _ _ _ (c .before .loop .inv .1) (c .loop-test .left)) ∙ simp length-overlay)
+    (λ c. (count-done _ _ _ (c .before .loop .inv .0) (c .loop-test .left), list-done _ _ _ _ (c .before .loop .inv .1) (c .loop-test .left))))

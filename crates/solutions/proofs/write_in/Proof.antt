@@ -12,9 +12,6 @@ use Rattle.solutions.proofs.All.{sized-as}
 use Rattle.solutions.proofs.write_in.Statement.{statement}
 use Rattle.solutions.proofs.write_in.Tie as tie
 
-slice-aggregate-write-all : tie.Need-slice-aggregate-write-all
-slice-aggregate-write-all c = sym (length-take-le _ _ (omega (arith, c .before .before .pre .1 .short)))
-
 write-all-requires : tie.Need-write-all-requires
 write-all-requires c κs =
     let s = c .before .before .before in
@@ -34,7 +31,7 @@ write-in-spec =
     tie.close
     (tie.spec
     (λ c. search needs)
-    slice-aggregate-write-all
+    (λ c. sym (length-take-le _ _ (omega (arith, c .before .before .pre .1 .short))))
     write-all-requires
     (λ c. search needs)
     returns)

@@ -12,23 +12,8 @@ Inv-loop text slots h place stop j₀ j = j ≤ 32
 abbrev μ-loop : tie.MeasureT-loop
 μ-loop text slots h place stop j₀ j = 32 - j
 
-loop-holds : tie.Need-loop-holds Inv-loop μ-loop
-loop-holds c = omega arith
-
-returns : tie.Need-returns Inv-loop μ-loop
-returns c = λ n. absurd (n refl)
-
 number-in-requires : tie.Need-number-in-requires Inv-loop μ-loop
 number-in-requires c κs = (c .before .before .before .before .before .pre .1, c .before .before .before .before .before .pre .2, λ n. c .before .before .before .before .before .pre .3 .right ((c .before .before .before .before .before .args .h + c .before .before .before .loop .j) % 8192) n)
-
-returns-2 : tie.Need-returns-2 Inv-loop μ-loop
-returns-2 c = c .before .number-in .ensures
-
-loop-again : tie.Need-loop-again Inv-loop μ-loop
-loop-again c = omega (arith, c .before .before .before .before .loop-test .taken)
-
-returns-3 : tie.Need-returns-3 Inv-loop μ-loop
-returns-3 c = λ n. absurd (n refl)
 
 pub number-of-spec : {M : Type 1} → statement M
 number-of-spec =
@@ -36,14 +21,14 @@ number-of-spec =
     (tie.spec
     Inv-loop
     μ-loop
-    loop-holds
+    (λ c. omega arith)
     (λ c. search needs)
     (λ c. search needs)
     (λ c. search needs)
-    returns
+    (λ c. λ n. absurd (n refl))
     number-in-requires
-    returns-2
+    (λ c. c .before .number-in .ensures)
     (λ c. search needs)
     (λ c. search needs)
-    loop-again
-    returns-3)
+    (λ c. omega (arith, c .before .before .before .before .loop-test .taken))
+    (λ c. λ n. absurd (n refl)))

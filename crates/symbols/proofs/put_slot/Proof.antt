@@ -16,17 +16,8 @@ Inv-loop slots₀ h e j₀ slots j = (j ≤ 32) × (slots ≡ slots₀)
 abbrev μ-loop : tie.MeasureT-loop
 μ-loop slots₀ h e j₀ slots j = 32 - j
 
-loop-holds : tie.Need-loop-holds Inv-loop μ-loop
-loop-holds c = (omega arith, refl)
-
 returns : tie.Need-returns Inv-loop μ-loop
 returns c = λ s. rw (← c .before .before .before .loop .inv .1) (set-either (c .before .before .before .loop .slots) ((c .before .before .before .before .args .h + c .before .before .before .loop .j) % 8192) (c .before .before .before .before .args .e) s)
-
-loop-again : tie.Need-loop-again Inv-loop μ-loop
-loop-again c = (omega (arith, c .before .before .loop-test .taken), c .before .before .before .loop .inv .1)
-
-returns-2 : tie.Need-returns-2 Inv-loop μ-loop
-returns-2 c = λ s. inl (ap (λ (l : List ℕ). getD l s 0) (c .before .loop .inv .1))
 
 pub put-slot-spec : {M : Type 1} → statement M
 put-slot-spec =
@@ -34,7 +25,7 @@ put-slot-spec =
     (tie.spec
     Inv-loop
     μ-loop
-    loop-holds
+    (λ c. (omega arith, refl))
     (λ c. search needs)
     (λ c. search needs)
     (λ c. search needs)
@@ -43,5 +34,5 @@ put-slot-spec =
     returns
     (λ c. search needs)
     (λ c. search needs)
-    loop-again
-    returns-2)
+    (λ c. (omega (arith, c .before .before .loop-test .taken), c .before .before .before .loop .inv .1))
+    (λ c. λ s. inl (ap (λ (l : List ℕ). getD l s 0) (c .before .loop .inv .1))))

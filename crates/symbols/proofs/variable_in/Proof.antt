@@ -9,9 +9,6 @@ use borrow.Author.Needs.{needs}
 use Rattle.symbols.proofs.variable_in.Statement.{statement}
 use Rattle.symbols.proofs.variable_in.Tie as tie
 
-returns : tie.Need-returns
-returns c = sym (c .before .number-of .ensures (c .if2 .taken))
-
 returns-2 : tie.Need-returns-2
 unfolding declaredBefore
 returns-2 c = c .variable-of .ensures
@@ -29,7 +26,7 @@ variable-in-spec =
     (λ c κs. search needs)
     (λ c κs. search needs)
     (λ c κs. search needs)
-    returns
+    (λ c. sym (c .before .number-of .ensures (c .if2 .taken)))
     (λ c κs. search needs)
     returns-2
     returns-3)

@@ -3,9 +3,6 @@ use Rattle.texts.proofs.Loop.{last-stands, ends-well, ends-early}
 use Rattle.texts.proofs.ended.Statement.{statement}
 use Rattle.texts.proofs.ended.Tie as tie
 
-step-of-requires : tie.Need-step-of-requires
-step-of-requires c κs = (last-stands (c .before .args .text .now), c .before .pre .0, c .before .pre .1)
-
 returns : tie.Need-returns
 returns c = ends-well (c .before .before .before .before .args .text .now) (c .before .before .before .before .args .due) (c .before .before .step-of .ensures) (c .before .before .before .before .args .n) (c .if1 .taken)
 
@@ -16,6 +13,6 @@ pub ended-spec : {M : Type 1} → statement M
 ended-spec =
     tie.close
     (tie.spec
-    step-of-requires
+    (λ c κs. (last-stands (c .before .args .text .now), c .before .pre .0, c .before .pre .1))
     returns
     returns-2)

@@ -27,23 +27,14 @@ loop-holds : tie.Need-loop-holds Inv-loop μ-loop
 unfolding numberedForm argumentForm argumentForms inText listOf flatMap flatten
 loop-holds c = (begin (c .before .before .args .text .now) (c .before .before .args .out .now), empty (c .before .before .args .text .now) 8192, refl)
 
-next-token-requires : tie.Need-next-token-requires Inv-loop μ-loop
-next-token-requires c κs = omega (arith, c .loop-test .taken)
-
 ended-requires : tie.Need-ended-requires Inv-loop μ-loop
 ended-requires c κs = (index-end (c .before .before .before .before .before .before .before .loop .inv .1) (c .before .before .before .before .before .before .before .loop .inv .0 .inside) (met-end (c .before .before .before .before .before .next-token .ensures) (c .before .before .before .if1 .taken)), c .before .before .before .before .before .before .before .loop .inv .2)
-
-same-length : tie.Need-same-length Inv-loop μ-loop
-same-length c = same-room (c .before .before .before .before .before .before .before .before .loop .inv .0)
 
 returns : tie.Need-returns Inv-loop μ-loop
 returns c = end-reads (c .before .before .before .before .before .before .before .before .loop .inv .0) (met-end (c .before .before .before .before .before .before .next-token .ensures) (c .before .before .before .before .if1 .taken)) (c .ended .ensures)
 
 step-of-requires : tie.Need-step-of-requires Inv-loop μ-loop
 step-of-requires c κs = let m = c .before .before .before .before .before .next-token .ensures in (stands m (c .before .before .before .if1 .left), index-here (c .before .before .before .before .before .before .before .loop .inv .1) m (c .before .before .before .if1 .left), c .before .before .before .before .before .before .before .loop .inv .2)
-
-same-length-2 : tie.Need-same-length-2 Inv-loop μ-loop
-same-length-2 c = same-room (c .before .before .before .before .before .before .before .before .before .before .loop .inv .0)
 
 returns-2 : tie.Need-returns-2 Inv-loop μ-loop
 returns-2 c = stop-reads (c .before .before .before .before .before .before .before .before .before .before .loop .inv .0) (c .before .before .before .before .before .before .before .before .next-token .ensures) (c .before .before .before .before .before .before .if1 .left) (c .before .before .step-of .ensures) (c .if2 .taken)
@@ -63,9 +54,6 @@ loop-again c = let m = c .before .before .before .before .before .before .before
 ended-requires-2 : tie.Need-ended-requires-2 Inv-loop μ-loop
 ended-requires-2 c κs = (index-end (c .before .before .before .before .loop .inv .1) (c .before .before .before .before .loop .inv .0 .inside) (none-left (c .before .before .before .before .before .before .before .args .text .now) (c .before .before .before .before .loop .at) (c .before .before .before .loop-test .left)), c .before .before .before .before .loop .inv .2)
 
-same-length-3 : tie.Need-same-length-3 Inv-loop μ-loop
-same-length-3 c = same-room (c .before .before .before .before .before .loop .inv .0)
-
 returns-3 : tie.Need-returns-3 Inv-loop μ-loop
 returns-3 c = end-reads (c .before .before .before .before .before .loop .inv .0) (none-left (c .before .before .before .before .before .before .before .before .args .text .now) (c .before .before .before .before .before .loop .at) (c .before .before .before .before .loop-test .left)) (c .ended2 .ensures)
 
@@ -76,17 +64,17 @@ read-tokens-spec =
     Inv-loop
     μ-loop
     loop-holds
-    next-token-requires
+    (λ c κs. omega (arith, c .loop-test .taken))
     ended-requires
-    same-length
+    (λ c. same-room (c .before .before .before .before .before .before .before .before .loop .inv .0))
     returns
     step-of-requires
-    same-length-2
+    (λ c. same-room (c .before .before .before .before .before .before .before .before .before .before .loop .inv .0))
     returns-2
     append-word-requires
     declare-requires
     loop-less
     loop-again
     ended-requires-2
-    same-length-3
+    (λ c. same-room (c .before .before .before .before .before .loop .inv .0))
     returns-3)

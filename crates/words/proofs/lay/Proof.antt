@@ -1,19 +1,16 @@
--- The invariant: laying the rest of the words from here gives what laying them all gives.
-use mathlib.Core.Path.{_≡_, sym, ap, _∙_}
+-- The invariant: the words before place i are laid.
+use mathlib.Core.Path.{_≡_, sym, _∙_}
 use mathlib.Core.Logic.{⊎-elim}
-use Prim.Native.Nat.{_+_, _-_, _≤_}
-use native.Mathlib.Omega.{arith}
-use native.Mathlib.Nat.{add-zero}
+use Prim.Native.Nat.{_+_, _-_}
 use borrow.Author.Needs.{needs}
-use lib.ListN.{length, getD, drop, set, drop-of-length-le}
+use lib.ListN.{length, getD, set}
 use lib.Seq.{set-out}
-use Rattle.words.specs.Overlay.{overlay}
-use Rattle.words.proofs.Overlay.{length-overlay, overlay-none, overlay-step}
+use Rattle.words.proofs.Rest.{FirstLaid, none-laid, one-laid, all-laid, laid-length}
 use Rattle.words.proofs.lay.Statement.{statement}
 use Rattle.words.proofs.lay.Tie as tie
 
 abbrev Inv-loop : tie.InvT-loop
-Inv-loop out₀ at words i₀ out i = (i ≤ length words) × (overlay out (at + i) (drop i words) ≡ overlay out₀ at words)
+Inv-loop out₀ at words i₀ out i = FirstLaid out₀ at words out i
 
 abbrev μ-loop : tie.MeasureT-loop
 μ-loop out₀ at words i₀ out i = length words - i
@@ -24,27 +21,17 @@ written : (c : tie.Joined1 Inv-loop μ-loop) →
     ≡ set (c .before .before .loop .out) (c .before .before .before .args .at + c .before .before .loop .i) (getD (c .before .before .before .args .words .now) (c .before .before .loop .i) 0)
 written c = ⊎-elim (λ w. cc) (λ w. w .1 ∙ sym (set-out _ _ _ (w .0 .left))) (c .if1 .came)
 
-ended : (c : tie.After-loop Inv-loop μ-loop) → c .before .loop .out ≡ overlay (c .before .before .args .out .now) (c .before .before .args .at) (c .before .before .args .words .now)
-ended c = sym (overlay-none _ _) ∙ rw (drop-of-length-le (c .before .before .args .words .now) (c .loop-test .left)) at (c .before .loop .inv .1)
-
 loop-holds : tie.Need-loop-holds Inv-loop μ-loop
-loop-holds c = (search needs, rw add-zero)
+loop-holds c = none-laid _ _ _
 
 loop-again : tie.Need-loop-again Inv-loop μ-loop
-loop-again c =
-    let s = c .before .before .before in
-    let loop = c .before .before .loop in (
-      omega arith,
-      rw (written c)
-          (sym (overlay-step 0 (loop .out) (s .args .at) (s .args .words .now) (loop .i) (c .before .loop-test .taken))
-          ∙ loop .inv .1),
-    )
+loop-again c = one-laid (c .before .before .loop .inv) 0 (c .before .loop-test .taken) (written c)
 
 same-length : tie.Need-same-length Inv-loop μ-loop
-same-length c = ap length (ended c) ∙ simp length-overlay
+same-length c = laid-length (all-laid (c .before .loop .inv) (c .loop-test .left))
 
 returns : tie.Need-returns Inv-loop μ-loop
-returns c = ended c
+returns c = all-laid (c .before .loop .inv) (c .loop-test .left) .over
 
 pub lay-spec : {M : Type 1} → statement M
 lay-spec =

@@ -10,10 +10,10 @@ use Rattle.integers.specs.Choice.{_if_else_}
 use Rattle.integers.specs.Number.{_==_}
 use Rattle.integers.specs.Lists.{all, any}
 use Rattle.integers.specs.Terms.{Valuation, value}
+use Rattle.integers.proofs.Places.{any-map, all-map}
 use Rattle.models.specs.Meaning.{maximum, minimum}
 use Rattle.models.specs.Model.{var, vars}
 use Rattle.arguments.proofs.Size.{read}
-use Rattle.arguments.proofs.Walk.{any-map, all-map}
 use Rattle.builtins.proofs.list.array_int_extreme.Statement.{statement}
 use Rattle.builtins.proofs.list.array_int_extreme.Tie as tie
 

@@ -3,10 +3,10 @@ use mathlib.Core.Path.{_∙_}
 use native.Mathlib.Omega.{arith}
 use borrow.Author.Needs.{needs}
 use Rattle.integers.specs.Terms.{value}
+use Rattle.integers.proofs.Places.{map-listOf}
 use Rattle.models.specs.Model.{var, size, vars}
 use Rattle.models.specs.Meaning.{meaning}
 use Rattle.arguments.proofs.Size.{size-le, read}
-use Rattle.arguments.proofs.Walk.{map-listOf}
 use Rattle.builtins.proofs.Element.{index-le, inside, outside}
 use Rattle.builtins.proofs.list.array_var_int_element.Statement.{statement}
 use Rattle.builtins.proofs.list.array_var_int_element.Tie as tie

@@ -17,29 +17,20 @@ from c = let b = toZ-ofZ (c .before .fits .v) in b ∙ from-zero (c .before .arg
 below : (c : tie.Else1) → negsuc 0 -ℤ toZ w32 (ofZ w32 (c .before .args .v)) ≡ pos (mag (c .before .args .v))
 below c = let b = toZ-ofZ (c .before .fits .v) in rw b (below-zero (c .before .args .v) (rw b at (c .if1 .left)))
 
-cast-print-one : tie.Need-cast-print-one
-cast-print-one c = rw (from (c .before)) (tt, record { fits = omega (arith, c .before .before .fits .v .sfits) })
-
 sub-below : tie.Need-sub-below
 sub-below c = rw (below c) (record { sfits = omega (arith, c .before .fits .v .sfits) })
-
-cast-print-one-2 : tie.Need-cast-print-one-2
-cast-print-one-2 c = rw (toZ-ofZ (sub-below (c .before)), below (c .before)) (tt, record { fits = omega (arith, c .before .before .fits .v .sfits) })
-
-add-print-one : tie.Need-add-print-one
-add-print-one c = rw (toZ-ofZ (sub-below (c .before)), below (c .before)) (record { fits = omega (arith, c .before .before .fits .v .sfits) })
 
 pub print-value-spec : {M : Type 1} → statement M
 print-value-spec =
     tie.close
     (tie.spec
     (λ c. search needs)
-    cast-print-one
+    (λ c. rw (from (c .before)) (tt, record { fits = omega (arith, c .before .before .fits .v .sfits) }))
     (λ c κs. search needs)
     (λ c. search needs)
     sub-below
     (λ c. search needs)
-    cast-print-one-2
-    add-print-one
+    (λ c. rw (toZ-ofZ (sub-below (c .before)), below (c .before)) (tt, record { fits = omega (arith, c .before .before .fits .v .sfits) }))
+    (λ c. rw (toZ-ofZ (sub-below (c .before)), below (c .before)) (record { fits = omega (arith, c .before .before .fits .v .sfits) }))
     (λ c κs. search needs)
     (λ c. search needs))

@@ -5,9 +5,6 @@ use Rattle.choiceblocks.proofs.OneHot.{summed}
 use Rattle.choiceblocks.proofs.rows.lay_label_row.Statement.{statement}
 use Rattle.choiceblocks.proofs.rows.lay_label_row.Tie as tie
 
-lay-labels-requires : tie.Need-lay-labels-requires
-lay-labels-requires c κs = rw (toZ-ofZ (c .before .before .before .before .before .before .fits .from)) (search needs)
-
 returns : tie.Need-returns
 returns c = summed _ _ (c .before .before .before .before .before .before .before .before .before .before .lay-head .ensures) (rw (toZ-ofZ (c .before .before .before .before .before .before .before .before .before .before .before .before .before .fits .from)) at (c .before .before .before .before .before .before .lay-labels .ensures)) (c .before .before .lay-last .ensures)
 
@@ -17,7 +14,7 @@ lay-label-row-spec =
     (tie.spec
     (λ c. search needs)
     (λ c κs. search needs)
-    lay-labels-requires
+    (λ c κs. rw (toZ-ofZ (c .before .before .before .before .before .before .fits .from)) (search needs))
     (λ c κs. search needs)
     (λ c. search needs)
     returns)

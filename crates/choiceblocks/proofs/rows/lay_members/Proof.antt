@@ -8,10 +8,10 @@ use mir.Val.{toZ}
 use borrow.Author.Needs.{needs}
 use Rattle.integers.specs.Number.{_⊖_, +0}
 use Rattle.integers.proofs.Fits.{minus-size}
+use Rattle.integers.proofs.Sums.{count-le}
 use Rattle.arguments.proofs.Size.{read}
 use Rattle.laying.proofs.Parts.{Laying, begun, more, done, went-length}
 use Rattle.laying.proofs.Counts.{sized-one, many-counted}
-use Rattle.extremes.proofs.Size.{count-le}
 use Rattle.choiceblocks.specs.Rows.{memberAt}
 use Rattle.choiceblocks.proofs.rows.lay_members.Statement.{statement}
 use Rattle.choiceblocks.proofs.rows.lay_members.Tie as tie
@@ -21,9 +21,6 @@ Inv-loop out₀ vs from v n t₀ k₀ out t k = Laying 10 (memberAt vs (toZ w64 
 
 abbrev μ-loop : tie.MeasureT-loop
 μ-loop out₀ vs from v n t₀ k₀ out t k = n - k
-
-returns : tie.Need-returns Inv-loop μ-loop
-returns c = many-counted 2 0 0 1000 (λ k h. sized-one _) (omega arith, omega arith, omega arith, omega arith) (c .before .if1 .taken) (c .counted .ensures)
 
 minus-requires : tie.Need-minus-requires Inv-loop μ-loop
 minus-requires c κs =
@@ -61,7 +58,7 @@ lay-members-spec =
     μ-loop
     (λ c. search needs)
     (λ c κs. search needs)
-    returns
+    (λ c. many-counted 2 0 0 1000 (λ k h. sized-one _) (omega arith, omega arith, omega arith, omega arith) (c .before .if1 .taken) (c .counted .ensures))
     (λ c. begun 10 _ _ _ _)
     (λ c κs. search needs)
     minus-requires

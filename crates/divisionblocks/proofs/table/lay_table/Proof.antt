@@ -17,9 +17,6 @@ Inv-loop out₀ xs table t₀ k₀ out t k = Laying 2000 (tableAt xs table) 10 t
 abbrev μ-loop : tie.MeasureT-loop
 μ-loop out₀ xs table t₀ k₀ out t k = 10 - k
 
-loop-holds : tie.Need-loop-holds Inv-loop μ-loop
-loop-holds c = begun 2000 _ _ _ _
-
 loop-again : tie.Need-loop-again Inv-loop μ-loop
 loop-again c =
     let sixth = c .before .before .before .before .before .before in
@@ -38,19 +35,13 @@ loop-again c =
       back (getD row 6 +0) (c .before .before .before .lay-row-arg3 .given),
     ) at (c .before .before .lay-row .ensures))
 
-same-length : tie.Need-same-length Inv-loop μ-loop
-same-length c = went-length (c .before .loop .inv .went)
-
-returns : tie.Need-returns Inv-loop μ-loop
-returns c = done 20000 (omega arith) (c .loop-test .left) (c .before .loop .inv)
-
 pub lay-table-spec : {M : Type 1} → statement M
 lay-table-spec =
     tie.close
     (tie.spec
     Inv-loop
     μ-loop
-    loop-holds
+    (λ c. begun 2000 _ _ _ _)
     (λ c. search needs)
     (λ c. search needs)
     (λ c. search needs)
@@ -65,5 +56,5 @@ lay-table-spec =
     (λ c. search needs)
     (λ c. search needs)
     loop-again
-    same-length
-    returns)
+    (λ c. went-length (c .before .loop .inv .went))
+    (λ c. done 20000 (omega arith) (c .loop-test .left) (c .before .loop .inv)))

@@ -9,9 +9,6 @@ use Rattle.divisionblocks.proofs.Largest.{M-is, M-size}
 use Rattle.divisionblocks.proofs.table.m_of.Statement.{statement}
 use Rattle.divisionblocks.proofs.table.m_of.Tie as tie
 
-apart-requires : tie.Need-apart-requires
-apart-requires c κs = rw (toZ-ofZ (c .fits .nl), toZ-ofZ (c .fits .nu), toZ-ofZ (c .fits .pl), toZ-ofZ (c .fits .pu)) (c .pre .0, c .pre .1, c .pre .4, c .pre .5)
-
 either-way-requires : tie.Need-either-way-requires
 either-way-requires c κs =
     let s = c .before in
@@ -45,7 +42,7 @@ pub m-of-spec : {M : Type 1} → statement M
 m-of-spec =
     tie.close
     (tie.spec
-    apart-requires
+    (λ c κs. rw (toZ-ofZ (c .fits .nl), toZ-ofZ (c .fits .nu), toZ-ofZ (c .fits .pl), toZ-ofZ (c .fits .pu)) (c .pre .0, c .pre .1, c .pre .4, c .pre .5))
     either-way-requires
     plus-requires
     plus-requires-2

@@ -7,12 +7,6 @@ use Rattle.rules.specs.Division.{divisionTable}
 use Rattle.divisionblocks.proofs.table.numbers.Statement.{statement}
 use Rattle.divisionblocks.proofs.table.numbers.Tie as tie
 
-opposite-requires : tie.Need-opposite-requires
-opposite-requires c κs = rw (toZ-ofZ (c .fits .m)) (omega (arith, c .pre .4))
-
-minus-requires : tie.Need-minus-requires
-minus-requires c κs = rw (toZ-ofZ (c .before .fits .m)) (omega (arith, c .before .pre .4))
-
 opposite-requires-2 : tie.Need-opposite-requires-2
 opposite-requires-2 c κs =
     let s = c .before .before in
@@ -60,8 +54,8 @@ pub numbers-spec : {M : Type 1} → statement M
 numbers-spec =
     tie.close
     (tie.spec
-    opposite-requires
-    minus-requires
+    (λ c κs. rw (toZ-ofZ (c .fits .m)) (omega (arith, c .pre .4)))
+    (λ c κs. rw (toZ-ofZ (c .before .fits .m)) (omega (arith, c .before .pre .4)))
     opposite-requires-2
     plus-requires
     opposite-requires-3

@@ -33,9 +33,6 @@ lay-each-requires-2 c κs =
     let lay-each = c .before .before .before .lay-each in
     (omega (arith, s .pre, lay-head .ensures .1, lay-each .ensures .1), omega (arith, past-at .ensures, size-le (s .args .args .now) 0))
 
-one-less-requires : tie.Need-one-less-requires
-one-less-requires c κs = rw (c .before .before .before .before .before .before .before .before .before .before .before .before .before .before .size-at .ensures) (size-le _ _)
-
 lay-constant-requires : tie.Need-lay-constant-requires
 lay-constant-requires c κs =
     let s = c .before .before .before .before .before .before .before .before .before .before .before .before .before .before .before .before .before .before .before in
@@ -76,7 +73,7 @@ bool-clause-spec =
     (λ c κs. search needs)
     (λ c κs. search needs)
     lay-each-requires-2
-    one-less-requires
+    (λ c κs. rw (c .before .before .before .before .before .before .before .before .before .before .before .before .before .before .size-at .ensures) (size-le _ _))
     lay-constant-requires
     (λ c. search needs)
     returns)

@@ -17,12 +17,6 @@ use Rattle.linearblocks.proofs.Rows.{row-went, last-term}
 use Rattle.linearblocks.proofs.clause.lay_all.Statement.{statement}
 use Rattle.linearblocks.proofs.clause.lay_all.Tie as tie
 
-add-lay-head : tie.Need-add-lay-head
-add-lay-head c = rw (c .before .size-at .ensures) (omega (arith, size-le (c .before .before .before .before .args .args .now) 0))
-
-one-less-requires : tie.Need-one-less-requires
-one-less-requires c κs = rw (c .before .before .before .before .before .before .before .before .before .before .before .before .before .size-at .ensures) (size-le _ _)
-
 returns : tie.Need-returns
 unfolding rowParts numbered
 returns c =
@@ -44,11 +38,11 @@ lay-all-spec =
     tie.close
     (tie.spec
     (λ c κs. search needs)
-    add-lay-head
+    (λ c. rw (c .before .size-at .ensures) (omega (arith, size-le (c .before .before .before .before .args .args .now) 0)))
     (λ c κs. search needs)
     (λ c κs. search needs)
     (λ c κs. search needs)
-    one-less-requires
+    (λ c κs. rw (c .before .before .before .before .before .before .before .before .before .before .before .before .before .size-at .ensures) (size-le _ _))
     (λ c κs. search needs)
     (λ c. search needs)
     returns)

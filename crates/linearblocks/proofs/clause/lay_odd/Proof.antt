@@ -18,9 +18,6 @@ use Rattle.linearblocks.proofs.Rows.{row-went, last-term}
 use Rattle.linearblocks.proofs.clause.lay_odd.Statement.{statement}
 use Rattle.linearblocks.proofs.clause.lay_odd.Tie as tie
 
-add-lay-head : tie.Need-add-lay-head
-add-lay-head c = rw (c .size-at .ensures) (omega (arith, size-le (c .before .before .before .before .args .args .now) 0))
-
 returns : tie.Need-returns
 unfolding rowParts numbered
 returns c =
@@ -40,7 +37,7 @@ lay-odd-spec =
     tie.close
     (tie.spec
     (λ c κs. search needs)
-    add-lay-head
+    (λ c. rw (c .size-at .ensures) (omega (arith, size-le (c .before .before .before .before .args .args .now) 0)))
     (λ c κs. search needs)
     (λ c κs. search needs)
     (λ c κs. search needs)

@@ -13,9 +13,6 @@ use Rattle.linearblocks.specs.Rows.{atMostRows}
 use Rattle.linearblocks.proofs.linear.lay_at_most.Statement.{statement}
 use Rattle.linearblocks.proofs.linear.lay_at_most.Tie as tie
 
-opposite-requires : tie.Need-opposite-requires
-opposite-requires c κs = rw (toZ-ofZ (c .before .before .before .before .fits .upper)) (omega (arith, c .before .before .before .before .pre .3))
-
 minus-requires : tie.Need-minus-requires
 minus-requires c κs =
     let s = c .before .before .before .before .before .before .before .before in
@@ -39,7 +36,7 @@ lay-at-most-spec =
     (tie.spec
     (λ c. search needs)
     (λ c. search needs)
-    opposite-requires
+    (λ c κs. rw (toZ-ofZ (c .before .before .before .before .fits .upper)) (omega (arith, c .before .before .before .before .pre .3)))
     (λ c κs. search needs)
     minus-requires
     (λ c. search needs)

@@ -8,9 +8,6 @@ use Rattle.linearblocks.specs.Rows.{sizeRows}
 use Rattle.linearblocks.proofs.linear.lay_zero.Statement.{statement}
 use Rattle.linearblocks.proofs.linear.lay_zero.Tie as tie
 
-opposite-requires : tie.Need-opposite-requires
-opposite-requires c κs = rw (toZ-ofZ (c .before .fits .w)) (omega (arith, c .before .pre .2))
-
 returns : tie.Need-returns
 unfolding zeroRows sizeRows
 returns c =
@@ -29,7 +26,7 @@ pub lay-zero-spec : {M : Type 1} → statement M
 lay-zero-spec =
     tie.close
     (tie.spec
-    opposite-requires
+    (λ c κs. rw (toZ-ofZ (c .before .fits .w)) (omega (arith, c .before .pre .2)))
     (λ c κs. search needs)
     (λ c. search needs)
     returns

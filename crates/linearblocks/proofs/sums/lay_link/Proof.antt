@@ -19,9 +19,6 @@ use Rattle.linearblocks.proofs.Rows.{row-went, last-term}
 use Rattle.linearblocks.proofs.sums.lay_link.Statement.{statement}
 use Rattle.linearblocks.proofs.sums.lay_link.Tie as tie
 
-add-lay-head : tie.Need-add-lay-head
-add-lay-head c = rw (c .size-at .ensures) (omega (arith, size-le (c .before .before .before .before .args .args .now) 0))
-
 returns : tie.Need-returns
 unfolding rowParts link numbered
 returns c =
@@ -40,7 +37,7 @@ lay-link-spec =
     tie.close
     (tie.spec
     (λ c κs. search needs)
-    add-lay-head
+    (λ c. rw (c .size-at .ensures) (omega (arith, size-le (c .before .before .before .before .args .args .now) 0)))
     (λ c κs. search needs)
     (λ c κs. search needs)
     (λ c κs. search needs)

@@ -24,9 +24,6 @@ slice-aggregate-first-false-row c = prefix-length (c .before .before .before .be
 add-first-false-row-2 : tie.Need-add-first-false-row-2
 add-first-false-row-2 c = let h = c .before .before .before .before .before .before .lay-block .ensures .small in let g = c .before .before .before .before .before .before .before .before .before .before .before .before .pre .0 .layable .near in search needs
 
-mul-first-false-row : tie.Need-mul-first-false-row
-mul-first-false-row c = let h = c .before .before .before .before .before .before .before .lay-block .ensures .small in search needs
-
 first-false-row-requires : tie.Need-first-false-row-requires
 unfolding value
 first-false-row-requires c κs = let s = c .before .before .before .before .before .before .before .before .before .before .before .before .before in let d = s .pre .0 .layable .reads in let f = c .before .before .before .before .before .before .before .lay-block .ensures in (after-bounds d f, (omega (arith, f .auxiliaries, s .pre .0 .there), λ x l. s .pre .0 .small (c .before .before .before .before .if1 .left) x), rows-accepted d f, no-variables d f, omega (arith, f .small, s .pre .0 .layable .near), s .pre .1)
@@ -55,7 +52,7 @@ judge-block-spec =
     (λ c. search needs)
     slice-aggregate-first-false-row
     add-first-false-row-2
-    mul-first-false-row
+    (λ c. let h = c .before .before .before .before .before .before .before .lay-block .ensures .small in search needs)
     first-false-row-requires
     (λ c. search needs)
     returns-2)

@@ -3,15 +3,15 @@ use mathlib.Core.Path.{_≡_, refl, sym, _∙_}
 use native.Mathlib.Omega.{arith}
 use borrow.Author.Needs.{needs}
 use mathlib.Core.Path.{ap₂}
-use mathlib.Core.Bool.{Bool, true, false, not}
+use mathlib.Core.Bool.{not}
 use Prim.Native.Nat.{_+_, _-_, _≤_}
 use lib.IntN.{pos}
 use mir.Facts.{toZ-ofZ, toZ-pos}
 use mir.Syntax.{w64}
 use mir.Val.{toZ}
-use Rattle.integers.specs.Choice.{_if_else_}
 use Rattle.integers.specs.Lists.{listOf}
 use Rattle.integers.proofs.Fits.{back, fits64}
+use Rattle.integers.proofs.Booleans.{bit-le}
 use Rattle.sharedblocks.specs.LeftOut.{leftCount}
 use Rattle.sharedblocks.proofs.LeftOut.{left-more}
 use Rattle.sharedblocks.proofs.left_out.count_left.Statement.{statement}
@@ -23,22 +23,9 @@ Inv-loop code args from n m₀ k₀ m k = (k ≤ n) × (m ≤ k) × (m ≡ leftC
 abbrev μ-loop : tie.MeasureT-loop
 μ-loop code args from n m₀ k₀ m k = n - k
 
-bit-le : (b : Bool) → (1 if b else 0) ≤ 1
-bit-le true = omega arith
-bit-le false = omega arith
-
 loop-holds : tie.Need-loop-holds Inv-loop μ-loop
 unfolding leftCount listOf
 loop-holds c = (omega arith, omega arith, refl)
-
-cast-plus : tie.Need-cast-plus Inv-loop μ-loop
-cast-plus c = fits64 (pos (c .before .loop .k)) (omega arith)
-
-plus-requires : tie.Need-plus-requires Inv-loop μ-loop
-plus-requires c κs = rw (toZ-ofZ (c .before .before .before .fits .from), toZ-pos w64 {n = c .before .loop .k} (omega arith)) (omega arith)
-
-add-m : tie.Need-add-m Inv-loop μ-loop
-add-m c = omega (arith, c .one-if .ensures, bit-le (not (c .before .is-kept .result)))
 
 loop-again : tie.Need-loop-again Inv-loop μ-loop
 loop-again c =
@@ -63,11 +50,11 @@ count-left-spec =
     Inv-loop
     μ-loop
     loop-holds
-    cast-plus
-    plus-requires
+    (λ c. fits64 (pos (c .before .loop .k)) (omega arith))
+    (λ c κs. rw (toZ-ofZ (c .before .before .before .fits .from), toZ-pos w64 {n = c .before .loop .k} (omega arith)) (omega arith))
     (λ c κs. search needs)
     (λ c κs. search needs)
-    add-m
+    (λ c. omega (arith, c .one-if .ensures, bit-le (not (c .before .is-kept .result))))
     (λ c. search needs)
     (λ c. search needs)
     loop-again

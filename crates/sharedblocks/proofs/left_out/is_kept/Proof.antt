@@ -15,9 +15,6 @@ use borrow.Author.Needs.{needs}
 use Rattle.sharedblocks.proofs.left_out.is_kept.Statement.{statement}
 use Rattle.sharedblocks.proofs.left_out.is_kept.Tie as tie
 
-cast-at-most : tie.Need-cast-at-most
-cast-at-most c = fits64 (pos (c .size-at .result)) (omega (arith, c .size-at .ensures, size-le (c .before .before .before .before .args .args .now) 1))
-
 returns : tie.Need-returns
 unfolding keeps within
 returns c =
@@ -37,7 +34,7 @@ is-kept-spec =
     (tie.spec
     (λ c κs. search needs)
     (λ c κs. search needs)
-    cast-at-most
+    (λ c. fits64 (pos (c .size-at .result)) (omega (arith, c .size-at .ensures, size-le (c .before .before .before .before .args .args .now) 1)))
     (λ c κs. search needs)
     (λ c κs. search needs)
     returns

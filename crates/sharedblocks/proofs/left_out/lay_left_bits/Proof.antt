@@ -18,26 +18,11 @@ Inv-loop out₀ code args from v n t₀ k₀ out t k = Laying 10 (leftAt code ar
 abbrev μ-loop : tie.MeasureT-loop
 μ-loop out₀ code args from v n t₀ k₀ out t k = n - k
 
-loop-holds : tie.Need-loop-holds Inv-loop μ-loop
-loop-holds c = begun 10 _ _ _ _
-
-cast-plus : tie.Need-cast-plus Inv-loop μ-loop
-cast-plus c = fits64 (pos (c .before .loop .k)) (omega arith)
-
-plus-requires : tie.Need-plus-requires Inv-loop μ-loop
-plus-requires c κs = rw (toZ-ofZ (c .before .before .before .before .fits .from), toZ-pos w64 {n = c .before .loop .k} (omega arith)) (omega arith)
-
 loop-again : tie.Need-loop-again Inv-loop μ-loop
 loop-again c =
     let l = c .before .before .before .before .before .before .before .loop in
     more (c .before .before .before .before .before .before .loop-test .taken) (l .inv)
     (rw (c .before .before .before .before .is-kept .ensures, back (c .before .before .before .before .before .plus .result) (c .before .before .before .before .before .plus .ok), c .before .before .before .before .before .plus .ensures, toZ-pos w64 {n = l .k} (omega arith)) at (c .before .before .lay-unless .ensures))
-
-same-length : tie.Need-same-length Inv-loop μ-loop
-same-length c = went-length (c .before .loop .inv .went)
-
-returns : tie.Need-returns Inv-loop μ-loop
-returns c = done 1000 (omega arith) (c .loop-test .left) (rw (toZ-ofZ (c .before .before .before .before .fits .from)) at (c .before .loop .inv))
 
 pub lay-left-bits-spec : {M : Type 1} → statement M
 lay-left-bits-spec =
@@ -45,14 +30,14 @@ lay-left-bits-spec =
     (tie.spec
     Inv-loop
     μ-loop
-    loop-holds
-    cast-plus
-    plus-requires
+    (λ c. begun 10 _ _ _ _)
+    (λ c. fits64 (pos (c .before .loop .k)) (omega arith))
+    (λ c κs. rw (toZ-ofZ (c .before .before .before .before .fits .from), toZ-pos w64 {n = c .before .loop .k} (omega arith)) (omega arith))
     (λ c κs. search needs)
     (λ c. search needs)
     (λ c κs. search needs)
     (λ c. search needs)
     (λ c. search needs)
     loop-again
-    same-length
-    returns)
+    (λ c. went-length (c .before .loop .inv .went))
+    (λ c. done 1000 (omega arith) (c .loop-test .left) (rw (toZ-ofZ (c .before .before .before .before .fits .from)) at (c .before .loop .inv))))

@@ -9,18 +9,12 @@ use Rattle.sharedblocks.specs.LeftOut.{leftRow}
 use Rattle.sharedblocks.proofs.left_out.lay_left_row.Statement.{statement}
 use Rattle.sharedblocks.proofs.left_out.lay_left_row.Tie as tie
 
-count-left-requires : tie.Need-count-left-requires
-count-left-requires c κs = rw (toZ-ofZ (c .before .before .fits .from)) (omega arith)
-
 returns : tie.Need-returns
 unfolding leftRow
 returns c =
     let s = c .before .before .before .before in
     let e = rw (toZ-ofZ (s .fits .from)) at (c .before .count-left .ensures .0) in
     rw (eq-eqb _ _ (sym e ∙ c .if1 .taken)) (went-none _ _, omega arith)
-
-lay-left-bits-requires : tie.Need-lay-left-bits-requires
-lay-left-bits-requires c κs = rw (toZ-ofZ (c .before .before .before .before .before .before .before .before .before .fits .from)) (omega (arith, c .before .before .before .lay-head .ensures .1))
 
 returns-2 : tie.Need-returns-2
 unfolding leftRow
@@ -39,10 +33,10 @@ pub lay-left-row-spec : {M : Type 1} → statement M
 lay-left-row-spec =
     tie.close
     (tie.spec
-    count-left-requires
+    (λ c κs. rw (toZ-ofZ (c .before .before .fits .from)) (omega arith))
     returns
     (λ c κs. search needs)
-    lay-left-bits-requires
+    (λ c κs. rw (toZ-ofZ (c .before .before .before .before .before .before .before .before .before .fits .from)) (omega (arith, c .before .before .before .lay-head .ensures .1)))
     (λ c κs. search needs)
     (λ c. search needs)
     returns-2)

@@ -35,9 +35,6 @@ short c =
     let l = c .before .before .before .before .before .before .loop in
     omega (arith, c .put-term .ensures .ends, term-length _ (of-word (c .before .before .before .word-at .result) (c .before .payload-of .result) (omega (arith, payload-below (c .before .before .word-at2 .result), c .before .payload-of .ensures))) (l .room))
 
-loop-holds : tie.Need-loop-holds Inv-loop μ-loop
-loop-holds c = ((search needs, search needs, search needs), all-left _ _ _)
-
 put-term-requires : tie.Need-put-term-requires Inv-loop μ-loop
 put-term-requires c κs =
     let s = c .before .before .before .before .before .before .before .before in
@@ -74,7 +71,7 @@ put-terms-spec =
     (tie.spec
     Inv-loop
     μ-loop
-    loop-holds
+    (λ c. ((search needs, search needs, search needs), all-left _ _ _))
     (λ c. search needs)
     (λ c. search needs)
     (λ c κs. search needs)

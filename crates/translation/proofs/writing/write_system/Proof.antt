@@ -15,12 +15,6 @@ use Rattle.translation.proofs.writing.write_system.Tie as tie
 same-room : (c : tie.After-lay) → length (c .lay .last .0) ≡ length (c .before .before .before .before .before .before .args .out .now)
 same-room c = ap length (c .lay .ensures) ∙ length-overlay _ _ _
 
-slice-aggregate-lay : tie.Need-slice-aggregate-lay
-slice-aggregate-lay c = sym (length-take-le _ _ (front-inside (c .before .before .before .before .before .pre .0 .seen)))
-
-lay-requires : tie.Need-lay-requires
-lay-requires c κs = let m = c .before .before .before .before .before .pre .0 in rw (length-take-le _ _ (front-inside (m .seen))) (omega (arith, few-sources m))
-
 write-blocks-requires : tie.Need-write-blocks-requires
 write-blocks-requires c κs =
     let s = c .before .before .before .before .before .before .before .before .before in
@@ -38,8 +32,8 @@ pub write-system-spec : {M : Type 1} → statement M
 write-system-spec =
     tie.close
     (tie.spec
-    slice-aggregate-lay
-    lay-requires
+    (λ c. sym (length-take-le _ _ (front-inside (c .before .before .before .before .before .pre .0 .seen))))
+    (λ c κs. let m = c .before .before .before .before .before .pre .0 in rw (length-take-le _ _ (front-inside (m .seen))) (omega (arith, few-sources m)))
     write-blocks-requires
     (λ c κs. search needs)
     (λ c. search needs)
