@@ -15,7 +15,7 @@ use Rattle.words.specs.Word.{kind, wordAt}
 use Rattle.words.proofs.Word.{payload-below, signed-near}
 use Rattle.rowsystems.specs.Row.{Row, sum≤0, sum=0, product}
 use Rattle.rowsystems.specs.RowSystem.{termCount, numberAt, variableAt, termsIn, constantIn, rows}
-use Rattle.sheets.proofs.Cells.{Fits}
+use Rattle.sheetlines.proofs.Cells.{Fits}
 
 abbrev pub RowFits : Row ℕ → Type 0
 RowFits (sum≤0 ts c) = All Fits ts × Near c

@@ -1,5 +1,4 @@
--- Laws of the lines of a sheet: laying them part after part, that every line has 80 columns, and that the sheet can be read back.
-pub mod Cells
+-- Laws of a sheet: its answers, that every line has 80 columns, and that it can be read back.
 pub mod Answers
 pub mod Fitting
 pub mod EightyColumns

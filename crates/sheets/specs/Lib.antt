@@ -1,4 +1,3 @@
--- What the contracts cite: the lines of a row, the sheet of a row system.
-pub mod Lines
+-- What the contracts cite: the sheet of a row system.
 pub mod Printed
 pub mod Sheet

@@ -11,7 +11,7 @@ use Rattle.words.specs.Answer.{Answer, written, _else-answer_}
 use Rattle.words.specs.declared.Refusal.{Refusal}
 use Rattle.rowsystems.specs.Reading.{readRows}
 use Rattle.rowsystems.specs.RowSystem.{rows}
-use Rattle.sheets.specs.Lines.{rowsLines}
+use Rattle.sheetlines.specs.Lines.{rowsLines}
 
 -- 02, wish 3: "Print any row system that judge-rows reads"
 unfoldable pub sheetText : List ℕ → List ℕ

@@ -1,4 +1,5 @@
-// The printed sheet of a row system.
+// The printed sheet of a row system: the lines of its rows and products, one after another.
+// A page that is too short, or words with a fault, are refused.
 ghost use mathlib.Core.Path.{_≡_};
 ghost use Prim.Native.Nat.{_≤_};
 ghost use lib.ListN.{length};
@@ -6,12 +7,10 @@ ghost use Rattle.words.specs.LaidAt.{LaidAt};
 ghost use Rattle.words.specs.Limit as Limit;
 ghost use Rattle.sheets.specs.Printed.{printed};
 ghost use Rattle.sheets.specs.Sheet.{sheetText, sheet as sheetAnswer, sheetPage};
-use lines::put_row;
 use rowreading::rows::starts_row;
+use sheetlines::put_row;
 use words::Refusal;
 use words::fault;
-
-pub mod lines;
 
 // What sheet answers.
 pub enum Printed {

@@ -7,7 +7,7 @@ use lib.ListN.{length, drop}
 use Rattle.rowsystems.specs.RowSystem.{rows}
 use Rattle.rowsystems.proofs.Walk.{starts-none, starts-one, none-left}
 use Rattle.words.proofs.Reading.{tail-is}
-use Rattle.sheets.specs.Lines.{rowsLines}
+use Rattle.sheetlines.specs.Lines.{rowsLines}
 use Rattle.sheets.specs.Sheet.{sheetText}
 use Rattle.words.proofs.Rest.{Rest, all-left, lay-part, same-rest, laid-length}
 use Rattle.words.proofs.Rest as rest

@@ -5,10 +5,10 @@ use Rattle.integers.specs.Lists.{listOf}
 use Rattle.words.specs.Bytes.{bytes}
 use Rattle.rowsystems.specs.OneWord.{rowOf}
 use Rattle.rowsystems.proofs.Sizes.{count-few}
-use Rattle.sheets.specs.Lines.{rowLines}
+use Rattle.sheetlines.specs.Lines.{rowLines}
 use borrow.Author.Needs.{needs}
-use Rattle.sheets.proofs.lines.put_row.Statement.{statement}
-use Rattle.sheets.proofs.lines.put_row.Tie as tie
+use Rattle.sheetlines.proofs.put_row.Statement.{statement}
+use Rattle.sheetlines.proofs.put_row.Tie as tie
 
 put-sum-requires : tie.Need-put-sum-requires
 put-sum-requires c κs =

@@ -1,9 +1,9 @@
 -- The blanks, then the line feed.
 use mathlib.Core.Path.{_∙_}
-use Rattle.sheets.proofs.Cells.{laid-end}
+use Rattle.sheetlines.proofs.Cells.{laid-end}
 use borrow.Author.Needs.{needs}
-use Rattle.sheets.proofs.lines.put_line_end.Statement.{statement}
-use Rattle.sheets.proofs.lines.put_line_end.Tie as tie
+use Rattle.sheetlines.proofs.put_line_end.Statement.{statement}
+use Rattle.sheetlines.proofs.put_line_end.Tie as tie
 
 returns : tie.Need-returns
 returns c =

@@ -8,11 +8,11 @@ use Rattle.words.specs.Word.{signed}
 use Rattle.words.proofs.Word.{signed-near}
 use Rattle.decimals.specs.Decimal.{numeral}
 use Rattle.decimals.proofs.Columns.{length-right}
-use Rattle.sheets.specs.Lines.{cell}
-use Rattle.sheets.proofs.Cells.{number-fits, variable-fits, lay-cell}
+use Rattle.sheetlines.specs.Lines.{cell}
+use Rattle.sheetlines.proofs.Cells.{number-fits, variable-fits, lay-cell}
 use borrow.Author.Needs.{needs}
-use Rattle.sheets.proofs.lines.put_cell.Statement.{statement}
-use Rattle.sheets.proofs.lines.put_cell.Tie as tie
+use Rattle.sheetlines.proofs.put_cell.Statement.{statement}
+use Rattle.sheetlines.proofs.put_cell.Tie as tie
 
 -- the number of the word
 number : (c : tie.After-signed-of) → toZ w64 (ofZ w64 (c .signed-of .result)) ≡ signed (c .before .before .before .args .number)

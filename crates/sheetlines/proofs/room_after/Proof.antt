@@ -1,8 +1,8 @@
 -- The code tests as the definition does.
-use Rattle.sheets.proofs.Cells.{room-some, room-none}
+use Rattle.sheetlines.proofs.Cells.{room-some, room-none}
 use borrow.Author.Needs.{needs}
-use Rattle.sheets.proofs.lines.room_after.Statement.{statement}
-use Rattle.sheets.proofs.lines.room_after.Tie as tie
+use Rattle.sheetlines.proofs.room_after.Statement.{statement}
+use Rattle.sheetlines.proofs.room_after.Tie as tie
 
 pub room-after-spec : {M : Type 1} → statement M
 room-after-spec =

@@ -1,4 +1,5 @@
-// The lines of a row, laid over a page from a place on. Each function that answers a place answers where it ended.
+// The printed lines of a row or a product, laid over a page from a place on.
+// Each function that answers a place answers where it ended.
 ghost use mathlib.Core.Path.{_≡_};
 ghost use mathlib.Core.List.{[], _∷_};
 ghost use Prim.Native.Nat.{_+_, _*_, _<_, _≤_};
@@ -10,7 +11,7 @@ ghost use Rattle.words.specs.Word.{signed};
 ghost use Rattle.rowsystems.specs.OneWord.{rowOf};
 ghost use Rattle.rowsystems.specs.Row.{product};
 ghost use Rattle.rowsystems.specs.RowSystem.{variableAt, termsIn, constantIn};
-ghost use Rattle.sheets.specs.Lines.{cell, lineEnd, termText, roomAfter, termLines, sumLines, rowLines};
+ghost use Rattle.sheetlines.specs.Lines.{cell, lineEnd, termText, roomAfter, termLines, sumLines, rowLines};
 use decimals::put_blanks;
 use decimals::put_byte;
 use decimals::put_left;

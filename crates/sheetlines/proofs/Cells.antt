@@ -24,7 +24,7 @@ use Rattle.decimals.proofs.Digits.{decimal-length, numeral-length}
 use Rattle.words.specs.Bytes.{bytes}
 use Rattle.rowsystems.specs.Row.{product}
 use Rattle.rowsystems.specs.RowSystem.{termsIn, numberAt, variableAt, constantIn}
-use Rattle.sheets.specs.Lines.{cell, lineEnd, termText, roomAfter, termLines, sumLines, rowLines}
+use Rattle.sheetlines.specs.Lines.{cell, lineEnd, termText, roomAfter, termLines, sumLines, rowLines}
 
 -- ---- numbers fit their columns
 

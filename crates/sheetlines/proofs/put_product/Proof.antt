@@ -1,9 +1,9 @@
 -- The row that is printed for a product is its own.
 use Rattle.rowsystems.specs.RowSystem.{variableAt}
-use Rattle.sheets.proofs.Cells.{product-lines}
+use Rattle.sheetlines.proofs.Cells.{product-lines}
 use borrow.Author.Needs.{needs}
-use Rattle.sheets.proofs.lines.put_product.Statement.{statement}
-use Rattle.sheets.proofs.lines.put_product.Tie as tie
+use Rattle.sheetlines.proofs.put_product.Statement.{statement}
+use Rattle.sheetlines.proofs.put_product.Tie as tie
 
 returns : tie.Need-returns
 unfolding variableAt

@@ -1,19 +1,19 @@
 -- The invariant: what is left to lay are the lines of the terms left; a term takes at most 35 bytes. The measure: the terms left.
-use Rattle.sheets.proofs.Cells.{end-length}
+use Rattle.sheetlines.proofs.Cells.{end-length}
 use Rattle.integers.specs.Terms.{_·_}
-use Rattle.sheets.specs.Lines.{termText}
+use Rattle.sheetlines.specs.Lines.{termText}
 use Rattle.words.specs.LaidAt.{LaidAt}
 use native.Mathlib.Omega.{arith}
 use borrow.Author.Needs.{needs}
 use Prim.Native.Nat.{_+_, _-_, _*_, _≤_}
 use lib.ListN.{drop}
 use Rattle.rowsystems.specs.RowSystem.{termsIn, numberAt, variableAt}
-use Rattle.sheets.specs.Lines.{termLines}
+use Rattle.sheetlines.specs.Lines.{termLines}
 use Rattle.words.proofs.Word.{payload-below}
-use Rattle.sheets.proofs.Cells.{of-word, term-length, room-few, term-then, term-last}
+use Rattle.sheetlines.proofs.Cells.{of-word, term-length, room-few, term-then, term-last}
 use Rattle.words.proofs.Rest.{Rest, all-left, lay-part, lay-last, same-rest, laid-length}
-use Rattle.sheets.proofs.lines.put_terms.Statement.{statement}
-use Rattle.sheets.proofs.lines.put_terms.Tie as tie
+use Rattle.sheetlines.proofs.put_terms.Statement.{statement}
+use Rattle.sheetlines.proofs.put_terms.Tie as tie
 
 abbrev Inv-loop : tie.InvT-loop
 Inv-loop page₀ at ws n to₀ room₀ k₀ page to room k = ((k ≤ n) × (room ≤ 3) × (to ≤ at + 35 * k)) × Rest page₀ at (termLines 3 (termsIn ws n)) page to (termLines room (drop k (termsIn ws n)))

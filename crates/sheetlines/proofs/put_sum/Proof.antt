@@ -12,11 +12,11 @@ use Rattle.decimals.specs.Decimal.{decimal, numeral}
 use Rattle.decimals.proofs.Ahead.{alone}
 use Rattle.decimals.proofs.Columns.{length-right}
 use Rattle.rowsystems.specs.RowSystem.{termsIn, constantIn, numberAt}
-use Rattle.sheets.specs.Lines.{termLines, sumLines, constantLine}
-use Rattle.sheets.proofs.Cells.{number-fits, row-fits, laid-row}
+use Rattle.sheetlines.specs.Lines.{termLines, sumLines, constantLine}
+use Rattle.sheetlines.proofs.Cells.{number-fits, row-fits, laid-row}
 use borrow.Author.Needs.{needs}
-use Rattle.sheets.proofs.lines.put_sum.Statement.{statement}
-use Rattle.sheets.proofs.lines.put_sum.Tie as tie
+use Rattle.sheetlines.proofs.put_sum.Statement.{statement}
+use Rattle.sheetlines.proofs.put_sum.Tie as tie
 
 -- the constant of the row
 constant : (c : tie.After-signed-of) →

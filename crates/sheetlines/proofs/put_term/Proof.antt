@@ -1,10 +1,10 @@
 -- In this line, or after its end in the next one.
 use mathlib.Core.Path.{_∙_}
 use native.Mathlib.Omega.{arith}
-use Rattle.sheets.proofs.Cells.{end-length, of-word, in-line, in-next-line}
+use Rattle.sheetlines.proofs.Cells.{end-length, of-word, in-line, in-next-line}
 use borrow.Author.Needs.{needs}
-use Rattle.sheets.proofs.lines.put_term.Statement.{statement}
-use Rattle.sheets.proofs.lines.put_term.Tie as tie
+use Rattle.sheetlines.proofs.put_term.Statement.{statement}
+use Rattle.sheetlines.proofs.put_term.Tie as tie
 
 returns : tie.Need-returns
 returns c =

@@ -1,0 +1,2 @@
+-- Laws of the lines of a row: laying them part after part.
+pub mod Cells

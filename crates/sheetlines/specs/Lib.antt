@@ -1,0 +1,2 @@
+-- What the contracts cite: the lines of a row.
+pub mod Lines
