@@ -9,7 +9,7 @@ import glob, os, re, shutil, subprocess, sys, time
 HERE = os.path.dirname(os.path.abspath(__file__))
 ROOT = os.path.dirname(HERE)
 SCRATCH = os.path.join(ROOT, 'target', 'definitions')
-CRATES = ['integers', 'words', 'models', 'rowsystems', 'rules', 'decimals', 'sheets', 'sharing', 'reasons', 'solutions', 'pairs', 'tokens', 'names', 'grammar', 'texts', 'bitforms']
+CRATES = ['integers', 'words', 'models', 'rowsystems', 'rules', 'decimals', 'sheetlines', 'sheets', 'sharing', 'reasons', 'solutions', 'pairs', 'tokens', 'names', 'grammar', 'texts', 'bitforms']
 BESIDE = '--beside' in sys.argv[1:]
 MOST = next((int(word) for word in sys.argv[1:] if word.isdigit()), 2000)
 SHEET_MOST, TEXT_MOST = 24, 600
