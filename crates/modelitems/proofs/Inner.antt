@@ -1,6 +1,6 @@
 -- Each word inside a constraint, from what is due there to what is due after it.
 use mathlib.Core.Path.{_≡_, refl, sym, ap, _∙_}
-use mathlib.Core.Bool.{Bool, true, false, _&&_}
+use mathlib.Core.Bool.{true}
 use mathlib.Core.List.{List}
 use Prim.Native.Nat.{ℕ, zero, suc, _+_, _-_, _<_, _≤_}
 use native.Mathlib.Omega.{arith}
@@ -9,7 +9,7 @@ use lib.ListN.{length, getD, take, drop, length-drop, List·getD-eq-default}
 use lib.Seq.{length-take-le, getD-take, getD-drop}
 use Rattle.integers.specs.Lists.{listOf, all}
 use Rattle.integers.proofs.Places.{all-more}
-use Rattle.integers.proofs.Tests.{false-true}
+use Rattle.integers.proofs.Booleans.{both-true}
 use Rattle.words.specs.Word.{kind, payload, wordAt}
 use Rattle.models.specs.Shape.{argument}
 use Rattle.models.specs.Reading.{faultNumberIn, faultVariable, faultArgumentIn, faultEnd, faultDueIn, afterDue, afterArgument}
@@ -85,10 +85,6 @@ module _ {ws : List ℕ} {n at left place : ℕ} (p : 0 < left) where
         or-halted (rw (over-fault 3 place z) at (more-variables h 3 (rw (List·getD-eq-default ws 0 {n = place} o)) c code k)) z
 
 -- ---- the words from a place on are numbers
-
-both-true : (a b : Bool) → (a && b) ≡ true → (a ≡ true) × (b ≡ true)
-both-true true b e = (refl, e)
-both-true false b e = false-true e
 
 module _ (ws : List ℕ) (at m : ℕ) (h : at + m ≤ length ws) where
   abbrev part : List ℕ

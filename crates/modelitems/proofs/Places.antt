@@ -1,21 +1,17 @@
 -- Where a code has arguments: no code above the last has one, and no code has a fourth.
 use mathlib.Core.Path.{_≡_, refl, sym}
-use mathlib.Core.List.{List, [], _∷_}
-use Prim.Native.Nat.{ℕ, zero, suc, _<_, _≤_}
+use mathlib.Core.List.{List, []}
+use Prim.Native.Nat.{ℕ, _<_, _≤_}
 use native.Mathlib.Omega.{arith}
 use native.Mathlib.Nat.{le-trans}
 use lib.Dec.{leb}
 use lib.ListN.{length, getD, List·getD-eq-default}
 use borrow.Author.Tests.{leb-true, le-leb}
 use Rattle.integers.specs.Lists.{all}
+use Rattle.integers.proofs.Lists.{all-or-past}
 use Rattle.integers.proofs.Tests.{All, says-all}
 use Rattle.models.specs.Table as Table
 use Rattle.models.specs.Shape.{argument, shapes}
-
-element : {A : Type 0} (P : A → Type 0) (xs : List A) (d : A) → P d → All P xs → (i : ℕ) → P (getD xs i d)
-element P [] d n h i = n
-element P (x ∷ xs) d n h zero = h .0
-element P (x ∷ xs) d n h (suc i) = element P xs d n (h .1) i
 
 abbrev Short : List ℕ → Type 0
 Short r = length r ≤ 3
@@ -30,4 +26,4 @@ past-codes code k h = rw (List·getD-eq-default shapes [] {n = code} h)
 
 pub past-arguments : (code k : ℕ) → 3 ≤ k → 0 ≡ argument code k
 unfolding argument
-past-arguments code k h = sym (List·getD-eq-default (getD shapes code []) 0 {n = k} (le-trans (element Short shapes [] (omega arith) all-short code) h))
+past-arguments code k h = sym (List·getD-eq-default (getD shapes code []) 0 {n = k} (le-trans (all-or-past Short shapes [] all-short (omega arith) code) h))

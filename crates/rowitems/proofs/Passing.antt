@@ -28,7 +28,7 @@ use Rattle.rowfaults.specs.Head.{faultAtHead}
 use Rattle.rowreading.specs.Onward.{startsKind, Plain, isEnded, resumed, StepsTo}
 use Rattle.rowreading.specs.declared.items.Step.{Step}
 use Rattle.rowreading.proofs.Heads.{head-here, head-halted, head-on}
-use Rattle.rowreading.proofs.Steps.{or-false}
+use Rattle.integers.proofs.Booleans.{neither}
 use Rattle.rowterms.specs.Values.{isTrue}
 use Rattle.rowterms.proofs.Sums.{word-from}
 use Rattle.rowitems.specs.Passing.{ItemPassed}
@@ -159,9 +159,9 @@ product-due w k = rw k
 pub end-due : (s : Bool) (n w : ℕ) → starts w ≡ false → startsSum w ≡ false → (kind w ≡ Kind.product → ⊥) → 0 ≡ faultAtHead s n w → afterDue due.Source w ≡ due.Ended
 unfolding starts startsPair startsSum faultAtHead faultSource faultItem afterDue afterItem
 end-due s n w v u p e =
-    let a = or-false (eqb (kind w) Kind.lower || eqb (kind w) Kind.auxiliaryLower) (eqb (kind w) Kind.boolean) v in
-    let b = or-false (eqb (kind w) Kind.lower) (eqb (kind w) Kind.auxiliaryLower) (a .0) in
-    let c = or-false (eqb (kind w) Kind.atMost) (eqb (kind w) Kind.equal) u in
+    let a = neither (eqb (kind w) Kind.lower || eqb (kind w) Kind.auxiliaryLower) (eqb (kind w) Kind.boolean) v in
+    let b = neither (eqb (kind w) Kind.lower) (eqb (kind w) Kind.auxiliaryLower) (a .0) in
+    let c = neither (eqb (kind w) Kind.atMost) (eqb (kind w) Kind.equal) u in
     go (b .0) (a .1) (b .1) (c .0) (c .1) (ne-eqb _ _ p) (eqb (kind w) Kind.rowsEnd) refl s e
   where
     go : eqb (kind w) Kind.lower ≡ false → eqb (kind w) Kind.boolean ≡ false → eqb (kind w) Kind.auxiliaryLower ≡ false →

@@ -33,7 +33,7 @@ use Rattle.rowreading.specs.Onward.{startsKind, Plain, onward, stopped, resumed
 use Rattle.rowreading.specs.declared.items.Step.{Step}
 use Rattle.rowreading.proofs.Counts.{CountedFrom, none-counted, count-none, count-one, count-plain, counted, along, plain-variables}
 use Rattle.rowreading.proofs.Onward.{at-the-end}
-use Rattle.rowreading.proofs.Steps.{or-false}
+use Rattle.integers.proofs.Booleans.{neither}
 use Rattle.rowsystems.specs.OneWord.{startsRow, rowOf}
 use Rattle.rowterms.specs.Values.{ValuesKnown}
 use Rattle.rowitems.specs.Passing.{ItemPassed}
@@ -66,7 +66,7 @@ begun ws vs before start first f = record { few = omega arith; counted = none-co
 -- words that start nothing start no row
 pub plain-rows : (ws : List ℕ) (a b : ℕ) → Plain ws a b → a ≤ b → b ≤ length ws → rows (drop a ws) ≡ rows (drop b ws)
 unfolding wordAt startsKind startsRow
-plain-rows ws = along ws rows (λ a h e. let k = kind (wordAt ws a) in starts-none ws a h (or-false ((eqb k Kind.lower || eqb k Kind.auxiliaryLower) || eqb k Kind.boolean) ((eqb k Kind.atMost || eqb k Kind.equal) || eqb k Kind.product) e .1))
+plain-rows ws = along ws rows (λ a h e. let k = kind (wordAt ws a) in starts-none ws a h (neither ((eqb k Kind.lower || eqb k Kind.auxiliaryLower) || eqb k Kind.boolean) ((eqb k Kind.atMost || eqb k Kind.equal) || eqb k Kind.product) e .1))
 
 plain-to : {ws : List ℕ} {vs : List ℤ} {before start first n k : ℕ} {all : Bool} {wrong a b : ℕ} → Judging ws vs before start first n k all wrong a → Plain ws a b → a ≤ b → b ≤ length ws →
     Judging ws vs before start first n k all wrong b

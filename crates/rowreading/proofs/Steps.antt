@@ -12,7 +12,6 @@ use lib.ListN.{length}
 use Rattle.integers.specs.Choice.{_if_else_}
 use Rattle.integers.proofs.Tests.{false-true}
 use Rattle.integers.proofs.Booleans.{neither}
-pub use Rattle.integers.proofs.Booleans.{neither as or-false}
 use Rattle.words.specs.Fault as Fault
 use Rattle.words.specs.Kind as Kind
 use Rattle.words.specs.Limit as Limit
