@@ -10,7 +10,7 @@ alone, are seen:
     every bit     up to 14 bits: over all lists of bits it is never below 0, and a value list inside its bounds satisfies the row system (the
                   model, through translate) exactly when some bits that read as it give 0
     its minimum   up to 30 bits: clasp, a solver that minimises such forms exactly, finds 0 with a value list's bits fixed exactly when the values
-                  satisfy the row system (the model); where it takes too long, what it found until then is no less
+                  satisfy the row system (the model); where it meets too many conflicts, what it found until then is no less
 
 Nothing is known here of slacks and products: all bits behind those of the variables are just bits. Where clasp is missing, Debian's package is
 installed if that can be done; if not, one line says so. All other forms are only read. No row system and few models may be refused. Exit status 1
@@ -163,7 +163,7 @@ class Form:
 
     def minimum(self, values):
         """Its least value with the bits of the first variables fixed so that they read as values, by clasp, and True; the least that it found, or
-        None, and False where that takes too long."""
+        None, and False where it meets too many conflicts."""
         fixed = []
         for (low, mine), value in zip(self.variables, values):
             rest = value - low

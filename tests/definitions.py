@@ -3,8 +3,8 @@
 
     tests/definitions.py [--beside] [MOST]
 
-With --beside it waits until a run of rt beside it has proved the crates of the definitions. A vector of more than MOST words (default 2,000) is left out, one of sheet with more than 24, one of text with more than 600 bytes, and one of bits with more than 60 words or a lent list of more than 100: a page of bytes, a long text and a form of many bits take long to compute. The last line says how many agree. Exit status 0 if all do."""
-import glob, os, re, shutil, subprocess, sys, time
+With --beside it waits until a run of rt beside it has proved the crates of the definitions: those of the calls of 01 first, then those of the others. A vector of more than MOST words (default 2,000) is left out, one of sheet with more than 24, one of text with more than 600 bytes, and one of bits with more than 60 words or a lent list of more than 100: a page of bytes, a long text and a form of many bits take long to compute. The last line says how many agree. Exit status 0 if all do."""
+import concurrent.futures, glob, os, re, shutil, subprocess, sys, time
 
 HERE = os.path.dirname(os.path.abspath(__file__))
 ROOT = os.path.dirname(HERE)
@@ -14,7 +14,8 @@ BESIDE = '--beside' in sys.argv[1:]
 MOST = next((int(word) for word in sys.argv[1:] if word.isdigit()), 2000)
 SHEET_MOST, TEXT_MOST = 24, 600
 BITS_MOST, BITS_ROOM = 60, 100
-PARTS = ['firsts', 'seconds']  # the crates of the vectors
+FIRST_CALLS = ('check', 'translate', 'judge_model', 'judge_rows', 'fill')  # the calls of 01, whose definitions stand in the first five crates
+PARTS = {'firsts': CRATES[:5], 'seconds': CRATES}  # the crates of the vectors, of the calls of 01 and of the others, with those of their definitions
 UNUSED, UNUSED_BYTE = 0x5A5A5A5A, 0x5A  # what a lent word or value, and a lent byte, holds before the call
 # the definition of what each call answers, and of what a lent list holds afterwards
 ANSWERS = {'check': 'check', 'translate': 'translate', 'judge_model': 'judgeModel', 'judge_rows': 'judgeRows', 'fill': 'fill', 'sheet': 'sheet', 'text': 'readText', 'reason': 'reason', 'solutions': 'solutionsAnswer', 'bits': 'bitForm',
@@ -93,9 +94,9 @@ def vectors():
                    [] if values == '-' else [int(v) for v in values.split()], 0 if room == '-' else int(room), answer.split())
 
 
-def definitions():
+def definitions(crates):
     """The modules of specs/ and the names in each that a computation opens."""
-    for crate in CRATES:
+    for crate in crates:
         for path in sorted(glob.glob(os.path.join(ROOT, 'crates', crate, 'specs', '*.antt'))):
             names = re.findall(r'^ *unfoldable pub (\S+) :', open(path).read(), flags=re.M)
             if names:
@@ -107,10 +108,10 @@ def stamp_of(crate):
     return os.path.join(ROOT, 'target', 'stamp', crate)
 
 
-def needed_crates():
-    """The crates of the definitions, and all that they stand on."""
+def needed_crates(crates):
+    """The crates of definitions, and all that they stand on."""
     uses = {name: rest.split() for name, rest in re.findall(r'^(\w+):(.*)', open(os.path.join(ROOT, 'crates.txt')).read(), flags=re.M)}
-    needed, due = set(), list(CRATES)
+    needed, due = set(), list(crates)
     while due:
         crate = due.pop()
         if crate in uses and crate not in needed:
@@ -119,22 +120,22 @@ def needed_crates():
     return sorted(needed)
 
 
-def write_crates(cases):
-    """Writes PARTS crates, which are checked side by side, with every PARTS-th case each."""
-    shutil.rmtree(SCRATCH, ignore_errors=True)
-    os.makedirs(os.path.join(SCRATCH, 'crates'))
+def write_part(part, cases):
+    """Writes the crate of a part, in a folder with what is proved of the crates that it uses."""
+    scratch = os.path.join(SCRATCH, part)
+    os.makedirs(os.path.join(scratch, 'crates'))
     listing = open(os.path.join(ROOT, 'crates.txt')).read()
     for crate in re.findall(r'^(\w+):', listing, flags=re.M):
-        os.symlink(os.path.join(ROOT, 'crates', crate), os.path.join(SCRATCH, 'crates', crate))
-    with open(os.path.join(SCRATCH, 'crates.txt'), 'w') as f:
-        f.write(listing + ''.join(f'{name}: {" ".join(CRATES)}\n' for name in PARTS))
-    os.makedirs(os.path.join(SCRATCH, 'target', 'rlib'))
-    os.makedirs(os.path.join(SCRATCH, 'target', 'stamp'))
-    for crate in needed_crates():  # what is proved already is not proved again
+        os.symlink(os.path.join(ROOT, 'crates', crate), os.path.join(scratch, 'crates', crate))
+    with open(os.path.join(scratch, 'crates.txt'), 'w') as f:
+        f.write(f'{listing}{part}: {" ".join(PARTS[part])}\n')
+    os.makedirs(os.path.join(scratch, 'target', 'rlib'))
+    os.makedirs(os.path.join(scratch, 'target', 'stamp'))
+    for crate in needed_crates(PARTS[part]):  # what is proved already is not proved again
         if os.path.exists(stamp_of(crate)):
-            shutil.copy(stamp_of(crate), os.path.join(SCRATCH, 'target', 'stamp', crate))
-            shutil.copytree(os.path.join(ROOT, 'target', 'rlib', f'{crate}.rlib'), os.path.join(SCRATCH, 'target', 'rlib', f'{crate}.rlib'), symlinks=True, copy_function=os.link)
-    modules = list(definitions())
+            shutil.copy(stamp_of(crate), os.path.join(scratch, 'target', 'stamp', crate))
+            shutil.copytree(os.path.join(ROOT, 'target', 'rlib', f'{crate}.rlib'), os.path.join(scratch, 'target', 'rlib', f'{crate}.rlib'), symlinks=True, copy_function=os.link)
+    modules = list(definitions(PARTS[part]))
     seen, uses, opened = {'written'}, [], []  # also an answer
     for crate, module, names in modules:
         # a name that two modules have is written by its module
@@ -149,10 +150,9 @@ def write_crates(cases):
         'use Rattle.words.specs.Answer.{Answer, refused, counts, written, holds, outOfBounds, isFalse}',
         'use Rattle.rules.specs.Check.{check}', 'use Rattle.rules.specs.Translate.{translate, translated}',
         'use Rattle.rules.specs.Fill.{fill, filled}', 'use mathlib.Core.Bool.{true, false}',
-        'use Rattle.reasons.specs.Reason.{Reason, refuse, outside, none, because}'] + uses)
-    for part, name in enumerate(PARTS):
-        of = {k: case for k, case in enumerate(cases) if k % len(PARTS) == part}
-        write_crate(os.path.join(SCRATCH, 'crates', name), head, 'flatMap flatten zipWith ' + ' '.join(opened), of)
+        *(['use Rattle.reasons.specs.Reason.{Reason, refuse, outside, none, because}'] if 'reasons' in PARTS[part] else [])] + uses)
+    write_crate(os.path.join(scratch, 'crates', part), head, 'flatMap flatten zipWith ' + ' '.join(opened), cases)
+    return scratch
 
 
 def write_crate(folder, head, opened, cases):
@@ -175,22 +175,32 @@ def is_short(case):
     return len(words) <= min(MOST, most) and (call != 'bits' or room <= BITS_ROOM)
 
 
-def main():
-    every = list(vectors())
-    cases = [case for case in every if is_short(case)]
-    while BESIDE and not all(os.path.exists(stamp_of(crate)) for crate in needed_crates()):
+def compute(part, cases):
+    """The cases of a part to which the definition gives another answer, and what rt said where it failed and names none."""
+    while BESIDE and not all(os.path.exists(stamp_of(crate)) for crate in needed_crates(PARTS[part])):
         time.sleep(1)
-    write_crates(cases)
-    begun = time.time()
-    run = subprocess.run(['rt', 'check', *PARTS], cwd=SCRATCH, capture_output=True, text=True, env=dict(os.environ, RT_CUT='0'))
+    run = subprocess.run(['rt', 'check', part], cwd=write_part(part, cases), capture_output=True, text=True, env=dict(os.environ, RT_CUT='0'))
     said = run.stdout + run.stderr
     wrong = sorted({int(n) for n in re.findall(r'error: `v(\d+)`', said)})
+    return wrong, said[-3000:] if run.returncode and not wrong else ''
+
+
+def main():
+    every = list(vectors())
+    cases = {k: case for k, case in enumerate(every) if is_short(case)}
+    of = {part: {k: case for k, case in cases.items() if (case[1] in FIRST_CALLS) == (part == 'firsts')} for part in PARTS}
+    shutil.rmtree(SCRATCH, ignore_errors=True)
+    begun = time.time()
+    with concurrent.futures.ThreadPoolExecutor() as pool:
+        found = list(pool.map(compute, of, of.values()))
+    wrong = [k for each, _ in found for k in each]
     for k in wrong:
         print(f'{cases[k][0]}: the definition of {cases[k][1]} gives another answer')
-    if run.returncode and not wrong:
-        print(said[-3000:])
-        print('the definitions were not computed')
-        return 1
+    for _, said in found:
+        if said:
+            print(said)
+            print('the definitions were not computed')
+            return 1
     print(f'definitions: {len(cases) - len(wrong)} of {len(cases)} vectors agree, {len(every) - len(cases)} of more words left out, {time.time() - begun:.0f} s')
     return 1 if wrong else 0
 
