@@ -25,10 +25,10 @@ use bitrows::add_terms;
 use bitrows::add_variable;
 use bitrows::row_constant;
 use bitrows::slack_of;
-use bittables::count_at;
 use bittables::row_variable;
 use bittables::signed_at;
 use bittables::span_at;
+use bittables::table_entry;
 use extremes::bound_at;
 use integers::equal;
 use integers::opposite;
@@ -142,10 +142,10 @@ fn add_product_pairs(
     let g = row_variable(args, 2);
     add_pairs(
         line,
-        count_at(firsts, f),
-        count_at(counts, f),
-        count_at(firsts, g),
-        count_at(counts, g),
+        table_entry(firsts, f),
+        table_entry(counts, f),
+        table_entry(firsts, g),
+        table_entry(counts, g),
         first,
         i,
     )
@@ -215,7 +215,7 @@ fn among(first: usize, n: usize, i: usize) -> bool
 fn holds_variable(firsts: &[usize], counts: &[usize], v: usize, i: usize) -> bool
     ensures { λ r. ⌜ (r ≡ false → NoBitOf (now (firsts .entry)) (now (counts .entry)) i v) ⌝ }
 {
-    among(count_at(firsts, v), count_at(counts, v), i)
+    among(table_entry(firsts, v), table_entry(counts, v), i)
 }
 
 // Whether it is a bit of the variable of term k, with a coefficient that is not 0.

@@ -14,7 +14,7 @@ use Rattle.integers.specs.Terms.{Term, sum}
 use Rattle.integers.specs.declared.Bounds.{Bounds}
 use Rattle.integers.proofs.Linear.{linear}
 use Rattle.integers.proofs.Places.{one-more}
-use Rattle.integers.proofs.Sums.{⊕-assoc, ⊕-zero}
+use Rattle.integers.proofs.Sums.{⊕-assoc, ⊕-zero-comm}
 use Rattle.words.specs.Kind as Kind
 use Rattle.words.specs.Word.{kind}
 use Rattle.rowsystems.specs.Row.{sum≤0, sum=0, product}
@@ -33,7 +33,7 @@ use Rattle.bitrows.proofs.Cross.{length-weighted}
 
 pub least-more : (β : ℕ → Bounds) (args : List ℕ) (k : ℕ) → sumOver (leastTerm β) (termsIn args (k + 1)) ≡ sumOver (leastTerm β) (termsIn args k) ⊕ leastTerm β (termIn args k)
 unfolding termsIn sumOver
-least-more β args k = rw add-one (one-more (sumOver (leastTerm β)) _⊕_ (leastTerm β) (λ x xs. refl) ⊕-assoc ⊕-zero (termIn args) k)
+least-more β args k = rw add-one (one-more (sumOver (leastTerm β)) _⊕_ (leastTerm β) (λ x xs. refl) ⊕-assoc ⊕-zero-comm (termIn args) k)
 
 pub least-none : (β : ℕ → Bounds) (args : List ℕ) → +0 ≡ sumOver (leastTerm β) (termsIn args 0)
 unfolding termsIn sumOver listOf

@@ -29,12 +29,12 @@ pub fn weight_count(width: usize) -> usize
     add_weights(&mut nothing, 0, 0, width)
 }
 
-// The number of a list at a place, 0 past the last one.
-pub fn count_at(sizes: &[usize], v: usize) -> usize
-    ensures { λ r. ⌜ r ≡ getD (now (sizes .entry)) v 0 ⌝ }
+// The entry of a table at a variable, 0 past the last one.
+pub fn table_entry(table: &[usize], v: usize) -> usize
+    ensures { λ r. ⌜ r ≡ getD (now (table .entry)) v 0 ⌝ }
 {
-    if v < sizes.len() {
-        return sizes[v];
+    if v < table.len() {
+        return table[v];
     }
     0
 }

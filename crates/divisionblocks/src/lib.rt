@@ -14,7 +14,7 @@ ghost use Rattle.laying.specs.Sizes.{firstNumbers};
 ghost use Rattle.extremes.specs.BoundLists.{boundsOf};
 ghost use Rattle.divisionblocks.specs.Rows.{auxiliaryParts, tableParts, divisionParts};
 use extremes::bound_at;
-use extremes::larger_size;
+use extremes::larger_absolute;
 use extremes::product_end;
 use integers::opposite;
 use laying::Laid;
@@ -126,7 +126,7 @@ pub fn int_mod(
     requires { ⌜ BlockRoom s × (first < firstNumbers) × Small (now ls) × Small (now us) ⌝ }
     ensures { λ t. ⌜ Appends s t (now (out .entry)) (now (out .exit)) (blockParts first (rule (boundsOf (now (ls .entry)) (now (us .entry))) (int-mod n d r))) × GrowsBy 30000 s t ⌝ }
 {
-    let qu = larger_size(bound_at(ls, n), bound_at(us, n));
+    let qu = larger_absolute(bound_at(ls, n), bound_at(us, n));
     let ql = opposite(qu);
     let t = lay_bound(out, s, ql, qu);
     let u = lay_division(out, t, n, d, first, first + 1, ls, us, ql, qu);

@@ -60,7 +60,7 @@ fn absolute(v: i64) -> i64
 }
 
 // The larger of two absolute values.
-pub fn larger_size(a: i64, b: i64) -> i64
+pub fn larger_absolute(a: i64, b: i64) -> i64
     requires { ⌜ (natAbs a ≤ 1152921504606846976) × (natAbs b ≤ 1152921504606846976) ⌝ }
     ensures { λ r. ⌜ (r ≡ maxZ (absZ a) (absZ b)) × (natAbs r ≤ 1152921504606846976) ⌝ }
 {

@@ -18,7 +18,7 @@ use Rattle.integers.specs.Terms.{Term, sum}
 use Rattle.integers.specs.Bounds.{_to_, boundsIn}
 use Rattle.integers.specs.declared.Bounds.{Bounds}
 use Rattle.integers.proofs.Booleans.{and-assoc, and-true, or-assoc, or-false, bit-le}
-use Rattle.integers.proofs.Sums.{⊕-assoc, ⊕-zero}
+use Rattle.integers.proofs.Sums.{⊕-assoc, ⊕-zero-comm}
 
 -- what is put together from the left, `F (x ∷ xs)` from `g x` and `F xs`, also grows at the right
 module _ {A B : Type 0} (F : List A → B) (op : B → B → B) (g : A → B)
@@ -50,7 +50,7 @@ module _ {A : Type 0} (t : A → Bool) (f : ℕ → A) (k : ℕ) where
 
 pub sum-more : {X : Type 0} (σ : X → ℤ) (f : ℕ → Term X) (k : ℕ) → sum σ (listOf f (k + 1)) ≡ sum σ (listOf f k) ⊕ f k .coefficient ⊗ σ (f k .variable)
 unfolding sum
-sum-more σ f k = rw add-one (one-more (sum σ) _⊕_ (λ t. t .coefficient ⊗ σ (t .variable)) (λ x xs. refl) ⊕-assoc ⊕-zero f k)
+sum-more σ f k = rw add-one (one-more (sum σ) _⊕_ (λ t. t .coefficient ⊗ σ (t .variable)) (λ x xs. refl) ⊕-assoc ⊕-zero-comm f k)
 
 -- ---- elements
 

@@ -20,8 +20,9 @@ pub ⊕-crossed : (a b c d : ℤ) → a ⊕ b ⊕ (c ⊕ d) ≡ a ⊕ c ⊕ (b �
 
 -- ---- with 0, with 1
 
-pub ⊕-zero : (a : ℤ) → a ⊕ +0 ≡ +0 ⊕ a
-⊕-zero = simp linear (omega arith)
+-- 0 on either side
+pub ⊕-zero-comm : (a : ℤ) → a ⊕ +0 ≡ +0 ⊕ a
+⊕-zero-comm = simp linear (omega arith)
 
 pub plus-zero : (a : ℤ) → a ⊕ +0 ≡ a
 plus-zero = simp linear (omega arith)
@@ -53,7 +54,7 @@ both-zero = simp linear (omega arith)
 
 -- ---- orders
 
--- two numbers that are not negative: their sum is neither, and is 0 only where both are
+-- two numbers that are not negative: nor is their sum, which is 0 only where both are
 pub not-negative : (a b : ℤ) → +0 ⊑ a → +0 ⊑ b → +0 ⊑ a ⊕ b
 not-negative = simp linear (omega arith)
 
@@ -65,6 +66,7 @@ not-less = simp linear (omega arith)
 
 -- ---- counts
 
+-- a count is at most the absolute value
 pub count-le : (a : ℤ) → count a ≤ natAbs a
 count-le = simp linear (omega arith)
 

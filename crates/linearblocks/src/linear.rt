@@ -17,7 +17,7 @@ use crate::sums::lay_split;
 use crate::sums::lay_sum;
 use arguments::past_terms_at;
 use arguments::var_at;
-use extremes::larger_size;
+use extremes::larger_absolute;
 use integers::Bounds;
 use integers::minus;
 use integers::opposite;
@@ -109,7 +109,7 @@ pub fn zero_reif(
 {
     let lower = sum.lower;
     let upper = sum.upper;
-    let w = larger_size(lower, upper);
+    let w = larger_absolute(lower, upper);
     let r = var_at(args, past_terms_at(args, 0) + 1);
     let t = lay_split(out, s, args, lower, upper, first);
     let u = lay_zero(out, t, w, r, first, equal);

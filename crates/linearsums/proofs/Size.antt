@@ -16,7 +16,7 @@ use Rattle.integers.specs.declared.Bounds.{Bounds}
 use Rattle.integers.proofs.Fits.{plus-size, minus-size}
 use Rattle.integers.proofs.Linear.{linear}
 use Rattle.integers.proofs.Places.{one-more}
-use Rattle.integers.proofs.Sums.{⊕-assoc, ⊕-zero}
+use Rattle.integers.proofs.Sums.{⊕-assoc, ⊕-zero-comm}
 use Rattle.words.specs.Small.{Near}
 use Rattle.models.specs.Model.{num, size, pastTerms}
 use Rattle.arguments.proofs.Size.{size-le, num-size}
@@ -56,7 +56,7 @@ few-terms ws a = go (eqb (formBefore ws a) noSum) (eqb (formBefore ws a) ofTwo)
 extreme-more : (pick : ℤ → ℤ → ℤ) (β : ℕ → Bounds) (f : ℕ → Term ℕ) (k : ℕ) →
     extreme pick β (listOf f (k + 1)) ≡ extreme pick β (listOf f k) ⊕ pick (f k .coefficient ⊗ β (f k .variable) .lower) (f k .coefficient ⊗ β (f k .variable) .upper)
 unfolding extreme
-extreme-more pick β f k = rw add-one (one-more (extreme pick β) _⊕_ (λ t. pick (t .coefficient ⊗ β (t .variable) .lower) (t .coefficient ⊗ β (t .variable) .upper)) (λ x xs. refl) ⊕-assoc ⊕-zero f k)
+extreme-more pick β f k = rw add-one (one-more (extreme pick β) _⊕_ (λ t. pick (t .coefficient ⊗ β (t .variable) .lower) (t .coefficient ⊗ β (t .variable) .upper)) (λ x xs. refl) ⊕-assoc ⊕-zero-comm f k)
 
 swap : (x c t : ℤ) → x ⊖ c ⊕ t ≡ x ⊕ t ⊖ c
 swap = simp linear (omega arith)

@@ -100,22 +100,22 @@ none-of-zero : 0 ≡ argument 0 0
 unfolding argument shapes
 none-of-zero = refl
 
-pub at-heads : (ws ts : List ℕ) (code k c at : ℕ) → 0 ≡ argument code k → Onward.onward (Onward.argumentsFrom code k) ts c at ws ≡ Onward.onward Onward.heads ts c at ws
+pub at-heads : (ws ts : List ℕ) (code k c at : ℕ) → 0 ≡ argument code k → Onward.onward (Onward.argumentsFrom code k) ts c at ws ≡ Onward.onward Onward.headDue ts c at ws
 unfolding faultDueIn afterDue faultEnd faultArgumentIn
-at-heads ws ts code k c at e = alike ws ts (Onward.argumentsFrom code k) Onward.heads c at (rw (← e, ← none-of-zero)) (rw (← e, ← none-of-zero)) refl
+at-heads ws ts code k c at e = alike ws ts (Onward.argumentsFrom code k) Onward.headDue c at (rw (← e, ← none-of-zero)) (rw (← e, ← none-of-zero)) refl
 
 -- where no variable starts, as after the last argument
-pub start-heads : (ws ts : List ℕ) (c at : ℕ) → kind (wordAt ws at) ≢ 1 → kind (wordAt ws at) ≢ 3 → Onward.onward Start ts c at ws ≡ Onward.onward Onward.heads ts c at ws
+pub start-heads : (ws ts : List ℕ) (c at : ℕ) → kind (wordAt ws at) ≢ 1 → kind (wordAt ws at) ≢ 3 → Onward.onward Start ts c at ws ≡ Onward.onward Onward.headDue ts c at ws
 unfolding faultDueIn afterDue faultEnd faultStartIn faultArgumentIn
 start-heads ws ts c at a b =
     let w = wordAt ws at in
-    alike ws ts Start Onward.heads c at (rw (ne-eqb (kind w) 1 a, ne-eqb (kind w) 3 b, ← none-of-zero)) (rw (ne-eqb (kind w) 1 a, ne-eqb (kind w) 3 b, ← none-of-zero)) refl
+    alike ws ts Start Onward.headDue c at (rw (ne-eqb (kind w) 1 a, ne-eqb (kind w) 3 b, ← none-of-zero)) (rw (ne-eqb (kind w) 1 a, ne-eqb (kind w) 3 b, ← none-of-zero)) refl
 
 -- the fault of a head, and what is due after it
-pub head-fault : (ws ts : List ℕ) (c at : ℕ) → faultAt ws ts Onward.heads c at ≡ faultHead c (wordAt ws at)
+pub head-fault : (ws ts : List ℕ) (c at : ℕ) → faultAt ws ts Onward.headDue c at ≡ faultHead c (wordAt ws at)
 unfolding faultDueIn faultArgumentIn
 head-fault ws ts c at = rw (← none-of-zero)
 
-pub head-after : (w : ℕ) → afterDue Onward.heads w ≡ afterHead w
+pub head-after : (w : ℕ) → afterDue Onward.headDue w ≡ afterHead w
 unfolding afterDue
 head-after w = rw (← none-of-zero)

@@ -64,12 +64,13 @@ pub record Ends (ws : List ℕ) (at n r : ℕ) : Type 0 where
 unfoldable pub isNumber : ℕ → Bool
 isNumber w = eqb (faultNumber w) Fault.none
 
--- what is due at the k-th argument of a code, and at a head, where a constraint or the end may stand: code 0 has no argument
+-- what is due at the k-th argument of a code
 abbrev pub argumentsFrom : ℕ → ℕ → Due
 argumentsFrom code k = Arguments 0 0 0 code k
 
-abbrev pub heads : Due
-heads = argumentsFrom 0 0
+-- what is due at a head, where a constraint or the end may stand: code 0 has no argument
+abbrev pub headDue : Due
+headDue = argumentsFrom 0 0
 
 -- r is past the numbers of a list but for the last `left` of them
 abbrev pub NumbersRead : List ℕ → ℕ → ℕ → ℕ → Step → Type 0
@@ -95,4 +96,4 @@ ArgumentRead ws ts arg at r = (c code k : ℕ) → arg ≡ argument code k → S
 
 -- r is past all arguments of a code
 abbrev pub ArgumentsRead : List ℕ → List ℕ → ℕ → ℕ → Step → Type 0
-ArgumentsRead ws ts code at r = (c : ℕ) → StepsTo ws ts c (argumentsFrom code 0) at heads r
+ArgumentsRead ws ts code at r = (c : ℕ) → StepsTo ws ts c (argumentsFrom code 0) at headDue r

@@ -15,7 +15,7 @@ use Rattle.modelitems.specs.Onward.{onward, stopped}
 use Rattle.modelitems.specs.declared.items.Step.{Step}
 
 -- a variable's words stand from one place to another
-pub record Passed (ws : List ℕ) (at to : ℕ) : Type 0 where
+pub record VariablePassed (ws : List ℕ) (at to : ℕ) : Type 0 where
   pub one-variable : length (variables (drop at ws)) ≡ length (variables (drop to ws)) + 1
   pub more-sources : at + length (sourceWords (drop at ws)) ≡ to + length (sourceWords (drop to ws))
   pub same-constraints : constraintsFrom at (drop at ws) ≡ constraintsFrom to (drop to ws)
@@ -26,7 +26,8 @@ pub record Declares (ws : List ℕ) (v at d : ℕ) (r : Step) : Type 0 where
   pub room : r .number ≡ Fault.none → v < Limit.variables
   pub on : r .number ≡ Fault.none → at < r .at
   pub inside : r .number ≡ Fault.none → r .at ≤ length ws
-  pub passed : r .number ≡ Fault.none → Passed ws at (r .at)
+  pub passed : r .number ≡ Fault.none → VariablePassed ws at (r .at)
 
+-- r leads past the variable that the word w at a place starts, of the type that w declares, after v variables
 abbrev pub VariableRead : List ℕ → ℕ → ℕ → ℕ → Step → Type 0
 VariableRead ws v at w r = (d : ℕ) → d ≡ getD (declared w) 0 0 → (d ≡ 0 → ⊥) → Declares ws v at d r

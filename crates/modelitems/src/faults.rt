@@ -9,6 +9,7 @@ ghost use Rattle.integers.specs.Lists.{all, listOf};
 ghost use Rattle.words.specs.Word.{payload, signed, tooLow, wordAt};
 ghost use Rattle.words.specs.Fault as Fault;
 ghost use Rattle.words.specs.Limit as Limit;
+ghost use Rattle.models.specs.Shape as Shape;
 ghost use Rattle.models.specs.Reading.{faultHead, faultVariable};
 ghost use Rattle.models.specs.InRange.{faultStart, faultUpper, faultNumber, faultCount};
 ghost use Rattle.modelitems.specs.Onward.{isNumber};
@@ -71,7 +72,7 @@ pub fn of_head(c: usize, w: u32) -> u32
         if p == 0 {
             return fault::UNKNOWN_CODE;
         }
-        if shapes::CODES < p {
+        if shapes::LAST_CODE < p {
             return fault::UNKNOWN_CODE;
         }
         return fault::NONE;
@@ -176,7 +177,7 @@ pub fn of_count(most: usize, w: u32) -> u32
 
 // Of a word that is to name a variable of a type among the first v.
 pub fn of_variable(types: &[u32; 256], v: usize, wanted: u32, w: u32) -> u32
-    requires { ⌜ (v ≤ Limit.variables) × (1 ≤ wanted) ⌝ }
+    requires { ⌜ (v ≤ Limit.variables) × (Shape.integer ≤ wanted) ⌝ }
     ensures { λ r. ⌜ r ≡ faultVariable (getD (take v (now (types .entry))) (payload w) 0) wanted w ⌝ }
 {
     if words::kind_of(w) != kind::VARIABLE {

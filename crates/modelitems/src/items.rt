@@ -4,6 +4,7 @@ ghost use Prim.Native.Nat.{_+_, _≤_};
 ghost use lib.ListN.{length, getD, take};
 ghost use Rattle.words.specs.Limit as Limit;
 ghost use Rattle.words.specs.Word.{wordAt};
+ghost use Rattle.models.specs.Shape as Shape;
 ghost use Rattle.models.specs.Reading.{declared};
 ghost use Rattle.modelitems.specs.Argument.{table};
 ghost use Rattle.modelitems.specs.Onward.{Placed, stepOver, Ends, NumbersPassed, NumbersRead, VariablesRead, ListRead, ArgumentRead, ArgumentsRead};
@@ -85,7 +86,7 @@ fn numbers_at(ws: &[u32], at: usize, n: usize) -> Step
 
 // n variables of a type from a place on.
 fn variables_at(ws: &[u32], at: usize, n: usize, wanted: u32, types: &[u32; 256], v: usize) -> Step
-    requires { ⌜ Placed (now ws) at × (n ≤ Limit.listLength) × (v ≤ Limit.variables) × (1 ≤ wanted) ⌝ }
+    requires { ⌜ Placed (now ws) at × (n ≤ Limit.listLength) × (v ≤ Limit.variables) × (Shape.integer ≤ wanted) ⌝ }
     ensures { λ r. ⌜ VariablesRead (now (ws .entry)) (take v (now (types .entry))) wanted n at 0 r ⌝ }
 {
     let end = end_of(ws, at, n);
@@ -111,7 +112,7 @@ fn variables_at(ws: &[u32], at: usize, n: usize, wanted: u32, types: &[u32; 256]
 
 // A list, whose length word was read: its numbers, its variables, or both.
 fn list_at(ws: &[u32], at: usize, n: usize, argument: u32, types: &[u32; 256], v: usize) -> Step
-    requires { ⌜ Placed (now ws) at × (n ≤ Limit.listLength) × (v ≤ Limit.variables) × (5 ≤ argument) ⌝ }
+    requires { ⌜ Placed (now ws) at × (n ≤ Limit.listLength) × (v ≤ Limit.variables) × (Shape.numbers ≤ argument) ⌝ }
     ensures { λ r. ⌜ ListRead (now (ws .entry)) (take v (now (types .entry))) argument n at r ⌝ }
 {
     if argument == shapes::NUMBERS {
@@ -132,7 +133,7 @@ fn list_at(ws: &[u32], at: usize, n: usize, argument: u32, types: &[u32; 256], v
 
 // One argument.
 fn argument_at(ws: &[u32], at: usize, argument: u32, types: &[u32; 256], v: usize) -> Step
-    requires { ⌜ Placed (now ws) at × (v ≤ Limit.variables) × (1 ≤ argument) ⌝ }
+    requires { ⌜ Placed (now ws) at × (v ≤ Limit.variables) × (Shape.integer ≤ argument) ⌝ }
     ensures { λ r. ⌜ ArgumentRead (now (ws .entry)) (take v (now (types .entry))) argument at r ⌝ }
 {
     let w = word_at(ws, at);
@@ -157,7 +158,7 @@ pub fn arguments_at(
     ws: &[u32],
     at: usize,
     code: usize,
-    lists: &[[u32; shapes::MOST]; shapes::CODES + 1],
+    lists: &[[u32; shapes::MOST_ARGUMENTS]; shapes::LAST_CODE + 1],
     types: &[u32; 256],
     v: usize,
 ) -> Step
@@ -166,7 +167,7 @@ pub fn arguments_at(
 {
     let mut place = at;
     let mut k = 0;
-    while k < shapes::MOST {
+    while k < shapes::MOST_ARGUMENTS {
         let argument = shapes::argument_of(lists, code, k);
         if argument == shapes::NONE {
             break;

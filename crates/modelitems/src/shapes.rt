@@ -23,13 +23,13 @@ pub const BOOLEANS: u32 = 7;
 pub const PARALLEL: u32 = 8;
 
 // the last code
-pub const CODES: usize = 39;
+pub const LAST_CODE: usize = 39;
 
 // the most arguments of a code
-pub const MOST: usize = 3;
+pub const MOST_ARGUMENTS: usize = 3;
 
 // The arguments of each code, from 0, which is no code.
-pub const SHAPES: [[u32; MOST]; CODES + 1] = [
+const SHAPES: [[u32; MOST_ARGUMENTS]; LAST_CODE + 1] = [
     [NONE, NONE, NONE],
     [INTEGER, INTEGER, NONE],
     [INTEGER, INTEGER, NONE],
@@ -72,20 +72,20 @@ pub const SHAPES: [[u32; MOST]; CODES + 1] = [
     [INTEGER, EXPONENT, INTEGER],
 ];
 
-// The table, laid out once a reading and lent to each look-up.
-pub fn table() -> [[u32; MOST]; CODES + 1]
+// The table, as a list to lend.
+pub fn table() -> [[u32; MOST_ARGUMENTS]; LAST_CODE + 1]
     ensures { λ r. ⌜ r ≡ table ⌝ }
 {
     SHAPES
 }
 
 // The k-th argument of a code, counted from 0, in the lent table.
-pub fn argument_of(shapes: &[[u32; MOST]; CODES + 1], code: usize, k: usize) -> u32
+pub fn argument_of(shapes: &[[u32; MOST_ARGUMENTS]; LAST_CODE + 1], code: usize, k: usize) -> u32
     requires { ⌜ now shapes ≡ table ⌝ }
     ensures { λ r. ⌜ r ≡ argument code k ⌝ }
 {
-    if code <= CODES {
-        if k < MOST {
+    if code <= LAST_CODE {
+        if k < MOST_ARGUMENTS {
             return shapes[code][k];
         }
     }

@@ -23,7 +23,7 @@ use Rattle.models.specs.Reading.{faultHead, faultEnd, faultDueIn, afterHead, de
 use Rattle.models.specs.declared.Due.the-variants.{Start, Ended}
 use Rattle.models.proofs.Sound.{is-head, at-constraint, at-end}
 use Rattle.models.proofs.Constraints.{starts-one}
-use Rattle.modelitems.specs.Onward.{onward, stopped, Placed, heads, argumentsFrom, ArgumentsRead}
+use Rattle.modelitems.specs.Onward.{onward, stopped, Placed, headDue, argumentsFrom, ArgumentsRead}
 use Rattle.modelitems.specs.Variable.{Declares}
 use Rattle.modelitems.specs.declared.items.Step.{Step}
 use Rattle.modelitems.proofs.Onward.{faultAt, here, go-on, stop-here, end-here, stop-at, start-heads, head-fault, head-after}
@@ -105,7 +105,7 @@ undeclared w k e q (inl h) = let y : _≡_ {A = ℕ} 0 1 = rw (q, h) at e in ome
 undeclared w k e q (inr h) = let y : _≡_ {A = ℕ} 0 2 = rw (q, h) at e in omega arith
 
 -- a word that starts no variable ends them
-pub all-opened : {ws types : List ℕ} {v at : ℕ} → VariablesSeen Start ws types v at → 0 ≡ getD (declared (wordAt ws at)) 0 0 → VariablesSeen heads ws types v at
+pub all-opened : {ws types : List ℕ} {v at : ℕ} → VariablesSeen Start ws types v at → 0 ≡ getD (declared (wordAt ws at)) 0 0 → VariablesSeen headDue ws types v at
 all-opened {ws} {types} {v} {at} o e = record {
   few = o .few;
   placed = o .placed;
@@ -122,13 +122,13 @@ pub record Posing (ws types hs : List ℕ) (v sources c at : ℕ) : Type 0 where
   pub room : c ≤ 256
   pub full : length hs ≡ 256
   pub placed : Placed ws at
-  pub rest : onward heads (take v types) c at ws ≡ readModel ws
+  pub rest : onward headDue (take v types) c at ws ≡ readModel ws
   pub declares : v + length (variables (drop at ws)) ≡ length (variables ws)
   pub front : sources + length (sourceWords (drop sources ws)) ≡ length (sourceWords ws)
   pub began : (sources ≡ at) ⊎ (3 < kind (wordAt ws sources))
   pub posed : map (headed ws) (take c hs) ++ constraintsFrom at (drop at ws) ≡ constraints ws
 
-pub posing : {ws types hs : List ℕ} {v at : ℕ} → VariablesSeen heads ws types v at → length hs ≡ 256 → Posing ws types hs v at 0 at
+pub posing : {ws types hs : List ℕ} {v at : ℕ} → VariablesSeen headDue ws types v at → length hs ≡ 256 → Posing ws types hs v at 0 at
 posing o f = record { few = o .few; room = omega arith; full = f; placed = o .placed; rest = o .rest; declares = o .declares; front = o .front; began = inl refl; posed = o .same }
 
 module _ {ws types hs : List ℕ} {v sources c at : ℕ} (p : Posing ws types hs v sources c at) {f : ℕ} (e : f ≡ faultHead c (wordAt ws at)) where
@@ -138,19 +138,19 @@ module _ {ws types hs : List ℕ} {v sources c at : ℕ} (p : Posing ws types hs
   abbrev w : ℕ
   w = wordAt ws at
 
-  at-head : f ≡ faultAt ws ts heads c at
+  at-head : f ≡ faultAt ws ts headDue c at
   at-head = e ∙ sym (head-fault ws ts c at)
 
   pub head-halted : (f ≡ 0 → ⊥) → stopped ws f at ≡ readModel ws
   unfolding faultEnd
-  head-halted z = sym (stop-at ws ts heads c at f refl at-head z) ∙ p .rest
+  head-halted z = sym (stop-at ws ts headDue c at f refl at-head z) ∙ p .rest
 
   module _ (z : f ≡ 0) where
     pub head-here : at < length ws
-    head-here = here ws ts heads c at (sym z ∙ at-head)
+    head-here = here ws ts headDue c at (sym z ∙ at-head)
 
     passed : onward (afterHead w) (ts ++ declared w) (c + started w) (at + 1) ws ≡ readModel ws
-    passed = rw (← head-after w) (sym (go-on ws ts heads c at (sym z ∙ at-head))) ∙ p .rest
+    passed = rw (← head-after w) (sym (go-on ws ts headDue c at (sym z ∙ at-head))) ∙ p .rest
 
     -- a constraint
     module _ (n : kind w ≢ 7) where

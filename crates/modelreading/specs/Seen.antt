@@ -10,7 +10,7 @@ use Rattle.words.specs.Variables.{variables}
 use Rattle.models.specs.Model.{headed, constraintsFrom, constraints, sourceWords}
 use Rattle.models.specs.Reading.{readModel}
 use Rattle.models.specs.declared.Due.{Due}
-use Rattle.modelitems.specs.Onward.{onward, Placed, heads}
+use Rattle.modelitems.specs.Onward.{onward, Placed, headDue}
 use Rattle.modelreading.specs.declared.Read.{Read}
 
 -- what is kept of v variables that take the words up to a place, where something is due: their types, and what the words after it hold
@@ -25,7 +25,7 @@ pub record VariablesSeen (due : Due) (ws types : List ℕ) (v at : ℕ) : Type 0
 -- what reading the variables answers
 pub record VariablesKept (ws types : List ℕ) (r : Read) : Type 0 where
   pub refusal : (r .number ≡ Fault.none → ⊥) → r .number at-place r .place ≡ readModel ws
-  pub seen : r .number ≡ Fault.none → VariablesSeen heads ws types (r .variables) (r .sources)
+  pub seen : r .number ≡ Fault.none → VariablesSeen headDue ws types (r .variables) (r .sources)
 
 -- the first n of hs are the places of the constraints' heads
 pub record Heads (ws hs : List ℕ) (n : ℕ) : Type 0 where

@@ -4,8 +4,7 @@ ghost use Prim.Native.Nat.{_≤_};
 ghost use lib.ListN.{length};
 ghost use Rattle.words.specs.Limit as Limit;
 ghost use Rattle.words.specs.Refusal.{_at-place_};
-ghost use Rattle.modelitems.specs.Onward as Onward;
-ghost use Rattle.modelitems.specs.Onward.{stopped};
+ghost use Rattle.modelitems.specs.Onward.{headDue, stopped};
 ghost use Rattle.modelreading.specs.Seen.{VariablesSeen, VariablesKept, Kept};
 use modelitems::faults::of_head;
 use modelitems::items::arguments_at;
@@ -83,7 +82,7 @@ fn read_constraints(
     sources: usize,
     heads: &mut [usize; 256],
 ) -> Read
-    requires { ⌜ VariablesSeen Onward.heads (now ws) (now types) v sources × (length (now heads) ≡ 256) ⌝ }
+    requires { ⌜ VariablesSeen headDue (now ws) (now types) v sources × (length (now heads) ≡ 256) ⌝ }
     ensures { λ r. ⌜ Kept (now (ws .entry)) (now (heads .exit)) r ⌝ }
 {
     let table = shapes::table();

@@ -15,7 +15,7 @@ use Rattle.rowreading.specs.declared.items.Step.{Step}
 pub record ItemPassed (ws : List ℕ) (sources : Bool) (n at : ℕ) (to : Due) (m : ℕ) (r : Step) : Type 0 where
   pub reads : onward (startDue sources) n at ws ≡ resumed to m ws r
   pub on : at ≤ r .at
-  pub past : r .number ≡ 0 → at < r .at
+  pub past : r .number ≡ Fault.none → at < r .at
   pub inside : r .at ≤ length ws
   pub plain : Plain ws (at + 1) (r .at)
   pub last : r .number ≡ Fault.wordAfterEnd → Plain ws at (r .at)

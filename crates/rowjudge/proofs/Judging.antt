@@ -37,7 +37,7 @@ use Rattle.integers.proofs.Booleans.{neither}
 use Rattle.rowsystems.specs.OneWord.{startsRow, rowOf}
 use Rattle.rowterms.specs.Values.{ValuesKnown}
 use Rattle.rowitems.specs.Passing.{ItemPassed}
-use Rattle.rowjudge.specs.Judging.{ValueOrFar, judgedOn, JudgedOn}
+use Rattle.rowjudge.specs.Judging.{ValueOrOutside, judgedOn, JudgedOn}
 use Rattle.rowjudge.specs.declared.Judged.{Judged}
 use Rattle.rowsystems.proofs.Walk.{starts-none, starts-one, none-left}
 
@@ -116,14 +116,14 @@ module _ {ws : List ℕ} {vs : List ℤ} {before start first n k : ℕ} {all : B
   w = wordAt ws at
 
   -- a number within bounds is a value that is there
-  there : (v : ℤ) → ValueOrFar vs n v → within (pairBounds w (wordAt ws (at + 1))) v ≡ true → n < length vs
+  there : (v : ℤ) → ValueOrOutside vs n v → within (pairBounds w (wordAt ws (at + 1))) v ≡ true → n < length vs
   there v f e = go (ltb n (length vs)) refl
     where
       go : (b : Bool) → ltb n (length vs) ≡ b → n < length vs
       go true q = ltb-true n (length vs) q
       go false q = absurd (f .1 (ltb-false n (length vs) q) (kept-near w (wordAt ws (at + 1)) v e))
 
-  pub variable-judged : {v : ℤ} {b : ℕ} → starts w ≡ true → ValueOrFar vs n v → within (pairBounds w (wordAt ws (at + 1))) v ≡ true →
+  pub variable-judged : {v : ℤ} {b : ℕ} → starts w ≡ true → ValueOrOutside vs n v → within (pairBounds w (wordAt ws (at + 1))) v ≡ true →
       Plain ws (at + 1) b → at + 1 ≤ b → b ≤ length ws → Judging ws vs before start first (n + 1) k all wrong b
   unfolding wordAt firstOutOfBounds
   variable-judged {v} s f e p l m =
@@ -139,7 +139,7 @@ module _ {ws : List ℕ} {vs : List ℤ} {before start first n k : ℕ} {all : B
       p l m
 
   -- a value out of its bounds is what is named
-  pub outside : {v : ℤ} → starts w ≡ true → ValueOrFar vs n v → within (pairBounds w (wordAt ws (at + 1))) v ≡ false → n < length vs → outOfBounds n ≡ judgedOn ws vs before start first
+  pub outside : {v : ℤ} → starts w ≡ true → ValueOrOutside vs n v → within (pairBounds w (wordAt ws (at + 1))) v ≡ false → n < length vs → outOfBounds n ≡ judgedOn ws vs before start first
   unfolding wordAt firstOutOfBounds
   outside s f e known = rw (at-one ws at h s, rw (f .0 known) at e) at (j .told)
 

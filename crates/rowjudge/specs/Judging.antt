@@ -7,6 +7,7 @@ use lib.IntN.{ℤ}
 use lib.ListN.{length, drop}
 use Rattle.integers.specs.Terms.{value}
 use Rattle.words.specs.Answer.{Answer}
+use Rattle.words.specs.Fault as Fault
 use Rattle.words.specs.Judge.{firstFalse, firstOutOfBounds}
 use Rattle.words.specs.Small.{Near}
 use Rattle.words.specs.Variables.{variables}
@@ -17,9 +18,9 @@ use Rattle.rowreading.specs.Item.{startDue}
 use Rattle.rowreading.specs.Onward.{onward}
 use Rattle.rowjudge.specs.declared.Judged.{Judged}
 
--- the value of variable x; where it is missing, a number that is within no bounds
-abbrev pub ValueOrFar : List ℤ → ℕ → ℤ → Type 0
-ValueOrFar vs x v = (x < length vs → v ≡ value vs x) × (length vs ≤ x → Near v → ⊥)
+-- the value of variable x; where it is missing, none that bounds hold
+abbrev pub ValueOrOutside : List ℤ → ℕ → ℤ → Type 0
+ValueOrOutside vs x v = (x < length vs → v ≡ value vs x) × (length vs ≤ x → Near v → ⊥)
 
 -- what the values say of the words from a place on, with n variables and k rows before it
 unfoldable pub judgedOn : List ℕ → List ℤ → ℕ → ℕ → ℕ → Answer
@@ -28,5 +29,5 @@ judgedOn ws vs n at k = firstOutOfBounds (value vs) n (variables (drop at ws)) (
 -- a judge from a place on tells the refusal, else the number of variables, else, where their values are there, what these say
 pub record JudgedOn (ws : List ℕ) (vs : List ℤ) (sources : Bool) (n at k : ℕ) (r : Judged) : Type 0 where
   pub reads : r .refusal ≡ onward (startDue sources) n at ws
-  pub counts : r .refusal .number ≡ 0 → r .variables ≡ n + length (variables (drop at ws))
-  pub says : r .refusal .number ≡ 0 → r .variables ≤ length vs → verdict (r .said) ≡ judgedOn ws vs n at k
+  pub counts : r .refusal .number ≡ Fault.none → r .variables ≡ n + length (variables (drop at ws))
+  pub says : r .refusal .number ≡ Fault.none → r .variables ≤ length vs → verdict (r .said) ≡ judgedOn ws vs n at k

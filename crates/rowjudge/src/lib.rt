@@ -13,7 +13,7 @@ ghost use Rattle.rowsystems.specs.JudgeRows.{judgeRows};
 ghost use Rattle.rowreading.specs.Item.{startDue};
 ghost use Rattle.rowreading.specs.Onward.{onward, stopped, Placed};
 ghost use Rattle.rowterms.specs.Values.{ValuesKnown};
-ghost use Rattle.rowjudge.specs.Judging.{JudgedOn, ValueOrFar};
+ghost use Rattle.rowjudge.specs.Judging.{JudgedOn, ValueOrOutside};
 use rowitems::see_item;
 use rowitems::see_variable;
 use rowreading::read_on;
@@ -61,7 +61,7 @@ pub struct Judged {
     pub said: Verdict,
 }
 
-// Where reading stops with a fault at a place, past n variables.
+// What is judged where reading stops: the refusal of a number at a place, none after the end; n variables; and what the rows so far say.
 fn judge_end(ws: &[u32], number: u32, at: usize, n: usize, all: bool, wrong: usize) -> Judged
     ensures refusal { λ r. ⌜ r .refusal ≡ stopped (now (ws .entry)) number at ⌝ }
     ensures variables { λ r. ⌜ r .variables ≡ n ⌝ }
@@ -79,7 +79,7 @@ fn judge_end(ws: &[u32], number: u32, at: usize, n: usize, all: bool, wrong: usi
 fn judge_rest(ws: &[u32], sources: bool, x: usize, at: usize) -> Judged
     requires { ⌜ Placed (now ws) at × (x < 2000000000) ⌝ }
     ensures refusal { λ r. ⌜ r .refusal ≡ onward (startDue sources) (x + 1) at (now (ws .entry)) ⌝ }
-    ensures variables { λ r. ⌜ (r .refusal .number ≡ 0 → r .variables ≡ x + 1 + length (variables (drop at (now (ws .entry))))) ⌝ }
+    ensures variables { λ r. ⌜ (r .refusal .number ≡ Fault.none → r .variables ≡ x + 1 + length (variables (drop at (now (ws .entry))))) ⌝ }
     ensures said { λ r. ⌜ verdict (r .said) ≡ outOfBounds x ⌝ }
 {
     let read = read_on(ws, sources, x + 1, at);
@@ -91,17 +91,17 @@ fn judge_rest(ws: &[u32], sources: bool, x: usize, at: usize) -> Judged
     }
 }
 
-// A number that is within no bounds.
-const FAR: i64 = 1099511627776;
+// One more than the farthest number of a signed payload: within no bounds.
+const OUTSIDE: i64 = 134217729;
 
-// The value of variable x; where it is missing, a number that is within no bounds.
-fn value_or_far(values: &[i32], x: usize) -> i64
-    ensures { λ r. ⌜ ValueOrFar (now (values .entry)) x r ⌝ }
+// The value of variable x, OUTSIDE where it is missing.
+fn value_or_outside(values: &[i32], x: usize) -> i64
+    ensures { λ r. ⌜ ValueOrOutside (now (values .entry)) x r ⌝ }
 {
     if x < values.len() {
         return known_value(values, x);
     }
-    FAR
+    OUTSIDE
 }
 
 // The items from a place on, with so many variables and k rows before it, whose values are known.
@@ -125,7 +125,7 @@ pub fn judge_on(
     loop {
         let head = word_at(ws, at);
         if starts_variable(head) {
-            let seen = see_variable(ws, sources, head, n, at, value_or_far(values, n));
+            let seen = see_variable(ws, sources, head, n, at, value_or_outside(values, n));
             if seen.number != fault::NONE {
                 return judge_end(ws, seen.number, seen.at, n, all, wrong);
             }

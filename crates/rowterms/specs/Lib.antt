@@ -1,2 +1,2 @@
--- What the contracts cite: the values of variables, and what they make of a row.
+-- What the contracts cite: where reading goes on, the values of variables, and what they make of a row.
 pub mod Values

@@ -1,4 +1,4 @@
--- The values of the variables read so far, and what they make of a row.
+-- Reading and judging at once: where reading goes on, the values of the variables read so far, and what they make of a row.
 use mathlib.Core.Bool.{Bool}
 use mathlib.Core.List.{List}
 use Prim.Native.Nat.{ℕ, _<_, _≤_}
@@ -14,10 +14,10 @@ use Rattle.words.specs.Small.{Near}
 use Rattle.words.specs.Word.{kind}
 use Rattle.rowsystems.specs.RowSystem.{termsIn, constantIn}
 use Rattle.rowreading.specs.declared.items.Step.{Step}
-use Rattle.rowterms.specs.declared.Seen.{Seen}
+use Rattle.rowterms.specs.declared.JudgedStep.{JudgedStep}
 
 -- where reading goes on
-abbrev pub stepOf : Seen → Step
+abbrev pub stepOf : JudgedStep → Step
 stepOf r = record { number = r .number; at = r .at }
 
 -- the values of the variables read so far are there, no farther from 0 than signed payloads are

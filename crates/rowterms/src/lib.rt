@@ -5,6 +5,7 @@ ghost use mathlib.Core.Bool.{false};
 ghost use Prim.Native.Nat.{_+_, _*_, _<_, _≤_};
 ghost use lib.ListN.{length, drop};
 ghost use Rattle.integers.specs.Terms.{value};
+ghost use Rattle.words.specs.Fault as Fault;
 ghost use Rattle.words.specs.Limit as Limit;
 ghost use Rattle.words.specs.Word.{payload};
 ghost use Rattle.rowsystems.specs.Row.{product, satisfied};
@@ -30,17 +31,17 @@ use words::signed_of;
 use words::word_at;
 
 // Where reading goes on, with number 0, and whether the item is true; or a fault and its place.
-pub struct Seen {
+pub struct JudgedStep {
     pub number: u32,
     pub at: usize,
     pub holds: bool,
 }
 
 // A fault and its place.
-pub fn faulty(number: u32, at: usize) -> Seen
+pub fn faulty(number: u32, at: usize) -> JudgedStep
     ensures { λ r. ⌜ r ≡ record { number = number; at = at; holds = false } ⌝ }
 {
-    Seen {
+    JudgedStep {
         number,
         at,
         holds: false,
@@ -66,10 +67,10 @@ pub fn known_value(values: &[i32], x: usize) -> i64
 }
 
 // The terms and the constant of a row, all of which are there.
-pub fn see_terms(ws: &[u32], head: u32, n: usize, start: usize, values: &[i32]) -> Seen
+pub fn see_terms(ws: &[u32], head: u32, n: usize, start: usize, values: &[i32]) -> JudgedStep
     requires { ⌜ Placed (now ws) start × ValuesKnown (now values) n × (payload head ≤ Limit.terms) × (start + 2 * payload head < length (now ws)) ⌝ }
     ensures step { λ r. ⌜ StepsTo (now (ws .entry)) n (Due.Terms (payload head)) start Due.Item (stepOf r) ⌝ }
-    ensures truth { λ r. ⌜ (r .number ≡ 0 → r .holds ≡ isTrue head (rowTotal (now (values .entry)) (drop start (now (ws .entry))) (payload head))) ⌝ }
+    ensures truth { λ r. ⌜ (r .number ≡ Fault.none → r .holds ≡ isTrue head (rowTotal (now (values .entry)) (drop start (now (ws .entry))) (payload head))) ⌝ }
 {
     let terms = payload_of(head);
     let mut at = start;
@@ -96,7 +97,7 @@ pub fn see_terms(ws: &[u32], head: u32, n: usize, start: usize, values: &[i32]) 
         return faulty(fault_number(c), at);
     }
     let holds = is_true(head, plus(total, signed_of(c)));
-    Seen {
+    JudgedStep {
         number: fault::NONE,
         at: at + 1,
         holds,
@@ -104,9 +105,9 @@ pub fn see_terms(ws: &[u32], head: u32, n: usize, start: usize, values: &[i32]) 
 }
 
 // The fault of a row in which the words end.
-pub fn see_cut(ws: &[u32], n: usize, start: usize, terms: usize) -> Seen
+pub fn see_cut(ws: &[u32], n: usize, start: usize, terms: usize) -> JudgedStep
     requires { ⌜ Placed (now ws) start × (length (now ws) ≤ start + 2 * terms) ⌝ }
-    ensures { λ r. ⌜ StepsTo (now (ws .entry)) n (Due.Terms terms) start Due.Item (stepOf r) × (r .number ≡ 0 → ⊥) ⌝ }
+    ensures { λ r. ⌜ StepsTo (now (ws .entry)) n (Due.Terms terms) start Due.Item (stepOf r) × (r .number ≡ Fault.none → ⊥) ⌝ }
 {
     let mut at = start;
     let mut left = terms;
@@ -123,10 +124,10 @@ pub fn see_cut(ws: &[u32], n: usize, start: usize, terms: usize) -> Seen
 }
 
 // The result and the two factors of a product.
-pub fn see_factors(ws: &[u32], n: usize, at: usize, values: &[i32]) -> Seen
+pub fn see_factors(ws: &[u32], n: usize, at: usize, values: &[i32]) -> JudgedStep
     requires { ⌜ Placed (now ws) at × ValuesKnown (now values) n ⌝ }
     ensures step { λ r. ⌜ StepsTo (now (ws .entry)) n Due.Result at Due.Item (stepOf r) ⌝ }
-    ensures truth { λ r. let v = variableAt (now (ws .entry)) in ⌜ (r .number ≡ 0 → r .holds ≡ satisfied (value (now (values .entry))) (product (v at) (v (at + 1)) (v (at + 2)))) ⌝ }
+    ensures truth { λ r. let v = variableAt (now (ws .entry)) in ⌜ (r .number ≡ Fault.none → r .holds ≡ satisfied (value (now (values .entry))) (product (v at) (v (at + 1)) (v (at + 2)))) ⌝ }
 {
     let r = word_at(ws, at);
     let f = word_at(ws, at + 1);
@@ -148,7 +149,7 @@ pub fn see_factors(ws: &[u32], n: usize, at: usize, values: &[i32]) -> Seen
         known_value(values, payload_of(g)),
     );
     let holds = equal(known_value(values, payload_of(r)), of_factors);
-    Seen {
+    JudgedStep {
         number: fault::NONE,
         at: at + 3,
         holds,

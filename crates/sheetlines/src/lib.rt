@@ -30,8 +30,8 @@ fn put_cell(page: &mut [u8], at: usize, number: u32, variable: usize)
     ensures { λ r. ⌜ now (page .exit) ≡ overlay (now (page .entry)) at (cell (signed number · variable)) ⌝ }
 {
     put_number(page, at, 10, signed_of(number));
-    put_byte(page, at + 10, 32);
-    put_byte(page, at + 11, 118);
+    put_byte(page, at + 10, b' ');
+    put_byte(page, at + 11, b'v');
     put_left(page, at + 12, 11, variable)
 }
 
@@ -42,7 +42,7 @@ fn put_line_end(page: &mut [u8], at: usize, room: usize) -> usize
 {
     let end = at + 23 * room + 3;
     put_blanks(page, at, 23 * room + 3);
-    put_byte(page, end, 10);
+    put_byte(page, end, b'\n');
     end + 1
 }
 
@@ -108,7 +108,7 @@ fn put_sum(
     put_byte(page, at + 7, second);
     let end = put_terms(page, at + 8, ws, n);
     put_number(page, end, 80, signed_of(word_at(ws, 2 * n)));
-    put_byte(page, end + 80, 10);
+    put_byte(page, end + 80, b'\n');
     end + 81
 }
 
@@ -118,7 +118,7 @@ fn put_product(page: &mut [u8], at: usize, k: usize, ws: &[u32]) -> usize
     ensures { λ r. let ws = now (ws .entry) in ⌜ LaidAt (now (page .entry)) at (rowLines k (product (variableAt ws 0) (variableAt ws 1) (variableAt ws 2))) (now (page .exit)) r × (r ≤ at + 2500) ⌝ }
 {
     let row = [word_at(ws, 0), 1, word_at(ws, 1), 1, word_at(ws, 2), 1, 0];
-    put_sum(page, at, k, 58, 61, &row, 3)
+    put_sum(page, at, k, b':', b'=', &row, 3)
 }
 
 // The row or product with this head, before the words ws.
@@ -128,10 +128,10 @@ pub fn put_row(page: &mut [u8], at: usize, k: usize, head: u32, ws: &[u32]) -> u
 {
     let head_kind = kind_of(head);
     if head_kind == kind::AT_MOST {
-        return put_sum(page, at, k, 60, 61, ws, term_count(head));
+        return put_sum(page, at, k, b'<', b'=', ws, term_count(head));
     }
     if head_kind == kind::EQUAL {
-        return put_sum(page, at, k, 61, 32, ws, term_count(head));
+        return put_sum(page, at, k, b'=', b' ', ws, term_count(head));
     }
     put_product(page, at, k, ws)
 }

@@ -13,11 +13,11 @@ add-pairs-requires c κs =
     let s = c .before .before .before .before .before .before .before .before .before .before in
     let f = c .before .before .before .before .before .before .row-variable .result in
     let g = c .before .before .before .before .before .row-variable2 .result in (
-      omega (arith, c .before .before .before .count-at .ensures, s .pre .0 .near-first f),
-      omega (arith, c .before .count-at3 .ensures, s .pre .0 .near-first g),
+      omega (arith, c .before .before .before .table-entry .ensures, s .pre .0 .near-first f),
+      omega (arith, c .before .table-entry3 .ensures, s .pre .0 .near-first g),
       s .pre .1,
-      omega (arith, c .before .before .count-at2 .ensures, s .pre .0 .few f),
-      omega (arith, c .count-at4 .ensures, s .pre .0 .few g),
+      omega (arith, c .before .before .table-entry2 .ensures, s .pre .0 .few f),
+      omega (arith, c .table-entry4 .ensures, s .pre .0 .few g),
       s .pre .2,
     )
 
@@ -27,8 +27,8 @@ returns c =
     let s = c .before .before .before .before .before .before .before .before .before .before .before .before in
     let f = c .before .before .before .before .before .before .before .before .row-variable .result in
     let g = c .before .before .before .before .before .before .before .row-variable2 .result in
-    let few : c .before .before .before .before .count-at2 .result * c .before .before .count-at4 .result ≤ Size.ownBits = rw (c .before .before .before .before .count-at2 .ensures, c .before .before .count-at4 .ensures) (mul-le (s .pre .0 .few f) (s .pre .0 .few g)) in record {
-      sum = rw (← c .before .before .before .before .before .before .before .before .row-variable .ensures, ← c .before .before .before .before .before .before .before .row-variable2 .ensures, ← c .before .before .before .before .before .count-at .ensures, ← c .before .before .before .before .count-at2 .ensures, ← c .before .before .before .count-at3 .ensures, ← c .before .before .count-at4 .ensures) (c .before .add-pairs .ensures .sum);
+    let few : c .before .before .before .before .table-entry2 .result * c .before .before .table-entry4 .result ≤ Size.ownBits = rw (c .before .before .before .before .table-entry2 .ensures, c .before .before .table-entry4 .ensures) (mul-le (s .pre .0 .few f) (s .pre .0 .few g)) in record {
+      sum = rw (← c .before .before .before .before .before .before .before .before .row-variable .ensures, ← c .before .before .before .before .before .before .before .row-variable2 .ensures, ← c .before .before .before .before .before .table-entry .ensures, ← c .before .before .before .before .table-entry2 .ensures, ← c .before .before .before .table-entry3 .ensures, ← c .before .before .table-entry4 .ensures) (c .before .add-pairs .ensures .sum);
       small = omega (arith, c .before .add-pairs .ensures .small, few);
     }
 

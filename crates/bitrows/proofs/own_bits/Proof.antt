@@ -35,7 +35,7 @@ mul-result : tie.Need-mul-result
 mul-result c =
     let s = c .before .before .before .before .before .before .before .before .before in
     let few = counts-few (s .args .ls .now) (s .args .us .now) (s .args .counts .now) (s .pre .0) (s .pre .1) (s .pre .2) in
-    let m : c .before .before .count-at .result * c .count-at2 .result ≤ Size.ownBits = rw (c .before .before .count-at .ensures, c .count-at2 .ensures) (mul-le (few (c .before .before .before .row-variable .result)) (few (c .before .row-variable2 .result))) in
+    let m : c .before .before .table-entry .result * c .table-entry2 .result ≤ Size.ownBits = rw (c .before .before .table-entry .ensures, c .table-entry2 .ensures) (mul-le (few (c .before .before .before .row-variable .result)) (few (c .before .row-variable2 .result))) in
     record { fits = omega (arith, m) }
 
 returns-3 : tie.Need-returns-3
@@ -44,7 +44,7 @@ returns-3 c =
     let s = c .before .before .before .before .before .before .before .before .before in
     let k = c .before .before .before .before .before .before .kind-of .ensures in
     let few = counts-few (s .args .ls .now) (s .args .us .now) (s .args .counts .now) (s .pre .0) (s .pre .1) (s .pre .2) in
-    (λ firsts first. rw (row-product (s .args .head) (s .args .args .now) (ne-eqb _ _ (λ e. c .before .before .before .before .before .if1 .left (k ∙ e))) (ne-eqb _ _ (λ e. c .before .before .before .before .if2 .left (k ∙ e)))) (ap₂ _*_ (c .before .before .count-at .ensures ∙ rw (c .before .before .before .row-variable .ensures) (s .pre .2 _)) (c .count-at2 .ensures ∙ rw (c .before .row-variable2 .ensures) (s .pre .2 _)) ∙ sym (own-product (s .args .ls .now) (s .args .us .now) firsts first _ _)), rw (c .before .before .count-at .ensures, c .count-at2 .ensures) (mul-le (few (c .before .before .before .row-variable .result)) (few (c .before .row-variable2 .result))))
+    (λ firsts first. rw (row-product (s .args .head) (s .args .args .now) (ne-eqb _ _ (λ e. c .before .before .before .before .before .if1 .left (k ∙ e))) (ne-eqb _ _ (λ e. c .before .before .before .before .if2 .left (k ∙ e)))) (ap₂ _*_ (c .before .before .table-entry .ensures ∙ rw (c .before .before .before .row-variable .ensures) (s .pre .2 _)) (c .table-entry2 .ensures ∙ rw (c .before .row-variable2 .ensures) (s .pre .2 _)) ∙ sym (own-product (s .args .ls .now) (s .args .us .now) firsts first _ _)), rw (c .before .before .table-entry .ensures, c .table-entry2 .ensures) (mul-le (few (c .before .before .before .row-variable .result)) (few (c .before .row-variable2 .result))))
 
 pub own-bits-spec : {M : Type 1} → statement M
 own-bits-spec =

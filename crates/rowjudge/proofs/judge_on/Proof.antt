@@ -45,8 +45,8 @@ variable-there : (c : tie.After-see-variable Inv-loop μ-loop) → c .see-variab
 variable-there c z = omega (arith, c .see-variable .ensures .0 .past z, c .see-variable .ensures .0 .inside)
 
 -- whether the value keeps its bounds
-kept : (c : tie.After-see-variable Inv-loop μ-loop) → let ws = c .before .before .before .before .before .before .before .args .ws .now in let l = c .before .before .before .before .before .loop in c .see-variable .result .number ≡ 0 → c .see-variable .result .holds ≡ within (pairBounds (wordAt ws (l .at)) (wordAt ws (l .at + 1))) (c .before .value-or-far .result)
-kept c z = c .see-variable .ensures .1 z ∙ rw (toZ-ofZ (record { sfits = c .before .value-or-far .ok }), c .before .before .before .before .word-at .ensures)
+kept : (c : tie.After-see-variable Inv-loop μ-loop) → let ws = c .before .before .before .before .before .before .before .args .ws .now in let l = c .before .before .before .before .before .loop in c .see-variable .result .number ≡ 0 → c .see-variable .result .holds ≡ within (pairBounds (wordAt ws (l .at)) (wordAt ws (l .at + 1))) (c .before .value-or-outside .result)
+kept c z = c .see-variable .ensures .1 z ∙ rw (toZ-ofZ (record { sfits = c .before .value-or-outside .ok }), c .before .before .before .before .word-at .ensures)
 
 -- past a variable reading goes on, with one more before
 counted-one : (c : tie.After-see-variable Inv-loop μ-loop) → let a = c .before .before .before .before .before .before .before .args in c .see-variable .result .number ≡ 0 → CountedFrom (a .ws .now) (a .before) (a .start) (c .before .before .before .before .before .loop .n + 1) (c .see-variable .result .at)
@@ -86,7 +86,7 @@ returns-2 c =
     record {
       reads = e .0 ∙ read-past (c .before .before .before);
       counts = λ i. e .1 .0 i ∙ counted-one v z .number;
-      says = λ i h. e .1 .1 ∙ outside (v .before .before .before .before .before .loop .inv .2) (variable-there v z) (variable v) (v .before .value-or-far .ensures) (sym (kept v z) ∙ not-true _ (c .before .if3 .taken)) (omega (arith, e .1 .0 i, h));
+      says = λ i h. e .1 .1 ∙ outside (v .before .before .before .before .before .loop .inv .2) (variable-there v z) (variable v) (v .before .value-or-outside .ensures) (sym (kept v z) ∙ not-true _ (c .before .if3 .taken)) (omega (arith, e .1 .0 i, h));
     }
 
 add-n : tie.Need-add-n Inv-loop μ-loop
@@ -104,7 +104,7 @@ loop-again c =
     let g = v .see-variable .ensures .0 in (
       placed v,
       read-past (c .before .before),
-      variable-judged (v .before .before .before .before .before .loop .inv .2) (variable-there v z) (variable v) (v .before .value-or-far .ensures) (sym (kept v z) ∙ not-false _ (c .if3 .left)) (g .plain) (omega (arith, g .past z)) (g .inside),
+      variable-judged (v .before .before .before .before .before .loop .inv .2) (variable-there v z) (variable v) (v .before .value-or-outside .ensures) (sym (kept v z) ∙ not-false _ (c .if3 .left)) (g .plain) (omega (arith, g .past z)) (g .inside),
     )
 
 see-item-requires : tie.Need-see-item-requires Inv-loop μ-loop

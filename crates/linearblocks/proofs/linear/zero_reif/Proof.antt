@@ -14,8 +14,8 @@ use Rattle.linearblocks.proofs.Rows.{rows-then, sign-row}
 use Rattle.linearblocks.proofs.linear.zero_reif.Statement.{statement}
 use Rattle.linearblocks.proofs.linear.zero_reif.Tie as tie
 
-larger-size-requires : tie.Need-larger-size-requires
-larger-size-requires c κs =
+larger-absolute-requires : tie.Need-larger-absolute-requires
+larger-absolute-requires c κs =
     let s = c .before .before .before .before in
     let a = s .args in rw (back (a .sum .lower) (c .before .struct-told .given .0 .1), back (a .sum .upper) (c .struct-told2 .given .1 .0 .1)) (s .pre .2)
 
@@ -34,14 +34,14 @@ unfolding zeroReified signSplit linked split link linearSum
 returns c =
     let s = c .before .before .before .before .before .before .before .before .before .before .before .before .before .before .before .before .before .before .before in
     let a = s .args in
-    let larger-size = c .before .before .before .before .before .before .before .before .before .before .before .before .before .before .larger-size in
+    let larger-absolute = c .before .before .before .before .before .before .before .before .before .before .before .before .before .before .larger-absolute in
     let lay-split = c .before .before .before .before .before .before .before .before .before .before .lay-split in
     let lay-zero = c .before .before .before .before .before .before .lay-zero in
     let lay-only-negative = c .before .before .lay-only-negative in (
       λ β e.
           let l = back (a .sum .lower) (c .before .before .before .before .before .before .before .before .before .before .before .before .before .before .before .before .struct-told .given .0 .1) ∙ ap (λ (S : Bounds). S .lower) e in
           let u = back (a .sum .upper) (c .before .before .before .before .before .before .before .before .before .before .before .before .before .before .before .struct-told2 .given .1 .0 .1) ∙ ap (λ (S : Bounds). S .upper) e in
-          let zero = rw (read (larger-size .ok) (larger-size .ensures .0), l, u, c .before .before .before .before .before .before .before .before .before .before .before .before .var-at .ensures, c .before .before .before .before .before .before .before .before .before .before .before .before .before .past-terms-at .ensures) at (lay-zero .ensures .0) in
+          let zero = rw (read (larger-absolute .ok) (larger-absolute .ensures .0), l, u, c .before .before .before .before .before .before .before .before .before .before .before .before .var-at .ensures, c .before .before .before .before .before .before .before .before .before .before .before .before .before .past-terms-at .ensures) at (lay-zero .ensures .0) in
           rows-then (a .first) _ _ (rows-then (a .first) _ _ (rw (l, u) at (lay-split .ensures .0)) zero) (went-as (sign-row (a .first) _) (rw u at (lay-only-negative .ensures .0))),
       omega (arith, lay-split .ensures .1, lay-zero .ensures .1, lay-only-negative .ensures .1),
     )
@@ -50,7 +50,7 @@ pub zero-reif-spec : {M : Type 1} → statement M
 zero-reif-spec =
     tie.close
     (tie.spec
-    larger-size-requires
+    larger-absolute-requires
     (λ c κs. search needs)
     add-var-at
     (λ c κs. search needs)

@@ -7,8 +7,8 @@ use borrow.Author.Needs.{needs}
 use Rattle.integers.specs.Number.{absZ}
 use Rattle.arguments.proofs.Size.{read}
 use Rattle.extremes.proofs.Size.{pick-size}
-use Rattle.extremes.proofs.larger_size.Statement.{statement}
-use Rattle.extremes.proofs.larger_size.Tie as tie
+use Rattle.extremes.proofs.larger_absolute.Statement.{statement}
+use Rattle.extremes.proofs.larger_absolute.Tie as tie
 
 absolute-requires : tie.Need-absolute-requires
 absolute-requires c κs = rw (toZ-ofZ (c .fits .a)) (omega (arith, c .pre .0))
@@ -24,6 +24,6 @@ returns c =
     rw (read (c .largest .ok) (c .largest .ensures), read (absolute .ok) (absolute .ensures), read (c .before .absolute2 .ok) (c .before .absolute2 .ensures), toZ-ofZ (s .fits .a), toZ-ofZ (s .fits .b))
     (refl, pick-size true (absZ (s .args .a)) (absZ (s .args .b)) (s .pre .0) (s .pre .1))
 
-pub larger-size-spec : {M : Type 1} → statement M
-larger-size-spec =
+pub larger-absolute-spec : {M : Type 1} → statement M
+larger-absolute-spec =
     tie.close (tie.spec absolute-requires absolute-requires-2 (λ c κs. search needs) returns)

@@ -1,11 +1,11 @@
 -- Past the last value no bounds are as far from 0.
 use native.Mathlib.Omega.{arith}
 use borrow.Author.Needs.{needs}
-use Rattle.rowjudge.proofs.value_or_far.Statement.{statement}
-use Rattle.rowjudge.proofs.value_or_far.Tie as tie
+use Rattle.rowjudge.proofs.value_or_outside.Statement.{statement}
+use Rattle.rowjudge.proofs.value_or_outside.Tie as tie
 
-pub value-or-far-spec : {M : Type 1} → statement M
-value-or-far-spec =
+pub value-or-outside-spec : {M : Type 1} → statement M
+value-or-outside-spec =
     tie.close
     (tie.spec
     (λ c κs. search needs)
