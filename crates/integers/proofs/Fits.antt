@@ -27,7 +27,7 @@ fits32 z h = record { sfits = omega (arith, mag_le z) }
 
 -- what is read back of a number that a call gave: `back c.f.result c.f.ok`
 pub back : (z : ℤ) → mag z < 9223372036854775808 → to_z w64 (of_z w64 z) ≡ z
-back z h = to_z-of_z (record { sfits = h })
+back z h = to_z-of_z {w = w64} (record { sfits = h })
 
 by-test : (c : Bool) (x y : ℤ) (P : ℤ → Type 0) → (T c → P x) → P y → P (cond c x y)
 by-test true x y P f g = f tt

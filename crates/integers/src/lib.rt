@@ -10,7 +10,7 @@ pub mod test;
 
 // The bounds of a variable.
 #[repr(C)]
-#[derive(Drop)]
+#[derive(Clone, Copy)]
 pub struct Bounds {
     pub lower: i64,
     pub upper: i64,

@@ -23,10 +23,6 @@ pub kind_rounds : (w : ℕ) → (kind w * 268435456 ≤ w) × (w < (kind w + 1) 
 unfolding kind
 kind_rounds w = (omega arith, omega arith)
 
--- a machine value holds one number
-pub same_number : {a b : ℕ} → vint w32 a ≡ vint w32 b → a ≡ b
-same_number e = cc
-
 -- a payload less 2^28
 pub less : (p : ℕ) → p < 268435456 → to_z w64 p -ℤ pos 268435456 ≡ negsuc (268435455 - p)
 less p k = rw (to_z_pos w64 {n = p} (omega arith)) (simp (lt-ltb p 268435456 k) (ap negsuc (omega arith)))

@@ -15,14 +15,14 @@ pub mod limit;
 
 // A fault and its place; number 0 is no fault.
 #[repr(C)]
-#[derive(Drop)]
+#[derive(Clone, Copy)]
 pub struct Refusal {
     pub number: u32,
     pub place: usize,
 }
 
 // What a judge answers.
-#[derive(Drop)]
+#[derive(Clone, Copy)]
 pub enum Verdict {
     // a refusal
     Refused(Refusal),

@@ -1,0 +1,7 @@
+-- What stands ahead of nothing is blanks.
+use mathlib.Core.Path.{◌∙◌}
+use Rattle.decimals.proofs.Ahead.{ahead-blanks}
+use Rattle.decimals.proofs.put_blanks.Goals as goal
+
+pub returns : goal.returns
+returns c = c.put_ahead.ensures ∙ rw (ahead-blanks)

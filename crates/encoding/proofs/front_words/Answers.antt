@@ -1,0 +1,19 @@
+-- Words that fit are the front of the list.
+use mathlib.Core.Path.{sym, ap}
+use native.Mathlib.Omega.{arith}
+use lib.ListN.{length}
+use lib.Seq.{length-take-le}
+use Rattle.words.proofs.Overlay.{front-over, length-overlay}
+use Rattle.encoding.specs.Bytes.{bytes_words}
+use Rattle.encoding.proofs.front_words.Goals as goal
+
+pub returns : goal.returns
+returns c =
+    let w = c.words_of_bytes in
+    let ws = bytes_words c.args.bytes.now in
+    let l = length-overlay c.args.out.now 0 ws in
+    record {
+      words = rw (w.ensures.count, w.ensures.words) (front-over c.args.out.now ws c.requires);
+      fits = omega (arith, l, c.requires, w.ensures.count, ap length w.ensures.words);
+      count = rw (w.ensures.count, w.ensures.words) (sym (length-take-le _ _ (omega (arith, l, c.requires))));
+    }

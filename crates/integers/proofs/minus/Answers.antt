@@ -1,0 +1,15 @@
+-- The difference of two numbers fits where their absolute values add up to less than 2^63.
+use mathlib.Core.Path.{◌∙◌}
+use native.Mathlib.Omega.{arith}
+use mir.Facts.{to_z-of_z}
+use Rattle.integers.specs.Number.{◌⊖◌}
+use Rattle.integers.proofs.Fits.{fits64, minus-size}
+use Rattle.integers.proofs.minus.Goals as goal
+
+pub overflow_sub-result : goal.overflow_sub-result
+unfolding ◌⊖◌
+overflow_sub-result c = simp (to_z-of_z c.ranges.a, to_z-of_z c.ranges.b) (fits64 _ (omega (arith, minus-size c.args.a c.args.b)))
+
+pub returns : goal.returns
+unfolding ◌⊖◌
+returns c = to_z-of_z (overflow_sub-result c) ∙ simp (to_z-of_z c.ranges.a, to_z-of_z c.ranges.b)

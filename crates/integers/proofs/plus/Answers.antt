@@ -1,0 +1,15 @@
+-- The sum of two numbers fits where their absolute values add up to less than 2^63.
+use mathlib.Core.Path.{◌∙◌}
+use native.Mathlib.Omega.{arith}
+use mir.Facts.{to_z-of_z}
+use Rattle.integers.specs.Number.{◌⊕◌}
+use Rattle.integers.proofs.Fits.{fits64, plus-size}
+use Rattle.integers.proofs.plus.Goals as goal
+
+pub overflow_add-result : goal.overflow_add-result
+unfolding ◌⊕◌
+overflow_add-result c = simp (to_z-of_z c.ranges.a, to_z-of_z c.ranges.b) (fits64 _ (omega (arith, plus-size c.args.a c.args.b)))
+
+pub returns : goal.returns
+unfolding ◌⊕◌
+returns c = to_z-of_z (overflow_add-result c) ∙ simp (to_z-of_z c.ranges.a, to_z-of_z c.ranges.b)

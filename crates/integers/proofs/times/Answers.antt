@@ -1,0 +1,15 @@
+-- The product of two numbers fits where that of their absolute values does.
+use mathlib.Core.Path.{◌∙◌}
+use native.Mathlib.Omega.{arith}
+use mir.Facts.{to_z-of_z}
+use Rattle.integers.specs.Number.{◌⊗◌}
+use Rattle.integers.proofs.Fits.{fits64, times-size}
+use Rattle.integers.proofs.times.Goals as goal
+
+pub overflow_mul-result : goal.overflow_mul-result
+unfolding ◌⊗◌
+overflow_mul-result c = simp (to_z-of_z c.ranges.a, to_z-of_z c.ranges.b) (fits64 _ (omega (arith, times-size c.args.a c.args.b)))
+
+pub returns : goal.returns
+unfolding ◌⊗◌
+returns c = to_z-of_z (overflow_mul-result c) ∙ simp (to_z-of_z c.ranges.a, to_z-of_z c.ranges.b)

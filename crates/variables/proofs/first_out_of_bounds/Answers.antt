@@ -1,0 +1,71 @@
+use mathlib.Core.Path.{◌≡◌, sym, ◌∙◌}
+use Prim.Native.Nat.{◌+◌, ◌<◌}
+use native.Mathlib.Omega.{arith}
+use lib.ListN.{length, get_or}
+use mir.Facts.{to_z-of_z}
+use borrow.Author.Rules.{rules}
+use Rattle.integers.specs.Bounds.{within}
+use Rattle.integers.specs.Terms.{value}
+use Rattle.words.specs.Verdict.{verdict}
+use Rattle.words.specs.Word.{word_at}
+use Rattle.variables.specs.Start.{pair_bounds}
+use Rattle.variables.proofs.Walk.{count_none, count-one, words_left, none_left, keep-none, keep_one, break_one, keep_all}
+use Rattle.variables.proofs.first_out_of_bounds.Goals.{After-keeps, In-loop-x}
+use Rattle.variables.proofs.first_out_of_bounds.Goals as goal
+
+-- what keeps says of the variable
+said : (c : After-keeps) →
+    let a = c.args in
+    let p = c.loop-x in
+    within (pair_bounds (get_or a.ws.now p.at 0) (word_at a.ws.now (p.at + 1))) (value a.values.now p.x) ≡ c.keeps.result
+said c = sym (c.keeps.ensures ∙ rw (to_z-of_z (record { sfits = c.value_at.type_inv }), c.value_at.ensures, c.word_at.ensures))
+
+-- a turn has a word
+here : (c : In-loop-x) → c.loop-x.at < length c.args.ws.now
+here c = words_left c.loop-x.invariant.1 (rw c.requires at c.loop-x-test.true)
+
+pub offset_bounds-ws-at : goal.offset_bounds-ws-at
+offset_bounds-ws-at c = let h = here c in search rules
+
+pub bounds-ws-at : goal.bounds-ws-at
+bounds-ws-at c = let h = here (goal.at.bounds-ws-at c).In-loop-x in search rules
+
+pub overflow_add-at : goal.overflow_add-at
+overflow_add-at c = let h = here (goal.at.overflow_add-at c).In-loop-x in search rules
+
+pub returns-then-not-keeps : goal.returns-then-not-keeps
+unfolding verdict
+returns-then-not-keeps c =
+    let loop = c.loop-x in
+    let starts-variable = c.starts_variable in
+    let if1 = c.if-starts_variable in
+    break_one loop.invariant.0 (here (goal.at.returns-then-not-keeps c).In-loop-x) (sym starts-variable.ensures ∙ if1.true) (said (goal.at.returns-then-not-keeps c).After-keeps ∙ c.if-not-keeps.true)
+
+pub loop-x-smaller-then-starts_variable : goal.loop-x-smaller-then-starts_variable
+loop-x-smaller-then-starts_variable c = let h = here (goal.at.loop-x-smaller-then-starts_variable c).In-loop-x in omega (arith, h)
+
+pub loop-x-preserved-then-starts_variable : goal.loop-x-preserved-then-starts_variable
+loop-x-preserved-then-starts_variable c =
+    let loop = c.loop-x in
+    let starts-variable = c.starts_variable in
+    let if1 = c.if-starts_variable in
+    let h = here (goal.at.loop-x-preserved-then-starts_variable c).In-loop-x in
+    let e = sym starts-variable.ensures ∙ if1.true in
+    (keep_one loop.invariant.0 h e (said (goal.at.loop-x-preserved-then-starts_variable c).After-keeps ∙ c.if-not-keeps.false), count-one loop.invariant.1 h e)
+
+pub loop-x-smaller : goal.loop-x-smaller
+loop-x-smaller c = let h = here (goal.at.loop-x-smaller c).In-loop-x in omega (arith, h)
+
+pub loop-x-preserved : goal.loop-x-preserved
+loop-x-preserved c =
+    let loop = c.loop-x in
+    let h = here (goal.at.loop-x-preserved c).In-loop-x in
+    let e = sym c.starts_variable.ensures ∙ c.if-starts_variable.false in
+    (keep-none loop.invariant.0 h e, count_none loop.invariant.1 h e)
+
+pub returns : goal.returns
+unfolding verdict
+returns c =
+    let i = c.loop-x.invariant in
+    let few = i.1.number in
+    keep_all i.0 (none_left i.1 (omega (arith, few, c.loop-x-test.false, c.requires)))

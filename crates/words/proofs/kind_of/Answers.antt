@@ -1,0 +1,8 @@
+-- The shift is the kind.
+use mathlib.Core.Path.{refl}
+use Rattle.words.specs.Word.{kind}
+use Rattle.words.proofs.kind_of.Goals as goal
+
+pub returns : goal.returns
+unfolding kind
+returns c = refl
