@@ -13,7 +13,7 @@ use modelitems::shapes;
 use words::{fault, kind, kind_of, limit, payload_of, word_at};
 
 // A fault and its place; where the number is 0, how many variables the model has, how many words they take, and how many constraints.
-#[derive(Drop)]
+#[derive(Clone, Copy)]
 pub struct Read {
     pub number: u32,
     pub place: usize,

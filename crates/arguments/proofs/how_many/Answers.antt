@@ -1,0 +1,26 @@
+use mathlib.Core.Path.{◌≡◌, refl, ◌∙◌}
+use native.Mathlib.Omega.{arith}
+use mir.Facts.{to_z-of_z}
+use borrow.Author.Rules.{rules}
+use Rattle.integers.specs.Lists.{list_of, how_many}
+use Rattle.integers.proofs.Places.{how_many-more}
+use Rattle.integers.proofs.Booleans.{bit_le}
+use Rattle.models.specs.Model.{vars}
+use Rattle.arguments.proofs.Size.{size-le, read}
+use Rattle.arguments.proofs.how_many.Goals as goal
+
+pub loop-k-init : goal.loop-k-init
+unfolding list_of how_many
+loop-k-init c = (search rules, omega (arith, size-le c.args.args.now c.args.i), search rules, refl)
+
+pub loop-k-preserved : goal.loop-k-preserved
+loop-k-preserved c =
+    let loop = c.loop-k in
+    let value_of_lem = c.value_of in
+    (search rules, search rules, omega (arith, bit_le c.equal.result), rw (how_many-more, loop.invariant.3, c.one_if-found.ensures, c.equal.ensures, read value_of_lem.type_inv value_of_lem.ensures))
+
+pub returns : goal.returns
+unfolding vars
+returns c =
+    let size-at = c.size_at-n in
+    let e : c.loop-k.k ≡ size-at.result = omega arith in c.loop-k.invariant.3 ∙ rw (e, size-at.ensures, to_z-of_z c.ranges.v)

@@ -1,0 +1,26 @@
+use mathlib.Core.Path.{◌≡◌, refl, ◌∙◌}
+use native.Mathlib.Omega.{arith}
+use mir.Facts.{to_z-of_z}
+use borrow.Author.Rules.{rules}
+use Rattle.integers.specs.Lists.{list_of, any}
+use Rattle.integers.proofs.Places.{any-more}
+use Rattle.models.specs.Model.{nums}
+use Rattle.models.specs.Meaning.{member}
+use Rattle.arguments.proofs.Size.{size-le, read}
+use Rattle.arguments.proofs.is_member.Goals as goal
+
+pub loop-k-init : goal.loop-k-init
+unfolding list_of any
+loop-k-init c = (search rules, omega (arith, size-le c.args.args.now c.args.i), refl)
+
+pub loop-k-preserved : goal.loop-k-preserved
+loop-k-preserved c =
+    let loop = c.loop-k in
+    let num-at = c.num_at in
+    (search rules, search rules, c.either-so_far.ensures ∙ rw (any-more, loop.invariant.2, c.equal.ensures, read num-at.type_inv num-at.ensures))
+
+pub returns : goal.returns
+unfolding nums member
+returns c =
+    let size-at = c.size_at-n in
+    let e : c.loop-k.k ≡ size-at.result = omega arith in c.loop-k.invariant.2 ∙ rw (e, size-at.ensures, to_z-of_z c.ranges.x)

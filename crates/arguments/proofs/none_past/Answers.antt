@@ -1,0 +1,25 @@
+use mathlib.Core.Path.{◌≡◌, refl, ◌∙◌}
+use native.Mathlib.Omega.{arith}
+use mir.Facts.{to_z-of_z}
+use borrow.Author.Rules.{rules}
+use Rattle.integers.specs.Lists.{list_of, all}
+use Rattle.integers.proofs.Places.{all_more}
+use Rattle.models.specs.Model.{vars}
+use Rattle.arguments.proofs.Size.{size-le, read}
+use Rattle.arguments.proofs.none_past.Goals as goal
+
+pub loop-k-init : goal.loop-k-init
+unfolding list_of all
+loop-k-init c = (search rules, omega (arith, size-le c.args.args.now c.args.i), refl)
+
+pub loop-k-preserved : goal.loop-k-preserved
+loop-k-preserved c =
+    let loop = c.loop-k in
+    let value_of_lem = c.value_of in
+    (search rules, search rules, c.both-so_far.ensures ∙ rw (all_more, loop.invariant.2, c.in_order.ensures, read value_of_lem.type_inv value_of_lem.ensures))
+
+pub returns : goal.returns
+unfolding vars
+returns c =
+    let size-at = c.size_at-n in
+    let e : c.loop-k.k ≡ size-at.result = omega arith in c.loop-k.invariant.2 ∙ rw (e, size-at.ensures, to_z-of_z c.ranges.m)

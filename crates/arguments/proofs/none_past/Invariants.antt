@@ -1,0 +1,15 @@
+-- The loop's invariant: the test so far is that over the places passed.
+use mathlib.Core.Path.{◌≡◌}
+use Prim.Native.Nat.{◌+◌, ◌-◌, ◌≤◌}
+use lib.Signed.{le_z}
+use Rattle.integers.specs.Choice.{◌if◌else◌}
+use Rattle.integers.specs.Lists.{list_of, all}
+use Rattle.integers.specs.Terms.{value}
+use Rattle.models.specs.Model.{var}
+use Rattle.arguments.proofs.none_past.Given as goal
+
+abbrev pub invariant-loop-k : goal.invariant-loop-k
+invariant-loop-k l = (l.k ≤ l.n) × (l.n ≤ 32) × (l.so_far ≡ all (λ x. le_z (value l.values x) l.m if l.up else le_z l.m (value l.values x)) (list_of (λ j. var l.args (l.i + 1 + j)) l.k))
+
+abbrev pub decreases-loop-k : goal.decreases-loop-k
+decreases-loop-k l = l.n - l.k

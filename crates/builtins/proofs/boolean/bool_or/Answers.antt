@@ -1,0 +1,8 @@
+-- The tests of the three values that are read.
+use mathlib.Core.Path.{◌∙◌}
+use Rattle.models.specs.Meaning.{meaning}
+use Rattle.builtins.proofs.boolean.bool_or.Goals as goal
+
+pub returns : goal.returns
+unfolding meaning
+returns c = c.agree.ensures ∙ rw (c.either.ensures, c.is_on-3.ensures, c.is_on-2.ensures, c.is_on.ensures)

@@ -1,0 +1,8 @@
+-- The tests of the values that are read.
+use mathlib.Core.Path.{◌∙◌}
+use Rattle.models.specs.Meaning.{meaning}
+use Rattle.builtins.proofs.boolean.bool_xor.Goals as goal
+
+pub returns : goal.returns
+unfolding meaning
+returns c = c.agree.ensures ∙ rw (c.int_eq.ensures, c.is_on.ensures)

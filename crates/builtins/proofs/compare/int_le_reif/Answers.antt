@@ -1,0 +1,8 @@
+-- The test agrees with the third variable.
+use mathlib.Core.Path.{◌∙◌}
+use Rattle.models.specs.Meaning.{meaning}
+use Rattle.builtins.proofs.compare.int_le_reif.Goals as goal
+
+pub returns : goal.returns
+unfolding meaning
+returns c = c.agree.ensures ∙ rw (c.int_le.ensures, c.is_on.ensures)

@@ -1,0 +1,27 @@
+-- Inside the list the number there is compared; outside it the test is false.
+use mathlib.Core.Path.{◌∙◌}
+use native.Mathlib.Omega.{arith}
+use Rattle.integers.specs.Terms.{value}
+use Rattle.models.specs.Model.{var, size, num, nums}
+use Rattle.models.specs.Meaning.{meaning}
+use Rattle.arguments.proofs.Size.{size-le, read}
+use Rattle.builtins.proofs.Element.{index-le, inside, outside}
+use Rattle.builtins.proofs.list.array_int_element.Goals as goal
+
+pub overflow_add-k : goal.overflow_add-k
+overflow_add-k c =
+    omega (arith, index-le (size c.args.args.now 1) (value c.args.values.now (var c.args.args.now 0)), size-le c.args.args.now 1)
+
+pub returns-then-k-ge1 : goal.returns-then-k-ge1
+unfolding meaning nums
+returns-then-k-ge1 c =
+    let index_of = c.index_of-k in
+    let if1 = c.if-k-ge1 in
+    let num-at = c.num_at in
+    let past-at = c.past_at in
+    c.equal.ensures ∙ rw (read num-at.type_inv num-at.ensures, read c.value_of.type_inv c.value_of.ensures, past-at.ensures)
+    (inside (num c.args.args.now) _ _ _ _ index_of.ensures if1.true)
+
+pub returns : goal.returns
+unfolding meaning nums
+returns c = outside (num c.args.args.now) _ _ _ _ c.index_of-k.ensures c.if-k-ge1.false

@@ -1,0 +1,31 @@
+-- Some variable has the value, and none a larger one, or none a lesser one.
+use mathlib.Core.Path.{◌≡◌, ◌∙◌}
+use mathlib.Core.Bool.{Bool, true, false, ◌&&◌}
+use mathlib.Core.List.{List, map}
+use Prim.Native.Nat.{ℕ}
+use lib.IntN.{ℤ}
+use lib.Signed.{le_z}
+use Rattle.integers.specs.Choice.{◌if◌else◌}
+use Rattle.integers.specs.Number.{◌≟◌}
+use Rattle.integers.specs.Lists.{all, any}
+use Rattle.integers.specs.Terms.{Valuation, value}
+use Rattle.integers.proofs.Places.{any-map, all_map}
+use Rattle.models.specs.Meaning.{maximum, minimum}
+use Rattle.models.specs.Model.{var, vars}
+use Rattle.arguments.proofs.Size.{read}
+use Rattle.builtins.proofs.list.array_int_extreme.Goals as goal
+
+either_way : (up : Bool) (σ : Valuation) (m : ℤ) (xs : List ℕ) →
+    (any (λ x. σ x ≟ m) xs && all (λ x. le_z (σ x) m if up else le_z m (σ x)) xs) ≡ (maximum if up else minimum) m (map σ xs)
+unfolding maximum minimum
+either_way true σ m xs = rw (any-map, all_map)
+either_way false σ m xs = rw (any-map, all_map)
+
+pub returns : goal.returns
+returns c =
+    let a = c.args in
+    let σ = value a.values.now in
+    let value_of_lem = c.value_of-m in
+    let any-equal = c.any_equal in
+    c.both.ensures ∙ rw (any-equal.ensures, c.none_past.ensures, read value_of_lem.type_inv value_of_lem.ensures)
+    (either_way a.up σ (σ (var a.args.now 0)) (vars a.args.now 1))

@@ -1,0 +1,29 @@
+-- Inside the list the value of the variable there is compared; outside it the test is false.
+use mathlib.Core.Path.{◌∙◌}
+use native.Mathlib.Omega.{arith}
+use Rattle.integers.specs.Terms.{value}
+use Rattle.integers.proofs.Places.{map-list_of}
+use Rattle.models.specs.Model.{var, size, vars}
+use Rattle.models.specs.Meaning.{meaning}
+use Rattle.arguments.proofs.Size.{size-le, read}
+use Rattle.builtins.proofs.Element.{index-le, inside, outside}
+use Rattle.builtins.proofs.list.array_var_int_element.Goals as goal
+
+pub overflow_add-k : goal.overflow_add-k
+overflow_add-k c =
+    omega (arith, index-le (size c.args.args.now 1) (value c.args.values.now (var c.args.args.now 0)), size-le c.args.args.now 1)
+
+pub returns-then-k-ge1 : goal.returns-then-k-ge1
+unfolding meaning vars
+returns-then-k-ge1 c =
+    let index_of = c.index_of-k in
+    let if1 = c.if-k-ge1 in
+    let value_of_lem = c.value_of in
+    let past-at = c.past_at in
+    c.equal.ensures ∙ rw (read value_of_lem.type_inv value_of_lem.ensures, read c.value_of-then-k-ge1.type_inv c.value_of-then-k-ge1.ensures, past-at.ensures, map-list_of)
+    (inside (λ k. value c.args.values.now (var c.args.args.now k)) _ _ _ _ index_of.ensures if1.true)
+
+pub returns : goal.returns
+unfolding meaning vars
+returns c =
+    rw map-list_of (outside (λ k. value c.args.values.now (var c.args.args.now k)) _ _ _ _ c.index_of-k.ensures c.if-k-ge1.false)

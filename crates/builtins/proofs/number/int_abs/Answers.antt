@@ -1,0 +1,18 @@
+-- The absolute value is the larger of a number and its opposite.
+use mathlib.Core.Path.{◌∙◌}
+use native.Mathlib.Omega.{arith}
+use Rattle.models.specs.Meaning.{meaning}
+use Rattle.models.specs.Model.{var}
+use Rattle.arguments.proofs.Size.{read, abs-max, value-near}
+use Rattle.builtins.proofs.number.int_abs.Goals as goal
+
+pub opposite-requires : goal.opposite-requires
+opposite-requires c = rw (read c.value_of-x.type_inv c.value_of-x.ensures) (omega (arith, value-near c.args.values.now c.requires (var c.args.args.now 0)))
+
+pub returns : goal.returns
+unfolding meaning
+returns c =
+    let value_of_lem = c.value_of-x in
+    let opposite = c.opposite in
+    let largest = c.largest in
+    c.equal.ensures ∙ rw (read largest.type_inv largest.ensures, read opposite.type_inv opposite.ensures, read value_of_lem.type_inv value_of_lem.ensures, read c.value_of.type_inv c.value_of.ensures, abs-max)

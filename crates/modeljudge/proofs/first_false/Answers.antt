@@ -1,0 +1,61 @@
+use mathlib.Core.Path.{◌≡◌, sym, ◌∙◌}
+use Prim.Native.Nat.{◌+◌, ◌<◌, ◌≤◌}
+use native.Mathlib.Omega.{arith}
+use lib.ListN.{length, get_or, drop_of_length-le}
+use borrow.Author.Rules.{rules}
+use Rattle.integers.specs.Terms.{value}
+use Rattle.words.specs.Word.{word_at}
+use Rattle.words.specs.Verdict.{verdict}
+use Rattle.words.proofs.Judge.{pass-one, fail_one, pass_all}
+use Rattle.words.proofs.Reading.{tail-is}
+use Rattle.models.specs.Meaning.{meaning}
+use Rattle.models.specs.Model.{headed, builtin, constraints}
+use Rattle.modelreading.proofs.Heads.{head_at, head-inside}
+use Rattle.modeljudge.proofs.first_false.Goals.{After-holds, In-loop-k}
+use Rattle.modeljudge.proofs.first_false.Goals as goal
+
+-- the head stands among the words
+inside : (c : In-loop-k) → get_or c.args.heads.now c.loop-k.k 0 < length c.args.ws.now
+inside c = head-inside c.requires.0 c.loop-k.k c.loop-k-test.true
+
+-- what holds says of the constraint
+said : (c : After-holds) →
+    meaning (value c.args.values.now) (builtin (headed c.args.ws.now (get_or c.args.heads.now c.loop-k.k 0))) ≡ c.holds.result
+unfolding builtin word_at
+said c =
+    let at = get_or c.args.heads.now c.loop-k.k 0 in
+    sym (c.holds.ensures ∙ rw (c.payload_of.ensures, tail-is c.args.ws.now (at + 1)))
+
+pub returns-then-not-holds : goal.returns-then-not-holds
+unfolding verdict
+returns-then-not-holds c =
+    fail_one c.loop-k.invariant.1 (head_at c.requires.0 c.loop-k.k c.loop-k-test.true) (said (goal.at.returns-then-not-holds c).After-holds ∙ c.if-not-holds.true)
+
+pub loop-k-preserved : goal.loop-k-preserved
+loop-k-preserved c =
+    let t = c.loop-k-test.true in
+    (omega arith, pass-one c.loop-k.invariant.1 (head_at c.requires.0 c.loop-k.k t) (said (goal.at.loop-k-preserved c).After-holds ∙ c.if-not-holds.false))
+
+pub returns : goal.returns
+unfolding verdict
+returns c =
+    let h : length (constraints c.args.ws.now) ≤ c.loop-k.k = omega (arith, c.requires.0.counted, c.loop-k-test.false) in
+    pass_all c.loop-k.invariant.1 (drop_of_length-le (constraints c.args.ws.now) h)
+
+pub offset_bounds-ws-at : goal.offset_bounds-ws-at
+offset_bounds-ws-at c = let h = inside (goal.at.offset_bounds-ws-at c).In-loop-k in search rules
+
+pub bounds-ws-at : goal.bounds-ws-at
+bounds-ws-at c = inside (goal.at.bounds-ws-at c).In-loop-k
+
+pub overflow_add-at : goal.overflow_add-at
+overflow_add-at c = let h = inside (goal.at.overflow_add-at c).In-loop-k in search rules
+
+pub offset_bounds-ws-at-in-loop-k : goal.offset_bounds-ws-at-in-loop-k
+offset_bounds-ws-at-in-loop-k c = let h = inside (goal.at.offset_bounds-ws-at-in-loop-k c).In-loop-k in search rules
+
+pub slice_bounds-holds-count : goal.slice_bounds-holds-count
+slice_bounds-holds-count c = let h = inside (goal.at.slice_bounds-holds-count c).In-loop-k in search rules
+
+pub slice_bounds-holds-start : goal.slice_bounds-holds-start
+slice_bounds-holds-start c = omega (arith, inside (goal.at.slice_bounds-holds-start c).In-loop-k)
