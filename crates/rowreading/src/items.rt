@@ -11,7 +11,7 @@ use rowsystems::Due;
 use words::{fault, kind, kind_of, payload_of, word_at};
 
 // What a head word starts.
-#[derive(Drop)]
+#[derive(Clone, Copy)]
 pub enum Item {
     // an integer variable, whose lower bound this word is
     Variable(u32),

@@ -88,10 +88,10 @@ auxiliaries : {n : ℕ} {ws : List ℕ} {Bs : List Bounds} {Rs : List (Row ℕ)}
     Ranged (flat_map bound_numbers As) → All (λ B. B.lower ⊑ B.upper) As →
     Items (n + length As) ws Bs Rs → Items n (flat_map bound_words As ++ ws) (As ++ Bs) Rs
 unfolding flat_map
-auxiliaries [] room h o r = rw add-zero at r
+auxiliaries {n} [] room h o r = rw add-zero at r
 auxiliaries {n} (A ∷ As) room h o r =
     let k = (all_append (λ z. in_range z ≡ true) (bound_numbers A) (flat_map bound_numbers As)).0 h in
-    rw append_assoc (auxiliary A (omega arith) k.0 o.0 (auxiliaries As (omega arith) k.1 o.1 (rw (one_more n (length As)) at r)))
+    rw append_assoc (auxiliary A (omega arith) k.0 o.0 (auxiliaries {n = n + 1} As (omega arith) k.1 o.1 (rw (one_more n (length As)) at r)))
 
 -- ---- Rows, over variables of any type that f numbers
 
@@ -207,16 +207,16 @@ block f As qs room h o d r =
 sources : {n : ℕ} {src ws : List ℕ} {Bs Cs : List Bounds} {Rs : List (Row ℕ)} → Sources src Bs → n + length Bs ≤ Limit.in_all →
     Items (n + length Bs) ws Cs Rs → Reads (state Source n) (src ++ ws) (Bs ++ Cs) Rs
 unfolding first_fault fault fault_due fault_source fault_lower fault_upper too_low after after_due started variables starts_pair rows word_at
-sources none room r = rw add-zero at r.0
+sources {n} none room r = rw add-zero at r.0
 sources {n} (integer {Bs = Bs} l u o ss) room r =
-    let k = sources ss (omega arith) (rw (one_more n (length Bs)) at r) in
+    let k = sources {n = n + 1} ss (omega arith) (rw (one_more n (length Bs)) at r) in
     record {
       accepts = λ p. simp (l, u, o.lower_in, o.upper_in, add-zero, lt-leb Limit.in_all n (omega arith), not-below o.rising) (k.accepts (p + 1 + 1));
       the_bounds = simp (l, u, k.the_bounds);
       the_rows = simp (l, u, k.the_rows);
     }
 sources {n} (boolean {Bs = Bs} w z ss) room r =
-    let k = sources ss (omega arith) (rw (one_more n (length Bs)) at r) in
+    let k = sources {n = n + 1} ss (omega arith) (rw (one_more n (length Bs)) at r) in
     record {
       accepts = λ p. simp (w, z, lt-leb Limit.in_all n (omega arith)) (k.accepts (p + 1));
       the_bounds = simp (w, k.the_bounds);

@@ -108,7 +108,7 @@ fn put_sum(
 // A product, as a row of three terms with coefficient 1 and the constant 0.
 fn put_product(page: &mut [u8], at: usize, k: usize, ws: &[u32]) -> usize
     requires { (at + 2600 < 1099511627776) × (k < 1000000) }
-    ensures { let ws = ws.entry.now in LaidAt page.old at (row_lines k (product (variable_at ws 0) (variable_at ws 1) (variable_at ws 2))) page.new result × (result ≤ at + 2500) }
+    ensures { let ws = ws.now in LaidAt page.old at (row_lines k (product (variable_at ws 0) (variable_at ws 1) (variable_at ws 2))) page.new result × (result ≤ at + 2500) }
 {
     let row = [word_at(ws, 0), 1, word_at(ws, 1), 1, word_at(ws, 2), 1, 0];
     put_sum(page, at, k, b':', b'=', &row, 3)

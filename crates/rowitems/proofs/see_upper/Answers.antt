@@ -1,0 +1,26 @@
+-- A fault of the word, or the word and the test of the value.
+use mathlib.Core.Path.{◌≡◌, ◌∙◌}
+use mir.Facts.{to_z-of_z}
+use borrow.Author.Tests.{ne_eqb}
+use Rattle.words.specs.Word.{word_at}
+use Rattle.rowsystems.specs.Reading.{fault_upper}
+use Rattle.rowreading.specs.Onward.{step_over}
+use Rattle.rowitems.proofs.see_upper.Goals.{After-fault_upper-number}
+use Rattle.rowitems.proofs.see_upper.Goals as goal
+
+-- what the fault of the upper bound is
+fault : (c : After-fault_upper-number) → let a = c.args in c.fault_upper-number.result ≡ fault_upper a.k a.lower (word_at a.ws.now a.at)
+fault c = c.fault_upper-number.ensures ∙ rw c.word_at-upper.ensures
+
+pub returns : goal.returns
+unfolding step_over
+returns c =
+    let a = c.signed_of in
+    let b = c.signed_of-2 in (
+      rw (← fault (goal.at.returns c).After-fault_upper-number, c.if-number-ne-NONE.false),
+      λ z. c.between-holds.ensures ∙ rw (to_z-of_z (record { sfits = a.type_inv }), to_z-of_z (record { sfits = b.type_inv }), a.ensures, b.ensures, to_z-of_z c.ranges.v, c.word_at-upper.ensures),
+    )
+
+pub returns-then-number-ne-NONE : goal.returns-then-number-ne-NONE
+unfolding step_over
+returns-then-number-ne-NONE c = rw c.faulty.ensures (rw (← fault (goal.at.returns-then-number-ne-NONE c).After-fault_upper-number, ne_eqb _ _ c.if-number-ne-NONE.true), λ z. absurd (c.if-number-ne-NONE.true z))

@@ -1,0 +1,16 @@
+-- The invariant: reading goes on at the terms that are left, and the total is the sum of those before, each at most 2^54 from 0.
+use mathlib.Core.Path.{◌≡◌}
+use Prim.Native.Nat.{◌+◌, ◌-◌, ◌*◌, ◌≤◌}
+use lib.IntN.{nat_abs}
+use lib.ListN.{drop}
+use Rattle.integers.specs.Terms.{value, sum}
+use Rattle.rowsystems.specs.RowSystem.{terms_in}
+use Rattle.rowsystems.specs.declared.Due.TheVariants.{Terms}
+use Rattle.rowreading.specs.Onward.{StepsTo}
+use Rattle.rowterms.proofs.see_terms.Given as goal
+
+abbrev pub invariant-loop-left : goal.invariant-loop-left
+invariant-loop-left l = (l.at ≡ l.start + 2 * (l.terms - l.left)) × (l.left ≤ l.terms) × StepsTo l.ws l.n (Terms l.terms) l.start (Terms l.left) (record { number = 0; at = l.at }) × (l.total ≡ sum (value l.values) (terms_in (drop l.start l.ws) (l.terms - l.left))) × (nat_abs l.total ≤ (l.terms - l.left) * 18014398509481984)
+
+abbrev pub decreases-loop-left : goal.decreases-loop-left
+decreases-loop-left l = l.left
