@@ -110,7 +110,7 @@ unfolding each_block outside_in
 numbers-blocks β s first e [] h = tt
 numbers-blocks β s first e (c ∷ cs) h =
     let k = (all_append (λ z. z ≢ before.lower) (block_numbers (block_of β s e c)) _).0 h in
-    (rw (numbers-alike (block_numbers (block_of β s e c)) k.0) refl, numbers-blocks β s _ _ cs k.1)
+    (rw (numbers-alike (block_numbers (block_of β s e c)) k.0) refl, numbers-blocks β s (first + length (block_of β s e c).auxiliaries) (after β s first e c) cs k.1)
 
 pub as_before : (ws : List ℕ) → WithoutLowest ws → SameAnswers before Limit.range ws
 as_before ws h =
@@ -171,7 +171,7 @@ unfolding blocks_words each_block
 blocks-other β s first e [] h = tt
 blocks-other β s first e (c ∷ cs) h =
     let k = (all_append NotLowest (block_words first (block_of β s e c)) _).0 h in
-    (all_append Other (block_numbers (block_of β s e c)) _).1 (block-other first (block_of β s e c) k.0, blocks-other β s _ _ cs k.1)
+    (all_append Other (block_numbers (block_of β s e c)) _).1 (block-other first (block_of β s e c) k.0, blocks-other β s (first + length (block_of β s e c).auxiliaries) (after β s first e c) cs k.1)
 
 -- no word of the model and of its row system holds the lowest number
 pub words_as_before : (ws : List ℕ) → All NotLowest ws → All NotLowest (system_words ws) → SameAnswers before Limit.range ws
@@ -198,7 +198,7 @@ block-passes B e = let h : all in_range (block_numbers B) ≡ true = not-false _
 
 fine-alike : (β : ℕ → Bounds) (s : ℕ → Bool) (first : ℕ) (e : Encoded) (cs : List Constraint) → Fine β s first e cs → BlocksAlike before Limit.range β s first e cs
 fine-alike β s first e [] f = tt
-fine-alike β s first e (c ∷ cs) f = (block-passes (block_of β s e c) f.1, fine-alike β s _ _ cs f.3)
+fine-alike β s first e (c ∷ cs) f = (block-passes (block_of β s e c) f.1, fine-alike β s (first + length (block_of β s e c).auxiliaries) (after β s first e c) cs f.3)
 
 -- where check accepts, it accepted in 01's range, and every answer is the same
 pub passes-alike : (ws : List ℕ) → Passes ws → SameAnswers before Limit.range ws

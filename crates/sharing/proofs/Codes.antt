@@ -16,7 +16,7 @@ use Rattle.sharing.proofs.BooleanLists.{bool_clause_exact, array_bool_and_exact,
 use Rattle.sharing.proofs.Elements.{array_int_element_correct, array_var_int_element_correct}
 use Rattle.sharing.proofs.Maximum.{array_int_maximum_correct, array_int_minimum_correct}
 use Rattle.sharing.proofs.Sets.{set_in_correct, set_in_reif_correct}
-use mathlib.Core.Path.{◌≡◌, refl, sym, ◌∙◌}
+use mathlib.Core.Path.{◌≡◌, refl, sym, subst, ◌∙◌}
 use mathlib.Core.Logic.{◌↔◌}
 use mathlib.Core.Bool.{Bool, true, false, ◌||◌}
 use mathlib.Core.List.{List, [], ◌∷◌, map, zip_with}
@@ -34,7 +34,7 @@ use Rattle.integers.proofs.Lists.{all_append, all-mapped, list_of-length}
 use Rattle.integers.proofs.Tests.{In, All}
 use Rattle.models.specs.Model.{Constraint, var, size, exponent_at, vars, nums, terms, builtins, builtin}
 use Rattle.models.proofs.Arguments.{integer_arguments, boolean_arguments, builtin_words}
-use Rattle.rules.specs.Block.{Ref, source, aux}
+use Rattle.rules.specs.Block.{Ref, source, aux, Block}
 use Rattle.rules.specs.Parts.{◌─◌≤0, ◌─◌=0, each, one, one_bit, chosen, products, nth, places, members}
 use Rattle.rules.specs.Shared.{choice, encodes}
 use Rattle.rules.specs.Check.{too_wide}
@@ -153,9 +153,11 @@ laws β (array_var_int_element i xs c) =
     (λ s n h k.
     let js = values (places (β i) (length xs)) in
     let l : length js ≤ length xs = places-length (β i) (length xs) in
-    let m = length js + length js in (
+    let m = length js + length js in
+    let B : Block = variable_element β i xs c in
+    let e : length B.auxiliaries ≡ m = simp (length-append, bits-length, length-map) in (
       gated-ordered β (nth 0 xs) js,
-      rw (length-append, bits-length, length-map) (choice_in n m js i (omega arith) (omega arith) h.0
+      subst (λ (j : ℕ). All (RowIn n j) B.rows) (sym e) (choice_in n m js i (omega arith) (omega arith) h.0
           ((all_append (RowIn n m) (products (nth 0 xs) js 0 (length js)) (chosen one js (length js) c ∷ [])).1 (
             products_in n m (nth 0 xs) js 0 (length js) (omega arith) (omega arith) (all-nth (λ v. v < n) 0 xs (β i) h.1.1),
             (chosen_in n m one js (length js) c (omega arith) (omega arith) h.1.0, tt),

@@ -1,5 +1,6 @@
 -- Every block is well formed: its auxiliaries' bounds are ordered, its rows name only the model's variables and its own and have at most 66
 -- terms, a product's result is above its factors. The builtins of a model whose sets are not too wide have the sizes that this needs.
+use mathlib.Core.Path.{◌≡◌, subst, sym}
 use mathlib.Core.Bool.{Bool, true, false}
 use mathlib.Core.List.{List, [], ◌∷◌, ◌++◌, map, zip_with}
 use Prim.Native.Nat.{ℕ, suc, ◌+◌, ◌≤◌, ◌<◌}
@@ -14,7 +15,6 @@ use Rattle.integers.proofs.Linear.{◌⊑◌, linear, arith_z}
 use Rattle.integers.proofs.Lists.{all_append, all_implies, all-mapped, all_made}
 use Rattle.integers.proofs.Tests.{All}
 use Rattle.words.specs.Limit as Limit
-use Rattle.models.specs.Model.{terms}
 use Rattle.models.proofs.Arguments.{variables_in}
 use Rattle.rowsystems.specs.Row.{Row, sum≤0, sum=0, product, rename_terms}
 use Rattle.rowsystems.proofs.Ordered.{Ordered}
@@ -204,9 +204,11 @@ module _ (n : ℕ) (β : ℕ → Bounds) where
   one_of-formed u v m xs s g h f =
       let k = length xs + length xs in
       let both = all_implies (λ x. x < n) (λ x. (u x < n) × (v x < n)) f xs h in
-      let each : ℕ → Row Ref = λ x. source (u x) ─ source (v x) ≤0 in (
+      let each : ℕ → Row Ref = λ x. source (u x) ─ source (v x) ≤0 in
+      let B : Block = one_of β u v m xs in
+      let e : length B.auxiliaries ≡ k = simp (length-append, bits-length, length-map) in (
         gated-ordered β (λ x. x) xs,
-        rw (length-append, bits-length, length-map) (
+        subst (λ (j : ℕ). All (RowIn n j) B.rows) (sym e) (
           one_bit_in n k xs (omega arith) (omega arith),
           (all_append (RowIn n k) (products (λ x. x) xs 0 (length xs)) (chosen one xs (length xs) m ∷ (map each xs ++ first_only β u v xs 0))).1 (
             products_in n k (λ x. x) xs 0 (length xs) (omega arith) (omega arith) h,

@@ -2,7 +2,7 @@
 use mathlib.Core.Path.{◌≡◌, sym, subst}
 use mathlib.Core.Bool.{Bool, true}
 use mathlib.Core.List.{List, [], ◌∷◌, ◌++◌, flat_map}
-use Prim.Native.Nat.{ℕ, ◌<◌}
+use Prim.Native.Nat.{ℕ, ◌+◌, ◌<◌}
 use lib.IntN.{ℤ}
 use lib.ListN.{length}
 use Rattle.integers.specs.Bounds.{bounds_in}
@@ -23,7 +23,7 @@ use Rattle.rules.specs.Block.{block_numbers}
 use Rattle.rules.specs.Shared.{Encoded, none_yet}
 use Rattle.rules.specs.Translation.{shared, block_of, each_block, system_words, picks}
 use Rattle.sharing.specs.SharedSolutions.{Passes, SatisfiesModel, SatisfiesRows}
-use Rattle.sharing.proofs.Assembly.{auxiliaries_from}
+use Rattle.sharing.proofs.Assembly.{after, auxiliaries_from}
 use Rattle.sharing.proofs.Accepts.{Fine, passes-read}
 use Rattle.sharing.proofs.Written.{in_range_lem}
 use Rattle.sharing.proofs.Theorem.{fine, same-bounds, fill-satisfies}
@@ -45,7 +45,7 @@ blocks_in β s first e (c ∷ cs) f =
     let B = block_of β s e c in
     (all_append BothIn B.auxiliaries (auxiliaries_from β s _ _ cs)).1 (
       bounds_in_lem B.auxiliaries ((all_append (λ z. in_range z ≡ true) (flat_map bound_numbers B.auxiliaries) (flat_map row_numbers B.rows)).0 (in_range_lem B f.1)).0,
-      blocks_in β s _ _ cs f.3,
+      blocks_in β s (first + length (block_of β s e c).auxiliaries) (after β s first e c) cs f.3,
     )
 
 value_in : (B : Bounds) (x : ℤ) → BothIn B → In B x → in_range x ≡ true

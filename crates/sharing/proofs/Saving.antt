@@ -121,7 +121,7 @@ nothing_left : (β : ℕ → Bounds) (s : ℕ → Bool) (first : ℕ) (e : Encod
     All (λ c. shares s (choice c) ≡ true → leaves_out β (choice c) ≡ []) cs → each_block β s (λ first e c. left_here β s e (choice c)) first e cs ≡ []
 unfolding each_block
 nothing_left β s first e [] h = refl
-nothing_left β s first e (c ∷ cs) h = rw (none (is_first s e (choice c)) refl, nothing_left β s _ _ cs h.1)
+nothing_left β s first e (c ∷ cs) h = rw (none (is_first s e (choice c)) refl, nothing_left β s (first + length (block_of β s e c).auxiliaries) (after β s first e c) cs h.1)
   where
     none : (b : Bool) → is_first s e (choice c) ≡ b → ◌≡◌ {A = List ℤ} (leaves_out β (choice c) if b else []) []
     none true p = h.0 (first-shares s e (choice c) p)

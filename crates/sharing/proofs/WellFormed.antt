@@ -33,7 +33,7 @@ module _ (Vs : List Bounds) (s : ℕ → Bool) where
 
   pub plain-all : (first : ℕ) (e : Encoded) (cs : List Constraint) → All (Typed Vs) cs → Fine (bounds_in Vs) s first e cs → All (λ c. Formed (length Vs) (rule (bounds_in Vs) (builtin c))) cs
   plain-all first e [] t f = tt
-  plain-all first e (c ∷ cs) t f = (plain-one c t.0 f.0, plain-all _ _ cs t.1 f.3)
+  plain-all first e (c ∷ cs) t f = (plain-one c t.0 f.0, plain-all (first + length (block_of (bounds_in Vs) s e c).auxiliaries) (after (bounds_in Vs) s first e c) cs t.1 f.3)
 
   -- 01's own block names only the model's variables, of which there are no more than what stands before
   one-formed : (first : ℕ) (e : Encoded) (c : Constraint) → length Vs ≤ first → Declared (bounds_in Vs) first e → Typed Vs c → too_wide (bounds_in Vs) s c ≡ false →
