@@ -21,7 +21,7 @@ use integers::{opposite, plus};
 use words::{in_range, kind, lay, number_word, word_of};
 
 // What was laid so far: words, auxiliaries, rows; and 1 where some number was outside the range, else 0. It is a number and no bool, since a struct with a gap is slower to copy.
-#[derive(Drop)]
+#[derive(Clone, Copy)]
 pub struct Laid {
     pub words: usize,
     pub auxiliaries: usize,

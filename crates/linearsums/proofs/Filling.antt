@@ -11,9 +11,8 @@ use Rattle.integers.specs.Number.{+0}
 use Rattle.integers.specs.Bounds.{◌to◌, bounds_in}
 use Rattle.integers.specs.declared.Bounds.{Bounds}
 use Rattle.integers.proofs.Places.{get_d_many}
-use Rattle.words.specs.Small.{Small}
 use Rattle.extremes.specs.BoundLists.{bounds_of}
-use Rattle.linearsums.specs.Places.{BoundsNear, NoneFrom}
+use Rattle.linearsums.specs.Places.{NoneFrom}
 
 abbrev none : Bounds
 none = +0 to +0
@@ -44,10 +43,6 @@ module _ {ls us : List ℤ} {Bs : List Bounds} {v : ℕ} (f : Filling ls us Bs v
   pub done : (n : ℕ) → n ≤ v → NoneFrom (bounds_of ls us) n → bounds_in Bs ≡ bounds_of ls us
   unfolding bounds_in
   done n h rest = fun_ext (λ j. ⊎_elim (λ below. f.filled j below) (λ from. f.left j from ∙ sym (rest j (omega arith))) (below_or_from j v))
-
--- records are near 0 where the lists are
-pub records_near : (Bs : List Bounds) (ls us : List ℤ) → bounds_in Bs ≡ bounds_of ls us → Small ls → Small us → BoundsNear Bs
-records_near Bs ls us e l u v = rw e (l v, u v)
 
 -- past the last record of a list there is none; so it is with bounds that are the list's
 none-past : (Bs : List Bounds) → NoneFrom (bounds_in Bs) (length Bs)

@@ -4,5 +4,3 @@ pub mod Places
 pub mod Filling
 pub mod Keeping
 pub mod Model
-pub mod Record
-pub mod Again

@@ -24,7 +24,7 @@ use words::kind;
 const PAST: i64 = 134217728;
 
 // What was laid with the bounds of some products, and the bounds of the power, cut.
-#[derive(Drop)]
+#[derive(Clone, Copy)]
 pub struct PowerBounds {
     pub laid: Laid,
     pub lower: i64,
@@ -32,7 +32,7 @@ pub struct PowerBounds {
 }
 
 // What was laid with some products, the variable that holds the power, and the next auxiliary.
-#[derive(Drop)]
+#[derive(Clone, Copy)]
 pub struct Multiplied {
     pub laid: Laid,
     pub held: usize,

@@ -1,0 +1,27 @@
+use Prim.Native.Nat.{◌+◌}
+use native.Mathlib.Omega.{arith}
+use Rattle.models.specs.Model.{num}
+use Rattle.arguments.proofs.Size.{read}
+use Rattle.laying.proofs.Parts.{begun, more, done, went-length}
+use Rattle.laying.proofs.Counts.{sized-any, many-listed}
+use Rattle.choiceblocks.proofs.rows.lay_numbers.Goals as goal
+
+pub returns-then-out-s : goal.returns-then-out-s
+returns-then-out-s c =
+    many-listed (λ k. num c.args.args.now (c.args.base + k)) _ 2 0 0 1000 (λ k. sized-any _ _) (omega arith, omega arith, omega arith, omega arith) c.if-out-s.true c.numbers_in_range.ensures c.counted.ensures
+
+pub loop-k-preserved : goal.loop-k-preserved
+loop-k-preserved c =
+    let loop-test = c.loop-k-test in
+    let loop = c.loop-k in
+    let num-at = c.num_at in
+    more loop-test.true loop.invariant (rw (read num-at.type_inv num-at.ensures) at c.lay_term-t.ensures)
+
+pub loop-k-init : goal.loop-k-init
+loop-k-init c = begun 10 _ _ _ _
+
+pub shape_of-out : goal.shape_of-out
+shape_of-out c = went-length c.loop-k.invariant.went
+
+pub returns : goal.returns
+returns c = done 1000 (omega arith) c.loop-k-test.false c.loop-k.invariant

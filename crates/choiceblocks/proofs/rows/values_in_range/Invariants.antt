@@ -1,0 +1,14 @@
+-- The loop's invariant: the test so far is that of the numbers passed.
+use mathlib.Core.Path.{◌≡◌}
+use Prim.Native.Nat.{◌-◌, ◌≤◌}
+use lib.ListN.{get_or}
+use Rattle.integers.specs.Number.{+0}
+use Rattle.integers.specs.Lists.{all, list_of}
+use Rattle.words.specs.Word.{in_range}
+use Rattle.choiceblocks.proofs.rows.values_in_range.Given as goal
+
+abbrev pub invariant-loop-k : goal.invariant-loop-k
+invariant-loop-k l = (l.k ≤ l.n) × (l.fit ≡ all in_range (list_of (λ j. get_or l.vs j +0) l.k))
+
+abbrev pub decreases-loop-k : goal.decreases-loop-k
+decreases-loop-k l = l.n - l.k

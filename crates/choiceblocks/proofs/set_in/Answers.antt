@@ -1,0 +1,21 @@
+-- Bits, their row, the row of the members.
+use mathlib.Core.Path.{sym}
+use native.Mathlib.Omega.{arith}
+use Rattle.models.specs.Model.{var, nums}
+use Rattle.laying.proofs.Parts.{went_then, went_as}
+use Rattle.extremes.specs.BoundLists.{bounds_of}
+use Rattle.choiceblocks.proofs.Blocks.{in_set_lem}
+use Rattle.choiceblocks.proofs.set_in.Goals as goal
+
+pub returns : goal.returns
+returns c =
+    let lay-value-row = c.lay_value_row in
+    let i = c.args in
+    let m = c.members_of-n.ensures in
+    let a = rw m.many at c.lay_bits-t.ensures in
+    let b = rw m.many at c.lay_one_bit-u.ensures in
+    let d = rw (m.many, c.var_at-x.ensures) at lay-value-row.ensures in
+    record {
+      parts = went_as (sym (in_set_lem i.first (bounds_of i.ls.now i.us.now) (nums i.args.now 1) c.members_of-n.new.vs (var i.args.now 0) m.same)) (went_then a.0 (went_then b.0 d.0));
+      size = omega (arith, a.1, b.1, d.1);
+    }

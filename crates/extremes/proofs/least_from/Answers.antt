@@ -1,0 +1,26 @@
+use mathlib.Core.Path.{◌≡◌, refl, ◌∙◌}
+use native.Mathlib.Omega.{arith}
+use mir.Facts.{to_z-of_z}
+use borrow.Author.Rules.{rules}
+use Rattle.integers.proofs.Fits.{back}
+use Rattle.integers.specs.Lists.{list_of}
+use Rattle.models.specs.Model.{nums}
+use Rattle.arguments.proofs.Size.{size-le}
+use Rattle.rules.specs.Parts.{least_from}
+use Rattle.extremes.proofs.Rising.{least_more}
+use Rattle.extremes.proofs.least_from.Goals as goal
+
+pub loop-k-init : goal.loop-k-init
+unfolding list_of least_from
+loop-k-init c = (search rules, omega (arith, size-le c.args.args.now c.args.i), refl)
+
+pub loop-k-preserved : goal.loop-k-preserved
+loop-k-preserved c =
+    let loop = c.loop-k in
+    (search rules, search rules, back c.nearer-least_yet.result c.nearer-least_yet.type_inv ∙ c.nearer-least_yet.ensures ∙ rw (back c.num_at.result c.num_at.type_inv, c.num_at.ensures, loop.invariant.2, least_more))
+
+pub returns : goal.returns
+unfolding nums
+returns c =
+    let size-at = c.size_at-n in
+    let e : c.loop-k.k ≡ size-at.result = omega arith in c.loop-k.invariant.2 ∙ rw (e, size-at.ensures, to_z-of_z c.ranges.from, to_z-of_z c.ranges.above)

@@ -1,0 +1,20 @@
+-- Two bits, two products and two rows, one after the other.
+use mathlib.Core.List.{flat_map}
+use native.Mathlib.Nat.{add-zero}
+use native.Mathlib.Omega.{arith}
+use Rattle.rules.specs.Block.{numbered}
+use Rattle.rules.specs.Parts.{◌─◌=0}
+use Rattle.rules.specs.Rule.{rule, same_rows, same_reified}
+use Rattle.laying.specs.Part.{bound_parts, term_parts, row_parts, block_parts}
+use Rattle.laying.specs.Lists.{many, row_parts_of}
+use Rattle.fixedblocks.proofs.Laid.{then}
+use Rattle.fixedblocks.proofs.boolean.bool_eq_reif.Goals as goal
+
+pub returns : goal.returns
+unfolding rule same_reified same_rows ◌─◌=0 block_parts bound_parts flat_map row_parts term_parts numbered row_parts_of many
+returns c =
+    let two_products = c.two_products-t in
+    let two-terms = c.two_terms-u in
+    let lay-row = c.lay_row in
+    let w = then 40 4000 two_products.ensures (then 2000 2000 two-terms.ensures lay-row.ensures) in
+    rw (add-zero c.args.first) ((λ β. w.0), omega (arith, w.1))

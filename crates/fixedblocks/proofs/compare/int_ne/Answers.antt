@@ -1,0 +1,19 @@
+-- A bit and two rows, one after the other.
+use mathlib.Core.List.{flat_map}
+use native.Mathlib.Nat.{add-zero}
+use native.Mathlib.Omega.{arith}
+use Rattle.rules.specs.Block.{numbered}
+use Rattle.rules.specs.Rule.{rule, where_one, where_zero}
+use Rattle.laying.specs.Part.{bound_parts, term_parts, row_parts, block_parts}
+use Rattle.laying.specs.Lists.{many, row_parts_of}
+use Rattle.fixedblocks.proofs.Laid.{then}
+use Rattle.fixedblocks.proofs.compare.int_ne.Goals as goal
+
+pub returns : goal.returns
+unfolding rule where_one where_zero block_parts bound_parts flat_map row_parts term_parts numbered row_parts_of many
+returns c =
+    let lay-bound = c.lay_bound-t in
+    let row = c.where_bit-u in
+    let row2 = c.where_bit in
+    let w = then 10 4000 lay-bound.ensures (then 2000 2000 (row.ensures.fact, row.ensures.size) (row2.ensures.fact, row2.ensures.size)) in
+    rw (add-zero c.args.first) (w.0, omega (arith, w.1))

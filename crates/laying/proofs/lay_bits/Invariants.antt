@@ -1,0 +1,11 @@
+-- The loop lays one list of parts in each turn: a bit's bounds.
+use Prim.Native.Nat.{◌-◌}
+use Rattle.laying.specs.Lists.{bit_at}
+use Rattle.laying.proofs.Parts.{Laying}
+use Rattle.laying.proofs.lay_bits.Given as goal
+
+abbrev pub invariant-loop-k : goal.invariant-loop-k
+invariant-loop-k l = Laying 10 bit_at l.n l.initial.t l.t l.initial.out l.out l.k
+
+abbrev pub decreases-loop-k : goal.decreases-loop-k
+decreases-loop-k l = l.n - l.k

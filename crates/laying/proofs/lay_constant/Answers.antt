@@ -1,0 +1,18 @@
+-- What `lay_part` laid is the part's words.
+use native.Mathlib.Omega.{arith}
+use mir.Facts.{to_z-of_z}
+use mathlib.Core.Path.{sym}
+use Rattle.integers.specs.Lists.{all}
+use Rattle.integers.proofs.Booleans.{and-true}
+use Rattle.laying.specs.Part.{constant, part_words, part_numbers, part_auxiliaries, part_rows}
+use Rattle.laying.proofs.Parts.{went-one}
+use Rattle.laying.proofs.lay_constant.Goals as goal
+
+pub returns : goal.returns
+unfolding part_words part_numbers part_auxiliaries part_rows all
+returns c =
+    let number_word = c.number_word in
+    let in_range_lem = c.in_range in
+    let lay-part = c.lay_part in
+    let w = simp (number_word.ensures, in_range_lem.ensures, to_z-of_z c.ranges.c) at lay-part.ensures in
+    (went-one (constant c.args.c) w (sym (and-true _)), omega (arith, w.words, w.auxiliaries, w.rows))

@@ -1,0 +1,39 @@
+use mathlib.Core.Path.{sym, ◌∙◌}
+use native.Mathlib.Omega.{arith}
+use mir.Facts.{to_z-of_z}
+use borrow.Author.Tests.{leb-true}
+use Rattle.integers.proofs.Booleans.{both_true}
+use Rattle.arguments.proofs.Size.{size-le}
+use Rattle.laying.proofs.Parts.{begun, more}
+use Rattle.laying.proofs.Counts.{sized-term, many-counted}
+use Rattle.laying.proofs.lay_each.Goals as goal
+
+pub overflow_mul-n : goal.overflow_mul-n
+overflow_mul-n c =
+    let size-at = c.size_at-n in
+    omega (arith, size-le c.args.args.now c.args.i, size-at.ensures)
+
+pub counted-requires : goal.counted-requires
+counted-requires c =
+    let size-at = c.size_at-n in
+    omega (arith, size-le c.args.args.now c.args.i, size-at.ensures)
+
+pub returns-then-both : goal.returns-then-both
+returns-then-both c =
+    let in_range_lem = c.in_range in
+    let size-at = c.size_at-n in
+    let h = size-le c.args.args.now c.args.i in
+    let t = both_true _ _ (sym c.both.ensures ∙ c.if-both.true) in
+    let r = rw (to_z-of_z c.ranges.c) at (sym in_range_lem.ensures ∙ t.1) in
+    rw (← size-at.ensures) (many-counted 2 0 0 1000 (λ k h. sized-term _ _ r) (omega arith, omega arith, omega arith, omega arith) (leb-true _ _ t.0) c.counted.ensures)
+
+pub loop-k-init : goal.loop-k-init
+loop-k-init c =
+    let h = size-le c.args.args.now c.args.i in (omega arith, begun 10 _ _ _ _)
+
+pub loop-k-preserved : goal.loop-k-preserved
+loop-k-preserved c =
+    let loop = c.loop-k in
+    let loop-test = c.loop-k-test in
+    let var-at = c.var_at in
+    (loop.invariant.0, more loop-test.true loop.invariant.1 (simp var-at.ensures at c.lay_term-t.ensures))

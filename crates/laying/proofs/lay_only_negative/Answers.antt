@@ -1,0 +1,18 @@
+-- A row of two given terms; u is so small that neither u+1 nor its opposite wraps.
+use native.Mathlib.Omega.{arith}
+use mir.Facts.{to_z-of_z}
+use Rattle.arguments.proofs.Size.{read}
+use Rattle.laying.proofs.lay_only_negative.Goals as goal
+
+pub opposite-requires : goal.opposite-requires
+opposite-requires c =
+    rw (to_z-of_z c.ranges.u) (omega (arith, c.requires.1))
+
+pub returns : goal.returns
+returns c =
+    let plus = c.plus in
+    let opposite = c.opposite in
+    rw (read plus.type_inv plus.ensures, read opposite.type_inv opposite.ensures, to_z-of_z c.ranges.u) at c.lay_row.ensures
+
+pub plus-requires : goal.plus-requires
+plus-requires c = rw (to_z-of_z c.ranges.u) (omega (arith, c.requires.1))

@@ -1,0 +1,19 @@
+-- What `lay_part` laid is the part's words.
+use native.Mathlib.Omega.{arith}
+use mir.Facts.{to_z-of_z}
+use mathlib.Core.Path.{sym}
+use Rattle.integers.specs.Lists.{all}
+use Rattle.integers.proofs.Booleans.{and-true}
+use Rattle.laying.specs.Part.{term, part_words, part_numbers, part_auxiliaries, part_rows}
+use Rattle.laying.proofs.Parts.{went-one}
+use Rattle.laying.proofs.lay_term.Goals as goal
+
+pub returns : goal.returns
+unfolding part_words part_numbers part_auxiliaries part_rows all
+returns c =
+    let word_of = c.word_of in
+    let number_word = c.number_word in
+    let in_range_lem = c.in_range in
+    let lay-part = c.lay_part in
+    let w = simp (word_of.ensures, number_word.ensures, in_range_lem.ensures, to_z-of_z c.ranges.coefficient) at lay-part.ensures in
+    (went-one (term c.args.coefficient c.args.v) w (sym (and-true _)), omega (arith, w.words, w.auxiliaries, w.rows))

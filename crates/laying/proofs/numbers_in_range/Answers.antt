@@ -1,0 +1,16 @@
+use mathlib.Core.Path.{refl, ◌∙◌}
+use native.Mathlib.Omega.{arith}
+use Rattle.integers.specs.Lists.{all, list_of}
+use Rattle.integers.proofs.Places.{all_more}
+use Rattle.arguments.proofs.Size.{read}
+use Rattle.laying.proofs.numbers_in_range.Goals as goal
+
+pub loop-k-init : goal.loop-k-init
+unfolding all list_of
+loop-k-init c = (omega arith, refl)
+
+pub loop-k-preserved : goal.loop-k-preserved
+loop-k-preserved c =
+    let loop = c.loop-k in
+    let num-at = c.num_at in
+    (omega arith, c.both-fit.ensures ∙ rw (all_more, loop.invariant.1, c.in_range.ensures, read num-at.type_inv num-at.ensures))

@@ -1,0 +1,13 @@
+-- The loop's invariant: the words of the terms passed went over the list.
+use mathlib.Core.Path.{◌≡◌}
+use Prim.Native.Nat.{◌-◌, ◌≤◌}
+use Rattle.words.specs.Overlay.{overlay}
+use Rattle.laying.specs.Part.{words_in}
+use Rattle.laying.specs.Lists.{many, same_at}
+use Rattle.laying.proofs.put_same.Given as goal
+
+abbrev pub invariant-loop-k : goal.invariant-loop-k
+invariant-loop-k l = (l.k ≤ l.n) × (l.out ≡ overlay l.initial.out l.at (words_in (many (same_at l.c l.v) l.k)))
+
+abbrev pub decreases-loop-k : goal.decreases-loop-k
+decreases-loop-k l = l.n - l.k

@@ -1,0 +1,42 @@
+-- The rows r−x≤0, then the last row.
+use mathlib.Core.Path.{sym}
+use mathlib.Core.Bool.{false}
+use mathlib.Core.List.{[], ◌∷◌, ◌++◌, map, append-nil, flat_map}
+use native.Mathlib.Omega.{arith}
+use lib.IntN.{pos}
+use lib.ListN.{length}
+use Rattle.integers.specs.Number.{◌⊖◌, +1, -1}
+use Rattle.integers.specs.Terms.{◌·◌}
+use Rattle.models.specs.Model.{var, vars, past}
+use Rattle.arguments.proofs.Size.{size-le}
+use Rattle.rowsystems.specs.Row.{sum≤0}
+use Rattle.rules.specs.Block.{source, block}
+use Rattle.rules.specs.Parts.{◌─◌≤0, each}
+use Rattle.rules.specs.Rule.{rule}
+use Rattle.laying.specs.Part.{bound_parts, block_parts}
+use Rattle.laying.proofs.Parts.{went_as}
+use Rattle.laying.proofs.Lists.{order-parts}
+use Rattle.linearblocks.proofs.Rows.{rows_then}
+use Rattle.linearblocks.proofs.clause.array_bool_and.Goals as goal
+
+pub lay_order-t-requires : goal.lay_order-t-requires
+lay_order-t-requires c =
+    (omega (arith, c.requires), rw c.size_at.ensures (omega (arith, size-le c.args.args.now 0)), omega arith)
+
+pub returns : goal.returns
+unfolding rule block_parts bound_parts flat_map
+returns c =
+    let past-at = c.past_at in
+    let var-at = c.var_at-r in
+    let size-at = c.size_at in
+    let lay-order = c.lay_order-t in
+    let lay-all = c.lay_all in
+    let ws = c.args.args.now in
+    let r = var ws (past ws 0) in
+    let q = sum≤0 (each +1 (vars ws 0) ++ (-1 · source r ∷ [])) (+1 ⊖ pos (length (vars ws 0))) in
+    let t = rw (size-at.ensures, var-at.ensures, past-at.ensures) at lay-order.ensures in
+    let u = rw (var-at.ensures, past-at.ensures) at lay-all.ensures in
+    record {
+      parts = λ first β. rows_then first (block [] (map (λ x. source r ─ source x ≤0) (vars ws 0))) (q ∷ []) (went_as (sym (order-parts first ws 0 r false)) t.0) (rw append-nil (u.parts first));
+      size = omega (arith, t.1, u.size);
+    }

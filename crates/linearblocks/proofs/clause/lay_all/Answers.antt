@@ -1,0 +1,40 @@
+-- A head, the terms, r and the constant are the parts of the row.
+use mathlib.Core.List.{[], ◌∷◌, ◌++◌}
+use native.Mathlib.Omega.{arith}
+use lib.ListN.{length-append}
+use Rattle.integers.specs.Number.{+1, -1}
+use Rattle.integers.specs.Terms.{◌·◌}
+use Rattle.models.specs.Model.{vars}
+use Rattle.arguments.proofs.Size.{read, size-le}
+use Rattle.rules.specs.Block.{source, numbered}
+use Rattle.rules.specs.Parts.{each}
+use Rattle.laying.specs.Part.{row_parts}
+use Rattle.laying.proofs.Parts.{went_then}
+use Rattle.rules.proofs.Lengths.{each-length}
+use Rattle.laying.proofs.Lists.{length-vars, each-parts}
+use Rattle.linearblocks.proofs.Rows.{row-went, last-term}
+use Rattle.linearblocks.proofs.clause.lay_all.Goals as goal
+
+pub returns : goal.returns
+unfolding row_parts numbered
+returns c =
+    let size-at = c.size_at-n in
+    let lay-head = c.lay_head-begun in
+    let lay-each = c.lay_each-t in
+    let lay-term = c.lay_term-u in
+    let one_less = c.one_less in
+    let lay-constant = c.lay_constant in
+    let ws = c.args.args.now in
+    let ts = each +1 (vars ws 0) in
+    let t = -1 · source c.args.r in
+    let k = rw (read one_less.type_inv one_less.ensures, size-at.ensures, ← length-vars ws 0) at lay-constant.ensures in
+    record {
+      parts = λ first. row-went first (ts ++ (t ∷ [])) (simp (length-append, each-length, length-vars)) (last-term first ts t (each-parts first +1 ws 0)) (rw size-at.ensures at lay-head.ensures.0) (went_then lay-each.ensures.0 lay-term.ensures.0) k.0;
+      size = omega (arith, lay-head.ensures.1, lay-each.ensures.1, lay-term.ensures.1, k.1);
+    }
+
+pub overflow_add-n : goal.overflow_add-n
+overflow_add-n c = rw c.size_at-n.ensures (omega (arith, size-le c.args.args.now 0))
+
+pub one_less-requires : goal.one_less-requires
+one_less-requires c = rw c.size_at-n.ensures (size-le _ _)

@@ -1,0 +1,34 @@
+-- Two rows more after the shared part.
+use mathlib.Core.Path.{ap, ◌∙◌}
+use native.Mathlib.Omega.{arith}
+use borrow.Author.Rules.{rules}
+use Rattle.integers.specs.declared.Bounds.{Bounds}
+use Rattle.integers.proofs.Fits.{back}
+use Rattle.models.specs.Model.{past, past_terms}
+use Rattle.arguments.proofs.Size.{size-le}
+use Rattle.rules.specs.Rule.{linked, lin_less_equal_reified, rule}
+use Rattle.linearsums.specs.Sum.{linear_sum}
+use Rattle.linearblocks.specs.Rows.{link, bounded_sum, at_most_rows}
+use Rattle.linearblocks.proofs.Rows.{rows_then}
+use Rattle.linearblocks.proofs.linear.int_lin_le_reif.Goals as goal
+
+pub overflow_add-past_terms_at : goal.overflow_add-past_terms_at
+unfolding past past_terms
+overflow_add-past_terms_at c = rw c.past_terms_at.ensures (omega (arith, size-le c.args.args.now 0))
+
+pub lay_at_most-requires : goal.lay_at_most-requires
+lay_at_most-requires c =
+    let lay-bounded-sum = c.lay_bounded_sum-t in
+    let a = c.args in rw (back a.sum.lower (search rules), back a.sum.upper (search rules)) (omega (arith, lay-bounded-sum.ensures.1), c.requires.1, c.requires.2.0, c.requires.2.1)
+
+pub returns : goal.returns
+unfolding rule lin_less_equal_reified linked bounded_sum link at_most_rows linear_sum
+returns c =
+    let past-terms-at = c.past_terms_at in
+    let var-at = c.var_at-r in
+    let lay-bounded-sum = c.lay_bounded_sum-t in
+    let lay-at-most = c.lay_at_most in
+    let a = c.args in (record {
+      parts = λ β e. let l = back a.sum.lower (search rules) ∙ ap (λ (S : Bounds). S.lower) e in let u = back a.sum.upper (search rules) ∙ ap (λ (S : Bounds). S.upper) e in rows_then a.first _ _ (rw (l, u) at lay-bounded-sum.ensures.0) (rw (l, u, var-at.ensures, past-terms-at.ensures) at lay-at-most.ensures.0);
+      size = omega (arith, lay-bounded-sum.ensures.1, lay-at-most.ensures.1);
+    })

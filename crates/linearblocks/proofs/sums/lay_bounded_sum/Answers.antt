@@ -1,0 +1,16 @@
+-- The bounds of x, then the row.
+use mathlib.Core.List.{append-nil, flat_map}
+use native.Mathlib.Omega.{arith}
+use mir.Facts.{to_z-of_z}
+use Rattle.laying.specs.Part.{bound_parts, row_parts, block_parts}
+use Rattle.laying.proofs.Parts.{went_then}
+use Rattle.linearblocks.specs.Rows.{link, bounded_sum}
+use Rattle.linearblocks.proofs.sums.lay_bounded_sum.Goals as goal
+
+pub returns : goal.returns
+unfolding block_parts bound_parts flat_map bounded_sum
+returns c =
+    let lay-bound = c.lay_bound-t in
+    let lay-link = c.lay_link in
+    let d = rw (to_z-of_z c.ranges.lower, to_z-of_z c.ranges.upper) at lay-bound.ensures in
+    (rw (append-nil (row_parts c.args.first (link c.args.args.now))) (went_then d.0 lay-link.ensures.0), omega (arith, d.1, lay-link.ensures.1))

@@ -1,0 +1,11 @@
+-- The loop's invariant: the count so far is that of the values passed.
+use mathlib.Core.Path.{◌≡◌}
+use Prim.Native.Nat.{◌-◌, ◌≤◌}
+use Rattle.sharedblocks.specs.LeftOut.{left_count}
+use Rattle.sharedblocks.proofs.left_out.count_left.Given as goal
+
+abbrev pub invariant-loop-k : goal.invariant-loop-k
+invariant-loop-k l = (l.k ≤ l.n) × (l.m ≤ l.k) × (l.m ≡ left_count l.code l.args l.from l.k)
+
+abbrev pub decreases-loop-k : goal.decreases-loop-k
+decreases-loop-k l = l.n - l.k
