@@ -80,8 +80,3 @@ hands-over ws vs out g passes s room =
     let h = held ws passes vs out s.one_each room ((judge_model_says ws (passes-read ws passes) vs).1 s) in
     let n : length (vs ++ picks ws vs) ≡ length (variables ws) + length (auxiliaries ws) = omega (arith, length-append vs (picks ws vs), s.one_each, fill-counts ws passes vs) in
     (picks ws vs, fill_completes ws passes vs s, λ ys c. (only-fill ws passes vs ys c).1, g.0 ∙ sym h.0 ∙ ap written (sym n), g.1.0 ∙ sym h.1.0)
-
--- fill's promises: the three that each way of ending shows, and that one
-pub with_hands_over : (ws : List ℕ) (vs out : List ℤ) {answer : Answer} {out' : List ℤ} → Gives ws vs out answer out' →
-    (answer ≡ fill ws vs (length out)) × ((out' ≡ filled ws vs out) × (Satisfied ws answer out' × HandsOver ws vs answer out out'))
-with_hands_over ws vs out g = (g.0, (g.1.0, (g.1.1, hands-over ws vs out g)))

@@ -369,7 +369,7 @@ fn pick_mod(out: &mut [i32], at: usize, args: &[u32], values: &[i32]) -> usize
 }
 
 // The place after the products of a power, and the power.
-#[derive(Drop)]
+#[derive(Clone, Copy)]
 pub struct Powered {
     pub at: usize,
     pub held: i64,

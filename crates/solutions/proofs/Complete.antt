@@ -22,6 +22,7 @@ use Rattle.solutions.specs.Solutions.{every_true, solutions}
 
 module _ {A : Type 0} (P : A → Type 0) where
   any_left : (xs ys : List A) → Any P xs → Any P (xs ++ ys)
+  any_left [] ys x' = elim x' [ ]
   any_left (x ∷ xs) ys (inl h) = inl h
   any_left (x ∷ xs) ys (inr h) = inr (any_left xs ys h)
 
@@ -37,10 +38,12 @@ module _ {A : Type 0} (P : A → Type 0) where
 -- a member of a list that is made of another one by elements
 module _ {A B : Type 0} (f : A → B) where
   pub map_in : (x : A) (xs : List A) → Member x xs → Member (f x) (map f xs)
+  map_in x [] x'' = elim x'' [ ]
   map_in x (y ∷ xs) (inl e) = inl (ap f e)
   map_in x (y ∷ xs) (inr m) = inr (map_in x xs m)
 
   pub map-out : (z : B) (xs : List A) → Member z (map f xs) → (x : A) × ((z ≡ f x) × Member x xs)
+  map-out z [] x' = elim x' [ ]
   map-out z (y ∷ xs) (inl e) = (y, (e, inl refl))
   map-out z (y ∷ xs) (inr m) = let r = map-out z xs m in (r.0, (r.1.0, inr r.1.1))
 
@@ -48,6 +51,7 @@ module _ {A B : Type 0} (f : A → B) where
 
 flat_in : (v : ℤ) (vs : List ℤ) (ls : List (List ℤ)) (us : List ℤ) → Member v us → Member vs ls → Member (v ∷ vs) (flat_map (begun ls) us)
 unfolding flat_map begun
+flat_in v vs ls [] x'' m = elim x'' [ ]
 flat_in v vs ls (u ∷ us) (inl e) m = any_left (λ x. (v ∷ vs) ≡ x) (begun ls u) _ (rw (sym e) (map_in (λ l. v ∷ l) vs ls m))
 flat_in v vs ls (u ∷ us) (inr h) m = any-right (λ x. (v ∷ vs) ≡ x) (begun ls u) _ (flat_in v vs ls us h m)
 

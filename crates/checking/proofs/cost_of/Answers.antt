@@ -1,0 +1,14 @@
+-- Fault 12 before the block is laid, then 13 and 14 by what the block counts.
+use mathlib.Core.Path.{sym, ◌∙◌}
+use Rattle.blocks.proofs.OneBlock.{told}
+use Rattle.checking.proofs.Costs.{wide_costs, laid_costs}
+use Rattle.checking.proofs.cost_of.Goals as goal
+
+pub returns : goal.returns
+returns c = laid_costs (sym c.too_wide.ensures ∙ c.if-too_wide.false) (told c.block-laid.ensures.parts) c.block-laid.ensures.size c.fault_of.ensures
+
+pub returns-then-too_wide : goal.returns-then-too_wide
+returns-then-too_wide c = wide_costs (sym c.too_wide.ensures ∙ c.if-too_wide.true)
+
+pub block-laid-requires : goal.block-laid-requires
+block-laid-requires c = let p = c.requires in (p.0, p.1, p.2, sym c.too_wide.ensures ∙ c.if-too_wide.false, p.3, p.4)

@@ -1,0 +1,24 @@
+-- Code 28, or a code over a shared variable.
+use mathlib.Core.Path.{◌≡◌, refl, sym, ◌∙◌}
+use mathlib.Core.Bool.{Bool, true, false, ◌&&◌}
+use borrow.Author.Tests.{ne_eqb}
+use Rattle.integers.specs.Choice.{◌if◌else◌}
+use Rattle.models.specs.Model.{var}
+use Rattle.encodings.specs.Uses.{choosing, shared_by}
+use Rattle.encodings.proofs.Record.{shares-by}
+use Rattle.blocks.specs.Coded.{has_all}
+use Rattle.blocks.proofs.OneBlock.{all-28}
+use Rattle.checking.proofs.has_all.Goals as goal
+
+and-if : (b p : Bool) → (p if b else false) ≡ (b && p)
+and-if true p = refl
+and-if false p = refl
+
+pub returns-then-code-eq-SET_IN_REIF : goal.returns-then-code-eq-SET_IN_REIF
+returns-then-code-eq-SET_IN_REIF c = sym (all-28 _ c.args.args.now c.if-code-eq-SET_IN_REIF.true)
+
+pub returns : goal.returns
+unfolding has_all
+returns c =
+    let a = c.args in
+    rw (ne_eqb _ _ c.if-code-eq-SET_IN_REIF.false) (c.is_shared.ensures ∙ shares-by _ a.code a.args.now ∙ and-if (choosing a.code) (shared_by a.uses.now (var a.args.now 0)))

@@ -1,0 +1,9 @@
+-- The words before the place, then the end word.
+use mathlib.Core.Path.{◌∙◌}
+use Rattle.pairs.proofs.Models.{first-laid}
+use Rattle.pairs.proofs.lay_first.Goals as goal
+
+pub returns : goal.returns
+returns c =
+    let lay = c.lay.ensures in
+    c.lay-2.ensures ∙ rw (lay, c.word_of.ensures, c.requires.0) (first-laid c.args.ws.now c.args.out.now)

@@ -1,0 +1,26 @@
+-- Over the bits of the shared variable, or by the code's own picks.
+use mathlib.Core.Path.{sym, ◌∙◌}
+use Rattle.rules.specs.Shared.{pick_after}
+use Rattle.picking.proofs.pick_constraint.Goals as goal
+
+pub pick_shared-requires : goal.pick_shared-requires
+unfolding pick_after
+pick_shared-requires c =
+    let p = c.requires in
+    let e = sym c.is_shared.ensures ∙ c.if-is_shared.true in
+    record { place = p.place; lowers = p.lowers; uppers = p.uppers; small = p.small; ranged = rw e at p.ranged }
+
+pub returns-then-is_shared : goal.returns-then-is_shared
+unfolding pick_after
+returns-then-is_shared c = rw (sym c.is_shared.ensures ∙ c.if-is_shared.true) c.pick_shared.ensures
+
+pub pick_block-requires : goal.pick_block-requires
+unfolding pick_after
+pick_block-requires c =
+    let p = c.requires in
+    let e = sym c.is_shared.ensures ∙ c.if-is_shared.false in
+    record { place = p.place; lowers = p.lowers; uppers = p.uppers; small = p.small; ranged = rw e at p.ranged }
+
+pub returns : goal.returns
+unfolding pick_after
+returns c = rw (sym c.is_shared.ensures ∙ c.if-is_shared.false) c.pick_block.ensures

@@ -1,0 +1,33 @@
+-- The place of the first element that is m.
+use mathlib.Core.Path.{◌≡◌}
+use mathlib.Core.List.{◌++◌, []}
+use Prim.Native.Nat.{◌+◌}
+use native.Mathlib.Omega.{arith}
+use Rattle.integers.specs.Number.{◌≟◌, +1}
+use Rattle.integers.specs.Terms.{value}
+use Rattle.integers.proofs.Fits.{back}
+use Rattle.models.specs.Model.{var, size, vars, builtin, builtins}
+use Rattle.arguments.proofs.Size.{size-le}
+use Rattle.rules.specs.Pick.{gated_pick, pick}
+use Rattle.picking.specs.Only.{only_at}
+use Rattle.picking.proofs.Codes.{maximum-picks}
+use Rattle.picking.proofs.pick_maximum.Goals.{After-first_equal-h}
+use Rattle.picking.proofs.pick_maximum.Goals as goal
+
+picks : (c : After-first_equal-h) → let a = c.args in let σ = value a.values.now in let ws = a.args.now in
+    gated_pick σ (λ x. σ x ≟ σ (var ws 0)) (vars ws 1) ≡ only_at (size ws 1) c.first_equal-h.result +1 ++ only_at (size ws 1) c.first_equal-h.result (σ (var ws (2 + c.first_equal-h.result)))
+picks c =
+    let a = c.args in
+    maximum-picks [] [] a.values.now a.args.now c.first_equal-h.result (rw (back c.value_of.result c.value_of.type_inv, c.value_of.ensures) at c.first_equal-h.ensures.1)
+
+pub put_gated-requires : goal.put_gated-requires
+unfolding pick builtin builtins
+put_gated-requires c =
+    (omega (arith, c.requires.place, c.size_at.ensures, size-le c.args.args.now 1), rw (back c.value_of-2.result c.value_of-2.type_inv, c.value_of-2.ensures, c.size_at.ensures) (rw (picks (goal.at.put_gated-requires c).After-first_equal-h) at c.requires.ranged))
+
+pub returns : goal.returns
+unfolding pick builtin builtins
+returns c =
+    let size-at = c.size_at in
+    let value-of2 = c.value_of-2 in
+    rw (picks (goal.at.returns c).After-first_equal-h) (rw (back value-of2.result value-of2.type_inv, value-of2.ensures, size-at.ensures) at c.put_gated.ensures)

@@ -1,0 +1,35 @@
+-- Nothing for k=0; else the products of the power of the value that is read.
+use mathlib.Core.Path.{◌≡◌, sym, ◌∙◌}
+use Prim.Native.Nat.{◌≤◌}
+use native.Mathlib.Omega.{arith}
+use Rattle.integers.proofs.Fits.{back}
+use Rattle.words.proofs.LaidThen.{laid_none}
+use Rattle.models.specs.Model.{var, exponent_at, builtin, builtins}
+use Rattle.arguments.proofs.Size.{exponent-le, value-near}
+use Rattle.rules.specs.Pick.{power_pick, pick}
+use Rattle.picking.proofs.Powers.{pick_some}
+use Rattle.picking.proofs.pick_pow.Goals as goal
+
+pub returns-then-k-eq0 : goal.returns-then-k-eq0
+unfolding power_pick pick builtin builtins
+returns-then-k-eq0 c =
+    let e : exponent_at c.args.args.now 1 ≡ 0 = sym c.exponent_at-k.ensures ∙ c.if-k-eq0.true in
+    rw e laid_none
+
+pub put_powers-p-requires : goal.put_powers-p-requires
+unfolding pick builtin builtins
+put_powers-p-requires c =
+    let value_of_lem = c.value_of-x in
+    let exponent-at = c.exponent_at-k in
+    let one : 1 ≤ exponent_at c.args.args.now 1 = omega (arith, exponent-at.ensures, c.if-k-eq0.false) in
+    rw (back value_of_lem.result value_of_lem.type_inv, value_of_lem.ensures, exponent-at.ensures)
+    (omega (arith, c.requires.place, exponent-le c.args.args.now 1), value-near c.args.values.now c.requires.small (var c.args.args.now 0), one, exponent-le c.args.args.now 1, rw (pick_some _ _ one) at c.requires.ranged)
+
+pub returns : goal.returns
+unfolding pick builtin builtins
+returns c =
+    let value_of_lem = c.value_of-x in
+    let exponent-at = c.exponent_at-k in
+    let one : 1 ≤ exponent_at c.args.args.now 1 = omega (arith, exponent-at.ensures, c.if-k-eq0.false) in
+    let p = rw (back value_of_lem.result value_of_lem.type_inv, value_of_lem.ensures, exponent-at.ensures) at c.put_powers-p.ensures in
+    rw (pick_some _ _ one) p.picked

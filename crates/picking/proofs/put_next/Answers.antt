@@ -1,0 +1,18 @@
+-- The product of numbers near 0 fits; it is in the range.
+use mathlib.Core.Path.{ap}
+use native.Mathlib.Omega.{arith}
+use lib.IntN.{nat_abs}
+use mir.Facts.{to_z-of_z}
+use Rattle.words.proofs.Word.{range-near, near-back}
+use Rattle.integers.proofs.Fits.{back}
+use Rattle.picking.proofs.put_next.Goals as goal
+
+pub returns : goal.returns
+returns c =
+    let times = c.times-v in
+    let e = rw (to_z-of_z c.ranges.factor, near-back c.args.p.held c.requires.2) at times.ensures in
+    rw (back times.result times.type_inv) record {
+      picked = rw (back times.result times.type_inv, e) at c.put_pick.ensures;
+      held = e;
+      near = omega (arith, ap nat_abs e, range-near _ c.requires.3);
+    }

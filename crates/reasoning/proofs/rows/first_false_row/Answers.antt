@@ -1,0 +1,25 @@
+-- The words are accepted and no variable is left, so that what is said is the first false row.
+use mathlib.Core.Path.{◌≡◌, ap, ◌∙◌}
+use native.Mathlib.Omega.{arith}
+use Rattle.words.specs.Judge.{first_out_of_bounds}
+use Rattle.words.specs.declared.Refusal.{Refusal}
+use Rattle.rowreading.specs.Item.{start_due}
+use Rattle.rowjudge.specs.Judging.{judged_on}
+use Rattle.reasoning.proofs.rows.first_false_row.Goals.{After-judge_on-judged}
+use Rattle.reasoning.proofs.rows.first_false_row.Goals as goal
+
+pub judge_on-judged-requires : goal.judge_on-judged-requires
+judge_on-judged-requires c =
+    let p = c.requires in
+    (p.0, p.1, p.4, p.5)
+
+-- nothing is refused
+accepts : (c : After-judge_on-judged) → c.judge_on-judged.result.refusal.number ≡ 0
+unfolding start_due
+accepts c = ap (λ (r : Refusal). r.number) (c.judge_on-judged.ensures.reads ∙ c.requires.2)
+
+pub returns : goal.returns
+unfolding judged_on first_out_of_bounds
+returns c =
+    let p = c.requires in
+    c.judge_on-judged.ensures.says (accepts c) (omega (arith, rw p.3 at (c.judge_on-judged.ensures.counts (accepts c)), p.1.0)) ∙ rw p.3

@@ -1,0 +1,21 @@
+-- From the first list on, all lists are gone through.
+use mathlib.Core.Path.{ap, ◌∙◌}
+use mathlib.Core.List.{List, flatten}
+use lib.IntN.{ℤ}
+use lib.ListN.{length}
+use Rattle.words.specs.Overlay.{overlay}
+use Rattle.solutions.proofs.All.{ready, all-solutions}
+use Rattle.solutions.proofs.write_all.Goals as goal
+
+pub write_from-requires : goal.write_from-requires
+write_from-requires c =
+    (c.requires.0, ready c.requires.1 _ c.set_lowest.ensures)
+
+pub returns : goal.returns
+returns c =
+    let all = all-solutions c.requires.1 _ c.set_lowest.ensures c.args.ws.now in
+    let e = c.write_from.ensures in
+    record {
+      count = e.count ∙ ap length all;
+      output = e.output ∙ ap (λ (l : List (List ℤ)). overlay c.args.out.now 0 (flatten l)) all;
+    }

@@ -1,0 +1,50 @@
+use mathlib.Core.Path.{sym, ◌∙◌}
+use mathlib.Core.Logic.{inl, inr}
+use native.Mathlib.Omega.{arith}
+use lib.ListN.{length}
+use Rattle.integers.proofs.Lists.{list_of-length}
+use Rattle.extremes.specs.BoundLists.{bounds_of}
+use Rattle.solutions.proofs.Through.{count-begun, count_turn, count-done, list-begun, list-turn, list-less, list_done, list_length_lem}
+use Rattle.solutions.proofs.Values.{inside-small}
+use Rattle.solutions.proofs.write_from.Goals.{then-all_true, else-all_true}
+use Rattle.solutions.proofs.write_from.Goals as goal
+
+pub loop-more-init : goal.loop-more-init
+loop-more-init c =
+    (count-begun _ _ _ c.requires.1.inside, list-begun _ _ _ _ c.requires.1.inside (omega (arith, c.requires.1.short, list_of-length (bounds_of c.args.ls.now c.args.us.now) (length c.args.values.now))))
+
+pub all_true-requires : goal.all_true-requires
+all_true-requires c =
+    (c.requires.0, inside-small c.args.ls.now c.args.us.now _ _ c.requires.1.lowers c.requires.1.uppers c.loop-more.invariant.1.inside)
+
+pub step-more-requires : goal.step-more-requires
+step-more-requires c =
+    (c.requires.1.lowers, c.requires.1.uppers, inside-small c.args.ls.now c.args.us.now _ _ c.requires.1.lowers c.requires.1.uppers c.loop-more.invariant.1.inside)
+
+pub loop-more-smaller : goal.loop-more-smaller
+loop-more-smaller c =
+    let loop = c.loop-more in
+    let l = rw (list_length_lem _ _ _ _ loop.invariant.1 ∙ list_of-length _ _) at c.step-more.ensures in
+    list-less _ _ _ _ loop.invariant.1 c.loop-more-test.true _ _ l.list l.more
+
+pub loop-more-preserved : goal.loop-more-preserved
+loop-more-preserved c =
+    let loop = c.loop-more in
+    let l = rw (list_length_lem _ _ _ _ loop.invariant.1 ∙ list_of-length _ _) at c.step-more.ensures in
+    let true_of = sym c.all_true.ensures in
+    let goes_on = c.loop-more-test.true in (
+      count_turn _ _ _ loop.invariant.0 goes_on _ (elim c.if-all_true.branch [
+        | then-all_true w ↦ inl (true_of ∙ w.if-all_true.true, w.count-is)
+        | else-all_true w ↦ inr (true_of ∙ w.if-all_true.false, w.count-is)
+      ]) _ _ l.list l.more,
+      list-turn _ _ _ _ loop.invariant.1 goes_on _ _ (elim c.if-all_true.branch [
+        | then-all_true w ↦ inl (true_of ∙ w.if-all_true.true, (w.out-is ∙ w.copy_values.ensures, w.at-is))
+        | else-all_true w ↦ inr (true_of ∙ w.if-all_true.false, (w.out-is, w.at-is))
+      ]) _ _ l.list l.more,
+    )
+
+pub returns : goal.returns
+returns c = record {
+  count = count-done _ _ _ c.loop-more.invariant.0 c.loop-more-test.false;
+  output = list_done _ _ _ _ c.loop-more.invariant.1 c.loop-more-test.false;
+}

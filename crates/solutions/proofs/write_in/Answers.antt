@@ -1,0 +1,27 @@
+-- The front of the list of values that is lent has as many places as there are variables.
+use mathlib.Core.Path.{sym, ap, ◌∙◌}
+use mathlib.Core.List.{flatten}
+use native.Mathlib.Omega.{arith}
+use Prim.Native.Nat.{ℕ}
+use lib.ListN.{length}
+use lib.Seq.{length-take-le}
+use Rattle.words.specs.Overlay.{overlay}
+use Rattle.solutions.specs.Walk.{solutions_in}
+use Rattle.solutions.proofs.All.{sized_as}
+use Rattle.solutions.proofs.write_in.Goals as goal
+
+pub write_all-requires : goal.write_all-requires
+write_all-requires c =
+    (c.requires.0, sized_as (sym (length-take-le _ _ (omega (arith, c.requires.1.short)))) c.requires.1)
+
+pub returns : goal.returns
+returns c =
+    let e = c.write_all.ensures in
+    record {
+      count = e.count ∙ ap (λ (k : ℕ). length (solutions_in c.args.ws.now c.args.ls.now c.args.us.now k)) (length-take-le c.args.n _ (omega (arith, c.requires.1.short)));
+      output = e.output
+          ∙ ap (λ (k : ℕ). overlay c.args.out.now 0 (flatten (solutions_in c.args.ws.now c.args.ls.now c.args.us.now k))) (length-take-le c.args.n _ (omega (arith, c.requires.1.short)));
+    }
+
+pub slice_bounds-write_all-end : goal.slice_bounds-write_all-end
+slice_bounds-write_all-end c = sym (length-take-le _ _ (omega (arith, c.requires.1.short)))
