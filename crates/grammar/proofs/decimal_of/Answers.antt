@@ -1,0 +1,32 @@
+use mathlib.Core.Path.{refl, sym, ap, ◌∙◌}
+use Prim.Native.Nat.{ℕ, ◌+◌, ◌*◌}
+use native.Mathlib.Omega.{arith}
+use lib.ListN.{drop}
+use Rattle.grammar.specs.Value.{digits_from}
+use Rattle.grammar.specs.Machine.{cap}
+use Rattle.grammar.proofs.Numbers.{cap-most, cap-again, digits-on, digits-end}
+use Rattle.grammar.proofs.decimal_of.Goals as goal
+
+pub loop-i-init : goal.loop-i-init
+unfolding cap
+loop-i-init c = (omega arith, refl, refl)
+
+pub overflow_add-v : goal.overflow_add-v
+overflow_add-v c = omega (arith, cap-most c.loop-i.v, c.loop-i.invariant.1, c.digit_value.ensures, c.type_inv.digits c.loop-i.i)
+
+pub loop-i-preserved : goal.loop-i-preserved
+loop-i-preserved c =
+    let ds = c.args.digits.now in
+    let v = c.loop-i.v in
+    let i = c.loop-i.i in
+    let e = c.capped-v.ensures ∙ ap (λ (d : ℕ). cap (v * 10 + d)) c.digit_value.ensures in (
+      omega (arith, c.loop-i-test.true),
+      c.capped-v.ensures ∙ sym (cap-again _) ∙ ap cap (sym c.capped-v.ensures),
+      c.loop-i.invariant.2 ∙ digits-on ds i v c.loop-i-test.true ∙ ap (λ (n : ℕ). cap (digits_from n (drop (i + 1) ds))) (sym e),
+    )
+
+pub returns : goal.returns
+returns c = c.loop-i.invariant.1 ∙ sym (c.loop-i.invariant.2 ∙ digits-end c.args.digits.now c.loop-i.i c.loop-i.v c.loop-i-test.false)
+
+pub overflow_mul-v : goal.overflow_mul-v
+overflow_mul-v c = omega (arith, cap-most c.loop-i.v, c.loop-i.invariant.1)

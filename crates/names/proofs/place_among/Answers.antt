@@ -1,0 +1,31 @@
+use mathlib.Core.Path.{sym, ◌∙◌}
+use native.Mathlib.Omega.{arith}
+use Rattle.tokens.specs.Unread.{spanned}
+use Rattle.tokens.proofs.Places.{none_left, met-token, met-end}
+use Rattle.names.proofs.Names.{none-spelled, spelled-here, spelled-on}
+use Rattle.names.proofs.place_among.Goals as goal
+
+pub returns-then-t-eq-END : goal.returns-then-t-eq-END
+returns-then-t-eq-END c =
+    sym (c.loop-i.invariant.2 ∙ none-spelled c.args.name.now c.loop-i.k (met-end c.next_token-t.ensures c.if-t-eq-END.true))
+
+pub returns-then-same_bytes : goal.returns-then-same_bytes
+unfolding spanned
+returns-then-same_bytes c =
+    let names = c.args.names.now in
+    let m = met-token c.next_token-t.ensures c.if-t-eq-END.false in
+    sym (c.loop-i.invariant.2 ∙ spelled-here c.args.name.now c.loop-i.k (spanned names c.next_token-t.result) m (sym c.same_bytes.ensures ∙ c.if-same_bytes.true))
+
+pub loop-i-preserved : goal.loop-i-preserved
+unfolding spanned
+loop-i-preserved c =
+    let names = c.args.names.now in
+    let n = c.next_token-t.ensures in
+    let m = met-token n c.if-t-eq-END.false in (
+      n.inside,
+      omega (arith, c.loop-i.invariant.1, n.longer c.if-t-eq-END.false, n.onward),
+      c.loop-i.invariant.2 ∙ spelled-on c.args.name.now c.loop-i.k (spanned names c.next_token-t.result) m (sym c.same_bytes.ensures ∙ c.if-same_bytes.false),
+    )
+
+pub returns : goal.returns
+returns c = sym (c.loop-i.invariant.2 ∙ none-spelled c.args.name.now c.loop-i.k (none_left c.args.names.now c.loop-i.i c.loop-i-test.false))

@@ -1,0 +1,43 @@
+use mathlib.Core.Path.{sym, ap, ◌∙◌}
+use Prim.Native.Nat.{ℕ, ◌+◌, ◌-◌}
+use native.Mathlib.Omega.{arith}
+use Rattle.integers.proofs.Booleans.{bit_le}
+use lib.Dec.{eqb}
+use lib.ListN.{take, drop}
+use Rattle.tokens.specs.Unread.{unread, spanned}
+use Rattle.names.specs.Name.{look_up, declared_from}
+use Rattle.tokens.proofs.Places.{none_left, met-token, met-end}
+use Rattle.names.proofs.Names.{look_end, look_past, look_here, look_on}
+use Rattle.names.proofs.variable_of.Goals as goal
+
+pub returns-then-place-t : goal.returns-then-place-t
+unfolding spanned
+returns-then-place-t c =
+    sym (c.loop-i.invariant.2 ∙ look_past _ _ _ _ (spanned c.args.text.now c.next_token-t.result) (met-token c.next_token-t.ensures c.if-t-eq-END.false) c.if-place-t.true)
+
+pub returns-then-is_declared_here : goal.returns-then-is_declared_here
+unfolding spanned
+returns-then-is_declared_here c =
+    let m = met-token c.next_token-t.ensures c.if-t-eq-END.false in
+    sym (c.loop-i.invariant.2 ∙ look_here _ _ _ _ (spanned c.args.text.now c.next_token-t.result) m c.if-place-t.false c.is_declared_here.ensures c.if-is_declared_here.true)
+
+pub loop-i-preserved : goal.loop-i-preserved
+unfolding spanned
+loop-i-preserved c =
+    let a = c.args in
+    let x = take (a.stop - a.place) (drop a.place a.text.now) in
+    let r = c.next_token-t.result in
+    let m = c.next_token-t.ensures in
+    let one = c.one_if-k.ensures in (
+      m.inside,
+      omega (arith, bit_le c.loop-i.after_colon, one, c.loop-i.invariant.1, m.longer c.if-t-eq-END.false, m.onward),
+      c.loop-i.invariant.2
+          ∙ look_on x c.loop-i.k a.place c.loop-i.after_colon (spanned a.text.now r) (met-token m c.if-t-eq-END.false) c.if-place-t.false c.is_declared_here.ensures c.if-is_declared_here.false
+          ∙ ap (λ (n : ℕ). look_up x (c.loop-i.k + n) (declared_from (eqb r.sort 58) a.place (unread a.text.now r.stop))) (sym one),
+    )
+
+pub returns-then-t-eq-END : goal.returns-then-t-eq-END
+returns-then-t-eq-END c = sym (c.loop-i.invariant.2 ∙ look_end _ _ _ _ (met-end c.next_token-t.ensures c.if-t-eq-END.true))
+
+pub returns : goal.returns
+returns c = sym (c.loop-i.invariant.2 ∙ look_end _ _ _ _ (none_left c.args.text.now c.loop-i.i c.loop-i-test.false))

@@ -1,0 +1,8 @@
+-- The shift is the bit.
+use Rattle.symbols.specs.Hash.{hash_bit}
+use mathlib.Core.Path.{refl}
+use Rattle.symbols.proofs.bit_of.Goals as goal
+
+pub returns : goal.returns
+unfolding hash_bit
+returns c = refl

@@ -1,0 +1,8 @@
+-- The code computes as the definition does.
+use Rattle.symbols.specs.Hash.{cell_at}
+use borrow.Author.Rules.{rules}
+use Rattle.symbols.proofs.cell_of.Goals as goal
+
+pub returns : goal.returns
+unfolding cell_at
+returns c = search rules

@@ -1,0 +1,21 @@
+-- The same bytes are the same name, of which the slot is right.
+use mathlib.Core.Path.{sym, ap, ◌∙◌}
+use mathlib.Core.List.{List}
+use Prim.Native.Nat.{ℕ, ◌+◌, ◌-◌, ◌/◌, ◌%◌}
+use lib.ListN.{take, drop}
+use Rattle.names.specs.Name.{look_up}
+use Rattle.symbols.specs.Symbol.{declared_before, number_in, place_in, length_in}
+use Rattle.symbols.proofs.Entries.{same-equal}
+use borrow.Author.Rules.{rules}
+use Rattle.symbols.proofs.number_in.Goals as goal
+
+pub slice_bounds-same_bytes-end-2 : goal.slice_bounds-same_bytes-end-2
+unfolding number_in place_in length_in
+slice_bounds-same_bytes-end-2 c = let right = (c.requires.2 c.if-n-eq0.false).inside in search rules
+
+pub returns-then-same_bytes : goal.returns-then-same_bytes
+unfolding number_in place_in length_in
+returns-then-same_bytes c =
+    let a = c.args in
+    let from = a.e / 64 % 4294967296 in
+    λ n. ap (λ (x : List ℕ). look_up x 0 (declared_before a.text.now a.place)) (same-equal (take (a.stop - a.place) (drop a.place a.text.now)) (take (from + a.e % 64 - from) (drop from a.text.now)) (sym c.same_bytes.ensures ∙ c.if-same_bytes.true)) ∙ (c.requires.2 c.if-n-eq0.false).number

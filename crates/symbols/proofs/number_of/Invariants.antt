@@ -1,0 +1,9 @@
+-- Every slot is right, so the first that has the name gives its number.
+use Prim.Native.Nat.{◌-◌, ◌≤◌}
+use Rattle.symbols.proofs.number_of.Given as goal
+
+abbrev pub invariant-loop-j : goal.invariant-loop-j
+invariant-loop-j l = l.j ≤ 32
+
+abbrev pub decreases-loop-j : goal.decreases-loop-j
+decreases-loop-j l = 32 - l.j
