@@ -1,0 +1,26 @@
+use mathlib.Core.Path.{refl, sym, ◌∙◌}
+use native.Mathlib.Omega.{arith}
+use lib.ListN.{get_or}
+use Rattle.integers.proofs.Fits.{back}
+use Rattle.integers.proofs.Places.{rest_more, rest-not, rest_end}
+use Rattle.integers.specs.Number.{+0}
+use Rattle.bitchecks.proofs.Limits.{fits}
+use Rattle.bitchecks.proofs.all_within.Goals as goal
+
+pub returns-then-not-within_limit : goal.returns-then-not-within_limit
+returns-then-not-within_limit c =
+    sym (c.loop-i.invariant.1 ∙ rest-not fits +0 _ _ c.loop-i-test.true
+    (sym (rw (back (get_or c.args.row.now c.loop-i.i +0) (omega arith)) at c.within_limit.ensures) ∙ c.if-not-within_limit.true))
+
+pub loop-i-preserved : goal.loop-i-preserved
+loop-i-preserved c = (
+  omega arith,
+  c.loop-i.invariant.1 ∙ rest_more fits +0 _ _ c.loop-i-test.true
+      (sym (rw (back (get_or c.args.row.now c.loop-i.i +0) (omega arith)) at c.within_limit.ensures) ∙ c.if-not-within_limit.false),
+)
+
+pub loop-i-init : goal.loop-i-init
+loop-i-init c = (omega arith, refl)
+
+pub returns : goal.returns
+returns c = sym (c.loop-i.invariant.1 ∙ rest_end fits +0 _ _ c.loop-i-test.false)

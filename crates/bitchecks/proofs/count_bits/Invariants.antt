@@ -1,0 +1,11 @@
+-- The invariant is `Counting`: the bits of the rows left are still to be counted.
+use Prim.Native.Nat.{◌-◌}
+use lib.ListN.{length}
+use Rattle.bitchecks.proofs.Walk.{Counting}
+use Rattle.bitchecks.proofs.count_bits.Given as goal
+
+abbrev pub invariant-loop-at : goal.invariant-loop-at
+invariant-loop-at l = Counting l.ws l.ls l.us l.start l.first l.at
+
+abbrev pub decreases-loop-at : goal.decreases-loop-at
+decreases-loop-at l = length l.ws - l.at

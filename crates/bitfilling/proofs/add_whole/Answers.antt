@@ -1,0 +1,27 @@
+-- A row that fits has no number beyond 16,384, so that its square's entries fit.
+use native.Mathlib.Omega.{arith}
+use lib.ListN.{length}
+use Rattle.arguments.proofs.Size.{read}
+use Rattle.bittables.specs.BitTables.{row_by}
+use Rattle.bitfilling.proofs.Lines.{fits-sizes}
+use Rattle.bitfilling.proofs.add_whole.Goals as goal
+
+pub add_square-requires : goal.add_square-requires
+add_square-requires c =
+    let f = fits-sizes (length c.args.row.now) (row_by c.args.ls.now c.args.us.now c.args.firsts.now c.args.first c.args.head c.args.args.now) c.requires.args_value in (
+      rw c.fill_row.ensures f.1,
+      rw (read c.row_constant.type_inv (c.row_constant.ensures c.args.us.now c.args.firsts.now c.args.first)) f.0,
+      c.requires.bit_lists.2,
+      omega (arith, c.requires.bit_lists.3),
+    )
+
+pub returns : goal.returns
+returns c =
+    let k = read c.row_constant.type_inv (c.row_constant.ensures c.args.us.now c.args.firsts.now c.args.first) in
+    rw (c.fill_row.ensures, k) at c.add_square.ensures
+
+pub fill_row-requires : goal.fill_row-requires
+fill_row-requires c = (c.requires.bit_lists.0, c.requires.bit_lists.1)
+
+pub row_constant-requires : goal.row_constant-requires
+row_constant-requires c = c.requires.bit_lists.0.near_lower

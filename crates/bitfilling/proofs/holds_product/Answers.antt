@@ -1,0 +1,19 @@
+-- By the three variables.
+use mathlib.Core.Path.{sym}
+use Rattle.integers.proofs.Tests.{false-true}
+use Rattle.bitfilling.specs.Idle.{IdleRow}
+use Rattle.bitfilling.proofs.holds_product.Goals as goal
+
+pub returns : goal.returns
+unfolding IdleRow
+returns c e = (
+  rw c.row_variable.ensures at (c.holds_variable.ensures c.if-holds_variable.false),
+  rw c.row_variable-2.ensures at (c.holds_variable-2.ensures c.if-holds_variable-2.false),
+  rw c.row_variable-3.ensures at (c.holds_variable-3.ensures e),
+)
+
+pub returns-then-holds_variable : goal.returns-then-holds_variable
+returns-then-holds_variable c e = false-true (sym e)
+
+pub returns-then-holds_variable-2 : goal.returns-then-holds_variable-2
+returns-then-holds_variable-2 c e = false-true (sym e)

@@ -1,0 +1,8 @@
+-- By definition.
+use mathlib.Core.Path.{refl}
+use Rattle.words.specs.Written.{wrote}
+use Rattle.bitform.proofs.refuse.Goals as goal
+
+pub returns : goal.returns
+unfolding wrote
+returns c = refl

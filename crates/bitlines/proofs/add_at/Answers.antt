@@ -1,0 +1,24 @@
+-- Past its end the list stays as it is.
+use mathlib.Core.Path.{refl, sym}
+use native.Mathlib.Omega.{arith}
+use lib.ListN.{get_or}
+use lib.Seq.{set_out}
+use mir.Facts.{to_z-of_z}
+use Rattle.integers.specs.Number.{+0}
+use Rattle.integers.proofs.Fits.{back}
+use Rattle.bitlines.specs.Dense.{bump}
+use Rattle.bitlines.proofs.Dense.{peak-at}
+use Rattle.bitlines.proofs.add_at.Goals as goal
+
+pub plus-requires : goal.plus-requires
+plus-requires c =
+    rw (back (get_or c.args.row.now c.args.i +0) (omega arith), to_z-of_z c.ranges.k) (omega (arith, peak-at c.args.row.now c.args.i, c.requires))
+
+pub returns-then-i-row : goal.returns-then-i-row
+unfolding bump
+returns-then-i-row c =
+    rw (back c.plus.result c.plus.type_inv, c.plus.ensures, back (get_or c.args.row.now c.args.i +0) (omega arith), to_z-of_z c.ranges.k) refl
+
+pub returns-else-i-row : goal.returns-else-i-row
+unfolding bump
+returns-else-i-row c = sym (set_out _ _ _ c.if-i-row.false)

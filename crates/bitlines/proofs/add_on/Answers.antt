@@ -1,0 +1,19 @@
+-- Nothing is added where i is not the lesser one.
+use mathlib.Core.Path.{refl, sym, ◌∙◌}
+use Prim.Native.Nat.{min}
+use mir.Facts.{to_z-of_z}
+use borrow.Author.Tests.{eq-eqb, ne_eqb}
+use Rattle.bitlines.specs.Dense.{add_terms}
+use Rattle.bitlines.specs.Line.{on_terms}
+use Rattle.bitlines.proofs.add_on.Goals as goal
+
+pub returns-then-lesser-i : goal.returns-then-lesser-i
+unfolding on_terms add_terms
+returns-then-lesser-i c =
+    let lesser = c.lesser in
+    let if1 = c.if-lesser-i in
+    c.add_at.ensures ∙ rw (to_z-of_z c.ranges.c, c.greater.ensures, eq-eqb (min c.args.a c.args.b) c.args.i (sym lesser.ensures ∙ if1.true)) refl
+
+pub returns-else-lesser-i : goal.returns-else-lesser-i
+unfolding on_terms add_terms
+returns-else-lesser-i c = rw (ne_eqb _ _ (λ e. c.if-lesser-i.false (c.lesser.ensures ∙ e))) refl

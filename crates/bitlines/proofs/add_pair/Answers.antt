@@ -1,0 +1,45 @@
+-- Four entries, each at most 3 more.
+use mathlib.Core.Path.{◌∙◌}
+use native.Mathlib.Omega.{arith}
+use lib.IntN.{pos}
+use Rattle.integers.specs.Number.{+1, -2}
+use Rattle.bitlines.specs.Dense.{add_terms}
+use Rattle.bitlines.specs.Line.{on_terms, pair_of}
+use Rattle.bitlines.proofs.Line.{peak-on, pair-added}
+use Rattle.bitlines.proofs.add_pair.Goals as goal
+
+pub add_on-requires-2 : goal.add_on-requires-2
+add_on-requires-2 c =
+    let a = c.add_on in
+    rw a.ensures (omega (arith, peak-on c.args.line.now (pos 3) c.args.t c.args.t c.args.i, c.requires))
+
+pub add_on-requires-3 : goal.add_on-requires-3
+add_on-requires-3 c =
+    let a = c.add_on in
+    let d = c.add_on-2 in
+    let A = add_terms c.args.line.now (on_terms (pos 3) c.args.t c.args.t c.args.i) in
+    rw (d.ensures, a.ensures)
+    (omega (arith, peak-on c.args.line.now (pos 3) c.args.t c.args.t c.args.i, peak-on A +1 c.args.u c.args.v c.args.i, c.requires))
+
+pub add_on-requires-4 : goal.add_on-requires-4
+add_on-requires-4 c =
+    let a = c.add_on in
+    let d = c.add_on-2 in
+    let e = c.add_on-3 in
+    let A = add_terms c.args.line.now (on_terms (pos 3) c.args.t c.args.t c.args.i) in
+    let B = add_terms A (on_terms +1 c.args.u c.args.v c.args.i) in
+    rw (e.ensures, d.ensures, a.ensures)
+    (omega (
+      arith,
+      peak-on c.args.line.now (pos 3) c.args.t c.args.t c.args.i,
+      peak-on A +1 c.args.u c.args.v c.args.i,
+      peak-on B -2 c.args.u c.args.t c.args.i,
+      c.requires,
+    ))
+
+pub returns : goal.returns
+returns c =
+    let a = c.add_on in
+    let d = c.add_on-2 in
+    let e = c.add_on-3 in
+    c.add_on-4.ensures ∙ rw (e.ensures, d.ensures, a.ensures) (pair-added c.args.line.now (pair_of c.args.u c.args.v c.args.t) c.args.i)

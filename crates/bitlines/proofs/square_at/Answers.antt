@@ -1,0 +1,34 @@
+-- Every number of the row is at most 16,384.
+use mathlib.Core.Path.{refl, ◌∙◌}
+use native.Mathlib.Omega.{arith}
+use mir.Facts.{to_z-of_z}
+use Rattle.integers.proofs.Fits.{back}
+use borrow.Author.Tests.{eq-eqb, ne_eqb}
+use Rattle.bitlines.specs.Line.{square_at}
+use Rattle.bitlines.proofs.Dense.{peak-at}
+use Rattle.bitlines.proofs.square_at.Goals as goal
+
+pub on_diagonal-requires : goal.on_diagonal-requires
+on_diagonal-requires c =
+    rw (back c.coefficient_at.result c.coefficient_at.type_inv, c.coefficient_at.ensures, to_z-of_z c.ranges.c) (omega (arith, peak-at c.args.row.now c.args.i, c.requires))
+
+pub returns-then-i-j : goal.returns-then-i-j
+unfolding square_at
+returns-then-i-j c =
+    let n = c.coefficient_at in
+    back c.on_diagonal.result c.on_diagonal.type_inv ∙ c.on_diagonal.ensures
+    ∙ rw (back n.result n.type_inv, n.ensures, to_z-of_z c.ranges.c, eq-eqb c.args.i c.args.j c.if-i-j.true) refl
+
+pub off_diagonal-requires : goal.off_diagonal-requires
+off_diagonal-requires c =
+    let a = c.coefficient_at-2 in
+    rw (back a.result a.type_inv, a.ensures, back c.coefficient_at-3.result c.coefficient_at-3.type_inv, c.coefficient_at-3.ensures)
+    (omega (arith, peak-at c.args.row.now c.args.i, peak-at c.args.row.now c.args.j, c.requires))
+
+pub returns : goal.returns
+unfolding square_at
+returns c =
+    let a = c.coefficient_at-2 in
+    let b = c.coefficient_at-3 in
+    back c.off_diagonal.result c.off_diagonal.type_inv ∙ c.off_diagonal.ensures
+    ∙ rw (back a.result a.type_inv, a.ensures, back b.result b.type_inv, b.ensures, ne_eqb c.args.i c.args.j c.if-i-j.false) refl
