@@ -2,14 +2,17 @@
 #![tactic(auto)]
 
 ghost use Rattle.std.specs.Prelude.{◌≡◌, ◌*◌, ◌≤◌, length, take};
-ghost use Rattle.io.specs.Counts.{IsPrefixLen};
+ghost use Rattle.std.specs.Counts.{IsPrefixLen};
 ghost use Rattle.encoding.specs.Bytes.{bytes_words};
 ghost use Rattle.lines.specs.Lines.{program_words};
 ghost use Rattle.bits.specs.Text.{form_text};
 
 use bitform::bit_form;
 use encoding::front_words;
+use inputs::read_full;
 use lines::{put_front, put_refusal, put_too_long};
+use std::io;
+use std::io::Write;
 use words::Written;
 
 // The words above which it says 16, and the bytes of one word more.
@@ -41,10 +44,10 @@ fn form_page(bytes: &[u8], page: &mut [u8]) -> usize
 }
 
 // The bytes of 16,385 words are read at most. The promises go from the bytes that read_full filled to the bytes that are handed to write_all.
-fn main() {
+fn main(rt: HostRuntime) -> io::Result<()> {
     let mut bytes = [0u8; BYTES];
-    let n = io::read_full(0, &mut bytes);
+    let n = read_full(&mut rt.stdin(), &mut bytes)?;
     let mut page = [0u8; PAGE];
     let end = form_page(&bytes[..n], &mut page);
-    io::write_all(1, &page[..end]);
+    rt.stdout().write_all(&page[..end])
 }

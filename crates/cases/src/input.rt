@@ -1,5 +1,8 @@
 // Reads cases from standard input.
 use encoding::word_of_bytes;
+use inputs::read_full;
+use std::io;
+use std::io::Read;
 
 // A number that was read, if one was there.
 #[derive(Drop)]
@@ -19,28 +22,28 @@ pub struct Head {
 }
 
 // The next number of the input.
-fn next() -> Got {
+fn next<R: Read>(input: &mut R) -> io::Result<Got> {
     let mut b = [0u8; 4];
-    let n = io::read_full(0, &mut b);
-    Got {
+    let n = read_full(input, &mut b)?;
+    Ok(Got {
         there: n == 4,
         number: word_of_bytes(b[0], b[1], b[2], b[3]),
-    }
+    })
 }
 
 // The head of the next case.
-pub fn next_head() -> Head {
-    let call = next();
-    let room = next();
-    let words = next();
-    let values = next();
-    Head {
+pub fn next_head<R: Read>(input: &mut R) -> io::Result<Head> {
+    let call = next(input)?;
+    let room = next(input)?;
+    let words = next(input)?;
+    let values = next(input)?;
+    Ok(Head {
         there: values.there,
         call: call.number,
         room: room.number as usize,
         words: words.number as usize,
         values: values.number as usize,
-    }
+    })
 }
 
 // Puts a word to a place of a list, if it has that place.
@@ -51,13 +54,14 @@ fn put_word(out: &mut [u32], i: usize, w: u32) {
 }
 
 // Reads n words to the front of a list; those that do not fit are dropped.
-pub fn read_words(out: &mut [u32], n: usize) {
+pub fn read_words<R: Read>(input: &mut R, out: &mut [u32], n: usize) -> io::Result<()> {
     let mut i = 0;
     while i < n {
-        let got = next();
+        let got = next(input)?;
         put_word(out, i, got.number);
         i += 1;
     }
+    Ok(())
 }
 
 // Puts a byte to a place of a page, if it has that place.
@@ -68,13 +72,14 @@ fn put_byte(page: &mut [u8], i: usize, b: u8) {
 }
 
 // Reads n numbers to the front of a page, the lowest byte of each; those that do not fit are dropped.
-pub fn read_bytes(page: &mut [u8], n: usize) {
+pub fn read_bytes<R: Read>(input: &mut R, page: &mut [u8], n: usize) -> io::Result<()> {
     let mut i = 0;
     while i < n {
-        let got = next();
+        let got = next(input)?;
         put_byte(page, i, (got.number % 256) as u8);
         i += 1;
     }
+    Ok(())
 }
 
 // A number of 32 bits as a signed one.
@@ -94,11 +99,12 @@ fn put_value(out: &mut [i32], i: usize, v: i32) {
 }
 
 // Reads n signed values to the front of a list; those that do not fit are dropped.
-pub fn read_values(out: &mut [i32], n: usize) {
+pub fn read_values<R: Read>(input: &mut R, out: &mut [i32], n: usize) -> io::Result<()> {
     let mut i = 0;
     while i < n {
-        let got = next();
+        let got = next(input)?;
         put_value(out, i, as_signed(got.number));
         i += 1;
     }
+    Ok(())
 }

@@ -2,13 +2,16 @@
 #![tactic(auto)]
 
 ghost use Rattle.std.specs.Prelude.{◌≡◌, ◌*◌, ◌≤◌, length, take};
-ghost use Rattle.io.specs.Counts.{IsPrefixLen};
+ghost use Rattle.std.specs.Counts.{IsPrefixLen};
 ghost use Rattle.encoding.specs.Bytes.{bytes_words};
 ghost use Rattle.lines.specs.Lines.{program_words};
 ghost use Rattle.rows.specs.Text.{rows_text};
 
 use encoding::front_words;
+use inputs::read_full;
 use lines::{put_front, put_refusal};
+use std::io;
+use std::io::Write;
 use translation::translate;
 use words::Written;
 
@@ -40,10 +43,10 @@ fn rows_page(bytes: &[u8], page: &mut [u8]) -> usize
 
 // The bytes of 8,193 words are read at most. The promises go from the bytes that read_full filled to the bytes that are handed to write_all: neither
 // promises what it does with the file.
-fn main() {
+fn main(rt: HostRuntime) -> io::Result<()> {
     let mut bytes = [0u8; BYTES];
-    let n = io::read_full(0, &mut bytes);
+    let n = read_full(&mut rt.stdin(), &mut bytes)?;
     let mut page = [0u8; PAGE];
     let end = rows_page(&bytes[..n], &mut page);
-    io::write_all(1, &page[..end]);
+    rt.stdout().write_all(&page[..end])
 }

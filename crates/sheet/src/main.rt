@@ -2,13 +2,16 @@
 #![tactic(auto)]
 
 ghost use Rattle.std.specs.Prelude.{◌≡◌, length, take};
-ghost use Rattle.io.specs.Counts.{IsPrefixLen};
+ghost use Rattle.std.specs.Counts.{IsPrefixLen};
 ghost use Rattle.encoding.specs.Bytes.{bytes_words};
 ghost use Rattle.sheet.specs.Text.{page_bytes, printed_sheet};
 
 use encoding::front_words;
+use inputs::read_full;
 use lines::{put_refusal, put_too_long};
 use sheets::{Printed, sheet};
+use std::io;
+use std::io::Write;
 
 // The words above which it says 16, and the bytes of one word more.
 const WORDS: usize = 16384;
@@ -36,10 +39,10 @@ fn sheet_page(bytes: &[u8], page: &mut [u8]) -> usize
 }
 
 // The bytes of 16,385 words are read at most. The promises go from the bytes that read_full filled to the bytes that are handed to write_all.
-fn main() {
+fn main(rt: HostRuntime) -> io::Result<()> {
     let mut bytes = [0u8; BYTES];
-    let n = io::read_full(0, &mut bytes);
+    let n = read_full(&mut rt.stdin(), &mut bytes)?;
     let mut page = [0u8; PAGE];
     let end = sheet_page(&bytes[..n], &mut page);
-    io::write_all(1, &page[..end]);
+    rt.stdout().write_all(&page[..end])
 }

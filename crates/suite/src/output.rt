@@ -8,12 +8,14 @@ use filling::Filled;
 use reasoning::Reasoned;
 use sheets::Printed;
 use solutions::Found;
+use std::io;
+use std::io::Write;
 use words::Written;
 
 // Check's answer.
-pub fn print_checked(answer: Checked) {
+pub fn print_checked<W: Write>(to: &mut W, answer: Checked) -> io::Result<()> {
     match answer {
-        Checked::Refused(r) => print_refusal(r),
+        Checked::Refused(r) => print_refusal(to, r)?,
         Checked::Counts {
             variables,
             constraints,
@@ -21,89 +23,89 @@ pub fn print_checked(answer: Checked) {
             rows,
             words,
         } => {
-            print_one(b"counts ", variables);
-            print_one(b" ", constraints);
-            print_one(b" ", auxiliaries);
-            print_one(b" ", rows);
-            print_one(b" ", words);
+            print_one(to, b"counts ", variables)?;
+            print_one(to, b" ", constraints)?;
+            print_one(to, b" ", auxiliaries)?;
+            print_one(to, b" ", rows)?;
+            print_one(to, b" ", words)?;
         }
     }
-    io::write_all(1, b"\n");
+    to.write_all(b"\n")
 }
 
 // The answer of translate, text and bits; the list whose front was lent.
-pub fn print_written(answer: Written, out: &[u32]) {
+pub fn print_written<W: Write>(to: &mut W, answer: Written, out: &[u32]) -> io::Result<()> {
     match answer {
         Written::Refused(r) => {
-            print_refusal(r);
-            end_words(out, 0);
+            print_refusal(to, r)?;
+            end_words(to, out, 0)
         }
-        Written::Words(n) => print_front(out, n),
+        Written::Words(n) => print_front(to, out, n),
     }
 }
 
 // Fill's answer; the list whose front was lent.
-pub fn print_filled(answer: Filled, out: &[i32]) {
+pub fn print_filled<W: Write>(to: &mut W, answer: Filled, out: &[i32]) -> io::Result<()> {
     match answer {
         Filled::Refused(r) => {
-            print_refusal(r);
-            end_values(out, 0);
+            print_refusal(to, r)?;
+            end_values(to, out, 0)
         }
-        Filled::Values(n) => print_filling(out, n),
+        Filled::Values(n) => print_filling(to, out, n),
         Filled::OutOfBounds(i) => {
-            print_one(b"bound ", i);
-            end_values(out, 0);
+            print_one(to, b"bound ", i)?;
+            end_values(to, out, 0)
         }
         Filled::False(i) => {
-            print_one(b"false ", i);
-            end_values(out, 0);
+            print_one(to, b"false ", i)?;
+            end_values(to, out, 0)
         }
     }
 }
 
 // Sheet's answer; the page whose front was lent.
-pub fn print_printed(answer: Printed, page: &[u8]) {
+pub fn print_printed<W: Write>(to: &mut W, answer: Printed, page: &[u8]) -> io::Result<()> {
     match answer {
         Printed::Refused(r) => {
-            print_refusal(r);
-            end_page(page);
+            print_refusal(to, r)?;
+            end_page(to, page)
         }
-        Printed::Bytes(n) => print_page(page, n),
+        Printed::Bytes(n) => print_page(to, page, n),
     }
 }
 
 // The answer of listing the solutions; the list whose front was lent.
-pub fn print_found(answer: Found, out: &[i32]) {
+pub fn print_found<W: Write>(to: &mut W, answer: Found, out: &[i32]) -> io::Result<()> {
     match answer {
         Found::Refused(r) => {
-            print_refusal(r);
-            end_values(out, 0);
+            print_refusal(to, r)?;
+            end_values(to, out, 0)
         }
-        Found::Solutions(n) => print_solutions(out, n),
+        Found::Solutions(n) => print_solutions(to, out, n),
     }
 }
 
 // The reason of a failed row.
-pub fn print_reasoned(r: Reasoned) {
+pub fn print_reasoned<W: Write>(to: &mut W, r: Reasoned) -> io::Result<()> {
     match r {
-        Reasoned::Refused(refusal) => print_refusal(refusal),
-        Reasoned::OutOfBounds(i) => print_one(b"bound ", i),
+        Reasoned::Refused(refusal) => print_refusal(to, refusal)?,
+        Reasoned::OutOfBounds(i) => print_one(to, b"bound ", i)?,
         Reasoned::Nothing => {
-            io::write_all(1, b"none");
+            to.write_all(b"none")?;
         }
         Reasoned::Because {
             row,
             constraint,
             holds,
         } => {
-            print_one(b"row ", row);
-            print_one(b" ", constraint);
+            print_one(to, b"row ", row)?;
+            print_one(to, b" ", constraint)?;
             if holds {
-                io::write_all(1, b" auxiliaries");
+                to.write_all(b" auxiliaries")?;
             } else {
-                io::write_all(1, b" builtin");
+                to.write_all(b" builtin")?;
             }
         }
     }
-    io::write_all(1, b"\n");
+    to.write_all(b"\n")
 }

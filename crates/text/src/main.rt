@@ -2,18 +2,23 @@
 #![tactic(auto)]
 
 ghost use Rattle.std.specs.Prelude.{◌≡◌, ◌*◌, ◌≤◌, length, take};
-ghost use Rattle.io.specs.Counts.{IsPrefixLen};
+ghost use Rattle.std.specs.Counts.{IsPrefixLen};
 ghost use Rattle.words.specs.Limit as Limit;
 ghost use Rattle.text.specs.Text.{printed_text};
 
+use inputs::read_full;
 use lines::{put_front, put_refusal, put_too_long};
+use std::io;
+use std::io::{Read, Write};
 use texts::read_text;
 use words::{Written, limit};
 
-// The bytes above which it says 16, and one more.
+// The bytes above which it says 16. They are read to rows of 1,024 bytes, one row more than that.
 const MOST: usize = 524288;
 
-const BYTES: usize = 524289;
+const ROW: usize = 1024;
+
+const ROWS: usize = 513;
 
 // The bytes of the lines of as many words as a model may have.
 const PAGE: usize = 73728;
@@ -34,12 +39,21 @@ fn text_page(text: &[u8], page: &mut [u8]) -> usize
     }
 }
 
-// 524,289 bytes are read at most. The promises go from the bytes that read_full filled to the bytes that are handed to write_all: neither promises
-// what it does with the file.
-fn main() {
-    let mut text = [0u8; BYTES];
-    let n = io::read_full(0, &mut text);
+// Reads a text to rows of bytes, and prints what it says. The promises go from the bytes that read_full filled to the bytes that are handed to
+// write_all, which promises nothing of what it does with the file.
+fn print_text<R: Read, W: Write>(
+    input: &mut R,
+    output: &mut W,
+    rows: &mut [[u8; ROW]],
+) -> io::Result<()> {
+    let text = rows.as_flattened_mut();
+    let n = read_full(input, text)?;
     let mut page = [0u8; PAGE];
     let end = text_page(&text[..n], &mut page);
-    io::write_all(1, &page[..end]);
+    output.write_all(&page[..end])
+}
+
+fn main(rt: HostRuntime) -> io::Result<()> {
+    let mut rows = [[0u8; ROW]; ROWS];
+    print_text(&mut rt.stdin(), &mut rt.stdout(), &mut rows)
 }

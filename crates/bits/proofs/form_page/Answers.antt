@@ -1,0 +1,45 @@
+-- The refusal's line, or the lines of the form's words.
+use Prim.Native.Nat.{◌≤◌}
+use native.Mathlib.Omega.{arith}
+use lib.ListN.{length}
+use Rattle.words.specs.Written.{wrote}
+use Rattle.encoding.specs.Bytes.{bytes_words}
+use Rattle.encoding.proofs.Words.{quarter}
+use Rattle.bitforms.specs.FormAnswer.{bit_form, bit_formed}
+use Rattle.lines.specs.Lines.{program_words}
+use Rattle.lines.proofs.Printed.{front_too_long, front-refused, front-lines, short-enough}
+use Rattle.bits.specs.Text.{form_text}
+use Rattle.bits.proofs.Text.{fits}
+use Rattle.bits.proofs.form_page.Goals.{Else-bytes-gt-WORDS}
+use Rattle.bits.proofs.form_page.Goals as goal
+
+few : (c : Else-bytes-gt-WORDS) → length (bytes_words c.args.bytes.now) ≤ program_words
+few c = rw (quarter c.args.bytes.now) at c.if-bytes-gt-WORDS.false
+
+pub returns-then-bytes-gt-WORDS : goal.returns-then-bytes-gt-WORDS
+unfolding form_text
+returns-then-bytes-gt-WORDS c =
+    let put = c.put_too_long in
+    let p = front_too_long program_words (length (bytes_words c.args.bytes.now)) _ _ (rw (quarter c.args.bytes.now) at c.if-bytes-gt-WORDS.true)
+    put.ensures.text (omega (arith, put.ensures.end, c.requires)) in
+    record { text = p.0; count = p.1 }
+
+pub returns-in-Refused : goal.returns-in-Refused
+unfolding form_text wrote bit_form
+returns-in-Refused c =
+    let put = c.put_refusal in
+    let says = rw (c.in-Refused.is, c.front_words-n.ensures.words) at c.bit_form.ensures.answer in
+    let p = front-refused _ _ put.ensures.text (omega (arith, put.ensures.end, c.requires)) _ says (short-enough program_words (length (bytes_words c.args.bytes.now)) _ (few (goal.at.returns-in-Refused c).Else-bytes-gt-WORDS)) in
+    record { text = p.0; count = p.1 }
+
+pub returns-in-Words : goal.returns-in-Words
+unfolding form_text wrote bit_form bit_formed
+returns-in-Words c =
+    let ws = bytes_words c.args.bytes.now in
+    let form = rw (c.in-Words.is, c.front_words-n.ensures.words) at c.bit_form.ensures in
+    let p = front-lines (record { answer = form.answer; output = form.output; room = fits ws program_words }) (short-enough program_words (length ws) _ (few (goal.at.returns-in-Words c).Else-bytes-gt-WORDS))
+    c.put_front.ensures c.requires in
+    record { text = p.0; count = p.1 }
+
+pub front_words-n-requires : goal.front_words-n-requires
+front_words-n-requires c = few (goal.at.front_words-n-requires c).Else-bytes-gt-WORDS

@@ -1,0 +1,7 @@
+-- The measure: how many are left.
+use Prim.Native.Nat.{◌-◌}
+use lib.ListN.{length}
+use Rattle.cases.proofs.lent.first_marked.Given as goal
+
+abbrev pub decreases-loop-i : goal.decreases-loop-i
+decreases-loop-i l = length l.out - l.i

@@ -1,0 +1,6 @@
+-- The measure: how many are left.
+use Prim.Native.Nat.{◌-◌}
+use Rattle.cases.proofs.output.print_values.Given as goal
+
+abbrev pub decreases-loop-i : goal.decreases-loop-i
+decreases-loop-i g l = l.n - l.i

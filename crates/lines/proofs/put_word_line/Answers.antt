@@ -1,0 +1,9 @@
+-- The digits, then the line feed.
+use Rattle.lines.proofs.Lines.{laid_word}
+use Rattle.lines.proofs.put_word_line.Goals as goal
+
+pub returns : goal.returns
+returns c =
+    let put = c.put_bytes-end in
+    rw c.put_byte.ensures
+    (laid_word c.args.page.now c.args.at c.args.w put.new.page put.result (rw (← c.hex_digits.ensures.text) put.ensures))

@@ -1,0 +1,48 @@
+-- The refusal's line, or the sheet.
+use mathlib.Core.Path.{ap, ◌∙◌}
+use Prim.Native.Nat.{◌≤◌}
+use native.Mathlib.Omega.{arith}
+use lib.ListN.{length}
+use Rattle.encoding.specs.Bytes.{bytes_words}
+use Rattle.encoding.proofs.Words.{quarter}
+use Rattle.sheets.specs.Printed.{printed}
+use Rattle.sheets.specs.Sheet.{sheet, sheet_page}
+use Rattle.lines.specs.Lines.{program_words}
+use Rattle.lines.proofs.Printed.{front_too_long, front-refused, front-text, short-enough}
+use Rattle.sheet.specs.Text.{page_bytes, printed_sheet}
+use Rattle.sheet.proofs.Text.{fits, same_length}
+use Rattle.sheet.proofs.sheet_page.Goals.{Else-bytes-gt-WORDS}
+use Rattle.sheet.proofs.sheet_page.Goals as goal
+
+few : (c : Else-bytes-gt-WORDS) → length (bytes_words c.args.bytes.now) ≤ program_words
+few c = rw (quarter c.args.bytes.now) at c.if-bytes-gt-WORDS.false
+
+pub returns-then-bytes-gt-WORDS : goal.returns-then-bytes-gt-WORDS
+unfolding printed_sheet
+returns-then-bytes-gt-WORDS c =
+    let put = c.put_too_long in
+    let p = front_too_long program_words (length (bytes_words c.args.bytes.now)) _ _ (rw (quarter c.args.bytes.now) at c.if-bytes-gt-WORDS.true)
+    put.ensures.text (omega (arith, put.ensures.end, c.requires)) in
+    record { text = p.0; count = p.1 }
+
+pub returns-in-Refused : goal.returns-in-Refused
+unfolding printed_sheet printed sheet
+returns-in-Refused c =
+    let ws = bytes_words c.args.bytes.now in
+    let call = c.sheet in
+    let put = c.put_refusal in
+    let says = rw (c.in-Refused.is, c.front_words-n.ensures.words, c.requires) at call.ensures.answer in
+    let l = ap length call.ensures.page ∙ same_length _ c.args.page.now in
+    let p = front-refused _ _ put.ensures.text (omega (arith, put.ensures.end, c.requires, l)) _ says (short-enough program_words (length ws) _ (few (goal.at.returns-in-Refused c).Else-bytes-gt-WORDS)) in
+    record { text = p.0; count = p.1 }
+
+pub returns-in-Bytes : goal.returns-in-Bytes
+unfolding printed_sheet printed sheet sheet_page
+returns-in-Bytes c =
+    let ws = bytes_words c.args.bytes.now in
+    let call = rw (c.in-Bytes.is, c.front_words-n.ensures.words, c.requires) at c.sheet.ensures in
+    let p = front-text (record { answer = call.answer; output = call.page; room = rw c.requires (fits ws page_bytes) }) (short-enough program_words (length ws) _ (few (goal.at.returns-in-Bytes c).Else-bytes-gt-WORDS)) in
+    record { text = p.0; count = p.1 }
+
+pub front_words-n-requires : goal.front_words-n-requires
+front_words-n-requires c = few (goal.at.front_words-n-requires c).Else-bytes-gt-WORDS
