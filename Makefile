@@ -1,4 +1,4 @@
-# make run        proves every crate, runs the programs, and prints the row system of a small model
+# make run        proves every crate and prints the row system of a small model
 # make test       runs the gate
 # make try        runs the program rows on a small model in seconds, with nothing proved, and prints what it wrote
 # make library    proves the calls and builds target/libpearrummy.a
@@ -18,27 +18,27 @@ PREFIX = /usr/local
 ROOT = $(DESTDIR)$(PREFIX)
 VERSION = $(shell sed -n 's/^.define PEARRUMMY_VERSION "\(.*\)"/\1/p' include/pearrummy.h)
 # what the library is made of: it is proved and built again only where one of these is newer
-SOURCES = crates.txt include/pearrummy.h library/fault_text.c $(shell find crates -name '*.rt' -o -name '*.antt')
+SOURCES = crates.txt include/pearrummy.h library/fault_text.c $(shell find crates -name out -prune -o '(' -name '*.rt' -o -name '*.antt' ')' -print)
 INSTALLED = include/pearrummy.h lib/libpearrummy.a lib/pkgconfig/pearrummy.pc bin/pearrummy share/man/man1/pearrummy.1 share/doc/pearrummy/FORMAT.md
 
 run:
 	mkdir -p target
-	bash -o pipefail -c 'rt check 2>&1 | python3 tests/progress.py target/check.log'
-	target/bin/rows < crates/rows/stdin
+	bash -o pipefail -c 'rt all check 2>&1 | python3 tests/progress.py target/check.log'
+	cd crates/rows && rt run < stdin
 
 test:
 	bash .ci/run
 
 try:
-	rt try rows
-	cat crates/rows/stdout
+	cd crates/rows && rt try < stdin
 
 library: target/libpearrummy.a
 
 target/libpearrummy.a: $(SOURCES)
-	rt staticlib host
+	mkdir -p target
+	python3 tests/kit.py archive
 	$(CC) $(CFLAGS) -c -o target/fault_text.o library/fault_text.c
-	cp target/staticlib/libhost.a target/libpearrummy.a
+	cp crates/host/out/libhost.a target/libpearrummy.a
 	ar rcs target/libpearrummy.a target/fault_text.o
 
 command: library

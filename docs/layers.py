@@ -17,7 +17,7 @@ def layers():
             found.append((name, holds, []))
         elif ':' in line:
             crate, _, uses = line.partition(':')
-            found[-1][2].append((crate, uses.split()))
+            found[-1][2].append((crate.split()[0], uses.split()))
     return found
 
 

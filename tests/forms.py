@@ -1,11 +1,11 @@
 #!/usr/bin/env python3
-"""Runs the program target/bin/bits on the bytes of row systems and compares what it prints: the forms of row systems with rows, products, slacks and
+"""Runs the program bits on the bytes of row systems and compares what it prints: the forms of row systems with rows, products, slacks and
 numbers of every sort, refusals, the limits, and every recorded answer of bits that the program must give too. The last line says how many runs agree.
 Exit status 1 at the first difference."""
 import collections, glob, os, struct, subprocess, sys
 
 HERE = os.path.dirname(os.path.abspath(__file__))
-BITS = os.path.join(os.path.dirname(HERE), 'target', 'bin', 'bits')
+BITS = os.path.join(os.path.dirname(HERE), 'crates', 'bits', 'out', 'bits')
 BOOLEAN, END = 0x30000000, 0xF0000000
 AT_MOST, EQUAL, PRODUCT = 10, 11, 12
 LARGEST = 2 ** 27 - 1
@@ -164,7 +164,7 @@ def shown(text):
 
 def main():
     if not os.path.exists(BITS):
-        print('target/bin/bits is not there: rt check bits makes it')
+        print('crates/bits/out/bits is not there: rt ci makes it, and rt run in its folder')
         return 1
     count = 0
     for stdin, expected in runs():

@@ -1,10 +1,10 @@
 #!/usr/bin/env python3
-"""Runs the program target/bin/rows on the bytes of models and compares what it prints: Table T's T3, a refusal of each kind that it can meet,
+"""Runs the program rows on the bytes of models and compares what it prints: Table T's T3, a refusal of each kind that it can meet,
 the limits, and every vector that tells all that it must print. The last line says how many runs agree. Exit status 1 at the first difference."""
 import glob, os, struct, subprocess, sys
 
 HERE = os.path.dirname(os.path.abspath(__file__))
-ROWS = os.path.join(os.path.dirname(HERE), 'target', 'bin', 'rows')
+ROWS = os.path.join(os.path.dirname(HERE), 'crates', 'rows', 'out', 'rows')
 BOOLEAN, END = 0x30000000, 0x70000000
 FALSE_CLAUSE = [0x40000017, 0x60000000]  # array_bool_xor of an empty list
 
@@ -131,7 +131,7 @@ def shown(text):
 
 def main():
     if not os.path.exists(ROWS):
-        print('target/bin/rows is not there: rt check rows makes it')
+        print('crates/rows/out/rows is not there: rt ci makes it, and rt run in its folder')
         return 1
     count = 0
     for stdin, expected in runs():

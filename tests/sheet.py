@@ -1,11 +1,11 @@
 #!/usr/bin/env python3
-"""Runs the program target/bin/sheet on the bytes of row systems and compares what it prints: rows and products of every length, numbers of every
+"""Runs the program sheet on the bytes of row systems and compares what it prints: rows and products of every length, numbers of every
 width, refusals, the limits, and every recorded answer of sheet that the program must give too. The last line says how many runs agree. Exit status 1
 at the first difference."""
 import glob, os, struct, subprocess, sys
 
 HERE = os.path.dirname(os.path.abspath(__file__))
-SHEET = os.path.join(os.path.dirname(HERE), 'target', 'bin', 'sheet')
+SHEET = os.path.join(os.path.dirname(HERE), 'crates', 'sheet', 'out', 'sheet')
 PAGE = 262144  # the bytes that the program prints at most
 BOOLEAN, END = 0x30000000, 0xF0000000
 AT_MOST, EQUAL, PRODUCT = 10, 11, 12
@@ -114,7 +114,7 @@ def shown(text):
 
 def main():
     if not os.path.exists(SHEET):
-        print('target/bin/sheet is not there: rt check sheet makes it')
+        print('crates/sheet/out/sheet is not there: rt ci makes it, and rt run in its folder')
         return 1
     count = 0
     for stdin, expected in runs():

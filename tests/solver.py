@@ -20,7 +20,7 @@ Exit status 1 at the first difference, which is printed with the model's words a
 import collections, concurrent.futures, itertools, math, os, random, re, shutil, struct, subprocess, sys
 
 ROOT = os.path.dirname(os.path.dirname(os.path.abspath(__file__)))
-SUITE = os.path.join(ROOT, 'target', 'bin', 'suite')
+SUITE = os.path.join(ROOT, 'crates', 'suite', 'out', 'suite')
 CHECK, TRANSLATE, JUDGE_MODEL, JUDGE_ROWS, FILL, TEXT, SOLUTIONS = 1, 2, 3, 4, 5, 7, 9
 LISTS = 2000    # the most value lists of a model
 SAMPLE = 100    # so many changed solutions of a row system are judged at most
@@ -578,7 +578,7 @@ def main():
         print('solver: Gecode is not here, skipped')
         return 0
     if not os.path.exists(SUITE):
-        print('solver: target/bin/suite is not here')
+        print('solver: crates/suite/out/suite is not here: rt ci makes it, and rt run in its folder')
         return 1
     models = list(enumerate(some_models(count, seed)))
     used = collections.Counter(code for _, (_, constraints) in models for code, _ in constraints)

@@ -1,13 +1,13 @@
 #!/usr/bin/env python3
 """Measures the stack that each call for C takes (bench/calls.c, a painted stack) and compares it with what include/pearrummy.h says, in whole
-KiB, rounded up; every call that the header declares is measured, and has its line. The library, target/staticlib/libhost.a, is there already."""
+KiB, rounded up; every call that the header declares is measured, and has its line. The library, target/libpearrummy.a, is there already."""
 import os, re, subprocess, sys
 
 TOP = os.path.dirname(os.path.dirname(os.path.abspath(__file__)))
 PROGRAM = os.path.join(TOP, 'target', 'calls')
 
 subprocess.run(['gcc', '-O2', '-Wall', '-Wextra', '-Werror', '-o', PROGRAM, os.path.join(TOP, 'bench', 'calls.c'),
-                os.path.join(TOP, 'target', 'staticlib', 'libhost.a')], check=True)
+                os.path.join(TOP, 'target', 'libpearrummy.a')], check=True)
 measured = dict(line.split() for line in subprocess.run([PROGRAM, 'stack'], check=True, capture_output=True, text=True).stdout.splitlines())
 header = open(os.path.join(TOP, 'include', 'pearrummy.h')).read()
 said = {name: int(kib) for kib, name in re.findall(r'Stack: (\d+) KiB\. \*/\n[^;]*?(pearrummy_\w+)\(', header)}

@@ -17,7 +17,7 @@ CONTRACTS = ['structs', 'host', 'rows', 'sheet', 'text', 'bits', 'hexadecimal']
 
 def crates():
     for line in open(os.path.join(TOP, 'crates.txt')):
-        if m := re.match(r'(\w+):', line):
+        if m := re.match(r'(\w+)[^:\n#]*:', line):
             yield m.group(1)
 
 
@@ -29,7 +29,7 @@ def modules():
 def cited(path):
     """The files of specs/ that a file imports; `declared` has the structs and enums of the code."""
     for line in open(path):
-        if m := re.match(r'(?:ghost )?use Rattle·(\w+?)(?:·specs)?\.specs\.(\w+)', line):
+        if m := re.match(r'(?:ghost )?use Rattle\.(\w+)\.specs\.(\w+)', line):
             if m.group(2) != 'declared':
                 yield m.group(1), m.group(2)
 
@@ -54,7 +54,7 @@ def believed():
 
 def lines(path):
     """Without comments, imports and blank lines; all, and those that are no signature of a definition."""
-    text = [line for line in open(path) if not re.match(r'\s*(--.*|(use|pub mod|module) .*)?$', line)]
+    text = [line for line in open(path) if not re.match(r'\s*(--.*|(use|pub use|pub mod|module) .*)?$', line)]
     signature = re.compile(r'\s*(abbrev |unfoldable )?pub (?!data|record)[^=]* : ')
     return len(text), sum(1 for line in text if not signature.match(line))
 

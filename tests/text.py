@@ -1,10 +1,10 @@
 #!/usr/bin/env python3
-"""Runs the program target/bin/text on FlatZinc and compares what it prints: a text with every builtin, every fault, the limits, and every recorded
+"""Runs the program text on FlatZinc and compares what it prints: a text with every builtin, every fault, the limits, and every recorded
 answer of text that the program must give too. The last line says how many runs agree. Exit status 1 at the first difference."""
 import glob, os, subprocess, sys
 
 HERE = os.path.dirname(os.path.abspath(__file__))
-TEXT = os.path.join(os.path.dirname(HERE), 'target', 'bin', 'text')
+TEXT = os.path.join(os.path.dirname(HERE), 'crates', 'text', 'out', 'text')
 BYTES = 524288  # the bytes that the program reads at most
 INTEGER, BOOLEAN, END = [0x10000000, 0x20000003], 0x30000000, 0x70000000
 
@@ -83,7 +83,7 @@ def shown(text):
 
 def main():
     if not os.path.exists(TEXT):
-        print('target/bin/text is not there: rt check text makes it')
+        print('crates/text/out/text is not there: rt ci makes it, and rt run in its folder')
         return 1
     count = 0
     for stdin, expected in runs():

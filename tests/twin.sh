@@ -12,7 +12,7 @@ cd "$(dirname "$0")/.."
 command -v rustc >/dev/null || { echo 'twin: rustc is not on the PATH'; exit 1; }
 mkdir -p target/twin
 make -s library >target/library.log 2>&1 || { cat target/library.log; exit 1; }
-rustc --edition 2021 -O -D warnings -o target/twin/twin tests/twin/main.rs -C link-arg=target/staticlib/libhost.a
+rustc --edition 2021 -O -D warnings -o target/twin/twin tests/twin/main.rs -C link-arg=target/libpearrummy.a
 case ${1-} in
 --*) ;;
 *)

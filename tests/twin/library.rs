@@ -1,4 +1,4 @@
-//! The calls of include/pearrummy.h, linked from target/staticlib/libhost.a.
+//! The calls of include/pearrummy.h, linked from target/libpearrummy.a.
 
 use crate::answers::{Counts, Judgement, Listed, Printed, Reason, Written};
 use std::marker::PhantomData;
