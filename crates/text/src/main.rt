@@ -13,9 +13,12 @@ use std::io::{Read, Write};
 use texts::read_text;
 use words::{Written, limit};
 
-// The bytes above which it says 16. They are read to rows of 1,024 bytes, one row more than that.
+// The bytes above which it says 16, and one more.
 const MOST: usize = 524288;
 
+const BYTES: usize = 524289;
+
+// They are read to rows of bytes, with room for all.
 const ROW: usize = 1024;
 
 const ROWS: usize = 513;
@@ -39,8 +42,8 @@ fn text_page(text: &[u8], page: &mut [u8]) -> usize
     }
 }
 
-// Reads a text to rows of bytes, and prints what it says. The promises go from the bytes that read_full filled to the bytes that are handed to
-// write_all, which promises nothing of what it does with the file.
+// Reads a text to rows of bytes, and prints its words or the refusal. The promises go from the bytes that read_full filled to the bytes that are
+// handed to write_all: neither promises what it does with the file.
 fn print_text<R: Read, W: Write>(
     input: &mut R,
     output: &mut W,
@@ -53,7 +56,9 @@ fn print_text<R: Read, W: Write>(
     output.write_all(&page[..end])
 }
 
+// 524,289 bytes are read at most.
 fn main(rt: HostRuntime) -> io::Result<()> {
     let mut rows = [[0u8; ROW]; ROWS];
-    print_text(&mut rt.stdin(), &mut rt.stdout(), &mut rows)
+    let mut input = rt.stdin().take(BYTES as u64);
+    print_text(&mut input, &mut rt.stdout(), &mut rows)
 }
