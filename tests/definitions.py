@@ -157,18 +157,19 @@ def run(part, cases, size):
         words = kit.compiler('check', part, PARTS[part]) + ['--jobs', '2']
         ran = subprocess.run(words, cwd=scratch, stdin=subprocess.DEVNULL, stdout=subprocess.PIPE, stderr=subprocess.STDOUT, text=True)
     said = ran.stdout
-    return {int(n) for n in re.findall(r'error: `v(\d+)`', said)}, said[-3000:], ran.returncode
+    computed = not ran.returncode and 'logic=proved' in said
+    return {int(n) for n in re.findall(r'error: `v(\d+)`', said)}, said[-3000:] or f'the check ended with status {ran.returncode} and said nothing', computed
 
 
 def compute(part, cases):
     """The cases of a part to which the definition gives another answer, and what was said where the check failed and names none."""
-    refused, said, status = run(part, cases, GROUP)
-    if not status or not refused:
-        return [], said if status else ''
+    refused, said, computed = run(part, cases, GROUP)
+    if computed or not refused:
+        return [], '' if computed else said
     # each case of a refused group by itself
     again = {k: cases[k] for group in groups(cases, GROUP) if group[0] in refused for k in group}
-    wrong, said, status = run(part, again, 1)
-    return sorted(wrong), '' if wrong else said
+    wrong, said, computed = run(part, again, 1)
+    return sorted(wrong), '' if wrong or computed else said
 
 
 def main():

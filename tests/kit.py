@@ -5,9 +5,10 @@
     tests/kit.py format      says which .rt and .antt files are not in the layout of rt fmt
 
 `rt ci` proves the static library and builds none, and `rt lib` takes no library that `rt ci` built: in a clean clone it would prove all of them a second
-time. So where every library below the archive is as `rt ci` left it, the kit's compiler is called over these, and it proves crates/host alone; where a
-command of rt other than `rt ci` built some of them, which each has a stamp of, `rt lib` makes the archive, and builds what is not up to date."""
-import functools, os, re, subprocess, sys
+time. So where every library below the archive is one that `rt ci` made of the files as they stand, the kit's compiler is called over these, and it proves
+crates/host alone. Else `rt lib` makes the archive, and builds what is not up to date: a second `rt ci` in one checkout puts back the libraries of the
+first one, and a file may have changed since."""
+import functools, glob, os, re, subprocess, sys
 
 TOP = os.path.dirname(os.path.dirname(os.path.abspath(__file__)))
 ARCHIVE = os.path.join(TOP, 'crates', 'host', 'out', 'libhost.a')
@@ -52,12 +53,16 @@ def compiler(verb, name, libraries):
 
 
 def are_of_ci(libraries):
-    """Whether all of these are as `rt ci` left them, which writes no stamp."""
-    return all(os.path.exists(f'{rlib(it)}/format') and not os.path.exists(f'{os.path.dirname(rlib(it))}/stamp') for it in libraries)
+    """Whether `rt ci`, which writes no stamp, made all of these, after their files came to be what they are."""
+    if not all(os.path.exists(f'{rlib(it)}/format') and not os.path.exists(f'{os.path.dirname(rlib(it))}/stamp') for it in libraries):
+        return False
+    texts = [it for name in libraries for part in ('src', 'specs', 'proofs') for it in glob.glob(f'{TOP}/crates/{name}/{part}/**', recursive=True)]
+    texts += [os.path.join(TOP, 'crates.txt'), *(os.path.join(TOP, 'crates', name) for name in libraries)]
+    return max(os.stat(it).st_ctime for it in texts) < min(os.stat(rlib(it)).st_mtime for it in libraries)
 
 
 def settle(libraries):
-    """Has libraries that other commands of rt built brought up to date."""
+    """Has libraries brought up to date that `rt ci` did not just make."""
     if not are_of_ci({*libraries, *below(libraries)}):
         for it in libraries:
             subprocess.run(['rt', 'lib'], cwd=os.path.join(TOP, 'crates', it), stdout=subprocess.DEVNULL, check=True)

@@ -1,7 +1,8 @@
 #!/usr/bin/env python3
 """Says which crate of how many was proved and when, from the output of rt on standard input.
 
-progress.py LOG    of `rt all check`: writes all lines to LOG and prints a line for each crate that is done, and whatever speaks of an error
+progress.py LOG    of `rt all check`: writes all lines to LOG and prints a line for each crate that is done, what failed or was not run, and whatever speaks
+                   of an error
 progress.py --all  of `rt ci`: prints all lines, and a line of progress behind each that tells of a crate; the verdict of rt is marked as rt's own"""
 import os, re, sys, time
 
@@ -16,10 +17,10 @@ for line in sys.stdin:
         log.write(line)
     if everything and re.match(r'\d+ passed, \d+ failed$', line):
         line = f'rt: {line}'
-    if everything or line.startswith('rt:') or re.search(r'\berror\b', line):
+    if everything or line.startswith('rt:') or re.search(r'\berror\b|: (failed|not run)\b|crates ok$', line):
         sys.stdout.write(line)
     if found := done.match(line):
         proved += 1
         minutes, seconds = divmod(int(time.time() - begin), 60)
-        print(f'crate {proved} of {crates}: {found.group(1)} {found.group(2) or "checked"}; {minutes} min {seconds} s so far')
+        print(f'crate {proved} of {crates}: {found.group(1)} {found.group(2) or "done"}; {minutes} min {seconds} s so far')
     sys.stdout.flush()
