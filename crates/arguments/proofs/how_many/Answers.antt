@@ -15,12 +15,9 @@ loop-k-init c = (search rules, omega (arith, size-le c.args.args.now c.args.i), 
 
 pub loop-k-preserved : goal.loop-k-preserved
 loop-k-preserved c =
-    let loop = c.loop-k in
-    let value_of_lem = c.value_of in
-    (search rules, search rules, omega (arith, bit_le c.equal.result), rw (how_many-more, loop.invariant.3, c.one_if-found.ensures, c.equal.ensures, read value_of_lem.type_inv value_of_lem.ensures))
+    (search rules, search rules, omega (arith, bit_le c.equal.result), rw (how_many-more, c.loop-k.invariant.3, c.one_if-found.ensures, c.equal.ensures, read c.value_of.type_inv c.value_of.ensures))
 
 pub returns : goal.returns
 unfolding vars
 returns c =
-    let size-at = c.size_at-n in
-    let e : c.loop-k.k ≡ size-at.result = omega arith in c.loop-k.invariant.3 ∙ rw (e, size-at.ensures, to_z-of_z c.ranges.v)
+    let e : c.loop-k.k ≡ c.size_at-n.result = omega arith in c.loop-k.invariant.3 ∙ rw (e, c.size_at-n.ensures, to_z-of_z c.ranges.v)

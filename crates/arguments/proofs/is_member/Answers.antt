@@ -15,12 +15,9 @@ loop-k-init c = (search rules, omega (arith, size-le c.args.args.now c.args.i), 
 
 pub loop-k-preserved : goal.loop-k-preserved
 loop-k-preserved c =
-    let loop = c.loop-k in
-    let num-at = c.num_at in
-    (search rules, search rules, c.either-so_far.ensures ∙ rw (any-more, loop.invariant.2, c.equal.ensures, read num-at.type_inv num-at.ensures))
+    (search rules, search rules, c.either-so_far.ensures ∙ rw (any-more, c.loop-k.invariant.2, c.equal.ensures, read c.num_at.type_inv c.num_at.ensures))
 
 pub returns : goal.returns
 unfolding nums member
 returns c =
-    let size-at = c.size_at-n in
-    let e : c.loop-k.k ≡ size-at.result = omega arith in c.loop-k.invariant.2 ∙ rw (e, size-at.ensures, to_z-of_z c.ranges.x)
+    let e : c.loop-k.k ≡ c.size_at-n.result = omega arith in c.loop-k.invariant.2 ∙ rw (e, c.size_at-n.ensures, to_z-of_z c.ranges.x)

@@ -14,12 +14,9 @@ loop-k-init c = (search rules, omega (arith, size-le c.args.args.now c.args.i), 
 
 pub loop-k-preserved : goal.loop-k-preserved
 loop-k-preserved c =
-    let loop = c.loop-k in
-    let value_of_lem = c.value_of in
-    (search rules, search rules, c.both-so_far.ensures ∙ rw (all_more, loop.invariant.2, c.in_order.ensures, read value_of_lem.type_inv value_of_lem.ensures))
+    (search rules, search rules, c.both-so_far.ensures ∙ rw (all_more, c.loop-k.invariant.2, c.in_order.ensures, read c.value_of.type_inv c.value_of.ensures))
 
 pub returns : goal.returns
 unfolding vars
 returns c =
-    let size-at = c.size_at-n in
-    let e : c.loop-k.k ≡ size-at.result = omega arith in c.loop-k.invariant.2 ∙ rw (e, size-at.ensures, to_z-of_z c.ranges.m)
+    let e : c.loop-k.k ≡ c.size_at-n.result = omega arith in c.loop-k.invariant.2 ∙ rw (e, c.size_at-n.ensures, to_z-of_z c.ranges.m)

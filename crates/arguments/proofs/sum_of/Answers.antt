@@ -15,15 +15,12 @@ use Rattle.arguments.proofs.Size.{size-le, product-size, read}
 use Rattle.arguments.proofs.sum_of.Goals.{After-plus-total, After-product_at}
 use Rattle.arguments.proofs.sum_of.Goals as goal
 
-term : (c : After-product_at) → let a = c.args in to_z w64 (of_z w64 c.product_at.result) ≡ num a.args.now (a.i + 1 + c.loop-k.k) ⊗ value a.values.now (var a.args.now (c.past_at-variables.result + c.loop-k.k))
+term : (c : After-product_at) → to_z w64 (of_z w64 c.product_at.result) ≡ num c.args.args.now (c.args.i + 1 + c.loop-k.k) ⊗ value c.args.values.now (var c.args.args.now (c.past_at-variables.result + c.loop-k.k))
 term c = read c.product_at.type_inv c.product_at.ensures
 
 term-size : (c : After-product_at) → nat_abs (to_z w64 (of_z w64 c.product_at.result)) ≤ 18014398509481984
 term-size c =
-    let past-at = c.past_at-variables in
-    let loop = c.loop-k in
-    let a = c.args in
-    rw (term c) (product-size a.args.now a.values.now c.requires.1 (a.i + 1 + loop.k) (past-at.result + loop.k))
+    rw (term c) (product-size c.args.args.now c.args.values.now c.requires.1 (c.args.i + 1 + c.loop-k.k) (c.past_at-variables.result + c.loop-k.k))
 
 next : (c : After-plus-total) → to_z w64 (of_z w64 c.plus-total.result) ≡ to_z w64 c.loop-k.total-bits ⊕ to_z w64 (of_z w64 c.product_at.result)
 next c = read c.plus-total.type_inv c.plus-total.ensures
@@ -47,6 +44,4 @@ loop-k-preserved c = (
 pub returns : goal.returns
 unfolding terms
 returns c =
-    let size-at = c.size_at-n in
-    let past-at = c.past_at-variables in
-    let e : c.loop-k.k ≡ size-at.result = omega arith in c.loop-k.invariant.4 ∙ rw (e, size-at.ensures, past-at.ensures)
+    let e : c.loop-k.k ≡ c.size_at-n.result = omega arith in c.loop-k.invariant.4 ∙ rw (e, c.size_at-n.ensures, c.past_at-variables.ensures)

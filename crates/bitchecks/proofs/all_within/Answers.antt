@@ -19,8 +19,5 @@ loop-i-preserved c = (
       (sym (rw (back (get_or c.args.row.now c.loop-i.i +0) (omega arith)) at c.within_limit.ensures) ∙ c.if-not-within_limit.false),
 )
 
-pub loop-i-init : goal.loop-i-init
-loop-i-init c = (omega arith, refl)
-
 pub returns : goal.returns
 returns c = sym (c.loop-i.invariant.1 ∙ rest_end fits +0 _ _ c.loop-i-test.false)

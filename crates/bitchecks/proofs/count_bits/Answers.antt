@@ -6,16 +6,12 @@ use Rattle.bitchecks.proofs.count_bits.Goals as goal
 
 pub loop-at-preserved-then-starts_row : goal.loop-at-preserved-then-starts_row
 loop-at-preserved-then-starts_row c =
-    let loop = c.loop-at in
-    counting_one loop.invariant c.loop-at-test.true (sym c.starts_row.ensures ∙ c.if-starts_row.true) c.own_bits-first.ensures.1
-    (rw (tail-is c.args.ws.now (loop.at + 1)) at c.own_bits-first.ensures.0)
+    counting_one c.loop-at.invariant c.loop-at-test.true (sym c.starts_row.ensures ∙ c.if-starts_row.true) c.own_bits-first.ensures.1
+    (rw (tail-is c.args.ws.now (c.loop-at.at + 1)) at c.own_bits-first.ensures.0)
 
 pub loop-at-preserved : goal.loop-at-preserved
 loop-at-preserved c =
     counting_none c.loop-at.invariant c.loop-at-test.true (sym c.starts_row.ensures ∙ c.if-starts_row.false)
-
-pub loop-at-init : goal.loop-at-init
-loop-at-init c = counting_begun _ _ _ _
 
 pub returns : goal.returns
 returns c = counting_done c.loop-at.invariant c.loop-at-test.false

@@ -9,12 +9,3 @@ use Rattle.bitfilling.proofs.add_less_lower.Goals as goal
 pub add_variable-requires : goal.add_variable-requires
 add_variable-requires c =
     (c.requires.0, rw (read c.opposite.type_inv c.opposite.ensures, read c.bound_at.type_inv c.bound_at.ensures) (omega (arith, neg-size (get_or c.args.ls.now c.args.f +0), c.requires.0.near_lower c.args.f)), omega (arith, c.requires.1))
-
-pub returns : goal.returns
-returns c =
-    let e = read c.opposite.type_inv c.opposite.ensures in
-    let b = read c.bound_at.type_inv c.bound_at.ensures in
-    rw (e, b) at c.add_variable.ensures
-
-pub opposite-requires : goal.opposite-requires
-opposite-requires c = rw (read c.bound_at.type_inv c.bound_at.ensures) (omega (arith, c.requires.0.near_lower c.args.f))

@@ -6,24 +6,10 @@ use Rattle.bitlines.specs.Sizes as Size
 use Rattle.bitfilling.specs.Added.{product_pairs}
 use Rattle.bitfilling.proofs.add_product_pairs.Goals as goal
 
-pub add_pairs-requires : goal.add_pairs-requires
-add_pairs-requires c =
-    let f = c.row_variable-f.result in
-    let g = c.row_variable-g.result in (
-      omega (arith, c.table_entry.ensures, c.requires.0.near_first f),
-      omega (arith, c.table_entry-3.ensures, c.requires.0.near_first g),
-      c.requires.1,
-      omega (arith, c.table_entry-2.ensures, c.requires.0.few f),
-      omega (arith, c.table_entry-4.ensures, c.requires.0.few g),
-      c.requires.2,
-    )
-
 pub returns : goal.returns
 unfolding product_pairs
 returns c =
-    let f = c.row_variable-f.result in
-    let g = c.row_variable-g.result in
-    let few : c.table_entry-2.result * c.table_entry-4.result ≤ Size.own_bits = rw (c.table_entry-2.ensures, c.table_entry-4.ensures) (mul-le (c.requires.0.few f) (c.requires.0.few g)) in record {
+    let few : c.table_entry-2.result * c.table_entry-4.result ≤ Size.own_bits = rw (c.table_entry-2.ensures, c.table_entry-4.ensures) (mul-le (c.requires.0.few c.row_variable-f.result) (c.requires.0.few c.row_variable-g.result)) in record {
       sum = rw (← c.row_variable-f.ensures, ← c.row_variable-g.ensures, ← c.table_entry.ensures, ← c.table_entry-2.ensures, ← c.table_entry-3.ensures, ← c.table_entry-4.ensures) c.add_pairs.ensures.sum;
       small = omega (arith, c.add_pairs.ensures.small, few);
     }

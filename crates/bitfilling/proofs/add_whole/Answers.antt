@@ -14,14 +14,3 @@ add_square-requires c =
       c.requires.bit_lists.2,
       omega (arith, c.requires.bit_lists.3),
     )
-
-pub returns : goal.returns
-returns c =
-    let k = read c.row_constant.type_inv (c.row_constant.ensures c.args.us.now c.args.firsts.now c.args.first) in
-    rw (c.fill_row.ensures, k) at c.add_square.ensures
-
-pub fill_row-requires : goal.fill_row-requires
-fill_row-requires c = (c.requires.bit_lists.0, c.requires.bit_lists.1)
-
-pub row_constant-requires : goal.row_constant-requires
-row_constant-requires c = c.requires.bit_lists.0.near_lower

@@ -26,8 +26,7 @@ add_terms-requires c =
 pub returns-then-k-eq-EQUAL : goal.returns-then-k-eq-EQUAL
 unfolding dense
 returns-then-k-eq-EQUAL c =
-    let k = c.kind_of-k.ensures in
-    rw (row-equal c.args.head c.args.args.now (ne_eqb _ _ (λ e. c.if-k-eq-AT_MOST.false (k ∙ e))) (eq-eqb _ _ (sym k ∙ c.if-k-eq-EQUAL.true)), ← c.term_count-then-k-eq-EQUAL.ensures, ← c.clear.ensures) (c.add_terms.ensures.sum ∙ equal-added _ c.args.ls.now c.args.us.now c.args.firsts.now c.args.first (terms_in c.args.args.now c.term_count-then-k-eq-EQUAL.result) (constant_in c.args.args.now c.term_count-then-k-eq-EQUAL.result))
+    rw (row-equal c.args.head c.args.args.now (ne_eqb _ _ (λ e. c.if-k-eq-AT_MOST.false (c.kind_of-k.ensures ∙ e))) (eq-eqb _ _ (sym c.kind_of-k.ensures ∙ c.if-k-eq-EQUAL.true)), ← c.term_count-then-k-eq-EQUAL.ensures, ← c.clear.ensures) (c.add_terms.ensures.sum ∙ equal-added _ c.args.ls.now c.args.us.now c.args.firsts.now c.args.first (terms_in c.args.args.now c.term_count-then-k-eq-EQUAL.result) (constant_in c.args.args.now c.term_count-then-k-eq-EQUAL.result))
 
 pub add_product-requires : goal.add_product-requires
 add_product-requires c =
@@ -36,5 +35,4 @@ add_product-requires c =
 pub returns : goal.returns
 unfolding dense
 returns c =
-    let k = c.kind_of-k.ensures in
-    rw (row-product c.args.head c.args.args.now (ne_eqb _ _ (λ e. c.if-k-eq-AT_MOST.false (k ∙ e))) (ne_eqb _ _ (λ e. c.if-k-eq-EQUAL.false (k ∙ e))), ← c.clear.ensures) c.add_product.ensures
+    rw (row-product c.args.head c.args.args.now (ne_eqb _ _ (λ e. c.if-k-eq-AT_MOST.false (c.kind_of-k.ensures ∙ e))) (ne_eqb _ _ (λ e. c.if-k-eq-EQUAL.false (c.kind_of-k.ensures ∙ e))), ← c.clear.ensures) c.add_product.ensures

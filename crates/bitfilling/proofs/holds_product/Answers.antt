@@ -11,9 +11,3 @@ returns c e = (
   rw c.row_variable-2.ensures at (c.holds_variable-2.ensures c.if-holds_variable-2.false),
   rw c.row_variable-3.ensures at (c.holds_variable-3.ensures e),
 )
-
-pub returns-then-holds_variable : goal.returns-then-holds_variable
-returns-then-holds_variable c e = false-true (sym e)
-
-pub returns-then-holds_variable-2 : goal.returns-then-holds_variable-2
-returns-then-holds_variable-2 c e = false-true (sym e)

@@ -6,7 +6,7 @@ use Rattle.arguments.proofs.Size.{read}
 use Rattle.bitfilling.proofs.holds_term.Goals as goal
 
 pub returns-then-equal : goal.returns-then-equal
-returns-then-equal c e = let n = c.signed_at in inl ((says-equal _ _).0 (rw (read n.type_inv n.ensures.0) at (sym c.equal.ensures ∙ c.if-equal.true)))
+returns-then-equal c e = inl ((says-equal _ _).0 (rw (read c.signed_at.type_inv c.signed_at.ensures.0) at (sym c.equal.ensures ∙ c.if-equal.true)))
 
 pub returns : goal.returns
 returns c e = inr (rw c.row_variable.ensures at (c.holds_variable.ensures e))

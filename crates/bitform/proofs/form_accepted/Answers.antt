@@ -34,9 +34,3 @@ form_checked-requires c =
 
 pub keep_bounds-variables-requires : goal.keep_bounds-variables-requires
 keep_bounds-variables-requires c = omega (arith, few_words c.args.ws.now (ap (λ x. x.number) c.requires))
-
-pub slice_bounds-form_checked-end-5 : goal.slice_bounds-form_checked-end-5
-slice_bounds-form_checked-end-5 c = sym (length-take-le _ _ c.if-n-gt-BITS.false)
-
-pub slice_bounds-form_checked-end-6 : goal.slice_bounds-form_checked-end-6
-slice_bounds-form_checked-end-6 c = sym (length-take-le _ _ c.if-n-gt-BITS.false)

@@ -12,27 +12,19 @@ use Rattle.bitform.proofs.Pieces.{fits_by, words-length}
 use Rattle.bitform.proofs.form_lines.Goals.{After-put_lines-counted}
 use Rattle.bitform.proofs.form_lines.Goals as goal
 
-pub put_lines-counted-requires : goal.put_lines-counted-requires
-put_lines-counted-requires c =
-    let l = c.requires.bits_listed.0 in
-    (record { listed = l.listed; fits = rw l.rows_are c.requires.ws_value.0 }, c.requires.bits_listed.1, omega arith)
-
 fits : (c : After-put_lines-counted) → form_fits c.args.ws.now ≡ c.put_lines-counted.result.fits
 fits c =
-    let l = c.requires.bits_listed.0 in
-    fits_by c.args.ws.now {a = true} {b = true} (rw (← l.count) c.requires.ws_value.0) (rw (← c.requires.ws_value.1) c.requires.ws_value.2) (sym (rw (l.rows_are, l.count) at c.put_lines-counted.ensures.tested))
+    fits_by c.args.ws.now {a = true} {b = true} (rw (← c.requires.bits_listed.0.count) c.requires.ws_value.0) (rw (← c.requires.ws_value.1) c.requires.ws_value.2) (sym (rw (c.requires.bits_listed.0.rows_are, c.requires.bits_listed.0.count) at c.put_lines-counted.ensures.tested))
 
 pub returns-then-not-counted : goal.returns-then-not-counted
 returns-then-not-counted c =
-    let l = c.requires.bits_listed.0 in
-    rw c.refuse.ensures (too_large c.args.ws.now c.args.out.now l.read (omega (arith, l.count, l.few)) (fits (goal.at.returns-then-not-counted c).After-put_lines-counted ∙ not-true _ c.if-not-counted.true))
+    rw c.refuse.ensures (too_large c.args.ws.now c.args.out.now c.requires.bits_listed.0.read (omega (arith, c.requires.bits_listed.0.count, c.requires.bits_listed.0.few)) (fits (goal.at.returns-then-not-counted c).After-put_lines-counted ∙ not-true _ c.if-not-counted.true))
 
 pub returns-then-out-end : goal.returns-then-out-end
 returns-then-out-end c =
-    let l = c.requires.bits_listed.0 in
     let y = not-false _ c.if-not-counted.false in
-    let d = rw (l.rows_are, l.count) at (c.put_lines-counted.ensures.laid y) in
-    rw c.refuse-then-out-end.ensures (too_short c.args.ws.now c.args.out.now l.read (omega (arith, l.count, l.few)) (fits (goal.at.returns-then-out-end c).After-put_lines-counted ∙ y) (omega (arith, words-length c.args.ws.now, d.ends, c.if-out-end.true)))
+    let d = rw (c.requires.bits_listed.0.rows_are, c.requires.bits_listed.0.count) at (c.put_lines-counted.ensures.laid y) in
+    rw c.refuse-then-out-end.ensures (too_short c.args.ws.now c.args.out.now c.requires.bits_listed.0.read (omega (arith, c.requires.bits_listed.0.count, c.requires.bits_listed.0.few)) (fits (goal.at.returns-then-out-end c).After-put_lines-counted ∙ y) (omega (arith, words-length c.args.ws.now, d.ends, c.if-out-end.true)))
 
 pub write_form-requires : goal.write_form-requires
 write_form-requires c =
@@ -42,7 +34,6 @@ write_form-requires c =
 pub returns : goal.returns
 unfolding wrote
 returns c =
-    let l = c.requires.bits_listed.0 in
     let y = not-false _ c.if-not-counted.false in
-    let d = rw (l.rows_are, l.count) at (c.put_lines-counted.ensures.laid y) in
-    rw (c.write_form.ensures.0, c.write_form.ensures.1) (writes c.args.ws.now c.args.out.now l.read (omega (arith, l.count, l.few)) (fits (goal.at.returns c).After-put_lines-counted ∙ y) (omega (arith, words-length c.args.ws.now, d.ends, c.if-out-end.false)))
+    let d = rw (c.requires.bits_listed.0.rows_are, c.requires.bits_listed.0.count) at (c.put_lines-counted.ensures.laid y) in
+    rw (c.write_form.ensures.0, c.write_form.ensures.1) (writes c.args.ws.now c.args.out.now c.requires.bits_listed.0.read (omega (arith, c.requires.bits_listed.0.count, c.requires.bits_listed.0.few)) (fits (goal.at.returns c).After-put_lines-counted ∙ y) (omega (arith, words-length c.args.ws.now, d.ends, c.if-out-end.false)))

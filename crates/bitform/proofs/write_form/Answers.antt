@@ -13,28 +13,22 @@ use Rattle.bitform.proofs.write_form.Goals as goal
 
 pub put_lines-put-requires : goal.put_lines-put-requires
 put_lines-put-requires c =
-    let l = c.requires.0 in
-    (record { listed = l.listed; fits = rw (l.rows_are, l.count) (fits-inside c.args.ws.now c.requires.3).0 }, c.requires.1, omega arith)
+    (record { listed = c.requires.0.listed; fits = rw (c.requires.0.rows_are, c.requires.0.count) (fits-inside c.args.ws.now c.requires.3).0 }, c.requires.1, omega arith)
 
 laid : (c : After-put_lines-put) → LaidAt c.put_constant.new.out 1 (entries_words (entries_of c.args.ws.now)) c.put_lines-put.new.out c.put_lines-put.result.at
 laid c =
-    let l = c.requires.0 in
-    let p = c.put_lines-put.ensures in
-    let y : c.put_lines-put.result.fits ≡ true = p.tested ∙ rw (l.rows_are, l.count) (fits-inside c.args.ws.now c.requires.3).1 in
-    rw (l.rows_are, l.count) at (p.laid y)
+    let y : c.put_lines-put.result.fits ≡ true = c.put_lines-put.ensures.tested ∙ rw (c.requires.0.rows_are, c.requires.0.count) (fits-inside c.args.ws.now c.requires.3).1 in
+    rw (c.requires.0.rows_are, c.requires.0.count) at (c.put_lines-put.ensures.laid y)
 
 pub put_end-requires : goal.put_end-requires
 put_end-requires c =
-    let l = c.requires.0 in
-    omega (arith, (laid (goal.at.put_end-requires c).After-put_lines-put).ends, lines-few (entry_of (bit_rows_of c.args.ws.now)) 0 (bit_count c.args.ws.now) (omega (arith, l.count, l.few)), l.count, l.few)
+    omega (arith, (laid (goal.at.put_end-requires c).After-put_lines-put).ends, lines-few (entry_of (bit_rows_of c.args.ws.now)) 0 (bit_count c.args.ws.now) (omega (arith, c.requires.0.count, c.requires.0.few)), c.requires.0.count, c.requires.0.few)
 
 pub overflow_add-result : goal.overflow_add-result
 overflow_add-result c =
-    let l = c.requires.0 in
-    record { fits = omega (arith, (laid (goal.at.overflow_add-result c).After-put_lines-put).ends, lines-few (entry_of (bit_rows_of c.args.ws.now)) 0 (bit_count c.args.ws.now) (omega (arith, l.count, l.few)), l.count, l.few) }
+    record { fits = omega (arith, (laid (goal.at.overflow_add-result c).After-put_lines-put).ends, lines-few (entry_of (bit_rows_of c.args.ws.now)) 0 (bit_count c.args.ws.now) (omega (arith, c.requires.0.count, c.requires.0.few)), c.requires.0.count, c.requires.0.few) }
 
 pub returns : goal.returns
 returns c =
-    let ws = c.args.ws.now in
     let d = laid (goal.at.returns c).After-put_lines-put in
-    (omega (arith, d.ends, words-length ws), parts-laid ws c.args.out.now _ _ _ _ (c.put_constant.ensures ∙ rw (to_z-of_z c.ranges.c, c.requires.2)) d c.put_end.ensures)
+    (omega (arith, d.ends, words-length c.args.ws.now), parts-laid c.args.ws.now c.args.out.now _ _ _ _ (c.put_constant.ensures ∙ rw (to_z-of_z c.ranges.c, c.requires.2)) d c.put_end.ensures)

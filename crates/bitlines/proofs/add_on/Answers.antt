@@ -10,9 +10,7 @@ use Rattle.bitlines.proofs.add_on.Goals as goal
 pub returns-then-lesser-i : goal.returns-then-lesser-i
 unfolding on_terms add_terms
 returns-then-lesser-i c =
-    let lesser = c.lesser in
-    let if1 = c.if-lesser-i in
-    c.add_at.ensures ∙ rw (to_z-of_z c.ranges.c, c.greater.ensures, eq-eqb (min c.args.a c.args.b) c.args.i (sym lesser.ensures ∙ if1.true)) refl
+    c.add_at.ensures ∙ rw (to_z-of_z c.ranges.c, c.greater.ensures, eq-eqb (min c.args.a c.args.b) c.args.i (sym c.lesser.ensures ∙ c.if-lesser-i.true)) refl
 
 pub returns-else-lesser-i : goal.returns-else-lesser-i
 unfolding on_terms add_terms

@@ -10,25 +10,19 @@ use Rattle.bitlines.proofs.add_pair.Goals as goal
 
 pub add_on-requires-2 : goal.add_on-requires-2
 add_on-requires-2 c =
-    let a = c.add_on in
-    rw a.ensures (omega (arith, peak-on c.args.line.now (pos 3) c.args.t c.args.t c.args.i, c.requires))
+    rw c.add_on.ensures (omega (arith, peak-on c.args.line.now (pos 3) c.args.t c.args.t c.args.i, c.requires))
 
 pub add_on-requires-3 : goal.add_on-requires-3
 add_on-requires-3 c =
-    let a = c.add_on in
-    let d = c.add_on-2 in
     let A = add_terms c.args.line.now (on_terms (pos 3) c.args.t c.args.t c.args.i) in
-    rw (d.ensures, a.ensures)
+    rw (c.add_on-2.ensures, c.add_on.ensures)
     (omega (arith, peak-on c.args.line.now (pos 3) c.args.t c.args.t c.args.i, peak-on A +1 c.args.u c.args.v c.args.i, c.requires))
 
 pub add_on-requires-4 : goal.add_on-requires-4
 add_on-requires-4 c =
-    let a = c.add_on in
-    let d = c.add_on-2 in
-    let e = c.add_on-3 in
     let A = add_terms c.args.line.now (on_terms (pos 3) c.args.t c.args.t c.args.i) in
     let B = add_terms A (on_terms +1 c.args.u c.args.v c.args.i) in
-    rw (e.ensures, d.ensures, a.ensures)
+    rw (c.add_on-3.ensures, c.add_on-2.ensures, c.add_on.ensures)
     (omega (
       arith,
       peak-on c.args.line.now (pos 3) c.args.t c.args.t c.args.i,
@@ -39,7 +33,4 @@ add_on-requires-4 c =
 
 pub returns : goal.returns
 returns c =
-    let a = c.add_on in
-    let d = c.add_on-2 in
-    let e = c.add_on-3 in
-    c.add_on-4.ensures ∙ rw (e.ensures, d.ensures, a.ensures) (pair-added c.args.line.now (pair_of c.args.u c.args.v c.args.t) c.args.i)
+    c.add_on-4.ensures ∙ rw (c.add_on-3.ensures, c.add_on-2.ensures, c.add_on.ensures) (pair-added c.args.line.now (pair_of c.args.u c.args.v c.args.t) c.args.i)

@@ -18,25 +18,11 @@ entry c = back c.square_at.result c.square_at.type_inv ∙ c.square_at.ensures �
 
 pub add_at-requires : goal.add_at-requires
 add_at-requires c =
-    let loop = c.loop-d in
-    rw (entry c) (omega (arith, square-size c.args.row.now c.args.c c.args.i (c.args.i + loop.d) c.requires.0 c.requires.1, loop.invariant.small, loop.invariant.place, c.requires.2, c.requires.3))
+    rw (entry c) (omega (arith, square-size c.args.row.now c.args.c c.args.i (c.args.i + c.loop-d.d) c.requires.0 c.requires.1, c.loop-d.invariant.small, c.loop-d.invariant.place, c.requires.2, c.requires.3))
 
 pub loop-d-preserved : goal.loop-d-preserved
 loop-d-preserved c =
-    let loop = c.loop-d in
-    rw (c.add_at.ensures, entry (goal.at.loop-d-preserved c).After-square_at, to_z-of_z c.ranges.c) (squared-more c.requires.0 c.requires.1 c.loop-d-test.true (rw (to_z-of_z c.ranges.c) at loop.invariant))
-
-pub returns : goal.returns
-returns c =
-    let loop = c.loop-d in
-    let e : loop.d ≡ c.args.m = omega (arith, loop.invariant.place, c.loop-d-test.false) in
-    record { sum = rw (e, to_z-of_z c.ranges.c) at loop.invariant.so_far; small = omega (arith, loop.invariant.small, e) }
+    rw (c.add_at.ensures, entry (goal.at.loop-d-preserved c).After-square_at, to_z-of_z c.ranges.c) (squared-more c.requires.0 c.requires.1 c.loop-d-test.true (rw (to_z-of_z c.ranges.c) at c.loop-d.invariant))
 
 pub loop-d-init : goal.loop-d-init
 loop-d-init c = squared-begun _ _ _ _ _
-
-pub square_at-requires : goal.square_at-requires
-square_at-requires c = rw (to_z-of_z c.ranges.c) (c.requires.0, c.requires.1)
-
-pub shape_of-line : goal.shape_of-line
-shape_of-line c = ap length c.loop-d.invariant.so_far ∙ add-length _ _

@@ -10,10 +10,5 @@ returns-then-equal c =
 
 pub returns : goal.returns
 returns c =
-    let equal = c.equal in
-    let if1 = c.if-equal in
-    let low = c.word_of in
-    let high = c.word_of-2 in
-    let number = c.number_word in
-    laid-entry c.args.i c.args.j c.args.v (rw (to_z-of_z c.ranges.v) at (sym equal.ensures ∙ if1.false))
-    (c.lay.ensures ∙ rw (low.ensures, high.ensures, number.ensures, to_z-of_z c.ranges.v) refl)
+    laid-entry c.args.i c.args.j c.args.v (rw (to_z-of_z c.ranges.v) at (sym c.equal.ensures ∙ c.if-equal.false))
+    (c.lay.ensures ∙ rw (c.word_of.ensures, c.word_of-2.ensures, c.number_word.ensures, to_z-of_z c.ranges.v) refl)

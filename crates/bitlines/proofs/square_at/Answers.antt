@@ -15,20 +15,16 @@ on_diagonal-requires c =
 pub returns-then-i-j : goal.returns-then-i-j
 unfolding square_at
 returns-then-i-j c =
-    let n = c.coefficient_at in
     back c.on_diagonal.result c.on_diagonal.type_inv ∙ c.on_diagonal.ensures
-    ∙ rw (back n.result n.type_inv, n.ensures, to_z-of_z c.ranges.c, eq-eqb c.args.i c.args.j c.if-i-j.true) refl
+    ∙ rw (back c.coefficient_at.result c.coefficient_at.type_inv, c.coefficient_at.ensures, to_z-of_z c.ranges.c, eq-eqb c.args.i c.args.j c.if-i-j.true) refl
 
 pub off_diagonal-requires : goal.off_diagonal-requires
 off_diagonal-requires c =
-    let a = c.coefficient_at-2 in
-    rw (back a.result a.type_inv, a.ensures, back c.coefficient_at-3.result c.coefficient_at-3.type_inv, c.coefficient_at-3.ensures)
+    rw (back c.coefficient_at-2.result c.coefficient_at-2.type_inv, c.coefficient_at-2.ensures, back c.coefficient_at-3.result c.coefficient_at-3.type_inv, c.coefficient_at-3.ensures)
     (omega (arith, peak-at c.args.row.now c.args.i, peak-at c.args.row.now c.args.j, c.requires))
 
 pub returns : goal.returns
 unfolding square_at
 returns c =
-    let a = c.coefficient_at-2 in
-    let b = c.coefficient_at-3 in
     back c.off_diagonal.result c.off_diagonal.type_inv ∙ c.off_diagonal.ensures
-    ∙ rw (back a.result a.type_inv, a.ensures, back b.result b.type_inv, b.ensures, ne_eqb c.args.i c.args.j c.if-i-j.false) refl
+    ∙ rw (back c.coefficient_at-2.result c.coefficient_at-2.type_inv, c.coefficient_at-2.ensures, back c.coefficient_at-3.result c.coefficient_at-3.type_inv, c.coefficient_at-3.ensures, ne_eqb c.args.i c.args.j c.if-i-j.false) refl

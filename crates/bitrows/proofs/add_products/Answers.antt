@@ -15,12 +15,10 @@ use Rattle.bitrows.proofs.add_products.Goals as goal
 -- the weight, as a signed number, and its opposite
 as-pos : (c : After-lesser-w) → (c.lesser-w.result < 9223372036854775808) × (to_z w64 c.lesser-w.result ≡ pos (min c.loop-left.weight c.loop-left.left))
 as-pos c =
-    let loop = c.loop-left in
-    let h : c.lesser-w.result < 9223372036854775808 = omega (arith, c.lesser-w.ensures, loop.invariant.sum c.loop-left-test.true, c.requires.1) in
+    let h : c.lesser-w.result < 9223372036854775808 = omega (arith, c.lesser-w.ensures, c.loop-left.invariant.sum c.loop-left-test.true, c.requires.1) in
     (h, to_z_pos w64 {n = c.lesser-w.result} h ∙ ap pos c.lesser-w.ensures)
 
-less : (c : After-opposite) → let loop = c.loop-left in
-    to_z w64 (of_z w64 c.opposite.result) ≡ neg (pos (min loop.weight loop.left))
+less : (c : After-opposite) → to_z w64 (of_z w64 c.opposite.result) ≡ neg (pos (min c.loop-left.weight c.loop-left.left))
 less c = back c.opposite.result c.opposite.type_inv ∙ c.opposite.ensures ∙ ap neg (as-pos c.before.before).1
 
 pub loop-left-init : goal.loop-left-init
@@ -29,31 +27,11 @@ loop-left-init c =
 
 pub add_weights-at-requires : goal.add_weights-at-requires
 add_weights-at-requires c =
-    let loop = c.loop-left in
-    (omega (arith, loop.invariant.place, c.requires.0, mul-le c.requires.1 c.requires.2), omega (arith, c.requires.2), rw (less c) (crossing_fits loop.invariant))
-
-pub overflow_add-weight : goal.overflow_add-weight
-overflow_add-weight c = omega (arith, c.loop-left.invariant.sum c.loop-left-test.true, c.requires.1)
-
-pub loop-left-smaller : goal.loop-left-smaller
-loop-left-smaller c = omega (arith, c.lesser-w.ensures, c.loop-left-test.true, c.loop-left.invariant.positive)
+    (omega (arith, c.loop-left.invariant.place, c.requires.0, mul-le c.requires.1 c.requires.2), omega (arith, c.requires.2), rw (less c) (crossing_fits c.loop-left.invariant))
 
 pub loop-left-preserved : goal.loop-left-preserved
 loop-left-preserved c =
-    let loop = c.loop-left in
-    rw (c.add_weights-at.ensures.1, c.add_weights-at.ensures.0, c.lesser-w.ensures, less (goal.at.loop-left-preserved c).After-opposite) (crossing_more loop.invariant c.loop-left-test.true)
-
-pub overflow_cast-w : goal.overflow_cast-w
-overflow_cast-w c = fits64 _ (as-pos (goal.at.overflow_cast-w c).After-lesser-w).0
-
-pub opposite-requires : goal.opposite-requires
-opposite-requires c = rw (as-pos (goal.at.opposite-requires c).After-lesser-w).1 (omega (arith, (as-pos (goal.at.opposite-requires c).After-lesser-w).0, c.lesser-w.ensures))
-
-pub overflow_sub-left : goal.overflow_sub-left
-overflow_sub-left c = omega (arith, c.lesser-w.ensures)
-
-pub shape_of-row : goal.shape_of-row
-shape_of-row c = c.loop-left.invariant.same _ (add-length _ _)
+    rw (c.add_weights-at.ensures.1, c.add_weights-at.ensures.0, c.lesser-w.ensures, less (goal.at.loop-left-preserved c).After-opposite) (crossing_more c.loop-left.invariant c.loop-left-test.true)
 
 pub returns : goal.returns
 returns c = crossing_done c.loop-left-test.false c.loop-left.invariant

@@ -4,11 +4,6 @@ use mir.Facts.{to_z-of_z}
 use Rattle.bitrows.proofs.Over.{variable-size, variable-added}
 use Rattle.bitrows.proofs.add_variable.Goals as goal
 
-pub add_weights-requires : goal.add_weights-requires
-add_weights-requires c =
-    rw (c.span_at.ensures.0, c.table_entry.ensures, to_z-of_z c.ranges.k)
-    (omega (arith, c.requires.0.near_first c.args.v, c.span_at.ensures, c.requires.2, (variable-size c.args.ls.now c.args.us.now c.args.firsts.now c.args.v c.args.k c.args.row.now c.requires.0.near_lower c.requires.0.near_upper c.requires.1).0))
-
 pub returns : goal.returns
 returns c =
     variable-added c.args.row.now c.args.ls.now c.args.us.now c.args.firsts.now c.args.v c.args.k c.requires.0.near_lower c.requires.0.near_upper c.requires.1 c.table_entry.ensures c.span_at.ensures.0

@@ -24,8 +24,7 @@ returns-then-k-eq-AT_MOST c =
 pub returns-then-k-eq-EQUAL : goal.returns-then-k-eq-EQUAL
 unfolding bit_row
 returns-then-k-eq-EQUAL c =
-    let k = c.kind_of-k.ensures in
-    (λ firsts first. rw (row-equal c.args.head c.args.args.now (ne_eqb _ _ (λ e. c.if-k-eq-AT_MOST.false (k ∙ e))) (eq-eqb _ _ (sym k ∙ c.if-k-eq-EQUAL.true))) refl, omega arith)
+    (λ firsts first. rw (row-equal c.args.head c.args.args.now (ne_eqb _ _ (λ e. c.if-k-eq-AT_MOST.false (c.kind_of-k.ensures ∙ e))) (eq-eqb _ _ (sym c.kind_of-k.ensures ∙ c.if-k-eq-EQUAL.true))) refl, omega arith)
 
 pub overflow_mul-result : goal.overflow_mul-result
 overflow_mul-result c =
@@ -36,9 +35,5 @@ overflow_mul-result c =
 pub returns : goal.returns
 unfolding bit_row
 returns c =
-    let k = c.kind_of-k.ensures in
     let few = counts-few c.args.ls.now c.args.us.now c.args.counts.now c.requires.0 c.requires.1 c.requires.2 in
-    (λ firsts first. rw (row-product c.args.head c.args.args.now (ne_eqb _ _ (λ e. c.if-k-eq-AT_MOST.false (k ∙ e))) (ne_eqb _ _ (λ e. c.if-k-eq-EQUAL.false (k ∙ e)))) (ap₂ ◌*◌ (c.table_entry.ensures ∙ rw c.row_variable.ensures (c.requires.2 _)) (c.table_entry-2.ensures ∙ rw c.row_variable-2.ensures (c.requires.2 _)) ∙ sym (own-product c.args.ls.now c.args.us.now firsts first _ _)), rw (c.table_entry.ensures, c.table_entry-2.ensures) (mul-le (few c.row_variable.result) (few c.row_variable-2.result)))
-
-pub weight_count-requires : goal.weight_count-requires
-weight_count-requires c = omega (arith, c.slack_of.ensures.1)
+    (λ firsts first. rw (row-product c.args.head c.args.args.now (ne_eqb _ _ (λ e. c.if-k-eq-AT_MOST.false (c.kind_of-k.ensures ∙ e))) (ne_eqb _ _ (λ e. c.if-k-eq-EQUAL.false (c.kind_of-k.ensures ∙ e)))) (ap₂ ◌*◌ (c.table_entry.ensures ∙ rw c.row_variable.ensures (c.requires.2 _)) (c.table_entry-2.ensures ∙ rw c.row_variable-2.ensures (c.requires.2 _)) ∙ sym (own-product c.args.ls.now c.args.us.now firsts first _ _)), rw (c.table_entry.ensures, c.table_entry-2.ensures) (mul-le (few c.row_variable.result) (few c.row_variable-2.result)))

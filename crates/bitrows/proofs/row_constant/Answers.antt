@@ -23,11 +23,9 @@ least_of-requires-then-k-eq-EQUAL c = (c.requires, c.requires, omega (arith, c.t
 pub returns-then-k-eq-EQUAL : goal.returns-then-k-eq-EQUAL
 unfolding bit_row over
 returns-then-k-eq-EQUAL c us firsts first =
-    let k = c.kind_of-k.ensures in
-    rw (row-equal c.args.head c.args.args.now (ne_eqb _ _ (λ e. c.if-k-eq-AT_MOST.false (k ∙ e))) (eq-eqb _ _ (sym k ∙ c.if-k-eq-EQUAL.true)), ← c.term_count-then-k-eq-EQUAL.ensures) (read c.least_of-then-k-eq-EQUAL.type_inv c.least_of-then-k-eq-EQUAL.ensures.0 ∙ least-lower c.args.ls.now _ _)
+    rw (row-equal c.args.head c.args.args.now (ne_eqb _ _ (λ e. c.if-k-eq-AT_MOST.false (c.kind_of-k.ensures ∙ e))) (eq-eqb _ _ (sym c.kind_of-k.ensures ∙ c.if-k-eq-EQUAL.true)), ← c.term_count-then-k-eq-EQUAL.ensures) (read c.least_of-then-k-eq-EQUAL.type_inv c.least_of-then-k-eq-EQUAL.ensures.0 ∙ least-lower c.args.ls.now _ _)
 
 pub returns : goal.returns
 unfolding bit_row product_whole
 returns c us firsts first =
-    let k = c.kind_of-k.ensures in
-    rw (row-product c.args.head c.args.args.now (ne_eqb _ _ (λ e. c.if-k-eq-AT_MOST.false (k ∙ e))) (ne_eqb _ _ (λ e. c.if-k-eq-EQUAL.false (k ∙ e)))) (read c.product_constant.type_inv c.product_constant.ensures)
+    rw (row-product c.args.head c.args.args.now (ne_eqb _ _ (λ e. c.if-k-eq-AT_MOST.false (c.kind_of-k.ensures ∙ e))) (ne_eqb _ _ (λ e. c.if-k-eq-EQUAL.false (c.kind_of-k.ensures ∙ e)))) (read c.product_constant.type_inv c.product_constant.ensures)

@@ -19,17 +19,15 @@ few c = rw (quarter c.args.bytes.now) at c.if-bytes-gt-WORDS.false
 pub returns-then-bytes-gt-WORDS : goal.returns-then-bytes-gt-WORDS
 unfolding form_text
 returns-then-bytes-gt-WORDS c =
-    let put = c.put_too_long in
     let p = front_too_long program_words (length (bytes_words c.args.bytes.now)) _ _ (rw (quarter c.args.bytes.now) at c.if-bytes-gt-WORDS.true)
-    put.ensures.text (omega (arith, put.ensures.end, c.requires)) in
+    c.put_too_long.ensures.text (omega (arith, c.put_too_long.ensures.end, c.requires)) in
     record { text = p.0; count = p.1 }
 
 pub returns-in-Refused : goal.returns-in-Refused
 unfolding form_text wrote bit_form
 returns-in-Refused c =
-    let put = c.put_refusal in
     let says = rw (c.in-Refused.is, c.front_words-n.ensures.words) at c.bit_form.ensures.answer in
-    let p = front-refused _ _ put.ensures.text (omega (arith, put.ensures.end, c.requires)) _ says (short-enough program_words (length (bytes_words c.args.bytes.now)) _ (few (goal.at.returns-in-Refused c).Else-bytes-gt-WORDS)) in
+    let p = front-refused _ _ c.put_refusal.ensures.text (omega (arith, c.put_refusal.ensures.end, c.requires)) _ says (short-enough program_words (length (bytes_words c.args.bytes.now)) _ (few (goal.at.returns-in-Refused c).Else-bytes-gt-WORDS)) in
     record { text = p.0; count = p.1 }
 
 pub returns-in-Words : goal.returns-in-Words

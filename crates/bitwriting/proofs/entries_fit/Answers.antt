@@ -19,22 +19,11 @@ loop-d-init c = (search rules, refl)
 pub returns-then-not-in_range : goal.returns-then-not-in_range
 unfolding line_entries
 returns-then-not-in_range c =
-    let l = c.loop-d in
     let e = ap in_range (sym (read c.coefficient_at.type_inv c.coefficient_at.ensures)) ∙ sym c.in_range.ensures ∙ c.if-not-in_range.true in
-    sym (fails-at (λ x. in_range x.number) (λ d. entry_at c.args.i (c.args.i + d) (get_or c.args.line.now (c.args.i + d) +0)) c.args.m l.d c.loop-d-test.true e)
+    sym (fails-at (λ x. in_range x.number) (λ d. entry_at c.args.i (c.args.i + d) (get_or c.args.line.now (c.args.i + d) +0)) c.args.m c.loop-d.d c.loop-d-test.true e)
 
 pub loop-d-preserved : goal.loop-d-preserved
 unfolding line_entries
 loop-d-preserved c =
-    let l = c.loop-d in
     let e = ap in_range (sym (read c.coefficient_at.type_inv c.coefficient_at.ensures)) ∙ sym c.in_range.ensures ∙ c.if-not-in_range.false in
-    (omega (arith, c.loop-d-test.true), all_more (λ x. in_range x.number) (λ d. entry_at c.args.i (c.args.i + d) (get_or c.args.line.now (c.args.i + d) +0)) l.d ∙ rw l.invariant.1 e)
-
-pub returns : goal.returns
-returns c =
-    let l = c.loop-d in
-    let e : l.d ≡ c.args.m = omega (arith, l.invariant.0, c.loop-d-test.false) in
-    sym (rw e at l.invariant.1)
-
-pub overflow_add-i : goal.overflow_add-i
-overflow_add-i c = omega (arith, c.loop-d-test.true, c.requires)
+    (omega (arith, c.loop-d-test.true), all_more (λ x. in_range x.number) (λ d. entry_at c.args.i (c.args.i + d) (get_or c.args.line.now (c.args.i + d) +0)) c.loop-d.d ∙ rw c.loop-d.invariant.1 e)

@@ -136,26 +136,25 @@ int_pow-requires c =
 
 pub returns-in_default : goal.returns-in_default
 returns-in_default c =
-    let w = c.int_eq-in_default.ensures in
     let none : None Table.last c.args.code = search rules in
-    let r = from c.from_nothing-s.ensures.0 (fitted (w.0 (bounds_of c.args.ls.now c.args.us.now) c.args.first, w.1) (omega arith)) in
+    let r = from c.from_nothing-s.ensures.0 (fitted (c.int_eq-in_default.ensures.0 (bounds_of c.args.ls.now c.args.us.now) c.args.first, c.int_eq-in_default.ensures.1) (omega arith)) in
     record { parts = rw (over_none _ _ _ c.args.code c.args.args.now (none-choosing c.args.code none), default c.args.code c.args.args.now none) r.0; size = r.1 }
 
 pub choice-requires : goal.choice-requires
 unfolding builtin builtins choosing
-choice-requires c = let p = c.requires in (c.from_nothing-s.ensures.1, p.0, p.1, p.2, p.3, p.4, rw c.in-24.is refl)
+choice-requires c = (c.from_nothing-s.ensures.1, c.requires.0, c.requires.1, c.requires.2, c.requires.3, c.requires.4, rw c.in-24.is refl)
 
 pub choice-requires-in-25 : goal.choice-requires-in-25
 unfolding builtin builtins choosing
-choice-requires-in-25 c = let p = c.requires in (c.from_nothing-s.ensures.1, p.0, p.1, p.2, p.3, p.4, rw c.in-25.is refl)
+choice-requires-in-25 c = (c.from_nothing-s.ensures.1, c.requires.0, c.requires.1, c.requires.2, c.requires.3, c.requires.4, rw c.in-25.is refl)
 
 pub choice-requires-in-27 : goal.choice-requires-in-27
 unfolding builtin builtins choosing
-choice-requires-in-27 c = let p = c.requires in (c.from_nothing-s.ensures.1, p.0, p.1, p.2, p.3, p.4, rw c.in-27.is refl)
+choice-requires-in-27 c = (c.from_nothing-s.ensures.1, c.requires.0, c.requires.1, c.requires.2, c.requires.3, c.requires.4, rw c.in-27.is refl)
 
 pub choice-requires-in-28 : goal.choice-requires-in-28
 unfolding builtin builtins choosing
-choice-requires-in-28 c = let p = c.requires in (c.from_nothing-s.ensures.1, p.0, p.1, p.2, p.3, p.4, rw c.in-28.is refl)
+choice-requires-in-28 c = (c.from_nothing-s.ensures.1, c.requires.0, c.requires.1, c.requires.2, c.requires.3, c.requires.4, rw c.in-28.is refl)
 
 pub returns-in-1 : goal.returns-in-1
 unfolding builtin builtins choosing
@@ -185,15 +184,13 @@ returns-in-8 c =
 pub returns-in-10 : goal.returns-in-10
 unfolding builtin builtins choosing
 returns-in-10 c =
-    let w = c.int_lin_eq.ensures in
-    let r = from c.from_nothing-s.ensures.0 (fitted (w.0 c.args.first (bounds_of c.args.ls.now c.args.us.now), w.1) (omega arith)) in
+    let r = from c.from_nothing-s.ensures.0 (fitted (c.int_lin_eq.ensures.0 c.args.first (bounds_of c.args.ls.now c.args.us.now), c.int_lin_eq.ensures.1) (omega arith)) in
     record { parts = rw (by_code _ _ _ _ _ 10 c.in-10.is refl) r.0; size = r.1 }
 
 pub returns-in-11 : goal.returns-in-11
 unfolding builtin builtins choosing
 returns-in-11 c =
-    let w = c.int_lin_le.ensures in
-    let r = from c.from_nothing-s.ensures.0 (fitted (w.0 c.args.first (bounds_of c.args.ls.now c.args.us.now), w.1) (omega arith)) in
+    let r = from c.from_nothing-s.ensures.0 (fitted (c.int_lin_le.ensures.0 c.args.first (bounds_of c.args.ls.now c.args.us.now), c.int_lin_le.ensures.1) (omega arith)) in
     record { parts = rw (by_code _ _ _ _ _ 11 c.in-11.is refl) r.0; size = r.1 }
 
 pub returns-in-18 : goal.returns-in-18
@@ -220,47 +217,20 @@ returns-in-20 c =
 pub returns-in-21 : goal.returns-in-21
 unfolding builtin builtins choosing
 returns-in-21 c =
-    let w = c.bool_clause.ensures in
-    let r = from c.from_nothing-s.ensures.0 (fitted (w.parts c.args.first (bounds_of c.args.ls.now c.args.us.now), w.size) (omega arith)) in
+    let r = from c.from_nothing-s.ensures.0 (fitted (c.bool_clause.ensures.parts c.args.first (bounds_of c.args.ls.now c.args.us.now), c.bool_clause.ensures.size) (omega arith)) in
     record { parts = rw (by_code _ _ _ _ _ 21 c.in-21.is refl) r.0; size = r.1 }
 
 pub returns-in-22 : goal.returns-in-22
 unfolding builtin builtins choosing
 returns-in-22 c =
-    let w = c.array_bool_and.ensures in
-    let r = from c.from_nothing-s.ensures.0 (fitted (w.parts c.args.first (bounds_of c.args.ls.now c.args.us.now), w.size) (omega arith)) in
+    let r = from c.from_nothing-s.ensures.0 (fitted (c.array_bool_and.ensures.parts c.args.first (bounds_of c.args.ls.now c.args.us.now), c.array_bool_and.ensures.size) (omega arith)) in
     record { parts = rw (by_code _ _ _ _ _ 22 c.in-22.is refl) r.0; size = r.1 }
 
 pub returns-in-23 : goal.returns-in-23
 unfolding builtin builtins choosing
 returns-in-23 c =
-    let w = c.array_bool_xor.ensures in
-    let r = from c.from_nothing-s.ensures.0 (fitted (w.0 (bounds_of c.args.ls.now c.args.us.now), w.1) (omega arith)) in
+    let r = from c.from_nothing-s.ensures.0 (fitted (c.array_bool_xor.ensures.0 (bounds_of c.args.ls.now c.args.us.now), c.array_bool_xor.ensures.1) (omega arith)) in
     record { parts = rw (by_code _ _ _ _ _ 23 c.in-23.is refl) r.0; size = r.1 }
-
-pub returns-in-24 : goal.returns-in-24
-unfolding builtin builtins choosing
-returns-in-24 c =
-    let r = rw c.from_nothing-s.ensures.0 at c.choice.ensures in
-    record { parts = r.parts; size = r.size }
-
-pub returns-in-25 : goal.returns-in-25
-unfolding builtin builtins choosing
-returns-in-25 c =
-    let r = rw c.from_nothing-s.ensures.0 at c.choice-in-25.ensures in
-    record { parts = r.parts; size = r.size }
-
-pub returns-in-27 : goal.returns-in-27
-unfolding builtin builtins choosing
-returns-in-27 c =
-    let r = rw c.from_nothing-s.ensures.0 at c.choice-in-27.ensures in
-    record { parts = r.parts; size = r.size }
-
-pub returns-in-28 : goal.returns-in-28
-unfolding builtin builtins choosing
-returns-in-28 c =
-    let r = rw c.from_nothing-s.ensures.0 at c.choice-in-28.ensures in
-    record { parts = r.parts; size = r.size }
 
 pub returns-in-34 : goal.returns-in-34
 unfolding builtin builtins choosing
@@ -299,6 +269,5 @@ pub returns-in-39 : goal.returns-in-39
 unfolding builtin builtins choosing
 returns-in-39 c =
     let w = rw (c.var_at-a.ensures, c.exponent_at.ensures, c.var_at-c.ensures) at c.int_pow.ensures in
-    let e = c.in-39.is in
     let r = from c.from_nothing-s.ensures.0 (w.0, omega (arith, w.1)) in
-    record { parts = rw (by_code _ _ _ _ _ 39 e refl) r.0; size = r.1 }
+    record { parts = rw (by_code _ _ _ _ _ 39 c.in-39.is refl) r.0; size = r.1 }

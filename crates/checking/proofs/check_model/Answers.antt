@@ -38,11 +38,10 @@ known c =
 pub returns-then-read-ne-NONE : goal.returns-then-read-ne-NONE
 unfolding checked
 returns-then-read-ne-NONE c =
-    let k = c.read_model-read.ensures in
     record {
-      answer = read-refused k c.if-read-ne-NONE.true;
-      bounds = λ p. absurd (c.if-read-ne-NONE.true (read-passes k p));
-      sums = λ p. absurd (c.if-read-ne-NONE.true (read-passes k p));
+      answer = read-refused c.read_model-read.ensures c.if-read-ne-NONE.true;
+      bounds = λ p. absurd (c.if-read-ne-NONE.true (read-passes c.read_model-read.ensures p));
+      sums = λ p. absurd (c.if-read-ne-NONE.true (read-passes c.read_model-read.ensures p));
     }
 
 pub keep_bounds-requires : goal.keep_bounds-requires

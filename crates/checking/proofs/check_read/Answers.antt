@@ -18,14 +18,7 @@ use Rattle.checking.proofs.CheckWalk.{begun, more, stop, done, all-checked}
 use Rattle.checking.proofs.check_read.Goals.{After-cost_of-cost, After-record_encoding, In-loop-constraints}
 use Rattle.checking.proofs.check_read.Goals as goal
 
--- the constraint has a place in the lists, and its head among the words
-few : (c : In-loop-constraints) → c.loop-constraints.constraints < 256
-few c = omega (arith, c.loop-constraints-test.true, few-constraints c.requires.0)
-
-pub bounds-heads-constraints : goal.bounds-heads-constraints
-bounds-heads-constraints c = omega (arith, few-constraints c.requires.0)
-
-inside : (c : In-loop-constraints) → let a = c.args in get_or a.heads.now c.loop-constraints.constraints 0 < length a.ws.now
+inside : (c : In-loop-constraints) → get_or c.args.heads.now c.loop-constraints.constraints 0 < length c.args.ws.now
 inside c = head-inside c.requires.0 c.loop-constraints.constraints c.loop-constraints-test.true
 
 -- what it costs; with that the counts do not wrap
@@ -35,14 +28,11 @@ costs : (c : After-cost_of-cost) →
     Costs (bounds_of a.ls.now a.us.now) (shared_by a.uses.now) (a.read.variables + l.auxiliaries) l.encoded (headed a.ws.now (get_or a.heads.now l.constraints 0)) c.cost_of-cost.result
 unfolding word_at
 costs c =
-    let a = c.args in
-    let l = c.loop-constraints in
-    let at = get_or a.heads.now l.constraints 0 in
-    placed_costs (bounds_of a.ls.now a.us.now) (shared_by a.uses.now) (headed a.ws.now at) _ l.encoded (rw (c.payload_of-code.ensures, tail-is a.ws.now (at + 1)) at c.cost_of-cost.ensures)
+    let at = get_or c.args.heads.now c.loop-constraints.constraints 0 in
+    placed_costs (bounds_of c.args.ls.now c.args.us.now) (shared_by c.args.uses.now) (headed c.args.ws.now at) _ c.loop-constraints.encoded (rw (c.payload_of-code.ensures, tail-is c.args.ws.now (at + 1)) at c.cost_of-cost.ensures)
 
 fit : (c : After-cost_of-cost) →
-    let l = c.loop-constraints in
-    l.auxiliaries + l.rows + l.words + c.cost_of-cost.result.auxiliaries + c.cost_of-cost.result.rows + c.cost_of-cost.result.words ≤ 300000000
+    c.loop-constraints.auxiliaries + c.loop-constraints.rows + c.loop-constraints.words + c.cost_of-cost.result.auxiliaries + c.cost_of-cost.result.rows + c.cost_of-cost.result.words ≤ 300000000
 fit c = omega (arith, c.loop-constraints.invariant.small, few-constraints c.requires.0, c.loop-constraints-test.true, few-sources c.requires.0, c.cost_of-cost.ensures.small)
 
 -- the record after it
@@ -52,36 +42,27 @@ recorded : (c : After-record_encoding) →
     c.record_encoding.new.encoded ≡ encoded_after (shared_by a.uses.now) (a.read.variables + l.auxiliaries) l.encoded (encodes (choice (headed a.ws.now (get_or a.heads.now l.constraints 0))))
 unfolding word_at
 recorded c =
-    let a = c.args in
-    let l = c.loop-constraints in
-    let at = get_or a.heads.now l.constraints 0 in
-    placed_record (shared_by a.uses.now) (a.read.variables + l.auxiliaries) l.encoded (headed a.ws.now at) (rw (c.payload_of-code.ensures, tail-is a.ws.now (at + 1)) at c.record_encoding.ensures)
+    let at = get_or c.args.heads.now c.loop-constraints.constraints 0 in
+    placed_record (shared_by c.args.uses.now) (c.args.read.variables + c.loop-constraints.auxiliaries) c.loop-constraints.encoded (headed c.args.ws.now at) (rw (c.payload_of-code.ensures, tail-is c.args.ws.now (at + 1)) at c.record_encoding.ensures)
 
 pub cost_of-cost-requires : goal.cost_of-cost-requires
 unfolding word_at
 cost_of-cost-requires c =
-    let l = c.loop-constraints in
-    let m = c.requires.0 in
-    (omega (arith, l.invariant.room), m.lowers, m.uppers, l.invariant.recorded, rw (c.payload_of-code.ensures, tail-is c.args.ws.now (get_or c.args.heads.now l.constraints 0 + 1), c.sum_at-sum.ensures) (summed_at m l.constraints c.loop-constraints-test.true c.args.lows.now c.args.highs.now c.requires.1))
+    (omega (arith, c.loop-constraints.invariant.room), c.requires.0.lowers, c.requires.0.uppers, c.loop-constraints.invariant.recorded, rw (c.payload_of-code.ensures, tail-is c.args.ws.now (get_or c.args.heads.now c.loop-constraints.constraints 0 + 1), c.sum_at-sum.ensures) (summed_at c.requires.0 c.loop-constraints.constraints c.loop-constraints-test.true c.args.lows.now c.args.highs.now c.requires.1))
 
 pub returns-then-cost-ne-NONE : goal.returns-then-cost-ne-NONE
 unfolding checked
 returns-then-cost-ne-NONE c =
-    let m = c.requires.0 in
-    let l = c.loop-constraints in
-    stop l.invariant (head_at m l.constraints c.loop-constraints-test.true) (costs (goal.at.returns-then-cost-ne-NONE c).After-cost_of-cost) c.if-cost-ne-NONE.true ∙ all-checked m
+    stop c.loop-constraints.invariant (head_at c.requires.0 c.loop-constraints.constraints c.loop-constraints-test.true) (costs (goal.at.returns-then-cost-ne-NONE c).After-cost_of-cost) c.if-cost-ne-NONE.true ∙ all-checked c.requires.0
 
 pub loop-constraints-preserved : goal.loop-constraints-preserved
 loop-constraints-preserved c =
-    let m = c.requires.0 in
-    let l = c.loop-constraints in
-    more l.invariant (head_at m l.constraints c.loop-constraints-test.true) (costs (goal.at.loop-constraints-preserved c).After-cost_of-cost) c.if-cost-ne-NONE.false (recorded (goal.at.loop-constraints-preserved c).After-record_encoding)
+    more c.loop-constraints.invariant (head_at c.requires.0 c.loop-constraints.constraints c.loop-constraints-test.true) (costs (goal.at.loop-constraints-preserved c).After-cost_of-cost) c.if-cost-ne-NONE.false (recorded (goal.at.loop-constraints-preserved c).After-record_encoding)
 
 pub returns : goal.returns
 unfolding checked
 returns c =
-    let m = c.requires.0 in
-    done c.loop-constraints.invariant (none_left m c.loop-constraints-test.false) ∙ all-checked m
+    done c.loop-constraints.invariant (none_left c.requires.0 c.loop-constraints-test.false) ∙ all-checked c.requires.0
 
 pub overflow_add-words : goal.overflow_add-words
 overflow_add-words c = omega (arith, few-sources c.requires.0)
@@ -89,17 +70,11 @@ overflow_add-words c = omega (arith, few-sources c.requires.0)
 pub loop-constraints-init : goal.loop-constraints-init
 loop-constraints-init c = begun _ _ _ _ _ (few-variables c.requires.0)
 
-pub offset_bounds-heads-constraints : goal.offset_bounds-heads-constraints
-offset_bounds-heads-constraints c = record { fits = omega (arith, few-constraints c.requires.0) }
-
 pub offset_bounds-ws-place : goal.offset_bounds-ws-place
 offset_bounds-ws-place c = let h = inside (goal.at.offset_bounds-ws-place c).In-loop-constraints in search rules
 
 pub bounds-ws-place : goal.bounds-ws-place
 bounds-ws-place c = inside (goal.at.bounds-ws-place c).In-loop-constraints
-
-pub overflow_add-first : goal.overflow_add-first
-overflow_add-first c = omega (arith, c.loop-constraints.invariant.room)
 
 pub overflow_add-place : goal.overflow_add-place
 overflow_add-place c = let h = inside (goal.at.overflow_add-place c).In-loop-constraints in search rules
@@ -113,12 +88,6 @@ slice_bounds-cost_of-count c = let h = inside (goal.at.slice_bounds-cost_of-coun
 pub slice_bounds-cost_of-start : goal.slice_bounds-cost_of-start
 slice_bounds-cost_of-start c = omega (arith, inside (goal.at.slice_bounds-cost_of-start c).In-loop-constraints)
 
-pub slice_bounds-cost_of-end-in-loop-constraints : goal.slice_bounds-cost_of-end-in-loop-constraints
-slice_bounds-cost_of-end-in-loop-constraints c = sym c.loop-constraints.invariant.many
-
-pub slice_bounds-record_encoding-end : goal.slice_bounds-record_encoding-end
-slice_bounds-record_encoding-end c = sym c.loop-constraints.invariant.many
-
 pub overflow_add-place-in-loop-constraints : goal.overflow_add-place-in-loop-constraints
 overflow_add-place-in-loop-constraints c = let h = inside (goal.at.overflow_add-place-in-loop-constraints c).In-loop-constraints in search rules
 
@@ -131,17 +100,8 @@ slice_bounds-record_encoding-count c = let h = inside (goal.at.slice_bounds-reco
 pub slice_bounds-record_encoding-start : goal.slice_bounds-record_encoding-start
 slice_bounds-record_encoding-start c = omega (arith, inside (goal.at.slice_bounds-record_encoding-start c).In-loop-constraints)
 
-pub overflow_add-constraints : goal.overflow_add-constraints
-overflow_add-constraints c = omega (arith, few-constraints c.requires.0)
-
-pub overflow_add-auxiliaries : goal.overflow_add-auxiliaries
-overflow_add-auxiliaries c = omega (arith, fit (goal.at.overflow_add-auxiliaries c).After-cost_of-cost)
-
 pub overflow_add-rows : goal.overflow_add-rows
 overflow_add-rows c = omega (arith, fit (goal.at.overflow_add-rows c).After-cost_of-cost)
 
 pub overflow_add-words-in-loop-constraints : goal.overflow_add-words-in-loop-constraints
 overflow_add-words-in-loop-constraints c = omega (arith, fit (goal.at.overflow_add-words-in-loop-constraints c).After-cost_of-cost)
-
-pub loop-constraints-smaller : goal.loop-constraints-smaller
-loop-constraints-smaller c = omega (arith, c.loop-constraints-test.true)

@@ -9,6 +9,3 @@ returns c = laid_costs (sym c.too_wide.ensures ∙ c.if-too_wide.false) (told c.
 
 pub returns-then-too_wide : goal.returns-then-too_wide
 returns-then-too_wide c = wide_costs (sym c.too_wide.ensures ∙ c.if-too_wide.true)
-
-pub block-laid-requires : goal.block-laid-requires
-block-laid-requires c = let p = c.requires in (p.0, p.1, p.2, sym c.too_wide.ensures ∙ c.if-too_wide.false, p.3, p.4)

@@ -20,5 +20,4 @@ returns-then-code-eq-SET_IN_REIF c = sym (all-28 _ c.args.args.now c.if-code-eq-
 pub returns : goal.returns
 unfolding has_all
 returns c =
-    let a = c.args in
-    rw (ne_eqb _ _ c.if-code-eq-SET_IN_REIF.false) (c.is_shared.ensures ∙ shares-by _ a.code a.args.now ∙ and-if (choosing a.code) (shared_by a.uses.now (var a.args.now 0)))
+    rw (ne_eqb _ _ c.if-code-eq-SET_IN_REIF.false) (c.is_shared.ensures ∙ shares-by _ c.args.code c.args.args.now ∙ and-if (choosing c.args.code) (shared_by c.args.uses.now (var c.args.args.now 0)))

@@ -10,33 +10,21 @@ use Rattle.choiceblocks.proofs.array_int_extreme.Goals as goal
 
 few : (c : After-size_at-n) → c.size_at-n.result ≤ 32
 few c =
-    let args = c.args in
-    omega (arith, c.size_at-n.ensures, size-le args.args.now 1)
+    omega (arith, c.size_at-n.ensures, size-le c.args.args.now 1)
 
 pub lay_order-u-requires : goal.lay_order-u-requires
 lay_order-u-requires c =
-    let lay-one-of = c.lay_one_of-t in
-    (omega (arith, c.requires.0, lay-one-of.ensures.1), omega (arith, few (goal.at.lay_order-u-requires c).After-size_at-n), omega arith)
+    (omega (arith, c.requires.0, c.lay_one_of-t.ensures.1), omega (arith, few (goal.at.lay_order-u-requires c).After-size_at-n), omega arith)
 
 pub lay_first_only-requires : goal.lay_first_only-requires
 lay_first_only-requires c =
-    let lay-one-of = c.lay_one_of-t in
-    let lay-order = c.lay_order-u in
-    (omega (arith, c.requires.0, lay-one-of.ensures.1, lay-order.ensures.1), omega (arith, few (goal.at.lay_first_only-requires c).After-size_at-n), omega arith, omega (arith, c.requires.1), c.requires.2, c.requires.3)
+    (omega (arith, c.requires.0, c.lay_one_of-t.ensures.1, c.lay_order-u.ensures.1), omega (arith, few (goal.at.lay_first_only-requires c).After-size_at-n), omega arith, omega (arith, c.requires.1), c.requires.2, c.requires.3)
 
 pub returns : goal.returns
 returns c =
-    let i = c.args in
-    let var-at = c.var_at-m in
-    let size-at = c.size_at-n in
-    let lay-one-of = c.lay_one_of-t in
-    let lay-order = c.lay_order-u in
-    let n = size-at.ensures in
-    let m = var-at.ensures in
-    let a = lay-one-of.ensures in
-    let b = rw (n, m) at lay-order.ensures in
-    let d = rw (n, m) at c.lay_first_only.ensures in
+    let b = rw (c.size_at-n.ensures, c.var_at-m.ensures) at c.lay_order-u.ensures in
+    let d = rw (c.size_at-n.ensures, c.var_at-m.ensures) at c.lay_first_only.ensures in
     record {
-      parts = went_as (sym (extreme-parts i.first i.ls.now i.us.now i.args.now i.up)) (went_then a.0 (went_then b.0 d.0));
-      size = omega (arith, a.1, b.1, d.1);
+      parts = went_as (sym (extreme-parts c.args.first c.args.ls.now c.args.us.now c.args.args.now c.args.up)) (went_then c.lay_one_of-t.ensures.0 (went_then b.0 d.0));
+      size = omega (arith, c.lay_one_of-t.ensures.1, b.1, d.1);
     }

@@ -12,23 +12,18 @@ few c = omega (arith, c.size_at-n.ensures, size-le c.args.args.now 1)
 
 pub lay_one_bit-u-requires : goal.lay_one_bit-u-requires
 lay_one_bit-u-requires c =
-    let lay-gates = c.lay_gates-t in
-    (omega (arith, c.requires.0, lay-gates.ensures.1), omega (arith, few (goal.at.lay_one_bit-u-requires c).After-size_at-n), omega arith)
+    (omega (arith, c.requires.0, c.lay_gates-t.ensures.1), omega (arith, few (goal.at.lay_one_bit-u-requires c).After-size_at-n), omega arith)
 
 pub lay_gated-requires : goal.lay_gated-requires
 lay_gated-requires c =
-    let lay-one-bit = c.lay_one_bit-u in
-    (omega (arith, c.requires.0, c.lay_gates-t.ensures.1, lay-one-bit.ensures.1), omega (arith, few (goal.at.lay_gated-requires c).After-size_at-n), omega arith, omega (arith, c.requires.1))
+    (omega (arith, c.requires.0, c.lay_gates-t.ensures.1, c.lay_one_bit-u.ensures.1), omega (arith, few (goal.at.lay_gated-requires c).After-size_at-n), omega arith, omega (arith, c.requires.1))
 
 pub returns : goal.returns
 unfolding one_of_parts
 returns c =
-    let lay-gated = c.lay_gated in
-    let n = c.size_at-n.ensures in
-    let m = c.var_at-m.ensures in
-    let a = rw n at c.lay_gates-t.ensures in
-    let b = rw n at c.lay_one_bit-u.ensures in
-    let d = rw (n, m) at lay-gated.ensures in
+    let a = rw c.size_at-n.ensures at c.lay_gates-t.ensures in
+    let b = rw c.size_at-n.ensures at c.lay_one_bit-u.ensures in
+    let d = rw (c.size_at-n.ensures, c.var_at-m.ensures) at c.lay_gated.ensures in
     (went_then a.0 (went_then b.0 d.0), omega (arith, a.1, b.1, d.1))
 
 pub lay_gates-t-requires : goal.lay_gates-t-requires

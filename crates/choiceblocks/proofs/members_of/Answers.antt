@@ -10,23 +10,15 @@ use Rattle.extremes.specs.BoundLists.{bounds_of}
 use Rattle.choiceblocks.proofs.Members.{members-size}
 use Rattle.choiceblocks.proofs.members_of.Goals as goal
 
-pub members-requires : goal.members-requires
-members-requires c =
-    let var-at = c.var_at-x in
-    (omega arith, rw (read c.bound_at-2.type_inv c.bound_at-2.ensures) (c.requires.0 var-at.result))
-
 pub returns : goal.returns
 returns c =
-    let bound-at2 = c.bound_at-2 in
-    let a = c.args in
-    let ws = a.args.now in
-    let B = bounds_of a.ls.now a.us.now (var ws 0) in
-    let e = rw (read c.bound_at.type_inv c.bound_at.ensures, read bound-at2.type_inv bound-at2.ensures, c.var_at-x.ensures, c.requires.1) at c.members.ensures in
-    let l = members-length ws 1 B in
-    let same = over_zeros +0 32 (members (nums ws 1) B) l in
+    let B = bounds_of c.args.ls.now c.args.us.now (var c.args.args.now 0) in
+    let e = rw (read c.bound_at.type_inv c.bound_at.ensures, read c.bound_at-2.type_inv c.bound_at-2.ensures, c.var_at-x.ensures, c.requires.1) at c.members.ensures in
+    let l = members-length c.args.args.now 1 B in
+    let same = over_zeros +0 32 (members (nums c.args.args.now 1) B) l in
     record {
       many = e.0;
       few = omega (arith, e.0, l);
       same = λ k. rw e.1 (same k);
-      near = λ k. rw (e.1, same k) (omega (arith, members-size ws 1 B (c.requires.0 (var ws 0)) k));
+      near = λ k. rw (e.1, same k) (omega (arith, members-size c.args.args.now 1 B (c.requires.0 (var c.args.args.now 0)) k));
     }

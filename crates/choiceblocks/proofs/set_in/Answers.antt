@@ -9,13 +9,10 @@ use Rattle.choiceblocks.proofs.set_in.Goals as goal
 
 pub returns : goal.returns
 returns c =
-    let lay-value-row = c.lay_value_row in
-    let i = c.args in
-    let m = c.members_of-n.ensures in
-    let a = rw m.many at c.lay_bits-t.ensures in
-    let b = rw m.many at c.lay_one_bit-u.ensures in
-    let d = rw (m.many, c.var_at-x.ensures) at lay-value-row.ensures in
+    let a = rw c.members_of-n.ensures.many at c.lay_bits-t.ensures in
+    let b = rw c.members_of-n.ensures.many at c.lay_one_bit-u.ensures in
+    let d = rw (c.members_of-n.ensures.many, c.var_at-x.ensures) at c.lay_value_row.ensures in
     record {
-      parts = went_as (sym (in_set_lem i.first (bounds_of i.ls.now i.us.now) (nums i.args.now 1) c.members_of-n.new.vs (var i.args.now 0) m.same)) (went_then a.0 (went_then b.0 d.0));
+      parts = went_as (sym (in_set_lem c.args.first (bounds_of c.args.ls.now c.args.us.now) (nums c.args.args.now 1) c.members_of-n.new.vs (var c.args.args.now 0) c.members_of-n.ensures.same)) (went_then a.0 (went_then b.0 d.0));
       size = omega (arith, a.1, b.1, d.1);
     }

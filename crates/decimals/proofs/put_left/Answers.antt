@@ -11,8 +11,7 @@ use Rattle.decimals.proofs.put_left.Goals as goal
 pub returns : goal.returns
 unfolding left
 returns c =
-    let number = c.put_decimal-end in
     let e : c.args.at + c.args.columns - (c.args.at + length (decimal c.args.n)) ≡ c.args.columns - length (decimal c.args.n) = omega arith in
     c.put_blanks.ensures
-    ∙ rw (number.ensures.over, number.ensures.ends, e)
+    ∙ rw (c.put_decimal-end.ensures.over, c.put_decimal-end.ensures.ends, e)
     (overlay-append c.args.page.now c.args.at (decimal c.args.n) (blanks (c.args.columns - length (decimal c.args.n))))

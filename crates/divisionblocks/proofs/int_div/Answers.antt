@@ -7,17 +7,9 @@ use Rattle.extremes.specs.BoundLists.{bounds_of}
 use Rattle.divisionblocks.proofs.Blocks.{division-parts}
 use Rattle.divisionblocks.proofs.int_div.Goals as goal
 
-pub lay_division-requires : goal.lay_division-requires
-lay_division-requires c =
-    let bound_at = c.bound_at-ql in
-    let bound-at2 = c.bound_at-qu in
-    rw (back bound_at.result bound_at.type_inv, bound_at.ensures, back bound-at2.result bound-at2.type_inv, bound-at2.ensures) (omega (arith, c.requires.0), omega (arith, c.requires.1), c.requires.2, c.requires.3, c.requires.2 c.args.q, c.requires.3 c.args.q)
-
 pub returns : goal.returns
 unfolding rule
 returns c =
-    let bound_at = c.bound_at-ql in
-    let bound-at2 = c.bound_at-qu in
-    let w = rw (back bound_at.result bound_at.type_inv, bound_at.ensures, back bound-at2.result bound-at2.type_inv, bound-at2.ensures) at c.lay_division.ensures in
+    let w = rw (back c.bound_at-ql.result c.bound_at-ql.type_inv, c.bound_at-ql.ensures, back c.bound_at-qu.result c.bound_at-qu.type_inv, c.bound_at-qu.ensures) at c.lay_division.ensures in
     let β = bounds_of c.args.ls.now c.args.us.now in
     (went_as (division-parts c.args.first β c.args.n c.args.d c.args.q) w.0, omega (arith, w.1))

@@ -7,7 +7,4 @@ use Rattle.divisionblocks.proofs.lay_rows.Goals as goal
 pub returns : goal.returns
 unfolding table_parts
 returns c =
-    let lay-times = c.lay_times-t in
-    let lay-times2 = c.lay_times-u in
-    let lay-table = c.lay_table in
-    (went_then lay-times.ensures.0 (went_then lay-times2.ensures.0 lay-table.ensures.0), omega (arith, lay-times.ensures.1, lay-times2.ensures.1, lay-table.ensures.1))
+    (went_then c.lay_times-t.ensures.0 (went_then c.lay_times-u.ensures.0 c.lay_table.ensures.0), omega (arith, c.lay_times-t.ensures.1, c.lay_times-u.ensures.1, c.lay_table.ensures.1))

@@ -9,11 +9,10 @@ use Rattle.encoding.proofs.front_words.Goals as goal
 
 pub returns : goal.returns
 returns c =
-    let w = c.words_of_bytes in
     let ws = bytes_words c.args.bytes.now in
     let l = length-overlay c.args.out.now 0 ws in
     record {
-      words = rw (w.ensures.count, w.ensures.words) (front-over c.args.out.now ws c.requires);
-      fits = omega (arith, l, c.requires, w.ensures.count, ap length w.ensures.words);
-      count = rw (w.ensures.count, w.ensures.words) (sym (length-take-le _ _ (omega (arith, l, c.requires))));
+      words = rw (c.words_of_bytes.ensures.count, c.words_of_bytes.ensures.words) (front-over c.args.out.now ws c.requires);
+      fits = omega (arith, l, c.requires, c.words_of_bytes.ensures.count, ap length c.words_of_bytes.ensures.words);
+      count = rw (c.words_of_bytes.ensures.count, c.words_of_bytes.ensures.words) (sym (length-take-le _ _ (omega (arith, l, c.requires))));
     }

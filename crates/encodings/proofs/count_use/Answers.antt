@@ -6,11 +6,9 @@ use Rattle.encodings.proofs.count_use.Goals as goal
 pub returns-then-chooses : goal.returns-then-chooses
 unfolding choice_of counted
 returns-then-chooses c =
-    let a = c.args in
-    rw (encodes-by (record { place = 0; code = a.code; arguments = a.args.now }), ← c.chooses.ensures, c.if-chooses.true, ← c.var_at-x.ensures) c.add_use.ensures
+    rw (encodes-by (record { place = 0; code = c.args.code; arguments = c.args.args.now }), ← c.chooses.ensures, c.if-chooses.true, ← c.var_at-x.ensures) c.add_use.ensures
 
 pub returns-else-chooses : goal.returns-else-chooses
 unfolding choice_of counted
 returns-else-chooses c =
-    let a = c.args in
-    rw (encodes-by (record { place = 0; code = a.code; arguments = a.args.now }), ← c.chooses.ensures, c.if-chooses.false)
+    rw (encodes-by (record { place = 0; code = c.args.code; arguments = c.args.args.now }), ← c.chooses.ensures, c.if-chooses.false)

@@ -9,15 +9,13 @@ use Rattle.encodings.proofs.Uses.{begun, more, done}
 use Rattle.encodings.proofs.count_uses.Goals.{In-loop-k}
 use Rattle.encodings.proofs.count_uses.Goals as goal
 
-inside : (c : In-loop-k) → let a = c.args in get_or a.heads.now c.loop-k.k 0 < length a.ws.now
+inside : (c : In-loop-k) → get_or c.args.heads.now c.loop-k.k 0 < length c.args.ws.now
 inside c = head-inside c.requires.1 c.loop-k.k c.loop-k-test.true
 
 pub loop-k-preserved : goal.loop-k-preserved
 unfolding word_at
 loop-k-preserved c =
-    let a = c.args in
-    let l = c.loop-k in
-    more l.invariant (head_at c.requires.1 l.k c.loop-k-test.true) (rw (c.payload_of-code.ensures, tail-is a.ws.now (get_or a.heads.now l.k 0 + 1)) at c.count_use.ensures)
+    more c.loop-k.invariant (head_at c.requires.1 c.loop-k.k c.loop-k-test.true) (rw (c.payload_of-code.ensures, tail-is c.args.ws.now (get_or c.args.heads.now c.loop-k.k 0 + 1)) at c.count_use.ensures)
 
 pub loop-k-init : goal.loop-k-init
 loop-k-init c = begun _ c.requires.2

@@ -9,7 +9,6 @@ use Rattle.extremes.proofs.first_label.Goals as goal
 
 pub returns : goal.returns
 returns c =
-    let bound_at = c.bound_at in
-    let b = rw c.var_at.ensures at bound_at.ensures in
-    let e = read c.first_place.type_inv (rw (read bound_at.type_inv b) at c.first_place.ensures) in
-    (e, rw (e, ← b) (pick-size true +1 bound_at.result (omega arith) (rw b (c.requires (var c.args.args.now 0)))))
+    let b = rw c.var_at.ensures at c.bound_at.ensures in
+    let e = read c.first_place.type_inv (rw (read c.bound_at.type_inv b) at c.first_place.ensures) in
+    (e, rw (e, ← b) (pick-size true +1 c.bound_at.result (omega arith) (rw b (c.requires (var c.args.args.now 0)))))

@@ -16,11 +16,9 @@ loop-k-init c = (search rules, omega (arith, size-le c.args.args.now c.args.i), 
 
 pub loop-k-preserved : goal.loop-k-preserved
 loop-k-preserved c =
-    let loop = c.loop-k in
-    (search rules, search rules, back c.nearer-least_yet.result c.nearer-least_yet.type_inv ∙ c.nearer-least_yet.ensures ∙ rw (back c.num_at.result c.num_at.type_inv, c.num_at.ensures, loop.invariant.2, least_more))
+    (search rules, search rules, back c.nearer-least_yet.result c.nearer-least_yet.type_inv ∙ c.nearer-least_yet.ensures ∙ rw (back c.num_at.result c.num_at.type_inv, c.num_at.ensures, c.loop-k.invariant.2, least_more))
 
 pub returns : goal.returns
 unfolding nums
 returns c =
-    let size-at = c.size_at-n in
-    let e : c.loop-k.k ≡ size-at.result = omega arith in c.loop-k.invariant.2 ∙ rw (e, size-at.ensures, to_z-of_z c.ranges.from, to_z-of_z c.ranges.above)
+    let e : c.loop-k.k ≡ c.size_at-n.result = omega arith in c.loop-k.invariant.2 ∙ rw (e, c.size_at-n.ensures, to_z-of_z c.ranges.from, to_z-of_z c.ranges.above)

@@ -16,34 +16,24 @@ use Rattle.extremes.proofs.members.Goals as goal
 
 least : (c : After-least_from-v) → c.least_from-v.result ≡ least_from (nums c.args.args.now c.args.i) (to_z w64 c.loop-left.from-bits) (to_z w64 (of_z w64 c.args.upper) ⊕ +1)
 least c =
-    let plus = c.plus-above in
-    c.least_from-v.ensures ∙ rw (back plus.result plus.type_inv, plus.ensures)
+    c.least_from-v.ensures ∙ rw (back c.plus-above.result c.plus-above.type_inv, c.plus-above.ensures)
 
 small : (c : After-least_from-v) → nat_abs c.least_from-v.result ≤ Limit.half + 1
 small c =
-    let loop = c.loop-left in
-    rw (least c) (set-size c.args.args.now c.args.i (to_z w64 loop.from-bits) _ (rw (to_z-of_z c.ranges.upper) c.requires.1))
+    rw (least c) (set-size c.args.args.now c.args.i (to_z w64 c.loop-left.from-bits) _ (rw (to_z-of_z c.ranges.upper) c.requires.1))
 
 pub returns-then-below : goal.returns-then-below
 returns-then-below c =
-    let loop = c.loop-left in
-    let least-from = c.least_from-v in
-    rw (to_z-of_z c.ranges.upper, to_z-of_z c.ranges.lower) at (none_left loop.left least-from.result c.loop-left-test.true (least (goal.at.returns-then-below c).After-least_from-v) (rw (back least-from.result least-from.type_inv) at (sym c.below.ensures ∙ c.if-below.true)) loop.invariant)
+    rw (to_z-of_z c.ranges.upper, to_z-of_z c.ranges.lower) at (none_left c.loop-left.left c.least_from-v.result c.loop-left-test.true (least (goal.at.returns-then-below c).After-least_from-v) (rw (back c.least_from-v.result c.least_from-v.type_inv) at (sym c.below.ensures ∙ c.if-below.true)) c.loop-left.invariant)
 
 pub plus-from-requires : goal.plus-from-requires
 plus-from-requires c =
-    let least-from = c.least_from-v in
-    rw (back least-from.result least-from.type_inv) (omega (arith, small (goal.at.plus-from-requires c).After-least_from-v))
+    rw (back c.least_from-v.result c.least_from-v.type_inv) (omega (arith, small (goal.at.plus-from-requires c).After-least_from-v))
 
 pub loop-left-preserved : goal.loop-left-preserved
 loop-left-preserved c =
-    let loop = c.loop-left in
-    let least-from = c.least_from-v in
-    let below = c.below in
-    let if1 = c.if-below in
-    let bound = c.put_bound in
-    rw (bound.ensures, back c.plus-from.result c.plus-from.type_inv, c.plus-from.ensures, back least-from.result least-from.type_inv)
-    (found loop.left least-from.result c.loop-left-test.true (least (goal.at.loop-left-preserved c).After-least_from-v) (rw (back least-from.result least-from.type_inv) at (sym below.ensures ∙ if1.false)) loop.invariant)
+    rw (c.put_bound.ensures, back c.plus-from.result c.plus-from.type_inv, c.plus-from.ensures, back c.least_from-v.result c.least_from-v.type_inv)
+    (found c.loop-left.left c.least_from-v.result c.loop-left-test.true (least (goal.at.loop-left-preserved c).After-least_from-v) (rw (back c.least_from-v.result c.least_from-v.type_inv) at (sym c.below.ensures ∙ c.if-below.false)) c.loop-left.invariant)
 
 pub returns : goal.returns
 returns c =

@@ -27,8 +27,5 @@ size up al au bl bu h k l m =
 
 pub returns : goal.returns
 returns c =
-    let a = c.args in
-    let times-ends = c.times_ends in
-    let times-ends2 = c.times_ends-2 in
-    let e = rw (back times-ends.result times-ends.type_inv, times-ends.ensures, back times-ends2.result times-ends2.type_inv, times-ends2.ensures, to_z-of_z c.ranges.al, to_z-of_z c.ranges.au, to_z-of_z c.ranges.bl, to_z-of_z c.ranges.bu) at c.pick.ensures in
-    rw (back c.pick.result c.pick.type_inv) (e ∙ ends a.up (a.al to a.au) (a.bl to a.bu), omega (arith, ap nat_abs e, size a.up a.al a.au a.bl a.bu c.requires.0 c.requires.1 c.requires.2 c.requires.3))
+    let e = rw (back c.times_ends.result c.times_ends.type_inv, c.times_ends.ensures, back c.times_ends-2.result c.times_ends-2.type_inv, c.times_ends-2.ensures, to_z-of_z c.ranges.al, to_z-of_z c.ranges.au, to_z-of_z c.ranges.bl, to_z-of_z c.ranges.bu) at c.pick.ensures in
+    rw (back c.pick.result c.pick.type_inv) (e ∙ ends c.args.up (c.args.al to c.args.au) (c.args.bl to c.args.bu), omega (arith, ap nat_abs e, size c.args.up c.args.al c.args.au c.args.bl c.args.bu c.requires.0 c.requires.1 c.requires.2 c.requires.3))

@@ -12,5 +12,4 @@ plus-requires c = rw (back c.minus.result c.minus.type_inv, c.minus.ensures, to_
 pub returns : goal.returns
 unfolding width
 returns c =
-    let minus = c.minus in
-    c.count_of.ensures ∙ rw (back c.plus.result c.plus.type_inv, c.plus.ensures, back minus.result minus.type_inv, minus.ensures, to_z-of_z c.ranges.upper, to_z-of_z c.ranges.lower)
+    c.count_of.ensures ∙ rw (back c.plus.result c.plus.type_inv, c.plus.ensures, back c.minus.result c.minus.type_inv, c.minus.ensures, to_z-of_z c.ranges.upper, to_z-of_z c.ranges.lower)

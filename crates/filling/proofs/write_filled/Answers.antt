@@ -7,14 +7,11 @@ use Rattle.filling.proofs.write_filled.Goals as goal
 
 pub write_picks-requires : goal.write_picks-requires
 write_picks-requires c =
-    let ws = c.args.ws.now in
-    let vs = c.args.values.now in
-    (c.requires.0, values-small ws c.requires.1 vs c.requires.2, picks-ranged ws c.requires.1 vs c.requires.2, c.requires.2.one_each, picks-fit ws c.requires.1 vs c.requires.2)
+    (c.requires.0, values-small c.args.ws.now c.requires.1 c.args.values.now c.requires.2, picks-ranged c.args.ws.now c.requires.1 c.args.values.now c.requires.2, c.requires.2.one_each, picks-fit c.args.ws.now c.requires.1 c.args.values.now c.requires.2)
 
 pub returns : goal.returns
 returns c =
-    let a = c.args in
-    rw c.copy_values.ensures at c.write_picks.ensures ∙ values-then a.out.now a.values.now _
+    rw c.copy_values.ensures at c.write_picks.ensures ∙ values-then c.args.out.now c.args.values.now _
 
 pub copy_values-requires : goal.copy_values-requires
 copy_values-requires c = omega (arith, picks-fit c.args.ws.now c.requires.1 c.args.values.now c.requires.2)

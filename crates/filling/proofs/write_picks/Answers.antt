@@ -18,9 +18,9 @@ use Rattle.filling.proofs.write_picks.Goals as goal
 
 -- the picks are those of the definition
 same : (c : Start) → let a = c.args in picks a.ws.now a.values.now ≡ picks_from a.ls.now a.us.now a.uses.now a.values.now a.start none_yet (constraints a.ws.now)
-same c = let a = c.args in rw c.requires.3 (picks-from a.ls.now a.us.now a.uses.now a.values.now a.ws.now c.requires.0.same c.requires.0.shares)
+same c = rw c.requires.3 (picks-from c.args.ls.now c.args.us.now c.args.uses.now c.args.values.now c.args.ws.now c.requires.0.same c.requires.0.shares)
 
-inside : (c : In-loop-k) → let a = c.args in get_or a.heads.now c.loop-k.k 0 < length a.ws.now
+inside : (c : In-loop-k) → get_or c.args.heads.now c.loop-k.k 0 < length c.args.ws.now
 inside c = head-inside c.requires.0 c.loop-k.k c.loop-k-test.true
 
 -- the record after it
@@ -30,34 +30,27 @@ recorded : (c : After-record_encoding) →
     c.record_encoding.new.encoded ≡ encoded_after (shared_by a.uses.now) l.at l.encoded (encodes (choice (headed a.ws.now (get_or a.heads.now l.k 0))))
 unfolding word_at
 recorded c =
-    let a = c.args in
-    let l = c.loop-k in
-    let at = get_or a.heads.now l.k 0 in
-    placed_record (shared_by a.uses.now) l.at l.encoded (headed a.ws.now at) (rw (c.payload_of-code.ensures, tail-is a.ws.now (at + 1)) at c.record_encoding.ensures)
+    let at = get_or c.args.heads.now c.loop-k.k 0 in
+    placed_record (shared_by c.args.uses.now) c.loop-k.at c.loop-k.encoded (headed c.args.ws.now at) (rw (c.payload_of-code.ensures, tail-is c.args.ws.now (at + 1)) at c.record_encoding.ensures)
 
 pub pick_constraint-at-requires : goal.pick_constraint-at-requires
 unfolding word_at
 pick_constraint-at-requires c =
-    let a = c.args in
-    let l = c.loop-k in
-    let m = c.requires.0 in
-    let at = get_or a.heads.now l.k 0 in
+    let at = get_or c.args.heads.now c.loop-k.k 0 in
     record {
-      place = omega (arith, place-le l.invariant, ap length (same (goal.at.pick_constraint-at-requires c).Start), c.requires.4);
-      lowers = m.lowers;
-      uppers = m.uppers;
+      place = omega (arith, place-le c.loop-k.invariant, ap length (same (goal.at.pick_constraint-at-requires c).Start), c.requires.4);
+      lowers = c.requires.0.lowers;
+      uppers = c.requires.0.uppers;
       small = c.requires.1;
-      ranged = rw (c.payload_of-code.ensures, tail-is a.ws.now (at + 1)) (here-ranged l.invariant (head_at m l.k c.loop-k-test.true) (block-picks a.ls.now a.us.now a.uses.now l.encoded a.values.now (headed a.ws.now at)));
+      ranged = rw (c.payload_of-code.ensures, tail-is c.args.ws.now (at + 1)) (here-ranged c.loop-k.invariant (head_at c.requires.0 c.loop-k.k c.loop-k-test.true) (block-picks c.args.ls.now c.args.us.now c.args.uses.now c.loop-k.encoded c.args.values.now (headed c.args.ws.now at)));
     }
 
 pub loop-k-preserved : goal.loop-k-preserved
 unfolding word_at
 loop-k-preserved c =
-    let a = c.args in
-    let l = c.loop-k in
-    let at = get_or a.heads.now l.k 0 in
-    picked l.invariant (head_at c.requires.0 l.k c.loop-k-test.true) (block-picks a.ls.now a.us.now a.uses.now l.encoded a.values.now (headed a.ws.now at))
-    (rw (c.payload_of-code.ensures, tail-is a.ws.now (at + 1)) at c.pick_constraint-at.ensures) (recorded (goal.at.loop-k-preserved c).After-record_encoding)
+    let at = get_or c.args.heads.now c.loop-k.k 0 in
+    picked c.loop-k.invariant (head_at c.requires.0 c.loop-k.k c.loop-k-test.true) (block-picks c.args.ls.now c.args.us.now c.args.uses.now c.loop-k.encoded c.args.values.now (headed c.args.ws.now at))
+    (rw (c.payload_of-code.ensures, tail-is c.args.ws.now (at + 1)) at c.pick_constraint-at.ensures) (recorded (goal.at.loop-k-preserved c).After-record_encoding)
 
 pub loop-k-init : goal.loop-k-init
 loop-k-init c = begun _ _ _ _ _ _ _ (rw (← same (goal.at.loop-k-init c).Start) c.requires.2)

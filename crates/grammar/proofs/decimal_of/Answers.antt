@@ -16,13 +16,10 @@ overflow_add-v c = omega (arith, cap-most c.loop-i.v, c.loop-i.invariant.1, c.di
 
 pub loop-i-preserved : goal.loop-i-preserved
 loop-i-preserved c =
-    let ds = c.args.digits.now in
-    let v = c.loop-i.v in
-    let i = c.loop-i.i in
-    let e = c.capped-v.ensures ∙ ap (λ (d : ℕ). cap (v * 10 + d)) c.digit_value.ensures in (
+    let e = c.capped-v.ensures ∙ ap (λ (d : ℕ). cap (c.loop-i.v * 10 + d)) c.digit_value.ensures in (
       omega (arith, c.loop-i-test.true),
       c.capped-v.ensures ∙ sym (cap-again _) ∙ ap cap (sym c.capped-v.ensures),
-      c.loop-i.invariant.2 ∙ digits-on ds i v c.loop-i-test.true ∙ ap (λ (n : ℕ). cap (digits_from n (drop (i + 1) ds))) (sym e),
+      c.loop-i.invariant.2 ∙ digits-on c.args.digits.now c.loop-i.i c.loop-i.v c.loop-i-test.true ∙ ap (λ (n : ℕ). cap (digits_from n (drop (c.loop-i.i + 1) c.args.digits.now))) (sym e),
     )
 
 pub returns : goal.returns

@@ -11,7 +11,7 @@ returns-then-m-gt-LARGEST c = rw (eq-eqb _ _ c.if-t-eq-NUMBER.true, outside c.ar
 
 pub returns-then-t-eq-NUMBER : goal.returns-then-t-eq-NUMBER
 unfolding number_step of_sort gives spanned
-returns-then-t-eq-NUMBER c = let m = c.magnitude_of-m.ensures in let l = c.requires.0.some c.if-t-eq-NUMBER.true in let i = c.requires.0.inside in rw (eq-eqb _ _ c.if-t-eq-NUMBER.true, inside c.args.text.now c.args.t.place c.args.t.stop l i m c.if-m-gt-LARGEST.false, ← its-word c.args.text.now c.args.t.place c.args.t.stop l i m c.if-m-gt-LARGEST.false c.args.kind, ← c.payload_at.ensures, ← c.word_of.ensures) c.gives-then-t-eq-NUMBER.ensures
+returns-then-t-eq-NUMBER c = let l = c.requires.0.some c.if-t-eq-NUMBER.true in rw (eq-eqb _ _ c.if-t-eq-NUMBER.true, inside c.args.text.now c.args.t.place c.args.t.stop l c.requires.0.inside c.magnitude_of-m.ensures c.if-m-gt-LARGEST.false, ← its-word c.args.text.now c.args.t.place c.args.t.stop l c.requires.0.inside c.magnitude_of-m.ensures c.if-m-gt-LARGEST.false c.args.kind, ← c.payload_at.ensures, ← c.word_of.ensures) c.gives-then-t-eq-NUMBER.ensures
 
 pub returns : goal.returns
 unfolding number_step of_sort gives spanned

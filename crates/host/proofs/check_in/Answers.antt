@@ -16,6 +16,3 @@ front c = rw (c.words_of_bytes-n.ensures.count, c.words_of_bytes-n.ensures.words
 pub returns : goal.returns
 unfolding check_bytes
 returns c = c.refusal_number.ensures ∙ ap refusal_number (c.check.ensures ∙ ap check (front (goal.at.returns c).After-words_of_bytes-n))
-
-pub slice_bounds-check-end-2 : goal.slice_bounds-check-end-2
-slice_bounds-check-end-2 c = c.words_of_bytes-n.ensures.count ∙ sym (ap length (front (goal.at.slice_bounds-check-end-2 c).After-words_of_bytes-n))

@@ -5,8 +5,8 @@ use Rattle.host.proofs.pearrummy_bits.Goals as goal
 
 pub returns : goal.returns
 returns c =
-    let e = c.bit_form.ensures in (record {
-      answer = c.written_of.ensures ∙ ap written_of e.answer;
-      output = e.output;
-      shared = rw e.answer at e.shared;
+    (record {
+      answer = c.written_of.ensures ∙ ap written_of c.bit_form.ensures.answer;
+      output = c.bit_form.ensures.output;
+      shared = rw c.bit_form.ensures.answer at c.bit_form.ensures.shared;
     })

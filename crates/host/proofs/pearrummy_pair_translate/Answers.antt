@@ -5,8 +5,8 @@ use Rattle.host.proofs.pearrummy_pair_translate.Goals as goal
 
 pub returns : goal.returns
 returns c =
-    let e = c.pair_translate.ensures in (record {
-      answer = c.written_of.ensures ∙ ap written_of e.answer;
-      output = e.output;
-      shared = rw e.answer at e.shared;
+    (record {
+      answer = c.written_of.ensures ∙ ap written_of c.pair_translate.ensures.answer;
+      output = c.pair_translate.ensures.output;
+      shared = rw c.pair_translate.ensures.answer at c.pair_translate.ensures.shared;
     })

@@ -5,8 +5,8 @@ use Rattle.host.proofs.pearrummy_translate.Goals as goal
 
 pub returns : goal.returns
 returns c =
-    let e = c.translate.ensures in (record {
-      answer = c.written_of.ensures ∙ ap written_of e.answer;
-      output = e.output;
-      shared = rw e.answer at e.shared;
+    (record {
+      answer = c.written_of.ensures ∙ ap written_of c.translate.ensures.answer;
+      output = c.translate.ensures.output;
+      shared = rw c.translate.ensures.answer at c.translate.ensures.shared;
     })

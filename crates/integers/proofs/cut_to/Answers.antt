@@ -8,8 +8,6 @@ use Rattle.integers.proofs.cut_to.Goals as goal
 pub returns : goal.returns
 unfolding cut
 returns c =
-    let opposite = c.opposite in
-    let largest = c.largest in
     back c.least.result c.least.type_inv
     ∙ c.least.ensures
-    ∙ rw (back largest.result largest.type_inv, largest.ensures, back opposite.result opposite.type_inv, opposite.ensures, to_z-of_z c.ranges.most, to_z-of_z c.ranges.a)
+    ∙ rw (back c.largest.result c.largest.type_inv, c.largest.ensures, back c.opposite.result c.opposite.type_inv, c.opposite.ensures, to_z-of_z c.ranges.most, to_z-of_z c.ranges.a)

@@ -11,15 +11,11 @@ use Rattle.laying.proofs.all_in_range.Goals as goal
 
 pub returns-then-not-in_range : goal.returns-then-not-in_range
 returns-then-not-in_range c =
-    let loop = c.loop-k in
-    let loop-test = c.loop-k-test in
-    sym (loop.invariant.1 ∙ rest-not in_range +0 _ _ loop-test.true (rw (back (get_or c.args.cs.now c.loop-k.k (pos 0)) (search rules)) at (sym c.in_range.ensures ∙ c.if-not-in_range.true)))
+    sym (c.loop-k.invariant.1 ∙ rest-not in_range +0 _ _ c.loop-k-test.true (rw (back (get_or c.args.cs.now c.loop-k.k (pos 0)) (search rules)) at (sym c.in_range.ensures ∙ c.if-not-in_range.true)))
 
 pub loop-k-preserved : goal.loop-k-preserved
 loop-k-preserved c =
-    let loop = c.loop-k in
-    let loop-test = c.loop-k-test in
-    (omega arith, loop.invariant.1 ∙ rest_more in_range +0 _ _ loop-test.true (rw (back (get_or c.args.cs.now c.loop-k.k (pos 0)) (search rules)) at (sym c.in_range.ensures ∙ c.if-not-in_range.false)))
+    (omega arith, c.loop-k.invariant.1 ∙ rest_more in_range +0 _ _ c.loop-k-test.true (rw (back (get_or c.args.cs.now c.loop-k.k (pos 0)) (search rules)) at (sym c.in_range.ensures ∙ c.if-not-in_range.false)))
 
 pub returns : goal.returns
 returns c = sym (c.loop-k.invariant.1 ∙ rest_end in_range +0 _ _ c.loop-k-test.false)

@@ -5,9 +5,7 @@ use Rattle.laying.proofs.lay_bits.Goals as goal
 
 pub loop-k-preserved : goal.loop-k-preserved
 loop-k-preserved c =
-    let loop-test = c.loop-k-test in
-    let loop = c.loop-k in
-    more loop-test.true loop.invariant c.lay_bound-t.ensures
+    more c.loop-k-test.true c.loop-k.invariant c.lay_bound-t.ensures
 
 pub returns-then-out-s : goal.returns-then-out-s
 returns-then-out-s c = many-counted 2 1 0 1000 (λ k h. sized-bit k) (omega arith, omega arith, omega arith, omega arith) c.if-out-s.true c.counted.ensures

@@ -13,11 +13,5 @@ use Rattle.laying.proofs.lay_bound.Goals as goal
 pub returns : goal.returns
 unfolding part_words part_numbers part_auxiliaries part_rows all
 returns c =
-    let number_word = c.number_word in
-    let number-word2 = c.number_word-2 in
-    let in_range_lem = c.in_range in
-    let in-range2 = c.in_range-2 in
-    let both = c.both-fit in
-    let lay-part = c.lay_part in
-    let w = simp (number_word.ensures, number-word2.ensures, both.ensures, in_range_lem.ensures, in-range2.ensures, to_z-of_z c.ranges.lower, to_z-of_z c.ranges.upper) at lay-part.ensures in
+    let w = simp (c.number_word.ensures, c.number_word-2.ensures, c.both-fit.ensures, c.in_range.ensures, c.in_range-2.ensures, to_z-of_z c.ranges.lower, to_z-of_z c.ranges.upper) at c.lay_part.ensures in
     (went-one (bound c.args.lower c.args.upper) w (ap (λ b. in_range c.args.lower && b) (sym (and-true _))), omega (arith, w.words, w.auxiliaries, w.rows))

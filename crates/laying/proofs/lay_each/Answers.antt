@@ -10,22 +10,18 @@ use Rattle.laying.proofs.lay_each.Goals as goal
 
 pub overflow_mul-n : goal.overflow_mul-n
 overflow_mul-n c =
-    let size-at = c.size_at-n in
-    omega (arith, size-le c.args.args.now c.args.i, size-at.ensures)
+    omega (arith, size-le c.args.args.now c.args.i, c.size_at-n.ensures)
 
 pub counted-requires : goal.counted-requires
 counted-requires c =
-    let size-at = c.size_at-n in
-    omega (arith, size-le c.args.args.now c.args.i, size-at.ensures)
+    omega (arith, size-le c.args.args.now c.args.i, c.size_at-n.ensures)
 
 pub returns-then-both : goal.returns-then-both
 returns-then-both c =
-    let in_range_lem = c.in_range in
-    let size-at = c.size_at-n in
     let h = size-le c.args.args.now c.args.i in
     let t = both_true _ _ (sym c.both.ensures ∙ c.if-both.true) in
-    let r = rw (to_z-of_z c.ranges.c) at (sym in_range_lem.ensures ∙ t.1) in
-    rw (← size-at.ensures) (many-counted 2 0 0 1000 (λ k h. sized-term _ _ r) (omega arith, omega arith, omega arith, omega arith) (leb-true _ _ t.0) c.counted.ensures)
+    let r = rw (to_z-of_z c.ranges.c) at (sym c.in_range.ensures ∙ t.1) in
+    rw (← c.size_at-n.ensures) (many-counted 2 0 0 1000 (λ k h. sized-term _ _ r) (omega arith, omega arith, omega arith, omega arith) (leb-true _ _ t.0) c.counted.ensures)
 
 pub loop-k-init : goal.loop-k-init
 loop-k-init c =
@@ -33,7 +29,4 @@ loop-k-init c =
 
 pub loop-k-preserved : goal.loop-k-preserved
 loop-k-preserved c =
-    let loop = c.loop-k in
-    let loop-test = c.loop-k-test in
-    let var-at = c.var_at in
-    (loop.invariant.0, more loop-test.true loop.invariant.1 (simp var-at.ensures at c.lay_term-t.ensures))
+    (c.loop-k.invariant.0, more c.loop-k-test.true c.loop-k.invariant.1 (simp c.var_at.ensures at c.lay_term-t.ensures))

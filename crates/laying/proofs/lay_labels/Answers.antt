@@ -11,23 +11,16 @@ use Rattle.laying.proofs.lay_labels.Goals as goal
 
 pub returns-then-both : goal.returns-then-both
 returns-then-both c =
-    let both = c.both in
-    let in_range_lem = c.in_range in
-    let plus = c.plus in
-    let in-range2 = c.in_range-2 in
     let n = to_z_pos w64 {n = c.args.n} (omega arith) in
     let t = both_true _ _ (sym c.both-2.ensures ∙ c.if-both.true) in
-    let r = both_true _ _ (sym both.ensures ∙ t.1) in
-    let f = rw (to_z-of_z c.ranges.from) at (sym in_range_lem.ensures ∙ r.0) in
-    let l = rw (back plus.result plus.type_inv, plus.ensures, to_z-of_z c.ranges.from, n) at (sym in-range2.ensures ∙ r.1) in
+    let r = both_true _ _ (sym c.both.ensures ∙ t.1) in
+    let f = rw (to_z-of_z c.ranges.from) at (sym c.in_range.ensures ∙ r.0) in
+    let l = rw (back c.plus.result c.plus.type_inv, c.plus.ensures, to_z-of_z c.ranges.from, n) at (sym c.in_range-2.ensures ∙ r.1) in
     many-counted 2 0 0 1000 (sized-label c.args.from c.args.v c.args.n f l) (omega arith, omega arith, omega arith, omega arith) (leb-true _ _ t.0) c.counted.ensures
 
 pub loop-k-preserved : goal.loop-k-preserved
 loop-k-preserved c =
-    let loop-test = c.loop-k-test in
-    let loop = c.loop-k in
-    let plus2 = c.plus-in-loop-k in
-    more loop-test.true loop.invariant (rw (back plus2.result plus2.type_inv, plus2.ensures, to_z_pos w64 {n = loop.k} (omega arith)) at c.lay_term-t.ensures)
+    more c.loop-k-test.true c.loop-k.invariant (rw (back c.plus-in-loop-k.result c.plus-in-loop-k.type_inv, c.plus-in-loop-k.ensures, to_z_pos w64 {n = c.loop-k.k} (omega arith)) at c.lay_term-t.ensures)
 
 pub returns : goal.returns
 returns c =

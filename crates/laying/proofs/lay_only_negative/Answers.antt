@@ -10,9 +10,7 @@ opposite-requires c =
 
 pub returns : goal.returns
 returns c =
-    let plus = c.plus in
-    let opposite = c.opposite in
-    rw (read plus.type_inv plus.ensures, read opposite.type_inv opposite.ensures, to_z-of_z c.ranges.u) at c.lay_row.ensures
+    rw (read c.plus.type_inv c.plus.ensures, read c.opposite.type_inv c.opposite.ensures, to_z-of_z c.ranges.u) at c.lay_row.ensures
 
 pub plus-requires : goal.plus-requires
 plus-requires c = rw (to_z-of_z c.ranges.u) (omega (arith, c.requires.1))

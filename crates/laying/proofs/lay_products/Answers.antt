@@ -5,10 +5,7 @@ use Rattle.laying.proofs.lay_products.Goals as goal
 
 pub loop-k-preserved : goal.loop-k-preserved
 loop-k-preserved c =
-    let loop-test = c.loop-k-test in
-    let loop = c.loop-k in
-    let var-at = c.var_at in
-    more loop-test.true loop.invariant (simp var-at.ensures at c.lay_times-t.ensures)
+    more c.loop-k-test.true c.loop-k.invariant (simp c.var_at.ensures at c.lay_times-t.ensures)
 
 pub returns-then-out-s : goal.returns-then-out-s
 returns-then-out-s c = many-counted 4 0 1 1000 (λ k h. sized-times _ _ _) (omega arith, omega arith, omega arith, omega arith) c.if-out-s.true c.counted.ensures

@@ -8,15 +8,11 @@ use Rattle.laying.proofs.lay_row.Goals as goal
 
 pub returns-then-out-s : goal.returns-then-out-s
 returns-then-out-s c =
-    let all-in-range = c.all_in_range in
-    let if1 = c.if-out-s in
-    let w = rw (c.both-fit.ensures, all-in-range.ensures, c.in_range.ensures, to_z-of_z c.ranges.c) at c.counted.ensures in
-    (no_room (sized_row c.args.kind c.args.xs.now c.args.cs.now c.args.c c.requires.3) if1.true w, omega (arith, w.words, w.auxiliaries, w.rows))
+    let w = rw (c.both-fit.ensures, c.all_in_range.ensures, c.in_range.ensures, to_z-of_z c.ranges.c) at c.counted.ensures in
+    (no_room (sized_row c.args.kind c.args.xs.now c.args.cs.now c.args.c c.requires.3) c.if-out-s.true w, omega (arith, w.words, w.auxiliaries, w.rows))
 
 pub returns : goal.returns
 unfolding row_parts_of
 returns c =
-    let lay-head = c.lay_head-begun in
-    let lay-given = c.lay_given-t in
     let w = rw (to_z-of_z c.ranges.c) at c.lay_constant.ensures in
-    (went_then lay-head.ensures.0 (went_then lay-given.ensures.0 w.0), omega (arith, lay-head.ensures.1, lay-given.ensures.1, w.1))
+    (went_then c.lay_head-begun.ensures.0 (went_then c.lay_given-t.ensures.0 w.0), omega (arith, c.lay_head-begun.ensures.1, c.lay_given-t.ensures.1, w.1))

@@ -12,9 +12,8 @@ use Rattle.laying.proofs.lay_same.Goals as goal
 
 pub returns-then-both : goal.returns-then-both
 returns-then-both c =
-    let in_range_lem = c.in_range in
     let t = both_true _ _ (sym c.both.ensures ∙ c.if-both.true) in
-    let r = rw (to_z-of_z c.ranges.c) at (sym in_range_lem.ensures ∙ t.1) in
+    let r = rw (to_z-of_z c.ranges.c) at (sym c.in_range.ensures ∙ t.1) in
     many-counted 2 0 0 1000 (λ k h. sized-term _ _ r) (omega arith, omega arith, omega arith, omega arith) (leb-true _ _ t.0) c.counted.ensures
 
 pub returns-then-both-2 : goal.returns-then-both-2
@@ -25,9 +24,7 @@ returns-then-both-2 c =
 
 pub loop-k-preserved : goal.loop-k-preserved
 loop-k-preserved c =
-    let loop-test = c.loop-k-test in
-    let loop = c.loop-k in
-    more loop-test.true loop.invariant c.lay_term-t.ensures
+    more c.loop-k-test.true c.loop-k.invariant c.lay_term-t.ensures
 
 pub loop-k-init : goal.loop-k-init
 loop-k-init c = begun 10 _ _ _ _

@@ -11,9 +11,5 @@ use Rattle.laying.proofs.lay_term.Goals as goal
 pub returns : goal.returns
 unfolding part_words part_numbers part_auxiliaries part_rows all
 returns c =
-    let word_of = c.word_of in
-    let number_word = c.number_word in
-    let in_range_lem = c.in_range in
-    let lay-part = c.lay_part in
-    let w = simp (word_of.ensures, number_word.ensures, in_range_lem.ensures, to_z-of_z c.ranges.coefficient) at lay-part.ensures in
+    let w = simp (c.word_of.ensures, c.number_word.ensures, c.in_range.ensures, to_z-of_z c.ranges.coefficient) at c.lay_part.ensures in
     (went-one (term c.args.coefficient c.args.v) w (sym (and-true _)), omega (arith, w.words, w.auxiliaries, w.rows))

@@ -11,6 +11,4 @@ loop-k-init c = (omega arith, refl)
 
 pub loop-k-preserved : goal.loop-k-preserved
 loop-k-preserved c =
-    let loop = c.loop-k in
-    let num-at = c.num_at in
-    (omega arith, c.both-fit.ensures ∙ rw (all_more, loop.invariant.1, c.in_range.ensures, read num-at.type_inv num-at.ensures))
+    (omega arith, c.both-fit.ensures ∙ rw (all_more, c.loop-k.invariant.1, c.in_range.ensures, read c.num_at.type_inv c.num_at.ensures))

@@ -9,8 +9,7 @@ use Rattle.laying.proofs.put_same.Goals as goal
 
 pub loop-k-preserved : goal.loop-k-preserved
 loop-k-preserved c =
-    let number_word = c.number_word-number in
-    (omega (arith, c.loop-k-test.true), rw (c.loop-k.invariant.1, c.word_of.ensures, number_word.ensures) (same_more _ _ _ _ _))
+    (omega (arith, c.loop-k-test.true), rw (c.loop-k.invariant.1, c.word_of.ensures, c.number_word-number.ensures) (same_more _ _ _ _ _))
 
 pub loop-k-init : goal.loop-k-init
 unfolding many words_in flat_map overlay

@@ -8,9 +8,7 @@ use Rattle.linearsums.proofs.sum_constant.Goals as goal
 pub returns-then-form_before-eq-OF_TERMS : goal.returns-then-form_before-eq-OF_TERMS
 unfolding sum_constant
 returns-then-form_before-eq-OF_TERMS c =
-    let form-before = c.form_before in
-    let if1 = c.if-form_before-eq-OF_TERMS in
-    back c.num_at.result c.num_at.type_inv ∙ c.num_at.ensures ∙ rw (← form-before.ensures, eq-eqb _ 1 if1.true, c.past_terms_at.ensures)
+    back c.num_at.result c.num_at.type_inv ∙ c.num_at.ensures ∙ rw (← c.form_before.ensures, eq-eqb _ 1 c.if-form_before-eq-OF_TERMS.true, c.past_terms_at.ensures)
 
 pub returns : goal.returns
 unfolding sum_constant

@@ -22,14 +22,10 @@ put_decimal-end-requires c = omega (arith, place-fits c.args.r.place (omega arit
 pub returns : goal.returns
 unfolding bytes list_of
 returns c =
-    let start = c.put_bytes-start in
-    let number = c.put_decimal-blank in
-    let blank = c.put_byte in
-    let place = c.put_decimal-end in
     record {
       text = rw c.put_byte-2.ensures
-          (laid-refusal c.args.page.now c.args.r.number c.args.r.place start.new.page number.new.page place.new.page start.result number.result place.result
-          start.ensures number.ensures (rw blank.ensures at place.ensures));
+          (laid-refusal c.args.page.now c.args.r.number c.args.r.place c.put_bytes-start.new.page c.put_decimal-blank.new.page c.put_decimal-end.new.page c.put_bytes-start.result c.put_decimal-blank.result c.put_decimal-end.result
+          c.put_bytes-start.ensures c.put_decimal-blank.ensures (rw c.put_byte.ensures at c.put_decimal-end.ensures));
       end = omega (arith, place-ends (goal.at.returns c).After-put_decimal-end);
     }
 

@@ -4,6 +4,5 @@ use Rattle.lines.proofs.put_word_line.Goals as goal
 
 pub returns : goal.returns
 returns c =
-    let put = c.put_bytes-end in
     rw c.put_byte.ensures
-    (laid_word c.args.page.now c.args.at c.args.w put.new.page put.result (rw (← c.hex_digits.ensures.text) put.ensures))
+    (laid_word c.args.page.now c.args.at c.args.w c.put_bytes-end.new.page c.put_bytes-end.result (rw (← c.hex_digits.ensures.text) c.put_bytes-end.ensures))

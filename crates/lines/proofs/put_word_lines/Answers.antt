@@ -13,10 +13,9 @@ ended c = none_left (same_rest (words-none c.args.words.now c.loop-k.k c.loop-k-
 
 pub loop-k-preserved : goal.loop-k-preserved
 loop-k-preserved c =
-    let l = c.loop-k in
-    let put = c.put_word_line-to in (
-      (omega (arith, c.loop-k-test.true), omega (arith, put.ensures.ends, length-word (get_or c.args.words.now l.k 0), l.invariant.0.1)),
-      lay-part (same_rest (words-then c.args.words.now l.k c.loop-k-test.true) l.invariant.1) put.ensures,
+    (
+      (omega (arith, c.loop-k-test.true), omega (arith, c.put_word_line-to.ensures.ends, length-word (get_or c.args.words.now c.loop-k.k 0), c.loop-k.invariant.0.1)),
+      lay-part (same_rest (words-then c.args.words.now c.loop-k.k c.loop-k-test.true) c.loop-k.invariant.1) c.put_word_line-to.ensures,
     )
 
 pub returns : goal.returns

@@ -33,8 +33,7 @@ returns-then-not-holds c =
 
 pub loop-k-preserved : goal.loop-k-preserved
 loop-k-preserved c =
-    let t = c.loop-k-test.true in
-    (omega arith, pass-one c.loop-k.invariant.1 (head_at c.requires.0 c.loop-k.k t) (said (goal.at.loop-k-preserved c).After-holds ∙ c.if-not-holds.false))
+    (omega arith, pass-one c.loop-k.invariant.1 (head_at c.requires.0 c.loop-k.k c.loop-k-test.true) (said (goal.at.loop-k-preserved c).After-holds ∙ c.if-not-holds.false))
 
 pub returns : goal.returns
 unfolding verdict

@@ -25,14 +25,14 @@ unfolding count_fault
 judged front ws vs e after = rw e
 
 -- what reading kept
-kept : (c : Else-read-ne-NONE) → let a = c.args in Seen a.ws.now a.heads.now a.read
+kept : (c : Else-read-ne-NONE) → Seen c.args.ws.now c.args.heads.now c.args.read
 kept c = c.requires.seen c.if-read-ne-NONE.false
 
-front : (c : Else-read-ne-NONE) → let a = c.args in variables (take a.read.sources a.ws.now) ≡ variables a.ws.now
+front : (c : Else-read-ne-NONE) → variables (take c.args.read.sources c.args.ws.now) ≡ variables c.args.ws.now
 front c = front-variables (kept c)
 
 -- what `is_holds` says of the values
-said : (c : After-is_holds) → let a = c.args in is_holds (judged_then accepted (take a.read.sources a.ws.now) a.values.now holds) ≡ c.is_holds.result
+said : (c : After-is_holds) → is_holds (judged_then accepted (take c.args.read.sources c.args.ws.now) c.args.values.now holds) ≡ c.is_holds.result
 said c = sym (c.is_holds.ensures ∙ ap is_holds c.judge_values-bounds.ensures)
 
 pub returns-then-read-ne-NONE : goal.returns-then-read-ne-NONE

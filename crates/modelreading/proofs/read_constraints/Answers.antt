@@ -16,8 +16,7 @@ head c = c.of_head-number.ensures ∙ rw c.word_at-head.ensures
 
 pub returns-then-number-ne-NONE : goal.returns-then-number-ne-NONE
 returns-then-number-ne-NONE c =
-    let z = c.if-number-ne-NONE.true in
-    kept-fault _ _ z (head-halted c.loop-table.invariant (head (goal.at.returns-then-number-ne-NONE c).After-of_head-number) z) c.refused.ensures
+    kept-fault _ _ c.if-number-ne-NONE.true (head-halted c.loop-table.invariant (head (goal.at.returns-then-number-ne-NONE c).After-of_head-number) c.if-number-ne-NONE.true) c.refused.ensures
 
 -- it is no end
 not_end : (c : Else-kind_of-eq-MODEL_END) →
@@ -36,20 +35,16 @@ bounds-heads-c c = room (goal.at.bounds-heads-c c).Else-kind_of-eq-MODEL_END
 
 pub arguments_at-arguments-requires : goal.arguments_at-arguments-requires
 arguments_at-arguments-requires c =
-    let i = c.loop-table.invariant in
-    (record { within = omega (arith, inside (goal.at.arguments_at-arguments-requires c).Else-kind_of-eq-MODEL_END); few = i.placed.few }, i.few, c.table-table.ensures)
+    (record { within = omega (arith, inside (goal.at.arguments_at-arguments-requires c).Else-kind_of-eq-MODEL_END); few = c.loop-table.invariant.placed.few }, c.loop-table.invariant.few, c.table-table.ensures)
 
 -- the arguments read
 arguments : (c : After-arguments_at-arguments) →
-    let a = c.args in
-    let ws = a.ws.now in
-    ArgumentsRead ws (take a.v a.types.now) (payload (word_at ws c.loop-table.at)) (c.loop-table.at + 1) c.arguments_at-arguments.result
+    ArgumentsRead c.args.ws.now (take c.args.v c.args.types.now) (payload (word_at c.args.ws.now c.loop-table.at)) (c.loop-table.at + 1) c.arguments_at-arguments.result
 arguments c = rw (c.payload_of.ensures, c.word_at-head.ensures) at c.arguments_at-arguments.ensures
 
 pub returns-then-arguments-ne-NONE : goal.returns-then-arguments-ne-NONE
 returns-then-arguments-ne-NONE c =
-    let z = c.if-arguments-ne-NONE.true in
-    kept-fault _ _ z (arguments-halted c.loop-table.invariant (head (goal.at.returns-then-arguments-ne-NONE c).After-of_head-number) c.if-number-ne-NONE.false (not_end (goal.at.returns-then-arguments-ne-NONE c).Else-kind_of-eq-MODEL_END) (arguments (goal.at.returns-then-arguments-ne-NONE c).After-arguments_at-arguments) z) c.refused-then-arguments-ne-NONE.ensures
+    kept-fault _ _ c.if-arguments-ne-NONE.true (arguments-halted c.loop-table.invariant (head (goal.at.returns-then-arguments-ne-NONE c).After-of_head-number) c.if-number-ne-NONE.false (not_end (goal.at.returns-then-arguments-ne-NONE c).Else-kind_of-eq-MODEL_END) (arguments (goal.at.returns-then-arguments-ne-NONE c).After-arguments_at-arguments) c.if-arguments-ne-NONE.true) c.refused-then-arguments-ne-NONE.ensures
 
 pub loop-table-preserved : goal.loop-table-preserved
 loop-table-preserved c =
@@ -66,6 +61,4 @@ returns-then-at-ws c =
 
 pub returns : goal.returns
 returns c =
-    let i = c.loop-table.invariant in
-    let z = c.if-number-ne-NONE.false in
-    record { refusal = no-fault i (head (goal.at.returns c).After-of_head-number) z (ended (goal.at.returns c).Then-kind_of-eq-MODEL_END) c.if-at-ws.false; seen = λ n. seen i (head (goal.at.returns c).After-of_head-number) z (ended (goal.at.returns c).Then-kind_of-eq-MODEL_END) c.if-at-ws.false }
+    record { refusal = no-fault c.loop-table.invariant (head (goal.at.returns c).After-of_head-number) c.if-number-ne-NONE.false (ended (goal.at.returns c).Then-kind_of-eq-MODEL_END) c.if-at-ws.false; seen = λ n. seen c.loop-table.invariant (head (goal.at.returns c).After-of_head-number) c.if-number-ne-NONE.false (ended (goal.at.returns c).Then-kind_of-eq-MODEL_END) c.if-at-ws.false }

@@ -11,13 +11,11 @@ loop-w-init c = opening c.requires.0 c.requires.1
 -- the variable read
 variable : (c : After-variable_at-variable) →
     Declares c.args.ws.now c.loop-w.v c.loop-w.at c.declared_by-declared.result c.variable_at-variable.result
-variable c = let d = c.declared_by-declared in c.variable_at-variable.ensures d.result d.ensures c.if-declared-eq-NONE.false
+variable c = c.variable_at-variable.ensures c.declared_by-declared.result c.declared_by-declared.ensures c.if-declared-eq-NONE.false
 
 pub returns-then-variable-ne-NONE : goal.returns-then-variable-ne-NONE
 returns-then-variable-ne-NONE c =
-    let z = c.if-variable-ne-NONE.true in
-    let i = c.loop-w.invariant in
-    variables-fault _ _ z (opening-halted i.0 i.1 (variable (goal.at.returns-then-variable-ne-NONE c).After-variable_at-variable) z) c.refused.ensures
+    variables-fault _ _ c.if-variable-ne-NONE.true (opening-halted c.loop-w.invariant.0 c.loop-w.invariant.1 (variable (goal.at.returns-then-variable-ne-NONE c).After-variable_at-variable) c.if-variable-ne-NONE.true) c.refused.ensures
 
 pub bounds-types-v : goal.bounds-types-v
 bounds-types-v c = (variable (goal.at.bounds-types-v c).After-variable_at-variable).room c.if-variable-ne-NONE.false
@@ -27,8 +25,7 @@ loop-w-smaller c = omega (arith, (variable (goal.at.loop-w-smaller c).After-vari
 
 pub loop-w-preserved : goal.loop-w-preserved
 loop-w-preserved c =
-    let i = c.loop-w.invariant in
-    opened i.0 i.1 (variable (goal.at.loop-w-preserved c).After-variable_at-variable) c.if-variable-ne-NONE.false
+    opened c.loop-w.invariant.0 c.loop-w.invariant.1 (variable (goal.at.loop-w-preserved c).After-variable_at-variable) c.if-variable-ne-NONE.false
 
 pub returns : goal.returns
 returns c =

@@ -12,19 +12,16 @@ returns-then-t-eq-END c =
 pub returns-then-same_bytes : goal.returns-then-same_bytes
 unfolding spanned
 returns-then-same_bytes c =
-    let names = c.args.names.now in
     let m = met-token c.next_token-t.ensures c.if-t-eq-END.false in
-    sym (c.loop-i.invariant.2 ∙ spelled-here c.args.name.now c.loop-i.k (spanned names c.next_token-t.result) m (sym c.same_bytes.ensures ∙ c.if-same_bytes.true))
+    sym (c.loop-i.invariant.2 ∙ spelled-here c.args.name.now c.loop-i.k (spanned c.args.names.now c.next_token-t.result) m (sym c.same_bytes.ensures ∙ c.if-same_bytes.true))
 
 pub loop-i-preserved : goal.loop-i-preserved
 unfolding spanned
 loop-i-preserved c =
-    let names = c.args.names.now in
-    let n = c.next_token-t.ensures in
-    let m = met-token n c.if-t-eq-END.false in (
-      n.inside,
-      omega (arith, c.loop-i.invariant.1, n.longer c.if-t-eq-END.false, n.onward),
-      c.loop-i.invariant.2 ∙ spelled-on c.args.name.now c.loop-i.k (spanned names c.next_token-t.result) m (sym c.same_bytes.ensures ∙ c.if-same_bytes.false),
+    let m = met-token c.next_token-t.ensures c.if-t-eq-END.false in (
+      c.next_token-t.ensures.inside,
+      omega (arith, c.loop-i.invariant.1, c.next_token-t.ensures.longer c.if-t-eq-END.false, c.next_token-t.ensures.onward),
+      c.loop-i.invariant.2 ∙ spelled-on c.args.name.now c.loop-i.k (spanned c.args.names.now c.next_token-t.result) m (sym c.same_bytes.ensures ∙ c.if-same_bytes.false),
     )
 
 pub returns : goal.returns

@@ -24,16 +24,13 @@ returns-then-is_declared_here c =
 pub loop-i-preserved : goal.loop-i-preserved
 unfolding spanned
 loop-i-preserved c =
-    let a = c.args in
-    let x = take (a.stop - a.place) (drop a.place a.text.now) in
-    let r = c.next_token-t.result in
-    let m = c.next_token-t.ensures in
-    let one = c.one_if-k.ensures in (
-      m.inside,
-      omega (arith, bit_le c.loop-i.after_colon, one, c.loop-i.invariant.1, m.longer c.if-t-eq-END.false, m.onward),
+    let x = take (c.args.stop - c.args.place) (drop c.args.place c.args.text.now) in
+    (
+      c.next_token-t.ensures.inside,
+      omega (arith, bit_le c.loop-i.after_colon, c.one_if-k.ensures, c.loop-i.invariant.1, c.next_token-t.ensures.longer c.if-t-eq-END.false, c.next_token-t.ensures.onward),
       c.loop-i.invariant.2
-          ∙ look_on x c.loop-i.k a.place c.loop-i.after_colon (spanned a.text.now r) (met-token m c.if-t-eq-END.false) c.if-place-t.false c.is_declared_here.ensures c.if-is_declared_here.false
-          ∙ ap (λ (n : ℕ). look_up x (c.loop-i.k + n) (declared_from (eqb r.sort 58) a.place (unread a.text.now r.stop))) (sym one),
+          ∙ look_on x c.loop-i.k c.args.place c.loop-i.after_colon (spanned c.args.text.now c.next_token-t.result) (met-token c.next_token-t.ensures c.if-t-eq-END.false) c.if-place-t.false c.is_declared_here.ensures c.if-is_declared_here.false
+          ∙ ap (λ (n : ℕ). look_up x (c.loop-i.k + n) (declared_from (eqb c.next_token-t.result.sort 58) c.args.place (unread c.args.text.now c.next_token-t.result.stop))) (sym c.one_if-k.ensures),
     )
 
 pub returns-then-t-eq-END : goal.returns-then-t-eq-END

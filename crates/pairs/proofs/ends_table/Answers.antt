@@ -8,14 +8,12 @@ use Rattle.pairs.proofs.ends_table.Goals as goal
 pub returns-then-k-eq-MODEL_END : goal.returns-then-k-eq-MODEL_END
 unfolding ends_table
 returns-then-k-eq-MODEL_END c =
-    let kind-of = c.kind_of-k.ensures in
-    rw (ne_eqb (kind _) 4 (λ e. c.if-k-eq-CONSTRAINT.false (kind-of ∙ e)), eq-eqb (kind _) 7 (sym (kind-of) ∙ c.if-k-eq-MODEL_END.true))
+    rw (ne_eqb (kind _) 4 (λ e. c.if-k-eq-CONSTRAINT.false (c.kind_of-k.ensures ∙ e)), eq-eqb (kind _) 7 (sym (c.kind_of-k.ensures) ∙ c.if-k-eq-MODEL_END.true))
 
 pub returns : goal.returns
 unfolding ends_table separates
 returns c =
-    let kind-of = c.kind_of-k.ensures in
-    rw (ne_eqb (kind _) 4 (λ e. c.if-k-eq-CONSTRAINT.false (kind-of ∙ e)), ne_eqb (kind _) 7 (λ e. c.if-k-eq-MODEL_END.false (kind-of ∙ e)))
+    rw (ne_eqb (kind _) 4 (λ e. c.if-k-eq-CONSTRAINT.false (c.kind_of-k.ensures ∙ e)), ne_eqb (kind _) 7 (λ e. c.if-k-eq-MODEL_END.false (c.kind_of-k.ensures ∙ e)))
 
 pub returns-then-k-eq-CONSTRAINT : goal.returns-then-k-eq-CONSTRAINT
 unfolding ends_table

@@ -17,8 +17,7 @@ lay-requires-2 c =
 
 pub returns : goal.returns
 returns c =
-    let lay = c.lay.ensures in
-    c.lay-2.ensures ∙ rw (tail-is c.args.ws.now (c.args.d + 1), lay, c.requires.0, c.requires.2) (second-laid c.args.ws.now c.args.out.now)
+    c.lay-2.ensures ∙ rw (tail-is c.args.ws.now (c.args.d + 1), c.lay.ensures, c.requires.0, c.requires.2) (second-laid c.args.ws.now c.args.out.now)
 
 pub slice_bounds-lay-end : goal.slice_bounds-lay-end
 slice_bounds-lay-end c = rw c.requires.2 (sym (table-length c.args.ws.now))

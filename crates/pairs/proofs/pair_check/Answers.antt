@@ -9,13 +9,8 @@ use Rattle.pairs.proofs.pair_check.Goals as goal
 pub returns-then-copied-ne-NONE : goal.returns-then-copied-ne-NONE
 unfolding checked
 returns-then-copied-ne-NONE c =
-    let copy = c.copy_model-copied.ensures in
-    let a = c.args in
-    rw (copy.number, copy.place) (check-refused a.candidate a.ws.now (λ e. c.if-copied-ne-NONE.true (copy.number ∙ e)))
+    rw (c.copy_model-copied.ensures.number, c.copy_model-copied.ensures.place) (check-refused c.args.candidate c.args.ws.now (λ e. c.if-copied-ne-NONE.true (c.copy_model-copied.ensures.number ∙ e)))
 
 pub returns : goal.returns
 returns c =
-    let copy = c.copy_model-copied.ensures in
-    let a = c.args in
-    let left = c.if-copied-ne-NONE.false in
-    c.check.ensures ∙ ap check (front (copy.model left) refl) ∙ check-copied a.candidate a.ws.now (sym copy.number ∙ left)
+    c.check.ensures ∙ ap check (front (c.copy_model-copied.ensures.model c.if-copied-ne-NONE.false) refl) ∙ check-copied c.args.candidate c.args.ws.now (sym c.copy_model-copied.ensures.number ∙ c.if-copied-ne-NONE.false)

@@ -13,27 +13,21 @@ use Rattle.pairs.proofs.pair_fill.Goals as goal
 pub returns-then-copied-ne-NONE : goal.returns-then-copied-ne-NONE
 unfolding handed
 returns-then-copied-ne-NONE c =
-    let copy = c.copy_model-copied.ensures in
-    let a = c.args in
-    let s = fill-refused a.candidate a.ws.now a.values.now a.out.now (λ e. c.if-copied-ne-NONE.true (copy.number ∙ e)) in
+    let s = fill-refused c.args.candidate c.args.ws.now c.args.values.now c.args.out.now (λ e. c.if-copied-ne-NONE.true (c.copy_model-copied.ensures.number ∙ e)) in
     record {
-      answer = rw (copy.number, copy.place) s.0;
+      answer = rw (c.copy_model-copied.ensures.number, c.copy_model-copied.ensures.place) s.0;
       output = s.1;
       satisfied = λ m e. clash (cc);
-      completes = λ some passes. absurd (none_passes a.candidate a.ws.now (λ e. c.if-copied-ne-NONE.true (copy.number ∙ e)) some passes);
+      completes = λ some passes. absurd (none_passes c.args.candidate c.args.ws.now (λ e. c.if-copied-ne-NONE.true (c.copy_model-copied.ensures.number ∙ e)) some passes);
     }
 
 pub returns : goal.returns
 returns c =
-    let copy = c.copy_model-copied.ensures in
-    let a = c.args in
-    let left = c.if-copied-ne-NONE.false in
-    let f = front (copy.model left) refl in
-    let s = fill-copied a.candidate a.ws.now a.values.now a.out.now (sym copy.number ∙ left) in
-    let e = c.fill.ensures in
+    let f = front (c.copy_model-copied.ensures.model c.if-copied-ne-NONE.false) refl in
+    let s = fill-copied c.args.candidate c.args.ws.now c.args.values.now c.args.out.now (sym c.copy_model-copied.ensures.number ∙ c.if-copied-ne-NONE.false) in
     record {
-      answer = e.answer ∙ ap (λ (m : List ℕ). fill m a.values.now (length a.out.now)) f ∙ s.0;
-      output = e.output ∙ ap (λ (m : List ℕ). filled m a.values.now a.out.now) f ∙ s.1;
-      satisfied = λ n g. rw f at (e.satisfied n g);
-      completes = λ some. rw f at e.completes;
+      answer = c.fill.ensures.answer ∙ ap (λ (m : List ℕ). fill m c.args.values.now (length c.args.out.now)) f ∙ s.0;
+      output = c.fill.ensures.output ∙ ap (λ (m : List ℕ). filled m c.args.values.now c.args.out.now) f ∙ s.1;
+      satisfied = λ n g. rw f at (c.fill.ensures.satisfied n g);
+      completes = λ some. rw f at c.fill.ensures.completes;
     }

@@ -11,13 +11,8 @@ use Rattle.pairs.proofs.pair_judge_model.Goals as goal
 pub returns-then-copied-ne-NONE : goal.returns-then-copied-ne-NONE
 unfolding verdict
 returns-then-copied-ne-NONE c =
-    let copy = c.copy_model-copied.ensures in
-    let a = c.args in
-    rw (copy.number, copy.place) (judge-refused a.candidate a.ws.now a.values.now (λ e. c.if-copied-ne-NONE.true (copy.number ∙ e)))
+    rw (c.copy_model-copied.ensures.number, c.copy_model-copied.ensures.place) (judge-refused c.args.candidate c.args.ws.now c.args.values.now (λ e. c.if-copied-ne-NONE.true (c.copy_model-copied.ensures.number ∙ e)))
 
 pub returns : goal.returns
 returns c =
-    let copy = c.copy_model-copied.ensures in
-    let a = c.args in
-    let left = c.if-copied-ne-NONE.false in
-    c.judge_model.ensures ∙ ap (λ (m : List ℕ). judge_model m a.values.now) (front (copy.model left) refl) ∙ judge-copied a.candidate a.ws.now a.values.now (sym copy.number ∙ left)
+    c.judge_model.ensures ∙ ap (λ (m : List ℕ). judge_model m c.args.values.now) (front (c.copy_model-copied.ensures.model c.if-copied-ne-NONE.false) refl) ∙ judge-copied c.args.candidate c.args.ws.now c.args.values.now (sym c.copy_model-copied.ensures.number ∙ c.if-copied-ne-NONE.false)

@@ -13,25 +13,19 @@ use Rattle.pairs.proofs.pair_translate.Goals as goal
 pub returns-then-copied-ne-NONE : goal.returns-then-copied-ne-NONE
 unfolding wrote
 returns-then-copied-ne-NONE c =
-    let copy = c.copy_model-copied.ensures in
-    let a = c.args in
-    let s = translate-refused a.candidate a.ws.now a.out.now (λ e. c.if-copied-ne-NONE.true (copy.number ∙ e)) in
+    let s = translate-refused c.args.candidate c.args.ws.now c.args.out.now (λ e. c.if-copied-ne-NONE.true (c.copy_model-copied.ensures.number ∙ e)) in
     record {
-      answer = rw (copy.number, copy.place) s.0;
+      answer = rw (c.copy_model-copied.ensures.number, c.copy_model-copied.ensures.place) s.0;
       output = s.1;
       shared = λ m e. clash (cc);
     }
 
 pub returns : goal.returns
 returns c =
-    let copy = c.copy_model-copied.ensures in
-    let a = c.args in
-    let left = c.if-copied-ne-NONE.false in
-    let f = front (copy.model left) refl in
-    let s = translate-copied a.candidate a.ws.now a.out.now (sym copy.number ∙ left) in
-    let e = c.translate.ensures in
+    let f = front (c.copy_model-copied.ensures.model c.if-copied-ne-NONE.false) refl in
+    let s = translate-copied c.args.candidate c.args.ws.now c.args.out.now (sym c.copy_model-copied.ensures.number ∙ c.if-copied-ne-NONE.false) in
     record {
-      answer = e.answer ∙ ap (λ (m : List ℕ). translate m (length a.out.now)) f ∙ s.0;
-      output = e.output ∙ ap (λ (m : List ℕ). translated m a.out.now) f ∙ s.1;
-      shared = λ n g. rw f at (e.shared n g);
+      answer = c.translate.ensures.answer ∙ ap (λ (m : List ℕ). translate m (length c.args.out.now)) f ∙ s.0;
+      output = c.translate.ensures.output ∙ ap (λ (m : List ℕ). translated m c.args.out.now) f ∙ s.1;
+      shared = λ n g. rw f at (c.translate.ensures.shared n g);
     }

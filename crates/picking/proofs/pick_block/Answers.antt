@@ -14,8 +14,7 @@ use Rattle.picking.proofs.pick_block.Goals as goal
 pub returns-in_default : goal.returns-in_default
 unfolding pick any
 returns-in_default c =
-    let a = c.args in
-    rw (none-picked (39 ∷ 38 ∷ 37 ∷ 34 ∷ 33 ∷ 32 ∷ 31 ∷ 29 ∷ 28 ∷ 27 ∷ 26 ∷ 25 ∷ 24 ∷ 23 ∷ 20 ∷ 15 ∷ 14 ∷ 13 ∷ 12 ∷ 9 ∷ 8 ∷ 7 ∷ 4 ∷ []) refl a.ls.now a.us.now a.values.now a.code a.args.now (search rules)) (laid_none)
+    rw (none-picked (39 ∷ 38 ∷ 37 ∷ 34 ∷ 33 ∷ 32 ∷ 31 ∷ 29 ∷ 28 ∷ 27 ∷ 26 ∷ 25 ∷ 24 ∷ 23 ∷ 20 ∷ 15 ∷ 14 ∷ 13 ∷ 12 ∷ 9 ∷ 8 ∷ 7 ∷ 4 ∷ []) refl c.args.ls.now c.args.us.now c.args.values.now c.args.code c.args.args.now (search rules)) (laid_none)
 
 pub put_pick-requires : goal.put_pick-requires
 unfolding bit_of pick builtin builtins

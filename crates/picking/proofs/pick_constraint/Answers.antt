@@ -6,9 +6,8 @@ use Rattle.picking.proofs.pick_constraint.Goals as goal
 pub pick_shared-requires : goal.pick_shared-requires
 unfolding pick_after
 pick_shared-requires c =
-    let p = c.requires in
     let e = sym c.is_shared.ensures ∙ c.if-is_shared.true in
-    record { place = p.place; lowers = p.lowers; uppers = p.uppers; small = p.small; ranged = rw e at p.ranged }
+    record { place = c.requires.place; lowers = c.requires.lowers; uppers = c.requires.uppers; small = c.requires.small; ranged = rw e at c.requires.ranged }
 
 pub returns-then-is_shared : goal.returns-then-is_shared
 unfolding pick_after
@@ -17,9 +16,8 @@ returns-then-is_shared c = rw (sym c.is_shared.ensures ∙ c.if-is_shared.true) 
 pub pick_block-requires : goal.pick_block-requires
 unfolding pick_after
 pick_block-requires c =
-    let p = c.requires in
     let e = sym c.is_shared.ensures ∙ c.if-is_shared.false in
-    record { place = p.place; lowers = p.lowers; uppers = p.uppers; small = p.small; ranged = rw e at p.ranged }
+    record { place = c.requires.place; lowers = c.requires.lowers; uppers = c.requires.uppers; small = c.requires.small; ranged = rw e at c.requires.ranged }
 
 pub returns : goal.returns
 unfolding pick_after

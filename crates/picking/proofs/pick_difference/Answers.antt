@@ -16,8 +16,7 @@ use Rattle.picking.proofs.pick_difference.Goals as goal
 
 whole : (c : After-minus) → to_z w64 (of_z w64 c.minus.result) ≡ value c.args.values.now (var c.args.args.now 0) ⊖ value c.args.values.now (var c.args.args.now 1)
 whole c =
-    let value_of_lem = c.value_of in
-    back c.minus.result c.minus.type_inv ∙ c.minus.ensures ∙ rw (back value_of_lem.result value_of_lem.type_inv, value_of_lem.ensures, back c.value_of-2.result c.value_of-2.type_inv, c.value_of-2.ensures)
+    back c.minus.result c.minus.type_inv ∙ c.minus.ensures ∙ rw (back c.value_of.result c.value_of.type_inv, c.value_of.ensures, back c.value_of-2.result c.value_of-2.type_inv, c.value_of-2.ensures)
 
 pub minus-requires : goal.minus-requires
 unfolding pick builtin builtins

@@ -7,7 +7,4 @@ use Rattle.picking.proofs.pick_max.Goals as goal
 pub returns : goal.returns
 unfolding bit_of pick builtin builtins
 returns c =
-    let value_of_lem = c.value_of in
-    let value-of2 = c.value_of-2 in
-    let equal = c.equal-same in
-    rw (equal.ensures, back value_of_lem.result value_of_lem.type_inv, value_of_lem.ensures, back value-of2.result value-of2.type_inv, value-of2.ensures) at c.put_bit.ensures
+    rw (c.equal-same.ensures, back c.value_of.result c.value_of.type_inv, c.value_of.ensures, back c.value_of-2.result c.value_of-2.type_inv, c.value_of-2.ensures) at c.put_bit.ensures

@@ -17,8 +17,7 @@ use Rattle.picking.proofs.pick_maximum.Goals as goal
 picks : (c : After-first_equal-h) → let a = c.args in let σ = value a.values.now in let ws = a.args.now in
     gated_pick σ (λ x. σ x ≟ σ (var ws 0)) (vars ws 1) ≡ only_at (size ws 1) c.first_equal-h.result +1 ++ only_at (size ws 1) c.first_equal-h.result (σ (var ws (2 + c.first_equal-h.result)))
 picks c =
-    let a = c.args in
-    maximum-picks [] [] a.values.now a.args.now c.first_equal-h.result (rw (back c.value_of.result c.value_of.type_inv, c.value_of.ensures) at c.first_equal-h.ensures.1)
+    maximum-picks [] [] c.args.values.now c.args.args.now c.first_equal-h.result (rw (back c.value_of.result c.value_of.type_inv, c.value_of.ensures) at c.first_equal-h.ensures.1)
 
 pub put_gated-requires : goal.put_gated-requires
 unfolding pick builtin builtins
@@ -28,6 +27,4 @@ put_gated-requires c =
 pub returns : goal.returns
 unfolding pick builtin builtins
 returns c =
-    let size-at = c.size_at in
-    let value-of2 = c.value_of-2 in
-    rw (picks (goal.at.returns c).After-first_equal-h) (rw (back value-of2.result value-of2.type_inv, value-of2.ensures, size-at.ensures) at c.put_gated.ensures)
+    rw (picks (goal.at.returns c).After-first_equal-h) (rw (back c.value_of-2.result c.value_of-2.type_inv, c.value_of-2.ensures, c.size_at.ensures) at c.put_gated.ensures)

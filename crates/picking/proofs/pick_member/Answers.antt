@@ -15,29 +15,20 @@ use Rattle.picking.proofs.Members.{member-picks}
 use Rattle.picking.proofs.pick_member.Goals.{After-first_number-h, After-members-n}
 use Rattle.picking.proofs.pick_member.Goals as goal
 
-many : (c : After-members-n) → let a = c.args in c.members-n.result ≡ length (members (nums a.args.now 1) (get_or a.ls.now (var a.args.now 0) +0 to get_or a.us.now (var a.args.now 0) +0))
+many : (c : After-members-n) → c.members-n.result ≡ length (members (nums c.args.args.now 1) (get_or c.args.ls.now (var c.args.args.now 0) +0 to get_or c.args.us.now (var c.args.args.now 0) +0))
 many c =
-    let var-at = c.var_at-x in
-    let bound_at = c.bound_at in
-    let bound-at2 = c.bound_at-2 in
-    c.members-n.ensures.0 ∙ rw (back bound_at.result bound_at.type_inv, bound_at.ensures, back bound-at2.result bound-at2.type_inv, bound-at2.ensures, var-at.ensures)
+    c.members-n.ensures.0 ∙ rw (back c.bound_at.result c.bound_at.type_inv, c.bound_at.ensures, back c.bound_at-2.result c.bound_at-2.type_inv, c.bound_at-2.ensures, c.var_at-x.ensures)
 
 picks : (c : After-first_number-h) → let a = c.args in picks_of a.ls.now a.us.now a.values.now 27 a.args.now ≡ only_at c.members-n.result c.first_number-h.result +1
 picks c =
-    let var-at = c.var_at-x in
-    let bound_at = c.bound_at in
-    let bound-at2 = c.bound_at-2 in
-    let members = c.members-n in
-    let a = c.args in
     rw (many (record { before = c.before.before.before.before.before; type_inv = record { args = c.type_inv.args } }))
-    (member-picks a.ls.now a.us.now a.values.now a.args.now _ members.new.out c.first_number-h.result refl
-    (rw (back bound_at.result bound_at.type_inv, bound_at.ensures, back bound-at2.result bound-at2.type_inv, bound-at2.ensures, var-at.ensures) at members.ensures.1)
+    (member-picks c.args.ls.now c.args.us.now c.args.values.now c.args.args.now _ c.members-n.new.out c.first_number-h.result refl
+    (rw (back c.bound_at.result c.bound_at.type_inv, c.bound_at.ensures, back c.bound_at-2.result c.bound_at-2.type_inv, c.bound_at-2.ensures, c.var_at-x.ensures) at c.members-n.ensures.1)
     (rw (back c.value_of.result c.value_of.type_inv, c.value_of.ensures, many (record { before = c.before.before.before.before.before; type_inv = record { args = c.type_inv.args } })) at c.first_number-h.ensures))
 
 pub put_only-requires : goal.put_only-requires
 put_only-requires c =
-    let members = c.members-n in
-    (omega (arith, many (goal.at.put_only-requires c).After-members-n, let a = c.args in members-length a.args.now 1 (get_or a.ls.now (var a.args.now 0) +0 to get_or a.us.now (var a.args.now 0) +0)), bits-ranged members.result c.first_number-h.result)
+    (omega (arith, many (goal.at.put_only-requires c).After-members-n, members-length c.args.args.now 1 (get_or c.args.ls.now (var c.args.args.now 0) +0 to get_or c.args.us.now (var c.args.args.now 0) +0)), bits-ranged c.members-n.result c.first_number-h.result)
 
 pub returns : goal.returns
 returns c = rw (picks (goal.at.returns c).After-first_number-h) c.put_only.ensures

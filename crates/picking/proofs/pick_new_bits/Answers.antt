@@ -9,9 +9,8 @@ use Rattle.picking.proofs.pick_new_bits.Goals as goal
 pub returns-then-entry_of-eq0 : goal.returns-then-entry_of-eq0
 unfolding new_pick
 returns-then-entry_of-eq0 c =
-    let a = c.args in
     let e = rw c.var_at.ensures at c.entry_of.ensures in
-    rw (eq-eqb _ _ (sym e ∙ c.if-entry_of-eq0.true)) (rw (set-picks a.ls.now a.us.now a.values.now a.args.now) at c.pick_set_reif.ensures)
+    rw (eq-eqb _ _ (sym e ∙ c.if-entry_of-eq0.true)) (rw (set-picks c.args.ls.now c.args.us.now c.args.values.now c.args.args.now) at c.pick_set_reif.ensures)
 
 pub returns : goal.returns
 unfolding new_pick

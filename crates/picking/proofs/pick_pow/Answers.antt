@@ -19,17 +19,13 @@ returns-then-k-eq0 c =
 pub put_powers-p-requires : goal.put_powers-p-requires
 unfolding pick builtin builtins
 put_powers-p-requires c =
-    let value_of_lem = c.value_of-x in
-    let exponent-at = c.exponent_at-k in
-    let one : 1 ≤ exponent_at c.args.args.now 1 = omega (arith, exponent-at.ensures, c.if-k-eq0.false) in
-    rw (back value_of_lem.result value_of_lem.type_inv, value_of_lem.ensures, exponent-at.ensures)
+    let one : 1 ≤ exponent_at c.args.args.now 1 = omega (arith, c.exponent_at-k.ensures, c.if-k-eq0.false) in
+    rw (back c.value_of-x.result c.value_of-x.type_inv, c.value_of-x.ensures, c.exponent_at-k.ensures)
     (omega (arith, c.requires.place, exponent-le c.args.args.now 1), value-near c.args.values.now c.requires.small (var c.args.args.now 0), one, exponent-le c.args.args.now 1, rw (pick_some _ _ one) at c.requires.ranged)
 
 pub returns : goal.returns
 unfolding pick builtin builtins
 returns c =
-    let value_of_lem = c.value_of-x in
-    let exponent-at = c.exponent_at-k in
-    let one : 1 ≤ exponent_at c.args.args.now 1 = omega (arith, exponent-at.ensures, c.if-k-eq0.false) in
-    let p = rw (back value_of_lem.result value_of_lem.type_inv, value_of_lem.ensures, exponent-at.ensures) at c.put_powers-p.ensures in
+    let one : 1 ≤ exponent_at c.args.args.now 1 = omega (arith, c.exponent_at-k.ensures, c.if-k-eq0.false) in
+    let p = rw (back c.value_of-x.result c.value_of-x.type_inv, c.value_of-x.ensures, c.exponent_at-k.ensures) at c.put_powers-p.ensures in
     rw (pick_some _ _ one) p.picked

@@ -25,15 +25,14 @@ near c =
     let n = labels-near c.args.ls.now c.args.us.now c.args.args.now c.requires.1 c.requires.2 in
     (rw (back c.first_label-first.result c.first_label-first.type_inv, c.first_label-first.ensures.0) n.0, rw (back c.last_label.result c.last_label.type_inv, c.last_label.ensures) n.1)
 
-wide : (c : After-width_of-n) → let a = c.args in c.width_of-n.result ≡ width (first_label a.ls.now a.us.now a.values.now a.args.now to last_label a.ls.now a.us.now a.values.now a.args.now)
+wide : (c : After-width_of-n) → c.width_of-n.result ≡ width (first_label c.args.ls.now c.args.us.now c.args.values.now c.args.args.now to last_label c.args.ls.now c.args.us.now c.args.values.now c.args.args.now)
 wide c = c.width_of-n.ensures ∙ rw (back c.first_label-first.result c.first_label-first.type_inv, c.first_label-first.ensures.0, back c.last_label.result c.last_label.type_inv, c.last_label.ensures)
 
 picks : (c : After-place_of-h) → let a = c.args in let σ = value a.values.now in let ws = a.args.now in
     product_picks a.ls.now a.us.now a.values.now ws ≡ only_at c.width_of-n.result c.place_of-h.result (σ (var ws (1 + count (σ (var ws 0)))))
 picks c =
-    let a = c.args in
     let w = wide (record { before = c.before.before.before; type_inv = record { args = c.type_inv.args } }) in
-    rw w (product-picks a.ls.now a.us.now a.values.now a.args.now c.place_of-h.result (rw (back c.value_of-i.result c.value_of-i.type_inv, c.value_of-i.ensures, back c.first_label-first.result c.first_label-first.type_inv, c.first_label-first.ensures.0, w) at c.place_of-h.ensures))
+    rw w (product-picks c.args.ls.now c.args.us.now c.args.values.now c.args.args.now c.place_of-h.result (rw (back c.value_of-i.result c.value_of-i.type_inv, c.value_of-i.ensures, back c.first_label-first.result c.first_label-first.type_inv, c.first_label-first.ensures.0, w) at c.place_of-h.ensures))
 
 counted : (c : After-count_of) → c.count_of.result ≡ count (value c.args.values.now (var c.args.args.now 0))
 counted c = c.count_of.ensures ∙ rw (back c.value_of-i.result c.value_of-i.type_inv, c.value_of-i.ensures)

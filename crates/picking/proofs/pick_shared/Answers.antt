@@ -9,8 +9,7 @@ use Rattle.picking.proofs.pick_shared.Goals as goal
 pub returns-in_default : goal.returns-in_default
 unfolding choice_of choice shared_pick
 returns-in_default c =
-    let a = c.args.code in
-    rw (ne_eqb a 24 (search rules), ne_eqb a 25 (search rules), ne_eqb a 27 (search rules), ne_eqb a 28 (search rules)) laid_none
+    rw (ne_eqb c.args.code 24 (search rules), ne_eqb c.args.code 25 (search rules), ne_eqb c.args.code 27 (search rules), ne_eqb c.args.code 28 (search rules)) laid_none
 
 pub returns-in-24 : goal.returns-in-24
 unfolding choice_of choice shared_pick

@@ -14,9 +14,7 @@ use Rattle.picking.proofs.pick_shared_var_element.Goals as goal
 pub pick_products-requires : goal.pick_products-requires
 unfolding choice_of choice shared_pick product_picks
 pick_products-requires c =
-    let a = c.args in
-    let p = c.requires in
-    (omega (arith, p.place, c.pick_new_bits-next.ensures.ends, new_length a.ls.now a.us.now a.values.now a.args.now a.encoded.now p.lowers p.uppers), p.lowers, p.uppers, p.small, ranged-right (new_pick (bounds_of a.ls.now a.us.now) a.encoded.now (value a.values.now) (var a.args.now 0)) (product_picks a.ls.now a.us.now a.values.now a.args.now) p.ranged)
+    (omega (arith, c.requires.place, c.pick_new_bits-next.ensures.ends, new_length c.args.ls.now c.args.us.now c.args.values.now c.args.args.now c.args.encoded.now c.requires.lowers c.requires.uppers), c.requires.lowers, c.requires.uppers, c.requires.small, ranged-right (new_pick (bounds_of c.args.ls.now c.args.us.now) c.args.encoded.now (value c.args.values.now) (var c.args.args.now 0)) (product_picks c.args.ls.now c.args.us.now c.args.values.now c.args.args.now) c.requires.ranged)
 
 pub returns : goal.returns
 unfolding choice_of choice shared_pick product_picks

@@ -8,13 +8,10 @@ use Rattle.picking.proofs.pick_var_element.Goals as goal
 
 pub pick_products-requires : goal.pick_products-requires
 pick_products-requires c =
-    let a = c.args in
-    let p = c.requires in
-    let l = element-length a.ls.now a.us.now a.values.now a.args.now p.lowers p.uppers in
-    let q = rw (var_element_both a.ls.now a.us.now a.values.now a.args.now) at p.ranged in
-    (omega (arith, p.place, c.pick_element-next.ensures.ends, l), p.lowers, p.uppers, p.small, ranged-right (picks_of a.ls.now a.us.now a.values.now 24 a.args.now) (product_picks a.ls.now a.us.now a.values.now a.args.now) q)
+    let l = element-length c.args.ls.now c.args.us.now c.args.values.now c.args.args.now c.requires.lowers c.requires.uppers in
+    let q = rw (var_element_both c.args.ls.now c.args.us.now c.args.values.now c.args.args.now) at c.requires.ranged in
+    (omega (arith, c.requires.place, c.pick_element-next.ensures.ends, l), c.requires.lowers, c.requires.uppers, c.requires.small, ranged-right (picks_of c.args.ls.now c.args.us.now c.args.values.now 24 c.args.args.now) (product_picks c.args.ls.now c.args.us.now c.args.values.now c.args.args.now) q)
 
 pub returns : goal.returns
 returns c =
-    let a = c.args in
-    rw (var_element_both a.ls.now a.us.now a.values.now a.args.now) (laid_then c.pick_element-next.ensures c.pick_products.ensures)
+    rw (var_element_both c.args.ls.now c.args.us.now c.args.values.now c.args.args.now) (laid_then c.pick_element-next.ensures c.pick_products.ensures)

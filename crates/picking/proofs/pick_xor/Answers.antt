@@ -14,13 +14,9 @@ put_pick-next-requires c = (search rules, rw (back c.values_product.result c.val
 pub put_pick-requires : goal.put_pick-requires
 unfolding pick builtin builtins
 put_pick-requires c =
-    let put = c.put_pick-next in
-    (omega (arith, put.ensures.ends), rw (back c.values_product-2.result c.values_product-2.type_inv, c.values_product-2.ensures) (c.requires.ranged 1))
+    (omega (arith, c.put_pick-next.ensures.ends), rw (back c.values_product-2.result c.values_product-2.type_inv, c.values_product-2.ensures) (c.requires.ranged 1))
 
 pub returns : goal.returns
 unfolding pick builtin builtins
 returns c =
-    let values-product = c.values_product in
-    let put = c.put_pick-next in
-    let values-product2 = c.values_product-2 in
-    rw (back values-product.result values-product.type_inv, values-product.ensures, back values-product2.result values-product2.type_inv, values-product2.ensures) at (laid_then put.ensures c.put_pick.ensures)
+    rw (back c.values_product.result c.values_product.type_inv, c.values_product.ensures, back c.values_product-2.result c.values_product-2.type_inv, c.values_product-2.ensures) at (laid_then c.put_pick-next.ensures c.put_pick.ensures)

@@ -10,21 +10,13 @@ use Rattle.picking.proofs.put_division.Goals as goal
 pub put_pick-fourth-requires : goal.put_pick-fourth-requires
 unfolding division_pick
 put_pick-fourth-requires c =
-    let put-bit2 = c.put_bit-third in
-    let put-bit = c.put_bit-second in (
-      omega (arith, put-bit.ensures.ends, put-bit2.ensures.ends, c.requires.0),
+    (
+      omega (arith, c.put_bit-second.ensures.ends, c.put_bit-third.ensures.ends, c.requires.0),
       rw (back c.times.result c.times.type_inv, c.times.ensures, to_z-of_z c.ranges.d, to_z-of_z c.ranges.q) (c.requires.3 2),
     )
 
 pub returns : goal.returns
 returns c =
-    let both = c.both in
-    let put = c.put_pick-fourth in
-    let times = c.times in
-    let put-bit2 = c.put_bit-third in
-    let put-bit = c.put_bit-second in
-    let below = c.below-beta in
-    let at_most = c.at_most-alpha in
     rw division-pick
-    (rw (both.ensures, at_most.ensures, below.ensures, back times.result times.type_inv, times.ensures, to_z-of_z c.ranges.n, to_z-of_z c.ranges.d, to_z-of_z c.ranges.q) at
-    (laid_then put-bit.ensures (laid_then put-bit2.ensures (laid_then put.ensures c.put_bit.ensures))))
+    (rw (c.both.ensures, c.at_most-alpha.ensures, c.below-beta.ensures, back c.times.result c.times.type_inv, c.times.ensures, to_z-of_z c.ranges.n, to_z-of_z c.ranges.d, to_z-of_z c.ranges.q) at
+    (laid_then c.put_bit-second.ensures (laid_then c.put_bit-third.ensures (laid_then c.put_pick-fourth.ensures c.put_bit.ensures))))

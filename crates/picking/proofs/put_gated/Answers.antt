@@ -14,8 +14,7 @@ put_only-next-requires c = (search rules, bits-ranged c.args.n c.args.h)
 
 pub put_only-requires : goal.put_only-requires
 put_only-requires c =
-    let put-Only = c.put_only-next in
-    (omega (arith, put-Only.ensures.ends, only-length c.args.n c.args.h +1), rw (to_z-of_z c.ranges.x) (ranged-right (only_at c.args.n c.args.h +1) (only_at c.args.n c.args.h c.args.x) c.requires.1))
+    (omega (arith, c.put_only-next.ensures.ends, only-length c.args.n c.args.h +1), rw (to_z-of_z c.ranges.x) (ranged-right (only_at c.args.n c.args.h +1) (only_at c.args.n c.args.h c.args.x) c.requires.1))
 
 pub returns : goal.returns
 returns c = rw (to_z-of_z c.ranges.x) at (laid_then c.put_only-next.ensures c.put_only.ensures)

@@ -14,11 +14,9 @@ wide c = c.width_of-n.ensures ∙ rw (to_z-of_z c.ranges.lower, to_z-of_z c.rang
 
 pub put_only-requires : goal.put_only-requires
 put_only-requires c =
-    let width_of_lem = c.width_of-n in
-    (omega (arith, wide (goal.at.put_only-requires c).After-width_of-n, width-size c.args.lower c.args.upper c.requires.1 c.requires.2), bits-ranged width_of_lem.result c.place_of-h.result)
+    (omega (arith, wide (goal.at.put_only-requires c).After-width_of-n, width-size c.args.lower c.args.upper c.requires.1 c.requires.2), bits-ranged c.width_of-n.result c.place_of-h.result)
 
 pub returns : goal.returns
 returns c =
-    let place_of = c.place_of-h in
-    let f = rw (to_z-of_z c.ranges.v, to_z-of_z c.ranges.lower, wide (goal.at.returns c).After-width_of-n) at place_of.ensures in
-    rw (label-bits c.args.lower c.args.upper c.args.v place_of.result f) (rw (wide (goal.at.returns c).After-width_of-n) at c.put_only.ensures)
+    let f = rw (to_z-of_z c.ranges.v, to_z-of_z c.ranges.lower, wide (goal.at.returns c).After-width_of-n) at c.place_of-h.ensures in
+    rw (label-bits c.args.lower c.args.upper c.args.v c.place_of-h.result f) (rw (wide (goal.at.returns c).After-width_of-n) at c.put_only.ensures)

@@ -9,10 +9,9 @@ use Rattle.picking.proofs.put_next.Goals as goal
 
 pub returns : goal.returns
 returns c =
-    let times = c.times-v in
-    let e = rw (to_z-of_z c.ranges.factor, near-back c.args.p.held c.requires.2) at times.ensures in
-    rw (back times.result times.type_inv) record {
-      picked = rw (back times.result times.type_inv, e) at c.put_pick.ensures;
+    let e = rw (to_z-of_z c.ranges.factor, near-back c.args.p.held c.requires.2) at c.times-v.ensures in
+    rw (back c.times-v.result c.times-v.type_inv) record {
+      picked = rw (back c.times-v.result c.times-v.type_inv, e) at c.put_pick.ensures;
       held = e;
       near = omega (arith, ap nat_abs e, range-near _ c.requires.3);
     }

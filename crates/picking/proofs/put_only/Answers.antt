@@ -19,8 +19,7 @@ use Rattle.picking.proofs.put_only.Goals as goal
 
 kept : (c : In-loop-k) → get_or (only_at c.args.n c.args.h c.args.v) c.loop-k.k (pos 0) ≡ (to_z w64 (of_z w64 c.args.v) if eqb c.loop-k.k c.args.h else pos 0)
 kept c =
-    let loop = c.loop-k in
-    only_at_lem c.args.n c.args.h c.args.v loop.k c.loop-k-test.true ∙ rw (to_z-of_z c.ranges.v)
+    only_at_lem c.args.n c.args.h c.args.v c.loop-k.k c.loop-k-test.true ∙ rw (to_z-of_z c.ranges.v)
 
 ended : (c : After-loop-k) → LaidAt c.args.out.now c.args.at (only_at c.args.n c.args.h c.args.v) c.loop-k.out (c.args.at + c.loop-k.k)
 ended c =
@@ -29,9 +28,8 @@ ended c =
 pub loop-k-preserved : goal.loop-k-preserved
 unfolding overlay
 loop-k-preserved c =
-    let loop = c.loop-k in
     rw (to_z-of_z c.ranges.v)
-    (one-laid (rw (to_z-of_z c.ranges.v) at loop.invariant) (pos 0) (omega (arith, only-length c.args.n c.args.h c.args.v, c.loop-k-test.true)) (rw (← kept (goal.at.loop-k-preserved c).In-loop-k) at c.put_if.ensures).over)
+    (one-laid (rw (to_z-of_z c.ranges.v) at c.loop-k.invariant) (pos 0) (omega (arith, only-length c.args.n c.args.h c.args.v, c.loop-k-test.true)) (rw (← kept (goal.at.loop-k-preserved c).In-loop-k) at c.put_if.ensures).over)
 
 pub put_if-requires : goal.put_if-requires
 put_if-requires c = (search rules, rw (← kept (goal.at.put_if-requires c).In-loop-k) (c.requires.1 c.loop-k.k))

@@ -7,5 +7,4 @@ use Rattle.picking.proofs.sum_less.Goals as goal
 
 pub minus-requires : goal.minus-requires
 minus-requires c =
-    let sum_of = c.sum_of in
-    rw (back sum_of.result sum_of.type_inv, sum_of.ensures, back c.num_at.result c.num_at.type_inv, c.num_at.ensures) (omega (arith, sum-size c.args.args.now c.args.values.now 0 c.requires, num-size c.args.args.now c.past_terms_at.result))
+    rw (back c.sum_of.result c.sum_of.type_inv, c.sum_of.ensures, back c.num_at.result c.num_at.type_inv, c.num_at.ensures) (omega (arith, sum-size c.args.args.now c.args.values.now 0 c.requires, num-size c.args.args.now c.past_terms_at.result))

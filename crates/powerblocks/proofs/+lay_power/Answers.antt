@@ -18,8 +18,7 @@ returns-then-k-eq0 t c B = products_even c.args.x c.args.k c.if-k-lt2.false B (c
 pub next_product-requires : goal.next_product-requires
 next_product-requires t c =
     let h = c.lay_power-half.ensures bit in
-    let n = c.next_product-square.ensures in
-    (omega (arith, c.requires.0, c.requires.2, h.size, n.size), omega (arith, c.requires.2, c.requires.3, h.few, n.next))
+    (omega (arith, c.requires.0, c.requires.2, h.size, c.next_product-square.ensures.size), omega (arith, c.requires.2, c.requires.3, h.few, c.next_product-square.ensures.next))
 
 pub returns : goal.returns
 returns t c B = products-odd c.args.x c.args.k c.if-k-lt2.false B (c.lay_power-half.ensures B) c.next_product-square.ensures c.if-k-eq0.false c.next_product.ensures

@@ -13,19 +13,7 @@ use Rattle.powerblocks.proofs.int_pow.Goals as goal
 pub returns-then-k-eq0 : goal.returns-then-k-eq0
 unfolding rule
 returns-then-k-eq0 c =
-    let w = c.lay_row.ensures in
-    rw c.if-k-eq0.true (went-fitting (went_as (none-parts c.args.first (bounds_of c.args.ls.now c.args.us.now) c.args.x c.args.z) w.0), omega (arith, w.1))
-
-pub lay_ranges-ranged-requires : goal.lay_ranges-ranged-requires
-lay_ranges-ranged-requires c =
-    let bound_at = c.bound_at-lower in
-    let bound-at2 = c.bound_at-upper in
-    rw (back bound_at.result bound_at.type_inv, bound_at.ensures, back bound-at2.result bound-at2.type_inv, bound-at2.ensures)
-    (omega (arith, c.requires.0), omega (arith, c.if-k-eq0.false), c.requires.2, c.requires.3 c.args.x, c.requires.4 c.args.x)
-
-pub lay_power-chained-requires : goal.lay_power-chained-requires
-lay_power-chained-requires c =
-    (omega (arith, c.requires.0, c.requires.2, c.lay_ranges-ranged.ensures.size), omega (arith, c.if-k-eq0.false), c.requires.2, c.requires.1)
+    rw c.if-k-eq0.true (went-fitting (went_as (none-parts c.args.first (bounds_of c.args.ls.now c.args.us.now) c.args.x c.args.z) c.lay_row.ensures.0), omega (arith, c.lay_row.ensures.1))
 
 pub lay_row-requires-2 : goal.lay_row-requires-2
 lay_row-requires-2 c =
@@ -34,13 +22,11 @@ lay_row-requires-2 c =
 pub returns : goal.returns
 unfolding rule
 returns c =
-    let bound_at = c.bound_at-lower in
-    let bound-at2 = c.bound_at-upper in
     let β = bounds_of c.args.ls.now c.args.us.now in
-    let r = rw (back bound_at.result bound_at.type_inv, bound_at.ensures, back bound-at2.result bound-at2.type_inv, bound-at2.ensures) at c.lay_ranges-ranged.ensures in
+    let r = rw (back c.bound_at-lower.result c.bound_at-lower.type_inv, c.bound_at-lower.ensures, back c.bound_at-upper.result c.bound_at-upper.type_inv, c.bound_at-upper.ensures) at c.lay_ranges-ranged.ensures in
     let p = c.lay_power-chained.ensures (β c.args.x) in
-    let w = c.lay_row-2.ensures in (
+    (
       went-alike (power-alike c.args.first β c.args.x c.args.k c.args.z c.lay_power-chained.result.held (omega (arith, c.if-k-eq0.false)) (c.requires.3 c.args.x) (c.requires.4 c.args.x) p.held)
-          (went_then r.went (went_then p.went w.0)),
-      omega (arith, c.requires.2, r.size, p.size, w.1),
+          (went_then r.went (went_then p.went c.lay_row-2.ensures.0)),
+      omega (arith, c.requires.2, r.size, p.size, c.lay_row-2.ensures.1),
     )

@@ -8,13 +8,9 @@ use Rattle.reasoning.proofs.reason.Goals as goal
 pub reason_passed-requires : goal.reason_passed-requires
 unfolding checked
 reason_passed-requires c =
-    let e = c.check_model-known.ensures in
-    let p = counted c.args.ws.now (rw c.in-Counts.is at e.answer) in
-    (e.bounds p.0, e.sums p.0, p.0, p.2)
+    let p = counted c.args.ws.now (rw c.in-Counts.is at c.check_model-known.ensures.answer) in
+    (c.check_model-known.ensures.bounds p.0, c.check_model-known.ensures.sums p.0, p.0, p.2)
 
 pub returns-in-Refused : goal.returns-in-Refused
 unfolding told checked
-returns-in-Refused c = let a = c.args in stands a.ws.now a.values.now (rw c.in-Refused.is at c.check_model-known.ensures.answer)
-
-pub returns-in-Counts : goal.returns-in-Counts
-returns-in-Counts c = c.reason_passed.ensures
+returns-in-Refused c = stands c.args.ws.now c.args.values.now (rw c.in-Refused.is at c.check_model-known.ensures.answer)

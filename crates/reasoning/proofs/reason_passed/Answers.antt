@@ -17,21 +17,9 @@ unfolding told
 returns-then-values-sources c =
     wrong-count c.args.ws.now c.requires.2 c.args.values.now (λ e. c.if-values-sources.true (omega (arith, e, c.requires.0.seen.variables_counted, c.requires.3)))
 
-pub slice_bounds-first_out_of_bounds-end : goal.slice_bounds-first_out_of_bounds-end
-slice_bounds-first_out_of_bounds-end c =
-    sym (length-take-le c.args.read.variables c.args.values.now (omega (arith, c.if-values-sources.false)))
-
-pub first_out_of_bounds-outside-requires : goal.first_out_of_bounds-outside-requires
-first_out_of_bounds-outside-requires c =
-    length-take-le c.args.read.variables c.args.values.now (omega (arith, c.if-values-sources.false)) ∙ c.requires.0.seen.variables_counted
-
 pub returns-then-not-is_holds : goal.returns-then-not-is_holds
 returns-then-not-is_holds c =
     c.before_rows.ensures ∙ source-outside c.args.ws.now c.requires.2 c.args.values.now (omega (arith, c.if-values-sources.false, c.requires.3, c.requires.0.seen.variables_counted)) (rw c.requires.0.seen.variables_counted at c.first_out_of_bounds-outside.ensures) (sym c.is_holds.ensures ∙ c.if-not-is_holds.true)
-
-pub walk-stopped-requires : goal.walk-stopped-requires
-walk-stopped-requires c =
-    (record { passes = c.requires.2; model = c.requires.0; sums_are = c.requires.1; counted = omega (arith, c.if-values-sources.false, c.requires.3, c.requires.0.seen.variables_counted) }, λ e. false-true (sym e))
 
 pub returns-then-not-is_holds-2 : goal.returns-then-not-is_holds-2
 returns-then-not-is_holds-2 c =

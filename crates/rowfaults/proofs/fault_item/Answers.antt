@@ -7,12 +7,7 @@ use Rattle.rowfaults.proofs.fault_item.Goals as goal
 pub returns : goal.returns
 unfolding fault_item
 returns c =
-    let kind-of = c.kind_of-k in
-    let payload-of = c.payload_of-payload in
-    let if1 = c.if-k-eq-AUXILIARY_LOWER in
-    let if2 = c.if-k-eq-AT_MOST in
-    let if3 = c.if-k-eq-EQUAL in
-    rw (← kind-of.ensures, ← payload-of.ensures, ne_eqb _ _ if1.false, ne_eqb _ _ if2.false, ne_eqb _ _ if3.false, ne_eqb _ _ c.if-k-eq-PRODUCT.false, ne_eqb _ _ c.if-k-eq-ROWS_END.false)
+    rw (← c.kind_of-k.ensures, ← c.payload_of-payload.ensures, ne_eqb _ _ c.if-k-eq-AUXILIARY_LOWER.false, ne_eqb _ _ c.if-k-eq-AT_MOST.false, ne_eqb _ _ c.if-k-eq-EQUAL.false, ne_eqb _ _ c.if-k-eq-PRODUCT.false, ne_eqb _ _ c.if-k-eq-ROWS_END.false)
 
 pub returns-then-k-eq-AUXILIARY_LOWER : goal.returns-then-k-eq-AUXILIARY_LOWER
 unfolding fault_item

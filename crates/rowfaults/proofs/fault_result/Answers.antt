@@ -6,11 +6,7 @@ use Rattle.rowfaults.proofs.fault_result.Goals as goal
 pub returns : goal.returns
 unfolding fault_result
 returns c =
-    let kind-of = c.kind_of in
-    let if1 = c.if-kind_of-ne-VARIABLE in
-    let payload-of = c.payload_of in
-    let if2 = c.if-n-payload_of in
-    rw (← kind-of.ensures, eq-eqb _ _ if1.false, ← payload-of.ensures, lt-leb _ _ if2.false, ← c.not_above.ensures) c.fault_if.ensures
+    rw (← c.kind_of.ensures, eq-eqb _ _ c.if-kind_of-ne-VARIABLE.false, ← c.payload_of.ensures, lt-leb _ _ c.if-n-payload_of.false, ← c.not_above.ensures) c.fault_if.ensures
 
 pub returns-then-kind_of-ne-VARIABLE : goal.returns-then-kind_of-ne-VARIABLE
 unfolding fault_result

@@ -11,8 +11,7 @@ use Rattle.rowfaults.proofs.fault_start.Goals as goal
 
 pub returns-then-k-eq-AUXILIARY_LOWER : goal.returns-then-k-eq-AUXILIARY_LOWER
 returns-then-k-eq-AUXILIARY_LOWER c =
-    let a = c.args in
-    c.fault_lower.ensures ∙ sym (auxiliary-head a.sources a.n a.w (sym c.kind_of-k.ensures ∙ c.if-k-eq-AUXILIARY_LOWER.true))
+    c.fault_lower.ensures ∙ sym (auxiliary-head c.args.sources c.args.n c.args.w (sym c.kind_of-k.ensures ∙ c.if-k-eq-AUXILIARY_LOWER.true))
 
 pub returns-then-not-sources : goal.returns-then-not-sources
 returns-then-not-sources c =

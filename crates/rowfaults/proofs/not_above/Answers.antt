@@ -6,23 +6,12 @@ use Rattle.rowfaults.proofs.not_above.Goals as goal
 pub returns-then-result-payload_of : goal.returns-then-result-payload_of
 unfolding not_above
 returns-then-result-payload_of c =
-    let kind-of = c.kind_of in
-    let if1 = c.if-kind_of-ne-VARIABLE in
-    let kind-of2 = c.kind_of-2 in
-    let if2 = c.if-kind_of-ne-VARIABLE-2 in
-    let payload-of = c.payload_of-result in
-    rw (← kind-of.ensures, eq-eqb _ _ if1.false, ← kind-of2.ensures, eq-eqb _ _ if2.false, ← payload-of.ensures, ← c.payload_of.ensures, le-leb _ _ c.if-result-payload_of.true)
+    rw (← c.kind_of.ensures, eq-eqb _ _ c.if-kind_of-ne-VARIABLE.false, ← c.kind_of-2.ensures, eq-eqb _ _ c.if-kind_of-ne-VARIABLE-2.false, ← c.payload_of-result.ensures, ← c.payload_of.ensures, le-leb _ _ c.if-result-payload_of.true)
 
 pub returns : goal.returns
 unfolding not_above
 returns c =
-    let kind-of = c.kind_of in
-    let if1 = c.if-kind_of-ne-VARIABLE in
-    let kind-of2 = c.kind_of-2 in
-    let if2 = c.if-kind_of-ne-VARIABLE-2 in
-    let payload-of = c.payload_of-result in
-    let payload-of2 = c.payload_of in
-    rw (← kind-of.ensures, eq-eqb _ _ if1.false, ← kind-of2.ensures, eq-eqb _ _ if2.false, ← payload-of.ensures, ← payload-of2.ensures, lt-leb _ _ c.if-result-payload_of.false, ← c.payload_of-2.ensures)
+    rw (← c.kind_of.ensures, eq-eqb _ _ c.if-kind_of-ne-VARIABLE.false, ← c.kind_of-2.ensures, eq-eqb _ _ c.if-kind_of-ne-VARIABLE-2.false, ← c.payload_of-result.ensures, ← c.payload_of.ensures, lt-leb _ _ c.if-result-payload_of.false, ← c.payload_of-2.ensures)
 
 pub returns-then-kind_of-ne-VARIABLE : goal.returns-then-kind_of-ne-VARIABLE
 unfolding not_above

@@ -10,14 +10,6 @@ use Rattle.rowitems.proofs.see_item.Goals as goal
 row : (c : Then-starts_sum) → starts_sum c.args.head ≡ true
 row c = sym c.starts_sum.ensures ∙ c.if-starts_sum.true
 
-pub see_row-requires : goal.see_row-requires
-see_row-requires c =
-    (c.requires.0, c.requires.1, c.requires.2, row c)
-
-pub see_other-requires : goal.see_other-requires
-see_other-requires c =
-    (c.requires.0, c.requires.1, c.requires.2, c.requires.3, sym c.starts_sum.ensures ∙ c.if-starts_sum.false)
-
 pub returns-then-starts_sum : goal.returns-then-starts_sum
 returns-then-starts_sum c = record {
   step = c.see_row.ensures.step;

@@ -9,16 +9,15 @@ use Rattle.rowitems.proofs.see_upper.Goals.{After-fault_upper-number}
 use Rattle.rowitems.proofs.see_upper.Goals as goal
 
 -- what the fault of the upper bound is
-fault : (c : After-fault_upper-number) → let a = c.args in c.fault_upper-number.result ≡ fault_upper a.k a.lower (word_at a.ws.now a.at)
+fault : (c : After-fault_upper-number) → c.fault_upper-number.result ≡ fault_upper c.args.k c.args.lower (word_at c.args.ws.now c.args.at)
 fault c = c.fault_upper-number.ensures ∙ rw c.word_at-upper.ensures
 
 pub returns : goal.returns
 unfolding step_over
 returns c =
-    let a = c.signed_of in
-    let b = c.signed_of-2 in (
+    (
       rw (← fault (goal.at.returns c).After-fault_upper-number, c.if-number-ne-NONE.false),
-      λ z. c.between-holds.ensures ∙ rw (to_z-of_z (record { sfits = a.type_inv }), to_z-of_z (record { sfits = b.type_inv }), a.ensures, b.ensures, to_z-of_z c.ranges.v, c.word_at-upper.ensures),
+      λ z. c.between-holds.ensures ∙ rw (to_z-of_z (record { sfits = c.signed_of.type_inv }), to_z-of_z (record { sfits = c.signed_of-2.type_inv }), c.signed_of.ensures, c.signed_of-2.ensures, to_z-of_z c.ranges.v, c.word_at-upper.ensures),
     )
 
 pub returns-then-number-ne-NONE : goal.returns-then-number-ne-NONE

@@ -26,9 +26,6 @@ use Rattle.rowjudge.proofs.judge_on.Goals as goal
 pub loop-seen-init : goal.loop-seen-init
 loop-seen-init c = (c.requires.0, refl, begun _ _ _ _ _ c.requires.1)
 
-pub see_variable-seen-requires : goal.see_variable-seen-requires
-see_variable-seen-requires c = (c.loop-seen.invariant.0, c.word_at-head.ensures, sym c.starts_variable.ensures ∙ c.if-starts_variable.true)
-
 -- a variable starts at the place, and its words are there
 variable : (c : After-see_variable-seen) → starts (word_at c.args.ws.now c.loop-seen.at) ≡ true
 variable c = rw c.word_at-head.ensures at (sym c.starts_variable.ensures) ∙ c.if-starts_variable.true
@@ -66,9 +63,6 @@ returns-then-seen-ne-NONE c =
     let e = c.judge_end.ensures in
     stops l.invariant.2 c.see_variable-seen.ensures.step c.if-seen-ne-NONE.true l.invariant.1 e.refusal e.variables e.said
 
-pub judge_rest-requires : goal.judge_rest-requires
-judge_rest-requires c = (placed (goal.at.judge_rest-requires c).After-see_variable-seen, few (goal.at.judge_rest-requires c).After-see_variable-seen)
-
 -- a value is missing or out of its bounds
 pub returns-then-not-seen : goal.returns-then-not-seen
 returns-then-not-seen c =
@@ -80,13 +74,6 @@ returns-then-not-seen c =
       says = λ i h. e.said ∙ outside c.loop-seen.invariant.2 (variable-there (goal.at.returns-then-not-seen c).After-see_variable-seen z) (variable (goal.at.returns-then-not-seen c).After-see_variable-seen) c.value_or_outside.ensures (sym (kept (goal.at.returns-then-not-seen c).After-see_variable-seen z) ∙ not-true _ c.if-not-seen.true) (omega (arith, e.variables i, h));
     }
 
-pub overflow_add-n : goal.overflow_add-n
-overflow_add-n c = record { fits = omega (arith, few (goal.at.overflow_add-n c).After-see_variable-seen) }
-
-pub loop-seen-smaller-then-starts_variable : goal.loop-seen-smaller-then-starts_variable
-loop-seen-smaller-then-starts_variable c =
-    omega (arith, variable-there (goal.at.loop-seen-smaller-then-starts_variable c).After-see_variable-seen c.if-seen-ne-NONE.false, c.see_variable-seen.ensures.step.past c.if-seen-ne-NONE.false, c.see_variable-seen.ensures.step.inside)
-
 pub loop-seen-preserved-then-starts_variable : goal.loop-seen-preserved-then-starts_variable
 loop-seen-preserved-then-starts_variable c =
     let z = c.if-seen-ne-NONE.false in
@@ -95,11 +82,6 @@ loop-seen-preserved-then-starts_variable c =
       read_past (goal.at.loop-seen-preserved-then-starts_variable c).After-kind_of-sources,
       variable-judged c.loop-seen.invariant.2 (variable-there (goal.at.loop-seen-preserved-then-starts_variable c).After-see_variable-seen z) (variable (goal.at.loop-seen-preserved-then-starts_variable c).After-see_variable-seen) c.value_or_outside.ensures (sym (kept (goal.at.loop-seen-preserved-then-starts_variable c).After-see_variable-seen z) ∙ not-false _ c.if-not-seen.false) g.plain (omega (arith, g.past z)) g.inside,
     )
-
-pub see_item-seen-requires : goal.see_item-seen-requires
-see_item-seen-requires c =
-    let l = c.loop-seen in
-    (l.invariant.0, c.word_at-head.ensures, l.invariant.2.known, sym c.starts_variable.ensures ∙ c.if-starts_variable.false)
 
 -- no variable starts at the place, and the words of the item are there
 other : (c : Else-starts_variable) → starts (word_at c.args.ws.now c.loop-seen.at) ≡ false
@@ -133,14 +115,6 @@ returns-then-seen-ne-NONE-2 c =
     let l = c.loop-seen in
     let e = c.judge_end-then-seen-ne-NONE-2.ensures in
     stops l.invariant.2 c.see_item-seen.ensures.step c.if-seen-ne-NONE-2.true l.invariant.1 e.refusal e.variables e.said
-
-pub overflow_add-rows : goal.overflow_add-rows
-overflow_add-rows c =
-    let l = c.loop-seen in
-    record { fits = omega (arith, l.invariant.2.few, l.invariant.0.within, l.invariant.0.few, c.requires.3) }
-
-pub loop-seen-smaller : goal.loop-seen-smaller
-loop-seen-smaller c = omega (arith, item-there (goal.at.loop-seen-smaller c).Else-seen-ne-NONE-2, c.see_item-seen.ensures.step.past c.if-seen-ne-NONE-2.false, c.see_item-seen.ensures.step.inside)
 
 pub loop-seen-preserved : goal.loop-seen-preserved
 unfolding start_due

@@ -47,7 +47,3 @@ returns c =
 pub returns-then-ws-gt-ROW_WORDS : goal.returns-then-ws-gt-ROW_WORDS
 unfolding verdict judge_rows read_rows ◌else_refuse◌ ◌else_answer◌
 returns-then-ws-gt-ROW_WORDS c = rw (lt-ltb _ _ c.if-ws-gt-ROW_WORDS.true)
-
-pub judge_on-judged-requires : goal.judge_on-judged-requires
-unfolding verdict judge_rows read_rows ◌else_refuse◌ ◌else_answer◌
-judge_on-judged-requires c = (record { within = omega arith; few = c.if-ws-gt-ROW_WORDS.false }, (omega arith, λ x h. absurd (omega arith)), omega arith, omega arith)

@@ -26,16 +26,14 @@ pub record Out (ws : List ℕ) (first : Bool) (before start n number at : ℕ) :
   pub reads : stopped ws number at ≡ onward (start_due first) before start ws
   pub all : CountedFrom ws before start n at
 
-out : (c : Joined-number-ne-NONE) → let a = c.args in Out a.ws.now a.first a.before a.start c.if-number-ne-NONE.n c.if-number-ne-NONE.number c.if-number-ne-NONE.at
+out : (c : Joined-number-ne-NONE) → Out c.args.ws.now c.args.first c.args.before c.args.start c.if-number-ne-NONE.n c.if-number-ne-NONE.number c.if-number-ne-NONE.at
 out c =
-    let items = c.items in
-    let ws = c.args.ws.now in
-    let h : c.fault_head-number.result ≡ fault_at_head items.sources items.n (word_at ws items.at) = c.fault_head-number.ensures ∙ rw c.word_at-head.ensures in
+    let h : c.fault_head-number.result ≡ fault_at_head c.items.sources c.items.n (word_at c.args.ws.now c.items.at) = c.fault_head-number.ensures ∙ rw c.word_at-head.ensures in
     elim c.if-number-ne-NONE.branch [
       | then-number-ne-NONE w ↦ rw (w.n-is, w.at-is, w.number-is) (record {
         some = w.if-number-ne-NONE.true;
-        reads = sym (head-halted ws items.sources items.n items.at c.fault_head-number.result h w.if-number-ne-NONE.true) ∙ items.invariant.2;
-        all = items.invariant.1;
+        reads = sym (head-halted c.args.ws.now c.items.sources c.items.n c.items.at c.fault_head-number.result h w.if-number-ne-NONE.true) ∙ c.items.invariant.2;
+        all = c.items.invariant.1;
       })
       | else-number-ne-NONE+then-loop-left-test+then-number-ne-NONE-2 w ↦ rw (w.n-is, w.at-is, w.number-is) (let t = w.read_term-term.ensures.0 in record {
         some = w.if-number-ne-NONE-2.true;
@@ -49,65 +47,49 @@ out c =
       })
     ]
 
-pub items-init : goal.items-init
-items-init c = (c.requires.0, none-counted _ _ _, refl)
-
 pub overflow_add-n : goal.overflow_add-n
 overflow_add-n c =
-    let items = c.items in
-    let word_at = c.word_at-head in
-    record { fits = omega (arith, c.started_of-n.ensures, started-few word_at.result, items.invariant.1.few, items.invariant.0.within, items.invariant.0.few, c.requires.1) }
+    record { fits = omega (arith, c.started_of-n.ensures, started-few c.word_at-head.result, c.items.invariant.1.few, c.items.invariant.0.within, c.items.invariant.0.few, c.requires.1) }
 
 pub loop-left-init : goal.loop-left-init
 unfolding due_after
 loop-left-init c =
-    let items = c.items in
-    let word_at = c.word_at-head in
-    let fault-head = c.fault_head-number in
-    let if1 = c.if-number-ne-NONE in
-    let Started-of = c.started_of-n in
-    let here = head-here c.args.ws.now items.sources items.n items.at fault-head.result (head (goal.at.loop-left-init c).After-fault_head-number) if1.false in (
-      record { within = omega (arith, here); few = items.invariant.0.few },
-      rw (Started-of.ensures, word_at.ensures) (count_head items.invariant.1 here),
+    let here = head-here c.args.ws.now c.items.sources c.items.n c.items.at c.fault_head-number.result (head (goal.at.loop-left-init c).After-fault_head-number) c.if-number-ne-NONE.false in (
+      record { within = omega (arith, here); few = c.items.invariant.0.few },
+      rw (c.started_of-n.ensures, c.word_at-head.ensures) (count_head c.items.invariant.1 here),
       omega arith,
       omega (arith, c.terms_of-left.ensures),
-      rw (c.terms_of-left.ensures, Started-of.ensures, word_at.ensures)
-          (sym (head-gone c.args.ws.now items.sources items.n items.at fault-head.result (head (goal.at.loop-left-init c).After-fault_head-number) c.item_of-item.result if1.false (c.item_of-item.ensures ∙ rw word_at.ensures))
-          ∙ items.invariant.2),
+      rw (c.terms_of-left.ensures, c.started_of-n.ensures, c.word_at-head.ensures)
+          (sym (head-gone c.args.ws.now c.items.sources c.items.n c.items.at c.fault_head-number.result (head (goal.at.loop-left-init c).After-fault_head-number) c.item_of-item.result c.if-number-ne-NONE.false (c.item_of-item.ensures ∙ rw c.word_at-head.ensures))
+          ∙ c.items.invariant.2),
     )
 
 -- past a term without a fault
 past-term : (c : Else-number-ne-NONE-2) → c.read_term-term.result.at ≡ c.loop-left.at + 2
 past-term c = c.read_term-term.ensures.1 c.if-number-ne-NONE-2.false
 
-pub overflow_add-at-in-loop-left : goal.overflow_add-at-in-loop-left
-overflow_add-at-in-loop-left c = record { fits = omega (arith, past-term c, (c.read_term-term.ensures.0 0).inside, c.loop-left.invariant.0.few) }
-
 pub loop-left-preserved : goal.loop-left-preserved
 loop-left-preserved c =
-    let l = c.loop-left in
-    let t = c.read_term-term.ensures.0 in
     rw (← past-term c) (
-      record { within = (t 0).inside; few = l.invariant.0.few },
-      count-plain l.invariant.1 (t 0).plain (t 0).on (t 0).inside,
-      omega (arith, l.invariant.2, (t 0).on),
-      omega (arith, l.invariant.3),
-      sym (gone (term-gone c.item_of-item.result l.left c.loop-left-test.true l.invariant.3 t) c.if-number-ne-NONE-2.false) ∙ l.invariant.4,
+      record { within = (c.read_term-term.ensures.0 0).inside; few = c.loop-left.invariant.0.few },
+      count-plain c.loop-left.invariant.1 (c.read_term-term.ensures.0 0).plain (c.read_term-term.ensures.0 0).on (c.read_term-term.ensures.0 0).inside,
+      omega (arith, c.loop-left.invariant.2, (c.read_term-term.ensures.0 0).on),
+      omega (arith, c.loop-left.invariant.3),
+      sym (gone (term-gone c.item_of-item.result c.loop-left.left c.loop-left-test.true c.loop-left.invariant.3 c.read_term-term.ensures.0) c.if-number-ne-NONE-2.false) ∙ c.loop-left.invariant.4,
     )
 
 pub items-preserved : goal.items-preserved
 items-preserved c =
-    let loop = c.loop-left in
-    let read-rest = c.read_rest-rest in (
-      record { within = read-rest.ensures.inside; few = loop.invariant.0.few },
-      count-plain loop.invariant.1 read-rest.ensures.plain read-rest.ensures.on read-rest.ensures.inside,
-      rw c.sources_after-sources.ensures (let z : loop.left ≡ 0 = omega (arith, c.loop-left-test.false) in sym (gone read-rest.ensures c.if-number-ne-NONE-3.false) ∙ rw z at loop.invariant.4),
+    (
+      record { within = c.read_rest-rest.ensures.inside; few = c.loop-left.invariant.0.few },
+      count-plain c.loop-left.invariant.1 c.read_rest-rest.ensures.plain c.read_rest-rest.ensures.on c.read_rest-rest.ensures.inside,
+      rw c.sources_after-sources.ensures (let z : c.loop-left.left ≡ 0 = omega (arith, c.loop-left-test.false) in sym (gone c.read_rest-rest.ensures c.if-number-ne-NONE-3.false) ∙ rw z at c.loop-left.invariant.4),
     )
 
 pub returns : goal.returns
 returns c =
     let o = out (goal.at.returns c).Joined-number-ne-NONE in
-    let e = c.refusal_at.ensures in (
-      e ∙ o.reads,
-      λ z. counted o.all (at_the_end _ c.if-number-ne-NONE.number c.if-number-ne-NONE.at o.some (ap (λ (r : Refusal). r.number) (sym e) ∙ z)).1,
+    (
+      c.refusal_at.ensures ∙ o.reads,
+      λ z. counted o.all (at_the_end _ c.if-number-ne-NONE.number c.if-number-ne-NONE.at o.some (ap (λ (r : Refusal). r.number) (sym c.refusal_at.ensures) ∙ z)).1,
     )

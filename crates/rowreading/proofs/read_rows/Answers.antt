@@ -11,10 +11,6 @@ pub returns-then-ws-gt-ROW_WORDS : goal.returns-then-ws-gt-ROW_WORDS
 unfolding read_rows onward start_due
 returns-then-ws-gt-ROW_WORDS c = rw (lt-ltb _ _ c.if-ws-gt-ROW_WORDS.true)
 
-pub read_on-requires : goal.read_on-requires
-unfolding read_rows onward start_due
-read_on-requires c = (record { within = omega arith; few = omega arith }, omega arith)
-
 pub returns : goal.returns
 unfolding read_rows onward start_due
 returns c = c.read_on.ensures.0 ∙ rw (le-ltb _ _ c.if-ws-gt-ROW_WORDS.false)

@@ -18,9 +18,8 @@ front_words-n-requires c =
 pub returns-in-Refused : goal.returns-in-Refused
 unfolding rows_text wrote translate_in
 returns-in-Refused c =
-    let put = c.put_refusal in
     let says = rw (c.in-Refused.is, c.front_words-n.ensures.words) at c.translate.ensures.answer in
-    let p = front-refused _ _ put.ensures.text (omega (arith, put.ensures.end, c.requires.page)) _ says refl in
+    let p = front-refused _ _ c.put_refusal.ensures.text (omega (arith, c.put_refusal.ensures.end, c.requires.page)) _ says refl in
     record { text = p.0; count = p.1 }
 
 pub returns-in-Words : goal.returns-in-Words

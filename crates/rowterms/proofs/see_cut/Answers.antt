@@ -11,10 +11,9 @@ use Rattle.rowterms.proofs.see_cut.Goals.{After-number_at-constant, After-read_t
 use Rattle.rowterms.proofs.see_cut.Goals as goal
 
 -- reading on past the term, or to its fault
-went : (c : After-read_term-term) → let a = c.args in StepsTo a.ws.now a.n (Terms a.terms) a.start (Terms (c.loop-left.left - 1)) c.read_term-term.result
+went : (c : After-read_term-term) → StepsTo c.args.ws.now c.args.n (Terms c.args.terms) c.args.start (Terms (c.loop-left.left - 1)) c.read_term-term.result
 went c =
-    let l = c.loop-left in
-    let e : suc (l.left - 1) ≡ l.left = omega (arith, c.loop-left-test.true) in and_then l.invariant.2 refl refl (rw e at (c.read_term-term.ensures.0 (l.left - 1)))
+    let e : suc (c.loop-left.left - 1) ≡ c.loop-left.left = omega (arith, c.loop-left-test.true) in and_then c.loop-left.invariant.2 refl refl (rw e at (c.read_term-term.ensures.0 (c.loop-left.left - 1)))
 
 -- past a term without a fault
 past-term : (c : Else-term-ne-NONE) → c.read_term-term.result.at ≡ c.loop-left.at + 2
@@ -23,34 +22,22 @@ past-term c = c.read_term-term.ensures.1 c.if-term-ne-NONE.false
 -- the constant
 last : (c : After-number_at-constant) → let a = c.args in StepsTo a.ws.now a.n (Terms a.terms) a.start Item c.number_at-constant.result
 last c =
-    let a = c.args in
-    let l = c.loop-left in
-    let z : l.left ≡ 0 = omega (arith, c.loop-left-test.false) in and_then (rw z at l.invariant.2) refl refl (rw c.number_at-constant.ensures (row-constant a.ws.now a.n l.at l.invariant.2.inside))
+    let z : c.loop-left.left ≡ 0 = omega (arith, c.loop-left-test.false) in and_then (rw z at c.loop-left.invariant.2) refl refl (rw c.number_at-constant.ensures (row-constant c.args.ws.now c.args.n c.loop-left.at c.loop-left.invariant.2.inside))
 
 pub loop-left-init : goal.loop-left-init
 loop-left-init c =
-    let a = c.args in
-    (omega arith, omega arith, no_word a.ws.now a.n a.start c.requires.0.within)
-
-pub read_term-term-requires : goal.read_term-term-requires
-read_term-term-requires c = record { within = c.loop-left.invariant.2.inside; few = c.requires.0.few }
+    (omega arith, omega arith, no_word c.args.ws.now c.args.n c.args.start c.requires.0.within)
 
 pub returns-then-term-ne-NONE : goal.returns-then-term-ne-NONE
 returns-then-term-ne-NONE c = rw c.faulty.ensures (or-halted (went (goal.at.returns-then-term-ne-NONE c).After-read_term-term) c.if-term-ne-NONE.true, c.if-term-ne-NONE.true)
 
-pub overflow_add-at : goal.overflow_add-at
-overflow_add-at c = record { fits = omega (arith, past-term (c), (went (goal.at.overflow_add-at c).After-read_term-term).inside, c.requires.0.few) }
-
 pub loop-left-preserved : goal.loop-left-preserved
 loop-left-preserved c =
-    let l = c.loop-left in (
-      omega (arith, l.invariant.0, l.invariant.1, c.loop-left-test.true),
-      omega (arith, l.invariant.1),
+    (
+      omega (arith, c.loop-left.invariant.0, c.loop-left.invariant.1, c.loop-left-test.true),
+      omega (arith, c.loop-left.invariant.1),
       as_step (went (goal.at.loop-left-preserved c).After-read_term-term) c.if-term-ne-NONE.false (past-term (c)),
     )
-
-pub number_at-constant-requires : goal.number_at-constant-requires
-number_at-constant-requires c = omega (arith, c.loop-left.invariant.2.inside, c.requires.0.few)
 
 pub returns : goal.returns
 returns c =

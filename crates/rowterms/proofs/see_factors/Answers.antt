@@ -22,29 +22,26 @@ use Rattle.rowterms.proofs.see_factors.Goals as goal
 -- reading on past the result, the first factor, the second
 result : (c : After-fault_result-result) → let a = c.args in StepsTo a.ws.now a.n Result a.at FirstFactor (step_over c.fault_result-result.result a.at)
 result c =
-    let a = c.args in
-    rw (c.fault_result-result.ensures, c.word_at-r.ensures, c.word_at-f.ensures, c.word_at-g.ensures) (product-result a.ws.now a.n a.at c.requires.0.within)
+    rw (c.fault_result-result.ensures, c.word_at-r.ensures, c.word_at-f.ensures, c.word_at-g.ensures) (product-result c.args.ws.now c.args.n c.args.at c.requires.0.within)
 
-past-result : (c : Else-result-ne-NONE) → let a = c.args in StepsTo a.ws.now a.n Result a.at FirstFactor (record { number = 0; at = a.at + 1 })
+past-result : (c : Else-result-ne-NONE) → StepsTo c.args.ws.now c.args.n Result c.args.at FirstFactor (record { number = 0; at = c.args.at + 1 })
 past-result c = step-goes c.args.at (result (record { before = c.before.before; type_inv = record { ws = c.type_inv.ws } })) c.if-result-ne-NONE.false
 
 first : (c : After-fault_variable-first) → let a = c.args in StepsTo a.ws.now a.n Result a.at SecondFactor (step_over c.fault_variable-first.result (a.at + 1))
 first c =
-    let a = c.args in
-    and_then (past-result (record { before = c.before.before; type_inv = record { ws = c.type_inv.ws } })) refl refl (rw (c.fault_variable-first.ensures, c.word_at-f.ensures) (first-factor a.ws.now a.n (a.at + 1) (past-result (record { before = c.before.before; type_inv = record { ws = c.type_inv.ws } })).inside))
+    and_then (past-result (record { before = c.before.before; type_inv = record { ws = c.type_inv.ws } })) refl refl (rw (c.fault_variable-first.ensures, c.word_at-f.ensures) (first-factor c.args.ws.now c.args.n (c.args.at + 1) (past-result (record { before = c.before.before; type_inv = record { ws = c.type_inv.ws } })).inside))
 
-past_first : (c : Else-first-ne-NONE) → let a = c.args in StepsTo a.ws.now a.n Result a.at SecondFactor (record { number = 0; at = a.at + 1 + 1 })
+past_first : (c : Else-first-ne-NONE) → StepsTo c.args.ws.now c.args.n Result c.args.at SecondFactor (record { number = 0; at = c.args.at + 1 + 1 })
 past_first c = step-goes (c.args.at + 1) (first (record { before = c.before.before; type_inv = record { ws = c.type_inv.ws } })) c.if-first-ne-NONE.false
 
 second : (c : After-fault_variable-second) → let a = c.args in StepsTo a.ws.now a.n Result a.at Item (step_over c.fault_variable-second.result (a.at + 2))
 second c =
-    let a = c.args in
-    let e : a.at + 1 + 1 ≡ a.at + 2 = omega arith in
+    let e : c.args.at + 1 + 1 ≡ c.args.at + 2 = omega arith in
     let g = rw e at (past_first (record { before = c.before.before; type_inv = record { ws = c.type_inv.ws } })) in
-    and_then g refl refl (rw (c.fault_variable-second.ensures, c.word_at-g.ensures) (second-factor a.ws.now a.n (a.at + 2) g.inside))
+    and_then g refl refl (rw (c.fault_variable-second.ensures, c.word_at-g.ensures) (second-factor c.args.ws.now c.args.n (c.args.at + 2) g.inside))
 
 -- the values of the two factors
-values : (c : After-known_value-2) → let a = c.args in (to_z w64 (of_z w64 c.known_value.result) ≡ value a.values.now (variable_at a.ws.now (a.at + 1))) × (to_z w64 (of_z w64 c.known_value-2.result) ≡ value a.values.now (variable_at a.ws.now (a.at + 2)))
+values : (c : After-known_value-2) → (to_z w64 (of_z w64 c.known_value.result) ≡ value c.args.values.now (variable_at c.args.ws.now (c.args.at + 1))) × (to_z w64 (of_z w64 c.known_value-2.result) ≡ value c.args.values.now (variable_at c.args.ws.now (c.args.at + 2)))
 unfolding variable_at
 values c = (back c.known_value.result c.known_value.type_inv ∙ c.known_value.ensures ∙ rw (c.payload_of.ensures, c.word_at-f.ensures), back c.known_value-2.result c.known_value-2.type_inv ∙ c.known_value-2.ensures ∙ rw (c.payload_of-2.ensures, c.word_at-g.ensures))
 
@@ -74,23 +71,21 @@ pub known_value-requires-3 : goal.known_value-requires-3
 known_value-requires-3 c =
     omega (arith, c.payload_of-3.ensures, result-declared (goal.at.known_value-requires-3 c).After-fault_result-result c.if-result-ne-NONE.false, c.requires.1.0)
 
-near : (c : After-known_value-2) → let a = c.args in Near (value a.values.now (variable_at a.ws.now (a.at + 1))) × Near (value a.values.now (variable_at a.ws.now (a.at + 2)))
+near : (c : After-known_value-2) → Near (value c.args.values.now (variable_at c.args.ws.now (c.args.at + 1))) × Near (value c.args.values.now (variable_at c.args.ws.now (c.args.at + 2)))
 near c =
     (c.requires.1.1 _ (first-declared (record { before = c.before.before.before.before.before.before.before.before; type_inv = record { ws = c.type_inv.ws } }) c.if-first-ne-NONE.false), c.requires.1.1 _ (second-declared (record { before = c.before.before.before.before.before.before; type_inv = record { ws = c.type_inv.ws } }) c.if-second-ne-NONE.false))
 
 pub times-of_factors-requires : goal.times-of_factors-requires
 times-of_factors-requires c =
-    let a = c.args in
-    rw ((values c).0, (values c).1) (omega (arith, factors-fit (value a.values.now (variable_at a.ws.now (a.at + 1))) (value a.values.now (variable_at a.ws.now (a.at + 2))) (near c).0 (near c).1))
+    rw ((values c).0, (values c).1) (omega (arith, factors-fit (value c.args.values.now (variable_at c.args.ws.now (c.args.at + 1))) (value c.args.values.now (variable_at c.args.ws.now (c.args.at + 2))) (near c).0 (near c).1))
 
 pub returns : goal.returns
 unfolding satisfied variable_at
 returns c =
-    let a = c.args in
-    let e : a.at + 2 + 1 ≡ a.at + 3 = omega arith in
+    let e : c.args.at + 2 + 1 ≡ c.args.at + 3 = omega arith in
     let v = values (goal.at.returns c).After-known_value-2 in
     record {
-      step = rw e at (step-goes (a.at + 2) (second (goal.at.returns c).After-fault_variable-second) c.if-second-ne-NONE.false);
+      step = rw e at (step-goes (c.args.at + 2) (second (goal.at.returns c).After-fault_variable-second) c.if-second-ne-NONE.false);
       truth = λ z. c.equal-holds.ensures ∙ rw (back c.known_value-3.result c.known_value-3.type_inv, c.known_value-3.ensures, c.payload_of-3.ensures, c.word_at-r.ensures, back c.times-of_factors.result c.times-of_factors.type_inv, c.times-of_factors.ensures, v.0, v.1);
     }
 

@@ -27,36 +27,24 @@ use Rattle.rowterms.proofs.see_terms.Goals as goal
 -- the words of a term and of the constant are there
 there : (c : In-loop-left) → c.loop-left.at + 2 < length c.args.ws.now
 there c =
-    let l = c.loop-left in
-    omega (arith, l.invariant.0, l.invariant.1, c.loop-left-test.true, c.payload_of-terms.ensures, c.requires.3)
-
-last-there : (c : After-loop-left) → c.loop-left.at < length c.args.ws.now
-last-there c =
-    let l = c.loop-left in
-    omega (arith, l.invariant.0, l.invariant.1, c.loop-left-test.false, c.payload_of-terms.ensures, c.requires.3)
+    omega (arith, c.loop-left.invariant.0, c.loop-left.invariant.1, c.loop-left-test.true, c.payload_of-terms.ensures, c.requires.3)
 
 -- reading on past the variable, past the coefficient, past the constant
 variable : (c : After-is_variable) → let a = c.args in let l = c.loop-left in StepsTo a.ws.now a.n (Terms c.payload_of-terms.result) a.start (Coefficient (l.left - 1)) (step_over (fault_variable a.n (word_at a.ws.now l.at)) l.at)
 variable c =
-    let a = c.args in
-    let l = c.loop-left in
-    let e : suc (l.left - 1) ≡ l.left = omega (arith, c.loop-left-test.true) in and_then l.invariant.2 refl refl (rw e at (term-variable a.ws.now a.n l.at l.invariant.2.inside (l.left - 1)))
+    let e : suc (c.loop-left.left - 1) ≡ c.loop-left.left = omega (arith, c.loop-left-test.true) in and_then c.loop-left.invariant.2 refl refl (rw e at (term-variable c.args.ws.now c.args.n c.loop-left.at c.loop-left.invariant.2.inside (c.loop-left.left - 1)))
 
-fits : (c : Else-not-is_variable) → let a = c.args in fault_variable a.n (word_at a.ws.now c.loop-left.at) ≡ 0
+fits : (c : Else-not-is_variable) → fault_variable c.args.n (word_at c.args.ws.now c.loop-left.at) ≡ 0
 unfolding word_at
 fits c = eqb-true _ _ (sym c.is_variable.ensures ∙ c.if-not-is_variable.false)
 
 coefficient : (c : After-is_number) → let a = c.args in let l = c.loop-left in StepsTo a.ws.now a.n (Terms c.payload_of-terms.result) a.start (Terms (l.left - 1)) (step_over (fault_number (word_at a.ws.now (l.at + 1))) (l.at + 1))
 coefficient c =
-    let a = c.args in
-    let l = c.loop-left in
-    and_then (step-goes l.at (variable (record { before = c.before.before.before.before; type_inv = record { ws = c.type_inv.ws } })) (fits (record { before = c.before.before.before; type_inv = record { ws = c.type_inv.ws } }))) refl refl (term-coefficient a.ws.now a.n (l.at + 1) (omega (arith, there (record { before = c.before.before.before.before.before.before; type_inv = record { ws = c.type_inv.ws } }))) (l.left - 1))
+    and_then (step-goes c.loop-left.at (variable (record { before = c.before.before.before.before; type_inv = record { ws = c.type_inv.ws } })) (fits (record { before = c.before.before.before; type_inv = record { ws = c.type_inv.ws } }))) refl refl (term-coefficient c.args.ws.now c.args.n (c.loop-left.at + 1) (omega (arith, there (record { before = c.before.before.before.before.before.before; type_inv = record { ws = c.type_inv.ws } }))) (c.loop-left.left - 1))
 
 constant : (c : After-is_number-2) → let a = c.args in StepsTo a.ws.now a.n (Terms c.payload_of-terms.result) a.start Item (step_over (fault_number (word_at a.ws.now c.loop-left.at)) c.loop-left.at)
 constant c =
-    let a = c.args in
-    let l = c.loop-left in
-    let z : l.left ≡ 0 = omega (arith, c.loop-left-test.false) in and_then (rw z at l.invariant.2) refl refl (row-constant a.ws.now a.n l.at l.invariant.2.inside)
+    let z : c.loop-left.left ≡ 0 = omega (arith, c.loop-left-test.false) in and_then (rw z at c.loop-left.invariant.2) refl refl (row-constant c.args.ws.now c.args.n c.loop-left.at c.loop-left.invariant.2.inside)
 
 sound : (c : Else-not-is_number) → fault_number (word_at c.args.ws.now (c.loop-left.at + 1)) ≡ 0
 unfolding word_at
@@ -74,23 +62,21 @@ pub known_value-requires : goal.known_value-requires
 unfolding word_at
 known_value-requires c = omega (arith, c.payload_of.ensures, here c, c.requires.1.0)
 
-near : (c : After-known_value) → let a = c.args in Near (value a.values.now (variable_at a.ws.now c.loop-left.at))
+near : (c : After-known_value) → Near (value c.args.values.now (variable_at c.args.ws.now c.loop-left.at))
 unfolding variable_at
 near c = c.requires.1.1 _ (here (record { before = c.before.before; type_inv = record { ws = c.type_inv.ws } }))
 
 -- the factors of the term, and the term
-factors : (c : After-known_value) → let a = c.args in let l = c.loop-left in (to_z w64 (of_z w64 c.signed_of.result) ≡ number_at a.ws.now (l.at + 1)) × (to_z w64 (of_z w64 c.known_value.result) ≡ value a.values.now (variable_at a.ws.now l.at))
+factors : (c : After-known_value) → (to_z w64 (of_z w64 c.signed_of.result) ≡ number_at c.args.ws.now (c.loop-left.at + 1)) × (to_z w64 (of_z w64 c.known_value.result) ≡ value c.args.values.now (variable_at c.args.ws.now c.loop-left.at))
 unfolding number_at variable_at word_at
 factors c = (back c.signed_of.result c.signed_of.type_inv ∙ c.signed_of.ensures, back c.known_value.result c.known_value.type_inv ∙ c.known_value.ensures ∙ rw c.payload_of.ensures)
 
-term : (c : After-times) → let a = c.args in let l = c.loop-left in to_z w64 (of_z w64 c.times.result) ≡ number_at a.ws.now (l.at + 1) ⊗ value a.values.now (variable_at a.ws.now l.at)
+term : (c : After-times) → to_z w64 (of_z w64 c.times.result) ≡ number_at c.args.ws.now (c.loop-left.at + 1) ⊗ value c.args.values.now (variable_at c.args.ws.now c.loop-left.at)
 term c = back c.times.result c.times.type_inv ∙ c.times.ensures ∙ rw ((factors (record { before = c.before.before; type_inv = record { ws = c.type_inv.ws } })).0, (factors (record { before = c.before.before; type_inv = record { ws = c.type_inv.ws } })).1)
 
 small : (c : After-times) → nat_abs (to_z w64 (of_z w64 c.times.result)) ≤ 18014398509481984
 small c =
-    let a = c.args in
-    let l = c.loop-left in
-    rw (term c) (product-size (number_at a.ws.now (l.at + 1)) (value a.values.now (variable_at a.ws.now l.at)) (number_size a.ws.now (l.at + 1)) (near (record { before = c.before.before; type_inv = record { ws = c.type_inv.ws } })))
+    rw (term c) (product-size (number_at c.args.ws.now (c.loop-left.at + 1)) (value c.args.values.now (variable_at c.args.ws.now c.loop-left.at)) (number_size c.args.ws.now (c.loop-left.at + 1)) (near (record { before = c.before.before; type_inv = record { ws = c.type_inv.ws } })))
 
 -- the constant's number
 number : (c : After-signed_of-2) → to_z w64 (of_z w64 c.signed_of-2.result) ≡ number_at c.args.ws.now c.loop-left.at
@@ -99,15 +85,8 @@ number c = back c.signed_of-2.result c.signed_of-2.type_inv ∙ c.signed_of-2.en
 
 pub loop-left-init : goal.loop-left-init
 loop-left-init c =
-    let a = c.args in
     let e : c.payload_of-terms.result - c.payload_of-terms.result ≡ 0 = omega arith in
-    (omega arith, omega arith, no_word a.ws.now a.n a.start c.requires.0.within, rw e (sym (no-terms (drop a.start a.ws.now) a.values.now)), omega arith)
-
-pub offset_bounds-ws-at : goal.offset_bounds-ws-at
-offset_bounds-ws-at c = let h = there (c) in let k = c.requires.0.few in search rules
-
-pub bounds-ws-at : goal.bounds-ws-at
-bounds-ws-at c = let h = there (goal.at.bounds-ws-at c).In-loop-left in search rules
+    (omega arith, omega arith, no_word c.args.ws.now c.args.n c.args.start c.requires.0.within, rw e (sym (no-terms (drop c.args.start c.args.ws.now) c.args.values.now)), omega arith)
 
 pub returns-then-not-is_variable : goal.returns-then-not-is_variable
 unfolding word_at
@@ -117,18 +96,6 @@ returns-then-not-is_variable c =
       step = step-halts (variable (goal.at.returns-then-not-is_variable c).After-is_variable) some;
       truth = λ z. absurd (some z);
     })
-
-pub overflow_add-c : goal.overflow_add-c
-overflow_add-c c = let h = there (goal.at.overflow_add-c c).In-loop-left in let k = c.requires.0.few in search rules
-
-pub offset_bounds-ws-at-in-loop-left : goal.offset_bounds-ws-at-in-loop-left
-offset_bounds-ws-at-in-loop-left c = let h = there (goal.at.offset_bounds-ws-at-in-loop-left c).In-loop-left in let k = c.requires.0.few in search rules
-
-pub bounds-ws-at-in-loop-left : goal.bounds-ws-at-in-loop-left
-bounds-ws-at-in-loop-left c = let h = there (goal.at.bounds-ws-at-in-loop-left c).In-loop-left in search rules
-
-pub overflow_add-at : goal.overflow_add-at
-overflow_add-at c = let h = there (goal.at.overflow_add-at c).In-loop-left in let k = c.requires.0.few in search rules
 
 pub returns-then-not-is_number : goal.returns-then-not-is_number
 unfolding word_at
@@ -141,39 +108,24 @@ returns-then-not-is_number c =
 
 pub times-requires : goal.times-requires
 times-requires c =
-    let a = c.args in
-    let l = c.loop-left in
-    rw ((factors c).0, (factors c).1) (omega (arith, factors-fit (number_at a.ws.now (l.at + 1)) (value a.values.now (variable_at a.ws.now l.at)) (number_size a.ws.now (l.at + 1)) (near c)))
+    rw ((factors c).0, (factors c).1) (omega (arith, factors-fit (number_at c.args.ws.now (c.loop-left.at + 1)) (value c.args.values.now (variable_at c.args.ws.now c.loop-left.at)) (number_size c.args.ws.now (c.loop-left.at + 1)) (near c)))
 
 pub plus-total-requires : goal.plus-total-requires
 plus-total-requires c =
-    let l = c.loop-left in
-    omega (arith, l.invariant.4, l.invariant.1, small c, c.payload_of-terms.ensures, c.requires.2)
-
-pub overflow_add-at-in-loop-left : goal.overflow_add-at-in-loop-left
-overflow_add-at-in-loop-left c = let h = there (goal.at.overflow_add-at-in-loop-left c).In-loop-left in let k = c.requires.0.few in search rules
+    omega (arith, c.loop-left.invariant.4, c.loop-left.invariant.1, small c, c.payload_of-terms.ensures, c.requires.2)
 
 pub loop-left-preserved : goal.loop-left-preserved
 loop-left-preserved c =
-    let a = c.args in
-    let l = c.loop-left in
-    let next : l.at + 1 + 1 ≡ l.at + 2 = omega arith in
-    let ws = a.ws.now in
-    let d = c.payload_of-terms.result - l.left in
-    let z : c.payload_of-terms.result - (l.left - 1) ≡ d + 1 = omega (arith, l.invariant.1, c.loop-left-test.true) in
+    let next : c.loop-left.at + 1 + 1 ≡ c.loop-left.at + 2 = omega arith in
+    let d = c.payload_of-terms.result - c.loop-left.left in
+    let z : c.payload_of-terms.result - (c.loop-left.left - 1) ≡ d + 1 = omega (arith, c.loop-left.invariant.1, c.loop-left-test.true) in
     let e = back c.plus-total.result c.plus-total.type_inv ∙ c.plus-total.ensures in (
-      omega (arith, l.invariant.0, z),
-      omega (arith, l.invariant.1),
-      rw next at (step-goes (l.at + 1) (coefficient (goal.at.loop-left-preserved c).After-is_number) (sound (goal.at.loop-left-preserved c).Else-not-is_number)),
-      e ∙ rw (term (goal.at.loop-left-preserved c).After-times, z) (term-added ws a.values.now a.start d l.at (to_z w64 l.total-bits) l.invariant.0 l.invariant.3),
-      rw (e, z) (omega (arith, plus-size (to_z w64 l.total-bits) (to_z w64 (of_z w64 c.times.result)), l.invariant.4, small (goal.at.loop-left-preserved c).After-times)),
+      omega (arith, c.loop-left.invariant.0, z),
+      omega (arith, c.loop-left.invariant.1),
+      rw next at (step-goes (c.loop-left.at + 1) (coefficient (goal.at.loop-left-preserved c).After-is_number) (sound (goal.at.loop-left-preserved c).Else-not-is_number)),
+      e ∙ rw (term (goal.at.loop-left-preserved c).After-times, z) (term-added c.args.ws.now c.args.values.now c.args.start d c.loop-left.at (to_z w64 c.loop-left.total-bits) c.loop-left.invariant.0 c.loop-left.invariant.3),
+      rw (e, z) (omega (arith, plus-size (to_z w64 c.loop-left.total-bits) (to_z w64 (of_z w64 c.times.result)), c.loop-left.invariant.4, small (goal.at.loop-left-preserved c).After-times)),
     )
-
-pub offset_bounds-ws-at-2 : goal.offset_bounds-ws-at-2
-offset_bounds-ws-at-2 c = let h = last-there (c) in let k = c.requires.0.few in search rules
-
-pub bounds-ws-at-2 : goal.bounds-ws-at-2
-bounds-ws-at-2 c = let h = last-there (goal.at.bounds-ws-at-2 c).After-loop-left in search rules
 
 pub returns-then-not-is_number-2 : goal.returns-then-not-is_number-2
 unfolding word_at
@@ -186,19 +138,13 @@ returns-then-not-is_number-2 c =
 
 pub plus-requires : goal.plus-requires
 plus-requires c =
-    let l = c.loop-left in
-    rw (number c) (omega (arith, l.invariant.4, l.invariant.1, number_size c.args.ws.now l.at, c.payload_of-terms.ensures, c.requires.2))
-
-pub overflow_add-result : goal.overflow_add-result
-overflow_add-result c = let h = last-there (goal.at.overflow_add-result c).After-loop-left in let k = c.requires.0.few in search rules
+    rw (number c) (omega (arith, c.loop-left.invariant.4, c.loop-left.invariant.1, number_size c.args.ws.now c.loop-left.at, c.payload_of-terms.ensures, c.requires.2))
 
 pub returns : goal.returns
 returns c =
-    let a = c.args in
-    let l = c.loop-left in
-    let z : l.left ≡ 0 = omega (arith, c.loop-left-test.false) in
-    let d : c.payload_of-terms.result - l.left ≡ payload a.head = omega (arith, z, c.payload_of-terms.ensures) in
+    let z : c.loop-left.left ≡ 0 = omega (arith, c.loop-left-test.false) in
+    let d : c.payload_of-terms.result - c.loop-left.left ≡ payload c.args.head = omega (arith, z, c.payload_of-terms.ensures) in
     record {
-      step = rw (← c.payload_of-terms.ensures) (step-goes l.at (constant (goal.at.returns c).After-is_number-2) (last-sound (goal.at.returns c).Else-not-is_number-2));
-      truth = λ i. c.is_true-holds.ensures ∙ rw (back c.plus.result c.plus.type_inv, c.plus.ensures, number (goal.at.returns c).After-signed_of-2, rw d at l.invariant.3, constant-from a.ws.now a.start (payload a.head) l.at (omega (arith, l.invariant.0, d)));
+      step = rw (← c.payload_of-terms.ensures) (step-goes c.loop-left.at (constant (goal.at.returns c).After-is_number-2) (last-sound (goal.at.returns c).Else-not-is_number-2));
+      truth = λ i. c.is_true-holds.ensures ∙ rw (back c.plus.result c.plus.type_inv, c.plus.ensures, number (goal.at.returns c).After-signed_of-2, rw d at c.loop-left.invariant.3, constant-from c.args.ws.now c.args.start (payload c.args.head) c.loop-left.at (omega (arith, c.loop-left.invariant.0, d)));
     }

@@ -9,15 +9,9 @@ use Rattle.extremes.specs.BoundLists.{bounds_of}
 use Rattle.sharedblocks.proofs.LeftOut.{left_out_lem}
 use Rattle.sharedblocks.proofs.lay_left_out.Goals as goal
 
-pub lay_left_row-requires : goal.lay_left_row-requires
-lay_left_row-requires c =
-    let l = c.lower_label in
-    rw (back l.result l.type_inv) (omega (arith, c.requires.0), omega (arith, c.width_at.ensures, c.requires.1.3), omega (arith, c.first_bit.ensures.1), omega (arith, l.ensures.1))
-
 pub returns : goal.returns
 returns c =
-    let l = c.lower_label in
-    let a = rw (read l.type_inv l.ensures.0, c.first_bit.ensures.0, c.width_at.ensures) at c.lay_left_row.ensures in (
+    let a = rw (read c.lower_label.type_inv c.lower_label.ensures.0, c.first_bit.ensures.0, c.width_at.ensures) at c.lay_left_row.ensures in (
       went_as (sym (left_out_lem (bounds_of c.args.ls.now c.args.us.now) c.args.encoded.now c.args.first (var c.args.args.now 0) c.args.code c.args.args.now)) a.0,
       omega (arith, a.1),
     )

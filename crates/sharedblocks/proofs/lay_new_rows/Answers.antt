@@ -10,17 +10,10 @@ use Rattle.laying.proofs.Parts.{went-none, went_as}
 use Rattle.sharedblocks.proofs.Blocks.{own-rows, no_rows}
 use Rattle.sharedblocks.proofs.lay_new_rows.Goals as goal
 
-pub lay_choice-requires : goal.lay_choice-requires
-lay_choice-requires c =
-    rw (back c.lower_label.result c.lower_label.type_inv)
-    (omega (arith, c.requires.0), omega (arith, c.width_at.ensures, c.requires.1.3), omega (arith, c.requires.1.0), omega (arith, c.lower_label.ensures.1))
-
 pub returns-then-entry_of-eq0 : goal.returns-then-entry_of-eq0
 returns-then-entry_of-eq0 c =
-    let l = c.lower_label in
-    let v = c.var_at-x.ensures in
-    let e = rw v at c.entry_of.ensures in
-    let a = rw (read l.type_inv l.ensures.0, c.width_at.ensures, v) at c.lay_choice.ensures in (
+    let e = rw c.var_at-x.ensures at c.entry_of.ensures in
+    let a = rw (read c.lower_label.type_inv c.lower_label.ensures.0, c.width_at.ensures, c.var_at-x.ensures) at c.lay_choice.ensures in (
       went_as (sym (own-rows (bounds_of c.args.ls.now c.args.us.now) c.args.encoded.now (var c.args.args.now 0) c.args.first (eq-eqb _ _ (sym e ∙ c.if-entry_of-eq0.true)))) a.0,
       omega (arith, a.1),
     )

@@ -9,27 +9,21 @@ use Rattle.sharedblocks.proofs.lay_own_rows.Goals as goal
 pub returns-then-code-eq28 : goal.returns-then-code-eq28
 unfolding own_row_parts
 returns-then-code-eq28 c =
-    let a = c.lay_members_row.ensures in
-    rw c.if-code-eq28.true (a.0, omega (arith, a.1))
+    rw c.if-code-eq28.true (c.lay_members_row.ensures.0, omega (arith, c.lay_members_row.ensures.1))
 
 pub returns-then-code-eq24 : goal.returns-then-code-eq24
 unfolding own_row_parts
 returns-then-code-eq24 c =
-    let e = c.if-code-eq24.true in
-    let a = rw e at c.lay_left_out-t.ensures in
-    let d = c.lay_numbers_row.ensures in
-    rw e (went_then a.0 d.0, omega (arith, a.1, d.1))
+    let a = rw c.if-code-eq24.true at c.lay_left_out-t.ensures in
+    rw c.if-code-eq24.true (went_then a.0 c.lay_numbers_row.ensures.0, omega (arith, a.1, c.lay_numbers_row.ensures.1))
 
 pub returns-then-code-eq25 : goal.returns-then-code-eq25
 unfolding own_row_parts
 returns-then-code-eq25 c =
-    let e = c.if-code-eq25.true in
-    let a = rw e at c.lay_left_out-t.ensures in
-    let d = c.lay_product_rows.ensures in
-    rw e (went_then a.0 d.0, omega (arith, a.1, d.1))
+    let a = rw c.if-code-eq25.true at c.lay_left_out-t.ensures in
+    rw c.if-code-eq25.true (went_then a.0 c.lay_product_rows.ensures.0, omega (arith, a.1, c.lay_product_rows.ensures.1))
 
 pub returns : goal.returns
 unfolding own_row_parts
 returns c =
-    let a = c.lay_left_out-t.ensures in
-    rw (ne_eqb _ 28 c.if-code-eq28.false, ne_eqb _ 24 c.if-code-eq24.false, ne_eqb _ 25 c.if-code-eq25.false, append-nil) (a.0, omega (arith, a.1))
+    rw (ne_eqb _ 28 c.if-code-eq28.false, ne_eqb _ 24 c.if-code-eq24.false, ne_eqb _ 25 c.if-code-eq25.false, append-nil) (c.lay_left_out-t.ensures.0, omega (arith, c.lay_left_out-t.ensures.1))

@@ -20,20 +20,17 @@ few c = rw (quarter c.args.bytes.now) at c.if-bytes-gt-WORDS.false
 pub returns-then-bytes-gt-WORDS : goal.returns-then-bytes-gt-WORDS
 unfolding printed_sheet
 returns-then-bytes-gt-WORDS c =
-    let put = c.put_too_long in
     let p = front_too_long program_words (length (bytes_words c.args.bytes.now)) _ _ (rw (quarter c.args.bytes.now) at c.if-bytes-gt-WORDS.true)
-    put.ensures.text (omega (arith, put.ensures.end, c.requires)) in
+    c.put_too_long.ensures.text (omega (arith, c.put_too_long.ensures.end, c.requires)) in
     record { text = p.0; count = p.1 }
 
 pub returns-in-Refused : goal.returns-in-Refused
 unfolding printed_sheet printed sheet
 returns-in-Refused c =
     let ws = bytes_words c.args.bytes.now in
-    let call = c.sheet in
-    let put = c.put_refusal in
-    let says = rw (c.in-Refused.is, c.front_words-n.ensures.words, c.requires) at call.ensures.answer in
-    let l = ap length call.ensures.page ∙ same_length _ c.args.page.now in
-    let p = front-refused _ _ put.ensures.text (omega (arith, put.ensures.end, c.requires, l)) _ says (short-enough program_words (length ws) _ (few (goal.at.returns-in-Refused c).Else-bytes-gt-WORDS)) in
+    let says = rw (c.in-Refused.is, c.front_words-n.ensures.words, c.requires) at c.sheet.ensures.answer in
+    let l = ap length c.sheet.ensures.page ∙ same_length _ c.args.page.now in
+    let p = front-refused _ _ c.put_refusal.ensures.text (omega (arith, c.put_refusal.ensures.end, c.requires, l)) _ says (short-enough program_words (length ws) _ (few (goal.at.returns-in-Refused c).Else-bytes-gt-WORDS)) in
     record { text = p.0; count = p.1 }
 
 pub returns-in-Bytes : goal.returns-in-Bytes

@@ -24,10 +24,9 @@ put_left-requires c =
 pub returns : goal.returns
 unfolding cell
 returns c =
-    let n = c.args.number in
     c.put_left.ensures
     ∙ rw (c.put_byte-2.ensures, c.put_byte.ensures, c.put_number.ensures, number (goal.at.returns c).After-signed_of)
-    (lay-cell _ _ _ _ (length-right 10 (numeral (signed n)) (number_fits _ (signed-near n))))
+    (lay-cell _ _ _ _ (length-right 10 (numeral (signed c.args.number)) (number_fits _ (signed-near c.args.number))))
 
 pub put_number-requires : goal.put_number-requires
 put_number-requires c = (omega (arith, c.requires.0), rw (number c) (number_fits _ (signed-near c.args.number)))

@@ -6,7 +6,4 @@ use Rattle.sheetlines.proofs.put_product.Goals as goal
 pub returns : goal.returns
 unfolding variable_at
 returns c =
-    let a = c.word_at in
-    let b = c.word_at-2 in
-    let d = c.word_at-3 in
-    rw (← a.ensures, ← b.ensures, ← d.ensures, ← product-lines c.args.k a.result b.result d.result) c.put_sum.ensures
+    rw (← c.word_at.ensures, ← c.word_at-2.ensures, ← c.word_at-3.ensures, ← product-lines c.args.k c.word_at.result c.word_at-2.result c.word_at-3.result) c.put_sum.ensures

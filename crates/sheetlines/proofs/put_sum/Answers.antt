@@ -26,23 +26,17 @@ pub put_number-requires : goal.put_number-requires
 put_number-requires c =
     (omega (arith, c.put_terms-end.ensures.1, c.requires.0), rw (constant c) (omega (arith, number_fits (signed (word_at c.args.ws.now (2 * c.args.n))) (signed-near (word_at c.args.ws.now (2 * c.args.n))))))
 
-pub overflow_add-end : goal.overflow_add-end
-overflow_add-end c = omega (arith, c.put_terms-end.ensures.1, c.requires.0)
-
-pub overflow_add-result : goal.overflow_add-result
-overflow_add-result c = omega (arith, c.put_terms-end.ensures.1, c.requires.0)
-
 pub returns : goal.returns
 unfolding sum_lines constant_line constant_in number_at
 returns c =
     let last = signed (word_at c.args.ws.now (2 * c.args.n)) in
-    let terms = c.put_terms-end in (
+    (
       rw (c.put_byte-3.ensures, c.put_number.ensures, constant (goal.at.returns c).After-signed_of)
-          (laid-row c.args.page.now c.args.at (right 6 (decimal c.args.k)) c.args.first c.args.second (term_lines 3 (terms_in c.args.ws.now c.args.n)) terms.new.page terms.result (right 80 (numeral last))
+          (laid-row c.args.page.now c.args.at (right 6 (decimal c.args.k)) c.args.first c.args.second (term_lines 3 (terms_in c.args.ws.now c.args.n)) c.put_terms-end.new.page c.put_terms-end.result (right 80 (numeral last))
           (length-right 6 (decimal c.args.k) (row_fits_lem c.args.k c.requires.1))
           (length-right 80 (numeral last) (omega (arith, number_fits last (signed-near (word_at c.args.ws.now (2 * c.args.n))))))
-          (rw (c.put_byte-2.ensures, c.put_byte.ensures, c.put_right.ensures, alone) at terms.ensures.0)),
-      omega (arith, terms.ensures.1),
+          (rw (c.put_byte-2.ensures, c.put_byte.ensures, c.put_right.ensures, alone) at c.put_terms-end.ensures.0)),
+      omega (arith, c.put_terms-end.ensures.1),
     )
 
 pub put_right-requires : goal.put_right-requires

@@ -14,26 +14,14 @@ pub loop-at-init : goal.loop-at-init
 unfolding sheet_text
 loop-at-init c = ((search rules, search rules, search rules), all_left _ _ _)
 
-pub put_row-to-requires : goal.put_row-to-requires
-put_row-to-requires c =
-    let l = c.loop-at in
-    (omega (arith, l.invariant.0.0, l.invariant.0.1, l.invariant.0.2, c.requires), omega (arith, l.invariant.0.0, l.invariant.0.1, c.requires))
-
 pub loop-at-preserved-then-starts_row : goal.loop-at-preserved-then-starts_row
 unfolding rows_lines
 loop-at-preserved-then-starts_row c =
-    let l = c.loop-at in
-    ((search rules, search rules, omega (arith, c.put_row-to.ensures.1, l.invariant.0.2)), lay-part (same_rest (rw (starts-one c.args.ws.now l.at c.loop-at-test.true (sym c.starts_row.ensures ∙ c.if-starts_row.true))) l.invariant.1) (rw (tail-is c.args.ws.now (l.at + 1)) at c.put_row-to.ensures.0))
+    ((search rules, search rules, omega (arith, c.put_row-to.ensures.1, c.loop-at.invariant.0.2)), lay-part (same_rest (rw (starts-one c.args.ws.now c.loop-at.at c.loop-at-test.true (sym c.starts_row.ensures ∙ c.if-starts_row.true))) c.loop-at.invariant.1) (rw (tail-is c.args.ws.now (c.loop-at.at + 1)) at c.put_row-to.ensures.0))
 
 pub loop-at-preserved : goal.loop-at-preserved
 loop-at-preserved c =
-    let l = c.loop-at in
-    ((search rules, search rules, search rules), same_rest (rw (starts_none c.args.ws.now l.at c.loop-at-test.true (sym c.starts_row.ensures ∙ c.if-starts_row.false))) l.invariant.1)
-
-pub shape_of-page : goal.shape_of-page
-unfolding rows_lines
-shape_of-page c =
-    laid-length (rest.none_left (same_rest (rw (none_left c.args.ws.now c.loop-at.at c.loop-at-test.false)) c.loop-at.invariant.1))
+    ((search rules, search rules, search rules), same_rest (rw (starts_none c.args.ws.now c.loop-at.at c.loop-at-test.true (sym c.starts_row.ensures ∙ c.if-starts_row.false))) c.loop-at.invariant.1)
 
 pub returns : goal.returns
 unfolding rows_lines

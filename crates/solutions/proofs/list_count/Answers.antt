@@ -5,10 +5,8 @@ use Rattle.solutions.proofs.list_count.Goals as goal
 
 pub loop-i-preserved : goal.loop-i-preserved
 loop-i-preserved c =
-    let lower = c.bound_at in
-    let upper = c.bound_at-in-loop-i in
     more _ _ c.loop-i.invariant c.loop-i-test.true _ _
-    (c.capped_count-width.ensures ∙ rw (c.width_of.ensures, back lower.result lower.type_inv, lower.ensures, back upper.result upper.type_inv, upper.ensures))
+    (c.capped_count-width.ensures ∙ rw (c.width_of.ensures, back c.bound_at.result c.bound_at.type_inv, c.bound_at.ensures, back c.bound_at-in-loop-i.result c.bound_at-in-loop-i.type_inv, c.bound_at-in-loop-i.ensures))
     c.capped_count-count.ensures
 
 pub returns : goal.returns

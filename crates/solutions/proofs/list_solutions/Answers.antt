@@ -14,8 +14,7 @@ returns-then-too_short c = record {
 pub returns : goal.returns
 unfolding found
 returns c =
-    let e = c.write_in.ensures in
     record {
-      answer = (room c.args.ws.now c.requires.1 c.requires.3 c.args.out.now c.requires.4 (sym c.too_short.ensures ∙ c.if-too_short.false) _ e.count _ e.output).0;
-      output = (room c.args.ws.now c.requires.1 c.requires.3 c.args.out.now c.requires.4 (sym c.too_short.ensures ∙ c.if-too_short.false) _ e.count _ e.output).1;
+      answer = (room c.args.ws.now c.requires.1 c.requires.3 c.args.out.now c.requires.4 (sym c.too_short.ensures ∙ c.if-too_short.false) _ c.write_in.ensures.count _ c.write_in.ensures.output).0;
+      output = (room c.args.ws.now c.requires.1 c.requires.3 c.args.out.now c.requires.4 (sym c.too_short.ensures ∙ c.if-too_short.false) _ c.write_in.ensures.count _ c.write_in.ensures.output).1;
     }

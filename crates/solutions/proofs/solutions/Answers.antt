@@ -13,6 +13,5 @@ solutions_passed-requires c =
 pub returns-in-Refused : goal.returns-in-Refused
 unfolding found checked
 returns-in-Refused c =
-    let a = c.args in
-    let h = stands a.ws.now a.out.now (rw c.in-Refused.is at c.check.ensures) in
+    let h = stands c.args.ws.now c.args.out.now (rw c.in-Refused.is at c.check.ensures) in
     record { answer = h.0; output = h.1 }

@@ -45,10 +45,8 @@ returns-then-lists-gt-LISTED_LISTS c =
 
 pub list_solutions-requires : goal.list_solutions-requires
 list_solutions-requires c =
-    let counted = c.list_count-lists.ensures in
-    let left = c.if-lists-gt-LISTED_LISTS.false in
-    let small = sized c.args.ws.now c.requires (held (goal.at.list_solutions-requires c).After-keep_bounds) (seen (goal.at.list_solutions-requires c).After-read_model-read).variables_counted c.if-n-gt-LISTED_VARIABLES.false (omega (arith, rw (same (goal.at.list_solutions-requires c).After-keep_bounds) at counted, left)) in
-    ((seen (goal.at.list_solutions-requires c).After-read_model-read).heads, small, omega (arith, counted, left), c.requires, same (goal.at.list_solutions-requires c).After-keep_bounds)
+    let small = sized c.args.ws.now c.requires (held (goal.at.list_solutions-requires c).After-keep_bounds) (seen (goal.at.list_solutions-requires c).After-read_model-read).variables_counted c.if-n-gt-LISTED_VARIABLES.false (omega (arith, rw (same (goal.at.list_solutions-requires c).After-keep_bounds) at c.list_count-lists.ensures, c.if-lists-gt-LISTED_LISTS.false)) in
+    ((seen (goal.at.list_solutions-requires c).After-read_model-read).heads, small, omega (arith, c.list_count-lists.ensures, c.if-lists-gt-LISTED_LISTS.false), c.requires, same (goal.at.list_solutions-requires c).After-keep_bounds)
 
 pub slice_bounds-keep_bounds-end : goal.slice_bounds-keep_bounds-end
 slice_bounds-keep_bounds-end c = sym (length-take-le _ _ (front-inside (seen (goal.at.slice_bounds-keep_bounds-end c).After-read_model-read)))

@@ -13,16 +13,14 @@ use Rattle.solutions.proofs.step.Goals as goal
 -- the value at the place is still what it was
 same : (c : After-value_at-v) → c.value_at-v.result ≡ get_or c.args.values.now (c.loop-k.k - 1) +0
 unfolding value
-same c = let loop = c.loop-k in c.value_at-v.ensures ∙ same-value _ _ loop.invariant.1 (loop.k - 1) (omega arith)
+same c = c.value_at-v.ensures ∙ same-value _ _ c.loop-k.invariant.1 (c.loop-k.k - 1) (omega arith)
 
 -- whether it is below its upper bound
 test : (c : After-below) →
     let k = c.loop-k.k - 1 in
     c.below.result ≡ lt_z (get_or c.args.values.now k +0) (get_or c.args.us.now k +0)
 test c =
-    let at-k = c.value_at-v in
-    let upper = c.bound_at in
-    c.below.ensures ∙ rw (back at-k.result at-k.type_inv, back upper.result upper.type_inv, upper.ensures, same c.before.before)
+    c.below.ensures ∙ rw (back c.value_at-v.result c.value_at-v.type_inv, back c.bound_at.result c.bound_at.type_inv, c.bound_at.ensures, same c.before.before)
 
 pub plus-requires : goal.plus-requires
 unfolding value
@@ -38,21 +36,18 @@ put_value-requires c =
 
 pub returns-then-below : goal.returns-then-below
 returns-then-below c =
-    let plus = c.plus in
-    let loop = c.loop-k in
-    let h = up _ _ loop.invariant.1 (loop.k - 1) (omega arith) (sym (test (goal.at.returns-then-below c).After-below) ∙ c.if-below.true) in
+    let h = up _ _ c.loop-k.invariant.1 (c.loop-k.k - 1) (omega arith) (sym (test (goal.at.returns-then-below c).After-below) ∙ c.if-below.true) in
     record {
       more = h.0;
-      list = rw (c.put_value.ensures, back plus.result plus.type_inv, plus.ensures, back c.value_at-v.result c.value_at-v.type_inv, same (goal.at.returns-then-below c).After-value_at-v) h.1;
+      list = rw (c.put_value.ensures, back c.plus.result c.plus.type_inv, c.plus.ensures, back c.value_at-v.result c.value_at-v.type_inv, same (goal.at.returns-then-below c).After-value_at-v) h.1;
     }
 
 pub loop-k-preserved : goal.loop-k-preserved
 loop-k-preserved c =
-    let loop = c.loop-k in
-    let lower = c.bound_at-in-loop-k in (
-      ap length c.put_value-in-loop-k.ensures ∙ simp length-set loop.invariant.0,
-      rw (c.put_value-in-loop-k.ensures, back lower.result lower.type_inv, lower.ensures)
-          (over _ _ loop.invariant.1 (loop.k - 1) (omega arith) (sym (test (goal.at.loop-k-preserved c).After-below) ∙ c.if-below.false)),
+    (
+      ap length c.put_value-in-loop-k.ensures ∙ simp length-set c.loop-k.invariant.0,
+      rw (c.put_value-in-loop-k.ensures, back c.bound_at-in-loop-k.result c.bound_at-in-loop-k.type_inv, c.bound_at-in-loop-k.ensures)
+          (over _ _ c.loop-k.invariant.1 (c.loop-k.k - 1) (omega arith) (sym (test (goal.at.loop-k-preserved c).After-below) ∙ c.if-below.false)),
     )
 
 pub loop-k-init : goal.loop-k-init

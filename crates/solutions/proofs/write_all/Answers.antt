@@ -14,8 +14,7 @@ write_from-requires c =
 pub returns : goal.returns
 returns c =
     let all = all-solutions c.requires.1 _ c.set_lowest.ensures c.args.ws.now in
-    let e = c.write_from.ensures in
     record {
-      count = e.count ∙ ap length all;
-      output = e.output ∙ ap (λ (l : List (List ℤ)). overlay c.args.out.now 0 (flatten l)) all;
+      count = c.write_from.ensures.count ∙ ap length all;
+      output = c.write_from.ensures.output ∙ ap (λ (l : List (List ℤ)). overlay c.args.out.now 0 (flatten l)) all;
     }

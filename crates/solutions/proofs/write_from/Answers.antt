@@ -23,21 +23,19 @@ step-more-requires c =
 
 pub loop-more-smaller : goal.loop-more-smaller
 loop-more-smaller c =
-    let loop = c.loop-more in
-    let l = rw (list_length_lem _ _ _ _ loop.invariant.1 ∙ list_of-length _ _) at c.step-more.ensures in
-    list-less _ _ _ _ loop.invariant.1 c.loop-more-test.true _ _ l.list l.more
+    let l = rw (list_length_lem _ _ _ _ c.loop-more.invariant.1 ∙ list_of-length _ _) at c.step-more.ensures in
+    list-less _ _ _ _ c.loop-more.invariant.1 c.loop-more-test.true _ _ l.list l.more
 
 pub loop-more-preserved : goal.loop-more-preserved
 loop-more-preserved c =
-    let loop = c.loop-more in
-    let l = rw (list_length_lem _ _ _ _ loop.invariant.1 ∙ list_of-length _ _) at c.step-more.ensures in
+    let l = rw (list_length_lem _ _ _ _ c.loop-more.invariant.1 ∙ list_of-length _ _) at c.step-more.ensures in
     let true_of = sym c.all_true.ensures in
-    let goes_on = c.loop-more-test.true in (
-      count_turn _ _ _ loop.invariant.0 goes_on _ (elim c.if-all_true.branch [
+    (
+      count_turn _ _ _ c.loop-more.invariant.0 c.loop-more-test.true _ (elim c.if-all_true.branch [
         | then-all_true w ↦ inl (true_of ∙ w.if-all_true.true, w.count-is)
         | else-all_true w ↦ inr (true_of ∙ w.if-all_true.false, w.count-is)
       ]) _ _ l.list l.more,
-      list-turn _ _ _ _ loop.invariant.1 goes_on _ _ (elim c.if-all_true.branch [
+      list-turn _ _ _ _ c.loop-more.invariant.1 c.loop-more-test.true _ _ (elim c.if-all_true.branch [
         | then-all_true w ↦ inl (true_of ∙ w.if-all_true.true, (w.out-is ∙ w.copy_values.ensures, w.at-is))
         | else-all_true w ↦ inr (true_of ∙ w.if-all_true.false, (w.out-is, w.at-is))
       ]) _ _ l.list l.more,

@@ -16,6 +16,5 @@ slice_bounds-same_bytes-end-2 c = let right = (c.requires.2 c.if-n-eq0.false).in
 pub returns-then-same_bytes : goal.returns-then-same_bytes
 unfolding number_in place_in length_in
 returns-then-same_bytes c =
-    let a = c.args in
-    let from = a.e / 64 % 4294967296 in
-    λ n. ap (λ (x : List ℕ). look_up x 0 (declared_before a.text.now a.place)) (same-equal (take (a.stop - a.place) (drop a.place a.text.now)) (take (from + a.e % 64 - from) (drop from a.text.now)) (sym c.same_bytes.ensures ∙ c.if-same_bytes.true)) ∙ (c.requires.2 c.if-n-eq0.false).number
+    let from = c.args.e / 64 % 4294967296 in
+    λ n. ap (λ (x : List ℕ). look_up x 0 (declared_before c.args.text.now c.args.place)) (same-equal (take (c.args.stop - c.args.place) (drop c.args.place c.args.text.now)) (take (from + c.args.e % 64 - from) (drop from c.args.text.now)) (sym c.same_bytes.ensures ∙ c.if-same_bytes.true)) ∙ (c.requires.2 c.if-n-eq0.false).number

@@ -12,16 +12,14 @@ use Rattle.text.proofs.text_page.Goals as goal
 pub returns-then-text-gt-MOST : goal.returns-then-text-gt-MOST
 unfolding printed_text
 returns-then-text-gt-MOST c =
-    let put = c.put_too_long in
-    let p = front_too_long text_bytes (length c.args.text.now) _ _ c.if-text-gt-MOST.true put.ensures.text (omega (arith, put.ensures.end, c.requires)) in
+    let p = front_too_long text_bytes (length c.args.text.now) _ _ c.if-text-gt-MOST.true c.put_too_long.ensures.text (omega (arith, c.put_too_long.ensures.end, c.requires)) in
     record { text = p.0; count = p.1 }
 
 pub returns-in-Refused : goal.returns-in-Refused
 unfolding printed_text wrote read_text
 returns-in-Refused c =
-    let put = c.put_refusal in
     let says = rw c.in-Refused.is at c.read_text.ensures.answer in
-    let p = front-refused _ _ put.ensures.text (omega (arith, put.ensures.end, c.requires)) _ says (short-enough text_bytes (length c.args.text.now) _ c.if-text-gt-MOST.false) in
+    let p = front-refused _ _ c.put_refusal.ensures.text (omega (arith, c.put_refusal.ensures.end, c.requires)) _ says (short-enough text_bytes (length c.args.text.now) _ c.if-text-gt-MOST.false) in
     record { text = p.0; count = p.1 }
 
 pub returns-in-Words : goal.returns-in-Words

@@ -26,16 +26,16 @@ pub returns-then-t-eq-END : goal.returns-then-t-eq-END
 returns-then-t-eq-END c = end_reads c.loop-at.invariant.0 (met-end c.next_token-t.ensures c.if-t-eq-END.true) c.ended.ensures
 
 pub step_of-s-requires : goal.step_of-s-requires
-step_of-s-requires c = let m = c.next_token-t.ensures in (stands m c.if-t-eq-END.false, index-here c.loop-at.invariant.1 m c.if-t-eq-END.false, c.loop-at.invariant.2)
+step_of-s-requires c = (stands c.next_token-t.ensures c.if-t-eq-END.false, index-here c.loop-at.invariant.1 c.next_token-t.ensures c.if-t-eq-END.false, c.loop-at.invariant.2)
 
 pub returns-then-s-ne-NONE : goal.returns-then-s-ne-NONE
 returns-then-s-ne-NONE c = stop-reads c.loop-at.invariant.0 c.next_token-t.ensures c.if-t-eq-END.false c.step_of-s.ensures c.if-s-ne-NONE.true
 
 pub declare-k-requires : goal.declare-k-requires
-declare-k-requires c = let m = c.next_token-t.ensures in let b = c.loop-at.invariant.1 in (omega (arith, m.longer c.if-t-eq-END.false), m.inside, few (goal.at.declare-k-requires c).In-loop-at, count-here b m c.if-t-eq-END.false, declares b.reached m c.if-t-eq-END.false, index-here b m c.if-t-eq-END.false)
+declare-k-requires c = (omega (arith, c.next_token-t.ensures.longer c.if-t-eq-END.false), c.next_token-t.ensures.inside, few (goal.at.declare-k-requires c).In-loop-at, count-here c.loop-at.invariant.1 c.next_token-t.ensures c.if-t-eq-END.false, declares c.loop-at.invariant.1.reached c.next_token-t.ensures c.if-t-eq-END.false, index-here c.loop-at.invariant.1 c.next_token-t.ensures c.if-t-eq-END.false)
 
 pub loop-at-preserved : goal.loop-at-preserved
-loop-at-preserved c = let m = c.next_token-t.ensures in (rw (c.append_word-n.ensures.next, c.append_word-n.ensures.output) (again c.loop-at.invariant.0 m c.if-t-eq-END.false c.step_of-s.ensures c.if-s-ne-NONE.false), next-table c.loop-at.invariant.1 m c.if-t-eq-END.false c.declare-k.ensures.next c.declare-k.ensures.index, c.loop-at.invariant.2)
+loop-at-preserved c = (rw (c.append_word-n.ensures.next, c.append_word-n.ensures.output) (again c.loop-at.invariant.0 c.next_token-t.ensures c.if-t-eq-END.false c.step_of-s.ensures c.if-s-ne-NONE.false), next-table c.loop-at.invariant.1 c.next_token-t.ensures c.if-t-eq-END.false c.declare-k.ensures.next c.declare-k.ensures.index, c.loop-at.invariant.2)
 
 pub returns : goal.returns
 returns c = end_reads c.loop-at.invariant.0 (none_left c.args.text.now c.loop-at.at c.loop-at-test.false) c.ended-2.ensures

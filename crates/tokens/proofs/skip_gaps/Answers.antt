@@ -8,11 +8,8 @@ loop-i-smaller c = let after = stops-after c.args.text.now c.loop-i.i in omega (
 
 pub loop-i-preserved : goal.loop-i-preserved
 loop-i-preserved c =
-    let text = c.args.text.now in
-    let i = c.loop-i.i in
-    let inside = c.loop-i-test.true in
     rw c.stop_at-i.ensures (
-      omega (arith, stops-after text i, c.loop-i.invariant.0),
-      stops-inside text i inside,
-      c.loop-i.invariant.2 ∙ gap_here text i inside (sym c.is_gap.ensures ∙ c.if-is_gap.true),
+      omega (arith, stops-after c.args.text.now c.loop-i.i, c.loop-i.invariant.0),
+      stops-inside c.args.text.now c.loop-i.i c.loop-i-test.true,
+      c.loop-i.invariant.2 ∙ gap_here c.args.text.now c.loop-i.i c.loop-i-test.true (sym c.is_gap.ensures ∙ c.if-is_gap.true),
     )

@@ -15,9 +15,7 @@ use Rattle.variables.proofs.first_out_of_bounds.Goals as goal
 
 -- what keeps says of the variable
 said : (c : After-keeps) →
-    let a = c.args in
-    let p = c.loop-x in
-    within (pair_bounds (get_or a.ws.now p.at 0) (word_at a.ws.now (p.at + 1))) (value a.values.now p.x) ≡ c.keeps.result
+    within (pair_bounds (get_or c.args.ws.now c.loop-x.at 0) (word_at c.args.ws.now (c.loop-x.at + 1))) (value c.args.values.now c.loop-x.x) ≡ c.keeps.result
 said c = sym (c.keeps.ensures ∙ rw (to_z-of_z (record { sfits = c.value_at.type_inv }), c.value_at.ensures, c.word_at.ensures))
 
 -- a turn has a word
@@ -36,36 +34,27 @@ overflow_add-at c = let h = here (goal.at.overflow_add-at c).In-loop-x in search
 pub returns-then-not-keeps : goal.returns-then-not-keeps
 unfolding verdict
 returns-then-not-keeps c =
-    let loop = c.loop-x in
-    let starts-variable = c.starts_variable in
-    let if1 = c.if-starts_variable in
-    break_one loop.invariant.0 (here (goal.at.returns-then-not-keeps c).In-loop-x) (sym starts-variable.ensures ∙ if1.true) (said (goal.at.returns-then-not-keeps c).After-keeps ∙ c.if-not-keeps.true)
+    break_one c.loop-x.invariant.0 (here (goal.at.returns-then-not-keeps c).In-loop-x) (sym c.starts_variable.ensures ∙ c.if-starts_variable.true) (said (goal.at.returns-then-not-keeps c).After-keeps ∙ c.if-not-keeps.true)
 
 pub loop-x-smaller-then-starts_variable : goal.loop-x-smaller-then-starts_variable
 loop-x-smaller-then-starts_variable c = let h = here (goal.at.loop-x-smaller-then-starts_variable c).In-loop-x in omega (arith, h)
 
 pub loop-x-preserved-then-starts_variable : goal.loop-x-preserved-then-starts_variable
 loop-x-preserved-then-starts_variable c =
-    let loop = c.loop-x in
-    let starts-variable = c.starts_variable in
-    let if1 = c.if-starts_variable in
     let h = here (goal.at.loop-x-preserved-then-starts_variable c).In-loop-x in
-    let e = sym starts-variable.ensures ∙ if1.true in
-    (keep_one loop.invariant.0 h e (said (goal.at.loop-x-preserved-then-starts_variable c).After-keeps ∙ c.if-not-keeps.false), count-one loop.invariant.1 h e)
+    let e = sym c.starts_variable.ensures ∙ c.if-starts_variable.true in
+    (keep_one c.loop-x.invariant.0 h e (said (goal.at.loop-x-preserved-then-starts_variable c).After-keeps ∙ c.if-not-keeps.false), count-one c.loop-x.invariant.1 h e)
 
 pub loop-x-smaller : goal.loop-x-smaller
 loop-x-smaller c = let h = here (goal.at.loop-x-smaller c).In-loop-x in omega (arith, h)
 
 pub loop-x-preserved : goal.loop-x-preserved
 loop-x-preserved c =
-    let loop = c.loop-x in
     let h = here (goal.at.loop-x-preserved c).In-loop-x in
     let e = sym c.starts_variable.ensures ∙ c.if-starts_variable.false in
-    (keep-none loop.invariant.0 h e, count_none loop.invariant.1 h e)
+    (keep-none c.loop-x.invariant.0 h e, count_none c.loop-x.invariant.1 h e)
 
 pub returns : goal.returns
 unfolding verdict
 returns c =
-    let i = c.loop-x.invariant in
-    let few = i.1.number in
-    keep_all i.0 (none_left i.1 (omega (arith, few, c.loop-x-test.false, c.requires)))
+    keep_all c.loop-x.invariant.0 (none_left c.loop-x.invariant.1 (omega (arith, c.loop-x.invariant.1.number, c.loop-x-test.false, c.requires)))

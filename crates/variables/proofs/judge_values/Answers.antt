@@ -8,22 +8,16 @@ use Rattle.variables.proofs.judge_values.Goals as goal
 pub returns-then-read-ne-NONE : goal.returns-then-read-ne-NONE
 unfolding verdict
 returns-then-read-ne-NONE c =
-    let a = c.args in
-    first-answers a.read.number a.read.place (count_fault a.ws.now a.values.now) _ c.if-read-ne-NONE.true
+    first-answers c.args.read.number c.args.read.place (count_fault c.args.ws.now c.args.values.now) _ c.if-read-ne-NONE.true
 
 pub returns-then-values-count_variables : goal.returns-then-values-count_variables
 unfolding verdict
 returns-then-values-count_variables c =
-    let a = c.args in
-    wrong-count a.ws.now a.values.now _ (λ e. c.if-values-count_variables.true (e ∙ sym c.count_variables.ensures))
-    ∙ second-answers a.read.number a.read.place (count_fault a.ws.now a.values.now) _ c.if-read-ne-NONE.false
+    wrong-count c.args.ws.now c.args.values.now _ (λ e. c.if-values-count_variables.true (e ∙ sym c.count_variables.ensures))
+    ∙ second-answers c.args.read.number c.args.read.place (count_fault c.args.ws.now c.args.values.now) _ c.if-read-ne-NONE.false
 
 pub returns : goal.returns
 returns c =
-    let a = c.args in
     c.first_out_of_bounds.ensures
-    ∙ right-count a.ws.now a.values.now _ (c.if-values-count_variables.false ∙ c.count_variables.ensures)
-    ∙ second-answers a.read.number a.read.place (count_fault a.ws.now a.values.now) _ c.if-read-ne-NONE.false
-
-pub first_out_of_bounds-requires : goal.first_out_of_bounds-requires
-first_out_of_bounds-requires c = c.if-values-count_variables.false ∙ c.count_variables.ensures
+    ∙ right-count c.args.ws.now c.args.values.now _ (c.if-values-count_variables.false ∙ c.count_variables.ensures)
+    ∙ second-answers c.args.read.number c.args.read.place (count_fault c.args.ws.now c.args.values.now) _ c.if-read-ne-NONE.false

@@ -7,10 +7,8 @@ use Rattle.variables.proofs.keeps.Goals as goal
 pub returns-then-starts_pair : goal.returns-then-starts_pair
 unfolding pair_bounds
 returns-then-starts_pair c =
-    let a = c.signed_of in
-    let b = c.signed_of-then-starts_pair in
     rw (← c.starts_pair.ensures, c.if-starts_pair.true)
-    (c.between.ensures ∙ rw (to_z-of_z (record { sfits = a.type_inv }), to_z-of_z (record { sfits = b.type_inv }), a.ensures, b.ensures, to_z-of_z c.ranges.v))
+    (c.between.ensures ∙ rw (to_z-of_z (record { sfits = c.signed_of.type_inv }), to_z-of_z (record { sfits = c.signed_of-then-starts_pair.type_inv }), c.signed_of.ensures, c.signed_of-then-starts_pair.ensures, to_z-of_z c.ranges.v))
 
 pub returns : goal.returns
 unfolding pair_bounds

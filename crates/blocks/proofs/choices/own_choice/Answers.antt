@@ -24,8 +24,7 @@ returns-in-27 c =
 
 pub set_in_reif-requires : goal.set_in_reif-requires
 set_in_reif-requires c =
-    let p = c.requires in
-    (p.0, p.1, p.2, p.3, p.4 (fourth c.args.code p.5 (λ e. omega arith) (λ e. omega arith) (λ e. omega arith)))
+    (c.requires.0, c.requires.1, c.requires.2, c.requires.3, c.requires.4 (fourth c.args.code c.requires.5 (λ e. omega arith) (λ e. omega arith) (λ e. omega arith)))
 
 pub returns-in_default : goal.returns-in_default
 unfolding builtin builtins

@@ -15,12 +15,8 @@ overflow_add-k c =
 pub returns-then-k-ge1 : goal.returns-then-k-ge1
 unfolding meaning nums
 returns-then-k-ge1 c =
-    let index_of = c.index_of-k in
-    let if1 = c.if-k-ge1 in
-    let num-at = c.num_at in
-    let past-at = c.past_at in
-    c.equal.ensures ∙ rw (read num-at.type_inv num-at.ensures, read c.value_of.type_inv c.value_of.ensures, past-at.ensures)
-    (inside (num c.args.args.now) _ _ _ _ index_of.ensures if1.true)
+    c.equal.ensures ∙ rw (read c.num_at.type_inv c.num_at.ensures, read c.value_of.type_inv c.value_of.ensures, c.past_at.ensures)
+    (inside (num c.args.args.now) _ _ _ _ c.index_of-k.ensures c.if-k-ge1.true)
 
 pub returns : goal.returns
 unfolding meaning nums

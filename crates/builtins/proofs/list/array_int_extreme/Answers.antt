@@ -23,9 +23,6 @@ either_way false σ m xs = rw (any-map, all_map)
 
 pub returns : goal.returns
 returns c =
-    let a = c.args in
-    let σ = value a.values.now in
-    let value_of_lem = c.value_of-m in
-    let any-equal = c.any_equal in
-    c.both.ensures ∙ rw (any-equal.ensures, c.none_past.ensures, read value_of_lem.type_inv value_of_lem.ensures)
-    (either_way a.up σ (σ (var a.args.now 0)) (vars a.args.now 1))
+    let σ = value c.args.values.now in
+    c.both.ensures ∙ rw (c.any_equal.ensures, c.none_past.ensures, read c.value_of-m.type_inv c.value_of-m.ensures)
+    (either_way c.args.up σ (σ (var c.args.args.now 0)) (vars c.args.args.now 1))

@@ -16,12 +16,8 @@ overflow_add-k c =
 pub returns-then-k-ge1 : goal.returns-then-k-ge1
 unfolding meaning vars
 returns-then-k-ge1 c =
-    let index_of = c.index_of-k in
-    let if1 = c.if-k-ge1 in
-    let value_of_lem = c.value_of in
-    let past-at = c.past_at in
-    c.equal.ensures ∙ rw (read value_of_lem.type_inv value_of_lem.ensures, read c.value_of-then-k-ge1.type_inv c.value_of-then-k-ge1.ensures, past-at.ensures, map-list_of)
-    (inside (λ k. value c.args.values.now (var c.args.args.now k)) _ _ _ _ index_of.ensures if1.true)
+    c.equal.ensures ∙ rw (read c.value_of.type_inv c.value_of.ensures, read c.value_of-then-k-ge1.type_inv c.value_of-then-k-ge1.ensures, c.past_at.ensures, map-list_of)
+    (inside (λ k. value c.args.values.now (var c.args.args.now k)) _ _ _ _ c.index_of-k.ensures c.if-k-ge1.true)
 
 pub returns : goal.returns
 unfolding meaning vars

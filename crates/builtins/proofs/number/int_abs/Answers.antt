@@ -12,7 +12,4 @@ opposite-requires c = rw (read c.value_of-x.type_inv c.value_of-x.ensures) (omeg
 pub returns : goal.returns
 unfolding meaning
 returns c =
-    let value_of_lem = c.value_of-x in
-    let opposite = c.opposite in
-    let largest = c.largest in
-    c.equal.ensures ∙ rw (read largest.type_inv largest.ensures, read opposite.type_inv opposite.ensures, read value_of_lem.type_inv value_of_lem.ensures, read c.value_of.type_inv c.value_of.ensures, abs-max)
+    c.equal.ensures ∙ rw (read c.largest.type_inv c.largest.ensures, read c.opposite.type_inv c.opposite.ensures, read c.value_of-x.type_inv c.value_of-x.ensures, read c.value_of.type_inv c.value_of.ensures, abs-max)

@@ -13,7 +13,4 @@ plus-requires c =
 pub returns : goal.returns
 unfolding meaning
 returns c =
-    let value_of_lem = c.value_of in
-    let value-of2 = c.value_of-2 in
-    let plus = c.plus in
-    c.equal.ensures ∙ rw (read plus.type_inv plus.ensures, read value_of_lem.type_inv value_of_lem.ensures, read value-of2.type_inv value-of2.ensures, read c.value_of-3.type_inv c.value_of-3.ensures)
+    c.equal.ensures ∙ rw (read c.plus.type_inv c.plus.ensures, read c.value_of.type_inv c.value_of.ensures, read c.value_of-2.type_inv c.value_of-2.ensures, read c.value_of-3.type_inv c.value_of-3.ensures)

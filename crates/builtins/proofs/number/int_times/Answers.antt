@@ -14,7 +14,4 @@ times-requires c =
 pub returns : goal.returns
 unfolding meaning
 returns c =
-    let value_of_lem = c.value_of in
-    let value-of2 = c.value_of-2 in
-    let times = c.times in
-    c.equal.ensures ∙ rw (read times.type_inv times.ensures, read value_of_lem.type_inv value_of_lem.ensures, read value-of2.type_inv value-of2.ensures, read c.value_of-3.type_inv c.value_of-3.ensures)
+    c.equal.ensures ∙ rw (read c.times.type_inv c.times.ensures, read c.value_of.type_inv c.value_of.ensures, read c.value_of-2.type_inv c.value_of-2.ensures, read c.value_of-3.type_inv c.value_of-3.ensures)

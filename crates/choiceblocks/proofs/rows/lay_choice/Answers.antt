@@ -8,6 +8,5 @@ use Rattle.choiceblocks.proofs.rows.lay_choice.Goals as goal
 pub returns : goal.returns
 unfolding choice_rows
 returns c =
-    let a = c.lay_one_bit-t.ensures in
     let b = rw (to_z-of_z c.ranges.from) at c.lay_label_row.ensures in
-    (went_then a.0 b.0, omega (arith, a.1, b.1))
+    (went_then c.lay_one_bit-t.ensures.0 b.0, omega (arith, c.lay_one_bit-t.ensures.1, b.1))

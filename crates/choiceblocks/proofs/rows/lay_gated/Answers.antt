@@ -7,6 +7,4 @@ use Rattle.choiceblocks.proofs.rows.lay_gated.Goals as goal
 pub returns : goal.returns
 unfolding gated_rows
 returns c =
-    let a = c.lay_products-t.ensures in
-    let b = c.lay_one_row.ensures in
-    (went_then a.0 b.0, omega (arith, a.1, b.1))
+    (went_then c.lay_products-t.ensures.0 c.lay_one_row.ensures.0, omega (arith, c.lay_products-t.ensures.1, c.lay_one_row.ensures.1))

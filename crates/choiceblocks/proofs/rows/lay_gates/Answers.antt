@@ -7,6 +7,4 @@ use Rattle.choiceblocks.proofs.rows.lay_gates.Goals as goal
 pub returns : goal.returns
 unfolding gates
 returns c =
-    let a = c.lay_bits-t.ensures in
-    let b = c.lay_zeros.ensures in
-    (went_then a.0 b.0, omega (arith, a.1, b.1))
+    (went_then c.lay_bits-t.ensures.0 c.lay_zeros.ensures.0, omega (arith, c.lay_bits-t.ensures.1, c.lay_zeros.ensures.1))

@@ -6,6 +6,3 @@ use Rattle.choiceblocks.proofs.rows.lay_label_row.Goals as goal
 
 pub returns : goal.returns
 returns c = summed _ _ c.lay_head-t.ensures (rw (to_z-of_z c.ranges.from) at c.lay_labels-u.ensures) c.lay_last.ensures
-
-pub lay_labels-u-requires : goal.lay_labels-u-requires
-lay_labels-u-requires c = rw (to_z-of_z c.ranges.from) (search rules)

@@ -5,6 +5,4 @@ use Rattle.choiceblocks.proofs.rows.lay_last.Goals as goal
 
 pub returns : goal.returns
 returns c =
-    let a = c.lay_term-t.ensures in
-    let b = c.lay_constant.ensures in
-    (went_then a.0 b.0, omega (arith, a.1, b.1))
+    (went_then c.lay_term-t.ensures.0 c.lay_constant.ensures.0, omega (arith, c.lay_term-t.ensures.1, c.lay_constant.ensures.1))

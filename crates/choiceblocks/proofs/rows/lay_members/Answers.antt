@@ -9,36 +9,18 @@ use Rattle.laying.proofs.Parts.{begun, more, done, went-length}
 use Rattle.laying.proofs.Counts.{sized-one, many-counted}
 use Rattle.choiceblocks.proofs.rows.lay_members.Goals as goal
 
-pub minus-requires : goal.minus-requires
-minus-requires c =
-    let loop = c.loop-k in
-    rw (read c.bound_at.type_inv c.bound_at.ensures, to_z-of_z c.ranges.from) (omega (arith, c.requires.4 loop.k))
-
 pub overflow_add-v : goal.overflow_add-v
 overflow_add-v c =
-    let loop = c.loop-k in
-    let v = get_or c.args.vs.now loop.k +0 in
+    let v = get_or c.args.vs.now c.loop-k.k +0 in
     let m = rw (read c.minus.type_inv c.minus.ensures, read c.bound_at.type_inv c.bound_at.ensures, to_z-of_z c.ranges.from) at c.count_of.ensures in
-    omega (arith, m, count-le (v ⊖ c.args.from), minus-size v c.args.from, c.requires.4 loop.k)
+    omega (arith, m, count-le (v ⊖ c.args.from), minus-size v c.args.from, c.requires.4 c.loop-k.k)
 
 pub loop-k-preserved : goal.loop-k-preserved
 loop-k-preserved c =
-    let loop-test = c.loop-k-test in
-    let loop = c.loop-k in
-    let count_of = c.count_of in
-    let minus = c.minus in
-    let bound_at = c.bound_at in
-    more loop-test.true loop.invariant (rw (count_of.ensures, read minus.type_inv minus.ensures, read bound_at.type_inv bound_at.ensures) at c.lay_term-t.ensures)
-
-pub returns : goal.returns
-returns c =
-    done 1000 (omega arith) c.loop-k-test.false (rw (to_z-of_z c.ranges.from) at c.loop-k.invariant)
+    more c.loop-k-test.true c.loop-k.invariant (rw (c.count_of.ensures, read c.minus.type_inv c.minus.ensures, read c.bound_at.type_inv c.bound_at.ensures) at c.lay_term-t.ensures)
 
 pub returns-then-out-s : goal.returns-then-out-s
 returns-then-out-s c = many-counted 2 0 0 1000 (λ k h. sized-one _) (omega arith, omega arith, omega arith, omega arith) c.if-out-s.true c.counted.ensures
 
 pub loop-k-init : goal.loop-k-init
 loop-k-init c = begun 10 _ _ _ _
-
-pub shape_of-out : goal.shape_of-out
-shape_of-out c = went-length c.loop-k.invariant.went

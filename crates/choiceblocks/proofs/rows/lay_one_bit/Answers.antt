@@ -7,7 +7,4 @@ use Rattle.choiceblocks.proofs.rows.lay_one_bit.Goals as goal
 pub returns : goal.returns
 unfolding one_row
 returns c =
-    let a = c.lay_head-t.ensures in
-    let b = c.lay_same-u.ensures in
-    let d = c.lay_constant.ensures in
-    (went_then a.0 (went_then b.0 d.0), omega (arith, a.1, b.1, d.1))
+    (went_then c.lay_head-t.ensures.0 (went_then c.lay_same-u.ensures.0 c.lay_constant.ensures.0), omega (arith, c.lay_head-t.ensures.1, c.lay_same-u.ensures.1, c.lay_constant.ensures.1))

@@ -12,16 +12,7 @@ returns-then-out-s c =
 
 pub loop-k-preserved : goal.loop-k-preserved
 loop-k-preserved c =
-    let loop-test = c.loop-k-test in
-    let loop = c.loop-k in
-    let bound_at = c.bound_at in
-    more loop-test.true loop.invariant (rw (read bound_at.type_inv bound_at.ensures) at c.lay_term-t.ensures)
+    more c.loop-k-test.true c.loop-k.invariant (rw (read c.bound_at.type_inv c.bound_at.ensures) at c.lay_term-t.ensures)
 
 pub loop-k-init : goal.loop-k-init
 loop-k-init c = begun 10 _ _ _ _
-
-pub shape_of-out : goal.shape_of-out
-shape_of-out c = went-length c.loop-k.invariant.went
-
-pub returns : goal.returns
-returns c = done 1000 (omega arith) c.loop-k-test.false c.loop-k.invariant

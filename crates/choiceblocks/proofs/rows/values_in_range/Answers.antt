@@ -11,11 +11,4 @@ loop-k-init c = (omega arith, refl)
 
 pub loop-k-preserved : goal.loop-k-preserved
 loop-k-preserved c =
-    let loop = c.loop-k in
-    let bound_at = c.bound_at in
-    (omega arith, c.both-fit.ensures ∙ rw (all_more, loop.invariant.1, c.in_range.ensures, read bound_at.type_inv bound_at.ensures))
-
-pub returns : goal.returns
-returns c =
-    let e : c.loop-k.k ≡ c.args.n = omega (arith, c.loop-k.invariant.0) in
-    rw e at c.loop-k.invariant.1
+    (omega arith, c.both-fit.ensures ∙ rw (all_more, c.loop-k.invariant.1, c.in_range.ensures, read c.bound_at.type_inv c.bound_at.ensures))

@@ -7,16 +7,7 @@ use Rattle.integers.proofs.Fits.{back}
 use Rattle.divisionblocks.proofs.Largest.{apart-size}
 use Rattle.divisionblocks.proofs.table.apart.Goals as goal
 
-pub minus-requires : goal.minus-requires
-minus-requires c = rw (to_z-of_z c.ranges.pu, to_z-of_z c.ranges.nl) (omega (arith, c.requires.0, c.requires.3))
-
-pub minus-requires-2 : goal.minus-requires-2
-minus-requires-2 c =
-    rw (to_z-of_z c.ranges.nu, to_z-of_z c.ranges.pl) (omega (arith, c.requires.1, c.requires.2))
-
 pub returns : goal.returns
 returns c =
-    let minus = c.minus in
-    let minus2 = c.minus-2 in
-    let e = rw (back minus.result minus.type_inv, minus.ensures, back minus2.result minus2.type_inv, minus2.ensures, to_z-of_z c.ranges.nl, to_z-of_z c.ranges.nu, to_z-of_z c.ranges.pl, to_z-of_z c.ranges.pu) at c.largest.ensures in
+    let e = rw (back c.minus.result c.minus.type_inv, c.minus.ensures, back c.minus-2.result c.minus-2.type_inv, c.minus-2.ensures, to_z-of_z c.ranges.nl, to_z-of_z c.ranges.nu, to_z-of_z c.ranges.pl, to_z-of_z c.ranges.pu) at c.largest.ensures in
     (back c.largest.result c.largest.type_inv ∙ e, rw (back c.largest.result c.largest.type_inv) (omega (arith, ap nat_abs e, apart-size c.args.nl c.args.nu c.args.pl c.args.pu c.requires.0 c.requires.1 c.requires.2 c.requires.3)))

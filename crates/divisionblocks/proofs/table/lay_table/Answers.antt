@@ -23,9 +23,3 @@ loop-k-preserved c =
 
 pub loop-k-init : goal.loop-k-init
 loop-k-init c = begun 2000 _ _ _ _
-
-pub shape_of-out : goal.shape_of-out
-shape_of-out c = went-length c.loop-k.invariant.went
-
-pub returns : goal.returns
-returns c = done 20000 (omega arith) c.loop-k-test.false c.loop-k.invariant

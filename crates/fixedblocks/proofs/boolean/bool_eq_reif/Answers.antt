@@ -13,8 +13,5 @@ use Rattle.fixedblocks.proofs.boolean.bool_eq_reif.Goals as goal
 pub returns : goal.returns
 unfolding rule same_reified same_rows ◌─◌=0 block_parts bound_parts flat_map row_parts term_parts numbered row_parts_of many
 returns c =
-    let two_products = c.two_products-t in
-    let two-terms = c.two_terms-u in
-    let lay-row = c.lay_row in
-    let w = then 40 4000 two_products.ensures (then 2000 2000 two-terms.ensures lay-row.ensures) in
+    let w = then 40 4000 c.two_products-t.ensures (then 2000 2000 c.two_terms-u.ensures c.lay_row.ensures) in
     rw (add-zero c.args.first) ((λ β. w.0), omega (arith, w.1))

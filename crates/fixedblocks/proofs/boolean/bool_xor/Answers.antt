@@ -12,8 +12,5 @@ use Rattle.fixedblocks.proofs.boolean.bool_xor.Goals as goal
 pub returns : goal.returns
 unfolding rule same_reified same_rows block_parts bound_parts flat_map row_parts term_parts numbered row_parts_of many
 returns c =
-    let two_products = c.two_products-t in
-    let lay-row = c.lay_row-u in
-    let three-terms = c.three_terms in
-    let w = then 40 4000 two_products.ensures (then 2000 2000 lay-row.ensures three-terms.ensures) in
+    let w = then 40 4000 c.two_products-t.ensures (then 2000 2000 c.lay_row-u.ensures c.three_terms.ensures) in
     rw (add-zero c.args.first) ((λ β. w.0), omega (arith, w.1))

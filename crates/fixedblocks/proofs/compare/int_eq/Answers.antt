@@ -11,5 +11,4 @@ use Rattle.fixedblocks.proofs.compare.int_eq.Goals as goal
 pub returns : goal.returns
 unfolding rule ◌─◌=0 block_parts bound_parts flat_map row_parts term_parts numbered row_parts_of many
 returns c =
-    let w = c.two_terms.ensures in
-    ((λ β first. w.0), omega (arith, w.1))
+    ((λ β first. c.two_terms.ensures.0), omega (arith, c.two_terms.ensures.1))

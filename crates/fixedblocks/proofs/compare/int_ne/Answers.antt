@@ -12,8 +12,5 @@ use Rattle.fixedblocks.proofs.compare.int_ne.Goals as goal
 pub returns : goal.returns
 unfolding rule where_one where_zero block_parts bound_parts flat_map row_parts term_parts numbered row_parts_of many
 returns c =
-    let lay-bound = c.lay_bound-t in
-    let row = c.where_bit-u in
-    let row2 = c.where_bit in
-    let w = then 10 4000 lay-bound.ensures (then 2000 2000 (row.ensures.fact, row.ensures.size) (row2.ensures.fact, row2.ensures.size)) in
+    let w = then 10 4000 c.lay_bound-t.ensures (then 2000 2000 (c.where_bit-u.ensures.fact, c.where_bit-u.ensures.size) (c.where_bit.ensures.fact, c.where_bit.ensures.size)) in
     rw (add-zero c.args.first) (w.0, omega (arith, w.1))

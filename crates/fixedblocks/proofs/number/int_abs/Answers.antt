@@ -13,23 +13,9 @@ use Rattle.laying.proofs.Parts.{went-length}
 use Rattle.fixedblocks.proofs.Laid.{then}
 use Rattle.fixedblocks.proofs.number.int_abs.Goals as goal
 
-pub lay_row-n-requires : goal.lay_row-n-requires
-lay_row-n-requires c =
-    (omega (arith, c.requires.0, c.lay_bound-t.ensures.1, c.lay_zero_bound-u.ensures.1, c.lay_times-v.ensures.1, c.three_terms-w.ensures.1), omega arith, omega arith, omega arith)
-
-pub lay_only_negative-requires : goal.lay_only_negative-requires
-lay_only_negative-requires c =
-    let bound_at = c.bound_at in
-    (omega (arith, c.requires.0, c.lay_bound-t.ensures.1, c.lay_zero_bound-u.ensures.1, c.lay_times-v.ensures.1, c.three_terms-w.ensures.1, c.lay_row-n.ensures.1), rw (read bound_at.type_inv bound_at.ensures) (omega (arith, c.requires.2 c.args.x)))
-
-pub shape_of-out : goal.shape_of-out
-shape_of-out c =
-    went-length c.lay_only_negative.ensures.0 ∙ went-length c.lay_row-n.ensures.0 ∙ went-length c.three_terms-w.ensures.0 ∙ went-length c.lay_times-v.ensures.0 ∙ went-length c.lay_zero_bound-u.ensures.0 ∙ went-length c.lay_bound-t.ensures.0
-
 pub returns : goal.returns
 unfolding rule absolute only_negative Z block_parts bound_parts flat_map row_parts term_parts numbered row_parts_of many
 returns c =
-    let bound_at = c.bound_at in
-    let last = rw (read bound_at.type_inv bound_at.ensures) at c.lay_only_negative.ensures in
+    let last = rw (read c.bound_at.type_inv c.bound_at.ensures) at c.lay_only_negative.ensures in
     let w = then 10 6020 c.lay_bound-t.ensures (then 10 6010 c.lay_zero_bound-u.ensures (then 10 6000 c.lay_times-v.ensures (then 2000 4000 c.three_terms-w.ensures (then 2000 2000 c.lay_row-n.ensures last)))) in
     rw (add-zero c.args.first) (w.0, omega (arith, w.1))

@@ -14,11 +14,6 @@ use Rattle.fixedblocks.proofs.number.int_times.Goals as goal
 pub returns : goal.returns
 unfolding rule ◌─◌=0 block_parts bound_parts flat_map row_parts term_parts numbered row_parts_of many
 returns c =
-    let end-product = c.end_product-lower in
-    let end-product2 = c.end_product-upper in
-    let lay-bound = c.lay_bound-t in
-    let lay-times = c.lay_times-u in
-    let two-terms = c.two_terms in
-    let v = rw (back end-product.result end-product.type_inv, end-product.ensures, back end-product2.result end-product2.type_inv, end-product2.ensures) at lay-bound.ensures in
-    let w = then 10 2010 v (then 10 2000 lay-times.ensures two-terms.ensures) in
+    let v = rw (back c.end_product-lower.result c.end_product-lower.type_inv, c.end_product-lower.ensures, back c.end_product-upper.result c.end_product-upper.type_inv, c.end_product-upper.ensures) at c.lay_bound-t.ensures in
+    let w = then 10 2010 v (then 10 2000 c.lay_times-u.ensures c.two_terms.ensures) in
     rw (add-zero c.args.first) (w.0, omega (arith, w.1))

@@ -12,18 +12,6 @@ use Rattle.laying.proofs.Parts.{went-length}
 use Rattle.fixedblocks.proofs.Laid.{then}
 use Rattle.fixedblocks.proofs.number.touching.Goals as goal
 
-pub where_bit-four-requires : goal.where_bit-four-requires
-where_bit-four-requires c =
-    (omega (arith, c.requires.0, c.lay_bound-bit.ensures.1, c.two_terms-one.ensures.1, c.two_terms-two.ensures.1, c.where_bit-three.ensures.size), c.requires.1, c.requires.2, omega arith)
-
-pub where_bit-requires : goal.where_bit-requires
-where_bit-requires c =
-    (omega (arith, c.requires.0, c.lay_bound-bit.ensures.1, c.two_terms-one.ensures.1, c.two_terms-two.ensures.1, c.where_bit-three.ensures.size, c.where_bit-four.ensures.size), c.requires.1, c.requires.2, omega arith)
-
-pub shape_of-out : goal.shape_of-out
-shape_of-out c =
-    went-length c.where_bit.ensures.fact ∙ went-length c.where_bit-four.ensures.fact ∙ went-length c.where_bit-three.ensures.fact ∙ went-length c.two_terms-two.ensures.0 ∙ went-length c.two_terms-one.ensures.0 ∙ went-length c.lay_bound-bit.ensures.0
-
 pub returns : goal.returns
 unfolding touching where_one where_zero ◌─◌≤0 block_parts bound_parts flat_map row_parts term_parts numbered row_parts_of many
 returns c =

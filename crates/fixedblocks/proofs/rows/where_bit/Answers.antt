@@ -9,20 +9,6 @@ pub minus-requires : goal.minus-requires
 minus-requires c =
     rw (back c.gap_plus-p.result c.gap_plus-p.type_inv, c.gap_plus-p.ensures, to_z-of_z c.ranges.d) (omega (arith, gap_plus_size c.args.ls.now c.args.us.now c.requires.1 c.requires.2 c.args.x c.args.y c.args.d c.requires.3, c.requires.3))
 
-pub returns-then-one : goal.returns-then-one
-returns-then-one c =
-    let g = c.gap_plus-p in
-    let m = c.minus in
-    let a = rw (back m.result m.type_inv, m.ensures, back g.result g.type_inv, g.ensures, to_z-of_z c.ranges.d) at c.three_terms.ensures in
-    record { fact = rw c.if-one.true a.0; size = a.1 }
-
 pub opposite-requires : goal.opposite-requires
 opposite-requires c =
     rw (back c.gap_plus-p.result c.gap_plus-p.type_inv, c.gap_plus-p.ensures, to_z-of_z c.ranges.d) (omega (arith, gap_plus_size c.args.ls.now c.args.us.now c.requires.1 c.requires.2 c.args.x c.args.y c.args.d c.requires.3, c.requires.3))
-
-pub returns : goal.returns
-returns c =
-    let g = c.gap_plus-p in
-    let m = c.opposite in
-    let a = rw (back m.result m.type_inv, m.ensures, back g.result g.type_inv, g.ensures, to_z-of_z c.ranges.d) at c.three_terms-2.ensures in
-    record { fact = rw c.if-one.false a.0; size = a.1 }

@@ -26,17 +26,11 @@ lay_order-t-requires c =
 pub returns : goal.returns
 unfolding rule block_parts bound_parts flat_map
 returns c =
-    let past-at = c.past_at in
-    let var-at = c.var_at-r in
-    let size-at = c.size_at in
-    let lay-order = c.lay_order-t in
-    let lay-all = c.lay_all in
-    let ws = c.args.args.now in
-    let r = var ws (past ws 0) in
-    let q = sum≤0 (each +1 (vars ws 0) ++ (-1 · source r ∷ [])) (+1 ⊖ pos (length (vars ws 0))) in
-    let t = rw (size-at.ensures, var-at.ensures, past-at.ensures) at lay-order.ensures in
-    let u = rw (var-at.ensures, past-at.ensures) at lay-all.ensures in
+    let r = var c.args.args.now (past c.args.args.now 0) in
+    let q = sum≤0 (each +1 (vars c.args.args.now 0) ++ (-1 · source r ∷ [])) (+1 ⊖ pos (length (vars c.args.args.now 0))) in
+    let t = rw (c.size_at.ensures, c.var_at-r.ensures, c.past_at.ensures) at c.lay_order-t.ensures in
+    let u = rw (c.var_at-r.ensures, c.past_at.ensures) at c.lay_all.ensures in
     record {
-      parts = λ first β. rows_then first (block [] (map (λ x. source r ─ source x ≤0) (vars ws 0))) (q ∷ []) (went_as (sym (order-parts first ws 0 r false)) t.0) (rw append-nil (u.parts first));
+      parts = λ first β. rows_then first (block [] (map (λ x. source r ─ source x ≤0) (vars c.args.args.now 0))) (q ∷ []) (went_as (sym (order-parts first c.args.args.now 0 r false)) t.0) (rw append-nil (u.parts first));
       size = omega (arith, t.1, u.size);
     }

@@ -11,9 +11,5 @@ use Rattle.linearblocks.proofs.clause.array_bool_xor.Goals as goal
 pub returns : goal.returns
 unfolding rule block_parts bound_parts flat_map
 returns c =
-    let size-at = c.size_at in
-    let half-less = c.half_less in
-    let lay-bound = c.lay_bound-t in
-    let lay-odd = c.lay_odd in
-    let d = rw (read half-less.type_inv half-less.ensures, size-at.ensures, ← length-vars c.args.args.now 0) at lay-bound.ensures in
-    (λ β. rw append-nil (went_then d.0 lay-odd.ensures.0), omega (arith, d.1, lay-odd.ensures.1))
+    let d = rw (read c.half_less.type_inv c.half_less.ensures, c.size_at.ensures, ← length-vars c.args.args.now 0) at c.lay_bound-t.ensures in
+    (λ β. rw append-nil (went_then d.0 c.lay_odd.ensures.0), omega (arith, d.1, c.lay_odd.ensures.1))

@@ -17,46 +17,25 @@ use Rattle.linearblocks.proofs.clause.bool_clause.Goals as goal
 
 pub overflow_add-size_at : goal.overflow_add-size_at
 overflow_add-size_at c =
-    let past-at = c.past_at-second in
-    let size-at = c.size_at-m in
-    rw (size-at.ensures, c.size_at.ensures) (omega (arith, size-le c.args.args.now past-at.result, size-le c.args.args.now 0))
+    rw (c.size_at-m.ensures, c.size_at.ensures) (omega (arith, size-le c.args.args.now c.past_at-second.result, size-le c.args.args.now 0))
 
 pub lay_each-u-requires : goal.lay_each-u-requires
 unfolding past
 lay_each-u-requires c =
-    let past-at = c.past_at-second in
-    let lay-head = c.lay_head-begun in
-    let lay-each = c.lay_each-t in
-    (omega (arith, c.requires, lay-head.ensures.1, lay-each.ensures.1), omega (arith, past-at.ensures, size-le c.args.args.now 0))
-
-pub lay_constant-requires : goal.lay_constant-requires
-lay_constant-requires c =
-    let lay-head = c.lay_head-begun in
-    let lay-each = c.lay_each-t in
-    let lay-each2 = c.lay_each-u in
-    omega (arith, c.requires, lay-head.ensures.1, lay-each.ensures.1, lay-each2.ensures.1)
+    (omega (arith, c.requires, c.lay_head-begun.ensures.1, c.lay_each-t.ensures.1), omega (arith, c.past_at-second.ensures, size-le c.args.args.now 0))
 
 pub returns : goal.returns
 unfolding rule row_parts
 returns c =
-    let past-at = c.past_at-second in
-    let size-at = c.size_at-m in
-    let size-at2 = c.size_at in
-    let lay-head = c.lay_head-begun in
-    let lay-each = c.lay_each-t in
-    let lay-each2 = c.lay_each-u in
-    let one_less = c.one_less in
-    let lay-constant = c.lay_constant in
-    let ws = c.args.args.now in
-    let xs = each -1 (vars ws 0) in
-    let ys = each +1 (vars ws (past ws 0)) in
-    let m : size-at.result ≡ size ws (past ws 0) = size-at.ensures ∙ ap (size ws) past-at.ensures in
-    let h = rw (m, size-at2.ensures) at lay-head.ensures in
-    let u = rw past-at.ensures at lay-each2.ensures in
-    let k = rw (read one_less.type_inv one_less.ensures, m, ← length-vars ws (past ws 0)) at lay-constant.ensures in
+    let xs = each -1 (vars c.args.args.now 0) in
+    let ys = each +1 (vars c.args.args.now (past c.args.args.now 0)) in
+    let m : c.size_at-m.result ≡ size c.args.args.now (past c.args.args.now 0) = c.size_at-m.ensures ∙ ap (size c.args.args.now) c.past_at-second.ensures in
+    let h = rw (m, c.size_at.ensures) at c.lay_head-begun.ensures in
+    let u = rw c.past_at-second.ensures at c.lay_each-u.ensures in
+    let k = rw (read c.one_less.type_inv c.one_less.ensures, m, ← length-vars c.args.args.now (past c.args.args.now 0)) at c.lay_constant.ensures in
     record {
-      parts = λ first β. went_as (one-row first _) (row-went first (xs ++ ys) (simp (length-append, each-length, length-vars)) (terms-append first xs ys ∙ rw (each-parts first -1 ws 0, each-parts first +1 ws (past ws 0))) h.0 (went_then lay-each.ensures.0 u.0) k.0);
-      size = omega (arith, h.1, lay-each.ensures.1, u.1, k.1);
+      parts = λ first β. went_as (one-row first _) (row-went first (xs ++ ys) (simp (length-append, each-length, length-vars)) (terms-append first xs ys ∙ rw (each-parts first -1 c.args.args.now 0, each-parts first +1 c.args.args.now (past c.args.args.now 0))) h.0 (went_then c.lay_each-t.ensures.0 u.0) k.0);
+      size = omega (arith, h.1, c.lay_each-t.ensures.1, u.1, k.1);
     }
 
 pub one_less-requires : goal.one_less-requires

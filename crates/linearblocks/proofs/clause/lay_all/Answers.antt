@@ -18,19 +18,12 @@ use Rattle.linearblocks.proofs.clause.lay_all.Goals as goal
 pub returns : goal.returns
 unfolding row_parts numbered
 returns c =
-    let size-at = c.size_at-n in
-    let lay-head = c.lay_head-begun in
-    let lay-each = c.lay_each-t in
-    let lay-term = c.lay_term-u in
-    let one_less = c.one_less in
-    let lay-constant = c.lay_constant in
-    let ws = c.args.args.now in
-    let ts = each +1 (vars ws 0) in
+    let ts = each +1 (vars c.args.args.now 0) in
     let t = -1 · source c.args.r in
-    let k = rw (read one_less.type_inv one_less.ensures, size-at.ensures, ← length-vars ws 0) at lay-constant.ensures in
+    let k = rw (read c.one_less.type_inv c.one_less.ensures, c.size_at-n.ensures, ← length-vars c.args.args.now 0) at c.lay_constant.ensures in
     record {
-      parts = λ first. row-went first (ts ++ (t ∷ [])) (simp (length-append, each-length, length-vars)) (last-term first ts t (each-parts first +1 ws 0)) (rw size-at.ensures at lay-head.ensures.0) (went_then lay-each.ensures.0 lay-term.ensures.0) k.0;
-      size = omega (arith, lay-head.ensures.1, lay-each.ensures.1, lay-term.ensures.1, k.1);
+      parts = λ first. row-went first (ts ++ (t ∷ [])) (simp (length-append, each-length, length-vars)) (last-term first ts t (each-parts first +1 c.args.args.now 0)) (rw c.size_at-n.ensures at c.lay_head-begun.ensures.0) (went_then c.lay_each-t.ensures.0 c.lay_term-u.ensures.0) k.0;
+      size = omega (arith, c.lay_head-begun.ensures.1, c.lay_each-t.ensures.1, c.lay_term-u.ensures.1, k.1);
     }
 
 pub overflow_add-n : goal.overflow_add-n

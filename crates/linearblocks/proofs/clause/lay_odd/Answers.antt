@@ -19,15 +19,8 @@ use Rattle.linearblocks.proofs.clause.lay_odd.Goals as goal
 pub returns : goal.returns
 unfolding row_parts numbered
 returns c =
-    let size-at = c.size_at in
-    let lay-head = c.lay_head-begun in
-    let lay-each = c.lay_each-t in
-    let lay-term = c.lay_term-u in
-    let lay-constant = c.lay_constant in
-    let ws = c.args.args.now in
-    let first = c.args.first in
-    let ts = each +1 (vars ws 0) in
-    (row-went first (ts ++ (-2 · aux 0 ∷ [])) (simp (length-append, each-length, length-vars)) (last-term first ts (-2 · aux 0) (each-parts first +1 ws 0)) (rw size-at.ensures at lay-head.ensures.0) (went_then lay-each.ensures.0 (rw (add-zero first) lay-term.ensures.0)) lay-constant.ensures.0, omega (arith, lay-head.ensures.1, lay-each.ensures.1, lay-term.ensures.1, lay-constant.ensures.1))
+    let ts = each +1 (vars c.args.args.now 0) in
+    (row-went c.args.first (ts ++ (-2 · aux 0 ∷ [])) (simp (length-append, each-length, length-vars)) (last-term c.args.first ts (-2 · aux 0) (each-parts c.args.first +1 c.args.args.now 0)) (rw c.size_at.ensures at c.lay_head-begun.ensures.0) (went_then c.lay_each-t.ensures.0 (rw (add-zero c.args.first) c.lay_term-u.ensures.0)) c.lay_constant.ensures.0, omega (arith, c.lay_head-begun.ensures.1, c.lay_each-t.ensures.1, c.lay_term-u.ensures.1, c.lay_constant.ensures.1))
 
 pub overflow_add-size_at : goal.overflow_add-size_at
 overflow_add-size_at c = rw c.size_at.ensures (omega (arith, size-le c.args.args.now 0))

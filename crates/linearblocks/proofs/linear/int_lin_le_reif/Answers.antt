@@ -16,19 +16,10 @@ pub overflow_add-past_terms_at : goal.overflow_add-past_terms_at
 unfolding past past_terms
 overflow_add-past_terms_at c = rw c.past_terms_at.ensures (omega (arith, size-le c.args.args.now 0))
 
-pub lay_at_most-requires : goal.lay_at_most-requires
-lay_at_most-requires c =
-    let lay-bounded-sum = c.lay_bounded_sum-t in
-    let a = c.args in rw (back a.sum.lower (search rules), back a.sum.upper (search rules)) (omega (arith, lay-bounded-sum.ensures.1), c.requires.1, c.requires.2.0, c.requires.2.1)
-
 pub returns : goal.returns
 unfolding rule lin_less_equal_reified linked bounded_sum link at_most_rows linear_sum
 returns c =
-    let past-terms-at = c.past_terms_at in
-    let var-at = c.var_at-r in
-    let lay-bounded-sum = c.lay_bounded_sum-t in
-    let lay-at-most = c.lay_at_most in
-    let a = c.args in (record {
-      parts = λ β e. let l = back a.sum.lower (search rules) ∙ ap (λ (S : Bounds). S.lower) e in let u = back a.sum.upper (search rules) ∙ ap (λ (S : Bounds). S.upper) e in rows_then a.first _ _ (rw (l, u) at lay-bounded-sum.ensures.0) (rw (l, u, var-at.ensures, past-terms-at.ensures) at lay-at-most.ensures.0);
-      size = omega (arith, lay-bounded-sum.ensures.1, lay-at-most.ensures.1);
+    (record {
+      parts = λ β e. let l = back c.args.sum.lower (search rules) ∙ ap (λ (S : Bounds). S.lower) e in let u = back c.args.sum.upper (search rules) ∙ ap (λ (S : Bounds). S.upper) e in rows_then c.args.first _ _ (rw (l, u) at c.lay_bounded_sum-t.ensures.0) (rw (l, u, c.var_at-r.ensures, c.past_terms_at.ensures) at c.lay_at_most.ensures.0);
+      size = omega (arith, c.lay_bounded_sum-t.ensures.1, c.lay_at_most.ensures.1);
     })

@@ -13,8 +13,6 @@ use Rattle.linearblocks.proofs.linear.lay_size.Goals as goal
 pub returns : goal.returns
 unfolding size_rows flat_map row_parts term_parts numbered row_parts_of many
 returns c =
-    let lay-row = c.lay_row-t in
-    let lay-row2 = c.lay_row in
-    let d = rw (to_z-of_z c.ranges.p, to_z-of_z c.ranges.q) at lay-row.ensures in
-    let e = rw (to_z-of_z c.ranges.u, to_z-of_z c.ranges.v) at lay-row2.ensures in
+    let d = rw (to_z-of_z c.ranges.p, to_z-of_z c.ranges.q) at c.lay_row-t.ensures in
+    let e = rw (to_z-of_z c.ranges.u, to_z-of_z c.ranges.v) at c.lay_row.ensures in
     (rw (add-zero c.args.first) (went_then d.0 e.0), omega (arith, d.1, e.1))

@@ -9,14 +9,9 @@ use Rattle.linearblocks.proofs.linear.lay_zero.Goals as goal
 pub returns-then-equal : goal.returns-then-equal
 unfolding zero_rows size_rows
 returns-then-equal c =
-    let opposite = c.opposite-less in
-    rw c.if-equal.true (rw (read opposite.type_inv opposite.ensures, to_z-of_z c.ranges.w) at c.lay_size.ensures)
+    rw c.if-equal.true (rw (read c.opposite-less.type_inv c.opposite-less.ensures, to_z-of_z c.ranges.w) at c.lay_size.ensures)
 
 pub returns : goal.returns
 unfolding zero_rows size_rows
 returns c =
-    let opposite = c.opposite-less in
-    rw c.if-equal.false (rw (read opposite.type_inv opposite.ensures, to_z-of_z c.ranges.w) at c.lay_size-2.ensures)
-
-pub opposite-less-requires : goal.opposite-less-requires
-opposite-less-requires c = rw (to_z-of_z c.ranges.w) (omega (arith, c.requires.2))
+    rw c.if-equal.false (rw (read c.opposite-less.type_inv c.opposite-less.ensures, to_z-of_z c.ranges.w) at c.lay_size-2.ensures)

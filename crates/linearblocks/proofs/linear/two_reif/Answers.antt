@@ -10,14 +10,8 @@ use Rattle.linearblocks.proofs.linear.two_reif.Goals as goal
 pub returns : goal.returns
 unfolding var
 returns c =
-    let word_at-call = c.word_at-a in
-    let word-at2 = c.word_at-b in
-    let word-at3 = c.word_at-r in
-    let zero-reif = c.zero_reif in
-    let a = c.args in
-    let ws = a.args.now in
-    let w = rw (word_at-call.ensures, word-at2.ensures, word-at3.ensures) at zero-reif.ensures in
+    let w = rw (c.word_at-a.ensures, c.word_at-b.ensures, c.word_at-r.ensures) at c.zero_reif.ensures in
     record {
-      parts = λ β e. went_as (ap (block_parts a.first) (two-terms β a.equal (word_at ws 0) (word_at ws 1) (word_at ws 2))) (w.parts β (e ∙ two-sum β ws (word_at ws 2)));
+      parts = λ β e. went_as (ap (block_parts c.args.first) (two-terms β c.args.equal (word_at c.args.args.now 0) (word_at c.args.args.now 1) (word_at c.args.args.now 2))) (w.parts β (e ∙ two-sum β c.args.args.now (word_at c.args.args.now 2)));
       size = w.size;
     }

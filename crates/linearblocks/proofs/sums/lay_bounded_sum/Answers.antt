@@ -10,7 +10,5 @@ use Rattle.linearblocks.proofs.sums.lay_bounded_sum.Goals as goal
 pub returns : goal.returns
 unfolding block_parts bound_parts flat_map bounded_sum
 returns c =
-    let lay-bound = c.lay_bound-t in
-    let lay-link = c.lay_link in
-    let d = rw (to_z-of_z c.ranges.lower, to_z-of_z c.ranges.upper) at lay-bound.ensures in
-    (rw (append-nil (row_parts c.args.first (link c.args.args.now))) (went_then d.0 lay-link.ensures.0), omega (arith, d.1, lay-link.ensures.1))
+    let d = rw (to_z-of_z c.ranges.lower, to_z-of_z c.ranges.upper) at c.lay_bound-t.ensures in
+    (rw (append-nil (row_parts c.args.first (link c.args.args.now))) (went_then d.0 c.lay_link.ensures.0), omega (arith, d.1, c.lay_link.ensures.1))

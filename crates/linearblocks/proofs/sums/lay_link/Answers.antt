@@ -20,14 +20,7 @@ use Rattle.linearblocks.proofs.sums.lay_link.Goals as goal
 pub returns : goal.returns
 unfolding row_parts link numbered
 returns c =
-    let size-at = c.size_at in
-    let lay-head = c.lay_head-begun in
-    let lay-terms = c.lay_terms-t in
-    let lay-term = c.lay_term-u in
-    let lay-minus-constant = c.lay_minus_constant in
-    let ws = c.args.args.now in
-    let first = c.args.first in
-    (row-went first (sources (terms ws 0) ++ (-1 · aux 0 ∷ [])) (simp (length-append, sources-length, length-terms)) (last-term first (sources (terms ws 0)) (-1 · aux 0) (terms-parts first ws 0)) (rw size-at.ensures at lay-head.ensures.0) (went_then lay-terms.ensures.0 (rw (add-zero first) lay-term.ensures.0)) lay-minus-constant.ensures.0, omega (arith, lay-head.ensures.1, lay-terms.ensures.1, lay-term.ensures.1, lay-minus-constant.ensures.1))
+    (row-went c.args.first (sources (terms c.args.args.now 0) ++ (-1 · aux 0 ∷ [])) (simp (length-append, sources-length, length-terms)) (last-term c.args.first (sources (terms c.args.args.now 0)) (-1 · aux 0) (terms-parts c.args.first c.args.args.now 0)) (rw c.size_at.ensures at c.lay_head-begun.ensures.0) (went_then c.lay_terms-t.ensures.0 (rw (add-zero c.args.first) c.lay_term-u.ensures.0)) c.lay_minus_constant.ensures.0, omega (arith, c.lay_head-begun.ensures.1, c.lay_terms-t.ensures.1, c.lay_term-u.ensures.1, c.lay_minus_constant.ensures.1))
 
 pub overflow_add-size_at : goal.overflow_add-size_at
 overflow_add-size_at c = rw c.size_at.ensures (omega (arith, size-le c.args.args.now 0))

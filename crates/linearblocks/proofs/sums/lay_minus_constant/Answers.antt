@@ -7,10 +7,3 @@ use Rattle.linearblocks.proofs.sums.lay_minus_constant.Goals as goal
 pub opposite-requires : goal.opposite-requires
 opposite-requires c =
     rw (read c.constant_of.type_inv c.constant_of.ensures) (omega (arith, num-size c.args.args.now (past_terms c.args.args.now 0)))
-
-pub returns : goal.returns
-returns c =
-    let constant_of = c.constant_of in
-    let opposite = c.opposite in
-    let lay-constant = c.lay_constant in
-    rw (read opposite.type_inv opposite.ensures, read constant_of.type_inv constant_of.ensures) at lay-constant.ensures

@@ -10,12 +10,7 @@ use Rattle.linearblocks.proofs.sums.lay_sum.Goals as goal
 
 pub returns : goal.returns
 returns c =
-    let size-at = c.size_at in
-    let lay-head = c.lay_head-begun in
-    let lay-terms = c.lay_terms-t in
-    let lay-minus-constant = c.lay_minus_constant in
-    let ws = c.args.args.now in
     record {
-      parts = λ first. row-went first (sources (terms ws 0)) (sources-length (terms ws 0) ∙ length-terms ws 0) (terms-parts first ws 0) (rw size-at.ensures at lay-head.ensures.0) lay-terms.ensures.0 lay-minus-constant.ensures.0;
-      size = omega (arith, lay-head.ensures.1, lay-terms.ensures.1, lay-minus-constant.ensures.1);
+      parts = λ first. row-went first (sources (terms c.args.args.now 0)) (sources-length (terms c.args.args.now 0) ∙ length-terms c.args.args.now 0) (terms-parts first c.args.args.now 0) (rw c.size_at.ensures at c.lay_head-begun.ensures.0) c.lay_terms-t.ensures.0 c.lay_minus_constant.ensures.0;
+      size = omega (arith, c.lay_head-begun.ensures.1, c.lay_terms-t.ensures.1, c.lay_minus_constant.ensures.1);
     }

@@ -12,5 +12,4 @@ loop-k-init c = (search rules, refl)
 pub loop-k-preserved : goal.loop-k-preserved
 unfolding word_at
 loop-k-preserved c =
-    let loop = c.loop-k in
-    (search rules, c.both-so_far.ensures ∙ rw (all_more, loop.invariant.1, c.is_number.ensures))
+    (search rules, c.both-so_far.ensures ∙ rw (all_more, c.loop-k.invariant.1, c.is_number.ensures))

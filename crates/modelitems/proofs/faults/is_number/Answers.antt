@@ -18,5 +18,4 @@ no-fault false false = refl
 pub returns : goal.returns
 unfolding is_number fault_number_in
 returns c =
-    let w = c.args.w in
-    c.both.ensures ∙ rw (c.kind_of.ensures, c.is_lowest.ensures) (no-fault (eqb (kind w) 6) (too_low Limit.range w))
+    c.both.ensures ∙ rw (c.kind_of.ensures, c.is_lowest.ensures) (no-fault (eqb (kind c.args.w) 6) (too_low Limit.range c.args.w))

@@ -10,28 +10,17 @@ returns-then-c-ge-CONSTRAINTS c = rw (← c.kind_of-k.ensures, eq-eqb _ _ c.if-k
 pub returns-then-p-eq0 : goal.returns-then-p-eq0
 unfolding fault_head
 returns-then-p-eq0 c =
-    let kind-of = c.kind_of-k in
-    let if1 = c.if-k-eq-CONSTRAINT in
-    let if2 = c.if-c-ge-CONSTRAINTS in
-    rw (← kind-of.ensures, eq-eqb _ _ if1.true, lt-leb _ _ if2.false, ← c.payload_of-p.ensures, eq-eqb _ _ c.if-p-eq0.true)
+    rw (← c.kind_of-k.ensures, eq-eqb _ _ c.if-k-eq-CONSTRAINT.true, lt-leb _ _ c.if-c-ge-CONSTRAINTS.false, ← c.payload_of-p.ensures, eq-eqb _ _ c.if-p-eq0.true)
 
 pub returns-then-p-gt-LAST_CODE : goal.returns-then-p-gt-LAST_CODE
 unfolding fault_head
 returns-then-p-gt-LAST_CODE c =
-    let kind-of = c.kind_of-k in
-    let if1 = c.if-k-eq-CONSTRAINT in
-    let if2 = c.if-c-ge-CONSTRAINTS in
-    let payload-of = c.payload_of-p in
-    rw (← kind-of.ensures, eq-eqb _ _ if1.true, lt-leb _ _ if2.false, ← payload-of.ensures, ne_eqb _ _ c.if-p-eq0.false, lt-ltb _ _ c.if-p-gt-LAST_CODE.true)
+    rw (← c.kind_of-k.ensures, eq-eqb _ _ c.if-k-eq-CONSTRAINT.true, lt-leb _ _ c.if-c-ge-CONSTRAINTS.false, ← c.payload_of-p.ensures, ne_eqb _ _ c.if-p-eq0.false, lt-ltb _ _ c.if-p-gt-LAST_CODE.true)
 
 pub returns-then-k-eq-CONSTRAINT : goal.returns-then-k-eq-CONSTRAINT
 unfolding fault_head
 returns-then-k-eq-CONSTRAINT c =
-    let kind-of = c.kind_of-k in
-    let if1 = c.if-k-eq-CONSTRAINT in
-    let if2 = c.if-c-ge-CONSTRAINTS in
-    let payload-of = c.payload_of-p in
-    rw (← kind-of.ensures, eq-eqb _ _ if1.true, lt-leb _ _ if2.false, ← payload-of.ensures, ne_eqb _ _ c.if-p-eq0.false, le-ltb _ _ c.if-p-gt-LAST_CODE.false)
+    rw (← c.kind_of-k.ensures, eq-eqb _ _ c.if-k-eq-CONSTRAINT.true, lt-leb _ _ c.if-c-ge-CONSTRAINTS.false, ← c.payload_of-p.ensures, ne_eqb _ _ c.if-p-eq0.false, le-ltb _ _ c.if-p-gt-LAST_CODE.false)
 
 pub returns-then-k-eq-MODEL_END : goal.returns-then-k-eq-MODEL_END
 unfolding fault_head

@@ -15,8 +15,7 @@ returns-then-kind_of-ne-VARIABLE c = rw (← c.kind_of.ensures, ne_eqb _ _ c.if-
 pub returns-then-v-x : goal.returns-then-v-x
 unfolding fault_variable
 returns-then-v-x c =
-    let x = c.payload_of-x.result in
-    let e : get_or (take c.args.v c.args.types.now) x 0 ≡ 0 = get_or-eq_default (take c.args.v c.args.types.now) 0 {n = x} (simp length-take (omega (arith, c.if-v-x.true))) in
+    let e : get_or (take c.args.v c.args.types.now) c.payload_of-x.result 0 ≡ 0 = get_or-eq_default (take c.args.v c.args.types.now) 0 {n = c.payload_of-x.result} (simp length-take (omega (arith, c.if-v-x.true))) in
     rw (← c.kind_of.ensures, eq-eqb _ _ c.if-kind_of-ne-VARIABLE.false, ← c.payload_of-x.ensures, e, ne_eqb 0 c.args.wanted (λ z. omega (arith, c.requires.1)))
 
 -- the type of a declared variable

@@ -17,10 +17,8 @@ first-none c =
 
 pub returns-then-first-ne-NONE : goal.returns-then-first-ne-NONE
 returns-then-first-ne-NONE c d e n =
-    let f = c.of_start in
-    let g = c.step_over-first.ensures in
-    let z : f.result ≡ 0 → ⊥ = λ q. c.if-first-ne-NONE.true (ap (λ (r : Step). r.number) (g ∙ over_none f.result c.args.at q) ∙ q) in
-    rw (g ∙ over-fault f.result c.args.at z) (refused-first c.args.ws.now c.args.v c.args.at d (rw c.requires.1 at e) n f.result (rw c.requires.1 at f.ensures) z)
+    let z : c.of_start.result ≡ 0 → ⊥ = λ q. c.if-first-ne-NONE.true (ap (λ (r : Step). r.number) (c.step_over-first.ensures ∙ over_none c.of_start.result c.args.at q) ∙ q) in
+    rw (c.step_over-first.ensures ∙ over-fault c.of_start.result c.args.at z) (refused-first c.args.ws.now c.args.v c.args.at d (rw c.requires.1 at e) n c.of_start.result (rw c.requires.1 at c.of_start.ensures) z)
 
 pub returns-then-kind_of-eq-LOWER : goal.returns-then-kind_of-eq-LOWER
 returns-then-kind_of-eq-LOWER c d e n =

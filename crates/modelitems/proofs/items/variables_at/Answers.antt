@@ -21,12 +21,9 @@ turn : (c : After-of_variable-number) {r : Step} → step_over c.of_variable-num
     VariablesRead a.ws.now (take a.v a.types.now) a.wanted a.n a.at (a.at + a.n - (c.loop-place.place + 1)) r
 unfolding word_at
 turn c e =
-    let a = c.args in
-    let p = c.loop-place in
-    let i = p.invariant in
-    let l : p.place < a.at + a.n = omega (arith, c.loop-place-test.true, c.end_of-end.ensures.most) in
-    let q : a.at + a.n - p.place - 1 ≡ a.at + a.n - (p.place + 1) = omega arith in
-    rw (← e, ← q) (more-variables (omega arith) i.2 c.of_variable-number.result c.of_variable-number.ensures)
+    let l : c.loop-place.place < c.args.at + c.args.n = omega (arith, c.loop-place-test.true, c.end_of-end.ensures.most) in
+    let q : c.args.at + c.args.n - c.loop-place.place - 1 ≡ c.args.at + c.args.n - (c.loop-place.place + 1) = omega arith in
+    rw (← e, ← q) (more-variables (omega arith) c.loop-place.invariant.2 c.of_variable-number.result c.of_variable-number.ensures)
 
 pub returns-then-number-ne-NONE : goal.returns-then-number-ne-NONE
 returns-then-number-ne-NONE c d code k = or-halted (turn (goal.at.returns-then-number-ne-NONE c).After-of_variable-number (over-fault _ _ c.if-number-ne-NONE.true) d code k) c.if-number-ne-NONE.true
@@ -36,13 +33,10 @@ loop-place-preserved c = (omega (arith, c.loop-place.invariant.0), omega (arith,
 
 pub returns-then-place-at : goal.returns-then-place-at
 returns-then-place-at c =
-    let p = c.loop-place in
-    let e = c.end_of-end.ensures in
-    let q : c.end_of-end.result ≡ p.place = omega (arith, p.invariant.1, c.loop-place-test.false) in
-    no-variable (omega arith) p.invariant.2 (rw q at (e.all (rw q c.if-place-at.true)))
+    let q : c.end_of-end.result ≡ c.loop-place.place = omega (arith, c.loop-place.invariant.1, c.loop-place-test.false) in
+    no-variable (omega arith) c.loop-place.invariant.2 (rw q at (c.end_of-end.ensures.all (rw q c.if-place-at.true)))
 
 pub returns : goal.returns
 returns c =
-    let p = c.loop-place in
-    let z : c.args.at + c.args.n - p.place ≡ 0 = omega (arith, c.if-place-at.false) in
-    rw z at p.invariant.2
+    let z : c.args.at + c.args.n - c.loop-place.place ≡ 0 = omega (arith, c.if-place-at.false) in
+    rw z at c.loop-place.invariant.2

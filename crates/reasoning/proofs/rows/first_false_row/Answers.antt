@@ -8,11 +8,6 @@ use Rattle.rowjudge.specs.Judging.{judged_on}
 use Rattle.reasoning.proofs.rows.first_false_row.Goals.{After-judge_on-judged}
 use Rattle.reasoning.proofs.rows.first_false_row.Goals as goal
 
-pub judge_on-judged-requires : goal.judge_on-judged-requires
-judge_on-judged-requires c =
-    let p = c.requires in
-    (p.0, p.1, p.4, p.5)
-
 -- nothing is refused
 accepts : (c : After-judge_on-judged) → c.judge_on-judged.result.refusal.number ≡ 0
 unfolding start_due
@@ -21,5 +16,4 @@ accepts c = ap (λ (r : Refusal). r.number) (c.judge_on-judged.ensures.reads ∙
 pub returns : goal.returns
 unfolding judged_on first_out_of_bounds
 returns c =
-    let p = c.requires in
-    c.judge_on-judged.ensures.says (accepts c) (omega (arith, rw p.3 at (c.judge_on-judged.ensures.counts (accepts c)), p.1.0)) ∙ rw p.3
+    c.judge_on-judged.ensures.says (accepts c) (omega (arith, rw c.requires.3 at (c.judge_on-judged.ensures.counts (accepts c)), c.requires.1.0)) ∙ rw c.requires.3

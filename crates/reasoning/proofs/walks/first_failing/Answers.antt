@@ -16,9 +16,6 @@ use Rattle.reasoning.proofs.walks.first_failing.Goals as goal
 stops : (c : Else-is_holds) → c.walk-stopped.result.constraint < c.args.read.constraints
 stops c = omega (arith, c.walk-stopped.ensures.within (sym c.is_holds.ensures ∙ c.if-is_holds.false), c.requires.0.model.seen.heads.counted)
 
-pub bounds-heads-k : goal.bounds-heads-k
-bounds-heads-k c = omega (arith, stops (goal.at.bounds-heads-k c).Else-is_holds, few-constraints c.requires.0.model)
-
 inside : (c : Else-is_holds) → get_or c.args.heads.now c.walk-stopped.result.constraint 0 < length c.args.ws.now
 inside c = head-inside c.requires.0.model c.walk-stopped.result.constraint (stops c)
 
@@ -26,19 +23,12 @@ pub returns-then-is_holds : goal.returns-then-is_holds
 unfolding told
 returns-then-is_holds c = c.walk-stopped.ensures.none_fails refl _ (sym c.is_holds.ensures ∙ c.if-is_holds.true)
 
-pub holds-holds-requires : goal.holds-holds-requires
-holds-holds-requires c = sources-small c.requires.0 c.requires.1
-
 pub returns : goal.returns
 unfolding word_at builtin told
 returns c =
-    let k = c.walk-stopped.result.constraint in
     c.because.ensures
-    ∙ rw (c.holds-holds.ensures, c.payload_of-code.ensures, tail-is c.args.ws.now (get_or c.args.heads.now k 0 + 1), ← c.requires.0.model.seen.variables_counted)
-    (c.walk-stopped.ensures.one_fails refl _ (headed c.args.ws.now (get_or c.args.heads.now k 0)) (sym c.is_holds.ensures ∙ c.if-is_holds.false) (head_at c.requires.0.model k (stops (goal.at.returns c).Else-is_holds)))
-
-pub offset_bounds-heads-k : goal.offset_bounds-heads-k
-offset_bounds-heads-k c = record { fits = omega (arith, stops (goal.at.offset_bounds-heads-k c).Else-is_holds, few-constraints c.requires.0.model) }
+    ∙ rw (c.holds-holds.ensures, c.payload_of-code.ensures, tail-is c.args.ws.now (get_or c.args.heads.now c.walk-stopped.result.constraint 0 + 1), ← c.requires.0.model.seen.variables_counted)
+    (c.walk-stopped.ensures.one_fails refl _ (headed c.args.ws.now (get_or c.args.heads.now c.walk-stopped.result.constraint 0)) (sym c.is_holds.ensures ∙ c.if-is_holds.false) (head_at c.requires.0.model c.walk-stopped.result.constraint (stops (goal.at.returns c).Else-is_holds)))
 
 pub offset_bounds-ws-place : goal.offset_bounds-ws-place
 offset_bounds-ws-place c = let h = inside (goal.at.offset_bounds-ws-place c).Else-is_holds in search rules
@@ -57,6 +47,3 @@ slice_bounds-holds-count c = let h = inside (goal.at.slice_bounds-holds-count c)
 
 pub slice_bounds-holds-start : goal.slice_bounds-holds-start
 slice_bounds-holds-start c = omega (arith, inside (goal.at.slice_bounds-holds-start c).Else-is_holds)
-
-pub slice_bounds-holds-end-2 : goal.slice_bounds-holds-end-2
-slice_bounds-holds-end-2 c = sources-length c.requires.0

@@ -16,41 +16,30 @@ use borrow.Author.Rules.{rules}
 use Rattle.reasoning.proofs.walks.walk.Goals.{In-loop-k}
 use Rattle.reasoning.proofs.walks.walk.Goals as goal
 
-pub bounds-heads-k : goal.bounds-heads-k
-bounds-heads-k c = omega (arith, c.loop-k-test.true, few-constraints c.requires.0.model)
-
-inside : (c : In-loop-k) → let a = c.args in get_or a.heads.now c.loop-k.k 0 < length a.ws.now
+inside : (c : In-loop-k) → get_or c.args.heads.now c.loop-k.k 0 < length c.args.ws.now
 inside c = head-inside c.requires.0.model c.loop-k.k c.loop-k-test.true
 
 pub judge_block-found-requires : goal.judge_block-found-requires
 unfolding word_at block_of builtin choice
 judge_block-found-requires c =
-    let l = c.loop-k in
-    let t = c.loop-k-test in
-    rw (c.payload_of-code.ensures, tail-is c.args.ws.now (get_or c.args.heads.now l.k 0 + 1), c.sum_at-sum.ensures)
-    (record { layable = layable c.requires.0 l.invariant.0.walk t.true; room = omega (arith, l.invariant.1); there = own-there l.invariant.0.there (head_at c.requires.0.model l.k t.true); small = c.requires.1 }, omega (arith, l.invariant.0.small, few-constraints c.requires.0.model))
+    rw (c.payload_of-code.ensures, tail-is c.args.ws.now (get_or c.args.heads.now c.loop-k.k 0 + 1), c.sum_at-sum.ensures)
+    (record { layable = layable c.requires.0 c.loop-k.invariant.0.walk c.loop-k-test.true; room = omega (arith, c.loop-k.invariant.1); there = own-there c.loop-k.invariant.0.there (head_at c.requires.0.model c.loop-k.k c.loop-k-test.true); small = c.requires.1 }, omega (arith, c.loop-k.invariant.0.small, few-constraints c.requires.0.model))
 
 pub returns-then-not-is_holds : goal.returns-then-not-is_holds
 unfolding word_at block_of builtin choice
 returns-then-not-is_holds c =
-    let l = c.loop-k in
-    walk-stopped l.invariant.0 (head_at c.requires.0.model l.k c.loop-k-test.true) (rw (c.payload_of-code.ensures, tail-is c.args.ws.now (get_or c.args.heads.now l.k 0 + 1)) at c.judge_block-found.ensures) (omega (arith, c.loop-k-test.true, c.requires.0.model.seen.heads.counted)) (sym c.is_holds.ensures ∙ c.if-not-is_holds.true)
+    walk-stopped c.loop-k.invariant.0 (head_at c.requires.0.model c.loop-k.k c.loop-k-test.true) (rw (c.payload_of-code.ensures, tail-is c.args.ws.now (get_or c.args.heads.now c.loop-k.k 0 + 1)) at c.judge_block-found.ensures) (omega (arith, c.loop-k-test.true, c.requires.0.model.seen.heads.counted)) (sym c.is_holds.ensures ∙ c.if-not-is_holds.true)
 
 pub overflow_add-first : goal.overflow_add-first
 unfolding word_at block_of builtin choice
 overflow_add-first c =
-    let l = c.loop-k in
-    let o = (rw (c.payload_of-code.ensures, tail-is c.args.ws.now (get_or c.args.heads.now l.k 0 + 1)) at c.judge_block-found.ensures) in
-    omega (arith, room_after_lem c.requires.0 l.invariant.0.walk c.loop-k-test.true, o.auxiliaries)
-
-pub overflow_add-rows : goal.overflow_add-rows
-overflow_add-rows c = omega (arith, c.loop-k.invariant.0.small, few-constraints c.requires.0.model, c.judge_block-found.ensures.few)
+    let o = (rw (c.payload_of-code.ensures, tail-is c.args.ws.now (get_or c.args.heads.now c.loop-k.k 0 + 1)) at c.judge_block-found.ensures) in
+    omega (arith, room_after_lem c.requires.0 c.loop-k.invariant.0.walk c.loop-k-test.true, o.auxiliaries)
 
 pub loop-k-preserved : goal.loop-k-preserved
 unfolding word_at block_of builtin choice
 loop-k-preserved c =
-    let l = c.loop-k in
-    (walk-on l.invariant.0 (head_at c.requires.0.model l.k c.loop-k-test.true) (rw (c.payload_of-code.ensures, tail-is c.args.ws.now (get_or c.args.heads.now l.k 0 + 1)) at c.judge_block-found.ensures) (sym c.is_holds.ensures ∙ c.if-not-is_holds.false) (placed_record (shared_by c.args.uses.now) l.first l.encoded (headed c.args.ws.now (get_or c.args.heads.now l.k 0)) (rw (c.payload_of-code.ensures, tail-is c.args.ws.now (get_or c.args.heads.now l.k 0 + 1)) at c.record_encoding.ensures)), (search rules))
+    (walk-on c.loop-k.invariant.0 (head_at c.requires.0.model c.loop-k.k c.loop-k-test.true) (rw (c.payload_of-code.ensures, tail-is c.args.ws.now (get_or c.args.heads.now c.loop-k.k 0 + 1)) at c.judge_block-found.ensures) (sym c.is_holds.ensures ∙ c.if-not-is_holds.false) (placed_record (shared_by c.args.uses.now) c.loop-k.first c.loop-k.encoded (headed c.args.ws.now (get_or c.args.heads.now c.loop-k.k 0)) (rw (c.payload_of-code.ensures, tail-is c.args.ws.now (get_or c.args.heads.now c.loop-k.k 0 + 1)) at c.record_encoding.ensures)), (search rules))
 
 pub returns : goal.returns
 unfolding verdict
@@ -59,17 +48,11 @@ returns c = walk-ended c.loop-k.invariant.0 (none_left c.requires.0.model c.loop
 pub loop-k-init : goal.loop-k-init
 loop-k-init c = (walking c.requires.0, length-replicate {A = ℕ} 3072 0)
 
-pub offset_bounds-heads-k : goal.offset_bounds-heads-k
-offset_bounds-heads-k c = record { fits = omega (arith, few-constraints c.requires.0.model) }
-
 pub offset_bounds-ws-place : goal.offset_bounds-ws-place
 offset_bounds-ws-place c = let h = inside (goal.at.offset_bounds-ws-place c).In-loop-k in search rules
 
 pub bounds-ws-place : goal.bounds-ws-place
 bounds-ws-place c = inside (goal.at.bounds-ws-place c).In-loop-k
-
-pub slice_bounds-judge_block-end : goal.slice_bounds-judge_block-end
-slice_bounds-judge_block-end c = sym c.loop-k.invariant.1
 
 pub overflow_add-place : goal.overflow_add-place
 overflow_add-place c = let h = inside (goal.at.overflow_add-place c).In-loop-k in search rules
@@ -83,12 +66,6 @@ slice_bounds-judge_block-count c = let h = inside (goal.at.slice_bounds-judge_bl
 pub slice_bounds-judge_block-start : goal.slice_bounds-judge_block-start
 slice_bounds-judge_block-start c = omega (arith, inside (goal.at.slice_bounds-judge_block-start c).In-loop-k)
 
-pub slice_bounds-judge_block-end-in-loop-k-2 : goal.slice_bounds-judge_block-end-in-loop-k-2
-slice_bounds-judge_block-end-in-loop-k-2 c = sym c.loop-k.invariant.0.walk.many
-
-pub slice_bounds-record_encoding-end : goal.slice_bounds-record_encoding-end
-slice_bounds-record_encoding-end c = sym c.loop-k.invariant.0.walk.many
-
 pub overflow_add-place-in-loop-k : goal.overflow_add-place-in-loop-k
 overflow_add-place-in-loop-k c = let h = inside (goal.at.overflow_add-place-in-loop-k c).In-loop-k in search rules
 
@@ -100,6 +77,3 @@ slice_bounds-record_encoding-count c = let h = inside (goal.at.slice_bounds-reco
 
 pub slice_bounds-record_encoding-start : goal.slice_bounds-record_encoding-start
 slice_bounds-record_encoding-start c = omega (arith, inside (goal.at.slice_bounds-record_encoding-start c).In-loop-k)
-
-pub overflow_add-k : goal.overflow_add-k
-overflow_add-k c = omega (arith, few-constraints c.requires.0.model)

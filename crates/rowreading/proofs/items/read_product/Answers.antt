@@ -11,22 +11,17 @@ use Rattle.rowreading.proofs.items.read_product.Goals as goal
 -- the result read, and the first factor after it
 result : (c : After-step_over-result) → StepsTo c.args.ws.now c.args.n Result c.args.at FirstFactor c.step_over-result.result
 result c =
-    let word_at = c.word_at in
-    let word-at2 = c.word_at-2 in
-    let word-at3 = c.word_at-3 in
-    rw (c.step_over-result.ensures, c.fault_result.ensures, word_at.ensures, word-at2.ensures, word-at3.ensures) (product-result c.args.ws.now c.args.n c.args.at c.requires.within)
+    rw (c.step_over-result.ensures, c.fault_result.ensures, c.word_at.ensures, c.word_at-2.ensures, c.word_at-3.ensures) (product-result c.args.ws.now c.args.n c.args.at c.requires.within)
 
 first : (c : After-variable_at-first) → StepsTo c.args.ws.now c.args.n Result c.args.at SecondFactor c.variable_at-first.result
 first c =
-    let step-over = c.step_over-result in
-    let p : StepsTo c.args.ws.now c.args.n Result c.args.at FirstFactor step-over.result =
-    rw (step-over.ensures, c.fault_result.ensures, c.word_at.ensures, c.word_at-2.ensures, c.word_at-3.ensures) (product-result c.args.ws.now c.args.n c.args.at c.requires.within) in
-    and_then p refl c.if-result-ne-NONE.false (rw c.variable_at-first.ensures (first-factor c.args.ws.now c.args.n step-over.result.at p.inside))
+    let p : StepsTo c.args.ws.now c.args.n Result c.args.at FirstFactor c.step_over-result.result =
+    rw (c.step_over-result.ensures, c.fault_result.ensures, c.word_at.ensures, c.word_at-2.ensures, c.word_at-3.ensures) (product-result c.args.ws.now c.args.n c.args.at c.requires.within) in
+    and_then p refl c.if-result-ne-NONE.false (rw c.variable_at-first.ensures (first-factor c.args.ws.now c.args.n c.step_over-result.result.at p.inside))
 
 pub returns : goal.returns
 returns c =
-    let variable-at = c.variable_at-first in
-    and_then (first (goal.at.returns c).After-variable_at-first) refl c.if-first-ne-NONE.false (rw c.variable_at.ensures (second-factor c.args.ws.now c.args.n variable-at.result.at (first (goal.at.returns c).After-variable_at-first).inside))
+    and_then (first (goal.at.returns c).After-variable_at-first) refl c.if-first-ne-NONE.false (rw c.variable_at.ensures (second-factor c.args.ws.now c.args.n c.variable_at-first.result.at (first (goal.at.returns c).After-variable_at-first).inside))
 
 pub returns-then-result-ne-NONE : goal.returns-then-result-ne-NONE
 returns-then-result-ne-NONE c = or-halted (result (goal.at.returns-then-result-ne-NONE c).After-step_over-result) c.if-result-ne-NONE.true

@@ -5,5 +5,4 @@ use Rattle.rowreading.proofs.items.upper_at.Goals as goal
 
 pub returns : goal.returns
 returns c =
-    let word_at = c.word_at in
-    word-step (fault_upper c.args.k c.args.lower) _ word_at.ensures c.fault_upper.ensures c.step_over.ensures
+    word-step (fault_upper c.args.k c.args.lower) _ c.word_at.ensures c.fault_upper.ensures c.step_over.ensures

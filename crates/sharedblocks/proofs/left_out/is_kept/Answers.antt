@@ -16,11 +16,9 @@ use Rattle.sharedblocks.proofs.left_out.is_kept.Goals as goal
 pub returns-then-code-lt26 : goal.returns-then-code-lt26
 unfolding keeps within
 returns-then-code-lt26 c =
-    let a = c.args.args.now in
-    let size = c.size_at in
-    let e = to_z_pos w64 {n = size.result} (omega (arith, size.ensures, size-le a 1)) in
+    let e = to_z_pos w64 {n = c.size_at.result} (omega (arith, c.size_at.ensures, size-le c.args.args.now 1)) in
     let t : ltb c.args.code 26 ≡ true = lt-ltb _ _ c.if-code-lt26.true in
-    rw (t, c.both.ensures, c.at_most.ensures, c.at_most-then-code-lt26.ensures, e, size.ensures, to_z-of_z c.ranges.v)
+    rw (t, c.both.ensures, c.at_most.ensures, c.at_most-then-code-lt26.ensures, e, c.size_at.ensures, to_z-of_z c.ranges.v)
 
 pub returns : goal.returns
 unfolding keeps within

@@ -17,13 +17,5 @@ pub returns : goal.returns
 unfolding left_row
 returns c =
     let e = rw (to_z-of_z c.ranges.from) at c.count_left-m.ensures.0 in
-    let a = c.lay_head-t.ensures in
     let b = rw (to_z-of_z c.ranges.from) at c.lay_left_bits-u.ensures in
-    let d = c.lay_constant.ensures in
-    rw (ne_eqb _ _ (λ z. c.if-m-eq0.false (e ∙ z)), ← e) (went_then a.0 (went_then b.0 d.0), omega (arith, a.1, b.1, d.1))
-
-pub count_left-m-requires : goal.count_left-m-requires
-count_left-m-requires c = rw (to_z-of_z c.ranges.from) (omega arith)
-
-pub lay_left_bits-u-requires : goal.lay_left_bits-u-requires
-lay_left_bits-u-requires c = rw (to_z-of_z c.ranges.from) (omega (arith, c.lay_head-t.ensures.1))
+    rw (ne_eqb _ _ (λ z. c.if-m-eq0.false (e ∙ z)), ← e) (went_then c.lay_head-t.ensures.0 (went_then b.0 c.lay_constant.ensures.0), omega (arith, c.lay_head-t.ensures.1, b.1, c.lay_constant.ensures.1))

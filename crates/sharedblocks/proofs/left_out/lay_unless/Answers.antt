@@ -5,6 +5,3 @@ use Rattle.sharedblocks.proofs.left_out.lay_unless.Goals as goal
 
 pub returns-then-kept : goal.returns-then-kept
 returns-then-kept c = rw c.if-kept.true (went-none _ _, omega arith)
-
-pub returns : goal.returns
-returns c = rw c.if-kept.false c.lay_term.ensures

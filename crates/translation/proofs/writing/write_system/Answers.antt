@@ -29,4 +29,4 @@ pub slice_bounds-lay-end : goal.slice_bounds-lay-end
 slice_bounds-lay-end c = sym (length-take-le _ _ (front-inside c.requires.0.seen))
 
 pub lay-requires : goal.lay-requires
-lay-requires c = let m = c.requires.0 in rw (length-take-le _ _ (front-inside m.seen)) (omega (arith, few-sources m))
+lay-requires c = rw (length-take-le _ _ (front-inside c.requires.0.seen)) (omega (arith, few-sources c.requires.0))

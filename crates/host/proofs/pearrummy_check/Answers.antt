@@ -1,7 +1,0 @@
--- Check's answer, as a host gets it.
-use mathlib.Core.Path.{ap, ◌∙◌}
-use Rattle.structs.specs.Structs.{counts_of}
-use Rattle.host.proofs.pearrummy_check.Goals as goal
-
-pub returns : goal.returns
-returns c = c.counts_of.ensures ∙ ap counts_of c.check.ensures

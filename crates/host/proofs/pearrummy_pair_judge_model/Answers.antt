@@ -1,7 +1,0 @@
--- Judge-model's answer for a candidate, as a host gets it.
-use mathlib.Core.Path.{ap, ◌∙◌}
-use Rattle.structs.specs.Structs.{judgement_of}
-use Rattle.host.proofs.pearrummy_pair_judge_model.Goals as goal
-
-pub returns : goal.returns
-returns c = c.judgement_of.ensures ∙ ap judgement_of c.pair_judge_model.ensures
