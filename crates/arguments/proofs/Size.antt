@@ -1,14 +1,7 @@
 -- How large the arguments of a constraint are, and what is read back of them.
-use mathlib.Core.Path.{◌≡◌, refl, sym, ◌∙◌}
-use mathlib.Core.Bool.{true, false}
-use mathlib.Core.List.{List}
-use native.Mathlib.Omega.{arith}
-use Prim.Native.Nat.{ℕ, ◌<◌, ◌≤◌}
+use Rattle.std.proofs.Common.{◌≡◌, refl, sym, ◌∙◌, true, false, List, arith, ℕ, ◌<◌, ◌≤◌, ℤ, pos, negsuc, nat_abs, w64, to_z, of_z}
 use lib.Dec.{leb-zero}
-use lib.IntN.{ℤ, pos, negsuc, nat_abs}
 use lib.Signed.{le_z, mag}
-use mir.Syntax.{w64}
-use mir.Val.{to_z, of_z}
 use Rattle.integers.specs.Number.{◌⊗◌, neg, max_z, abs_z, count}
 use Rattle.integers.specs.Terms.{value}
 use Rattle.integers.proofs.Tests.{false-true, capped}
@@ -57,6 +50,6 @@ unfolding count
 count-below (pos n) t = false-true (sym t ∙ leb-zero n)
 count-below (negsuc n) t = refl
 
--- what a call gave, read back: `read c.f.ok c.f.ensures`
+-- what a call gave, read back: `read c.f.type_inv c.f.ensures`
 pub read : {z y : ℤ} → mag z < 9223372036854775808 → z ≡ y → to_z w64 (of_z w64 z) ≡ y
 read {z} h e = back z h ∙ e

@@ -1,8 +1,5 @@
 -- Numbers of a row over bits within their limit.
-use mathlib.Core.Path.{◌≡◌, refl}
-use mathlib.Core.Logic.{◌↔◌}
-use mathlib.Core.Bool.{Bool, true, false}
-use lib.IntN.{ℤ, pos, negsuc}
+use Rattle.std.proofs.Common.{◌≡◌, refl, ◌↔◌, Bool, true, false, ℤ, pos, negsuc}
 use lib.Signed.{le_z, lt_z}
 use Rattle.integers.specs.Number.{abs_z}
 use Rattle.integers.proofs.Linear.{◌⊑◌, ◌⊏◌, arith_z}

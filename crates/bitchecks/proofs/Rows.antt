@@ -1,11 +1,5 @@
 -- What is said of one row over bits, and of all rows, one row more.
-use mathlib.Core.Path.{◌≡◌, refl, sym, ap, ap₂, ◌∙◌}
-use mathlib.Core.Bool.{Bool, true, false, ◌&&◌}
-use mathlib.Core.List.{List}
-use Prim.Native.Nat.{ℕ, ◌+◌, ◌*◌, ◌≤◌, ◌<◌}
-use native.Mathlib.Omega.{arith}
-use lib.IntN.{ℤ, pos, nat_abs}
-use lib.ListN.{length, get_or}
+use Rattle.std.proofs.Common.{◌≡◌, refl, sym, ap, ap₂, ◌∙◌, Bool, true, false, ◌&&◌, List, ℕ, ◌+◌, ◌*◌, ◌≤◌, ◌<◌, arith, ℤ, pos, nat_abs, length, get_or}
 use Rattle.integers.specs.Number.{◌⊕◌, ◌⊗◌}
 use Rattle.integers.specs.Lists.{all}
 use Rattle.integers.proofs.Fits.{plus-size, times-size, mul-le}
@@ -20,7 +14,7 @@ use Rattle.bitforms.specs.FormAnswer.{row_fits}
 use Rattle.bitlines.specs.Sizes as Size
 use Rattle.bittables.specs.BitTables.{rows_by}
 use Rattle.bitfilling.specs.Filled.{dense}
-use Rattle.bitfilling.proofs.Filling.{row_fits_lem}
+use Rattle.bitfilling.proofs.Filling.{row_fits-dense}
 use Rattle.bitfilling.proofs.Lines.{fits-sizes}
 use Rattle.bitfilling.proofs.Walk.{rows_left, next_row, left-none, left_one, left_end}
 use Rattle.bitchecks.specs.Checked.{RowChecked, RowsChecked}
@@ -30,15 +24,15 @@ use Rattle.bitchecks.proofs.Limits.{fits}
 
 module _ (n : ℕ) (r : BitRow) {c : ℤ} (e : c ≡ r.whole.constant) where
   pub constant-out : (k : ℤ) → fits c ≡ false → RowChecked n r false k
-  constant-out k h = record { tested = sym (row_fits_lem n r ∙ rw (← e, h) refl); squared = λ z. false-true z }
+  constant-out k h = record { tested = sym (row_fits-dense n r ∙ rw (← e, h) refl); squared = λ z. false-true z }
 
   module _ (h : fits c ≡ true) {row : List ℤ} (g : row ≡ dense n r.whole.terms) where
     pub terms-out : (k : ℤ) → all fits row ≡ false → RowChecked n r false k
-    terms-out k l = record { tested = sym (row_fits_lem n r ∙ rw (← e, h, ← g, l) refl); squared = λ z. false-true z }
+    terms-out k l = record { tested = sym (row_fits-dense n r ∙ rw (← e, h, ← g, l) refl); squared = λ z. false-true z }
 
     pub row_in : (k : ℤ) → k ≡ c ⊗ c → all fits row ≡ true → RowChecked n r true k
     unfolding square
-    row_in k m l = record { tested = sym (row_fits_lem n r ∙ rw (← e, h, ← g, l) refl); squared = λ z. m ∙ ap (λ x. x ⊗ x) e }
+    row_in k m l = record { tested = sym (row_fits-dense n r ∙ rw (← e, h, ← g, l) refl); squared = λ z. m ∙ ap (λ x. x ⊗ x) e }
 
 -- the square of its constant is at most 16,384²
 pub square-small : {n : ℕ} {r : BitRow} {f : Bool} {k : ℤ} → RowChecked n r f k → f ≡ true → nat_abs k ≤ 268435456

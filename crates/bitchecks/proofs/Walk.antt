@@ -1,11 +1,5 @@
 -- The walk over the words that counts the bits of rows: what is left to count.
-use mathlib.Core.Path.{◌≡◌, refl, sym, ap, ◌∙◌}
-use mathlib.Core.Bool.{true, false}
-use mathlib.Core.List.{List}
-use Prim.Native.Nat.{ℕ, ◌+◌, ◌*◌, ◌≤◌, ◌<◌}
-use native.Mathlib.Omega.{arith}
-use lib.IntN.{ℤ}
-use lib.ListN.{length, get_or}
+use Rattle.std.proofs.Common.{◌≡◌, refl, sym, ap, ◌∙◌, true, false, List, ℕ, ◌+◌, ◌*◌, ◌≤◌, ◌<◌, arith, ℤ, length, get_or}
 use Rattle.rowsystems.specs.OneWord.{starts_row}
 use Rattle.bitforms.specs.BitRow.{bits_with}
 use Rattle.bitlines.specs.Sizes as Size

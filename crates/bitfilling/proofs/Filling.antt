@@ -1,13 +1,7 @@
 -- A row over bits as a list: its numbers are the coefficients of the definition, and a row that fits has none beyond 16,384.
-use mathlib.Core.Path.{◌≡◌, refl, sym, ap, ap₂, ◌∙◌}
-use mathlib.Core.Bool.{true, ◌&&◌}
-use mathlib.Core.List.{List, [], ◌∷◌, ◌++◌, map}
-use Prim.Native.Nat.{ℕ, zero, suc, ◌+◌, ◌<◌, ◌≤◌}
-use native.Mathlib.Omega.{arith}
+use Rattle.std.proofs.Common.{◌≡◌, refl, sym, ap, ap₂, ◌∙◌, true, ◌&&◌, List, [], ◌∷◌, ◌++◌, map, ℕ, zero, suc, ◌+◌, ◌<◌, ◌≤◌, arith, ℤ, pos, nat_abs, length, get_or, set, replicate, length-set, get_or-set_same, get_or-set_other, ext_get_or}
 use native.Mathlib.Decide.{ℕ_discrete}
-use lib.IntN.{ℤ, pos, nat_abs}
-use lib.ListN.{length, get_or, set, replicate, length-set, length-replicate, get_or-replicate}
-use lib.Seq.{get_or-set_same, get_or-set_other, ext_get_or}
+use lib.ListN.{length-replicate, get_or-replicate}
 use lib.Signed.{le_z}
 use Rattle.integers.specs.Number.{◌⊕◌, neg, abs_z, count, +0, +1}
 use Rattle.integers.specs.Lists.{list_of, all}
@@ -15,7 +9,7 @@ use Rattle.integers.specs.Terms.{Term, ◌·◌}
 use Rattle.integers.proofs.Linear.{linear, ◌⊑◌}
 use Rattle.integers.proofs.Lists.{list_of-length}
 use Rattle.integers.proofs.Tests.{says-le, says-and}
-use Rattle.integers.proofs.Places.{get_d_list_of, map-list_of, all_map}
+use Rattle.integers.proofs.Places.{get_or-list_of, map-list_of, all_map}
 use Rattle.integers.proofs.Sums.{zero-plus, one-times}
 use Rattle.words.specs.Limit as Limit
 use Rattle.rowsystems.specs.Row.{sum≤0, sum=0, product}
@@ -80,7 +74,7 @@ dense-at n ts i h =
 pub dense-is : (n : ℕ) (ts : List (Term ℕ)) → dense n ts ≡ map (coefficient_of ts) (list_of (λ i. i) n)
 dense-is n ts =
     let l = dense-length n ts in
-    ext_get_or +0 (dense n ts) (list_of (coefficient_of ts) n) (l ∙ sym (list_of-length (coefficient_of ts) n)) (λ i h. dense-at n ts i (omega arith) ∙ sym (get_d_list_of (coefficient_of ts) n i +0 (omega arith)))
+    ext_get_or +0 (dense n ts) (list_of (coefficient_of ts) n) (l ∙ sym (list_of-length (coefficient_of ts) n)) (λ i h. dense-at n ts i (omega arith) ∙ sym (get_or-list_of (coefficient_of ts) n i +0 (omega arith)))
     ∙ sym (map-list_of (coefficient_of ts) (λ i. i) n)
 
 -- ---- what fits
@@ -98,9 +92,9 @@ all_within_peak (x ∷ xs) h =
     let b = (says-and {A = le_z (abs_z x) (pos Limit.bit_numbers) ≡ true} {B = all (λ v. le_z (abs_z v) (pos Limit.bit_numbers)) xs ≡ true} (λ p. p, λ p. p) (λ p. p, λ p. p)).0 h in
     omega (arith, limit_size x b.0, all_within_peak xs b.1)
 
-pub row_fits_lem : (n : ℕ) (r : BitRow) → row_fits n r ≡ (le_z (abs_z r.whole.constant) (pos Limit.bit_numbers) && all (λ v. le_z (abs_z v) (pos Limit.bit_numbers)) (dense n r.whole.terms))
+pub row_fits-dense : (n : ℕ) (r : BitRow) → row_fits n r ≡ (le_z (abs_z r.whole.constant) (pos Limit.bit_numbers) && all (λ v. le_z (abs_z v) (pos Limit.bit_numbers)) (dense n r.whole.terms))
 unfolding row_fits
-row_fits_lem n r = ap (λ b. le_z (abs_z r.whole.constant) (pos Limit.bit_numbers) && b) (sym (ap (all (λ v. le_z (abs_z v) (pos Limit.bit_numbers))) (dense-is n r.whole.terms) ∙ all_map (λ v. le_z (abs_z v) (pos Limit.bit_numbers)) (coefficient_of r.whole.terms) (list_of (λ i. i) n)))
+row_fits-dense n r = ap (λ b. le_z (abs_z r.whole.constant) (pos Limit.bit_numbers) && b) (sym (ap (all (λ v. le_z (abs_z v) (pos Limit.bit_numbers))) (dense-is n r.whole.terms) ∙ all_map (λ v. le_z (abs_z v) (pos Limit.bit_numbers)) (coefficient_of r.whole.terms) (list_of (λ i. i) n)))
 
 -- ---- the terms of a product
 

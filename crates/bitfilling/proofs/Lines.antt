@@ -1,11 +1,6 @@
 -- What a row over bits adds to a line: its square's entries, then those of its products of bits.
-use mathlib.Core.Path.{◌≡◌, refl, sym, ap, ◌∙◌}
-use mathlib.Core.Bool.{true}
-use mathlib.Core.List.{List, [], flat_map}
-use Prim.Native.Nat.{ℕ, ◌+◌, ◌-◌, ◌≤◌}
-use native.Mathlib.Omega.{arith}
-use lib.IntN.{ℤ, pos, nat_abs}
-use lib.ListN.{length, get_or}
+use Rattle.std.proofs.Common.{◌≡◌, refl, sym, ap, ◌∙◌, true, List, [], ℕ, ◌+◌, ◌-◌, ◌≤◌, arith, ℤ, pos, nat_abs, length, get_or}
+use mathlib.Core.List.{flat_map}
 use lib.Signed.{le_z}
 use Rattle.integers.specs.Number.{abs_z, +0}
 use Rattle.integers.specs.Lists.{all}
@@ -26,12 +21,12 @@ use Rattle.bittables.specs.BitTables.{span_in, bits_of, encoding_by, BitCounts}
 use Rattle.bitrows.proofs.Pairs.{pairs_grid}
 use Rattle.bitfilling.specs.Filled.{dense}
 use Rattle.bitfilling.specs.Added.{whole_terms, AddsSquare, product_pairs, Added}
-use Rattle.bitfilling.proofs.Filling.{dense-at, limit_size, all_within_peak, row_fits_lem}
+use Rattle.bitfilling.proofs.Filling.{dense-at, limit_size, all_within_peak, row_fits-dense}
 
 -- a row that fits has no number beyond 16,384
 pub fits-sizes : (n : ℕ) (r : BitRow) → row_fits n r ≡ true → (nat_abs r.whole.constant ≤ Limit.bit_numbers) × (peak (dense n r.whole.terms) ≤ Limit.bit_numbers)
 fits-sizes n r h =
-    let b = (says-and {A = le_z (abs_z r.whole.constant) (pos Limit.bit_numbers) ≡ true} {B = all (λ v. le_z (abs_z v) (pos Limit.bit_numbers)) (dense n r.whole.terms) ≡ true} (λ p. p, λ p. p) (λ p. p, λ p. p)).0 (sym (row_fits_lem n r) ∙ h) in
+    let b = (says-and {A = le_z (abs_z r.whole.constant) (pos Limit.bit_numbers) ≡ true} {B = all (λ v. le_z (abs_z v) (pos Limit.bit_numbers)) (dense n r.whole.terms) ≡ true} (λ p. p, λ p. p) (λ p. p, λ p. p)).0 (sym (row_fits-dense n r) ∙ h) in
     (limit_size r.whole.constant b.0, all_within_peak (dense n r.whole.terms) b.1)
 
 -- the square, and the products of bits

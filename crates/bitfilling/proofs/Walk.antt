@@ -1,10 +1,5 @@
 -- The walk over the words of rows: the rows over bits that are left at a place.
-use mathlib.Core.Path.{◌≡◌, ap}
-use mathlib.Core.Bool.{true, false}
-use mathlib.Core.List.{List, [], ◌∷◌}
-use Prim.Native.Nat.{ℕ, ◌+◌, ◌<◌, ◌≤◌}
-use lib.IntN.{ℤ}
-use lib.ListN.{length, get_or, drop}
+use Rattle.std.proofs.Common.{◌≡◌, ap, true, false, List, [], ◌∷◌, ℕ, ◌+◌, ◌<◌, ◌≤◌, ℤ, length, get_or, drop}
 use Rattle.rowsystems.specs.OneWord.{starts_row}
 use Rattle.rowsystems.proofs.Walk.{starts_none, starts-one, none_left}
 use Rattle.extremes.specs.BoundLists.{bounds_of}

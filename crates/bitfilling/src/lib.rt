@@ -154,7 +154,7 @@ fn add_whole(
     m: usize,
 )
     requires bit_lists { BitLists ls.now us.now firsts.now × (first < Size.farthest) × (i + m ≤ Limit.bits) × (peak line.old < Size.sums) }
-    requires args_value { row_fits (length row.old) (row_by ls.now us.now firsts.now first head args.now) ≡ true }
+    requires fits { row_fits (length row.old) (row_by ls.now us.now firsts.now first head args.now) ≡ true }
     ensures { AddsSquare (length row.old) (row_by ls.now us.now firsts.now first head args.now) i m line.old line.new }
 {
     fill_row(row, head, args, ls, us, firsts, first);
@@ -176,7 +176,7 @@ pub fn add_row(
     m: usize,
 )
     requires bit_tables { BitTables ls.now us.now firsts.now counts.now × (first < Size.farthest) × LineAndRow (i + m) line.old row.old × (peak line.old < Size.sums) }
-    requires args_value { row_fits (i + m) (row_by ls.now us.now firsts.now first head args.now) ≡ true }
+    requires fits { row_fits (i + m) (row_by ls.now us.now firsts.now first head args.now) ≡ true }
     ensures { Added (row_by ls.now us.now firsts.now first head args.now) i line.old line.new }
 {
     add_whole(line, row, head, args, ls, us, firsts, first, i, m);

@@ -88,7 +88,7 @@ fn form_lines(
     c: i64,
 ) -> Written
     requires bits_listed { BitsListed ws.now ls.now us.now firsts.now counts.now start n × LineAndRow n line.old row.old }
-    requires ws_value { (all (row_fits n) (bit_rows_of ws.now) ≡ true) × (c ≡ form_constant ws.now) × (in_range c ≡ true) }
+    requires fitting { (all (row_fits n) (bit_rows_of ws.now) ≡ true) × (c ≡ form_constant ws.now) × (in_range c ≡ true) }
     ensures { Answered ws.now out.old out.new (wrote result) }
 {
     let mut nothing = [0u32; 0];

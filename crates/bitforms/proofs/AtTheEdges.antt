@@ -1,9 +1,7 @@
 -- 02, wish 14, at its edges, as a table of computed equations: a product of a variable with itself, width 0, a row that no values satisfy, a slack, a
 -- last weight that is cut, 1,024 bits and 1,025, a coefficient of 16,384 and 16,385.
-use mathlib.Core.Path.{◌≡◌, refl}
-use mathlib.Core.List.{List, [], ◌∷◌, ◌++◌, flat_map, map}
-use Prim.Native.Nat.{ℕ, zero, suc, ◌+◌}
-use lib.ListN.{length, replicate}
+use Rattle.std.proofs.Common.{◌≡◌, refl, List, [], ◌∷◌, ◌++◌, ℕ, zero, suc, ◌+◌, length, replicate}
+use mathlib.Core.List.{flat_map, map}
 use Rattle.integers.specs.Number.{◌⊕◌, ◌⊖◌, ◌⊗◌, neg, min_z, abs_z, ◌≟◌, count}
 use Rattle.integers.specs.Lists.{list_of, all}
 use Rattle.integers.specs.Bounds.{within, bounds_in}

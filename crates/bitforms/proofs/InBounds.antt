@@ -1,9 +1,5 @@
 -- Bits read as values inside the bounds, where no upper bound is below its lower one.
-use mathlib.Core.List.{List, [], ◌∷◌}
-use Prim.Native.Nat.{ℕ, zero, suc, ◌+◌, ◌<◌}
-use native.Mathlib.Omega.{arith}
-use lib.IntN.{ℤ, pos}
-use lib.ListN.{length}
+use Rattle.std.proofs.Common.{List, [], ◌∷◌, ℕ, zero, suc, ◌+◌, ◌<◌, arith, ℤ, pos, length}
 use Rattle.integers.specs.Number.{◌⊕◌, ◌⊖◌, ◌⊗◌, count}
 use Rattle.integers.specs.Bounds.{bounds_in}
 use Rattle.integers.specs.Terms.{Valuation, sum}

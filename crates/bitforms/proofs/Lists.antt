@@ -1,8 +1,6 @@
 -- Lists by places, one element more at the end, and lists made of lists.
-use mathlib.Core.Path.{◌≡◌, refl, ap, ◌∙◌}
-use mathlib.Core.List.{List, [], ◌∷◌, ◌++◌, flat_map, append-nil}
-use Prim.Native.Nat.{ℕ, zero, suc, ◌+◌}
-use native.Mathlib.Numerals.{add-one}
+use Rattle.std.proofs.Common.{◌≡◌, refl, ap, ◌∙◌, List, [], ◌∷◌, ◌++◌, append-nil, ℕ, zero, suc, ◌+◌, add-one}
+use mathlib.Core.List.{flat_map}
 use Rattle.integers.specs.Lists.{list_of}
 use Rattle.integers.proofs.Lists.{flat_map_append}
 

@@ -1,13 +1,6 @@
 -- Where the answer is that words were written, the output begins with words that read back as the form, and these share the row system's solutions.
-use mathlib.Core.Path.{◌≡◌, refl, sym, ap, ◌∙◌, subst, fun_ext}
-use mathlib.Core.Bool.{Bool, true, false}
-use mathlib.Core.List.{List, ◌++◌}
-use Prim.Native.Nat.{ℕ, zero, suc, ◌≤◌}
-use native.Mathlib.Omega.{arith}
-use lib.Dec.{ltb, eqb}
-use lib.IntN.{ℤ}
-use lib.ListN.{length, drop, take-append-drop}
-use borrow.Author.Tests.{ltb-false}
+use Rattle.std.proofs.Common.{◌≡◌, refl, sym, ap, ◌∙◌, subst, Bool, true, false, List, ◌++◌, ℕ, zero, suc, ◌≤◌, arith, ltb, eqb, ℤ, length, drop, take-append-drop, ltb-false}
+use mathlib.Core.Path.{fun_ext}
 use Rattle.integers.specs.Choice.{◌if◌else◌}
 use Rattle.words.specs.Limit as Limit
 use Rattle.words.specs.Fault as Fault

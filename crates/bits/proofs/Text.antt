@@ -1,8 +1,5 @@
 -- A form that the call says it wrote has room.
-use mathlib.Core.Path.{◌≡◌}
-use mathlib.Core.List.{List}
-use Prim.Native.Nat.{ℕ, ◌≤◌}
-use lib.ListN.{length}
+use Rattle.std.proofs.Common.{◌≡◌, List, ℕ, ◌≤◌, length}
 use Rattle.bitforms.specs.FormAnswer.{bit_form_fault}
 use Rattle.bitforms.specs.FormWords.{form_words}
 use Rattle.lines.proofs.Printed.{later-none, room_for}

@@ -1,17 +1,12 @@
 -- A model that passes the check, and the form over bits of the row system that translate writes for it, share their solutions.
-use mathlib.Core.Path.{◌≡◌, sym, ap, ◌∙◌, subst}
-use mathlib.Core.List.{List, ◌++◌}
-use Prim.Native.Nat.{ℕ, ◌+◌, ◌-◌, ◌≤◌}
+use Rattle.std.proofs.Common.{◌≡◌, sym, ap, ◌∙◌, subst, List, ◌++◌, ℕ, ◌+◌, ◌-◌, ◌≤◌, arith, ℤ, pos, length, length-append, get_or-append-add}
 use native.Mathlib.Decide.{dec_le}
-use native.Mathlib.Omega.{arith}
-use lib.IntN.{ℤ, pos}
-use lib.ListN.{length, length-append, get_or-append}
-use lib.Seq.{get_or-append-add}
+use lib.ListN.{get_or-append}
 use Rattle.integers.specs.Lists.{list_of}
 use Rattle.integers.specs.Bounds.{bounds_in}
 use Rattle.integers.specs.Terms.{value}
 use Rattle.integers.proofs.Lists.{list_of-length}
-use Rattle.integers.proofs.Places.{get_d_list_of}
+use Rattle.integers.proofs.Places.{get_or-list_of}
 use Rattle.integers.proofs.Tests.{says-within}
 use Rattle.words.specs.Variables.{variables}
 use Rattle.rules.specs.Translation.{bounds, system_words, auxiliaries}
@@ -29,9 +24,9 @@ module _ (model : List ℕ) (passes : Passes model) where
   abbrev system : List ℕ
   system = system_words model
 
-  in_all_lem : length (variables system) ≡ length (variables model) + length (auxiliaries model)
+  length-variables : length (variables system) ≡ length (variables model) + length (auxiliaries model)
   unfolding auxiliaries bounds
-  in_all_lem =
+  length-variables =
       ap length (same-bounds model passes) ∙ length-append (variables model) _
 
   forth : (vs : List ℤ) → length vs ≡ length (variables model) → SatisfiesModel model vs → SomeBits system (length (variables model)) vs (form_of system)
@@ -41,7 +36,7 @@ module _ (model : List ℕ) (passes : Passes model) where
       let xs = x.0 in
       let r = x.1.1 in
       let b = zero-complete system (vs ++ xs) (record { one_each = r.one_each; in_bounds = r.in_bounds }) r.all_true in
-      let n = in_all_lem in
+      let n = length-variables in
       (b.0, (b.1.0, λ v h. b.1.1 v (omega arith) ∙ get_or-append vs xs (pos 0) v (omega arith), b.1.2))
 
   back : (vs : List ℤ) → length vs ≡ length (variables model) → SomeBits system (length (variables model)) vs (form_of system) → SatisfiesModel model vs
@@ -52,7 +47,7 @@ module _ (model : List ℕ) (passes : Passes model) where
       xs = list_of (λ k. evaluate (value bs) (encoding system (length vs + k))) (length (auxiliaries model))
 
       total-length : length (vs ++ xs) ≡ length (variables system)
-      total-length = length-append vs xs ∙ (let e = list_of-length (λ k. evaluate (value bs) (encoding system (length vs + k))) (length (auxiliaries model)) in let n = in_all_lem in omega arith)
+      total-length = length-append vs xs ∙ (let e = list_of-length (λ k. evaluate (value bs) (encoding system (length vs + k))) (length (auxiliaries model)) in let n = length-variables in omega arith)
 
       reads : ReadAs system (length (variables system)) bs (vs ++ xs)
       reads v h = go (dec_le (length vs) v)
@@ -61,9 +56,9 @@ module _ (model : List ℕ) (passes : Passes model) where
           go (no n) = r v (omega arith) ∙ sym (get_or-append vs xs (pos 0) v (omega arith))
           go (yes n) =
               let e : v ≡ length vs + (v - length vs) = omega arith in
-              let m = in_all_lem in
+              let m = length-variables in
               subst (λ u. evaluate (value bs) (encoding system u) ≡ value (vs ++ xs) u) (sym e)
-              (sym (get_or-append-add vs xs (v - length vs) (pos 0) ∙ get_d_list_of (λ k. evaluate (value bs) (encoding system (length vs + k))) (length (auxiliaries model)) (v - length vs) (pos 0) (omega arith)))
+              (sym (get_or-append-add vs xs (v - length vs) (pos 0) ∙ get_or-list_of (λ k. evaluate (value bs) (encoding system (length vs + k))) (length (auxiliaries model)) (v - length vs) (pos 0) (omega arith)))
 
       inside : InBounds system (vs ++ xs)
       inside = record {

@@ -1,8 +1,6 @@
 -- The words that were written share the solutions of the row system, and of the model that translate wrote it for.
-use mathlib.Core.Path.{◌≡◌, sym, ap, ◌∙◌, subst, fun_ext}
-use mathlib.Core.List.{List}
-use Prim.Native.Nat.{ℕ}
-use lib.ListN.{length}
+use Rattle.std.proofs.Common.{◌≡◌, sym, ap, ◌∙◌, subst, List, ℕ, length}
+use mathlib.Core.Path.{fun_ext}
 use Rattle.words.specs.Answer.{Answer}
 use Rattle.bitforms.specs.FormAnswer.{bit_form, bit_formed}
 use Rattle.bitforms.proofs.Theorem.{form_of}

@@ -1,10 +1,5 @@
 -- How wide a variable is, and how many weights a width has at most.
-use mathlib.Core.List.{List}
-use Prim.Native.Nat.{ℕ, zero, suc, ◌+◌, ◌*◌, ◌-◌, ◌≤◌, ◌<◌, ◌^◌}
-use native.Mathlib.Nat.{pow-suc, mul-le-mul_right}
-use native.Mathlib.Omega.{arith}
-use lib.IntN.{ℤ}
-use lib.ListN.{length, get_or}
+use Rattle.std.proofs.Common.{List, ℕ, zero, suc, ◌+◌, ◌*◌, ◌-◌, ◌≤◌, ◌<◌, ◌^◌, pow-suc, mul-le-mul_right, arith, ℤ, length, get_or}
 use Rattle.integers.specs.Number.{◌⊖◌, +0}
 use Rattle.integers.proofs.Fits.{minus-size}
 use Rattle.integers.proofs.Sums.{count-le}

@@ -1,10 +1,7 @@
 -- What the lists give, where they had zeros before and no variable is cut: the bits of the row system's variables.
-use mathlib.Core.Path.{◌≡◌, refl, sym, ap, ap₂, ◌∙◌, fun_ext}
-use mathlib.Core.List.{List, [], ◌∷◌, map}
-use Prim.Native.Nat.{ℕ, zero, suc, ◌+◌, ◌≤◌}
-use native.Mathlib.Omega.{arith}
-use lib.IntN.{ℤ}
-use lib.ListN.{length, length-map, get_or, replicate}
+use Rattle.std.proofs.Common.{◌≡◌, refl, sym, ap, ap₂, ◌∙◌, List, [], ◌∷◌, map, ℕ, zero, suc, ◌+◌, ◌≤◌, arith, ℤ, length, get_or, replicate}
+use mathlib.Core.Path.{fun_ext}
+use lib.ListN.{length-map}
 use Rattle.integers.specs.Number.{◌⊖◌, count, +0}
 use Rattle.integers.specs.Lists.{list_of}
 use Rattle.integers.specs.Bounds.{◌to◌, bounds_in}

@@ -1,11 +1,6 @@
 -- The line of a bit, row after row: with what the rows left add, the list's numbers are the entries.
-use mathlib.Core.Path.{◌≡◌, refl, sym, ap, ◌∙◌}
-use mathlib.Core.Bool.{true, false}
-use mathlib.Core.List.{List}
-use Prim.Native.Nat.{ℕ, ◌+◌, ◌*◌, ◌<◌, ◌≤◌}
-use native.Mathlib.Omega.{arith}
-use lib.IntN.{ℤ}
-use lib.ListN.{length, get_or, replicate, length-replicate, get_or-replicate}
+use Rattle.std.proofs.Common.{◌≡◌, refl, sym, ap, ◌∙◌, true, false, List, ℕ, ◌+◌, ◌*◌, ◌<◌, ◌≤◌, arith, ℤ, length, get_or, replicate}
+use lib.ListN.{length-replicate, get_or-replicate}
 use Rattle.integers.specs.Number.{◌⊕◌, +0}
 use Rattle.integers.specs.Lists.{all}
 use Rattle.integers.proofs.Tests.{says-and}

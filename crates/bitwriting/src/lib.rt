@@ -41,9 +41,9 @@ fn add_to_line(
     m: usize,
 ) -> usize
     requires bit_tables { BitTables ls.now us.now firsts.now counts.now × (first < Size.farthest) × LineAndRow (i + m) line.old row.old × (peak line.old < Size.sums) }
-    requires args_value { row_fits (i + m) (row_by ls.now us.now firsts.now first head args.now) ≡ true }
+    requires fits { row_fits (i + m) (row_by ls.now us.now firsts.now first head args.now) ≡ true }
     ensures added { Added (row_by ls.now us.now firsts.now first head args.now) i line.old line.new }
-    ensures value { (result ≡ first + (row_by ls.now us.now firsts.now first head args.now).own) × (result ≤ first + Size.own_bits) }
+    ensures next { (result ≡ first + (row_by ls.now us.now firsts.now first head args.now).own) × (result ≤ first + Size.own_bits) }
 {
     let own = own_bits(head, args, ls, us, counts);
     if holds_bit(head, args, firsts, counts, first, own, i) {

@@ -1,13 +1,6 @@
 -- One constraint: what its block counts that was laid from nothing, its width, whose rule its block is, and that its place plays no part.
-use mathlib.Core.Path.{◌≡◌, refl, ap, ◌∙◌}
-use mathlib.Core.Bool.{Bool, true, false, ◌&&◌, ◌||◌}
-use mathlib.Core.List.{List, [], ◌∷◌}
-use Prim.Native.Nat.{ℕ, zero, suc, ◌≤◌}
-use native.Mathlib.Omega.{arith}
+use Rattle.std.proofs.Common.{◌≡◌, refl, ap, ◌∙◌, Bool, true, false, ◌&&◌, ◌||◌, List, [], ◌∷◌, ℕ, zero, suc, ◌≤◌, arith, ltb, eqb, length, ltb-false, eqb-true, ne_eqb}
 use native.Mathlib.Decide.{dec_le}
-use lib.Dec.{ltb, eqb}
-use lib.ListN.{length}
-use borrow.Author.Tests.{ltb-false, eqb-true, ne_eqb}
 use Rattle.integers.specs.Choice.{◌if◌else◌}
 use Rattle.integers.specs.Lists.{any}
 use Rattle.integers.specs.Bounds.{width}
@@ -28,7 +21,7 @@ use Rattle.laying.specs.Appends.{some_outside, Appends, AppendsFitting, GrowsBy,
 use Rattle.laying.specs.Sizes.{block_size}
 use Rattle.laying.specs.declared.Laid.{Laid}
 use Rattle.laying.proofs.Alike.{went-fitting}
-use Rattle.laying.proofs.Blocks.{block_words_lem, block-auxiliaries, block-rows, block-outside}
+use Rattle.laying.proofs.Blocks.{words_in-block_parts, block-auxiliaries, block-rows, block-outside}
 use Rattle.encodings.specs.Uses.{choice_of, choosing}
 use Rattle.encodings.proofs.Record.{encodes-by, shares-by}
 use Rattle.blocks.specs.Coded.{constraint_of, has_all}
@@ -43,7 +36,7 @@ pub record Told (first : ℕ) (B : Block) (r : Laid) : Type 0 where
 
 pub told : {first : ℕ} {B : Block} {r : Laid} {o o' : List ℕ} → AppendsFitting nothing r o o' (block_parts first B) → Told first B r
 told {first} {B} w = record {
-  words = omega (arith, w.counted.words, ap length (block_words_lem first B));
+  words = omega (arith, w.counted.words, ap length (words_in-block_parts first B));
   auxiliaries = omega (arith, w.counted.auxiliaries, block-auxiliaries first B);
   rows = omega (arith, w.counted.rows, block-rows first B);
   outside-is = w.counted.outside ∙ block-outside first B;

@@ -1,12 +1,7 @@
 -- A code that is none, and division by zero.
-use mathlib.Core.Path.{◌≡◌, refl, ap}
-use mathlib.Core.Bool.{Bool, true, false, not}
-use mathlib.Core.List.{List}
-use Prim.Native.Nat.{ℕ, zero, suc, ◌<◌, ◌≤◌}
-use native.Mathlib.Omega.{arith}
-use lib.IntN.{ℤ}
+use Rattle.std.proofs.Common.{◌≡◌, refl, ap, Bool, true, false, not, List, ℕ, zero, suc, ◌<◌, ◌≤◌, arith, ℤ, get_or}
 use lib.Signed.{quot_z, rem_z}
-use lib.ListN.{get_or, get_or-eq_default}
+use lib.ListN.{get_or-eq_default}
 use Rattle.integers.specs.Choice.{◌if◌else◌}
 use Rattle.integers.specs.Number.{◌≟◌, +0}
 use Rattle.integers.specs.Terms.{Valuation}

@@ -1,8 +1,5 @@
 -- A power cut to −far..far, by halves; it is equal to a value where the power is.
-use mathlib.Core.Path.{◌≡◌, sym, ap, ap₂, ◌∙◌}
-use Prim.Native.Nat.{ℕ, suc, ◌+◌, ◌*◌, ◌/◌, ◌%◌, ◌≤◌, ◌<◌}
-use native.Mathlib.Omega.{arith}
-use lib.IntN.{ℤ, nat_abs}
+use Rattle.std.proofs.Common.{◌≡◌, sym, ap, ap₂, ◌∙◌, ℕ, suc, ◌+◌, ◌*◌, ◌/◌, ◌%◌, ◌≤◌, ◌<◌, arith, ℤ, nat_abs}
 use Rattle.integers.specs.Number.{◌⊗◌, neg, cut, ◌≟◌}
 use Rattle.integers.proofs.Linear.{◌⊑◌, ◌⊏◌, linear, arith_z}
 use Rattle.integers.proofs.Fits.{mul-le}

@@ -1,19 +1,12 @@
 -- An element of the list at place 1, by the place that `index_in` gives.
-use mathlib.Core.Path.{◌≡◌, refl}
-use mathlib.Core.Bool.{Bool, true, false, ◌&&◌}
-use mathlib.Core.List.{List}
-use Prim.Native.Nat.{ℕ, ◌+◌, ◌-◌, ◌<◌, ◌≤◌}
-use native.Mathlib.Omega.{arith}
-use lib.Dec.{leb}
-use lib.IntN.{ℤ, pos, negsuc}
-use lib.ListN.{length, get_or}
-use borrow.Author.Tests.{leb-true, le-leb, lt-leb}
+use Rattle.std.proofs.Common.{◌≡◌, refl, Bool, true, false, ◌&&◌, List, ℕ, ◌+◌, ◌-◌, ◌<◌, ◌≤◌, arith, leb, ℤ, pos, negsuc, length, get_or, leb-true, le-leb}
+use borrow.Author.Tests.{lt-leb}
 use Rattle.integers.specs.Choice.{◌if◌else◌}
 use Rattle.integers.specs.Number.{◌≟◌, count, +0}
 use Rattle.integers.specs.Lists.{list_of}
 use Rattle.integers.proofs.Tests.{capped}
 use Rattle.integers.proofs.Lists.{list_of-length}
-use Rattle.integers.proofs.Places.{get_d_list_of}
+use Rattle.integers.proofs.Places.{get_or-list_of}
 use Rattle.models.specs.Meaning.{element}
 use Rattle.builtins.specs.Coded.{index_in}
 
@@ -45,7 +38,7 @@ module _ (g : ℕ → ℤ) (n : ℕ) (c z : ℤ) (r : ℕ) (at : r ≡ index_in 
       go true e f =
           let k : count z - 1 < n = omega (arith, leb-true (count z) n e) in
           let p : 1 + 1 + (count z - 1) ≡ 1 + r = omega arith in
-          rw (le-leb 1 (count z) (omega arith), list_of-length, e, get_d_list_of, p)
+          rw (le-leb 1 (count z) (omega arith), list_of-length, e, get_or-list_of, p)
       go false e f = absurd (omega arith)
 
   pub outside : r < 1 → false ≡ element z list c

@@ -1,10 +1,5 @@
 -- What `keep_bounds` leaves of the words of a model's variables: the model's bounds, near 0, and 0 and 0 past the last of at most 256. And what the walks over its constraints use.
-use mathlib.Core.Path.{◌≡◌, ap₂, ◌∙◌}
-use mathlib.Core.List.{List, ◌∷◌}
-use Prim.Native.Nat.{ℕ, ◌+◌, ◌<◌, ◌≤◌}
-use native.Mathlib.Omega.{arith}
-use lib.IntN.{ℤ}
-use lib.ListN.{length, get_or, take, drop}
+use Rattle.std.proofs.Common.{◌≡◌, ap₂, ◌∙◌, List, ◌∷◌, ℕ, ◌+◌, ◌<◌, ◌≤◌, arith, ℤ, length, get_or, take, drop}
 use Rattle.integers.specs.Number.{+0}
 use Rattle.integers.specs.Bounds.{◌to◌, bounds_in}
 use Rattle.words.specs.Variables.{variables}
@@ -69,7 +64,7 @@ module _ {ws hs : List ℕ} {r : Read} {ls us : List ℤ} {uses : List ℕ} (m :
   pub none_left : {k : ℕ} → r.constraints ≤ k → length (constraints ws) ≤ k
   none_left h = omega (arith, m.seen.heads.counted)
 
-  -- the k_th constraint: where its head stands, what is left from it on, its L and U
+  -- the k-th constraint: where its head stands, what is left from it on, its L and U
   module _ (k : ℕ) (l : k < r.constraints) where
     pub head-inside : get_or hs k 0 < length ws
     head-inside = Heads.head-inside m.seen.heads k l

@@ -1,13 +1,8 @@
 -- The counted uses of an accepted model say which variables are shared.
-use mathlib.Core.Path.{◌≡◌, refl, sym, ap, ◌∙◌, fun_ext}
-use mathlib.Core.Bool.{false}
-use mathlib.Core.List.{List, [], ◌∷◌}
-use Prim.Native.Nat.{ℕ, ◌≤◌, ◌<◌}
-use native.Mathlib.Omega.{arith}
+use Rattle.std.proofs.Common.{◌≡◌, refl, sym, ap, ◌∙◌, false, List, [], ◌∷◌, ℕ, ◌≤◌, ◌<◌, arith, ltb, eqb, length, get_or, ne_eqb}
+use mathlib.Core.Path.{fun_ext}
 use native.Mathlib.Decide.{dec_lt}
-use lib.Dec.{ltb, eqb}
-use lib.ListN.{length, get_or, get_or-eq_default}
-use borrow.Author.Tests.{ne_eqb}
+use lib.ListN.{get_or-eq_default}
 use Rattle.integers.specs.Lists.{any, how_many}
 use Rattle.integers.specs.declared.Bounds.{Bounds}
 use Rattle.integers.proofs.Tests.{All}
@@ -22,7 +17,7 @@ use Rattle.rules.specs.Shared.{Choice, choice, encodes, shared_in}
 use Rattle.rules.specs.Translation.{shared}
 use Rattle.sharing.proofs.Choices.{View, is-element, is_var_element, is_set, is_set_reif, other, view}
 use Rattle.encodings.specs.Uses.{no_uses, uses_from, shared_by}
-use Rattle.encodings.proofs.Record.{none_yet_lem, none-many}
+use Rattle.encodings.proofs.Record.{get_or-none_yet, none-many}
 use Rattle.encodings.proofs.Uses.{uses-length, uses-are}
 
 -- a variable past the last one is encoded nowhere
@@ -48,7 +43,7 @@ uses-shared ws h = fun_ext (λ v. ap (ltb 1) (at v (dec_lt v 256)))
     cs = constraints ws
 
     at : (v : ℕ) → Dec (v < 256) → get_or (uses_from no_uses cs) v 0 ≡ how_many (λ c. any (eqb v) (encodes (choice c))) cs
-    at v (yes p) = omega (arith, uses-are no_uses cs v (omega (arith, none-many, p)), none_yet_lem v)
+    at v (yes p) = omega (arith, uses-are no_uses cs v (omega (arith, none-many, p)), get_or-none_yet v)
     at v (no n) =
         get_or-eq_default (uses_from no_uses cs) 0 (omega (arith, n, uses-length no_uses cs, none-many))
         ∙ sym (none_use (variables ws) v (omega (arith, n, few-variables ws h)) cs (typed ws h))

@@ -1,12 +1,7 @@
 -- The blocks of codes 24 to 28 and 33 as the code lays them.
-use mathlib.Core.Path.{◌≡◌, refl, sym, ap, ap₂, ◌∙◌}
-use mathlib.Core.Bool.{Bool}
-use mathlib.Core.List.{List, [], ◌∷◌, ◌++◌, append_assoc, append-nil, map, flat_map}
-use Prim.Native.Nat.{ℕ, ◌+◌, ◌-◌, ◌<◌}
-use native.Mathlib.Nat.{add-zero}
-use native.Mathlib.Omega.{arith}
-use lib.IntN.{ℤ, pos}
-use lib.ListN.{length, get_or, length-map}
+use Rattle.std.proofs.Common.{◌≡◌, refl, sym, ap, ap₂, ◌∙◌, Bool, List, [], ◌∷◌, ◌++◌, append_assoc, append-nil, map, ℕ, ◌+◌, ◌-◌, ◌<◌, add-zero, arith, ℤ, pos, length, get_or}
+use mathlib.Core.List.{flat_map}
+use lib.ListN.{length-map}
 use Rattle.integers.specs.Number.{◌⊕◌, ◌⊖◌, min_z, max_z, count, +0, +1, -1}
 use Rattle.integers.specs.Choice.{◌if◌else◌}
 use Rattle.integers.specs.Lists.{list_of}
@@ -15,7 +10,7 @@ use Rattle.integers.specs.declared.Bounds.{Bounds}
 use Rattle.integers.specs.Terms.{◌·◌}
 use Rattle.integers.proofs.Lists.{list_of-length, flat_map_append}
 use Rattle.integers.proofs.Linear.{linear}
-use Rattle.integers.proofs.Places.{get_d_list_of}
+use Rattle.integers.proofs.Places.{get_or-list_of}
 use Rattle.models.specs.Builtin.{array_int_element, array_var_int_element, set_in, set_in_reif}
 use Rattle.models.specs.Model.{size, var, num, vars, nums}
 use Rattle.rowsystems.specs.Row.{Row, sum=0}
@@ -28,10 +23,10 @@ use Rattle.rules.proofs.Lengths.{values_length}
 use Rattle.laying.proofs.Lists.{length-vars, length-nums, bits-parts, weighted-many, order-parts}
 use Rattle.extremes.specs.BoundLists.{bounds_of}
 use Rattle.choiceblocks.specs.Rows.{number_term_at, value_at, member_at, one_row, sum_row, choice_rows, gates, gated_rows, first_at, one_of_parts, extreme_of}
-use Rattle.choiceblocks.proofs.OneHot.{many_below, one-row, sum_row_lem, chosen-row, choice-rows, gates-parts, gated-rows, first_only_many}
+use Rattle.choiceblocks.proofs.OneHot.{many_below, one-row, row_parts-sum_row, chosen-row, choice-rows, gates-parts, gated-rows, first_only_many}
 use Rattle.choiceblocks.proofs.Members.{value-terms, member-terms}
 
--- the k_th of the places that an index can have: where the element at it stands among the arguments, whose list begins at place 2
+-- the k-th of the places that an index can have: where the element at it stands among the arguments, whose list begins at place 2
 place : (l u : ℤ) (n k : ℕ) → k < count (min_z (pos n) u ⊖ max_z +1 l ⊕ +1) → (count (max_z +1 l ⊕ pos k) - 1 < n) × (1 + 1 + (count (max_z +1 l ⊕ pos k) - 1) ≡ 1 + count (max_z +1 l) + k)
 place = simp linear (omega arith)
 
@@ -39,7 +34,7 @@ pub element : {A : Type 0} (d : A) (g : ℕ → A) (I : Bounds) (n k : ℕ) → 
 unfolding places width nth
 element d g I n k h =
     let p = place I.lower I.upper n k h in
-    get_d_list_of (λ j. g (1 + 1 + j)) n (count (max_z +1 I.lower ⊕ pos k) - 1) d p.0 ∙ ap g p.1
+    get_or-list_of (λ j. g (1 + 1 + j)) n (count (max_z +1 I.lower ⊕ pos k) - 1) d p.0 ∙ ap g p.1
 
 module _ (first : ℕ) where
   -- bits of the values that bounds leave: 24 and 28
@@ -119,19 +114,19 @@ module _ (first : ℕ) where
 
   -- the members of a set, in a list that reads as they do
   module _ (β : ℕ → Bounds) (S out : List ℤ) (x : ℕ) (same : (k : ℕ) → get_or out k +0 ≡ get_or (members S (β x)) k +0) where
-    pub in_set_lem : let n = length (members S (β x)) in block_parts first (rule β (set_in x S)) ≡ many bit_at n ++ (one_row first n ++ sum_row (value_at out first) n x)
+    pub block_parts-set_in : let n = length (members S (β x)) in block_parts first (rule β (set_in x S)) ≡ many bit_at n ++ (one_row first n ++ sum_row (value_at out first) n x)
     unfolding rule in_set block_parts flat_map
-    in_set_lem =
+    block_parts-set_in =
         let vs = members S (β x) in
         ap₂ (λ a b. a ++ b) (bits-parts vs)
         (ap₂ (λ a b. a ++ b) (one-row first vs) (append-nil _ ∙ chosen-row first (value_at out first) (λ v. v) vs 0 x refl (value-terms first out vs same)))
 
-    pub in_set_reified_lem : (r : ℕ) → let B = β x in
+    pub block_parts-set_in_reif : (r : ℕ) → let B = β x in
         block_parts first (rule β (set_in_reif x S r)) ≡ many bit_at (width B) ++ (choice_rows B.lower first (width B) x ++ sum_row (member_at out B.lower first) (length (members S B)) r)
     unfolding rule in_set_reified
-    in_set_reified_lem r =
+    block_parts-set_in_reif r =
         let B = β x in
         let ts = map (λ v. +1 · aux (count (v ⊖ B.lower))) (members S B) in
         choice-block B x (sum=0 (ts ++ (-1 · source r ∷ [])) +0)
         ∙ ap (λ ps. many bit_at (width B) ++ (choice_rows B.lower first (width B) x ++ ps))
-        (sum_row_lem first (member_at out B.lower first) ts r (length-map (members S B) (λ v. +1 · aux (count (v ⊖ B.lower)))) (member-terms first out (members S B) same B.lower))
+        (row_parts-sum_row first (member_at out B.lower first) ts r (length-map (members S B) (λ v. +1 · aux (count (v ⊖ B.lower)))) (member-terms first out (members S B) same B.lower))

@@ -1,12 +1,6 @@
 -- The members of a set, read back from the list that they were put into, and their rows.
-use mathlib.Core.Path.{◌≡◌, sym, ap, ◌∙◌, fun_ext}
-use mathlib.Core.Bool.{Bool, true, false}
-use mathlib.Core.List.{List, [], ◌∷◌, map}
-use Prim.Native.Nat.{ℕ, zero, suc, ◌+◌, ◌≤◌}
-use native.Mathlib.Nat.{add-zero}
-use native.Mathlib.Omega.{arith}
-use lib.IntN.{ℤ, nat_abs}
-use lib.ListN.{length, get_or}
+use Rattle.std.proofs.Common.{◌≡◌, sym, ap, ◌∙◌, Bool, true, false, List, [], ◌∷◌, map, ℕ, zero, suc, ◌+◌, ◌≤◌, add-zero, arith, ℤ, nat_abs, length, get_or}
+use mathlib.Core.Path.{fun_ext}
 use lib.Signed.{lt_z}
 use Rattle.integers.specs.Choice.{◌if◌else◌}
 use Rattle.integers.specs.Number.{◌⊕◌, ◌⊖◌, count, +0, +1}

@@ -1,11 +1,6 @@
 -- The rows and bounds of the definitions as the code lays them: over lists of labels by places.
-use mathlib.Core.Path.{◌≡◌, refl, sym, ap, ap₂, ◌∙◌}
-use mathlib.Core.List.{List, [], ◌∷◌, ◌++◌, append_assoc, map, flat_map}
-use Prim.Native.Nat.{ℕ, zero, suc, ◌+◌, ◌-◌, ◌<◌}
-use native.Mathlib.Nat.{add-zero}
-use native.Mathlib.Omega.{arith}
-use lib.IntN.{ℤ}
-use lib.ListN.{length, length-append, get_or}
+use Rattle.std.proofs.Common.{◌≡◌, refl, sym, ap, ap₂, ◌∙◌, List, [], ◌∷◌, ◌++◌, append_assoc, map, ℕ, zero, suc, ◌+◌, ◌-◌, ◌<◌, add-zero, arith, ℤ, length, length-append, get_or}
+use mathlib.Core.List.{flat_map}
 use Rattle.integers.specs.Number.{◌⊕◌, ◌⊖◌, +0, +1, -1}
 use Rattle.integers.specs.Lists.{list_of}
 use Rattle.integers.specs.Bounds.{width, values}
@@ -58,10 +53,10 @@ module _ (first : ℕ) where
   one-row ls =
       ap₂ (λ (n : ℕ) ps. head Kind.equal n ∷ (ps ++ (constant -1 ∷ []))) (weighted-length one ls 0) (rw (add-zero first) at (same_parts first +1 ls 0))
 
-  pub sum_row_lem : (f : ℕ → List Part) (ts : List (Term Ref)) (x : ℕ) {n : ℕ} → length ts ≡ n → term_parts first ts ≡ many f n →
+  pub row_parts-sum_row : (f : ℕ → List Part) (ts : List (Term Ref)) (x : ℕ) {n : ℕ} → length ts ≡ n → term_parts first ts ≡ many f n →
       row_parts first (sum=0 (ts ++ (-1 · source x ∷ [])) +0) ≡ sum_row f n x
   unfolding row_parts sum_row term_parts numbered
-  sum_row_lem f ts x {n} l e =
+  row_parts-sum_row f ts x {n} l e =
       ap₂ (λ (m : ℕ) ps. head Kind.equal m ∷ (ps ++ (constant +0 ∷ []))) (length-append ts (-1 · source x ∷ []) ∙ ap (λ (m : ℕ). m + 1) l)
       (terms-append first ts (-1 · source x ∷ []) ∙ ap (λ ps. ps ++ (term -1 x ∷ [])) e)
       ∙ ap (λ ps. head Kind.equal (n + 1) ∷ ps) (append_assoc (many f n) (term -1 x ∷ []) (constant +0 ∷ []))
@@ -69,7 +64,7 @@ module _ (first : ℕ) where
   pub chosen-row : {A : Type 0} (f : ℕ → List Part) (w : A → ℤ) (ls : List A) (k x : ℕ) {n : ℕ} → length ls ≡ n → term_parts first (weighted w ls k) ≡ many f n →
       row_parts first (chosen w ls k x) ≡ sum_row f n x
   unfolding chosen
-  chosen-row f w ls k x l e = sum_row_lem f (weighted w ls k) x (weighted-length w ls k ∙ l) e
+  chosen-row f w ls k x l e = row_parts-sum_row f (weighted w ls k) x (weighted-length w ls k ∙ l) e
 
   -- bits of the values that bounds leave, and rows after those of the choice
   pub choice-rows : (B : Bounds) (x : ℕ) (qs : List (Row Ref)) →

@@ -1,4 +1,4 @@
--- What the loops lay, turn by turn, and the rows over one_hot bits.
+-- What the loops lay, turn by turn, and the rows over one-hot bits.
 use Rattle.std.specs.Prelude.{Bool, List, [], ◌∷◌, ◌++◌, ℕ, ◌+◌, ◌-◌, ℤ, get_or}
 use Rattle.integers.specs.Choice.{◌if◌else◌}
 use Rattle.integers.specs.declared.Bounds.{Bounds}

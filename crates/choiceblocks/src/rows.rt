@@ -1,4 +1,4 @@
-// The rows over one_hot bits, and the lists that they are made of.
+// The rows over one-hot bits, and the lists that they are made of.
 ghost use Rattle.std.specs.Prelude.{◌≡◌, true, [], ◌∷◌, ℕ, ◌+◌, ◌-◌, ◌<◌, ◌≤◌, nat_abs, get_or};
 ghost use Rattle.integers.specs.Choice.{◌if◌else◌};
 ghost use Rattle.integers.specs.Number.{+0, +1, -1};

@@ -1,14 +1,7 @@
 -- A number from its last digit on, right in any number of columns, and laying it so, the last column first.
-use mathlib.Core.Path.{◌≡◌, refl, sym, ap, ◌∙◌}
-use mathlib.Core.Bool.{Bool, true, false}
-use mathlib.Core.List.{List, [], ◌∷◌, ◌++◌, append_assoc, append-nil}
-use Prim.Native.Nat.{ℕ, zero, suc, ◌+◌, ◌-◌, ◌/◌, ◌%◌, ◌≤◌, ◌<◌}
-use native.Mathlib.Omega.{arith}
-use lib.Dec.{ltb, leb-zero}
-use lib.IntN.{ℤ, pos, negsuc, nat_abs}
-use lib.ListN.{length, length-append, set}
+use Rattle.std.proofs.Common.{◌≡◌, refl, sym, ap, ◌∙◌, Bool, true, false, List, [], ◌∷◌, ◌++◌, append_assoc, append-nil, ℕ, zero, suc, ◌+◌, ◌-◌, ◌/◌, ◌%◌, ◌≤◌, ◌<◌, arith, ltb, ℤ, pos, negsuc, nat_abs, length, length-append, set, ltb-true, ltb-false, lt-ltb, le-ltb}
+use lib.Dec.{leb-zero}
 use lib.Signed.{le_z, mag}
-use borrow.Author.Tests.{ltb-true, ltb-false, lt-ltb, le-ltb}
 use Rattle.integers.specs.Choice.{◌if◌else◌}
 use Rattle.integers.proofs.Tests.{false-true}
 use Rattle.words.specs.Overlay.{overlay}

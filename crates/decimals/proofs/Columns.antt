@@ -1,9 +1,5 @@
 -- Text in columns: lengths, and a last byte.
-use mathlib.Core.Path.{◌≡◌, refl, sym, ap}
-use mathlib.Core.List.{List, [], ◌∷◌, ◌++◌, append_assoc}
-use Prim.Native.Nat.{ℕ, zero, suc, ◌-◌, ◌≤◌, ◌<◌}
-use native.Mathlib.Omega.{arith}
-use lib.ListN.{length, length-append, get_or}
+use Rattle.std.proofs.Common.{◌≡◌, refl, sym, ap, List, [], ◌∷◌, ◌++◌, append_assoc, ℕ, zero, suc, ◌-◌, ◌≤◌, ◌<◌, arith, length, length-append, get_or}
 use Rattle.decimals.specs.Column.{blanks, right, left}
 
 pub length-blanks : (n : ℕ) → length (blanks n) ≡ n

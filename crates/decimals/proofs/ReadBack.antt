@@ -1,13 +1,5 @@
 -- Numbers can be read back from their columns, whatever the width: two numbers with the same text in columns are the same.
-use mathlib.Core.Path.{◌≡◌, refl, sym, ap, ◌∙◌}
-use mathlib.Core.Bool.{Bool, true, false}
-use mathlib.Core.List.{List, [], ◌∷◌, ◌++◌}
-use Prim.Native.Nat.{ℕ, zero, suc, ◌+◌, ◌-◌, ◌*◌, ◌/◌, ◌%◌}
-use native.Mathlib.Omega.{arith}
-use lib.Dec.{ltb, eqb}
-use lib.IntN.{ℤ, pos, negsuc}
-use lib.ListN.{length}
-use borrow.Author.Tests.{lt-ltb, ne_eqb}
+use Rattle.std.proofs.Common.{◌≡◌, refl, sym, ap, ◌∙◌, Bool, true, false, List, [], ◌∷◌, ◌++◌, ℕ, zero, suc, ◌+◌, ◌-◌, ◌*◌, ◌/◌, ◌%◌, arith, ltb, eqb, ℤ, pos, negsuc, length, lt-ltb, ne_eqb}
 use Rattle.decimals.proofs.Digits.{decimal-back}
 use Rattle.integers.specs.Choice.{◌if◌else◌}
 use Rattle.decimals.specs.Column.{blanks, right, left}

@@ -1,10 +1,6 @@
 -- What is written of int_div and int_mod are the parts of their blocks.
-use mathlib.Core.Path.{◌≡◌, refl, sym, ap, ◌∙◌}
-use mathlib.Core.List.{List, [], ◌∷◌, ◌++◌, flat_map, zip_with}
-use Prim.Native.Nat.{ℕ, ◌+◌}
-use native.Mathlib.Nat.{add-zero}
-use native.Mathlib.Omega.{arith}
-use lib.IntN.{ℤ}
+use Rattle.std.proofs.Common.{◌≡◌, refl, sym, ap, ◌∙◌, List, [], ◌∷◌, ◌++◌, ℕ, ◌+◌, add-zero, arith, ℤ}
+use mathlib.Core.List.{flat_map, zip_with}
 use Rattle.integers.specs.Number.{+0, +1, -1}
 use Rattle.integers.specs.declared.Bounds.{Bounds}
 use Rattle.integers.proofs.Lists.{flat_map_append}

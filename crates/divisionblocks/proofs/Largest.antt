@@ -1,9 +1,5 @@
 -- M by fewer numbers; how large it is, and the bounds of 38's quotient.
-use mathlib.Core.Path.{◌≡◌, refl, sym, ap, ◌∙◌}
-use mathlib.Core.Bool.{true}
-use Prim.Native.Nat.{◌<◌, ◌≤◌}
-use native.Mathlib.Omega.{arith}
-use lib.IntN.{ℤ, pos, negsuc, nat_abs}
+use Rattle.std.proofs.Common.{◌≡◌, refl, sym, ap, ◌∙◌, true, ◌<◌, ◌≤◌, arith, ℤ, pos, negsuc, nat_abs}
 use Rattle.integers.specs.Number.{◌⊕◌, ◌⊖◌, neg, max_z, abs_z, +1}
 use Rattle.integers.specs.Bounds.{◌to◌}
 use Rattle.integers.proofs.Linear.{linear}

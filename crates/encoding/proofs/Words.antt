@@ -1,10 +1,5 @@
 -- The words of bytes: how many they are; one after another, for the loop that lays them over a list.
-use mathlib.Core.Path.{◌≡◌, refl, ap, sym, ◌∙◌}
-use mathlib.Core.List.{List, [], ◌∷◌}
-use Prim.Native.Nat.{ℕ, suc, ◌+◌, ◌-◌, ◌/◌, ◌≤◌, ◌<◌}
-use native.Mathlib.Omega.{arith}
-use lib.ListN.{length, drop, get_or, set, length-drop}
-use lib.Seq.{drop-cons}
+use Rattle.std.proofs.Common.{◌≡◌, refl, ap, sym, ◌∙◌, List, [], ◌∷◌, ℕ, suc, ◌+◌, ◌-◌, ◌/◌, ◌≤◌, ◌<◌, arith, length, drop, get_or, set, length-drop, drop-cons}
 use Rattle.words.specs.Overlay.{overlay}
 use Rattle.encoding.specs.Bytes.{bytes_word, bytes_words}
 

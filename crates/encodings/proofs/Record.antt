@@ -1,17 +1,12 @@
 -- What a constraint encodes, by its code; the record after its block, and how large the numbers in it are.
-use mathlib.Core.Path.{◌≡◌, refl}
-use mathlib.Core.Bool.{Bool, true, false, ◌&&◌, ◌||◌}
-use mathlib.Core.List.{List, [], ◌∷◌}
-use Prim.Native.Nat.{ℕ, ◌<◌}
-use native.Mathlib.Omega.{arith}
+use Rattle.std.proofs.Common.{◌≡◌, refl, Bool, true, false, ◌&&◌, ◌||◌, List, [], ◌∷◌, ℕ, ◌<◌, arith, eqb, length, get_or, set, length-set, get_or-set_same, get_or-set_other}
 use native.Mathlib.Decide.{ℕ_discrete, dec_lt}
-use lib.Dec.{eqb}
-use lib.ListN.{length, get_or, set, length-set, length-replicate}
-use lib.Seq.{set_out, get_or-set_same, get_or-set_other}
+use lib.ListN.{length-replicate}
+use lib.Seq.{set_out}
 use Rattle.integers.specs.Choice.{◌if◌else◌}
 use Rattle.integers.specs.Lists.{any}
 use Rattle.integers.proofs.Booleans.{or-false}
-use Rattle.integers.proofs.Places.{get_d_many}
+use Rattle.integers.proofs.Places.{get_or-replicate_same}
 use Rattle.models.specs.Model.{Constraint, var, vars, nums, past}
 use Rattle.rules.specs.Shared.{of_element, of_var_element, of_set, of_set_reif, no_choice, choice, encodes, shares, Encoded, none_yet, first_of, encoded_after}
 use Rattle.encodings.specs.Uses.{choice_of, choosing, Recorded}
@@ -69,14 +64,14 @@ placed_record s first e c h = h
 -- ---- the record holds numbers of auxiliaries, and keeps its length
 
 -- nothing is recorded yet
-pub none_yet_lem : (v : ℕ) → ◌≡◌ {A = ℕ} (get_or none_yet v 0) 0
-none_yet_lem v = get_d_many {A = ℕ} 256 v 0
+pub get_or-none_yet : (v : ℕ) → ◌≡◌ {A = ℕ} (get_or none_yet v 0) 0
+get_or-none_yet v = get_or-replicate_same {A = ℕ} 256 v 0
 
 pub none-many : length none_yet ≡ 256
 none-many = length-replicate {A = ℕ} 256 0
 
 pub recorded-none : Recorded none_yet
-recorded-none v = omega (arith, none_yet_lem v)
+recorded-none v = omega (arith, get_or-none_yet v)
 
 pub recorded-after : (s : ℕ → Bool) (first : ℕ) (e : Encoded) (xs : List ℕ) → first < 10000 → Recorded e → Recorded (encoded_after s first e xs)
 unfolding encoded_after

@@ -1,20 +1,13 @@
 -- The uses of each variable: what one constraint adds, that the counts are those of the definition, and the walk that counts them.
-use mathlib.Core.Path.{◌≡◌, refl, sym, ap, ◌∙◌}
-use mathlib.Core.Bool.{Bool, true, false, ◌||◌}
-use mathlib.Core.List.{List, [], ◌∷◌}
-use Prim.Native.Nat.{ℕ, ◌+◌, ◌≤◌, ◌<◌}
-use native.Mathlib.Omega.{arith}
+use Rattle.std.proofs.Common.{◌≡◌, refl, sym, ap, ◌∙◌, Bool, true, false, ◌||◌, List, [], ◌∷◌, ℕ, ◌+◌, ◌≤◌, ◌<◌, arith, eqb, length, get_or, set, drop, length-set, drop_of_length-le, get_or-set_same, get_or-set_other, eq-eqb, ne_eqb}
 use native.Mathlib.Decide.{ℕ_discrete, dec_lt}
-use lib.Dec.{eqb}
-use lib.ListN.{length, get_or, set, drop, length-set, drop_of_length-le}
-use lib.Seq.{set_out, get_or-set_same, get_or-set_other}
-use borrow.Author.Tests.{eq-eqb, ne_eqb}
+use lib.Seq.{set_out}
 use Rattle.integers.specs.Choice.{◌if◌else◌}
 use Rattle.integers.specs.Lists.{any, how_many}
 use Rattle.models.specs.Model.{Constraint, var}
 use Rattle.rules.specs.Shared.{choice, encodes}
 use Rattle.encodings.specs.Uses.{choice_of, choosing, counted, no_uses, uses_from}
-use Rattle.encodings.proofs.Record.{encodes-by, none_yet_lem, none-many}
+use Rattle.encodings.proofs.Record.{encodes-by, get_or-none_yet, none-many}
 
 pub counted-le : (us xs : List ℕ) (v : ℕ) → get_or (counted us xs) v 0 ≤ get_or us v 0 + 1
 unfolding counted
@@ -70,7 +63,7 @@ pub record Counting (cs : List Constraint) (us : List ℕ) (k : ℕ) : Type 0 wh
   pub many : length us ≡ 256
 
 pub begun : (cs : List Constraint) {us : List ℕ} → us ≡ no_uses → Counting cs us 0
-begun cs e = rw e record { rest = refl; low = λ v. omega (arith, none_yet_lem v); many = none-many }
+begun cs e = rw e record { rest = refl; low = λ v. omega (arith, get_or-none_yet v); many = none-many }
 
 module _ {cs : List Constraint} {us : List ℕ} {k : ℕ} (l : Counting cs us k) where
   pub more : {c : Constraint} {us' : List ℕ} → drop k cs ≡ c ∷ drop (k + 1) cs → us' ≡ counted us (encodes (choice_of c.code c.arguments)) → Counting cs us' (k + 1)

@@ -1,18 +1,12 @@
 -- The bounds of the variables, word by word, and what the lists of kept bounds give.
-use mathlib.Core.Path.{◌≡◌, refl, ap, ap₂, sym, ◌∙◌, fun_ext}
-use mathlib.Core.Bool.{Bool, true, false}
-use mathlib.Core.List.{List, [], ◌∷◌, map}
-use Prim.Native.Nat.{ℕ, zero, suc, ◌+◌, ◌<◌, ◌≤◌}
-use native.Mathlib.Omega.{arith}
-use native.Mathlib.Numerals.{add-one}
-use lib.IntN.{ℤ}
-use lib.ListN.{length, get_or, set, drop, length-set, length-map, drop_of_length-le, replicate, length-replicate}
-use lib.Seq.{get_or-set_same, get_or-set_other}
+use Rattle.std.proofs.Common.{◌≡◌, refl, ap, ap₂, sym, ◌∙◌, Bool, true, false, List, [], ◌∷◌, map, ℕ, zero, suc, ◌+◌, ◌<◌, ◌≤◌, arith, add-one, ℤ, length, get_or, set, drop, length-set, drop_of_length-le, replicate, get_or-set_same, get_or-set_other}
+use mathlib.Core.Path.{fun_ext}
+use lib.ListN.{length-map, length-replicate}
 use Rattle.integers.specs.Choice.{◌if◌else◌}
 use Rattle.integers.specs.Number.{+0, +1}
 use Rattle.integers.specs.Bounds.{◌to◌, bit, bounds_in}
 use Rattle.integers.specs.declared.Bounds.{Bounds}
-use Rattle.integers.proofs.Places.{get_d_many}
+use Rattle.integers.proofs.Places.{get_or-replicate_same}
 use Rattle.words.specs.Word.{signed, word_at}
 use Rattle.words.specs.Variables.{variables, starts_pair}
 use Rattle.words.specs.Overlay.{overlay}
@@ -40,7 +34,7 @@ module _ (ws : List ℕ) (i : ℕ) (h : i < length ws) where
       go true l u = refl
       go false l u = refl
 
--- the bounds of the words before the i_th stand in two lists, n of them
+-- the bounds of the words before the i-th stand in two lists, n of them
 pub record Keeping (ws : List ℕ) (ls₀ us₀ ls us : List ℤ) (i n : ℕ) : Type 0 where
   pub many : n + length (variables (drop i ws)) ≡ length (variables ws)
   pub lowers : overlay ls n (map (λ B. B.lower) (variables (drop i ws))) ≡ overlay ls₀ 0 (map (λ B. B.lower) (variables ws))
@@ -107,7 +101,7 @@ module _ {A : Type 0} (d : A) where
   pub over_zeros : (n : ℕ) (xs : List A) → length xs ≤ n → (v : ℕ) → get_or (overlay (replicate n d) 0 xs) v d ≡ get_or xs v d
   over_zeros n xs few v =
       let e : v ≡ 0 + v = omega arith in
-      ap (λ (w : ℕ). get_or (overlay (replicate n d) 0 xs) w d) e ∙ laid xs (replicate n d) 0 (omega (arith, length-replicate n d)) (λ w l. get_d_many n w d) v
+      ap (λ (w : ℕ). get_or (overlay (replicate n d) 0 xs) w d) e ∙ laid xs (replicate n d) 0 (omega (arith, length-replicate n d)) (λ w l. get_or-replicate_same n w d) v
 
 mapped : (f : Bounds → ℤ) → f (+0 to +0) ≡ +0 → (Bs : List Bounds) (v : ℕ) → get_or (map f Bs) v +0 ≡ f (bounds_in Bs v)
 unfolding bounds_in

@@ -1,10 +1,5 @@
 -- How large the numbers are that are made of bounds: callers owe that their sums fit.
-use mathlib.Core.Bool.{Bool, true, false}
-use mathlib.Core.List.{List}
-use Prim.Native.Nat.{ℕ, ◌≤◌}
-use native.Mathlib.Omega.{arith}
-use lib.IntN.{ℤ, pos, nat_abs}
-use lib.ListN.{get_or}
+use Rattle.std.proofs.Common.{Bool, true, false, List, ℕ, ◌≤◌, arith, ℤ, pos, nat_abs, get_or}
 use lib.Signed.{le_z}
 use Rattle.integers.specs.Choice.{◌if◌else◌}
 use Rattle.integers.specs.Number.{◌⊕◌, ◌⊖◌, min_z, max_z, +0, +1}

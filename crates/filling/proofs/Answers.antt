@@ -1,12 +1,5 @@
 -- The answers of fill of a model that passes the check, and what each leaves in the lent list.
-use mathlib.Core.Path.{◌≡◌, sym, ap, ◌∙◌}
-use mathlib.Core.Bool.{false}
-use mathlib.Core.List.{List, ◌++◌}
-use Prim.Native.Nat.{ℕ, ◌+◌, ◌<◌, ◌≤◌}
-use lib.IntN.{ℤ}
-use native.Mathlib.Omega.{arith}
-use lib.ListN.{length, length-append}
-use borrow.Author.Tests.{eq-eqb, ne_eqb, lt-ltb, le-ltb}
+use Rattle.std.proofs.Common.{◌≡◌, sym, ap, ◌∙◌, false, List, ◌++◌, ℕ, ◌+◌, ◌<◌, ◌≤◌, ℤ, arith, length, length-append, eq-eqb, ne_eqb, lt-ltb, le-ltb}
 use Rattle.words.specs.Variables.{variables}
 use Rattle.words.specs.Overlay.{overlay}
 use Rattle.words.proofs.Overlay.{front-over}

@@ -1,10 +1,5 @@
 -- What check's refusal says of fill's answer: it stands.
-use mathlib.Core.Path.{◌≡◌}
-use mathlib.Core.List.{List}
-use Prim.Native.Nat.{ℕ}
-use lib.IntN.{ℤ}
-use lib.ListN.{length}
-use borrow.Author.Tests.{ne_eqb}
+use Rattle.std.proofs.Common.{◌≡◌, List, ℕ, ℤ, length, ne_eqb}
 use Rattle.words.specs.Refusal.{◌at_place◌}
 use Rattle.words.specs.Answer.{refused, ◌else_answer◌}
 use Rattle.rules.specs.Check.{check}

@@ -1,10 +1,5 @@
 -- What fill writes of a model that passes the check, where the values satisfy it: numbers in the range, at places that do not wrap.
-use mathlib.Core.Path.{◌≡◌}
-use mathlib.Core.List.{List, ◌++◌}
-use Prim.Native.Nat.{ℕ, ◌+◌, ◌<◌}
-use native.Mathlib.Omega.{arith}
-use lib.IntN.{ℤ}
-use lib.ListN.{length}
+use Rattle.std.proofs.Common.{◌≡◌, List, ◌++◌, ℕ, ◌+◌, ◌<◌, arith, ℤ, length}
 use Rattle.integers.specs.Terms.{value}
 use Rattle.words.proofs.Word.{range-near}
 use Rattle.words.specs.Small.{Small}

@@ -1,7 +1,5 @@
 -- Parts after parts, with how much the counts grow.
-use mathlib.Core.List.{List, ◌++◌}
-use Prim.Native.Nat.{ℕ, ◌+◌}
-use native.Mathlib.Omega.{arith}
+use Rattle.std.proofs.Common.{List, ◌++◌, ℕ, ◌+◌, arith}
 use Rattle.laying.specs.Part.{Part}
 use Rattle.laying.specs.Appends.{Appends, GrowsBy}
 use Rattle.laying.specs.declared.Laid.{Laid}

@@ -56,7 +56,7 @@ pub fn where_bit(
     one: bool,
 ) -> Laid
     requires { Room 2000 s × Small ls.now × Small us.now × (nat_abs d ≤ 1) }
-    ensures fact { let P = gap_plus ls.now us.now x y d in Appends s result out.old out.new (where_row one x y z P d) }
+    ensures row { let P = gap_plus ls.now us.now x y d in Appends s result out.old out.new (where_row one x y z P d) }
     ensures size { GrowsBy 2000 s result }
 {
     let p = gap_plus(ls, us, x, y, d);

@@ -1,11 +1,5 @@
 -- The length of a list ahead, token by token. For `length_ahead`.
-use mathlib.Core.Path.{◌≡◌}
-use mathlib.Core.Bool.{Bool, true, false}
-use mathlib.Core.List.{List, [], ◌∷◌}
-use Prim.Native.Nat.{ℕ, ◌+◌, ◌≤◌}
-use native.Mathlib.Omega.{arith}
-use lib.Dec.{eqb}
-use borrow.Author.Tests.{eq-eqb, ne_eqb}
+use Rattle.std.proofs.Common.{◌≡◌, Bool, true, false, List, [], ◌∷◌, ℕ, ◌+◌, ◌≤◌, arith, eqb, eq-eqb, ne_eqb}
 use Rattle.integers.specs.Choice.{◌if◌else◌}
 use Rattle.tokens.specs.Token.{Token}
 use Rattle.grammar.specs.Brackets.{fits_inside, length_from}

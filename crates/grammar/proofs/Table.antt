@@ -1,15 +1,10 @@
 -- The table of arguments: its entries are the forms of the definition; no code above 39 has an argument, and no code a fifth. For `argument_form`.
-use mathlib.Core.Path.{◌≡◌, refl, sym, ap, ◌∙◌}
-use mathlib.Core.Bool.{Bool, true, false, not}
-use mathlib.Core.List.{List, [], ◌∷◌, map, flat_map, flatten}
-use Prim.Native.Nat.{ℕ, zero, suc, ◌<◌, ◌≤◌}
-use native.Mathlib.Omega.{arith}
-use native.Mathlib.Nat.{le_trans}
-use lib.Dec.{leb}
-use lib.ListN.{length, get_or, get_or-eq_default, get_or-map}
-use borrow.Author.Tests.{leb-true, leb-false, le-leb, lt-leb}
+use Rattle.std.proofs.Common.{◌≡◌, refl, sym, ap, ◌∙◌, Bool, true, false, not, List, [], ◌∷◌, map, ℕ, zero, suc, ◌<◌, ◌≤◌, arith, le_trans, leb, length, get_or, leb-true, leb-false, le-leb}
+use mathlib.Core.List.{flat_map, flatten}
+use lib.ListN.{get_or-eq_default, get_or-map}
+use borrow.Author.Tests.{lt-leb}
 use Rattle.integers.specs.Lists.{list_of, all}
-use Rattle.integers.proofs.Places.{get_d_list_of}
+use Rattle.integers.proofs.Places.{get_or-list_of}
 use Rattle.integers.proofs.Tests.{says_all, false-true}
 use Rattle.integers.proofs.Lists.{all_or_past}
 use Rattle.models.specs.Table.{Code, codes}
@@ -22,8 +17,8 @@ pub rule : (rows : List (List ℕ)) (c k : ℕ) → FormTable rows → c < 40 �
 unfolding numbered_form
 rule rows c k t h g =
     sym (get_or-map numbered_form (get_or rows c []) k 0)
-    ∙ ap (λ (r : List Form). get_or r k Missing) (sym (get_or-map (map numbered_form) rows c []) ∙ ap (λ (r : List (List Form)). get_or r c []) t ∙ get_d_list_of (λ d. list_of (argument_form d) 4) 40 c [] (omega arith))
-    ∙ get_d_list_of (argument_form c) 4 k Missing g
+    ∙ ap (λ (r : List Form). get_or r k Missing) (sym (get_or-map (map numbered_form) rows c []) ∙ ap (λ (r : List (List Form)). get_or r c []) t ∙ get_or-list_of (λ d. list_of (argument_form d) 4) 40 c [] (omega arith))
+    ∙ get_or-list_of (argument_form c) 4 k Missing g
 
 no_arguments : (c : ℕ) → 39 < c → argument_forms c ≡ []
 unfolding argument_forms
@@ -41,7 +36,7 @@ module _ (test : List Form → Bool) (nil : test [] ≡ true) (holds : all test 
       go : (b : Bool) → leb c 39 ≡ b → test (argument_forms c) ≡ true
       go true e =
           let h : c < 40 = omega (arith, leb-true c 39 e) in
-          rw (get_d_list_of argument_forms 40 c [] h) at (all_or_past (λ r. test r ≡ true) (list_of argument_forms 40) [] ((says_all test (λ r. test r ≡ true) (λ r. (λ q. q, λ q. q)) (list_of argument_forms 40)).0 holds) nil c)
+          rw (get_or-list_of argument_forms 40 c [] h) at (all_or_past (λ r. test r ≡ true) (list_of argument_forms 40) [] ((says_all test (λ r. test r ≡ true) (λ r. (λ q. q, λ q. q)) (list_of argument_forms 40)).0 holds) nil c)
       go false e = rw (no_arguments c (leb-false c 39 e)) nil
 
 abbrev Short : List Form → Bool

@@ -1,7 +1,5 @@
 -- The variable of a name that stands between two places. For the steps.
-use mathlib.Core.Path.{◌≡◌}
-use mathlib.Core.List.{List}
-use Prim.Native.Nat.{ℕ}
+use Rattle.std.proofs.Common.{◌≡◌, List, ℕ}
 use Rattle.tokens.specs.Token.{tokens}
 use Rattle.tokens.specs.Unread.{bytes_between, unread, spanned}
 use Rattle.tokens.specs.declared.Span.{Span}

@@ -1,9 +1,5 @@
 -- Check over bytes refuses more than 8,192 words, whatever they are.
-use mathlib.Core.Path.{◌≡◌}
-use mathlib.Core.List.{List}
-use Prim.Native.Nat.{ℕ, ◌<◌}
-use lib.ListN.{length}
-use borrow.Author.Tests.{lt-ltb}
+use Rattle.std.proofs.Common.{◌≡◌, List, ℕ, ◌<◌, length, lt-ltb}
 use Rattle.words.specs.Refusal.{◌else_refuse◌}
 use Rattle.words.specs.Answer.{refusal_number, ◌else_answer◌}
 use Rattle.encoding.specs.Bytes.{bytes_words}

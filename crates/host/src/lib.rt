@@ -87,7 +87,7 @@ pub extern "C" fn pearrummy_translate(words: &[u32], out: &mut [u32]) -> Written
     written_of(translate(words, out))
 }
 
-// Judge_model.
+// Judge-model.
 #[unsafe(no_mangle)]
 pub extern "C" fn pearrummy_judge_model(words: &[u32], values: &[i32]) -> Judgement
     ensures { result ≡ judgement_of (judge_model words.now values.now) }
@@ -95,7 +95,7 @@ pub extern "C" fn pearrummy_judge_model(words: &[u32], values: &[i32]) -> Judgem
     judgement_of(judge_model(words, values))
 }
 
-// Judge_rows.
+// Judge-rows.
 #[unsafe(no_mangle)]
 pub extern "C" fn pearrummy_judge_rows(words: &[u32], values: &[i32]) -> Judgement
     ensures { result ≡ judgement_of (judge_rows words.now values.now) }
@@ -163,7 +163,7 @@ pub extern "C" fn pearrummy_pair_translate(
     written_of(pair_translate(words, candidate, out))
 }
 
-// Judge_model of a candidate's model.
+// Judge-model of a candidate's model.
 #[unsafe(no_mangle)]
 pub extern "C" fn pearrummy_pair_judge_model(
     words: &[u32],

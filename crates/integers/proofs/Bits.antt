@@ -1,8 +1,5 @@
 -- Values that are 0 or 1: `simp bits (simp linear (omega arith))` proves a linear statement over them, `(r : ℤ) → Bit r → ..`.
-use mathlib.Core.Path.{◌≡◌, refl}
-use mathlib.Core.Logic.{◌↔◌}
-use Prim.Native.Nat.{zero, suc}
-use lib.IntN.{ℤ, pos, negsuc}
+use Rattle.std.proofs.Common.{◌≡◌, refl, ◌↔◌, zero, suc, ℤ, pos, negsuc}
 use Rattle.integers.proofs.Linear.{◌⊑◌, arith_z}
 
 pub data Bit : ℤ → Type 0 where

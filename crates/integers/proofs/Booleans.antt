@@ -1,8 +1,5 @@
 -- Laws of Booleans: "and", "or", and 1 for true.
-use mathlib.Core.Path.{◌≡◌, refl, sym}
-use mathlib.Core.Bool.{Bool, true, false, ◌&&◌, ◌||◌}
-use Prim.Native.Nat.{◌≤◌}
-use native.Mathlib.Omega.{arith}
+use Rattle.std.proofs.Common.{◌≡◌, refl, sym, Bool, true, false, ◌&&◌, ◌||◌, ◌≤◌, arith}
 use Rattle.integers.specs.Choice.{◌if◌else◌}
 use Rattle.integers.proofs.Tests.{false-true}
 

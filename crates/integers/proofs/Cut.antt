@@ -1,10 +1,6 @@
 -- Numbers cut to −S..S. A product of cut numbers, cut again, is the product cut: what has left −S..S does not come back, and 64 bits suffice
 -- for products of many factors. For the code of int_pow.
-use mathlib.Core.Path.{◌≡◌, sym, ap, ◌∙◌}
-use mathlib.Core.Logic.{◌↔◌}
-use Prim.Native.Nat.{◌≤◌}
-use native.Mathlib.Omega.{arith}
-use lib.IntN.{ℤ, nat_abs}
+use Rattle.std.proofs.Common.{◌≡◌, sym, ap, ◌∙◌, ◌↔◌, ◌≤◌, arith, ℤ, nat_abs}
 use Rattle.integers.specs.Number.{◌⊗◌, neg, min_z, max_z, cut, ◌≟◌, +0, +1}
 use Rattle.integers.proofs.Linear.{◌⊑◌, ◌⊏◌, rep, linear, from₃, dec⊑}
 use Rattle.integers.proofs.Product.{product-order, ⊗_comm}

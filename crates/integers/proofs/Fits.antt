@@ -1,16 +1,9 @@
 -- Signed numbers of 64 bits: what fits, and how large sums and products are.
-use mathlib.Core.Path.{◌≡◌, refl, ap, sym, ◌∙◌}
-use mathlib.Core.Bool.{Bool, true, false, not, cond}
-use Prim.Native.Nat.{ℕ, zero, suc, ◌+◌, ◌*◌, ◌-◌, ◌/◌, ◌%◌, ◌<◌, ◌≤◌}
-use native.Mathlib.Omega.{arith}
-use native.Mathlib.Nat.{mul-le-mul_left, mul-le-mul_right, le_trans, div-le_self, mod-le}
-use lib.Dec.{T, ltb, ltb→lt, eqb}
-use lib.IntN.{ℤ, pos, negsuc, neg_ℤ, ◌+ℤ◌, ◌*ℤ◌, nat_abs, sub_ℕ}
+use Rattle.std.proofs.Common.{◌≡◌, refl, ap, sym, ◌∙◌, Bool, true, false, not, cond, ℕ, zero, suc, ◌+◌, ◌*◌, ◌-◌, ◌/◌, ◌%◌, ◌<◌, ◌≤◌, arith, mul-le-mul_left, mul-le-mul_right, le_trans, div-le_self, T, ltb, ltb→lt, eqb, ℤ, pos, negsuc, neg_ℤ, ◌+ℤ◌, ◌*ℤ◌, nat_abs, w32, w64, to_z, of_z, SFits, to_z-of_z, eqb-true}
+use native.Mathlib.Nat.{mod-le}
+use lib.IntN.{sub_ℕ}
 use lib.Signed.{mag, quot_z, rem_z}
-use mir.Syntax.{w32, w64}
-use mir.Val.{to_z, of_z, SFits}
-use mir.Facts.{to_z-of_z}
-use borrow.Author.Tests.{eqb-true, eqb-false}
+use borrow.Author.Tests.{eqb-false}
 use Rattle.integers.specs.Number.{◌⊕◌, ◌⊖◌, ◌⊗◌, neg, ◌≟◌}
 use Rattle.integers.proofs.Tests.{says-equal, false-true}
 
@@ -25,7 +18,7 @@ fits64 z h = record { sfits = omega (arith, mag_le z) }
 pub fits32 : (z : ℤ) → nat_abs z < 2147483648 → SFits w32 z
 fits32 z h = record { sfits = omega (arith, mag_le z) }
 
--- what is read back of a number that a call gave: `back c.f.result c.f.ok`
+-- what is read back of a number that a call gave: `back c.f.result c.f.type_inv`
 pub back : (z : ℤ) → mag z < 9223372036854775808 → to_z w64 (of_z w64 z) ≡ z
 back z h = to_z-of_z {w = w64} (record { sfits = h })
 

@@ -6,14 +6,9 @@
 --   facts of the context that are compound                                    = from₂ h k (rw (..) (simp linear (omega arith)))
 --   orders and equations between atoms and literals alone                     = omega arith_z
 -- A false statement is refused with values at which it fails. Assumes nothing.
-use mathlib.Core.Path.{◌≡◌, refl, sym, ap, ◌∙◌, subst}
-use mathlib.Core.Logic.{◌⊎◌, inl, inr, ⊎_elim, ◌↔◌}
-use mathlib.Core.Bool.{Bool, true, false, not, cond}
-use Prim.Native.Nat.{ℕ, zero, suc, ◌+◌, ◌*◌, ◌-◌, ◌≤◌, ◌<◌, min, max}
-use native.Mathlib.Omega.{arith}
-use lib.Dec.{T, ltb, ltb→lt, nltb→le, leb→le, le→leb, lt→ltb}
-use lib.IntN.{ℤ, pos, negsuc, neg_ℤ, ◌+ℤ◌, ◌*ℤ◌, sub_ℕ, nat_abs}
-use lib.Signed.{◌≤ℤ◌, le_z, ◌<ℤ◌}
+use Rattle.std.proofs.Common.{◌≡◌, refl, sym, ap, ◌∙◌, subst, ◌⊎◌, inl, inr, ⊎_elim, ◌↔◌, Bool, true, false, not, cond, ℕ, zero, suc, ◌+◌, ◌*◌, ◌-◌, ◌≤◌, ◌<◌, min, max, arith, T, ltb, ltb→lt, nltb→le, leb→le, le→leb, lt→ltb, ℤ, pos, negsuc, neg_ℤ, ◌+ℤ◌, ◌*ℤ◌, nat_abs, ◌≤ℤ◌, ◌<ℤ◌}
+use lib.IntN.{sub_ℕ}
+use lib.Signed.{le_z}
 use Rattle.integers.specs.Choice.{◌if◌else◌}
 use Rattle.integers.specs.Number.{◌⊕◌, ◌⊖◌, ◌⊗◌, neg, min_z, max_z, abs_z, count}
 
@@ -179,12 +174,12 @@ diff-max a b c d =
     by_le (diff a b) (diff c d) (λ t. (diff c d if t else diff a b) ≡ diff (max (a + d) (c + b)) (b + d))
     (simp (diff_≤, diff-≡) (omega arith)) (simp (diff_≤, diff-≡) (omega arith))
 
-nat_abs_lem : {a b : ℕ} {z : ℤ} → IsDiff a b z → nat_abs z ≡ (a - b) + (b - a)
-nat_abs_lem (above b k) = omega arith
-nat_abs_lem (below a k) = omega arith
+nat_abs-is_diff : {a b : ℕ} {z : ℤ} → IsDiff a b z → nat_abs z ≡ (a - b) + (b - a)
+nat_abs-is_diff (above b k) = omega arith
+nat_abs-is_diff (below a k) = omega arith
 
 pub diff_nat_abs : (a b : ℕ) → nat_abs (diff a b) ≡ (a - b) + (b - a)
-diff_nat_abs a b = nat_abs_lem (view a b)
+diff_nat_abs a b = nat_abs-is_diff (view a b)
 
 pub diff-abs : (a b : ℕ) → abs_z (diff a b) ≡ diff ((a - b) + (b - a)) 0
 unfolding abs_z

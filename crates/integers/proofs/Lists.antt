@@ -1,10 +1,6 @@
 -- Laws of `All` and `Any` over lists; lists made of lists.
-use mathlib.Core.Path.{◌≡◌, refl, subst, sym, ap, ◌∙◌}
-use mathlib.Core.Logic.{◌⊎◌, inl, inr, ◌↔◌}
-use mathlib.Core.List.{List, [], ◌∷◌, ◌++◌, map, flat_map, append_assoc}
-use Prim.Native.Nat.{ℕ, zero, suc, ◌<◌}
-use native.Mathlib.Omega.{arith}
-use lib.ListN.{length, get_or}
+use Rattle.std.proofs.Common.{◌≡◌, refl, subst, sym, ap, ◌∙◌, ◌⊎◌, inl, inr, ◌↔◌, List, [], ◌∷◌, ◌++◌, map, append_assoc, ℕ, zero, suc, ◌<◌, arith, length, get_or}
+use mathlib.Core.List.{flat_map}
 use Rattle.integers.specs.Lists.{list_of}
 use Rattle.integers.proofs.Tests.{All, Any, Member}
 

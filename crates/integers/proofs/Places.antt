@@ -1,17 +1,6 @@
 -- Lists by places, for loops that go through a list from its front: one element more, and tests by counting.
-use mathlib.Core.Path.{◌≡◌, refl, ap, sym, ◌∙◌}
-use mathlib.Core.Bool.{Bool, true, false, ◌&&◌, ◌||◌}
-use mathlib.Core.List.{List, [], ◌∷◌, ◌++◌, map}
+use Rattle.std.proofs.Common.{◌≡◌, refl, ap, sym, ◌∙◌, Bool, true, false, ◌&&◌, ◌||◌, List, [], ◌∷◌, ◌++◌, map, ℕ, zero, suc, ◌+◌, ◌<◌, ◌≤◌, add-one, zero-add, arith, ltb, eqb, ℤ, length, get_or, drop, replicate, drop_of_length-le, drop-cons, lt-ltb, ne_eqb}
 use Prim.Native.Nat.compare
-use Prim.Native.Nat.{ℕ, zero, suc, ◌+◌, ◌<◌, ◌≤◌}
-use native.Mathlib.Numerals.{add-one}
-use native.Mathlib.Nat.{zero-add}
-use native.Mathlib.Omega.{arith}
-use lib.Dec.{ltb, eqb}
-use lib.IntN.{ℤ}
-use lib.ListN.{length, get_or, drop, replicate, drop_of_length-le}
-use lib.Seq.{drop-cons}
-use borrow.Author.Tests.{lt-ltb, ne_eqb}
 use Rattle.integers.specs.Choice.{◌if◌else◌}
 use Rattle.integers.specs.Number.{◌⊕◌, ◌⊗◌, +0}
 use Rattle.integers.specs.Lists.{list_of, all, any, how_many}
@@ -56,11 +45,11 @@ sum_more σ f k = rw add-one (one_more (sum σ) ◌⊕◌ (λ t. t.coefficient �
 -- ---- elements
 
 module _ {A : Type 0} where
-  pub get_d_list_of : (f : ℕ → A) (n k : ℕ) (d : A) → k < n → get_or (list_of f n) k d ≡ f k
+  pub get_or-list_of : (f : ℕ → A) (n k : ℕ) (d : A) → k < n → get_or (list_of f n) k d ≡ f k
   unfolding list_of
-  get_d_list_of f zero k d h = absurd (omega arith)
-  get_d_list_of f (suc n) zero d h = refl
-  get_d_list_of f (suc n) (suc k) d h = get_d_list_of (λ i. f (suc i)) n k d (omega arith)
+  get_or-list_of f zero k d h = absurd (omega arith)
+  get_or-list_of f (suc n) zero d h = refl
+  get_or-list_of f (suc n) (suc k) d h = get_or-list_of (λ i. f (suc i)) n k d (omega arith)
 
   pub map-list_of : {B : Type 0} (g : A → B) (f : ℕ → A) (n : ℕ) → map g (list_of f n) ≡ list_of (λ k. g (f k)) n
   unfolding list_of
@@ -74,10 +63,10 @@ module _ {A : Type 0} where
   by-places d (x ∷ xs) = ap (λ l. x ∷ l) (by-places d xs)
 
   -- one element many times, and past its end
-  pub get_d_many : (n k : ℕ) (d : A) → get_or (replicate n d) k d ≡ d
-  get_d_many zero k d = refl
-  get_d_many (suc n) zero d = refl
-  get_d_many (suc n) (suc k) d = get_d_many n k d
+  pub get_or-replicate_same : (n k : ℕ) (d : A) → get_or (replicate n d) k d ≡ d
+  get_or-replicate_same zero k d = refl
+  get_or-replicate_same (suc n) zero d = refl
+  get_or-replicate_same (suc n) (suc k) d = get_or-replicate_same n k d
 
 pub bounds-listed : (Bs : List Bounds) → list_of (bounds_in Bs) (length Bs) ≡ Bs
 unfolding bounds_in

@@ -1,8 +1,6 @@
 -- A product between the products of the ends of bounds.
-use mathlib.Core.Path.{◌≡◌}
-use Prim.Native.Nat.{ℕ, ◌+◌, ◌*◌, ◌-◌, ◌≤◌}
-use native.Mathlib.Omega.{arith}
-use lib.IntN.{ℤ, pos, *ℤ_comm}
+use Rattle.std.proofs.Common.{◌≡◌, ℕ, ◌+◌, ◌*◌, ◌-◌, ◌≤◌, arith, ℤ, pos}
+use lib.IntN.{*ℤ_comm}
 use Rattle.integers.specs.Number.{◌⊕◌, ◌⊗◌, min_z, max_z}
 use Rattle.integers.proofs.Linear.{◌⊑◌, pos_part, neg_part, rep, linear, le_read, from₁, dec⊑}
 

@@ -1,8 +1,5 @@
 -- Laws of sums, products and orders of whole numbers in one line each, for proofs by steps.
-use mathlib.Core.Path.{◌≡◌}
-use Prim.Native.Nat.{ℕ, ◌≤◌}
-use native.Mathlib.Omega.{arith}
-use lib.IntN.{ℤ, pos, nat_abs}
+use Rattle.std.proofs.Common.{◌≡◌, ℕ, ◌≤◌, arith, ℤ, pos, nat_abs}
 use Rattle.integers.specs.Number.{◌⊕◌, ◌⊖◌, ◌⊗◌, count, +0, +1}
 use Rattle.integers.proofs.Linear.{◌⊑◌, ◌⊏◌, linear}
 
@@ -70,6 +67,6 @@ not-less = simp linear (omega arith)
 pub count-le : (a : ℤ) → count a ≤ nat_abs a
 count-le = simp linear (omega arith)
 
--- the k_th number from a on is k above a
+-- the k-th number from a on is k above a
 pub count-from : (a : ℤ) (k : ℕ) → count (a ⊕ pos k ⊖ a) ≡ k
 count-from = simp linear (omega arith)

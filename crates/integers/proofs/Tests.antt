@@ -1,13 +1,7 @@
 -- What a test says: `Says t A`, the test t is true exactly where A holds.
-use mathlib.Core.Path.{◌≡◌, refl, sym, ap, subst, ◌∙◌}
-use mathlib.Core.Logic.{◌⊎◌, inl, inr, ◌↔◌}
-use mathlib.Core.Bool.{Bool, true, false, not, ◌&&◌, ◌||◌, beq}
-use mathlib.Core.List.{List, [], ◌∷◌}
-use Prim.Native.Nat.{ℕ, ◌≤◌}
-use lib.Dec.{T, leb}
-use lib.IntN.{ℤ, pos, negsuc}
+use Rattle.std.proofs.Common.{◌≡◌, refl, sym, ap, subst, ◌∙◌, ◌⊎◌, inl, inr, ◌↔◌, Bool, true, false, not, ◌&&◌, ◌||◌, List, [], ◌∷◌, ℕ, ◌≤◌, T, leb, ℤ, pos, negsuc, eqb-true, eq-eqb, leb-true}
+use mathlib.Core.Bool.{beq}
 use lib.Signed.{le_z, lt_z}
-use borrow.Author.Tests.{eqb-true, eq-eqb, leb-true}
 use Rattle.integers.specs.Choice.{◌if◌else◌}
 use Rattle.integers.specs.Number.{◌≟◌}
 use Rattle.integers.specs.Lists.{all, any}

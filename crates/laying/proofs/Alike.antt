@@ -1,10 +1,5 @@
 -- Parts that count as others do, and are the same where their numbers are in the range: laying the ones is laying the others, but for words that are never read.
-use mathlib.Core.Path.{◌≡◌, refl, sym, ap, ◌∙◌}
-use mathlib.Core.Bool.{true, not, ◌&&◌, ◌||◌}
-use mathlib.Core.List.{List, ◌++◌}
-use Prim.Native.Nat.{ℕ, ◌+◌}
-use native.Mathlib.Omega.{arith}
-use lib.ListN.{length, length-append}
+use Rattle.std.proofs.Common.{◌≡◌, refl, sym, ap, ◌∙◌, true, not, ◌&&◌, ◌||◌, List, ◌++◌, ℕ, ◌+◌, arith, length, length-append}
 use Rattle.integers.specs.Lists.{all}
 use Rattle.integers.proofs.Places.{all_append}
 use Rattle.integers.proofs.Booleans.{both_true}

@@ -1,11 +1,7 @@
 -- The parts of a block have the words, the auxiliaries, the rows and the numbers that its definition says.
-use mathlib.Core.Path.{◌≡◌, refl, sym, ap, ap₂, ◌∙◌}
-use mathlib.Core.Bool.{not}
-use mathlib.Core.List.{List, [], ◌∷◌, ◌++◌, flat_map, map}
-use Prim.Native.Nat.{ℕ}
-use native.Mathlib.Omega.{arith}
-use lib.IntN.{ℤ}
-use lib.ListN.{length, length-map}
+use Rattle.std.proofs.Common.{◌≡◌, refl, sym, ap, ap₂, ◌∙◌, not, List, [], ◌∷◌, ◌++◌, map, ℕ, arith, ℤ, length}
+use mathlib.Core.List.{flat_map}
+use lib.ListN.{length-map}
 use Rattle.integers.specs.Lists.{all}
 use Rattle.integers.specs.Terms.{Term}
 use Rattle.integers.specs.declared.Bounds.{Bounds}
@@ -41,10 +37,10 @@ bound-rows [] = refl
 bound-rows (B ∷ Bs) = omega (arith, bound-rows Bs)
 
 module _ (first : ℕ) where
-  term_words_lem : (ts : List (Term Ref)) → words_in (term_parts first ts) ≡ flat_map term_words (rename_terms (numbered first) ts)
+  words_in-term_parts : (ts : List (Term Ref)) → words_in (term_parts first ts) ≡ flat_map term_words (rename_terms (numbered first) ts)
   unfolding words_in term_parts flat_map part_words term_words rename_terms
-  term_words_lem [] = refl
-  term_words_lem (t ∷ ts) = ap (λ l. word Kind.variable (numbered first t.variable) ∷ number_word Kind.number t.coefficient ∷ l) (term_words_lem ts)
+  words_in-term_parts [] = refl
+  words_in-term_parts (t ∷ ts) = ap (λ l. word Kind.variable (numbered first t.variable) ∷ number_word Kind.number t.coefficient ∷ l) (words_in-term_parts ts)
 
   term-numbers : (ts : List (Term Ref)) → numbers_in (term_parts first ts) ≡ map (λ t. t.coefficient) ts
   unfolding numbers_in term_parts flat_map part_numbers
@@ -67,7 +63,7 @@ module _ (first : ℕ) where
   unfolding sum_words words_in flat_map part_words rename_terms
   sum-words k ts c =
       ap₂ (λ (n : ℕ) l. word k n ∷ l) (sym (length-map ts _))
-      (words_append (term_parts first ts) (constant c ∷ []) ∙ ap (λ l. l ++ (number_word Kind.number c ∷ [])) (term_words_lem ts))
+      (words_append (term_parts first ts) (constant c ∷ []) ∙ ap (λ l. l ++ (number_word Kind.number c ∷ [])) (words_in-term_parts ts))
 
   sum-numbers : (k : ℕ) (ts : List (Term Ref)) (c : ℤ) → numbers_in (head k (length ts) ∷ (term_parts first ts ++ (constant c ∷ []))) ≡ map (λ t. t.coefficient) ts ++ (c ∷ [])
   unfolding numbers_in flat_map part_numbers
@@ -81,11 +77,11 @@ module _ (first : ℕ) where
   unfolding rows_in part_rows
   sum_rows k ts c = omega (arith, rows_append (term_parts first ts) (constant c ∷ []), term_rows ts)
 
-  row_words_lem : (q : Row Ref) → words_in (row_parts first q) ≡ row_words (rename (numbered first) q)
+  words_in-row_parts : (q : Row Ref) → words_in (row_parts first q) ≡ row_words (rename (numbered first) q)
   unfolding row_parts row_words rename words_in flat_map part_words
-  row_words_lem (sum≤0 ts c) = sum-words Kind.at_most ts c
-  row_words_lem (sum=0 ts c) = sum-words Kind.equal ts c
-  row_words_lem (product r f g) = refl
+  words_in-row_parts (sum≤0 ts c) = sum-words Kind.at_most ts c
+  words_in-row_parts (sum=0 ts c) = sum-words Kind.equal ts c
+  words_in-row_parts (product r f g) = refl
 
   row-numbers : (q : Row Ref) → numbers_in (row_parts first q) ≡ row_numbers q
   unfolding row_parts row_numbers numbers_in flat_map part_numbers
@@ -110,7 +106,7 @@ module _ (first : ℕ) where
   rows_words : (qs : List (Row Ref)) → words_in (flat_map (row_parts first) qs) ≡ flat_map (λ q. row_words (rename (numbered first) q)) qs
   unfolding flat_map words_in
   rows_words [] = refl
-  rows_words (q ∷ qs) = words_append (row_parts first q) (flat_map (row_parts first) qs) ∙ ap₂ (λ a b. a ++ b) (row_words_lem q) (rows_words qs)
+  rows_words (q ∷ qs) = words_append (row_parts first q) (flat_map (row_parts first) qs) ∙ ap₂ (λ a b. a ++ b) (words_in-row_parts q) (rows_words qs)
 
   rows-numbers : (qs : List (Row Ref)) → numbers_in (flat_map (row_parts first) qs) ≡ flat_map row_numbers qs
   unfolding flat_map numbers_in
@@ -129,9 +125,9 @@ module _ (first : ℕ) where
 
   -- ---- of a block
 
-  pub block_words_lem : (B : Block) → words_in (block_parts first B) ≡ block_words first B
+  pub words_in-block_parts : (B : Block) → words_in (block_parts first B) ≡ block_words first B
   unfolding block_parts block_words
-  block_words_lem B =
+  words_in-block_parts B =
       words_append (bound_parts B.auxiliaries) (flat_map (row_parts first) B.rows)
       ∙ ap₂ (λ a b. a ++ b) (bound-words B.auxiliaries) (rows_words B.rows)
 

@@ -1,11 +1,6 @@
 -- A row laid as a head, terms and a constant; rows after those of a block; int_eq_reif as int_lin_eq_reif, int_ne_reif as int_lin_ne_reif.
-use mathlib.Core.Path.{◌≡◌, refl, sym, ◌∙◌}
-use mathlib.Core.Bool.{Bool}
-use mathlib.Core.List.{List, [], ◌∷◌, ◌++◌, append_assoc, append-nil, flat_map}
-use Prim.Native.Nat.{ℕ, ◌+◌}
-use native.Mathlib.Nat.{add-zero}
-use lib.IntN.{ℤ}
-use lib.ListN.{length}
+use Rattle.std.proofs.Common.{◌≡◌, refl, sym, ◌∙◌, Bool, List, [], ◌∷◌, ◌++◌, append_assoc, append-nil, ℕ, ◌+◌, add-zero, ℤ, length}
+use mathlib.Core.List.{flat_map}
 use Rattle.integers.specs.Lists.{list_of}
 use Rattle.integers.specs.Number.{◌⊕◌, neg, +0, +1, -1}
 use Rattle.integers.specs.Terms.{Term, ◌·◌}

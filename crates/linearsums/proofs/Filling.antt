@@ -1,16 +1,11 @@
 -- The records of the variables, as a loop fills them from two lists: what they give is what the lists give.
-use mathlib.Core.Path.{◌≡◌, refl, ap, sym, ◌∙◌, fun_ext}
-use mathlib.Core.Logic.{◌⊎◌, inl, inr, ⊎_elim}
-use mathlib.Core.List.{List, [], ◌∷◌}
-use Prim.Native.Nat.{ℕ, zero, suc, ◌+◌, ◌<◌, ◌≤◌}
-use native.Mathlib.Omega.{arith}
-use lib.IntN.{ℤ}
-use lib.ListN.{length, get_or, set, replicate, length-set, length-replicate}
-use lib.Seq.{get_or-set_same, get_or-set_other}
+use Rattle.std.proofs.Common.{◌≡◌, refl, ap, sym, ◌∙◌, ◌⊎◌, inl, inr, ⊎_elim, List, [], ◌∷◌, ℕ, zero, suc, ◌+◌, ◌<◌, ◌≤◌, arith, ℤ, length, get_or, set, replicate, length-set, get_or-set_same, get_or-set_other}
+use mathlib.Core.Path.{fun_ext}
+use lib.ListN.{length-replicate}
 use Rattle.integers.specs.Number.{+0}
 use Rattle.integers.specs.Bounds.{◌to◌, bounds_in}
 use Rattle.integers.specs.declared.Bounds.{Bounds}
-use Rattle.integers.proofs.Places.{get_d_many}
+use Rattle.integers.proofs.Places.{get_or-replicate_same}
 use Rattle.extremes.specs.BoundLists.{bounds_of}
 use Rattle.linearsums.specs.Places.{NoneFrom}
 
@@ -29,7 +24,7 @@ pub record Filling (ls us : List ℤ) (Bs : List Bounds) (v : ℕ) : Type 0 wher
   pub left : (j : ℕ) → v ≤ j → get_or Bs j none ≡ none
 
 pub begun : (ls us : List ℤ) → Filling ls us (replicate 256 none) 0
-begun ls us = record { many = length-replicate 256 none; filled = λ j h. absurd (omega arith); left = λ j h. get_d_many 256 j none }
+begun ls us = record { many = length-replicate 256 none; filled = λ j h. absurd (omega arith); left = λ j h. get_or-replicate_same 256 j none }
 
 module _ {ls us : List ℤ} {Bs : List Bounds} {v : ℕ} (f : Filling ls us Bs v) where
   pub more : v < 256 → Filling ls us (set Bs v (bounds_of ls us v)) (v + 1)

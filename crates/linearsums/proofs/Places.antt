@@ -1,11 +1,6 @@
 -- The list of the sums of a model's constraints: how many it has, and that of constraint k.
-use mathlib.Core.Path.{◌≡◌, ◌∙◌}
-use mathlib.Core.Logic.{⊎_elim}
-use mathlib.Core.List.{List}
-use Prim.Native.Nat.{ℕ, zero, suc, ◌+◌, ◌<◌, ◌≤◌}
-use native.Mathlib.Omega.{arith}
-use lib.ListN.{length, get_or, length-set, length-replicate}
-use lib.Seq.{get_or-set_same, get_or-set_other}
+use Rattle.std.proofs.Common.{◌≡◌, ◌∙◌, ⊎_elim, List, ℕ, zero, suc, ◌+◌, ◌<◌, ◌≤◌, arith, length, get_or, length-set, get_or-set_same, get_or-set_other}
+use lib.ListN.{length-replicate}
 use Rattle.integers.specs.Number.{+0}
 use Rattle.integers.specs.Bounds.{◌to◌}
 use Rattle.integers.specs.declared.Bounds.{Bounds}

@@ -1,12 +1,5 @@
 -- L and U of the first terms of a sum: with one term more, and that they fit.
-use mathlib.Core.Path.{◌≡◌, refl, ap, ap₂, sym, ◌∙◌}
-use mathlib.Core.Bool.{Bool, true, false}
-use mathlib.Core.List.{List}
-use Prim.Native.Nat.{ℕ, zero, suc, ◌+◌, ◌*◌, ◌≤◌}
-use native.Mathlib.Omega.{arith}
-use native.Mathlib.Numerals.{add-one}
-use lib.Dec.{eqb}
-use lib.IntN.{ℤ, nat_abs}
+use Rattle.std.proofs.Common.{◌≡◌, refl, ap, ap₂, sym, ◌∙◌, Bool, true, false, List, ℕ, zero, suc, ◌+◌, ◌*◌, ◌≤◌, arith, add-one, eqb, ℤ, nat_abs}
 use Rattle.integers.specs.Choice.{◌if◌else◌}
 use Rattle.integers.specs.Number.{◌⊕◌, ◌⊖◌, ◌⊗◌, min_z, max_z, +0, +1, -1}
 use Rattle.integers.specs.Bounds.{◌to◌}
@@ -95,7 +88,7 @@ module _ (β : ℕ → Bounds) (near : (v : ℕ) → Near (β v).lower × Near (
       let u = prefix_size true f k (number-near ws a) in
       (omega (arith, minus-size (extreme min_z β (list_of f k)) (sum_constant ws a)), omega (arith, minus-size (extreme max_z β (list_of f k)) (sum_constant ws a)))
 
--- the whole sum is that of its first sum_size terms
+-- the whole sum is that of its first sum-size terms
 pub upto_all : (ws : List ℕ) (a : ℕ) (β : ℕ → Bounds) → sum_up_to ws a β (sum_size ws a) ≡ sum_bounds ws a β
 unfolding sum_bounds
 upto_all ws a β = refl

@@ -1,10 +1,5 @@
 -- Lines, part after part, and how long they are.
-use mathlib.Core.Path.{◌≡◌, refl, ap, ◌∙◌}
-use mathlib.Core.List.{List, [], ◌∷◌, ◌++◌}
-use Prim.Native.Nat.{ℕ, suc, ◌+◌, ◌*◌, ◌<◌, ◌≤◌}
-use native.Mathlib.Omega.{arith}
-use lib.ListN.{length, get_or, drop, set, drop_of_length-le, length-append}
-use lib.Seq.{drop-cons}
+use Rattle.std.proofs.Common.{◌≡◌, refl, ap, ◌∙◌, List, [], ◌∷◌, ◌++◌, ℕ, suc, ◌+◌, ◌*◌, ◌<◌, ◌≤◌, arith, length, get_or, drop, set, drop_of_length-le, length-append, drop-cons}
 use Rattle.words.specs.LaidAt.{LaidAt}
 use Rattle.words.proofs.Rest.{all_left, lay-part, lay-last, laid_one}
 use Rattle.decimals.specs.Decimal.{decimal}
@@ -21,7 +16,7 @@ pub laid_word : (page : List ℕ) (at w : ℕ) (later : List ℕ) (end : ℕ) �
 unfolding word_line
 laid_word page at w later end l = lay-last (lay-part {xs = digits w} {ys = 10 ∷ []} (all_left page at (word_line w)) l) (laid_one later end 10)
 
--- the words from the k_th on: its line, then those of the words after it
+-- the words from the k-th on: its line, then those of the words after it
 pub words-then : (ws : List ℕ) (k : ℕ) → k < length ws → word_lines (drop k ws) ≡ word_line (get_or ws k 0) ++ word_lines (drop (k + 1) ws)
 unfolding word_lines
 words-then ws k h = let e : suc k ≡ k + 1 = omega arith in ap word_lines (drop-cons ws k 0 h) ∙ ap (λ (n : ℕ). word_line (get_or ws k 0) ++ word_lines (drop n ws)) e

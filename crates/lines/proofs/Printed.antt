@@ -1,13 +1,5 @@
 -- What a program prints, by the answer of its call: the front of its page.
-use mathlib.Core.Path.{◌≡◌, refl, sym, ap, ◌∙◌}
-use mathlib.Core.Bool.{Bool, true, false}
-use mathlib.Core.List.{List}
-use Prim.Native.Nat.{ℕ, zero, suc, ◌*◌, ◌≤◌, ◌<◌}
-use native.Mathlib.Omega.{arith}
-use lib.Dec.{ltb, eqb}
-use lib.ListN.{length, take}
-use lib.Seq.{length-take-le}
-use borrow.Author.Tests.{ne_eqb, lt-ltb, le-ltb, ltb-false}
+use Rattle.std.proofs.Common.{◌≡◌, refl, sym, ap, ◌∙◌, Bool, true, false, List, ℕ, zero, suc, ◌*◌, ◌≤◌, ◌<◌, arith, ltb, eqb, length, take, length-take-le, ne_eqb, lt-ltb, le-ltb, ltb-false}
 use Rattle.integers.specs.Choice.{◌if◌else◌}
 use Rattle.words.specs.Answer.{refused, written, refused_or, ◌else_answer◌}
 use Rattle.words.specs.Fault as Fault

@@ -1,12 +1,6 @@
 -- Each word inside a constraint, from what is due there to what is due after it.
-use mathlib.Core.Path.{◌≡◌, refl, sym, ap, ◌∙◌}
-use mathlib.Core.Bool.{true}
-use mathlib.Core.List.{List}
-use Prim.Native.Nat.{ℕ, zero, suc, ◌+◌, ◌-◌, ◌<◌, ◌≤◌}
-use native.Mathlib.Omega.{arith}
-use borrow.Author.Tests.{lt-ltb, le-ltb, le-leb, ne_eqb, eqb-true}
-use lib.ListN.{length, get_or, take, drop, length-drop, get_or-eq_default}
-use lib.Seq.{length-take-le, get_or-take, get_or-drop}
+use Rattle.std.proofs.Common.{◌≡◌, refl, sym, ap, ◌∙◌, true, List, ℕ, zero, suc, ◌+◌, ◌-◌, ◌<◌, ◌≤◌, arith, lt-ltb, le-ltb, le-leb, ne_eqb, eqb-true, length, get_or, take, drop, length-drop, length-take-le, get_or-take, get_or-drop}
+use lib.ListN.{get_or-eq_default}
 use Rattle.integers.specs.Lists.{list_of, all}
 use Rattle.integers.proofs.Places.{all_more}
 use Rattle.integers.proofs.Booleans.{both_true}

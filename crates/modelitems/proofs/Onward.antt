@@ -1,13 +1,6 @@
 -- Reading on past one word, or stopping at it: for the proofs of the reader's functions.
-use mathlib.Core.Path.{◌≡◌, refl, sym, ◌∙◌}
-use mathlib.Core.Logic.{◌≢◌, ◌⊎◌, inl, inr, ⊎_elim}
-use mathlib.Core.Bool.{Bool, true, false}
-use mathlib.Core.List.{List, ◌++◌}
-use Prim.Native.Nat.{ℕ, ◌+◌, ◌<◌, ◌≤◌}
-use native.Mathlib.Omega.{arith}
-use borrow.Author.Tests.{ltb-true, ltb-false, ne_eqb}
-use lib.Dec.{ltb}
-use lib.ListN.{length, get_or, get_or-eq_default, drop_of_length-le}
+use Rattle.std.proofs.Common.{◌≡◌, refl, sym, ◌∙◌, ◌≢◌, ◌⊎◌, inl, inr, ⊎_elim, Bool, true, false, List, ◌++◌, ℕ, ◌+◌, ◌<◌, ◌≤◌, arith, ltb-true, ltb-false, ne_eqb, ltb, length, get_or, drop_of_length-le}
+use lib.ListN.{get_or-eq_default}
 use Rattle.integers.specs.Choice.{◌if◌else◌}
 use Rattle.words.specs.Fault as Fault
 use Rattle.words.specs.Word.{kind, payload, word_at}

@@ -1,12 +1,6 @@
 -- Where a code has arguments: no code above the last has one, and no code has a fourth.
-use mathlib.Core.Path.{◌≡◌, refl, sym}
-use mathlib.Core.List.{List, []}
-use Prim.Native.Nat.{ℕ, ◌<◌, ◌≤◌}
-use native.Mathlib.Omega.{arith}
-use native.Mathlib.Nat.{le_trans}
-use lib.Dec.{leb}
-use lib.ListN.{length, get_or, get_or-eq_default}
-use borrow.Author.Tests.{leb-true, le-leb}
+use Rattle.std.proofs.Common.{◌≡◌, refl, sym, List, [], ℕ, ◌<◌, ◌≤◌, arith, le_trans, leb, length, get_or, leb-true, le-leb}
+use lib.ListN.{get_or-eq_default}
 use Rattle.integers.specs.Lists.{all}
 use Rattle.integers.proofs.Lists.{all_or_past}
 use Rattle.integers.proofs.Tests.{All, says_all}

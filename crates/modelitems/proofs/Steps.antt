@@ -1,13 +1,7 @@
 -- Steps inside a constraint: one word, and one step after another.
-use mathlib.Core.Path.{◌≡◌, refl, ap, sym, ◌∙◌}
-use mathlib.Core.Bool.{Bool, true, false}
-use mathlib.Core.List.{List, [], append-nil}
-use Prim.Native.Nat.{ℕ, ◌+◌, ◌<◌, ◌≤◌}
-use native.Mathlib.Omega.{arith}
-use native.Mathlib.Nat.{add-zero}
-use borrow.Author.Tests.{ltb-true, ltb-false, eqb-true, eqb-false, eq-eqb, ne_eqb}
-use lib.Dec.{eqb, ltb}
-use lib.ListN.{length, get_or-eq_default}
+use Rattle.std.proofs.Common.{◌≡◌, refl, ap, sym, ◌∙◌, Bool, true, false, List, [], append-nil, ℕ, ◌+◌, ◌<◌, ◌≤◌, arith, add-zero, ltb-true, ltb-false, eqb-true, eq-eqb, ne_eqb, eqb, ltb, length}
+use borrow.Author.Tests.{eqb-false}
+use lib.ListN.{get_or-eq_default}
 use Rattle.integers.specs.Choice.{◌if◌else◌}
 use Rattle.words.specs.Fault as Fault
 use Rattle.words.specs.Word.{kind, word_at}

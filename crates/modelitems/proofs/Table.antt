@@ -1,10 +1,6 @@
 -- A table whose rows are given lists, each padded up with 0 to n entries: its entries are those of the lists.
 -- That a table of the code is such a one is a single equation, which antt computes.
-use mathlib.Core.Path.{◌≡◌, refl}
-use mathlib.Core.List.{List, [], ◌∷◌, map}
-use Prim.Native.Nat.{ℕ, zero, suc, ◌<◌}
-use native.Mathlib.Omega.{arith}
-use lib.ListN.{get_or}
+use Rattle.std.proofs.Common.{◌≡◌, refl, List, [], ◌∷◌, map, ℕ, zero, suc, ◌<◌, arith, get_or}
 use Rattle.modelitems.specs.Argument.{padded}
 
 entry : (n : ℕ) (xs : List ℕ) (k : ℕ) → k < n → get_or (padded n xs) k 0 ≡ get_or xs k 0

@@ -1,13 +1,6 @@
 -- A variable: a pair of bounds, or one word. And the words of kinds 1 to 4, one by one.
-use mathlib.Core.Path.{◌≡◌, refl, ap, sym, ◌∙◌}
-use mathlib.Core.Logic.{◌≢◌, ◌⊎◌, inl, inr, ⊎_elim}
-use mathlib.Core.Bool.{Bool, true, false}
-use mathlib.Core.List.{List, [], ◌∷◌, ◌++◌, append-nil}
-use Prim.Native.Nat.{ℕ, suc, ◌+◌, ◌<◌, ◌≤◌}
-use native.Mathlib.Omega.{arith}
-use borrow.Author.Tests.{eqb-true, eqb-false, ne_eqb, le-leb}
-use lib.Dec.{eqb}
-use lib.ListN.{length, get_or, drop}
+use Rattle.std.proofs.Common.{◌≡◌, refl, ap, sym, ◌∙◌, ◌≢◌, ◌⊎◌, inl, inr, ⊎_elim, Bool, true, false, List, [], ◌∷◌, ◌++◌, append-nil, ℕ, suc, ◌+◌, ◌<◌, ◌≤◌, arith, eqb-true, ne_eqb, le-leb, eqb, length, get_or, drop}
+use borrow.Author.Tests.{eqb-false}
 use Rattle.integers.specs.Choice.{◌if◌else◌}
 use Rattle.words.specs.Fault as Fault
 use Rattle.words.specs.Word.{kind, word_at}

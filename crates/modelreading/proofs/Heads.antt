@@ -1,13 +1,6 @@
 -- For the callers: the constraints by the places of their heads, and the variables by their words alone.
-use mathlib.Core.Path.{◌≡◌, refl, ap, sym, ◌∙◌}
-use mathlib.Core.Bool.{Bool, true, false}
-use mathlib.Core.List.{List, [], ◌∷◌}
-use Prim.Native.Nat.{ℕ, suc, ◌+◌, ◌<◌, ◌≤◌}
-use native.Mathlib.Omega.{arith}
-use native.Mathlib.Numerals.{add-one}
-use lib.Dec.{eqb}
-use lib.ListN.{length, get_or, take, drop, get_or-map, length-append}
-use lib.Seq.{drop-cons, get_or-take, take_at}
+use Rattle.std.proofs.Common.{◌≡◌, refl, ap, sym, ◌∙◌, Bool, true, false, List, [], ◌∷◌, ℕ, suc, ◌+◌, ◌<◌, ◌≤◌, arith, add-one, eqb, length, get_or, take, drop, length-append, drop-cons, get_or-take, take_at}
+use lib.ListN.{get_or-map}
 use Rattle.integers.specs.Choice.{◌if◌else◌}
 use Rattle.integers.specs.declared.Bounds.{Bounds}
 use Rattle.integers.proofs.Tests.{All}
@@ -35,7 +28,7 @@ module _ {ws hs : List ℕ} {n : ℕ} (h : Heads ws hs n) (k : ℕ) (l : k < n) 
   at : get_or (constraints ws) k (headed ws 0) ≡ headed ws (get_or hs k 0)
   at = ap (λ (cs : List Constraint). get_or cs k (headed ws 0)) (sym h.places) ∙ get_or-map (headed ws) (take n hs) k 0 ∙ ap (headed ws) (get_or-take n hs k 0 l)
 
-  -- from the k_th constraint on
+  -- from the k-th constraint on
   pub head_at : drop k (constraints ws) ≡ headed ws (get_or hs k 0) ∷ drop (k + 1) (constraints ws)
   head_at = drop-cons (constraints ws) k (headed ws 0) (omega (arith, h.counted)) ∙ rw (add-one k) (ap (λ c. c ∷ drop (suc k) (constraints ws)) at)
 

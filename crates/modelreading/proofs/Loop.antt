@@ -1,16 +1,8 @@
 -- The two loops of the reader: reading the rest from here gives what reading the whole gives, and what was seen so far is kept. One law for each way a turn ends.
-use mathlib.Core.Path.{◌≡◌, refl, ap, sym, ◌∙◌}
-use mathlib.Core.Logic.{◌≢◌, ◌⊎◌, inl, inr, ⊎_elim}
-use mathlib.Core.Bool.{Bool, true, false}
-use mathlib.Core.List.{List, [], ◌∷◌, ◌++◌, map, map-append, append-nil, append_assoc}
-use Prim.Native.Nat.{ℕ, ◌+◌, ◌<◌, ◌≤◌}
-use native.Mathlib.Omega.{arith}
-use native.Mathlib.Nat.{add-zero}
-use native.Mathlib.Numerals.{add-one}
-use borrow.Author.Tests.{eq-eqb, ne_eqb, lt-ltb, le-ltb, lt-leb}
-use lib.Dec.{ltb}
-use lib.ListN.{length, get_or, take, drop, set, length-set, length-map, drop_of_length-le}
-use lib.Seq.{take-suc-set, length-take-le}
+use Rattle.std.proofs.Common.{◌≡◌, refl, ap, sym, ◌∙◌, ◌≢◌, ◌⊎◌, inl, inr, ⊎_elim, Bool, true, false, List, [], ◌∷◌, ◌++◌, map, append-nil, append_assoc, ℕ, ◌+◌, ◌<◌, ◌≤◌, arith, add-zero, add-one, eq-eqb, ne_eqb, lt-ltb, le-ltb, ltb, length, get_or, take, drop, set, length-set, drop_of_length-le, take-suc-set, length-take-le}
+use mathlib.Core.List.{map-append}
+use borrow.Author.Tests.{lt-leb}
+use lib.ListN.{length-map}
 use Rattle.integers.specs.Choice.{◌if◌else◌}
 use Rattle.words.specs.Fault as Fault
 use Rattle.words.specs.Word.{kind, payload, word_at}

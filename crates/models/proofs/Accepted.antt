@@ -1,15 +1,7 @@
 -- What follows from `read_model ws ≡ accepted`: few words, variables and constraints, ordered bounds in the range, arguments of the right type, known codes, and how the words split.
 -- For the callers that owe limits, and for the theorems about the row system of a model.
-use mathlib.Core.Path.{◌≡◌, refl, ap, ◌∙◌}
-use mathlib.Core.Bool.{Bool, true, false}
-use mathlib.Core.List.{List, [], ◌∷◌, ◌++◌}
-use Prim.Native.Nat.{ℕ, zero, suc, ◌+◌, ◌*◌, ◌≤◌, ◌<◌}
-use native.Mathlib.Omega.{arith}
-use native.Mathlib.Nat.{zero-add, le_trans, mul-le-mul_left}
-use lib.Dec.{leb, ltb}
-use lib.IntN.{pos}
-use lib.ListN.{length, length-append}
-use borrow.Author.Tests.{ltb-false, le-leb, lt-leb}
+use Rattle.std.proofs.Common.{◌≡◌, refl, ap, ◌∙◌, Bool, true, false, List, [], ◌∷◌, ◌++◌, ℕ, zero, suc, ◌+◌, ◌*◌, ◌≤◌, ◌<◌, arith, zero-add, le_trans, mul-le-mul_left, leb, ltb, pos, length, length-append, ltb-false, le-leb}
+use borrow.Author.Tests.{lt-leb}
 use Rattle.integers.specs.Choice.{◌if◌else◌}
 use Rattle.integers.specs.Bounds.{bit, bounds_in}
 use Rattle.integers.specs.declared.Bounds.{Bounds}

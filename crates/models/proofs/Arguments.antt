@@ -1,9 +1,5 @@
 -- The arguments of a builtin with their sorts; the variables that they name, the integer ones and the Boolean ones; how many words they take.
-use mathlib.Core.Bool.{Bool, true, false, not, ◌&&◌}
-use mathlib.Core.List.{List, [], ◌∷◌, ◌++◌}
-use Prim.Native.Nat.{ℕ, ◌+◌, ◌*◌}
-use lib.Dec.{eqb}
-use lib.ListN.{length}
+use Rattle.std.proofs.Common.{Bool, true, false, not, ◌&&◌, List, [], ◌∷◌, ◌++◌, ℕ, ◌+◌, ◌*◌, eqb, length}
 use Rattle.integers.specs.Choice.{◌if◌else◌}
 use Rattle.integers.specs.Terms.{Term}
 use Rattle.models.specs.Table.{Sort, integer, boolean, number, exponent, numbers, set, integers, booleans, parallel, Argument}

@@ -1,9 +1,5 @@
 -- A law of all codes from one of each row of the table: for proofs by code.
-use mathlib.Core.Path.{◌≡◌, ap}
-use mathlib.Core.List.{List, [], ◌∷◌, map}
-use Prim.Native.Nat.{ℕ, zero, suc, ◌≤◌, ◌<◌}
-use native.Mathlib.Omega.{arith}
-use lib.ListN.{length, get_or, drop}
+use Rattle.std.proofs.Common.{◌≡◌, ap, List, [], ◌∷◌, map, ℕ, zero, suc, ◌≤◌, ◌<◌, arith, length, get_or, drop}
 use Rattle.integers.proofs.Tests.{All}
 use Rattle.models.specs.Table.{Code, codes, last}
 use Rattle.models.specs.Shape.{shape_of, shapes}

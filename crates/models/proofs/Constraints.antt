@@ -1,9 +1,5 @@
 -- The constraints of words from a place on: the word there starts none, or starts one.
-use mathlib.Core.Path.{◌≡◌, ap, ◌∙◌}
-use mathlib.Core.List.{List, ◌∷◌}
-use Prim.Native.Nat.{ℕ, ◌+◌, ◌<◌}
-use lib.ListN.{length, get_or, drop}
-use borrow.Author.Tests.{eq-eqb, ne_eqb}
+use Rattle.std.proofs.Common.{◌≡◌, ap, ◌∙◌, List, ◌∷◌, ℕ, ◌+◌, ◌<◌, length, get_or, drop, eq-eqb, ne_eqb}
 use Rattle.words.specs.Word.{kind, word_at}
 use Rattle.words.proofs.Reading.{word-then}
 use Rattle.models.specs.Model.{headed, constraints_from}

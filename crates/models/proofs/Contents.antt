@@ -1,12 +1,6 @@
 -- The variables and the constraints of words of the form that the reader accepts, word by word: for Accepted.
-use mathlib.Core.Path.{◌≡◌, refl, ap, sym, ◌∙◌}
-use mathlib.Core.List.{List, [], ◌∷◌, ◌++◌, append-nil, append_assoc}
-use Prim.Native.Nat.{ℕ, zero, suc, ◌+◌, ◌≤◌, ◌<◌}
-use native.Mathlib.Omega.{arith}
-use native.Mathlib.Nat.{add-zero, add_assoc}
-use lib.ListN.{length, get_or, drop, length-drop, length-append}
+use Rattle.std.proofs.Common.{◌≡◌, refl, ap, sym, ◌∙◌, List, [], ◌∷◌, ◌++◌, append-nil, append_assoc, ℕ, zero, suc, ◌+◌, ◌≤◌, ◌<◌, arith, add-zero, add_assoc, length, get_or, drop, length-drop, length-append, ne_eqb}
 use lib.Seq.{append_snoc}
-use borrow.Author.Tests.{ne_eqb}
 use Rattle.integers.specs.Bounds.{◌to◌, bit}
 use Rattle.integers.specs.declared.Bounds.{Bounds}
 use Rattle.integers.proofs.Tests.{All}

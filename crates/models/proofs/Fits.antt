@@ -1,14 +1,6 @@
 -- The arguments of a constraint in which the reader finds no fault, by their places: for the form of accepted words.
-use mathlib.Core.Path.{◌≡◌, refl}
-use mathlib.Core.Logic.{◌≢◌}
-use mathlib.Core.Bool.{Bool, true, false, not, ◌||◌}
-use mathlib.Core.List.{List, [], ◌∷◌}
-use Prim.Native.Nat.{ℕ, zero, suc, ◌+◌, ◌-◌, ◌≤◌, ◌<◌}
-use native.Mathlib.Omega.{arith}
-use native.Mathlib.Nat.{add-zero}
-use lib.Dec.{ltb, leb, eqb}
-use lib.ListN.{length, get_or, drop}
-use borrow.Author.Tests.{ltb-true, ltb-false, eqb-true, eqb-false, ne_eqb, le-leb, lt-leb, lt-ltb, le-ltb}
+use Rattle.std.proofs.Common.{◌≡◌, refl, ◌≢◌, Bool, true, false, not, ◌||◌, List, [], ◌∷◌, ℕ, zero, suc, ◌+◌, ◌-◌, ◌≤◌, ◌<◌, arith, add-zero, ltb, leb, eqb, length, get_or, drop, ltb-true, ltb-false, eqb-true, ne_eqb, le-leb, lt-ltb, le-ltb}
+use borrow.Author.Tests.{eqb-false, lt-leb}
 use Rattle.integers.specs.Choice.{◌if◌else◌}
 use Rattle.integers.specs.Lists.{list_of}
 use Rattle.integers.proofs.Tests.{All}
@@ -254,7 +246,7 @@ module _ (ts ws : List ℕ) (c : ℕ) where
         go false false true e f g = next-exponent (eqb-true s 4 g)
         go false false false e f g = next-list (omega (arith, ltb-false s 3 e, eqb-false s 3 f, eqb-false s 4 g))
 
-  -- ---- all arguments: those of the shapes ss, from the k_th of the code on
+  -- ---- all arguments: those of the shapes ss, from the k-th of the code on
   pub record Rest (ss : List ℕ) (i : ℕ) : Type 0 where
     pub fits : FitAll ws ts i ss
     pub type : ℕ

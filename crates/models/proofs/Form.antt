@@ -1,13 +1,5 @@
 -- The form of words in which the reader finds no fault: variables, then constraints with their arguments, then the end. For what follows of accepted words.
-use mathlib.Core.Path.{◌≡◌, refl}
-use mathlib.Core.Logic.{◌≢◌}
-use mathlib.Core.List.{List, [], ◌∷◌, ◌++◌, append-nil}
-use Prim.Native.Nat.{ℕ, zero, suc, ◌+◌, ◌≤◌, ◌<◌}
-use native.Mathlib.Omega.{arith}
-use native.Mathlib.Nat.{zero-add}
-use lib.Dec.{ltb}
-use lib.ListN.{length, get_or, drop, length-drop}
-use borrow.Author.Tests.{ltb-true, lt-ltb, ne_eqb}
+use Rattle.std.proofs.Common.{◌≡◌, refl, ◌≢◌, List, [], ◌∷◌, ◌++◌, append-nil, ℕ, zero, suc, ◌+◌, ◌≤◌, ◌<◌, arith, zero-add, ltb, length, get_or, drop, length-drop, ltb-true, lt-ltb, ne_eqb}
 use Rattle.integers.specs.Lists.{all}
 use Rattle.integers.specs.Bounds.{◌to◌}
 use Rattle.integers.proofs.Tests.{All, says_all}
@@ -68,7 +60,7 @@ unfolding after_head fault_in fault_due_in
 end_read ts c w [] k h = refl
 end_read ts c w (x ∷ ws) k h = absurd (let z : ◌≡◌ {A = ℕ} 11 0 = rw k at h.0 in omega arith)
 
--- the k_th argument of a code is the k_th of its shapes
+-- the k-th argument of a code is the k-th of its shapes
 argument-at : (code j : ℕ) → argument code (0 + j) ≡ get_or (get_or shapes code []) j 0
 unfolding argument
 argument-at code j = rw (zero-add j)

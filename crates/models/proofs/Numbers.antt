@@ -1,14 +1,6 @@
 -- The numbers among a model's words: all are in the range where the words are accepted. And reading in two ranges, which differs only where a
 -- number of the words is in one of them alone. For the law of the answers before the range of 02.
-use mathlib.Core.Path.{◌≡◌, refl, ap, ◌∙◌}
-use mathlib.Core.Logic.{inl, inr}
-use mathlib.Core.Bool.{Bool, true, false, not}
-use mathlib.Core.List.{List}
-use Prim.Native.Nat.{ℕ}
-use native.Mathlib.Omega.{arith}
-use lib.Dec.{ltb, eqb}
-use lib.ListN.{length}
-use borrow.Author.Tests.{eqb-true}
+use Rattle.std.proofs.Common.{◌≡◌, refl, ap, ◌∙◌, inl, inr, Bool, true, false, not, List, ℕ, arith, ltb, eqb, length, eqb-true}
 use Rattle.integers.specs.Choice.{◌if◌else◌}
 use Rattle.integers.specs.declared.Bounds.{Bounds}
 use Rattle.integers.proofs.Tests.{All}
@@ -81,9 +73,9 @@ module _ (w : ℕ) where
   ]
   due_in Ended v t c e = absurd (omega arith)
 
-pub numbers_in_lem : (ws : List ℕ) → read_model ws ≡ accepted → All NumberIn ws
+pub all-number_in : (ws : List ℕ) → read_model ws ≡ accepted → All NumberIn ws
 unfolding read_model_in fault_in
-numbers_in_lem ws h =
+all-number_in ws h =
     each_word fault after ended NumberIn (λ s w vs e. due_in w s.due _ _ s.constraints e) begin 0 ws
     (not_too_many 0 (ltb Limit.model_words (length ws)) _ h).1
 

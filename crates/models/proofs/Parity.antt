@@ -1,11 +1,5 @@
 -- Code 23 by 01 and by 02: of lists of at most two, "exactly one is 1" and "an odd number are 1" say the same.
-use mathlib.Core.Path.{◌≡◌, refl}
-use mathlib.Core.Bool.{Bool, true, false}
-use mathlib.Core.List.{List, [], ◌∷◌}
-use Prim.Native.Nat.{ℕ, ◌+◌, ◌≤◌}
-use native.Mathlib.Omega.{arith}
-use lib.Dec.{eqb}
-use lib.ListN.{length}
+use Rattle.std.proofs.Common.{◌≡◌, refl, Bool, true, false, List, [], ◌∷◌, ℕ, ◌+◌, ◌≤◌, arith, eqb, length}
 use Rattle.integers.specs.Choice.{◌if◌else◌}
 use Rattle.integers.specs.Lists.{how_many}
 use Rattle.integers.specs.Terms.{Valuation}

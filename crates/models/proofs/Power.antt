@@ -1,8 +1,5 @@
 -- Powers: the first one, and the product of two.
-use mathlib.Core.Path.{◌≡◌, sym, ap, ◌∙◌}
-use Prim.Native.Nat.{ℕ, zero, suc, ◌+◌}
-use native.Mathlib.Omega.{arith}
-use lib.IntN.{ℤ}
+use Rattle.std.proofs.Common.{◌≡◌, sym, ap, ◌∙◌, ℕ, zero, suc, ◌+◌, arith, ℤ}
 use Rattle.integers.specs.Number.{◌⊗◌}
 use Rattle.integers.proofs.Sums.{⊗_assoc, one-times, times-one}
 use Rattle.models.specs.Meaning.{power}

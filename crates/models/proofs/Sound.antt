@@ -1,17 +1,7 @@
 -- Words in which the reader of a model finds no fault: what that says of one word after the other, for the form of accepted words.
-use mathlib.Core.Path.{◌≡◌, refl}
-use mathlib.Core.Logic.{inl, inr, ◌≢◌}
-use mathlib.Core.Bool.{Bool, true, false, not, ◌||◌}
-use mathlib.Core.List.{List, [], ◌∷◌, append-nil}
-use Prim.Native.Nat.{ℕ, ◌+◌, ◌≤◌, ◌<◌}
-use native.Mathlib.Omega.{arith}
-use native.Mathlib.Nat.{add-zero}
-use native.Mathlib.Numerals.{add-one}
-use lib.Dec.{ltb, leb, eqb}
+use Rattle.std.proofs.Common.{◌≡◌, refl, inl, inr, ◌≢◌, Bool, true, false, not, ◌||◌, List, [], ◌∷◌, append-nil, ℕ, ◌+◌, ◌≤◌, ◌<◌, arith, add-zero, add-one, ltb, leb, eqb, length, get_or, drop, drop_of_length-le, drop-cons, ltb-true, ltb-false, leb-false, eqb-true, ne_eqb}
 use lib.Signed.{lt_z}
-use lib.ListN.{length, get_or, drop, drop_of_length-le}
-use lib.Seq.{drop-cons}
-use borrow.Author.Tests.{ltb-true, ltb-false, leb-false, eqb-true, eqb-false, not-false, ne_eqb}
+use borrow.Author.Tests.{eqb-false, not-false}
 use Rattle.integers.specs.Choice.{◌if◌else◌}
 use Rattle.integers.proofs.Linear.{◌⊑◌}
 use Rattle.integers.proofs.Booleans.{neither}

@@ -1,14 +1,6 @@
 -- The arguments of a builtin are those that stand at the places of its words. So where they fit the shapes of a code, the builtin's integer variables are declared as integer ones
 -- and its Boolean ones as Boolean, and its words are those that the reader takes. For `typed` of Accepted, and for the number of words of a block.
-use mathlib.Core.Path.{◌≡◌, refl, ap, subst}
-use mathlib.Core.Bool.{Bool, true, false, not, ◌&&◌}
-use mathlib.Core.List.{List, [], ◌∷◌, map}
-use Prim.Native.Nat.{ℕ, zero, suc, ◌+◌, ◌≤◌}
-use native.Mathlib.Omega.{arith}
-use lib.Dec.{eqb}
-use lib.IntN.{ℤ}
-use lib.ListN.{get_or}
-use borrow.Author.Tests.{eqb-true}
+use Rattle.std.proofs.Common.{◌≡◌, refl, ap, subst, Bool, true, false, not, ◌&&◌, List, [], ◌∷◌, map, ℕ, zero, suc, ◌+◌, ◌≤◌, arith, eqb, ℤ, get_or, eqb-true}
 use Rattle.integers.specs.Choice.{◌if◌else◌}
 use Rattle.integers.specs.Lists.{list_of}
 use Rattle.integers.specs.Terms.{◌·◌}
@@ -74,21 +66,21 @@ module _ (ws : List ℕ) where
   same_place i booleans = refl
   same_place i parallel = refl
 
-  words_in_lem : (i : ℕ) (s : Sort) → words_in s (argument_at ws i s) + i ≡ place_after ws i s
+  words_in-argument : (i : ℕ) (s : Sort) → words_in s (argument_at ws i s) + i ≡ place_after ws i s
   unfolding past past_terms vars nums terms
-  words_in_lem i integer = omega arith
-  words_in_lem i boolean = omega arith
-  words_in_lem i number = omega arith
-  words_in_lem i exponent = omega arith
-  words_in_lem i numbers = simp list_of-length (omega arith)
-  words_in_lem i set = simp list_of-length (omega arith)
-  words_in_lem i integers = simp list_of-length (omega arith)
-  words_in_lem i booleans = simp list_of-length (omega arith)
-  words_in_lem i parallel = simp list_of-length (omega arith)
+  words_in-argument i integer = omega arith
+  words_in-argument i boolean = omega arith
+  words_in-argument i number = omega arith
+  words_in-argument i exponent = omega arith
+  words_in-argument i numbers = simp list_of-length (omega arith)
+  words_in-argument i set = simp list_of-length (omega arith)
+  words_in-argument i integers = simp list_of-length (omega arith)
+  words_in-argument i booleans = simp list_of-length (omega arith)
+  words_in-argument i parallel = simp list_of-length (omega arith)
 
   words-at : (i : ℕ) (ss : List Sort) → words_of (arguments_at ws i ss) + i ≡ past_arguments ws i (map shape_of ss)
   words-at i [] = omega arith
-  words-at i (s ∷ ss) = omega (arith, words_in_lem i s, words-at (place_after ws i s) ss, ap (λ j. past_arguments ws j (map shape_of ss)) (same_place i s))
+  words-at i (s ∷ ss) = omega (arith, words_in-argument i s, words-at (place_after ws i s) ss, ap (λ j. past_arguments ws j (map shape_of ss)) (same_place i s))
 
   module _ (ts : List ℕ) where
     named : (i : ℕ) (s : Sort) → Fits ws ts i (shape_of s) → All (Named ts (type_of s)) (named_in s (argument_at ws i s))

@@ -1,10 +1,5 @@
 -- What copying a candidate's model answers in each of its cases.
-use mathlib.Core.Path.{◌≡◌, sym, ap}
-use mathlib.Core.List.{List}
-use Prim.Native.Nat.{ℕ, ◌+◌, ◌-◌, ◌<◌, ◌≤◌}
-use native.Mathlib.Omega.{arith}
-use lib.ListN.{length}
-use borrow.Author.Tests.{eq-eqb, ne_eqb}
+use Rattle.std.proofs.Common.{◌≡◌, sym, ap, List, ℕ, ◌+◌, ◌-◌, ◌<◌, ◌≤◌, arith, length, eq-eqb, ne_eqb}
 use Rattle.words.specs.Overlay.{overlay}
 use Rattle.words.specs.declared.Refusal.{Refusal}
 use Rattle.pairs.specs.Pair.{separates, ends_table, before, first_model, second_model, model_of}

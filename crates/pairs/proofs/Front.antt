@@ -1,9 +1,5 @@
 -- A model that was copied to a list of 8,192 words: the front that is lent to a call is the model.
-use mathlib.Core.Path.{◌≡◌, sym, ap, ◌∙◌}
-use mathlib.Core.List.{List}
-use Prim.Native.Nat.{ℕ, ◌≤◌}
-use native.Mathlib.Omega.{arith}
-use lib.ListN.{length, take}
+use Rattle.std.proofs.Common.{◌≡◌, sym, ap, ◌∙◌, List, ℕ, ◌≤◌, arith, length, take}
 use Rattle.words.proofs.Overlay.{front-over}
 use Rattle.pairs.specs.Copied.{ModelCopied}
 

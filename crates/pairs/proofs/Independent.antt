@@ -1,15 +1,7 @@
 -- 02, wish 12: "nothing that one writes, faulty or not, alters what the other gets, limits included, as long as the first candidate's words are
 -- none or begin with kind 4, and hold no D0000000".
-use mathlib.Core.Path.{◌≡◌, refl, sym, ap, ◌∙◌}
-use mathlib.Core.Bool.{Bool, true, false, ◌||◌}
-use mathlib.Core.List.{List, [], ◌∷◌, ◌++◌, append_assoc}
-use Prim.Native.Nat.{ℕ, suc, ◌+◌, ◌≤◌}
-use native.Mathlib.Omega.{arith}
-use lib.Dec.{eqb}
-use lib.IntN.{ℤ}
-use lib.ListN.{length, take, drop, length-append}
-use lib.Seq.{drop_at, take-append-le, take-append_seam}
-use borrow.Author.Tests.{eq-eqb, ne_eqb}
+use Rattle.std.proofs.Common.{◌≡◌, refl, sym, ap, ◌∙◌, Bool, true, false, ◌||◌, List, [], ◌∷◌, ◌++◌, append_assoc, ℕ, suc, ◌+◌, ◌≤◌, arith, eqb, ℤ, length, take, drop, length-append, drop_at, eq-eqb, ne_eqb}
+use lib.Seq.{take-append-le, take-append_seam}
 use Rattle.integers.specs.Choice.{◌if◌else◌}
 use Rattle.integers.specs.Lists.{any}
 use Rattle.integers.proofs.Tests.{false-true}

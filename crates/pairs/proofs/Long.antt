@@ -1,14 +1,6 @@
 -- What a call answers of a candidate's model: that of copying where it is refused, else the call's own answer. A model of too many words is
 -- refused by every call, whatever they are.
-use mathlib.Core.Path.{◌≡◌, refl, sym, ap, ◌∙◌}
-use mathlib.Core.Bool.{Bool, true, false}
-use mathlib.Core.List.{List}
-use Prim.Native.Nat.{ℕ, zero, suc, ◌<◌, ◌≤◌}
-use native.Mathlib.Omega.{arith}
-use lib.Dec.{ltb, eqb}
-use lib.IntN.{ℤ}
-use lib.ListN.{length}
-use borrow.Author.Tests.{eq-eqb, ne_eqb, lt-ltb, le-ltb}
+use Rattle.std.proofs.Common.{◌≡◌, refl, sym, ap, ◌∙◌, Bool, true, false, List, ℕ, zero, suc, ◌<◌, ◌≤◌, arith, ltb, eqb, ℤ, length, eq-eqb, ne_eqb, lt-ltb, le-ltb}
 use Rattle.integers.specs.Choice.{◌if◌else◌}
 use Rattle.words.specs.declared.Refusal.{Refusal}
 use Rattle.words.specs.Answer.{Answer, refused, refused_or, ◌else_answer◌}

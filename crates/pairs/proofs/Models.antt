@@ -1,12 +1,5 @@
 -- The two models of a pair: how long they are, that both begin with the table, and laying them over a list piece by piece.
-use mathlib.Core.Path.{◌≡◌, refl, ap, ◌∙◌}
-use mathlib.Core.Bool.{true, ◌||◌}
-use mathlib.Core.List.{List, [], ◌∷◌, ◌++◌, append_assoc}
-use Prim.Native.Nat.{ℕ, ◌+◌, ◌-◌, ◌≤◌}
-use native.Mathlib.Omega.{arith}
-use lib.Dec.{eqb}
-use lib.ListN.{length, take, drop, length-append, length-drop}
-use lib.Seq.{length-take-le, take-add}
+use Rattle.std.proofs.Common.{◌≡◌, refl, ap, ◌∙◌, true, ◌||◌, List, [], ◌∷◌, ◌++◌, append_assoc, ℕ, ◌+◌, ◌-◌, ◌≤◌, arith, eqb, length, take, drop, length-append, length-drop, length-take-le, take-add}
 use Rattle.integers.proofs.Booleans.{or-true}
 use Rattle.words.specs.Word.{kind, word}
 use Rattle.words.specs.Overlay.{overlay}

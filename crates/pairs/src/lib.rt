@@ -166,7 +166,7 @@ pub fn pair_translate(ws: &[u32], candidate: u32, out: &mut [u32]) -> Written
     translate(&model[..copied.words], out)
 }
 
-// Judge_model of a candidate's model.
+// Judge-model of a candidate's model.
 pub fn pair_judge_model(ws: &[u32], candidate: u32, values: &[i32]) -> Verdict
     ensures { verdict result ≡ pair_judge candidate ws.now values.now }
 {

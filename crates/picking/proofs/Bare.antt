@@ -1,13 +1,5 @@
 -- A code that is none of those with auxiliaries picks nothing.
-use mathlib.Core.Path.{◌≡◌, refl, ap}
-use mathlib.Core.Bool.{false}
-use mathlib.Core.List.{List, [], ◌∷◌, map}
-use Prim.Native.Nat.{ℕ, zero, suc, ◌+◌}
-use native.Mathlib.Omega.{arith}
-use lib.Dec.{eqb}
-use lib.IntN.{ℤ}
-use lib.ListN.{get_or, drop}
-use borrow.Author.Tests.{ne_eqb}
+use Rattle.std.proofs.Common.{◌≡◌, refl, ap, false, List, [], ◌∷◌, map, ℕ, zero, suc, ◌+◌, arith, eqb, ℤ, get_or, drop, ne_eqb}
 use Rattle.integers.specs.Choice.{◌if◌else◌}
 use Rattle.integers.specs.Lists.{any}
 use Rattle.integers.specs.Terms.{Valuation, value}

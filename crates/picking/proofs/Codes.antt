@@ -1,13 +1,5 @@
 -- What codes 14 and 24 to 28 pick, by the places of the arguments as the code reads them.
-use mathlib.Core.Path.{◌≡◌, refl, sym, ap, ap₂, ◌∙◌}
-use mathlib.Core.Bool.{Bool, true, false}
-use mathlib.Core.List.{List, [], ◌∷◌, ◌++◌}
-use Prim.Native.Nat.{ℕ, ◌+◌, ◌-◌, ◌<◌, ◌≤◌}
-use native.Mathlib.Omega.{arith}
-use lib.Dec.{ltb, eqb}
-use lib.IntN.{ℤ, pos}
-use lib.ListN.{length, get_or}
-use borrow.Author.Tests.{ltb-true, ltb-false}
+use Rattle.std.proofs.Common.{◌≡◌, refl, sym, ap, ap₂, ◌∙◌, Bool, true, false, List, [], ◌∷◌, ◌++◌, ℕ, ◌+◌, ◌-◌, ◌<◌, ◌≤◌, arith, ltb, eqb, ℤ, pos, length, get_or, ltb-true, ltb-false}
 use Rattle.integers.specs.Choice.{◌if◌else◌}
 use Rattle.integers.specs.Number.{◌⊕◌, ◌⊖◌, ◌≟◌, min_z, max_z, count, +0, +1, -1}
 use Rattle.integers.specs.Bounds.{◌to◌, width, values}
@@ -15,7 +7,7 @@ use Rattle.integers.specs.Terms.{◌·◌, value, sum}
 use Rattle.integers.proofs.Linear.{◌⊑◌, linear, rep}
 use Rattle.integers.proofs.Tests.{says-equal}
 use Rattle.integers.proofs.Lists.{list_of-length}
-use Rattle.integers.proofs.Places.{get_d_list_of}
+use Rattle.integers.proofs.Places.{get_or-list_of}
 use Rattle.words.specs.Small.{Small}
 use Rattle.models.specs.Model.{var, size, vars, nums, builtin, builtins}
 use Rattle.rules.specs.Parts.{nth, places}
@@ -65,7 +57,7 @@ module _ (ls us vs : List ℤ) (ws : List ℕ) where
   in_list j l m =
       let p : count j - 1 < size ws 1 = below j (size ws 1) l m in
       let q : 1 + 1 + (count j - 1) ≡ 1 + count j = above j l in
-      get_d_list_of (λ k. var ws (1 + 1 + k)) (size ws 1) (count j - 1) 0 p ∙ ap (var ws) q
+      get_or-list_of (λ k. var ws (1 + 1 + k)) (size ws 1) (count j - 1) 0 p ∙ ap (var ws) q
     where
       below : (j : ℤ) (n : ℕ) → +1 ⊑ j → j ⊑ pos n → count j - 1 < n
       below j n = rw (rep j) (simp linear (omega arith))

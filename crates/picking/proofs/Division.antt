@@ -1,9 +1,6 @@
 -- What 37 and 38 pick, as the code writes it.
-use mathlib.Core.Path.{◌≡◌, refl, ap}
-use mathlib.Core.Bool.{Bool, true, false, not, ◌&&◌}
-use mathlib.Core.List.{[], ◌∷◌}
+use Rattle.std.proofs.Common.{◌≡◌, refl, ap, Bool, true, false, not, ◌&&◌, [], ◌∷◌, ℤ, pos, negsuc}
 use native.Mathlib.Nat.{div-zero}
-use lib.IntN.{ℤ, pos, negsuc}
 use lib.Signed.{le_z, lt_z, quot_z}
 use borrow.Author.Tests.{not-false}
 use Rattle.integers.specs.Choice.{◌if◌else◌}

@@ -1,18 +1,13 @@
 -- Laws of labels that rise by 1 from a first one: how many they are, and the place of a value among them.
-use mathlib.Core.Path.{◌≡◌, refl, ap, ◌∙◌}
-use mathlib.Core.Bool.{Bool, true, false}
-use Prim.Native.Nat.{ℕ, ◌<◌}
-use native.Mathlib.Omega.{arith}
-use lib.IntN.{ℤ, pos}
+use Rattle.std.proofs.Common.{◌≡◌, refl, ap, ◌∙◌, Bool, true, false, ℕ, ◌<◌, arith, ℤ, pos, length}
 use lib.Signed.{lt_z}
-use lib.ListN.{length}
 use Rattle.integers.specs.Number.{◌⊕◌, ◌⊖◌, ◌≟◌, count, +1}
 use Rattle.integers.specs.Bounds.{◌to◌, width, values}
 use Rattle.integers.proofs.Linear.{◌⊑◌, ◌⊏◌, linear, rep}
 use Rattle.integers.proofs.Tests.{says-equal, says-lt, not-below}
 use Rattle.rules.specs.Pick.{first_bit}
 use Rattle.picking.specs.Only.{only_at, FirstAt}
-use Rattle.picking.proofs.Only.{only-length, first_bit_lem}
+use Rattle.picking.proofs.Only.{only-length, first_bit-only_at}
 
 pub not_equal : (a b : ℤ) → ¬ (a ≡ b) → (a ≟ b) ≡ false
 not_equal a b n = by (a ≟ b) refl
@@ -63,7 +58,7 @@ no-later v first {n} {h} w k l m = not_equal _ _ (λ e. apart first v h k ((says
 pub label-bits : (lower upper v : ℤ) (h : ℕ) → FirstAt (λ k. lower ⊕ pos k ≟ v) (width (lower to upper)) h →
     first_bit (λ j. j ≟ v) (values (lower to upper)) ≡ only_at (width (lower to upper)) h +1
 unfolding values
-label-bits lower upper v h w = first_bit_lem (λ j. j ≟ v) (λ k. lower ⊕ pos k) (width (lower to upper)) h w
+label-bits lower upper v h w = first_bit-only_at (λ j. j ≟ v) (λ k. lower ⊕ pos k) (width (lower to upper)) h w
 
 pub bits-length : (lower upper v : ℤ) → length (first_bit (λ j. j ≟ v) (values (lower to upper))) ≡ width (lower to upper)
 bits-length lower upper v =

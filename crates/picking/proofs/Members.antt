@@ -1,12 +1,5 @@
 -- The bits of the members of a set, whose numbers stand at the front of a list.
-use mathlib.Core.Path.{◌≡◌, sym, ap, ◌∙◌}
-use mathlib.Core.Bool.{Bool}
-use mathlib.Core.List.{List}
-use Prim.Native.Nat.{ℕ, ◌<◌, ◌≤◌}
-use native.Mathlib.Omega.{arith}
-use native.Mathlib.Nat.{zero-add}
-use lib.IntN.{ℤ}
-use lib.ListN.{length, get_or}
+use Rattle.std.proofs.Common.{◌≡◌, sym, ap, ◌∙◌, Bool, List, ℕ, ◌<◌, ◌≤◌, arith, zero-add, ℤ, length, get_or}
 use Rattle.integers.specs.Number.{◌≟◌, +0, +1}
 use Rattle.integers.specs.Bounds.{◌to◌}
 use Rattle.integers.specs.Terms.{value}
@@ -19,14 +12,14 @@ use Rattle.rules.specs.Pick.{pick, first_bit}
 use Rattle.extremes.proofs.Rising.{members-length}
 use Rattle.picking.specs.Picked.{picks_of}
 use Rattle.picking.specs.Only.{only_at, FirstAt}
-use Rattle.picking.proofs.Only.{first_bit_lem}
+use Rattle.picking.proofs.Only.{first_bit-only_at}
 
 -- ---- the bits
 
 list-bits : (t : ℤ → Bool) (zeros xs : List ℤ) (h : ℕ) → length xs ≤ length zeros →
     FirstAt (λ k. t (get_or (overlay zeros 0 xs) k +0)) (length xs) h → first_bit t xs ≡ only_at (length xs) h +1
 list-bits t zeros xs h l w =
-    ap (first_bit t) (sym (by-places +0 xs)) ∙ first_bit_lem t (λ k. get_or xs k +0) (length xs) h (record {
+    ap (first_bit t) (sym (by-places +0 xs)) ∙ first_bit-only_at t (λ k. get_or xs k +0) (length xs) h (record {
       before = λ k m p. ap t (sym (same k m)) ∙ w.before k m p;
       here = λ m. ap t (sym (same h m)) ∙ w.here m;
     })

@@ -1,8 +1,5 @@
 -- What writing the picks of a constraint wants, where no bounds decide them.
-use mathlib.Core.List.{List, []}
-use Prim.Native.Nat.{ℕ}
-use native.Mathlib.Omega.{arith}
-use lib.IntN.{ℤ}
+use Rattle.std.proofs.Common.{List, [], ℕ, arith, ℤ}
 use Rattle.words.specs.Small.{Small}
 use Rattle.picking.specs.Picked.{Pickable}
 

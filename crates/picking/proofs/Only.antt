@@ -1,15 +1,8 @@
--- Laws of one number among zeros: its elements, one_hot bits, and products with one_hot bits.
-use mathlib.Core.Path.{◌≡◌, refl, ap, ◌∙◌}
-use mathlib.Core.Bool.{Bool, true, false}
-use mathlib.Core.List.{[], ◌∷◌, ◌++◌, map, zip_with}
+-- Laws of one number among zeros: its elements, one-hot bits, and products with one-hot bits.
+use Rattle.std.proofs.Common.{◌≡◌, refl, ap, ◌∙◌, Bool, true, false, [], ◌∷◌, ◌++◌, map, ℕ, zero, suc, ◌+◌, ◌<◌, ◌≤◌, arith, eqb, ltb, ℤ, length, get_or, ne_eqb, ltb-true, ltb-false}
+use mathlib.Core.List.{zip_with}
 use Prim.Native.Nat.compare
-use Prim.Native.Nat.{ℕ, zero, suc, ◌+◌, ◌<◌, ◌≤◌}
-use native.Mathlib.Omega.{arith}
-use lib.Dec.{eqb, ltb}
-use lib.IntN.{ℤ}
 use lib.Signed.{lt_z}
-use lib.ListN.{length, get_or}
-use borrow.Author.Tests.{ne_eqb, ltb-true, ltb-false}
 use Rattle.integers.specs.Choice.{◌if◌else◌}
 use Rattle.integers.specs.Number.{◌⊗◌, +0, +1}
 use Rattle.integers.specs.Lists.{list_of}
@@ -35,15 +28,15 @@ only_none (suc n) (suc h) zero v w l m = absurd (omega arith)
 only_none (suc n) (suc h) (suc g) v w l m = ap (λ zs. +0 ∷ zs) (only_none n h g v w (omega arith) (omega arith))
 
 -- the element at place k
-pub only_at_lem : (n h : ℕ) (v : ℤ) (k : ℕ) → k < n → get_or (only_at n h v) k +0 ≡ (v if eqb k h else +0)
+pub get_or-only_at : (n h : ℕ) (v : ℤ) (k : ℕ) → k < n → get_or (only_at n h v) k +0 ≡ (v if eqb k h else +0)
 unfolding only_at
-only_at_lem zero h v k l = absurd (omega arith)
-only_at_lem (suc n) zero v zero l = refl
-only_at_lem (suc n) zero v (suc k) l = only_at_lem n n v k (omega arith) ∙ rw (ne_eqb k n (λ e. omega arith), ne_eqb (suc k) 0 (λ e. omega arith))
-only_at_lem (suc n) (suc h) v zero l = rw (ne_eqb 0 (suc h) (λ e. omega arith))
-only_at_lem (suc n) (suc h) v (suc k) l = only_at_lem n h v k (omega arith) ∙ rw compare.suc-suc
+get_or-only_at zero h v k l = absurd (omega arith)
+get_or-only_at (suc n) zero v zero l = refl
+get_or-only_at (suc n) zero v (suc k) l = get_or-only_at n n v k (omega arith) ∙ rw (ne_eqb k n (λ e. omega arith), ne_eqb (suc k) 0 (λ e. omega arith))
+get_or-only_at (suc n) (suc h) v zero l = rw (ne_eqb 0 (suc h) (λ e. omega arith))
+get_or-only_at (suc n) (suc h) v (suc k) l = get_or-only_at n h v k (omega arith) ∙ rw compare.suc-suc
 
--- one_hot bits are in the range
+-- one-hot bits are in the range
 bit-ranged : (n h k : ℕ) → in_range (get_or (only_at n h +1) k +0) ≡ true
 unfolding only_at within
 bit-ranged zero h k = refl
@@ -64,13 +57,13 @@ module _ {A : Type 0} (t : A → Bool) where
   zeros f (suc n) zero l = absurd (omega arith)
   zeros f (suc n) (suc h) l = ap (λ zs. +0 ∷ zs) (zeros (λ i. f (suc i)) n h (omega arith))
 
-  pub first_bit_lem : (f : ℕ → A) (n h : ℕ) → FirstAt (λ k. t (f k)) n h → first_bit t (list_of f n) ≡ only_at n h +1
+  pub first_bit-only_at : (f : ℕ → A) (n h : ℕ) → FirstAt (λ k. t (f k)) n h → first_bit t (list_of f n) ≡ only_at n h +1
   unfolding first_bit list_of only_at
-  first_bit_lem f zero h w = refl
-  first_bit_lem f (suc n) zero w = rw (w.here (omega arith)) (ap (λ zs. +1 ∷ zs) (zeros (λ i. f (suc i)) n n (omega arith)))
-  first_bit_lem f (suc n) (suc h) w =
+  first_bit-only_at f zero h w = refl
+  first_bit-only_at f (suc n) zero w = rw (w.here (omega arith)) (ap (λ zs. +1 ∷ zs) (zeros (λ i. f (suc i)) n n (omega arith)))
+  first_bit-only_at f (suc n) (suc h) w =
       rw (w.before 0 (omega arith) (omega arith))
-      (ap (λ zs. +0 ∷ zs) (first_bit_lem (λ i. f (suc i)) n h (record {
+      (ap (λ zs. +0 ∷ zs) (first_bit-only_at (λ i. f (suc i)) n h (record {
         before = λ k l m. w.before (suc k) (omega arith) (omega arith);
         here = λ l. w.here (omega arith);
       })))
@@ -100,7 +93,7 @@ module _ {A : Type 0} (x : A → ℤ) where
   pub gated : (t : A → Bool) (f : ℕ → A) (n h : ℕ) → FirstAt (λ k. t (f k)) n h →
       gated_pick x t (list_of f n) ≡ only_at n h +1 ++ only_at n h (x (f h))
   unfolding gated_pick
-  gated t f n h w = rw (first_bit_lem t f n h w, times-only f n h)
+  gated t f n h w = rw (first_bit-only_at t f n h w, times-only f n h)
 
   -- where no label after the first passes
   pub times-bits : (t : A → Bool) (f : ℕ → A) (n h : ℕ) → FirstAt (λ k. t (f k)) n h → ((k : ℕ) → k < n → h < k → t (f k) ≡ false) →

@@ -1,9 +1,5 @@
 -- How large labels, counts and sums are.
-use mathlib.Core.List.{List}
-use Prim.Native.Nat.{ℕ, zero, suc, ◌+◌, ◌*◌, ◌≤◌}
-use native.Mathlib.Omega.{arith}
-use lib.IntN.{ℤ, pos, nat_abs}
-use lib.ListN.{get_or}
+use Rattle.std.proofs.Common.{List, ℕ, zero, suc, ◌+◌, ◌*◌, ◌≤◌, arith, ℤ, pos, nat_abs, get_or}
 use Rattle.integers.specs.Number.{◌⊗◌, min_z, max_z, +0, +1}
 use Rattle.integers.specs.Lists.{list_of}
 use Rattle.integers.specs.Terms.{Term, value, sum}

@@ -1,11 +1,5 @@
 -- Laws of lists of numbers of the range.
-use mathlib.Core.Path.{◌≡◌, refl}
-use mathlib.Core.Bool.{true}
-use mathlib.Core.List.{List, [], ◌∷◌, ◌++◌}
-use Prim.Native.Nat.{ℕ, zero, suc, ◌<◌}
-use native.Mathlib.Omega.{arith}
-use lib.IntN.{ℤ}
-use lib.ListN.{length}
+use Rattle.std.proofs.Common.{◌≡◌, refl, true, List, [], ◌∷◌, ◌++◌, ℕ, zero, suc, ◌<◌, arith, ℤ, length}
 use Rattle.integers.specs.Number.{+0}
 use Rattle.integers.specs.Terms.{value}
 use Rattle.integers.specs.Bounds.{within}

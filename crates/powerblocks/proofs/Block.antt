@@ -1,8 +1,6 @@
 -- What is written of int_pow counts as the parts of its block and is them where they fit.
-use mathlib.Core.Path.{◌≡◌, refl, sym, ap, ◌∙◌}
-use mathlib.Core.List.{[], ◌∷◌, ◌++◌, flat_map}
-use Prim.Native.Nat.{ℕ, zero, suc, ◌≤◌}
-use native.Mathlib.Omega.{arith}
+use Rattle.std.proofs.Common.{◌≡◌, refl, sym, ap, ◌∙◌, [], ◌∷◌, ◌++◌, ℕ, zero, suc, ◌≤◌, arith}
+use mathlib.Core.List.{flat_map}
 use Rattle.integers.specs.Number.{+0, +1, -1}
 use Rattle.integers.specs.declared.Bounds.{Bounds}
 use Rattle.integers.proofs.Lists.{flat_map_append}
@@ -16,7 +14,7 @@ use Rattle.laying.specs.Part.{bound_parts, term_parts, row_parts, block_parts}
 use Rattle.laying.specs.Lists.{many, row_parts_of}
 use Rattle.laying.proofs.Alike.{Alike, alike_then}
 use Rattle.powerblocks.specs.Cut.{cut_ranges}
-use Rattle.powerblocks.proofs.CutBounds.{near_not_cut, cut_ranges_lem, alike-bounds}
+use Rattle.powerblocks.proofs.CutBounds.{near_not_cut, cut_ranges-auxiliaries, alike-bounds}
 
 module _ (first : ℕ) (β : ℕ → Bounds) (x : ℕ) where
   -- k=0
@@ -46,4 +44,4 @@ module _ (first : ℕ) (β : ℕ → Bounds) (x : ℕ) where
   power-alike (suc k) z held l h i e =
       let c = chain (β x) x (suc k) in
       let rest = flat_map (row_parts first) c.products ++ row_parts_of Kind.equal (numbered first c.result ∷ z ∷ []) (+1 ∷ -1 ∷ []) +0 in
-      rw (e, block-parts k z, cut_ranges_lem (β x) x (near_not_cut (β x) h i) (suc k) l) (alike_then (alike-bounds c.auxiliaries) rest)
+      rw (e, block-parts k z, cut_ranges-auxiliaries (β x) x (near_not_cut (β x) h i) (suc k) l) (alike_then (alike-bounds c.auxiliaries) rest)

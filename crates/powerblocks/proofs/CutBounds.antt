@@ -1,12 +1,7 @@
 -- Bounds cut to ±2^27: the end products of bounds that are cut, cut again, are the end products, cut; a number in the range is not cut, and one outside it stays outside.
 -- So the bounds of the products of a power, cut at each step, are those of the chain, cut; their parts count as those of the chain and are the same where they fit.
-use mathlib.Core.Path.{◌≡◌, refl, sym, ap, ap₂, ◌∙◌}
-use mathlib.Core.Logic.{◌↔◌}
-use mathlib.Core.Bool.{true, ◌&&◌}
-use mathlib.Core.List.{List, [], ◌∷◌, ◌++◌, map, map-append, flat_map}
-use Prim.Native.Nat.{ℕ, ◌≤◌}
-use native.Mathlib.Omega.{arith}
-use lib.IntN.{ℤ}
+use Rattle.std.proofs.Common.{◌≡◌, refl, sym, ap, ap₂, ◌∙◌, ◌↔◌, true, ◌&&◌, List, [], ◌∷◌, ◌++◌, map, ℕ, ◌≤◌, arith, ℤ}
+use mathlib.Core.List.{map-append, flat_map}
 use Rattle.integers.specs.Number.{◌⊗◌, neg, min_z, max_z, cut, +1}
 use Rattle.integers.specs.Bounds.{◌to◌}
 use Rattle.integers.specs.Lists.{all}
@@ -88,9 +83,9 @@ cut-next c d A A' h e E q =
     let r : cut_bounds (end_products A' d.range) ≡ cut_bounds E = ap₂ (λ F G. cut_bounds (end_products F G)) e h.range ∙ cut-end_products A c.range ∙ ap cut_bounds (sym q) in
     (ap₂ (λ xs F. xs ++ (F ∷ [])) h.auxiliaries r ∙ sym (map-append cut_bounds c.auxiliaries (E ∷ [])), r)
 
-pub cut_ranges_lem : (B : Bounds) (x : ℕ) → B ≡ cut_bounds B → (k : ℕ) → 1 ≤ k → (cut_ranges B k).auxiliaries ≡ map cut_bounds (chain B x k).auxiliaries
+pub cut_ranges-auxiliaries : (B : Bounds) (x : ℕ) → B ≡ cut_bounds B → (k : ℕ) → 1 ≤ k → (cut_ranges B k).auxiliaries ≡ map cut_bounds (chain B x k).auxiliaries
 unfolding chain cut_ranges no_product no_range squared cut_squared multiplied cut_multiplied next cut_next
-cut_ranges_lem B x small k l =
+cut_ranges-auxiliaries B x small k l =
     (by-halves (λ n c d. Cut c d) (record { auxiliaries = refl; range = small })
     (λ n c d h. let p = cut-next c d c.range d.range h h.range (end_products c.range c.range) refl in record { auxiliaries = p.0; range = p.1 })
     (λ n c d h. let p = cut-next c d B B h small (end_products B c.range) refl in record { auxiliaries = p.0; range = p.1 }) k l).auxiliaries

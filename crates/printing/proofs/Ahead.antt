@@ -1,12 +1,5 @@
 -- Looking ahead in a printed list: its closing bracket comes after as many elements as its length word says.
-use mathlib.Core.Path.{◌≡◌, refl, ap, ◌∙◌}
-use mathlib.Core.Bool.{Bool, false}
-use mathlib.Core.List.{List, [], ◌∷◌, ◌++◌}
-use Prim.Native.Nat.{ℕ, zero, suc, ◌+◌, ◌<◌, ◌≤◌}
-use native.Mathlib.Nat.{add-zero}
-use native.Mathlib.Omega.{arith}
-use lib.Dec.{eqb}
-use lib.ListN.{length}
+use Rattle.std.proofs.Common.{◌≡◌, refl, ap, ◌∙◌, Bool, false, List, [], ◌∷◌, ◌++◌, ℕ, zero, suc, ◌+◌, ◌<◌, ◌≤◌, add-zero, arith, eqb, length}
 use Rattle.words.specs.Word.{payload, signed}
 use Rattle.decimals.specs.Decimal.{numeral}
 use Rattle.models.specs.declared.Due.TheVariants.{Arguments}

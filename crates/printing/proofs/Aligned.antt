@@ -1,18 +1,12 @@
--- The arguments of a code in words and in a text, side by side: the k_th in words is the j-th in the text, where parallel lists are two.
-use mathlib.Core.Path.{◌≡◌, refl, sym, ap, ◌∙◌}
-use mathlib.Core.Bool.{Bool, true, false, not, ◌&&◌}
-use mathlib.Core.List.{List, [], ◌∷◌, map, flat_map}
-use Prim.Native.Nat.{ℕ, zero, suc, ◌+◌, ◌<◌, ◌≤◌}
-use native.Mathlib.Numerals.{add-one}
-use native.Mathlib.Omega.{arith}
-use lib.Dec.{eqb, leb, ltb}
-use lib.Seq.{drop-cons}
-use lib.ListN.{length, get_or, drop, drop_of_length-le, length-drop, get_or-eq_default}
-use borrow.Author.Tests.{le-leb, lt-leb, leb-true, ltb-true, ltb-false, eqb-false, ne_eqb, not-true}
+-- The arguments of a code in words and in a text, side by side: the k-th in words is the j-th in the text, where parallel lists are two.
+use Rattle.std.proofs.Common.{◌≡◌, refl, sym, ap, ◌∙◌, Bool, true, false, not, ◌&&◌, List, [], ◌∷◌, map, ℕ, zero, suc, ◌+◌, ◌<◌, ◌≤◌, add-one, arith, eqb, leb, ltb, drop-cons, length, get_or, drop, drop_of_length-le, length-drop, le-leb, leb-true, ltb-true, ltb-false, ne_eqb}
+use mathlib.Core.List.{flat_map}
+use lib.ListN.{get_or-eq_default}
+use borrow.Author.Tests.{lt-leb, eqb-false, not-true}
 use Rattle.integers.specs.Choice.{◌if◌else◌}
 use Rattle.integers.specs.Lists.{all, any, list_of}
 use Rattle.integers.proofs.Lists.{all-at, list_of-length, all_or_past}
-use Rattle.integers.proofs.Places.{get_d_list_of}
+use Rattle.integers.proofs.Places.{get_or-list_of}
 use Rattle.integers.proofs.Tests.{All, says_all, says-and}
 use Rattle.integers.proofs.Booleans.{both_true}
 use Rattle.models.specs.Table.{Code, codes}
@@ -77,7 +71,7 @@ aligned code = go (ltb code 40) refl
     go : (b : Bool) → ltb code 40 ≡ b → argument_forms code ≡ sorted code
     go true e =
         let l = ltb-true code 40 e in
-        sym (get_d_list_of argument_forms 40 code [] l) ∙ ap (λ (r : List (List Form)). get_or r code []) forms_are ∙ get_d_list_of sorted 40 code [] l
+        sym (get_or-list_of argument_forms 40 code [] l) ∙ ap (λ (r : List (List Form)). get_or r code []) forms_are ∙ get_or-list_of sorted 40 code [] l
     go false e = let q = beyond code (omega (arith, ltb-false code 40 e)) in rw (q.0, q.1)
 
 module _ (code k : ℕ) where
@@ -179,7 +173,7 @@ Apart code = is_apart code ≡ true
 apart : (code : ℕ) → code < 40 → Apart code
 apart code l =
     let m : code < length (list_of (λ (n : ℕ). n) 40) = rw (list_of-length (λ (n : ℕ). n) 40) l in
-    rw (get_d_list_of (λ (n : ℕ). n) 40 code 0 l) at
+    rw (get_or-list_of (λ (n : ℕ). n) 40 code 0 l) at
     (all-at Apart 0 (list_of (λ (n : ℕ). n) 40) code m ((says_all is_apart Apart (λ n. (λ e. e, λ e. e)) (list_of (λ (n : ℕ). n) 40)).0 apart-all))
 
 pub parallel-lists : (code k : ℕ) → Shape.argument code k ≡ 8 → takes_set code ≡ false

@@ -1,15 +1,9 @@
 -- The names of the builtins as printed: each is a name of a text, and the reader finds its code.
-use mathlib.Core.Path.{◌≡◌, refl}
-use mathlib.Core.Bool.{Bool, true, false, not, ◌&&◌}
-use mathlib.Core.List.{List, [], ◌∷◌, ◌++◌, map}
-use Prim.Native.Nat.{ℕ, zero, suc, ◌+◌, ◌<◌, ◌≤◌}
-use native.Mathlib.Omega.{arith}
-use lib.Dec.{eqb, ltb}
-use lib.ListN.{length}
-use borrow.Author.Tests.{ltb-true, eqb-true, not-true}
+use Rattle.std.proofs.Common.{◌≡◌, refl, Bool, true, false, not, ◌&&◌, List, [], ◌∷◌, ◌++◌, map, ℕ, zero, suc, ◌+◌, ◌<◌, ◌≤◌, arith, eqb, ltb, length, ltb-true, eqb-true}
+use borrow.Author.Tests.{not-true}
 use Rattle.integers.specs.Lists.{all, any, list_of}
 use Rattle.integers.proofs.Lists.{all-at, list_of-length}
-use Rattle.integers.proofs.Places.{get_d_list_of}
+use Rattle.integers.proofs.Places.{get_or-list_of}
 use Rattle.integers.proofs.Tests.{says_all}
 use Rattle.integers.proofs.Booleans.{both_true}
 use Rattle.tokens.specs.Byte.{bytes, front, between, is_letter, in_name, is_digit, is_gap}
@@ -32,7 +26,7 @@ Holds code = is_name_of (builtin_name (suc code)) (suc code) ≡ true
 holds : (code : ℕ) → code < 39 → Holds code
 holds code l =
     let m : code < length (list_of (λ (n : ℕ). n) 39) = rw (list_of-length (λ (n : ℕ). n) 39) l in
-    rw (get_d_list_of (λ (n : ℕ). n) 39 code 0 l) at
+    rw (get_or-list_of (λ (n : ℕ). n) 39 code 0 l) at
     (all-at Holds 0 (list_of (λ (n : ℕ). n) 39) code m ((says_all (λ n. is_name_of (builtin_name (suc n)) (suc n)) Holds (λ n. (λ e. e, λ e. e)) (list_of (λ (n : ℕ). n) 39)).0 names_hold))
 
 no_name_opening : (bs : List ℕ) → in_name (front (40 ∷ bs)) ≡ false

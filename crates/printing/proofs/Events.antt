@@ -1,12 +1,5 @@
 -- Each token that a printed text has, where it is due: what it writes and what is due after it.
-use mathlib.Core.Path.{◌≡◌, refl, ap, ◌∙◌}
-use mathlib.Core.Bool.{Bool, true, false}
-use mathlib.Core.List.{List, [], ◌∷◌, ◌++◌}
-use Prim.Native.Nat.{ℕ, suc, ◌+◌, ◌-◌, ◌<◌, ◌≤◌}
-use native.Mathlib.Omega.{arith}
-use lib.Dec.{eqb, leb}
-use lib.ListN.{length}
-use borrow.Author.Tests.{lt-ltb, eq-eqb, ne_eqb}
+use Rattle.std.proofs.Common.{◌≡◌, refl, ap, ◌∙◌, Bool, true, false, List, [], ◌∷◌, ◌++◌, ℕ, suc, ◌+◌, ◌-◌, ◌<◌, ◌≤◌, arith, eqb, leb, length, lt-ltb, eq-eqb, ne_eqb}
 use Rattle.integers.specs.Lists.{list_of, any}
 use Rattle.words.specs.Word.{kind, payload, signed, in_range, word}
 use Rattle.decimals.specs.Decimal.{numeral}
@@ -118,27 +111,27 @@ module _ (all : List Token) (end : ℕ) where
     -- ---- numbers
 
     module _ (w : ℕ) (range : in_range (signed w) ≡ true) (apart : is_digit (front bs) ≡ false) where
-      number_step_lem : {d next : Due} {j : ℕ} → kind w ≡ suc j → ((ts : List Token) → Meets all end ns d (token 1 p (numeral (signed w))) ts w next) →
+      meets-number_step : {d next : Due} {j : ℕ} → kind w ≡ suc j → ((ts : List Token) → Meets all end ns d (token 1 p (numeral (signed w))) ts w next) →
           Reads all end next (p + length (numeral (signed w))) bs ns false us → Reads all end d p (numeral (signed w) ++ bs) ns false (w ∷ us)
-      number_step_lem {j = j} k m r =
+      meets-number_step {j = j} k m r =
           word-step all end (token 1 p (numeral (signed w))) w (some_word j w k) (number-token p (signed w) bs apart) refl (omega (arith, numeral-some (signed w))) (m _) r
 
       pub at-lower : kind w ≡ 1 → Reads all end Dots (p + length (numeral (signed w))) bs ns false us → Reads all end Domain p (numeral (signed w) ++ bs) ns false (w ∷ us)
       unfolding Grammar.step is_word number_step of_sort gives
-      at-lower k = number_step_lem k (λ ts e. rw (value-back (signed w), range) (worded (signed_back 1 w ∙ word_back 1 w k)))
+      at-lower k = meets-number_step k (λ ts e. rw (value-back (signed w), range) (worded (signed_back 1 w ∙ word_back 1 w k)))
 
       pub at-upper : kind w ≡ 2 → Reads all end Colon (p + length (numeral (signed w))) bs ns false us → Reads all end Upper p (numeral (signed w) ++ bs) ns false (w ∷ us)
       unfolding Grammar.step number_step of_sort gives
-      at-upper k = number_step_lem k (λ ts e. rw (value-back (signed w), range) (worded (signed_back 2 w ∙ word_back 2 w k)))
+      at-upper k = meets-number_step k (λ ts e. rw (value-back (signed w), range) (worded (signed_back 2 w ∙ word_back 2 w k)))
 
       pub at-number : (code j n : ℕ) → argument_form code j ≡ One 1 → kind w ≡ 6 → Reads all end (Next code (j + 1) n) (p + length (numeral (signed w))) bs ns false us → Reads all end (Argument code j n) p (numeral (signed w) ++ bs) ns false (w ∷ us)
       unfolding Grammar.step argument_step single_step number_step of_sort gives
-      at-number code j n a k = number_step_lem k (λ ts e. rw (a, value-back (signed w), range) (worded (signed_back 6 w ∙ word_back 6 w k)))
+      at-number code j n a k = meets-number_step k (λ ts e. rw (a, value-back (signed w), range) (worded (signed_back 6 w ∙ word_back 6 w k)))
 
       pub number-element : (code j n c before : ℕ) → eqb before 1 ≡ false → kind w ≡ 6 → Reads all end (Inside code j n 1 c 1) (p + length (numeral (signed w))) bs ns false us →
           Reads all end (Inside code j n 1 c before) p (numeral (signed w) ++ bs) ns false (w ∷ us)
       unfolding Grammar.step fits_inside single_step number_step of_sort gives
-      number-element code j n c before s k = number_step_lem k (λ ts e. rw (s, value-back (signed w), range) (worded (signed_back 6 w ∙ word_back 6 w k)))
+      number-element code j n c before s k = meets-number_step k (λ ts e. rw (s, value-back (signed w), range) (worded (signed_back 6 w ∙ word_back 6 w k)))
 
   -- ---- names of variables
 

@@ -1,7 +1,6 @@
 -- A text as it is printed: numbers, names, lists, empty lists and sets.
-use mathlib.Core.Path.{◌≡◌, refl}
-use mathlib.Core.List.{List, [], ◌∷◌, ◌++◌, flat_map}
-use Prim.Native.Nat.{ℕ}
+use Rattle.std.proofs.Common.{◌≡◌, refl, List, [], ◌∷◌, ◌++◌, ℕ}
+use mathlib.Core.List.{flat_map}
 use Rattle.integers.specs.Lists.{list_of, any}
 use Rattle.words.specs.Word.{kind, payload, signed, word}
 use Rattle.decimals.specs.Decimal.{last_digits, decimal, numeral}

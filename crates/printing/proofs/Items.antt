@@ -1,12 +1,6 @@
 -- The items of a printed text, and the whole: of words without a fault, the text is read as these words.
-use mathlib.Core.Path.{◌≡◌, refl, ap, ◌∙◌}
-use mathlib.Core.Bool.{Bool, true, false}
-use mathlib.Core.List.{List, [], ◌∷◌, ◌++◌, append_assoc}
-use Prim.Native.Nat.{ℕ, zero, suc, ◌+◌, ◌-◌, ◌≤◌}
-use native.Mathlib.Omega.{arith}
-use lib.Dec.{eqb, leb}
-use lib.ListN.{length, length-append}
-use borrow.Author.Tests.{leb-true, leb-false, eqb-true, eqb-false, ne_eqb}
+use Rattle.std.proofs.Common.{◌≡◌, refl, ap, ◌∙◌, Bool, true, false, List, [], ◌∷◌, ◌++◌, append_assoc, ℕ, zero, suc, ◌+◌, ◌-◌, ◌≤◌, arith, eqb, leb, length, length-append, leb-true, leb-false, eqb-true, ne_eqb}
+use borrow.Author.Tests.{eqb-false}
 use Rattle.integers.specs.Lists.{list_of}
 use Rattle.words.specs.Word.{kind, payload, signed}
 use Rattle.decimals.specs.Decimal.{numeral}

@@ -1,11 +1,5 @@
 -- What is printed is read, of every model that check reads.
-use mathlib.Core.Path.{◌≡◌, refl}
-use mathlib.Core.List.{List, []}
-use Prim.Native.Nat.{ℕ, ◌≤◌}
-use native.Mathlib.Omega.{arith}
-use lib.Dec.{ltb}
-use lib.ListN.{length}
-use borrow.Author.Tests.{le-ltb}
+use Rattle.std.proofs.Common.{◌≡◌, refl, List, [], ℕ, ◌≤◌, arith, ltb, length, le-ltb}
 use Rattle.words.specs.Answer.{written, ◌else_answer◌}
 use Rattle.words.specs.Overlay.{overlay}
 use Rattle.words.specs.Refusal.{accepted, room_fault, ◌else_refuse◌}

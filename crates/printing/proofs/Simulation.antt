@@ -1,12 +1,6 @@
 -- The reader of texts follows the reader of models: what is due in the printed text goes with what is due in the words.
-use mathlib.Core.Path.{◌≡◌, refl, ◌∙◌}
-use mathlib.Core.Bool.{Bool, true, false}
-use mathlib.Core.List.{List, [], ◌∷◌, ◌++◌, append_assoc}
-use Prim.Native.Nat.{ℕ, suc, ◌+◌, ◌<◌, ◌≤◌}
-use native.Mathlib.Omega.{arith}
-use lib.Dec.{eqb}
-use lib.ListN.{length}
-use borrow.Author.Tests.{eqb-true, eqb-false}
+use Rattle.std.proofs.Common.{◌≡◌, refl, ◌∙◌, Bool, true, false, List, [], ◌∷◌, ◌++◌, append_assoc, ℕ, suc, ◌+◌, ◌<◌, ◌≤◌, arith, eqb, length, eqb-true}
+use borrow.Author.Tests.{eqb-false}
 use Rattle.integers.specs.Choice.{◌if◌else◌}
 use Rattle.words.specs.Word.{payload, signed}
 use Rattle.decimals.specs.Decimal.{numeral}

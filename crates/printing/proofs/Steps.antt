@@ -1,11 +1,5 @@
 -- Reading a text token by token without a fault: what is due, the names declared so far, and the words that the rest of the text gives.
-use mathlib.Core.Path.{◌≡◌, sym, ap, ◌∙◌}
-use mathlib.Core.Bool.{Bool, true, false}
-use mathlib.Core.List.{List, [], ◌∷◌, ◌++◌, append-nil, append_assoc}
-use Prim.Native.Nat.{ℕ, ◌<◌, ◌≤◌}
-use native.Mathlib.Omega.{arith}
-use lib.Dec.{eqb}
-use borrow.Author.Tests.{le-ltb, lt-ltb, ne_eqb}
+use Rattle.std.proofs.Common.{◌≡◌, sym, ap, ◌∙◌, Bool, true, false, List, [], ◌∷◌, ◌++◌, append-nil, append_assoc, ℕ, ◌<◌, ◌≤◌, arith, eqb, le-ltb, lt-ltb, ne_eqb}
 use Rattle.integers.specs.Choice.{◌if◌else◌}
 use Rattle.words.specs.Refusal.{accepted}
 use Rattle.tokens.specs.Token.{Token, tokens_from}

@@ -1,13 +1,5 @@
 -- A block that was laid and ended is the front of its list; judged by itself, its bounds and its rows.
-use mathlib.Core.Path.{◌≡◌, ap, ap₂, sym, ◌∙◌}
-use mathlib.Core.Bool.{true, false}
-use mathlib.Core.List.{List, [], ◌∷◌, ◌++◌}
-use Prim.Native.Nat.{ℕ, ◌+◌, ◌-◌, ◌*◌, ◌≤◌, ◌<◌}
-use native.Mathlib.Omega.{arith}
-use native.Mathlib.Nat.{add-zero}
-use lib.IntN.{ℤ, pos}
-use lib.ListN.{length, length-append, length-drop, take, drop}
-use lib.Seq.{length-take-le, get_or-take, get_or-drop}
+use Rattle.std.proofs.Common.{◌≡◌, ap, ap₂, sym, ◌∙◌, true, false, List, [], ◌∷◌, ◌++◌, ℕ, ◌+◌, ◌-◌, ◌*◌, ◌≤◌, ◌<◌, arith, add-zero, ℤ, pos, length, length-append, length-drop, take, drop, length-take-le, get_or-take, get_or-drop}
 use borrow.Author.Tests.{not-false}
 use Rattle.integers.specs.Terms.{value}
 use Rattle.integers.specs.declared.Bounds.{Bounds}
@@ -29,7 +21,7 @@ use Rattle.rules.specs.Block.{Block, block_words}
 use Rattle.laying.specs.Part.{block_parts}
 use Rattle.laying.specs.Appends.{AppendsFitting, GrowsBy, nothing}
 use Rattle.laying.specs.declared.Laid.{Laid}
-use Rattle.laying.proofs.Blocks.{block_words_lem, block-outside}
+use Rattle.laying.proofs.Blocks.{words_in-block_parts, block-outside}
 use Rattle.blocks.proofs.OneBlock.{told}
 use Rattle.words.proofs.Overlay.{front-over}
 use Rattle.reasoning.specs.Walks.{block_and_end, ReadsBack, Front, BlockJudged, AtMost, shift}
@@ -46,7 +38,7 @@ fronted {first} {B} {r} {o} {o₁} {o₂} d h w n e =
     let z : r.words ≡ 0 + length W = omega (arith, t.words) in
     let k : r.words + 1 ≡ length (W ++ E) = omega (arith, t.words, size) in
     let fits : length (W ++ E) ≤ length o = omega (arith, size, f, h) in
-    let over : o₂ ≡ overlay o 0 (W ++ E) = e ∙ ap₂ (λ (l : List ℕ) (m : ℕ). overlay l m E) (w.over (not-false _ (block-outside first B ∙ d.fits)) ∙ ap (overlay o 0) (block_words_lem first B)) z ∙ overlay-append o 0 W E in
+    let over : o₂ ≡ overlay o 0 (W ++ E) = e ∙ ap₂ (λ (l : List ℕ) (m : ℕ). overlay l m E) (w.over (not-false _ (block-outside first B ∙ d.fits)) ∙ ap (overlay o 0) (words_in-block_parts first B)) z ∙ overlay-append o 0 W E in
     record {
       words = t.words;
       auxiliaries = t.auxiliaries;

@@ -1,12 +1,7 @@
 -- The words of one block and an end word are read, by judge-rows' own reader, as the block's auxiliaries and then its rows: so that one block can be
 -- judged by itself.
-use mathlib.Core.Path.{◌≡◌, sym, ap, ◌∙◌}
-use mathlib.Core.Bool.{Bool, false}
-use mathlib.Core.List.{List, [], ◌∷◌, ◌++◌, map, flat_map, append-nil, append_assoc}
-use Prim.Native.Nat.{ℕ, ◌+◌, ◌*◌, ◌≤◌}
-use native.Mathlib.Omega.{arith}
-use native.Mathlib.Nat.{add-zero}
-use lib.ListN.{length, length-append, drop}
+use Rattle.std.proofs.Common.{◌≡◌, sym, ap, ◌∙◌, Bool, false, List, [], ◌∷◌, ◌++◌, map, append-nil, append_assoc, ℕ, ◌+◌, ◌*◌, ◌≤◌, arith, add-zero, length, length-append, drop}
+use mathlib.Core.List.{flat_map}
 use lib.Seq.{drop-append_seam}
 use Rattle.integers.specs.declared.Bounds.{Bounds}
 use Rattle.integers.proofs.Lists.{all_implies}
@@ -27,7 +22,7 @@ use Rattle.rules.specs.Translation.{block_of}
 use Rattle.rules.specs.Check.{too_wide}
 use Rattle.sharing.proofs.Formed.{RowIn, Formed}
 use Rattle.sharing.proofs.ChoicesSizes.{block-short}
-use Rattle.sharing.proofs.Written.{declared, in_range_lem}
+use Rattle.sharing.proofs.Written.{declared, ranged-block_numbers}
 use Rattle.reasoning.specs.Walks.{block_and_end, rows_at, ReadsBack}
 
 bounds-length : (As : List Bounds) → length (flat_map bound_words As) ≡ 2 * length As
@@ -52,7 +47,7 @@ module _ (first : ℕ) (B : Block) (few : first + length B.auxiliaries ≤ Limit
 
   ranged : Ranged (flat_map bound_numbers B.auxiliaries ++ flat_map row_numbers B.rows)
   unfolding block_numbers
-  ranged = in_range_lem B fits
+  ranged = ranged-block_numbers B fits
 
   rows-declared : Rattle.integers.proofs.Tests.All (Declared (numbered first) (first + m)) B.rows
   rows-declared = all_implies (RowIn first m) (Declared (numbered first) (first + m)) (declared first first (omega arith) m) B.rows formed.1

@@ -1,14 +1,6 @@
 -- The walks over the constraints: what is known of the block that is due; the bounds and the rows that are left.
-use mathlib.Core.Path.{◌≡◌, refl, ap, sym, ◌∙◌, subst}
-use mathlib.Core.Bool.{Bool, true, false}
-use mathlib.Core.List.{List, ◌∷◌, ◌++◌}
-use Prim.Native.Nat.{ℕ, ◌+◌, ◌*◌, ◌≤◌, ◌<◌}
-use native.Mathlib.Omega.{arith}
-use lib.Dec.{ltb}
-use lib.IntN.{ℤ, pos}
-use lib.ListN.{length, length-append, length-map, get_or, take, drop, drop_of_length-le, get_or-eq_default}
-use lib.Seq.{length-take-le, get_or-take}
-use borrow.Author.Tests.{ltb-true, ltb-false}
+use Rattle.std.proofs.Common.{◌≡◌, refl, ap, sym, ◌∙◌, subst, Bool, true, false, List, ◌∷◌, ◌++◌, ℕ, ◌+◌, ◌*◌, ◌≤◌, ◌<◌, arith, ltb, ℤ, pos, length, length-append, get_or, take, drop, drop_of_length-le, length-take-le, get_or-take, ltb-true, ltb-false}
+use lib.ListN.{length-map, get_or-eq_default}
 use Rattle.integers.specs.Terms.{Valuation, value}
 use Rattle.integers.specs.declared.Bounds.{Bounds}
 use Rattle.integers.proofs.Tests.{false-true}
@@ -80,7 +72,7 @@ module _ {ws hs : List ℕ} {r : Read} {ls us : List ℤ} {uses : List ℕ} {low
   begun : Due (bounds_of ls us) (shared_by uses) (constraints ws) r.variables none_yet
   begun = rw (y.model.same, y.model.shares, y.model.seen.variables_counted) (start ws y.passes)
 
-  -- the k_th constraint: its block can be laid and read
+  -- the k-th constraint: its block can be laid and read
   module _ {k first : ℕ} {d : Encoded} (l : Due (bounds_of ls us) (shared_by uses) (drop k (constraints ws)) first d) (h : k < r.constraints) where
     abbrev c : Constraint
     c = headed ws (get_or hs k 0)
@@ -100,8 +92,8 @@ module _ {ws hs : List ℕ} {r : Read} {ls us : List ℤ} {uses : List ℕ} {low
       reads = reads here;
     }
 
-    pub room_after_lem : first + length (block_of (bounds_of ls us) (shared_by uses) d (headed ws (get_or hs k 0))).auxiliaries ≤ 4096
-    room_after_lem = here.fine.2
+    pub room_after-block : first + length (block_of (bounds_of ls us) (shared_by uses) d (headed ws (get_or hs k 0))).auxiliaries ≤ 4096
+    room_after-block = here.fine.2
 
 -- ---- the values of a block are there, where those of all that are left are
 

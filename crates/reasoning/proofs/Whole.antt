@@ -1,14 +1,5 @@
 -- Faults, bounds, rows: the parts of the whole answer.
-use mathlib.Core.Path.{◌≡◌, ap, sym, ◌∙◌}
-use mathlib.Core.Bool.{true, false}
-use mathlib.Core.List.{List, ◌++◌}
-use Prim.Native.Nat.{ℕ, ◌+◌, ◌<◌}
-use native.Mathlib.Omega.{arith}
-use native.Mathlib.Nat.{zero-add}
-use lib.IntN.{ℤ, pos}
-use lib.ListN.{length, length-append, take}
-use lib.Seq.{get_or-take}
-use borrow.Author.Tests.{eq-eqb, ne_eqb}
+use Rattle.std.proofs.Common.{◌≡◌, ap, sym, ◌∙◌, true, false, List, ◌++◌, ℕ, ◌+◌, ◌<◌, arith, zero-add, ℤ, pos, length, length-append, take, get_or-take, eq-eqb, ne_eqb}
 use Rattle.integers.specs.Terms.{value}
 use Rattle.integers.specs.declared.Bounds.{Bounds}
 use Rattle.words.specs.Variables.{variables}

@@ -1,13 +1,6 @@
 -- Of the source values and fill's picks: every row of a block whose builtin is true holds, whichever blocks its bits are of. So a row that fails of
 -- other auxiliaries names one whose value is not fill's.
-use mathlib.Core.Path.{◌≡◌, refl, sym, ap₂, ◌∙◌, subst}
-use mathlib.Core.Bool.{Bool, true, false, not, ◌&&◌}
-use mathlib.Core.List.{List, [], ◌∷◌, ◌++◌, map}
-use Prim.Native.Nat.{ℕ, ◌+◌, ◌<◌}
-use lib.Dec.{ltb}
-use lib.IntN.{ℤ, pos}
-use lib.ListN.{length}
-use borrow.Author.Tests.{ltb-true}
+use Rattle.std.proofs.Common.{◌≡◌, refl, sym, ap₂, ◌∙◌, subst, Bool, true, false, not, ◌&&◌, List, [], ◌∷◌, ◌++◌, map, ℕ, ◌+◌, ◌<◌, ltb, ℤ, pos, length, ltb-true}
 use Rattle.integers.specs.Number.{◌⊕◌, ◌⊗◌, ◌≟◌}
 use Rattle.integers.specs.Lists.{any}
 use Rattle.integers.specs.Terms.{Valuation, Term, value}

@@ -1,14 +1,7 @@
 -- THE LAW OF REASONS: of a model that passes the check, the row, the constraint and the reason that are named are the true ones (specs/Behind.antt).
-use mathlib.Core.Path.{◌≡◌, refl, sym, ◌∙◌, subst}
-use mathlib.Core.Bool.{Bool, true, false}
-use mathlib.Core.List.{List, [], ◌∷◌, ◌++◌, append-nil, flat_map}
-use Prim.Native.Nat.{ℕ, suc, ◌+◌, ◌≤◌, ◌<◌}
-use native.Mathlib.Omega.{arith}
-use lib.Dec.{eqb}
-use lib.IntN.{ℤ, pos}
-use lib.ListN.{length, length-append, take, get_or-append}
-use lib.Seq.{get_or-take, length-take-le}
-use borrow.Author.Tests.{eqb-true}
+use Rattle.std.proofs.Common.{◌≡◌, refl, sym, ◌∙◌, subst, Bool, true, false, List, [], ◌∷◌, ◌++◌, append-nil, ℕ, suc, ◌+◌, ◌≤◌, ◌<◌, arith, eqb, ℤ, pos, length, length-append, take, get_or-take, length-take-le, eqb-true}
+use mathlib.Core.List.{flat_map}
+use lib.ListN.{get_or-append}
 use Rattle.integers.specs.Choice.{◌if◌else◌}
 use Rattle.integers.specs.Number.{+0}
 use Rattle.integers.specs.Bounds.{◌to◌, within, bounds_in}
@@ -70,8 +63,8 @@ unfolding judge first_false value bounds_in
 sources-kept Vs As vs h =
     let k = ((judge-holds {A = ℕ} (value vs) (Vs ++ As) (λ x. true) []).0 h).0 in
     (keeps-bounds Vs (value (take (length Vs) vs))).1 (λ v l.
-    let in_all_lem : v < length (Vs ++ As) = omega (arith, length-append Vs As) in
-    let w = (says-within (bounds_in (Vs ++ As) v) (value vs v)).0 (k v in_all_lem) in
+    let in_both : v < length (Vs ++ As) = omega (arith, length-append Vs As) in
+    let w = (says-within (bounds_in (Vs ++ As) v) (value vs v)).0 (k v in_both) in
     let same-bounds : bounds_in (Vs ++ As) v ≡ bounds_in Vs v = get_or-append Vs As (+0 to +0) v l in
     let same-value : value vs v ≡ value (take (length Vs) vs) v = sym (get_or-take (length Vs) vs v (pos 0) l) in
     subst (λ B. In B (value (take (length Vs) vs) v)) same-bounds (subst (λ z. In (bounds_in (Vs ++ As) v) z) same-value w))

@@ -41,7 +41,7 @@ completed ws vs = source_values ws vs ++ picks ws (source_values ws vs)
 abbrev pub wrong : List ℕ → List ℤ → ℕ → Bool
 wrong ws vs x = not (ltb x (length (variables ws))) && not (value vs x ≟ value (completed ws vs) x)
 
-pub record Behind (ws : List ℕ) (vs : List ℤ) (k j : ℕ) (true-of-sources : Bool) : Type 0 where
+pub record Behind (ws : List ℕ) (vs : List ℤ) (k j : ℕ) (true_of_sources : Bool) : Type 0 where
   -- "the first failing row": row k of the row system, as judge-rows names it
   pub row : Row ℕ
   pub numbered : At (rows (system_words ws)) k row
@@ -53,6 +53,6 @@ pub record Behind (ws : List ℕ) (vs : List ℤ) (k j : ℕ) (true-of-sources :
   pub from : rows_before ws j ≤ k
   pub before : k < rows_before ws (j + 1)
   -- "that builtin is false of the source values, or true"
-  pub said : true-of-sources ≡ meaning (value (source_values ws vs)) (builtin constraint)
+  pub said : true_of_sources ≡ meaning (value (source_values ws vs)) (builtin constraint)
   -- ".., and auxiliaries in the row are wrong"
-  pub auxiliaries : true-of-sources ≡ true → any (wrong ws vs) (row_variables row) ≡ true
+  pub auxiliaries : true_of_sources ≡ true → any (wrong ws vs) (row_variables row) ≡ true

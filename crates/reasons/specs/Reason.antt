@@ -26,7 +26,7 @@ pub data Reason : Type 0 where
   none : Reason
   -- the first failing row and the constraint whose block holds it, both counted from 0; and whether that builtin is true of the source values, so
   -- that auxiliaries in the row are wrong
-  because : (row constraint : ℕ) → (true-of-sources : Bool) → Reason
+  because : (row constraint : ℕ) → (true_of_sources : Bool) → Reason
 
 -- a constraint and the rows of its block, numbered
 pub record Explained : Type 0 where

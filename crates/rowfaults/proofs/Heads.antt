@@ -1,9 +1,6 @@
 -- The fault of a head word by its kind, where it starts a variable.
-use mathlib.Core.Path.{◌≡◌, refl}
-use mathlib.Core.Bool.{Bool, true, false}
-use Prim.Native.Nat.{ℕ}
-use borrow.Author.Tests.{ne_eqb, eqb-true, eqb-false}
-use lib.Dec.{eqb}
+use Rattle.std.proofs.Common.{◌≡◌, refl, Bool, true, false, ℕ, ne_eqb, eqb-true, eqb}
+use borrow.Author.Tests.{eqb-false}
 use Rattle.words.specs.Fault as Fault
 use Rattle.words.specs.Kind as Kind
 use Rattle.words.specs.Word.{kind}

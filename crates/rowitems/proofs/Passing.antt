@@ -1,13 +1,6 @@
 -- One item: reading on from its head, what its kind says, and whether it is true.
-use mathlib.Core.Path.{◌≡◌, refl, ap, ◌∙◌}
-use mathlib.Core.Logic.{◌⊎◌, inl, inr, ⊎_elim}
-use mathlib.Core.Bool.{Bool, true, false, ◌||◌}
-use mathlib.Core.List.{List}
-use Prim.Native.Nat.{ℕ, ◌+◌, ◌<◌, ◌≤◌}
-use native.Mathlib.Omega.{arith}
-use borrow.Author.Tests.{ltb-false, eqb-true, eqb-false, eq-eqb, ne_eqb, le-leb}
-use lib.Dec.{eqb, ltb}
-use lib.ListN.{length, drop}
+use Rattle.std.proofs.Common.{◌≡◌, refl, ap, ◌∙◌, ◌⊎◌, inl, inr, ⊎_elim, Bool, true, false, ◌||◌, List, ℕ, ◌+◌, ◌<◌, ◌≤◌, arith, ltb-false, eqb-true, eq-eqb, ne_eqb, le-leb, eqb, ltb, length, drop}
+use borrow.Author.Tests.{eqb-false}
 use Rattle.integers.specs.Choice.{◌if◌else◌}
 use Rattle.integers.specs.Number.{◌⊕◌}
 use Rattle.integers.specs.Terms.{Valuation, sum}
@@ -129,9 +122,9 @@ module _ (w : ℕ) (t : starts_sum w ≡ true) where
   unfolding starts starts_pair
   sum-starts = ⊎_elim (λ k. rw k) (λ k. rw k) (sum-kind w t)
 
-  pub sum_row_lem : starts_row w ≡ true
+  pub starts_row-sum : starts_row w ≡ true
   unfolding starts_row
-  sum_row_lem = ⊎_elim (λ k. rw k) (λ k. rw k) (sum-kind w t)
+  starts_row-sum = ⊎_elim (λ k. rw k) (λ k. rw k) (sum-kind w t)
 
   pub sum-fault : (s : Bool) (n : ℕ) → fault_at_head s n w ≡ (Fault.length_outside if ltb Limit.terms (payload w) else Fault.none)
   unfolding fault_at_head fault_source fault_item

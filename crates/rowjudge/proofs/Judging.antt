@@ -1,13 +1,5 @@
 -- The one pass: what it knows at a place, past an item, and where it stops.
-use mathlib.Core.Path.{◌≡◌, refl, sym, ap, ◌∙◌}
-use mathlib.Core.Bool.{Bool, true, false, ◌||◌}
-use mathlib.Core.List.{List, ◌∷◌}
-use Prim.Native.Nat.{ℕ, zero, suc, ◌+◌, ◌<◌, ◌≤◌}
-use native.Mathlib.Omega.{arith}
-use borrow.Author.Tests.{ltb-true, ltb-false, eqb-true, eq-eqb, ne_eqb}
-use lib.Dec.{eqb, ltb}
-use lib.IntN.{ℤ}
-use lib.ListN.{length, drop}
+use Rattle.std.proofs.Common.{◌≡◌, refl, sym, ap, ◌∙◌, Bool, true, false, ◌||◌, List, ◌∷◌, ℕ, zero, suc, ◌+◌, ◌<◌, ◌≤◌, arith, ltb-true, ltb-false, eqb-true, eq-eqb, ne_eqb, eqb, ltb, ℤ, length, drop}
 use Rattle.integers.specs.Choice.{◌if◌else◌}
 use Rattle.integers.specs.Bounds.{◌to◌, bit, within}
 use Rattle.integers.specs.Terms.{value}

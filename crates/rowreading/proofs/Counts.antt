@@ -1,11 +1,5 @@
 -- Words that start nothing are passed over by every count; the head of an item counts as many variables as it starts.
-use mathlib.Core.Path.{◌≡◌, refl, ◌∙◌}
-use mathlib.Core.Bool.{Bool, true, false, ◌||◌}
-use mathlib.Core.List.{List}
-use Prim.Native.Nat.{ℕ, zero, suc, ◌+◌, ◌-◌, ◌<◌, ◌≤◌}
-use native.Mathlib.Omega.{arith}
-use lib.Dec.{eqb}
-use lib.ListN.{length, drop}
+use Rattle.std.proofs.Common.{◌≡◌, refl, ◌∙◌, Bool, true, false, ◌||◌, List, ℕ, zero, suc, ◌+◌, ◌-◌, ◌<◌, ◌≤◌, arith, eqb, length, drop}
 use Rattle.integers.proofs.Booleans.{neither}
 use Rattle.words.specs.Kind as Kind
 use Rattle.words.specs.Variables.{starts_pair, variables}

@@ -1,14 +1,7 @@
 -- Steps inside an item: one word, and one step after another.
-use mathlib.Core.Path.{◌≡◌, refl, ap, sym, ◌∙◌}
-use mathlib.Core.Bool.{Bool, true, false, not, ◌||◌}
-use mathlib.Core.List.{List}
-use Prim.Native.Nat.{ℕ, ◌+◌, ◌<◌, ◌≤◌}
-use native.Mathlib.Omega.{arith}
-use native.Mathlib.Nat.{add-zero}
-use borrow.Author.Tests.{eqb-true, eqb-false, eq-eqb, ne_eqb, ltb-true, ltb-false}
-use lib.Dec.{T, ltb, leb, eqb}
+use Rattle.std.proofs.Common.{◌≡◌, refl, ap, sym, ◌∙◌, Bool, true, false, not, ◌||◌, List, ℕ, ◌+◌, ◌<◌, ◌≤◌, arith, add-zero, eqb-true, eq-eqb, ne_eqb, ltb-true, ltb-false, T, ltb, leb, eqb, length}
+use borrow.Author.Tests.{eqb-false}
 use lib.Signed.{lt_z}
-use lib.ListN.{length}
 use Rattle.integers.specs.Choice.{◌if◌else◌}
 use Rattle.integers.proofs.Tests.{false-true}
 use Rattle.integers.proofs.Booleans.{neither}

@@ -1,8 +1,5 @@
 -- A row system that translate says it wrote has room.
-use mathlib.Core.Path.{◌≡◌}
-use mathlib.Core.List.{List}
-use Prim.Native.Nat.{ℕ, ◌≤◌}
-use lib.ListN.{length}
+use Rattle.std.proofs.Common.{◌≡◌, List, ℕ, ◌≤◌, length}
 use Rattle.rules.specs.Translate.{translate_fault_in}
 use Rattle.rules.specs.InRange.{translate_fault}
 use Rattle.rules.specs.Translation.{system_words}

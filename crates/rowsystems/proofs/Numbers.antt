@@ -1,13 +1,5 @@
 -- The numbers among a row system's words: all are in the range where the words are accepted.
-use mathlib.Core.Path.{◌≡◌, refl}
-use mathlib.Core.Logic.{inl, inr}
-use mathlib.Core.Bool.{Bool, true, false, ◌||◌}
-use mathlib.Core.List.{List}
-use Prim.Native.Nat.{ℕ}
-use native.Mathlib.Omega.{arith}
-use lib.Dec.{ltb, eqb}
-use lib.ListN.{length}
-use borrow.Author.Tests.{eqb-true}
+use Rattle.std.proofs.Common.{◌≡◌, refl, inl, inr, Bool, true, false, ◌||◌, List, ℕ, arith, ltb, eqb, length, eqb-true}
 use Rattle.integers.proofs.Tests.{All}
 use Rattle.words.specs.Word.{kind}
 use Rattle.words.specs.Kind as Kind
@@ -79,8 +71,8 @@ module _ (w : ℕ) where
   due_in SecondFactor n ws e = variable_in n e
   due_in Ended n ws e = absurd (omega arith)
 
-pub numbers_in_lem : (ws : List ℕ) → read_rows ws ≡ accepted → All NumberIn ws
+pub all-number_in : (ws : List ℕ) → read_rows ws ≡ accepted → All NumberIn ws
 unfolding read_rows fault
-numbers_in_lem ws h =
+all-number_in ws h =
     each_word fault after ended NumberIn (λ s w vs e. due_in w s.due s.variables vs e) begin 0 ws
     (not_too_many 0 (ltb Limit.row_words (length ws)) _ h).1

@@ -1,14 +1,6 @@
 -- Words that judge-rows accepts have no upper bound below its lower one.
-use mathlib.Core.Path.{◌≡◌, refl}
-use mathlib.Core.Logic.{◌⊎◌, inl, inr}
-use mathlib.Core.Bool.{Bool, true, false, not}
-use mathlib.Core.List.{List, [], ◌∷◌}
-use Prim.Native.Nat.{ℕ, ◌+◌}
-use native.Mathlib.Omega.{arith}
-use lib.Dec.{ltb, eqb}
-use lib.IntN.{pos}
+use Rattle.std.proofs.Common.{◌≡◌, refl, ◌⊎◌, inl, inr, Bool, true, false, not, List, [], ◌∷◌, ℕ, ◌+◌, arith, ltb, eqb, pos, length}
 use lib.Signed.{lt_z}
-use lib.ListN.{length}
 use Rattle.integers.specs.Choice.{◌if◌else◌}
 use Rattle.integers.specs.Bounds.{◌to◌, bit}
 use Rattle.integers.specs.declared.Bounds.{Bounds}

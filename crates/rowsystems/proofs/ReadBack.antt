@@ -1,16 +1,10 @@
 -- What is written is what is read: judge-rows' reader accepts a row system's words, and finds in them the bounds and the rows that were written.
 -- For the proof of demand 3, whose words are `Sources`, then blocks, then the end word: `end`, then `block` for each block from the last on, then `read_back`.
-use mathlib.Core.Path.{◌≡◌, refl, ◌∙◌}
-use mathlib.Core.Bool.{true, false, ◌||◌}
-use mathlib.Core.List.{List, [], ◌∷◌, ◌++◌, append_assoc, flat_map, map}
-use Prim.Native.Nat.{ℕ, suc, ◌+◌, ◌-◌, ◌*◌, ◌≤◌, ◌<◌}
-use native.Mathlib.Nat.{add-zero, suc-add, zero-add}
-use native.Mathlib.Omega.{arith}
-use lib.Dec.{eqb}
-use lib.IntN.{ℤ}
+use Rattle.std.proofs.Common.{◌≡◌, refl, ◌∙◌, true, false, ◌||◌, List, [], ◌∷◌, ◌++◌, append_assoc, map, ℕ, suc, ◌+◌, ◌-◌, ◌*◌, ◌≤◌, ◌<◌, add-zero, suc-add, zero-add, arith, eqb, ℤ, length, le-leb, le-ltb, lt-ltb}
+use mathlib.Core.List.{flat_map}
 use lib.Signed.{lt_z}
-use lib.ListN.{length, length-map}
-use borrow.Author.Tests.{lt-leb, le-leb, le-ltb, lt-ltb, not-true}
+use lib.ListN.{length-map}
+use borrow.Author.Tests.{lt-leb, not-true}
 use Rattle.integers.specs.Lists.{list_of}
 use Rattle.integers.specs.Terms.{Term, ◌·◌}
 use Rattle.integers.specs.declared.Bounds.{Bounds}
@@ -129,30 +123,30 @@ module _ {X : Type 0} (f : X → ℕ) {n : ℕ} (room : n ≤ Limit.in_all) wher
       }
 
   -- it finds the terms, and the word behind them
-  terms_in_lem : (ts : List (Term X)) (c : ℤ) (ws : List ℕ) → Ranged (map (λ t. t.coefficient) ts ++ (c ∷ [])) → All (λ t. f t.variable < n) ts →
+  terms_in-words : (ts : List (Term X)) (c : ℤ) (ws : List ℕ) → Ranged (map (λ t. t.coefficient) ts ++ (c ∷ [])) → All (λ t. f t.variable < n) ts →
       terms_in (flat_map term_words (rename_terms f ts) ++ ws) (length ts) ≡ rename_terms f ts
   unfolding terms_in list_of number_at variable_at word_at flat_map term_words rename_terms
-  terms_in_lem [] c ws h d = refl
-  terms_in_lem (t ∷ ts) c ws h d =
-      let k = terms_in_lem ts c ws h.1 d.1 in
+  terms_in-words [] c ws h d = refl
+  terms_in-words (t ∷ ts) c ws h d =
+      let k = terms_in-words ts c ws h.1 d.1 in
       let e : f t.variable < n = d.0 in
       simp (double, suc-add, variable-word, signed-number Kind.number t.coefficient h.0, k)
 
-  constant_in_lem : (ts : List (Term X)) (ws : List ℕ) → constant_in (flat_map term_words (rename_terms f ts) ++ ws) (length ts) ≡ signed (word_at ws 0)
+  constant_in-words : (ts : List (Term X)) (ws : List ℕ) → constant_in (flat_map term_words (rename_terms f ts) ++ ws) (length ts) ≡ signed (word_at ws 0)
   unfolding constant_in number_at word_at flat_map term_words rename_terms
-  constant_in_lem [] ws = refl
-  constant_in_lem (t ∷ ts) ws = simp double (constant_in_lem ts ws)
+  constant_in-words [] ws = refl
+  constant_in-words (t ∷ ts) ws = simp double (constant_in-words ts ws)
 
   module _ {ws : List ℕ} {Bs : List Bounds} {Rs : List (Row ℕ)} (r : Items n ws Bs Rs) where
     -- k is A or B, which all tests but that of `rows` take alike
-    sum_row_lem : (k : ℕ) (make : List (Term ℕ) → ℤ → Row ℕ) →
+    rows-sum_row : (k : ℕ) (make : List (Term ℕ) → ℤ → Row ℕ) →
         eqb k Kind.lower ≡ false → eqb k Kind.boolean ≡ false → eqb k Kind.auxiliary_lower ≡ false →
         eqb k Kind.product ≡ false → eqb k Kind.rows_end ≡ false → (eqb k Kind.at_most || eqb k Kind.equal) ≡ true →
         ((w : ℕ) (vs : List ℕ) → kind w ≡ k → rows (w ∷ vs) ≡ make (terms_in vs (term_count w)) (constant_in vs (term_count w)) ∷ rows vs) →
         (ts : List (Term X)) (c : ℤ) → length ts ≤ Limit.terms → Ranged (map (λ t. t.coefficient) ts ++ (c ∷ [])) → All (λ t. f t.variable < n) ts →
         Items n (sum_words k (rename_terms f ts) c ++ ws) Bs (make (rename_terms f ts) c ∷ Rs)
     unfolding sum_words first_fault fault fault_due fault_item fault_number too_low after after_due after_item started variables starts_pair rows term_count word_at
-    sum_row_lem k make k1 k3 k8 kC kF kAB made ts c s h d =
+    rows-sum_row k make k1 k3 k8 kC kF kAB made ts c s h d =
         let last = number_word Kind.number c ∷ ws in
         let w = kind-word k (length (rename_terms f ts)) in
         let l = length-rename ts in
@@ -167,13 +161,13 @@ module _ {X : Type 0} (f : X → ℕ) {n : ℕ} (room : n ≤ Limit.in_all) wher
         rw append_assoc (both k w k1 k3 (record {
           accepts = λ q. simp (w, p, k1, k3, k8, kC, kF, kAB, add-zero, le-ltb Limit.terms (length ts) s) (body.accepts (q + 1));
           the_bounds = simp (w, k1, k3, k8) body.the_bounds;
-          the_rows = made _ _ w ∙ simp (p, le-leb (length ts) Limit.terms s, terms_in_lem ts c last h d, constant_in_lem ts last, constant, body.the_rows);
+          the_rows = made _ _ w ∙ simp (p, le-leb (length ts) Limit.terms s, terms_in-words ts c last h d, constant_in-words ts last, constant, body.the_rows);
         }))
 
     row : (q : Row X) → Ranged (row_numbers q) → Declared f n q → Items n (row_words (rename f q) ++ ws) Bs (rename f q ∷ Rs)
     unfolding row_words rename row_numbers rows first_fault fault fault_due fault_item fault_result fault_variable not_above after after_due after_item started variables starts_pair variable_at word_at
-    row (sum≤0 ts c) h d = sum_row_lem Kind.at_most sum≤0 refl refl refl refl refl refl (λ w vs e. rw e refl) ts c d.0 h d.1
-    row (sum=0 ts c) h d = sum_row_lem Kind.equal sum=0 refl refl refl refl refl refl (λ w vs e. rw e refl) ts c d.0 h d.1
+    row (sum≤0 ts c) h d = rows-sum_row Kind.at_most sum≤0 refl refl refl refl refl refl (λ w vs e. rw e refl) ts c d.0 h d.1
+    row (sum=0 ts c) h d = rows-sum_row Kind.equal sum=0 refl refl refl refl refl refl (λ w vs e. rw e refl) ts c d.0 h d.1
     row (product x y z) h (xn, yx, zx) =
         let yn : f y < n = omega arith in
         let zn : f z < n = omega arith in

@@ -1,12 +1,5 @@
 -- A word that starts a variable has a fault wherever no head is due.
-use mathlib.Core.Path.{◌≡◌, refl, sym, ◌∙◌}
-use mathlib.Core.Logic.{◌⊎◌, inl, inr, ⊎_elim}
-use mathlib.Core.Bool.{Bool, true, false, not, ◌||◌}
-use mathlib.Core.List.{List}
-use Prim.Native.Nat.{ℕ}
-use native.Mathlib.Omega.{arith}
-use lib.Dec.{ltb, eqb}
-use borrow.Author.Tests.{eqb-true}
+use Rattle.std.proofs.Common.{◌≡◌, refl, sym, ◌∙◌, ◌⊎◌, inl, inr, ⊎_elim, Bool, true, false, not, ◌||◌, List, ℕ, arith, ltb, eqb, eqb-true}
 use Rattle.integers.specs.Choice.{◌if◌else◌}
 use Rattle.words.specs.Word.{kind}
 use Rattle.words.specs.Kind as Kind

@@ -1,10 +1,5 @@
 -- The rows and products of words from a place on: the word there starts none, or starts one; the end.
-use mathlib.Core.Path.{◌≡◌, refl, ap, ◌∙◌}
-use mathlib.Core.Bool.{Bool, true, false, ◌||◌}
-use mathlib.Core.List.{List, [], ◌∷◌}
-use Prim.Native.Nat.{ℕ, ◌+◌, ◌<◌, ◌≤◌}
-use lib.Dec.{eqb}
-use lib.ListN.{length, get_or, drop, drop_of_length-le}
+use Rattle.std.proofs.Common.{◌≡◌, refl, ap, ◌∙◌, Bool, true, false, ◌||◌, List, [], ◌∷◌, ℕ, ◌+◌, ◌<◌, ◌≤◌, eqb, length, get_or, drop, drop_of_length-le}
 use Rattle.integers.specs.Choice.{◌if◌else◌}
 use Rattle.words.specs.Kind as Kind
 use Rattle.words.specs.Word.{kind}

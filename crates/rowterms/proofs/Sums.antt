@@ -1,11 +1,5 @@
 -- The sum of a row's terms, term by term from a place on, and the size of its numbers.
-use mathlib.Core.Path.{◌≡◌, refl, sym, ap, ◌∙◌}
-use mathlib.Core.List.{List}
-use Prim.Native.Nat.{ℕ, ◌+◌, ◌*◌}
-use native.Mathlib.Omega.{arith}
-use lib.IntN.{ℤ}
-use lib.ListN.{get_or, drop}
-use lib.Seq.{get_or-drop}
+use Rattle.std.proofs.Common.{◌≡◌, refl, sym, ap, ◌∙◌, List, ℕ, ◌+◌, ◌*◌, arith, ℤ, get_or, drop, get_or-drop}
 use Rattle.integers.specs.Number.{◌⊕◌, ◌⊗◌, +0}
 use Rattle.integers.specs.Lists.{list_of}
 use Rattle.integers.specs.Terms.{value, sum}

@@ -1,9 +1,6 @@
 -- The lengths of a rule's parts.
-use mathlib.Core.Path.{◌≡◌, refl, ap}
-use mathlib.Core.List.{List, [], ◌∷◌}
-use Prim.Native.Nat.{ℕ, suc}
-use lib.IntN.{ℤ}
-use lib.ListN.{length, length-map}
+use Rattle.std.proofs.Common.{◌≡◌, refl, ap, List, [], ◌∷◌, ℕ, suc, ℤ, length}
+use lib.ListN.{length-map}
 use Rattle.integers.specs.Bounds.{width, values}
 use Rattle.integers.specs.Terms.{Term}
 use Rattle.integers.specs.declared.Bounds.{Bounds}

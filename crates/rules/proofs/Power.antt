@@ -1,10 +1,6 @@
 -- The recursion that halves the exponent: what it keeps, by one induction for every exponent, and one step of it.
-use mathlib.Core.Path.{◌≡◌, refl, ap, subst}
-use mathlib.Core.Bool.{Bool, true, false}
-use Prim.Native.Nat.{ℕ, zero, suc, ◌+◌, ◌/◌, ◌%◌, ◌≤◌}
-use native.Mathlib.Omega.{arith}
-use lib.Dec.{leb, eqb}
-use borrow.Author.Tests.{eq-eqb, ne_eqb, eqb-true, eqb-false, leb-true, leb-false}
+use Rattle.std.proofs.Common.{◌≡◌, refl, ap, subst, Bool, true, false, ℕ, zero, suc, ◌+◌, ◌/◌, ◌%◌, ◌≤◌, arith, leb, eqb, eq-eqb, ne_eqb, eqb-true, leb-true, leb-false}
+use borrow.Author.Tests.{eqb-false}
 use Rattle.integers.specs.Choice.{◌if◌else◌}
 use Rattle.rules.specs.Power.{by_halves}
 

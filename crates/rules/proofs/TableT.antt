@@ -1,13 +1,8 @@
 -- 01, Table T: T1 to T12, and what 02 adds, as one table over the definitions, with one proof: a test that is computed over the whole table.
 -- Where 01 says that values are false, no auxiliary values within their bounds may satisfy the rows with them either; where fill writes values,
 -- judge-rows must say "holds" of them. So each of the four slips that 000 invites makes a line of the table fail (must-fail/).
-use mathlib.Core.Path.{◌≡◌, refl}
-use mathlib.Core.Bool.{Bool, true, false, ◌&&◌}
-use mathlib.Core.List.{List, [], ◌∷◌, ◌++◌, map, flat_map, zip_with}
-use Prim.Native.Nat.{ℕ, zero, suc, ◌+◌}
-use lib.Dec.{eqb}
-use lib.IntN.{ℤ, pos, negsuc}
-use lib.ListN.{length}
+use Rattle.std.proofs.Common.{◌≡◌, refl, Bool, true, false, ◌&&◌, List, [], ◌∷◌, ◌++◌, map, ℕ, zero, suc, ◌+◌, eqb, ℤ, pos, negsuc, length}
+use mathlib.Core.List.{flat_map, zip_with}
 use Rattle.integers.specs.Number.{◌⊕◌, ◌⊖◌, ◌⊗◌, neg, min_z, max_z, abs_z, ◌≟◌, count}
 use Rattle.integers.specs.Lists.{list_of, all, any, how_many}
 use Rattle.integers.specs.Bounds.{within, width, values, bounds_in}

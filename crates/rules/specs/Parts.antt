@@ -1,4 +1,4 @@
--- What several rules share: Z, L and U, products of bounds, halves, one_hot bits, the members of a set.
+-- What several rules share: Z, L and U, products of bounds, halves, one-hot bits, the members of a set.
 use Rattle.std.specs.Prelude.{◌&&◌, List, [], ◌∷◌, ◌++◌, map, ℕ, zero, suc, ◌-◌, ◌/◌, ℤ, pos, length, get_or}
 use Rattle.std.specs.Int.Signed.{le_z, lt_z}
 use Rattle.integers.specs.Choice.{◌if◌else◌}
@@ -50,7 +50,7 @@ sources ts = rename_terms source ts
 unfoldable pub each : ℤ → List ℕ → List (Term Ref)
 each c vs = map (λ v. c · source v) vs
 
--- ---- one_hot bits: an auxiliary for each of a list of labels, of which one is 1
+-- ---- one-hot bits: an auxiliary for each of a list of labels, of which one is 1
 
 unfoldable pub bits : {A : Type 0} → List A → List Bounds
 bits ls = map (λ l. bit) ls

@@ -26,7 +26,7 @@ sign_pick x = let b = bit_of (lt_z x +0) in b ∷ (b ⊗ x) ∷ []
 unfoldable pub signed_pick : ℤ → List ℤ
 signed_pick x = x ∷ sign_pick x
 
--- one_hot bits: 1 for the first label that passes the test, 0 for all others
+-- one-hot bits: 1 for the first label that passes the test, 0 for all others
 unfoldable pub first_bit : {A : Type 0} → (A → Bool) → List A → List ℤ
 first_bit t [] = []
 first_bit t (l ∷ ls) = let rest = first_bit t ls in +1 ∷ map (λ l. +0) ls if t l else +0 ∷ rest

@@ -1,14 +1,8 @@
 -- The blocks over a shared variable as the code lays them: its bits are consecutive, from `base` on.
-use mathlib.Core.Path.{◌≡◌, refl, sym, ap, ap₂, ◌∙◌}
-use mathlib.Core.Bool.{Bool, true, false}
-use mathlib.Core.List.{List, [], ◌∷◌, ◌++◌, append-nil, append_assoc, map, flat_map}
-use Prim.Native.Nat.{ℕ, zero, suc, ◌+◌}
-use native.Mathlib.Omega.{arith}
+use Rattle.std.proofs.Common.{◌≡◌, refl, sym, ap, ap₂, ◌∙◌, Bool, true, false, List, [], ◌∷◌, ◌++◌, append-nil, append_assoc, map, ℕ, zero, suc, ◌+◌, arith, eqb, ℤ, pos, length, get_or, ne_eqb}
+use mathlib.Core.List.{flat_map}
 use native.Mathlib.Decide.{ℕ_discrete}
-use lib.Dec.{eqb}
-use lib.IntN.{ℤ, pos}
-use lib.ListN.{length, get_or, length-map}
-use borrow.Author.Tests.{ne_eqb}
+use lib.ListN.{length-map}
 use Rattle.integers.specs.Choice.{◌if◌else◌}
 use Rattle.integers.specs.Number.{◌⊕◌, ◌⊖◌, max_z, count, +0, +1}
 use Rattle.integers.specs.Lists.{list_of}
@@ -33,7 +27,7 @@ use Rattle.laying.proofs.Lists.{length-vars, length-nums, bits-parts, bounds-app
 use Rattle.extremes.specs.BoundLists.{bounds_of}
 use Rattle.encodings.specs.Uses.{choice_of, choosing}
 use Rattle.choiceblocks.specs.Rows.{zero_at, number_term_at, member_at, sum_row, choice_rows}
-use Rattle.choiceblocks.proofs.OneHot.{many_below, terms-many, bounds-many, sum_row_lem, chosen-row, choice-rows}
+use Rattle.choiceblocks.proofs.OneHot.{many_below, terms-many, bounds-many, row_parts-sum_row, chosen-row, choice-rows}
 use Rattle.choiceblocks.proofs.Blocks.{element}
 use Rattle.choiceblocks.proofs.Members.{front}
 use Rattle.sharedblocks.specs.LeftOut.{keeps}
@@ -47,17 +41,17 @@ three f xs ys q = flat_map_append f xs (ys ++ (q ∷ [])) ∙ ap (λ l. flat_map
 
 -- ---- the new bits
 
-pub new_bits_lem : (β : ℕ → Bounds) (e : Encoded) (x : ℕ) → bound_parts (new_bits β e x) ≡ many lists.bit_at (length (new_bits β e x))
+pub bound_parts-new_bits : (β : ℕ → Bounds) (e : Encoded) (x : ℕ) → bound_parts (new_bits β e x) ≡ many lists.bit_at (length (new_bits β e x))
 unfolding new_bits bits bound_parts many
-new_bits_lem β e x = go (eqb (first_of e x) 0)
+bound_parts-new_bits β e x = go (eqb (first_of e x) 0)
   where
     go : (b : Bool) → bound_parts (bits (values (β x)) if b else []) ≡ many lists.bit_at (length (bits (values (β x)) if b else []))
     go true = bits-parts (values (β x)) ∙ ap (many lists.bit_at) (sym (bits-length (values (β x))))
     go false = refl
 
-pub own_bits_lem : (β : ℕ → Bounds) (e : Encoded) (x : ℕ) → eqb (first_of e x) 0 ≡ true → length (new_bits β e x) ≡ width (β x)
+pub length-new_bits : (β : ℕ → Bounds) (e : Encoded) (x : ℕ) → eqb (first_of e x) 0 ≡ true → length (new_bits β e x) ≡ width (β x)
 unfolding new_bits bits
-own_bits_lem β e x h = rw h (length-map (values (β x)) _ ∙ values_length (β x))
+length-new_bits β e x h = rw h (length-map (values (β x)) _ ∙ values_length (β x))
 
 pub no_bits : (β : ℕ → Bounds) (e : Encoded) (x : ℕ) → eqb (first_of e x) 0 ≡ false → length (new_bits β e x) ≡ 0
 unfolding new_bits
@@ -74,7 +68,7 @@ no_rows β e x first h = rw h
 
 -- ---- rows over the bits
 
--- the bit of the first place of a list that x can have, and of the k_th after it
+-- the bit of the first place of a list that x can have, and of the k-th after it
 place-number : (β : ℕ → Bounds) (e : Encoded) (first x n k : ℕ) → numbered first (value_bit β e x ((places (β x) n).lower ⊕ pos k)) ≡ place_bit e first x (β x).lower + k
 unfolding places
 place-number β e first x n k = bit-number β e first x (max_z +1 (β x).lower ⊕ pos k) ∙ later-bit (bits_from e first x) (β x).lower k
@@ -116,7 +110,7 @@ module _ (ls us : List ℤ) (args : List ℕ) where
     unfolding numbers_row kept_sum kept values nums
     numbers-row =
         rw (length-nums args 1, places-kept (β x) (size args 1))
-        (sum_row_lem first (number_term_at args at (place_bit e first x (β x).lower)) (map t (values P)) (var args (past args 1)) (length-map (values P) t ∙ values_length P)
+        (row_parts-sum_row first (number_term_at args at (place_bit e first x (β x).lower)) (map t (values P)) (var args (past args 1)) (length-map (values P) t ∙ values_length P)
         (terms-many first t (λ k. P.lower ⊕ pos k) (width P)
         ∙ many_below _ _ (width P) (λ k h. rw (element +0 (num args) (β x) (size args 1) k h, place-number β e first x (size args 1) k))))
       where
@@ -142,7 +136,7 @@ module _ (ls us : List ℤ) (args : List ℕ) where
     unfolding members_row kept_sum kept
     members-row out same =
         rw (← members-values (nums args 1) (β x))
-        (sum_row_lem first (member_at out (β x).lower (bits_from e first x)) (map t vs) (var args (past args 1)) (length-map vs t)
+        (row_parts-sum_row first (member_at out (β x).lower (bits_from e first x)) (map t vs) (var args (past args 1)) (length-map vs t)
         (ap (λ l. term_parts first (map t l)) (front first out vs same)
         ∙ terms-many first t (λ k. get_or out k +0) (length vs)
         ∙ many-same _ _ (λ k. rw (bit-number β e first x (get_or out k +0))) (length vs)))

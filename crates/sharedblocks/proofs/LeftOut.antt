@@ -1,13 +1,7 @@
 -- The row of the bits left out, as the code lays it: a variable's bits are consecutive.
-use mathlib.Core.Path.{◌≡◌, refl, sym, ap, ap₂, ◌∙◌}
-use mathlib.Core.Bool.{Bool, true, false, not, ◌&&◌}
-use mathlib.Core.List.{List, [], ◌∷◌, ◌++◌, map, flat_map, append-nil}
-use Prim.Native.Nat.{ℕ, zero, suc, ◌+◌}
-use native.Mathlib.Omega.{arith}
-use lib.Dec.{eqb}
-use lib.IntN.{ℤ, pos}
-use borrow.Author.Tests.{ne_eqb}
-use lib.ListN.{length, length-map}
+use Rattle.std.proofs.Common.{◌≡◌, refl, sym, ap, ap₂, ◌∙◌, Bool, true, false, not, ◌&&◌, List, [], ◌∷◌, ◌++◌, map, append-nil, ℕ, zero, suc, ◌+◌, arith, eqb, ℤ, pos, ne_eqb, length}
+use mathlib.Core.List.{flat_map}
+use lib.ListN.{length-map}
 use Rattle.integers.specs.Choice.{◌if◌else◌}
 use Rattle.integers.specs.Number.{◌⊕◌, ◌⊖◌, count, +0, +1}
 use Rattle.integers.specs.Lists.{list_of, all}
@@ -75,10 +69,10 @@ none_left_out t (v ∷ vs) = go (t v) (none_left_out t vs)
     go false e = ne_eqb (suc (length K)) 0 (λ z. omega (arith, z))
 
 -- the row of the definition is what lay_left_row lays
-pub left_out_lem : (β : ℕ → Bounds) (e : Encoded) (first x code : ℕ) (args : List ℕ) →
+pub row_parts-left_out : (β : ℕ → Bounds) (e : Encoded) (first x code : ℕ) (args : List ℕ) →
     flat_map (row_parts first) (left_out β e (keeps code args) x) ≡ left_row code args (β x).lower (bits_from e first x) (width (β x))
 unfolding left_out left_row left_count kept values flat_map row_parts
-left_out_lem β e first x code args = rw (none_left_out t (list_of f n)) (go (all t (list_of f n)))
+row_parts-left_out β e first x code args = rw (none_left_out t (list_of f n)) (go (all t (list_of f n)))
   where
     t : ℤ → Bool
     t = keeps code args
@@ -95,15 +89,15 @@ left_out_lem β e first x code args = rw (none_left_out t (list_of f n)) (go (al
     ts : List (Term Ref)
     ts = map (λ v. +1 · value_bit β e x v) out
 
-    at_place_lem : (k : ℕ) → numbered first (value_bit β e x (f k)) ≡ bits_from e first x + k
-    at_place_lem k = bit-number β e first x (f k) ∙ ap (λ (j : ℕ). bits_from e first x + j) (count-from (β x).lower k)
+    numbered-value_bit : (k : ℕ) → numbered first (value_bit β e x (f k)) ≡ bits_from e first x + k
+    numbered-value_bit k = bit-number β e first x (f k) ∙ ap (λ (j : ℕ). bits_from e first x + j) (count-from (β x).lower k)
 
     go : (b : Bool) → flat_map (row_parts first) ([] if b else sum=0 ts +0 ∷ [])
         ≡ ([] if b else head Kind.equal (length out) ∷ (many (left_at code args (β x).lower (bits_from e first x)) n ++ (constant +0 ∷ [])))
     go true = refl
     go false =
         append-nil _
-        ∙ ap₂ (λ (m : ℕ) ps. head Kind.equal m ∷ (ps ++ (constant +0 ∷ []))) (length-map out _) (kept-many first (bits_from e first x) (value_bit β e x) (λ v. not (t v)) f n at_place_lem)
+        ∙ ap₂ (λ (m : ℕ) ps. head Kind.equal m ∷ (ps ++ (constant +0 ∷ []))) (length-map out _) (kept-many first (bits_from e first x) (value_bit β e x) (λ v. not (t v)) f n numbered-value_bit)
 
 -- ---- one value more
 

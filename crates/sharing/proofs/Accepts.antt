@@ -1,12 +1,5 @@
 -- What a model that passes the check gives: its words are read without a fault, and so much of each block.
-use mathlib.Core.Path.{◌≡◌, refl, ap}
-use mathlib.Core.Bool.{Bool, true, false}
-use mathlib.Core.List.{List, [], ◌∷◌}
-use Prim.Native.Nat.{ℕ, ◌+◌, ◌≤◌}
-use native.Mathlib.Omega.{arith}
-use lib.Dec.{ltb}
-use lib.ListN.{length}
-use borrow.Author.Tests.{ltb-false}
+use Rattle.std.proofs.Common.{◌≡◌, refl, ap, Bool, true, false, List, [], ◌∷◌, ℕ, ◌+◌, ◌≤◌, arith, ltb, length, ltb-false}
 use Rattle.integers.specs.Choice.{◌if◌else◌}
 use Rattle.integers.specs.declared.Bounds.{Bounds}
 use Rattle.words.specs.Fault as Fault

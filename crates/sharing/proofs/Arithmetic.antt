@@ -1,12 +1,6 @@
 -- Codes 6 to 9 and 29, sum, product, absolute value, maximum and minimum; first the auxiliaries b and z of 8, 12 to 14, 31 and 32, and the bounds of a
 -- product.
-use mathlib.Core.Path.{◌≡◌, refl, sym, ap, ◌∙◌}
-use mathlib.Core.Logic.{◌⊎◌, inl, inr}
-use mathlib.Core.Bool.{Bool}
-use mathlib.Core.List.{List, [], ◌∷◌, ◌++◌}
-use Prim.Native.Nat.{ℕ}
-use native.Mathlib.Omega.{arith}
-use lib.IntN.{ℤ}
+use Rattle.std.proofs.Common.{◌≡◌, refl, sym, ap, ◌∙◌, ◌⊎◌, inl, inr, Bool, List, [], ◌∷◌, ◌++◌, ℕ, arith, ℤ}
 use lib.Signed.{lt_z}
 use Rattle.integers.specs.Number.{◌⊕◌, ◌⊖◌, ◌⊗◌, neg, min_z, max_z, abs_z, +0, +1}
 use Rattle.integers.specs.Bounds.{bit}
@@ -25,7 +19,7 @@ use Rattle.rules.specs.Parts.{Z, end_products, ◌─◌≤0}
 use Rattle.rules.specs.Rule.{rule, only_negative, where_one, where_zero, absolute, touching}
 use Rattle.rules.specs.Pick.{pick, bit_of, sign_pick}
 use Rattle.sharing.proofs.Good.{Good, Keeps, Are, Sat, see}
-use Rattle.sharing.proofs.Basics.{Represents, Correct, Exact, agree, says_as, equal-row, by-test, is_one, is_zero, Decides, one_bit_lem, not-not}
+use Rattle.sharing.proofs.Basics.{Represents, Correct, Exact, agree, says_as, equal-row, by-test, is_one, is_zero, Decides, represents-one_bit, not-not}
 
 -- ---- 8, 12 to 14, 31, 32: b is 0 or 1, z := b×x
 
@@ -164,7 +158,7 @@ module _ (β : ℕ → Bounds) (σ : Valuation) where
   touching_represents : {F : Type 0} (x y u v : ℕ) → (F → In (β x) (σ x) × In (β y) (σ y) × In (β u) (σ u) × In (β v) (σ v)) → {s t : Bool} →
       Says t (min_z (σ y ⊖ σ x) (σ v ⊖ σ u) ≡ +0) → Says s (¬ (σ x ≡ σ y)) → Represents F (touching β x y u v) σ (bit_of s ∷ []) t
   unfolding touching where_one where_zero ◌─◌≤0 value
-  touching_represents x y u v h m n = one_bit_lem (λ f. touching-rows x y u v (h f)) m n (λ α g. g) (λ r rest g. g)
+  touching_represents x y u v h m n = represents-one_bit (λ f. touching-rows x y u v (h f)) m n (λ α g. g) (λ r rest g. g)
 
   pub int_max_correct : (a b c : ℕ) → Correct β σ (int_max a b c)
   unfolding rule meaning integer_arguments pick

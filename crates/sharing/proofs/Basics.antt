@@ -1,13 +1,6 @@
 -- What the proofs of the builtins share: what is shown of a block, tests, rows of two variables, and values 0 and 1.
-use mathlib.Core.Path.{◌≡◌, refl}
-use mathlib.Core.Logic.{◌↔◌}
-use mathlib.Core.Bool.{Bool, true, false}
-use mathlib.Core.List.{List, [], ◌∷◌, ◌++◌}
-use Prim.Native.Nat.{ℕ}
+use Rattle.std.proofs.Common.{◌≡◌, refl, ◌↔◌, Bool, true, false, List, [], ◌∷◌, ◌++◌, ℕ, arith, ℤ, length}
 use native.Mathlib.Decide.{ℕ_discrete}
-use native.Mathlib.Omega.{arith}
-use lib.IntN.{ℤ}
-use lib.ListN.{length}
 use Rattle.integers.specs.Number.{+0, +1}
 use Rattle.integers.specs.Bounds.{bit}
 use Rattle.integers.specs.Terms.{Valuation, value}
@@ -109,11 +102,11 @@ abbrev pub Decides : (ℤ → Type 0) → Type 0 → Type 0 → Type 0
 Decides R A C = (R +1 ↔ (A × C)) × (R +0 ↔ (A × ¬ C))
 
 -- a block with the auxiliary r, which is all that its rows read, represents a test of A, with the pick of a test of C
-pub one_bit_lem : {F A C : Type 0} {s t : Bool} {σ : Valuation} {rows : List (Row Ref)} → let B = block (bit ∷ []) rows in
+pub represents-one_bit : {F A C : Type 0} {s t : Bool} {σ : Valuation} {rows : List (Row Ref)} → let B = block (bit ∷ []) rows in
     (F → Decides (λ r. Good B σ (value (r ∷ []))) A C) → Says t A → Says s C →
     ((α : Valuation) → Good B σ α → Good B σ (value (α 0 ∷ []))) → ((r : ℤ) (rest : List ℤ) → Good B σ (value (r ∷ [])) → Good B σ (value (r ∷ rest))) →
     Represents F B σ (bit_of s ∷ []) t
-one_bit_lem {F} {A} {C} {s} {t} {σ} {rows} d u v only more = record {
+represents-one_bit {F} {A} {C} {s} {t} {σ} {rows} d u v only more = record {
   sound = λ α f g. u.1 (bit-of (λ b. R b → A) (λ x. ((d f).1.0 x).0) (λ x. ((d f).0.0 x).0) (to-bit (α 0) g.0.0.0 g.0.0.1) (only α g));
   complete = λ f m rest. more (bit_of s) rest (by-test v R (λ c. (d f).0.1 (u.0 m, c)) (λ n. (d f).1.1 (u.0 m, n)));
   filled = refl;

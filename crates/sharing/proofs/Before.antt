@@ -1,15 +1,9 @@
 -- 02, wish 2: "Models without the lowest number in words or rows translate as before". In two ranges check, translate and fill answer and write
 -- alike where the model's words and the numbers of its blocks are in both or in none; so it is for 01's range and 02's where neither holds the
 -- lowest number, or the words of the model and of its row system do not, and where check accepts.
-use mathlib.Core.Path.{◌≡◌, refl, sym, ap, ◌∙◌}
-use mathlib.Core.Logic.{◌≢◌}
-use mathlib.Core.Bool.{Bool, true, false}
-use mathlib.Core.List.{List, [], ◌∷◌, ◌++◌, flat_map, map}
-use Prim.Native.Nat.{ℕ, ◌+◌}
-use native.Mathlib.Omega.{arith}
-use lib.IntN.{ℤ, pos, negsuc}
-use lib.ListN.{length}
-use borrow.Author.Tests.{not-false, ne_eqb}
+use Rattle.std.proofs.Common.{◌≡◌, refl, sym, ap, ◌∙◌, ◌≢◌, Bool, true, false, List, [], ◌∷◌, ◌++◌, map, ℕ, ◌+◌, arith, ℤ, pos, negsuc, length, ne_eqb}
+use mathlib.Core.List.{flat_map}
+use borrow.Author.Tests.{not-false}
 use Rattle.integers.specs.Lists.{all}
 use Rattle.integers.specs.Bounds.{within}
 use Rattle.integers.specs.Terms.{Term}
@@ -25,7 +19,7 @@ use Rattle.words.specs.Refusal.{accepted}
 use Rattle.words.proofs.Word.{before, never_too_low, kind-number, payload-word}
 use Rattle.words.proofs.Range.{is_signed, NumberIn, lowest-alone, in_range_low}
 use Rattle.models.specs.Model.{Constraint, constraints, source_words}
-use Rattle.models.proofs.Numbers.{Alike, reads-alike, numbers_in_lem}
+use Rattle.models.proofs.Numbers.{Alike, reads-alike, all-number_in}
 use Rattle.rowsystems.specs.Row.{Row, sum≤0, sum=0, product, rename_terms, rename}
 use Rattle.rowsystems.specs.RowWords.{bound_words, term_words, sum_words, row_words, bound_numbers, row_numbers}
 use Rattle.rules.specs.Block.{Block, numbered, block_words, block_numbers, outside_in}
@@ -204,7 +198,7 @@ fine-alike β s first e (c ∷ cs) f = (block-passes (block_of β s e c) f.1, fi
 pub passes-alike : (ws : List ℕ) → Passes ws → SameAnswers before Limit.range ws
 passes-alike ws passes =
     alike before Limit.range ws
-    (all_implies NumberIn (Alike before Limit.range) word-passes ws (numbers_in_lem ws (passes-read ws passes)))
+    (all_implies NumberIn (Alike before Limit.range) word-passes ws (all-number_in ws (passes-read ws passes)))
     (fine-alike (bounds ws) (shared ws) (length (variables ws)) none_yet (constraints ws) (passes-fine ws passes))
 
 pub passed-before : (ws : List ℕ) → Passes ws → check_fault_in before ws ≡ accepted

@@ -1,11 +1,5 @@
 -- Codes 16 to 20 and 34 to 36, the builtins of two or three Boolean variables.
-use mathlib.Core.Path.{◌≡◌, refl}
-use mathlib.Core.Logic.{◌⊎◌, inl, inr, ◌↔◌}
-use mathlib.Core.Bool.{Bool, true, false, ◌&&◌, ◌||◌}
-use mathlib.Core.List.{[], ◌∷◌}
-use Prim.Native.Nat.{ℕ}
-use native.Mathlib.Omega.{arith}
-use lib.IntN.{ℤ}
+use Rattle.std.proofs.Common.{◌≡◌, refl, ◌⊎◌, inl, inr, ◌↔◌, Bool, true, false, ◌&&◌, ◌||◌, [], ◌∷◌, ℕ, arith, ℤ}
 use Rattle.integers.specs.Number.{◌⊕◌, ◌⊗◌, +0, +1, +2}
 use Rattle.integers.specs.Bounds.{bit}
 use Rattle.integers.specs.Terms.{Valuation, value}

@@ -1,15 +1,7 @@
 -- 02, wish 7: the blocks of 24, 25, 27, 28 over a shared variable are sound and complete, and their auxiliaries are the picks, given that earlier
 -- blocks' bits say its value.
-use mathlib.Core.Path.{◌≡◌, refl, sym, ap, ap₂, ◌∙◌, subst}
-use mathlib.Core.Logic.{inl, inr}
-use mathlib.Core.Bool.{Bool, true, false}
-use mathlib.Core.List.{List, [], ◌∷◌, ◌++◌, map, append_assoc}
-use native.Mathlib.Omega.{arith}
-use Prim.Native.Nat.{ℕ, zero, suc, ◌+◌, ◌-◌, ◌<◌}
-use lib.Dec.{eqb}
-use lib.IntN.{ℤ, pos}
-use borrow.Author.Tests.{eqb-true}
-use lib.ListN.{length, get_or, length-map, length-append}
+use Rattle.std.proofs.Common.{◌≡◌, refl, sym, ap, ap₂, ◌∙◌, subst, inl, inr, Bool, true, false, List, [], ◌∷◌, ◌++◌, map, append_assoc, arith, ℕ, zero, suc, ◌+◌, ◌-◌, ◌<◌, eqb, ℤ, pos, eqb-true, length, get_or, length-append}
+use lib.ListN.{length-map}
 use Rattle.integers.specs.Choice.{◌if◌else◌}
 use Rattle.integers.specs.Number.{◌⊗◌, ◌≟◌, count, +0, +1}
 use Rattle.integers.specs.Lists.{any}
@@ -324,10 +316,10 @@ shared-filled β e σ no_choice = refl
 -- ---- values that agree on a builtin's variables
 
 module _ (ρ σ : Valuation) (n : ℕ) (same : (v : ℕ) → v < n → ρ v ≡ σ v) where
-  same_at_lem : (xs : List ℕ) (k : ℕ) → 0 < n → All (λ v. v < n) xs → ρ (get_or xs k 0) ≡ σ (get_or xs k 0)
-  same_at_lem [] k z h = same 0 z
-  same_at_lem (x ∷ xs) zero z h = same x h.0
-  same_at_lem (x ∷ xs) (suc k) z h = same_at_lem xs k z h.1
+  same-get_or : (xs : List ℕ) (k : ℕ) → 0 < n → All (λ v. v < n) xs → ρ (get_or xs k 0) ≡ σ (get_or xs k 0)
+  same-get_or [] k z h = same 0 z
+  same-get_or (x ∷ xs) zero z h = same x h.0
+  same-get_or (x ∷ xs) (suc k) z h = same-get_or xs k z h.1
 
   same_map : (xs : List ℕ) → All (λ v. v < n) xs → map ρ xs ≡ map σ xs
   same_map [] h = refl
@@ -349,7 +341,7 @@ module _ (ρ σ : Valuation) (n : ℕ) (same : (v : ℕ) → v < n → ρ v ≡ 
   same-pick β e s (is-element i ns c) h k = rw (same i k.0)
   same-pick β e s (is_var_element i xs c) h k =
       let js = keep (within (+1 to pos (length xs))) (values (β i)) in
-      rw (same i k.0) (ap (λ zs. new_pick β e σ i ++ zs) (each js (λ j. same_at_lem xs (count j - 1) (omega (arith, k.0)) k.1.1)))
+      rw (same i k.0) (ap (λ zs. new_pick β e σ i ++ zs) (each js (λ j. same-get_or xs (count j - 1) (omega (arith, k.0)) k.1.1)))
     where
       each : (js : List ℤ) → ((j : ℤ) → ρ (get_or xs (count j - 1) 0) ≡ σ (get_or xs (count j - 1) 0)) →
           map (λ j. ρ (get_or xs (count j - 1) 0) ⊗ bit_of (j ≟ σ i)) js ≡ map (λ j. σ (get_or xs (count j - 1) 0) ⊗ bit_of (j ≟ σ i)) js

@@ -1,14 +1,6 @@
 -- 02, wish 7: the blocks over a shared variable are well formed, where earlier blocks' bits are declared before them and its values are at most 64.
-use mathlib.Core.Path.{◌≡◌, refl, sym, ap, ◌∙◌}
-use mathlib.Core.Logic.{inl, inr}
-use mathlib.Core.Bool.{Bool, true, false, not, ◌&&◌, ◌||◌}
-use mathlib.Core.List.{List, [], ◌∷◌, map}
-use Prim.Native.Nat.{ℕ, suc, ◌+◌, ◌≤◌, ◌<◌}
-use native.Mathlib.Omega.{arith}
-use lib.Dec.{eqb, ltb}
-use lib.IntN.{ℤ, pos}
-use lib.ListN.{length, length-append, length-map}
-use borrow.Author.Tests.{eq-eqb, ltb-false}
+use Rattle.std.proofs.Common.{◌≡◌, refl, sym, ap, ◌∙◌, inl, inr, Bool, true, false, not, ◌&&◌, ◌||◌, List, [], ◌∷◌, map, ℕ, suc, ◌+◌, ◌≤◌, ◌<◌, arith, eqb, ltb, ℤ, pos, length, length-append, eq-eqb, ltb-false}
+use lib.ListN.{length-map}
 use Rattle.integers.specs.Choice.{◌if◌else◌}
 use Rattle.integers.specs.Number.{◌⊖◌, count, +0, +1}
 use Rattle.integers.specs.Lists.{all, any}

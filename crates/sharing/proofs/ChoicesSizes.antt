@@ -1,13 +1,6 @@
 -- 02, wish 7: the words of a block, that of a shared variable or 01's own, are few.
-use mathlib.Core.Path.{◌≡◌, refl}
-use mathlib.Core.Logic.{inl}
-use mathlib.Core.Bool.{Bool, true, false, not}
-use mathlib.Core.List.{List, [], ◌∷◌}
-use Prim.Native.Nat.{ℕ, suc, ◌+◌, ◌≤◌, ◌*◌}
-use native.Mathlib.Omega.{arith}
-use lib.Dec.{eqb}
-use lib.IntN.{ℤ, pos}
-use lib.ListN.{length, length-map}
+use Rattle.std.proofs.Common.{◌≡◌, refl, inl, Bool, true, false, not, List, [], ◌∷◌, ℕ, suc, ◌+◌, ◌≤◌, ◌*◌, arith, eqb, ℤ, pos, length}
+use lib.ListN.{length-map}
 use Rattle.integers.specs.Choice.{◌if◌else◌}
 use Rattle.integers.specs.Number.{+0, +1}
 use Rattle.integers.specs.Lists.{all}
@@ -88,11 +81,11 @@ shared-small β e s (is_set_reif x S r) h w =
     simp (lengths, kept-length) (omega (arith, new_rows-size β e x, new_bits-few β e x, keep-both t (values (β x)), values_length (β x), w x (inl refl)))
 shared-small β e s (other b) h w = not-shared s h
 
-pub block_size_lem : (first : ℕ) (β : ℕ → Bounds) (s : ℕ → Bool) (e : Encoded) (c : Constraint) → too_wide β s c ≡ false →
+pub length-block_words : (first : ℕ) (β : ℕ → Bounds) (s : ℕ → Bool) (e : Encoded) (c : Constraint) → too_wide β s c ≡ false →
     let n = length (block_words first (block_of β s e c)) in
     (n ≤ 8 * (1 + builtin_words (builtin c)) + 40 * length (block_of β s e c).auxiliaries + 112) × (n ≤ 2800)
 unfolding block_of rule_after
-block_size_lem first β s e c n = rw (block-length first (block_of β s e c)) (go (shares s (choice c)) refl)
+length-block_words first β s e c n = rw (block-length first (block_of β s e c)) (go (shares s (choice c)) refl)
   where
     b : Builtin
     b = builtin c
@@ -102,4 +95,4 @@ block_size_lem first β s e c n = rw (block-length first (block_of β s e c)) (g
     go false h = omega (arith, (laws β b).small (sized β s c n))
 
 pub block-short : (first : ℕ) (β : ℕ → Bounds) (s : ℕ → Bool) (e : Encoded) (c : Constraint) → too_wide β s c ≡ false → length (block_words first (block_of β s e c)) ≤ 2800
-block-short first β s e c n = (block_size_lem first β s e c n).1
+block-short first β s e c n = (length-block_words first β s e c n).1

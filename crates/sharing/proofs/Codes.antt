@@ -1,7 +1,7 @@
 -- For each builtin: its block is sound and complete, fill has a value for each of its auxiliaries, no others make it good, its words are few and it is
 -- well formed.
 use Rattle.words.specs.Limit as Limit
-use Prim.Native.Nat.{ℕ, zero, suc, ◌+◌, ◌≤◌, ◌<◌, ◌*◌}
+use Rattle.std.proofs.Common.{ℕ, zero, suc, ◌+◌, ◌≤◌, ◌<◌, ◌*◌, ◌≡◌, refl, sym, subst, ◌∙◌, ◌↔◌, Bool, true, false, ◌||◌, List, [], ◌∷◌, map, arith, ℤ, length, length-append, get_or, leb, ltb-false, leb-true}
 use Rattle.integers.specs.Terms.{Valuation, Term, ◌·◌}
 use Rattle.integers.specs.declared.Bounds.{Bounds}
 use Rattle.models.specs.Builtin.{Builtin, int_eq, int_le, int_lt, int_ne, int_le_reif, int_plus, int_times, int_abs, int_max, int_lin_eq, int_lin_le, int_lin_ne, int_lin_eq_reif, int_eq_reif, int_lin_le_reif, bool2int, bool_not, bool_and, bool_or, bool_xor, bool_clause, array_bool_and, array_bool_xor, array_int_element, array_var_int_element, array_int_maximum, set_in, set_in_reif, int_min, int_lt_reif, int_ne_reif, int_lin_ne_reif, array_int_minimum, bool_eq_reif, bool_le_reif, bool_lt_reif, int_div, int_mod, int_pow}
@@ -16,15 +16,8 @@ use Rattle.sharing.proofs.BooleanLists.{bool_clause_exact, array_bool_and_exact,
 use Rattle.sharing.proofs.Elements.{array_int_element_correct, array_var_int_element_correct}
 use Rattle.sharing.proofs.Maximum.{array_int_maximum_correct, array_int_minimum_correct}
 use Rattle.sharing.proofs.Sets.{set_in_correct, set_in_reif_correct}
-use mathlib.Core.Path.{◌≡◌, refl, sym, subst, ◌∙◌}
-use mathlib.Core.Logic.{◌↔◌}
-use mathlib.Core.Bool.{Bool, true, false, ◌||◌}
-use mathlib.Core.List.{List, [], ◌∷◌, map, zip_with}
-use native.Mathlib.Omega.{arith}
-use lib.IntN.{ℤ}
-use lib.ListN.{length, length-append, length-map, get_or}
-use lib.Dec.{leb}
-use borrow.Author.Tests.{ltb-false, leb-true}
+use mathlib.Core.List.{zip_with}
+use lib.ListN.{length-map}
 use Rattle.integers.specs.Choice.{◌if◌else◌}
 use Rattle.integers.specs.Number.{◌⊖◌, count, +0, +1, -1, -2}
 use Rattle.integers.specs.Lists.{any}

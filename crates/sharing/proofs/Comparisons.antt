@@ -1,11 +1,5 @@
 -- Codes 1 to 5 and 30, the comparisons of two variables.
-use mathlib.Core.Path.{◌≡◌, refl}
-use mathlib.Core.Logic.{◌↔◌}
-use mathlib.Core.Bool.{Bool, true}
-use mathlib.Core.List.{[], ◌∷◌}
-use Prim.Native.Nat.{ℕ}
-use native.Mathlib.Omega.{arith}
-use lib.IntN.{ℤ}
+use Rattle.std.proofs.Common.{◌≡◌, refl, ◌↔◌, Bool, true, [], ◌∷◌, ℕ, arith, ℤ}
 use Rattle.integers.specs.Number.{◌⊕◌, ◌≟◌, +0, +1}
 use Rattle.integers.specs.Bounds.{◌to◌, bounds_in}
 use Rattle.integers.specs.Terms.{Valuation, value}
@@ -21,7 +15,7 @@ use Rattle.rules.specs.Parts.{◌─◌=0}
 use Rattle.rules.specs.Rule.{rule, where_one, where_zero, order_reified}
 use Rattle.rules.specs.Pick.{pick}
 use Rattle.sharing.proofs.Good.{Good, see}
-use Rattle.sharing.proofs.Basics.{Correct, Exact, agree, says_as, says-reified, equal-row, not_above_row, one-row, Decides, one_bit_lem, not-not}
+use Rattle.sharing.proofs.Basics.{Correct, Exact, agree, says_as, says-reified, equal-row, not_above_row, one-row, Decides, represents-one_bit, not-not}
 
 module _ (β : ℕ → Bounds) (σ : Valuation) where
   -- ---- 1 int_eq
@@ -56,7 +50,7 @@ module _ (β : ℕ → Bounds) (σ : Valuation) where
   pub int_ne_correct : (a b : ℕ) → Correct β σ (int_ne a b)
   unfolding rule where_one where_zero meaning integer_arguments pick value
   int_ne_correct a b =
-      one_bit_lem (λ f. ne_rows a b (f.kept.0, f.kept.1.0)) (says-not (says-equal (σ a) (σ b))) (says-lt (σ b) (σ a)) (λ α g. g) (λ r rest g. g)
+      represents-one_bit (λ f. ne_rows a b (f.kept.0, f.kept.1.0)) (says-not (says-equal (σ a) (σ b))) (says-lt (σ b) (σ a)) (λ α g. g) (λ r rest g. g)
 
   -- ---- 5 int_le_reif, 30 int_lt_reif: a + d ≤ b reified, d and e are 0 and 1, or 1 and 0
 

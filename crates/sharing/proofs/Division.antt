@@ -1,13 +1,8 @@
 -- Codes 37 int_div and 38 int_mod. The ten rows say which of 000's four cases holds of n, d and p; a multiple d×q of which one holds is that of the
 -- quotient cut towards zero.
-use mathlib.Core.Path.{◌≡◌, refl, sym, ap, ap₂, ◌∙◌, subst}
-use mathlib.Core.Logic.{◌⊎◌, inl, inr, ◌↔◌}
-use mathlib.Core.Bool.{Bool, true, false}
-use mathlib.Core.List.{List, [], ◌∷◌, ◌++◌, map, zip_with}
-use Prim.Native.Nat.{ℕ, zero, suc, ◌/◌, ◌%◌}
-use native.Mathlib.Nat.{div-add-mod, mod-lt, zero-lt-suc, div-le_self}
-use native.Mathlib.Omega.{arith}
-use lib.IntN.{ℤ, pos, negsuc, neg_ℤ}
+use Rattle.std.proofs.Common.{◌≡◌, refl, sym, ap, ap₂, ◌∙◌, subst, ◌⊎◌, inl, inr, ◌↔◌, Bool, true, false, List, [], ◌∷◌, ◌++◌, map, ℕ, zero, suc, ◌/◌, ◌%◌, mod-lt, zero-lt-suc, div-le_self, arith, ℤ, pos, negsuc, neg_ℤ}
+use mathlib.Core.List.{zip_with}
+use native.Mathlib.Nat.{div-add-mod}
 use lib.Signed.{le_z, lt_z, quot_z, rem_z}
 use Rattle.integers.specs.Number.{◌⊕◌, ◌⊖◌, ◌⊗◌, neg, max_z, abs_z, +0, +1, -1}
 use Rattle.integers.specs.Bounds.{◌to◌, bit}

@@ -1,12 +1,6 @@
--- 24 array_int_element_lem and 25 array_var_int_element: their blocks hold exactly where c is the i_th of the list.
-use mathlib.Core.Path.{◌≡◌, refl, sym, ◌∙◌}
-use mathlib.Core.Logic.{◌↔◌}
-use mathlib.Core.Bool.{true}
-use mathlib.Core.List.{List, [], ◌∷◌, ◌++◌, map}
-use native.Mathlib.Omega.{arith}
-use Prim.Native.Nat.{ℕ, zero, suc, ◌+◌, ◌-◌, ◌<◌}
-use lib.IntN.{ℤ, pos, negsuc}
-use lib.ListN.{length, length-map, get_or}
+-- 24 array_int_element and 25 array_var_int_element: their blocks hold exactly where c is the i-th of the list.
+use Rattle.std.proofs.Common.{◌≡◌, refl, sym, ◌∙◌, ◌↔◌, true, List, [], ◌∷◌, ◌++◌, map, arith, ℕ, zero, suc, ◌+◌, ◌-◌, ◌<◌, ℤ, pos, negsuc, length, get_or}
+use lib.ListN.{length-map}
 use Rattle.integers.specs.Number.{◌≟◌, count, +0, +1}
 use Rattle.integers.specs.Bounds.{◌to◌, values}
 use Rattle.integers.specs.Terms.{Valuation, value}

@@ -1,16 +1,7 @@
 -- 02, wish 7: what the bits of an encoded variable say, the block's own or an earlier block's.
-use mathlib.Core.Path.{◌≡◌, refl, sym, ap, ◌∙◌, subst}
-use mathlib.Core.Logic.{◌⊎◌, inl, inr, ◌↔◌}
-use mathlib.Core.Bool.{Bool, true, false, not, ◌&&◌, ◌||◌}
-use mathlib.Core.List.{List, [], ◌∷◌, ◌++◌}
-use native.Mathlib.Omega.{arith}
-use Prim.Native.Nat.{ℕ, ◌+◌, ◌<◌}
+use Rattle.std.proofs.Common.{◌≡◌, refl, sym, ap, ◌∙◌, subst, ◌⊎◌, inl, inr, ◌↔◌, Bool, true, false, not, ◌&&◌, ◌||◌, List, [], ◌∷◌, ◌++◌, arith, ℕ, ◌+◌, ◌<◌, eqb, ℤ, pos, length, set, get_or-set_same, get_or-set_other, eqb-true, eq-eqb}
 use native.Mathlib.Decide.{ℕ_discrete, dec_lt}
-use lib.Dec.{eqb}
-use lib.IntN.{ℤ, pos}
-use lib.ListN.{length, set}
-use lib.Seq.{set_out, get_or-set_same, get_or-set_other}
-use borrow.Author.Tests.{eqb-true, eq-eqb}
+use lib.Seq.{set_out}
 use Rattle.integers.specs.Choice.{◌if◌else◌}
 use Rattle.integers.specs.Number.{◌⊕◌, ◌⊗◌, ◌≟◌, +0, +1}
 use Rattle.integers.specs.Lists.{all, any}
@@ -79,7 +70,7 @@ held_after β ρ s first e xs h new v n =
     ]
 
 module _ (β : ℕ → Bounds) (e : Encoded) (x : ℕ) (ρ α : Valuation) where
-  -- the value of the bit of x's k_th value
+  -- the value of the bit of x's k-th value
   abbrev pub bit_value : Valuation
   bit_value k = see ρ α (aux k if eqb (first_of e x) 0 else source (first_of e x + k))
 

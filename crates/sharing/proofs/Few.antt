@@ -1,11 +1,6 @@
 -- The words of a row system that translate writes never pass 262,144: 8 for each word of the model, 40 for each auxiliary and 112 for each
 -- constraint, after at most two for each variable.
-use mathlib.Core.Path.{◌≡◌}
-use mathlib.Core.Bool.{Bool}
-use mathlib.Core.List.{List, [], ◌∷◌}
-use Prim.Native.Nat.{ℕ, ◌+◌, ◌*◌, ◌≤◌}
-use native.Mathlib.Omega.{arith}
-use lib.ListN.{length, length-append}
+use Rattle.std.proofs.Common.{◌≡◌, Bool, List, [], ◌∷◌, ℕ, ◌+◌, ◌*◌, ◌≤◌, arith, length, length-append}
 use Rattle.integers.specs.declared.Bounds.{Bounds}
 use Rattle.integers.proofs.Lists.{all_implies}
 use Rattle.words.specs.Limit as Limit
@@ -21,7 +16,7 @@ use Rattle.models.proofs.Accepted.{coded, bounded, total, few-constraints}
 use Rattle.rules.specs.Block.{block_words}
 use Rattle.rules.specs.Shared.{Encoded}
 use Rattle.rules.specs.Translation.{block_of, each_block, blocks_words}
-use Rattle.sharing.proofs.ChoicesSizes.{block_size_lem}
+use Rattle.sharing.proofs.ChoicesSizes.{length-block_words}
 use Rattle.sharing.proofs.Assembly.{auxiliaries_from, after}
 use Rattle.sharing.proofs.Accepts.{Fine}
 
@@ -43,7 +38,7 @@ blocks-size β s first e (c ∷ cs) f =
       length-append (block_words first (block_of β s e c)) (blocks_words β s n d cs),
       length-append (block_of β s e c).auxiliaries (auxiliaries_from β s n d cs),
       blocks-size β s n d cs f.3,
-      block_size_lem first β s e c f.0,
+      length-block_words first β s e c f.0,
     )
 
 -- variables and auxiliaries

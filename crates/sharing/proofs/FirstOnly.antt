@@ -1,12 +1,6 @@
--- One_hot bits that are those picked: no bit is 1 after a label that passes the test. The last rows of 26 and 33 say so; of numbers that stand once each it
+-- One-hot bits that are those picked: no bit is 1 after a label that passes the test. The last rows of 26 and 33 say so; of numbers that stand once each it
 -- is so by itself.
-use mathlib.Core.Path.{◌≡◌, refl, sym, ◌∙◌, subst}
-use mathlib.Core.Logic.{◌⊎◌, inl, inr, ◌↔◌}
-use mathlib.Core.Bool.{Bool, true, false}
-use mathlib.Core.List.{List, [], ◌∷◌, ◌++◌, map}
-use native.Mathlib.Omega.{arith}
-use Prim.Native.Nat.{ℕ, suc}
-use lib.IntN.{ℤ, pos}
+use Rattle.std.proofs.Common.{◌≡◌, refl, sym, ◌∙◌, subst, ◌⊎◌, inl, inr, ◌↔◌, Bool, true, false, List, [], ◌∷◌, ◌++◌, map, arith, ℕ, suc, ℤ, pos}
 use Rattle.integers.specs.Choice.{◌if◌else◌}
 use Rattle.integers.specs.Number.{◌⊕◌, ◌⊖◌, ◌⊗◌, ◌≟◌, +0, +1, -1}
 use Rattle.integers.specs.Terms.{Valuation, value}

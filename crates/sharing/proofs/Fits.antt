@@ -1,5 +1,5 @@
 -- What an accepted model gives for a builtin, of values that keep the bounds: its integer variables keep theirs, its Boolean ones are 0 or 1.
-use Prim.Native.Nat.{ℕ}
+use Rattle.std.proofs.Common.{ℕ}
 use Rattle.integers.specs.Terms.{Valuation}
 use Rattle.integers.specs.declared.Bounds.{Bounds}
 use Rattle.integers.proofs.Bits.{Bit}

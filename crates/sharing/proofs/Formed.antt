@@ -1,12 +1,8 @@
 -- Every block is well formed: its auxiliaries' bounds are ordered, its rows name only the model's variables and its own and have at most 66
 -- terms, a product's result is above its factors. The builtins of a model whose sets are not too wide have the sizes that this needs.
-use mathlib.Core.Path.{◌≡◌, subst, sym}
-use mathlib.Core.Bool.{Bool, true, false}
-use mathlib.Core.List.{List, [], ◌∷◌, ◌++◌, map, zip_with}
-use Prim.Native.Nat.{ℕ, suc, ◌+◌, ◌≤◌, ◌<◌}
-use native.Mathlib.Omega.{arith}
-use lib.IntN.{ℤ}
-use lib.ListN.{length, length-append, length-map}
+use Rattle.std.proofs.Common.{◌≡◌, subst, sym, Bool, true, false, List, [], ◌∷◌, ◌++◌, map, ℕ, suc, ◌+◌, ◌≤◌, ◌<◌, arith, ℤ, length, length-append}
+use mathlib.Core.List.{zip_with}
+use lib.ListN.{length-map}
 use Rattle.integers.specs.Number.{◌⊕◌, ◌⊖◌, ◌⊗◌, neg, min_z, max_z, abs_z, +0, -1}
 use Rattle.integers.specs.Bounds.{◌to◌, bit}
 use Rattle.integers.specs.Terms.{Term, ◌·◌}

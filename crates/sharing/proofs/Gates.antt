@@ -1,13 +1,8 @@
--- Products of a variable and a one_hot bit for each label: their sum is the value of the chosen label's variable.
-use mathlib.Core.Path.{◌≡◌, refl, sym, ap, ap₂, ◌∙◌, fun_ext, subst}
-use mathlib.Core.Logic.{◌↔◌}
-use mathlib.Core.Bool.{Bool, true}
-use mathlib.Core.List.{List, [], ◌∷◌, ◌++◌, map, zip_with, append_assoc}
-use native.Mathlib.Omega.{arith}
-use Prim.Native.Nat.{ℕ, zero, suc, ◌+◌}
-use lib.IntN.{ℤ, pos}
-use lib.ListN.{length, length-map, length-append}
-use lib.Seq.{get_or-append-add}
+-- Products of a variable and a one-hot bit for each label: their sum is the value of the chosen label's variable.
+use Rattle.std.proofs.Common.{◌≡◌, refl, sym, ap, ap₂, ◌∙◌, subst, ◌↔◌, Bool, true, List, [], ◌∷◌, ◌++◌, map, append_assoc, arith, ℕ, zero, suc, ◌+◌, ℤ, pos, length, length-append, get_or-append-add}
+use mathlib.Core.Path.{fun_ext}
+use mathlib.Core.List.{zip_with}
+use lib.ListN.{length-map}
 use Rattle.integers.specs.Number.{◌⊗◌}
 use Rattle.integers.specs.Terms.{Valuation, value}
 use Rattle.integers.specs.Bounds.{◌to◌}

@@ -1,9 +1,6 @@
 -- Blocks as propositions: what it is that the values σ of the sources and α of a block's own auxiliaries make a block good.
 -- The tests of specs/ say these propositions (`says-satisfied`).
-use mathlib.Core.Path.{◌≡◌, refl}
-use mathlib.Core.List.{List, [], ◌∷◌}
-use Prim.Native.Nat.{zero, suc}
-use lib.IntN.{ℤ, pos}
+use Rattle.std.proofs.Common.{◌≡◌, refl, List, [], ◌∷◌, zero, suc, ℤ, pos}
 use Rattle.integers.specs.Number.{◌⊕◌, ◌⊗◌}
 use Rattle.integers.specs.Terms.{Valuation, Term, sum}
 use Rattle.integers.specs.declared.Bounds.{Bounds}

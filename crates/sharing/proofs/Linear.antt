@@ -1,12 +1,6 @@
 -- Codes 10 to 15, 31 and 32: Σ as×bs compared with a number. From 12 on they go through x = Σ − c, compared with 0; 14 is 13 with the terms a − b, and 31
 -- is 32 with them.
-use mathlib.Core.Path.{◌≡◌, refl}
-use mathlib.Core.Logic.{◌⊎◌, ◌↔◌}
-use mathlib.Core.Bool.{Bool, true, false}
-use mathlib.Core.List.{List, [], ◌∷◌, ◌++◌}
-use Prim.Native.Nat.{ℕ, suc}
-use native.Mathlib.Omega.{arith}
-use lib.IntN.{ℤ}
+use Rattle.std.proofs.Common.{◌≡◌, refl, ◌⊎◌, ◌↔◌, Bool, true, false, List, [], ◌∷◌, ◌++◌, ℕ, suc, arith, ℤ}
 use lib.Signed.{le_z}
 use Rattle.integers.specs.Number.{◌⊖◌, ◌⊗◌, neg, min_z, max_z, abs_z, ◌≟◌, +0, +1, -1}
 use Rattle.integers.specs.Bounds.{◌to◌, bit}

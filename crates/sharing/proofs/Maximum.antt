@@ -1,13 +1,6 @@
 -- 26 array_int_maximum, 33 array_int_minimum: their blocks hold exactly where m is the largest, or the least, of the list.
-use mathlib.Core.Path.{◌≡◌, refl, sym, ap, ◌∙◌}
-use mathlib.Core.Logic.{◌↔◌}
-use mathlib.Core.Bool.{Bool, true, ◌&&◌}
-use mathlib.Core.List.{List, ◌∷◌, ◌++◌, map, append_assoc}
-use Prim.Native.Nat.{ℕ, ◌+◌}
-use native.Mathlib.Omega.{arith}
-use lib.IntN.{ℤ}
+use Rattle.std.proofs.Common.{◌≡◌, refl, sym, ap, ◌∙◌, ◌↔◌, Bool, true, ◌&&◌, List, ◌∷◌, ◌++◌, map, append_assoc, ℕ, ◌+◌, arith, ℤ, length}
 use lib.Signed.{le_z}
-use lib.ListN.{length}
 use Rattle.integers.specs.Number.{◌≟◌}
 use Rattle.integers.specs.Lists.{all, any}
 use Rattle.integers.specs.Terms.{Valuation, value}

@@ -1,10 +1,5 @@
 -- A block whose auxiliaries are numbered on from the variables before it means what it meant by itself.
-use mathlib.Core.Path.{◌≡◌, refl, sym, ap₂, ◌∙◌, subst}
-use mathlib.Core.Logic.{◌↔◌}
-use mathlib.Core.List.{List, [], ◌∷◌, map}
-use Prim.Native.Nat.{ℕ, suc, ◌+◌, ◌<◌}
-use native.Mathlib.Omega.{arith}
-use lib.IntN.{ℤ, pos}
+use Rattle.std.proofs.Common.{◌≡◌, refl, sym, ap₂, ◌∙◌, subst, ◌↔◌, List, [], ◌∷◌, map, ℕ, suc, ◌+◌, ◌<◌, arith, ℤ, pos}
 use Rattle.integers.specs.Number.{◌⊕◌, ◌⊗◌}
 use Rattle.integers.specs.Terms.{Valuation, Term}
 use Rattle.integers.proofs.Linear.{◌⊑◌}

@@ -1,13 +1,7 @@
--- One_hot bits, for labels of any type: bits that keep their bounds and add up to 1 choose a label, and the picked bits choose one that passes
+-- One-hot bits, for labels of any type: bits that keep their bounds and add up to 1 choose a label, and the picked bits choose one that passes
 -- the test.
-use mathlib.Core.Path.{◌≡◌, refl, sym, ap, ap₂, ◌∙◌, subst}
-use mathlib.Core.Logic.{◌⊎◌, inl, inr, ◌↔◌}
-use mathlib.Core.Bool.{Bool, true, false}
-use mathlib.Core.List.{List, [], ◌∷◌, ◌++◌, map}
-use native.Mathlib.Omega.{arith}
-use Prim.Native.Nat.{ℕ, zero, suc, ◌+◌}
-use lib.IntN.{ℤ, pos, negsuc}
-use lib.ListN.{length, length-map}
+use Rattle.std.proofs.Common.{◌≡◌, refl, sym, ap, ap₂, ◌∙◌, subst, ◌⊎◌, inl, inr, ◌↔◌, Bool, true, false, List, [], ◌∷◌, ◌++◌, map, arith, ℕ, zero, suc, ◌+◌, ℤ, pos, negsuc, length}
+use lib.ListN.{length-map}
 use Rattle.integers.specs.Choice.{◌if◌else◌}
 use Rattle.integers.specs.Number.{◌⊕◌, ◌⊗◌, ◌≟◌}
 use Rattle.integers.specs.Terms.{Valuation, Term, value}

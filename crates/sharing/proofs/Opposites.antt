@@ -1,14 +1,11 @@
 -- 02, wish 2: every coefficient, constant and bound that translate writes has its opposite in the range.
-use mathlib.Core.Path.{◌≡◌}
-use mathlib.Core.Bool.{true}
-use mathlib.Core.List.{List}
-use Prim.Native.Nat.{ℕ}
+use Rattle.std.proofs.Common.{◌≡◌, true, List, ℕ}
 use Rattle.integers.specs.Number.{neg}
 use Rattle.integers.proofs.Lists.{all_implies}
 use Rattle.integers.proofs.Tests.{All}
 use Rattle.words.specs.Word.{kind, signed, in_range}
 use Rattle.words.proofs.Range.{is_signed, NumberIn, opposite}
-use Rattle.rowsystems.proofs.Numbers.{numbers_in_lem}
+use Rattle.rowsystems.proofs.Numbers.{all-number_in}
 use Rattle.rules.specs.Translation.{system_words}
 use Rattle.sharing.specs.SharedSolutions.{Passes}
 use Rattle.sharing.proofs.Theorem.{written_read}
@@ -20,4 +17,4 @@ OppositeIn w = is_signed (kind w) ≡ true → in_range (neg (signed w)) ≡ tru
 pub opposites : (ws : List ℕ) → Passes ws → All OppositeIn (system_words ws)
 opposites ws passes =
     all_implies NumberIn OppositeIn (λ w h s. opposite (signed w) (h s)) (system_words ws)
-    (numbers_in_lem (system_words ws) (written_read ws passes))
+    (all-number_in (system_words ws) (written_read ws passes))

@@ -1,9 +1,5 @@
 -- The places of a list inside bounds: how many there are, what holds at them, and the place of a value among those of its bounds.
-use mathlib.Core.List.{List}
-use Prim.Native.Nat.{ℕ, ◌≤◌, ◌<◌}
-use native.Mathlib.Omega.{arith}
-use lib.IntN.{ℤ}
-use lib.ListN.{length}
+use Rattle.std.proofs.Common.{List, ℕ, ◌≤◌, ◌<◌, arith, ℤ, length}
 use Rattle.integers.specs.Number.{◌⊖◌, ◌⊕◌, count, +1}
 use Rattle.integers.specs.Bounds.{◌to◌, width, values}
 use Rattle.integers.specs.declared.Bounds.{Bounds}

@@ -1,10 +1,6 @@
 -- What fill writes fits 32 bits: every value and every pick is in the range of signed payloads.
-use mathlib.Core.Path.{◌≡◌, sym, subst}
-use mathlib.Core.Bool.{Bool, true}
-use mathlib.Core.List.{List, [], ◌∷◌, ◌++◌, flat_map}
-use Prim.Native.Nat.{ℕ, ◌+◌, ◌<◌}
-use lib.IntN.{ℤ}
-use lib.ListN.{length}
+use Rattle.std.proofs.Common.{◌≡◌, sym, subst, Bool, true, List, [], ◌∷◌, ◌++◌, ℕ, ◌+◌, ◌<◌, ℤ, length}
+use mathlib.Core.List.{flat_map}
 use Rattle.integers.specs.Bounds.{bounds_in}
 use Rattle.integers.specs.Terms.{value}
 use Rattle.integers.specs.declared.Bounds.{Bounds}
@@ -25,7 +21,7 @@ use Rattle.rules.specs.Translation.{shared, block_of, each_block, system_words, 
 use Rattle.sharing.specs.SharedSolutions.{Passes, SatisfiesModel, SatisfiesRows}
 use Rattle.sharing.proofs.Assembly.{after, auxiliaries_from}
 use Rattle.sharing.proofs.Accepts.{Fine, passes-read}
-use Rattle.sharing.proofs.Written.{in_range_lem}
+use Rattle.sharing.proofs.Written.{ranged-block_numbers}
 use Rattle.sharing.proofs.Theorem.{fine, same-bounds, fill-satisfies}
 
 -- both bounds are in the range
@@ -33,10 +29,10 @@ abbrev BothIn : Bounds → Type 0
 BothIn B = (in_range B.lower ≡ true) × (in_range B.upper ≡ true)
 
 -- the bounds of a block's auxiliaries are among its numbers
-bounds_in_lem : (Bs : List Bounds) → Ranged (flat_map bound_numbers Bs) → All BothIn Bs
+all-both_in : (Bs : List Bounds) → Ranged (flat_map bound_numbers Bs) → All BothIn Bs
 unfolding flat_map bound_numbers
-bounds_in_lem [] h = tt
-bounds_in_lem (B ∷ Bs) h = ((h.0, h.1.0), bounds_in_lem Bs h.1.1)
+all-both_in [] h = tt
+all-both_in (B ∷ Bs) h = ((h.0, h.1.0), all-both_in Bs h.1.1)
 
 blocks_in : (β : ℕ → Bounds) (s : ℕ → Bool) (first : ℕ) (e : Encoded) (cs : List Constraint) → Fine β s first e cs → All BothIn (auxiliaries_from β s first e cs)
 unfolding block_numbers each_block
@@ -44,7 +40,7 @@ blocks_in β s first e [] f = tt
 blocks_in β s first e (c ∷ cs) f =
     let B = block_of β s e c in
     (all_append BothIn B.auxiliaries (auxiliaries_from β s _ _ cs)).1 (
-      bounds_in_lem B.auxiliaries ((all_append (λ z. in_range z ≡ true) (flat_map bound_numbers B.auxiliaries) (flat_map row_numbers B.rows)).0 (in_range_lem B f.1)).0,
+      all-both_in B.auxiliaries ((all_append (λ z. in_range z ≡ true) (flat_map bound_numbers B.auxiliaries) (flat_map row_numbers B.rows)).0 (ranged-block_numbers B f.1)).0,
       blocks_in β s (first + length (block_of β s e c).auxiliaries) (after β s first e c) cs f.3,
     )
 

@@ -1,13 +1,5 @@
 -- What it is that a list satisfies a model or a row system, as bounds that are kept and propositions that hold.
-use mathlib.Core.Path.{◌≡◌, subst}
-use mathlib.Core.Logic.{◌↔◌}
-use mathlib.Core.Bool.{Bool}
-use mathlib.Core.List.{List, [], ◌∷◌}
-use Prim.Native.Nat.{ℕ, zero, suc, ◌<◌}
-use native.Mathlib.Omega.{arith}
-use native.Mathlib.Nat.{le_of_suc-le-suc, not-suc-le-zero}
-use lib.IntN.{ℤ}
-use lib.ListN.{length}
+use Rattle.std.proofs.Common.{◌≡◌, subst, ◌↔◌, Bool, List, [], ◌∷◌, ℕ, zero, suc, ◌<◌, arith, le_of_suc-le-suc, not-suc-le-zero, ℤ, length}
 use Rattle.integers.specs.Bounds.{bounds_in}
 use Rattle.integers.specs.Terms.{Valuation, value}
 use Rattle.integers.specs.declared.Bounds.{Bounds}

@@ -1,13 +1,8 @@
 -- 02, wish 7: a shared variable costs at most an auxiliary for each value that is left out at its first constraint, and 28 leaves none out: where
 -- only 28 share variables, there are never more auxiliaries than by 01's own rules.
-use mathlib.Core.Path.{◌≡◌, refl, sym, ap, ◌∙◌}
-use mathlib.Core.Bool.{Bool, true, false, not, ◌&&◌}
-use mathlib.Core.List.{List, [], ◌∷◌, flat_map}
-use Prim.Native.Nat.{ℕ, ◌+◌, ◌≤◌}
-use native.Mathlib.Omega.{arith}
-use lib.Dec.{eqb}
-use lib.IntN.{ℤ, pos}
-use lib.ListN.{length, length-append, length-map}
+use Rattle.std.proofs.Common.{◌≡◌, refl, sym, ap, ◌∙◌, Bool, true, false, not, ◌&&◌, List, [], ◌∷◌, ℕ, ◌+◌, ◌≤◌, arith, eqb, ℤ, pos, length, length-append}
+use mathlib.Core.List.{flat_map}
+use lib.ListN.{length-map}
 use Rattle.integers.specs.Choice.{◌if◌else◌}
 use Rattle.integers.specs.Number.{+1}
 use Rattle.integers.specs.Lists.{any}

@@ -1,11 +1,6 @@
--- 27 set_in_lem and 28 set_in_reif: their blocks hold exactly where x is in the set, and where r says whether it is.
-use mathlib.Core.Path.{◌≡◌, refl, ap}
-use mathlib.Core.Logic.{◌↔◌}
-use mathlib.Core.Bool.{Bool, true, false, beq}
-use mathlib.Core.List.{List, [], ◌∷◌, ◌++◌, map}
-use native.Mathlib.Omega.{arith}
-use Prim.Native.Nat.{ℕ, zero, suc}
-use lib.IntN.{ℤ, pos}
+-- 27 set_in and 28 set_in_reif: their blocks hold exactly where x is in the set, and where r says whether it is.
+use Rattle.std.proofs.Common.{◌≡◌, refl, ap, ◌↔◌, Bool, true, false, List, [], ◌∷◌, ◌++◌, map, arith, ℕ, zero, suc, ℤ, pos}
+use mathlib.Core.Bool.{beq}
 use Rattle.integers.specs.Choice.{◌if◌else◌}
 use Rattle.integers.specs.Number.{◌⊕◌, ◌⊖◌, ◌⊗◌, ◌≟◌, count, +0, +1, -1}
 use Rattle.integers.specs.Lists.{list_of}

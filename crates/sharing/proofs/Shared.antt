@@ -1,19 +1,14 @@
 -- A list satisfies a model exactly where some auxiliaries make it satisfy rows that are the model's blocks, numbered on; the picks do, and no others.
-use mathlib.Core.Path.{◌≡◌, sym, ap₂, ◌∙◌, subst, fun_ext}
-use mathlib.Core.Logic.{◌↔◌}
-use mathlib.Core.Bool.{Bool, true}
-use mathlib.Core.List.{List, [], ◌++◌, append-nil}
-use Prim.Native.Nat.{ℕ, ◌+◌, ◌<◌}
-use native.Mathlib.Omega.{arith}
-use lib.IntN.{ℤ, pos}
-use lib.ListN.{length, length-append, get_or-append}
+use Rattle.std.proofs.Common.{◌≡◌, sym, ap₂, ◌∙◌, subst, ◌↔◌, Bool, true, List, [], ◌++◌, append-nil, ℕ, ◌+◌, ◌<◌, arith, ℤ, pos, length, length-append}
+use mathlib.Core.Path.{fun_ext}
+use lib.ListN.{get_or-append}
 use Rattle.integers.specs.Bounds.{bit, bounds_in}
 use Rattle.integers.specs.Terms.{Valuation, value}
 use Rattle.integers.specs.declared.Bounds.{Bounds}
 use Rattle.integers.proofs.Bits.{Bit, to-bit}
 use Rattle.integers.proofs.Lists.{all_implies, all_both}
 use Rattle.integers.proofs.Tests.{In, All}
-use Rattle.integers.proofs.Places.{get_d_many}
+use Rattle.integers.proofs.Places.{get_or-replicate_same}
 use Rattle.words.specs.Limit as Limit
 use Rattle.words.specs.Variables.{variables}
 use Rattle.models.specs.Meaning.{meaning}
@@ -86,7 +81,7 @@ left-length a b m n e f = omega arith
 
 -- nothing is recorded at first
 pub none_first : (x : ℕ) → first_of none_yet x ≡ 0
-none_first x = get_d_many {A = ℕ} Limit.variables x 0
+none_first x = get_or-replicate_same {A = ℕ} Limit.variables x 0
 
 pub none-held : (β : ℕ → Bounds) (ρ : Valuation) → Held β ρ none_yet
 none-held β ρ x h = absurd (h (none_first x))

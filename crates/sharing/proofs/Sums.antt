@@ -1,10 +1,5 @@
 -- Σ as×bs over source variables: what it is in a row, and that Σ − c stays between L and U.
-use mathlib.Core.Path.{◌≡◌, refl, ap, ◌∙◌, sym}
-use mathlib.Core.Logic.{◌↔◌}
-use mathlib.Core.List.{List, [], ◌∷◌, ◌++◌}
-use Prim.Native.Nat.{ℕ}
-use native.Mathlib.Omega.{arith}
-use lib.IntN.{ℤ}
+use Rattle.std.proofs.Common.{◌≡◌, refl, ap, ◌∙◌, sym, ◌↔◌, List, [], ◌∷◌, ◌++◌, ℕ, arith, ℤ}
 use Rattle.integers.specs.Number.{◌⊕◌, ◌⊖◌, ◌⊗◌, min_z, max_z}
 use Rattle.integers.specs.Bounds.{◌to◌}
 use Rattle.integers.specs.Terms.{Valuation, Term, sum}

@@ -1,11 +1,6 @@
 -- The words that translate writes for a model that passes the check are read back, by judge-rows' own reader, as the model's variables, all
 -- auxiliaries and all rows.
-use mathlib.Core.Path.{◌≡◌}
-use mathlib.Core.Bool.{Bool, true, false}
-use mathlib.Core.List.{List, [], ◌∷◌, ◌++◌, append_assoc}
-use Prim.Native.Nat.{ℕ, ◌+◌, ◌≤◌, ◌<◌}
-use native.Mathlib.Omega.{arith}
-use lib.ListN.{length}
+use Rattle.std.proofs.Common.{◌≡◌, Bool, true, false, List, [], ◌∷◌, ◌++◌, append_assoc, ℕ, ◌+◌, ◌≤◌, ◌<◌, arith, length}
 use borrow.Author.Tests.{not-false}
 use Rattle.integers.specs.Terms.{Term}
 use Rattle.integers.specs.declared.Bounds.{Bounds}
@@ -44,9 +39,9 @@ module _ (n first : ℕ) (later : n ≤ first) where
 
 -- ---- block after block
 
-pub in_range_lem : (B : Block) → outside B ≡ false → Ranged (block_numbers B)
+pub ranged-block_numbers : (B : Block) → outside B ≡ false → Ranged (block_numbers B)
 unfolding outside_in
-in_range_lem B h = (says_all in_range (λ z. in_range z ≡ true) (λ z. (λ e. e, λ e. e)) (block_numbers B)).0 (not-false _ h)
+ranged-block_numbers B h = (says_all in_range (λ z. in_range z ≡ true) (λ z. (λ e. e, λ e. e)) (block_numbers B)).0 (not-false _ h)
 
 pub items : (β : ℕ → Bounds) (s : ℕ → Bool) (first : ℕ) (e : Encoded) (cs : List Constraint) → AllFormed β s first e cs → Fine β s first e cs →
     Items first (blocks_words β s first e cs ++ (word Kind.rows_end 0 ∷ [])) (auxiliaries_from β s first e cs) (rows_from β s first e cs)
@@ -55,6 +50,6 @@ items β s first e [] h f = end first
 items β s first e (c ∷ cs) h f =
     let B = block_of β s e c in
     rw append_assoc
-    (block (numbered first) B.auxiliaries B.rows f.2 (in_range_lem B f.1) h.0.0
+    (block (numbered first) B.auxiliaries B.rows f.2 (ranged-block_numbers B f.1) h.0.0
     (all_implies (RowIn first (length B.auxiliaries)) (Declared (numbered first) (first + length B.auxiliaries)) (declared first first (omega arith) (length B.auxiliaries)) B.rows h.0.1)
     (items β s (first + length B.auxiliaries) (encoded_after s first e (encodes (choice c))) cs h.1 f.3))

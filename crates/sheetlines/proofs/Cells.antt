@@ -1,15 +1,9 @@
 -- Terms and lines: that numbers fit their columns, how long the parts of a row are, and laying them one after another.
-use mathlib.Core.Path.{◌≡◌, refl, sym, ap, ◌∙◌}
-use mathlib.Core.List.{List, [], ◌∷◌, ◌++◌, append_assoc}
-use Prim.Native.Nat.{ℕ, zero, suc, ◌+◌, ◌-◌, ◌*◌, ◌≤◌, ◌<◌}
-use native.Mathlib.Omega.{arith}
-use lib.IntN.{ℤ}
-use lib.ListN.{length, length-append, set, drop, drop_of_length-le}
-use lib.Seq.{drop-cons}
+use Rattle.std.proofs.Common.{◌≡◌, refl, sym, ap, ◌∙◌, List, [], ◌∷◌, ◌++◌, append_assoc, ℕ, zero, suc, ◌+◌, ◌-◌, ◌*◌, ◌≤◌, ◌<◌, arith, ℤ, length, length-append, set, drop, drop_of_length-le, drop-cons}
 use Rattle.integers.specs.Lists.{list_of}
 use Rattle.integers.specs.Terms.{Term, ◌·◌}
 use Rattle.integers.proofs.Lists.{list_of-length}
-use Rattle.integers.proofs.Places.{get_d_list_of}
+use Rattle.integers.proofs.Places.{get_or-list_of}
 use Rattle.words.specs.LaidAt.{LaidAt}
 use Rattle.words.specs.Overlay.{overlay}
 use Rattle.words.specs.Small.{Near}
@@ -34,8 +28,8 @@ number_fits z h = numeral-length 8 z (omega (arith, h))
 pub variable-fits : (v : ℕ) → v < 268435456 → length (decimal v) ≤ 11
 variable-fits v h = omega (arith, decimal-length 8 v (omega (arith, h)))
 
-pub row_fits_lem : (k : ℕ) → k < 1000000 → length (decimal k) ≤ 6
-row_fits_lem k h = decimal-length 5 k h
+pub length-row_number : (k : ℕ) → k < 1000000 → length (decimal k) ≤ 6
+length-row_number k h = decimal-length 5 k h
 
 -- a term that fits its columns
 pub record Fits (t : Term ℕ) : Type 0 where
@@ -142,7 +136,7 @@ module _ (ws : List ℕ) (n k : ℕ) where
       let f : ℕ → Term ℕ = λ k. number_at ws (2 * k + 1) · variable_at ws (2 * k) in
       let l : k < length (list_of f n) = rw (list_of-length f n) h in
       let e : suc k ≡ k + 1 = omega arith in
-      rw (drop-cons (list_of f n) k (f 0) l, get_d_list_of f n k (f 0) h, ← e)
+      rw (drop-cons (list_of f n) k (f 0) l, get_or-list_of f n k (f 0) h, ← e)
 
   pub term-last : n ≤ k → (room : ℕ) → term_lines room (drop k (terms_in ws n)) ≡ line_end room
   unfolding term_lines terms_in

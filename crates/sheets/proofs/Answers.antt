@@ -1,10 +1,5 @@
 -- What the reader's refusal says of the sheet's answer: it stands, or 16, or the text is written.
-use mathlib.Core.Path.{◌≡◌}
-use mathlib.Core.List.{List}
-use Prim.Native.Nat.{ℕ, ◌≤◌, ◌<◌}
-use native.Mathlib.Omega.{arith}
-use lib.ListN.{length}
-use borrow.Author.Tests.{lt-ltb, le-ltb, ne_eqb}
+use Rattle.std.proofs.Common.{◌≡◌, List, ℕ, ◌≤◌, ◌<◌, arith, length, lt-ltb, le-ltb, ne_eqb}
 use Rattle.words.specs.Overlay.{overlay}
 use Rattle.words.specs.Refusal.{◌at_place◌, accepted, ◌else_refuse◌, room_fault}
 use Rattle.words.specs.Answer.{Answer, refused, written, ◌else_answer◌}

@@ -1,12 +1,5 @@
 -- Every line of a sheet has exactly 80 printed columns and a line feed, for every accepted row system; so its bytes are 81 times its lines.
-use mathlib.Core.Path.{◌≡◌, refl, ◌∙◌}
-use mathlib.Core.Bool.{Bool, true, false}
-use mathlib.Core.List.{List, [], ◌∷◌, ◌++◌, append_assoc}
-use Prim.Native.Nat.{ℕ, zero, suc, ◌+◌, ◌-◌, ◌*◌, ◌/◌, ◌%◌, ◌≤◌, ◌<◌}
-use native.Mathlib.Omega.{arith}
-use lib.Dec.{ltb}
-use lib.IntN.{ℤ, pos, negsuc}
-use lib.ListN.{length, length-append}
+use Rattle.std.proofs.Common.{◌≡◌, refl, ◌∙◌, Bool, true, false, List, [], ◌∷◌, ◌++◌, append_assoc, ℕ, zero, suc, ◌+◌, ◌-◌, ◌*◌, ◌/◌, ◌%◌, ◌≤◌, ◌<◌, arith, ltb, ℤ, pos, negsuc, length, length-append}
 use Rattle.integers.specs.Lists.{list_of}
 use Rattle.integers.specs.Choice.{◌if◌else◌}
 use Rattle.integers.specs.Number.{+0, +1}
@@ -24,7 +17,7 @@ use Rattle.rowsystems.specs.RowSystem.{rows}
 use Rattle.rowsystems.proofs.Sizes.{few_words, rows_few}
 use Rattle.sheetlines.specs.Lines.{cell, line_end, term_text, room_after, term_lines, constant_line, sum_lines, row_lines, rows_lines}
 use Rattle.sheets.specs.Sheet.{sheet_text}
-use Rattle.sheetlines.proofs.Cells.{Fits, number_fits, row_fits_lem, cell-length}
+use Rattle.sheetlines.proofs.Cells.{Fits, number_fits, length-row_number, cell-length}
 use Rattle.sheets.proofs.Fitting.{RowFits, one-fits, rows_fit}
 
 abbrev pub Printable : ℕ → Type 0
@@ -125,7 +118,7 @@ sum_in_lines k x y ts c {rest} {n} l hx hy f h r =
     let count : 1 + n ≡ suc n = omega arith in
     rw (same, count)
     (terms_in_lines H 3 ts
-    (omega (arith, length-append (right 6 (decimal k)) (x ∷ y ∷ []), length-right 6 (decimal k) (row_fits_lem k l)))
+    (omega (arith, length-append (right 6 (decimal k)) (x ∷ y ∷ []), length-right 6 (decimal k) (length-row_number k l)))
     (printed-append (right 6 (decimal k)) _ (printed-right 6 _ (printed-decimal k)) (hx, (hy, tt))) f
     (a-line C (length-right 80 (numeral c) (omega (arith, number_fits c h))) (printed-right 80 _ (printed-numeral c)) r))
 

@@ -1,14 +1,10 @@
 -- The numbers of every row that words say fit their columns: payloads have 28 bits, whatever the words are.
-use mathlib.Core.Bool.{Bool, true, false}
-use mathlib.Core.List.{List, [], ◌∷◌}
-use Prim.Native.Nat.{ℕ, ◌+◌, ◌*◌, ◌<◌}
-use lib.Dec.{eqb}
+use Rattle.std.proofs.Common.{Bool, true, false, List, [], ◌∷◌, ℕ, ◌+◌, ◌*◌, ◌<◌, eqb, arith}
 use Rattle.integers.specs.Choice.{◌if◌else◌}
 use Rattle.integers.specs.Number.{+1}
 use Rattle.integers.specs.Terms.{◌·◌}
 use Rattle.integers.proofs.Tests.{All}
 use Rattle.integers.proofs.Lists.{all-list_of}
-use native.Mathlib.Omega.{arith}
 use Rattle.words.specs.Kind as Kind
 use Rattle.words.specs.Small.{Near}
 use Rattle.words.specs.Word.{kind, word_at}

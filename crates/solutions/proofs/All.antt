@@ -1,13 +1,6 @@
 -- From the first list on, all lists are gone through; and what each answer of the call says.
-use mathlib.Core.Path.{◌≡◌, sym, ap, ◌∙◌}
-use mathlib.Core.Bool.{Bool, true, false, ◌||◌}
-use mathlib.Core.List.{List, [], ◌∷◌, flatten}
-use Prim.Native.Nat.{ℕ, suc, ◌*◌, ◌<◌, ◌≤◌}
-use native.Mathlib.Omega.{arith}
-use lib.Dec.{ltb}
-use lib.IntN.{ℤ}
-use lib.ListN.{length}
-use borrow.Author.Tests.{lt-ltb, le-ltb, ltb-true, ltb-false, ne_eqb}
+use Rattle.std.proofs.Common.{◌≡◌, sym, ap, ◌∙◌, Bool, true, false, ◌||◌, List, [], ◌∷◌, ℕ, suc, ◌*◌, ◌<◌, ◌≤◌, arith, ltb, ℤ, length, lt-ltb, le-ltb, ltb-true, ltb-false, ne_eqb}
+use mathlib.Core.List.{flatten}
 use Rattle.integers.specs.Choice.{◌if◌else◌}
 use Rattle.integers.specs.declared.Bounds.{Bounds}
 use Rattle.integers.proofs.Fits.{mul-le}
@@ -83,11 +76,11 @@ module _ (ws : List ℕ) (passes : Passes ws) (out : List ℤ) where
   unfolding solutions_answer solutions_listed solutions_fault lists_fault ◌else_refuse◌ ◌else_answer◌
   too_large e = (rw (passes, e), rw (passes, e))
 
-  pub too_many_variables_lem : 8 < length (variables ws) → Gives ws out (refused 22 0) out
-  too_many_variables_lem l = too_large (rw (lt-ltb 8 (length (variables ws)) l))
+  pub gives-too_many_variables : 8 < length (variables ws) → Gives ws out (refused 22 0) out
+  gives-too_many_variables l = too_large (rw (lt-ltb 8 (length (variables ws)) l))
 
-  pub too_many_lists_lem : 65536 < list_count (variables ws) → Gives ws out (refused 22 0) out
-  too_many_lists_lem l = too_large (rw (lt-ltb 65536 (list_count (variables ws)) l) (or-true (ltb 8 (length (variables ws)))))
+  pub gives-too_many_lists : 65536 < list_count (variables ws) → Gives ws out (refused 22 0) out
+  gives-too_many_lists l = too_large (rw (lt-ltb 65536 (list_count (variables ws)) l) (or-true (ltb 8 (length (variables ws)))))
 
   module _ (l : length (variables ws) ≤ 8) (m : list_count (variables ws) ≤ 65536) where
     small : lists_fault (variables ws) ≡ accepted

@@ -1,11 +1,7 @@
 -- 02, wishes 10 and 11: the row system that is written from a model has exactly as many solutions as the model, and the list of the model's solutions, each
 -- followed by what fill picks for it, is the list of the row system's.
-use mathlib.Core.Path.{◌≡◌}
-use mathlib.Core.Logic.{inl, inr, ◌↔◌}
-use mathlib.Core.List.{List, [], ◌∷◌, ◌++◌, map}
-use Prim.Native.Nat.{ℕ}
-use lib.IntN.{ℤ}
-use lib.ListN.{length, length-map}
+use Rattle.std.proofs.Common.{◌≡◌, inl, inr, ◌↔◌, List, [], ◌∷◌, ◌++◌, map, ℕ, ℤ, length}
+use lib.ListN.{length-map}
 use Rattle.integers.proofs.Lists.{all-mapped}
 use Rattle.integers.proofs.Tests.{Member}
 use Rattle.rules.specs.Translation.{picks, system_words}

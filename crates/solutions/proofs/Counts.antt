@@ -1,17 +1,13 @@
 -- The number of value lists, capped as it is worked out; and that it is how many there are.
-use mathlib.Core.Path.{◌≡◌, refl, ap, ◌∙◌}
-use mathlib.Core.List.{List, [], ◌∷◌, map, flat_map}
-use Prim.Native.Nat.{ℕ, zero, suc, min, ◌+◌, ◌*◌, ◌<◌, ◌≤◌}
-use native.Mathlib.Omega.{arith, min_cases}
-use native.Mathlib.Numerals.{add-one}
-use lib.IntN.{ℤ}
-use lib.ListN.{length, drop, length-append, length-map, drop_of_length-le}
-use lib.Seq.{drop-cons}
+use Rattle.std.proofs.Common.{◌≡◌, refl, ap, ◌∙◌, List, [], ◌∷◌, map, ℕ, zero, suc, min, ◌+◌, ◌*◌, ◌<◌, ◌≤◌, arith, add-one, ℤ, length, drop, length-append, drop_of_length-le, drop-cons}
+use mathlib.Core.List.{flat_map}
+use native.Mathlib.Omega.{min_cases}
+use lib.ListN.{length-map}
 use Rattle.integers.specs.Lists.{list_of}
 use Rattle.integers.specs.Bounds.{width, values}
 use Rattle.integers.specs.declared.Bounds.{Bounds}
 use Rattle.integers.proofs.Lists.{list_of-length}
-use Rattle.integers.proofs.Places.{get_d_list_of}
+use Rattle.integers.proofs.Places.{get_or-list_of}
 use Rattle.solutions.specs.Lists.{begun, value_lists, list_count}
 
 -- ---- how many lists there are
@@ -38,7 +34,7 @@ cap a b = min_cases a 65537 (min (min a 65537 * b) 65537 ≡ min (a * b) 65537) 
 module _ (β : ℕ → Bounds) (n : ℕ) where
   pub bounds-then : (i : ℕ) → i < n → drop i (list_of β n) ≡ β i ∷ drop (i + 1) (list_of β n)
   bounds-then i l =
-      rw add-one (drop-cons (list_of β n) i (β 0) (rw list_of-length l)) ∙ ap (λ B. B ∷ drop (i + 1) (list_of β n)) (get_d_list_of β n i (β 0) l)
+      rw add-one (drop-cons (list_of β n) i (β 0) (rw list_of-length l)) ∙ ap (λ B. B ∷ drop (i + 1) (list_of β n)) (get_or-list_of β n i (β 0) l)
 
   pub record Capping (count i : ℕ) : Type 0 where
     pub inside : i ≤ n

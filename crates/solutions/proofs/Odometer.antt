@@ -1,9 +1,6 @@
 -- The lists from a list on: that list, then those from the next one on; from the first list on they are all.
-use mathlib.Core.Path.{◌≡◌, refl, ap}
-use mathlib.Core.Bool.{Bool, true, false, not, ◌&&◌}
-use mathlib.Core.List.{List, [], ◌∷◌, ◌++◌, flat_map}
-use native.Mathlib.Omega.{arith}
-use lib.IntN.{ℤ}
+use Rattle.std.proofs.Common.{◌≡◌, refl, ap, Bool, true, false, not, ◌&&◌, List, [], ◌∷◌, ◌++◌, arith, ℤ}
+use mathlib.Core.List.{flat_map}
 use lib.Signed.{lt_z}
 use borrow.Author.Tests.{not-true}
 use Rattle.integers.specs.Choice.{◌if◌else◌}

@@ -1,13 +1,7 @@
 -- The odometer's turn, from the last variable to the first: the values after a place were the last ones, and are the first ones now.
-use mathlib.Core.Path.{◌≡◌, refl, sym, ap, ◌∙◌}
-use mathlib.Core.Bool.{true, false, not}
-use mathlib.Core.List.{List, [], ◌∷◌, ◌++◌, append-nil, append_assoc}
-use Prim.Native.Nat.{ℕ, zero, suc, ◌+◌, ◌≤◌}
-use native.Mathlib.Omega.{arith}
-use lib.IntN.{ℤ}
+use Rattle.std.proofs.Common.{◌≡◌, refl, sym, ap, ◌∙◌, true, false, not, List, [], ◌∷◌, ◌++◌, append-nil, append_assoc, ℕ, zero, suc, ◌+◌, ◌≤◌, arith, ℤ, length, take, drop, get_or, set, drop_of_length-le, drop-cons, take-suc, length-take-le, take_all}
 use lib.Signed.{lt_z}
-use lib.ListN.{length, take, drop, get_or, set, drop_of_length-le}
-use lib.Seq.{drop-cons, take-suc, length-take-le, set_at, get_or_at, take_all}
+use lib.Seq.{set_at, get_or_at}
 use Rattle.integers.specs.Number.{◌⊕◌, +0, +1}
 use Rattle.integers.specs.Lists.{list_of}
 use Rattle.integers.specs.declared.Bounds.{Bounds}

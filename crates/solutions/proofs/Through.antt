@@ -1,12 +1,6 @@
 -- Going through the value lists: what was found and what the lists left will give are what all of them give.
-use mathlib.Core.Path.{◌≡◌, refl, sym, ap, ◌∙◌}
-use mathlib.Core.Logic.{◌⊎◌, inl, inr}
-use mathlib.Core.Bool.{Bool, true, false, not, ◌&&◌}
-use mathlib.Core.List.{List, [], ◌∷◌, flatten}
-use Prim.Native.Nat.{ℕ, ◌+◌, ◌*◌, ◌<◌, ◌≤◌}
-use native.Mathlib.Omega.{arith}
-use lib.IntN.{ℤ}
-use lib.ListN.{length}
+use Rattle.std.proofs.Common.{◌≡◌, refl, sym, ap, ◌∙◌, ◌⊎◌, inl, inr, Bool, true, false, not, ◌&&◌, List, [], ◌∷◌, ℕ, ◌+◌, ◌*◌, ◌<◌, ◌≤◌, arith, ℤ, length}
+use mathlib.Core.List.{flatten}
 use Rattle.integers.specs.Choice.{◌if◌else◌}
 use Rattle.integers.specs.Lists.{all}
 use Rattle.integers.specs.declared.Bounds.{Bounds}
@@ -88,8 +82,8 @@ module _ (t : List ℤ → Bool) (Bs : List Bounds) (vs₀ out₀ : List ℤ) wh
   pub list-begun : AllWithin Bs vs₀ → length Bs ≤ 8 → Listing vs₀ out₀ 0 true
   list-begun h l = record { inside = h; short = l; room = omega arith; laid = refl }
 
-  pub list_length_lem : {vs out : List ℤ} {at : ℕ} {more : Bool} → Listing vs out at more → length vs ≡ length Bs
-  list_length_lem {vs} c = (inside-says Bs vs c.inside).0
+  pub listing-length : {vs out : List ℤ} {at : ℕ} {more : Bool} → Listing vs out at more → length vs ≡ length Bs
+  listing-length {vs} c = (inside-says Bs vs c.inside).0
 
   module _ {vs out : List ℤ} {at : ℕ} (c : Listing vs out at true) where
     writes : t vs ≡ true → Listing (next_list Bs vs) (overlay out at vs) (at + length vs) (not (is_last Bs vs))
@@ -97,7 +91,7 @@ module _ (t : List ℤ → Bool) (Bs : List Bounds) (vs₀ out₀ : List ℤ) wh
     writes h = record {
       inside = next-inside Bs vs c.inside;
       short = c.short;
-      room = omega (arith, rw (from_next Bs vs c.inside) at c.room, list_length_lem c, c.short);
+      room = omega (arith, rw (from_next Bs vs c.inside) at c.room, listing-length c, c.short);
       laid = overlay-append out at vs _ ∙ rw (from_next Bs vs c.inside, h) at c.laid;
     }
 
@@ -113,7 +107,7 @@ module _ (t : List ℤ → Bool) (Bs : List Bounds) (vs₀ out₀ : List ℤ) wh
     shorter = omega (arith, ap length (from_next Bs vs c.inside))
 
     place : length (lists_from Bs vs₀) ≤ 65536 → at + length vs ≤ 524288
-    place l = omega (arith, ap length (from_next Bs vs c.inside), c.room, list_length_lem c, c.short)
+    place l = omega (arith, ap length (from_next Bs vs c.inside), c.room, listing-length c, c.short)
 
   pub list-turn : {vs out : List ℤ} {at : ℕ} {more : Bool} → Listing vs out at more → more ≡ true → (out' : List ℤ) (at' : ℕ) →
       ((t vs ≡ true) × ((out' ≡ overlay out at vs) × (at' ≡ at + length vs))) ⊎ ((t vs ≡ false) × ((out' ≡ out) × (at' ≡ at))) →

@@ -1,18 +1,13 @@
 -- Values of 32 bits, lists of values near 0, the first list by its places.
-use mathlib.Core.Path.{◌≡◌, refl, sym, ◌∙◌}
-use mathlib.Core.List.{List, [], ◌∷◌}
-use Prim.Native.Nat.{ℕ, zero, suc, ◌+◌, ◌<◌, ◌≤◌}
-use native.Mathlib.Omega.{arith}
+use Rattle.std.proofs.Common.{◌≡◌, refl, sym, ◌∙◌, List, [], ◌∷◌, ℕ, zero, suc, ◌+◌, ◌<◌, ◌≤◌, arith, ℤ, length, get_or, set, length-set, get_or-set_same, get_or-set_other, ext_get_or}
 use native.Mathlib.Decide.{ℕ_discrete, dec_lt}
-use lib.IntN.{ℤ}
-use lib.ListN.{length, get_or, set, length-set, get_or-eq_default}
-use lib.Seq.{get_or-set_same, get_or-set_other, ext_get_or}
+use lib.ListN.{get_or-eq_default}
 use Rattle.integers.specs.Number.{+0}
 use Rattle.integers.specs.Lists.{list_of}
 use Rattle.integers.specs.Bounds.{◌to◌, bounds_in}
 use Rattle.integers.specs.declared.Bounds.{Bounds}
 use Rattle.integers.proofs.Lists.{list_of-length}
-use Rattle.integers.proofs.Places.{get_d_list_of, map-list_of}
+use Rattle.integers.proofs.Places.{get_or-list_of, map-list_of}
 use Rattle.integers.proofs.Tests.{says-within}
 use Rattle.words.specs.Small.{Near, Small}
 use Rattle.words.proofs.Word.{between-near}
@@ -45,7 +40,7 @@ module _ {ls vs₀ vs : List ℤ} {i : ℕ} (s : Setting ls vs₀ vs i) where
   set-done us l =
       rw (map-list_of (λ B. B.lower) (bounds_of ls us) (length vs₀))
       (ext_get_or +0 vs (list_of (λ k. get_or ls k +0) (length vs₀)) (s.same ∙ sym (list_of-length (λ k. get_or ls k +0) (length vs₀)))
-      (λ j h. s.done j (omega arith) (omega (arith, s.same)) ∙ sym (get_d_list_of (λ k. get_or ls k +0) (length vs₀) j +0 (omega (arith, s.same)))))
+      (λ j h. s.done j (omega arith) (omega (arith, s.same)) ∙ sym (get_or-list_of (λ k. get_or ls k +0) (length vs₀) j +0 (omega (arith, s.same)))))
 
 -- ---- values inside bounds that are near 0 are near 0
 
@@ -62,7 +57,7 @@ unfolding bounds_in
 bounds-near ls us p q n x = go (dec_lt x n)
   where
     go : Dec (x < n) → Near (get_or (bounds_to ls us n) x (+0 to +0)).lower × Near (get_or (bounds_to ls us n) x (+0 to +0)).upper
-    go (yes l) = rw (get_d_list_of (bounds_of ls us) n x (+0 to +0) l) (p x, q x)
+    go (yes l) = rw (get_or-list_of (bounds_of ls us) n x (+0 to +0) l) (p x, q x)
     go (no l) = let m : length (bounds_to ls us n) ≤ x = omega (arith, list_of-length (bounds_of ls us) n) in rw (get_or-eq_default (bounds_to ls us n) (+0 to +0) m) (omega arith, omega arith)
 
 pub inside-small : (ls us vs : List ℤ) (n : ℕ) → Small ls → Small us → AllWithin (bounds_to ls us n) vs → Small vs

@@ -55,4 +55,4 @@ unfoldable pub explanation_of : Reason → Explanation
 explanation_of (refuse n p) = record { reason = 0; fault = n; place = p; row = 0; constraint = 0 }
 explanation_of none = record { reason = 1; fault = 0; place = 0; row = 0; constraint = 0 }
 explanation_of (outside i) = record { reason = 2; fault = 0; place = i; row = 0; constraint = 0 }
-explanation_of (because k j true-of-sources) = record { reason = 4 if true-of-sources else 3; fault = 0; place = 0; row = k; constraint = j }
+explanation_of (because k j true_of_sources) = record { reason = 4 if true_of_sources else 3; fault = 0; place = 0; row = k; constraint = j }

@@ -1,15 +1,7 @@
 -- What the symbol table says stays right when a name is declared. For `number_in`, `variable_in` and `declare`.
-use mathlib.Core.Path.{◌≡◌, refl, sym, ap, ◌∙◌}
-use mathlib.Core.Logic.{◌⊎◌, inl, inr}
-use mathlib.Core.Bool.{Bool, true, false}
-use mathlib.Core.List.{List, [], ◌∷◌, append-nil}
-use Prim.Native.Nat.{ℕ, ◌+◌, ◌-◌, ◌<◌, ◌≤◌}
-use native.Mathlib.Nat.{zero-add}
-use native.Mathlib.Omega.{arith}
-use lib.Dec.{eqb, ltb}
-use lib.Seq.{get_or-set_same, get_or-set_other, set_out}
-use lib.ListN.{length, get_or, set}
-use borrow.Author.Tests.{eqb-true, eqb-false, eq-eqb, ne_eqb, ltb-true, ltb-false}
+use Rattle.std.proofs.Common.{◌≡◌, refl, sym, ap, ◌∙◌, ◌⊎◌, inl, inr, Bool, true, false, List, [], ◌∷◌, append-nil, ℕ, ◌+◌, ◌-◌, ◌<◌, ◌≤◌, zero-add, arith, eqb, ltb, get_or-set_same, get_or-set_other, length, get_or, set, eqb-true, eq-eqb, ne_eqb, ltb-true, ltb-false}
+use lib.Seq.{set_out}
+use borrow.Author.Tests.{eqb-false}
 use Rattle.integers.specs.Choice.{◌if◌else◌}
 use Rattle.integers.proofs.Tests.{false-true}
 use Rattle.tokens.specs.Unread.{bytes_between}

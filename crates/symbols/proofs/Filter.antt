@@ -1,17 +1,9 @@
 -- A Bloom filter: a mark that is set is there, and takes no other away. For `declare`. The hash of a name byte by byte. For `hash_of`.
-use mathlib.Core.Path.{◌≡◌, refl, sym, ap, ap₂, ◌∙◌}
-use mathlib.Core.Bool.{Bool, true, false}
-use mathlib.Core.List.{List}
-use Prim.Native.Nat.{ℕ, ◌+◌, ◌*◌, ◌/◌, ◌%◌, ◌<◌, ◌≤◌, max, suc-le-suc}
-use native.Mathlib.Nat.{max-le, le_of_suc-le-suc}
-use native.Mathlib.Omega.{arith}
+use Rattle.std.proofs.Common.{◌≡◌, refl, sym, ap, ap₂, ◌∙◌, Bool, true, false, List, ℕ, ◌+◌, ◌*◌, ◌/◌, ◌%◌, ◌<◌, ◌≤◌, max, suc-le-suc, le_of_suc-le-suc, arith, bit_or, eqb, add-one, length, get_or, length-set, drop, drop_of_length-le, get_or-set_same, get_or-set_other, drop-cons, eqb-true, eq-eqb}
+use native.Mathlib.Nat.{max-le}
 use lib.Arith.{bin_ind, digits_mod}
-use lib.Bits.{bit_or, or_step, or_shr, or_comm, or_self}
-use lib.Dec.{eqb}
-use native.Mathlib.Numerals.{add-one}
-use lib.ListN.{length, get_or, length-set, drop, drop_of_length-le}
-use lib.Seq.{get_or-set_same, get_or-set_other, drop-cons}
-use borrow.Author.Tests.{eqb-true, eqb-false, eq-eqb}
+use lib.Bits.{or_step, or_shr, or_comm, or_self}
+use borrow.Author.Tests.{eqb-false}
 use Rattle.symbols.specs.Hash.{hashes, filter_words, mix, hash_from, cell_at, mask_of, is_marked, with_mark}
 
 below_two : (x : ℕ) → x % 2 < 2

@@ -1,15 +1,8 @@
 -- The names declared up to the place that a reader has reached, from token to token. For `read_tokens`.
-use mathlib.Core.Path.{◌≡◌, refl, sym, ap, ◌∙◌}
-use mathlib.Core.Bool.{Bool, true, false}
-use mathlib.Core.List.{List, [], ◌∷◌, ◌++◌, append-nil, append_assoc}
-use Prim.Native.Nat.{ℕ, zero, suc, ◌+◌, ◌-◌, ◌<◌, ◌≤◌}
-use native.Mathlib.Nat.{add-zero}
-use native.Mathlib.Omega.{arith}
-use lib.Dec.{eqb}
-use lib.ListN.{replicate, length-replicate, length, take, drop, length-append}
-use borrow.Author.Tests.{lt-ltb, le-ltb}
+use Rattle.std.proofs.Common.{◌≡◌, refl, sym, ap, ◌∙◌, Bool, true, false, List, [], ◌∷◌, ◌++◌, append-nil, append_assoc, ℕ, zero, suc, ◌+◌, ◌-◌, ◌<◌, ◌≤◌, add-zero, arith, eqb, replicate, length, take, drop, length-append, lt-ltb, le-ltb}
+use lib.ListN.{length-replicate}
 use Rattle.integers.specs.Choice.{◌if◌else◌}
-use Rattle.integers.proofs.Places.{get_d_many}
+use Rattle.integers.proofs.Places.{get_or-replicate_same}
 use Rattle.tokens.specs.Byte.{is_gap}
 use Rattle.tokens.specs.Token.{tokens_from, token_length, sort_of}
 use Rattle.tokens.specs.Unread.{bytes_between, unread, spanned, Met}
@@ -108,7 +101,7 @@ empty bs m = record {
   index = record {
     size = length-replicate {A = ℕ} filter_words 0;
     marks = λ x h. absurd (h (rw (none_here false bs 0)));
-    right = record { right = λ s h. absurd (h (rw (get_d_many {A = ℕ} m s 0))) };
+    right = record { right = λ s h. absurd (h (rw (get_or-replicate_same {A = ℕ} m s 0))) };
   };
 }
 

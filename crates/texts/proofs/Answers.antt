@@ -1,9 +1,5 @@
 -- What a text answers, from what reading it token by token gives. For `read_text`.
-use mathlib.Core.Path.{◌≡◌, refl, ◌∙◌}
-use mathlib.Core.List.{List}
-use Prim.Native.Nat.{ℕ, zero, suc, ◌<◌, ◌≤◌}
-use lib.ListN.{length}
-use borrow.Author.Tests.{ne_eqb, lt-ltb, le-ltb}
+use Rattle.std.proofs.Common.{◌≡◌, refl, ◌∙◌, List, ℕ, zero, suc, ◌<◌, ◌≤◌, length, ne_eqb, lt-ltb, le-ltb}
 use Rattle.words.specs.Overlay.{overlay}
 use Rattle.words.specs.Answer.{refused, written, refused_or, ◌else_answer◌}
 use Rattle.words.specs.Refusal.{◌at_place◌, ◌else_refuse◌, fault_or, accepted, room_fault}

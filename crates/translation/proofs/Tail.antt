@@ -1,12 +1,6 @@
 -- A tail that was lent, to the end of a list, and came back with words laid over its front.
-use mathlib.Core.Path.{◌≡◌, sym, ap, ◌∙◌}
-use mathlib.Core.Bool.{false}
-use mathlib.Core.List.{List, [], ◌∷◌, ◌++◌, append-nil}
-use Prim.Native.Nat.{ℕ, suc, ◌+◌, ◌-◌, ◌≤◌}
-use native.Mathlib.Omega.{arith}
-use native.Mathlib.Nat.{add-zero}
-use lib.ListN.{length, take, drop, set, take-append-drop, length-drop}
-use lib.Seq.{take-set-le, drop-set-add, take_all, drop-length}
+use Rattle.std.proofs.Common.{◌≡◌, sym, ap, ◌∙◌, false, List, [], ◌∷◌, ◌++◌, append-nil, ℕ, suc, ◌+◌, ◌-◌, ◌≤◌, arith, add-zero, length, take, drop, set, take-append-drop, length-drop, take_all}
+use lib.Seq.{take-set-le, drop-set-add, drop-length}
 use borrow.Rule.Slice.PartMut.{put_mid, mid_of, Post-is}
 use borrow.Author.Tests.{not-false}
 use Rattle.words.specs.Overlay.{overlay}
@@ -15,7 +9,7 @@ use Rattle.rules.specs.InRange.{outside}
 use Rattle.laying.specs.Part.{block_parts}
 use Rattle.laying.specs.Appends.{AppendsFitting, nothing}
 use Rattle.laying.specs.declared.Laid.{Laid}
-use Rattle.laying.proofs.Blocks.{block_words_lem, block-outside}
+use Rattle.laying.proofs.Blocks.{words_in-block_parts, block-outside}
 
 from : (a j : ℕ) (o ws : List ℕ) → take a o ++ overlay (drop a o) j ws ≡ overlay o (a + j) ws
 unfolding overlay
@@ -34,4 +28,4 @@ tail-back a o ws h =
 pub block_back : (first : ℕ) (B : Block) (at : ℕ) (out : List ℕ) {b : Laid} {out' : List ℕ} → at ≤ length out → outside B ≡ false →
     AppendsFitting nothing b (mid_of at (length out - at) out) out' (block_parts first B) → put_mid at (length out - at) out out' ≡ overlay out at (block_words first B)
 block_back first B at out h f w =
-    ap (put_mid at (length out - at) out) (w.over (not-false _ (block-outside first B ∙ f)) ∙ ap (overlay _ 0) (block_words_lem first B)) ∙ tail-back at out (block_words first B) h
+    ap (put_mid at (length out - at) out) (w.over (not-false _ (block-outside first B ∙ f)) ∙ ap (overlay _ 0) (words_in-block_parts first B)) ∙ tail-back at out (block_words first B) h

@@ -1,13 +1,5 @@
 -- What comes after the values are judged: where there are as many as variables, each within its bounds, whatever is to be judged next.
-use mathlib.Core.Path.{◌≡◌, refl}
-use mathlib.Core.Bool.{Bool, true, false}
-use mathlib.Core.List.{List, [], ◌∷◌}
-use Prim.Native.Nat.{ℕ, zero, suc, ◌+◌}
-use native.Mathlib.Omega.{arith}
-use lib.Dec.{eqb}
-use lib.IntN.{ℤ}
-use lib.ListN.{length}
-use borrow.Author.Tests.{eqb-true}
+use Rattle.std.proofs.Common.{◌≡◌, refl, Bool, true, false, List, [], ◌∷◌, ℕ, zero, suc, ◌+◌, arith, eqb, ℤ, length, eqb-true}
 use Rattle.integers.specs.Choice.{◌if◌else◌}
 use Rattle.integers.specs.Bounds.{within}
 use Rattle.integers.specs.Terms.{Valuation, value}

@@ -1,8 +1,5 @@
 -- Counting the variables of words from place to place.
-use mathlib.Core.Path.{◌≡◌}
-use mathlib.Core.List.{List}
-use Prim.Native.Nat.{ℕ, ◌+◌, ◌≤◌}
-use lib.ListN.{length, drop}
+use Rattle.std.proofs.Common.{◌≡◌, List, ℕ, ◌+◌, ◌≤◌, length, drop}
 use Rattle.words.specs.Variables.{variables}
 
 -- n variables stand before the place

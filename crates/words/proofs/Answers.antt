@@ -1,11 +1,5 @@
 -- Refusals, one after the other, before an answer: the first one with a fault answers. And the answer "holds".
-use mathlib.Core.Path.{◌≡◌, refl}
-use mathlib.Core.Bool.{true}
-use mathlib.Core.List.{List}
-use Prim.Native.Nat.{ℕ, zero, suc}
-use lib.IntN.{ℤ}
-use lib.ListN.{length}
-use borrow.Author.Tests.{eq-eqb, ne_eqb}
+use Rattle.std.proofs.Common.{◌≡◌, refl, true, List, ℕ, zero, suc, ℤ, length, eq-eqb, ne_eqb}
 use Rattle.words.specs.Variables.{variables}
 use Rattle.words.specs.declared.Refusal.{Refusal}
 use Rattle.words.specs.Refusal.{◌at_place◌, ◌else_refuse◌, count_fault}

@@ -1,11 +1,6 @@
 -- Faults as choices: what a choice that is 0, no fault, says of its tests. For the laws of both readers.
-use mathlib.Core.Path.{◌≡◌, refl}
-use mathlib.Core.Logic.{◌⊎◌, inl, inr}
-use mathlib.Core.Bool.{Bool, true, false, not}
-use Prim.Native.Nat.{ℕ, suc}
-use native.Mathlib.Omega.{arith}
-use lib.Dec.{eqb}
-use borrow.Author.Tests.{eqb-true, not-false}
+use Rattle.std.proofs.Common.{◌≡◌, refl, ◌⊎◌, inl, inr, Bool, true, false, not, ℕ, suc, arith, eqb, eqb-true}
+use borrow.Author.Tests.{not-false}
 use Rattle.integers.specs.Choice.{◌if◌else◌}
 use Rattle.words.specs.Fault as Fault
 use Rattle.words.specs.Limit as Limit

@@ -1,12 +1,5 @@
 -- What it is that a judge says "holds": every value is within its bounds, and everything passes the test.
-use mathlib.Core.Path.{◌≡◌, refl, sym, ap, ◌∙◌}
-use mathlib.Core.Logic.{◌↔◌}
-use mathlib.Core.Bool.{Bool, true, false, ◌&&◌}
-use mathlib.Core.List.{List, [], ◌∷◌}
-use Prim.Native.Nat.{ℕ, zero, suc, ◌+◌, ◌<◌, ◌≤◌}
-use native.Mathlib.Omega.{arith}
-use native.Mathlib.Nat.{le_of_suc-le-suc, not-suc-le-zero}
-use lib.ListN.{length}
+use Rattle.std.proofs.Common.{◌≡◌, refl, sym, ap, ◌∙◌, ◌↔◌, Bool, true, false, ◌&&◌, List, [], ◌∷◌, ℕ, zero, suc, ◌+◌, ◌<◌, ◌≤◌, arith, le_of_suc-le-suc, not-suc-le-zero, length}
 use Rattle.integers.specs.Choice.{◌if◌else◌}
 use Rattle.integers.specs.Lists.{all}
 use Rattle.integers.specs.Bounds.{within, bounds_in}
@@ -34,7 +27,7 @@ first-false t k (x ∷ xs) = go (t x) (first-false t (k + 1) xs)
     go true r = r
     go false r = (λ e. absurd (not-false k e), λ e. false-true e)
 
--- the bounds from the k_th variable on
+-- the bounds from the k-th variable on
 abbrev WithinFrom : Valuation → ℕ → List Bounds → Type 0
 WithinFrom σ k Bs = (v : ℕ) → v < length Bs → within (bounds_in Bs v) (σ (k + v)) ≡ true
 

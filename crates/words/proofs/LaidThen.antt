@@ -1,6 +1,5 @@
 -- A text laid after another; no text laid.
-use mathlib.Core.List.{List, [], ◌++◌}
-use Prim.Native.Nat.{ℕ}
+use Rattle.std.proofs.Common.{List, [], ◌++◌, ℕ}
 use Rattle.words.specs.LaidAt.{LaidAt}
 use Rattle.words.proofs.Rest.{all_left, lay-part, lay-last, none_left}
 

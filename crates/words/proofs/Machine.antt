@@ -1,15 +1,10 @@
 -- What the machine's shift and its signed numbers are for kinds and payloads: for the proofs of the functions on words.
-use mathlib.Core.Path.{◌≡◌, refl, ap, sym, ◌∙◌}
-use mathlib.Core.Bool.{true, false}
-use Prim.Native.Nat.{ℕ, suc, ◌+◌, ◌-◌, ◌*◌, ◌%◌, ◌≤◌, ◌<◌}
-use native.Mathlib.Omega.{arith}
+use Rattle.std.proofs.Common.{◌≡◌, refl, ap, sym, ◌∙◌, true, false, ℕ, suc, ◌+◌, ◌-◌, ◌*◌, ◌%◌, ◌≤◌, ◌<◌, arith, ℤ, pos, negsuc, ◌-ℤ◌, w32, w64, to_z, lt-ltb, le-ltb}
 use lib.Dec.{leb-zero}
-use lib.IntN.{ℤ, pos, negsuc, ◌-ℤ◌}
 use lib.Signed.{le_z, mag}
-use mir.Syntax.{w32, w64, unsigned, shr}
-use mir.Val.{vint, op2_val, to_z}
+use mir.Syntax.{unsigned, shr}
+use mir.Val.{vint, op2_val}
 use mir.Facts.{to_z_pos}
-use borrow.Author.Tests.{lt-ltb, le-ltb}
 use Rattle.words.specs.Word.{kind, complement}
 use Rattle.integers.proofs.Tests.{false-true}
 

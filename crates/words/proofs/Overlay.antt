@@ -1,11 +1,6 @@
 -- Laws of laying a list over another one: its length, one list after another, one element at a time, the last element first; its elements and the front afterwards.
-use mathlib.Core.Path.{◌≡◌, refl, sym, ap, ◌∙◌}
-use mathlib.Core.List.{List, [], ◌∷◌, ◌++◌, append-nil, append_assoc}
-use Prim.Native.Nat.{ℕ, zero, suc, ◌+◌, ◌≤◌, ◌<◌}
-use native.Mathlib.Omega.{arith}
-use native.Mathlib.Nat.{add-zero, zero-add}
-use lib.ListN.{set, get_or, take, drop, length, length-set}
-use lib.Seq.{drop-cons, set_comm, take-suc-set, get_or-set_same, get_or-set_other}
+use Rattle.std.proofs.Common.{◌≡◌, refl, sym, ap, ◌∙◌, List, [], ◌∷◌, ◌++◌, append-nil, append_assoc, ℕ, zero, suc, ◌+◌, ◌≤◌, ◌<◌, arith, add-zero, zero-add, set, get_or, take, drop, length, length-set, drop-cons, take-suc-set, get_or-set_same, get_or-set_other}
+use lib.Seq.{set_comm}
 use Rattle.words.specs.Overlay.{overlay}
 
 module _ {A : Type 0} where
@@ -25,7 +20,7 @@ module _ {A : Type 0} where
       let e : at + suc (length xs) ≡ suc at + length xs = omega arith in
       ap (λ (n : ℕ). overlay (overlay (set out at x) (suc at) xs) n ys) e ∙ overlay-append (set out at x) (suc at) xs ys
 
-  -- the rest of xs from its i_th on: that one, then the rest
+  -- the rest of xs from its i-th on: that one, then the rest
   pub overlay-step : (d : A) (out : List A) (at : ℕ) (xs : List A) (i : ℕ) → i < length xs →
       overlay out (at + i) (drop i xs) ≡ overlay (set out (at + i) (get_or xs i d)) (at + (i + 1)) (drop (i + 1) xs)
   unfolding overlay

@@ -1,12 +1,7 @@
 -- The range of 02: fault 18 is found at the lowest 28-bit number alone, and every number of the range has its opposite there.
 -- For both readers, and for those who negate on loading.
-use mathlib.Core.Path.{◌≡◌, refl, sym, ap, ◌∙◌}
-use mathlib.Core.Bool.{Bool, true, false, not, ◌||◌}
-use Prim.Native.Nat.{ℕ, ◌-◌, ◌%◌}
-use native.Mathlib.Omega.{arith}
-use lib.Dec.{ltb, eqb}
-use lib.IntN.{ℤ, pos, negsuc}
-use borrow.Author.Tests.{ltb-true, ltb-false, eqb-true, eqb-false, not-false}
+use Rattle.std.proofs.Common.{◌≡◌, refl, sym, ap, ◌∙◌, Bool, true, false, not, ◌||◌, ℕ, ◌-◌, ◌%◌, arith, ltb, eqb, ℤ, pos, negsuc, ltb-true, ltb-false, eqb-true}
+use borrow.Author.Tests.{eqb-false, not-false}
 use Rattle.integers.specs.Choice.{◌if◌else◌}
 use Rattle.integers.specs.Number.{neg}
 use Rattle.integers.specs.Bounds.{within}

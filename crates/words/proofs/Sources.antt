@@ -1,8 +1,5 @@
 -- The words of source variables, with the bounds that they declare, ordered and in the range: what models begin with, and what translate copies into row systems.
-use mathlib.Core.Path.{◌≡◌}
-use mathlib.Core.Bool.{true}
-use mathlib.Core.List.{List, [], ◌∷◌}
-use Prim.Native.Nat.{ℕ}
+use Rattle.std.proofs.Common.{◌≡◌, true, List, [], ◌∷◌, ℕ}
 use Rattle.integers.specs.Bounds.{◌to◌, bit}
 use Rattle.integers.specs.declared.Bounds.{Bounds}
 use Rattle.integers.proofs.Linear.{◌⊑◌}

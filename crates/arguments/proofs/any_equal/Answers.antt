@@ -1,5 +1,5 @@
 -- The count is above 0.
-use mir.Facts.{to_z-of_z}
+use Rattle.std.proofs.Common.{to_z-of_z}
 use Rattle.integers.proofs.Places.{any-count}
 use Rattle.arguments.proofs.any_equal.Goals as goal
 

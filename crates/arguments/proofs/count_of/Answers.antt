@@ -1,10 +1,6 @@
 -- A number that is not negative is its own count.
-use mathlib.Core.Path.{◌≡◌, sym, ◌∙◌}
-use lib.IntN.{pos}
+use Rattle.std.proofs.Common.{◌≡◌, sym, ◌∙◌, pos, w64, to_z, of_z, to_z-of_z}
 use lib.Signed.{mag}
-use mir.Syntax.{w64}
-use mir.Val.{to_z, of_z}
-use mir.Facts.{to_z-of_z}
 use Rattle.words.proofs.Machine.{from_zero}
 use Rattle.arguments.proofs.Size.{count-from, count-below}
 use Rattle.arguments.proofs.count_of.Goals.{Then-v-ge0}

@@ -1,5 +1,6 @@
 -- The code tests as the definition does.
-use borrow.Author.Tests.{le-leb, lt-leb}
+use Rattle.std.proofs.Common.{le-leb}
+use borrow.Author.Tests.{lt-leb}
 use Rattle.models.specs.Model.{exponent_at}
 use Rattle.arguments.proofs.exponent_at.Goals as goal
 

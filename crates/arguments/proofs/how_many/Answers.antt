@@ -1,7 +1,4 @@
-use mathlib.Core.Path.{◌≡◌, refl, ◌∙◌}
-use native.Mathlib.Omega.{arith}
-use mir.Facts.{to_z-of_z}
-use borrow.Author.Rules.{rules}
+use Rattle.std.proofs.Common.{◌≡◌, refl, ◌∙◌, arith, to_z-of_z, rules}
 use Rattle.integers.specs.Lists.{list_of, how_many}
 use Rattle.integers.proofs.Places.{how_many-more}
 use Rattle.integers.proofs.Booleans.{bit_le}

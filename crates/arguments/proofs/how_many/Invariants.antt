@@ -1,6 +1,5 @@
 -- The loop's invariant: what is found is the count over the places passed.
-use mathlib.Core.Path.{◌≡◌}
-use Prim.Native.Nat.{◌+◌, ◌-◌, ◌≤◌}
+use Rattle.std.proofs.Common.{◌≡◌, ◌+◌, ◌-◌, ◌≤◌}
 use Rattle.integers.specs.Number.{◌≟◌}
 use Rattle.integers.specs.Lists.{list_of, how_many}
 use Rattle.integers.specs.Terms.{value}

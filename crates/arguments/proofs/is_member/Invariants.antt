@@ -1,6 +1,5 @@
 -- The loop's invariant: the test so far is that over the places passed.
-use mathlib.Core.Path.{◌≡◌}
-use Prim.Native.Nat.{◌+◌, ◌-◌, ◌≤◌}
+use Rattle.std.proofs.Common.{◌≡◌, ◌+◌, ◌-◌, ◌≤◌}
 use Rattle.integers.specs.Number.{◌≟◌}
 use Rattle.integers.specs.Lists.{list_of, any}
 use Rattle.models.specs.Model.{num}

@@ -1,5 +1,5 @@
 -- The test of the value that is read.
-use mathlib.Core.Path.{◌∙◌}
+use Rattle.std.proofs.Common.{◌∙◌}
 use Rattle.models.specs.Meaning.{on}
 use Rattle.arguments.proofs.Size.{read}
 use Rattle.arguments.proofs.is_on.Goals as goal

@@ -1,5 +1,5 @@
 -- The signed payload of the word that is read.
-use mathlib.Core.Path.{◌∙◌}
+use Rattle.std.proofs.Common.{◌∙◌}
 use Rattle.models.specs.Model.{num}
 use Rattle.arguments.proofs.Size.{read}
 use Rattle.arguments.proofs.num_at.Goals as goal

@@ -1,5 +1,5 @@
 -- A list has at most 32 elements, so the place fits.
-use native.Mathlib.Omega.{arith}
+use Rattle.std.proofs.Common.{arith}
 use Rattle.models.specs.Model.{past}
 use Rattle.arguments.proofs.Size.{size-le}
 use Rattle.arguments.proofs.past_at.Goals as goal

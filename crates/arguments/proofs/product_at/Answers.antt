@@ -1,9 +1,5 @@
 -- The product of a number and a small value is at most 2^54.
-use mathlib.Core.Path.{◌≡◌, ap}
-use native.Mathlib.Omega.{arith}
-use lib.IntN.{nat_abs}
-use mir.Syntax.{w64}
-use mir.Val.{to_z, of_z}
+use Rattle.std.proofs.Common.{◌≡◌, ap, arith, nat_abs, w64, to_z, of_z}
 use Rattle.integers.specs.Number.{◌⊗◌}
 use Rattle.integers.specs.Terms.{value}
 use Rattle.integers.proofs.Fits.{times-size}

@@ -1,10 +1,4 @@
-use mathlib.Core.Path.{◌≡◌, refl, ap, ◌∙◌}
-use Prim.Native.Nat.{◌+◌, ◌≤◌}
-use native.Mathlib.Omega.{arith}
-use lib.IntN.{nat_abs}
-use mir.Syntax.{w64}
-use mir.Val.{to_z, of_z}
-use borrow.Author.Rules.{rules}
+use Rattle.std.proofs.Common.{◌≡◌, refl, ap, ◌∙◌, ◌+◌, ◌≤◌, arith, nat_abs, w64, to_z, of_z, rules}
 use Rattle.integers.specs.Number.{◌⊕◌, ◌⊗◌}
 use Rattle.integers.specs.Lists.{list_of}
 use Rattle.integers.specs.Terms.{value, sum}

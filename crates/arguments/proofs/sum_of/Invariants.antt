@@ -1,7 +1,5 @@
 -- The loop's invariant: the total is the sum over the places passed, and at most 2^54 for each.
-use mathlib.Core.Path.{◌≡◌}
-use Prim.Native.Nat.{◌+◌, ◌*◌, ◌-◌, ◌≤◌}
-use lib.IntN.{nat_abs}
+use Rattle.std.proofs.Common.{◌≡◌, ◌+◌, ◌*◌, ◌-◌, ◌≤◌, nat_abs}
 use Rattle.integers.specs.Lists.{list_of}
 use Rattle.integers.specs.Terms.{◌·◌, value, sum}
 use Rattle.models.specs.Model.{var, num}

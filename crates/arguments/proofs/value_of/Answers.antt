@@ -1,5 +1,5 @@
 -- The value of the variable that is read.
-use mathlib.Core.Path.{◌∙◌}
+use Rattle.std.proofs.Common.{◌∙◌}
 use Rattle.arguments.proofs.Size.{read}
 use Rattle.arguments.proofs.value_of.Goals as goal
 

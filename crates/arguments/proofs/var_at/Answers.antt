@@ -1,5 +1,5 @@
 -- The payload of the word that is read.
-use mathlib.Core.Path.{◌∙◌}
+use Rattle.std.proofs.Common.{◌∙◌}
 use Rattle.models.specs.Model.{var}
 use Rattle.arguments.proofs.var_at.Goals as goal
 

@@ -1,6 +1,4 @@
-use mathlib.Core.Path.{refl, sym, ◌∙◌}
-use native.Mathlib.Omega.{arith}
-use lib.ListN.{get_or}
+use Rattle.std.proofs.Common.{sym, ◌∙◌, arith, get_or}
 use Rattle.integers.proofs.Fits.{back}
 use Rattle.integers.proofs.Places.{rest_more, rest-not, rest_end}
 use Rattle.integers.specs.Number.{+0}

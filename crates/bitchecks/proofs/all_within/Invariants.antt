@@ -1,8 +1,6 @@
 -- The loop's invariant: all numbers fit exactly if those not passed do.
-use mathlib.Core.Path.{◌≡◌}
-use Prim.Native.Nat.{◌-◌, ◌≤◌}
+use Rattle.std.proofs.Common.{◌≡◌, ◌-◌, ◌≤◌, length, drop}
 use Rattle.integers.specs.Lists.{all}
-use lib.ListN.{length, drop}
 use Rattle.bitchecks.proofs.Limits.{fits}
 use Rattle.bitchecks.proofs.all_within.Given as goal
 

@@ -1,7 +1,5 @@
 -- The constant is tested, then the numbers of the row over bits.
-use mathlib.Core.Path.{◌≡◌, sym, ◌∙◌}
-use native.Mathlib.Omega.{arith}
-use lib.IntN.{pos}
+use Rattle.std.proofs.Common.{◌≡◌, sym, ◌∙◌, arith, pos}
 use Rattle.integers.proofs.Fits.{back, mul-le}
 use Rattle.bittables.specs.BitTables.{row_by}
 use Rattle.bitfilling.proofs.Filling.{limit_size}

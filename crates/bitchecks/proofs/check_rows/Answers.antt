@@ -1,7 +1,4 @@
-use mathlib.Core.Path.{sym, ◌∙◌}
-use Prim.Native.Nat.{◌+◌}
-use native.Mathlib.Omega.{arith}
-use borrow.Author.Rules.{rules}
+use Rattle.std.proofs.Common.{sym, ◌∙◌, ◌+◌, arith, rules}
 use borrow.Author.Tests.{not-true, not-false}
 use Rattle.integers.proofs.Fits.{back}
 use Rattle.integers.proofs.Tests.{false-true}

@@ -1,6 +1,5 @@
 -- The invariant is `Checking`: what the rows left make of the tests and of the sum.
-use Prim.Native.Nat.{◌-◌}
-use lib.ListN.{length}
+use Rattle.std.proofs.Common.{◌-◌, length}
 use Rattle.bitchecks.proofs.Rows.{Checking}
 use Rattle.bitchecks.proofs.check_rows.Given as goal
 

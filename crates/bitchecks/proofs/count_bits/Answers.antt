@@ -1,7 +1,6 @@
-use mathlib.Core.Path.{sym, ◌∙◌}
-use Prim.Native.Nat.{◌+◌}
+use Rattle.std.proofs.Common.{sym, ◌∙◌, ◌+◌}
 use Rattle.words.proofs.Reading.{tail-is}
-use Rattle.bitchecks.proofs.Walk.{counting_begun, counting_none, counting_one, counting_done}
+use Rattle.bitchecks.proofs.Walk.{counting_none, counting_one, counting_done}
 use Rattle.bitchecks.proofs.count_bits.Goals as goal
 
 pub loop-at-preserved-then-starts_row : goal.loop-at-preserved-then-starts_row

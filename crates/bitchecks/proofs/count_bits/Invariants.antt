@@ -1,6 +1,5 @@
 -- The invariant is `Counting`: the bits of the rows left are still to be counted.
-use Prim.Native.Nat.{◌-◌}
-use lib.ListN.{length}
+use Rattle.std.proofs.Common.{◌-◌, length}
 use Rattle.bitchecks.proofs.Walk.{Counting}
 use Rattle.bitchecks.proofs.count_bits.Given as goal
 

@@ -1,5 +1,5 @@
 -- By the two tests.
-use mir.Facts.{to_z-of_z}
+use Rattle.std.proofs.Common.{to_z-of_z}
 use Rattle.bitchecks.proofs.Limits.{below_limit, above_limit}
 use Rattle.bitchecks.proofs.within_limit.Goals as goal
 

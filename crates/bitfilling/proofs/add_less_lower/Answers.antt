@@ -1,6 +1,5 @@
 -- A lower bound's opposite is as near to 0 as the bound.
-use native.Mathlib.Omega.{arith}
-use lib.ListN.{get_or}
+use Rattle.std.proofs.Common.{arith, get_or}
 use Rattle.integers.specs.Number.{+0}
 use Rattle.integers.proofs.Fits.{neg-size}
 use Rattle.arguments.proofs.Size.{read}

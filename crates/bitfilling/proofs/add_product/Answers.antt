@@ -1,7 +1,5 @@
 -- The four parts of the product's terms, one after another; each grows the row by at most 2^55.
-use mathlib.Core.Path.{◌∙◌}
-use native.Mathlib.Omega.{arith}
-use borrow.Author.Rules.{rules}
+use Rattle.std.proofs.Common.{◌∙◌}
 use Rattle.bitfilling.proofs.Filling.{product-added}
 use Rattle.bitfilling.proofs.add_product.Goals as goal
 

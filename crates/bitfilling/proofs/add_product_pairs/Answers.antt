@@ -1,6 +1,5 @@
 -- By the first bits and the numbers of bits of both factors.
-use Prim.Native.Nat.{◌*◌, ◌≤◌}
-use native.Mathlib.Omega.{arith}
+use Rattle.std.proofs.Common.{◌*◌, ◌≤◌, arith}
 use Rattle.integers.proofs.Fits.{mul-le}
 use Rattle.bitlines.specs.Sizes as Size
 use Rattle.bitfilling.specs.Added.{product_pairs}

@@ -1,8 +1,6 @@
 -- The square, and for a product what its products of bits add.
-use mathlib.Core.Path.{refl, sym, ap, ap₂, ◌∙◌}
+use Rattle.std.proofs.Common.{refl, sym, ap, ap₂, ◌∙◌, arith, eq-eqb, ne_eqb}
 use mathlib.Core.List.{flat_map}
-use native.Mathlib.Omega.{arith}
-use borrow.Author.Tests.{eq-eqb, ne_eqb}
 use Rattle.extremes.specs.BoundLists.{bounds_of}
 use Rattle.bitforms.specs.BitRow.{bit_row}
 use Rattle.bitlines.specs.Dense.{add_terms}

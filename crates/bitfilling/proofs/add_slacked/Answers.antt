@@ -1,6 +1,5 @@
 -- The terms, then the slack's weights; the row stays below 2^63.
-use mathlib.Core.Path.{◌∙◌}
-use native.Mathlib.Omega.{arith}
+use Rattle.std.proofs.Common.{◌∙◌}
 use Rattle.bitfilling.proofs.Filling.{slacked_added}
 use Rattle.bitfilling.proofs.add_slacked.Goals as goal
 

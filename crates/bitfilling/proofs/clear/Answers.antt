@@ -1,4 +1,4 @@
-use Rattle.bitfilling.proofs.Filling.{cleared_begun, cleared_more, cleared_done}
+use Rattle.bitfilling.proofs.Filling.{cleared_done}
 use Rattle.bitfilling.proofs.clear.Goals as goal
 
 pub returns : goal.returns

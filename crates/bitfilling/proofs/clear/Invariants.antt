@@ -1,6 +1,5 @@
 -- The invariant: the numbers before the place are 0.
-use Prim.Native.Nat.{◌-◌}
-use lib.ListN.{length}
+use Rattle.std.proofs.Common.{◌-◌, length}
 use Rattle.bitfilling.proofs.Filling.{Cleared}
 use Rattle.bitfilling.proofs.clear.Given as goal
 

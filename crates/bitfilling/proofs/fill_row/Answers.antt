@@ -1,8 +1,5 @@
 -- By the kind of the head, from a list of zeros.
-use mathlib.Core.Path.{sym, ◌∙◌}
-use native.Mathlib.Omega.{arith}
-use lib.ListN.{length}
-use borrow.Author.Tests.{eq-eqb, ne_eqb}
+use Rattle.std.proofs.Common.{sym, ◌∙◌, arith, length, eq-eqb, ne_eqb}
 use Rattle.rowsystems.specs.RowSystem.{terms_in, constant_in}
 use Rattle.rowsystems.proofs.Sizes.{count-few}
 use Rattle.bitrows.proofs.Constant.{row_at_most, row-equal, row-product}

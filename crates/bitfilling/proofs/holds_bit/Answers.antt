@@ -1,7 +1,5 @@
 -- By the row's own bits, then by the kind of the head.
-use mathlib.Core.Path.{sym, ◌∙◌}
-use borrow.Author.Tests.{eq-eqb, ne_eqb}
-use Rattle.integers.proofs.Tests.{false-true}
+use Rattle.std.proofs.Common.{sym, ◌∙◌, eq-eqb, ne_eqb}
 use Rattle.rowsystems.proofs.Sizes.{count-few}
 use Rattle.bitrows.proofs.Constant.{row_at_most, row-equal, row-product}
 use Rattle.bitfilling.specs.Idle.{IdleRow}

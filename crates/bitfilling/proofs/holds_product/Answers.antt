@@ -1,6 +1,4 @@
 -- By the three variables.
-use mathlib.Core.Path.{sym}
-use Rattle.integers.proofs.Tests.{false-true}
 use Rattle.bitfilling.specs.Idle.{IdleRow}
 use Rattle.bitfilling.proofs.holds_product.Goals as goal
 

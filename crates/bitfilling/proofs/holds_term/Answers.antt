@@ -1,6 +1,5 @@
 -- A coefficient of 0, or the variable's bits.
-use mathlib.Core.Path.{sym, ◌∙◌}
-use mathlib.Core.Logic.{inl, inr}
+use Rattle.std.proofs.Common.{sym, ◌∙◌, inl, inr}
 use Rattle.integers.proofs.Tests.{says-equal}
 use Rattle.arguments.proofs.Size.{read}
 use Rattle.bitfilling.proofs.holds_term.Goals as goal

@@ -1,6 +1,4 @@
-use mathlib.Core.Path.{sym}
-use native.Mathlib.Omega.{arith}
-use Rattle.integers.proofs.Tests.{false-true}
+use Rattle.std.proofs.Common.{arith}
 use Rattle.bitfilling.specs.Idle.{NoBitOf, IdleRow}
 use Rattle.bitfilling.proofs.Idle.{idle_more, idle_terms}
 use Rattle.bitfilling.proofs.holds_terms.Goals as goal

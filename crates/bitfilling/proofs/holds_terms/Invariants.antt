@@ -1,5 +1,5 @@
 -- The invariant: no term passed has the bit.
-use Prim.Native.Nat.{ℕ, ◌-◌, ◌<◌, ◌≤◌}
+use Rattle.std.proofs.Common.{ℕ, ◌-◌, ◌<◌, ◌≤◌}
 use Rattle.bitrows.specs.Terms.{term_in}
 use Rattle.bitfilling.specs.Idle.{NoBitOf, Idle}
 use Rattle.bitfilling.proofs.holds_terms.Given as goal

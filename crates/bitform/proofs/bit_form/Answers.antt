@@ -1,5 +1,5 @@
 -- The reader's fault, or what comes after; and what the words say.
-use mathlib.Core.Path.{sym, ap, ◌∙◌}
+use Rattle.std.proofs.Common.{sym, ap, ◌∙◌}
 use Rattle.bitsharing.proofs.Written.{shares_of}
 use Rattle.words.specs.Written.{wrote}
 use Rattle.bitform.proofs.Answers.{stands}

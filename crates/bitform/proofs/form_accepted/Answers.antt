@@ -1,7 +1,5 @@
 -- The lists of the variables' bits are those of the row system.
-use mathlib.Core.Path.{sym, ap}
-use native.Mathlib.Omega.{arith}
-use lib.Seq.{length-take-le}
+use Rattle.std.proofs.Common.{ap, arith, length-take-le}
 use Rattle.rowsystems.proofs.Sizes.{few_words}
 use Rattle.bitform.proofs.Answers.{too_many}
 use Rattle.bitform.proofs.Accepted.{bounds-kept, all-kept, counting_needs, counted_is, listed_kept}

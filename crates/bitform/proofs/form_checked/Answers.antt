@@ -1,8 +1,5 @@
 -- A row or the constant that does not fit, or what the lines give.
-use mathlib.Core.Path.{◌≡◌, sym, ◌∙◌}
-use mathlib.Core.Bool.{true}
-use native.Mathlib.Omega.{arith}
-use borrow.Author.Rules.{rules}
+use Rattle.std.proofs.Common.{◌≡◌, sym, ◌∙◌, true, arith, rules}
 use borrow.Author.Tests.{not-true, not-false}
 use Rattle.integers.specs.Lists.{all}
 use Rattle.integers.proofs.Fits.{back}
@@ -41,5 +38,5 @@ form_lines-requires c =
     let e = constant (goal.at.form_lines-requires c).After-check_rows-checked y in
     record {
       bits_listed = (c.requires.0, record { line_size = search rules; row_size = search rules; few = c.requires.0.few });
-      ws_value = (rw c.requires.0.count (fits (goal.at.form_lines-requires c).After-check_rows-checked ∙ y), b ∙ e, rw b (sym (rw b at c.in_range.ensures) ∙ c.if-not-in_range.false));
+      fitting = (rw c.requires.0.count (fits (goal.at.form_lines-requires c).After-check_rows-checked ∙ y), b ∙ e, rw b (sym (rw b at c.in_range.ensures) ∙ c.if-not-in_range.false));
     }

@@ -1,9 +1,5 @@
 -- An entry outside the range, a short output, or the words.
-use mathlib.Core.Path.{◌≡◌, sym, ◌∙◌}
-use mathlib.Core.Bool.{true}
-use native.Mathlib.Omega.{arith}
-use mir.Facts.{to_z-of_z}
-use borrow.Author.Rules.{rules}
+use Rattle.std.proofs.Common.{◌≡◌, sym, ◌∙◌, true, arith, to_z-of_z, rules}
 use borrow.Author.Tests.{not-true, not-false}
 use Rattle.bitforms.specs.FormAnswer.{form_fits}
 use Rattle.words.specs.Written.{wrote}
@@ -14,7 +10,7 @@ use Rattle.bitform.proofs.form_lines.Goals as goal
 
 fits : (c : After-put_lines-counted) → form_fits c.args.ws.now ≡ c.put_lines-counted.result.fits
 fits c =
-    fits_by c.args.ws.now {a = true} {b = true} (rw (← c.requires.bits_listed.0.count) c.requires.ws_value.0) (rw (← c.requires.ws_value.1) c.requires.ws_value.2) (sym (rw (c.requires.bits_listed.0.rows_are, c.requires.bits_listed.0.count) at c.put_lines-counted.ensures.tested))
+    fits_by c.args.ws.now {a = true} {b = true} (rw (← c.requires.bits_listed.0.count) c.requires.fitting.0) (rw (← c.requires.fitting.1) c.requires.fitting.2) (sym (rw (c.requires.bits_listed.0.rows_are, c.requires.bits_listed.0.count) at c.put_lines-counted.ensures.tested))
 
 pub returns-then-not-counted : goal.returns-then-not-counted
 returns-then-not-counted c =
@@ -29,7 +25,7 @@ returns-then-out-end c =
 pub write_form-requires : goal.write_form-requires
 write_form-requires c =
     let y = not-false _ c.if-not-counted.false in
-    (c.requires.bits_listed.0, record { line_size = search rules; row_size = search rules; few = c.requires.bits_listed.0.few }, rw (to_z-of_z c.ranges.c) c.requires.ws_value.1, fits (goal.at.write_form-requires c).After-put_lines-counted ∙ y)
+    (c.requires.bits_listed.0, record { line_size = search rules; row_size = search rules; few = c.requires.bits_listed.0.few }, rw (to_z-of_z c.ranges.c) c.requires.fitting.1, fits (goal.at.write_form-requires c).After-put_lines-counted ∙ y)
 
 pub returns : goal.returns
 unfolding wrote

@@ -1,5 +1,5 @@
 -- By definition.
-use mathlib.Core.Path.{refl}
+use Rattle.std.proofs.Common.{refl}
 use Rattle.words.specs.Written.{wrote}
 use Rattle.bitform.proofs.refuse.Goals as goal
 

@@ -1,8 +1,5 @@
 -- The constant, the lines, the end.
-use mathlib.Core.Path.{◌≡◌, ◌∙◌}
-use mathlib.Core.Bool.{true}
-use native.Mathlib.Omega.{arith}
-use mir.Facts.{to_z-of_z}
+use Rattle.std.proofs.Common.{◌≡◌, ◌∙◌, true, arith, to_z-of_z}
 use Rattle.words.specs.LaidAt.{LaidAt}
 use Rattle.bitforms.specs.BitForm.{bit_rows_of, bit_count}
 use Rattle.bitforms.specs.Matrix.{entry_of}

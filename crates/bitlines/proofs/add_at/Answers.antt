@@ -1,9 +1,6 @@
 -- Past its end the list stays as it is.
-use mathlib.Core.Path.{refl, sym}
-use native.Mathlib.Omega.{arith}
-use lib.ListN.{get_or}
+use Rattle.std.proofs.Common.{refl, sym, arith, get_or, to_z-of_z}
 use lib.Seq.{set_out}
-use mir.Facts.{to_z-of_z}
 use Rattle.integers.specs.Number.{+0}
 use Rattle.integers.proofs.Fits.{back}
 use Rattle.bitlines.specs.Dense.{bump}

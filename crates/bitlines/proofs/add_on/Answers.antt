@@ -1,8 +1,5 @@
 -- Nothing is added where i is not the lesser one.
-use mathlib.Core.Path.{refl, sym, ◌∙◌}
-use Prim.Native.Nat.{min}
-use mir.Facts.{to_z-of_z}
-use borrow.Author.Tests.{eq-eqb, ne_eqb}
+use Rattle.std.proofs.Common.{refl, sym, ◌∙◌, min, to_z-of_z, eq-eqb, ne_eqb}
 use Rattle.bitlines.specs.Dense.{add_terms}
 use Rattle.bitlines.specs.Line.{on_terms}
 use Rattle.bitlines.proofs.add_on.Goals as goal

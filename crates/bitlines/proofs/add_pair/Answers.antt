@@ -1,7 +1,5 @@
 -- Four entries, each at most 3 more.
-use mathlib.Core.Path.{◌∙◌}
-use native.Mathlib.Omega.{arith}
-use lib.IntN.{pos}
+use Rattle.std.proofs.Common.{◌∙◌, arith, pos}
 use Rattle.integers.specs.Number.{+1, -2}
 use Rattle.bitlines.specs.Dense.{add_terms}
 use Rattle.bitlines.specs.Line.{on_terms, pair_of}

@@ -1,13 +1,6 @@
-use mathlib.Core.Path.{◌≡◌, refl, ap, ◌∙◌}
-use Prim.Native.Nat.{◌+◌}
-use native.Mathlib.Omega.{arith}
-use lib.ListN.{length}
-use mir.Syntax.{w64}
-use mir.Val.{to_z, of_z}
-use mir.Facts.{to_z-of_z}
+use Rattle.std.proofs.Common.{◌≡◌, refl, ◌∙◌, ◌+◌, arith, w64, to_z, of_z, to_z-of_z}
 use Rattle.integers.proofs.Fits.{back}
 use Rattle.bitlines.specs.Line.{square_at}
-use Rattle.bitlines.proofs.Dense.{add-length}
 use Rattle.bitlines.proofs.Line.{squared-begun, squared-more, square-size}
 use Rattle.bitlines.proofs.add_square.Goals.{After-square_at}
 use Rattle.bitlines.proofs.add_square.Goals as goal

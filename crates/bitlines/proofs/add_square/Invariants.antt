@@ -1,5 +1,5 @@
 -- The loop's invariant is `Squared`: the line holds the entries of the bits passed.
-use Prim.Native.Nat.{◌-◌}
+use Rattle.std.proofs.Common.{◌-◌}
 use Rattle.bitlines.proofs.Line.{Squared}
 use Rattle.bitlines.proofs.add_square.Given as goal
 

@@ -1,13 +1,8 @@
-use mathlib.Core.Path.{◌≡◌, ap, ◌∙◌}
-use Prim.Native.Nat.{◌<◌, min}
-use native.Mathlib.Omega.{arith}
-use lib.IntN.{pos}
-use mir.Syntax.{w64}
-use mir.Val.{to_z, of_z}
-use mir.Facts.{to_z-of_z, to_z_pos}
+use Rattle.std.proofs.Common.{◌≡◌, ap, ◌∙◌, ◌<◌, min, arith, pos, w64, to_z, of_z, to_z-of_z}
+use mir.Facts.{to_z_pos}
 use Rattle.integers.specs.Number.{◌⊗◌}
-use Rattle.integers.proofs.Fits.{back, fits64}
-use Rattle.bitlines.proofs.Dense.{begun, more, done, weight-fits, add-length}
+use Rattle.integers.proofs.Fits.{back}
+use Rattle.bitlines.proofs.Dense.{begun, more, done, weight-fits}
 use Rattle.bitlines.proofs.add_weights.Goals.{After-lesser-w, After-times}
 use Rattle.bitlines.proofs.add_weights.Goals as goal
 

@@ -1,6 +1,5 @@
 -- The loop's invariant is `Adding`: what is still to be added makes the row whole.
-use Prim.Native.Nat.{◌+◌}
-use lib.ListN.{length}
+use Rattle.std.proofs.Common.{◌+◌, length}
 use Rattle.bitforms.specs.Weights.{weights}
 use Rattle.bitforms.specs.OverBits.{weighted_bits, scaled}
 use Rattle.bitlines.specs.Dense.{add_terms}

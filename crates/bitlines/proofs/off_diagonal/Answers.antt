@@ -1,7 +1,5 @@
 -- The products of numbers up to 16,384 fit.
-use mathlib.Core.Path.{refl, ◌∙◌}
-use native.Mathlib.Omega.{arith}
-use mir.Facts.{to_z-of_z}
+use Rattle.std.proofs.Common.{to_z-of_z}
 use Rattle.integers.proofs.Fits.{back}
 use Rattle.bitlines.proofs.Line.{twice-product}
 use Rattle.bitlines.proofs.off_diagonal.Goals as goal

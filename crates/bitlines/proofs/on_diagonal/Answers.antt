@@ -1,8 +1,6 @@
 -- The products of numbers up to 16,384 fit.
-use mathlib.Core.Path.{refl, ◌∙◌}
-use native.Mathlib.Omega.{arith}
-use mir.Facts.{to_z-of_z}
-use Rattle.integers.proofs.Fits.{back, mul-le}
+use Rattle.std.proofs.Common.{to_z-of_z}
+use Rattle.integers.proofs.Fits.{back}
 use Rattle.bitlines.proofs.Line.{twice-product, diagonal-size}
 use Rattle.bitlines.proofs.on_diagonal.Goals as goal
 

@@ -1,6 +1,5 @@
 -- No words for 0, else three.
-use mathlib.Core.Path.{refl, sym, ◌∙◌}
-use mir.Facts.{to_z-of_z}
+use Rattle.std.proofs.Common.{refl, sym, ◌∙◌, to_z-of_z}
 use Rattle.bitlines.proofs.Writing.{laid-zero, laid-entry}
 use Rattle.bitlines.proofs.put_entry.Goals as goal
 

@@ -1,8 +1,4 @@
-use mathlib.Core.Path.{◌≡◌, ap, ◌∙◌}
-use native.Mathlib.Omega.{arith}
-use lib.ListN.{length}
 use Rattle.integers.proofs.Fits.{back}
-use Rattle.words.proofs.Overlay.{length-overlay}
 use Rattle.bitlines.proofs.Writing.{writing-begun, writing_more}
 use Rattle.bitlines.proofs.put_line.Goals as goal
 

@@ -1,5 +1,5 @@
 -- The loop's invariant is `Writing`: the entries of the bits passed are written.
-use Prim.Native.Nat.{◌-◌}
+use Rattle.std.proofs.Common.{◌-◌}
 use Rattle.bitlines.proofs.Writing.{Writing}
 use Rattle.bitlines.proofs.put_line.Given as goal
 

@@ -1,9 +1,6 @@
 -- Every number of the row is at most 16,384.
-use mathlib.Core.Path.{refl, ◌∙◌}
-use native.Mathlib.Omega.{arith}
-use mir.Facts.{to_z-of_z}
+use Rattle.std.proofs.Common.{refl, ◌∙◌, arith, to_z-of_z, eq-eqb, ne_eqb}
 use Rattle.integers.proofs.Fits.{back}
-use borrow.Author.Tests.{eq-eqb, ne_eqb}
 use Rattle.bitlines.specs.Line.{square_at}
 use Rattle.bitlines.proofs.Dense.{peak-at}
 use Rattle.bitlines.proofs.square_at.Goals as goal

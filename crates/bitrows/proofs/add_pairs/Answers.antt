@@ -1,10 +1,3 @@
-use mathlib.Core.Path.{◌≡◌, ap, ◌∙◌}
-use Prim.Native.Nat.{◌≤◌}
-use native.Mathlib.Omega.{arith}
-use lib.ListN.{length}
-use Rattle.integers.proofs.Fits.{mul-le}
-use Rattle.words.specs.Limit as Limit
-use Rattle.bitlines.proofs.Dense.{add-length}
 use Rattle.bitrows.proofs.Pairs.{gridding_begun, gridding_more}
 use Rattle.bitrows.proofs.add_pairs.Goals as goal
 

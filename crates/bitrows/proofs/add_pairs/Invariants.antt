@@ -1,5 +1,5 @@
 -- The loop's invariant is `Gridding`: the pairs of the first factor's bits passed are added.
-use Prim.Native.Nat.{◌-◌}
+use Rattle.std.proofs.Common.{◌-◌}
 use Rattle.bitrows.proofs.Pairs.{Gridding}
 use Rattle.bitrows.proofs.add_pairs.Given as goal
 

@@ -1,7 +1,3 @@
-use mathlib.Core.Path.{◌≡◌, ap, ◌∙◌}
-use native.Mathlib.Omega.{arith}
-use lib.ListN.{length}
-use Rattle.bitlines.proofs.Dense.{add-length}
 use Rattle.bitrows.proofs.Pairs.{pairing_begun, pairing_more}
 use Rattle.bitrows.proofs.add_pairs_with.Goals as goal
 

@@ -1,5 +1,5 @@
 -- The loop's invariant is `Pairing`: the pairs passed are added.
-use Prim.Native.Nat.{◌-◌}
+use Rattle.std.proofs.Common.{◌-◌}
 use Rattle.bitrows.proofs.Pairs.{Pairing}
 use Rattle.bitrows.proofs.add_pairs_with.Given as goal
 

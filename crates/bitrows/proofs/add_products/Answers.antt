@@ -1,13 +1,7 @@
-use mathlib.Core.Path.{◌≡◌, ap, ◌∙◌}
-use Prim.Native.Nat.{◌<◌, min}
-use native.Mathlib.Omega.{arith}
-use lib.IntN.{pos}
-use mir.Syntax.{w64}
-use mir.Val.{to_z, of_z}
+use Rattle.std.proofs.Common.{◌≡◌, ap, ◌∙◌, ◌<◌, min, arith, pos, w64, to_z, of_z}
 use mir.Facts.{to_z_pos}
 use Rattle.integers.specs.Number.{neg}
-use Rattle.integers.proofs.Fits.{back, fits64, mul-le}
-use Rattle.bitlines.proofs.Dense.{add-length}
+use Rattle.integers.proofs.Fits.{back, mul-le}
 use Rattle.bitrows.proofs.Cross.{crossing_begun, crossing_more, crossing_done, crossing_fits}
 use Rattle.bitrows.proofs.add_products.Goals.{After-lesser-w, After-opposite}
 use Rattle.bitrows.proofs.add_products.Goals as goal

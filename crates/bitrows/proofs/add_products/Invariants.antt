@@ -1,6 +1,5 @@
 -- The loop's invariant is `Crossing`: what is still to be added makes the row whole.
-use Prim.Native.Nat.{◌+◌, ◌*◌}
-use lib.ListN.{length}
+use Rattle.std.proofs.Common.{◌+◌, ◌*◌, length}
 use Rattle.bitforms.specs.Weights.{weights}
 use Rattle.bitlines.specs.Dense.{add_terms}
 use Rattle.bitrows.specs.Terms.{cross}

@@ -1,8 +1,4 @@
-use mathlib.Core.Path.{◌≡◌, ap, ◌∙◌}
-use native.Mathlib.Omega.{arith}
-use lib.ListN.{length}
 use Rattle.integers.proofs.Fits.{back}
-use Rattle.bitlines.proofs.Dense.{add-length}
 use Rattle.bitrows.proofs.Over.{termed_begun, termed_more}
 use Rattle.bitrows.proofs.add_terms.Goals as goal
 

@@ -1,5 +1,5 @@
 -- The loop's invariant is `Termed`: the terms passed are added.
-use Prim.Native.Nat.{◌-◌}
+use Rattle.std.proofs.Common.{◌-◌}
 use Rattle.bitrows.proofs.Over.{Termed}
 use Rattle.bitrows.proofs.add_terms.Given as goal
 

@@ -1,7 +1,6 @@
 -- By the variable's first bit and its width.
-use native.Mathlib.Omega.{arith}
-use mir.Facts.{to_z-of_z}
-use Rattle.bitrows.proofs.Over.{variable-size, variable-added}
+use Rattle.std.proofs.Common.{to_z-of_z}
+use Rattle.bitrows.proofs.Over.{variable-added}
 use Rattle.bitrows.proofs.add_variable.Goals as goal
 
 pub returns : goal.returns

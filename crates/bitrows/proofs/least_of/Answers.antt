@@ -1,8 +1,4 @@
-use mathlib.Core.Path.{◌≡◌, sym, ◌∙◌}
-use native.Mathlib.Omega.{arith}
-use mir.Syntax.{w64}
-use mir.Val.{to_z}
-use borrow.Author.Rules.{rules}
+use Rattle.std.proofs.Common.{◌≡◌, sym, ◌∙◌, arith, w64, to_z, rules}
 use Rattle.integers.proofs.Fits.{back, plus-size}
 use Rattle.rowsystems.specs.RowSystem.{constant_in}
 use Rattle.arguments.proofs.Size.{read}
@@ -11,12 +7,11 @@ use Rattle.bitrows.proofs.Constant.{least-none, least_more}
 use Rattle.bitrows.proofs.least_of.Goals as goal
 
 pub loop-k-preserved : goal.loop-k-preserved
-loop-k-preserved c =
-    (
-      omega (arith, c.loop-k-test.true),
-      read c.plus-total.type_inv c.plus-total.ensures ∙ rw (c.loop-k.invariant.1, read c.least_term.type_inv c.least_term.ensures.0) (sym (least_more _ _ c.loop-k.k)),
-      rw (read c.plus-total.type_inv c.plus-total.ensures, back c.least_term.result c.least_term.type_inv) (omega (arith, plus-size (to_z w64 c.loop-k.total-bits) c.least_term.result, c.loop-k.invariant.2, c.least_term.ensures.1)),
-    )
+loop-k-preserved c = (
+  omega (arith, c.loop-k-test.true),
+  read c.plus-total.type_inv c.plus-total.ensures ∙ rw (c.loop-k.invariant.1, read c.least_term.type_inv c.least_term.ensures.0) (sym (least_more _ _ c.loop-k.k)),
+  rw (read c.plus-total.type_inv c.plus-total.ensures, back c.least_term.result c.least_term.type_inv) (omega (arith, plus-size (to_z w64 c.loop-k.total-bits) c.least_term.result, c.loop-k.invariant.2, c.least_term.ensures.1)),
+)
 
 pub returns : goal.returns
 unfolding constant_in least

@@ -1,7 +1,5 @@
 -- The invariant: the sum of what each term passed is at least, each at most 2^54 from 0.
-use mathlib.Core.Path.{◌≡◌}
-use Prim.Native.Nat.{◌-◌, ◌*◌, ◌≤◌}
-use lib.IntN.{nat_abs}
+use Rattle.std.proofs.Common.{◌≡◌, ◌-◌, ◌*◌, ◌≤◌, nat_abs}
 use Rattle.rowsystems.specs.RowSystem.{terms_in}
 use Rattle.extremes.specs.BoundLists.{bounds_of}
 use Rattle.bitforms.specs.SumOver.{sum_over}

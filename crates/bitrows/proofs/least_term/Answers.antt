@@ -1,7 +1,5 @@
 -- A product of near numbers is at most 2^54.
-use mathlib.Core.Path.{◌≡◌, ◌∙◌}
-use mathlib.Core.Bool.{false}
-use Rattle.integers.proofs.Fits.{back}
+use Rattle.std.proofs.Common.{◌≡◌, ◌∙◌, false}
 use Rattle.arguments.proofs.Size.{read}
 use Rattle.extremes.specs.BoundLists.{bounds_of}
 use Rattle.extremes.proofs.Size.{pick-size, product-size}

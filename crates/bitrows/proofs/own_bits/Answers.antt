@@ -1,9 +1,5 @@
 -- The slack's weights, none, or the pairs of the factors' bits.
-use mathlib.Core.Path.{refl, sym, ap, ap₂, ◌∙◌}
-use Prim.Native.Nat.{◌*◌, ◌≤◌}
-use native.Mathlib.Omega.{arith}
-use lib.ListN.{length}
-use borrow.Author.Tests.{eq-eqb, ne_eqb}
+use Rattle.std.proofs.Common.{refl, sym, ap, ap₂, ◌∙◌, ◌*◌, ◌≤◌, arith, length, eq-eqb, ne_eqb}
 use Rattle.integers.proofs.Fits.{mul-le}
 use Rattle.rowsystems.proofs.Sizes.{count-few}
 use Rattle.bitforms.specs.Weights.{weights}

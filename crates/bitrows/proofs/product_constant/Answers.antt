@@ -1,9 +1,7 @@
 -- Products of near numbers fit.
-use mathlib.Core.Path.{◌∙◌}
-use native.Mathlib.Omega.{arith}
-use lib.ListN.{get_or}
+use Rattle.std.proofs.Common.{arith, get_or}
 use Rattle.integers.specs.Number.{+0}
-use Rattle.words.proofs.Word.{factors-fit, product-size}
+use Rattle.words.proofs.Word.{product-size}
 use Rattle.arguments.proofs.Size.{read}
 use Rattle.bitrows.proofs.product_constant.Goals as goal
 

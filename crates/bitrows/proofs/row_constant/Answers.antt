@@ -1,7 +1,5 @@
 -- The constant by the kind of the head.
-use mathlib.Core.Path.{sym, ◌∙◌}
-use native.Mathlib.Omega.{arith}
-use borrow.Author.Tests.{eq-eqb, ne_eqb}
+use Rattle.std.proofs.Common.{sym, ◌∙◌, arith, eq-eqb, ne_eqb}
 use Rattle.rowsystems.proofs.Sizes.{count-few}
 use Rattle.arguments.proofs.Size.{read}
 use Rattle.bitforms.specs.OverBits.{over}

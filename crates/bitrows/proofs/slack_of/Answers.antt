@@ -1,6 +1,5 @@
 -- A count is at most the absolute value.
-use mathlib.Core.Path.{◌≡◌, ◌∙◌}
-use native.Mathlib.Omega.{arith}
+use Rattle.std.proofs.Common.{◌≡◌, ◌∙◌, arith}
 use Rattle.integers.specs.Number.{neg, count}
 use Rattle.integers.proofs.Fits.{back, neg-size}
 use Rattle.integers.proofs.Sums.{count-le}

@@ -1,7 +1,5 @@
 -- The refusal's line, or the lines of the form's words.
-use Prim.Native.Nat.{◌≤◌}
-use native.Mathlib.Omega.{arith}
-use lib.ListN.{length}
+use Rattle.std.proofs.Common.{◌≤◌, arith, length}
 use Rattle.words.specs.Written.{wrote}
 use Rattle.encoding.specs.Bytes.{bytes_words}
 use Rattle.encoding.proofs.Words.{quarter}

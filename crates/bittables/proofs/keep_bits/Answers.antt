@@ -1,7 +1,4 @@
-use mathlib.Core.Path.{◌≡◌, ap, ◌∙◌}
-use native.Mathlib.Omega.{arith}
-use lib.ListN.{length}
-use Rattle.words.proofs.Overlay.{length-overlay}
+use Rattle.std.proofs.Common.{ap, ◌∙◌, arith, length}
 use Rattle.bitforms.specs.Weights.{weights}
 use Rattle.bittables.proofs.Keeping.{keeping_begun, keeping_more, few-after}
 use Rattle.bittables.proofs.keep_bits.Goals as goal

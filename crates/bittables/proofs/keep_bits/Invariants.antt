@@ -1,5 +1,5 @@
 -- The loop's invariant is `Keeping`: the bits of the variables passed are kept.
-use Prim.Native.Nat.{◌-◌}
+use Rattle.std.proofs.Common.{◌-◌}
 use Rattle.bittables.proofs.Keeping.{Keeping}
 use Rattle.bittables.proofs.keep_bits.Given as goal
 

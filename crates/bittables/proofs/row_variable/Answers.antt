@@ -1,5 +1,5 @@
 -- The payload of the word there.
-use mathlib.Core.Path.{◌∙◌, ap}
+use Rattle.std.proofs.Common.{◌∙◌, ap}
 use Rattle.words.specs.Word.{payload}
 use Rattle.rowsystems.specs.RowSystem.{variable_at}
 use Rattle.bittables.proofs.row_variable.Goals as goal

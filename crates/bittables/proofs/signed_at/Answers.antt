@@ -1,5 +1,5 @@
 -- A signed payload is near 0.
-use mathlib.Core.Path.{◌∙◌, ap}
+use Rattle.std.proofs.Common.{◌∙◌, ap}
 use Rattle.integers.proofs.Fits.{back}
 use Rattle.words.specs.Word.{signed}
 use Rattle.words.proofs.Word.{signed-near}

@@ -1,6 +1,5 @@
 -- Bounds are near 0, so their difference fits.
-use mathlib.Core.Path.{◌≡◌, ◌∙◌}
-use native.Mathlib.Omega.{arith}
+use Rattle.std.proofs.Common.{◌≡◌, ◌∙◌, arith}
 use Rattle.integers.proofs.Fits.{back}
 use Rattle.bittables.specs.BitTables.{span_in}
 use Rattle.bittables.proofs.Counting.{span_size}

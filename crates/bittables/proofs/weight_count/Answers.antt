@@ -1,6 +1,5 @@
 -- No number stands in the list, so none is too large; a width below 2^62 has at most 62 weights.
-use native.Mathlib.Omega.{arith}
-use borrow.Author.Rules.{rules}
+use Rattle.std.proofs.Common.{arith, rules}
 use Rattle.bitlines.specs.Dense.{peak}
 use Rattle.bittables.proofs.Counting.{few-weights}
 use Rattle.bittables.proofs.weight_count.Goals as goal

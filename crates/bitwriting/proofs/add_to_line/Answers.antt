@@ -1,7 +1,5 @@
 -- A row without the bit adds nothing.
-use mathlib.Core.Path.{ap}
-use Prim.Native.Nat.{◌+◌}
-use native.Mathlib.Omega.{arith}
+use Rattle.std.proofs.Common.{ap, ◌+◌, arith}
 use Rattle.bitwriting.proofs.Lining.{none-added}
 use Rattle.bitwriting.proofs.add_to_line.Goals as goal
 
@@ -10,5 +8,5 @@ returns c =
     let e = c.own_bits-own.ensures.0 c.args.firsts.now c.args.first in
     record {
       added = none-added c.args.ls.now c.args.us.now c.args.firsts.now c.args.counts.now c.requires.bit_tables.0.counted c.args.first _ c.args.head c.args.args.now c.args.i c.args.line.now e (c.holds_bit.ensures c.if-holds_bit.false);
-      value = (ap (λ n. c.args.first + n) e, omega (arith, c.own_bits-own.ensures.1));
+      next = (ap (λ n. c.args.first + n) e, omega (arith, c.own_bits-own.ensures.1));
     }

@@ -1,8 +1,4 @@
-use mathlib.Core.Path.{◌≡◌, refl, sym, ap, ◌∙◌}
-use Prim.Native.Nat.{◌+◌}
-use native.Mathlib.Omega.{arith}
-use lib.ListN.{get_or}
-use borrow.Author.Rules.{rules}
+use Rattle.std.proofs.Common.{refl, sym, ap, ◌∙◌, ◌+◌, arith, get_or, rules}
 use Rattle.integers.specs.Number.{+0}
 use Rattle.integers.specs.Lists.{list_of, all}
 use Rattle.integers.proofs.Places.{all_more}

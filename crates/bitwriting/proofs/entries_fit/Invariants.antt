@@ -1,8 +1,5 @@
 -- The invariant: the entries passed are in the range.
-use mathlib.Core.Path.{◌≡◌}
-use mathlib.Core.Bool.{true}
-use Prim.Native.Nat.{◌-◌, ◌≤◌}
-use lib.ListN.{get_or}
+use Rattle.std.proofs.Common.{◌≡◌, true, ◌-◌, ◌≤◌, get_or}
 use Rattle.integers.specs.Number.{+0}
 use Rattle.bitforms.specs.Matrix.{line_entries}
 use Rattle.bitforms.specs.FormAnswer.{all_in_range}

@@ -1,6 +1,4 @@
-use mathlib.Core.Path.{sym, ◌∙◌}
-use Prim.Native.Nat.{◌+◌}
-use native.Mathlib.Omega.{arith}
+use Rattle.std.proofs.Common.{sym, ◌∙◌, ◌+◌, arith}
 use Rattle.words.proofs.Reading.{tail-is}
 use Rattle.bitwriting.proofs.Lining.{lining_begun, row_here, lining_one, lining_none, lining_done}
 use Rattle.bitwriting.proofs.fill_line.Goals as goal
@@ -13,13 +11,13 @@ pub add_to_line-first-requires : goal.add_to_line-first-requires
 add_to_line-first-requires c =
     record {
       bit_tables = (c.requires.0.listed.tables, omega (arith, c.loop-at.invariant.near, c.loop-at.invariant.place, c.requires.0.listed.few_words, c.requires.0.listed.near_start), c.loop-at.invariant.sized, omega (arith, c.loop-at.invariant.small, c.loop-at.invariant.place, c.requires.0.listed.few_words));
-      args_value = rw (tail-is c.args.ws.now (c.loop-at.at + 1)) (row_here c.loop-at.invariant c.loop-at-test.true (sym c.starts_row.ensures ∙ c.if-starts_row.true));
+      fits = rw (tail-is c.args.ws.now (c.loop-at.at + 1)) (row_here c.loop-at.invariant c.loop-at-test.true (sym c.starts_row.ensures ∙ c.if-starts_row.true));
     }
 
 pub loop-at-preserved-then-starts_row : goal.loop-at-preserved-then-starts_row
 loop-at-preserved-then-starts_row c =
     let t = tail-is c.args.ws.now (c.loop-at.at + 1) in
-    lining_one c.loop-at.invariant c.loop-at-test.true (sym c.starts_row.ensures ∙ c.if-starts_row.true) (rw t at c.add_to_line-first.ensures.added) c.add_to_line-first.auto.row (rw t at c.add_to_line-first.ensures.value)
+    lining_one c.loop-at.invariant c.loop-at-test.true (sym c.starts_row.ensures ∙ c.if-starts_row.true) (rw t at c.add_to_line-first.ensures.added) c.add_to_line-first.auto.row (rw t at c.add_to_line-first.ensures.next)
 
 pub loop-at-preserved : goal.loop-at-preserved
 loop-at-preserved c = lining_none c.loop-at.invariant c.loop-at-test.true (sym c.starts_row.ensures ∙ c.if-starts_row.false)

@@ -1,6 +1,5 @@
 -- The invariant is `Lining`: with what the rows left add, the line's numbers are the entries.
-use Prim.Native.Nat.{◌+◌, ◌-◌}
-use lib.ListN.{length}
+use Rattle.std.proofs.Common.{◌+◌, ◌-◌, length}
 use Rattle.bitwriting.proofs.Lining.{Lining}
 use Rattle.bitwriting.proofs.fill_line.Given as goal
 

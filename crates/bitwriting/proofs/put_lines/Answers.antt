@@ -1,9 +1,7 @@
-use mathlib.Core.Path.{◌≡◌, sym, ◌∙◌}
-use Prim.Native.Nat.{◌+◌, ◌-◌}
-use native.Mathlib.Omega.{arith}
+use Rattle.std.proofs.Common.{sym, ◌∙◌}
 use borrow.Author.Tests.{not-true, not-false}
 use Rattle.integers.proofs.Tests.{false-true}
-use Rattle.bitwriting.proofs.Putting.{putting-begun, putting-more, putting-fails, putting-done}
+use Rattle.bitwriting.proofs.Putting.{putting-more, putting-fails, putting-done}
 use Rattle.bitwriting.proofs.put_lines.Goals as goal
 
 pub returns-then-not-put : goal.returns-then-not-put

@@ -1,5 +1,5 @@
 -- The invariant is `Putting`: the entries left are still to be tested and laid.
-use Prim.Native.Nat.{◌-◌}
+use Rattle.std.proofs.Common.{◌-◌}
 use Rattle.bitforms.specs.Matrix.{entry_of}
 use Rattle.bittables.specs.BitTables.{rows_by}
 use Rattle.bitwriting.proofs.Putting.{Putting}

@@ -1,5 +1,5 @@
 -- The line is filled, tested and laid.
-use mathlib.Core.Path.{sym, ap, ◌∙◌}
+use Rattle.std.proofs.Common.{sym, ap, ◌∙◌}
 use Rattle.integers.proofs.Tests.{false-true}
 use Rattle.bittables.specs.BitTables.{rows_by}
 use Rattle.bitforms.specs.FormAnswer.{all_in_range}

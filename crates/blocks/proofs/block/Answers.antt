@@ -1,8 +1,6 @@
 -- Each code's block, at the table's entry for the code; the table's default where the code is none.
-use mathlib.Core.Path.{◌≡◌, refl}
+use Rattle.std.proofs.Common.{◌≡◌, refl, arith, rules}
 use mathlib.Core.List.{flat_map}
-use native.Mathlib.Omega.{arith}
-use borrow.Author.Rules.{rules}
 use Rattle.integers.specs.Lists.{any}
 use Rattle.models.specs.Model.{builtin, builtins}
 use Rattle.models.specs.Table as Table

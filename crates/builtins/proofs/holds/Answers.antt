@@ -1,6 +1,5 @@
 -- Each code's function, at the table's entry for the code; the table's default where the code is none.
-use mathlib.Core.Path.{◌≡◌, sym}
-use borrow.Author.Rules.{rules}
+use Rattle.std.proofs.Common.{◌≡◌, sym, rules}
 use Rattle.integers.specs.Terms.{value}
 use Rattle.models.specs.Meaning.{meaning}
 use Rattle.models.specs.Model.{builtin, builtins}

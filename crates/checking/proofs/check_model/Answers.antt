@@ -1,8 +1,6 @@
 -- A refusal of the reading is check's. The words of the variables are the front of the words, so that the bounds that are kept are the model's; the counted uses say which are shared.
-use mathlib.Core.Path.{sym, ap, ◌∙◌}
-use native.Mathlib.Omega.{arith}
-use lib.ListN.{length, length-replicate}
-use lib.Seq.{length-take-le}
+use Rattle.std.proofs.Common.{sym, ap, ◌∙◌, arith, length, length-take-le}
+use lib.ListN.{length-replicate}
 use Rattle.integers.specs.Number.{+0}
 use Rattle.models.proofs.Accepted.{few_words}
 use Rattle.modelreading.specs.Seen.{Seen}

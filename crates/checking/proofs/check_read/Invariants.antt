@@ -1,5 +1,5 @@
 -- The loop's invariant is `Checking`: what the constraints that are left give is what all give, check's answer.
-use Prim.Native.Nat.{◌-◌}
+use Rattle.std.proofs.Common.{◌-◌}
 use Rattle.models.specs.Model.{constraints}
 use Rattle.extremes.specs.BoundLists.{bounds_of}
 use Rattle.encodings.specs.Uses.{shared_by}

@@ -1,5 +1,5 @@
 -- Fault 12 before the block is laid, then 13 and 14 by what the block counts.
-use mathlib.Core.Path.{sym, ◌∙◌}
+use Rattle.std.proofs.Common.{sym, ◌∙◌}
 use Rattle.blocks.proofs.OneBlock.{told}
 use Rattle.checking.proofs.Costs.{wide_costs, laid_costs}
 use Rattle.checking.proofs.cost_of.Goals as goal

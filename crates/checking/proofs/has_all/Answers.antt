@@ -1,7 +1,5 @@
 -- Code 28, or a code over a shared variable.
-use mathlib.Core.Path.{◌≡◌, refl, sym, ◌∙◌}
-use mathlib.Core.Bool.{Bool, true, false, ◌&&◌}
-use borrow.Author.Tests.{ne_eqb}
+use Rattle.std.proofs.Common.{◌≡◌, refl, sym, ◌∙◌, Bool, true, false, ◌&&◌, ne_eqb}
 use Rattle.integers.specs.Choice.{◌if◌else◌}
 use Rattle.models.specs.Model.{var}
 use Rattle.encodings.specs.Uses.{choosing, shared_by}

@@ -1,5 +1,5 @@
 -- The width of the first argument's bounds, where each value has an auxiliary.
-use mathlib.Core.Path.{sym, ◌∙◌}
+use Rattle.std.proofs.Common.{sym, ◌∙◌}
 use Rattle.integers.proofs.Fits.{back}
 use Rattle.extremes.specs.BoundLists.{bounds_of}
 use Rattle.encodings.specs.Uses.{shared_by}

@@ -1,8 +1,5 @@
 -- Bits, the rows of the choice, the row of the numbers.
-use mathlib.Core.Path.{sym}
-use native.Mathlib.Omega.{arith}
-use borrow.Author.Rules.{rules}
-use Rattle.integers.proofs.Fits.{back}
+use Rattle.std.proofs.Common.{sym, arith}
 use Rattle.models.specs.Model.{var, past}
 use Rattle.arguments.proofs.Size.{read}
 use Rattle.rules.specs.Parts.{places}

@@ -1,7 +1,5 @@
 -- What both begin with, the rows of either direction, then those over later bits. A list has at most 32 elements.
-use mathlib.Core.Path.{sym}
-use Prim.Native.Nat.{◌≤◌}
-use native.Mathlib.Omega.{arith}
+use Rattle.std.proofs.Common.{sym, ◌≤◌, arith}
 use Rattle.arguments.proofs.Size.{size-le}
 use Rattle.laying.proofs.Parts.{went_then, went_as}
 use Rattle.choiceblocks.proofs.Blocks.{extreme-parts}

@@ -1,7 +1,5 @@
 -- A count, and one place more for the length word.
-use mathlib.Core.Path.{ap, ◌∙◌}
-use Prim.Native.Nat.{ℕ, ◌+◌}
-use native.Mathlib.Omega.{arith}
+use Rattle.std.proofs.Common.{ap, ◌∙◌, ℕ, ◌+◌, arith}
 use Rattle.integers.proofs.Fits.{back}
 use Rattle.integers.proofs.Sums.{count-le}
 use Rattle.choiceblocks.proofs.first_element.Goals as goal

@@ -1,8 +1,5 @@
 -- The width of the places of a list of at most 32 elements.
-use mathlib.Core.Bool.{false}
-use native.Mathlib.Omega.{arith}
-use lib.IntN.{pos}
-use lib.ListN.{get_or}
+use Rattle.std.proofs.Common.{false, arith, pos, get_or}
 use Rattle.integers.proofs.Fits.{back}
 use Rattle.integers.specs.Number.{+0}
 use Rattle.models.specs.Model.{var, size}

@@ -1,6 +1,5 @@
 -- Bounds, the row of the bits, products and their row. A list has at most 32 elements.
-use Prim.Native.Nat.{◌≤◌}
-use native.Mathlib.Omega.{arith}
+use Rattle.std.proofs.Common.{◌≤◌, arith}
 use Rattle.arguments.proofs.Size.{size-le}
 use Rattle.laying.proofs.Parts.{went_then}
 use Rattle.choiceblocks.specs.Rows.{one_of_parts}

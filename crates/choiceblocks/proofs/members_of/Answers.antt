@@ -1,5 +1,5 @@
 -- The members over zeros, and how many and how large they are.
-use native.Mathlib.Omega.{arith}
+use Rattle.std.proofs.Common.{arith}
 use Rattle.integers.specs.Number.{+0}
 use Rattle.models.specs.Model.{var, nums}
 use Rattle.arguments.proofs.Size.{read}

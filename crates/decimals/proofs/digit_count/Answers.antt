@@ -1,4 +1,4 @@
-use native.Mathlib.Omega.{arith}
+use Rattle.std.proofs.Common.{arith}
 use Rattle.decimals.proofs.Digits.{decimal-small, decimal-more}
 use Rattle.decimals.proofs.digit_count.Goals as goal
 

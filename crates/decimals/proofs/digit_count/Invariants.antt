@@ -1,7 +1,5 @@
 -- The invariant: the digits counted and those left are one more than all. The measure: the number left.
-use mathlib.Core.Path.{◌≡◌}
-use Prim.Native.Nat.{◌+◌, ◌≤◌, ◌<◌}
-use lib.ListN.{length}
+use Rattle.std.proofs.Common.{◌≡◌, ◌+◌, ◌≤◌, ◌<◌, length}
 use Rattle.decimals.specs.Decimal.{decimal}
 use Rattle.decimals.proofs.digit_count.Given as goal
 

@@ -1,5 +1,5 @@
 -- The code tests as the definition does.
-use borrow.Author.Tests.{lt-ltb, le-ltb}
+use Rattle.std.proofs.Common.{lt-ltb, le-ltb}
 use Rattle.decimals.specs.Ahead.{minus_after}
 use Rattle.decimals.proofs.minus_after.Goals as goal
 

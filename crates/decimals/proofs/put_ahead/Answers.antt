@@ -1,5 +1,4 @@
-use mathlib.Core.Path.{sym, ◌∙◌}
-use borrow.Author.Rules.{rules}
+use Rattle.std.proofs.Common.{sym, ◌∙◌, rules}
 use Rattle.decimals.proofs.Ahead.{column_first, no-columns}
 use Rattle.decimals.proofs.put_ahead.Goals as goal
 

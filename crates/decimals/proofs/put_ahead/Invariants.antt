@@ -1,6 +1,5 @@
 -- The invariant: laying what is left of the columns gives what laying all of them gives. The measure: the columns left.
-use mathlib.Core.Path.{◌≡◌}
-use Prim.Native.Nat.{◌≤◌}
+use Rattle.std.proofs.Common.{◌≡◌, ◌≤◌}
 use Rattle.words.specs.Overlay.{overlay}
 use Rattle.decimals.specs.Ahead.{ahead}
 use Rattle.decimals.proofs.put_ahead.Given as goal

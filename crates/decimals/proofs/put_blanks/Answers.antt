@@ -1,5 +1,5 @@
 -- What stands ahead of nothing is blanks.
-use mathlib.Core.Path.{◌∙◌}
+use Rattle.std.proofs.Common.{◌∙◌}
 use Rattle.decimals.proofs.Ahead.{ahead-blanks}
 use Rattle.decimals.proofs.put_blanks.Goals as goal
 

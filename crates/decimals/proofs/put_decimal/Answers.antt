@@ -1,5 +1,5 @@
 -- A number right in its own length.
-use native.Mathlib.Omega.{arith}
+use Rattle.std.proofs.Common.{arith}
 use Rattle.words.proofs.Rest.{laid-part}
 use Rattle.decimals.specs.Decimal.{decimal}
 use Rattle.decimals.proofs.Ahead.{alone}

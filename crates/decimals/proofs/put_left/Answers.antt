@@ -1,8 +1,5 @@
 -- The number, then blanks.
-use mathlib.Core.Path.{◌≡◌, ◌∙◌}
-use native.Mathlib.Omega.{arith}
-use Prim.Native.Nat.{◌+◌, ◌-◌}
-use lib.ListN.{length}
+use Rattle.std.proofs.Common.{◌≡◌, ◌∙◌, arith, ◌+◌, ◌-◌, length}
 use Rattle.words.proofs.Overlay.{overlay-append}
 use Rattle.decimals.specs.Decimal.{decimal}
 use Rattle.decimals.specs.Column.{blanks, left}

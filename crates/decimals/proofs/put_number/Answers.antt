@@ -1,8 +1,5 @@
 -- A signed number is a number with or without a hyphen.
-use mathlib.Core.Path.{◌≡◌, ◌∙◌}
-use mathlib.Core.Bool.{true, false}
-use lib.IntN.{nat_abs}
-use mir.Facts.{to_z-of_z}
+use Rattle.std.proofs.Common.{◌≡◌, ◌∙◌, true, false, nat_abs, to_z-of_z}
 use Rattle.decimals.specs.Decimal.{numeral}
 use Rattle.decimals.specs.Marked.{marked}
 use Rattle.decimals.proofs.Ahead.{numeral-from, numeral-below}

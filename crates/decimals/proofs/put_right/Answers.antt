@@ -1,6 +1,5 @@
 -- The last digit, then what stands ahead of it.
-use mathlib.Core.Path.{◌∙◌}
-use native.Mathlib.Omega.{arith}
+use Rattle.std.proofs.Common.{◌∙◌, arith}
 use Rattle.decimals.proofs.Ahead.{digit-first, marked-some}
 use Rattle.decimals.proofs.put_right.Goals as goal
 

@@ -1,5 +1,5 @@
 -- The division with q itself.
-use native.Mathlib.Omega.{arith}
+use Rattle.std.proofs.Common.{arith}
 use Rattle.integers.proofs.Fits.{back}
 use Rattle.rules.specs.Rule.{rule}
 use Rattle.laying.proofs.Parts.{went_as}

@@ -1,6 +1,5 @@
 -- The bounds of a quotient, the division with it, and the last row.
-use native.Mathlib.Omega.{arith}
-use lib.ListN.{get_or}
+use Rattle.std.proofs.Common.{arith, get_or}
 use Rattle.integers.specs.Number.{+0}
 use Rattle.integers.proofs.Fits.{back, neg-size}
 use Rattle.words.specs.Small.{Near}

@@ -1,6 +1,5 @@
 -- Two bits, a bound and a bit, one after the other.
-use native.Mathlib.Omega.{arith}
-use mir.Facts.{to_z-of_z}
+use Rattle.std.proofs.Common.{arith, to_z-of_z}
 use Rattle.laying.proofs.Parts.{went_then}
 use Rattle.divisionblocks.specs.Rows.{auxiliary_parts}
 use Rattle.divisionblocks.proofs.lay_auxiliaries.Goals as goal

@@ -1,6 +1,5 @@
 -- The auxiliaries, then the rows of the table; p is within the end products.
-use native.Mathlib.Omega.{arith}
-use mir.Facts.{to_z-of_z}
+use Rattle.std.proofs.Common.{arith, to_z-of_z}
 use Rattle.integers.proofs.Fits.{back}
 use Rattle.laying.proofs.Parts.{went_then}
 use Rattle.divisionblocks.specs.Rows.{auxiliary_parts, division_parts}

@@ -1,5 +1,5 @@
 -- Two products and the rows of the table, one after the other.
-use native.Mathlib.Omega.{arith}
+use Rattle.std.proofs.Common.{arith}
 use Rattle.laying.proofs.Parts.{went_then}
 use Rattle.divisionblocks.specs.Rows.{table_parts}
 use Rattle.divisionblocks.proofs.lay_rows.Goals as goal

@@ -1,6 +1,4 @@
 -- The bounds that are read are near 0, and M is small.
-use mathlib.Core.Path.{◌∙◌}
-use mir.Facts.{to_z-of_z}
 use Rattle.integers.proofs.Fits.{back}
 use Rattle.divisionblocks.proofs.table_of.Goals as goal
 

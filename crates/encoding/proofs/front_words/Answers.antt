@@ -1,8 +1,5 @@
 -- Words that fit are the front of the list.
-use mathlib.Core.Path.{sym, ap}
-use native.Mathlib.Omega.{arith}
-use lib.ListN.{length}
-use lib.Seq.{length-take-le}
+use Rattle.std.proofs.Common.{sym, ap, arith, length, length-take-le}
 use Rattle.words.proofs.Overlay.{front-over, length-overlay}
 use Rattle.encoding.specs.Bytes.{bytes_words}
 use Rattle.encoding.proofs.front_words.Goals as goal

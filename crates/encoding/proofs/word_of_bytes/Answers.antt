@@ -1,5 +1,5 @@
 -- The code computes as the definition does.
-use mathlib.Core.Path.{refl}
+use Rattle.std.proofs.Common.{refl}
 use Rattle.encoding.specs.Bytes.{bytes_word}
 use Rattle.encoding.proofs.word_of_bytes.Goals as goal
 

@@ -1,4 +1,4 @@
-use native.Mathlib.Omega.{arith}
+use Rattle.std.proofs.Common.{arith}
 use Rattle.encoding.proofs.Words.{more, done}
 use Rattle.encoding.proofs.words_of_bytes.Goals as goal
 

@@ -1,6 +1,5 @@
 -- The invariant: laying the words of the rest of the bytes gives what laying them all gives. The measure: how many bytes are left.
-use Prim.Native.Nat.{◌-◌}
-use lib.ListN.{length}
+use Rattle.std.proofs.Common.{◌-◌, length}
 use Rattle.encoding.proofs.Words.{Laying}
 use Rattle.encoding.proofs.words_of_bytes.Given as goal
 

@@ -1,7 +1,6 @@
 -- The codes of the definition, and no others.
-use mathlib.Core.Path.{◌≡◌, refl}
+use Rattle.std.proofs.Common.{◌≡◌, refl, arith}
 use Rattle.std.proofs.lemmas.Bool.Decides.{nat_tests}
-use native.Mathlib.Omega.{arith}
 use Rattle.encodings.specs.Uses.{choosing}
 use Rattle.encodings.proofs.chooses.Goals as goal
 

@@ -1,7 +1,4 @@
-use native.Mathlib.Omega.{arith}
-use borrow.Author.Rules.{rules}
-use Prim.Native.Nat.{◌+◌, ◌<◌}
-use lib.ListN.{length, get_or}
+use Rattle.std.proofs.Common.{arith, rules, ◌+◌, ◌<◌, length, get_or}
 use Rattle.words.specs.Word.{word_at}
 use Rattle.words.proofs.Reading.{tail-is}
 use Rattle.modelreading.proofs.Heads.{head-inside, head_at}

@@ -1,5 +1,5 @@
 -- The loop's invariant is `Counting`: counting the constraints that are left gives what counting all gives.
-use Prim.Native.Nat.{◌-◌}
+use Rattle.std.proofs.Common.{◌-◌}
 use Rattle.models.specs.Model.{constraints}
 use Rattle.encodings.proofs.Uses.{Counting}
 use Rattle.encodings.proofs.count_uses.Given as goal

@@ -1,6 +1,5 @@
 -- The larger of a number and its opposite.
-use mathlib.Core.Path.{◌∙◌}
-use mir.Facts.{to_z-of_z}
+use Rattle.std.proofs.Common.{◌∙◌, to_z-of_z}
 use Rattle.arguments.proofs.Size.{read, abs-max}
 use Rattle.extremes.proofs.absolute.Goals as goal
 

@@ -1,5 +1,5 @@
 -- The bounds that are read are near 0.
-use mathlib.Core.Path.{◌∙◌}
+use Rattle.std.proofs.Common.{◌∙◌}
 use Rattle.integers.proofs.Fits.{back}
 use Rattle.extremes.proofs.end_product.Goals as goal
 

@@ -1,6 +1,5 @@
 -- The larger of 1 and a bound is as near to 0 as the bound.
-use mathlib.Core.Bool.{true}
-use native.Mathlib.Omega.{arith}
+use Rattle.std.proofs.Common.{true, arith}
 use Rattle.integers.specs.Number.{+1}
 use Rattle.models.specs.Model.{var}
 use Rattle.arguments.proofs.Size.{read}

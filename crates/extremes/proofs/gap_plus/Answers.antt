@@ -1,6 +1,5 @@
 -- The difference of bounds is at most 2^28.
-use native.Mathlib.Omega.{arith}
-use mir.Facts.{to_z-of_z}
+use Rattle.std.proofs.Common.{arith, to_z-of_z}
 use Rattle.integers.proofs.Fits.{back}
 use Rattle.extremes.proofs.Size.{gap-size}
 use Rattle.extremes.proofs.gap_plus.Goals as goal

@@ -1,10 +1,6 @@
 -- Half of a number of 64 bits fits.
-use mathlib.Core.Path.{◌≡◌, ap}
-use Prim.Native.Nat.{◌-◌, ◌/◌}
-use native.Mathlib.Omega.{arith}
-use lib.IntN.{pos}
+use Rattle.std.proofs.Common.{◌≡◌, ap, ◌-◌, ◌/◌, arith, pos, w64}
 use mir.Facts.{to_z_pos}
-use mir.Syntax.{w64}
 use Rattle.rules.specs.Parts.{half_less}
 use Rattle.extremes.proofs.half_less.Goals as goal
 

@@ -1,6 +1,4 @@
-use mathlib.Core.Path.{◌≡◌, sym, ◌∙◌}
-use Prim.Native.Nat.{◌+◌}
-use lib.ListN.{set}
+use Rattle.std.proofs.Common.{◌≡◌, sym, ◌∙◌, ◌+◌, set}
 use Rattle.integers.proofs.Fits.{back}
 use Rattle.words.specs.Word.{word_at}
 use Rattle.extremes.specs.Kept.{lower_of, upper_of}

@@ -1,6 +1,5 @@
 -- The loop's invariant is `Keeping`: laying the bounds of the words left gives what laying them all gives.
-use Prim.Native.Nat.{◌-◌}
-use lib.ListN.{length}
+use Rattle.std.proofs.Common.{◌-◌, length}
 use Rattle.extremes.proofs.Kept.{Keeping}
 use Rattle.extremes.proofs.keep_bounds.Given as goal
 

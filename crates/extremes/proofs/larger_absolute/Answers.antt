@@ -1,7 +1,5 @@
 -- The larger of two absolute values is no larger than both may be.
-use mathlib.Core.Path.{refl}
-use mathlib.Core.Bool.{true}
-use mir.Facts.{to_z-of_z}
+use Rattle.std.proofs.Common.{refl, true, to_z-of_z}
 use Rattle.integers.specs.Number.{abs_z}
 use Rattle.arguments.proofs.Size.{read}
 use Rattle.extremes.proofs.Size.{pick-size}

@@ -1,6 +1,5 @@
 -- The loop's invariant: the least so far is that over the places passed.
-use mathlib.Core.Path.{◌≡◌}
-use Prim.Native.Nat.{◌+◌, ◌-◌, ◌≤◌}
+use Rattle.std.proofs.Common.{◌≡◌, ◌+◌, ◌-◌, ◌≤◌}
 use Rattle.integers.specs.Lists.{list_of}
 use Rattle.models.specs.Model.{num}
 use Rattle.rules.specs.Parts.{least_from}

@@ -1,10 +1,4 @@
-use mathlib.Core.Path.{◌≡◌, sym, ◌∙◌}
-use Prim.Native.Nat.{◌+◌, ◌≤◌}
-use native.Mathlib.Omega.{arith}
-use lib.IntN.{nat_abs}
-use mir.Syntax.{w64}
-use mir.Val.{to_z, of_z}
-use mir.Facts.{to_z-of_z}
+use Rattle.std.proofs.Common.{◌≡◌, sym, ◌∙◌, ◌+◌, ◌≤◌, arith, nat_abs, w64, to_z, of_z, to_z-of_z}
 use Rattle.integers.specs.Number.{◌⊕◌, +1}
 use Rattle.integers.proofs.Fits.{back}
 use Rattle.words.specs.Limit as Limit

@@ -1,10 +1,5 @@
 -- The lesser or larger of two such choices is the end of the four products.
-use mathlib.Core.Path.{◌≡◌, refl, ap, ◌∙◌}
-use mathlib.Core.Bool.{Bool, true, false}
-use Prim.Native.Nat.{◌≤◌}
-use native.Mathlib.Omega.{arith}
-use lib.IntN.{ℤ, nat_abs}
-use mir.Facts.{to_z-of_z}
+use Rattle.std.proofs.Common.{◌≡◌, refl, ap, ◌∙◌, Bool, true, false, ◌≤◌, arith, ℤ, nat_abs, to_z-of_z}
 use Rattle.integers.proofs.Fits.{back}
 use Rattle.integers.specs.Bounds.{◌to◌}
 use Rattle.integers.specs.Choice.{◌if◌else◌}

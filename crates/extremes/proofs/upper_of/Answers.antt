@@ -1,5 +1,5 @@
 -- The code tests as the definition does.
-use mathlib.Core.Path.{sym, ◌∙◌}
+use Rattle.std.proofs.Common.{sym, ◌∙◌}
 use Rattle.integers.proofs.Fits.{back}
 use Rattle.extremes.specs.Kept.{upper_of}
 use Rattle.extremes.proofs.upper_of.Goals as goal

@@ -1,7 +1,5 @@
 -- The difference of bounds is at most 2^28.
-use mathlib.Core.Path.{◌∙◌}
-use native.Mathlib.Omega.{arith}
-use mir.Facts.{to_z-of_z}
+use Rattle.std.proofs.Common.{◌∙◌, arith, to_z-of_z}
 use Rattle.integers.proofs.Fits.{back, minus-size}
 use Rattle.integers.specs.Bounds.{width}
 use Rattle.extremes.proofs.width_of.Goals as goal

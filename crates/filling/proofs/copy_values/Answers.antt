@@ -1,9 +1,4 @@
-use mathlib.Core.Path.{sym, ap, ◌∙◌}
-use Prim.Native.Nat.{◌+◌}
-use mir.Syntax.{w32}
-use mir.Facts.{to_z-of_z}
-use borrow.Author.Rules.{rules}
-use lib.ListN.{set}
+use Rattle.std.proofs.Common.{sym, ap, ◌∙◌, ◌+◌, w32, to_z-of_z, rules, set}
 use lib.Seq.{set_out}
 use Rattle.integers.specs.Number.{+0}
 use Rattle.words.proofs.Rest.{one-laid, all_laid}

@@ -1,7 +1,5 @@
 -- The number of values, the room, then judge-model's answer, as in the definition.
-use mathlib.Core.Path.{◌≡◌, refl, sym, ◌∙◌}
-use native.Mathlib.Omega.{arith}
-use lib.ListN.{length}
+use Rattle.std.proofs.Common.{◌≡◌, refl, sym, ◌∙◌, arith, length}
 use Rattle.words.specs.Answer.{is_holds}
 use Rattle.words.specs.Variables.{variables}
 use Rattle.words.specs.Verdict.{verdict}

@@ -1,6 +1,5 @@
 -- The values, then the picks of the definition, which are in the range.
-use mathlib.Core.Path.{◌∙◌}
-use native.Mathlib.Omega.{arith}
+use Rattle.std.proofs.Common.{◌∙◌, arith}
 use Rattle.picking.proofs.Picks.{values-then}
 use Rattle.filling.proofs.Ranges.{values-small, picks-ranged, picks-fit}
 use Rattle.filling.proofs.write_filled.Goals as goal

@@ -1,5 +1,5 @@
 -- The invariant: writing the picks of the constraints that are left gives what writing those of all gives.
-use Prim.Native.Nat.{◌-◌}
+use Rattle.std.proofs.Common.{◌-◌}
 use Rattle.models.specs.Model.{constraints}
 use Rattle.picking.proofs.Picks.{Filling}
 use Rattle.filling.proofs.write_picks.Given as goal

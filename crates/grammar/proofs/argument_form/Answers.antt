@@ -1,6 +1,5 @@
 -- Inside the table its entry; past it no argument is left.
-use mathlib.Core.Path.{◌∙◌}
-use native.Mathlib.Omega.{arith}
+use Rattle.std.proofs.Common.{◌∙◌, arith}
 use Rattle.grammar.proofs.Table.{rule, past-codes, past-arguments}
 use Rattle.grammar.proofs.argument_form.Goals as goal
 

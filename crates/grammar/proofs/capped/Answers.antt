@@ -1,5 +1,6 @@
 -- Test by test.
-use borrow.Author.Tests.{le-leb, lt-leb}
+use Rattle.std.proofs.Common.{le-leb}
+use borrow.Author.Tests.{lt-leb}
 use Rattle.grammar.specs.Machine.{cap}
 use Rattle.grammar.proofs.capped.Goals as goal
 

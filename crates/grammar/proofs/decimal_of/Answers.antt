@@ -1,7 +1,4 @@
-use mathlib.Core.Path.{refl, sym, ap, ◌∙◌}
-use Prim.Native.Nat.{ℕ, ◌+◌, ◌*◌}
-use native.Mathlib.Omega.{arith}
-use lib.ListN.{drop}
+use Rattle.std.proofs.Common.{refl, sym, ap, ◌∙◌, ℕ, ◌+◌, ◌*◌, arith, drop}
 use Rattle.grammar.specs.Value.{digits_from}
 use Rattle.grammar.specs.Machine.{cap}
 use Rattle.grammar.proofs.Numbers.{cap-most, cap-again, digits-on, digits-end}

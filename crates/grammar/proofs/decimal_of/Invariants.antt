@@ -1,7 +1,5 @@
 -- The invariant: the digits left, after the number so far, spell the number, both capped. The measure: the digits left.
-use mathlib.Core.Path.{◌≡◌}
-use Prim.Native.Nat.{◌-◌, ◌≤◌}
-use lib.ListN.{length, drop}
+use Rattle.std.proofs.Common.{◌≡◌, ◌-◌, ◌≤◌, length, drop}
 use Rattle.grammar.specs.Value.{digits_from}
 use Rattle.grammar.specs.Machine.{cap}
 use Rattle.grammar.proofs.decimal_of.Given as goal

@@ -1,5 +1,5 @@
 -- Test by test.
-use borrow.Author.Tests.{eq-eqb, ne_eqb}
+use Rattle.std.proofs.Common.{eq-eqb, ne_eqb}
 use Rattle.grammar.specs.Machine.{numbered_form}
 use Rattle.grammar.proofs.form_at.Goals as goal
 

@@ -1,5 +1,5 @@
 -- Test by test.
-use borrow.Author.Tests.{eq-eqb, ne_eqb}
+use Rattle.std.proofs.Common.{eq-eqb, ne_eqb}
 use Rattle.grammar.specs.Grammar.{step}
 use Rattle.tokens.specs.Unread.{spanned}
 use Rattle.grammar.proofs.inside_step.Goals as goal

@@ -1,5 +1,5 @@
 -- Test by test; the keywords' bytes by computation.
-use borrow.Author.Tests.{eq-eqb, ne_eqb}
+use Rattle.std.proofs.Common.{eq-eqb, ne_eqb}
 use Rattle.grammar.specs.Grammar.{step}
 use Rattle.names.specs.Name.{is_word}
 use Rattle.tokens.specs.Byte.{bytes}

@@ -1,6 +1,4 @@
-use mathlib.Core.Path.{sym, ap, ◌∙◌}
-use native.Mathlib.Omega.{arith}
-use Prim.Native.Nat.{ℕ, ◌+◌}
+use Rattle.std.proofs.Common.{sym, ap, ◌∙◌, arith, ℕ, ◌+◌}
 use Rattle.tokens.specs.Unread.{unread, spanned}
 use Rattle.grammar.specs.Brackets.{length_from}
 use Rattle.tokens.proofs.Places.{none_left, met-token, met-end}

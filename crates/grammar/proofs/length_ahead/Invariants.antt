@@ -1,7 +1,5 @@
 -- The invariant: the length from here on, with the elements passed, is that of the whole list. The measure: the bytes left.
-use mathlib.Core.Path.{◌≡◌}
-use Prim.Native.Nat.{◌-◌, ◌≤◌}
-use lib.ListN.{length}
+use Rattle.std.proofs.Common.{◌≡◌, ◌-◌, ◌≤◌, length}
 use Rattle.tokens.specs.Unread.{unread}
 use Rattle.grammar.specs.Brackets.{length_from}
 use Rattle.grammar.proofs.length_ahead.Given as goal

@@ -1,5 +1,5 @@
 -- With and without a hyphen.
-use mathlib.Core.Path.{sym, ap, ◌∙◌}
+use Rattle.std.proofs.Common.{sym, ap, ◌∙◌}
 use Rattle.grammar.specs.Machine.{cap}
 use Rattle.grammar.proofs.Numbers.{after_hyphen, without_hyphen}
 use Rattle.grammar.proofs.magnitude_of.Goals as goal

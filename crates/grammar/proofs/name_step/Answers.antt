@@ -1,5 +1,5 @@
 -- Test by test.
-use borrow.Author.Tests.{eq-eqb, ne_eqb}
+use Rattle.std.proofs.Common.{eq-eqb, ne_eqb}
 use Rattle.grammar.specs.Grammar.{name_step, of_sort}
 use Rattle.grammar.proofs.name_step.Goals as goal
 

@@ -1,5 +1,5 @@
 -- Test by test; no argument is left past the last one.
-use borrow.Author.Tests.{eq-eqb, ne_eqb}
+use Rattle.std.proofs.Common.{eq-eqb, ne_eqb}
 use Rattle.grammar.specs.Grammar.{step}
 use Rattle.tokens.specs.Unread.{spanned}
 use Rattle.grammar.proofs.Table.{none_left}

@@ -1,5 +1,5 @@
 -- A number by its capped size; any other token breaks the grammar.
-use borrow.Author.Tests.{eq-eqb, ne_eqb}
+use Rattle.std.proofs.Common.{eq-eqb, ne_eqb}
 use Rattle.tokens.specs.Unread.{spanned}
 use Rattle.grammar.specs.Grammar.{number_step, of_sort, gives}
 use Rattle.grammar.proofs.Numbers.{outside, inside, its-word}

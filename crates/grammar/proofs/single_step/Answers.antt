@@ -1,5 +1,5 @@
 -- A number, or the variable of the name.
-use borrow.Author.Tests.{eq-eqb, ne_eqb}
+use Rattle.std.proofs.Common.{eq-eqb, ne_eqb}
 use Rattle.grammar.specs.Grammar.{single_step}
 use Rattle.tokens.specs.Unread.{spanned}
 use Rattle.grammar.proofs.Variables.{variable-here}

@@ -1,6 +1,6 @@
 -- Case by case.
 use Rattle.grammar.specs.Grammar.{step}
-use mathlib.Core.List.{[]}
+use Rattle.std.proofs.Common.{[]}
 use Rattle.integers.specs.Lists.{list_of}
 use Rattle.tokens.specs.Byte.{bytes}
 use Rattle.tokens.specs.Unread.{spanned}

@@ -1,5 +1,5 @@
 -- The code tests as the definition does.
-use borrow.Author.Tests.{le-ltb, lt-ltb}
+use Rattle.std.proofs.Common.{le-ltb, lt-ltb}
 use Rattle.hexadecimal.specs.Digits.{digit}
 use Rattle.hexadecimal.proofs.hex_digit.Goals as goal
 

@@ -1,5 +1,5 @@
 -- Each digit is the one at its place.
-use native.Mathlib.Nat.{div-one}
+use Rattle.std.proofs.Common.{div-one}
 use Rattle.hexadecimal.specs.Digits.{digits, digit_at}
 use Rattle.hexadecimal.proofs.hex_digits.Goals as goal
 

@@ -1,6 +1,5 @@
 -- The words of the bytes are the front of the list that is lent to check.
-use mathlib.Core.Path.{◌≡◌, sym, ap, ◌∙◌}
-use lib.ListN.{take, length}
+use Rattle.std.proofs.Common.{◌≡◌, ap, ◌∙◌, take}
 use Rattle.words.specs.Answer.{refusal_number}
 use Rattle.words.proofs.Overlay.{front-over}
 use Rattle.encoding.specs.Bytes.{bytes_words}

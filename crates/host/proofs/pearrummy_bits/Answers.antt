@@ -1,5 +1,5 @@
 -- The answer of bits, as a host gets it, and its output.
-use mathlib.Core.Path.{ap, ◌∙◌}
+use Rattle.std.proofs.Common.{ap, ◌∙◌}
 use Rattle.structs.specs.Structs.{written_of}
 use Rattle.host.proofs.pearrummy_bits.Goals as goal
 

@@ -1,5 +1,5 @@
 -- Too many words are refused; else they fit the list, the short one or the long one.
-use native.Mathlib.Omega.{arith}
+use Rattle.std.proofs.Common.{arith}
 use Rattle.encoding.proofs.Words.{quarter}
 use Rattle.host.proofs.Refused.{too_many}
 use Rattle.host.proofs.pearrummy_check_bytes.Goals as goal

@@ -1,6 +1,5 @@
 -- As the definition.
-use mathlib.Core.Path.{◌∙◌}
-use mir.Facts.{to_z-of_z}
+use Rattle.std.proofs.Common.{◌∙◌, to_z-of_z}
 use Rattle.integers.specs.Number.{cut}
 use Rattle.integers.proofs.Fits.{back}
 use Rattle.integers.proofs.cut_to.Goals as goal

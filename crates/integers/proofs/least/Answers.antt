@@ -1,6 +1,5 @@
 -- The code tests as the definition does.
-use mathlib.Core.Path.{◌∙◌}
-use mir.Facts.{to_z-of_z}
+use Rattle.std.proofs.Common.{◌∙◌, to_z-of_z}
 use Rattle.integers.specs.Number.{min_z}
 use Rattle.integers.proofs.least.Goals as goal
 

@@ -1,7 +1,5 @@
 -- The difference of two numbers fits where their absolute values add up to less than 2^63.
-use mathlib.Core.Path.{◌∙◌}
-use native.Mathlib.Omega.{arith}
-use mir.Facts.{to_z-of_z}
+use Rattle.std.proofs.Common.{◌∙◌, arith, to_z-of_z}
 use Rattle.integers.specs.Number.{◌⊖◌}
 use Rattle.integers.proofs.Fits.{fits64, minus-size}
 use Rattle.integers.proofs.minus.Goals as goal

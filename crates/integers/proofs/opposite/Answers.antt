@@ -1,8 +1,6 @@
 -- The opposite of a number fits where its absolute value is below 2^63.
-use mathlib.Core.Path.{◌∙◌}
-use native.Mathlib.Omega.{arith}
-use mir.Facts.{to_z-of_z}
-use lib.IntN.{neg_ℤ, +ℤ_idl}
+use Rattle.std.proofs.Common.{◌∙◌, arith, to_z-of_z, neg_ℤ}
+use lib.IntN.{+ℤ_idl}
 use Rattle.integers.specs.Number.{neg}
 use Rattle.integers.proofs.Fits.{fits64, neg-size}
 use Rattle.integers.proofs.opposite.Goals as goal

@@ -1,6 +1,5 @@
 -- The code tests as the definition does.
-use mathlib.Core.Path.{◌∙◌}
-use mir.Facts.{to_z-of_z}
+use Rattle.std.proofs.Common.{◌∙◌, to_z-of_z}
 use Rattle.integers.proofs.Fits.{back}
 use Rattle.integers.proofs.pick.Goals as goal
 

@@ -1,7 +1,5 @@
 -- The product of two numbers fits where that of their absolute values does.
-use mathlib.Core.Path.{◌∙◌}
-use native.Mathlib.Omega.{arith}
-use mir.Facts.{to_z-of_z}
+use Rattle.std.proofs.Common.{◌∙◌, arith, to_z-of_z}
 use Rattle.integers.specs.Number.{◌⊗◌}
 use Rattle.integers.proofs.Fits.{fits64, times-size}
 use Rattle.integers.proofs.times.Goals as goal

@@ -1,8 +1,4 @@
-use mathlib.Core.Path.{sym, ◌∙◌}
-use native.Mathlib.Omega.{arith}
-use lib.IntN.{pos}
-use lib.ListN.{get_or}
-use borrow.Author.Rules.{rules}
+use Rattle.std.proofs.Common.{sym, ◌∙◌, arith, pos, get_or, rules}
 use Rattle.integers.specs.Number.{+0}
 use Rattle.integers.proofs.Fits.{back}
 use Rattle.integers.proofs.Places.{rest_more, rest-not, rest_end}

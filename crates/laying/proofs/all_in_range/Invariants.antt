@@ -1,7 +1,5 @@
 -- The loop's invariant: all numbers are in the range exactly if those not passed are.
-use mathlib.Core.Path.{◌≡◌}
-use Prim.Native.Nat.{◌-◌, ◌≤◌}
-use lib.ListN.{length, drop}
+use Rattle.std.proofs.Common.{◌≡◌, ◌-◌, ◌≤◌, length, drop}
 use Rattle.integers.specs.Lists.{all}
 use Rattle.words.specs.Word.{in_range}
 use Rattle.laying.proofs.all_in_range.Given as goal

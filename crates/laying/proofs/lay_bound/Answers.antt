@@ -1,8 +1,5 @@
 -- What `lay_part` laid is the part's words.
-use mathlib.Core.Path.{ap, sym}
-use mathlib.Core.Bool.{◌&&◌}
-use native.Mathlib.Omega.{arith}
-use mir.Facts.{to_z-of_z}
+use Rattle.std.proofs.Common.{ap, sym, ◌&&◌, arith, to_z-of_z}
 use Rattle.integers.specs.Lists.{all}
 use Rattle.integers.proofs.Booleans.{and-true}
 use Rattle.words.specs.Word.{in_range}

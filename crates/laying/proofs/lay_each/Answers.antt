@@ -1,7 +1,4 @@
-use mathlib.Core.Path.{sym, ◌∙◌}
-use native.Mathlib.Omega.{arith}
-use mir.Facts.{to_z-of_z}
-use borrow.Author.Tests.{leb-true}
+use Rattle.std.proofs.Common.{sym, ◌∙◌, arith, to_z-of_z, leb-true}
 use Rattle.integers.proofs.Booleans.{both_true}
 use Rattle.arguments.proofs.Size.{size-le}
 use Rattle.laying.proofs.Parts.{begun, more}

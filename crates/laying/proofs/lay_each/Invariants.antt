@@ -1,5 +1,5 @@
 -- The loop lays one list of parts in each turn: a term of coefficient c. A list has at most 32 elements.
-use Prim.Native.Nat.{◌+◌, ◌-◌, ◌≤◌}
+use Rattle.std.proofs.Common.{◌+◌, ◌-◌, ◌≤◌}
 use Rattle.laying.specs.Lists.{each_at}
 use Rattle.laying.proofs.Parts.{Laying}
 use Rattle.laying.proofs.lay_each.Given as goal

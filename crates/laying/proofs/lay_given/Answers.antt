@@ -1,6 +1,4 @@
-use lib.IntN.{pos}
-use lib.ListN.{get_or}
-use borrow.Author.Rules.{rules}
+use Rattle.std.proofs.Common.{pos, get_or, rules}
 use Rattle.integers.proofs.Fits.{back}
 use Rattle.laying.proofs.Parts.{begun, more}
 use Rattle.laying.proofs.lay_given.Goals as goal

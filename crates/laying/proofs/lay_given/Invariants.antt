@@ -1,6 +1,5 @@
--- The loop lays one list of parts in each turn: the k_th term.
-use Prim.Native.Nat.{◌-◌}
-use lib.ListN.{length}
+-- The loop lays one list of parts in each turn: the k-th term.
+use Rattle.std.proofs.Common.{◌-◌, length}
 use Rattle.laying.specs.Lists.{term_at}
 use Rattle.laying.proofs.Parts.{Laying}
 use Rattle.laying.proofs.lay_given.Given as goal

@@ -1,6 +1,5 @@
 -- What `lay_part` laid is the part's words.
-use mathlib.Core.Path.{refl}
-use native.Mathlib.Omega.{arith}
+use Rattle.std.proofs.Common.{refl, arith}
 use Rattle.integers.specs.Lists.{all}
 use Rattle.laying.specs.Part.{head, part_words, part_numbers, part_auxiliaries, part_rows}
 use Rattle.laying.proofs.Parts.{went-one}

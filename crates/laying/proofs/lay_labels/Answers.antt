@@ -1,8 +1,5 @@
-use mathlib.Core.Path.{sym, ◌∙◌}
-use native.Mathlib.Omega.{arith}
-use mir.Facts.{to_z-of_z, to_z_pos}
-use mir.Syntax.{w64}
-use borrow.Author.Tests.{leb-true}
+use Rattle.std.proofs.Common.{sym, ◌∙◌, arith, to_z-of_z, w64, leb-true}
+use mir.Facts.{to_z_pos}
 use Rattle.integers.proofs.Fits.{back}
 use Rattle.integers.proofs.Booleans.{both_true}
 use Rattle.laying.proofs.Parts.{begun, more, done}

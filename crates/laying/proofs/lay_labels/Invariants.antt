@@ -1,5 +1,5 @@
 -- The loop lays one list of parts in each turn: a term. Its coefficient is near the first one.
-use Prim.Native.Nat.{◌-◌}
+use Rattle.std.proofs.Common.{◌-◌}
 use Rattle.laying.specs.Lists.{label_at}
 use Rattle.laying.proofs.Parts.{Laying}
 use Rattle.laying.proofs.lay_labels.Given as goal

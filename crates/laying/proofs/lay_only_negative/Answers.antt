@@ -1,6 +1,5 @@
 -- A row of two given terms; u is so small that neither u+1 nor its opposite wraps.
-use native.Mathlib.Omega.{arith}
-use mir.Facts.{to_z-of_z}
+use Rattle.std.proofs.Common.{arith, to_z-of_z}
 use Rattle.arguments.proofs.Size.{read}
 use Rattle.laying.proofs.lay_only_negative.Goals as goal
 

@@ -1,5 +1,5 @@
 -- The loop lays one list of parts in each turn: a row.
-use Prim.Native.Nat.{◌-◌}
+use Rattle.std.proofs.Common.{◌-◌}
 use Rattle.laying.specs.Lists.{order_at}
 use Rattle.laying.proofs.Parts.{Laying}
 use Rattle.laying.proofs.lay_order.Given as goal

@@ -1,5 +1,5 @@
 -- The words go over the list, also where they have no room; the counts follow.
-use mathlib.Core.Path.{◌≡◌, sym, ◌∙◌}
+use Rattle.std.proofs.Common.{◌≡◌, sym, ◌∙◌}
 use Rattle.words.specs.Overlay.{overlay}
 use Rattle.laying.proofs.Counts.{overlay-past}
 use Rattle.laying.proofs.lay_part.Goals.{then-s-out, else-s-out, Joined-s-out}

@@ -1,4 +1,4 @@
-use native.Mathlib.Omega.{arith}
+use Rattle.std.proofs.Common.{arith}
 use Rattle.laying.proofs.Parts.{begun, more}
 use Rattle.laying.proofs.Counts.{sized-times, many-counted}
 use Rattle.laying.proofs.lay_products.Goals as goal

@@ -1,6 +1,5 @@
 -- A head, terms and a constant, one after the other.
-use native.Mathlib.Omega.{arith}
-use mir.Facts.{to_z-of_z}
+use Rattle.std.proofs.Common.{arith, to_z-of_z}
 use Rattle.laying.specs.Lists.{row_parts_of}
 use Rattle.laying.proofs.Parts.{went_then}
 use Rattle.laying.proofs.Counts.{sized_row, no_room}

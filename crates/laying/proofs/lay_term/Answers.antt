@@ -1,7 +1,5 @@
 -- What `lay_part` laid is the part's words.
-use native.Mathlib.Omega.{arith}
-use mir.Facts.{to_z-of_z}
-use mathlib.Core.Path.{sym}
+use Rattle.std.proofs.Common.{arith, to_z-of_z, sym}
 use Rattle.integers.specs.Lists.{all}
 use Rattle.integers.proofs.Booleans.{and-true}
 use Rattle.laying.specs.Part.{term, part_words, part_numbers, part_auxiliaries, part_rows}

@@ -1,5 +1,4 @@
-use Prim.Native.Nat.{◌+◌}
-use native.Mathlib.Omega.{arith}
+use Rattle.std.proofs.Common.{◌+◌, arith}
 use Rattle.integers.proofs.Fits.{back}
 use Rattle.models.specs.Model.{num, past}
 use Rattle.arguments.proofs.Size.{size-le}

@@ -1,5 +1,5 @@
--- The loop lays one list of parts in each turn: the k_th term. A list has at most 32 elements.
-use Prim.Native.Nat.{◌+◌, ◌-◌, ◌≤◌}
+-- The loop lays one list of parts in each turn: the k-th term. A list has at most 32 elements.
+use Rattle.std.proofs.Common.{◌+◌, ◌-◌, ◌≤◌}
 use Rattle.laying.specs.Lists.{sum_at}
 use Rattle.laying.proofs.Parts.{Laying}
 use Rattle.laying.proofs.lay_terms.Given as goal

@@ -1,6 +1,5 @@
 -- The loop's invariant: the test so far is that of the numbers passed.
-use mathlib.Core.Path.{◌≡◌}
-use Prim.Native.Nat.{◌+◌, ◌-◌, ◌≤◌}
+use Rattle.std.proofs.Common.{◌≡◌, ◌+◌, ◌-◌, ◌≤◌}
 use Rattle.integers.specs.Lists.{all, list_of}
 use Rattle.words.specs.Word.{in_range}
 use Rattle.models.specs.Model.{num}

@@ -1,6 +1,5 @@
-use mathlib.Core.Path.{refl}
+use Rattle.std.proofs.Common.{refl, arith}
 use mathlib.Core.List.{flat_map}
-use native.Mathlib.Omega.{arith}
 use Rattle.words.specs.Overlay.{overlay}
 use Rattle.laying.specs.Part.{words_in}
 use Rattle.laying.specs.Lists.{many}

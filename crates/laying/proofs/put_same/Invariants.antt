@@ -1,6 +1,5 @@
 -- The loop's invariant: the words of the terms passed went over the list.
-use mathlib.Core.Path.{◌≡◌}
-use Prim.Native.Nat.{◌-◌, ◌≤◌}
+use Rattle.std.proofs.Common.{◌≡◌, ◌-◌, ◌≤◌}
 use Rattle.words.specs.Overlay.{overlay}
 use Rattle.laying.specs.Part.{words_in}
 use Rattle.laying.specs.Lists.{many, same_at}

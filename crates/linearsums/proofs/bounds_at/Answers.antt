@@ -1,6 +1,5 @@
 -- The record at the place, and past the end 0 and 0.
-use mathlib.Core.Path.{refl}
-use native.Mathlib.Omega.{arith}
+use Rattle.std.proofs.Common.{refl, arith}
 use Rattle.std.proofs.lemmas.Grind.{common_steps}
 use Rattle.integers.specs.Bounds.{bounds_in}
 use Rattle.linearsums.proofs.bounds_at.Goals as goal

@@ -1,6 +1,5 @@
 -- The test is that of the definition.
-use mathlib.Core.Path.{◌∙◌}
-use borrow.Author.Tests.{eq-eqb, ne_eqb}
+use Rattle.std.proofs.Common.{◌∙◌, eq-eqb, ne_eqb}
 use Rattle.linearsums.specs.Places.{code_before}
 use Rattle.linearsums.proofs.code_before.Goals as goal
 

@@ -1,5 +1,5 @@
 -- The sum of the code there.
-use mathlib.Core.Path.{◌∙◌}
+use Rattle.std.proofs.Common.{◌∙◌}
 use Rattle.linearsums.specs.Places.{form_before}
 use Rattle.linearsums.proofs.form_before.Goals as goal
 

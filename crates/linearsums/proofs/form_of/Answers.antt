@@ -1,6 +1,5 @@
 -- The codes of the definition, and no others.
-use mathlib.Core.Path.{◌≡◌, refl}
-use native.Mathlib.Omega.{arith}
+use Rattle.std.proofs.Common.{◌≡◌, refl, arith}
 use Rattle.std.proofs.lemmas.Bool.Decides.{nat_tests}
 use Rattle.integers.specs.Lists.{any}
 use Rattle.linearsums.specs.Sum.{form_of}

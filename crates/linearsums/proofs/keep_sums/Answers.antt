@@ -1,5 +1,4 @@
-use mathlib.Core.Path.{◌≡◌}
-use native.Mathlib.Omega.{arith}
+use Rattle.std.proofs.Common.{◌≡◌, arith}
 use Rattle.integers.specs.Bounds.{bounds_in}
 use Rattle.linearsums.proofs.Keeping.{sums_kept}
 use Rattle.linearsums.proofs.keep_sums.Goals as goal

@@ -1,6 +1,5 @@
 -- The invariant: the lists have L and U of the constraints passed. The measure: how many are left.
-use mathlib.Core.Path.{◌≡◌}
-use Prim.Native.Nat.{◌-◌, ◌≤◌}
+use Rattle.std.proofs.Common.{◌≡◌, ◌-◌, ◌≤◌}
 use Rattle.integers.specs.Bounds.{bounds_in}
 use Rattle.linearsums.proofs.Keeping.{filled, sum}
 use Rattle.linearsums.proofs.keep_sums.Given as goal

@@ -1,5 +1,5 @@
 -- The loop's invariant is `Filling`.
-use Prim.Native.Nat.{◌-◌}
+use Rattle.std.proofs.Common.{◌-◌}
 use Rattle.linearsums.proofs.Filling.{Filling}
 use Rattle.linearsums.proofs.records_of.Given as goal
 

@@ -1,7 +1,4 @@
-use mathlib.Core.Path.{◌≡◌, ◌∙◌}
-use Prim.Native.Nat.{◌≤◌}
-use native.Mathlib.Numerals.{add-one}
-use native.Mathlib.Omega.{arith}
+use Rattle.std.proofs.Common.{◌≡◌, ◌∙◌, ◌≤◌, add-one, arith}
 use Rattle.integers.specs.Bounds.{bounds_in}
 use Rattle.words.specs.Small.{Near}
 use Rattle.linearsums.specs.Places.{sum_size}

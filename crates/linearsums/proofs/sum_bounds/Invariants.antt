@@ -1,6 +1,5 @@
 -- The invariant: the total is L and U of the terms passed. The measure: how many are left.
-use mathlib.Core.Path.{◌≡◌}
-use Prim.Native.Nat.{◌-◌, ◌≤◌}
+use Rattle.std.proofs.Common.{◌≡◌, ◌-◌, ◌≤◌}
 use Rattle.integers.specs.Bounds.{bounds_in}
 use Rattle.linearsums.specs.Places.{sum_up_to}
 use Rattle.linearsums.proofs.sum_bounds.Given as goal

@@ -1,6 +1,5 @@
 -- The tests are those of the definition.
-use mathlib.Core.Path.{◌∙◌}
-use borrow.Author.Tests.{eq-eqb, ne_eqb}
+use Rattle.std.proofs.Common.{◌∙◌, eq-eqb, ne_eqb}
 use Rattle.integers.proofs.Fits.{back}
 use Rattle.linearsums.specs.Places.{sum_number}
 use Rattle.linearsums.proofs.sum_number.Goals as goal

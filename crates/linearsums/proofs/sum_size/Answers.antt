@@ -1,6 +1,5 @@
 -- The tests are those of the definition.
-use mathlib.Core.Path.{◌∙◌}
-use borrow.Author.Tests.{eq-eqb, ne_eqb}
+use Rattle.std.proofs.Common.{◌∙◌, eq-eqb, ne_eqb}
 use Rattle.linearsums.specs.Places.{sum_size}
 use Rattle.linearsums.proofs.sum_size.Goals as goal
 

@@ -1,5 +1,5 @@
 -- 0 less a number near 0 fits.
-use native.Mathlib.Omega.{arith}
+use Rattle.std.proofs.Common.{arith}
 use Rattle.arguments.proofs.Size.{read}
 use Rattle.linearsums.proofs.Size.{constant-near}
 use Rattle.linearsums.proofs.sum_start.Goals as goal

@@ -1,6 +1,5 @@
 -- Both fields by what `with_ends` ensures.
-use mathlib.Core.Path.{◌∙◌, ap₂}
-use borrow.Author.Rules.{rules}
+use Rattle.std.proofs.Common.{◌∙◌, ap₂, rules}
 use Rattle.integers.specs.Bounds.{◌to◌}
 use Rattle.integers.proofs.Fits.{back}
 use Rattle.arguments.proofs.Size.{read}

@@ -1,7 +1,5 @@
 -- The tests are those of the definition.
-use mathlib.Core.Path.{◌∙◌}
-use native.Mathlib.Omega.{arith}
-use borrow.Author.Tests.{eq-eqb, ne_eqb}
+use Rattle.std.proofs.Common.{◌∙◌, arith, eq-eqb, ne_eqb}
 use Rattle.models.specs.Model.{past}
 use Rattle.arguments.proofs.Size.{size-le}
 use Rattle.linearsums.specs.Places.{sum_variable}

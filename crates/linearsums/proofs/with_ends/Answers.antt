@@ -1,6 +1,5 @@
 -- A product of near numbers is at most 2^54, the total before at most 2^60.
-use native.Mathlib.Omega.{arith}
-use mir.Facts.{to_z-of_z}
+use Rattle.std.proofs.Common.{arith, to_z-of_z}
 use Rattle.integers.specs.Number.{◌⊗◌}
 use Rattle.arguments.proofs.Size.{read}
 use Rattle.extremes.proofs.Size.{pick-size, product-size}

@@ -1,6 +1,5 @@
 -- The invariant: the bytes before place i are laid.
-use Prim.Native.Nat.{◌-◌}
-use lib.ListN.{length}
+use Rattle.std.proofs.Common.{◌-◌, length}
 use Rattle.words.proofs.Rest.{FirstLaid}
 use Rattle.lines.proofs.put_bytes.Given as goal
 

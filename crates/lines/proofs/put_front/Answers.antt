@@ -1,7 +1,5 @@
 -- A front of the words, or all of them.
-use mathlib.Core.Path.{sym}
-use native.Mathlib.Omega.{arith}
-use lib.Seq.{length-take-le, take_all}
+use Rattle.std.proofs.Common.{sym, arith, length-take-le, take_all}
 use Rattle.lines.proofs.put_front.Goals as goal
 
 pub slice_bounds-put_word_lines-end : goal.slice_bounds-put_word_lines-end

@@ -1,6 +1,5 @@
 -- The parts of the line, one after another; a number takes at most 10 bytes and a place 20.
-use Prim.Native.Nat.{◌≤◌}
-use native.Mathlib.Omega.{arith}
+use Rattle.std.proofs.Common.{◌≤◌, arith}
 use Rattle.integers.specs.Lists.{list_of}
 use Rattle.words.specs.Bytes.{bytes}
 use Rattle.lines.proofs.Lines.{laid-refusal, number_fits, place-fits}

@@ -1,7 +1,5 @@
 -- The invariant: what is left to lay are the lines of the words left. The measure: the words left.
-use Prim.Native.Nat.{◌*◌, ◌-◌, ◌≤◌}
-use mathlib.Core.Path.{◌≡◌}
-use lib.ListN.{length, drop}
+use Rattle.std.proofs.Common.{◌*◌, ◌-◌, ◌≤◌, ◌≡◌, length, drop}
 use Rattle.words.proofs.Rest.{Rest}
 use Rattle.lines.specs.Lines.{word_lines}
 use Rattle.lines.proofs.put_word_lines.Given as goal

@@ -1,8 +1,4 @@
-use mathlib.Core.Path.{◌≡◌, sym, ◌∙◌}
-use Prim.Native.Nat.{◌+◌, ◌<◌, ◌≤◌}
-use native.Mathlib.Omega.{arith}
-use lib.ListN.{length, get_or, drop_of_length-le}
-use borrow.Author.Rules.{rules}
+use Rattle.std.proofs.Common.{◌≡◌, sym, ◌∙◌, ◌+◌, ◌<◌, ◌≤◌, arith, length, get_or, drop_of_length-le, rules}
 use Rattle.integers.specs.Terms.{value}
 use Rattle.words.specs.Word.{word_at}
 use Rattle.words.specs.Verdict.{verdict}

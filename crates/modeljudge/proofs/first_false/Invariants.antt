@@ -1,6 +1,5 @@
--- The loop's invariant: judging the constraints from the k_th on gives what judging all gives.
-use Prim.Native.Nat.{◌-◌, ◌≤◌}
-use lib.ListN.{drop}
+-- The loop's invariant: judging the constraints from the k-th on gives what judging all gives.
+use Rattle.std.proofs.Common.{◌-◌, ◌≤◌, drop}
 use Rattle.integers.specs.Terms.{value}
 use Rattle.words.proofs.Judge.{Passed}
 use Rattle.models.specs.Meaning.{meaning}

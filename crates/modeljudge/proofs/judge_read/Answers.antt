@@ -1,10 +1,5 @@
 -- What is judged of the values comes first, over the words of the variables alone; then the constraints, as in the definition.
-use mathlib.Core.Path.{◌≡◌, sym, ap, ◌∙◌}
-use mathlib.Core.List.{List}
-use Prim.Native.Nat.{ℕ}
-use lib.IntN.{ℤ}
-use lib.ListN.{take}
-use lib.Seq.{length-take-le}
+use Rattle.std.proofs.Common.{◌≡◌, sym, ap, ◌∙◌, List, ℕ, ℤ, take, length-take-le}
 use Rattle.words.specs.Answer.{Answer, holds, is_holds}
 use Rattle.words.specs.Judge.{judge}
 use Rattle.words.specs.Refusal.{accepted, count_fault}

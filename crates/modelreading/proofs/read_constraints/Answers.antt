@@ -1,7 +1,4 @@
-use mathlib.Core.Path.{◌≡◌, sym, ◌∙◌}
-use Prim.Native.Nat.{◌+◌, ◌<◌}
-use native.Mathlib.Omega.{arith}
-use lib.ListN.{length, take}
+use Rattle.std.proofs.Common.{◌≡◌, sym, ◌∙◌, ◌+◌, ◌<◌, arith, length, take}
 use Rattle.words.specs.Word.{kind, payload, word_at}
 use Rattle.models.specs.Reading.{fault_head}
 use Rattle.modelitems.specs.Onward.{ArgumentsRead}

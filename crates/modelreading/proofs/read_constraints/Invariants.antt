@@ -1,6 +1,5 @@
 -- The invariant: reading the rest from here gives what reading the whole gives, and the heads so far are kept.
-use Prim.Native.Nat.{◌-◌}
-use lib.ListN.{length}
+use Rattle.std.proofs.Common.{◌-◌, length}
 use Rattle.modelreading.proofs.Loop.{Posing}
 use Rattle.modelreading.proofs.read_constraints.Given as goal
 

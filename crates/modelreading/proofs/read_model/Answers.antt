@@ -1,5 +1,5 @@
 -- The constraints follow the variables; a fault of either is the model's.
-use native.Mathlib.Omega.{arith}
+use Rattle.std.proofs.Common.{arith}
 use Rattle.modelreading.proofs.Loop.{kept-fault, too_long}
 use Rattle.modelreading.proofs.read_model.Goals as goal
 

@@ -1,5 +1,4 @@
-use native.Mathlib.Omega.{arith}
-use mathlib.Core.Path.{refl, sym, ◌∙◌}
+use Rattle.std.proofs.Common.{arith, refl, sym, ◌∙◌}
 use Rattle.modelitems.specs.Variable.{Declares}
 use Rattle.modelreading.proofs.Loop.{variables-fault, opening, opening-halted, opened, all-opened}
 use Rattle.modelreading.proofs.read_variables.Goals.{After-variable_at-variable}

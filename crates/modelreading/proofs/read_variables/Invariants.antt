@@ -1,6 +1,5 @@
 -- The invariant: reading the rest from here gives what reading the whole gives, and the variables so far are counted.
-use Prim.Native.Nat.{◌-◌}
-use lib.ListN.{length}
+use Rattle.std.proofs.Common.{◌-◌, length}
 use Rattle.modelreading.proofs.Loop.{Opening}
 use Rattle.modelreading.proofs.read_variables.Given as goal
 

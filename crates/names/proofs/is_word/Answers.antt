@@ -1,5 +1,5 @@
 -- Of a name the comparison, else false.
-use borrow.Author.Tests.{eq-eqb, ne_eqb}
+use Rattle.std.proofs.Common.{eq-eqb, ne_eqb}
 use Rattle.names.proofs.is_word.Goals as goal
 
 pub returns-then-sort-eq-NAME : goal.returns-then-sort-eq-NAME

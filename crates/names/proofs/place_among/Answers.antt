@@ -1,5 +1,4 @@
-use mathlib.Core.Path.{sym, ◌∙◌}
-use native.Mathlib.Omega.{arith}
+use Rattle.std.proofs.Common.{sym, ◌∙◌, arith}
 use Rattle.tokens.specs.Unread.{spanned}
 use Rattle.tokens.proofs.Places.{none_left, met-token, met-end}
 use Rattle.names.proofs.Names.{none-spelled, spelled-here, spelled-on}

@@ -1,7 +1,5 @@
 -- The invariant: the tokens passed are not the name. The measure: the bytes left.
-use mathlib.Core.Path.{◌≡◌}
-use Prim.Native.Nat.{◌-◌, ◌≤◌}
-use lib.ListN.{length}
+use Rattle.std.proofs.Common.{◌≡◌, ◌-◌, ◌≤◌, length}
 use Rattle.tokens.specs.Unread.{unread, spellings}
 use Rattle.names.specs.Name.{look_up}
 use Rattle.names.proofs.place_among.Given as goal

@@ -1,5 +1,4 @@
-use mathlib.Core.Path.{sym, ◌∙◌}
-use native.Mathlib.Omega.{arith}
+use Rattle.std.proofs.Common.{sym, ◌∙◌, arith}
 use Rattle.names.proofs.Names.{same-on, same-off, same-short, same_end}
 use Rattle.names.proofs.same_bytes.Goals as goal
 

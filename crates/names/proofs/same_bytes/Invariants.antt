@@ -1,7 +1,5 @@
 -- The invariant: the bytes passed are the same. The measure: the bytes left.
-use mathlib.Core.Path.{◌≡◌}
-use Prim.Native.Nat.{◌-◌, ◌≤◌}
-use lib.ListN.{length, drop}
+use Rattle.std.proofs.Common.{◌≡◌, ◌-◌, ◌≤◌, length, drop}
 use Rattle.names.specs.Name.{same}
 use Rattle.names.proofs.same_bytes.Given as goal
 

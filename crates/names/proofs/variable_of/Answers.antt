@@ -1,9 +1,5 @@
-use mathlib.Core.Path.{sym, ap, ◌∙◌}
-use Prim.Native.Nat.{ℕ, ◌+◌, ◌-◌}
-use native.Mathlib.Omega.{arith}
+use Rattle.std.proofs.Common.{sym, ap, ◌∙◌, ℕ, ◌+◌, ◌-◌, arith, eqb, take, drop}
 use Rattle.integers.proofs.Booleans.{bit_le}
-use lib.Dec.{eqb}
-use lib.ListN.{take, drop}
 use Rattle.tokens.specs.Unread.{unread, spanned}
 use Rattle.names.specs.Name.{look_up, declared_from}
 use Rattle.tokens.proofs.Places.{none_left, met-token, met-end}
@@ -24,8 +20,7 @@ returns-then-is_declared_here c =
 pub loop-i-preserved : goal.loop-i-preserved
 unfolding spanned
 loop-i-preserved c =
-    let x = take (c.args.stop - c.args.place) (drop c.args.place c.args.text.now) in
-    (
+    let x = take (c.args.stop - c.args.place) (drop c.args.place c.args.text.now) in (
       c.next_token-t.ensures.inside,
       omega (arith, bit_le c.loop-i.after_colon, c.one_if-k.ensures, c.loop-i.invariant.1, c.next_token-t.ensures.longer c.if-t-eq-END.false, c.next_token-t.ensures.onward),
       c.loop-i.invariant.2

@@ -1,8 +1,5 @@
 -- The invariant: the name is looked up among those declared from here on, after those passed. The measure: the bytes left.
-use mathlib.Core.Path.{◌≡◌}
-use mathlib.Core.Bool.{false}
-use Prim.Native.Nat.{◌-◌, ◌≤◌}
-use lib.ListN.{length, take, drop}
+use Rattle.std.proofs.Common.{◌≡◌, false, ◌-◌, ◌≤◌, length, take, drop}
 use Rattle.tokens.specs.Unread.{unread}
 use Rattle.names.specs.Name.{look_up, declared_from}
 use Rattle.names.proofs.variable_of.Given as goal

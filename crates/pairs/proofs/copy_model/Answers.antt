@@ -1,6 +1,5 @@
 -- The cases of copying: no word between the candidates, a model that is too long, a model that is laid.
-use mathlib.Core.Path.{sym, ap, ◌∙◌}
-use native.Mathlib.Omega.{arith}
+use Rattle.std.proofs.Common.{sym, ap, ◌∙◌, arith}
 use Rattle.words.specs.Overlay.{overlay}
 use Rattle.pairs.proofs.Models.{table-first, second-length}
 use Rattle.pairs.proofs.Copying.{without, stands, long, copied, is-first, is-second, first_count, second-count}

@@ -1,6 +1,5 @@
 -- The three tests of the definition, one after another.
-use mathlib.Core.Path.{sym, ◌∙◌}
-use borrow.Author.Tests.{eq-eqb, ne_eqb}
+use Rattle.std.proofs.Common.{sym, ◌∙◌, eq-eqb, ne_eqb}
 use Rattle.words.specs.Word.{kind}
 use Rattle.pairs.specs.Pair.{ends_table, separates}
 use Rattle.pairs.proofs.ends_table.Goals as goal

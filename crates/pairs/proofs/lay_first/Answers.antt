@@ -1,5 +1,5 @@
 -- The words before the place, then the end word.
-use mathlib.Core.Path.{◌∙◌}
+use Rattle.std.proofs.Common.{◌∙◌}
 use Rattle.pairs.proofs.Models.{first-laid}
 use Rattle.pairs.proofs.lay_first.Goals as goal
 

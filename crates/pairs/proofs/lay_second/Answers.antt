@@ -1,8 +1,5 @@
 -- The table, then the words after the place.
-use mathlib.Core.Path.{sym, ◌∙◌}
-use native.Mathlib.Omega.{arith}
-use Prim.Native.Nat.{◌+◌}
-use lib.ListN.{length-drop}
+use Rattle.std.proofs.Common.{sym, ◌∙◌, arith, ◌+◌, length-drop}
 use Rattle.words.proofs.Reading.{tail-is}
 use Rattle.pairs.proofs.Models.{second-laid, second-length, table-length}
 use Rattle.pairs.proofs.lay_second.Goals as goal

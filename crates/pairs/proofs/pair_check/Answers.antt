@@ -1,5 +1,5 @@
 -- The answer of copying where it refuses; else the front of the list is the candidate's model, and check's answer is its own.
-use mathlib.Core.Path.{refl, sym, ap, ◌∙◌}
+use Rattle.std.proofs.Common.{refl, sym, ap, ◌∙◌}
 use Rattle.rules.specs.Check.{check}
 use Rattle.checking.specs.Checked.{checked}
 use Rattle.pairs.proofs.Front.{front}

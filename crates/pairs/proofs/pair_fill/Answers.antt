@@ -1,8 +1,5 @@
 -- The answer of copying where it refuses; else the front of the list is the candidate's model, and what fill answers and hands over is its own.
-use mathlib.Core.Path.{refl, sym, ap, ◌∙◌}
-use mathlib.Core.List.{List}
-use Prim.Native.Nat.{ℕ}
-use lib.ListN.{length}
+use Rattle.std.proofs.Common.{refl, sym, ap, ◌∙◌, List, ℕ, length}
 use Rattle.rules.specs.Fill.{fill, filled}
 use Rattle.checking.proofs.Answers.{clash}
 use Rattle.filling.specs.Filled.{handed}

@@ -1,7 +1,5 @@
 -- The answer of copying where it refuses; else the front of the list is the candidate's model, and judge-model's answer is its own.
-use mathlib.Core.Path.{refl, sym, ap, ◌∙◌}
-use mathlib.Core.List.{List}
-use Prim.Native.Nat.{ℕ}
+use Rattle.std.proofs.Common.{refl, sym, ap, ◌∙◌, List, ℕ}
 use Rattle.words.specs.Verdict.{verdict}
 use Rattle.models.specs.JudgeModel.{judge_model}
 use Rattle.pairs.proofs.Front.{front}

@@ -1,8 +1,5 @@
 -- The answer of copying where it refuses; else the front of the list is the candidate's model, and translate's answer, output and shared solutions are its own.
-use mathlib.Core.Path.{refl, sym, ap, ◌∙◌}
-use mathlib.Core.List.{List}
-use Prim.Native.Nat.{ℕ}
-use lib.ListN.{length}
+use Rattle.std.proofs.Common.{refl, sym, ap, ◌∙◌, List, ℕ, length}
 use Rattle.words.specs.Written.{wrote}
 use Rattle.rules.specs.Translate.{translate, translated}
 use Rattle.checking.proofs.Answers.{clash}

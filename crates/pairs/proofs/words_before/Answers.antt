@@ -1,4 +1,4 @@
-use mathlib.Core.Path.{sym, ◌∙◌}
+use Rattle.std.proofs.Common.{sym, ◌∙◌}
 use Rattle.pairs.proofs.Before.{one_more, no_more, at-end}
 use Rattle.pairs.proofs.words_before.Goals as goal
 

@@ -1,6 +1,5 @@
 -- The invariant: no word so far passes the test.
-use Prim.Native.Nat.{◌-◌}
-use lib.ListN.{length}
+use Rattle.std.proofs.Common.{◌-◌, length}
 use Rattle.integers.specs.Choice.{◌if◌else◌}
 use Rattle.pairs.specs.Pair.{ends_table, separates}
 use Rattle.pairs.proofs.Before.{Passed}

@@ -1,5 +1,4 @@
-use native.Mathlib.Omega.{arith}
-use borrow.Author.Rules.{rules}
+use Rattle.std.proofs.Common.{arith, rules}
 use Rattle.arguments.proofs.Size.{size-le}
 use Rattle.picking.proofs.first_equal.Goals as goal
 

@@ -1,7 +1,5 @@
 -- The loop's invariant: no variable before place k has the value.
-use mathlib.Core.Path.{◌≡◌}
-use mathlib.Core.Bool.{false}
-use Prim.Native.Nat.{ℕ, ◌+◌, ◌-◌, ◌<◌, ◌≤◌}
+use Rattle.std.proofs.Common.{◌≡◌, false, ℕ, ◌+◌, ◌-◌, ◌<◌, ◌≤◌}
 use Rattle.integers.specs.Number.{◌≟◌}
 use Rattle.integers.specs.Terms.{value}
 use Rattle.models.specs.Model.{var}

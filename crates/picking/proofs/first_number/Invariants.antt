@@ -1,8 +1,5 @@
 -- The loop's invariant: no number before place k is v.
-use mathlib.Core.Path.{◌≡◌}
-use mathlib.Core.Bool.{false}
-use Prim.Native.Nat.{ℕ, ◌-◌, ◌<◌, ◌≤◌}
-use lib.ListN.{get_or}
+use Rattle.std.proofs.Common.{◌≡◌, false, ℕ, ◌-◌, ◌<◌, ◌≤◌, get_or}
 use Rattle.integers.specs.Number.{◌≟◌, +0}
 use Rattle.picking.proofs.first_number.Given as goal
 

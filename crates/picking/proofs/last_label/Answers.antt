@@ -1,5 +1,5 @@
 -- The lesser of the list's length and the upper bound that is read.
-use native.Mathlib.Omega.{arith}
+use Rattle.std.proofs.Common.{arith}
 use Rattle.arguments.proofs.Size.{size-le}
 use Rattle.picking.proofs.last_label.Goals as goal
 

@@ -1,7 +1,5 @@
 -- Each code by its own numbers; the others pick nothing.
-use mathlib.Core.Path.{refl}
-use mathlib.Core.List.{[], ◌∷◌}
-use borrow.Author.Rules.{rules}
+use Rattle.std.proofs.Common.{refl, [], ◌∷◌, rules}
 use Rattle.integers.specs.Lists.{any}
 use Rattle.words.proofs.LaidThen.{laid_none}
 use Rattle.models.specs.Model.{builtin, builtins}

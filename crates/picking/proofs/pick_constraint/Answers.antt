@@ -1,5 +1,5 @@
 -- Over the bits of the shared variable, or by the code's own picks.
-use mathlib.Core.Path.{sym, ◌∙◌}
+use Rattle.std.proofs.Common.{sym, ◌∙◌}
 use Rattle.rules.specs.Shared.{pick_after}
 use Rattle.picking.proofs.pick_constraint.Goals as goal
 

@@ -1,9 +1,5 @@
 -- The sum of 1 × a and −1 × b is a less b.
-use mathlib.Core.Path.{◌≡◌, ◌∙◌}
-use native.Mathlib.Omega.{arith}
-use mir.Syntax.{w64}
-use mir.Val.{to_z, of_z}
-use borrow.Author.Rules.{rules}
+use Rattle.std.proofs.Common.{◌≡◌, ◌∙◌, arith, w64, to_z, of_z, rules}
 use Rattle.integers.proofs.Fits.{back}
 use Rattle.integers.specs.Terms.{value}
 use Rattle.integers.specs.Number.{◌⊖◌}

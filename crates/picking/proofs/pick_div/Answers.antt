@@ -1,5 +1,5 @@
 -- The division of the values that are read.
-use native.Mathlib.Omega.{arith}
+use Rattle.std.proofs.Common.{arith}
 use Rattle.integers.proofs.Fits.{back}
 use Rattle.models.specs.Model.{var, builtin, builtins}
 use Rattle.arguments.proofs.Size.{value-near}

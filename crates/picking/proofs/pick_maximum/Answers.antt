@@ -1,8 +1,5 @@
 -- The place of the first element that is m.
-use mathlib.Core.Path.{◌≡◌}
-use mathlib.Core.List.{◌++◌, []}
-use Prim.Native.Nat.{◌+◌}
-use native.Mathlib.Omega.{arith}
+use Rattle.std.proofs.Common.{◌≡◌, ◌++◌, [], ◌+◌, arith}
 use Rattle.integers.specs.Number.{◌≟◌, +1}
 use Rattle.integers.specs.Terms.{value}
 use Rattle.integers.proofs.Fits.{back}

@@ -1,7 +1,5 @@
 -- The place of x among the members that stand at the front of the array.
-use mathlib.Core.Path.{◌≡◌, refl, ◌∙◌}
-use native.Mathlib.Omega.{arith}
-use lib.ListN.{length, get_or}
+use Rattle.std.proofs.Common.{◌≡◌, refl, ◌∙◌, arith, length, get_or}
 use Rattle.integers.specs.Number.{+0, +1}
 use Rattle.integers.specs.Bounds.{◌to◌}
 use Rattle.integers.proofs.Fits.{back}

@@ -1,6 +1,5 @@
 -- The quotient of the values that are read, then their division.
-use Prim.Native.Nat.{suc}
-use native.Mathlib.Omega.{arith}
+use Rattle.std.proofs.Common.{suc, arith}
 use Rattle.integers.proofs.Fits.{back}
 use Rattle.words.proofs.LaidThen.{laid_then}
 use Rattle.models.specs.Model.{var, builtin, builtins}
@@ -15,11 +14,10 @@ quotient_of-q-requires c =
 
 pub put_pick-next-requires : goal.put_pick-next-requires
 unfolding left_over_pick pick builtin builtins
-put_pick-next-requires c =
-    (
-      omega (arith, c.requires.place),
-      rw (back c.quotient_of-q.result c.quotient_of-q.type_inv, c.quotient_of-q.ensures.0, back c.value_of-n.result c.value_of-n.type_inv, c.value_of-n.ensures, back c.value_of-d.result c.value_of-d.type_inv, c.value_of-d.ensures) (c.requires.ranged 0),
-    )
+put_pick-next-requires c = (
+  omega (arith, c.requires.place),
+  rw (back c.quotient_of-q.result c.quotient_of-q.type_inv, c.quotient_of-q.ensures.0, back c.value_of-n.result c.value_of-n.type_inv, c.value_of-n.ensures, back c.value_of-d.result c.value_of-d.type_inv, c.value_of-d.ensures) (c.requires.ranged 0),
+)
 
 pub put_division-requires : goal.put_division-requires
 unfolding left_over_pick pick builtin builtins

@@ -1,6 +1,5 @@
 -- The bits of 28, where none are recorded.
-use mathlib.Core.Path.{sym, ◌∙◌}
-use borrow.Author.Tests.{eq-eqb, ne_eqb}
+use Rattle.std.proofs.Common.{sym, ◌∙◌, eq-eqb, ne_eqb}
 use Rattle.words.proofs.LaidThen.{laid_none}
 use Rattle.rules.specs.Shared.{new_pick}
 use Rattle.picking.proofs.Codes.{set-picks}

@@ -1,5 +1,5 @@
 -- The half is in the range.
-use borrow.Author.Rules.{rules}
+use Rattle.std.proofs.Common.{rules}
 use Rattle.integers.proofs.Fits.{back}
 use Rattle.models.specs.Model.{builtin, builtins}
 use Rattle.models.specs.Meaning.{on}

@@ -1,7 +1,5 @@
 -- Nothing for k=0; else the products of the power of the value that is read.
-use mathlib.Core.Path.{◌≡◌, sym, ◌∙◌}
-use Prim.Native.Nat.{◌≤◌}
-use native.Mathlib.Omega.{arith}
+use Rattle.std.proofs.Common.{◌≡◌, sym, ◌∙◌, ◌≤◌, arith}
 use Rattle.integers.proofs.Fits.{back}
 use Rattle.words.proofs.LaidThen.{laid_none}
 use Rattle.models.specs.Model.{var, exponent_at, builtin, builtins}

@@ -1,9 +1,5 @@
--- The label of the place is i, so its element is the i_th.
-use mathlib.Core.Path.{◌≡◌, ◌∙◌}
-use Prim.Native.Nat.{◌+◌}
-use native.Mathlib.Omega.{arith}
-use mir.Syntax.{w64}
-use mir.Val.{to_z, of_z}
+-- The label of the place is i, so its element is the i-th.
+use Rattle.std.proofs.Common.{◌≡◌, ◌∙◌, ◌+◌, arith, w64, to_z, of_z}
 use Rattle.integers.specs.Number.{count}
 use Rattle.integers.specs.Bounds.{◌to◌, width}
 use Rattle.integers.specs.Terms.{value}

@@ -1,6 +1,5 @@
 -- Each code by its own function; the others pick nothing.
-use borrow.Author.Tests.{ne_eqb}
-use borrow.Author.Rules.{rules}
+use Rattle.std.proofs.Common.{ne_eqb, rules}
 use Rattle.words.proofs.LaidThen.{laid_none}
 use Rattle.rules.specs.Shared.{choice, shared_pick}
 use Rattle.encodings.specs.Uses.{choice_of}

@@ -1,5 +1,5 @@
 -- The new bits, then the products.
-use native.Mathlib.Omega.{arith}
+use Rattle.std.proofs.Common.{arith}
 use Rattle.integers.specs.Terms.{value}
 use Rattle.words.proofs.LaidThen.{laid_then}
 use Rattle.models.specs.Model.{var}

@@ -1,5 +1,5 @@
 -- The bits of 24, then the products.
-use native.Mathlib.Omega.{arith}
+use Rattle.std.proofs.Common.{arith}
 use Rattle.words.proofs.LaidThen.{laid_then}
 use Rattle.picking.specs.Picked.{picks_of, product_picks}
 use Rattle.picking.proofs.Writing.{ranged-right}

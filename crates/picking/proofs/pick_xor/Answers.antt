@@ -1,6 +1,5 @@
 -- One product, then the other.
-use native.Mathlib.Omega.{arith}
-use borrow.Author.Rules.{rules}
+use Rattle.std.proofs.Common.{arith, rules}
 use Rattle.integers.proofs.Fits.{back}
 use Rattle.words.proofs.LaidThen.{laid_then}
 use Rattle.models.specs.Model.{builtin, builtins}

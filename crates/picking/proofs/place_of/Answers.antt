@@ -1,5 +1,5 @@
 -- The difference to the first number is the place.
-use mir.Facts.{to_z-of_z}
+use Rattle.std.proofs.Common.{to_z-of_z}
 use Rattle.integers.proofs.Fits.{back}
 use Rattle.integers.proofs.Tests.{says-lt, not-below}
 use Rattle.picking.proofs.Labels.{label_at, label-none}

@@ -1,7 +1,5 @@
 -- The bits, then the products.
-use native.Mathlib.Omega.{arith}
-use mir.Facts.{to_z-of_z}
-use borrow.Author.Rules.{rules}
+use Rattle.std.proofs.Common.{arith, to_z-of_z, rules}
 use Rattle.integers.specs.Number.{+1}
 use Rattle.words.proofs.LaidThen.{laid_then}
 use Rattle.picking.specs.Only.{only_at}

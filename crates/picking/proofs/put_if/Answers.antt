@@ -1,5 +1,5 @@
 -- Either number that is written.
-use mir.Facts.{to_z-of_z}
+use Rattle.std.proofs.Common.{to_z-of_z}
 use Rattle.picking.proofs.put_if.Goals as goal
 
 pub put_pick-requires : goal.put_pick-requires

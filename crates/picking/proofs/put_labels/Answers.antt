@@ -1,7 +1,5 @@
 -- The bits of the labels are 1 at one place only.
-use mathlib.Core.Path.{◌≡◌, ◌∙◌}
-use native.Mathlib.Omega.{arith}
-use mir.Facts.{to_z-of_z}
+use Rattle.std.proofs.Common.{◌≡◌, ◌∙◌, arith, to_z-of_z}
 use Rattle.integers.specs.Bounds.{◌to◌, width}
 use Rattle.extremes.proofs.Size.{width-size}
 use Rattle.picking.proofs.Only.{bits-ranged}

@@ -1,8 +1,5 @@
 -- The product of numbers near 0 fits; it is in the range.
-use mathlib.Core.Path.{ap}
-use native.Mathlib.Omega.{arith}
-use lib.IntN.{nat_abs}
-use mir.Facts.{to_z-of_z}
+use Rattle.std.proofs.Common.{ap, arith, nat_abs, to_z-of_z}
 use Rattle.words.proofs.Word.{range-near, near-back}
 use Rattle.integers.proofs.Fits.{back}
 use Rattle.picking.proofs.put_next.Goals as goal

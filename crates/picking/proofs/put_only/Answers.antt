@@ -1,25 +1,16 @@
-use mathlib.Core.Path.{◌≡◌, ◌∙◌}
-use Prim.Native.Nat.{◌+◌}
-use native.Mathlib.Omega.{arith}
-use lib.IntN.{pos}
-use lib.ListN.{get_or}
-use lib.Dec.{eqb}
-use mir.Syntax.{w64}
-use mir.Val.{to_z, of_z}
-use mir.Facts.{to_z-of_z}
-use borrow.Author.Rules.{rules}
+use Rattle.std.proofs.Common.{◌≡◌, ◌∙◌, ◌+◌, arith, pos, get_or, eqb, w64, to_z, of_z, to_z-of_z, rules}
 use Rattle.integers.specs.Choice.{◌if◌else◌}
 use Rattle.words.specs.Overlay.{overlay}
 use Rattle.words.specs.LaidAt.{LaidAt}
 use Rattle.words.proofs.Rest.{one-laid, all_laid}
 use Rattle.picking.specs.Only.{only_at}
-use Rattle.picking.proofs.Only.{only-length, only_at_lem}
+use Rattle.picking.proofs.Only.{only-length, get_or-only_at}
 use Rattle.picking.proofs.put_only.Goals.{After-loop-k, In-loop-k}
 use Rattle.picking.proofs.put_only.Goals as goal
 
 kept : (c : In-loop-k) → get_or (only_at c.args.n c.args.h c.args.v) c.loop-k.k (pos 0) ≡ (to_z w64 (of_z w64 c.args.v) if eqb c.loop-k.k c.args.h else pos 0)
 kept c =
-    only_at_lem c.args.n c.args.h c.args.v c.loop-k.k c.loop-k-test.true ∙ rw (to_z-of_z c.ranges.v)
+    get_or-only_at c.args.n c.args.h c.args.v c.loop-k.k c.loop-k-test.true ∙ rw (to_z-of_z c.ranges.v)
 
 ended : (c : After-loop-k) → LaidAt c.args.out.now c.args.at (only_at c.args.n c.args.h c.args.v) c.loop-k.out (c.args.at + c.loop-k.k)
 ended c =

@@ -1,5 +1,5 @@
 -- The loop's invariant: the numbers before place k are written.
-use Prim.Native.Nat.{◌-◌}
+use Rattle.std.proofs.Common.{◌-◌}
 use Rattle.words.proofs.Rest.{FirstLaid}
 use Rattle.picking.specs.Only.{only_at}
 use Rattle.picking.proofs.put_only.Given as goal

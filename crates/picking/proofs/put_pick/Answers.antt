@@ -1,10 +1,6 @@
 -- Inside the list the number is written; past its end nothing changes.
-use mathlib.Core.Path.{◌≡◌, sym, ◌∙◌}
-use lib.ListN.{set}
+use Rattle.std.proofs.Common.{◌≡◌, sym, ◌∙◌, set, to_z-of_z, rules, arith}
 use lib.Seq.{set_out}
-use mir.Facts.{to_z-of_z}
-use borrow.Author.Rules.{rules}
-use native.Mathlib.Omega.{arith}
 use Rattle.integers.proofs.Fits.{fits32}
 use Rattle.words.specs.Overlay.{overlay}
 use Rattle.words.proofs.Word.{range-near}

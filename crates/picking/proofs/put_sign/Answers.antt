@@ -1,6 +1,5 @@
 -- Both numbers are 0 unless x is negative.
-use native.Mathlib.Omega.{arith}
-use mir.Facts.{to_z-of_z}
+use Rattle.std.proofs.Common.{arith, to_z-of_z}
 use Rattle.words.proofs.LaidThen.{laid_then}
 use Rattle.rules.specs.Pick.{sign_pick}
 use Rattle.picking.proofs.Only.{bit-times, sign-pick}

@@ -1,8 +1,5 @@
 -- One number, then two more.
-use Prim.Native.Nat.{suc}
-use native.Mathlib.Omega.{arith}
-use mir.Facts.{to_z-of_z}
-use borrow.Author.Rules.{rules}
+use Rattle.std.proofs.Common.{suc, arith, to_z-of_z, rules}
 use Rattle.words.proofs.LaidThen.{laid_then}
 use Rattle.rules.specs.Pick.{signed_pick}
 use Rattle.picking.proofs.put_signed.Goals as goal

@@ -1,8 +1,5 @@
 -- A quotient is no larger than the dividend; by zero it is 0.
-use mathlib.Core.Bool.{not}
-use mathlib.Core.Path.{ap}
-use native.Mathlib.Omega.{arith}
-use mir.Facts.{to_z-of_z}
+use Rattle.std.proofs.Common.{not, ap, arith, to_z-of_z}
 use Rattle.integers.proofs.Fits.{above_zero}
 use Rattle.picking.proofs.Division.{by_zero}
 use Rattle.picking.proofs.quotient_of.Goals as goal

@@ -1,5 +1,5 @@
 -- The sum is at most 2^59.
-use native.Mathlib.Omega.{arith}
+use Rattle.std.proofs.Common.{arith}
 use Rattle.integers.proofs.Fits.{back}
 use Rattle.arguments.proofs.Size.{num-size}
 use Rattle.picking.proofs.Sizes.{sum-size}

@@ -1,5 +1,5 @@
 -- Small values have a product of at most 2^54.
-use native.Mathlib.Omega.{arith}
+use Rattle.std.proofs.Common.{arith}
 use Rattle.integers.proofs.Fits.{back, mul-le}
 use Rattle.models.specs.Model.{var}
 use Rattle.arguments.proofs.Size.{value-near}

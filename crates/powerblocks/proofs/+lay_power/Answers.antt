@@ -1,5 +1,5 @@
 -- What a step lays is counted, so that the next one has room; the products are those of half the power, and one or two more.
-use native.Mathlib.Omega.{arith}
+use Rattle.std.proofs.Common.{arith}
 use Rattle.integers.specs.Bounds.{bit}
 use Rattle.powerblocks.proofs.Steps.{products-one, products_even, products-odd}
 use Rattle.powerblocks.proofs.+lay_power.Goals as goal

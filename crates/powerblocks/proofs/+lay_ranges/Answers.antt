@@ -1,5 +1,5 @@
 -- The bounds are those of half the power, and one or two more.
-use mir.Facts.{to_z-of_z}
+use Rattle.std.proofs.Common.{to_z-of_z}
 use Rattle.words.proofs.Word.{near-back}
 use Rattle.integers.specs.Bounds.{◌to◌}
 use Rattle.powerblocks.proofs.Steps.{ranges_one, ranges_even, ranges_odd}

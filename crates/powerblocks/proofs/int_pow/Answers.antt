@@ -1,6 +1,5 @@
 -- For k=0 one row; else the bounds, the products and the last row.
-use native.Mathlib.Omega.{arith}
-use borrow.Author.Rules.{rules}
+use Rattle.std.proofs.Common.{arith, rules}
 use Rattle.integers.specs.Bounds.{bit}
 use Rattle.integers.proofs.Fits.{back}
 use Rattle.rules.specs.Rule.{rule}
@@ -24,8 +23,7 @@ unfolding rule
 returns c =
     let β = bounds_of c.args.ls.now c.args.us.now in
     let r = rw (back c.bound_at-lower.result c.bound_at-lower.type_inv, c.bound_at-lower.ensures, back c.bound_at-upper.result c.bound_at-upper.type_inv, c.bound_at-upper.ensures) at c.lay_ranges-ranged.ensures in
-    let p = c.lay_power-chained.ensures (β c.args.x) in
-    (
+    let p = c.lay_power-chained.ensures (β c.args.x) in (
       went-alike (power-alike c.args.first β c.args.x c.args.k c.args.z c.lay_power-chained.result.held (omega (arith, c.if-k-eq0.false)) (c.requires.3 c.args.x) (c.requires.4 c.args.x) p.held)
           (went_then r.went (went_then p.went c.lay_row-2.ensures.0)),
       omega (arith, c.requires.2, r.size, p.size, c.lay_row-2.ensures.1),

@@ -1,8 +1,5 @@
 -- The end products of bounds near 0, cut, then laid.
-use mathlib.Core.Path.{ap, ap₂}
-use native.Mathlib.Omega.{arith}
-use lib.IntN.{nat_abs}
-use mir.Facts.{to_z-of_z}
+use Rattle.std.proofs.Common.{ap, ap₂, arith, nat_abs, to_z-of_z}
 use Rattle.words.proofs.Word.{near-back}
 use Rattle.integers.specs.Bounds.{◌to◌}
 use Rattle.integers.proofs.Fits.{back}

@@ -1,8 +1,5 @@
 -- 15, the sources' bounds, the auxiliaries', the rows.
-use mathlib.Core.Path.{refl, sym, ◌∙◌}
-use native.Mathlib.Omega.{arith}
-use lib.Seq.{length-take-le}
-use Rattle.integers.proofs.Tests.{false-true}
+use Rattle.std.proofs.Common.{refl, sym, ◌∙◌, arith}
 use Rattle.sharing.proofs.Theorem.{few_in_all}
 use Rattle.reasoning.specs.Told.{told}
 use Rattle.reasoning.proofs.Whole.{wrong-count, source-outside, auxiliary-outside, rows_next, values-small}

@@ -1,6 +1,5 @@
 -- The kind that a test finds says which case of the definition it is.
-use mathlib.Core.Path.{sym, ◌∙◌}
-use borrow.Author.Tests.{ne_eqb}
+use Rattle.std.proofs.Common.{sym, ◌∙◌, ne_eqb}
 use Rattle.rowsystems.specs.Reading.{fault_item}
 use Rattle.rowfaults.proofs.fault_item.Goals as goal
 

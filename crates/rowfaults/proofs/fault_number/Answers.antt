@@ -1,5 +1,5 @@
 -- The code tests as the definition does.
-use borrow.Author.Tests.{eq-eqb, ne_eqb}
+use Rattle.std.proofs.Common.{eq-eqb, ne_eqb}
 use Rattle.rowsystems.specs.Reading.{fault_number}
 use Rattle.rowfaults.proofs.fault_number.Goals as goal
 

@@ -1,6 +1,5 @@
 -- The kind that a test finds says which case of the definition it is.
-use mathlib.Core.Path.{sym, ◌∙◌}
-use borrow.Author.Tests.{le-ltb, lt-ltb, ne_eqb}
+use Rattle.std.proofs.Common.{sym, ◌∙◌, le-ltb, lt-ltb, ne_eqb}
 use Rattle.rowsystems.specs.Reading.{fault_source}
 use Rattle.rowfaults.proofs.fault_source.Goals as goal
 

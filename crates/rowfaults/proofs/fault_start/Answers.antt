@@ -1,6 +1,5 @@
 -- A variable starts with one of three kinds, the code tests in another order than the definition.
-use mathlib.Core.Path.{◌≡◌, sym, ◌∙◌}
-use borrow.Author.Tests.{lt-ltb, le-ltb}
+use Rattle.std.proofs.Common.{◌≡◌, sym, ◌∙◌, lt-ltb, le-ltb}
 use Rattle.words.specs.Kind as Kind
 use Rattle.words.specs.Word.{kind}
 use Rattle.rowsystems.specs.Reading.{fault_source}

@@ -1,11 +1,6 @@
 -- The code tests as the definition does.
-use mathlib.Core.Path.{◌≡◌, sym, ◌∙◌}
-use mathlib.Core.Bool.{true, false}
-use borrow.Author.Tests.{eq-eqb, ne_eqb}
-use lib.Dec.{eqb}
+use Rattle.std.proofs.Common.{◌≡◌, sym, ◌∙◌, true, false, eq-eqb, ne_eqb, eqb, w64, to_z, of_z}
 use lib.Signed.{lt_z}
-use mir.Syntax.{w64}
-use mir.Val.{to_z, of_z}
 use Rattle.integers.proofs.Fits.{back}
 use Rattle.words.specs.Word.{kind, signed, too_low}
 use Rattle.words.specs.Limit as Limit

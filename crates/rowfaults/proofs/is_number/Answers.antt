@@ -1,8 +1,5 @@
 -- The code tests as the definition does.
-use mathlib.Core.Path.{◌≡◌, refl}
-use mathlib.Core.Bool.{Bool, true, false, not}
-use borrow.Author.Tests.{eq-eqb, ne_eqb}
-use lib.Dec.{eqb}
+use Rattle.std.proofs.Common.{◌≡◌, refl, Bool, true, false, not, eq-eqb, ne_eqb, eqb}
 use Rattle.integers.specs.Choice.{◌if◌else◌}
 use Rattle.words.specs.Fault as Fault
 use Rattle.rowsystems.specs.Reading.{fault_number}

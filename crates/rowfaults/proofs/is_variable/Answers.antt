@@ -1,10 +1,5 @@
 -- The code tests as the definition does.
-use mathlib.Core.Path.{◌≡◌, refl}
-use mathlib.Core.Bool.{Bool, true, false}
-use Prim.Native.Nat.{ℕ}
-use native.Mathlib.Omega.{arith}
-use borrow.Author.Tests.{eq-eqb, ne_eqb, lt-ltb, le-ltb, leb-true, leb-false}
-use lib.Dec.{eqb, leb, ltb}
+use Rattle.std.proofs.Common.{◌≡◌, refl, Bool, true, false, ℕ, arith, eq-eqb, ne_eqb, lt-ltb, le-ltb, leb-true, leb-false, eqb, leb, ltb}
 use Rattle.integers.specs.Choice.{◌if◌else◌}
 use Rattle.words.specs.Fault as Fault
 use Rattle.rowsystems.specs.Reading.{fault_variable}

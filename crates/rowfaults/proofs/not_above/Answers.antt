@@ -1,5 +1,6 @@
 -- The code tests as the definition does.
-use borrow.Author.Tests.{eq-eqb, le-leb, lt-leb, ne_eqb}
+use Rattle.std.proofs.Common.{eq-eqb, le-leb, ne_eqb}
+use borrow.Author.Tests.{lt-leb}
 use Rattle.rowsystems.specs.Reading.{not_above}
 use Rattle.rowfaults.proofs.not_above.Goals as goal
 

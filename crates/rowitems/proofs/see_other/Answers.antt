@@ -1,14 +1,10 @@
 -- The head of a product is followed by its variables; any other head without a fault is the end.
-use mathlib.Core.Path.{◌≡◌, sym, ◌∙◌}
-use native.Mathlib.Omega.{arith}
-use Prim.Native.Nat.{ℕ, ◌+◌, ◌≤◌}
-use lib.ListN.{length}
+use Rattle.std.proofs.Common.{◌≡◌, sym, ◌∙◌, arith, ℕ, ◌+◌, ◌≤◌, length}
 use Rattle.integers.specs.Terms.{value}
 use Rattle.rowsystems.specs.Reading.{started}
 use Rattle.rowreading.specs.Onward.{step_over}
 use Rattle.rowreading.proofs.Inner.{after-end}
 use Rattle.rowitems.proofs.Passing.{Head, head-there, head-stops, head-then, none-started, product-row, product-due, product-true, end-due}
-use borrow.Author.Rules.{rules}
 use Rattle.rowitems.proofs.see_other.Goals.{After-fault_head-number, Else-number-ne-NONE}
 use Rattle.rowitems.proofs.see_other.Goals as goal
 

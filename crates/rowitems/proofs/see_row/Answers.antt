@@ -1,14 +1,10 @@
 -- The head, then the terms and the constant, all there or cut off.
-use mathlib.Core.Path.{◌≡◌, sym, ◌∙◌}
-use native.Mathlib.Omega.{arith}
-use Prim.Native.Nat.{◌+◌, ◌≤◌}
-use lib.ListN.{length, drop}
+use Rattle.std.proofs.Common.{◌≡◌, sym, ◌∙◌, arith, ◌+◌, ◌≤◌, length, drop}
 use Rattle.integers.specs.Terms.{value}
 use Rattle.words.specs.Limit as Limit
 use Rattle.words.specs.Word.{payload}
 use Rattle.rowsystems.specs.Reading.{started}
 use Rattle.rowitems.proofs.Passing.{Head, head-there, head-stops, head-then, none-started, sum-due, sum-starts, sum-fault, sum-few, sum-true}
-use borrow.Author.Rules.{rules}
 use Rattle.rowitems.proofs.see_row.Goals.{After-fault_row-number, Else-number-ne-NONE}
 use Rattle.rowitems.proofs.see_row.Goals as goal
 

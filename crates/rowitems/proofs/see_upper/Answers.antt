@@ -1,7 +1,5 @@
 -- A fault of the word, or the word and the test of the value.
-use mathlib.Core.Path.{◌≡◌, ◌∙◌}
-use mir.Facts.{to_z-of_z}
-use borrow.Author.Tests.{ne_eqb}
+use Rattle.std.proofs.Common.{◌≡◌, ◌∙◌, to_z-of_z, ne_eqb}
 use Rattle.words.specs.Word.{word_at}
 use Rattle.rowsystems.specs.Reading.{fault_upper}
 use Rattle.rowreading.specs.Onward.{step_over}
@@ -14,11 +12,10 @@ fault c = c.fault_upper-number.ensures ∙ rw c.word_at-upper.ensures
 
 pub returns : goal.returns
 unfolding step_over
-returns c =
-    (
-      rw (← fault (goal.at.returns c).After-fault_upper-number, c.if-number-ne-NONE.false),
-      λ z. c.between-holds.ensures ∙ rw (to_z-of_z (record { sfits = c.signed_of.type_inv }), to_z-of_z (record { sfits = c.signed_of-2.type_inv }), c.signed_of.ensures, c.signed_of-2.ensures, to_z-of_z c.ranges.v, c.word_at-upper.ensures),
-    )
+returns c = (
+  rw (← fault (goal.at.returns c).After-fault_upper-number, c.if-number-ne-NONE.false),
+  λ z. c.between-holds.ensures ∙ rw (to_z-of_z (record { sfits = c.signed_of.type_inv }), to_z-of_z (record { sfits = c.signed_of-2.type_inv }), c.signed_of.ensures, c.signed_of-2.ensures, to_z-of_z c.ranges.v, c.word_at-upper.ensures),
+)
 
 pub returns-then-number-ne-NONE : goal.returns-then-number-ne-NONE
 unfolding step_over

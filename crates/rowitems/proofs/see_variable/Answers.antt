@@ -1,9 +1,5 @@
 -- The head, then the upper bound of a pair; a Boolean has none.
-use mathlib.Core.Path.{◌≡◌, sym, ◌∙◌}
-use native.Mathlib.Omega.{arith}
-use Prim.Native.Nat.{◌+◌, ◌≤◌}
-use mir.Facts.{to_z-of_z}
-use lib.ListN.{length}
+use Rattle.std.proofs.Common.{◌≡◌, sym, ◌∙◌, arith, ◌+◌, ◌≤◌, to_z-of_z, length}
 use Rattle.words.specs.Variables.{starts_pair}
 use Rattle.variables.specs.Start.{pair_bounds}
 use Rattle.rowsystems.specs.Reading.{after_due, after_item, started}
@@ -11,7 +7,6 @@ use Rattle.rowfaults.proofs.Heads.{boolean-kind}
 use Rattle.rowreading.specs.Item.{start_due}
 use Rattle.rowreading.proofs.Inner.{source-upper, auxiliary-upper, no_word}
 use Rattle.rowitems.proofs.Passing.{Head, head-there, head-stops, head-then, one-started}
-use borrow.Author.Rules.{rules}
 use Rattle.rowitems.proofs.see_variable.Goals.{After-fault_start-number, Else-number-ne-NONE}
 use Rattle.rowitems.proofs.see_variable.Goals as goal
 

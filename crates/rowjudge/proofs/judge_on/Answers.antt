@@ -1,12 +1,5 @@
-use mathlib.Core.Path.{◌≡◌, refl, sym, ◌∙◌}
-use native.Mathlib.Omega.{arith}
-use mathlib.Core.Bool.{true, false, not}
-use mathlib.Core.List.{◌∷◌}
-use Prim.Native.Nat.{◌+◌, ◌<◌}
+use Rattle.std.proofs.Common.{◌≡◌, refl, sym, ◌∙◌, arith, true, false, not, ◌∷◌, ◌+◌, ◌<◌, eqb, length, drop, to_z-of_z}
 use borrow.Author.Tests.{not-true, not-false}
-use lib.Dec.{eqb}
-use lib.ListN.{length, drop}
-use mir.Facts.{to_z-of_z}
 use Rattle.integers.specs.Bounds.{within}
 use Rattle.integers.specs.Terms.{value}
 use Rattle.words.specs.Kind as Kind

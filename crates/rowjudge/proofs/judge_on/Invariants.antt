@@ -1,7 +1,5 @@
 -- The invariant: reading on from here finds what reading from the start finds, and the pass has judged what stands between.
-use mathlib.Core.Path.{◌≡◌}
-use Prim.Native.Nat.{◌-◌}
-use lib.ListN.{length}
+use Rattle.std.proofs.Common.{◌≡◌, ◌-◌, length}
 use Rattle.rowreading.specs.Item.{start_due}
 use Rattle.rowreading.specs.Onward.{onward, Placed}
 use Rattle.rowjudge.proofs.Judging.{Judging}

@@ -1,5 +1,5 @@
 -- The reading on tells the refusal and the number of variables.
-use mathlib.Core.Path.{refl}
+use Rattle.std.proofs.Common.{refl}
 use Rattle.words.specs.Verdict.{verdict}
 use Rattle.rowjudge.proofs.judge_rest.Goals as goal
 

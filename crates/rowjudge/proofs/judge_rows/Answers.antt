@@ -1,8 +1,5 @@
 -- Too many words, else the judge from the first word on, then the number of values.
-use mathlib.Core.Path.{◌≡◌, ◌∙◌}
-use native.Mathlib.Omega.{arith}
-use borrow.Author.Tests.{lt-ltb, le-ltb}
-use lib.ListN.{length}
+use Rattle.std.proofs.Common.{◌≡◌, ◌∙◌, arith, lt-ltb, le-ltb, length}
 use Rattle.words.specs.Answer.{◌else_answer◌}
 use Rattle.words.specs.Judge.{judge}
 use Rattle.words.specs.Refusal.{◌else_refuse◌, count_fault}

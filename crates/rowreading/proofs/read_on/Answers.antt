@@ -1,14 +1,10 @@
-use mathlib.Core.Path.{◌≡◌, refl, sym, ap, ◌∙◌}
-use mathlib.Core.Bool.{Bool}
-use mathlib.Core.List.{List}
-use Prim.Native.Nat.{ℕ, ◌+◌}
-use native.Mathlib.Omega.{arith}
+use Rattle.std.proofs.Common.{◌≡◌, sym, ap, ◌∙◌, Bool, List, ℕ, ◌+◌, arith}
 use Rattle.words.specs.Word.{word_at}
 use Rattle.words.specs.declared.Refusal.{Refusal}
 use Rattle.rowfaults.specs.Head.{fault_at_head}
 use Rattle.rowreading.specs.Item.{start_due, due_after}
 use Rattle.rowreading.specs.Onward.{onward, stopped}
-use Rattle.rowreading.proofs.Counts.{CountedFrom, none-counted, count-plain, count_head, counted}
+use Rattle.rowreading.proofs.Counts.{CountedFrom, count-plain, count_head, counted}
 use Rattle.rowreading.proofs.Heads.{started-few, head-here, head-halted, head-gone, term-gone}
 use Rattle.rowreading.proofs.Onward.{at_the_end}
 use Rattle.rowreading.proofs.Steps.{gone, halted}
@@ -79,17 +75,15 @@ loop-left-preserved c =
     )
 
 pub items-preserved : goal.items-preserved
-items-preserved c =
-    (
-      record { within = c.read_rest-rest.ensures.inside; few = c.loop-left.invariant.0.few },
-      count-plain c.loop-left.invariant.1 c.read_rest-rest.ensures.plain c.read_rest-rest.ensures.on c.read_rest-rest.ensures.inside,
-      rw c.sources_after-sources.ensures (let z : c.loop-left.left ≡ 0 = omega (arith, c.loop-left-test.false) in sym (gone c.read_rest-rest.ensures c.if-number-ne-NONE-3.false) ∙ rw z at c.loop-left.invariant.4),
-    )
+items-preserved c = (
+  record { within = c.read_rest-rest.ensures.inside; few = c.loop-left.invariant.0.few },
+  count-plain c.loop-left.invariant.1 c.read_rest-rest.ensures.plain c.read_rest-rest.ensures.on c.read_rest-rest.ensures.inside,
+  rw c.sources_after-sources.ensures (let z : c.loop-left.left ≡ 0 = omega (arith, c.loop-left-test.false) in sym (gone c.read_rest-rest.ensures c.if-number-ne-NONE-3.false) ∙ rw z at c.loop-left.invariant.4),
+)
 
 pub returns : goal.returns
 returns c =
-    let o = out (goal.at.returns c).Joined-number-ne-NONE in
-    (
+    let o = out (goal.at.returns c).Joined-number-ne-NONE in (
       c.refusal_at.ensures ∙ o.reads,
       λ z. counted o.all (at_the_end _ c.if-number-ne-NONE.number c.if-number-ne-NONE.at o.some (ap (λ (r : Refusal). r.number) (sym c.refusal_at.ensures) ∙ z)).1,
     )

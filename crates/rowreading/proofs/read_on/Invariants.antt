@@ -1,7 +1,5 @@
 -- The invariant: reading on from here finds what reading from the start finds, and n variables stand before; in a row, with so many terms left.
-use mathlib.Core.Path.{◌≡◌}
-use Prim.Native.Nat.{◌-◌, ◌≤◌}
-use lib.ListN.{length}
+use Rattle.std.proofs.Common.{◌≡◌, ◌-◌, ◌≤◌, length}
 use Rattle.rowreading.specs.Item.{start_due, due_with, item_terms}
 use Rattle.rowreading.specs.Onward.{onward, Placed}
 use Rattle.rowreading.proofs.Counts.{CountedFrom}

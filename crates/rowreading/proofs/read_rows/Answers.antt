@@ -1,7 +1,5 @@
 -- Too many words, else reading from the first word on.
-use mathlib.Core.Path.{◌∙◌}
-use native.Mathlib.Omega.{arith}
-use borrow.Author.Tests.{lt-ltb, le-ltb}
+use Rattle.std.proofs.Common.{◌∙◌, lt-ltb, le-ltb}
 use Rattle.rowsystems.specs.Reading.{read_rows}
 use Rattle.rowreading.specs.Item.{start_due}
 use Rattle.rowreading.specs.Onward.{onward}

@@ -1,5 +1,5 @@
 -- The code tests as the definition does.
-use borrow.Author.Tests.{eq-eqb, le-ltb, lt-ltb, ne_eqb}
+use Rattle.std.proofs.Common.{eq-eqb, le-ltb, lt-ltb, ne_eqb}
 use Rattle.rowreading.specs.Onward.{stopped}
 use Rattle.rowreading.proofs.refusal_at.Goals as goal
 

@@ -1,5 +1,5 @@
 -- The code tests as the definition does.
-use borrow.Author.Tests.{eq-eqb, ne_eqb}
+use Rattle.std.proofs.Common.{eq-eqb, ne_eqb}
 use Rattle.words.specs.Variables.{starts_pair}
 use Rattle.rowsystems.specs.Reading.{started}
 use Rattle.rowreading.proofs.started_of.Goals as goal

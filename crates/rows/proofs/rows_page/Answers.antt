@@ -1,6 +1,5 @@
 -- The refusal's line, or the lines of the row system's words.
-use mathlib.Core.Path.{refl}
-use native.Mathlib.Omega.{arith}
+use Rattle.std.proofs.Common.{refl, arith}
 use Rattle.words.specs.Written.{wrote}
 use Rattle.encoding.specs.Bytes.{bytes_words}
 use Rattle.encoding.proofs.Words.{quarter}

@@ -1,7 +1,5 @@
 -- The two tests of the sum.
-use mathlib.Core.Path.{◌≡◌, sym, ◌∙◌}
-use mir.Facts.{to_z-of_z}
-use borrow.Author.Tests.{eq-eqb, ne_eqb}
+use Rattle.std.proofs.Common.{◌≡◌, sym, ◌∙◌, to_z-of_z, eq-eqb, ne_eqb}
 use Rattle.words.specs.Kind as Kind
 use Rattle.words.specs.Word.{kind}
 use Rattle.rowterms.specs.Values.{is_true}

@@ -1,11 +1,6 @@
 -- The element, made wider.
-use mathlib.Core.Path.{◌∙◌}
-use native.Mathlib.Omega.{arith}
-use lib.ListN.{get_or}
-use lib.IntN.{pos}
-use mir.Syntax.{w32, w64}
-use mir.Val.{SFits, to_z, of_z}
-use mir.Facts.{to_z-of_z, sfits_widen}
+use Rattle.std.proofs.Common.{◌∙◌, arith, get_or, pos, w32, w64, SFits, to_z, of_z, to_z-of_z}
+use mir.Facts.{sfits_widen}
 use Rattle.integers.specs.Terms.{value}
 use Rattle.rowterms.proofs.known_value.Goals as goal
 

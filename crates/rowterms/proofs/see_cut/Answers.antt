@@ -1,6 +1,4 @@
-use mathlib.Core.Path.{◌≡◌, refl, sym, ap, ◌∙◌}
-use native.Mathlib.Omega.{arith}
-use Prim.Native.Nat.{suc, ◌+◌, ◌-◌}
+use Rattle.std.proofs.Common.{◌≡◌, refl, sym, ap, ◌∙◌, arith, suc, ◌+◌, ◌-◌}
 use Rattle.rowsystems.specs.declared.Due.TheVariants.{Terms, Item}
 use Rattle.rowreading.specs.Onward.{StepsTo}
 use Rattle.rowreading.specs.declared.items.Step.{Step}
@@ -32,12 +30,11 @@ pub returns-then-term-ne-NONE : goal.returns-then-term-ne-NONE
 returns-then-term-ne-NONE c = rw c.faulty.ensures (or-halted (went (goal.at.returns-then-term-ne-NONE c).After-read_term-term) c.if-term-ne-NONE.true, c.if-term-ne-NONE.true)
 
 pub loop-left-preserved : goal.loop-left-preserved
-loop-left-preserved c =
-    (
-      omega (arith, c.loop-left.invariant.0, c.loop-left.invariant.1, c.loop-left-test.true),
-      omega (arith, c.loop-left.invariant.1),
-      as_step (went (goal.at.loop-left-preserved c).After-read_term-term) c.if-term-ne-NONE.false (past-term (c)),
-    )
+loop-left-preserved c = (
+  omega (arith, c.loop-left.invariant.0, c.loop-left.invariant.1, c.loop-left-test.true),
+  omega (arith, c.loop-left.invariant.1),
+  as_step (went (goal.at.loop-left-preserved c).After-read_term-term) c.if-term-ne-NONE.false (past-term (c)),
+)
 
 pub returns : goal.returns
 returns c =

@@ -1,6 +1,5 @@
 -- The invariant: reading goes on at the terms that are left. A step past the constant would be past the end.
-use mathlib.Core.Path.{◌≡◌}
-use Prim.Native.Nat.{◌+◌, ◌-◌, ◌*◌, ◌≤◌}
+use Rattle.std.proofs.Common.{◌≡◌, ◌+◌, ◌-◌, ◌*◌, ◌≤◌}
 use Rattle.rowsystems.specs.declared.Due.TheVariants.{Terms}
 use Rattle.rowreading.specs.Onward.{StepsTo}
 use Rattle.rowterms.proofs.see_cut.Given as goal

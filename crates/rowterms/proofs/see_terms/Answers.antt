@@ -1,12 +1,5 @@
-use mathlib.Core.Path.{◌≡◌, refl, sym, ◌∙◌}
-use native.Mathlib.Omega.{arith}
-use borrow.Author.Rules.{rules}
-use borrow.Author.Tests.{eqb-true, eqb-false}
-use Prim.Native.Nat.{suc, ◌+◌, ◌-◌, ◌<◌, ◌≤◌}
-use lib.IntN.{nat_abs}
-use lib.ListN.{length, drop}
-use mir.Syntax.{w64}
-use mir.Val.{to_z, of_z}
+use Rattle.std.proofs.Common.{◌≡◌, refl, sym, ◌∙◌, arith, eqb-true, suc, ◌+◌, ◌-◌, ◌<◌, ◌≤◌, nat_abs, length, drop, w64, to_z, of_z}
+use borrow.Author.Tests.{eqb-false}
 use Rattle.integers.specs.Number.{◌⊗◌}
 use Rattle.integers.specs.Terms.{value}
 use Rattle.integers.proofs.Fits.{back, plus-size}
@@ -21,7 +14,7 @@ use Rattle.rowreading.proofs.Inner.{no_word, term-variable, term-coefficient, ro
 use Rattle.rowreading.proofs.Steps.{and_then}
 use Rattle.rowterms.proofs.Steps.{step-halts, step-goes, declared}
 use Rattle.rowterms.proofs.Sums.{number_size, constant-from, no-terms, term-added}
-use Rattle.rowterms.proofs.see_terms.Goals.{After-is_number, After-is_number-2, After-is_variable, After-known_value, After-loop-left, After-payload_of, After-signed_of-2, After-times, Else-not-is_number, Else-not-is_number-2, Else-not-is_variable, In-loop-left}
+use Rattle.rowterms.proofs.see_terms.Goals.{After-is_number, After-is_number-2, After-is_variable, After-known_value, After-payload_of, After-signed_of-2, After-times, Else-not-is_number, Else-not-is_number-2, Else-not-is_variable, In-loop-left}
 use Rattle.rowterms.proofs.see_terms.Goals as goal
 
 -- the words of a term and of the constant are there

@@ -1,8 +1,5 @@
 -- The invariant: reading goes on at the terms that are left, and the total is the sum of those before, each at most 2^54 from 0.
-use mathlib.Core.Path.{◌≡◌}
-use Prim.Native.Nat.{◌+◌, ◌-◌, ◌*◌, ◌≤◌}
-use lib.IntN.{nat_abs}
-use lib.ListN.{drop}
+use Rattle.std.proofs.Common.{◌≡◌, ◌+◌, ◌-◌, ◌*◌, ◌≤◌, nat_abs, drop}
 use Rattle.integers.specs.Terms.{value, sum}
 use Rattle.rowsystems.specs.RowSystem.{terms_in}
 use Rattle.rowsystems.specs.declared.Due.TheVariants.{Terms}

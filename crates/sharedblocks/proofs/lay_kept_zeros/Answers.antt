@@ -1,7 +1,5 @@
 -- The bounds of the places that the index can have; nothing for another code.
-use mathlib.Core.Path.{sym}
-use native.Mathlib.Omega.{arith}
-use borrow.Author.Tests.{ne_eqb}
+use Rattle.std.proofs.Common.{sym, arith, ne_eqb}
 use Rattle.rules.specs.Parts.{places}
 use Rattle.laying.proofs.Parts.{went-none, went_as}
 use Rattle.sharedblocks.proofs.Blocks.{kept-zeros}

@@ -1,9 +1,7 @@
 -- The members that the bounds leave are the values that the set has.
-use native.Mathlib.Omega.{arith}
+use Rattle.std.proofs.Common.{arith, sym}
 use Rattle.arguments.proofs.Size.{read}
-use Rattle.integers.proofs.Fits.{back}
 use Rattle.laying.proofs.Parts.{went_as}
-use mathlib.Core.Path.{sym}
 use Rattle.sharedblocks.proofs.Blocks.{members-row}
 use Rattle.sharedblocks.proofs.lay_members_row.Goals as goal
 

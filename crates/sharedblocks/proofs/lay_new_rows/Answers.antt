@@ -1,9 +1,6 @@
 -- The two rows where the bits are new, else nothing.
-use native.Mathlib.Omega.{arith}
+use Rattle.std.proofs.Common.{arith, sym, ◌∙◌, eq-eqb, ne_eqb}
 use Rattle.arguments.proofs.Size.{read}
-use Rattle.integers.proofs.Fits.{back}
-use mathlib.Core.Path.{sym, ◌∙◌}
-use borrow.Author.Tests.{eq-eqb, ne_eqb}
 use Rattle.models.specs.Model.{var}
 use Rattle.extremes.specs.BoundLists.{bounds_of}
 use Rattle.laying.proofs.Parts.{went-none, went_as}

@@ -1,7 +1,6 @@
 -- The row of the places that the index can have.
-use native.Mathlib.Omega.{arith}
+use Rattle.std.proofs.Common.{arith, sym}
 use Rattle.laying.proofs.Parts.{went_as}
-use mathlib.Core.Path.{sym}
 use Rattle.rules.specs.Parts.{places}
 use Rattle.sharedblocks.proofs.Blocks.{numbers-row}
 use Rattle.sharedblocks.proofs.lay_numbers_row.Goals as goal

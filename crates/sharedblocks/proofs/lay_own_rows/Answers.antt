@@ -1,7 +1,5 @@
 -- The row of the members, or the row of what is left out and the rows of the code.
-use mathlib.Core.List.{append-nil}
-use native.Mathlib.Omega.{arith}
-use borrow.Author.Tests.{ne_eqb}
+use Rattle.std.proofs.Common.{append-nil, arith, ne_eqb}
 use Rattle.laying.proofs.Parts.{went_then}
 use Rattle.sharedblocks.specs.Pieces.{own_row_parts}
 use Rattle.sharedblocks.proofs.lay_own_rows.Goals as goal

@@ -1,7 +1,5 @@
 -- The products, then the row of their sum.
-use mathlib.Core.Path.{sym}
-use native.Mathlib.Omega.{arith}
-use mathlib.Core.Path.{sym}
+use Rattle.std.proofs.Common.{sym, arith}
 use Rattle.rules.specs.Parts.{places}
 use Rattle.laying.proofs.Parts.{went_then, went_as}
 use Rattle.sharedblocks.proofs.Blocks.{product-rows}

@@ -1,8 +1,6 @@
 -- The place of the first label among the values.
-use native.Mathlib.Omega.{arith}
+use Rattle.std.proofs.Common.{arith, ap₂, ◌∙◌, ℕ, ◌+◌}
 use Rattle.arguments.proofs.Size.{read}
-use mathlib.Core.Path.{ap₂, ◌∙◌}
-use Prim.Native.Nat.{ℕ, ◌+◌}
 use Rattle.integers.proofs.Fits.{back, minus-size}
 use Rattle.integers.proofs.Sums.{count-le}
 use Rattle.integers.specs.Number.{◌⊖◌, count}

@@ -1,6 +1,5 @@
 -- New bits, bounds of the products, both rows of the new bits, the rows of the code.
-use mathlib.Core.Path.{sym}
-use native.Mathlib.Omega.{arith}
+use Rattle.std.proofs.Common.{sym, arith}
 use Rattle.laying.proofs.Parts.{went_then, went_as}
 use Rattle.sharedblocks.proofs.Blocks.{pieced}
 use Rattle.sharedblocks.proofs.shared_block.Goals as goal

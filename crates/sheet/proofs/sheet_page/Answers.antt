@@ -1,8 +1,5 @@
 -- The refusal's line, or the sheet.
-use mathlib.Core.Path.{ap, ◌∙◌}
-use Prim.Native.Nat.{◌≤◌}
-use native.Mathlib.Omega.{arith}
-use lib.ListN.{length}
+use Rattle.std.proofs.Common.{ap, ◌∙◌, ◌≤◌, arith, length}
 use Rattle.encoding.specs.Bytes.{bytes_words}
 use Rattle.encoding.proofs.Words.{quarter}
 use Rattle.sheets.specs.Printed.{printed}

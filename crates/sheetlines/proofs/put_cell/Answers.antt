@@ -1,9 +1,5 @@
 -- The four parts of a term, one after another.
-use mathlib.Core.Path.{◌≡◌, ◌∙◌}
-use native.Mathlib.Omega.{arith}
-use mir.Facts.{to_z-of_z}
-use mir.Syntax.{w64}
-use mir.Val.{to_z, of_z}
+use Rattle.std.proofs.Common.{◌≡◌, ◌∙◌, arith, to_z-of_z, w64, to_z, of_z}
 use Rattle.words.specs.Word.{signed}
 use Rattle.words.proofs.Word.{signed-near}
 use Rattle.decimals.specs.Decimal.{numeral}

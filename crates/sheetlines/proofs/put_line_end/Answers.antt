@@ -1,5 +1,5 @@
 -- The blanks, then the line feed.
-use mathlib.Core.Path.{◌∙◌}
+use Rattle.std.proofs.Common.{◌∙◌}
 use Rattle.sheetlines.proofs.Cells.{laid_end}
 use Rattle.sheetlines.proofs.put_line_end.Goals as goal
 

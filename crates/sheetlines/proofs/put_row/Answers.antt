@@ -1,6 +1,5 @@
 -- The row by its head: each kind with its sign.
-use native.Mathlib.Omega.{arith}
-use borrow.Author.Tests.{eq-eqb, ne_eqb}
+use Rattle.std.proofs.Common.{arith, eq-eqb, ne_eqb}
 use Rattle.integers.specs.Lists.{list_of}
 use Rattle.words.specs.Bytes.{bytes}
 use Rattle.rowsystems.specs.OneWord.{row_of}

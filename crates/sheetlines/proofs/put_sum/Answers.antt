@@ -1,10 +1,5 @@
 -- The parts of a row, one after another.
-use mathlib.Core.Path.{◌≡◌, ◌∙◌}
-use native.Mathlib.Omega.{arith}
-use mir.Facts.{to_z-of_z}
-use mir.Syntax.{w64}
-use mir.Val.{to_z, of_z}
-use Prim.Native.Nat.{◌*◌}
+use Rattle.std.proofs.Common.{◌≡◌, ◌∙◌, arith, to_z-of_z, w64, to_z, of_z, ◌*◌}
 use Rattle.words.specs.Word.{signed, word_at}
 use Rattle.words.proofs.Word.{signed-near}
 use Rattle.decimals.specs.Column.{right}
@@ -13,7 +8,7 @@ use Rattle.decimals.proofs.Ahead.{alone}
 use Rattle.decimals.proofs.Columns.{length-right}
 use Rattle.rowsystems.specs.RowSystem.{terms_in, constant_in, number_at}
 use Rattle.sheetlines.specs.Lines.{term_lines, sum_lines, constant_line}
-use Rattle.sheetlines.proofs.Cells.{number_fits, row_fits_lem, laid-row}
+use Rattle.sheetlines.proofs.Cells.{number_fits, length-row_number, laid-row}
 use Rattle.sheetlines.proofs.put_sum.Goals.{After-signed_of}
 use Rattle.sheetlines.proofs.put_sum.Goals as goal
 
@@ -29,15 +24,14 @@ put_number-requires c =
 pub returns : goal.returns
 unfolding sum_lines constant_line constant_in number_at
 returns c =
-    let last = signed (word_at c.args.ws.now (2 * c.args.n)) in
-    (
+    let last = signed (word_at c.args.ws.now (2 * c.args.n)) in (
       rw (c.put_byte-3.ensures, c.put_number.ensures, constant (goal.at.returns c).After-signed_of)
           (laid-row c.args.page.now c.args.at (right 6 (decimal c.args.k)) c.args.first c.args.second (term_lines 3 (terms_in c.args.ws.now c.args.n)) c.put_terms-end.new.page c.put_terms-end.result (right 80 (numeral last))
-          (length-right 6 (decimal c.args.k) (row_fits_lem c.args.k c.requires.1))
+          (length-right 6 (decimal c.args.k) (length-row_number c.args.k c.requires.1))
           (length-right 80 (numeral last) (omega (arith, number_fits last (signed-near (word_at c.args.ws.now (2 * c.args.n))))))
           (rw (c.put_byte-2.ensures, c.put_byte.ensures, c.put_right.ensures, alone) at c.put_terms-end.ensures.0)),
       omega (arith, c.put_terms-end.ensures.1),
     )
 
 pub put_right-requires : goal.put_right-requires
-put_right-requires c = (omega (arith, c.requires.0), rw alone (row_fits_lem c.args.k c.requires.1))
+put_right-requires c = (omega (arith, c.requires.0), rw alone (length-row_number c.args.k c.requires.1))

@@ -1,6 +1,5 @@
 -- In this line, or after its end in the next one.
-use mathlib.Core.Path.{◌∙◌}
-use native.Mathlib.Omega.{arith}
+use Rattle.std.proofs.Common.{◌∙◌, arith}
 use Rattle.sheetlines.proofs.Cells.{end-length, of_word, in_line, in_next_line}
 use Rattle.sheetlines.proofs.put_term.Goals as goal
 

@@ -1,6 +1,5 @@
 -- The invariant: what is left to lay are the lines of the terms left; a term takes at most 35 bytes. The measure: the terms left.
-use Prim.Native.Nat.{◌+◌, ◌-◌, ◌*◌, ◌≤◌}
-use lib.ListN.{drop}
+use Rattle.std.proofs.Common.{◌+◌, ◌-◌, ◌*◌, ◌≤◌, drop}
 use Rattle.rowsystems.specs.RowSystem.{terms_in}
 use Rattle.sheetlines.specs.Lines.{term_lines}
 use Rattle.words.proofs.Rest.{Rest}

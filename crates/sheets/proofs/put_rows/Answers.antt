@@ -1,12 +1,9 @@
-use mathlib.Core.Path.{sym, ◌∙◌}
-use native.Mathlib.Omega.{arith}
-use borrow.Author.Rules.{rules}
-use Prim.Native.Nat.{◌+◌}
+use Rattle.std.proofs.Common.{sym, ◌∙◌, arith, rules, ◌+◌}
 use Rattle.rowsystems.proofs.Walk.{starts_none, starts-one, none_left}
 use Rattle.words.proofs.Reading.{tail-is}
 use Rattle.sheetlines.specs.Lines.{rows_lines}
 use Rattle.sheets.specs.Sheet.{sheet_text}
-use Rattle.words.proofs.Rest.{all_left, lay-part, same_rest, laid-length}
+use Rattle.words.proofs.Rest.{all_left, lay-part, same_rest}
 use Rattle.words.proofs.Rest as rest
 use Rattle.sheets.proofs.put_rows.Goals as goal
 

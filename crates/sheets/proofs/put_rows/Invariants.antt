@@ -1,6 +1,5 @@
 -- The invariant: what is left to lay are the lines of the rows of the words left; a row takes at most 2,500 bytes. The measure: the words left.
-use Prim.Native.Nat.{◌-◌, ◌*◌, ◌≤◌}
-use lib.ListN.{length, drop}
+use Rattle.std.proofs.Common.{◌-◌, ◌*◌, ◌≤◌, length, drop}
 use Rattle.rowsystems.specs.RowSystem.{rows}
 use Rattle.sheetlines.specs.Lines.{rows_lines}
 use Rattle.sheets.specs.Sheet.{sheet_text}

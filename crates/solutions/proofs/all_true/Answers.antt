@@ -1,5 +1,5 @@
 -- "Holds" is said exactly where every constraint is true.
-use mathlib.Core.Path.{ap, ◌∙◌}
+use Rattle.std.proofs.Common.{ap, ◌∙◌}
 use Rattle.words.specs.Answer.{is_holds}
 use Rattle.solutions.specs.Solutions.{every_true}
 use Rattle.solutions.proofs.Through.{holds-all}

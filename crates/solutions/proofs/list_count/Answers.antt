@@ -1,4 +1,4 @@
-use mathlib.Core.Path.{◌∙◌}
+use Rattle.std.proofs.Common.{◌∙◌}
 use Rattle.integers.proofs.Fits.{back}
 use Rattle.solutions.proofs.Counts.{more, done}
 use Rattle.solutions.proofs.list_count.Goals as goal

@@ -1,5 +1,5 @@
 -- The invariant: what was counted, times what the bounds left will leave, is the whole number where it is capped.
-use Prim.Native.Nat.{◌-◌}
+use Rattle.std.proofs.Common.{◌-◌}
 use Rattle.extremes.specs.BoundLists.{bounds_of}
 use Rattle.solutions.proofs.Counts.{Capping}
 use Rattle.solutions.proofs.list_count.Given as goal

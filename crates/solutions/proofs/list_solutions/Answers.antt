@@ -1,5 +1,5 @@
 -- The room decides between fault 16 and the list.
-use mathlib.Core.Path.{sym, ◌∙◌}
+use Rattle.std.proofs.Common.{sym, ◌∙◌}
 use Rattle.solutions.specs.Found.{found}
 use Rattle.solutions.proofs.All.{no_room, room}
 use Rattle.solutions.proofs.list_solutions.Goals as goal

@@ -1,6 +1,5 @@
 -- The invariant: the values before the place are the lower bounds.
-use Prim.Native.Nat.{◌-◌}
-use lib.ListN.{length}
+use Rattle.std.proofs.Common.{◌-◌, length}
 use Rattle.solutions.proofs.Values.{Setting}
 use Rattle.solutions.proofs.set_lowest.Given as goal
 

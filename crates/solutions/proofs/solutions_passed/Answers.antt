@@ -1,7 +1,5 @@
 -- Reading keeps what a model that passes has; its bounds decide between fault 22 and the lists.
-use mathlib.Core.Path.{◌≡◌, sym}
-use native.Mathlib.Omega.{arith}
-use lib.Seq.{length-take-le}
+use Rattle.std.proofs.Common.{◌≡◌, sym, arith, length-take-le}
 use Rattle.words.specs.Variables.{variables}
 use Rattle.models.proofs.Accepted.{few_words}
 use Rattle.modelreading.specs.Seen.{Seen}
@@ -9,7 +7,7 @@ use Rattle.modelreading.proofs.Heads.{front-inside}
 use Rattle.checking.proofs.Kept.{Kept, kept}
 use Rattle.solutions.specs.Found.{found}
 use Rattle.solutions.specs.Walk.{bounds_to}
-use Rattle.solutions.proofs.All.{seen_of, too_many_variables_lem, too_many_lists_lem, kept-list, sized}
+use Rattle.solutions.proofs.All.{seen_of, gives-too_many_variables, gives-too_many_lists, kept-list, sized}
 use Rattle.solutions.proofs.solutions_passed.Goals.{After-keep_bounds, After-read_model-read}
 use Rattle.solutions.proofs.solutions_passed.Goals as goal
 
@@ -29,7 +27,7 @@ same c =
 pub returns-then-n-gt-LISTED_VARIABLES : goal.returns-then-n-gt-LISTED_VARIABLES
 unfolding found
 returns-then-n-gt-LISTED_VARIABLES c =
-    let h = too_many_variables_lem c.args.ws.now c.requires c.args.out.now (omega (arith, (seen (goal.at.returns-then-n-gt-LISTED_VARIABLES c).After-read_model-read).variables_counted, c.if-n-gt-LISTED_VARIABLES.true)) in
+    let h = gives-too_many_variables c.args.ws.now c.requires c.args.out.now (omega (arith, (seen (goal.at.returns-then-n-gt-LISTED_VARIABLES c).After-read_model-read).variables_counted, c.if-n-gt-LISTED_VARIABLES.true)) in
     record { answer = h.0; output = h.1 }
 
 pub keep_bounds-requires : goal.keep_bounds-requires
@@ -40,7 +38,7 @@ keep_bounds-requires c =
 pub returns-then-lists-gt-LISTED_LISTS : goal.returns-then-lists-gt-LISTED_LISTS
 unfolding found
 returns-then-lists-gt-LISTED_LISTS c =
-    let h = too_many_lists_lem c.args.ws.now c.requires c.args.out.now (omega (arith, rw (same (goal.at.returns-then-lists-gt-LISTED_LISTS c).After-keep_bounds) at c.list_count-lists.ensures, c.if-lists-gt-LISTED_LISTS.true)) in
+    let h = gives-too_many_lists c.args.ws.now c.requires c.args.out.now (omega (arith, rw (same (goal.at.returns-then-lists-gt-LISTED_LISTS c).After-keep_bounds) at c.list_count-lists.ensures, c.if-lists-gt-LISTED_LISTS.true)) in
     record { answer = h.0; output = h.1 }
 
 pub list_solutions-requires : goal.list_solutions-requires

@@ -1,8 +1,5 @@
 use lib.Signed.{lt_z}
-use mathlib.Core.Path.{◌≡◌, refl, sym, ap, ◌∙◌}
-use native.Mathlib.Omega.{arith}
-use Prim.Native.Nat.{◌-◌}
-use lib.ListN.{length, get_or, length-set}
+use Rattle.std.proofs.Common.{◌≡◌, refl, sym, ap, ◌∙◌, arith, ◌-◌, length, get_or, length-set}
 use Rattle.integers.specs.Number.{+0, +1}
 use Rattle.integers.specs.Terms.{value}
 use Rattle.integers.proofs.Fits.{back, plus-size}
@@ -43,12 +40,11 @@ returns-then-below c =
     }
 
 pub loop-k-preserved : goal.loop-k-preserved
-loop-k-preserved c =
-    (
-      ap length c.put_value-in-loop-k.ensures ∙ simp length-set c.loop-k.invariant.0,
-      rw (c.put_value-in-loop-k.ensures, back c.bound_at-in-loop-k.result c.bound_at-in-loop-k.type_inv, c.bound_at-in-loop-k.ensures)
-          (over _ _ c.loop-k.invariant.1 (c.loop-k.k - 1) (omega arith) (sym (test (goal.at.loop-k-preserved c).After-below) ∙ c.if-below.false)),
-    )
+loop-k-preserved c = (
+  ap length c.put_value-in-loop-k.ensures ∙ simp length-set c.loop-k.invariant.0,
+  rw (c.put_value-in-loop-k.ensures, back c.bound_at-in-loop-k.result c.bound_at-in-loop-k.type_inv, c.bound_at-in-loop-k.ensures)
+      (over _ _ c.loop-k.invariant.1 (c.loop-k.k - 1) (omega arith) (sym (test (goal.at.loop-k-preserved c).After-below) ∙ c.if-below.false)),
+)
 
 pub loop-k-init : goal.loop-k-init
 loop-k-init c = (refl, begun-step _ _)

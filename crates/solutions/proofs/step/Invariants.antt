@@ -1,6 +1,5 @@
 -- The invariant: the values from the place on were the last ones, and are the first ones now.
-use mathlib.Core.Path.{◌≡◌}
-use lib.ListN.{length}
+use Rattle.std.proofs.Common.{◌≡◌, length}
 use Rattle.extremes.specs.BoundLists.{bounds_of}
 use Rattle.solutions.proofs.Stepping.{Stepping}
 use Rattle.solutions.proofs.step.Given as goal

@@ -1,5 +1,5 @@
 -- Where all value lists fit, the solutions do; else these are counted.
-use native.Mathlib.Omega.{arith}
+use Rattle.std.proofs.Common.{arith}
 use Rattle.solutions.proofs.All.{solutions-fit, all_fit}
 use Rattle.solutions.proofs.too_short.Goals as goal
 

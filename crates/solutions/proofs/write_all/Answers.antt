@@ -1,8 +1,6 @@
 -- From the first list on, all lists are gone through.
-use mathlib.Core.Path.{ap, ◌∙◌}
-use mathlib.Core.List.{List, flatten}
-use lib.IntN.{ℤ}
-use lib.ListN.{length}
+use Rattle.std.proofs.Common.{ap, ◌∙◌, List, ℤ, length}
+use mathlib.Core.List.{flatten}
 use Rattle.words.specs.Overlay.{overlay}
 use Rattle.solutions.proofs.All.{ready, all-solutions}
 use Rattle.solutions.proofs.write_all.Goals as goal

@@ -1,10 +1,7 @@
-use mathlib.Core.Path.{sym, ◌∙◌}
-use mathlib.Core.Logic.{inl, inr}
-use native.Mathlib.Omega.{arith}
-use lib.ListN.{length}
+use Rattle.std.proofs.Common.{sym, ◌∙◌, inl, inr, arith, length}
 use Rattle.integers.proofs.Lists.{list_of-length}
 use Rattle.extremes.specs.BoundLists.{bounds_of}
-use Rattle.solutions.proofs.Through.{count-begun, count_turn, count-done, list-begun, list-turn, list-less, list_done, list_length_lem}
+use Rattle.solutions.proofs.Through.{count-begun, count_turn, count-done, list-begun, list-turn, list-less, list_done, listing-length}
 use Rattle.solutions.proofs.Values.{inside-small}
 use Rattle.solutions.proofs.write_from.Goals.{then-all_true, else-all_true}
 use Rattle.solutions.proofs.write_from.Goals as goal
@@ -23,14 +20,13 @@ step-more-requires c =
 
 pub loop-more-smaller : goal.loop-more-smaller
 loop-more-smaller c =
-    let l = rw (list_length_lem _ _ _ _ c.loop-more.invariant.1 ∙ list_of-length _ _) at c.step-more.ensures in
+    let l = rw (listing-length _ _ _ _ c.loop-more.invariant.1 ∙ list_of-length _ _) at c.step-more.ensures in
     list-less _ _ _ _ c.loop-more.invariant.1 c.loop-more-test.true _ _ l.list l.more
 
 pub loop-more-preserved : goal.loop-more-preserved
 loop-more-preserved c =
-    let l = rw (list_length_lem _ _ _ _ c.loop-more.invariant.1 ∙ list_of-length _ _) at c.step-more.ensures in
-    let true_of = sym c.all_true.ensures in
-    (
+    let l = rw (listing-length _ _ _ _ c.loop-more.invariant.1 ∙ list_of-length _ _) at c.step-more.ensures in
+    let true_of = sym c.all_true.ensures in (
       count_turn _ _ _ c.loop-more.invariant.0 c.loop-more-test.true _ (elim c.if-all_true.branch [
         | then-all_true w ↦ inl (true_of ∙ w.if-all_true.true, w.count-is)
         | else-all_true w ↦ inr (true_of ∙ w.if-all_true.false, w.count-is)

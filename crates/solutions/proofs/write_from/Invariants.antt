@@ -1,5 +1,5 @@
 -- The invariant: what was counted and what the lists left will give are what all lists give, and laying the latter from the place on gives what laying the solutions of all lists gives.
-use lib.ListN.{length}
+use Rattle.std.proofs.Common.{length}
 use Rattle.solutions.specs.Solutions.{every_true}
 use Rattle.solutions.specs.Walk.{bounds_to}
 use Rattle.solutions.proofs.Odometer.{left}

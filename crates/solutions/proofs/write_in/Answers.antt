@@ -1,10 +1,6 @@
 -- The front of the list of values that is lent has as many places as there are variables.
-use mathlib.Core.Path.{sym, ap, ◌∙◌}
+use Rattle.std.proofs.Common.{sym, ap, ◌∙◌, arith, ℕ, length, length-take-le}
 use mathlib.Core.List.{flatten}
-use native.Mathlib.Omega.{arith}
-use Prim.Native.Nat.{ℕ}
-use lib.ListN.{length}
-use lib.Seq.{length-take-le}
 use Rattle.words.specs.Overlay.{overlay}
 use Rattle.solutions.specs.Walk.{solutions_in}
 use Rattle.solutions.proofs.All.{sized_as}

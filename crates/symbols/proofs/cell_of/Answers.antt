@@ -1,6 +1,6 @@
 -- The code computes as the definition does.
 use Rattle.symbols.specs.Hash.{cell_at}
-use borrow.Author.Rules.{rules}
+use Rattle.std.proofs.Common.{rules}
 use Rattle.symbols.proofs.cell_of.Goals as goal
 
 pub returns : goal.returns

@@ -1,6 +1,5 @@
 -- A name that has its mark changes nothing, one that has none is entered.
-use mathlib.Core.Path.{refl, sym, ap, ◌∙◌}
-use mathlib.Core.Bool.{true}
+use Rattle.std.proofs.Common.{refl, sym, ap, ◌∙◌, true}
 use Rattle.symbols.specs.Hash.{is_marked}
 use Rattle.symbols.specs.Symbol.{AddsName}
 use Rattle.symbols.proofs.Entries.{marked-name, new_entry}

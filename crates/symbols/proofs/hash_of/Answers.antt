@@ -1,9 +1,6 @@
-use Prim.Native.Nat.{ℕ, ◌+◌}
+use Rattle.std.proofs.Common.{ℕ, ◌+◌, refl, sym, ap, ◌∙◌, drop, arith}
 use Rattle.symbols.specs.Hash.{mix, hash, hash_from}
-use mathlib.Core.Path.{refl, sym, ap, ◌∙◌}
-use lib.ListN.{drop}
 use Rattle.symbols.proofs.Filter.{hash-on, hash-end}
-use native.Mathlib.Omega.{arith}
 use Rattle.symbols.proofs.hash_of.Goals as goal
 
 pub loop-i-init : goal.loop-i-init

@@ -1,8 +1,6 @@
 -- The invariant: hashing the bytes that are left gives the hash of all.
-use Prim.Native.Nat.{◌-◌, ◌<◌, ◌≤◌}
+use Rattle.std.proofs.Common.{◌-◌, ◌<◌, ◌≤◌, ◌≡◌, length, drop}
 use Rattle.symbols.specs.Hash.{hashes, hash, hash_from}
-use mathlib.Core.Path.{◌≡◌}
-use lib.ListN.{length, drop}
 use Rattle.symbols.proofs.hash_of.Given as goal
 
 abbrev pub invariant-loop-i : goal.invariant-loop-i

@@ -1,12 +1,8 @@
 -- The same bytes are the same name, of which the slot is right.
-use mathlib.Core.Path.{sym, ap, ◌∙◌}
-use mathlib.Core.List.{List}
-use Prim.Native.Nat.{ℕ, ◌+◌, ◌-◌, ◌/◌, ◌%◌}
-use lib.ListN.{take, drop}
+use Rattle.std.proofs.Common.{sym, ap, ◌∙◌, List, ℕ, ◌+◌, ◌-◌, ◌/◌, ◌%◌, take, drop, rules}
 use Rattle.names.specs.Name.{look_up}
 use Rattle.symbols.specs.Symbol.{declared_before, number_in, place_in, length_in}
 use Rattle.symbols.proofs.Entries.{same-equal}
-use borrow.Author.Rules.{rules}
 use Rattle.symbols.proofs.number_in.Goals as goal
 
 pub slice_bounds-same_bytes-end-2 : goal.slice_bounds-same_bytes-end-2

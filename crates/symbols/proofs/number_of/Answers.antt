@@ -1,6 +1,4 @@
-use mathlib.Core.Path.{refl}
-use Prim.Native.Nat.{◌+◌, ◌%◌}
-use native.Mathlib.Omega.{arith}
+use Rattle.std.proofs.Common.{refl, ◌+◌, ◌%◌, arith}
 use Rattle.symbols.proofs.number_of.Goals as goal
 
 pub number_in-n-requires : goal.number_in-n-requires

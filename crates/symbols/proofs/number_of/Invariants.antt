@@ -1,5 +1,5 @@
 -- Every slot is right, so the first that has the name gives its number.
-use Prim.Native.Nat.{◌-◌, ◌≤◌}
+use Rattle.std.proofs.Common.{◌-◌, ◌≤◌}
 use Rattle.symbols.proofs.number_of.Given as goal
 
 abbrev pub invariant-loop-j : goal.invariant-loop-j

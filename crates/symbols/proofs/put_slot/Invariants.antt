@@ -1,6 +1,5 @@
 -- The slots stay as they are until one is set.
-use mathlib.Core.Path.{◌≡◌}
-use Prim.Native.Nat.{◌-◌, ◌≤◌}
+use Rattle.std.proofs.Common.{◌≡◌, ◌-◌, ◌≤◌}
 use Rattle.symbols.proofs.put_slot.Given as goal
 
 abbrev pub invariant-loop-j : goal.invariant-loop-j

@@ -1,7 +1,6 @@
 -- The three numbers come out of the word again.
-use mathlib.Core.Path.{refl}
+use Rattle.std.proofs.Common.{refl, arith}
 use Rattle.symbols.specs.Symbol.{number_in, place_in, length_in}
-use native.Mathlib.Omega.{arith}
 use Rattle.symbols.proofs.slot_word.Goals as goal
 
 pub returns-then-len-lt64 : goal.returns-then-len-lt64

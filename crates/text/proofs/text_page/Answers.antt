@@ -1,6 +1,5 @@
 -- The refusal's line, or the lines of the model's words.
-use native.Mathlib.Omega.{arith}
-use lib.ListN.{length}
+use Rattle.std.proofs.Common.{arith, length}
 use Rattle.words.specs.Limit as Limit
 use Rattle.words.specs.Written.{wrote}
 use Rattle.texts.specs.Text.{read_text, text_read}

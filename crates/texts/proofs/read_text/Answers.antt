@@ -1,7 +1,5 @@
 -- A first reading counts and finds the fault; where there is none and the list is long enough a second one writes.
-use mathlib.Core.Path.{sym, ap, ◌∙◌}
-use native.Mathlib.Omega.{arith}
-use lib.ListN.{length}
+use Rattle.std.proofs.Common.{sym, ap, ◌∙◌, arith, length}
 use Rattle.words.specs.Answer.{written}
 use Rattle.words.specs.Written.{wrote}
 use Rattle.texts.proofs.Answers.{says-refused, says-written, at-fault, too_many, too_short, fits}

@@ -1,6 +1,4 @@
-use mathlib.Core.Path.{refl}
-use native.Mathlib.Omega.{arith}
-use Prim.Native.Nat.{◌<◌}
+use Rattle.std.proofs.Common.{refl, arith, ◌<◌}
 use mathlib.Core.List.{flat_map, flatten}
 use Rattle.integers.specs.Lists.{list_of}
 use Rattle.tokens.proofs.Places.{none_left, met-end}

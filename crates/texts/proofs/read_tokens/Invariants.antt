@@ -1,6 +1,5 @@
 -- The invariant: what is left of the text is read as the definition reads it, and the symbol table has the names declared so far. The measure: the bytes left.
-use Prim.Native.Nat.{◌-◌}
-use lib.ListN.{length}
+use Rattle.std.proofs.Common.{◌-◌, length}
 use Rattle.symbols.proofs.Reached.{Tabled}
 use Rattle.grammar.specs.Machine.{FormTable}
 use Rattle.texts.proofs.Loop.{Left}

@@ -1,5 +1,5 @@
 -- Class by class.
-use borrow.Author.Tests.{eq-eqb, ne_eqb}
+use Rattle.std.proofs.Common.{eq-eqb, ne_eqb}
 use Rattle.tokens.specs.Byte.{in_comment}
 use Rattle.tokens.specs.Unread.{goes_on}
 use Rattle.tokens.proofs.goes_on.Goals as goal

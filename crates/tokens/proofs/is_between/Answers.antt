@@ -1,5 +1,6 @@
 -- By both comparisons.
-use borrow.Author.Tests.{le-leb, lt-leb}
+use Rattle.std.proofs.Common.{le-leb}
+use borrow.Author.Tests.{lt-leb}
 use Rattle.tokens.specs.Byte.{between}
 use Rattle.tokens.proofs.is_between.Goals as goal
 

@@ -1,5 +1,4 @@
-use mathlib.Core.Path.{sym, ◌∙◌}
-use native.Mathlib.Omega.{arith}
+use Rattle.std.proofs.Common.{sym, ◌∙◌, arith}
 use Rattle.tokens.proofs.Places.{any_here, any-on, any-end}
 use Rattle.tokens.proofs.is_one_of.Goals as goal
 

@@ -1,8 +1,5 @@
 -- The invariant: the byte is among all of the list if it is among those from here on. The measure: the bytes left.
-use mathlib.Core.Path.{◌≡◌}
-use Prim.Native.Nat.{◌-◌, ◌≤◌}
-use lib.Dec.{eqb}
-use lib.ListN.{length, drop}
+use Rattle.std.proofs.Common.{◌≡◌, ◌-◌, ◌≤◌, eqb, length, drop}
 use Rattle.integers.specs.Lists.{any}
 use Rattle.tokens.proofs.is_one_of.Given as goal
 

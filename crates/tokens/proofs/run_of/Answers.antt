@@ -1,5 +1,4 @@
-use mathlib.Core.Path.{sym, ◌∙◌}
-use native.Mathlib.Omega.{arith}
+use Rattle.std.proofs.Common.{sym, ◌∙◌, arith}
 use Rattle.tokens.specs.Unread.{goes_on}
 use Rattle.tokens.proofs.Places.{run_on, run-off, run_end}
 use Rattle.tokens.proofs.run_of.Goals as goal

@@ -1,7 +1,5 @@
 -- The invariant: the run from here on, with the bytes passed, is the whole one. The measure: the bytes left.
-use mathlib.Core.Path.{◌≡◌}
-use Prim.Native.Nat.{◌+◌, ◌-◌, ◌≤◌}
-use lib.ListN.{length, drop}
+use Rattle.std.proofs.Common.{◌≡◌, ◌+◌, ◌-◌, ◌≤◌, length, drop}
 use Rattle.tokens.specs.Byte.{run}
 use Rattle.tokens.specs.Unread.{goes_on}
 use Rattle.tokens.proofs.run_of.Given as goal

@@ -1,5 +1,4 @@
-use mathlib.Core.Path.{sym, ◌∙◌}
-use native.Mathlib.Omega.{arith}
+use Rattle.std.proofs.Common.{sym, ◌∙◌, arith}
 use Rattle.tokens.proofs.Places.{gap_here, stops-inside, stops-after}
 use Rattle.tokens.proofs.skip_gaps.Goals as goal
 

@@ -1,7 +1,5 @@
 -- The invariant: the tokens from here on are those from the start on. The measure: the bytes left.
-use mathlib.Core.Path.{◌≡◌}
-use Prim.Native.Nat.{◌-◌, ◌≤◌}
-use lib.ListN.{length}
+use Rattle.std.proofs.Common.{◌≡◌, ◌-◌, ◌≤◌, length}
 use Rattle.tokens.specs.Unread.{unread}
 use Rattle.tokens.proofs.skip_gaps.Given as goal
 

@@ -1,6 +1,5 @@
 -- Test by test; a name is told from a longer run by its length.
-use native.Mathlib.Omega.{arith}
-use borrow.Author.Rules.{rules}
+use Rattle.std.proofs.Common.{arith, rules}
 use Rattle.tokens.proofs.Places.{short, long, stops-after}
 use Rattle.tokens.specs.Token.{sort_of}
 use Rattle.tokens.specs.Unread.{sort_at}

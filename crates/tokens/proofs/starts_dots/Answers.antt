@@ -1,8 +1,7 @@
 -- Test by test.
 use Rattle.tokens.proofs.Places.{front-drop}
-use borrow.Author.Tests.{eq-eqb, ne_eqb}
+use Rattle.std.proofs.Common.{eq-eqb, ne_eqb, ◌+◌}
 use Rattle.tokens.specs.Token.{starts_dots}
-use Prim.Native.Nat.{◌+◌}
 use Rattle.tokens.proofs.starts_dots.Goals as goal
 
 pub returns-then-b-eq46 : goal.returns-then-b-eq46

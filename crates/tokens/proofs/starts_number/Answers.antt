@@ -1,8 +1,7 @@
 -- Test by test.
 use Rattle.tokens.proofs.Places.{front-drop}
-use borrow.Author.Tests.{eq-eqb, ne_eqb}
+use Rattle.std.proofs.Common.{eq-eqb, ne_eqb, ◌+◌}
 use Rattle.tokens.specs.Token.{starts_number}
-use Prim.Native.Nat.{◌+◌}
 use Rattle.tokens.proofs.starts_number.Goals as goal
 
 pub returns-then-is_digit : goal.returns-then-is_digit

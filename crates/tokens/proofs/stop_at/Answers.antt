@@ -1,6 +1,5 @@
 -- Test by test; each run by its own call.
-use native.Mathlib.Omega.{arith}
-use borrow.Author.Tests.{eq-eqb, ne_eqb}
+use Rattle.std.proofs.Common.{arith, eq-eqb, ne_eqb}
 use Rattle.tokens.specs.Token.{token_length}
 use Rattle.tokens.specs.Unread.{goes_on, stop_at}
 use Rattle.tokens.proofs.stop_at.Goals as goal

@@ -1,5 +1,5 @@
 -- A refusal of check stands; fault 16; else the words are written.
-use native.Mathlib.Omega.{arith}
+use Rattle.std.proofs.Common.{arith}
 use Rattle.words.specs.Written.{wrote}
 use Rattle.checking.specs.Checked.{checked}
 use Rattle.checking.proofs.Answers.{counted}

@@ -1,5 +1,5 @@
 -- The code compares as the definition does.
-use mir.Facts.{to_z-of_z}
+use Rattle.std.proofs.Common.{to_z-of_z}
 use Rattle.integers.specs.Bounds.{within}
 use Rattle.variables.proofs.between.Goals as goal
 

@@ -1,4 +1,4 @@
-use mathlib.Core.Path.{sym, ◌∙◌}
+use Rattle.std.proofs.Common.{sym, ◌∙◌}
 use Rattle.variables.proofs.Walk.{count_none, count-one, counted}
 use Rattle.variables.proofs.count_variables.Goals.{then-starts_variable, else-starts_variable}
 use Rattle.variables.proofs.count_variables.Goals as goal

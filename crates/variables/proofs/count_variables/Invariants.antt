@@ -1,6 +1,5 @@
 -- The loop's invariant: the variables before the place are counted.
-use Prim.Native.Nat.{◌-◌}
-use lib.ListN.{length}
+use Rattle.std.proofs.Common.{◌-◌, length}
 use Rattle.variables.proofs.Counted.{VariablesBefore}
 use Rattle.variables.proofs.count_variables.Given as goal
 

@@ -1,9 +1,4 @@
-use mathlib.Core.Path.{◌≡◌, sym, ◌∙◌}
-use Prim.Native.Nat.{◌+◌, ◌<◌}
-use native.Mathlib.Omega.{arith}
-use lib.ListN.{length, get_or}
-use mir.Facts.{to_z-of_z}
-use borrow.Author.Rules.{rules}
+use Rattle.std.proofs.Common.{◌≡◌, sym, ◌∙◌, ◌+◌, ◌<◌, arith, length, get_or, to_z-of_z, rules}
 use Rattle.integers.specs.Bounds.{within}
 use Rattle.integers.specs.Terms.{value}
 use Rattle.words.specs.Verdict.{verdict}

@@ -1,6 +1,5 @@
 -- The loop's invariant: judging the rest from here gives what judging the whole gives, and the variables before the place are counted.
-use Prim.Native.Nat.{◌-◌}
-use lib.ListN.{length}
+use Rattle.std.proofs.Common.{◌-◌, length}
 use Rattle.variables.proofs.Counted.{VariablesBefore}
 use Rattle.variables.proofs.Walk.{Kept}
 use Rattle.variables.proofs.first_out_of_bounds.Given as goal

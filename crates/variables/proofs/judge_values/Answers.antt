@@ -1,5 +1,5 @@
 -- The refusal, the number of values, then the bounds, as in the definition.
-use mathlib.Core.Path.{sym, ◌∙◌}
+use Rattle.std.proofs.Common.{sym, ◌∙◌}
 use Rattle.words.specs.Refusal.{count_fault}
 use Rattle.words.specs.Verdict.{verdict}
 use Rattle.words.proofs.Answers.{first-answers, second-answers, right-count, wrong-count}

@@ -1,6 +1,5 @@
 -- The code compares with the definition's bounds.
-use mathlib.Core.Path.{◌∙◌}
-use mir.Facts.{to_z-of_z}
+use Rattle.std.proofs.Common.{◌∙◌, to_z-of_z}
 use Rattle.variables.specs.Start.{pair_bounds}
 use Rattle.variables.proofs.keeps.Goals as goal
 

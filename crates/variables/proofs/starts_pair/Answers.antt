@@ -1,5 +1,5 @@
 -- The code tests the kind as the definition does.
-use borrow.Author.Tests.{eq-eqb, ne_eqb}
+use Rattle.std.proofs.Common.{eq-eqb, ne_eqb}
 use Rattle.words.specs.Variables.{starts_pair}
 use Rattle.variables.proofs.starts_pair.Goals as goal
 

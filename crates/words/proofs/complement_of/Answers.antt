@@ -1,11 +1,6 @@
 -- A number that is not negative is its own payload, modulo 2^28; a negative one is as far below 2^28 as it is below 0.
-use mathlib.Core.Path.{◌≡◌, sym, ◌∙◌}
-use native.Mathlib.Omega.{arith}
-use lib.IntN.{pos, negsuc, ◌-ℤ◌}
+use Rattle.std.proofs.Common.{◌≡◌, sym, ◌∙◌, arith, pos, negsuc, ◌-ℤ◌, w64, to_z, of_z, to_z-of_z}
 use lib.Signed.{mag}
-use mir.Syntax.{w64}
-use mir.Val.{to_z, of_z}
-use mir.Facts.{to_z-of_z}
 use Rattle.words.specs.Word.{complement}
 use Rattle.words.proofs.Machine.{from_zero, below-zero, complement-from, complement-below}
 use Rattle.words.proofs.complement_of.Goals as goal

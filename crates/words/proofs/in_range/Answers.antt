@@ -1,5 +1,5 @@
 -- The code tests as the definition does.
-use mir.Facts.{to_z-of_z}
+use Rattle.std.proofs.Common.{to_z-of_z}
 use Rattle.integers.specs.Bounds.{within}
 use Rattle.words.proofs.in_range.Goals as goal
 

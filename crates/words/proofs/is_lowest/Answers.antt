@@ -1,5 +1,5 @@
 -- The code tests the payload, which is that of one number alone.
-use mathlib.Core.Path.{sym}
+use Rattle.std.proofs.Common.{sym}
 use Rattle.words.specs.Word.{payload}
 use Rattle.words.proofs.Range.{lowest-alone}
 use Rattle.words.proofs.is_lowest.Goals as goal

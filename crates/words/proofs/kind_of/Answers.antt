@@ -1,5 +1,5 @@
 -- The shift is the kind.
-use mathlib.Core.Path.{refl}
+use Rattle.std.proofs.Common.{refl}
 use Rattle.words.specs.Word.{kind}
 use Rattle.words.proofs.kind_of.Goals as goal
 

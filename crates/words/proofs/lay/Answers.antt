@@ -1,6 +1,6 @@
-use mathlib.Core.Path.{sym, ◌∙◌}
+use Rattle.std.proofs.Common.{sym, ◌∙◌}
 use lib.Seq.{set_out}
-use Rattle.words.proofs.Rest.{none-laid, one-laid, all_laid, laid-length}
+use Rattle.words.proofs.Rest.{one-laid, all_laid}
 use Rattle.words.proofs.lay.Goals.{then-place-out, else-place-out}
 use Rattle.words.proofs.lay.Goals as goal
 

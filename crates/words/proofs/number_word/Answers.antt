@@ -1,6 +1,5 @@
 -- The word of the payload of the number.
-use mathlib.Core.Path.{◌∙◌}
-use mir.Facts.{to_z-of_z}
+use Rattle.std.proofs.Common.{◌∙◌, to_z-of_z}
 use Rattle.words.specs.Word.{number_word}
 use Rattle.words.proofs.number_word.Goals as goal
 

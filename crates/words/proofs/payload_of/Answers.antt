@@ -1,5 +1,5 @@
 -- The code divides as the definition does.
-use mathlib.Core.Path.{refl}
+use Rattle.std.proofs.Common.{refl}
 use Rattle.words.specs.Word.{payload}
 use Rattle.words.proofs.payload_of.Goals as goal
 

@@ -1,10 +1,6 @@
 -- The code tests the payload as the definition does.
-use mathlib.Core.Path.{◌∙◌}
-use Prim.Native.Nat.{◌%◌}
-use native.Mathlib.Omega.{arith}
-use mir.Syntax.{w64}
-use mir.Facts.{to_z_pos, to_z-of_z}
-use borrow.Author.Tests.{lt-ltb, le-ltb}
+use Rattle.std.proofs.Common.{◌∙◌, ◌%◌, arith, w64, to_z-of_z, lt-ltb, le-ltb}
+use mir.Facts.{to_z_pos}
 use Rattle.words.specs.Word.{signed, payload}
 use Rattle.words.proofs.Machine.{less}
 use Rattle.words.proofs.signed_of.Goals as goal

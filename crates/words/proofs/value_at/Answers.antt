@@ -1,10 +1,7 @@
 -- Inside the list its element, made wider; past its end 0.
-use mathlib.Core.Path.{sym, ◌∙◌}
-use lib.ListN.{get_or, get_or-eq_default}
-use lib.IntN.{pos}
-use mir.Syntax.{w32}
-use mir.Val.{SFits}
-use mir.Facts.{to_z-of_z, sfits_widen}
+use Rattle.std.proofs.Common.{sym, ◌∙◌, get_or, pos, w32, SFits, to_z-of_z}
+use lib.ListN.{get_or-eq_default}
+use mir.Facts.{sfits_widen}
 use Rattle.integers.specs.Terms.{value}
 use Rattle.words.proofs.value_at.Goals as goal
 

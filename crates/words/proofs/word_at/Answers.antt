@@ -1,5 +1,5 @@
 -- Inside the list its element, past its end 0.
-use mathlib.Core.Path.{refl, sym}
+use Rattle.std.proofs.Common.{refl, sym}
 use lib.ListN.{get_or-eq_default}
 use Rattle.words.specs.Word.{word_at}
 use Rattle.words.proofs.word_at.Goals as goal

@@ -1,5 +1,5 @@
 -- The code computes as the definition does.
-use mathlib.Core.Path.{refl}
+use Rattle.std.proofs.Common.{refl}
 use Rattle.words.specs.Word.{word}
 use Rattle.words.proofs.word_of.Goals as goal
 

@@ -1,6 +1,5 @@
 -- Over the bits of the shared variable, or by the code's own rule.
-use mathlib.Core.Path.{sym, ◌∙◌}
-use native.Mathlib.Omega.{arith}
+use Rattle.std.proofs.Common.{sym, ◌∙◌, arith}
 use Rattle.extremes.specs.BoundLists.{bounds_of}
 use Rattle.encodings.specs.Uses.{shared_by}
 use Rattle.blocks.specs.Coded.{constraint_of}

@@ -1,5 +1,5 @@
 -- The code's block, at the table's entry for the code.
-use native.Mathlib.Omega.{arith}
+use Rattle.std.proofs.Common.{arith}
 use Rattle.models.specs.Model.{builtin, builtins}
 use Rattle.blocks.proofs.OneBlock.{fitted, fourth}
 use Rattle.blocks.proofs.choices.own_choice.Goals as goal

@@ -1,5 +1,5 @@
 -- The tests of the three values that are read.
-use mathlib.Core.Path.{◌∙◌}
+use Rattle.std.proofs.Common.{◌∙◌}
 use Rattle.models.specs.Meaning.{meaning}
 use Rattle.builtins.proofs.boolean.bool_or.Goals as goal
 

@@ -1,5 +1,5 @@
 -- The tests of the values that are read.
-use mathlib.Core.Path.{◌∙◌}
+use Rattle.std.proofs.Common.{◌∙◌}
 use Rattle.models.specs.Meaning.{meaning}
 use Rattle.builtins.proofs.boolean.bool_xor.Goals as goal
 

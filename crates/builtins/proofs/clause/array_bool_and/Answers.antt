@@ -1,5 +1,5 @@
 -- The test of the list agrees with the variable after it.
-use mathlib.Core.Path.{◌∙◌}
+use Rattle.std.proofs.Common.{◌∙◌}
 use Rattle.models.specs.Meaning.{meaning}
 use Rattle.builtins.proofs.clause.array_bool_and.Goals as goal
 

@@ -1,6 +1,5 @@
 -- The second list stands after the first, which has at most 32 elements.
-use mathlib.Core.Path.{◌∙◌}
-use native.Mathlib.Omega.{arith}
+use Rattle.std.proofs.Common.{◌∙◌, arith}
 use Rattle.models.specs.Meaning.{meaning, on, off}
 use Rattle.models.specs.Model.{past}
 use Rattle.arguments.proofs.Size.{size-le}

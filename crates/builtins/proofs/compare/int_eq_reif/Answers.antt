@@ -1,5 +1,5 @@
 -- The test agrees with the third variable.
-use mathlib.Core.Path.{◌∙◌}
+use Rattle.std.proofs.Common.{◌∙◌}
 use Rattle.models.specs.Meaning.{meaning}
 use Rattle.builtins.proofs.compare.int_eq_reif.Goals as goal
 

@@ -1,5 +1,5 @@
 -- The test of the two values that are read.
-use mathlib.Core.Path.{◌∙◌}
+use Rattle.std.proofs.Common.{◌∙◌}
 use Rattle.models.specs.Meaning.{meaning}
 use Rattle.arguments.proofs.Size.{read}
 use Rattle.builtins.proofs.compare.int_lt.Goals as goal

@@ -1,5 +1,5 @@
 -- The test of the sum and the number after the terms.
-use mathlib.Core.Path.{◌∙◌}
+use Rattle.std.proofs.Common.{◌∙◌}
 use Rattle.models.specs.Meaning.{meaning}
 use Rattle.arguments.proofs.Size.{read}
 use Rattle.builtins.proofs.linear.int_lin_le.Goals as goal

@@ -1,5 +1,5 @@
 -- The test agrees with the variable after the number.
-use mathlib.Core.Path.{◌∙◌}
+use Rattle.std.proofs.Common.{◌∙◌}
 use Rattle.models.specs.Meaning.{meaning}
 use Rattle.builtins.proofs.linear.int_lin_ne_reif.Goals as goal
 

@@ -1,5 +1,5 @@
 -- The test agrees with the variable after the number.
-use native.Mathlib.Omega.{arith}
+use Rattle.std.proofs.Common.{arith}
 use Rattle.models.specs.Model.{past, past_terms}
 use Rattle.arguments.proofs.Size.{size-le}
 use Rattle.builtins.proofs.linear.reified.Goals as goal

@@ -1,6 +1,5 @@
 -- Inside the list the number there is compared; outside it the test is false.
-use mathlib.Core.Path.{◌∙◌}
-use native.Mathlib.Omega.{arith}
+use Rattle.std.proofs.Common.{◌∙◌, arith}
 use Rattle.integers.specs.Terms.{value}
 use Rattle.models.specs.Model.{var, size, num, nums}
 use Rattle.models.specs.Meaning.{meaning}

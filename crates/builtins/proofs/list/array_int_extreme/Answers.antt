@@ -1,9 +1,5 @@
 -- Some variable has the value, and none a larger one, or none a lesser one.
-use mathlib.Core.Path.{◌≡◌, ◌∙◌}
-use mathlib.Core.Bool.{Bool, true, false, ◌&&◌}
-use mathlib.Core.List.{List, map}
-use Prim.Native.Nat.{ℕ}
-use lib.IntN.{ℤ}
+use Rattle.std.proofs.Common.{◌≡◌, ◌∙◌, Bool, true, false, ◌&&◌, List, map, ℕ, ℤ}
 use lib.Signed.{le_z}
 use Rattle.integers.specs.Choice.{◌if◌else◌}
 use Rattle.integers.specs.Number.{◌≟◌}

@@ -1,6 +1,5 @@
 -- Inside the list the value of the variable there is compared; outside it the test is false.
-use mathlib.Core.Path.{◌∙◌}
-use native.Mathlib.Omega.{arith}
+use Rattle.std.proofs.Common.{◌∙◌, arith}
 use Rattle.integers.specs.Terms.{value}
 use Rattle.integers.proofs.Places.{map-list_of}
 use Rattle.models.specs.Model.{var, size, vars}

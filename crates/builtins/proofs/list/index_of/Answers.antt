@@ -1,6 +1,6 @@
 -- The code tests as the definition does.
-use mathlib.Core.Path.{◌≡◌, ◌∙◌}
-use borrow.Author.Tests.{le-leb, lt-leb}
+use Rattle.std.proofs.Common.{◌≡◌, ◌∙◌, le-leb}
+use borrow.Author.Tests.{lt-leb}
 use Rattle.integers.specs.Number.{count}
 use Rattle.integers.specs.Terms.{value}
 use Rattle.models.specs.Model.{var}

@@ -1,5 +1,5 @@
 -- The test of the value that is read.
-use mathlib.Core.Path.{◌∙◌}
+use Rattle.std.proofs.Common.{◌∙◌}
 use Rattle.models.specs.Meaning.{meaning}
 use Rattle.arguments.proofs.Size.{read}
 use Rattle.builtins.proofs.list.set_in.Goals as goal

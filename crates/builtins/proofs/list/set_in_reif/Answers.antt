@@ -1,5 +1,5 @@
 -- The test agrees with the variable after the list.
-use mathlib.Core.Path.{◌∙◌}
+use Rattle.std.proofs.Common.{◌∙◌}
 use Rattle.models.specs.Meaning.{meaning}
 use Rattle.builtins.proofs.list.set_in_reif.Goals as goal
 

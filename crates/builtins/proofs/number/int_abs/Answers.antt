@@ -1,6 +1,5 @@
 -- The absolute value is the larger of a number and its opposite.
-use mathlib.Core.Path.{◌∙◌}
-use native.Mathlib.Omega.{arith}
+use Rattle.std.proofs.Common.{◌∙◌, arith}
 use Rattle.models.specs.Meaning.{meaning}
 use Rattle.models.specs.Model.{var}
 use Rattle.arguments.proofs.Size.{read, abs-max, value-near}

@@ -1,7 +1,5 @@
 -- A divisor that is not 0 divides small values; the quotient or the remainder is compared.
-use mathlib.Core.Bool.{not}
-use mathlib.Core.Path.{ap, ◌∙◌}
-use native.Mathlib.Omega.{arith}
+use Rattle.std.proofs.Common.{not, ap, ◌∙◌, arith}
 use Rattle.integers.proofs.Fits.{above_zero}
 use Rattle.models.specs.Model.{var}
 use Rattle.arguments.proofs.Size.{read, value-near}

@@ -1,6 +1,5 @@
 -- The product of two small values fits.
-use mathlib.Core.Path.{◌∙◌}
-use native.Mathlib.Omega.{arith}
+use Rattle.std.proofs.Common.{◌∙◌, arith}
 use Rattle.integers.proofs.Fits.{mul-le}
 use Rattle.models.specs.Meaning.{meaning}
 use Rattle.models.specs.Model.{var}

@@ -1,6 +1,4 @@
-use mathlib.Core.Path.{◌∙◌}
-use Prim.Native.Nat.{◌/◌}
-use mir.Facts.{to_z-of_z}
+use Rattle.std.proofs.Common.{◌∙◌, ◌/◌, to_z-of_z}
 use Rattle.integers.proofs.Fits.{back}
 use Rattle.builtins.proofs.CutPower.{cut_fits, near_fits, cut-one, cut-square, cut_even, cut-odd}
 use Rattle.builtins.proofs.power.+power_of.Goals as goal

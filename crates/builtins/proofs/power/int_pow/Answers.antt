@@ -1,6 +1,5 @@
 -- A power that was cut is equal to a value where the power is.
-use mathlib.Core.Path.{◌≡◌, sym, ◌∙◌}
-use native.Mathlib.Omega.{arith}
+use Rattle.std.proofs.Common.{◌≡◌, sym, ◌∙◌, arith}
 use Rattle.models.specs.Meaning.{power, meaning}
 use Rattle.models.specs.Model.{var, exponent_at}
 use Rattle.arguments.proofs.Size.{read, value-near}

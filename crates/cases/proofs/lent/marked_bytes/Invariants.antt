@@ -1,6 +1,5 @@
 -- The measure: how many are left.
-use Prim.Native.Nat.{◌-◌}
-use lib.ListN.{length}
+use Rattle.std.proofs.Common.{◌-◌, length}
 use Rattle.cases.proofs.lent.marked_bytes.Given as goal
 
 abbrev pub decreases-loop-i : goal.decreases-loop-i

@@ -1,5 +1,5 @@
 -- The measure: how many are left.
-use Prim.Native.Nat.{◌-◌}
+use Rattle.std.proofs.Common.{◌-◌}
 use Rattle.cases.proofs.output.print_words.Given as goal
 
 abbrev pub decreases-loop-i : goal.decreases-loop-i

@@ -1,6 +1,5 @@
 -- Two rows, one after the other.
-use native.Mathlib.Omega.{arith}
-use mir.Facts.{to_z-of_z}
+use Rattle.std.proofs.Common.{arith, to_z-of_z}
 use Rattle.laying.proofs.Parts.{went_then}
 use Rattle.choiceblocks.specs.Rows.{choice_rows}
 use Rattle.choiceblocks.proofs.rows.lay_choice.Goals as goal

@@ -1,5 +1,5 @@
-use native.Mathlib.Omega.{arith}
-use Rattle.laying.proofs.Parts.{begun, more, done, went-length}
+use Rattle.std.proofs.Common.{arith}
+use Rattle.laying.proofs.Parts.{begun, more}
 use Rattle.choiceblocks.proofs.rows.lay_first_only.Goals as goal
 
 pub loop-k-preserved : goal.loop-k-preserved

@@ -1,5 +1,5 @@
 -- The loop lays one list of parts in each turn: a row. The last of the list has none.
-use Prim.Native.Nat.{◌-◌}
+use Rattle.std.proofs.Common.{◌-◌}
 use Rattle.laying.proofs.Parts.{Laying}
 use Rattle.choiceblocks.specs.Rows.{first_at}
 use Rattle.choiceblocks.proofs.rows.lay_first_only.Given as goal

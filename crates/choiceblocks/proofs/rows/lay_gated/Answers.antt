@@ -1,5 +1,5 @@
 -- Products, then a row.
-use native.Mathlib.Omega.{arith}
+use Rattle.std.proofs.Common.{arith}
 use Rattle.laying.proofs.Parts.{went_then}
 use Rattle.choiceblocks.specs.Rows.{gated_rows}
 use Rattle.choiceblocks.proofs.rows.lay_gated.Goals as goal

@@ -1,5 +1,5 @@
 -- Bits, then bounds.
-use native.Mathlib.Omega.{arith}
+use Rattle.std.proofs.Common.{arith}
 use Rattle.laying.proofs.Parts.{went_then}
 use Rattle.choiceblocks.specs.Rows.{gates}
 use Rattle.choiceblocks.proofs.rows.lay_gates.Goals as goal

@@ -1,6 +1,5 @@
 -- A head, terms, and the last words of a row.
-use mir.Facts.{to_z-of_z}
-use borrow.Author.Rules.{rules}
+use Rattle.std.proofs.Common.{to_z-of_z}
 use Rattle.choiceblocks.proofs.OneHot.{summed}
 use Rattle.choiceblocks.proofs.rows.lay_label_row.Goals as goal
 

@@ -1,5 +1,5 @@
 -- A term and a constant.
-use native.Mathlib.Omega.{arith}
+use Rattle.std.proofs.Common.{arith}
 use Rattle.laying.proofs.Parts.{went_then}
 use Rattle.choiceblocks.proofs.rows.lay_last.Goals as goal
 

@@ -1,9 +1,8 @@
 -- A head, two terms, the terms of the bits and a constant. K is small, so 1 less it fits.
-use mathlib.Core.Path.{◌∙◌}
-use native.Mathlib.Omega.{arith}
+use Rattle.std.proofs.Common.{arith}
 use Rattle.integers.specs.Number.{+1}
 use Rattle.arguments.proofs.Size.{read}
-use Rattle.laying.proofs.Parts.{went_then, went-length}
+use Rattle.laying.proofs.Parts.{went_then}
 use Rattle.extremes.proofs.Size.{gap_plus_size}
 use Rattle.choiceblocks.specs.Rows.{later_row}
 use Rattle.choiceblocks.proofs.rows.lay_later.Goals as goal

@@ -1,5 +1,5 @@
 -- A head, terms, and the last words of a row.
-use mir.Facts.{to_z-of_z}
+use Rattle.std.proofs.Common.{to_z-of_z}
 use Rattle.choiceblocks.proofs.OneHot.{summed}
 use Rattle.choiceblocks.proofs.rows.lay_member_row.Goals as goal
 

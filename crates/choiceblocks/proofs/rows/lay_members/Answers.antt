@@ -1,11 +1,9 @@
-use native.Mathlib.Omega.{arith}
-use lib.ListN.{get_or}
-use mir.Facts.{to_z-of_z}
+use Rattle.std.proofs.Common.{arith, get_or, to_z-of_z}
 use Rattle.integers.specs.Number.{◌⊖◌, +0}
 use Rattle.integers.proofs.Fits.{minus-size}
 use Rattle.integers.proofs.Sums.{count-le}
 use Rattle.arguments.proofs.Size.{read}
-use Rattle.laying.proofs.Parts.{begun, more, done, went-length}
+use Rattle.laying.proofs.Parts.{begun, more}
 use Rattle.laying.proofs.Counts.{sized-one, many-counted}
 use Rattle.choiceblocks.proofs.rows.lay_members.Goals as goal
 

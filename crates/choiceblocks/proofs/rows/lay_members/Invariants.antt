@@ -1,5 +1,5 @@
 -- The loop lays one list of parts in each turn: a term of coefficient 1. Its variable is near the first one.
-use Prim.Native.Nat.{◌-◌}
+use Rattle.std.proofs.Common.{◌-◌}
 use Rattle.laying.proofs.Parts.{Laying}
 use Rattle.choiceblocks.specs.Rows.{member_at}
 use Rattle.choiceblocks.proofs.rows.lay_members.Given as goal

@@ -1,8 +1,7 @@
-use Prim.Native.Nat.{◌+◌}
-use native.Mathlib.Omega.{arith}
+use Rattle.std.proofs.Common.{◌+◌, arith}
 use Rattle.models.specs.Model.{num}
 use Rattle.arguments.proofs.Size.{read}
-use Rattle.laying.proofs.Parts.{begun, more, done, went-length}
+use Rattle.laying.proofs.Parts.{begun, more}
 use Rattle.laying.proofs.Counts.{sized-any, many-listed}
 use Rattle.choiceblocks.proofs.rows.lay_numbers.Goals as goal
 

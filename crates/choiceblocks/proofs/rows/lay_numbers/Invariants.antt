@@ -1,5 +1,5 @@
 -- The loop lays one list of parts in each turn: a term whose coefficient is the number at a place.
-use Prim.Native.Nat.{◌-◌}
+use Rattle.std.proofs.Common.{◌-◌}
 use Rattle.laying.proofs.Parts.{Laying}
 use Rattle.choiceblocks.specs.Rows.{number_term_at}
 use Rattle.choiceblocks.proofs.rows.lay_numbers.Given as goal

@@ -1,5 +1,5 @@
 -- A head, terms and a constant, one after the other.
-use native.Mathlib.Omega.{arith}
+use Rattle.std.proofs.Common.{arith}
 use Rattle.laying.proofs.Parts.{went_then}
 use Rattle.choiceblocks.specs.Rows.{one_row}
 use Rattle.choiceblocks.proofs.rows.lay_one_bit.Goals as goal

@@ -1,8 +1,7 @@
-use native.Mathlib.Omega.{arith}
-use lib.ListN.{get_or}
+use Rattle.std.proofs.Common.{arith, get_or}
 use Rattle.integers.specs.Number.{+0}
 use Rattle.arguments.proofs.Size.{read}
-use Rattle.laying.proofs.Parts.{begun, more, done, went-length}
+use Rattle.laying.proofs.Parts.{begun, more}
 use Rattle.laying.proofs.Counts.{sized-any, many-listed}
 use Rattle.choiceblocks.proofs.rows.lay_values.Goals as goal
 

@@ -1,5 +1,5 @@
 -- The loop lays one list of parts in each turn: a term whose coefficient is a number of the list.
-use Prim.Native.Nat.{◌-◌}
+use Rattle.std.proofs.Common.{◌-◌}
 use Rattle.laying.proofs.Parts.{Laying}
 use Rattle.choiceblocks.specs.Rows.{value_at}
 use Rattle.choiceblocks.proofs.rows.lay_values.Given as goal

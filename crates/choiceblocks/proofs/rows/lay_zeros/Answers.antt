@@ -1,6 +1,6 @@
-use native.Mathlib.Omega.{arith}
+use Rattle.std.proofs.Common.{arith}
 use Rattle.arguments.proofs.Size.{read}
-use Rattle.laying.proofs.Parts.{begun, more, done, went-length}
+use Rattle.laying.proofs.Parts.{begun, more}
 use Rattle.laying.proofs.Counts.{sized-bound, many-tested}
 use Rattle.choiceblocks.specs.Rows.{zero_at}
 use Rattle.choiceblocks.proofs.rows.lay_zeros.Goals as goal

@@ -1,5 +1,5 @@
 -- The loop lays one list of parts in each turn: the bounds Z of a variable.
-use Prim.Native.Nat.{◌-◌}
+use Rattle.std.proofs.Common.{◌-◌}
 use Rattle.laying.proofs.Parts.{Laying}
 use Rattle.choiceblocks.specs.Rows.{zero_at}
 use Rattle.choiceblocks.proofs.rows.lay_zeros.Given as goal

@@ -1,5 +1,4 @@
-use mathlib.Core.Path.{◌≡◌, refl, ◌∙◌}
-use native.Mathlib.Omega.{arith}
+use Rattle.std.proofs.Common.{refl, ◌∙◌, arith}
 use Rattle.integers.specs.Lists.{all, list_of}
 use Rattle.integers.proofs.Places.{all_more}
 use Rattle.arguments.proofs.Size.{read}

@@ -1,7 +1,5 @@
 -- The loop's invariant: the test so far is that of the numbers passed.
-use mathlib.Core.Path.{◌≡◌}
-use Prim.Native.Nat.{◌-◌, ◌≤◌}
-use lib.ListN.{get_or}
+use Rattle.std.proofs.Common.{◌≡◌, ◌-◌, ◌≤◌, get_or}
 use Rattle.integers.specs.Number.{+0}
 use Rattle.integers.specs.Lists.{all, list_of}
 use Rattle.words.specs.Word.{in_range}

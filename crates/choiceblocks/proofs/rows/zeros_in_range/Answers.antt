@@ -1,6 +1,5 @@
-use mathlib.Core.Path.{◌≡◌, refl, ◌∙◌}
+use Rattle.std.proofs.Common.{refl, ◌∙◌, arith}
 use mathlib.Core.List.{flat_map}
-use native.Mathlib.Omega.{arith}
 use Rattle.integers.specs.Lists.{all}
 use Rattle.arguments.proofs.Size.{read}
 use Rattle.laying.specs.Part.{numbers_in}

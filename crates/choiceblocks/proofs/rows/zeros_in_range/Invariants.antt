@@ -1,6 +1,5 @@
 -- The loop's invariant: the test so far is that of the variables passed.
-use mathlib.Core.Path.{◌≡◌}
-use Prim.Native.Nat.{◌-◌, ◌≤◌}
+use Rattle.std.proofs.Common.{◌≡◌, ◌-◌, ◌≤◌}
 use Rattle.laying.specs.Lists.{many}
 use Rattle.laying.proofs.Counts.{fitting}
 use Rattle.choiceblocks.specs.Rows.{zero_at}

@@ -1,8 +1,5 @@
 -- Differences of end products and bounds near 0 fit.
-use mathlib.Core.Path.{ap, ◌∙◌}
-use native.Mathlib.Omega.{arith}
-use lib.IntN.{nat_abs}
-use mir.Facts.{to_z-of_z}
+use Rattle.std.proofs.Common.{ap, ◌∙◌, arith, nat_abs, to_z-of_z}
 use Rattle.integers.proofs.Fits.{back}
 use Rattle.divisionblocks.proofs.Largest.{apart-size}
 use Rattle.divisionblocks.proofs.table.apart.Goals as goal

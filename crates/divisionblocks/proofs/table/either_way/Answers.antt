@@ -1,8 +1,5 @@
 -- The opposite of a bound near 0 fits.
-use mathlib.Core.Path.{ap, ◌∙◌}
-use native.Mathlib.Omega.{arith}
-use lib.IntN.{nat_abs}
-use mir.Facts.{to_z-of_z}
+use Rattle.std.proofs.Common.{ap, ◌∙◌, arith, nat_abs, to_z-of_z}
 use Rattle.integers.proofs.Fits.{back}
 use Rattle.divisionblocks.proofs.Largest.{wide-size}
 use Rattle.divisionblocks.proofs.table.either_way.Goals as goal

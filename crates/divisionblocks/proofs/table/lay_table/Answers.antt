@@ -1,10 +1,7 @@
-use mathlib.Core.List.{[]}
-use native.Mathlib.Omega.{arith}
-use lib.ListN.{get_or}
-use borrow.Author.Rules.{rules}
+use Rattle.std.proofs.Common.{[], get_or, rules}
 use Rattle.integers.specs.Number.{+0}
 use Rattle.integers.proofs.Fits.{back}
-use Rattle.laying.proofs.Parts.{begun, more, done, went-length}
+use Rattle.laying.proofs.Parts.{begun, more}
 use Rattle.divisionblocks.proofs.table.lay_table.Goals as goal
 
 pub loop-k-preserved : goal.loop-k-preserved

@@ -1,5 +1,5 @@
--- The loop lays one row in each turn: the k_th of the table.
-use Prim.Native.Nat.{◌-◌}
+-- The loop lays one row in each turn: the k-th of the table.
+use Rattle.std.proofs.Common.{◌-◌}
 use Rattle.laying.proofs.Parts.{Laying}
 use Rattle.divisionblocks.specs.Rows.{table_at}
 use Rattle.divisionblocks.proofs.table.lay_table.Given as goal

@@ -1,8 +1,5 @@
 -- The sums fit; M is the larger of two of them.
-use mathlib.Core.Path.{ap, ◌∙◌}
-use native.Mathlib.Omega.{arith}
-use lib.IntN.{nat_abs}
-use mir.Facts.{to_z-of_z}
+use Rattle.std.proofs.Common.{ap, ◌∙◌, arith, nat_abs, to_z-of_z}
 use Rattle.integers.proofs.Fits.{back, plus-size}
 use Rattle.divisionblocks.proofs.Largest.{M-is, M-size}
 use Rattle.divisionblocks.proofs.table.m_of.Goals as goal

@@ -1,6 +1,5 @@
 -- Each number is a bound or M, its opposite, or 1 less it, and fits.
-use native.Mathlib.Omega.{arith}
-use mir.Facts.{to_z-of_z}
+use Rattle.std.proofs.Common.{arith, to_z-of_z}
 use Rattle.integers.specs.Number.{+1}
 use Rattle.integers.proofs.Fits.{back, plus-size}
 use Rattle.rules.specs.Division.{division_table}

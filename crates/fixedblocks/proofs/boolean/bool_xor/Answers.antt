@@ -1,7 +1,6 @@
 -- Two bits, two products and two rows, one after the other.
 use mathlib.Core.List.{flat_map}
-use native.Mathlib.Nat.{add-zero}
-use native.Mathlib.Omega.{arith}
+use Rattle.std.proofs.Common.{add-zero, arith}
 use Rattle.rules.specs.Block.{numbered}
 use Rattle.rules.specs.Rule.{rule, same_rows, same_reified}
 use Rattle.laying.specs.Part.{bound_parts, term_parts, row_parts, block_parts}

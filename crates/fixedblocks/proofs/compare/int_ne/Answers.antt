@@ -1,7 +1,6 @@
 -- A bit and two rows, one after the other.
 use mathlib.Core.List.{flat_map}
-use native.Mathlib.Nat.{add-zero}
-use native.Mathlib.Omega.{arith}
+use Rattle.std.proofs.Common.{add-zero, arith}
 use Rattle.rules.specs.Block.{numbered}
 use Rattle.rules.specs.Rule.{rule, where_one, where_zero}
 use Rattle.laying.specs.Part.{bound_parts, term_parts, row_parts, block_parts}
@@ -12,5 +11,5 @@ use Rattle.fixedblocks.proofs.compare.int_ne.Goals as goal
 pub returns : goal.returns
 unfolding rule where_one where_zero block_parts bound_parts flat_map row_parts term_parts numbered row_parts_of many
 returns c =
-    let w = then 10 4000 c.lay_bound-t.ensures (then 2000 2000 (c.where_bit-u.ensures.fact, c.where_bit-u.ensures.size) (c.where_bit.ensures.fact, c.where_bit.ensures.size)) in
+    let w = then 10 4000 c.lay_bound-t.ensures (then 2000 2000 (c.where_bit-u.ensures.row, c.where_bit-u.ensures.size) (c.where_bit.ensures.row, c.where_bit.ensures.size)) in
     rw (add-zero c.args.first) (w.0, omega (arith, w.1))

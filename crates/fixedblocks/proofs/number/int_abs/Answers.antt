@@ -1,15 +1,12 @@
 -- A bit, the bounds Z(x), a product and three rows, one after the other.
-use mathlib.Core.Path.{◌∙◌}
+use Rattle.std.proofs.Common.{add-zero, arith}
 use mathlib.Core.List.{flat_map}
-use native.Mathlib.Nat.{add-zero}
-use native.Mathlib.Omega.{arith}
 use Rattle.arguments.proofs.Size.{read}
 use Rattle.rules.specs.Block.{numbered}
 use Rattle.rules.specs.Parts.{Z}
 use Rattle.rules.specs.Rule.{rule, only_negative, absolute}
 use Rattle.laying.specs.Part.{bound_parts, term_parts, row_parts, block_parts}
 use Rattle.laying.specs.Lists.{many, row_parts_of}
-use Rattle.laying.proofs.Parts.{went-length}
 use Rattle.fixedblocks.proofs.Laid.{then}
 use Rattle.fixedblocks.proofs.number.int_abs.Goals as goal
 

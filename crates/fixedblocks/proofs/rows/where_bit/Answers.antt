@@ -1,6 +1,5 @@
 -- The gap is small, so d less it and its opposite fit; the row is that of three terms.
-use native.Mathlib.Omega.{arith}
-use mir.Facts.{to_z-of_z}
+use Rattle.std.proofs.Common.{arith, to_z-of_z}
 use Rattle.integers.proofs.Fits.{back}
 use Rattle.extremes.proofs.Size.{gap_plus_size}
 use Rattle.fixedblocks.proofs.rows.where_bit.Goals as goal

@@ -1,10 +1,6 @@
 -- The rows r−x≤0, then the last row.
-use mathlib.Core.Path.{sym}
-use mathlib.Core.Bool.{false}
-use mathlib.Core.List.{[], ◌∷◌, ◌++◌, map, append-nil, flat_map}
-use native.Mathlib.Omega.{arith}
-use lib.IntN.{pos}
-use lib.ListN.{length}
+use Rattle.std.proofs.Common.{sym, false, [], ◌∷◌, ◌++◌, map, append-nil, arith, pos, length}
+use mathlib.Core.List.{flat_map}
 use Rattle.integers.specs.Number.{◌⊖◌, +1, -1}
 use Rattle.integers.specs.Terms.{◌·◌}
 use Rattle.models.specs.Model.{var, vars, past}

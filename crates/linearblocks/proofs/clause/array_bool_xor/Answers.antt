@@ -1,6 +1,6 @@
 -- The bounds of t, then the row.
-use mathlib.Core.List.{append-nil, flat_map}
-use native.Mathlib.Omega.{arith}
+use Rattle.std.proofs.Common.{append-nil, arith}
+use mathlib.Core.List.{flat_map}
 use Rattle.arguments.proofs.Size.{read}
 use Rattle.rules.specs.Rule.{rule}
 use Rattle.laying.specs.Part.{bound_parts, block_parts}

@@ -1,8 +1,5 @@
 -- A head, the terms of both lists and the constant are the one row of the block.
-use mathlib.Core.Path.{◌≡◌, ap, ◌∙◌}
-use mathlib.Core.List.{◌++◌}
-use native.Mathlib.Omega.{arith}
-use lib.ListN.{length-append}
+use Rattle.std.proofs.Common.{◌≡◌, ap, ◌∙◌, ◌++◌, arith, length-append}
 use Rattle.integers.specs.Number.{+1, -1}
 use Rattle.models.specs.Model.{size, vars, past}
 use Rattle.arguments.proofs.Size.{read, size-le}

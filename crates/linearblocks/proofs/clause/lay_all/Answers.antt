@@ -1,7 +1,5 @@
 -- A head, the terms, r and the constant are the parts of the row.
-use mathlib.Core.List.{[], ◌∷◌, ◌++◌}
-use native.Mathlib.Omega.{arith}
-use lib.ListN.{length-append}
+use Rattle.std.proofs.Common.{[], ◌∷◌, ◌++◌, arith, length-append}
 use Rattle.integers.specs.Number.{+1, -1}
 use Rattle.integers.specs.Terms.{◌·◌}
 use Rattle.models.specs.Model.{vars}

@@ -1,5 +1,5 @@
 -- The block is one row.
-use native.Mathlib.Omega.{arith}
+use Rattle.std.proofs.Common.{arith}
 use Rattle.rules.specs.Rule.{rule}
 use Rattle.laying.specs.Part.{row_parts}
 use Rattle.laying.proofs.Parts.{went_as}

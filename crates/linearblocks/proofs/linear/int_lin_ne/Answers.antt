@@ -1,9 +1,6 @@
 -- Two rows more after the shared part.
-use mathlib.Core.Path.{ap, ◌∙◌}
-use mathlib.Core.List.{[], ◌∷◌, flat_map}
-use native.Mathlib.Omega.{arith}
-use native.Mathlib.Nat.{add-zero}
-use borrow.Author.Rules.{rules}
+use Rattle.std.proofs.Common.{ap, ◌∙◌, [], ◌∷◌, arith, add-zero, rules}
+use mathlib.Core.List.{flat_map}
 use Rattle.integers.specs.Number.{+1, +2, -1}
 use Rattle.integers.specs.Terms.{◌·◌}
 use Rattle.integers.specs.declared.Bounds.{Bounds}

@@ -1,6 +1,5 @@
 -- The two rows with the numbers of either code.
-use native.Mathlib.Omega.{arith}
-use mir.Facts.{to_z-of_z}
+use Rattle.std.proofs.Common.{to_z-of_z}
 use Rattle.arguments.proofs.Size.{read}
 use Rattle.rules.specs.Rule.{zero_rows}
 use Rattle.linearblocks.specs.Rows.{size_rows}

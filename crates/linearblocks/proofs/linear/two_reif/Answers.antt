@@ -1,5 +1,5 @@
 -- The words that are lent have the terms 1×a and −1×b and the constant 0.
-use mathlib.Core.Path.{ap, ◌∙◌}
+use Rattle.std.proofs.Common.{ap, ◌∙◌}
 use Rattle.words.specs.Word.{word_at}
 use Rattle.models.specs.Model.{var}
 use Rattle.laying.specs.Part.{block_parts}

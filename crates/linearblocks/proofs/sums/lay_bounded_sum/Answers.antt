@@ -1,7 +1,6 @@
 -- The bounds of x, then the row.
-use mathlib.Core.List.{append-nil, flat_map}
-use native.Mathlib.Omega.{arith}
-use mir.Facts.{to_z-of_z}
+use Rattle.std.proofs.Common.{append-nil, arith, to_z-of_z}
+use mathlib.Core.List.{flat_map}
 use Rattle.laying.specs.Part.{bound_parts, row_parts, block_parts}
 use Rattle.laying.proofs.Parts.{went_then}
 use Rattle.linearblocks.specs.Rows.{link, bounded_sum}

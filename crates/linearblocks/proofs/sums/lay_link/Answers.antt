@@ -1,8 +1,5 @@
 -- A head, the terms, x and the constant are the parts of the row.
-use mathlib.Core.List.{[], ◌∷◌, ◌++◌}
-use native.Mathlib.Omega.{arith}
-use native.Mathlib.Nat.{add-zero}
-use lib.ListN.{length-append}
+use Rattle.std.proofs.Common.{[], ◌∷◌, ◌++◌, arith, add-zero, length-append}
 use Rattle.integers.specs.Number.{ -1}
 use Rattle.integers.specs.Terms.{◌·◌}
 use Rattle.models.specs.Model.{terms}

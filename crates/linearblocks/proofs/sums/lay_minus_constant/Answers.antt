@@ -1,5 +1,5 @@
 -- The constant is a signed payload, so its opposite fits.
-use native.Mathlib.Omega.{arith}
+use Rattle.std.proofs.Common.{arith}
 use Rattle.models.specs.Model.{past_terms}
 use Rattle.arguments.proofs.Size.{read, num-size}
 use Rattle.linearblocks.proofs.sums.lay_minus_constant.Goals as goal

@@ -1,14 +1,11 @@
 -- Three bounds, a row and a product, one after the other.
-use mathlib.Core.Path.{◌∙◌}
+use Rattle.std.proofs.Common.{arith, add-zero, to_z-of_z}
 use mathlib.Core.List.{flat_map}
-use native.Mathlib.Omega.{arith}
-use native.Mathlib.Nat.{add-zero}
-use mir.Facts.{to_z-of_z}
 use Rattle.arguments.proofs.Size.{read}
 use Rattle.rules.specs.Block.{numbered}
 use Rattle.rules.specs.Parts.{Z}
 use Rattle.laying.specs.Part.{bound_parts, row_parts, block_parts}
-use Rattle.laying.proofs.Parts.{went_then, went-length}
+use Rattle.laying.proofs.Parts.{went_then}
 use Rattle.linearblocks.specs.Rows.{split}
 use Rattle.linearblocks.proofs.sums.lay_split.Goals as goal
 

@@ -1,6 +1,5 @@
 -- A head, the terms and the constant are the parts of the row.
-use mathlib.Core.Path.{◌∙◌}
-use native.Mathlib.Omega.{arith}
+use Rattle.std.proofs.Common.{◌∙◌, arith}
 use Rattle.models.specs.Model.{terms}
 use Rattle.rules.specs.Parts.{sources}
 use Rattle.rules.proofs.Lengths.{sources-length}

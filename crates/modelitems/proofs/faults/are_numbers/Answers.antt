@@ -1,5 +1,4 @@
-use mathlib.Core.Path.{refl, ◌∙◌}
-use borrow.Author.Rules.{rules}
+use Rattle.std.proofs.Common.{refl, ◌∙◌, rules}
 use Rattle.integers.specs.Lists.{list_of, all}
 use Rattle.integers.proofs.Places.{all_more}
 use Rattle.words.specs.Word.{word_at}

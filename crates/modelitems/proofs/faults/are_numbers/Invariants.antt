@@ -1,7 +1,5 @@
 -- The loop's invariant: the test so far is that of the words passed.
-use mathlib.Core.Path.{◌≡◌}
-use Prim.Native.Nat.{◌-◌, ◌≤◌}
-use lib.ListN.{length}
+use Rattle.std.proofs.Common.{◌≡◌, ◌-◌, ◌≤◌, length}
 use Rattle.integers.specs.Lists.{list_of, all}
 use Rattle.words.specs.Word.{word_at}
 use Rattle.modelitems.specs.Onward.{is_number}

@@ -1,7 +1,5 @@
 -- The code tests the word as the definition does.
-use mathlib.Core.Path.{◌≡◌, refl, ◌∙◌}
-use mathlib.Core.Bool.{Bool, true, false, ◌&&◌, not}
-use lib.Dec.{eqb}
+use Rattle.std.proofs.Common.{◌≡◌, refl, ◌∙◌, Bool, true, false, ◌&&◌, not, eqb}
 use Rattle.integers.specs.Choice.{◌if◌else◌}
 use Rattle.words.specs.Limit as Limit
 use Rattle.words.specs.Word.{kind, too_low}

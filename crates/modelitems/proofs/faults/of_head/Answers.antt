@@ -1,5 +1,6 @@
 -- The code tests the word as the definition does.
-use borrow.Author.Tests.{eq-eqb, le-leb, le-ltb, lt-leb, lt-ltb, ne_eqb}
+use Rattle.std.proofs.Common.{eq-eqb, le-leb, le-ltb, lt-ltb, ne_eqb}
+use borrow.Author.Tests.{lt-leb}
 use Rattle.models.specs.Reading.{fault_head}
 use Rattle.modelitems.proofs.faults.of_head.Goals as goal
 

@@ -1,5 +1,5 @@
 -- The code tests the word as the definition does.
-use borrow.Author.Tests.{eq-eqb, ne_eqb}
+use Rattle.std.proofs.Common.{eq-eqb, ne_eqb}
 use Rattle.models.specs.Reading.{fault_number_in}
 use Rattle.modelitems.proofs.faults.of_number.Goals as goal
 

@@ -1,7 +1,5 @@
 -- The code tests the word as the definition does; of an integer variable 18, of a Boolean one 5 comes before 6.
-use mathlib.Core.Path.{◌∙◌}
-use lib.Dec.{ltb}
-use borrow.Author.Tests.{eq-eqb, ne_eqb}
+use Rattle.std.proofs.Common.{◌∙◌, ltb, eq-eqb, ne_eqb}
 use Rattle.words.specs.Limit as Limit
 use Rattle.words.specs.Word.{payload, too_low}
 use Rattle.models.specs.Reading.{fault_start_in}

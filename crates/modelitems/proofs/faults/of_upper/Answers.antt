@@ -1,6 +1,5 @@
 -- The code tests the word as the definition does; 18 comes before 4.
-use mathlib.Core.Path.{◌∙◌}
-use borrow.Author.Tests.{eq-eqb, ne_eqb}
+use Rattle.std.proofs.Common.{◌∙◌, eq-eqb, ne_eqb}
 use Rattle.words.specs.Limit as Limit
 use Rattle.words.specs.Word.{too_low}
 use Rattle.models.specs.Reading.{fault_upper_in}

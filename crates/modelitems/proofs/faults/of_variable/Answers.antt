@@ -1,9 +1,6 @@
 -- The code tests as the definition does; past the first v variables the type is none, which is no type that is wanted.
-use mathlib.Core.Path.{◌≡◌}
-use native.Mathlib.Omega.{arith}
-use borrow.Author.Tests.{eq-eqb, ne_eqb}
-use lib.ListN.{get_or, take, length-take, get_or-eq_default}
-use lib.Seq.{get_or-take}
+use Rattle.std.proofs.Common.{◌≡◌, arith, eq-eqb, ne_eqb, get_or, take, length-take, get_or-take}
+use lib.ListN.{get_or-eq_default}
 use Rattle.models.specs.Reading.{fault_variable}
 use Rattle.modelitems.proofs.faults.of_variable.Goals.{Else-v-x}
 use Rattle.modelitems.proofs.faults.of_variable.Goals as goal

@@ -1,8 +1,5 @@
 -- One word, or a length word and its list.
-use mathlib.Core.Path.{◌≡◌, sym, ap, ◌∙◌}
-use Prim.Native.Nat.{ℕ, ◌+◌, ◌≤◌}
-use native.Mathlib.Omega.{arith}
-use lib.ListN.{length, take}
+use Rattle.std.proofs.Common.{◌≡◌, sym, ap, ◌∙◌, ℕ, ◌+◌, ◌≤◌, arith, length, take}
 use Rattle.words.specs.Word.{payload, word_at}
 use Rattle.models.specs.Shape.{argument}
 use Rattle.models.specs.Reading.{after_argument}

@@ -1,7 +1,4 @@
-use mathlib.Core.Path.{refl, sym, ◌∙◌}
-use Prim.Native.Nat.{ℕ, ◌+◌}
-use native.Mathlib.Omega.{arith}
-use lib.ListN.{take}
+use Rattle.std.proofs.Common.{refl, sym, ◌∙◌, ℕ, ◌+◌, arith, take}
 use Rattle.modelitems.specs.Onward.{StepsTo, arguments_from}
 use Rattle.modelitems.proofs.Onward.{at-heads}
 use Rattle.modelitems.proofs.Places.{past-arguments}

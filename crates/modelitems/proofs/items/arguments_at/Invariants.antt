@@ -1,6 +1,5 @@
--- The loop's invariant: reading went on past the arguments before the k_th.
-use Prim.Native.Nat.{ℕ, ◌-◌}
-use lib.ListN.{take}
+-- The loop's invariant: reading went on past the arguments before the k-th.
+use Rattle.std.proofs.Common.{ℕ, ◌-◌, take}
 use Rattle.modelitems.specs.Onward.{StepsTo, arguments_from}
 use Rattle.modelitems.proofs.items.arguments_at.Given as goal
 

@@ -1,5 +1,5 @@
 -- The code tests the word as the definition does.
-use borrow.Author.Tests.{eq-eqb, ne_eqb}
+use Rattle.std.proofs.Common.{eq-eqb, ne_eqb}
 use Rattle.models.specs.Reading.{declared}
 use Rattle.modelitems.proofs.items.declared_by.Goals as goal
 

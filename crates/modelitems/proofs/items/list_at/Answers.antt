@@ -1,7 +1,6 @@
 -- Case by case as the definition of what follows a length word.
-use native.Mathlib.Omega.{arith}
-use borrow.Author.Tests.{eq-eqb, ne_eqb, lt-leb}
-use lib.ListN.{take}
+use Rattle.std.proofs.Common.{arith, eq-eqb, ne_eqb, take}
+use borrow.Author.Tests.{lt-leb}
 use Rattle.models.specs.Reading.{after_argument}
 use Rattle.modelitems.proofs.Onward.{any-type}
 use Rattle.modelitems.proofs.Steps.{and_then, or-halted, to-alike}

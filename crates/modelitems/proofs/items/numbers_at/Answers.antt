@@ -1,6 +1,4 @@
-use mathlib.Core.Path.{◌≡◌}
-use Prim.Native.Nat.{◌+◌, ◌-◌, ◌<◌}
-use native.Mathlib.Omega.{arith}
+use Rattle.std.proofs.Common.{◌≡◌, ◌+◌, ◌-◌, ◌<◌, arith}
 use Rattle.words.specs.Word.{word_at}
 use Rattle.modelitems.specs.Onward.{NumbersRead, step_over}
 use Rattle.modelitems.specs.declared.items.Step.{Step}

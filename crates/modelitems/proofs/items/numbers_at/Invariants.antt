@@ -1,5 +1,5 @@
 -- The loop's invariant: reading went on past the numbers passed.
-use Prim.Native.Nat.{◌+◌, ◌-◌, ◌≤◌}
+use Rattle.std.proofs.Common.{◌+◌, ◌-◌, ◌≤◌}
 use Rattle.modelitems.specs.Onward.{NumbersRead}
 use Rattle.modelitems.proofs.items.numbers_at.Given as goal
 

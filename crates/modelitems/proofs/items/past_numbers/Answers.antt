@@ -1,8 +1,5 @@
 -- Either all words to the end are numbers, or nothing is passed.
-use mathlib.Core.Path.{◌≡◌, sym, ◌∙◌}
-use Prim.Native.Nat.{◌+◌, ◌-◌, ◌≤◌}
-use native.Mathlib.Omega.{arith}
-use lib.ListN.{length}
+use Rattle.std.proofs.Common.{◌≡◌, sym, ◌∙◌, ◌+◌, ◌-◌, ◌≤◌, arith, length}
 use Rattle.modelitems.proofs.Steps.{no_word}
 use Rattle.modelitems.proofs.Inner.{part_length, numbers-passed}
 use Rattle.modelitems.proofs.items.past_numbers.Goals as goal

@@ -1,5 +1,5 @@
 -- The code tests as the definition does.
-use borrow.Author.Tests.{eq-eqb, ne_eqb}
+use Rattle.std.proofs.Common.{eq-eqb, ne_eqb}
 use Rattle.modelitems.specs.Onward.{step_over}
 use Rattle.modelitems.proofs.items.step_over.Goals as goal
 

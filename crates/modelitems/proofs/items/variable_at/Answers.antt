@@ -1,5 +1,5 @@
 -- The first word, and if it is a lower bound the upper one.
-use mathlib.Core.Path.{◌≡◌, sym, ap, ◌∙◌}
+use Rattle.std.proofs.Common.{◌≡◌, sym, ap, ◌∙◌}
 use Rattle.words.specs.Word.{word_at}
 use Rattle.models.specs.InRange.{fault_start}
 use Rattle.modelitems.specs.declared.items.Step.{Step}

@@ -1,7 +1,4 @@
-use mathlib.Core.Path.{◌≡◌}
-use Prim.Native.Nat.{◌+◌, ◌-◌, ◌<◌}
-use native.Mathlib.Omega.{arith}
-use lib.ListN.{take}
+use Rattle.std.proofs.Common.{◌≡◌, ◌+◌, ◌-◌, ◌<◌, arith, take}
 use Rattle.words.specs.Word.{word_at}
 use Rattle.modelitems.specs.Onward.{VariablesRead, step_over}
 use Rattle.modelitems.specs.declared.items.Step.{Step}

@@ -1,6 +1,5 @@
 -- The loop's invariant: reading went on past the variables passed.
-use Prim.Native.Nat.{◌+◌, ◌-◌, ◌≤◌}
-use lib.ListN.{take}
+use Rattle.std.proofs.Common.{◌+◌, ◌-◌, ◌≤◌, take}
 use Rattle.modelitems.specs.Onward.{VariablesRead}
 use Rattle.modelitems.proofs.items.variables_at.Given as goal
 

@@ -1,5 +1,5 @@
 -- The table is the definition's: antt computes this once, for the whole table.
-use mathlib.Core.Path.{refl}
+use Rattle.std.proofs.Common.{refl}
 use Rattle.models.specs.Shape.{shapes}
 use Rattle.modelitems.specs.Argument.{table}
 use Rattle.modelitems.proofs.shapes.table.Goals as goal

@@ -1,5 +1,5 @@
 -- Each case of the answer, as in the definition; its number is small.
-use native.Mathlib.Omega.{arith}
+use Rattle.std.proofs.Common.{arith}
 use Rattle.words.specs.Verdict.{verdict}
 use Rattle.reasoning.proofs.one_block.counted_on.Goals as goal
 

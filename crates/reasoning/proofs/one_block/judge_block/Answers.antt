@@ -1,8 +1,7 @@
 -- The block is laid to the front of the list; its bounds are read there and those values are theirs, counted on from `first`; or its rows, counted from k.
-use native.Mathlib.Omega.{arith}
+use Rattle.std.proofs.Common.{arith}
 use Rattle.integers.specs.Terms.{value}
-use Rattle.reasoning.proofs.Fronted.{prefix_length, part_length, outside-few, outside-said, after-bounds, rows-accepted, no-variables, failing-said}
-use borrow.Author.Rules.{rules}
+use Rattle.reasoning.proofs.Fronted.{outside-few, outside-said, after-bounds, rows-accepted, no-variables}
 use Rattle.reasoning.proofs.one_block.judge_block.Goals as goal
 
 pub counted_on-requires : goal.counted_on-requires

@@ -1,6 +1,5 @@
 -- The words are accepted and no variable is left, so that what is said is the first false row.
-use mathlib.Core.Path.{◌≡◌, ap, ◌∙◌}
-use native.Mathlib.Omega.{arith}
+use Rattle.std.proofs.Common.{◌≡◌, ap, ◌∙◌, arith}
 use Rattle.words.specs.Judge.{first_out_of_bounds}
 use Rattle.words.specs.declared.Refusal.{Refusal}
 use Rattle.rowreading.specs.Item.{start_due}

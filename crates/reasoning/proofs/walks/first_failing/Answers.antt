@@ -1,15 +1,10 @@
 -- The walk stops at a failing row: the builtin of that constraint, of the source values, gives the reason.
-use mathlib.Core.Path.{refl, sym, ◌∙◌}
-use native.Mathlib.Omega.{arith}
-use lib.ListN.{length, get_or}
-use Prim.Native.Nat.{◌+◌, ◌<◌}
+use Rattle.std.proofs.Common.{refl, sym, ◌∙◌, arith, length, get_or, ◌+◌, ◌<◌, rules}
 use Rattle.words.specs.Word.{word_at}
 use Rattle.words.proofs.Reading.{tail-is}
 use Rattle.models.specs.Model.{headed, builtin}
-use Rattle.checking.proofs.Kept.{few-constraints, head-inside, head_at}
+use Rattle.checking.proofs.Kept.{head-inside, head_at}
 use Rattle.reasoning.specs.Told.{told}
-use Rattle.reasoning.proofs.Walk.{sources-length, sources-small}
-use borrow.Author.Rules.{rules}
 use Rattle.reasoning.proofs.walks.first_failing.Goals.{Else-is_holds}
 use Rattle.reasoning.proofs.walks.first_failing.Goals as goal
 

@@ -1,7 +1,5 @@
-use mathlib.Core.Path.{refl, sym, ◌∙◌}
-use Prim.Native.Nat.{ℕ, ◌+◌, ◌<◌}
-use native.Mathlib.Omega.{arith}
-use lib.ListN.{length, get_or, length-replicate}
+use Rattle.std.proofs.Common.{refl, sym, ◌∙◌, ℕ, ◌+◌, ◌<◌, arith, length, get_or, rules}
+use lib.ListN.{length-replicate}
 use Rattle.words.specs.Word.{word_at}
 use Rattle.words.specs.Verdict.{verdict}
 use Rattle.words.proofs.Reading.{tail-is}
@@ -11,8 +9,7 @@ use Rattle.rules.specs.Translation.{block_of}
 use Rattle.encodings.specs.Uses.{shared_by}
 use Rattle.checking.proofs.Kept.{few-constraints, none_left, head-inside, head_at}
 use Rattle.encodings.proofs.Record.{placed_record}
-use Rattle.reasoning.proofs.Walk.{layable, room_after_lem, own-there, walking, walk-ended, walk-stopped, walk-on}
-use borrow.Author.Rules.{rules}
+use Rattle.reasoning.proofs.Walk.{layable, room_after-block, own-there, walking, walk-ended, walk-stopped, walk-on}
 use Rattle.reasoning.proofs.walks.walk.Goals.{In-loop-k}
 use Rattle.reasoning.proofs.walks.walk.Goals as goal
 
@@ -34,7 +31,7 @@ pub overflow_add-first : goal.overflow_add-first
 unfolding word_at block_of builtin choice
 overflow_add-first c =
     let o = (rw (c.payload_of-code.ensures, tail-is c.args.ws.now (get_or c.args.heads.now c.loop-k.k 0 + 1)) at c.judge_block-found.ensures) in
-    omega (arith, room_after_lem c.requires.0 c.loop-k.invariant.0.walk c.loop-k-test.true, o.auxiliaries)
+    omega (arith, room_after-block c.requires.0 c.loop-k.invariant.0.walk c.loop-k-test.true, o.auxiliaries)
 
 pub loop-k-preserved : goal.loop-k-preserved
 unfolding word_at block_of builtin choice

@@ -1,7 +1,5 @@
 -- The loop's invariant is `Walking`: what is left of the bounds, or of the rows, says what all of them say.
-use mathlib.Core.Path.{◌≡◌}
-use Prim.Native.Nat.{◌-◌}
-use lib.ListN.{length}
+use Rattle.std.proofs.Common.{◌≡◌, ◌-◌, length}
 use Rattle.extremes.specs.BoundLists.{bounds_of}
 use Rattle.encodings.specs.Uses.{shared_by}
 use Rattle.reasoning.proofs.Walk.{Walking}

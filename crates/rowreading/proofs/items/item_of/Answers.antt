@@ -1,5 +1,5 @@
 -- The code tests the kinds in the order of the definition.
-use borrow.Author.Tests.{eq-eqb, ne_eqb}
+use Rattle.std.proofs.Common.{eq-eqb, ne_eqb}
 use Rattle.rowsystems.specs.Reading.{after_due, after_item}
 use Rattle.rowreading.specs.Item.{due_after, due_with, item_terms}
 use Rattle.rowreading.proofs.items.item_of.Goals as goal

@@ -1,6 +1,5 @@
 -- The result, then the first factor, then the second, up to the first fault.
-use mathlib.Core.Path.{refl}
-use native.Mathlib.Omega.{arith}
+use Rattle.std.proofs.Common.{refl, arith}
 use Rattle.rowsystems.specs.declared.Due.TheVariants.{Result, FirstFactor, SecondFactor}
 use Rattle.rowreading.specs.Onward.{StepsTo}
 use Rattle.rowreading.proofs.Steps.{and_then, or-halted}

@@ -1,7 +1,5 @@
 -- The variable, and if it has no fault the coefficient.
-use mathlib.Core.Path.{◌≡◌, refl, sym, ap, ◌∙◌}
-use Prim.Native.Nat.{ℕ, suc, ◌+◌}
-use native.Mathlib.Omega.{arith}
+use Rattle.std.proofs.Common.{◌≡◌, refl, sym, ap, ◌∙◌, ℕ, suc, ◌+◌, arith}
 use Rattle.rowsystems.specs.declared.Due.TheVariants.{Terms, Coefficient}
 use Rattle.rowreading.specs.Onward.{StepsTo}
 use Rattle.rowreading.specs.declared.items.Step.{Step}

@@ -1,5 +1,5 @@
 -- The code tests as the definition does.
-use borrow.Author.Tests.{eq-eqb, ne_eqb}
+use Rattle.std.proofs.Common.{eq-eqb, ne_eqb}
 use Rattle.rowreading.specs.Onward.{step_over}
 use Rattle.rowreading.proofs.items.step_over.Goals as goal
 

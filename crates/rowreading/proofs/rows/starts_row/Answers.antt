@@ -1,5 +1,5 @@
 -- The code tests as the definition does.
-use mathlib.Core.Path.{sym, ◌∙◌}
+use Rattle.std.proofs.Common.{sym, ◌∙◌}
 use Rattle.rowsystems.specs.OneWord.{starts_sum, starts_row}
 use Rattle.rowreading.proofs.rows.starts_row.Goals as goal
 

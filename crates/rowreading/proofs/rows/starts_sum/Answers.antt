@@ -1,5 +1,5 @@
 -- The code tests as the definition does.
-use borrow.Author.Tests.{eq-eqb, ne_eqb}
+use Rattle.std.proofs.Common.{eq-eqb, ne_eqb}
 use Rattle.rowsystems.specs.OneWord.{starts_sum}
 use Rattle.rowreading.proofs.rows.starts_sum.Goals as goal
 

@@ -1,5 +1,6 @@
 -- The code tests as the definition does.
-use borrow.Author.Tests.{le-leb, lt-leb}
+use Rattle.std.proofs.Common.{le-leb}
+use borrow.Author.Tests.{lt-leb}
 use Rattle.rowsystems.specs.RowSystem.{term_count}
 use Rattle.rowreading.proofs.rows.term_count.Goals as goal
 

@@ -1,13 +1,7 @@
-use mathlib.Core.Path.{◌≡◌, refl, sym, ◌∙◌}
-use native.Mathlib.Omega.{arith}
-use mathlib.Core.Path.{ap₂}
-use mathlib.Core.Bool.{not}
-use Prim.Native.Nat.{◌+◌}
-use lib.IntN.{pos}
-use mir.Facts.{to_z-of_z, to_z_pos}
-use mir.Syntax.{w64}
+use Rattle.std.proofs.Common.{refl, sym, ◌∙◌, arith, ap₂, not, ◌+◌, w64}
+use mir.Facts.{to_z_pos}
 use Rattle.integers.specs.Lists.{list_of}
-use Rattle.integers.proofs.Fits.{back, fits64}
+use Rattle.integers.proofs.Fits.{back}
 use Rattle.integers.proofs.Booleans.{bit_le}
 use Rattle.sharedblocks.specs.LeftOut.{left_count}
 use Rattle.sharedblocks.proofs.LeftOut.{left-more}

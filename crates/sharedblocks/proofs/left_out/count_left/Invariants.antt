@@ -1,6 +1,5 @@
 -- The loop's invariant: the count so far is that of the values passed.
-use mathlib.Core.Path.{◌≡◌}
-use Prim.Native.Nat.{◌-◌, ◌≤◌}
+use Rattle.std.proofs.Common.{◌≡◌, ◌-◌, ◌≤◌}
 use Rattle.sharedblocks.specs.LeftOut.{left_count}
 use Rattle.sharedblocks.proofs.left_out.count_left.Given as goal
 

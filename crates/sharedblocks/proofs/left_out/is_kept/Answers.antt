@@ -1,16 +1,10 @@
 -- The places of the list, or the members of the set.
-use mathlib.Core.Path.{◌≡◌}
-use mathlib.Core.Bool.{true}
-use native.Mathlib.Omega.{arith}
-use lib.Dec.{ltb}
-use lib.IntN.{pos}
-use mir.Facts.{to_z-of_z, to_z_pos}
-use mir.Syntax.{w64}
+use Rattle.std.proofs.Common.{◌≡◌, true, arith, ltb, pos, to_z-of_z, w64, lt-ltb, le-ltb}
+use mir.Facts.{to_z_pos}
 use Rattle.integers.proofs.Fits.{fits64}
 use Rattle.integers.specs.Bounds.{within}
 use Rattle.arguments.proofs.Size.{size-le}
 use Rattle.sharedblocks.specs.LeftOut.{keeps}
-use borrow.Author.Tests.{lt-ltb, le-ltb}
 use Rattle.sharedblocks.proofs.left_out.is_kept.Goals as goal
 
 pub returns-then-code-lt26 : goal.returns-then-code-lt26

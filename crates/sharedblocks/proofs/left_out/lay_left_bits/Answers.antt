@@ -1,9 +1,7 @@
-use native.Mathlib.Omega.{arith}
-use lib.IntN.{pos}
-use mir.Facts.{to_z-of_z, to_z_pos}
-use mir.Syntax.{w64}
-use Rattle.integers.proofs.Fits.{back, fits64}
-use Rattle.laying.proofs.Parts.{begun, more, done, went-length}
+use Rattle.std.proofs.Common.{arith, w64}
+use mir.Facts.{to_z_pos}
+use Rattle.integers.proofs.Fits.{back}
+use Rattle.laying.proofs.Parts.{begun, more}
 use Rattle.sharedblocks.proofs.left_out.lay_left_bits.Goals as goal
 
 pub loop-k-preserved : goal.loop-k-preserved

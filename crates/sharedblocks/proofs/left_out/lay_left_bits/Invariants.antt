@@ -1,5 +1,5 @@
 -- Each turn lays one term, or none.
-use Prim.Native.Nat.{◌-◌}
+use Rattle.std.proofs.Common.{◌-◌}
 use Rattle.laying.proofs.Parts.{Laying}
 use Rattle.sharedblocks.specs.LeftOut.{left_at}
 use Rattle.sharedblocks.proofs.left_out.lay_left_bits.Given as goal

@@ -1,8 +1,5 @@
 -- A head with the number of the bits left out, their terms, the constant.
-use mathlib.Core.Path.{sym, ◌∙◌}
-use native.Mathlib.Omega.{arith}
-use mir.Facts.{to_z-of_z}
-use borrow.Author.Tests.{eq-eqb, ne_eqb}
+use Rattle.std.proofs.Common.{sym, ◌∙◌, arith, to_z-of_z, eq-eqb, ne_eqb}
 use Rattle.laying.proofs.Parts.{went-none, went_then}
 use Rattle.sharedblocks.specs.LeftOut.{left_row}
 use Rattle.sharedblocks.proofs.left_out.lay_left_row.Goals as goal

@@ -1,5 +1,5 @@
 -- Nothing where the value is kept, else the term.
-use native.Mathlib.Omega.{arith}
+use Rattle.std.proofs.Common.{arith}
 use Rattle.laying.proofs.Parts.{went-none}
 use Rattle.sharedblocks.proofs.left_out.lay_unless.Goals as goal
 

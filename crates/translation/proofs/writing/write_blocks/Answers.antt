@@ -1,8 +1,4 @@
-use mathlib.Core.Path.{◌≡◌, sym, ap}
-use Prim.Native.Nat.{◌+◌, ◌-◌, ◌<◌, ◌≤◌}
-use native.Mathlib.Omega.{arith}
-use lib.ListN.{length, get_or}
-use borrow.Author.Rules.{rules}
+use Rattle.std.proofs.Common.{◌≡◌, ap, ◌+◌, ◌-◌, ◌<◌, ◌≤◌, arith, length, get_or, rules}
 use Rattle.words.specs.Word.{word_at}
 use Rattle.words.proofs.Reading.{tail-is}
 use Rattle.models.specs.Model.{headed}
@@ -16,7 +12,7 @@ use Rattle.sharing.proofs.Theorem.{never_too_many}
 use Rattle.laying.specs.Part.{block_parts}
 use Rattle.laying.specs.Appends.{AppendsFitting, nothing}
 use Rattle.translation.proofs.Refusals.{system-length}
-use Rattle.checking.proofs.Kept.{few-variables, few-constraints, none_left, head-inside, head_at, summed_at}
+use Rattle.checking.proofs.Kept.{few-variables, none_left, head-inside, head_at, summed_at}
 use Rattle.encodings.proofs.Record.{placed_record}
 use Rattle.blocks.proofs.OneBlock.{told, placed-wide, placed-block}
 use Rattle.translation.proofs.Tail.{block_back}
@@ -59,8 +55,7 @@ recorded c =
 pub block-laid-requires : goal.block-laid-requires
 unfolding word_at
 block-laid-requires c =
-    let at = get_or c.args.heads.now c.loop-k.k 0 in
-    (
+    let at = get_or c.args.heads.now c.loop-k.k 0 in (
       omega (arith, c.loop-k.invariant.room),
       c.requires.0.lowers,
       c.requires.0.uppers,

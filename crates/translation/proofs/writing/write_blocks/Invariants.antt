@@ -1,5 +1,5 @@
 -- The loop's invariant is `Writing`: writing the blocks that are left gives what writing them all gives. Each lent tail comes back by `block_back`.
-use Prim.Native.Nat.{◌-◌}
+use Rattle.std.proofs.Common.{◌-◌}
 use Rattle.models.specs.Model.{constraints}
 use Rattle.extremes.specs.BoundLists.{bounds_of}
 use Rattle.encodings.specs.Uses.{shared_by}

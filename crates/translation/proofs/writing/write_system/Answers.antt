@@ -1,8 +1,5 @@
 -- Three lists laid one after the other: the words of the variables, the blocks, the end word.
-use mathlib.Core.Path.{◌≡◌, sym, ap, ◌∙◌}
-use native.Mathlib.Omega.{arith}
-use lib.ListN.{length}
-use lib.Seq.{length-take-le}
+use Rattle.std.proofs.Common.{◌≡◌, sym, ap, ◌∙◌, arith, length, length-take-le}
 use Rattle.words.proofs.Overlay.{length-overlay}
 use Rattle.modelreading.proofs.Heads.{front-inside, front-words}
 use Rattle.sharing.proofs.Theorem.{never_too_many}
