@@ -8,7 +8,7 @@
 time. So where every library below the archive is one that `rt ci` made of the files as they stand, the kit's compiler is called over these, and it proves
 crates/host alone. Else `rt lib` makes the archive, and builds what is not up to date: a second `rt ci` in one checkout puts back the libraries of the
 first one, and a file may have changed since."""
-import functools, glob, os, re, subprocess, sys
+import functools, os, re, subprocess, sys
 
 TOP = os.path.dirname(os.path.dirname(os.path.abspath(__file__)))
 ARCHIVE = os.path.join(TOP, 'crates', 'host', 'out', 'libhost.a')
@@ -56,8 +56,10 @@ def are_of_ci(libraries):
     """Whether `rt ci`, which writes no stamp, made all of these, after their files came to be what they are."""
     if not all(os.path.exists(f'{rlib(it)}/format') and not os.path.exists(f'{os.path.dirname(rlib(it))}/stamp') for it in libraries):
         return False
-    texts = [it for name in libraries for part in ('src', 'specs', 'proofs') for it in glob.glob(f'{TOP}/crates/{name}/{part}/**', recursive=True)]
-    texts += [os.path.join(TOP, 'crates.txt'), *(os.path.join(TOP, 'crates', name) for name in libraries)]
+    texts = [os.path.join(TOP, 'crates.txt')]
+    for part in (os.path.join(TOP, 'crates', name, part) for name in libraries for part in ('src', 'specs', 'proofs')):
+        for place, _, names in os.walk(part):
+            texts += [place, *(os.path.join(place, name) for name in names)]
     return max(os.stat(it).st_ctime for it in texts) < min(os.stat(rlib(it)).st_mtime for it in libraries)
 
 
