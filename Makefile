@@ -1,4 +1,4 @@
-# make run        proves every crate and prints the row system of a small model
+# make run        proves every crate, runs the programs, and prints the row system of a small model
 # make test       runs the gate
 # make try        runs the program rows on a small model in seconds, with nothing proved, and prints what it wrote
 # make library    proves the calls and builds target/libpearrummy.a
@@ -23,8 +23,8 @@ INSTALLED = include/pearrummy.h lib/libpearrummy.a lib/pkgconfig/pearrummy.pc bi
 
 run:
 	mkdir -p target
-	bash -o pipefail -c 'rt all check 2>&1 | python3 tests/progress.py target/check.log'
-	cd crates/rows && rt run < stdin
+	bash -o pipefail -c 'rt ci 2>&1 | python3 tests/progress.py target/run.log'
+	crates/rows/out/rows < crates/rows/stdin
 
 test:
 	bash .ci/run

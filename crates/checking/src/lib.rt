@@ -130,6 +130,7 @@ fn cost_of(
 }
 
 // The first fault of 12 to 14 of a model that was read without a fault, or what it needs.
+#[tactic(auto, using(modelreading::proofs::Heads::heads_inside))]
 fn check_read(
     ws: &[u32],
     heads: &[usize; 256],

@@ -57,6 +57,7 @@ fn count_use(code: usize, args: &[u32], uses: &mut [usize])
 }
 
 // Counts into a list of 256 zeros how many constraints of a model encode each variable; n heads are kept.
+#[tactic(auto, using(modelreading::proofs::Heads::heads_inside))]
 pub fn count_uses(ws: &[u32], heads: &[usize; 256], n: usize, uses: &mut [usize])
     requires { (length ws.now ≤ Limit.model_words) × Heads ws.now heads.now n × (uses.old ≡ no_uses) }
     ensures { uses.new ≡ uses_from no_uses (constraints ws.now) }

@@ -46,6 +46,7 @@ pub fn copy_values(out: &mut [i32], at: usize, values: &[i32])
 }
 
 // The auxiliaries of each constraint go into the lent list one after another, after the values, so that the place of each is its number.
+#[tactic(auto, using(modelreading::proofs::Heads::heads_inside))]
 fn write_picks(
     ws: &[u32],
     heads: &[usize; 256],

@@ -15,6 +15,7 @@ use modelreading::Read;
 use words::{Refusal, Verdict, fault};
 
 // The first false constraint, else "holds"; the first n of heads are the places of the constraints.
+#[tactic(auto, using(modelreading::proofs::Heads::heads_inside))]
 pub fn first_false(ws: &[u32], heads: &[usize; 256], n: usize, values: &[i32]) -> Verdict
     requires { Heads ws.now heads.now n × Small values.now }
     ensures { verdict result ≡ first_false (λ c. meaning (value values.now) (builtin c)) 0 (constraints ws.now) }

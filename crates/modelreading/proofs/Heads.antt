@@ -39,6 +39,9 @@ module _ {ws hs : List ℕ} {n : ℕ} (h : Heads ws hs n) (k : ℕ) (l : k < n) 
       ap_place : (get_or (constraints ws) k (headed ws 0)).place < 0 + length ws → get_or hs k 0 < length ws
       ap_place q = omega (arith, q, ap (λ (c : Constraint). c.place) at)
 
+-- for the loops over the heads, which name it once: a word is read at each head
+pub ruleset heads_inside = (head-inside)
+
 -- the words of the variables say what the variables are
 of-sources : {src : List ℕ} {Bs : List Bounds} → Sources src Bs → variables src ≡ Bs
 unfolding variables starts_pair word_at

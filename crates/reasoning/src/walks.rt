@@ -19,6 +19,7 @@ use words::{Verdict, is_holds, payload_of};
 const BLOCK: usize = 3072;
 
 // Block after block, until one says something: of the bounds of all auxiliaries, or of the rows.
+#[tactic(auto, using(modelreading::proofs::Heads::heads_inside))]
 pub fn walk(
     ws: &[u32],
     heads: &[usize; 256],

@@ -12,6 +12,7 @@ use modelreading::Read;
 use words::{kind, lay, payload_of, word_of};
 
 // Each block goes into the rest of the lent output, from where the last one ended, the first after the words of the variables; where the last block ends.
+#[tactic(auto, using(modelreading::proofs::Heads::heads_inside))]
 fn write_blocks(
     ws: &[u32],
     heads: &[usize; 256],

@@ -1,4 +1,4 @@
-use Rattle.std.proofs.Common.{◌≡◌, ◌∙◌, ◌+◌, ◌<◌, ◌≤◌, arith, length, get_or, rules}
+use Rattle.std.proofs.Common.{◌≡◌, ◌∙◌, ◌+◌, ◌≤◌, arith, get_or}
 use Rattle.words.specs.Word.{word_at}
 use Rattle.words.proofs.Reading.{tail-is}
 use Rattle.models.specs.Model.{headed}
@@ -7,15 +7,12 @@ use Rattle.extremes.specs.BoundLists.{bounds_of}
 use Rattle.encodings.specs.Uses.{shared_by}
 use Rattle.checking.specs.Checked.{checked}
 use Rattle.checking.specs.Walk.{Costs}
-use Rattle.checking.proofs.Kept.{few-variables, few-sources, few-constraints, none_left, head-inside, head_at, summed_at}
+use Rattle.checking.proofs.Kept.{few-variables, few-sources, few-constraints, none_left, head_at, summed_at}
 use Rattle.encodings.proofs.Record.{placed_record}
 use Rattle.checking.proofs.Costs.{placed_costs}
 use Rattle.checking.proofs.CheckWalk.{begun, more, stop, done, all-checked}
-use Rattle.checking.proofs.check_read.Goals.{After-cost_of-cost, After-record_encoding, In-loop-constraints}
+use Rattle.checking.proofs.check_read.Goals.{After-cost_of-cost, After-record_encoding}
 use Rattle.checking.proofs.check_read.Goals as goal
-
-inside : (c : In-loop-constraints) → get_or c.args.heads.now c.loop-constraints.constraints 0 < length c.args.ws.now
-inside c = head-inside c.requires.0 c.loop-constraints.constraints c.loop-constraints-test.true
 
 -- what it costs; with that the counts do not wrap
 costs : (c : After-cost_of-cost) →
@@ -65,36 +62,6 @@ overflow_add-words c = omega (arith, few-sources c.requires.0)
 
 pub loop-constraints-init : goal.loop-constraints-init
 loop-constraints-init c = begun _ _ _ _ _ (few-variables c.requires.0)
-
-pub offset_bounds-ws-place : goal.offset_bounds-ws-place
-offset_bounds-ws-place c = let h = inside (goal.at.offset_bounds-ws-place c).In-loop-constraints in search rules
-
-pub bounds-ws-place : goal.bounds-ws-place
-bounds-ws-place c = inside (goal.at.bounds-ws-place c).In-loop-constraints
-
-pub overflow_add-place : goal.overflow_add-place
-overflow_add-place c = let h = inside (goal.at.overflow_add-place c).In-loop-constraints in search rules
-
-pub offset_bounds-ws-place-in-loop-constraints : goal.offset_bounds-ws-place-in-loop-constraints
-offset_bounds-ws-place-in-loop-constraints c = let h = inside (goal.at.offset_bounds-ws-place-in-loop-constraints c).In-loop-constraints in search rules
-
-pub slice_bounds-cost_of-count : goal.slice_bounds-cost_of-count
-slice_bounds-cost_of-count c = let h = inside (goal.at.slice_bounds-cost_of-count c).In-loop-constraints in search rules
-
-pub slice_bounds-cost_of-start : goal.slice_bounds-cost_of-start
-slice_bounds-cost_of-start c = omega (arith, inside (goal.at.slice_bounds-cost_of-start c).In-loop-constraints)
-
-pub overflow_add-place-in-loop-constraints : goal.overflow_add-place-in-loop-constraints
-overflow_add-place-in-loop-constraints c = let h = inside (goal.at.overflow_add-place-in-loop-constraints c).In-loop-constraints in search rules
-
-pub offset_bounds-ws-place-in-loop-constraints-2 : goal.offset_bounds-ws-place-in-loop-constraints-2
-offset_bounds-ws-place-in-loop-constraints-2 c = let h = inside (goal.at.offset_bounds-ws-place-in-loop-constraints-2 c).In-loop-constraints in search rules
-
-pub slice_bounds-record_encoding-count : goal.slice_bounds-record_encoding-count
-slice_bounds-record_encoding-count c = let h = inside (goal.at.slice_bounds-record_encoding-count c).In-loop-constraints in search rules
-
-pub slice_bounds-record_encoding-start : goal.slice_bounds-record_encoding-start
-slice_bounds-record_encoding-start c = omega (arith, inside (goal.at.slice_bounds-record_encoding-start c).In-loop-constraints)
 
 pub overflow_add-rows : goal.overflow_add-rows
 overflow_add-rows c = omega (arith, fit (goal.at.overflow_add-rows c).After-cost_of-cost)

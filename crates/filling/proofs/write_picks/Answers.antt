@@ -1,4 +1,4 @@
-use Rattle.std.proofs.Common.{◌≡◌, ap, ◌+◌, ◌<◌, arith, length, get_or, rules}
+use Rattle.std.proofs.Common.{◌≡◌, ap, ◌+◌, arith, length, get_or}
 use Rattle.words.specs.Word.{word_at}
 use Rattle.words.proofs.Reading.{tail-is}
 use Rattle.models.specs.Model.{headed, constraints}
@@ -6,18 +6,15 @@ use Rattle.rules.specs.Shared.{none_yet, choice, encodes, encoded_after}
 use Rattle.rules.specs.Translation.{picks}
 use Rattle.encodings.specs.Uses.{shared_by}
 use Rattle.picking.proofs.Picks.{picks_from, begun, here-ranged, picked, place-le, ended, picks-from}
-use Rattle.checking.proofs.Kept.{none_left, head-inside, head_at}
+use Rattle.checking.proofs.Kept.{none_left, head_at}
 use Rattle.encodings.proofs.Record.{placed_record}
 use Rattle.filling.proofs.Ranges.{block-picks}
-use Rattle.filling.proofs.write_picks.Goals.{After-record_encoding, In-loop-k, Start}
+use Rattle.filling.proofs.write_picks.Goals.{After-record_encoding, Start}
 use Rattle.filling.proofs.write_picks.Goals as goal
 
 -- the picks are those of the definition
 same : (c : Start) → let a = c.args in picks a.ws.now a.values.now ≡ picks_from a.ls.now a.us.now a.uses.now a.values.now a.start none_yet (constraints a.ws.now)
 same c = rw c.requires.3 (picks-from c.args.ls.now c.args.us.now c.args.uses.now c.args.values.now c.args.ws.now c.requires.0.same c.requires.0.shares)
-
-inside : (c : In-loop-k) → get_or c.args.heads.now c.loop-k.k 0 < length c.args.ws.now
-inside c = head-inside c.requires.0 c.loop-k.k c.loop-k-test.true
 
 -- the record after it
 recorded : (c : After-record_encoding) →
@@ -50,36 +47,6 @@ loop-k-preserved c =
 
 pub loop-k-init : goal.loop-k-init
 loop-k-init c = begun _ _ _ _ _ _ _ (rw (← same (goal.at.loop-k-init c).Start) c.requires.2)
-
-pub offset_bounds-ws-place : goal.offset_bounds-ws-place
-offset_bounds-ws-place c = let h = inside (goal.at.offset_bounds-ws-place c).In-loop-k in search rules
-
-pub bounds-ws-place : goal.bounds-ws-place
-bounds-ws-place c = inside (goal.at.bounds-ws-place c).In-loop-k
-
-pub overflow_add-place : goal.overflow_add-place
-overflow_add-place c = let h = inside (goal.at.overflow_add-place c).In-loop-k in search rules
-
-pub offset_bounds-ws-place-in-loop-k : goal.offset_bounds-ws-place-in-loop-k
-offset_bounds-ws-place-in-loop-k c = let h = inside (goal.at.offset_bounds-ws-place-in-loop-k c).In-loop-k in search rules
-
-pub slice_bounds-pick_constraint-count : goal.slice_bounds-pick_constraint-count
-slice_bounds-pick_constraint-count c = let h = inside (goal.at.slice_bounds-pick_constraint-count c).In-loop-k in search rules
-
-pub slice_bounds-pick_constraint-start : goal.slice_bounds-pick_constraint-start
-slice_bounds-pick_constraint-start c = omega (arith, inside (goal.at.slice_bounds-pick_constraint-start c).In-loop-k)
-
-pub overflow_add-place-in-loop-k : goal.overflow_add-place-in-loop-k
-overflow_add-place-in-loop-k c = let h = inside (goal.at.overflow_add-place-in-loop-k c).In-loop-k in search rules
-
-pub offset_bounds-ws-place-in-loop-k-2 : goal.offset_bounds-ws-place-in-loop-k-2
-offset_bounds-ws-place-in-loop-k-2 c = let h = inside (goal.at.offset_bounds-ws-place-in-loop-k-2 c).In-loop-k in search rules
-
-pub slice_bounds-record_encoding-count : goal.slice_bounds-record_encoding-count
-slice_bounds-record_encoding-count c = let h = inside (goal.at.slice_bounds-record_encoding-count c).In-loop-k in search rules
-
-pub slice_bounds-record_encoding-start : goal.slice_bounds-record_encoding-start
-slice_bounds-record_encoding-start c = omega (arith, inside (goal.at.slice_bounds-record_encoding-start c).In-loop-k)
 
 pub returns : goal.returns
 returns c = rw (same (goal.at.returns c).Start) (ended c.loop-k.invariant (none_left c.requires.0 c.loop-k-test.false))

@@ -1,4 +1,4 @@
-use Rattle.std.proofs.Common.{◌≡◌, sym, ◌∙◌, ◌+◌, ◌<◌, ◌≤◌, arith, length, get_or, drop_of_length-le, rules}
+use Rattle.std.proofs.Common.{◌≡◌, sym, ◌∙◌, ◌+◌, ◌≤◌, arith, length, get_or, drop_of_length-le}
 use Rattle.integers.specs.Terms.{value}
 use Rattle.words.specs.Word.{word_at}
 use Rattle.words.specs.Verdict.{verdict}
@@ -6,13 +6,9 @@ use Rattle.words.proofs.Judge.{pass-one, fail_one, pass_all}
 use Rattle.words.proofs.Reading.{tail-is}
 use Rattle.models.specs.Meaning.{meaning}
 use Rattle.models.specs.Model.{headed, builtin, constraints}
-use Rattle.modelreading.proofs.Heads.{head_at, head-inside}
-use Rattle.modeljudge.proofs.first_false.Goals.{After-holds, In-loop-k}
+use Rattle.modelreading.proofs.Heads.{head_at}
+use Rattle.modeljudge.proofs.first_false.Goals.{After-holds}
 use Rattle.modeljudge.proofs.first_false.Goals as goal
-
--- the head stands among the words
-inside : (c : In-loop-k) → get_or c.args.heads.now c.loop-k.k 0 < length c.args.ws.now
-inside c = head-inside c.requires.0 c.loop-k.k c.loop-k-test.true
 
 -- what holds says of the constraint
 said : (c : After-holds) →
@@ -36,21 +32,3 @@ unfolding verdict
 returns c =
     let h : length (constraints c.args.ws.now) ≤ c.loop-k.k = omega (arith, c.requires.0.counted, c.loop-k-test.false) in
     pass_all c.loop-k.invariant.1 (drop_of_length-le (constraints c.args.ws.now) h)
-
-pub offset_bounds-ws-at : goal.offset_bounds-ws-at
-offset_bounds-ws-at c = let h = inside (goal.at.offset_bounds-ws-at c).In-loop-k in search rules
-
-pub bounds-ws-at : goal.bounds-ws-at
-bounds-ws-at c = inside (goal.at.bounds-ws-at c).In-loop-k
-
-pub overflow_add-at : goal.overflow_add-at
-overflow_add-at c = let h = inside (goal.at.overflow_add-at c).In-loop-k in search rules
-
-pub offset_bounds-ws-at-in-loop-k : goal.offset_bounds-ws-at-in-loop-k
-offset_bounds-ws-at-in-loop-k c = let h = inside (goal.at.offset_bounds-ws-at-in-loop-k c).In-loop-k in search rules
-
-pub slice_bounds-holds-count : goal.slice_bounds-holds-count
-slice_bounds-holds-count c = let h = inside (goal.at.slice_bounds-holds-count c).In-loop-k in search rules
-
-pub slice_bounds-holds-start : goal.slice_bounds-holds-start
-slice_bounds-holds-start c = omega (arith, inside (goal.at.slice_bounds-holds-start c).In-loop-k)

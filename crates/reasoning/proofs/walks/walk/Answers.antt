@@ -1,4 +1,4 @@
-use Rattle.std.proofs.Common.{refl, sym, ◌∙◌, ℕ, ◌+◌, ◌<◌, arith, length, get_or, rules}
+use Rattle.std.proofs.Common.{refl, sym, ◌∙◌, ℕ, ◌+◌, arith, get_or, rules}
 use lib.ListN.{length-replicate}
 use Rattle.words.specs.Word.{word_at}
 use Rattle.words.specs.Verdict.{verdict}
@@ -7,14 +7,10 @@ use Rattle.models.specs.Model.{headed, builtin}
 use Rattle.rules.specs.Shared.{choice}
 use Rattle.rules.specs.Translation.{block_of}
 use Rattle.encodings.specs.Uses.{shared_by}
-use Rattle.checking.proofs.Kept.{few-constraints, none_left, head-inside, head_at}
+use Rattle.checking.proofs.Kept.{few-constraints, none_left, head_at}
 use Rattle.encodings.proofs.Record.{placed_record}
 use Rattle.reasoning.proofs.Walk.{layable, room_after-block, own-there, walking, walk-ended, walk-stopped, walk-on}
-use Rattle.reasoning.proofs.walks.walk.Goals.{In-loop-k}
 use Rattle.reasoning.proofs.walks.walk.Goals as goal
-
-inside : (c : In-loop-k) → get_or c.args.heads.now c.loop-k.k 0 < length c.args.ws.now
-inside c = head-inside c.requires.0.model c.loop-k.k c.loop-k-test.true
 
 pub judge_block-found-requires : goal.judge_block-found-requires
 unfolding word_at block_of builtin choice
@@ -44,33 +40,3 @@ returns c = walk-ended c.loop-k.invariant.0 (none_left c.requires.0.model c.loop
 
 pub loop-k-init : goal.loop-k-init
 loop-k-init c = (walking c.requires.0, length-replicate {A = ℕ} 3072 0)
-
-pub offset_bounds-ws-place : goal.offset_bounds-ws-place
-offset_bounds-ws-place c = let h = inside (goal.at.offset_bounds-ws-place c).In-loop-k in search rules
-
-pub bounds-ws-place : goal.bounds-ws-place
-bounds-ws-place c = inside (goal.at.bounds-ws-place c).In-loop-k
-
-pub overflow_add-place : goal.overflow_add-place
-overflow_add-place c = let h = inside (goal.at.overflow_add-place c).In-loop-k in search rules
-
-pub offset_bounds-ws-place-in-loop-k : goal.offset_bounds-ws-place-in-loop-k
-offset_bounds-ws-place-in-loop-k c = let h = inside (goal.at.offset_bounds-ws-place-in-loop-k c).In-loop-k in search rules
-
-pub slice_bounds-judge_block-count : goal.slice_bounds-judge_block-count
-slice_bounds-judge_block-count c = let h = inside (goal.at.slice_bounds-judge_block-count c).In-loop-k in search rules
-
-pub slice_bounds-judge_block-start : goal.slice_bounds-judge_block-start
-slice_bounds-judge_block-start c = omega (arith, inside (goal.at.slice_bounds-judge_block-start c).In-loop-k)
-
-pub overflow_add-place-in-loop-k : goal.overflow_add-place-in-loop-k
-overflow_add-place-in-loop-k c = let h = inside (goal.at.overflow_add-place-in-loop-k c).In-loop-k in search rules
-
-pub offset_bounds-ws-place-in-loop-k-2 : goal.offset_bounds-ws-place-in-loop-k-2
-offset_bounds-ws-place-in-loop-k-2 c = let h = inside (goal.at.offset_bounds-ws-place-in-loop-k-2 c).In-loop-k in search rules
-
-pub slice_bounds-record_encoding-count : goal.slice_bounds-record_encoding-count
-slice_bounds-record_encoding-count c = let h = inside (goal.at.slice_bounds-record_encoding-count c).In-loop-k in search rules
-
-pub slice_bounds-record_encoding-start : goal.slice_bounds-record_encoding-start
-slice_bounds-record_encoding-start c = omega (arith, inside (goal.at.slice_bounds-record_encoding-start c).In-loop-k)

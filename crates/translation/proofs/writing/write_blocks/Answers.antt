@@ -1,4 +1,4 @@
-use Rattle.std.proofs.Common.{◌≡◌, ap, ◌+◌, ◌-◌, ◌<◌, ◌≤◌, arith, length, get_or, rules}
+use Rattle.std.proofs.Common.{◌≡◌, ap, ◌+◌, ◌-◌, ◌≤◌, arith, length, get_or}
 use Rattle.words.specs.Word.{word_at}
 use Rattle.words.proofs.Reading.{tail-is}
 use Rattle.models.specs.Model.{headed}
@@ -12,12 +12,12 @@ use Rattle.sharing.proofs.Theorem.{never_too_many}
 use Rattle.laying.specs.Part.{block_parts}
 use Rattle.laying.specs.Appends.{AppendsFitting, nothing}
 use Rattle.translation.proofs.Refusals.{system-length}
-use Rattle.checking.proofs.Kept.{few-variables, none_left, head-inside, head_at, summed_at}
+use Rattle.checking.proofs.Kept.{few-variables, none_left, head_at, summed_at}
 use Rattle.encodings.proofs.Record.{placed_record}
 use Rattle.blocks.proofs.OneBlock.{told, placed-wide, placed-block}
 use Rattle.translation.proofs.Tail.{block_back}
 use Rattle.translation.proofs.WriteWalk.{begun, not_wide, not-outside, more, done, blocks-are, all-fine}
-use Rattle.translation.proofs.writing.write_blocks.Goals.{After-block-laid, After-record_encoding, At-loop-k, In-loop-k}
+use Rattle.translation.proofs.writing.write_blocks.Goals.{After-block-laid, After-record_encoding, At-loop-k}
 use Rattle.translation.proofs.writing.write_blocks.Goals as goal
 
 -- the place is inside the output, and so small that it does not wrap
@@ -28,9 +28,6 @@ fits c =
 small : (c : At-loop-k) → c.loop-k.at ≤ Limit.row_words
 small c =
     omega (arith, c.loop-k.invariant.total, ap length (blocks-are c.requires.0), c.requires.0.seen.sources_counted, system-length c.args.ws.now, never_too_many c.args.ws.now c.requires.2)
-
-inside : (c : In-loop-k) → get_or c.args.heads.now c.loop-k.k 0 < length c.args.ws.now
-inside c = head-inside c.requires.0 c.loop-k.k c.loop-k-test.true
 
 -- its block went over the lent tail
 went : (c : After-block-laid) →
@@ -79,33 +76,3 @@ returns c =
 
 pub loop-k-init : goal.loop-k-init
 loop-k-init c = begun _ _ _ _ _ _ (few-variables c.requires.0) (all-fine c.requires.0 c.requires.2)
-
-pub offset_bounds-ws-place : goal.offset_bounds-ws-place
-offset_bounds-ws-place c = let h = inside (goal.at.offset_bounds-ws-place c).In-loop-k in search rules
-
-pub bounds-ws-place : goal.bounds-ws-place
-bounds-ws-place c = inside (goal.at.bounds-ws-place c).In-loop-k
-
-pub overflow_add-place : goal.overflow_add-place
-overflow_add-place c = let h = inside (goal.at.overflow_add-place c).In-loop-k in search rules
-
-pub offset_bounds-ws-place-in-loop-k : goal.offset_bounds-ws-place-in-loop-k
-offset_bounds-ws-place-in-loop-k c = let h = inside (goal.at.offset_bounds-ws-place-in-loop-k c).In-loop-k in search rules
-
-pub slice_bounds-block-count-in-loop-k : goal.slice_bounds-block-count-in-loop-k
-slice_bounds-block-count-in-loop-k c = let h = inside (goal.at.slice_bounds-block-count-in-loop-k c).In-loop-k in search rules
-
-pub slice_bounds-block-start-in-loop-k : goal.slice_bounds-block-start-in-loop-k
-slice_bounds-block-start-in-loop-k c = omega (arith, inside (goal.at.slice_bounds-block-start-in-loop-k c).In-loop-k)
-
-pub overflow_add-place-in-loop-k : goal.overflow_add-place-in-loop-k
-overflow_add-place-in-loop-k c = let h = inside (goal.at.overflow_add-place-in-loop-k c).In-loop-k in search rules
-
-pub offset_bounds-ws-place-in-loop-k-2 : goal.offset_bounds-ws-place-in-loop-k-2
-offset_bounds-ws-place-in-loop-k-2 c = let h = inside (goal.at.offset_bounds-ws-place-in-loop-k-2 c).In-loop-k in search rules
-
-pub slice_bounds-record_encoding-count : goal.slice_bounds-record_encoding-count
-slice_bounds-record_encoding-count c = let h = inside (goal.at.slice_bounds-record_encoding-count c).In-loop-k in search rules
-
-pub slice_bounds-record_encoding-start : goal.slice_bounds-record_encoding-start
-slice_bounds-record_encoding-start c = omega (arith, inside (goal.at.slice_bounds-record_encoding-start c).In-loop-k)
