@@ -169,7 +169,7 @@ def compute(part, cases):
     # each case of a refused group by itself
     again = {k: cases[k] for group in groups(cases, GROUP) if group[0] in refused for k in group}
     wrong, said, computed = run(part, again, 1)
-    return sorted(wrong), '' if wrong or computed else said
+    return sorted(wrong), '' if wrong else said if not computed else 'a group is refused, and none of its cases'
 
 
 def main():

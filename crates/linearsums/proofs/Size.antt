@@ -88,7 +88,7 @@ module _ (β : ℕ → Bounds) (near : (v : ℕ) → Near (β v).lower × Near (
       let u = prefix_size true f k (number-near ws a) in
       (omega (arith, minus-size (extreme min_z β (list_of f k)) (sum_constant ws a)), omega (arith, minus-size (extreme max_z β (list_of f k)) (sum_constant ws a)))
 
--- the whole sum is that of its first sum-size terms
+-- the whole sum is that of its first `sum_size` terms
 pub upto_all : (ws : List ℕ) (a : ℕ) (β : ℕ → Bounds) → sum_up_to ws a β (sum_size ws a) ≡ sum_bounds ws a β
 unfolding sum_bounds
 upto_all ws a β = refl

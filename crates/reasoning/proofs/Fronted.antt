@@ -12,7 +12,7 @@ use Rattle.words.specs.Answer.{Answer, holds}
 use Rattle.words.specs.Judge.{first_false, first_out_of_bounds}
 use Rattle.words.specs.Verdict.{verdict}
 use Rattle.words.specs.declared.Verdict.{Verdict}
-use Rattle.words.proofs.Overlay.{overlay-append}
+use Rattle.words.proofs.Overlay.{overlay-append, front-over}
 use Rattle.rowsystems.specs.Row.{Row, satisfied}
 use Rattle.rowsystems.specs.RowSystem.{rows}
 use Rattle.rowsystems.specs.declared.Due.TheVariants.{Item}
@@ -23,7 +23,6 @@ use Rattle.laying.specs.Appends.{AppendsFitting, GrowsBy, nothing}
 use Rattle.laying.specs.declared.Laid.{Laid}
 use Rattle.laying.proofs.Blocks.{words_in-block_parts, block-outside}
 use Rattle.blocks.proofs.OneBlock.{told}
-use Rattle.words.proofs.Overlay.{front-over}
 use Rattle.reasoning.specs.Walks.{block_and_end, ReadsBack, Front, BlockJudged, AtMost, shift}
 use Rattle.reasoning.proofs.Counted.{outside-part, outside_below}
 

@@ -41,8 +41,8 @@ fn rows_page(bytes: &[u8], page: &mut [u8]) -> usize
     }
 }
 
-// The bytes of 8,193 words are read at most. The promises go from the bytes that read_full filled to the bytes that are handed to write_all: neither
-// promises what it does with the file.
+// The bytes of 8,193 words are read at most. The promises go from the bytes that read_full filled to the bytes that are handed to write_all; what
+// standard input gives and standard output takes no contract says.
 fn main(rt: HostRuntime) -> io::Result<()> {
     let mut bytes = [0u8; BYTES];
     let n = read_full(&mut rt.stdin(), &mut bytes)?;

@@ -11,11 +11,10 @@ use Rattle.words.proofs.Reading.{read-without, passed-number}
 use Rattle.models.specs.Reading.{after, ended, begin, read_model, read_model_in}
 use Rattle.models.specs.InRange.{fault}
 use Rattle.models.specs.Model.{Constraint, constraints}
-use Rattle.rules.specs.InRange.{outside}
+use Rattle.rules.specs.InRange.{outside, block_fault, blocks_fault}
 use Rattle.rules.specs.Shared.{choice, encodes, Encoded, none_yet, encoded_after}
 use Rattle.rules.specs.Translation.{bounds, shared, block_of}
 use Rattle.rules.specs.Check.{too_wide, block_fault_in, blocks_fault_in, check_fault_in}
-use Rattle.rules.specs.InRange.{block_fault, blocks_fault}
 use Rattle.sharing.specs.SharedSolutions.{Passes}
 
 -- ---- a reading without a fault is `accepted`

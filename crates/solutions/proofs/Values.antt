@@ -11,7 +11,6 @@ use Rattle.integers.proofs.Places.{get_or-list_of, map-list_of}
 use Rattle.integers.proofs.Tests.{says-within}
 use Rattle.words.specs.Small.{Near, Small}
 use Rattle.words.proofs.Word.{between-near}
-use Rattle.words.specs.Small.{Small}
 use Rattle.extremes.specs.BoundLists.{bounds_of}
 use Rattle.solutions.specs.AllWithin.{AllWithin, lowest_list}
 use Rattle.solutions.specs.Walk.{bounds_to}

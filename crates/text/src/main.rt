@@ -18,7 +18,7 @@ const MOST: usize = 524288;
 
 const BYTES: usize = 524289;
 
-// They are read to rows of bytes, with room for all.
+// The rows that they are read to, with room for all.
 const ROW: usize = 1024;
 
 const ROWS: usize = 513;
@@ -43,7 +43,7 @@ fn text_page(text: &[u8], page: &mut [u8]) -> usize
 }
 
 // Reads a text to rows of bytes, and prints its words or the refusal. The promises go from the bytes that read_full filled to the bytes that are
-// handed to write_all: neither promises what it does with the file.
+// handed to write_all; what standard input gives and standard output takes no contract says.
 fn print_text<R: Read, W: Write>(
     input: &mut R,
     output: &mut W,

@@ -1,7 +1,6 @@
 -- The number of values, the room, then judge-model's answer, as in the definition.
-use Rattle.std.proofs.Common.{◌≡◌, refl, sym, ◌∙◌, arith, length}
+use Rattle.std.proofs.Common.{refl, sym, ◌∙◌, arith}
 use Rattle.words.specs.Answer.{is_holds}
-use Rattle.words.specs.Variables.{variables}
 use Rattle.words.specs.Verdict.{verdict}
 use Rattle.sharing.proofs.Accepts.{passes-read}
 use Rattle.sharing.proofs.Theorem.{few_in_all}
@@ -9,22 +8,18 @@ use Rattle.sharing.proofs.Judged.{judge_model_says}
 use Rattle.checking.proofs.Answers.{clash}
 use Rattle.filling.specs.Filled.{handed}
 use Rattle.filling.proofs.Answers.{wrong-count, too_short, held, not-held}
-use Rattle.filling.proofs.fill_passed.Goals.{Start}
 use Rattle.filling.proofs.fill_passed.Goals as goal
-
-counted : (c : Start) → c.args.read.variables ≡ length (variables c.args.ws.now)
-counted c = c.requires.0.seen.variables_counted
 
 pub returns-then-values-sources : goal.returns-then-values-sources
 unfolding handed
 returns-then-values-sources c =
-    let h = wrong-count c.args.ws.now c.requires.1 c.args.values.now c.args.out.now (λ e. c.if-values-sources.true (e ∙ sym (counted (goal.at.returns-then-values-sources c).Start))) in
+    let h = wrong-count c.args.ws.now c.requires.1 c.args.values.now c.args.out.now (λ e. c.if-values-sources.true (e ∙ sym c.requires.0.seen.variables_counted)) in
     record { answer = h.0; output = h.1.0; satisfied = h.1.1 }
 
 pub returns-then-out-sources : goal.returns-then-out-sources
 unfolding handed
 returns-then-out-sources c =
-    let h = too_short c.args.ws.now c.requires.1 c.args.values.now c.args.out.now (c.if-values-sources.false ∙ counted (goal.at.returns-then-out-sources c).Start) (rw (counted (goal.at.returns-then-out-sources c).Start, c.requires.2) at c.if-out-sources.true) in
+    let h = too_short c.args.ws.now c.requires.1 c.args.values.now c.args.out.now (c.if-values-sources.false ∙ c.requires.0.seen.variables_counted) (rw (c.requires.0.seen.variables_counted, c.requires.2) at c.if-out-sources.true) in
     record { answer = h.0; output = h.1.0; satisfied = h.1.1 }
 
 pub write_filled-requires : goal.write_filled-requires
@@ -35,13 +30,13 @@ write_filled-requires c =
 pub returns-in-Refused : goal.returns-in-Refused
 unfolding handed verdict is_holds
 returns-in-Refused c =
-    let h = not-held c.args.ws.now c.requires.1 c.args.values.now c.args.out.now (c.if-values-sources.false ∙ counted (goal.at.returns-in-Refused c).Start) (rw (counted (goal.at.returns-in-Refused c).Start, c.requires.2) at c.if-out-sources.false) _ (rw c.in-Refused.is at c.judge_read.ensures) refl (λ n e. clash (cc)) in
+    let h = not-held c.args.ws.now c.requires.1 c.args.values.now c.args.out.now (c.if-values-sources.false ∙ c.requires.0.seen.variables_counted) (rw (c.requires.0.seen.variables_counted, c.requires.2) at c.if-out-sources.false) _ (rw c.in-Refused.is at c.judge_read.ensures) refl (λ n e. clash (cc)) in
     record { answer = h.0; output = h.1.0; satisfied = h.1.1 }
 
 pub returns-in-Holds : goal.returns-in-Holds
 unfolding handed verdict
 returns-in-Holds c =
-    let n = counted (goal.at.returns-in-Holds c).Start in
+    let n = c.requires.0.seen.variables_counted in
     let h = held c.args.ws.now c.requires.1 c.args.values.now c.args.out.now (c.if-values-sources.false ∙ n) (rw (n, c.requires.2) at c.if-out-sources.false) (sym c.judge_read.ensures ∙ rw c.in-Holds.is) in
     record {
       answer = rw (n, c.requires.2) h.0;
@@ -52,14 +47,14 @@ returns-in-Holds c =
 pub returns-in-OutOfBounds : goal.returns-in-OutOfBounds
 unfolding handed verdict is_holds
 returns-in-OutOfBounds c =
-    let h = not-held c.args.ws.now c.requires.1 c.args.values.now c.args.out.now (c.if-values-sources.false ∙ counted (goal.at.returns-in-OutOfBounds c).Start) (rw (counted (goal.at.returns-in-OutOfBounds c).Start, c.requires.2) at c.if-out-sources.false) _ (rw c.in-OutOfBounds.is at c.judge_read.ensures) refl (λ n e. clash (cc)) in
+    let h = not-held c.args.ws.now c.requires.1 c.args.values.now c.args.out.now (c.if-values-sources.false ∙ c.requires.0.seen.variables_counted) (rw (c.requires.0.seen.variables_counted, c.requires.2) at c.if-out-sources.false) _ (rw c.in-OutOfBounds.is at c.judge_read.ensures) refl (λ n e. clash (cc)) in
     record { answer = h.0; output = h.1.0; satisfied = h.1.1 }
 
 pub returns-in-False : goal.returns-in-False
 unfolding handed verdict is_holds
 returns-in-False c =
-    let h = not-held c.args.ws.now c.requires.1 c.args.values.now c.args.out.now (c.if-values-sources.false ∙ counted (goal.at.returns-in-False c).Start) (rw (counted (goal.at.returns-in-False c).Start, c.requires.2) at c.if-out-sources.false) _ (rw c.in-False.is at c.judge_read.ensures) refl (λ n e. clash (cc)) in
+    let h = not-held c.args.ws.now c.requires.1 c.args.values.now c.args.out.now (c.if-values-sources.false ∙ c.requires.0.seen.variables_counted) (rw (c.requires.0.seen.variables_counted, c.requires.2) at c.if-out-sources.false) _ (rw c.in-False.is at c.judge_read.ensures) refl (λ n e. clash (cc)) in
     record { answer = h.0; output = h.1.0; satisfied = h.1.1 }
 
 pub overflow_add-sources : goal.overflow_add-sources
-overflow_add-sources c = record { fits = omega (arith, counted (goal.at.overflow_add-sources c).Start, c.requires.2, few_in_all c.args.ws.now c.requires.1) }
+overflow_add-sources c = record { fits = omega (arith, c.requires.0.seen.variables_counted, c.requires.2, few_in_all c.args.ws.now c.requires.1) }

@@ -1,7 +1,7 @@
 -- By the form; the place after an argument that there is is small.
+use Rattle.std.proofs.Common.{refl, arith}
 use Rattle.grammar.specs.Machine.{is_missing}
 use Rattle.grammar.proofs.Table.{small}
-use Rattle.std.proofs.Common.{refl, arith}
 use Rattle.grammar.specs.Grammar.{step, argument_step}
 use Rattle.tokens.specs.Unread.{spanned}
 use Rattle.grammar.proofs.argument_step.Goals as goal

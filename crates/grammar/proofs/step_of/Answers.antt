@@ -1,6 +1,6 @@
 -- Case by case.
-use Rattle.grammar.specs.Grammar.{step}
 use Rattle.std.proofs.Common.{[]}
+use Rattle.grammar.specs.Grammar.{step}
 use Rattle.integers.specs.Lists.{list_of}
 use Rattle.tokens.specs.Byte.{bytes}
 use Rattle.tokens.specs.Unread.{spanned}

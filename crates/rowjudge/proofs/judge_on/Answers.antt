@@ -12,8 +12,7 @@ use Rattle.rowreading.specs.Item.{start_due}
 use Rattle.rowreading.specs.Onward.{onward, Placed}
 use Rattle.rowreading.proofs.Counts.{CountedFrom, count-one, count-plain}
 use Rattle.rowjudge.proofs.Judging.{tells, row_told, begun, variable-judged, outside, row-judged, goes, stops}
-use Rattle.rowjudge.proofs.judge_on.Goals.{After-kind_of-sources, After-see_variable-seen, Else-seen-ne-NONE-2, Else-starts_variable, Joined-all}
-use Rattle.rowjudge.proofs.judge_on.Goals.{then-all, else-all}
+use Rattle.rowjudge.proofs.judge_on.Goals.{After-kind_of-sources, After-see_variable-seen, Else-seen-ne-NONE-2, Else-starts_variable, Joined-all, then-all, else-all}
 use Rattle.rowjudge.proofs.judge_on.Goals as goal
 
 pub loop-seen-init : goal.loop-seen-init

@@ -8,8 +8,7 @@ use Rattle.rowreading.proofs.Counts.{CountedFrom, count-plain, count_head, count
 use Rattle.rowreading.proofs.Heads.{started-few, head-here, head-halted, head-gone, term-gone}
 use Rattle.rowreading.proofs.Onward.{at_the_end}
 use Rattle.rowreading.proofs.Steps.{gone, halted}
-use Rattle.rowreading.proofs.read_on.Goals.{After-fault_head-number, Else-number-ne-NONE-2, Joined-number-ne-NONE}
-use Rattle.rowreading.proofs.read_on.Goals.{then-number-ne-NONE, else-number-ne-NONE+then-loop-left-test+then-number-ne-NONE-2, else-number-ne-NONE+else-loop-left-test+then-number-ne-NONE-3}
+use Rattle.rowreading.proofs.read_on.Goals.{After-fault_head-number, Else-number-ne-NONE-2, Joined-number-ne-NONE, then-number-ne-NONE, else-number-ne-NONE+then-loop-left-test+then-number-ne-NONE-2, else-number-ne-NONE+else-loop-left-test+then-number-ne-NONE-3}
 use Rattle.rowreading.proofs.read_on.Goals as goal
 
 -- what the head's fault is

@@ -1,11 +1,10 @@
-use Rattle.sheetlines.proofs.Cells.{end-length}
+use Rattle.std.proofs.Common.{arith, rules, ◌+◌, ◌*◌, ◌≤◌}
+use Rattle.sheetlines.proofs.Cells.{end-length, of_word, term-length, room-few, term-then, term-last}
 use Rattle.integers.specs.Terms.{◌·◌}
 use Rattle.sheetlines.specs.Lines.{term_text}
 use Rattle.words.specs.LaidAt.{LaidAt}
-use Rattle.std.proofs.Common.{arith, rules, ◌+◌, ◌*◌, ◌≤◌}
 use Rattle.rowsystems.specs.RowSystem.{number_at, variable_at}
 use Rattle.words.proofs.Word.{payload-below}
-use Rattle.sheetlines.proofs.Cells.{of_word, term-length, room-few, term-then, term-last}
 use Rattle.words.proofs.Rest.{lay-part, lay-last, same_rest}
 use Rattle.sheetlines.proofs.put_terms.Goals.{After-put_term-to}
 use Rattle.sheetlines.proofs.put_terms.Goals as goal

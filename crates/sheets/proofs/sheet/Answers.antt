@@ -1,6 +1,6 @@
 -- The reader's refusal, or 16, or the text on the page.
-use Rattle.sheets.specs.Sheet.{sheet_text}
 use Rattle.std.proofs.Common.{◌≡◌, arith, length}
+use Rattle.sheets.specs.Sheet.{sheet_text}
 use Rattle.sheets.specs.Printed.{printed}
 use Rattle.rowsystems.proofs.Sizes.{few_words}
 use Rattle.sheets.proofs.Answers.{stands, too_short, writes}

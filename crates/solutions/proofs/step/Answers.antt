@@ -1,5 +1,5 @@
-use lib.Signed.{lt_z}
 use Rattle.std.proofs.Common.{◌≡◌, refl, sym, ap, ◌∙◌, arith, ◌-◌, length, get_or, length-set}
+use lib.Signed.{lt_z}
 use Rattle.integers.specs.Number.{+0, +1}
 use Rattle.integers.specs.Terms.{value}
 use Rattle.integers.proofs.Fits.{back, plus-size}

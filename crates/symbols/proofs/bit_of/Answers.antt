@@ -1,6 +1,6 @@
 -- The shift is the bit.
-use Rattle.symbols.specs.Hash.{hash_bit}
 use Rattle.std.proofs.Common.{refl}
+use Rattle.symbols.specs.Hash.{hash_bit}
 use Rattle.symbols.proofs.bit_of.Goals as goal
 
 pub returns : goal.returns

@@ -1,6 +1,6 @@
 -- The code computes as the definition does.
-use Rattle.symbols.specs.Hash.{cell_at}
 use Rattle.std.proofs.Common.{rules}
+use Rattle.symbols.specs.Hash.{cell_at}
 use Rattle.symbols.proofs.cell_of.Goals as goal
 
 pub returns : goal.returns

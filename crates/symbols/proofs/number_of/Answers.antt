@@ -1,3 +1,4 @@
+-- Every slot is right, so the first that has the name gives its number.
 use Rattle.std.proofs.Common.{refl, ◌+◌, ◌%◌, arith}
 use Rattle.symbols.proofs.number_of.Goals as goal
 

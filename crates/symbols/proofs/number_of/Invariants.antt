@@ -1,4 +1,4 @@
--- Every slot is right, so the first that has the name gives its number.
+-- The invariant: at most 32 slots are looked at. The measure: the slots left.
 use Rattle.std.proofs.Common.{◌-◌, ◌≤◌}
 use Rattle.symbols.proofs.number_of.Given as goal
 

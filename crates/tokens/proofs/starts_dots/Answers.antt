@@ -1,6 +1,6 @@
 -- Test by test.
-use Rattle.tokens.proofs.Places.{front-drop}
 use Rattle.std.proofs.Common.{eq-eqb, ne_eqb, ◌+◌}
+use Rattle.tokens.proofs.Places.{front-drop}
 use Rattle.tokens.specs.Token.{starts_dots}
 use Rattle.tokens.proofs.starts_dots.Goals as goal
 

@@ -1,6 +1,6 @@
 -- Test by test.
-use Rattle.tokens.proofs.Places.{front-drop}
 use Rattle.std.proofs.Common.{eq-eqb, ne_eqb, ◌+◌}
+use Rattle.tokens.proofs.Places.{front-drop}
 use Rattle.tokens.specs.Token.{starts_number}
 use Rattle.tokens.proofs.starts_number.Goals as goal
 

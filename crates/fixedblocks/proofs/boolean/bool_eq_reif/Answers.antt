@@ -1,6 +1,6 @@
 -- Two bits, two products and two rows, one after the other.
-use mathlib.Core.List.{flat_map}
 use Rattle.std.proofs.Common.{add-zero, arith}
+use mathlib.Core.List.{flat_map}
 use Rattle.rules.specs.Block.{numbered}
 use Rattle.rules.specs.Parts.{◌─◌=0}
 use Rattle.rules.specs.Rule.{rule, same_rows, same_reified}

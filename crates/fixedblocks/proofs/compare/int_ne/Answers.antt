@@ -1,6 +1,6 @@
 -- A bit and two rows, one after the other.
-use mathlib.Core.List.{flat_map}
 use Rattle.std.proofs.Common.{add-zero, arith}
+use mathlib.Core.List.{flat_map}
 use Rattle.rules.specs.Block.{numbered}
 use Rattle.rules.specs.Rule.{rule, where_one, where_zero}
 use Rattle.laying.specs.Part.{bound_parts, term_parts, row_parts, block_parts}

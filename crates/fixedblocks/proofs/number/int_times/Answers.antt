@@ -1,6 +1,6 @@
 -- The end products as bounds, a product and a row, one after the other.
-use mathlib.Core.List.{flat_map}
 use Rattle.std.proofs.Common.{add-zero, arith}
+use mathlib.Core.List.{flat_map}
 use Rattle.integers.proofs.Fits.{back}
 use Rattle.rules.specs.Block.{numbered}
 use Rattle.rules.specs.Parts.{◌─◌=0}

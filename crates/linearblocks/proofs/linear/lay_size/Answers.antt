@@ -1,6 +1,6 @@
 -- Two rows of given terms.
-use mathlib.Core.List.{flat_map}
 use Rattle.std.proofs.Common.{arith, add-zero, to_z-of_z}
+use mathlib.Core.List.{flat_map}
 use Rattle.rules.specs.Block.{numbered}
 use Rattle.laying.specs.Part.{term_parts, row_parts}
 use Rattle.laying.specs.Lists.{many, row_parts_of}

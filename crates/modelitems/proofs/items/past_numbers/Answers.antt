@@ -11,11 +11,11 @@ returns-then-are_numbers c =
     let ws = c.args.ws.now in
     let inside : at + m ≤ length ws = omega (arith, c.requires.0, c.requires.1) in
     let end : at + m ≡ c.args.end = omega (arith, c.requires.0) in
-    let All-here = rw (part_length ws at m inside) at (sym c.are_numbers.ensures ∙ c.if-are_numbers.true) in
+    let all_numbers = rw (part_length ws at m inside) at (sym c.are_numbers.ensures ∙ c.if-are_numbers.true) in
     record {
       on = c.requires.0;
       most = omega arith;
-      read = λ n l. rw end at (numbers-passed ws at m inside m n (omega arith) (omega (arith, l, end)) All-here);
+      read = λ n l. rw end at (numbers-passed ws at m inside m n (omega arith) (omega (arith, l, end)) all_numbers);
     }
 
 pub returns : goal.returns

@@ -7,11 +7,8 @@ use Rattle.extremes.specs.BoundLists.{bounds_of}
 use Rattle.encodings.specs.Uses.{shared_by}
 use borrow.Rule.Slice.PartMut.{mid_of}
 use Rattle.rules.specs.Translation.{block_of}
-use Rattle.words.specs.Limit as Limit
-use Rattle.sharing.proofs.Theorem.{never_too_many}
 use Rattle.laying.specs.Part.{block_parts}
 use Rattle.laying.specs.Appends.{AppendsFitting, nothing}
-use Rattle.translation.proofs.Refusals.{system-length}
 use Rattle.checking.proofs.Kept.{few-variables, none_left, head_at, summed_at}
 use Rattle.encodings.proofs.Record.{placed_record}
 use Rattle.blocks.proofs.OneBlock.{told, placed-wide, placed-block}
@@ -20,14 +17,10 @@ use Rattle.translation.proofs.WriteWalk.{begun, not_wide, not-outside, more, don
 use Rattle.translation.proofs.writing.write_blocks.Goals.{After-block-laid, After-record_encoding, At-loop-k}
 use Rattle.translation.proofs.writing.write_blocks.Goals as goal
 
--- the place is inside the output, and so small that it does not wrap
+-- the place is inside the output
 fits : (c : At-loop-k) → c.loop-k.at ≤ length c.loop-k.out
 fits c =
     omega (arith, c.loop-k.invariant.total, c.loop-k.invariant.same, ap length (blocks-are c.requires.0), c.requires.0.seen.sources_counted, c.requires.3)
-
-small : (c : At-loop-k) → c.loop-k.at ≤ Limit.row_words
-small c =
-    omega (arith, c.loop-k.invariant.total, ap length (blocks-are c.requires.0), c.requires.0.seen.sources_counted, system-length c.args.ws.now, never_too_many c.args.ws.now c.requires.2)
 
 -- its block went over the lent tail
 went : (c : After-block-laid) →
