@@ -1,5 +1,6 @@
 #!/usr/bin/env python3
-"""Respell what respell.py leaves: fields and constructors of specs/ with a dash, and the last names in camel case. Run at the top; twice does no harm."""
+"""Respell what respell.py leaves: fields and constructors of specs/ with a dash, and the last names in camel case. It was run once
+(docs/PORT.md); nothing in the tree calls it."""
 import glob
 import re
 
