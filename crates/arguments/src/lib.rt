@@ -75,6 +75,7 @@ pub fn value_of(args: &[u32], i: usize, values: &[i32]) -> i64
 }
 
 // Whether the variable at place i is 1.
+#[tactic(auto, unfolding(models::specs::Meaning::on))]
 pub fn is_on(args: &[u32], i: usize, values: &[i32]) -> bool
     ensures { result ≡ on (value values.now) (var args.now i) }
 {

@@ -116,6 +116,7 @@ pub fn fill_row(
 }
 
 // Adds to the line of bit i what the products of bits of a product add.
+#[tactic(auto, unfolding(crate::specs::Added::product_pairs))]
 fn add_product_pairs(
     line: &mut [i64],
     args: &[u32],

@@ -26,6 +26,7 @@ use rowreading::read_rows;
 use words::{Refusal, Written, fault, in_range, kind, lay, limit, number_word, word_of};
 
 // A refusal at place 0.
+#[tactic(auto, unfolding(words::specs::Written::wrote))]
 fn refuse(number: u32) -> Written
     ensures { wrote result ≡ refused number 0 }
 {

@@ -47,6 +47,7 @@ pub fn span_at(ls: &[i64], us: &[i64], v: usize) -> usize
 }
 
 // The variable at place i of the words after a head.
+#[tactic(auto, unfolding(rowsystems::specs::RowSystem::variable_at))]
 pub fn row_variable(args: &[u32], i: usize) -> usize
     ensures { result ≡ variable_at args.now i }
 {

@@ -16,6 +16,7 @@ use laying::Laid;
 use sharedblocks::shared_block;
 
 // By the code's own rule.
+#[tactic(auto, unfolding(models::specs::Model::builtin, models::specs::Model::builtins))]
 fn own_choice(
     out: &mut [u32],
     s: Laid,

@@ -1,4 +1,6 @@
 // Codes 18 to 20 and 31: two variables and a Boolean one.
+#![tactic(auto, unfolding(models::specs::Meaning::meaning))]
+
 ghost use Rattle.std.specs.Prelude.{◌≡◌};
 ghost use Rattle.integers.specs.Terms.{value};
 ghost use Rattle.models.specs.Builtin.{bool_and, bool_or, bool_xor};

@@ -19,6 +19,7 @@ pub fn bool_clause(args: &[u32], values: &[i32]) -> bool
 }
 
 // Whether array_bool_and is true.
+#[tactic(auto, unfolding(models::specs::Meaning::meaning))]
 pub fn array_bool_and(args: &[u32], values: &[i32]) -> bool
     ensures { result ≡ meaning (value values.now) (array_bool_and (vars args.now 0) (var args.now (past args.now 0))) }
 {
@@ -29,6 +30,7 @@ pub fn array_bool_and(args: &[u32], values: &[i32]) -> bool
 }
 
 // Whether array_bool_xor is true: an odd number are 1.
+#[tactic(auto, unfolding(models::specs::Meaning::meaning, models::specs::Meaning::on, models::specs::Meaning::odd))]
 pub fn array_bool_xor(args: &[u32], values: &[i32]) -> bool
     ensures { result ≡ meaning (value values.now) (array_bool_xor (vars args.now 0)) }
 {

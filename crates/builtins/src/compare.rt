@@ -1,4 +1,6 @@
 // Codes 1 to 5, 14, 16, 17, 30 and 34 to 36: comparisons of two variables.
+#![tactic(auto, unfolding(models::specs::Meaning::meaning))]
+
 ghost use Rattle.std.specs.Prelude.{◌≡◌};
 ghost use Rattle.integers.specs.Terms.{value};
 ghost use Rattle.models.specs.Builtin.{int_eq, int_le, int_lt, int_le_reif, int_eq_reif, int_lt_reif};

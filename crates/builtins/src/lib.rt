@@ -16,6 +16,7 @@ mod number;
 mod power;
 
 // Whether the builtin is true; a code that is none counts as true.
+#[tactic(auto, unfolding(models::specs::Meaning::meaning, models::specs::Model::builtin, models::specs::Model::builtins))]
 pub fn holds(code: usize, args: &[u32], values: &[i32]) -> bool
     requires { Small values.now }
     ensures { result ≡ meaning (value values.now) (builtin_of code args.now) }

@@ -1,4 +1,6 @@
 // Sums of terms compared with a number.
+#![tactic(auto, unfolding(models::specs::Meaning::meaning))]
+
 ghost use Rattle.std.specs.Prelude.{◌≡◌, ◌+◌};
 ghost use Rattle.integers.specs.Terms.{value};
 ghost use Rattle.words.specs.Small.{Small};

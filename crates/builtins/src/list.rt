@@ -14,6 +14,7 @@ use integers::equal;
 use integers::test::{agree, both};
 
 // The value of the variable at place 0 as a place in the list at place 1, counted from 1; 0 where the list has no such place.
+#[tactic(auto, unfolding(crate::specs::Coded::index_in))]
 fn index_of(args: &[u32], values: &[i32]) -> usize
     ensures { result ≡ index_in (size args.now 1) (value values.now (var args.now 0)) }
 {
@@ -64,6 +65,7 @@ pub fn array_int_extreme(args: &[u32], values: &[i32], up: bool) -> bool
 }
 
 // Whether set_in is true.
+#[tactic(auto, unfolding(models::specs::Meaning::meaning))]
 pub fn set_in(args: &[u32], values: &[i32]) -> bool
     ensures { result ≡ meaning (value values.now) (set_in (var args.now 0) (nums args.now 1)) }
 {
@@ -71,6 +73,7 @@ pub fn set_in(args: &[u32], values: &[i32]) -> bool
 }
 
 // Whether set_in_reif is true.
+#[tactic(auto, unfolding(models::specs::Meaning::meaning))]
 pub fn set_in_reif(args: &[u32], values: &[i32]) -> bool
     ensures { let ws = args.now in result ≡ meaning (value values.now) (set_in_reif (var ws 0) (nums ws 1) (var ws (past ws 1))) }
 {

@@ -19,6 +19,7 @@ pub fn put_byte(page: &mut [u8], at: usize, byte: u8)
 }
 
 // The byte in a column, with the digits of `rest` and perhaps a hyphen still to come from the right.
+#[tactic(auto, unfolding(crate::specs::Ahead::byte_of))]
 fn byte_of(minus: bool, rest: usize) -> u8
     ensures { result ≡ byte_of minus rest }
 {
@@ -29,6 +30,7 @@ fn byte_of(minus: bool, rest: usize) -> u8
 }
 
 // Whether the hyphen is still to come after that column.
+#[tactic(auto, unfolding(crate::specs::Ahead::minus_after))]
 fn minus_after(minus: bool, rest: usize) -> bool
     ensures { result ≡ minus_after minus rest }
 {

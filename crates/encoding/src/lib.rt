@@ -6,6 +6,7 @@ ghost use Rattle.words.specs.Overlay.{overlay};
 ghost use Rattle.encoding.specs.Bytes.{bytes_word, bytes_words};
 
 // The word of four bytes.
+#[tactic(auto, unfolding(crate::specs::Bytes::bytes_word))]
 pub fn word_of_bytes(a: u8, b: u8, c: u8, d: u8) -> u32
     ensures { result ≡ bytes_word a b c d }
 {

@@ -23,6 +23,7 @@ pub fn entry_of(list: &[usize], x: usize) -> usize
 }
 
 // Whether a code chooses by the value of its first argument.
+#[tactic(auto, unfolding(crate::specs::Uses::choosing))]
 fn chooses(code: usize) -> bool
     ensures { result ≡ choosing code }
 {

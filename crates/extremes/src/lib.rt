@@ -138,6 +138,7 @@ pub fn last_place(n: usize, upper: i64) -> i64
 }
 
 // Half of n − 1, rounded down; 0 for 0.
+#[tactic(auto, unfolding(rules::specs::Parts::half_less))]
 pub fn half_less(n: usize) -> i64
     ensures { result ≡ pos (half_less n) }
 {
@@ -204,6 +205,7 @@ pub fn members(args: &[u32], i: usize, lower: i64, upper: i64, out: &mut [i64]) 
 }
 
 // The lower bound of the variable that a word starts.
+#[tactic(auto, unfolding(crate::specs::Kept::lower_of))]
 pub fn lower_of(w: u32) -> i64
     ensures { result ≡ lower_of w }
 {
@@ -214,6 +216,7 @@ pub fn lower_of(w: u32) -> i64
 }
 
 // Its upper bound, by the word that follows.
+#[tactic(auto, unfolding(crate::specs::Kept::upper_of))]
 pub fn upper_of(w: u32, next: u32) -> i64
     ensures { result ≡ upper_of w next }
 {

@@ -5,6 +5,7 @@ ghost use Rattle.std.specs.Prelude.{◌≡◌, ◌<◌, length};
 ghost use Rattle.hexadecimal.specs.Digits.{digit, digits};
 
 // The digit of a number below 16.
+#[tactic(auto, unfolding(crate::specs::Digits::digit))]
 fn hex_digit(n: u32) -> u8
     requires { n < 16 }
     ensures { result ≡ digit n }
@@ -13,6 +14,7 @@ fn hex_digit(n: u32) -> u8
 }
 
 // The digits of a word.
+#[tactic(auto, unfolding(crate::specs::Digits::digits, crate::specs::Digits::digit_at))]
 pub fn hex_digits(w: u32) -> [u8; 8]
     ensures text { result ≡ digits w }
     ensures eight { 8 ≡ length result }

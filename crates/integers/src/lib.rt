@@ -41,6 +41,7 @@ pub fn times(a: i64, b: i64) -> i64
 }
 
 // The opposite.
+#[tactic(auto, unfolding(crate::specs::Number::neg))]
 pub fn opposite(a: i64) -> i64
     requires { nat_abs a < 9223372036854775808 }
     ensures { result ≡ neg a }
@@ -76,6 +77,7 @@ pub fn divided(a: i64, d: i64, left: bool) -> i64
 }
 
 // The lesser of two.
+#[tactic(auto, unfolding(crate::specs::Number::min_z))]
 pub fn least(a: i64, b: i64) -> i64
     ensures { result ≡ min_z a b }
 {
@@ -83,6 +85,7 @@ pub fn least(a: i64, b: i64) -> i64
 }
 
 // The larger of two.
+#[tactic(auto, unfolding(crate::specs::Number::max_z))]
 pub fn largest(a: i64, b: i64) -> i64
     ensures { result ≡ max_z a b }
 {
@@ -100,6 +103,7 @@ pub fn pick(a: i64, b: i64, up: bool) -> i64
 }
 
 // A number cut to -most..most.
+#[tactic(auto, unfolding(crate::specs::Number::cut))]
 pub fn cut_to(most: i64, a: i64) -> i64
     requires { nat_abs most < 9223372036854775808 }
     ensures { result ≡ cut most a }

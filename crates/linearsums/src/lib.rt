@@ -141,6 +141,7 @@ pub fn sum_step(total: Bounds, ws: &[u32], a: usize, k: usize, b: Bounds) -> Bou
 }
 
 // The bounds of a variable in a lent list, 0 and 0 past the last one.
+#[tactic(auto, unfolding(integers::specs::Bounds::bounds_in))]
 pub fn bounds_at(bounds: &[Bounds], v: usize) -> Bounds
     ensures { result ≡ bounds_in bounds.now v }
 {

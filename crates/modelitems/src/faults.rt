@@ -56,6 +56,7 @@ fn of_room(v: usize) -> u32
 }
 
 // Where a constraint or the end may stand, after c constraints.
+#[tactic(auto, unfolding(models::specs::Reading::fault_head))]
 pub fn of_head(c: usize, w: u32) -> u32
     ensures { result ≡ fault_head c w }
 {
@@ -172,6 +173,7 @@ pub fn of_count(most: usize, w: u32) -> u32
 }
 
 // Of a word that is to name a variable of a type among the first v.
+#[tactic(auto, unfolding(models::specs::Reading::fault_variable))]
 pub fn of_variable(types: &[u32; 256], v: usize, wanted: u32, w: u32) -> u32
     requires { (v ≤ Limit.variables) × (Shape.integer ≤ wanted) }
     ensures { result ≡ fault_variable (get_or (take v types.now) (payload w) 0) wanted w }

@@ -19,6 +19,7 @@ pub struct Step {
 }
 
 // Past a word without a fault, or to its fault.
+#[tactic(auto, unfolding(crate::specs::Onward::step_over))]
 fn step_over(number: u32, at: usize) -> Step
     requires { at ≤ Limit.model_words + 1 }
     ensures { result ≡ step_over number at }
@@ -180,6 +181,7 @@ pub fn arguments_at(
 }
 
 // The type of the variable that a word starts, none where it starts no variable.
+#[tactic(auto, unfolding(models::specs::Reading::declared))]
 pub fn declared_by(w: u32) -> u32
     ensures { result ≡ get_or (declared w) 0 0 }
 {

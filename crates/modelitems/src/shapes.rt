@@ -73,6 +73,7 @@ const SHAPES: [[u32; MOST_ARGUMENTS]; LAST_CODE + 1] = [
 ];
 
 // The table, as a list to lend.
+#[tactic(auto, unfolding(crate::specs::Argument::table, models::specs::Shape::shapes))]
 pub fn table() -> [[u32; MOST_ARGUMENTS]; LAST_CODE + 1]
     ensures { result ≡ table }
 {

@@ -23,6 +23,7 @@ pub struct Read {
 }
 
 // The answer where a reading stops with a fault at a place, where a word is due: fault 2 where the words have ended before it.
+#[tactic(auto, unfolding(modelitems::specs::Onward::stopped))]
 fn refused(ws: &[u32], number: u32, place: usize) -> Read
     ensures { result.number at_place result.place ≡ stopped ws.now number place }
 {

@@ -34,6 +34,7 @@ pub struct Copied {
 }
 
 // Whether the table ends before a word.
+#[tactic(auto, unfolding(crate::specs::Pair::ends_table, crate::specs::Pair::separates))]
 fn ends_table(w: u32) -> bool
     ensures { result ≡ ends_table w }
 {
@@ -48,6 +49,7 @@ fn ends_table(w: u32) -> bool
 }
 
 // Whether a word ends the table, or is the one between the candidates.
+#[tactic(auto, unfolding(crate::specs::Pair::separates))]
 fn stops(table: bool, w: u32) -> bool
     ensures { result ≡ (ends_table if table else separates) w }
 {

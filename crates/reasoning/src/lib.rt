@@ -47,6 +47,7 @@ pub struct Stopped {
 }
 
 // What is answered before the rows.
+#[tactic(auto, unfolding(crate::specs::Told::told, words::specs::Verdict::verdict))]
 fn before_rows(answer: Verdict) -> Reasoned
     ensures { told result ≡ answer_or (verdict answer) none }
 {

@@ -36,6 +36,7 @@ fn lay_block(
 }
 
 // The number of a variable counted on from k.
+#[tactic(auto, unfolding(words::specs::Verdict::verdict))]
 fn counted_on(answer: Verdict, k: usize) -> Verdict
     requires { AtMost block_size (verdict answer) × (k ≤ Limit.in_all) }
     ensures { verdict result ≡ shift k (verdict answer) }

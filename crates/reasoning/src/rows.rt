@@ -15,6 +15,7 @@ use rowsystems::Due;
 use words::Verdict;
 
 // The first row or product from a place on that is false, counted from k; the words from there on are rows, products and the end, over n variables.
+#[tactic(auto, unfolding(rowreading::specs::Item::start_due, rowjudge::specs::Judging::judged_on, words::specs::Judge::first_out_of_bounds))]
 pub fn first_false_row(ws: &[u32], values: &[i32], n: usize, start: usize, k: usize) -> Verdict
     requires { Placed ws.now start × ValuesKnown values.now n × (onward Due.Item n start ws.now ≡ accepted) × (variables (drop start ws.now) ≡ []) × (n ≤ 1000000000) × (k ≤ 1000000000) }
     ensures { verdict result ≡ first_false (satisfied (value values.now)) k (rows (drop start ws.now)) }

@@ -78,6 +78,7 @@ pub fn walk(
 }
 
 // The reason of a block's answer.
+#[tactic(auto, unfolding(crate::specs::Told::told, words::specs::Verdict::verdict))]
 fn because(answer: Verdict, constraint: usize, holds: bool) -> Reasoned
     ensures { told result ≡ in_block (verdict answer) constraint holds none }
 {

@@ -21,6 +21,7 @@ fn fault_if(test: bool, number: u32) -> u32
 }
 
 // Of a lower bound, after n variables.
+#[tactic(auto, unfolding(rowsystems::specs::Reading::fault_lower))]
 fn fault_lower(n: usize, w: u32) -> u32
     ensures { result ≡ fault_lower n w }
 {
@@ -31,6 +32,7 @@ fn fault_lower(n: usize, w: u32) -> u32
 }
 
 // Of a word where an auxiliary, a row, a product or the end may stand, after n variables.
+#[tactic(auto, unfolding(rowsystems::specs::Reading::fault_item))]
 fn fault_item(n: usize, w: u32) -> u32
     ensures { result ≡ fault_item n w }
 {
@@ -57,6 +59,7 @@ fn fault_item(n: usize, w: u32) -> u32
 }
 
 // Of a word where a source variable may stand too.
+#[tactic(auto, unfolding(rowsystems::specs::Reading::fault_source))]
 fn fault_source(n: usize, w: u32) -> u32
     ensures { result ≡ fault_source n w }
 {
@@ -74,6 +77,7 @@ fn fault_source(n: usize, w: u32) -> u32
 }
 
 // Of the word that starts an item, a source variable among them where sources may stand.
+#[tactic(auto, unfolding(crate::specs::Head::fault_at_head))]
 pub fn fault_head(sources: bool, n: usize, w: u32) -> u32
     ensures { result ≡ fault_at_head sources n w }
 {
@@ -112,6 +116,7 @@ pub fn fault_row(w: u32) -> u32
 }
 
 // Of an upper bound, whose kind is k, after the word of its lower one.
+#[tactic(auto, unfolding(rowsystems::specs::Reading::fault_upper))]
 pub fn fault_upper(k: u32, lower: u32, w: u32) -> u32
     ensures { result ≡ fault_upper k lower w }
 {
@@ -128,6 +133,7 @@ pub fn fault_upper(k: u32, lower: u32, w: u32) -> u32
 }
 
 // Of a variable, after n variables.
+#[tactic(auto, unfolding(rowsystems::specs::Reading::fault_variable))]
 pub fn fault_variable(n: usize, w: u32) -> u32
     ensures { result ≡ fault_variable n w }
 {
@@ -138,6 +144,7 @@ pub fn fault_variable(n: usize, w: u32) -> u32
 }
 
 // Whether a word has no fault as a variable.
+#[tactic(auto, unfolding(rowsystems::specs::Reading::fault_variable))]
 pub fn is_variable(n: usize, w: u32) -> bool
     ensures { result ≡ eqb (fault_variable n w) Fault.none }
 {
@@ -148,6 +155,7 @@ pub fn is_variable(n: usize, w: u32) -> bool
 }
 
 // Of a coefficient or a constant.
+#[tactic(auto, unfolding(rowsystems::specs::Reading::fault_number))]
 pub fn fault_number(w: u32) -> u32
     ensures { result ≡ fault_number w }
 {
@@ -158,6 +166,7 @@ pub fn fault_number(w: u32) -> u32
 }
 
 // Whether a word has no fault as a coefficient or a constant.
+#[tactic(auto, unfolding(rowsystems::specs::Reading::fault_number))]
 pub fn is_number(w: u32) -> bool
     ensures { result ≡ eqb (fault_number w) Fault.none }
 {
@@ -168,6 +177,7 @@ pub fn is_number(w: u32) -> bool
 }
 
 // Whether a product's factor words f and g have kind 5 and its result word r is not above both.
+#[tactic(auto, unfolding(rowsystems::specs::Reading::not_above))]
 fn not_above(r: u32, f: u32, g: u32) -> bool
     ensures { result ≡ not_above r f g }
 {
@@ -185,6 +195,7 @@ fn not_above(r: u32, f: u32, g: u32) -> bool
 }
 
 // Of a product's result, after n variables and before its two factors.
+#[tactic(auto, unfolding(rowsystems::specs::Reading::fault_result))]
 pub fn fault_result(n: usize, w: u32, f: u32, g: u32) -> u32
     ensures { result ≡ fault_result n w f g }
 {

@@ -26,6 +26,7 @@ use variables::between;
 use words::{fault, kind, kind_of, payload_of, signed_of, word_at};
 
 // The upper bound, of kind k, after the word of the lower one, and whether a value is between the two.
+#[tactic(auto, unfolding(rowreading::specs::Onward::step_over))]
 fn see_upper(ws: &[u32], k: u32, lower: u32, at: usize, v: i64) -> JudgedStep
     requires { at ≤ Limit.row_words }
     ensures { (step_of result ≡ step_over (fault_upper k lower (word_at ws.now at)) at) × (result.number ≡ Fault.none → result.holds ≡ within (signed lower to signed (word_at ws.now at)) v) }

@@ -38,6 +38,7 @@ fn answer(read: Refusal, as_many: bool, judged: Verdict) -> Verdict
 }
 
 // "Holds", else the first wrong row or product.
+#[tactic(auto, unfolding(words::specs::Verdict::verdict))]
 fn told(all: bool, wrong: usize) -> Verdict
     ensures { verdict result ≡ (holds if all else is_false wrong) }
 {
@@ -70,6 +71,7 @@ fn judge_end(ws: &[u32], number: u32, at: usize, n: usize, all: bool, wrong: usi
 }
 
 // Where the value of variable x is missing or out of its bounds, the rest is read and not judged: what such values add up to may pass 64 bits.
+#[tactic(auto, unfolding(words::specs::Verdict::verdict))]
 fn judge_rest(ws: &[u32], sources: bool, x: usize, at: usize) -> Judged
     requires { Placed ws.now at × (x < 2000000000) }
     ensures refusal { result.refusal ≡ onward (start_due sources) (x + 1) at ws.now }

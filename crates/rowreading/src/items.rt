@@ -33,6 +33,7 @@ pub struct Step {
 }
 
 // The item that a head word starts.
+#[tactic(auto, unfolding(crate::specs::Item::due_after, crate::specs::Item::due_with, crate::specs::Item::item_terms, rowsystems::specs::Reading::after_due, rowsystems::specs::Reading::after_item))]
 pub fn item_of(head: u32) -> Item
     ensures { due_after result ≡ after_due Due.Source head }
 {
@@ -56,6 +57,7 @@ pub fn item_of(head: u32) -> Item
 }
 
 // The number of terms of an item.
+#[tactic(auto, unfolding(crate::specs::Item::item_terms))]
 pub fn terms_of(item: Item) -> usize
     ensures { result ≡ item_terms item }
 {
@@ -70,6 +72,7 @@ pub fn terms_of(item: Item) -> usize
 }
 
 // Whether a source variable may follow an item.
+#[tactic(auto, unfolding(crate::specs::Item::more_sources))]
 pub fn sources_after(item: Item) -> bool
     ensures { result ≡ more_sources item }
 {
@@ -84,6 +87,7 @@ pub fn sources_after(item: Item) -> bool
 }
 
 // Past a word without a fault, or to its fault.
+#[tactic(auto, unfolding(crate::specs::Onward::step_over))]
 fn step_over(number: u32, at: usize) -> Step
     requires { at ≤ Limit.row_words }
     ensures { result ≡ step_over number at }

@@ -15,6 +15,7 @@ pub mod items;
 pub mod rows;
 
 // How many variables start at a word: one at a word of kind 1, 3 or 8.
+#[tactic(auto, unfolding(rowsystems::specs::Reading::started, words::specs::Variables::starts_pair))]
 pub fn started_of(w: u32) -> usize
     ensures { result ≡ started w }
 {
@@ -32,6 +33,7 @@ pub fn started_of(w: u32) -> usize
 }
 
 // The refusal where a reading stops with a fault at a place: none past the end word, 2 where the words have ended before it.
+#[tactic(auto, unfolding(crate::specs::Onward::stopped))]
 pub fn refusal_at(ws: &[u32], number: u32, place: usize) -> Refusal
     ensures { result ≡ stopped ws.now number place }
 {

@@ -6,6 +6,7 @@ ghost use Rattle.rowsystems.specs.RowSystem.{term_count};
 use words::{kind, kind_of, limit, payload_of};
 
 // Whether a row starts at a word.
+#[tactic(auto, unfolding(rowsystems::specs::OneWord::starts_sum))]
 pub fn starts_sum(w: u32) -> bool
     ensures { result ≡ starts_sum w }
 {
@@ -17,6 +18,7 @@ pub fn starts_sum(w: u32) -> bool
 }
 
 // Whether a row or a product starts at a word.
+#[tactic(auto, unfolding(rowsystems::specs::OneWord::starts_sum, rowsystems::specs::OneWord::starts_row))]
 pub fn starts_row(w: u32) -> bool
     ensures { result ≡ starts_row w }
 {
@@ -27,6 +29,7 @@ pub fn starts_row(w: u32) -> bool
 }
 
 // The number of terms that a row's head word says.
+#[tactic(auto, unfolding(rowsystems::specs::RowSystem::term_count))]
 pub fn term_count(head: u32) -> usize
     ensures { result ≡ term_count head }
 {

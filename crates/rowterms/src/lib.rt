@@ -38,6 +38,7 @@ pub fn faulty(number: u32, at: usize) -> JudgedStep
 }
 
 // Whether a row is true whose terms and constant add up to a number.
+#[tactic(auto, unfolding(crate::specs::Values::is_true))]
 fn is_true(head: u32, total: i64) -> bool
     ensures { result ≡ is_true head total }
 {
@@ -48,6 +49,7 @@ fn is_true(head: u32, total: i64) -> bool
 }
 
 // The value of a variable whose value is there.
+#[tactic(auto, unfolding(integers::specs::Terms::value))]
 pub fn known_value(values: &[i32], x: usize) -> i64
     requires { x < length values.now }
     ensures { result ≡ value values.now x }

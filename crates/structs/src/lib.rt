@@ -80,6 +80,7 @@ pub struct Explanation {
 }
 
 // A judge's answer for a host.
+#[tactic(auto, unfolding(crate::specs::Structs::judgement_of, words::specs::Verdict::verdict))]
 pub fn judgement_of(v: Verdict) -> Judgement
     ensures { result ≡ judgement_of (verdict v) }
 {
@@ -108,6 +109,7 @@ pub fn judgement_of(v: Verdict) -> Judgement
 }
 
 // Fill's answer for a host.
+#[tactic(auto, unfolding(crate::specs::Structs::judgement_of, filling::specs::Filled::handed))]
 pub fn filled_of(f: Filled) -> Judgement
     ensures { result ≡ judgement_of (handed f) }
 {
@@ -146,6 +148,7 @@ fn reason_of(holds: bool) -> u32
 }
 
 // Reason's answer for a host.
+#[tactic(auto, unfolding(crate::specs::Structs::explanation_of, reasoning::specs::Told::told))]
 pub fn explanation_of(r: Reasoned) -> Explanation
     ensures { result ≡ explanation_of (told r) }
 {
@@ -186,6 +189,7 @@ pub fn explanation_of(r: Reasoned) -> Explanation
 }
 
 // Check's answer for a host.
+#[tactic(auto, unfolding(crate::specs::Structs::counts_of, checking::specs::Checked::checked))]
 pub fn counts_of(c: Checked) -> Counts
     ensures { result ≡ counts_of (checked c) }
 {
@@ -218,6 +222,7 @@ pub fn counts_of(c: Checked) -> Counts
 }
 
 // The number of check's refusal, 0 if it accepts.
+#[tactic(auto, unfolding(words::specs::Answer::refusal_number, checking::specs::Checked::checked))]
 pub fn refusal_number(c: Checked) -> u32
     ensures { result ≡ refusal_number (checked c) }
 {
@@ -234,6 +239,7 @@ pub fn refusal_number(c: Checked) -> u32
 }
 
 // The answer of translate, text and bits for a host.
+#[tactic(auto, unfolding(crate::specs::Structs::count_of, crate::specs::Structs::written_of, words::specs::Written::wrote))]
 pub fn written_of(w: words::Written) -> WrittenWords
     ensures { result ≡ written_of (wrote w) }
 {
@@ -252,6 +258,7 @@ pub fn written_of(w: words::Written) -> WrittenWords
 }
 
 // Sheet's answer for a host.
+#[tactic(auto, unfolding(crate::specs::Structs::count_of, crate::specs::Structs::printed_of, sheets::specs::Printed::printed))]
 pub fn printed_of(p: sheets::Printed) -> PrintedBytes
     ensures { result ≡ printed_of (printed p) }
 {
@@ -270,6 +277,7 @@ pub fn printed_of(p: sheets::Printed) -> PrintedBytes
 }
 
 // The answer of listing the solutions for a host.
+#[tactic(auto, unfolding(crate::specs::Structs::count_of, crate::specs::Structs::listed_of, solutions::specs::Found::found))]
 pub fn listed_of(f: Found) -> Listed
     ensures { result ≡ listed_of (found f) }
 {

@@ -40,6 +40,7 @@ fn wide(b: u8) -> u64
 }
 
 // A hash and one byte more.
+#[tactic(auto, unfolding(crate::specs::Hash::mix))]
 fn mixed(h: u64, b: u64) -> u64
     requires { (h < hashes) × (b < 256) }
     ensures { (result ≡ mix h b) × (result < hashes) }
@@ -61,6 +62,7 @@ fn hash_of(name: &[u8]) -> u64
 }
 
 // The word of the filter that has the bits of a hash.
+#[tactic(auto, unfolding(crate::specs::Hash::cell_at))]
 fn cell_of(h: u64) -> usize
     requires { h < hashes }
     ensures { (result ≡ cell_at h) × (result < filter_words) }
@@ -69,6 +71,7 @@ fn cell_of(h: u64) -> usize
 }
 
 // One bit of a word.
+#[tactic(auto, unfolding(crate::specs::Hash::hash_bit))]
 fn bit_of(g: u64) -> u64
     ensures { result ≡ hash_bit g }
 {
@@ -76,6 +79,7 @@ fn bit_of(g: u64) -> u64
 }
 
 // The bits of a hash.
+#[tactic(auto, unfolding(crate::specs::Hash::mask_of))]
 fn mask_of(h: u64) -> u64
     requires { h < hashes }
     ensures { result ≡ mask_of h }
@@ -85,6 +89,7 @@ fn mask_of(h: u64) -> u64
 }
 
 // Whether the bits of a hash are set.
+#[tactic(auto, unfolding(crate::specs::Hash::is_marked))]
 fn is_marked(filter: &[u64; FILTER], h: u64) -> bool
     requires { h < hashes }
     ensures { result ≡ is_marked filter.now h }
@@ -95,6 +100,7 @@ fn is_marked(filter: &[u64; FILTER], h: u64) -> bool
 }
 
 // Sets the bits of a hash.
+#[tactic(auto, unfolding(crate::specs::Hash::with_mark))]
 fn mark(filter: &mut [u64; FILTER], h: u64)
     requires { h < hashes }
     ensures { filter.new ≡ with_mark filter.old h }
@@ -165,6 +171,7 @@ pub fn variable_in(
 }
 
 // The word of a slot for variable k and its name, 0 if a number is too large for it.
+#[tactic(auto, unfolding(crate::specs::Symbol::number_in, crate::specs::Symbol::place_in, crate::specs::Symbol::length_in))]
 fn slot_word(k: usize, place: usize, len: usize) -> u64
     ensures { (number_in result ≡ 0 → ⊥) → (number_in result ≡ k + 1) × (place_in result ≡ place) × (length_in result ≡ len) }
 {

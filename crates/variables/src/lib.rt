@@ -14,6 +14,7 @@ ghost use Rattle.variables.specs.Judged.{judged_then};
 use words::{Refusal, Verdict, fault, kind};
 
 // Whether a word is the lower bound of a variable.
+#[tactic(auto, unfolding(words::specs::Variables::starts_pair))]
 pub fn starts_pair(w: u32) -> bool
     ensures { result ≡ starts_pair w }
 {
@@ -25,6 +26,7 @@ pub fn starts_pair(w: u32) -> bool
 }
 
 // Whether a word starts a variable.
+#[tactic(auto, unfolding(crate::specs::Start::starts))]
 pub fn starts_variable(w: u32) -> bool
     ensures { result ≡ starts w }
 {
@@ -35,6 +37,7 @@ pub fn starts_variable(w: u32) -> bool
 }
 
 // Whether a value is between two numbers.
+#[tactic(auto, unfolding(integers::specs::Bounds::within))]
 pub fn between(lower: i64, v: i64, upper: i64) -> bool
     ensures { result ≡ within (lower to upper) v }
 {
@@ -45,6 +48,7 @@ pub fn between(lower: i64, v: i64, upper: i64) -> bool
 }
 
 // Whether a value keeps the bounds of the variable that a word starts; a pair's upper bound is the next word.
+#[tactic(auto, unfolding(crate::specs::Start::pair_bounds))]
 fn keeps(w: u32, next: u32, v: i64) -> bool
     ensures { result ≡ within (pair_bounds w next) v }
 {

@@ -44,6 +44,7 @@ pub enum Written {
 }
 
 // Whether a judge answers "holds".
+#[tactic(auto, unfolding(crate::specs::Answer::is_holds, crate::specs::Verdict::verdict))]
 pub fn is_holds(answer: Verdict) -> bool
     ensures { result ≡ is_holds (verdict answer) }
 {
@@ -56,6 +57,7 @@ pub fn is_holds(answer: Verdict) -> bool
 }
 
 // The kind of a word.
+#[tactic(auto, unfolding(crate::specs::Word::kind))]
 pub fn kind_of(w: u32) -> u32
     ensures { result ≡ kind w }
 {
@@ -63,6 +65,7 @@ pub fn kind_of(w: u32) -> u32
 }
 
 // Its payload.
+#[tactic(auto, unfolding(crate::specs::Word::payload))]
 pub fn payload_of(w: u32) -> usize
     ensures { result ≡ payload w }
 {
@@ -70,6 +73,7 @@ pub fn payload_of(w: u32) -> usize
 }
 
 // Its payload as a signed number.
+#[tactic(auto, unfolding(crate::specs::Word::signed, crate::specs::Word::payload))]
 pub fn signed_of(w: u32) -> i64
     ensures { result ≡ signed w }
 {
@@ -89,6 +93,7 @@ pub fn is_lowest(w: u32) -> bool
 }
 
 // Whether a number is in the range.
+#[tactic(auto, unfolding(integers::specs::Bounds::within))]
 pub fn in_range(v: i64) -> bool
     ensures { result ≡ in_range v }
 {
@@ -99,6 +104,7 @@ pub fn in_range(v: i64) -> bool
 }
 
 // The word of a kind and a payload.
+#[tactic(auto, unfolding(crate::specs::Word::word))]
 pub fn word_of(kind: u32, payload: usize) -> u32
     requires { kind < 16 }
     ensures { result ≡ word kind payload }
@@ -107,6 +113,7 @@ pub fn word_of(kind: u32, payload: usize) -> u32
 }
 
 // The payload of a number.
+#[tactic(auto, unfolding(crate::specs::Word::complement))]
 pub fn complement_of(v: i64) -> usize
     ensures { result ≡ complement v }
 {
@@ -118,6 +125,7 @@ pub fn complement_of(v: i64) -> usize
 }
 
 // The word of a kind and a number.
+#[tactic(auto, unfolding(crate::specs::Word::number_word))]
 pub fn number_word(kind: u32, v: i64) -> u32
     requires { kind < 16 }
     ensures { result ≡ number_word kind v }
@@ -126,6 +134,7 @@ pub fn number_word(kind: u32, v: i64) -> u32
 }
 
 // The word at a place, 0 past the last one.
+#[tactic(auto, unfolding(crate::specs::Word::word_at))]
 pub fn word_at(ws: &[u32], i: usize) -> u32
     ensures { result ≡ word_at ws.now i }
 {
@@ -136,6 +145,7 @@ pub fn word_at(ws: &[u32], i: usize) -> u32
 }
 
 // The value of a variable, 0 past the last one.
+#[tactic(auto, unfolding(integers::specs::Terms::value))]
 pub fn value_at(values: &[i32], x: usize) -> i64
     ensures { result ≡ value values.now x }
 {

@@ -1,15 +1,8 @@
-use Rattle.std.proofs.Common.{refl, sym, ap, ◌∙◌, ℕ, ◌+◌, ◌*◌, arith, drop}
+use Rattle.std.proofs.Common.{sym, ap, ◌∙◌, ℕ, ◌+◌, ◌*◌, arith, drop}
 use Rattle.grammar.specs.Value.{digits_from}
 use Rattle.grammar.specs.Machine.{cap}
-use Rattle.grammar.proofs.Numbers.{cap-most, cap-again, digits-on, digits-end}
+use Rattle.grammar.proofs.Numbers.{cap-again, digits-on, digits-end}
 use Rattle.grammar.proofs.decimal_of.Goals as goal
-
-pub loop-i-init : goal.loop-i-init
-unfolding cap
-loop-i-init c = (omega arith, refl, refl)
-
-pub overflow_add-v : goal.overflow_add-v
-overflow_add-v c = omega (arith, cap-most c.loop-i.v, c.loop-i.invariant.1, c.digit_value.ensures, c.type_inv.digits c.loop-i.i)
 
 pub loop-i-preserved : goal.loop-i-preserved
 loop-i-preserved c =
@@ -21,6 +14,3 @@ loop-i-preserved c =
 
 pub returns : goal.returns
 returns c = c.loop-i.invariant.1 ∙ sym (c.loop-i.invariant.2 ∙ digits-end c.args.digits.now c.loop-i.i c.loop-i.v c.loop-i-test.false)
-
-pub overflow_mul-v : goal.overflow_mul-v
-overflow_mul-v c = omega (arith, cap-most c.loop-i.v, c.loop-i.invariant.1)

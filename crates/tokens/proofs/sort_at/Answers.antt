@@ -15,19 +15,3 @@ returns-then-stop-at-le-NAME_BYTES c = (rw (short c.args.text.now c.args.at c.re
 pub returns-then-is_letter : goal.returns-then-is_letter
 unfolding sort_of sort_at
 returns-then-is_letter c = (rw (long c.args.text.now c.args.at c.requires.1 c.if-stop-at-le-NAME_BYTES.false, ← c.byte_at-b.ensures, ← c.is_letter.ensures, c.if-is_letter.true), search rules)
-
-pub returns-then-starts_number : goal.returns-then-starts_number
-unfolding sort_of sort_at
-returns-then-starts_number c = (rw (← c.starts_number.ensures, ← c.byte_at-b.ensures, ← c.is_letter.ensures, c.if-is_letter.false, c.if-starts_number.true), search rules)
-
-pub returns-then-starts_dots : goal.returns-then-starts_dots
-unfolding sort_of sort_at
-returns-then-starts_dots c = (rw (← c.starts_number.ensures, ← c.starts_dots.ensures, ← c.byte_at-b.ensures, ← c.is_letter.ensures, c.if-is_letter.false, c.if-starts_number.false, c.if-starts_dots.true), search rules)
-
-pub returns-then-is_sign : goal.returns-then-is_sign
-unfolding sort_of sort_at
-returns-then-is_sign c = (rw (← c.starts_number.ensures, ← c.starts_dots.ensures, ← c.byte_at-b.ensures, ← c.is_letter.ensures, c.if-is_letter.false, c.if-starts_number.false, c.if-starts_dots.false, ← c.is_sign.ensures, c.if-is_sign.true), search rules)
-
-pub returns : goal.returns
-unfolding sort_of sort_at
-returns c = (rw (← c.starts_number.ensures, ← c.starts_dots.ensures, ← c.byte_at-b.ensures, ← c.is_letter.ensures, c.if-is_letter.false, c.if-starts_number.false, c.if-starts_dots.false, ← c.is_sign.ensures, c.if-is_sign.false), search rules)
