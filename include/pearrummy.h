@@ -140,24 +140,24 @@ struct pearrummy_listed {
 };
 
 /* Check over bytes, four to a word, lowest first, 1 to 3 spare bytes left off: the number of the refusal, 0 if accepted.
- * Stack: 55 KiB. */
+ * Stack: 48 KiB. */
 uint32_t pearrummy_check_bytes(const uint8_t *bytes, size_t bytes_count);
 
-/* Checks a model; faults 1 to 14 and 18. Stack: 23 KiB. */
+/* Checks a model; faults 1 to 14 and 18. Stack: 16 KiB. */
 struct pearrummy_counts pearrummy_check(const uint32_t *words, size_t words_count);
 
 /* Writes the row system of a model to the front of `out`; faults 1 to 14, 16 and 18. Words past the end keep their values; a refusal changes nothing.
- * Stack: 25 KiB. */
+ * Stack: 18 KiB. */
 struct pearrummy_written pearrummy_translate(const uint32_t *words, size_t words_count, uint32_t *out, size_t out_count);
 
-/* Judges values of a model's variables; faults 1 to 11, 15 and 18. Stack: 4 KiB. */
+/* Judges values of a model's variables; faults 1 to 11, 15 and 18. Stack: 3 KiB. */
 struct pearrummy_judgement pearrummy_judge_model(const uint32_t *words, size_t words_count, const int32_t *values, size_t values_count);
 
 /* Judges values of a row system's variables and auxiliaries; faults 1 to 5, 9 to 11, 14, 15, 17 and 18. Stack: 1 KiB. */
 struct pearrummy_judgement pearrummy_judge_rows(const uint32_t *words, size_t words_count, const int32_t *values, size_t values_count);
 
 /* Judges values of a model's variables and, where they hold, writes them and the auxiliaries to the front of `out` and puts into `at` how many
- * there are; faults 1 to 16 and 18. Values past the end keep theirs; any other answer changes nothing. Stack: 25 KiB. */
+ * there are; faults 1 to 16 and 18. Values past the end keep theirs; any other answer changes nothing. Stack: 18 KiB. */
 struct pearrummy_judgement pearrummy_fill(const uint32_t *words, size_t words_count, const int32_t *values, size_t values_count, int32_t *out, size_t out_count);
 
 /* Prints a row system to the front of `page`, in lines of 80 columns and a line feed; faults 1 to 5, 9 to 11, 14 and 16 to 18. Bytes past the end
@@ -167,7 +167,7 @@ struct pearrummy_printed pearrummy_sheet(const uint32_t *words, size_t words_cou
 /* Reads FlatZinc, items "var lo..hi: name;" or "var bool: name;", then items "constraint builtin(arguments);", then "solve satisfy;", and writes the
  * words of the model to the front of `out`, for check to read; 19 where the text breaks the grammar, 20 where a variable or builtin name is unknown
  * or a variable is declared twice, 21 where a number is outside the range, their place a byte of the text; then faults 1 and 16. Words past the end
- * keep their values; a refusal changes nothing. No model has more than 8,192 words, so that much room is always enough. Stack: 194 KiB. */
+ * keep their values; a refusal changes nothing. No model has more than 8,192 words, so that much room is always enough. Stack: 193 KiB. */
 struct pearrummy_written pearrummy_text(const uint8_t *text, size_t text_count, uint32_t *out, size_t out_count);
 
 /* Names the first row of a model's row system that values of its variables and auxiliaries fail, the constraint whose block holds it, and why;
@@ -177,7 +177,7 @@ struct pearrummy_explanation pearrummy_reason(const uint32_t *words, size_t word
 /* Lists every solution of a model with at most 8 variables and at most 65,536 value lists in its bounds: each once, one after another at the front
  * of `out`, as many values each as the model has variables, the first variable changing slowest, values rising; faults 1 to 14, 16, 18, and 22
  * where the model passes either limit. Values past the end keep theirs; a refusal changes nothing. Room for all value lists is always enough, and
- * then each list is judged once. Stack: 23 KiB. */
+ * then each list is judged once. Stack: 16 KiB. */
 struct pearrummy_listed pearrummy_solutions(const uint32_t *words, size_t words_count, int32_t *out, size_t out_count);
 
 /* Two candidates over one variable table: the words of a pair are the table, the first candidate's constraints, a word D0000000, the second's, and
@@ -185,17 +185,17 @@ struct pearrummy_listed pearrummy_solutions(const uint32_t *words, size_t words_
  * every other number is the second. Without D0000000 fault 2 comes before all others, its place the number of words. A pair may have more than
  * 8,192 words; each model may not. */
 
-/* Checks a candidate's model. Stack: 55 KiB. */
+/* Checks a candidate's model. Stack: 48 KiB. */
 struct pearrummy_counts pearrummy_pair_check(const uint32_t *words, size_t words_count, uint32_t candidate);
 
-/* Writes the row system of a candidate's model to the front of `out`. Stack: 57 KiB. */
+/* Writes the row system of a candidate's model to the front of `out`. Stack: 50 KiB. */
 struct pearrummy_written pearrummy_pair_translate(const uint32_t *words, size_t words_count, uint32_t candidate, uint32_t *out, size_t out_count);
 
-/* Judges values of the variables of a candidate's model. Stack: 36 KiB. */
+/* Judges values of the variables of a candidate's model. Stack: 35 KiB. */
 struct pearrummy_judgement pearrummy_pair_judge_model(const uint32_t *words, size_t words_count, uint32_t candidate, const int32_t *values, size_t values_count);
 
 /* Judges values of the variables of a candidate's model and, where they hold, writes them and the auxiliaries to the front of `out`.
- * Stack: 57 KiB. */
+ * Stack: 50 KiB. */
 struct pearrummy_judgement pearrummy_pair_fill(const uint32_t *words, size_t words_count, uint32_t candidate, const int32_t *values, size_t values_count, int32_t *out, size_t out_count);
 
 /* Writes the words of the quadratic form over bits of a row system to the front of `out`: the constant, then for each pair of bits whose entry is

@@ -27,9 +27,9 @@ def modules():
 
 
 def cited(path):
-    """The files of specs/ that a file imports; `declared` has the structs and enums of the code."""
+    """The files of specs/ that a file imports, an impl of it too; `declared` has the structs and enums of the code."""
     for line in open(path):
-        if m := re.match(r'(?:ghost )?use Rattle\.(\w+)\.specs\.(\w+)', line):
+        if m := re.match(r'\s*(?:ghost )?use Rattle\.(\w+)\.specs\.(\w+)', line):
             if m.group(2) != 'declared':
                 yield m.group(1), m.group(2)
 

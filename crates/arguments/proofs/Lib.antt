@@ -1,2 +1,4 @@
 -- Laws for proofs about arguments.
 pub mod Size
+pub mod Places
+pub mod Unknown

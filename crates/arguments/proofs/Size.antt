@@ -1,14 +1,13 @@
 -- How large the arguments of a constraint are, and what is read back of them.
-use Rattle.std.proofs.Common.{◌≡◌, refl, sym, ◌∙◌, true, false, List, arith, ℕ, ◌<◌, ◌≤◌, ℤ, pos, negsuc, nat_abs, w64, to_z, of_z}
-use lib.Dec.{leb-zero}
-use lib.Signed.{le_z, mag}
-use Rattle.integers.specs.Number.{◌⊗◌, neg, max_z, abs_z, count}
+use Rattle.std.proofs.Common.{◌≡◌, ◌∙◌, List, arith, ℕ, ◌<◌, ◌≤◌, ℤ, w64, to_z, of_z}
+use lib.Signed.{mag}
+use Rattle.integers.specs.Number.{neg, max_z, abs_z}
 use Rattle.integers.specs.Terms.{value}
-use Rattle.integers.proofs.Tests.{false-true, capped}
+use Rattle.integers.proofs.Tests.{capped}
 use Rattle.integers.proofs.Fits.{back}
 use Rattle.integers.proofs.Linear.{linear}
 use Rattle.words.specs.Word.{word_at}
-use Rattle.words.proofs.Word.{signed-near, product-size as near-product}
+use Rattle.words.proofs.ReadBack.{signed-near}
 use Rattle.words.specs.Small.{Near, Small}
 use Rattle.models.specs.Model.{var, num, size, exponent_at}
 
@@ -32,23 +31,9 @@ pub value-near : (vs : List ℤ) → Small vs → (x : ℕ) → Near (value vs x
 unfolding value
 value-near vs small x = small x
 
-pub product-size : (ws : List ℕ) (vs : List ℤ) → Small vs → (a x : ℕ) → nat_abs (num ws a ⊗ value vs (var ws x)) ≤ 18014398509481984
-product-size ws vs small a x = near-product (num ws a) (value vs (var ws x)) (num-size ws a) (value-near vs small (var ws x))
-
 -- an absolute value
 pub abs-max : (x : ℤ) → max_z x (neg x) ≡ abs_z x
 abs-max = simp linear (omega arith)
-
--- a number as a count
-pub count-from : (z : ℤ) → le_z (pos 0) z ≡ true → count z ≡ mag z
-unfolding count
-count-from (pos n) t = refl
-count-from (negsuc n) t = false-true t
-
-pub count-below : (z : ℤ) → le_z (pos 0) z ≡ false → count z ≡ 0
-unfolding count
-count-below (pos n) t = false-true (sym t ∙ leb-zero n)
-count-below (negsuc n) t = refl
 
 -- what a call gave, read back: `read c.f.type_inv c.f.ensures`
 pub read : {z y : ℤ} → mag z < 9223372036854775808 → z ≡ y → to_z w64 (of_z w64 z) ≡ y

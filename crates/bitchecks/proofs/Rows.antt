@@ -1,4 +1,5 @@
 -- What is said of one row over bits, and of all rows, one row more.
+use Rattle.integers.specs.declared.Bounds.{Bounds}
 use Rattle.std.proofs.Common.{◌≡◌, refl, sym, ap, ap₂, ◌∙◌, Bool, true, false, ◌&&◌, List, ℕ, ◌+◌, ◌*◌, ◌≤◌, ◌<◌, arith, ℤ, pos, nat_abs, length, get_or}
 use Rattle.integers.specs.Number.{◌⊕◌, ◌⊗◌}
 use Rattle.integers.specs.Lists.{all}
@@ -43,16 +44,16 @@ square-small {n} {r} s t =
 
 -- ---- all rows
 
-pub record Checking (ws : List ℕ) (ls us : List ℤ) (firsts : List ℕ) (start n : ℕ) (row : List ℤ) (constant : ℤ) (first at : ℕ) : Type 0 where
+pub record Checking (ws : List ℕ) (Ds : List Bounds) (firsts : List ℕ) (start n : ℕ) (row : List ℤ) (constant : ℤ) (first at : ℕ) : Type 0 where
   pub place : at ≤ length ws
   pub small : first ≤ start + Size.own_bits * at
   pub size : nat_abs constant ≤ 268435456 * at
   pub long : length row ≡ n
-  pub left : all (row_fits n) (rows_left ls us firsts ws first at) ≡ all (row_fits n) (rows_by ls us firsts start ws)
-  pub sum : constant ⊕ constant_of (rows_left ls us firsts ws first at) ≡ constant_of (rows_by ls us firsts start ws)
+  pub left : all (row_fits n) (rows_left Ds firsts ws first at) ≡ all (row_fits n) (rows_by Ds firsts start ws)
+  pub sum : constant ⊕ constant_of (rows_left Ds firsts ws first at) ≡ constant_of (rows_by Ds firsts start ws)
 
-pub checking_begun : (ws : List ℕ) (ls us : List ℤ) (firsts : List ℕ) (start : ℕ) (row : List ℤ) → Checking ws ls us firsts start (length row) row (pos 0) start 0
-checking_begun ws ls us firsts start row = record {
+pub checking_begun : (ws : List ℕ) (Ds : List Bounds) (firsts : List ℕ) (start : ℕ) (row : List ℤ) → Checking ws Ds firsts start (length row) row (pos 0) start 0
+checking_begun ws Ds firsts start row = record {
   place = omega arith;
   small = omega arith;
   size = omega arith;
@@ -61,10 +62,10 @@ checking_begun ws ls us firsts start row = record {
   sum = zero-plus _;
 }
 
-module _ {ws : List ℕ} {ls us : List ℤ} {firsts : List ℕ} {start n : ℕ} {row : List ℤ} {constant : ℤ} {first at : ℕ} (k : Checking ws ls us firsts start n row constant first at) where
-  pub checking_none : at < length ws → starts_row (get_or ws at 0) ≡ false → Checking ws ls us firsts start n row constant first (at + 1)
+module _ {ws : List ℕ} {Ds : List Bounds} {firsts : List ℕ} {start n : ℕ} {row : List ℤ} {constant : ℤ} {first at : ℕ} (k : Checking ws Ds firsts start n row constant first at) where
+  pub checking_none : at < length ws → starts_row (get_or ws at 0) ≡ false → Checking ws Ds firsts start n row constant first (at + 1)
   checking_none h z =
-      let e = left-none ls us firsts ws first at h z in
+      let e = left-none Ds firsts ws first at h z in
       record {
         place = omega arith;
         small = omega (arith, k.small);
@@ -76,38 +77,38 @@ module _ {ws : List ℕ} {ls us : List ℤ} {firsts : List ℕ} {start n : ℕ} 
 
   module _ (h : at < length ws) (z : starts_row (get_or ws at 0) ≡ true) where
     abbrev this : BitRow
-    this = next_row ls us firsts ws first at
+    this = next_row Ds firsts ws first at
 
     abbrev others : List BitRow
-    others = rows_left ls us firsts ws (first + this.own) (at + 1)
+    others = rows_left Ds firsts ws (first + this.own) (at + 1)
 
-    fits_both : all (row_fits n) (rows_left ls us firsts ws first at) ≡ (row_fits n this && all (row_fits n) others)
+    fits_both : all (row_fits n) (rows_left Ds firsts ws first at) ≡ (row_fits n this && all (row_fits n) others)
     unfolding all
-    fits_both = ap (all (row_fits n)) (left_one ls us firsts ws first at h z)
+    fits_both = ap (all (row_fits n)) (left_one Ds firsts ws first at h z)
 
-    sums-both : constant_of (rows_left ls us firsts ws first at) ≡ square this.whole.constant ⊕ constant_of others
+    sums-both : constant_of (rows_left Ds firsts ws first at) ≡ square this.whole.constant ⊕ constant_of others
     unfolding sum_over
-    sums-both = ap constant_of (left_one ls us firsts ws first at h z)
+    sums-both = ap constant_of (left_one Ds firsts ws first at h z)
 
-    pub checking_fails : {f : Bool} → f ≡ row_fits n this → f ≡ false → f ≡ all (row_fits n) (rows_by ls us firsts start ws)
+    pub checking_fails : {f : Bool} → f ≡ row_fits n this → f ≡ false → f ≡ all (row_fits n) (rows_by Ds firsts start ws)
     checking_fails s e = e ∙ sym (fits_both ∙ rw (← s, e) refl) ∙ k.left
 
     pub checking_one : {f : Bool} {c d : ℤ} {own : ℕ} {after : List ℤ} → f ≡ true → RowChecked n this f c → own ≤ Size.own_bits → own ≡ this.own → length after ≡ length row →
-        d ≡ constant ⊕ c → Checking ws ls us firsts start n after d (first + own) (at + 1)
+        d ≡ constant ⊕ c → Checking ws Ds firsts start n after d (first + own) (at + 1)
     checking_one {f} {c} {d} {own} {after} t s l o g p =
         record {
           place = omega arith;
           small = omega (arith, k.small);
           size = rw p (omega (arith, plus-size constant c, k.size, square-small s t));
           long = g ∙ k.long;
-          left = ap (λ m. all (row_fits n) (rows_left ls us firsts ws (first + m) (at + 1))) o ∙ sym (fits_both ∙ rw (← s.tested, t) refl) ∙ k.left;
+          left = ap (λ m. all (row_fits n) (rows_left Ds firsts ws (first + m) (at + 1))) o ∙ sym (fits_both ∙ rw (← s.tested, t) refl) ∙ k.left;
           sum =
-              ap₂ (λ x m. x ⊕ constant_of (rows_left ls us firsts ws (first + m) (at + 1))) (p ∙ ap (λ y. constant ⊕ y) (s.squared t)) o
+              ap₂ (λ x m. x ⊕ constant_of (rows_left Ds firsts ws (first + m) (at + 1))) (p ∙ ap (λ y. constant ⊕ y) (s.squared t)) o
               ∙ ⊕_assoc constant (square this.whole.constant) (constant_of others) ∙ ap (λ y. constant ⊕ y) (sym sums-both) ∙ k.sum;
         }
 
-  pub checking_done : length ws ≤ at → RowsChecked n (rows_by ls us firsts start ws) true constant
+  pub checking_done : length ws ≤ at → RowsChecked n (rows_by Ds firsts start ws) true constant
   unfolding all sum_over
   checking_done h =
-      let e = left_end ls us firsts ws first at h in
+      let e = left_end Ds firsts ws first at h in
       record { tested = ap (all (row_fits n)) (sym e) ∙ k.left; summed = λ t. sym (plus-zero constant) ∙ ap (λ rs. constant ⊕ constant_of rs) (sym e) ∙ k.sum }

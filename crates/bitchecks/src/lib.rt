@@ -6,17 +6,18 @@ ghost use Rattle.std.specs.Int.Signed.{le_z};
 ghost use Rattle.integers.specs.Number.{abs_z};
 ghost use Rattle.integers.specs.Lists.{all};
 ghost use Rattle.words.specs.Limit as Limit;
-ghost use Rattle.words.specs.Small.{Small};
 ghost use Rattle.bitforms.specs.BitRow.{bits_with};
 ghost use Rattle.bitlines.specs.Sizes as Size;
-ghost use Rattle.bittables.specs.BitTables.{row_by, rows_by, BitLists, BitCounts, RowTables};
+ghost use Rattle.bittables.specs.BitTables.{row_by, rows_by, NearFirsts, FewCounts, BitCounts, RowTables};
 ghost use Rattle.bitchecks.specs.Checked.{RowChecked, RowsChecked};
 
 use bitfilling::fill_row;
 use bitrows::{own_bits, row_constant};
 use integers::{plus, times};
 use rowreading::rows::starts_row;
+use words::domain::Domain;
 use words::limit;
+use words::word::Word;
 
 // Whether rows over bits fit, and then the sum of their constants' squares.
 #[derive(Drop)]
@@ -26,9 +27,9 @@ pub struct RowsFit {
 }
 
 // How many bits there are, after `start` bits of variables.
-pub fn count_bits(ws: &[u32], ls: &[i64], us: &[i64], counts: &[usize], start: usize) -> usize
-    requires { (length ws.now ≤ Limit.row_words) × Small ls.now × Small us.now × BitCounts ls.now us.now counts.now × (start ≤ Size.all_variable_bits) }
-    ensures { (firsts : List ℕ) → result ≡ bits_with start (rows_by ls.now us.now firsts start ws.now) }
+pub fn count_bits(ws: &[u32], domains: &[Domain], counts: &[usize], start: usize) -> usize
+    requires { (length ws.now ≤ Limit.row_words) × BitCounts domains.now counts.now × FewCounts counts.now × (start ≤ Size.all_variable_bits) }
+    ensures { (firsts : List ℕ) → result ≡ bits_with start (rows_by domains.now firsts start ws.now) }
 {
     let mut first = start;
     let mut at = 0;
@@ -36,7 +37,7 @@ pub fn count_bits(ws: &[u32], ls: &[i64], us: &[i64], counts: &[usize], start: u
         let head = ws[at];
         at += 1;
         if starts_row(head) {
-            first += own_bits(head, &ws[at..], ls, us, counts);
+            first += own_bits(Word::from(head), &ws[at..], domains, counts);
         }
     }
     first
@@ -56,12 +57,10 @@ fn within_limit(v: i64) -> bool
 fn all_within(row: &[i64]) -> bool
     ensures { result ≡ all (λ v. le_z (abs_z v) (pos Limit.bit_numbers)) row.now }
 {
-    let mut i = 0;
-    while i < row.len() {
+    for i in 0..row.len() {
         if !within_limit(row[i]) {
             return false;
         }
-        i += 1;
     }
     true
 }
@@ -69,24 +68,23 @@ fn all_within(row: &[i64]) -> bool
 // Whether the row or product with this head fits, and then the square of its constant; the list is used for its row over bits.
 fn check_row(
     row: &mut [i64],
-    head: u32,
+    head: Word,
     args: &[u32],
-    ls: &[i64],
-    us: &[i64],
+    domains: &[Domain],
     firsts: &[usize],
     first: usize,
 ) -> RowsFit
-    requires { BitLists ls.now us.now firsts.now × (first < Size.farthest) }
-    ensures { RowChecked (length row.old) (row_by ls.now us.now firsts.now first head args.now) result.fits result.constant }
+    requires { NearFirsts firsts.now × (first < Size.farthest) }
+    ensures { RowChecked (length row.old) (row_by domains.now firsts.now first head args.now) result.fits result.constant }
 {
-    let c = row_constant(head, args, ls);
+    let c = row_constant(head, args, domains);
     if !within_limit(c) {
         return RowsFit {
             fits: false,
             constant: 0,
         };
     }
-    fill_row(row, head, args, ls, us, firsts, first);
+    fill_row(row, head, args, domains, firsts, first);
     if !all_within(row) {
         return RowsFit {
             fits: false,
@@ -102,15 +100,14 @@ fn check_row(
 // Of all rows and products.
 pub fn check_rows(
     ws: &[u32],
-    ls: &[i64],
-    us: &[i64],
+    domains: &[Domain],
     firsts: &[usize],
     counts: &[usize],
     start: usize,
     row: &mut [i64],
 ) -> RowsFit
-    requires { RowTables ws.now ls.now us.now firsts.now counts.now start }
-    ensures { RowsChecked (length row.old) (rows_by ls.now us.now firsts.now start ws.now) result.fits result.constant }
+    requires { RowTables ws.now domains.now firsts.now counts.now start }
+    ensures { RowsChecked (length row.old) (rows_by domains.now firsts.now start ws.now) result.fits result.constant }
 {
     let mut constant: i64 = 0;
     let mut first = start;
@@ -119,12 +116,13 @@ pub fn check_rows(
         let head = ws[at];
         at += 1;
         if starts_row(head) {
-            let checked = check_row(row, head, &ws[at..], ls, us, firsts, first);
+            let item = Word::from(head);
+            let checked = check_row(row, item, &ws[at..], domains, firsts, first);
             if !checked.fits {
                 return checked;
             }
             constant = plus(constant, checked.constant);
-            first += own_bits(head, &ws[at..], ls, us, counts);
+            first += own_bits(item, &ws[at..], domains, counts);
         }
     }
     RowsFit {

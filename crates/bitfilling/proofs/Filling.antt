@@ -1,4 +1,5 @@
 -- A row over bits as a list: its numbers are the coefficients of the definition, and a row that fits has none beyond 16,384.
+use Rattle.integers.specs.declared.Bounds.{Bounds}
 use Rattle.std.proofs.Common.{◌≡◌, refl, sym, ap, ap₂, ◌∙◌, true, ◌&&◌, List, [], ◌∷◌, ◌++◌, map, ℕ, zero, suc, ◌+◌, ◌<◌, ◌≤◌, arith, ℤ, pos, nat_abs, length, get_or, set, replicate, length-set, get_or-set_same, get_or-set_other, ext_get_or}
 use native.Mathlib.Decide.{ℕ_discrete}
 use lib.ListN.{length-replicate, get_or-replicate}
@@ -13,7 +14,7 @@ use Rattle.integers.proofs.Places.{get_or-list_of, map-list_of, all_map}
 use Rattle.integers.proofs.Sums.{zero-plus, one-times}
 use Rattle.words.specs.Limit as Limit
 use Rattle.rowsystems.specs.Row.{sum≤0, sum=0, product}
-use Rattle.extremes.specs.BoundLists.{bounds_of}
+use Rattle.integers.specs.Bounds.{bounds_in}
 use Rattle.bitforms.specs.Weights.{weights}
 use Rattle.bitforms.specs.OverBits.{scaled, over_bits, weighted_bits}
 use Rattle.bitforms.specs.BitRow.{BitRow, least, slack_weights, product_whole, bit_row}
@@ -103,29 +104,29 @@ unfolding scaled
 scaled-one [] = refl
 scaled-one (t ∷ ts) = ap₂ (λ k l. k · t.variable ∷ l) (one-times t.coefficient) (scaled-one ts)
 
-pub product-added : (xs ls us : List ℤ) (firsts : List ℕ) (first r f g : ℕ) →
-    add_terms (add_terms (add_terms (add_terms xs (scaled +1 (bits_of ls us firsts r))) (scaled (neg (get_or ls f +0)) (bits_of ls us firsts g))) (scaled (neg (get_or ls g +0)) (bits_of ls us firsts f)))
-    (cross first (weights (span_in ls us f)) (weights (span_in ls us g)))
-    ≡ add_terms xs (bit_row (bounds_of ls us) (encoding_by ls us firsts) first (product r f g)).whole.terms
+pub product-added : (xs : List ℤ) (Ds : List Bounds) (firsts : List ℕ) (first r f g : ℕ) →
+    add_terms (add_terms (add_terms (add_terms xs (scaled +1 (bits_of Ds firsts r))) (scaled (neg ((bounds_in Ds f).lower)) (bits_of Ds firsts g))) (scaled (neg ((bounds_in Ds g).lower)) (bits_of Ds firsts f)))
+    (cross first (weights (span_in Ds f)) (weights (span_in Ds g)))
+    ≡ add_terms xs (bit_row (bounds_in Ds) (encoding_by Ds firsts) first (product r f g)).whole.terms
 unfolding bit_row product_whole bits_of
-product-added xs ls us firsts first r f g =
-    let a = scaled (neg (get_or ls f +0)) (bits_of ls us firsts g) in
-    let b = scaled (neg (get_or ls g +0)) (bits_of ls us firsts f) in
-    let m = cross first (weights (span_in ls us f)) (weights (span_in ls us g)) in
-    rw (scaled-one (bits_of ls us firsts r), pairs-cross first (get_or firsts f 0) (get_or firsts g 0) (weights (span_in ls us f)) (weights (span_in ls us g)))
-    (sym (add-append xs (bits_of ls us firsts r) (a ++ (b ++ m)) ∙ add-append _ a (b ++ m) ∙ add-append _ b m))
+product-added xs Ds firsts first r f g =
+    let a = scaled (neg ((bounds_in Ds f).lower)) (bits_of Ds firsts g) in
+    let b = scaled (neg ((bounds_in Ds g).lower)) (bits_of Ds firsts f) in
+    let m = cross first (weights (span_in Ds f)) (weights (span_in Ds g)) in
+    rw (scaled-one (bits_of Ds firsts r), pairs-cross first (get_or firsts f 0) (get_or firsts g 0) (weights (span_in Ds f)) (weights (span_in Ds g)))
+    (sym (add-append xs (bits_of Ds firsts r) (a ++ (b ++ m)) ∙ add-append _ a (b ++ m) ∙ add-append _ b m))
 
 -- ---- the terms of rows
 
-pub slacked_added : (xs ls us : List ℤ) (firsts : List ℕ) (first : ℕ) (ts : List (Term ℕ)) (c : ℤ) →
-    add_terms (add_terms xs (over_bits (bits_of ls us firsts) ts)) (scaled +1 (weighted_bits first (weights (count (neg (least (bounds_of ls us) ts c))))))
-    ≡ add_terms xs (bit_row (bounds_of ls us) (encoding_by ls us firsts) first (sum≤0 ts c)).whole.terms
+pub slacked_added : (xs : List ℤ) (Ds : List Bounds) (firsts : List ℕ) (first : ℕ) (ts : List (Term ℕ)) (c : ℤ) →
+    add_terms (add_terms xs (over_bits (bits_of Ds firsts) ts)) (scaled +1 (weighted_bits first (weights (count (neg (least (bounds_in Ds) ts c))))))
+    ≡ add_terms xs (bit_row (bounds_in Ds) (encoding_by Ds firsts) first (sum≤0 ts c)).whole.terms
 unfolding bit_row slack_weights
-slacked_added xs ls us firsts first ts c =
-    let s = weighted_bits first (weights (count (neg (least (bounds_of ls us) ts c)))) in
-    rw (scaled-one s, over-bits (encoding_by ls us firsts) ts c) (sym (add-append xs (over_bits (bits_of ls us firsts) ts) s))
+slacked_added xs Ds firsts first ts c =
+    let s = weighted_bits first (weights (count (neg (least (bounds_in Ds) ts c)))) in
+    rw (scaled-one s, over-bits (encoding_by Ds firsts) ts c) (sym (add-append xs (over_bits (bits_of Ds firsts) ts) s))
 
-pub equal-added : (xs ls us : List ℤ) (firsts : List ℕ) (first : ℕ) (ts : List (Term ℕ)) (c : ℤ) →
-    add_terms xs (over_bits (bits_of ls us firsts) ts) ≡ add_terms xs (bit_row (bounds_of ls us) (encoding_by ls us firsts) first (sum=0 ts c)).whole.terms
+pub equal-added : (xs : List ℤ) (Ds : List Bounds) (firsts : List ℕ) (first : ℕ) (ts : List (Term ℕ)) (c : ℤ) →
+    add_terms xs (over_bits (bits_of Ds firsts) ts) ≡ add_terms xs (bit_row (bounds_in Ds) (encoding_by Ds firsts) first (sum=0 ts c)).whole.terms
 unfolding bit_row
-equal-added xs ls us firsts first ts c = ap (add_terms xs) (sym (over-bits (encoding_by ls us firsts) ts c))
+equal-added xs Ds firsts first ts c = ap (add_terms xs) (sym (over-bits (encoding_by Ds firsts) ts c))

@@ -1,4 +1,5 @@
 -- A row over bits has no entry in the line of a bit that neither it nor its variables have.
+use Rattle.integers.specs.declared.Bounds.{Bounds}
 use Rattle.std.proofs.Common.{◌≡◌, refl, sym, subst, ◌⊎◌, inl, inr, Bool, true, false, List, [], ◌∷◌, ◌++◌, map, ℕ, zero, suc, ◌+◌, ◌<◌, ◌≤◌, min, arith, eqb, ℤ, pos, length, length-append, get_or, ne_eqb}
 use mathlib.Core.List.{flat_map}
 use native.Mathlib.Decide.{dec_le, ℕ_discrete}
@@ -12,7 +13,7 @@ use Rattle.integers.proofs.Tests.{All}
 use Rattle.integers.proofs.Sums.{both_zero, zero-times}
 use Rattle.rowsystems.specs.Row.{Row, sum≤0, sum=0, product}
 use Rattle.rowsystems.specs.RowSystem.{terms_in}
-use Rattle.extremes.specs.BoundLists.{bounds_of}
+use Rattle.integers.specs.Bounds.{bounds_in}
 use Rattle.bitforms.specs.SumOver.{sum_over}
 use Rattle.bitforms.specs.Weights.{weights}
 use Rattle.bitforms.specs.OverBits.{OverBits, weighted_bits, scaled, over_bits, over}
@@ -146,33 +147,33 @@ module _ (i : ℕ) where
   unfolding ◌⊕◌
   without s ps j e f = rw (no-square s j e, f) refl
 
-  module _ (ls us : List ℤ) (firsts counts : List ℕ) (counted : BitCounts ls us counts) where
-    bits-others : (v : ℕ) → NoBitOf firsts counts i v → Others (bits_of ls us firsts v)
+  module _ (Ds : List Bounds) (firsts counts : List ℕ) (counted : BitCounts Ds counts) where
+    bits-others : (v : ℕ) → NoBitOf firsts counts i v → Others (bits_of Ds firsts v)
     unfolding bits_of
-    bits-others v h = weighted-others (get_or firsts v 0) (weights (span_in ls us v)) (subst (λ n. NotAmong (get_or firsts v 0) n i) (counted v) h)
+    bits-others v h = weighted-others (get_or firsts v 0) (weights (span_in Ds v)) (subst (λ n. NotAmong (get_or firsts v 0) n i) (counted v) h)
 
-    pub idle_row : (first own : ℕ) (q : Row ℕ) → own ≡ (row_over ls us firsts first q).own → NotAmong first own i → IdleRow (NoBitOf firsts counts i) q →
-        (j : ℕ) → row_entry (row_over ls us firsts first q) i j ≡ +0
+    pub idle_row : (first own : ℕ) (q : Row ℕ) → own ≡ (row_over Ds firsts first q).own → NotAmong first own i → IdleRow (NoBitOf firsts counts i) q →
+        (j : ℕ) → row_entry (row_over Ds firsts first q) i j ≡ +0
     unfolding bit_row over over_bits product_whole IdleRow sum_over
     idle_row first own (sum≤0 ts c) e o h j =
-        let s = slack_weights (bounds_of ls us) ts c in
-        let T = flat_map (λ t. scaled t.coefficient (bits_of ls us firsts t.variable)) ts in
-        without (row_over ls us firsts first (sum≤0 ts c)).whole [] j
+        let s = slack_weights (bounds_in Ds) ts c in
+        let T = flat_map (λ t. scaled t.coefficient (bits_of Ds firsts t.variable)) ts in
+        without (row_over Ds firsts first (sum≤0 ts c)).whole [] j
         ((all_append Still T (weighted_bits first s)).1
-        (over-still (NoBitOf firsts counts i) (bits_of ls us firsts) bits-others ts h, others-still (weighted_bits first s) (weighted-others first s (subst (λ n. NotAmong first n i) e o)))) refl
+        (over-still (NoBitOf firsts counts i) (bits_of Ds firsts) bits-others ts h, others-still (weighted_bits first s) (weighted-others first s (subst (λ n. NotAmong first n i) e o)))) refl
     idle_row first own (sum=0 ts c) e o h j =
-        without (row_over ls us firsts first (sum=0 ts c)).whole [] j (over-still (NoBitOf firsts counts i) (bits_of ls us firsts) bits-others ts h) refl
+        without (row_over Ds firsts first (sum=0 ts c)).whole [] j (over-still (NoBitOf firsts counts i) (bits_of Ds firsts) bits-others ts h) refl
     idle_row first own (product r f g) e o (hr, hf, hg) j =
-        let fs = bits_of ls us firsts f in
-        let gs = bits_of ls us firsts g in
+        let fs = bits_of Ds firsts f in
+        let gs = bits_of Ds firsts g in
         let ps = pairs_of first fs gs in
         let p = pairs-other first fs gs (subst (λ n. NotAmong first n i) e o) in
-        let G = scaled (neg (get_or ls f +0)) gs in
-        let F = scaled (neg (get_or ls g +0)) fs in
+        let G = scaled (neg ((bounds_in Ds f).lower)) gs in
+        let F = scaled (neg ((bounds_in Ds g).lower)) fs in
         let P = map (λ p. neg p.weight · p.t) ps in
         let A : Term ℕ → Type 0 = λ t. Other t.variable in
-        without (row_over ls us firsts first (product r f g)).whole ps j
-        (others-still (bits_of ls us firsts r ++ (G ++ (F ++ P))) ((all_append A (bits_of ls us firsts r) (G ++ (F ++ P))).1 (bits-others r hr, (all_append A G (F ++ P)).1 (scaled-others (neg (get_or ls f +0)) gs (bits-others g hg), (all_append A F P).1 (scaled-others (neg (get_or ls g +0)) fs (bits-others f hf), products-others ps p)))))
+        without (row_over Ds firsts first (product r f g)).whole ps j
+        (others-still (bits_of Ds firsts r ++ (G ++ (F ++ P))) ((all_append A (bits_of Ds firsts r) (G ++ (F ++ P))).1 (bits-others r hr, (all_append A G (F ++ P)).1 (scaled-others (neg ((bounds_in Ds f).lower)) gs (bits-others g hg), (all_append A F P).1 (scaled-others (neg ((bounds_in Ds g).lower)) fs (bits-others f hf), products-others ps p)))))
         (no_pairs ps j (all_both (λ p. Other p.u × Other p.v) (λ p. Other p.t) ps (pairs-all Other first fs gs (bits-others f hf) (bits-others g hg)) p))
 
 -- ---- the loop over a row's terms

@@ -1,4 +1,5 @@
 -- What a row over bits adds to a line: its square's entries, then those of its products of bits.
+use Rattle.integers.specs.declared.Bounds.{Bounds}
 use Rattle.std.proofs.Common.{◌≡◌, refl, sym, ap, ◌∙◌, true, List, [], ℕ, ◌+◌, ◌-◌, ◌≤◌, arith, ℤ, pos, nat_abs, length, get_or}
 use mathlib.Core.List.{flat_map}
 use lib.Signed.{le_z}
@@ -8,7 +9,7 @@ use Rattle.integers.proofs.Tests.{says-and}
 use Rattle.words.specs.Limit as Limit
 use Rattle.rowsystems.specs.Row.{product}
 use Rattle.rowsystems.specs.RowSystem.{variable_at}
-use Rattle.extremes.specs.BoundLists.{bounds_of}
+use Rattle.integers.specs.Bounds.{bounds_in}
 use Rattle.bitforms.specs.Weights.{weights}
 use Rattle.bitforms.specs.BitRow.{BitRow, bit_row}
 use Rattle.bitforms.specs.FormAnswer.{row_fits}
@@ -49,9 +50,9 @@ unfolding add_terms flat_map
 square-added line r i m k h n e = row-added line r i m k (e.sum ∙ rw n refl) (omega (arith, e.small))
 
 -- those of a product
-pub product-pairs : (ls us : List ℤ) (firsts counts args : List ℕ) (first i : ℕ) → BitCounts ls us counts →
+pub product-pairs : (Ds : List Bounds) (firsts counts args : List ℕ) (first i : ℕ) → BitCounts Ds counts →
     product_pairs firsts counts args first i
-    ≡ flat_map (λ p. pair_terms p i) (bit_row (bounds_of ls us) (encoding_by ls us firsts) first (product (variable_at args 0) (variable_at args 1) (variable_at args 2))).pairs
+    ≡ flat_map (λ p. pair_terms p i) (bit_row (bounds_in Ds) (encoding_by Ds firsts) first (product (variable_at args 0) (variable_at args 1) (variable_at args 2))).pairs
 unfolding product_pairs bit_row bits_of
-product-pairs ls us firsts counts args first i k =
-    rw (k (variable_at args 1), k (variable_at args 2)) (sym (pairs_grid (get_or firsts (variable_at args 1) 0) (get_or firsts (variable_at args 2) 0) first i (weights (span_in ls us (variable_at args 1))) (weights (span_in ls us (variable_at args 2)))))
+product-pairs Ds firsts counts args first i k =
+    rw (k (variable_at args 1), k (variable_at args 2)) (sym (pairs_grid (get_or firsts (variable_at args 1) 0) (get_or firsts (variable_at args 2) 0) first i (weights (span_in Ds (variable_at args 1))) (weights (span_in Ds (variable_at args 2)))))

@@ -1,38 +1,23 @@
--- Accepted words: the reader's number says so, and the lists of the variables' bits are the row system's.
-use Rattle.std.proofs.Common.{◌≡◌, ap, ◌∙◌, Bool, true, false, List, map, ℕ, ◌≤◌, arith, ltb, ℤ, length, replicate}
-use Rattle.integers.specs.Choice.{◌if◌else◌}
+-- Accepted words: the lists of the variables' bits are the row system's.
+use Rattle.integers.specs.declared.Bounds.{Bounds}
+use Rattle.std.proofs.Common.{◌≡◌, ap, ◌∙◌, List, map, ℕ, ◌≤◌, arith, length, replicate}
 use Rattle.integers.specs.Lists.{list_of}
-use Rattle.words.specs.Fault as Fault
 use Rattle.words.specs.Limit as Limit
 use Rattle.words.specs.Overlay.{overlay}
 use Rattle.words.specs.Variables.{variables}
-use Rattle.words.specs.Refusal.{accepted, first_fault, ◌at_place◌}
-use Rattle.words.proofs.Reading.{read-without}
+use Rattle.words.specs.Refusal.{accepted}
 use Rattle.rowsystems.proofs.Sizes.{few_words}
-use Rattle.rowsystems.specs.Reading.{fault, after, ended, begin, read_rows}
-use Rattle.words.specs.Small.{Small}
-use Rattle.extremes.specs.BoundLists.{bounds_of}
-use Rattle.extremes.proofs.Kept.{lowers_kept, uppers_kept, lowers-small, uppers-small}
+use Rattle.rowsystems.specs.Reading.{read_rows}
+use Rattle.integers.specs.Bounds.{bounds_in}
 use Rattle.bitforms.specs.Encoding.{weights_of, bits_after}
 use Rattle.bitforms.specs.BitRow.{bits_with}
 use Rattle.bitforms.specs.BitForm.{bit_count}
 use Rattle.bitlines.specs.Sizes as Size
-use Rattle.bittables.specs.BitTables.{rows_by, BitCounts, BitTables}
+use Rattle.bittables.specs.BitTables.{rows_by, BitCounts, FewCounts, BitTables}
 use Rattle.bittables.specs.KeptBits.{firsts_from, KeptBits}
-use Rattle.bittables.proofs.Kept.{firsts_kept, counts_kept, kept-variables, kept-few, kept_tables, kept-rows}
+use Rattle.bittables.proofs.Kept.{domains_kept, firsts_kept, counts_kept, kept-variables, kept-few, kept_tables, kept-rows}
 use Rattle.rowsystems.proofs.FewVariables.{few-variables}
 use Rattle.bitform.specs.Answered.{BitsListed}
-
--- ---- the reader
-
-pub accepts : (ws : List ℕ) → (read_rows ws).number ≡ 0 → read_rows ws ≡ accepted
-unfolding read_rows
-accepts ws e = go (ltb Limit.row_words (length ws)) e
-  where
-    go : (t : Bool) → (Fault.too_many_words at_place 0 if t else first_fault fault after ended begin 0 ws).number ≡ 0 →
-        (Fault.too_many_words at_place 0 if t else first_fault fault after ended begin 0 ws) ≡ accepted
-    go true e = absurd (omega arith)
-    go false e = read-without fault after ended begin 0 ws e
 
 -- ---- the lists
 
@@ -40,20 +25,20 @@ module _ (ws : List ℕ) (read : read_rows ws ≡ accepted) where
   pub few : length (variables ws) ≤ 4096
   few = few-variables ws read
 
-  pub start_is : bits_after 0 (list_of (bounds_of (lowers_kept ws 4096) (uppers_kept ws 4096)) (length (variables ws))) ≡ bits_after 0 (variables ws)
+  pub start_is : bits_after 0 (list_of (bounds_in (domains_kept ws)) (length (variables ws))) ≡ bits_after 0 (variables ws)
   start_is = ap (bits_after 0) (kept-variables ws few)
 
-  pub firsts_are : overlay (replicate 4096 0) 0 (firsts_from 0 (list_of (bounds_of (lowers_kept ws 4096) (uppers_kept ws 4096)) (length (variables ws)))) ≡ firsts_kept ws
+  pub firsts_are : overlay (replicate 4096 0) 0 (firsts_from 0 (list_of (bounds_in (domains_kept ws)) (length (variables ws)))) ≡ firsts_kept ws
   firsts_are = ap (λ Bs. overlay (replicate 4096 0) 0 (firsts_from 0 Bs)) (kept-variables ws few)
 
-  pub counts-are : overlay (replicate 4096 0) 0 (map (λ B. length (weights_of B)) (list_of (bounds_of (lowers_kept ws 4096) (uppers_kept ws 4096)) (length (variables ws)))) ≡ counts_kept ws
+  pub counts-are : overlay (replicate 4096 0) 0 (map (λ B. length (weights_of B)) (list_of (bounds_in (domains_kept ws)) (length (variables ws)))) ≡ counts_kept ws
   counts-are = ap (λ Bs. overlay (replicate 4096 0) 0 (map (λ B. length (weights_of B)) Bs)) (kept-variables ws few)
 
-  pub count-is : {n : ℕ} → n ≡ bits_with (bits_after 0 (variables ws)) (rows_by (lowers_kept ws 4096) (uppers_kept ws 4096) (firsts_kept ws) (bits_after 0 (variables ws)) ws) → n ≡ bit_count ws
+  pub count-is : {n : ℕ} → n ≡ bits_with (bits_after 0 (variables ws)) (rows_by (domains_kept ws) (firsts_kept ws) (bits_after 0 (variables ws)) ws) → n ≡ bit_count ws
   unfolding bit_count
   count-is e = e ∙ ap (bits_with (bits_after 0 (variables ws))) (kept-rows ws few)
 
-  pub listed : {n : ℕ} → n ≡ bit_count ws → n ≤ Limit.bits → BitsListed ws (lowers_kept ws 4096) (uppers_kept ws 4096) (firsts_kept ws) (counts_kept ws) (bits_after 0 (variables ws)) n
+  pub listed : {n : ℕ} → n ≡ bit_count ws → n ≤ Limit.bits → BitsListed ws (domains_kept ws) (firsts_kept ws) (counts_kept ws) (bits_after 0 (variables ws)) n
   listed e l = record {
     read = read;
     listed = record { few_words = few_words ws (ap (λ r. r.number) read); tables = kept_tables ws few; near_start = omega (arith, kept-few ws few) };
@@ -64,38 +49,32 @@ module _ (ws : List ℕ) (read : read_rows ws ≡ accepted) where
 
 -- ---- what the parts of the call need of them
 
-pub record Kept (ws : List ℕ) (ls us : List ℤ) (firsts counts : List ℕ) (start : ℕ) : Type 0 where
-  pub lowers : ls ≡ lowers_kept ws 4096
-  pub uppers : us ≡ uppers_kept ws 4096
+pub record Kept (ws : List ℕ) (Ds : List Bounds) (firsts counts : List ℕ) (start : ℕ) : Type 0 where
+  pub bounds : Ds ≡ domains_kept ws
   pub numbers : firsts ≡ firsts_kept ws
   pub sizes : counts ≡ counts_kept ws
   pub begins : start ≡ bits_after 0 (variables ws)
 
-pub bounds-kept : (ws : List ℕ) {ls us : List ℤ} {n : ℕ} → read_rows ws ≡ accepted → ls ≡ lowers_kept ws 4096 → us ≡ uppers_kept ws 4096 → n ≡ length (variables ws) →
-    Small ls × Small us × (n ≤ 4096)
-bounds-kept ws r e f g = (rw e (lowers-small ws 4096 (few ws r)), rw f (uppers-small ws 4096 (few ws r)), rw g (few ws r))
-
-pub all-kept : (ws : List ℕ) {ls us : List ℤ} {firsts counts : List ℕ} {start n : ℕ} → read_rows ws ≡ accepted → ls ≡ lowers_kept ws 4096 → us ≡ uppers_kept ws 4096 → n ≡ length (variables ws) →
-    KeptBits (list_of (bounds_of ls us) n) (replicate 4096 0) (replicate 4096 0) firsts counts start → Kept ws ls us firsts counts start
-all-kept ws r e f g b = record {
-  lowers = e;
-  uppers = f;
-  numbers = rw (e, f, g) at b.numbers ∙ firsts_are ws r;
-  sizes = rw (e, f, g) at b.sizes ∙ counts-are ws r;
-  begins = rw (e, f, g) at b.after ∙ start_is ws r;
+pub all-kept : (ws : List ℕ) {Ds : List Bounds} {firsts counts : List ℕ} {start n : ℕ} → read_rows ws ≡ accepted → Ds ≡ domains_kept ws → n ≡ length (variables ws) →
+    KeptBits (list_of (bounds_in Ds) n) (replicate 4096 0) (replicate 4096 0) firsts counts start → Kept ws Ds firsts counts start
+all-kept ws r e g b = record {
+  bounds = e;
+  numbers = rw (e, g) at b.numbers ∙ firsts_are ws r;
+  sizes = rw (e, g) at b.sizes ∙ counts-are ws r;
+  begins = rw (e, g) at b.after ∙ start_is ws r;
 }
 
-module _ (ws : List ℕ) (r : read_rows ws ≡ accepted) {ls us : List ℤ} {firsts counts : List ℕ} {start : ℕ} (k : Kept ws ls us firsts counts start) where
-  pub tables-kept : BitTables ls us firsts counts
-  tables-kept = rw (k.lowers, k.uppers, k.numbers, k.sizes) (kept_tables ws (few ws r))
+module _ (ws : List ℕ) (r : read_rows ws ≡ accepted) {Ds : List Bounds} {firsts counts : List ℕ} {start : ℕ} (k : Kept ws Ds firsts counts start) where
+  pub tables-kept : BitTables Ds firsts counts
+  tables-kept = rw (k.bounds, k.numbers, k.sizes) (kept_tables ws (few ws r))
 
-  pub counting_needs : (length ws ≤ Limit.row_words) × Small ls × Small us × BitCounts ls us counts × (start ≤ Size.all_variable_bits)
+  pub counting_needs : (length ws ≤ Limit.row_words) × BitCounts Ds counts × FewCounts counts × (start ≤ Size.all_variable_bits)
   counting_needs =
       let t = tables-kept in
-      (few_words ws (ap (λ x. x.number) r), t.lists.near_lower, t.lists.near_upper, t.counted, omega (arith, k.begins, kept-few ws (few ws r)))
+      (few_words ws (ap (λ x. x.number) r), t.counted, t.few, omega (arith, k.begins, kept-few ws (few ws r)))
 
-  pub counted_is : {n : ℕ} → ((fs : List ℕ) → n ≡ bits_with start (rows_by ls us fs start ws)) → n ≡ bit_count ws
-  counted_is h = count-is ws r (rw (k.lowers, k.uppers, k.begins) at (h (firsts_kept ws)))
+  pub counted_is : {n : ℕ} → ((fs : List ℕ) → n ≡ bits_with start (rows_by Ds fs start ws)) → n ≡ bit_count ws
+  counted_is h = count-is ws r (rw (k.bounds, k.begins) at (h (firsts_kept ws)))
 
-  pub listed_kept : {n : ℕ} → n ≡ bit_count ws → n ≤ Limit.bits → BitsListed ws ls us firsts counts start n
-  listed_kept e l = rw (k.lowers, k.uppers, k.numbers, k.sizes, k.begins) (listed ws r e l)
+  pub listed_kept : {n : ℕ} → n ≡ bit_count ws → n ≤ Limit.bits → BitsListed ws Ds firsts counts start n
+  listed_kept e l = rw (k.bounds, k.numbers, k.sizes, k.begins) (listed ws r e l)

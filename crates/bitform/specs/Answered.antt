@@ -1,5 +1,6 @@
 -- What each part of the call owes: the call's answer, and what the output holds afterwards.
-use Rattle.std.specs.Prelude.{◌≡◌, List, ℕ, ◌≤◌, ℤ, length}
+use Rattle.integers.specs.declared.Bounds.{Bounds}
+use Rattle.std.specs.Prelude.{◌≡◌, List, ℕ, ◌≤◌, length}
 use Rattle.words.specs.Limit as Limit
 use Rattle.words.specs.Answer.{Answer}
 use Rattle.words.specs.Refusal.{accepted}
@@ -13,9 +14,9 @@ pub record Answered (ws before after : List ℕ) (answer : Answer) : Type 0 wher
   pub holds : after ≡ bit_formed ws before
 
 -- of accepted words: the lists of the variables' bits, and the number of bits
-pub record BitsListed (ws : List ℕ) (ls us : List ℤ) (firsts counts : List ℕ) (start n : ℕ) : Type 0 where
+pub record BitsListed (ws : List ℕ) (Ds : List Bounds) (firsts counts : List ℕ) (start n : ℕ) : Type 0 where
   pub read : read_rows ws ≡ accepted
-  pub listed : RowTables ws ls us firsts counts start
-  pub rows_are : rows_by ls us firsts start ws ≡ bit_rows_of ws
+  pub listed : RowTables ws Ds firsts counts start
+  pub rows_are : rows_by Ds firsts start ws ≡ bit_rows_of ws
   pub count : n ≡ bit_count ws
   pub few : n ≤ Limit.bits

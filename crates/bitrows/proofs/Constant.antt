@@ -1,21 +1,19 @@
 -- The least sum of a row term by term, and what a row's head says of it, of the constant over bits and of the row's own bits.
-use Rattle.std.proofs.Common.{◌≡◌, refl, ap, ap₂, ◌∙◌, true, false, List, [], ◌∷◌, ℕ, ◌+◌, ◌*◌, add-one, arith, eqb, ℤ, length, length-append, get_or}
-use Rattle.integers.specs.Number.{◌⊕◌, ◌⊗◌, min_z, +0}
+use Rattle.std.proofs.Common.{◌≡◌, refl, ap₂, ◌∙◌, true, false, List, [], ◌∷◌, ℕ, ◌+◌, ◌*◌, add-one, arith, eqb, ℤ, length, length-append}
+use Rattle.integers.specs.Number.{◌⊕◌, ◌⊗◌, +0}
 use Rattle.integers.specs.Lists.{list_of}
 use Rattle.integers.specs.Terms.{Term, sum}
 use Rattle.integers.specs.declared.Bounds.{Bounds}
-use Rattle.integers.proofs.Linear.{linear}
-use Rattle.integers.proofs.Places.{one_more}
+use Rattle.integers.proofs.Places.{one_more, sum_more}
 use Rattle.integers.proofs.Sums.{⊕_assoc, ⊕_zero_comm}
 use Rattle.words.specs.Kind as Kind
 use Rattle.words.specs.Word.{kind}
 use Rattle.rowsystems.specs.Row.{sum≤0, sum=0, product}
 use Rattle.rowsystems.specs.RowSystem.{term_count, terms_in, constant_in, variable_at}
 use Rattle.rowsystems.specs.OneWord.{row_of}
-use Rattle.extremes.specs.BoundLists.{bounds_of}
 use Rattle.bitforms.specs.SumOver.{sum_over}
 use Rattle.bitforms.specs.Weights.{weights}
-use Rattle.bitforms.specs.BitRow.{least_term, least, pairs_with, pairs_of}
+use Rattle.bitforms.specs.BitRow.{least_term, pairs_with, pairs_of}
 use Rattle.bitforms.proofs.Numbers.{with-length}
 use Rattle.bittables.specs.BitTables.{span_in, bits_of}
 use Rattle.bitrows.specs.Terms.{term_in}
@@ -31,17 +29,13 @@ pub least-none : (β : ℕ → Bounds) (args : List ℕ) → +0 ≡ sum_over (le
 unfolding terms_in sum_over list_of
 least-none β args = refl
 
--- at the lower bounds it is the constant over bits
-pub least-lower : (ls : List ℤ) (ts : List (Term ℕ)) (c : ℤ) → least (bounds_of ls ls) ts c ≡ sum (λ v. get_or ls v +0) ts ⊕ c
-unfolding least sum_over least_term sum
-least-lower ls ts c = ap (λ s. s ⊕ c) (go ts)
-  where
-    same : (a : ℤ) → min_z a a ≡ a
-    same = simp linear (omega arith)
+pub lower-none : (σ : ℕ → ℤ) (args : List ℕ) → +0 ≡ sum σ (terms_in args 0)
+unfolding terms_in sum list_of
+lower-none σ args = refl
 
-    go : (ts : List (Term ℕ)) → sum_over (least_term (bounds_of ls ls)) ts ≡ sum (λ v. get_or ls v +0) ts
-    go [] = refl
-    go (t ∷ ts) = ap₂ ◌⊕◌ (same (t.coefficient ⊗ get_or ls t.variable +0)) (go ts)
+pub lower_more : (σ : ℕ → ℤ) (args : List ℕ) (k : ℕ) → sum σ (terms_in args (k + 1)) ≡ sum σ (terms_in args k) ⊕ (term_in args k).coefficient ⊗ σ (term_in args k).variable
+unfolding terms_in
+lower_more σ args k = sum_more σ (term_in args) k
 
 -- ---- by the kind of the head
 
@@ -65,7 +59,7 @@ unfolding pairs_of
 pairs-length first [] gs = omega arith
 pairs-length first (f ∷ fs) gs = omega (arith, length-append (pairs_with first f gs) (pairs_of (first + length gs) fs gs), with-length first f gs, pairs-length (first + length gs) fs gs)
 
-pub own-product : (ls us : List ℤ) (firsts : List ℕ) (first f g : ℕ) →
-    length (pairs_of first (bits_of ls us firsts f) (bits_of ls us firsts g)) ≡ length (weights (span_in ls us f)) * length (weights (span_in ls us g))
+pub own-product : (Ds : List Bounds) (firsts : List ℕ) (first f g : ℕ) →
+    length (pairs_of first (bits_of Ds firsts f) (bits_of Ds firsts g)) ≡ length (weights (span_in Ds f)) * length (weights (span_in Ds g))
 unfolding bits_of
-own-product ls us firsts first f g = pairs-length first _ _ ∙ ap₂ ◌*◌ (length-weighted _ _) (length-weighted _ _)
+own-product Ds firsts first f g = pairs-length first _ _ ∙ ap₂ ◌*◌ (length-weighted _ _) (length-weighted _ _)

@@ -10,10 +10,9 @@ ghost use Rattle.bits.specs.Text.{form_text};
 use bitform::bit_form;
 use encoding::front_words;
 use inputs::read_full;
-use lines::{put_front, put_refusal, put_too_long};
+use lines::{put_answer, put_too_long};
 use std::io;
 use std::io::Write;
-use words::Written;
 
 // The words above which it says 16, and the bytes of one word more.
 const WORDS: usize = 16384;
@@ -37,13 +36,12 @@ fn form_page(bytes: &[u8], page: &mut [u8]) -> usize
     let mut words = [0u32; WORDS];
     let n = front_words(bytes, &mut words);
     let mut out = [0u32; ROOM];
-    match bit_form(&words[..n], &mut out) {
-        Written::Refused(r) => put_refusal(page, r),
-        Written::Words(k) => put_front(page, &out, k),
-    }
+    let answer = bit_form(&words[..n], &mut out);
+    put_answer(page, answer, &out)
 }
 
 // The bytes of 16,385 words are read at most. The promises go from the bytes that read_full filled to the bytes that are handed to write_all.
+// Its lines stay in each program: a function of them, which takes a closure and the clauses that it needs, is no plainer.
 fn main(rt: HostRuntime) -> io::Result<()> {
     let mut bytes = [0u8; BYTES];
     let n = read_full(&mut rt.stdin(), &mut bytes)?;

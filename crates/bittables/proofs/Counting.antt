@@ -1,12 +1,14 @@
 -- How wide a variable is, and how many weights a width has at most.
-use Rattle.std.proofs.Common.{List, ℕ, zero, suc, ◌+◌, ◌*◌, ◌-◌, ◌≤◌, ◌<◌, ◌^◌, pow-suc, mul-le-mul_right, arith, ℤ, length, get_or}
-use Rattle.integers.specs.Number.{◌⊖◌, +0}
+use Rattle.std.proofs.Common.{List, ℕ, zero, suc, ◌+◌, ◌*◌, ◌-◌, ◌≤◌, ◌<◌, ◌^◌, pow-suc, mul-le-mul_right, arith, length}
+use Rattle.integers.specs.Number.{◌⊖◌}
+use Rattle.integers.specs.Bounds.{bounds_in}
+use Rattle.integers.specs.declared.Bounds.{Bounds}
 use Rattle.integers.proofs.Fits.{minus-size}
 use Rattle.integers.proofs.Sums.{count-le}
-use Rattle.words.specs.Small.{Small}
+use Rattle.words.specs.Small.{Near}
 use Rattle.bitforms.specs.Weights.{weights_from, weights}
 use Rattle.bitlines.specs.Sizes as Size
-use Rattle.bittables.specs.BitTables.{span_in, BitCounts}
+use Rattle.bittables.specs.BitTables.{span_in}
 
 one_power : (b : ℕ) → 1 ≤ 2 ^ b
 one_power zero = omega arith
@@ -30,11 +32,6 @@ few-weights w h = few-from 62 w 1 w (omega arith)
 
 -- ---- the width of a variable
 
-pub span_size : (ls us : List ℤ) (v : ℕ) → Small ls → Small us → span_in ls us v ≤ Size.widest
+pub span_size : (Ds : List Bounds) (v : ℕ) → Near (bounds_in Ds v).lower → Near (bounds_in Ds v).upper → span_in Ds v ≤ Size.widest
 unfolding span_in
-span_size ls us v l u = omega (arith, count-le (get_or us v +0 ⊖ get_or ls v +0), minus-size (get_or us v +0) (get_or ls v +0), l v, u v)
-
--- ---- the number of a variable's bits
-
-pub counts-few : (ls us : List ℤ) (counts : List ℕ) → Small ls → Small us → BitCounts ls us counts → (v : ℕ) → get_or counts v 0 ≤ Size.most_weights
-counts-few ls us counts l u k v = omega (arith, k v, few-weights (span_in ls us v) (omega (arith, span_size ls us v l u)))
+span_size Ds v l u = omega (arith, count-le ((bounds_in Ds v).upper ⊖ (bounds_in Ds v).lower), minus-size (bounds_in Ds v).upper (bounds_in Ds v).lower)

@@ -1,5 +1,5 @@
 -- The loop over the variables: the lists and the number of bits, one variable more.
-use Rattle.std.proofs.Common.{◌≡◌, refl, sym, ap, ap₂, ◌∙◌, List, [], ◌∷◌, ◌++◌, map, ℕ, zero, suc, ◌+◌, ◌*◌, ◌≤◌, ◌<◌, zero-add, arith, ℤ, length, set}
+use Rattle.std.proofs.Common.{◌≡◌, refl, sym, ap, ap₂, ◌∙◌, List, [], ◌∷◌, ◌++◌, map, ℕ, zero, suc, ◌+◌, ◌*◌, ◌≤◌, zero-add, arith, length, set}
 use mathlib.Core.List.{map-append}
 use lib.ListN.{length-map}
 use Rattle.integers.specs.Lists.{list_of}
@@ -7,8 +7,8 @@ use Rattle.integers.specs.declared.Bounds.{Bounds}
 use Rattle.integers.proofs.Lists.{list_of-length}
 use Rattle.words.specs.Overlay.{overlay}
 use Rattle.words.proofs.Overlay.{overlay-append}
-use Rattle.words.specs.Small.{Small}
-use Rattle.extremes.specs.BoundLists.{bounds_of}
+use Rattle.words.specs.Small.{Near}
+use Rattle.integers.specs.Bounds.{bounds_in}
 use Rattle.bitforms.specs.Weights.{weights}
 use Rattle.bitforms.specs.Encoding.{weights_of, bits_after}
 use Rattle.bitforms.proofs.Lists.{list-last, list-more}
@@ -44,41 +44,45 @@ set_after out xs x v e = ap (λ n. set (overlay out 0 xs) n x) (sym e ∙ sym (z
 -- ---- how many bits
 
 -- the weights of a variable by the lists
-pub weights-by : (ls us : List ℤ) (v : ℕ) → weights_of (bounds_of ls us v) ≡ weights (span_in ls us v)
+pub weights-by : (Ds : List Bounds) (v : ℕ) → weights_of (bounds_in Ds v) ≡ weights (span_in Ds v)
 unfolding weights_of span_in
-weights-by ls us v = refl
+weights-by Ds v = refl
 
-pub few_bits : (ls us : List ℤ) → Small ls → Small us → (v : ℕ) → bits_in (bounds_of ls us v) ≤ Size.most_weights
-few_bits ls us l u v = rw (weights-by ls us v) (few-weights (span_in ls us v) (omega (arith, span_size ls us v l u)))
+-- of bounds near 0
+abbrev pub AllNear : List Bounds → Type 0
+AllNear Ds = (v : ℕ) → Near (bounds_in Ds v).lower × Near (bounds_in Ds v).upper
 
-pub few-after : (ls us : List ℤ) → Small ls → Small us → (n : ℕ) → bits_after 0 (list_of (bounds_of ls us) n) ≤ Size.most_weights * n
+pub few_bits : (Ds : List Bounds) → AllNear Ds → (v : ℕ) → bits_in (bounds_in Ds v) ≤ Size.most_weights
+few_bits Ds h v = rw (weights-by Ds v) (few-weights (span_in Ds v) (omega (arith, span_size Ds v (h v).0 (h v).1)))
+
+pub few-after : (Ds : List Bounds) → AllNear Ds → (n : ℕ) → bits_after 0 (list_of (bounds_in Ds) n) ≤ Size.most_weights * n
 unfolding list_of bits_after
-few-after ls us l u zero = omega arith
-few-after ls us l u (suc n) =
-    let e = ap (bits_after 0) (list-last (bounds_of ls us) n) ∙ after_more 0 (list_of (bounds_of ls us) n) (bounds_of ls us n) in
-    omega (arith, e, few-after ls us l u n, few_bits ls us l u n)
+few-after Ds h zero = omega arith
+few-after Ds h (suc n) =
+    let e = ap (bits_after 0) (list-last (bounds_in Ds) n) ∙ after_more 0 (list_of (bounds_in Ds) n) (bounds_in Ds n) in
+    omega (arith, e, few-after Ds h n, few_bits Ds h n)
 
 -- ---- the loop
 
-pub record Keeping (ls us : List ℤ) (n : ℕ) (firsts₀ counts₀ firsts counts : List ℕ) (at v : ℕ) : Type 0 where
-  pub place : v ≤ n
-  pub kept : KeptBits (list_of (bounds_of ls us) v) firsts₀ counts₀ firsts counts at
+pub record Keeping (Ds : List Bounds) (firsts₀ counts₀ firsts counts : List ℕ) (at v : ℕ) : Type 0 where
+  pub few : at ≤ Size.most_weights * v
+  pub kept : KeptBits (list_of (bounds_in Ds) v) firsts₀ counts₀ firsts counts at
 
-pub keeping_begun : (ls us : List ℤ) (n : ℕ) (firsts counts : List ℕ) → Keeping ls us n firsts counts firsts counts 0 0
+pub keeping_begun : (Ds : List Bounds) (firsts counts : List ℕ) → Keeping Ds firsts counts firsts counts 0 0
 unfolding list_of bits_after firsts_from overlay
-keeping_begun ls us n firsts counts = record { place = omega arith; kept = record { after = refl; numbers = refl; sizes = refl } }
+keeping_begun Ds firsts counts = record { few = omega arith; kept = record { after = refl; numbers = refl; sizes = refl } }
 
-pub keeping_more : {ls us : List ℤ} {n at v count : ℕ} {firsts₀ counts₀ firsts counts : List ℕ} → v < n → count ≡ length (weights (span_in ls us v)) →
-    Keeping ls us n firsts₀ counts₀ firsts counts at v → Keeping ls us n firsts₀ counts₀ (set firsts v at) (set counts v count) (at + count) (v + 1)
-keeping_more {ls} {us} {n} {at} {v} {count} {firsts₀} {counts₀} {firsts} {counts} l e k =
-    let β = bounds_of ls us in
+pub keeping_more : {Ds : List Bounds} {at v count : ℕ} {firsts₀ counts₀ firsts counts : List ℕ} → count ≡ length (weights (span_in Ds v)) →
+    count ≤ Size.most_weights → Keeping Ds firsts₀ counts₀ firsts counts at v → Keeping Ds firsts₀ counts₀ (set firsts v at) (set counts v count) (at + count) (v + 1)
+keeping_more {Ds} {at} {v} {count} {firsts₀} {counts₀} {firsts} {counts} e l k =
+    let β = bounds_in Ds in
     let Bs = list_of β v in
-    let c : count ≡ bits_in (β v) = e ∙ ap length (sym (weights-by ls us v)) in
+    let c : count ≡ bits_in (β v) = e ∙ ap length (sym (weights-by Ds v)) in
     let m = list-more β v in
     let size = list_of-length β v in
     let b = k.kept in
     record {
-      place = omega arith;
+      few = omega (arith, k.few);
       kept = record {
         after = ap₂ (λ x y. x + y) b.after c ∙ sym (ap (bits_after 0) m ∙ after_more 0 Bs (β v));
         numbers =

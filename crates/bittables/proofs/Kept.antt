@@ -1,5 +1,5 @@
 -- What the lists give, where they had zeros before and no variable is cut: the bits of the row system's variables.
-use Rattle.std.proofs.Common.{◌≡◌, refl, sym, ap, ap₂, ◌∙◌, List, [], ◌∷◌, map, ℕ, zero, suc, ◌+◌, ◌≤◌, arith, ℤ, length, get_or, replicate}
+use Rattle.std.proofs.Common.{◌≡◌, refl, sym, ap, ap₂, ◌∙◌, List, [], ◌∷◌, map, ℕ, zero, suc, ◌+◌, ◌≤◌, arith, length, get_or, replicate}
 use mathlib.Core.Path.{fun_ext}
 use lib.ListN.{length-map}
 use Rattle.integers.specs.Number.{◌⊖◌, count, +0}
@@ -10,8 +10,9 @@ use Rattle.integers.proofs.Places.{bounds-listed}
 use Rattle.words.specs.Overlay.{overlay}
 use Rattle.words.specs.Variables.{variables}
 use Rattle.rowsystems.specs.RowSystem.{rows}
-use Rattle.extremes.specs.BoundLists.{bounds_of}
-use Rattle.extremes.proofs.Kept.{over_zeros, lowers_kept, uppers_kept, kept-bounds, lowers-small, uppers-small}
+use Rattle.integers.specs.Bounds.{bounds_in}
+use Rattle.extremes.proofs.Kept.{over_zeros, kept-bounds}
+use Rattle.variables.proofs.Small.{bounds-near}
 use Rattle.bitforms.specs.Weights.{weights_from, weights}
 use Rattle.bitforms.specs.OverBits.{OverBits, weighted_bits}
 use Rattle.bitforms.specs.Encoding.{weights_of, encodings, bits_after}
@@ -20,7 +21,7 @@ use Rattle.bitforms.specs.BitForm.{encoding, bit_rows_of}
 use Rattle.bitforms.proofs.Numbers.{encoding_in, after-grows}
 use Rattle.bittables.specs.BitTables.{span_in, bits_of, encoding_by, rows_by, BitTables}
 use Rattle.bittables.specs.KeptBits.{firsts_from}
-use Rattle.bittables.proofs.Keeping.{bits_in, firsts_length, weights-by, few-after}
+use Rattle.bittables.proofs.Keeping.{bits_in, firsts_length, weights-by, few_bits, few-after}
 
 -- ---- variable by variable, 0 past the last one
 
@@ -56,50 +57,48 @@ firsts_kept ws = overlay (replicate 4096 0) 0 (firsts_from 0 (variables ws))
 abbrev pub counts_kept : List ℕ → List ℕ
 counts_kept ws = overlay (replicate 4096 0) 0 (map (λ B. length (weights_of B)) (variables ws))
 
+abbrev pub domains_kept : List ℕ → List Bounds
+domains_kept ws = overlay (replicate 4096 (+0 to +0)) 0 (variables ws)
+
 module _ (ws : List ℕ) (few : length (variables ws) ≤ 4096) where
-  abbrev ls : List ℤ
-  ls = lowers_kept ws 4096
+  same-bounds : bounds_in (domains_kept ws) ≡ bounds_in (variables ws)
+  same-bounds = kept-bounds ws 4096 few
 
-  abbrev us : List ℤ
-  us = uppers_kept ws 4096
-
-  -- the bounds of the lists are the variables
-  pub kept-variables : list_of (bounds_of (lowers_kept ws 4096) (uppers_kept ws 4096)) (length (variables ws)) ≡ variables ws
-  kept-variables = ap (λ β. list_of β (length (variables ws))) (kept-bounds ws 4096 few) ∙ bounds-listed (variables ws)
+  -- the bounds of the list are the variables
+  pub kept-variables : list_of (bounds_in (domains_kept ws)) (length (variables ws)) ≡ variables ws
+  kept-variables = ap (λ β. list_of β (length (variables ws))) same-bounds ∙ bounds-listed (variables ws)
 
   pub kept-few : bits_after 0 (variables ws) ≤ 253952
-  kept-few = rw kept-variables at (bounded (length (variables ws)) few)
+  kept-few = rw (bounds-listed (variables ws)) at (bounded (length (variables ws)) few)
     where
-      bounded : (n : ℕ) → n ≤ 4096 → bits_after 0 (list_of (bounds_of ls us) n) ≤ 253952
-      bounded n l = omega (arith, few-after ls us (lowers-small ws 4096 few) (uppers-small ws 4096 few) n)
+      bounded : (n : ℕ) → n ≤ 4096 → bits_after 0 (list_of (bounds_in (variables ws)) n) ≤ 253952
+      bounded n l = omega (arith, few-after (variables ws) (bounds-near ws) n)
 
   first-kept : (v : ℕ) → get_or (firsts_kept ws) v 0 ≡ get_or (firsts_from 0 (variables ws)) v 0
   first-kept v = over_zeros 0 4096 (firsts_from 0 (variables ws)) (omega (arith, firsts_length 0 (variables ws))) v
 
-  weights-kept : (v : ℕ) → weights_of (bounds_in (variables ws) v) ≡ weights (span_in ls us v)
-  weights-kept v = ap (λ β. weights_of (β v)) (sym (kept-bounds ws 4096 few)) ∙ weights-by ls us v
+  count-kept : (v : ℕ) → get_or (counts_kept ws) v 0 ≡ bits_in (bounds_in (variables ws) v)
+  count-kept v = over_zeros 0 4096 (map bits_in (variables ws)) (omega (arith, length-map (variables ws) bits_in)) v ∙ counts-at (variables ws) v
 
-  pub kept_tables : BitTables (lowers_kept ws 4096) (uppers_kept ws 4096) (firsts_kept ws) (counts_kept ws)
+  weights-kept : (v : ℕ) → weights_of (bounds_in (variables ws) v) ≡ weights (span_in (domains_kept ws) v)
+  weights-kept v = ap (λ β. weights_of (β v)) (sym same-bounds) ∙ weights-by (domains_kept ws) v
+
+  pub kept_tables : BitTables (domains_kept ws) (firsts_kept ws) (counts_kept ws)
   kept_tables = record {
-    lists = record {
-      near_lower = lowers-small ws 4096 few;
-      near_upper = uppers-small ws 4096 few;
-      near_first = λ v. rw (first-kept v) (omega (arith, firsts_at 0 (variables ws) v, kept-few));
-    };
-    counted = λ v.
-        over_zeros 0 4096 (map bits_in (variables ws)) (omega (arith, length-map (variables ws) bits_in)) v
-        ∙ counts-at (variables ws) v ∙ ap length (weights-kept v);
+    near_first = λ v. rw (first-kept v) (omega (arith, firsts_at 0 (variables ws) v, kept-few));
+    few = λ v. rw (count-kept v) (few_bits (variables ws) (bounds-near ws) v);
+    counted = λ v. count-kept v ∙ ap length (weights-kept v);
   }
 
-  pub kept-encoding : encoding_by (lowers_kept ws 4096) (uppers_kept ws 4096) (firsts_kept ws) ≡ encoding ws
+  pub kept-encoding : encoding_by (domains_kept ws) (firsts_kept ws) ≡ encoding ws
   unfolding encoding bits_of
   kept-encoding = fun_ext (λ v. sym (encodings-at 0 (variables ws) v ∙ same v))
     where
       same : (v : ℕ) → ◌≡◌ {A = OverBits} (record { constant = (bounds_in (variables ws) v).lower; terms = weighted_bits (get_or (firsts_from 0 (variables ws)) v 0) (weights_of (bounds_in (variables ws) v)) })
-          (encoding_by ls us (firsts_kept ws) v)
-      same v = rw (weights-kept v, first-kept v) (ap (λ β. record { constant = (β v).lower; terms = weighted_bits (get_or (firsts_from 0 (variables ws)) v 0) (weights (span_in ls us v)) }) (sym (kept-bounds ws 4096 few)))
+          (encoding_by (domains_kept ws) (firsts_kept ws) v)
+      same v = rw (weights-kept v, first-kept v) (ap (λ β. record { constant = (β v).lower; terms = weighted_bits (get_or (firsts_from 0 (variables ws)) v 0) (weights (span_in (domains_kept ws) v)) }) (sym same-bounds))
 
   -- and the rows over bits by them are the row system's
-  pub kept-rows : rows_by (lowers_kept ws 4096) (uppers_kept ws 4096) (firsts_kept ws) (bits_after 0 (variables ws)) ws ≡ bit_rows_of ws
+  pub kept-rows : rows_by (domains_kept ws) (firsts_kept ws) (bits_after 0 (variables ws)) ws ≡ bit_rows_of ws
   unfolding bit_rows_of
-  kept-rows = ap₂ (λ β E. bit_rows β E (bits_after 0 (variables ws)) (rows ws)) (kept-bounds ws 4096 few) kept-encoding
+  kept-rows = ap₂ (λ β E. bit_rows β E (bits_after 0 (variables ws)) (rows ws)) same-bounds kept-encoding

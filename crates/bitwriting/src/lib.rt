@@ -17,7 +17,9 @@ use bitfilling::{add_row, clear, holds_bit};
 use bitlines::{coefficient_at, put_line};
 use bitrows::own_bits;
 use rowreading::rows::starts_row;
+use words::domain::Domain;
 use words::in_range;
+use words::word::Word;
 
 // Whether all entries are in the range, and then the place after the words.
 #[derive(Drop)]
@@ -30,24 +32,23 @@ pub struct Lines {
 fn add_to_line(
     line: &mut [i64],
     row: &mut [i64],
-    head: u32,
+    head: Word,
     args: &[u32],
-    ls: &[i64],
-    us: &[i64],
+    domains: &[Domain],
     firsts: &[usize],
     counts: &[usize],
     first: usize,
     i: usize,
     m: usize,
 ) -> usize
-    requires bit_tables { BitTables ls.now us.now firsts.now counts.now × (first < Size.farthest) × LineAndRow (i + m) line.old row.old × (peak line.old < Size.sums) }
-    requires fits { row_fits (i + m) (row_by ls.now us.now firsts.now first head args.now) ≡ true }
-    ensures added { Added (row_by ls.now us.now firsts.now first head args.now) i line.old line.new }
-    ensures next { (result ≡ first + (row_by ls.now us.now firsts.now first head args.now).own) × (result ≤ first + Size.own_bits) }
+    requires bit_tables { BitTables domains.now firsts.now counts.now × (first < Size.farthest) × LineAndRow (i + m) line.old row.old × (peak line.old < Size.sums) }
+    requires fits { row_fits (i + m) (row_by domains.now firsts.now first head args.now) ≡ true }
+    ensures added { Added (row_by domains.now firsts.now first head args.now) i line.old line.new }
+    ensures next { (result ≡ first + (row_by domains.now firsts.now first head args.now).own) × (result ≤ first + Size.own_bits) }
 {
-    let own = own_bits(head, args, ls, us, counts);
+    let own = own_bits(head, args, domains, counts);
     if holds_bit(head, args, firsts, counts, first, own, i) {
-        add_row(line, row, head, args, ls, us, firsts, counts, first, i, m);
+        add_row(line, row, head, args, domains, firsts, counts, first, i, m);
         return first + own;
     }
     first + own
@@ -58,16 +59,15 @@ fn fill_line(
     line: &mut [i64],
     row: &mut [i64],
     ws: &[u32],
-    ls: &[i64],
-    us: &[i64],
+    domains: &[Domain],
     firsts: &[usize],
     counts: &[usize],
     start: usize,
     i: usize,
     m: usize,
 )
-    requires { Fitting ws.now ls.now us.now firsts.now counts.now start (i + m) × LineAndRow (i + m) line.old row.old }
-    ensures { LineOf (rows_by ls.now us.now firsts.now start ws.now) i line.new }
+    requires { Fitting ws.now domains.now firsts.now counts.now start (i + m) × LineAndRow (i + m) line.old row.old }
+    ensures { LineOf (rows_by domains.now firsts.now start ws.now) i line.new }
 {
     clear(line);
     let mut first = start;
@@ -79,10 +79,9 @@ fn fill_line(
             first = add_to_line(
                 line,
                 row,
-                head,
+                Word::from(head),
                 &ws[at..],
-                ls,
-                us,
+                domains,
                 firsts,
                 counts,
                 first,
@@ -98,12 +97,10 @@ fn entries_fit(line: &[i64], i: usize, m: usize) -> bool
     requires { i + m ≤ Limit.bits }
     ensures { result ≡ all_in_range (line_entries (λ j. get_or line.now j +0) i m) }
 {
-    let mut d = 0;
-    while d < m {
+    for d in 0..m {
         if !in_range(coefficient_at(line, i + d)) {
             return false;
         }
-        d += 1;
     }
     true
 }
@@ -115,18 +112,17 @@ fn put_one(
     line: &mut [i64],
     row: &mut [i64],
     ws: &[u32],
-    ls: &[i64],
-    us: &[i64],
+    domains: &[Domain],
     firsts: &[usize],
     counts: &[usize],
     start: usize,
     i: usize,
     m: usize,
 ) -> Lines
-    requires { Fitting ws.now ls.now us.now firsts.now counts.now start (i + m) × LineAndRow (i + m) line.old row.old × (at + 3 * m < Size.farthest) }
-    ensures { EntriesPut (line_entries (entry_by ls.now us.now firsts.now start ws.now i) i m) out.old at out.new result.fits result.at }
+    requires { Fitting ws.now domains.now firsts.now counts.now start (i + m) × LineAndRow (i + m) line.old row.old × (at + 3 * m < Size.farthest) }
+    ensures { EntriesPut (line_entries (entry_by domains.now firsts.now start ws.now i) i m) out.old at out.new result.fits result.at }
 {
-    fill_line(line, row, ws, ls, us, firsts, counts, start, i, m);
+    fill_line(line, row, ws, domains, firsts, counts, start, i, m);
     if !entries_fit(line, i, m) {
         return Lines { fits: false, at };
     }
@@ -145,26 +141,23 @@ pub fn put_lines(
     line: &mut [i64],
     row: &mut [i64],
     ws: &[u32],
-    ls: &[i64],
-    us: &[i64],
+    domains: &[Domain],
     firsts: &[usize],
     counts: &[usize],
     start: usize,
 ) -> Lines
-    requires { Fitting ws.now ls.now us.now firsts.now counts.now start n × LineAndRow n line.old row.old × (at ≤ 1) }
-    ensures { EntriesPut (entries_from (entry_by ls.now us.now firsts.now start ws.now) 0 n) out.old at out.new result.fits result.at }
+    requires { Fitting ws.now domains.now firsts.now counts.now start n × LineAndRow n line.old row.old × (at ≤ 1) }
+    ensures { EntriesPut (entries_from (entry_by domains.now firsts.now start ws.now) 0 n) out.old at out.new result.fits result.at }
 {
     let mut to = at;
-    let mut i = 0;
-    while i < n {
+    for i in 0..n {
         let put = put_one(
             out,
             to,
             line,
             row,
             ws,
-            ls,
-            us,
+            domains,
             firsts,
             counts,
             start,
@@ -175,7 +168,6 @@ pub fn put_lines(
             return put;
         }
         to = put.at;
-        i += 1;
     }
     Lines { fits: true, at: to }
 }

@@ -1,15 +1,16 @@
 -- One constraint: what its block counts that was laid from nothing, its width, whose rule its block is, and that its place plays no part.
-use Rattle.std.proofs.Common.{◌≡◌, refl, ap, ◌∙◌, Bool, true, false, ◌&&◌, ◌||◌, List, [], ◌∷◌, ℕ, zero, suc, ◌≤◌, arith, ltb, eqb, length, ltb-false, eqb-true, ne_eqb}
-use native.Mathlib.Decide.{dec_le}
+use Rattle.std.proofs.Common.{◌≡◌, refl, sym, ap, ◌∙◌, Bool, true, false, ◌&&◌, ◌||◌, List, [], ◌∷◌, ℕ, ◌≤◌, arith, ltb, eqb, length, ltb-false, eqb-true, ne_eqb}
 use Rattle.integers.specs.Choice.{◌if◌else◌}
 use Rattle.integers.specs.Lists.{any}
 use Rattle.integers.specs.Bounds.{width}
 use Rattle.integers.specs.declared.Bounds.{Bounds}
 use Rattle.integers.proofs.Booleans.{or-false, or-true}
 use Rattle.models.specs.Model.{Constraint, var, builtin}
-use Rattle.models.specs.Table as Table
 use Rattle.builtins.specs.Coded.{builtin_of}
-use Rattle.builtins.proofs.Coded.{None}
+use Rattle.arguments.proofs.Unknown.{Unknown}
+use Rattle.models.specs.Codes.{code_number}
+use Rattle.models.specs.declared.code.Code.{Code}
+use Rattle.models.specs.declared.code.Code.TheVariants as C
 use Rattle.rules.specs.Block.{Block, block_words}
 use Rattle.rules.specs.InRange.{outside}
 use Rattle.rules.specs.Rule.{rule}
@@ -17,10 +18,12 @@ use Rattle.rules.specs.Shared.{Encoded, choice, shared_rule, rule_after}
 use Rattle.rules.specs.Translation.{block_of}
 use Rattle.rules.specs.Check.{too_wide}
 use Rattle.laying.specs.Part.{Part, block_parts}
-use Rattle.laying.specs.Appends.{some_outside, Appends, AppendsFitting, GrowsBy, nothing}
+use Rattle.laying.specs.Appends.{some_outside, AppendsFitting, nothing}
+use Rattle.laying.specs.Writes.{Writes, WritesFitting}
+use Rattle.laying.specs.declared.Writer.{Writer}
 use Rattle.laying.specs.Sizes.{block_size}
 use Rattle.laying.specs.declared.Laid.{Laid}
-use Rattle.laying.proofs.Alike.{went-fitting}
+use Rattle.laying.proofs.Written.{wrote-most, wrote-fitting}
 use Rattle.laying.proofs.Blocks.{words_in-block_parts, block-auxiliaries, block-rows, block-outside}
 use Rattle.encodings.specs.Uses.{choice_of, choosing}
 use Rattle.encodings.proofs.Record.{encodes-by, shares-by}
@@ -42,17 +45,12 @@ told {first} {B} w = record {
   outside-is = w.counted.outside ∙ block-outside first B;
 }
 
--- what is laid, as the contract has it; the same after nothing
-pub fitted : {s r : Laid} {o o' : List ℕ} {ps : List Part} {n : ℕ} → Appends s r o o' ps × GrowsBy n s r → n ≤ block_size → AppendsFitting s r o o' ps × GrowsBy block_size s r
-fitted w h = (went-fitting w.0, omega (arith, w.1))
+-- a part of a block's words, as the contract of a block has it
+pub fitted : {s r : Writer} {ps : List Part} {n : ℕ} → Writes n s r ps → n ≤ block_size → WritesFitting block_size s r ps
+fitted w h = wrote-fitting (wrote-most h w)
 
-pub from : {s r : Laid} {o o' : List ℕ} {ps : List Part} → s ≡ nothing → AppendsFitting s r o o' ps × GrowsBy block_size s r → AppendsFitting nothing r o o' ps × GrowsBy block_size nothing r
-from e w = rw e at w
-
--- of a block whose parts hold where the bounds of its sum are given
-pub summed-fits : {s r : Laid} {o o' : List ℕ} {Given : (ℕ → Bounds) → Type 0} {ps : (ℕ → Bounds) → List Part} (β : ℕ → Bounds) → s ≡ nothing →
-    ((γ : ℕ → Bounds) → Given γ → Appends s r o o' (ps γ)) × GrowsBy block_size s r → Given β → AppendsFitting nothing r o o' (ps β) × GrowsBy block_size nothing r
-summed-fits β e w h = from e (fitted (w.0 β h, w.1) (omega arith))
+pub most : {s r : Writer} {ps : List Part} {n : ℕ} → WritesFitting n s r ps → n ≤ block_size → WritesFitting block_size s r ps
+most w h = record { parts = w.parts; size = omega (arith, w.size, h); list = w.list }
 
 -- ---- fault 12
 
@@ -109,21 +107,13 @@ pub fourth : (code : ℕ) → choosing code ≡ true → (code ≡ 24 → ⊥) �
 unfolding choosing
 fourth code h a b d = eqb-true code 28 (rw (ne_eqb code 24 a, ne_eqb code 25 b, ne_eqb code 27 d) at h)
 
--- a code that is none
-not-one : (n code : ℕ) → None n code → (k : ℕ) → 1 ≤ k → k ≤ n → code ≡ k → ⊥
-not-one zero code h k l u z = omega (arith, l, u)
-not-one (suc n) code h k l u z = last_or_before (not-one n code h.0 k l) (dec_le k n)
-  where
-    last_or_before : (k ≤ n → code ≡ k → ⊥) → Dec (k ≤ n) → ⊥
-    last_or_before f (yes q) = f q z
-    last_or_before f (no q) = h.1 (omega (arith, z, u, q))
-
-pub none-choosing : (code : ℕ) → None Table.last code → choosing code ≡ false
+-- a number that no code has
+pub none-choosing : (code : ℕ) → Unknown code → choosing code ≡ false
 unfolding choosing
-none-choosing code h = rw (differs 24 (omega arith) (omega arith), differs 25 (omega arith) (omega arith), differs 27 (omega arith) (omega arith), differs 28 (omega arith) (omega arith))
+none-choosing code h = rw (differs C.ArrayIntElement, differs C.ArrayVarIntElement, differs C.SetIn, differs C.SetInReif)
   where
-    differs : (k : ℕ) → 1 ≤ k → k ≤ Table.last → eqb code k ≡ false
-    differs k l u = ne_eqb code k (λ z. not-one Table.last code h k l u z)
+    differs : (d : Code) → eqb code (code_number d) ≡ false
+    differs d = ne_eqb code (code_number d) (λ z. h d (sym z))
 
 -- ---- the constraint of a code and the words after its head
 

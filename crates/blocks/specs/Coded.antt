@@ -1,17 +1,15 @@
 -- The constraint of a code and the words after its head, and whether it has an auxiliary for each value of its first argument.
-use Rattle.std.specs.Prelude.{◌≡◌, Bool, false, ◌&&◌, ◌||◌, List, ℕ, ◌≤◌, eqb, ℤ}
+use Rattle.std.specs.Prelude.{◌≡◌, Bool, false, ◌&&◌, ◌||◌, List, ℕ, ◌≤◌, eqb}
 use Rattle.integers.specs.Bounds.{width}
 use Rattle.models.specs.Model.{Constraint, var}
 use Rattle.rules.specs.Block.{Block}
 use Rattle.rules.specs.Shared.{Encoded}
 use Rattle.rules.specs.Translation.{block_of}
 use Rattle.rules.specs.Check.{too_wide}
-use Rattle.extremes.specs.BoundLists.{bounds_of}
 use Rattle.encodings.specs.Uses.{choosing, shared_by}
 use Rattle.laying.specs.Part.{block_parts}
 use Rattle.laying.specs.Appends.{AppendsFitting}
 use Rattle.laying.specs.declared.Laid.{Laid}
-use Rattle.linearsums.specs.Sum.{Summed}
 use Rattle.integers.specs.declared.Bounds.{Bounds}
 use Rattle.words.specs.Limit as Limit
 
@@ -24,20 +22,16 @@ unfoldable pub has_all : (ℕ → Bool) → ℕ → List ℕ → Bool
 has_all s code ws = choosing code && (eqb code 28 || s (var ws 0))
 
 -- the block of a constraint, given the bounds, the counted uses and the record of encoded variables
-abbrev pub block_at : List ℤ → List ℤ → List ℕ → Encoded → ℕ → List ℕ → Block
-block_at ls us uses e code args = block_of (bounds_of ls us) (shared_by uses) e (constraint_of code args)
+abbrev pub block_at : (ℕ → Bounds) → List ℕ → Encoded → ℕ → List ℕ → Block
+block_at β uses e code args = block_of β (shared_by uses) e (constraint_of code args)
 
 -- fault 12 is not that of the constraint
-abbrev pub Narrow : List ℤ → List ℤ → List ℕ → ℕ → List ℕ → Type 0
-Narrow ls us uses code args = too_wide (bounds_of ls us) (shared_by uses) (constraint_of code args) ≡ false
+abbrev pub Narrow : (ℕ → Bounds) → List ℕ → ℕ → List ℕ → Type 0
+Narrow β uses code args = too_wide β (shared_by uses) (constraint_of code args) ≡ false
 
 -- what that leaves for the own rule of 28, which has an auxiliary for each value
-abbrev pub ReifiedNarrow : List ℤ → List ℤ → ℕ → List ℕ → Type 0
-ReifiedNarrow ls us code args = code ≡ 28 → width (bounds_of ls us (var args 0)) ≤ Limit.set_bits
-
--- the sum of the constraint has these bounds
-abbrev pub SummedIn : List ℤ → List ℤ → ℕ → List ℕ → Bounds → Type 0
-SummedIn ls us code args sum = Summed (bounds_of ls us) code args sum
+abbrev pub ReifiedNarrow : (ℕ → Bounds) → ℕ → List ℕ → Type 0
+ReifiedNarrow β code args = code ≡ 28 → width (β (var args 0)) ≤ Limit.set_bits
 
 -- a block went over a list
 abbrev pub Lays : Block → ℕ → Laid → Laid → List ℕ → List ℕ → Type 0

@@ -1,51 +1,50 @@
--- An element of the list at place 1, by the place that `index_in` gives.
-use Rattle.std.proofs.Common.{◌≡◌, refl, Bool, true, false, ◌&&◌, List, ℕ, ◌+◌, ◌-◌, ◌<◌, ◌≤◌, arith, leb, ℤ, pos, negsuc, length, get_or, leb-true, le-leb}
-use borrow.Author.Tests.{lt-leb}
+-- An element of the list at place 1, by the place that `index_in` gives; tests of a list that is a map of another.
+use Rattle.std.proofs.Common.{◌≡◌, refl, Bool, true, false, ◌&&◌, List, ℕ, ◌+◌, ◌-◌, ◌<◌, arith, leb, ℤ, pos, negsuc, length, get_or, leb-true, Some, None}
 use Rattle.integers.specs.Choice.{◌if◌else◌}
 use Rattle.integers.specs.Number.{◌≟◌, count, +0}
 use Rattle.integers.specs.Lists.{list_of}
-use Rattle.integers.proofs.Tests.{capped}
 use Rattle.integers.proofs.Lists.{list_of-length}
-use Rattle.integers.proofs.Places.{get_or-list_of}
+use Rattle.integers.proofs.Places.{get_or-list_of, any-map, all_map}
 use Rattle.models.specs.Meaning.{element}
 use Rattle.builtins.specs.Coded.{index_in}
 
-pub index-le : (n : ℕ) (z : ℤ) → index_in n z ≤ n
-unfolding index_in
-index-le n z = capped (count z) n 0 (omega arith)
+pub ruleset mapped = (any-map, all_map)
 
-module _ (g : ℕ → ℤ) (n : ℕ) (c z : ℤ) (r : ℕ) (at : r ≡ index_in n z) where
+module _ (g : ℕ → ℤ) (n : ℕ) (z : ℤ) (c : ℤ) where
   abbrev list : List ℤ
   list = list_of (λ k. g (1 + 1 + k)) n
 
-  tests : ℕ → Bool
-  tests i = leb 1 i && leb i (length list) && (get_or list (i - 1) +0 ≟ c)
+  -- the element's test, with the two tests of its place taken out
+  tests : Bool → Bool → Bool
+  tests a b = a && b && (get_or list (count z - 1) +0 ≟ c)
 
-  by_count : element z list c ≡ tests (count z)
+  by_count : element z list c ≡ tests (leb 1 (count z)) (leb (count z) n)
   unfolding element count tests
-  by_count = go z
+  by_count = rw (go z, list_of-length) refl
     where
-      go : (z : ℤ) → element z list c ≡ tests (count z)
+      go : (z : ℤ) → element z list c ≡ (leb 1 (count z) && leb (count z) (length list) && (get_or list (count z - 1) +0 ≟ c))
       go (pos i) = refl
       go (negsuc i) = refl
 
   -- where the list has such a place, and where it has none
-  pub inside : 1 ≤ r → (g (1 + r) ≟ c) ≡ element z list c
+  pub inside : (k : ℕ) → index_in n z ≡ Some k → (g (1 + k) ≟ c) ≡ element z list c
   unfolding index_in tests
-  inside h = rw by_count (go (leb (count z) n) refl at)
+  inside k h = rw by_count (go (leb 1 (count z)) (leb (count z) n) refl refl h)
     where
-      go : (b : Bool) → leb (count z) n ≡ b → r ≡ (count z if b else 0) → (g (1 + r) ≟ c) ≡ tests (count z)
-      go true e f =
-          let k : count z - 1 < n = omega (arith, leb-true (count z) n e) in
-          let p : 1 + 1 + (count z - 1) ≡ 1 + r = omega arith in
-          rw (le-leb 1 (count z) (omega arith), list_of-length, e, get_or-list_of, p)
-      go false e f = absurd (omega arith)
+      go : (a b : Bool) → leb 1 (count z) ≡ a → leb (count z) n ≡ b → (Some (count z) if a && b else None) ≡ Some k → (g (1 + k) ≟ c) ≡ tests a b
+      go true true d e f =
+          let i : count z ≡ k = cc in
+          let l : count z - 1 < n = omega (arith, leb-true (count z) n e, leb-true 1 (count z) d) in
+          let p : 1 + 1 + (count z - 1) ≡ 1 + k = omega (arith, leb-true 1 (count z) d) in
+          rw (get_or-list_of, p)
+      go true false d e f = cc
+      go false b d e f = cc
 
-  pub outside : r < 1 → false ≡ element z list c
+  pub outside : index_in n z ≡ None → false ≡ element z list c
   unfolding index_in tests
-  outside h = rw by_count (go (leb (count z) n) (leb 1 (count z)) refl refl at)
+  outside h = rw by_count (go (leb 1 (count z)) (leb (count z) n) h)
     where
-      go : (b a : Bool) → leb (count z) n ≡ b → leb 1 (count z) ≡ a → r ≡ (count z if b else 0) → false ≡ tests (count z)
-      go true a e d f = rw (lt-leb 1 (count z) (omega arith))
-      go false true e d f = rw (d, list_of-length, e)
-      go false false e d f = rw d
+      go : (a b : Bool) → (Some (count z) if a && b else None) ≡ None → false ≡ tests a b
+      go true true f = cc
+      go true false f = refl
+      go false b f = refl

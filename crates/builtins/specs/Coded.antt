@@ -1,5 +1,5 @@
 -- The builtin of a code and the words after the head of a constraint, and short names for how a builtin takes its arguments from them.
-use Rattle.std.specs.Prelude.{List, ℕ, ◌+◌, leb, ℤ, pos}
+use Rattle.std.specs.Prelude.{◌&&◌, List, ℕ, ◌+◌, leb, ℤ, pos, Option, Some, None}
 use Rattle.integers.specs.Choice.{◌if◌else◌}
 use Rattle.integers.specs.Number.{count}
 use Rattle.integers.specs.Terms.{Term}
@@ -27,6 +27,6 @@ linear_reified B ws = B (terms ws 0) (num ws (past_terms ws 0)) (var ws (past_te
 abbrev pub far : ℤ
 far = pos 268435456
 
--- a number as a place in a list of n elements, counted from 1; 0 where the list has no such place
-unfoldable pub index_in : ℕ → ℤ → ℕ
-index_in n z = count z if leb (count z) n else 0
+-- a number as a place in a list of n elements, counted from 1, where the list has such a place
+unfoldable pub index_in : ℕ → ℤ → Option ℕ
+index_in n z = Some (count z) if leb 1 (count z) && leb (count z) n else None

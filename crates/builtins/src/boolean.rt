@@ -8,32 +8,25 @@ ghost use Rattle.models.specs.Meaning.{meaning};
 ghost use Rattle.builtins.specs.Coded.{three};
 
 use crate::compare;
-use arguments::is_on;
-use integers::test::{agree, both, either};
+use arguments::instance::Instance;
 
 // Whether bool_and is true.
-pub fn bool_and(args: &[u32], values: &[i32]) -> bool
-    ensures { result ≡ meaning (value values.now) (three bool_and args.now) }
+pub fn bool_and(instance: &Instance) -> bool
+    ensures { result ≡ meaning (value instance.now.values.now) (three bool_and instance.now.args.now) }
 {
-    agree(
-        is_on(args, 2, values),
-        both(is_on(args, 0, values), is_on(args, 1, values)),
-    )
+    instance.is_on(2) == (instance.is_on(0) && instance.is_on(1))
 }
 
 // Whether bool_or is true.
-pub fn bool_or(args: &[u32], values: &[i32]) -> bool
-    ensures { result ≡ meaning (value values.now) (three bool_or args.now) }
+pub fn bool_or(instance: &Instance) -> bool
+    ensures { result ≡ meaning (value instance.now.values.now) (three bool_or instance.now.args.now) }
 {
-    agree(
-        is_on(args, 2, values),
-        either(is_on(args, 0, values), is_on(args, 1, values)),
-    )
+    instance.is_on(2) == (instance.is_on(0) || instance.is_on(1))
 }
 
 // Whether bool_xor is true.
-pub fn bool_xor(args: &[u32], values: &[i32]) -> bool
-    ensures { result ≡ meaning (value values.now) (three bool_xor args.now) }
+pub fn bool_xor(instance: &Instance) -> bool
+    ensures { result ≡ meaning (value instance.now.values.now) (three bool_xor instance.now.args.now) }
 {
-    agree(is_on(args, 2, values), !compare::int_eq(args, values))
+    instance.is_on(2) != compare::int_eq(instance)
 }

@@ -1,38 +1,34 @@
 // Codes 21 to 23: lists of Boolean variables.
+#![tactic(auto, unfolding(models::specs::Meaning::meaning))]
+
 ghost use Rattle.std.specs.Prelude.{◌≡◌};
 ghost use Rattle.integers.specs.Terms.{value};
 ghost use Rattle.models.specs.Builtin.{bool_clause, array_bool_and, array_bool_xor};
 ghost use Rattle.models.specs.Model.{var, vars, past};
 ghost use Rattle.models.specs.Meaning.{meaning};
 
-use arguments::{all_on, any_equal, how_many, is_on, past_at};
-use integers::test::{agree, either};
+use arguments::instance::Instance;
+use arguments::past_at;
 
 // Whether bool_clause is true.
-pub fn bool_clause(args: &[u32], values: &[i32]) -> bool
-    ensures { result ≡ meaning (value values.now) (bool_clause (vars args.now 0) (vars args.now (past args.now 0))) }
+#[tactic(auto, unfolding(models::specs::Meaning::meaning, models::specs::Meaning::on, models::specs::Meaning::off))]
+pub fn bool_clause(instance: &Instance) -> bool
+    ensures { let ws = instance.now.args.now in result ≡ meaning (value instance.now.values.now) (bool_clause (vars ws 0) (vars ws (past ws 0))) }
 {
-    either(
-        any_equal(args, 0, 1, values),
-        any_equal(args, past_at(args, 0), 0, values),
-    )
+    instance.any_equal(0, 1) || instance.any_equal(past_at(instance.args, 0), 0)
 }
 
 // Whether array_bool_and is true.
-#[tactic(auto, unfolding(models::specs::Meaning::meaning))]
-pub fn array_bool_and(args: &[u32], values: &[i32]) -> bool
-    ensures { result ≡ meaning (value values.now) (array_bool_and (vars args.now 0) (var args.now (past args.now 0))) }
+pub fn array_bool_and(instance: &Instance) -> bool
+    ensures { let ws = instance.now.args.now in result ≡ meaning (value instance.now.values.now) (array_bool_and (vars ws 0) (var ws (past ws 0))) }
 {
-    agree(
-        is_on(args, past_at(args, 0), values),
-        all_on(args, 0, values),
-    )
+    instance.is_on(past_at(instance.args, 0)) == instance.all_on(0)
 }
 
 // Whether array_bool_xor is true: an odd number are 1.
 #[tactic(auto, unfolding(models::specs::Meaning::meaning, models::specs::Meaning::on, models::specs::Meaning::odd))]
-pub fn array_bool_xor(args: &[u32], values: &[i32]) -> bool
-    ensures { result ≡ meaning (value values.now) (array_bool_xor (vars args.now 0)) }
+pub fn array_bool_xor(instance: &Instance) -> bool
+    ensures { result ≡ meaning (value instance.now.values.now) (array_bool_xor (vars instance.now.args.now 0)) }
 {
-    how_many(args, 0, 1, values) % 2 == 1
+    instance.how_many(0, 1) % 2 == 1
 }

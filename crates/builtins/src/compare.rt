@@ -7,48 +7,47 @@ ghost use Rattle.models.specs.Builtin.{int_eq, int_le, int_lt, int_le_reif, int_
 ghost use Rattle.models.specs.Meaning.{meaning};
 ghost use Rattle.builtins.specs.Coded.{two, three};
 
-use arguments::{is_on, value_of};
+use arguments::instance::Instance;
 use integers::equal;
-use integers::test::{agree, at_most, below};
 
 // Whether int_eq is true.
-pub fn int_eq(args: &[u32], values: &[i32]) -> bool
-    ensures { result ≡ meaning (value values.now) (two int_eq args.now) }
+pub fn int_eq(instance: &Instance) -> bool
+    ensures { result ≡ meaning (value instance.now.values.now) (two int_eq instance.now.args.now) }
 {
-    equal(value_of(args, 0, values), value_of(args, 1, values))
+    equal(instance.value(0), instance.value(1))
 }
 
 // Whether int_le is true.
-pub fn int_le(args: &[u32], values: &[i32]) -> bool
-    ensures { result ≡ meaning (value values.now) (two int_le args.now) }
+pub fn int_le(instance: &Instance) -> bool
+    ensures { result ≡ meaning (value instance.now.values.now) (two int_le instance.now.args.now) }
 {
-    at_most(value_of(args, 0, values), value_of(args, 1, values))
+    instance.value(0) <= instance.value(1)
 }
 
 // Whether int_lt is true.
-pub fn int_lt(args: &[u32], values: &[i32]) -> bool
-    ensures { result ≡ meaning (value values.now) (two int_lt args.now) }
+pub fn int_lt(instance: &Instance) -> bool
+    ensures { result ≡ meaning (value instance.now.values.now) (two int_lt instance.now.args.now) }
 {
-    below(value_of(args, 0, values), value_of(args, 1, values))
+    instance.value(0) < instance.value(1)
 }
 
 // Whether int_le_reif is true.
-pub fn int_le_reif(args: &[u32], values: &[i32]) -> bool
-    ensures { result ≡ meaning (value values.now) (three int_le_reif args.now) }
+pub fn int_le_reif(instance: &Instance) -> bool
+    ensures { result ≡ meaning (value instance.now.values.now) (three int_le_reif instance.now.args.now) }
 {
-    agree(is_on(args, 2, values), int_le(args, values))
+    instance.is_on(2) == int_le(instance)
 }
 
 // Whether int_lt_reif is true.
-pub fn int_lt_reif(args: &[u32], values: &[i32]) -> bool
-    ensures { result ≡ meaning (value values.now) (three int_lt_reif args.now) }
+pub fn int_lt_reif(instance: &Instance) -> bool
+    ensures { result ≡ meaning (value instance.now.values.now) (three int_lt_reif instance.now.args.now) }
 {
-    agree(is_on(args, 2, values), int_lt(args, values))
+    instance.is_on(2) == int_lt(instance)
 }
 
 // Whether int_eq_reif is true.
-pub fn int_eq_reif(args: &[u32], values: &[i32]) -> bool
-    ensures { result ≡ meaning (value values.now) (three int_eq_reif args.now) }
+pub fn int_eq_reif(instance: &Instance) -> bool
+    ensures { result ≡ meaning (value instance.now.values.now) (three int_eq_reif instance.now.args.now) }
 {
-    agree(is_on(args, 2, values), int_eq(args, values))
+    instance.is_on(2) == int_eq(instance)
 }

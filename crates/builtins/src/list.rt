@@ -1,81 +1,86 @@
 // Codes 24 to 28 and 33: elements, maximum and minimum of a list, membership.
-ghost use Rattle.std.specs.Prelude.{◌≡◌, map};
-ghost use Rattle.integers.specs.Choice.{◌if◌else◌};
+#![tactic(auto, unfolding(models::specs::Meaning::meaning))]
+
+ghost use Rattle.std.specs.Prelude.{◌≡◌, ◌≤◌, IfSome};
 ghost use Rattle.integers.specs.Terms.{value};
-ghost use Rattle.models.specs.Builtin.{array_int_element, array_var_int_element, set_in, set_in_reif};
+ghost use Rattle.words.specs.Limit as Limit;
+ghost use Rattle.models.specs.Builtin.{array_int_element, array_var_int_element, array_int_maximum, array_int_minimum, set_in, set_in_reif};
 ghost use Rattle.models.specs.Model.{var, vars, nums, past, size};
-ghost use Rattle.models.specs.Meaning.{meaning, maximum, minimum};
+ghost use Rattle.models.specs.Meaning.{meaning};
 ghost use Rattle.builtins.specs.Coded.{index_in};
 
-use arguments::{
-    any_equal, count_of, is_member, is_on, none_past, num_at, past_at, size_at, value_of,
-};
+use arguments::instance::Instance;
+use arguments::{count_of, is_member, num_at, past_at, size_at};
 use integers::equal;
-use integers::test::{agree, both};
 
-// The value of the variable at place 0 as a place in the list at place 1, counted from 1; 0 where the list has no such place.
+// The value of the variable at place 0 as a place in the list at place 1, counted from 1, where the list has such a place.
 #[tactic(auto, unfolding(crate::specs::Coded::index_in))]
-fn index_of(args: &[u32], values: &[i32]) -> usize
-    ensures { result ≡ index_in (size args.now 1) (value values.now (var args.now 0)) }
+fn index_of(instance: &Instance) -> Option<usize>
+    ensures size { IfSome result (λ k. k ≤ Limit.list_length) }
+    ensures value { let ws = instance.now.args.now in result ≡ index_in (size ws 1) (value instance.now.values.now (var ws 0)) }
 {
-    let k = count_of(value_of(args, 0, values));
-    if k <= size_at(args, 1) {
-        return k;
+    let k = count_of(instance.value(0));
+    if 1 <= k && k <= size_at(instance.args, 1) {
+        Some(k)
+    } else {
+        None
     }
-    0
 }
 
 // Whether array_int_element is true.
-pub fn array_int_element(args: &[u32], values: &[i32]) -> bool
-    ensures { let ws = args.now in result ≡ meaning (value values.now) (array_int_element (var ws 0) (nums ws 1) (var ws (past ws 1))) }
+pub fn array_int_element(instance: &Instance) -> bool
+    ensures { let ws = instance.now.args.now in result ≡ meaning (value instance.now.values.now) (array_int_element (var ws 0) (nums ws 1) (var ws (past ws 1))) }
 {
-    let k = index_of(args, values);
-    if 1 <= k {
-        return equal(
-            num_at(args, 1 + k),
-            value_of(args, past_at(args, 1), values),
-        );
+    match index_of(instance) {
+        Some(k) => equal(
+            num_at(instance.args, 1 + k),
+            instance.value(past_at(instance.args, 1)),
+        ),
+        None => false,
     }
-    false
 }
 
 // Whether array_var_int_element is true.
-pub fn array_var_int_element(args: &[u32], values: &[i32]) -> bool
-    ensures { let ws = args.now in result ≡ meaning (value values.now) (array_var_int_element (var ws 0) (vars ws 1) (var ws (past ws 1))) }
+pub fn array_var_int_element(instance: &Instance) -> bool
+    ensures { let ws = instance.now.args.now in result ≡ meaning (value instance.now.values.now) (array_var_int_element (var ws 0) (vars ws 1) (var ws (past ws 1))) }
 {
-    let k = index_of(args, values);
-    if 1 <= k {
-        return equal(
-            value_of(args, 1 + k, values),
-            value_of(args, past_at(args, 1), values),
-        );
+    match index_of(instance) {
+        Some(k) => equal(
+            instance.value(1 + k),
+            instance.value(past_at(instance.args, 1)),
+        ),
+        None => false,
     }
-    false
 }
 
-// Whether array_int_maximum is true; array_int_minimum, where it is not `up`.
-pub fn array_int_extreme(args: &[u32], values: &[i32], up: bool) -> bool
-    ensures { let σ = value values.now in let ws = args.now in result ≡ (maximum if up else minimum) (σ (var ws 0)) (map σ (vars ws 1)) }
+// Whether array_int_maximum is true.
+#[tactic(auto, unfolding(models::specs::Meaning::meaning, models::specs::Meaning::maximum), using(crate::proofs::Element::mapped))]
+pub fn array_int_maximum(instance: &Instance) -> bool
+    ensures { let ws = instance.now.args.now in result ≡ meaning (value instance.now.values.now) (array_int_maximum (var ws 0) (vars ws 1)) }
 {
-    let m = value_of(args, 0, values);
-    both(
-        any_equal(args, 1, m, values),
-        none_past(args, 1, m, values, up),
-    )
+    let m = instance.value(0);
+    instance.any_equal(1, m) && instance.none_past(1, m, true)
+}
+
+// Whether array_int_minimum is true.
+#[tactic(auto, unfolding(models::specs::Meaning::meaning, models::specs::Meaning::minimum), using(crate::proofs::Element::mapped))]
+pub fn array_int_minimum(instance: &Instance) -> bool
+    ensures { let ws = instance.now.args.now in result ≡ meaning (value instance.now.values.now) (array_int_minimum (var ws 0) (vars ws 1)) }
+{
+    let m = instance.value(0);
+    instance.any_equal(1, m) && instance.none_past(1, m, false)
 }
 
 // Whether set_in is true.
-#[tactic(auto, unfolding(models::specs::Meaning::meaning))]
-pub fn set_in(args: &[u32], values: &[i32]) -> bool
-    ensures { result ≡ meaning (value values.now) (set_in (var args.now 0) (nums args.now 1)) }
+pub fn set_in(instance: &Instance) -> bool
+    ensures { result ≡ meaning (value instance.now.values.now) (set_in (var instance.now.args.now 0) (nums instance.now.args.now 1)) }
 {
-    is_member(args, 1, value_of(args, 0, values))
+    is_member(instance.args, 1, instance.value(0))
 }
 
 // Whether set_in_reif is true.
-#[tactic(auto, unfolding(models::specs::Meaning::meaning))]
-pub fn set_in_reif(args: &[u32], values: &[i32]) -> bool
-    ensures { let ws = args.now in result ≡ meaning (value values.now) (set_in_reif (var ws 0) (nums ws 1) (var ws (past ws 1))) }
+pub fn set_in_reif(instance: &Instance) -> bool
+    ensures { let ws = instance.now.args.now in result ≡ meaning (value instance.now.values.now) (set_in_reif (var ws 0) (nums ws 1) (var ws (past ws 1))) }
 {
-    agree(is_on(args, past_at(args, 1), values), set_in(args, values))
+    instance.is_on(past_at(instance.args, 1)) == set_in(instance)
 }

@@ -1,67 +1,69 @@
 // Codes 6 to 9, 29, 37 and 38: arithmetic of variables.
+#![tactic(auto, unfolding(models::specs::Meaning::meaning))]
+
 ghost use Rattle.std.specs.Prelude.{◌≡◌};
-ghost use Rattle.integers.specs.Choice.{◌if◌else◌};
-ghost use Rattle.integers.specs.Number.{min_z, max_z, ◌≟◌};
 ghost use Rattle.integers.specs.Terms.{value};
-ghost use Rattle.words.specs.Small.{Small};
-ghost use Rattle.models.specs.Builtin.{int_plus, int_times, int_abs};
-ghost use Rattle.models.specs.Meaning.{quotient, remainder, meaning};
-ghost use Rattle.models.specs.Model.{var};
+ghost use Rattle.models.specs.Builtin.{int_plus, int_times, int_abs, int_max, int_min, int_div, int_mod};
+ghost use Rattle.models.specs.Meaning.{meaning};
 ghost use Rattle.builtins.specs.Coded.{two, three};
 
-use arguments::value_of;
-use integers::{divided, equal, largest, opposite, pick, plus, times};
+use arguments::instance::Instance;
+use integers::{divided, equal, largest, least, plus, times};
 
 // Whether int_plus is true.
-pub fn int_plus(args: &[u32], values: &[i32]) -> bool
-    requires { Small values.now }
-    ensures { result ≡ meaning (value values.now) (three int_plus args.now) }
+pub fn int_plus(instance: &Instance) -> bool
+    ensures { result ≡ meaning (value instance.now.values.now) (three int_plus instance.now.args.now) }
 {
-    equal(
-        plus(value_of(args, 0, values), value_of(args, 1, values)),
-        value_of(args, 2, values),
-    )
+    let sum = plus(instance.value(0), instance.value(1));
+    equal(sum, instance.value(2))
 }
 
 // Whether int_times is true.
-pub fn int_times(args: &[u32], values: &[i32]) -> bool
-    requires { Small values.now }
-    ensures { result ≡ meaning (value values.now) (three int_times args.now) }
+pub fn int_times(instance: &Instance) -> bool
+    ensures { result ≡ meaning (value instance.now.values.now) (three int_times instance.now.args.now) }
 {
-    equal(
-        times(value_of(args, 0, values), value_of(args, 1, values)),
-        value_of(args, 2, values),
-    )
+    let product = times(instance.value(0), instance.value(1));
+    equal(product, instance.value(2))
 }
 
 // Whether int_abs is true.
-pub fn int_abs(args: &[u32], values: &[i32]) -> bool
-    requires { Small values.now }
-    ensures { result ≡ meaning (value values.now) (two int_abs args.now) }
+#[tactic(auto, unfolding(models::specs::Meaning::meaning, integers::specs::Number::abs_z))]
+pub fn int_abs(instance: &Instance) -> bool
+    ensures { result ≡ meaning (value instance.now.values.now) (two int_abs instance.now.args.now) }
 {
-    let x = value_of(args, 0, values);
-    equal(largest(x, opposite(x)), value_of(args, 1, values))
+    equal(instance.value(0).abs(), instance.value(1))
 }
 
-// Whether int_max is true; int_min, where it is not `up`.
-pub fn int_extreme(args: &[u32], values: &[i32], up: bool) -> bool
-    ensures { let σ = value values.now in let ws = args.now in result ≡ ((max_z if up else min_z) (σ (var ws 0)) (σ (var ws 1)) ≟ σ (var ws 2)) }
+// Whether int_max is true.
+pub fn int_max(instance: &Instance) -> bool
+    ensures { result ≡ meaning (value instance.now.values.now) (three int_max instance.now.args.now) }
 {
-    equal(
-        pick(value_of(args, 0, values), value_of(args, 1, values), up),
-        value_of(args, 2, values),
-    )
+    let largest = largest(instance.value(0), instance.value(1));
+    equal(largest, instance.value(2))
 }
 
-// Whether int_div is true; int_mod, where it is the remainder that is asked. Neither is for d=0.
-pub fn int_divided(args: &[u32], values: &[i32], left: bool) -> bool
-    requires { Small values.now }
-    ensures { let σ = value values.now in let ws = args.now in result ≡ (remainder if left else quotient) (σ (var ws 0)) (σ (var ws 1)) (σ (var ws 2)) }
+// Whether int_min is true.
+pub fn int_min(instance: &Instance) -> bool
+    ensures { result ≡ meaning (value instance.now.values.now) (three int_min instance.now.args.now) }
 {
-    let n = value_of(args, 0, values);
-    let d = value_of(args, 1, values);
-    if !equal(d, 0) {
-        return equal(divided(n, d, left), value_of(args, 2, values));
-    }
-    false
+    let least = least(instance.value(0), instance.value(1));
+    equal(least, instance.value(2))
+}
+
+// Whether int_div is true; it is not for d=0.
+#[tactic(auto, unfolding(models::specs::Meaning::meaning, models::specs::Meaning::quotient), using(integers::proofs::Fits::above_zero))]
+pub fn int_div(instance: &Instance) -> bool
+    ensures { result ≡ meaning (value instance.now.values.now) (three int_div instance.now.args.now) }
+{
+    let d = instance.value(1);
+    !equal(d, 0) && equal(divided(instance.value(0), d, false), instance.value(2))
+}
+
+// Whether int_mod is true; it is not for d=0.
+#[tactic(auto, unfolding(models::specs::Meaning::meaning, models::specs::Meaning::remainder), using(integers::proofs::Fits::above_zero))]
+pub fn int_mod(instance: &Instance) -> bool
+    ensures { result ≡ meaning (value instance.now.values.now) (three int_mod instance.now.args.now) }
+{
+    let d = instance.value(1);
+    !equal(d, 0) && equal(divided(instance.value(0), d, true), instance.value(2))
 }

@@ -1,20 +1,24 @@
 // Code 39: powers.
+#![tactic(auto, unfolding(models::specs::Meaning::meaning))]
+
 ghost use Rattle.std.specs.Prelude.{◌≡◌, ◌≤◌};
 ghost use Rattle.integers.specs.Number.{cut};
 ghost use Rattle.integers.specs.Terms.{value};
-ghost use Rattle.words.specs.Small.{Near, Small};
+ghost use Rattle.words.specs.Small.{Near};
 ghost use Rattle.models.specs.Builtin.{int_pow};
 ghost use Rattle.models.specs.Meaning.{power, meaning};
 ghost use Rattle.models.specs.Model.{var, exponent_at};
 ghost use Rattle.builtins.specs.Coded.{far};
 
-use arguments::{exponent_at, value_of};
+use arguments::exponent_at;
+use arguments::instance::Instance;
 use integers::{cut_to, equal, times};
 
 // No value is as far from 0.
 const FAR: i64 = 268435456;
 
-// A power from 1 on, cut to -FAR..FAR: by recursion on the exponent, which halves until it is 1.
+// A power from 1 on, cut to -FAR..FAR: by recursion on the exponent, which halves until it is 1, and no loop, as document 02 prescribes.
+#[tactic(auto)]
 fn power_of(x: i64, k: usize) -> i64
     requires { Near x × (1 ≤ k) }
     ensures { result ≡ cut far (power x k) }
@@ -31,15 +35,14 @@ fn power_of(x: i64, k: usize) -> i64
 }
 
 // Whether int_pow is true.
-pub fn int_pow(args: &[u32], values: &[i32]) -> bool
-    requires { Small values.now }
-    ensures { result ≡ meaning (value values.now) (int_pow (var args.now 0) (exponent_at args.now 1) (var args.now 2)) }
+#[tactic(auto, unfolding(models::specs::Meaning::meaning, models::specs::Meaning::power))]
+pub fn int_pow(instance: &Instance) -> bool
+    ensures { let ws = instance.now.args.now in result ≡ meaning (value instance.now.values.now) (int_pow (var ws 0) (exponent_at ws 1) (var ws 2)) }
 {
-    let x = value_of(args, 0, values);
-    let k = exponent_at(args, 1);
-    let z = value_of(args, 2, values);
-    if k == 0 {
-        return equal(1, z);
+    let x = instance.value(0);
+    let z = instance.value(2);
+    match exponent_at(instance.args, 1) {
+        0 => equal(1, z),
+        k => equal(power_of(x, k), z),
     }
-    equal(power_of(x, k), z)
 }

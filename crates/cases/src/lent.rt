@@ -1,81 +1,106 @@
-// The lists that are lent to calls that write: what they hold before, and whether it still stands after; and their fronts.
-ghost use Rattle.std.specs.Prelude.{◌≡◌, ◌≤◌, length, take};
+// The lists that are read, or lent to calls that write: their elements, their fronts, and whether what a call may not write still stands after it.
+ghost use Rattle.std.specs.Prelude.{◌≡◌, ◌≤◌, drop, length, min, take};
+ghost use Rattle.std.specs.Fn.{FnOnceReturnsAtMut};
 
-// What an element holds before the call.
-pub const WORD_MARK: u32 = 3735928559;
+use std::fmt;
 
-pub const VALUE_MARK: i32 = -559038737;
+// An element of such a list: a word, a value or a byte.
+pub trait Element: Copy + PartialEq {
+    // What it holds before the call.
+    const MARK: Self;
 
-pub const BYTE_MARK: u8 = 165;
+    // The element that a number of a case stands for.
+    fn of_number(number: u32) -> Self;
 
-// How many of the first n words a list has.
-pub fn words_within(out: &[u32], n: usize) -> usize
-    ensures fits { result ≤ length out.now }
-    ensures count { result ≡ length (take result out.now) }
+    // Prints it in a list of its type.
+    fn print<W: fmt::Write>(self, f: &mut fmt::Formatter<W>) -> fmt::Result;
+}
+
+// A word: eight hexadecimal digits, a blank before them.
+impl Element for u32 {
+    const MARK: u32 = 3735928559;
+
+    fn of_number(number: u32) -> u32 {
+        number
+    }
+
+    fn print<W: fmt::Write>(self, f: &mut fmt::Formatter<W>) -> fmt::Result {
+        write!(f, " {self:08X}")
+    }
+}
+
+// A value: the number as a signed one; a blank before it.
+impl Element for i32 {
+    const MARK: i32 = -559038737;
+
+    fn of_number(number: u32) -> i32 {
+        number.cast_signed()
+    }
+
+    fn print<W: fmt::Write>(self, f: &mut fmt::Formatter<W>) -> fmt::Result {
+        write!(f, " {self}")
+    }
+}
+
+// A byte: the lowest one of the number; two hexadecimal digits.
+impl Element for u8 {
+    const MARK: u8 = 165;
+
+    fn of_number(number: u32) -> u8 {
+        (number % 256) as u8
+    }
+
+    fn print<W: fmt::Write>(self, f: &mut fmt::Formatter<W>) -> fmt::Result {
+        write!(f, "{self:02X}")
+    }
+}
+
+// The elements of a list, one after the other.
+#[derive(Drop)]
+pub struct Elements<'a, T>(pub &'a [T]);
+
+impl<T: Element> fmt::Display for Elements<'_, T> {
+    fn fmt<W: fmt::Write>(&self, f: &mut fmt::Formatter<W>) -> fmt::Result {
+        for &x in self.0 {
+            x.print(f)?;
+        }
+        Ok(())
+    }
+}
+
+// How many of the first n elements a list has.
+pub fn within<T>(list: &[T], n: usize) -> usize
+    ensures value { result ≡ min n (length list.now) }
+    ensures fits { result ≤ length list.now }
+    ensures count { result ≡ length (take result list.now) }
 {
-    if n < out.len() { n } else { out.len() }
+    n.min(list.len())
 }
 
-// The same of values.
-pub fn values_within(out: &[i32], n: usize) -> usize
-    ensures fits { result ≤ length out.now }
-    ensures count { result ≡ length (take result out.now) }
+// Its first n elements, as far as it has them.
+#[tactic(auto, using(std::proofs::lemmas::List::take_min))]
+pub fn front<T>(list: &[T], n: usize) -> &[T]
+    ensures { result.now ≡ take n list.now }
 {
-    if n < out.len() { n } else { out.len() }
+    &list[..within(list, n)]
 }
 
-// The same of bytes.
-pub fn bytes_within(page: &[u8], n: usize) -> usize
-    ensures fits { result ≤ length page.now }
-    ensures count { result ≡ length (take result page.now) }
+// Lends its first n elements to a call.
+pub fn lend<T, A, F: FnOnce(&mut [T]) -> A>(list: &mut [T], n: usize, call: F) -> A
+    requires { F.IsAlwaysCallable call }
+    ensures called { FnOnceReturnsAtMut F.FnOnce call (take n list.old) result (take n list.new) }
+    ensures rest { drop n list.new ≡ drop n list.old }
 {
-    if n < page.len() { n } else { page.len() }
+    let k = within(list, n);
+    call(&mut list[..k])
 }
 
-// Whether every word from a place on is as it was before the call.
-pub fn marked_words(out: &[u32], from: usize) -> bool {
-    let mut i = from;
-    while i < out.len() {
-        if out[i] != WORD_MARK {
-            return false;
-        }
-        i += 1;
-    }
-    true
+// Whether every element from a place on is as it was before the call.
+pub fn is_marked<T: Element>(list: &[T], from: usize) -> bool {
+    list.iter().skip(from).all(|&x| x == T::MARK)
 }
 
-// Whether every value from a place on is as it was before the call.
-pub fn marked_values(out: &[i32], from: usize) -> bool {
-    let mut i = from;
-    while i < out.len() {
-        if out[i] != VALUE_MARK {
-            return false;
-        }
-        i += 1;
-    }
-    true
-}
-
-// Whether every byte from a place on is as it was before the call.
-pub fn marked_bytes(page: &[u8], from: usize) -> bool {
-    let mut i = from;
-    while i < page.len() {
-        if page[i] != BYTE_MARK {
-            return false;
-        }
-        i += 1;
-    }
-    true
-}
-
-// The place of the first value that is as it was before the call; the number of values where there is none.
-pub fn first_marked(out: &[i32]) -> usize {
-    let mut i = 0;
-    while i < out.len() {
-        if out[i] == VALUE_MARK {
-            return i;
-        }
-        i += 1;
-    }
-    i
+// The place of the first element that is as it was before the call.
+pub fn first_marked<T: Element>(list: &[T]) -> Option<usize> {
+    list.iter().position(|&x| x == T::MARK)
 }

@@ -1,5 +1,5 @@
 -- What check's answer says: a refusal of the reading is check's, a refusal of check has its fault, and counts are those of a model that passes.
-use Rattle.std.proofs.Common.{◌≡◌, refl, sym, ap, ◌∙◌, Bool, List, [], ◌∷◌, ℕ, zero, suc, ◌+◌, arith, length}
+use Rattle.std.proofs.Common.{◌≡◌, refl, sym, ◌∙◌, Bool, List, [], ◌∷◌, ℕ, zero, suc, ◌+◌, arith, length}
 use Rattle.integers.specs.declared.Bounds.{Bounds}
 use Rattle.words.specs.Variables.{variables}
 use Rattle.words.specs.declared.Refusal.{Refusal}
@@ -10,14 +10,11 @@ use Rattle.words.proofs.Reading as Reading
 use Rattle.words.proofs.Reading.{passed-number}
 use Rattle.models.specs.Model.{Constraint, constraints}
 use Rattle.models.specs.Reading.{read_model}
-use Rattle.modelreading.specs.Seen.{Kept}
-use Rattle.modelreading.specs.declared.Read.{Read}
 use Rattle.rules.specs.Shared.{Encoded, none_yet, choice, encodes, encoded_after}
 use Rattle.rules.specs.Translation.{bounds, shared, block_of, auxiliaries, system_words}
 use Rattle.rules.specs.Check.{blocks_fault_in, check_fault, check_fault_in, check, check_in}
 use Rattle.rules.specs.InRange.{block_fault, blocks_fault}
 use Rattle.sharing.specs.SharedSolutions.{Passes}
-use Rattle.sharing.proofs.Accepts.{passes-read}
 
 -- ---- a refusal whose number is 0 is `accepted`
 
@@ -54,14 +51,10 @@ some-refusal v c a r w zero q e = clash (cc)
 some-refusal v c a r w (suc m) q e = (cc, cc, λ z. omega arith)
 
 -- a refusal of the reading is check's
-pub read-refused : {ws hs : List ℕ} {r : Read} → Kept ws hs r → (r.number ≡ 0 → ⊥) → refused r.number r.place ≡ check ws
+pub read-refused : (ws : List ℕ) {n p : ℕ} → n at_place p ≡ read_model ws → (n ≡ 0 → ⊥) → refused n p ≡ check ws
 unfolding check_in check_fault_in
-read-refused {ws} {hs} {r} k f =
-    rw (← k.refusal) (first-answers r.number r.place (blocks_fault (bounds ws) (shared ws) (length (variables ws)) none_yet (constraints ws)) _ f)
-
--- a model that passes is read without a fault
-pub read-passes : {ws hs : List ℕ} {r : Read} → Kept ws hs r → Passes ws → r.number ≡ 0
-read-passes {ws} k h = ap (λ (x : Refusal). x.number) (k.refusal ∙ passes-read ws h)
+read-refused ws {n} {p} k f =
+    rw (← k) (first-answers n p (blocks_fault (bounds ws) (shared ws) (length (variables ws)) none_yet (constraints ws)) _ f)
 
 -- a refusal of check stands before every other
 pub check-stands : (ws : List ℕ) {n p : ℕ} → refused n p ≡ check ws → (n ≡ 0 → ⊥) × ((after : Refusal) → (check_fault ws else_refuse after) ≡ (n at_place p))

@@ -1,5 +1,5 @@
 -- Check's walk over the constraints: what those that are left give is what all give; and that this is check's answer.
-use Rattle.std.proofs.Common.{◌≡◌, refl, ap, sym, ◌∙◌, Bool, List, [], ◌∷◌, ◌++◌, ℕ, ◌+◌, ◌*◌, ◌≤◌, arith, ℤ, length, drop, length-append, drop_of_length-le}
+use Rattle.std.proofs.Common.{◌≡◌, refl, ap, sym, ◌∙◌, Bool, List, [], ◌∷◌, ◌++◌, ℕ, ◌+◌, ◌*◌, ◌≤◌, arith, Ok, Err, length, drop, length-append, drop_of_length-le}
 use Rattle.integers.specs.declared.Bounds.{Bounds}
 use Rattle.words.specs.Word.{word}
 use Rattle.words.specs.Kind as Kind
@@ -9,14 +9,17 @@ use Rattle.words.specs.Answer.{Answer, refused, counts, ◌else_answer◌}
 use Rattle.words.proofs.Answers.{first-answers}
 use Rattle.models.specs.Model.{Constraint, constraints, source_words}
 use Rattle.models.specs.Reading.{read_model}
-use Rattle.modelreading.specs.declared.Read.{Read}
+use Rattle.modelreading.specs.declared.Model.{Model}
+use Rattle.words.specs.Faults.{fault_number}
+use Rattle.words.specs.declared.fault.Fault.{Fault}
+use Rattle.words.proofs.Faulty.{fault-number}
 use Rattle.rules.specs.Block.{block_words}
 use Rattle.rules.specs.Shared.{Encoded, none_yet, choice, encodes, encoded_after}
 use Rattle.rules.specs.Translation.{bounds, shared, block_of, each_block, blocks_words, system_words, auxiliaries, block_rows}
 use Rattle.rules.specs.Check.{blocks_fault_in, check_fault_in, check, check_in}
 use Rattle.rules.specs.InRange.{block_fault, blocks_fault}
 use Rattle.sharing.proofs.Accepts.{one-fine}
-use Rattle.extremes.specs.BoundLists.{bounds_of}
+use Rattle.integers.specs.Bounds.{bounds_in}
 use Rattle.encodings.specs.Uses.{shared_by, Recorded}
 use Rattle.encodings.proofs.Record.{none-many, recorded-none, recorded-after, length-after}
 use Rattle.checking.specs.Walk.{Costs}
@@ -78,12 +81,12 @@ pub begun : (β : ℕ → Bounds) (s : ℕ → Bool) (v : ℕ) (cs : List Constr
 begun β s v cs start h = record { room = omega arith; small = omega arith; recorded = recorded-none; many = none-many; left = refl }
 
 module _ {β : ℕ → Bounds} {s : ℕ → Bool} {v : ℕ} {cs : List Constraint} {start k a r w : ℕ} {d : Encoded} (l : Checking β s v cs start k a r w d) where
-  module _ {c : Constraint} (e : drop k cs ≡ c ∷ drop (k + 1) cs) {b : Cost} (x : Costs β s (v + a) d c b) where
-    pub more : b.fault ≡ 0 → {d' : Encoded} → d' ≡ encoded_after s (v + a) d (encodes (choice c)) →
+  module _ {c : Constraint} (e : drop k cs ≡ c ∷ drop (k + 1) cs) where
+    pub more : {b : Cost} → Costs β s (v + a) d c (Ok b) → {d' : Encoded} → d' ≡ encoded_after s (v + a) d (encodes (choice c)) →
         Checking β s v cs start (k + 1) (a + b.auxiliaries) (r + b.rows) (w + b.words) d'
-    more z q =
-        let n = x.counted z in
-        let f : block_fault β s (v + a) d c ≡ 0 = sym x.fault ∙ z in
+    more x q =
+        let n = x.counted in
+        let f : block_fault β s (v + a) d c ≡ 0 = sym x.fault in
         rw q
         record {
           room = omega (arith, (one-fine β s (v + a) d c f).2, n.auxiliaries);
@@ -93,8 +96,8 @@ module _ {β : ℕ → Bounds} {s : ℕ → Bool} {v : ℕ} {cs : List Constrain
           left = rw (n.words, n.auxiliaries, n.rows) (sym (one_more β s v k a r w d c (drop (k + 1) cs) f) ∙ rw e at l.left);
         }
 
-    pub stop : (b.fault ≡ 0 → ⊥) → refused b.fault c.place ≡ counts_from β s v 0 0 0 start none_yet cs
-    stop z = rw x.fault (fault-here β s v k a r w d c (drop (k + 1) cs) (λ f. z (x.fault ∙ f)) ∙ rw e at l.left)
+    pub stop : {f : Fault} → Costs β s (v + a) d c (Err f) → refused (fault_number f) c.place ≡ counts_from β s v 0 0 0 start none_yet cs
+    stop {f} x = rw x.fault (fault-here β s v k a r w d c (drop (k + 1) cs) (λ z. fault-number f (x.fault ∙ z)) ∙ rw e at l.left)
 
   pub done : length cs ≤ k → counts v k a r w ≡ counts_from β s v 0 0 0 start none_yet cs
   done h = all-counted β s v k a r w d ∙ rw (drop_of_length-le cs h) at l.left
@@ -112,6 +115,6 @@ checks ws h =
     (same-counts (omega arith) (omega arith) (omega arith)
     (omega (arith, length-append (source_words ws) (B ++ (word Kind.rows_end 0 ∷ [])), length-append B (word Kind.rows_end 0 ∷ [])))))
 
-pub all-checked : {ws hs : List ℕ} {r : Read} {ls us : List ℤ} {uses : List ℕ} → ModelBounds ws hs r ls us uses →
-    counts_from (bounds_of ls us) (shared_by uses) r.variables 0 0 0 (r.sources + 1) none_yet (constraints ws) ≡ check ws
+pub all-checked : {ws hs : List ℕ} {r : Model} {Ds : List Bounds} {uses : List ℕ} → ModelBounds ws hs r Ds uses →
+    counts_from (bounds_in Ds) (shared_by uses) r.variables 0 0 0 (r.sources + 1) none_yet (constraints ws) ≡ check ws
 all-checked {ws} m = rw (m.same, m.shares, m.seen.variables_counted, m.seen.sources_counted) (checks ws m.seen.accepts)

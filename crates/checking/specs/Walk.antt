@@ -1,7 +1,8 @@
 -- What check finds of one constraint.
-use Rattle.std.specs.Prelude.{◌≡◌, Bool, ℕ, ◌+◌, ◌≤◌, length}
+use Rattle.std.specs.Prelude.{◌≡◌, Bool, ℕ, ◌+◌, ◌≤◌, length, Result, IfOk}
 use Rattle.integers.specs.declared.Bounds.{Bounds}
-use Rattle.words.specs.Fault as Fault
+use Rattle.words.specs.Faults.{number_of}
+use Rattle.words.specs.declared.fault.Fault.{Fault}
 use Rattle.models.specs.Model.{Constraint}
 use Rattle.rules.specs.Block.{block_words}
 use Rattle.rules.specs.Shared.{Encoded}
@@ -16,7 +17,8 @@ pub record CountsBlock (β : ℕ → Bounds) (s : ℕ → Bool) (first : ℕ) (e
   pub rows : r.rows ≡ length (block_of β s e c).rows
   pub words : r.words ≡ length (block_words first (block_of β s e c))
 
-pub record Costs (β : ℕ → Bounds) (s : ℕ → Bool) (first : ℕ) (e : Encoded) (c : Constraint) (r : Cost) : Type 0 where
-  pub fault : r.fault ≡ block_fault β s first e c
-  pub counted : r.fault ≡ Fault.none → CountsBlock β s first e c r
-  pub small : r.words + r.auxiliaries + r.rows ≤ block_size
+-- its fault, or what it costs
+pub record Costs (β : ℕ → Bounds) (s : ℕ → Bool) (first : ℕ) (e : Encoded) (c : Constraint) (r : Result Cost Fault) : Type 0 where
+  pub fault : number_of r ≡ block_fault β s first e c
+  pub counted : IfOk r (CountsBlock β s first e c)
+  pub small : IfOk r (λ n. n.words + n.auxiliaries + n.rows ≤ block_size)

@@ -21,7 +21,6 @@ use Rattle.laying.specs.Part.{block_parts, row_parts}
 use Rattle.laying.specs.Lists.{many, bit_at, order_at}
 use Rattle.rules.proofs.Lengths.{values_length}
 use Rattle.laying.proofs.Lists.{length-vars, length-nums, bits-parts, weighted-many, order-parts}
-use Rattle.extremes.specs.BoundLists.{bounds_of}
 use Rattle.choiceblocks.specs.Rows.{number_term_at, value_at, member_at, one_row, sum_row, choice_rows, gates, gated_rows, first_at, one_of_parts, extreme_of}
 use Rattle.choiceblocks.proofs.OneHot.{many_below, one-row, row_parts-sum_row, chosen-row, choice-rows, gates-parts, gated-rows, first_only_many}
 use Rattle.choiceblocks.proofs.Members.{value-terms, member-terms}
@@ -61,41 +60,41 @@ module _ (first : ℕ) where
       (choice-block B i (chosen (nth +0 (nums args 1)) (values B) 0 c)
       ∙ ap (λ ps. many bit_at (width B) ++ (choice_rows B.lower first (width B) i ++ ps)) (number-row args (β i) c))
 
-  -- with the bounds of the variables in two lists
-  module _ (ls us : List ℤ) (args : List ℕ) where
-    pub variable-element : (i c : ℕ) → let B = places (bounds_of ls us i) (size args 1) in
-        block_parts first (rule (bounds_of ls us) (array_var_int_element i (vars args 1) c))
-        ≡ gates ls us args (1 + count B.lower) (width B) ++ (choice_rows B.lower first (width B) i ++ gated_rows args (1 + count B.lower) first (width B) c)
+  -- of the arguments
+  module _ (β : ℕ → Bounds) (args : List ℕ) where
+    pub variable-element : (i c : ℕ) → let B = places (β i) (size args 1) in
+        block_parts first (rule (β) (array_var_int_element i (vars args 1) c))
+        ≡ gates β args (1 + count B.lower) (width B) ++ (choice_rows B.lower first (width B) i ++ gated_rows args (1 + count B.lower) first (width B) c)
     unfolding rule variable_element block_parts flat_map vars values
     variable-element i c =
-        let I = bounds_of ls us i in
+        let I = β i in
         let B = places I (size args 1) in
         let f : ℕ → ℤ = λ k. B.lower ⊕ pos k in
         let x = nth 0 (vars args 1) in
         let same = element 0 (var args) I (size args 1) in
         rw (length-vars args 1)
-        (ap₂ (λ a b. a ++ b) (gates-parts first ls us args (1 + count B.lower) x f (width B) same)
+        (ap₂ (λ a b. a ++ b) (gates-parts first β args (1 + count B.lower) x f (width B) same)
         (choice-rows first B i (products x (values B) 0 (length (values B)) ++ (chosen one (values B) (length (values B)) c ∷ []))
-        ∙ ap (λ ps. choice_rows B.lower first (width B) i ++ ps) (gated-rows first ls us args (1 + count B.lower) x f (width B) same c [] ∙ append-nil _)))
+        ∙ ap (λ ps. choice_rows B.lower first (width B) i ++ ps) (gated-rows first β args (1 + count B.lower) x f (width B) same c [] ∙ append-nil _)))
 
     -- the parts of the rows over later bits, then those of the block
-    first_only_parts : (up : Bool) (m : ℕ) → flat_map (row_parts first) (first_only (bounds_of ls us) (λ x. x if up else m) (λ x. m if up else x) (vars args 1) 0)
-        ≡ many (first_at ls us args 2 m up first (size args 1)) (size args 1 - 1)
+    first_only_parts : (up : Bool) (m : ℕ) → flat_map (row_parts first) (first_only (β) (λ x. x if up else m) (λ x. m if up else x) (vars args 1) 0)
+        ≡ many (first_at β args 2 m up first (size args 1)) (size args 1 - 1)
     unfolding vars
     first_only_parts up m =
-        rw (add-zero first) at (first_only_many first ls us (λ x. x if up else m) (λ x. m if up else x) (λ k. var args (1 + 1 + k)) (size args 1) 0)
+        rw (add-zero first) at (first_only_many first β (λ x. x if up else m) (λ x. m if up else x) (λ k. var args (1 + 1 + k)) (size args 1) 0)
 
     pub extreme-parts : (up : Bool) → let m = var args 0 in
-        block_parts first (extreme_of (bounds_of ls us) up m (vars args 1))
-        ≡ one_of_parts ls us args first ++ (many (order_at args 2 m up) (size args 1) ++ many (first_at ls us args 2 m up first (size args 1)) (size args 1 - 1))
+        block_parts first (extreme_of (β) up m (vars args 1))
+        ≡ one_of_parts β args first ++ (many (order_at args 2 m up) (size args 1) ++ many (first_at β args 2 m up first (size args 1)) (size args 1 - 1))
     unfolding one_of one_of_parts block_parts flat_map vars
     extreme-parts up =
-        ap₂ (λ a b. a ++ b) (gates-parts first ls us args 2 (λ x. x) f n (λ k h. refl))
+        ap₂ (λ a b. a ++ b) (gates-parts first β args 2 (λ x. x) f n (λ k h. refl))
         (ap₂ (λ a b. a ++ b) (one-row first (list_of f n) ∙ ap (one_row first) (list_of-length f n))
-        (gated-rows first ls us args 2 (λ x. x) f n (λ k h. refl) m (order ++ first-only)
+        (gated-rows first β args 2 (λ x. x) f n (λ k h. refl) m (order ++ first-only)
         ∙ ap (λ ps. gated_rows args 2 first n m ++ ps) (flat_map_append (row_parts first) order first-only ∙ ap₂ (λ a b. a ++ b) (order-parts first args 1 m up) (first_only_parts up m))))
-        ∙ ap (λ ps. gates ls us args 2 n ++ ps) (sym (append_assoc (one_row first n) _ _))
-        ∙ sym (append_assoc (gates ls us args 2 n) _ _)
+        ∙ ap (λ ps. gates β args 2 n ++ ps) (sym (append_assoc (one_row first n) _ _))
+        ∙ sym (append_assoc (gates β args 2 n) _ _)
       where
         f : ℕ → ℕ
         f k = var args (1 + 1 + k)
@@ -110,7 +109,7 @@ module _ (first : ℕ) where
         order = map (λ x. source (x if up else m) ─ source (m if up else x) ≤0) (list_of f n)
 
         first-only : List (Row Ref)
-        first-only = first_only (bounds_of ls us) (λ x. x if up else m) (λ x. m if up else x) (list_of f n) 0
+        first-only = first_only (β) (λ x. x if up else m) (λ x. m if up else x) (list_of f n) 0
 
   -- the members of a set, in a list that reads as they do
   module _ (β : ℕ → Bounds) (S out : List ℤ) (x : ℕ) (same : (k : ℕ) → get_or out k +0 ≡ get_or (members S (β x)) k +0) where

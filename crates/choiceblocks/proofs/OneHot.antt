@@ -1,5 +1,5 @@
 -- The rows and bounds of the definitions as the code lays them: over lists of labels by places.
-use Rattle.std.proofs.Common.{◌≡◌, refl, sym, ap, ap₂, ◌∙◌, List, [], ◌∷◌, ◌++◌, append_assoc, map, ℕ, zero, suc, ◌+◌, ◌-◌, ◌<◌, add-zero, arith, ℤ, length, length-append, get_or}
+use Rattle.std.proofs.Common.{◌≡◌, refl, sym, ap, ap₂, ◌∙◌, List, [], ◌∷◌, ◌++◌, append_assoc, map, ℕ, zero, suc, ◌+◌, ◌-◌, ◌<◌, add-zero, arith, ℤ, length, length-append}
 use mathlib.Core.List.{flat_map}
 use Rattle.integers.specs.Number.{◌⊕◌, ◌⊖◌, +0, +1, -1}
 use Rattle.integers.specs.Lists.{list_of}
@@ -15,12 +15,9 @@ use Rattle.rules.specs.Parts.{Z, bits, weighted, one, one_bit, chosen, products}
 use Rattle.rules.specs.Rule.{first_only}
 use Rattle.laying.specs.Part.{Part, bound, head, term, constant, bound_parts, term_parts, row_parts}
 use Rattle.laying.specs.Lists.{many, same_at, label_at, bit_at, product_at}
-use Rattle.laying.specs.Appends.{Appends, GrowsBy}
-use Rattle.laying.specs.declared.Laid.{Laid}
-use Rattle.laying.proofs.Parts.{many-same, went_then}
+use Rattle.laying.proofs.Parts.{many-same}
 use Rattle.rules.proofs.Lengths.{values_length, weighted-length}
 use Rattle.laying.proofs.Lists.{bounds-append, bits-parts, terms-append, labels-parts, same_parts, products-many}
-use Rattle.extremes.specs.BoundLists.{bounds_of}
 use Rattle.choiceblocks.specs.Rows.{zero_at, one_row, sum_row, choice_rows, gates, gated_rows, later_row}
 
 -- the same at every place below n
@@ -33,12 +30,6 @@ pub bounds-many : {A : Type 0} (q : A → Bounds) (f : ℕ → A) (n : ℕ) → 
 unfolding bound_parts list_of many
 bounds-many q f zero = refl
 bounds-many q f (suc n) = ap (λ ps. bound (q (f 0)).lower (q (f 0)).upper ∷ ps) (bounds-many q (λ k. f (suc k)) n)
-
--- a head, n terms and the last words went over a list: a row
-pub summed : {s t u r : Laid} {o p q z : List ℕ} (f : ℕ → List Part) (n : ℕ) {x : ℕ} → Appends s t o p (head Kind.equal (n + 1) ∷ []) × GrowsBy 10 s t → Appends t u p q (many f n) × GrowsBy 1000 t u →
-    Appends u r q z (term -1 x ∷ constant +0 ∷ []) × GrowsBy 20 u r → Appends s r o z (sum_row f n x) × GrowsBy 2000 s r
-unfolding sum_row
-summed f n a b d = (went_then a.0 (went_then b.0 d.0), omega (arith, a.1, b.1, d.1))
 
 module _ (first : ℕ) where
   pub terms-many : {A : Type 0} (t : A → Term Ref) (f : ℕ → A) (n : ℕ) → term_parts first (map t (list_of f n)) ≡ many (λ k. term (t (f k)).coefficient (numbered first (t (f k)).variable) ∷ []) n
@@ -75,13 +66,13 @@ module _ (first : ℕ) where
       (sym (append_assoc (one_row first (width B)) (sum_row (label_at B.lower first) (width B) x) (flat_map (row_parts first) qs)))
 
   -- labels by places, each with a variable; these stand from a place on
-  module _ (ls us : List ℤ) (args : List ℕ) (base : ℕ) {A : Type 0} (v : A → ℕ) (f : ℕ → A) (n : ℕ) (same : (k : ℕ) → k < n → v (f k) ≡ var args (base + k)) where
-    pub gates-parts : bound_parts (bits (list_of f n) ++ map (λ j. Z (bounds_of ls us (v j))) (list_of f n)) ≡ gates ls us args base n
+  module _ (β : ℕ → Bounds) (args : List ℕ) (base : ℕ) {A : Type 0} (v : A → ℕ) (f : ℕ → A) (n : ℕ) (same : (k : ℕ) → k < n → v (f k) ≡ var args (base + k)) where
+    pub gates-parts : bound_parts (bits (list_of f n) ++ map (λ j. Z (β (v j))) (list_of f n)) ≡ gates β args base n
     unfolding gates Z
     gates-parts =
-        bounds-append (bits (list_of f n)) (map (λ j. Z (bounds_of ls us (v j))) (list_of f n))
+        bounds-append (bits (list_of f n)) (map (λ j. Z (β (v j))) (list_of f n))
         ∙ ap₂ (λ a b. a ++ b) (bits-parts (list_of f n) ∙ ap (many bit_at) (list_of-length f n))
-        (bounds-many (λ j. Z (bounds_of ls us (v j))) f n ∙ many_below _ (zero_at ls us args base) n (λ k h. rw (same k h)))
+        (bounds-many (λ j. Z (β (v j))) f n ∙ many_below _ (zero_at β args base) n (λ k h. rw (same k h)))
 
     pub gated-rows : (m : ℕ) (qs : List (Row Ref)) →
         flat_map (row_parts first) (products v (list_of f n) 0 (length (list_of f n)) ++ (chosen one (list_of f n) (length (list_of f n)) m ∷ qs)) ≡ gated_rows args base first n m ++ flat_map (row_parts first) qs
@@ -95,36 +86,36 @@ module _ (first : ℕ) where
         gated = products-many first v f n 0 n ∙ many_below _ (product_at args base (first + n) first) n (λ k h. rw (same k h, add-zero first))
 
   -- the rows over the bits after each label's own
-  module _ (ls us : List ℤ) where
-    later-row : {A : Type 0} (x y k : ℕ) (later : List A) → let K = get_or us x +0 ⊖ get_or ls y +0 ⊕ +1 in
-        row_parts first (sum≤0 (+1 · source x ∷ -1 · source y ∷ weighted (λ l. K) later k) (+1 ⊖ K)) ≡ later_row ls us x y (first + k) (length later)
+  module _ (β : ℕ → Bounds) where
+    later-row : {A : Type 0} (x y k : ℕ) (later : List A) → let K = (β x).upper ⊖ (β y).lower ⊕ +1 in
+        row_parts first (sum≤0 (+1 · source x ∷ -1 · source y ∷ weighted (λ l. K) later k) (+1 ⊖ K)) ≡ later_row β x y (first + k) (length later)
     unfolding row_parts later_row term_parts numbered
     later-row x y k later =
-        let K = get_or us x +0 ⊖ get_or ls y +0 ⊕ +1 in
+        let K = (β x).upper ⊖ (β y).lower ⊕ +1 in
         let e : suc (suc (length (weighted (λ l. K) later k))) ≡ length later + 2 = omega (arith, weighted-length (λ l. K) later k) in
         ap₂ (λ (n : ℕ) ps. head Kind.at_most n ∷ term +1 x ∷ term -1 y ∷ (ps ++ (constant (+1 ⊖ K) ∷ []))) e (same_parts first K later k)
 
     pub first_only_many : (u w f : ℕ → ℕ) (n k : ℕ) →
-        flat_map (row_parts first) (first_only (bounds_of ls us) u w (list_of f n) k) ≡ many (λ j. later_row ls us (u (f j)) (w (f j)) (first + k + (j + 1)) (n - (j + 1))) (n - 1)
+        flat_map (row_parts first) (first_only (β) u w (list_of f n) k) ≡ many (λ j. later_row β (u (f j)) (w (f j)) (first + k + (j + 1)) (n - (j + 1))) (n - 1)
     unfolding flat_map first_only list_of many
     first_only_many u w f zero k =
         let e : 0 ≡ 0 - 1 = omega arith in
-        ap (many (λ j. later_row ls us (u (f j)) (w (f j)) (first + k + (j + 1)) (0 - (j + 1)))) e
+        ap (many (λ j. later_row β (u (f j)) (w (f j)) (first + k + (j + 1)) (0 - (j + 1)))) e
     first_only_many u w f (suc zero) k =
         let e : 0 ≡ 1 - 1 = omega arith in
-        ap (many (λ j. later_row ls us (u (f j)) (w (f j)) (first + k + (j + 1)) (1 - (j + 1)))) e
+        ap (many (λ j. later_row β (u (f j)) (w (f j)) (first + k + (j + 1)) (1 - (j + 1)))) e
     first_only_many u w f (suc (suc n)) k =
-        let row : ℕ → List Part = λ j. later_row ls us (u (f j)) (w (f j)) (first + k + (j + 1)) (suc (suc n) - (j + 1)) in
+        let row : ℕ → List Part = λ j. later_row β (u (f j)) (w (f j)) (first + k + (j + 1)) (suc (suc n) - (j + 1)) in
         let e : suc (suc n - 1) ≡ suc (suc n) - 1 = omega arith in
         let v : first + suc k ≡ first + k + (0 + 1) = omega arith in
         let l : suc (length (list_of (λ j. f (suc (suc j))) n)) ≡ suc (suc n) - (0 + 1) = omega (arith, list_of-length (λ j. f (suc (suc j))) n) in
         ap₂ (λ a b. a ++ b)
-        (later-row (u (f 0)) (w (f 0)) (suc k) (f 1 ∷ list_of (λ j. f (suc (suc j))) n) ∙ ap₂ (λ (a b : ℕ). later_row ls us (u (f 0)) (w (f 0)) a b) v l)
+        (later-row (u (f 0)) (w (f 0)) (suc k) (f 1 ∷ list_of (λ j. f (suc (suc j))) n) ∙ ap₂ (λ (a b : ℕ). later_row β (u (f 0)) (w (f 0)) a b) v l)
         (first_only_many u w (λ j. f (suc j)) (suc n) (suc k)
         ∙ many-same _ _
         (λ j.
         let a : first + suc k + (j + 1) ≡ first + k + (suc j + 1) = omega arith in
         let b : suc n - (j + 1) ≡ suc (suc n) - (suc j + 1) = omega arith in
-        ap₂ (λ (a b : ℕ). later_row ls us (u (f (suc j))) (w (f (suc j))) a b) a b)
+        ap₂ (λ (a b : ℕ). later_row β (u (f (suc j))) (w (f (suc j))) a b) a b)
         (suc n - 1))
         ∙ ap (many row) e

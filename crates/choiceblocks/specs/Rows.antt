@@ -12,8 +12,8 @@ use Rattle.laying.specs.Part.{Part, bound, head, term, constant}
 use Rattle.laying.specs.Lists.{many, same_at, label_at, bit_at, product_at}
 
 -- Z(x), the variables x from a place on
-abbrev pub zero_at : List ℤ → List ℤ → List ℕ → ℕ → ℕ → List Part
-zero_at ls us args base k = bound (min_z +0 (get_or ls (var args (base + k)) +0)) (max_z +0 (get_or us (var args (base + k)) +0)) ∷ []
+abbrev pub zero_at : (ℕ → Bounds) → List ℕ → ℕ → ℕ → List Part
+zero_at β args base k = bound (min_z +0 (β (var args (base + k))).lower) (max_z +0 (β (var args (base + k))).upper) ∷ []
 
 -- over consecutive variables: the numbers from a place on, the numbers of a list
 abbrev pub number_term_at : List ℕ → ℕ → ℕ → ℕ → List Part
@@ -38,29 +38,29 @@ unfoldable pub choice_rows : ℤ → ℕ → ℕ → ℕ → List Part
 choice_rows from v n x = one_row v n ++ sum_row (label_at from v) n x
 
 -- n bits, and Z of the variables from a place on; z := x × b for each, and Σz − m = 0
-unfoldable pub gates : List ℤ → List ℤ → List ℕ → ℕ → ℕ → List Part
-gates ls us args base n = many bit_at n ++ many (zero_at ls us args base) n
+unfoldable pub gates : (ℕ → Bounds) → List ℕ → ℕ → ℕ → List Part
+gates β args base n = many bit_at n ++ many (zero_at β args base) n
 
 unfoldable pub gated_rows : List ℕ → ℕ → ℕ → ℕ → ℕ → List Part
 gated_rows args base v n m = many (product_at args base (v + n) v) n ++ sum_row (same_at +1 (v + n)) n m
 
 -- x − y + K×Σ + 1 − K ≤ 0 over n consecutive variables, K = hi x − lo y + 1
-unfoldable pub later_row : List ℤ → List ℤ → ℕ → ℕ → ℕ → ℕ → List Part
-later_row ls us x y v n =
-    let K = get_or us x +0 ⊖ get_or ls y +0 ⊕ +1 in
+unfoldable pub later_row : (ℕ → Bounds) → ℕ → ℕ → ℕ → ℕ → List Part
+later_row β x y v n =
+    let K = (β x).upper ⊖ (β y).lower ⊕ +1 in
     head Kind.at_most (n + 2) ∷ term +1 x ∷ term -1 y ∷ (many (same_at K v) n ++ (constant (+1 ⊖ K) ∷ []))
 
 -- such a row of x and m or of m and x, the variables x from a place on, over the bits after the one of x; the n bits from v on
-abbrev pub first_at : List ℤ → List ℤ → List ℕ → ℕ → ℕ → Bool → ℕ → ℕ → ℕ → List Part
-first_at ls us args base m up v n k =
+abbrev pub first_at : (ℕ → Bounds) → List ℕ → ℕ → ℕ → Bool → ℕ → ℕ → ℕ → List Part
+first_at β args base m up v n k =
     let x = var args (base + k) in
-    later_row ls us (x if up else m) (m if up else x) (v + (k + 1)) (n - (k + 1))
+    later_row β (x if up else m) (m if up else x) (v + (k + 1)) (n - (k + 1))
 
 -- 26 and 33 with the arguments' m and list: what stands before the row of each x; the block, with x − m ≤ 0 or m − x ≤ 0
-unfoldable pub one_of_parts : List ℤ → List ℤ → List ℕ → ℕ → List Part
-one_of_parts ls us args first =
+unfoldable pub one_of_parts : (ℕ → Bounds) → List ℕ → ℕ → List Part
+one_of_parts β args first =
     let n = size args 1 in
-    gates ls us args 2 n ++ (one_row first n ++ gated_rows args 2 first n (var args 0))
+    gates β args 2 n ++ (one_row first n ++ gated_rows args 2 first n (var args 0))
 
 abbrev pub extreme_of : (ℕ → Bounds) → Bool → ℕ → List ℕ → Block
 extreme_of β up m xs = one_of β (λ x. x if up else m) (λ x. m if up else x) m xs

@@ -1,10 +1,12 @@
 -- A number from its last digit on, right in any number of columns, and laying it so, the last column first.
 use Rattle.std.proofs.Common.{◌≡◌, refl, sym, ap, ◌∙◌, Bool, true, false, List, [], ◌∷◌, ◌++◌, append_assoc, append-nil, ℕ, zero, suc, ◌+◌, ◌-◌, ◌/◌, ◌%◌, ◌≤◌, ◌<◌, arith, ltb, ℤ, pos, negsuc, nat_abs, length, length-append, set, ltb-true, ltb-false, lt-ltb, le-ltb}
-use lib.Dec.{leb-zero}
-use lib.Signed.{le_z, mag}
+use lib.Signed.{lt_z}
 use Rattle.integers.specs.Choice.{◌if◌else◌}
 use Rattle.integers.proofs.Tests.{false-true}
 use Rattle.words.specs.Overlay.{overlay}
+use Rattle.decimals.specs.Printed.{Prints}
+use Rattle.decimals.specs.declared.Page.{Page}
+use Rattle.decimals.proofs.Printed.{then_prints}
 use Rattle.words.proofs.Overlay.{last-first}
 use Rattle.decimals.specs.Ahead.{byte_of, minus_after, ahead}
 use Rattle.decimals.specs.Column.{blanks, right}
@@ -75,24 +77,16 @@ pub alone : (n : ℕ) → marked false n ≡ decimal n
 unfolding marked
 alone n = refl
 
--- a signed number by its size, and its size by how far it is from 0 or from −1
-pub numeral-from : (z : ℤ) → le_z (pos 0) z ≡ true → numeral z ≡ marked false (nat_abs z)
+-- a signed number by whether it is below 0, and its size
+plain : (b : Bool) → b ≡ false → (n : ℕ) → decimal n ≡ marked b n
+unfolding marked
+plain true e n = false-true (sym e)
+plain false e n = refl
+
+pub numeral-marked : (z : ℤ) → numeral z ≡ marked (lt_z z (pos 0)) (nat_abs z)
 unfolding numeral marked
-numeral-from (pos n) t = refl
-numeral-from (negsuc n) t = false-true t
-
-pub numeral-below : (z : ℤ) → le_z (pos 0) z ≡ false → numeral z ≡ marked true (nat_abs z)
-unfolding numeral marked
-numeral-below (pos n) t = false-true (sym t ∙ leb-zero n)
-numeral-below (negsuc n) t = refl
-
-pub size-from : (z : ℤ) → le_z (pos 0) z ≡ true → mag z ≡ nat_abs z
-size-from (pos n) t = refl
-size-from (negsuc n) t = false-true t
-
-pub size_below : (z : ℤ) → le_z (pos 0) z ≡ false → mag z + 1 ≡ nat_abs z
-size_below (pos n) t = false-true (sym t ∙ leb-zero n)
-size_below (negsuc n) t = omega arith
+numeral-marked (pos n) = plain (lt_z (pos n) (pos 0)) (le-ltb n 0 (omega arith)) n
+numeral-marked (negsuc n) = refl
 
 -- ---- laying them, the last column first
 
@@ -105,15 +99,12 @@ module _ (out : List ℕ) (at : ℕ) where
       let e : suc w - 1 ≡ w = omega arith in
       rw (e, last-first out at (ahead w (minus_after m n) (n / 10)) (byte_of m n), length-ahead)
 
-  pub digit-first : (w : ℕ) (m : Bool) (n : ℕ) → 0 < w → length (marked m n) ≤ w →
-      overlay (set out (at + w - 1) (48 + n % 10)) at (ahead (w - 1) m (n / 10)) ≡ overlay out at (right w (marked m n))
-  digit-first zero m n l h = absurd (omega arith)
-  digit-first (suc w) m n l h =
-      let e : suc w - 1 ≡ w = omega arith in
-      let f : at + suc w - 1 ≡ at + w = omega arith in
-      rw (e, f, ← number-last w m n h, last-first out at (ahead w m (n / 10)) (48 + n % 10), length-ahead)
-
   pub no-columns : (w : ℕ) (m : Bool) (n : ℕ) → w ≤ 0 → overlay out at (ahead w m n) ≡ out
   unfolding ahead overlay
   no-columns zero m n h = refl
   no-columns (suc w) m n h = absurd (omega arith)
+
+-- a number printed: what stands ahead of its last digit, then that
+pub number-laid : (columns : ℕ) (m : Bool) (n : ℕ) → length (marked m n) ≤ columns → {p q r : Page} → Prints p (ahead (columns - 1) m (n / 10)) q → Prints q ((48 + n % 10) ∷ []) r → Prints p (right columns (marked m n)) r
+number-laid zero m n h a d = absurd (omega (arith, marked-some m n))
+number-laid (suc w) m n h a d = let e : suc w - 1 ≡ w = omega arith in rw (e, number-last w m n h) at (then_prints a d)

@@ -3,3 +3,4 @@ pub mod Decimal
 pub mod Column
 pub mod Marked
 pub mod Ahead
+pub mod Printed

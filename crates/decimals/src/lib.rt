@@ -1,22 +1,14 @@
-// Decimal numbers, blanks and single bytes, laid over a page of bytes from a place on; what does not fit the page is left out.
+// Decimal numbers, blanks and single bytes, laid over a page of bytes one after another; what does not fit the page is left out.
 #![tactic(auto)]
 
-ghost use Rattle.std.specs.Prelude.{◌≡◌, ◌+◌, ◌<◌, ◌≤◌, nat_abs, length, set};
-ghost use Rattle.words.specs.LaidAt.{LaidAt};
-ghost use Rattle.words.specs.Overlay.{overlay};
+ghost use Rattle.std.specs.Prelude.{◌≡◌, [], ◌∷◌, ◌+◌, ◌<◌, ◌≤◌, length};
 ghost use Rattle.decimals.specs.Ahead.{byte_of, minus_after, ahead};
 ghost use Rattle.decimals.specs.Column.{blanks, right, left};
 ghost use Rattle.decimals.specs.Decimal.{decimal, numeral};
 ghost use Rattle.decimals.specs.Marked.{marked};
+ghost use Rattle.decimals.specs.Printed.{Prints};
 
-// Puts a byte to a place of the page, if it has that place.
-pub fn put_byte(page: &mut [u8], at: usize, byte: u8)
-    ensures { page.new ≡ set page.old at byte }
-{
-    if at < page.len() {
-        page[at] = byte;
-    }
-}
+use words::list::{lay, put};
 
 // The byte in a column, with the digits of `rest` and perhaps a hyphen still to come from the right.
 #[tactic(auto, unfolding(crate::specs::Ahead::byte_of))]
@@ -24,9 +16,9 @@ fn byte_of(minus: bool, rest: usize) -> u8
     ensures { result ≡ byte_of minus rest }
 {
     if 0 < rest {
-        return 48 + (rest % 10) as u8;
+        return b'0' + (rest % 10) as u8;
     }
-    if minus { 45 } else { 32 }
+    if minus { b'-' } else { b' ' }
 }
 
 // Whether the hyphen is still to come after that column.
@@ -34,66 +26,7 @@ fn byte_of(minus: bool, rest: usize) -> u8
 fn minus_after(minus: bool, rest: usize) -> bool
     ensures { result ≡ minus_after minus rest }
 {
-    if 0 < rest {
-        return minus;
-    }
-    false
-}
-
-// The digits of `rest`, the hyphen and blanks, right in so many columns.
-fn put_ahead(page: &mut [u8], at: usize, columns: usize, minus: bool, rest: usize)
-    requires { at + columns < 1099511627776 }
-    ensures { page.new ≡ overlay page.old at (ahead columns minus rest) }
-{
-    let mut left = columns;
-    let mut hyphen = minus;
-    let mut digits = rest;
-    while 0 < left {
-        left -= 1;
-        put_byte(page, at + left, byte_of(hyphen, digits));
-        hyphen = minus_after(hyphen, digits);
-        digits = digits / 10;
-    }
-}
-
-// Blanks.
-pub fn put_blanks(page: &mut [u8], at: usize, columns: usize)
-    requires { at + columns < 1099511627776 }
-    ensures { page.new ≡ overlay page.old at (blanks columns) }
-{
-    put_ahead(page, at, columns, false, 0)
-}
-
-// A number, perhaps after a hyphen, right in so many columns.
-pub fn put_right(page: &mut [u8], at: usize, columns: usize, minus: bool, n: usize)
-    requires { (at + columns < 1099511627776) × (length (marked minus n) ≤ columns) }
-    ensures { page.new ≡ overlay page.old at (right columns (marked minus n)) }
-{
-    put_byte(page, at + columns - 1, 48 + (n % 10) as u8);
-    put_ahead(page, at, columns - 1, minus, n / 10)
-}
-
-// How far a number is from 0.
-fn size_of(v: i64) -> usize
-    ensures { result ≡ nat_abs v }
-{
-    if 0 <= v {
-        return v as usize;
-    }
-    let below = -1 - v;
-    below as usize + 1
-}
-
-// A signed number right in so many columns.
-pub fn put_number(page: &mut [u8], at: usize, columns: usize, v: i64)
-    requires { (at + columns < 1099511627776) × (length (numeral v) ≤ columns) }
-    ensures { page.new ≡ overlay page.old at (right columns (numeral v)) }
-{
-    if 0 <= v {
-        put_right(page, at, columns, false, size_of(v))
-    } else {
-        put_right(page, at, columns, true, size_of(v))
-    }
+    0 < rest && minus
 }
 
 // How many digits a number has.
@@ -102,6 +35,7 @@ fn digit_count(n: usize) -> usize
 {
     let mut count: usize = 1;
     let mut rest = n;
+    // no list or count to go over: the loop ends by the number that is left
     while 9 < rest {
         rest = rest / 10;
         count += 1;
@@ -109,21 +43,96 @@ fn digit_count(n: usize) -> usize
     count
 }
 
-// A number; answers where it ends.
-pub fn put_decimal(page: &mut [u8], at: usize, n: usize) -> usize
-    requires { at + length (decimal n) < 1099511627776 }
-    ensures { LaidAt page.old at (decimal n) page.new result }
-{
-    let digits = digit_count(n);
-    put_right(page, at, digits, false, n);
-    at + digits
+// A page of bytes, and the place where the next byte goes.
+#[derive(Drop)]
+pub struct Page<'a> {
+    pub bytes: &'a mut [u8],
+    pub at: usize,
 }
 
-// A number left in so many columns.
-pub fn put_left(page: &mut [u8], at: usize, columns: usize, n: usize)
-    requires { (at + columns < 1099511627776) × (length (decimal n) ≤ columns) }
-    ensures { page.new ≡ overlay page.old at (left columns (decimal n)) }
-{
-    let end = put_decimal(page, at, n);
-    put_blanks(page, end, at + columns - end)
+impl<'a> Page<'a> {
+    // A byte.
+    #[tactic(auto, unfolding(words::specs::Overlay::overlay))]
+    pub fn byte(&mut self, byte: u8)
+        requires { self.old.at + 1 < 1099511627776 }
+        ensures text { Prints self.old (byte ∷ []) self.new }
+        ensures end { self.new.at ≡ self.old.at + 1 }
+    {
+        put(self.bytes, self.at, byte);
+        self.at += 1;
+    }
+
+    // Bytes.
+    pub fn text(&mut self, text: &[u8])
+        requires { self.old.at + length text.now < 1099511627776 }
+        ensures text { Prints self.old text.now self.new }
+        ensures end { self.new.at ≡ self.old.at + length text.now }
+    {
+        lay(self.bytes, self.at, text);
+        self.at += text.len();
+    }
+
+    // The digits of `rest`, the hyphen and blanks, right in so many columns.
+    fn ahead(&mut self, columns: usize, minus: bool, rest: usize)
+        requires { self.old.at + columns < 1099511627776 }
+        ensures text { Prints self.old (ahead columns minus rest) self.new }
+        ensures end { self.new.at ≡ self.old.at + columns }
+    {
+        let mut hyphen = minus;
+        let mut digits = rest;
+        for left in (0..columns).rev() {
+            put(self.bytes, self.at + left, byte_of(hyphen, digits));
+            hyphen = minus_after(hyphen, digits);
+            digits = digits / 10;
+        }
+        self.at += columns;
+    }
+
+    // Blanks.
+    pub fn blanks(&mut self, columns: usize)
+        requires { self.old.at + columns < 1099511627776 }
+        ensures text { Prints self.old (blanks columns) self.new }
+        ensures end { self.new.at ≡ self.old.at + columns }
+    {
+        self.ahead(columns, false, 0)
+    }
+
+    // A number, perhaps after a hyphen, right in so many columns.
+    pub fn right(&mut self, columns: usize, minus: bool, n: usize)
+        requires { (self.old.at + columns < 1099511627776) × (length (marked minus n) ≤ columns) }
+        ensures text { Prints self.old (right columns (marked minus n)) self.new }
+        ensures end { self.new.at ≡ self.old.at + columns }
+    {
+        self.ahead(columns - 1, minus, n / 10);
+        self.byte(b'0' + (n % 10) as u8)
+    }
+
+    // A signed number right in so many columns.
+    pub fn number(&mut self, columns: usize, v: i64)
+        requires { (self.old.at + columns < 1099511627776) × (length (numeral v) ≤ columns) }
+        ensures text { Prints self.old (right columns (numeral v)) self.new }
+        ensures end { self.new.at ≡ self.old.at + columns }
+    {
+        self.right(columns, v < 0, v.unsigned_abs() as usize)
+    }
+
+    // A number.
+    pub fn decimal(&mut self, n: usize)
+        requires { self.old.at + length (decimal n) < 1099511627776 }
+        ensures text { Prints self.old (decimal n) self.new }
+        ensures end { self.new.at ≡ self.old.at + length (decimal n) }
+    {
+        self.right(digit_count(n), false, n)
+    }
+
+    // A number left in so many columns.
+    pub fn left(&mut self, columns: usize, n: usize)
+        requires { (self.old.at + columns < 1099511627776) × (length (decimal n) ≤ columns) }
+        ensures text { Prints self.old (left columns (decimal n)) self.new }
+        ensures end { self.new.at ≡ self.old.at + columns }
+    {
+        let end = self.at + columns;
+        self.decimal(n);
+        self.blanks(end - self.at)
+    }
 }

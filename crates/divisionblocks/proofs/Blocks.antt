@@ -10,7 +10,7 @@ use Rattle.rules.specs.Parts.{end_products}
 use Rattle.rules.specs.Division.{M, division_table, table_row, division_rows, quotient_bounds, remainder_row}
 use Rattle.rules.specs.Rule.{division, left_over}
 use Rattle.laying.specs.Part.{bound, bound_parts, term_parts, row_parts, block_parts}
-use Rattle.laying.specs.Lists.{many, row_parts_of}
+use Rattle.laying.specs.Lists.{many, term_of, row_parts_of}
 use Rattle.divisionblocks.specs.Rows.{auxiliary_parts, table_parts, division_parts}
 
 module _ (first : ℕ) where
@@ -39,14 +39,14 @@ module _ (first : ℕ) where
       sum k = omega arith
 
   pub left_over-parts : (β : ℕ → Bounds) (n d r : ℕ) → let Q = quotient_bounds (β n) in
-      bound Q.lower Q.upper ∷ (division_parts (β n) (β d) Q n d first (first + 1) ++ row_parts_of Kind.equal ((first + 3) ∷ r ∷ n ∷ []) (+1 ∷ +1 ∷ -1 ∷ []) +0)
+      bound Q.lower Q.upper ∷ (division_parts (β n) (β d) Q n d first (first + 1) ++ row_parts_of Kind.equal (term_of +1 (first + 3) ∷ term_of +1 r ∷ term_of -1 n ∷ []) +0)
       ≡ block_parts first (left_over β n d r)
   unfolding division_parts auxiliary_parts many row_parts_of block_parts bound_parts left_over remainder_row flat_map row_parts term_parts numbered
   left_over-parts β n d r =
       let Q = quotient_bounds (β n) in
       let P = end_products (β d) Q in
       let rows = division_rows (β n) (β d) P (source n) (source d) (aux 0) (aux 1) (aux 2) (aux 3) (aux 4) in
-      let row = row_parts_of Kind.equal ((first + 3) ∷ r ∷ n ∷ []) (+1 ∷ +1 ∷ -1 ∷ []) +0 in
+      let row = row_parts_of Kind.equal (term_of +1 (first + 3) ∷ term_of +1 r ∷ term_of -1 n ∷ []) +0 in
       ap (λ l. bound Q.lower Q.upper ∷ bound +0 +1 ∷ bound +0 +1 ∷ bound P.lower P.upper ∷ bound +0 +1 ∷ l)
       (ap (λ l. l ++ row) (later (division_table (β n) (β d) (M (β n) (β d) P)) n d ∙ rows_are (β n) (β d) P n d (aux 0) 1 2 3 4)
       ∙ sym (flat_map_append (row_parts first) rows (remainder_row (aux 3) (source r) (source n) ∷ [])))

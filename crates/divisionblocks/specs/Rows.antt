@@ -6,11 +6,11 @@ use Rattle.words.specs.Kind as Kind
 use Rattle.rules.specs.Parts.{end_products}
 use Rattle.rules.specs.Division.{M, division_table}
 use Rattle.laying.specs.Part.{Part, bound, times}
-use Rattle.laying.specs.Lists.{many, row_parts_of, bit_at}
+use Rattle.laying.specs.Lists.{many, term_of, row_parts_of, bit_at}
 
 -- a row of six coefficients and a constant, over the variables
 abbrev pub six_terms : List ℕ → List ℤ → List Part
-six_terms xs row = row_parts_of Kind.at_most xs (map (λ j. get_or row j +0) (0 ∷ 1 ∷ 2 ∷ 3 ∷ 4 ∷ 5 ∷ [])) (get_or row 6 +0)
+six_terms xs row = row_parts_of Kind.at_most (map (λ j. term_of (get_or row j +0) (get_or xs j 0)) (0 ∷ 1 ∷ 2 ∷ 3 ∷ 4 ∷ 5 ∷ [])) (get_or row 6 +0)
 
 -- the k-th row of a table
 abbrev pub table_at : List ℕ → List (List ℤ) → ℕ → List Part

@@ -1,49 +1,57 @@
 // The ten rows of int_div and int_mod as a table of numbers.
-ghost use Rattle.std.specs.Prelude.{◌≡◌, ◌<◌, ◌≤◌, nat_abs, length};
+ghost use Rattle.std.specs.Prelude.{◌≡◌, ◌<◌, ◌≤◌, nat_abs};
 ghost use Rattle.integers.specs.Number.{◌⊖◌, neg, max_z};
-ghost use Rattle.integers.specs.Bounds.{◌to◌};
 ghost use Rattle.words.specs.Small.{Near};
 ghost use Rattle.rules.specs.Division.{M, division_table};
 ghost use Rattle.laying.specs.Lists.{many};
-ghost use Rattle.laying.specs.Appends.{Appends, GrowsBy};
+ghost use Rattle.laying.specs.Writes.{Writes};
 ghost use Rattle.laying.specs.Room.{Room};
 ghost use Rattle.divisionblocks.specs.Rows.{table_at};
 
-use integers::{largest, minus, opposite, plus};
-use laying::{Laid, lay_row};
-use words::kind;
+use integers::{Bounds, largest, minus, opposite, plus};
+use laying::Writer;
+use laying::term::Term;
+use words::domain::Domain;
+use words::kind::Kind;
 
 // The larger of p−n and n−p, over the bounds.
-fn apart(nl: i64, nu: i64, pl: i64, pu: i64) -> i64
-    requires { Near nl × Near nu × (nat_abs pl ≤ 18014398509481984) × (nat_abs pu ≤ 18014398509481984) }
-    ensures { (result ≡ max_z (pu ⊖ nl) (nu ⊖ pl)) × (nat_abs result ≤ 18014398643699712) }
+fn apart(n: Domain, p: Bounds) -> i64
+    requires { (nat_abs p.lower ≤ 18014398509481984) × (nat_abs p.upper ≤ 18014398509481984) }
+    ensures value { result ≡ max_z (p.upper ⊖ n.lower) (n.upper ⊖ p.lower) }
+    ensures size { nat_abs result ≤ 18014398643699712 }
 {
-    largest(minus(pu, nl), minus(nu, pl))
+    largest(minus(p.upper, n.lower()), minus(n.upper(), p.lower))
 }
 
 // The larger of −d and d.
-fn either_way(dl: i64, du: i64) -> i64
-    requires { Near dl × Near du }
-    ensures { (result ≡ max_z (neg dl) du) × Near result }
+#[tactic(auto, unfolding(integers::specs::Number::max_z))]
+fn either_way(d: Domain) -> i64
+    ensures value { result ≡ max_z (neg d.lower) d.upper }
+    ensures near { Near result }
 {
-    largest(opposite(dl), du)
+    opposite(d.lower()).max(d.upper())
 }
 
 // M: the larger of p−n and n−p, with the larger of −d and d, and 1, added where that is more.
-pub fn m_of(nl: i64, nu: i64, dl: i64, du: i64, pl: i64, pu: i64) -> i64
-    requires { Near nl × Near nu × Near dl × Near du × (nat_abs pl ≤ 18014398509481984) × (nat_abs pu ≤ 18014398509481984) }
-    ensures { (result ≡ M (nl to nu) (dl to du) (pl to pu)) × (nat_abs result < 36028797018963968) }
+pub fn m_of(n: Domain, d: Domain, p: Bounds) -> i64
+    requires { (nat_abs p.lower ≤ 18014398509481984) × (nat_abs p.upper ≤ 18014398509481984) }
+    ensures value { result ≡ M n d p }
+    ensures size { nat_abs result < 36028797018963968 }
 {
-    let a = apart(nl, nu, pl, pu);
-    let d = either_way(dl, du);
-    largest(a, plus(plus(a, d), 1))
+    let a = apart(n, p);
+    let way = either_way(d);
+    largest(a, plus(plus(a, way), 1))
 }
 
 // The coefficients of n, d, p, α, β, γ and the constant of each row.
-pub fn numbers(nl: i64, nu: i64, dl: i64, du: i64, m: i64) -> [[i64; 7]; 10]
-    requires { Near nl × Near nu × Near dl × Near du × (nat_abs m < 36028797018963968) }
-    ensures { result ≡ division_table (nl to nu) (dl to du) m }
+pub fn numbers(n: Domain, d: Domain, m: i64) -> [[i64; 7]; 10]
+    requires { nat_abs m < 36028797018963968 }
+    ensures { result ≡ division_table n d m }
 {
+    let nl = n.lower();
+    let nu = n.upper();
+    let dl = d.lower();
+    let du = d.upper();
     let minus_m = opposite(m);
     let one_less = minus(1, m);
     [
@@ -61,17 +69,20 @@ pub fn numbers(nl: i64, nu: i64, dl: i64, du: i64, m: i64) -> [[i64; 7]; 10]
 }
 
 // The rows of a table over six variables.
-pub fn lay_table(out: &mut [u32], s: Laid, xs: &[usize], table: [[i64; 7]; 10]) -> Laid
-    requires { Room 20000 s × (length xs.now ≡ 6) }
-    ensures { Appends s result out.old out.new (many (table_at xs.now table) 10) × GrowsBy 20000 s result }
+pub fn write_table(writer: &mut Writer, xs: &[usize; 6], table: &[[i64; 7]; 10])
+    requires { Room 20000 writer.old }
+    ensures { Writes 20000 writer.old writer.new (many (table_at xs.now table.now) 10) }
 {
-    let mut t = s;
-    let mut k = 0;
-    while k < 10 {
+    for k in 0..10 {
         let row = table[k];
-        let cs = [row[0], row[1], row[2], row[3], row[4], row[5]];
-        t = lay_row(out, t, kind::AT_MOST, xs, &cs, row[6]);
-        k += 1;
+        let terms = [
+            Term::new(row[0], xs[0]),
+            Term::new(row[1], xs[1]),
+            Term::new(row[2], xs[2]),
+            Term::new(row[3], xs[3]),
+            Term::new(row[4], xs[4]),
+            Term::new(row[5], xs[5]),
+        ];
+        writer.row(Kind::AtMost, &terms, row[6]);
     }
-    t
 }

@@ -1,9 +1,10 @@
--- The words of bytes: how many they are; one after another, for the loop that lays them over a list.
-use Rattle.std.proofs.Common.{◌≡◌, refl, ap, sym, ◌∙◌, List, [], ◌∷◌, ℕ, suc, ◌+◌, ◌-◌, ◌/◌, ◌≤◌, ◌<◌, arith, length, drop, get_or, set, length-drop, drop-cons}
-use Rattle.words.specs.Overlay.{overlay}
+-- The words of bytes: one for each four of them, the spare ones left off.
+use Rattle.std.proofs.Common.{◌≡◌, refl, List, [], ◌∷◌, ℕ, suc, ◌/◌, ◌<◌, arith, length, get_or, map}
+use Rattle.std.specs.Simd.{first_chunks}
+use Rattle.std.proofs.lemmas.List.{get_or-map}
 use Rattle.encoding.specs.Bytes.{bytes_word, bytes_words}
 
--- a quarter of the bytes, the spare ones left off
+-- a quarter of the bytes
 pub quarter : (bytes : List ℕ) → length bytes / 4 ≡ length (bytes_words bytes)
 unfolding bytes_words
 quarter [] = omega arith
@@ -12,62 +13,18 @@ quarter (a ∷ b ∷ []) = omega arith
 quarter (a ∷ b ∷ c ∷ []) = omega arith
 quarter (a ∷ b ∷ c ∷ d ∷ rest) = omega (arith, quarter rest)
 
--- fewer than four bytes have no word
-few : (bytes : List ℕ) → length bytes < 4 → bytes_words bytes ≡ []
+-- the word of four bytes
+abbrev pub quad_word : List ℕ → ℕ
+quad_word q = bytes_word (get_or q 0 0) (get_or q 1 0) (get_or q 2 0) (get_or q 3 0)
+
+by_quads : (bytes : List ℕ) → bytes_words bytes ≡ map quad_word (first_chunks 4 (length bytes / 4) bytes)
 unfolding bytes_words
-few [] l = refl
-few (a ∷ []) l = refl
-few (a ∷ b ∷ []) l = refl
-few (a ∷ b ∷ c ∷ []) l = refl
-few (a ∷ b ∷ c ∷ d ∷ rest) l = absurd (omega arith)
+by_quads [] = refl
+by_quads (a ∷ []) = refl
+by_quads (a ∷ b ∷ []) = refl
+by_quads (a ∷ b ∷ c ∷ []) = refl
+by_quads (a ∷ b ∷ c ∷ d ∷ rest) = let e : length (a ∷ b ∷ c ∷ d ∷ rest) / 4 ≡ suc (length rest / 4) = omega arith in rw (e, by_quads rest)
 
-module _ (bytes : List ℕ) where
-  -- the word of the four bytes at a place
-  abbrev pub word_from : ℕ → ℕ
-  word_from at = bytes_word (get_or bytes at 0) (get_or bytes (at + 1) 0) (get_or bytes (at + 2) 0) (get_or bytes (at + 3) 0)
-
-  byte : (at next : ℕ) → next ≡ suc at → at < length bytes → drop at bytes ≡ get_or bytes at 0 ∷ drop next bytes
-  byte at next e l = rw e (drop-cons bytes at 0 l)
-
-  -- the words from a place on: that one, then the rest
-  next : (at : ℕ) → at + 4 ≤ length bytes → bytes_words (drop at bytes) ≡ word_from at ∷ bytes_words (drop (at + 4) bytes)
-  unfolding bytes_words
-  next at l =
-      rw (
-        byte at (at + 1) (omega arith) (omega arith),
-        byte (at + 1) (at + 2) (omega arith) (omega arith),
-        byte (at + 2) (at + 3) (omega arith) (omega arith),
-        byte (at + 3) (at + 4) (omega arith) (omega arith),
-      )
-
--- one word laid, then the rest
-one : (out : List ℕ) (i w : ℕ) (ws : List ℕ) → overlay out i (w ∷ ws) ≡ overlay (set out i w) (i + 1) ws
-unfolding overlay
-one out i w ws = let e : suc i ≡ i + 1 = omega arith in ap (λ (n : ℕ). overlay (set out i w) n ws) e
-
--- The loop has laid the words of the bytes before `at`, i of them: laying the rest gives what laying them all gives.
-pub record Laying (bytes before out : List ℕ) (i at : ℕ) : Type 0 where
-  pub inside : at ≤ length bytes
-  pub fewer : i ≤ at
-  pub count : i + length (bytes_words (drop at bytes)) ≡ length (bytes_words bytes)
-  pub words : overlay out i (bytes_words (drop at bytes)) ≡ overlay before 0 (bytes_words bytes)
-
-module _ {bytes before out : List ℕ} {i at : ℕ} (s : Laying bytes before out i at) where
-  pub more : at + 4 ≤ length bytes → Laying bytes before (set out i (word_from bytes at)) (i + 1) (at + 4)
-  more l =
-      let e = next bytes at l in
-      record {
-        inside = l;
-        fewer = omega (arith, s.fewer);
-        count = omega (arith, rw e at s.count);
-        words = sym (one out i _ _) ∙ rw e at s.words;
-      }
-
-  pub done : length bytes - at < 4 → (i ≡ length (bytes_words bytes)) × (out ≡ overlay before 0 (bytes_words bytes))
-  unfolding overlay
-  done l =
-      let e : bytes_words (drop at bytes) ≡ [] = few (drop at bytes) (rw (length-drop at bytes) l) in
-      (omega (arith, rw e at s.count), rw e at s.words)
-
-pub begun : (bytes out : List ℕ) → Laying bytes out out 0 0
-begun bytes out = record { inside = omega arith; fewer = omega arith; count = omega arith; words = refl }
+pub quad_at : (bytes : List ℕ) (quads : List (List ℕ)) (i : ℕ) → quads ≡ first_chunks 4 (length bytes / 4) bytes → i < length quads →
+    get_or (bytes_words bytes) i 0 ≡ quad_word (get_or quads i [])
+quad_at bytes quads i e h = rw (by_quads, ← e) (get_or-map quad_word quads i [] 0 h)

@@ -1,5 +1,5 @@
 -- What a constraint encodes, by its code; the record after its block, and how large the numbers in it are.
-use Rattle.std.proofs.Common.{◌≡◌, refl, Bool, true, false, ◌&&◌, ◌||◌, List, [], ◌∷◌, ℕ, ◌<◌, arith, eqb, length, get_or, set, length-set, get_or-set_same, get_or-set_other}
+use Rattle.std.proofs.Common.{◌≡◌, refl, Bool, true, false, ◌&&◌, ◌||◌, List, [], ◌∷◌, ℕ, zero, suc, ◌<◌, arith, eqb, ne_eqb, length, get_or, set, length-set, get_or-set_same, get_or-set_other}
 use native.Mathlib.Decide.{ℕ_discrete, dec_lt}
 use lib.ListN.{length-replicate}
 use lib.Seq.{set_out}
@@ -8,6 +8,7 @@ use Rattle.integers.specs.Lists.{any}
 use Rattle.integers.proofs.Booleans.{or-false}
 use Rattle.integers.proofs.Places.{get_or-replicate_same}
 use Rattle.models.specs.Model.{Constraint, var, vars, nums, past}
+use Rattle.arguments.proofs.Unknown.{Unknown, past_last}
 use Rattle.rules.specs.Shared.{of_element, of_var_element, of_set, of_set_reif, no_choice, choice, encodes, shares, Encoded, none_yet, first_of, encoded_after}
 use Rattle.encodings.specs.Uses.{choice_of, choosing, Recorded}
 
@@ -26,6 +27,19 @@ encodes-by c = go (eqb c.code 24) (eqb c.code 25) (eqb c.code 27) (eqb c.code 28
     go false false true s = refl
     go false false false true = refl
     go false false false false = refl
+
+-- of a constraint that is given by its code and its words
+pub encodes-of : (code : ℕ) (args : List ℕ) → encodes (choice_of code args) ≡ (var args 0 ∷ [] if choosing code else [])
+unfolding choice_of
+encodes-of code args = encodes-by (record { place = 0; code = code; arguments = args })
+
+-- a number that no code has
+pub no-choosing : (code : ℕ) → Unknown code → choosing code ≡ false
+unfolding choosing
+no-choosing zero h = refl
+no-choosing (suc n) h =
+    let l : 39 < suc n = past_last (suc n) h (omega arith) in
+    rw (ne_eqb (suc n) 24 (omega arith), ne_eqb (suc n) 25 (omega arith), ne_eqb (suc n) 27 (omega arith), ne_eqb (suc n) 28 (omega arith))
 
 -- whether its variable is shared
 pub shares-by : (s : ℕ → Bool) (code : ℕ) (args : List ℕ) → shares s (choice_of code args) ≡ (s (var args 0) if choosing code else false)
@@ -55,6 +69,10 @@ record_by s first e code args = rw (encodes-by (record { place = 0; code = code;
     go : (b : Bool) → encoded_after s first e (x ∷ [] if b else []) ≡ ((set e x first if old else e) if any s (x ∷ [] if b else []) else e)
     go true = shared_or_not (s x)
     go false = refl
+
+pub ruleset no_choosing = (no-choosing)
+
+pub ruleset by_code = (encodes-of, shares-by, record_by)
 
 -- the place of a constraint plays no part
 pub placed_record : (s : ℕ → Bool) (first : ℕ) (e : Encoded) (c : Constraint) {d : Encoded} → d ≡ encoded_after s first e (encodes (choice_of c.code c.arguments)) → d ≡ encoded_after s first e (encodes (choice c))

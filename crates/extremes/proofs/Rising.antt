@@ -1,10 +1,9 @@
 -- The members of a set, as loops find them: the least one place by place, and one after another.
-use Rattle.std.proofs.Common.{◌≡◌, refl, ◌∙◌, Bool, true, false, ◌&&◌, List, [], ◌∷◌, ℕ, zero, suc, ◌+◌, ◌-◌, ◌<◌, ◌≤◌, arith, add-one, ℤ, nat_abs, length, set, length-set}
+use Rattle.std.proofs.Common.{◌≡◌, refl, ◌∙◌, Bool, true, false, ◌&&◌, List, [], ◌∷◌, ℕ, zero, suc, ◌+◌, ◌-◌, ◌<◌, ◌≤◌, arith, add-one, ℤ, nat_abs, length, set, length-set, get_or}
 use lib.Signed.{le_z, lt_z}
 use Rattle.integers.specs.Choice.{◌if◌else◌}
-use Rattle.integers.specs.Number.{◌⊕◌, +1}
+use Rattle.integers.specs.Number.{◌⊕◌, +0, +1}
 use Rattle.integers.specs.Lists.{list_of}
-use Rattle.integers.specs.Bounds.{◌to◌}
 use Rattle.integers.specs.declared.Bounds.{Bounds}
 use Rattle.integers.proofs.Fits.{plus-size}
 use Rattle.integers.proofs.Lists.{list_of-length}
@@ -54,6 +53,21 @@ pub members-length : (ws : List ℕ) (i : ℕ) (B : Bounds) → length (members 
 unfolding members nums
 members-length ws i B = let n = list_of-length (λ k. num ws (i + 1 + k)) (size ws i) in omega (arith, rising-length (nums ws i) B.upper (length (nums ws i)) B.lower, size-le ws i)
 
+-- how large they are
+rising-size : (ws : List ℕ) (i : ℕ) (upper : ℤ) → Near upper → (n : ℕ) (from : ℤ) (k : ℕ) → nat_abs (get_or (rising (nums ws i) upper n from) k +0) ≤ Limit.half + 1
+unfolding rising
+rising-size ws i upper h zero from k = omega arith
+rising-size ws i upper h (suc n) from k = let v = least_from (nums ws i) from (upper ⊕ +1) in go (lt_z upper v) v (rising (nums ws i) upper n (v ⊕ +1)) (set-size ws i from upper h) (rising-size ws i upper h n (v ⊕ +1)) k
+  where
+    go : (b : Bool) (v : ℤ) (rest : List ℤ) → nat_abs v ≤ Limit.half + 1 → ((k : ℕ) → nat_abs (get_or rest k +0) ≤ Limit.half + 1) → (k : ℕ) → nat_abs (get_or ([] if b else v ∷ rest) k +0) ≤ Limit.half + 1
+    go true v rest l r k = omega arith
+    go false v rest l r zero = l
+    go false v rest l r (suc k) = r k
+
+pub members-size : (ws : List ℕ) (i : ℕ) (B : Bounds) → Near B.upper → (k : ℕ) → nat_abs (get_or (members (nums ws i) B) k +0) ≤ Limit.half + 1
+unfolding members
+members-size ws i B h k = rising-size ws i B.upper h (length (nums ws i)) B.lower k
+
 -- k members stand in a list, and `left` more may follow from `from` on
 pub record Rising (S : List ℤ) (upper : ℤ) (all : List ℤ) (out₀ out : List ℤ) (k left : ℕ) (from : ℤ) : Type 0 where
   pub many : k + length (rising S upper left from) ≡ length all
@@ -61,9 +75,9 @@ pub record Rising (S : List ℤ) (upper : ℤ) (all : List ℤ) (out₀ out : Li
   pub fuel : k + left ≤ 32
   pub same : length out ≡ length out₀
 
-pub begun : (ws : List ℕ) (i : ℕ) (upper from : ℤ) (out : List ℤ) → Rising (nums ws i) upper (members (nums ws i) (from to upper)) out out 0 (size ws i) from
+pub begun : (ws : List ℕ) (i : ℕ) (B : Bounds) (out : List ℤ) → Rising (nums ws i) B.upper (members (nums ws i) B) out out 0 (size ws i) B.lower
 unfolding members nums
-begun ws i upper from out = record {
+begun ws i B out = record {
   many = rw list_of-length (omega arith);
   over = rw list_of-length;
   fuel = omega (arith, size-le ws i);

@@ -1,140 +1,122 @@
-// Numbers from the bounds of the variables, which stand in two lists: the least and largest of products, halves, and the members of a set.
+// Numbers from the bounds of the variables: the least and largest of products, halves, and the members of a set.
 #![tactic(auto)]
 
-ghost use Rattle.std.specs.Prelude.{◌≡◌, ◌&&◌, ◌<◌, ◌≤◌, pos, nat_abs, length, get_or, set};
+ghost use Rattle.std.specs.Prelude.{◌≡◌, ◌&&◌, ◌<◌, ◌≤◌, ℕ, ◌+◌, pos, nat_abs, length, get_or};
 ghost use Rattle.std.specs.Int.Signed.{le_z, lt_z};
 ghost use Rattle.integers.specs.Choice.{◌if◌else◌};
-ghost use Rattle.integers.specs.Number.{◌⊖◌, ◌⊗◌, min_z, max_z, abs_z, +0, +1};
-ghost use Rattle.integers.specs.Bounds.{◌to◌, width};
-ghost use Rattle.extremes.specs.BoundLists.{bounds_of, with_lowers, with_uppers, gap_plus};
-ghost use Rattle.extremes.specs.Kept.{lower_of, upper_of};
+ghost use Rattle.integers.specs.Number.{◌⊕◌, ◌⊖◌, ◌⊗◌, min_z, max_z, abs_z, +0};
+ghost use Rattle.integers.specs.Bounds.{width};
 ghost use Rattle.words.specs.Variables.{variables};
 ghost use Rattle.words.specs.Overlay.{overlay};
 ghost use Rattle.words.specs.Limit as Limit;
-ghost use Rattle.words.specs.Small.{Near, Small};
-ghost use Rattle.models.specs.Model.{var, nums};
-ghost use Rattle.rules.specs.Parts.{end_products, half_less, least_from, members};
+ghost use Rattle.words.specs.Small.{Near};
+ghost use Rattle.words.specs.Word.{signed};
+ghost use Rattle.models.specs.Model.{nums};
+ghost use Rattle.rules.specs.Parts.{end_products, half_less, least_from, members, places};
+ghost use Rattle.variables.specs.Start.{pair_bounds};
 
-use arguments::{count_of, num_at, size_at, var_at};
-use integers::test::{at_most, below, both};
-use integers::{largest, least, minus, opposite, pick, plus, times};
-use words::{signed_of, word_at};
+use arguments::{count_of, num_at, size_at};
+use integers::{Bounds, minus, pick, plus, times};
+use variables::{starts_pair, starts_variable};
+use words::domain::Domain;
+use words::limit;
+use words::list::put;
+use words::word::Word;
 
-// A variable's bound in a list of lower or of upper ones, 0 past the last one.
-pub fn bound_at(bounds: &[i64], v: usize) -> i64
-    ensures { result ≡ get_or bounds.now v +0 }
+// The lesser or the larger product of a number and a variable's bounds.
+pub fn times_ends(a: i64, b: Domain, up: bool) -> i64
+    requires { Near a }
+    ensures value { result ≡ (max_z if up else min_z) (a ⊗ b.lower) (a ⊗ b.upper) }
+    ensures size { nat_abs result ≤ 18014398509481984 }
 {
-    if v < bounds.len() {
-        return bounds[v];
-    }
-    0
-}
-
-// The lesser or the larger product of a number and two bounds.
-pub fn times_ends(a: i64, lower: i64, upper: i64, up: bool) -> i64
-    requires { Near a × Near lower × Near upper }
-    ensures { result ≡ (max_z if up else min_z) (a ⊗ lower) (a ⊗ upper) }
-{
-    pick(times(a, lower), times(a, upper), up)
-}
-
-// The absolute value.
-fn absolute(v: i64) -> i64
-    requires { nat_abs v < 9223372036854775808 }
-    ensures { result ≡ abs_z v }
-{
-    largest(v, opposite(v))
+    pick(times(a, b.lower()), times(a, b.upper()), up)
 }
 
 // The larger of two absolute values.
+#[tactic(auto, unfolding(integers::specs::Number::max_z, integers::specs::Number::abs_z))]
 pub fn larger_absolute(a: i64, b: i64) -> i64
     requires { (nat_abs a ≤ 1152921504606846976) × (nat_abs b ≤ 1152921504606846976) }
-    ensures { (result ≡ max_z (abs_z a) (abs_z b)) × (nat_abs result ≤ 1152921504606846976) }
+    ensures value { result ≡ max_z (abs_z a) (abs_z b) }
+    ensures size { nat_abs result ≤ 1152921504606846976 }
 {
-    largest(absolute(a), absolute(b))
+    a.abs().max(b.abs())
 }
 
 // The lower bound of Z: the lesser of 0 and a lower bound.
+#[tactic(auto, unfolding(integers::specs::Number::min_z))]
 pub fn zero_lower(lower: i64) -> i64
     ensures { result ≡ min_z +0 lower }
 {
-    least(0, lower)
+    0.min(lower)
 }
 
 // Its upper bound: the larger of 0 and an upper bound.
+#[tactic(auto, unfolding(integers::specs::Number::max_z))]
 pub fn zero_upper(upper: i64) -> i64
     ensures { result ≡ max_z +0 upper }
 {
-    largest(0, upper)
+    0.max(upper)
 }
 
 // The least or the largest of the four products of the ends of two bounds.
-pub fn product_end(al: i64, au: i64, bl: i64, bu: i64, up: bool) -> i64
-    requires { Near al × Near au × Near bl × Near bu }
-    ensures { (result ≡ ((end_products (al to au) (bl to bu)).upper if up else (end_products (al to au) (bl to bu)).lower)) × (nat_abs result ≤ 18014398509481984) }
+fn end_product(a: Domain, b: Domain, up: bool) -> i64
+    ensures value { result ≡ ((end_products a b).upper if up else (end_products a b).lower) }
+    ensures size { nat_abs result ≤ 18014398509481984 }
 {
-    pick(times_ends(al, bl, bu, up), times_ends(au, bl, bu, up), up)
-}
-
-// Of the bounds of two variables.
-pub fn end_product(ls: &[i64], us: &[i64], a: usize, b: usize, up: bool) -> i64
-    requires { Small ls.now × Small us.now }
-    ensures { let β = bounds_of ls.now us.now in result ≡ ((end_products (β a) (β b)).upper if up else (end_products (β a) (β b)).lower) }
-{
-    product_end(
-        bound_at(ls, a),
-        bound_at(us, a),
-        bound_at(ls, b),
-        bound_at(us, b),
+    pick(
+        times_ends(a.lower(), b, up),
+        times_ends(a.upper(), b, up),
         up,
     )
 }
 
-// hi a − lo b
-fn gap(ls: &[i64], us: &[i64], a: usize, b: usize) -> i64
-    requires { Small ls.now × Small us.now }
-    ensures { result ≡ get_or us.now a +0 ⊖ get_or ls.now b +0 }
+// The least and the largest of them.
+pub fn end_products(a: Domain, b: Domain) -> Bounds
+    ensures value { result ≡ end_products a b }
+    ensures lower_size { nat_abs result.lower ≤ 18014398509481984 }
+    ensures upper_size { nat_abs result.upper ≤ 18014398509481984 }
 {
-    minus(bound_at(us, a), bound_at(ls, b))
+    Bounds {
+        lower: end_product(a, b, false),
+        upper: end_product(a, b, true),
+    }
 }
 
 // hi a − lo b + d
-pub fn gap_plus(ls: &[i64], us: &[i64], a: usize, b: usize, d: i64) -> i64
-    requires { Small ls.now × Small us.now × (nat_abs d ≤ 1) }
-    ensures { result ≡ gap_plus ls.now us.now a b d }
+pub fn gap_plus(a: Domain, b: Domain, d: i64) -> i64
+    requires { nat_abs d ≤ 1 }
+    ensures value { result ≡ a.upper ⊖ b.lower ⊕ d }
+    ensures size { nat_abs result ≤ 268435457 }
 {
-    plus(gap(ls, us, a, b), d)
+    plus(minus(a.upper(), b.lower()), d)
 }
 
-// How many values two bounds leave.
-pub fn width_of(lower: i64, upper: i64) -> usize
-    requires { Near lower × Near upper }
-    ensures { result ≡ width (lower to upper) }
+// How many values bounds leave.
+#[tactic(auto, unfolding(integers::specs::Bounds::width))]
+pub fn width_of(b: Domain) -> usize
+    ensures { result ≡ width b }
 {
-    count_of(plus(minus(upper, lower), 1))
+    count_of(plus(minus(b.upper(), b.lower()), 1))
 }
 
-// The first place of a list that an index with this lower bound can have.
-fn first_place(lower: i64) -> i64
-    ensures { result ≡ max_z +1 lower }
+// The last place of a list of n elements that an index with these bounds can have.
+#[tactic(auto, unfolding(integers::specs::Number::min_z))]
+fn last_place(index: Domain, n: usize) -> i64
+    ensures value { result ≡ min_z (pos n) index.upper }
+    ensures near { Near result }
 {
-    largest(1, lower)
+    if limit::HALF as usize <= n {
+        return index.upper();
+    }
+    (n as i64).min(index.upper())
 }
 
-// The first place that the variable at place 0 can have as an index.
-pub fn first_label(args: &[u32], ls: &[i64]) -> i64
-    requires { Small ls.now }
-    ensures { (result ≡ max_z +1 (get_or ls.now (var args.now 0) +0)) × (nat_abs result ≤ Limit.half) }
+// The places that it can have.
+#[tactic(auto, unfolding(rules::specs::Parts::places, integers::specs::Number::max_z))]
+pub fn places_of(index: Domain, n: usize) -> Domain
+    ensures { result ≡ places index n }
 {
-    first_place(bound_at(ls, var_at(args, 0)))
-}
-
-// The last place of a list of n elements that an index with this upper bound can have.
-pub fn last_place(n: usize, upper: i64) -> i64
-    requires { n < 1099511627776 }
-    ensures { result ≡ min_z (pos n) upper }
-{
-    least(n as i64, upper)
+    Domain::new(1.max(index.lower()), last_place(index, n))
 }
 
 // Half of n − 1, rounded down; 0 for 0.
@@ -148,23 +130,11 @@ pub fn half_less(n: usize) -> i64
     ((n - 1) / 2) as i64
 }
 
-// Puts a number into a list, if the place is one of its places.
-pub fn put_bound(out: &mut [i64], at: usize, v: i64)
-    ensures { out.new ≡ set out.old at v }
-{
-    if at < out.len() {
-        out[at] = v;
-    }
-}
-
 // v if it is not below `from` and is below `above`, else `above`.
 pub fn nearer(from: i64, v: i64, above: i64) -> i64
     ensures { result ≡ (v if le_z from v && lt_z v above else above) }
 {
-    if both(at_most(from, v), below(v, above)) {
-        return v;
-    }
-    above
+    if from <= v && v < above { v } else { above }
 }
 
 // The least of the numbers in the list at place i that are not below `from` and are below `above`; `above` where there is none.
@@ -172,75 +142,67 @@ pub fn least_from(args: &[u32], i: usize, from: i64, above: i64) -> i64
     requires { i < 1099511627776 }
     ensures { result ≡ least_from (nums args.now i) from above }
 {
-    let n = size_at(args, i);
-    let mut k = 0;
     let mut least_yet = above;
-    while k < n {
+    for k in 0..size_at(args, i) {
         least_yet = nearer(from, num_at(args, i + 1 + k), least_yet);
-        k += 1;
     }
     least_yet
 }
 
 // Puts the numbers of the list at place i that the bounds leave to the front of a list, rising and each once; how many there are.
-pub fn members(args: &[u32], i: usize, lower: i64, upper: i64, out: &mut [i64]) -> usize
-    requires { (i < 1099511627776) × Near upper }
-    ensures { (result ≡ length (members (nums args.now i) (lower to upper))) × (out.new ≡ overlay out.old 0 (members (nums args.now i) (lower to upper))) }
+pub fn members(args: &[u32], i: usize, b: Domain, out: &mut [i64]) -> usize
+    requires { i < 1099511627776 }
+    ensures count { result ≡ length (members (nums args.now i) b) }
+    ensures listed { out.new ≡ overlay out.old 0 (members (nums args.now i) b) }
+    ensures near { (k : ℕ) → nat_abs (get_or (members (nums args.now i) b) k +0) ≤ Limit.half + 1 }
 {
+    let upper = b.upper();
     let above = plus(upper, 1);
-    let mut left = size_at(args, i);
     let mut k = 0;
-    let mut from = lower;
-    while 0 < left {
+    let mut from = b.lower();
+    for _ in 0..size_at(args, i) {
         let v = least_from(args, i, from, above);
-        if below(upper, v) {
+        if upper < v {
             return k;
         }
-        put_bound(out, k, v);
+        put(out, k, v);
         from = plus(v, 1);
         k += 1;
-        left -= 1;
     }
     k
 }
 
-// The lower bound of the variable that a word starts.
-#[tactic(auto, unfolding(crate::specs::Kept::lower_of))]
-pub fn lower_of(w: u32) -> i64
-    ensures { result ≡ lower_of w }
+// A signed payload, which is near 0.
+fn near_of(w: Word) -> i64
+    ensures value { result ≡ signed w }
+    ensures near { Near result }
 {
-    if variables::starts_pair(w) {
-        return signed_of(w);
-    }
-    0
+    w.signed()
 }
 
-// Its upper bound, by the word that follows.
-#[tactic(auto, unfolding(crate::specs::Kept::upper_of))]
-pub fn upper_of(w: u32, next: u32) -> i64
-    ensures { result ≡ upper_of w next }
+// The bounds of the variable that a word starts; a pair's upper bound is the next word.
+#[tactic(auto, unfolding(variables::specs::Start::pair_bounds))]
+fn bounds_from(w: Word, next: Word) -> Domain
+    ensures { result ≡ pair_bounds w next }
 {
-    if variables::starts_pair(w) {
-        return signed_of(next);
+    if starts_pair(w) {
+        return Domain::new(near_of(w), near_of(next));
     }
-    1
+    Domain::new(0, 1)
 }
 
-// Puts the bounds of the variables to the front of two lists; how many variables there are.
-pub fn keep_bounds(ws: &[u32], lowers: &mut [i64], uppers: &mut [i64]) -> usize
-    requires { length ws.now < 1099511627776 }
-    ensures { let Bs = variables ws.now in (result ≡ length Bs) × (lowers.new ≡ with_lowers lowers.old Bs) × (uppers.new ≡ with_uppers uppers.old Bs) }
+// Puts the bounds of the variables to the front of a list; how many variables there are.
+pub fn keep_bounds(ws: &[u32], domains: &mut [Domain]) -> usize
+    ensures count { result ≡ length (variables ws.now) }
+    ensures kept { domains.new ≡ overlay domains.old 0 (variables ws.now) }
 {
-    let mut i = 0;
     let mut n = 0;
-    while i < ws.len() {
-        let w = word_at(ws, i);
-        if variables::starts_variable(w) {
-            put_bound(lowers, n, lower_of(w));
-            put_bound(uppers, n, upper_of(w, word_at(ws, i + 1)));
+    for (i, &w) in ws.iter().enumerate() {
+        let word = Word::from(w);
+        if starts_variable(word) {
+            put(domains, n, bounds_from(word, Word::at(ws, i + 1)));
             n += 1;
         }
-        i += 1;
     }
     n
 }

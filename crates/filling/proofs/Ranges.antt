@@ -1,7 +1,9 @@
 -- What fill writes of a model that passes the check, where the values satisfy it: numbers in the range, at places that do not wrap.
 use Rattle.std.proofs.Common.{◌≡◌, List, ◌++◌, ℕ, ◌+◌, ◌<◌, arith, ℤ, length}
+use Rattle.integers.specs.Bounds.{bounds_in}
+use Rattle.integers.specs.declared.Bounds.{Bounds}
 use Rattle.integers.specs.Terms.{value}
-use Rattle.words.proofs.Word.{range-near}
+use Rattle.words.proofs.ReadBack.{range-near}
 use Rattle.words.specs.Small.{Small}
 use Rattle.models.specs.Model.{Constraint, builtin}
 use Rattle.rules.specs.Shared.{Encoded, choice}
@@ -10,7 +12,6 @@ use Rattle.sharing.specs.SharedSolutions.{Passes, SatisfiesModel}
 use Rattle.sharing.proofs.Theorem.{few_in_all, fill-counts}
 use Rattle.sharing.proofs.Assembly.{picked}
 use Rattle.sharing.proofs.Ranges.{fill_in_range}
-use Rattle.extremes.specs.BoundLists.{bounds_of}
 use Rattle.encodings.specs.Uses.{choice_of, shared_by}
 use Rattle.picking.specs.Picked.{Ranged, picks_after}
 use Rattle.picking.proofs.Writing.{value-ranged, ranged-left, ranged-right}
@@ -29,7 +30,7 @@ module _ (ws : List ℕ) (passes : Passes ws) (vs : List ℤ) (s : SatisfiesMode
   picks-fit = omega (arith, s.one_each, fill-counts ws passes vs, few_in_all ws passes)
 
 -- a block's picks are as many as its auxiliaries
-pub block-picks : (ls us : List ℤ) (uses : List ℕ) (e : Encoded) (vs : List ℤ) (c : Constraint) →
-    length (picks_after ls us uses e vs c.code c.arguments) ≡ length (block_of (bounds_of ls us) (shared_by uses) e c).auxiliaries
+pub block-picks : (Ds : List Bounds) (uses : List ℕ) (e : Encoded) (vs : List ℤ) (c : Constraint) →
+    length (picks_after Ds uses e vs c.code c.arguments) ≡ length (block_of (bounds_in Ds) (shared_by uses) e c).auxiliaries
 unfolding block_of builtin choice_of choice
-block-picks ls us uses e vs c = picked (bounds_of ls us) (shared_by uses) e (value vs) (choice c) (builtin c)
+block-picks Ds uses e vs c = picked (bounds_in Ds) (shared_by uses) e (value vs) (choice c) (builtin c)

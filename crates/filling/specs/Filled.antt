@@ -1,10 +1,15 @@
--- The answer, in 01's words, of each case of the enum that fill answers.
-use Rattle.words.specs.Answer.{Answer, refused, written, out_of_bounds, is_false}
-use Rattle.filling.specs.declared.Filled.{Filled}
-use Rattle.filling.specs.declared.Filled.TheVariants.{Refused, Values, OutOfBounds, False}
+-- The answer, in 01's words, of what fill answers.
+use Rattle.std.specs.Prelude.{Result}
+use Rattle.words.specs.Answer.{Answer, written, out_of_bounds, is_false}
+use Rattle.words.specs.Faults.{answer_of}
+use Rattle.words.specs.declared.fault.Refusal.{Refusal}
+use Rattle.filling.specs.declared.Filling.{Filling}
+use Rattle.filling.specs.declared.Filling.TheVariants.{Values, OutOfBounds, False}
 
-unfoldable pub handed : Filled → Answer
-handed (Refused r) = refused r.number r.place
-handed (Values n) = written n
-handed (OutOfBounds i) = out_of_bounds i
-handed (False i) = is_false i
+abbrev pub filling_of : Filling → Answer
+filling_of (Values n) = written n
+filling_of (OutOfBounds i) = out_of_bounds i
+filling_of (False i) = is_false i
+
+abbrev pub handed : Result Filling Refusal → Answer
+handed = answer_of filling_of

@@ -1,15 +1,16 @@
 -- What writing the auxiliaries of a model after its values wants: its bounds, values near 0, picks in the range, and a place for each that does not wrap.
 use Rattle.std.specs.Prelude.{◌≡◌, List, ℕ, ◌+◌, ◌<◌, ℤ, length}
+use Rattle.integers.specs.declared.Bounds.{Bounds}
 use Rattle.words.specs.Variables.{variables}
 use Rattle.words.specs.Small.{Small}
-use Rattle.modelreading.specs.declared.Read.{Read}
+use Rattle.modelreading.specs.declared.Model.{Model}
 use Rattle.rules.specs.Translation.{picks}
 use Rattle.checking.specs.ModelBounds.{ModelBounds}
 use Rattle.picking.specs.Picked.{Ranged}
 
-abbrev pub PicksWritable : List ℕ → List ℕ → Read → List ℤ → List ℤ → List ℕ → List ℤ → ℕ → Type 0
-PicksWritable ws hs r ls us uses vs start =
-    ModelBounds ws hs r ls us uses
+abbrev pub PicksWritable : List ℕ → List ℕ → Model → List Bounds → List ℕ → List ℤ → ℕ → Type 0
+PicksWritable ws hs m Ds uses vs start =
+    ModelBounds ws hs m Ds uses
     × Small vs
     × Ranged (picks ws vs)
     × (start ≡ length (variables ws))

@@ -3,7 +3,6 @@
 
 ghost use Rattle.std.specs.Prelude.{◌≡◌, ◌++◌, ◌+◌, ◌<◌, length};
 ghost use Rattle.words.specs.Overlay.{overlay};
-ghost use Rattle.words.specs.Variables.{variables};
 ghost use Rattle.rules.specs.Translation.{auxiliaries, picks};
 ghost use Rattle.rules.specs.Fill.{fill as fill_answer, filled};
 ghost use Rattle.sharing.specs.SharedSolutions.{Passes, SatisfiesModel};
@@ -13,36 +12,28 @@ ghost use Rattle.filling.specs.PicksWritable.{PicksWritable};
 ghost use Rattle.filling.specs.Satisfied.{Satisfied};
 ghost use Rattle.filling.specs.HandsOver.{HandsOver};
 
-use checking::{Checked, check_model};
+use arguments::instance::Instance;
+use checking::check_model;
 use encodings::record_encoding;
+use integers::Bounds;
 use modeljudge::judge_read;
-use modelreading::Read;
+use modelreading::Model;
 use picking::pick_constraint;
-use words::{Refusal, Verdict, fault, payload_of};
+use words::answer::Verdict;
+use words::domain::Domain;
+use words::fault::{Fault, Refusal};
+use words::list::lay;
+use words::word::Word;
 
-// What fill answers.
-#[derive(Drop)]
-pub enum Filled {
-    Refused(Refusal),
+// What fill answers where it does not refuse.
+#[derive(Clone, Copy, Debug, PartialEq, Eq)]
+pub enum Filling {
     // how many values it wrote
     Values(usize),
+    // the first variable out of bounds, counted from 0
     OutOfBounds(usize),
+    // the first false constraint, counted from 0
     False(usize),
-}
-
-// Lays values over a list from a place on, those that fit.
-pub fn copy_values(out: &mut [i32], at: usize, values: &[i32])
-    requires { at + length values.now < 1099511627776 }
-    ensures { out.new ≡ overlay out.old at values.now }
-{
-    let mut i = 0;
-    while i < values.len() {
-        let place = at + i;
-        if place < out.len() {
-            out[place] = values[i];
-        }
-        i += 1;
-    }
 }
 
 // The auxiliaries of each constraint go into the lent list one after another, after the values, so that the place of each is its number.
@@ -50,38 +41,33 @@ pub fn copy_values(out: &mut [i32], at: usize, values: &[i32])
 fn write_picks(
     ws: &[u32],
     heads: &[usize; 256],
-    read: Read,
-    ls: &[i64],
-    us: &[i64],
+    model: Model,
+    domains: &[Domain],
     uses: &[usize],
     values: &[i32],
     out: &mut [i32],
     start: usize,
 )
-    requires { PicksWritable ws.now heads.now read ls.now us.now uses.now values.now start }
+    requires { PicksWritable ws.now heads.now model domains.now uses.now values.now start }
     ensures { out.new ≡ overlay out.old start (picks ws.now values.now) }
 {
-    let n = read.constraints;
-    let mut k = 0;
     let mut at = start;
     let mut encoded = [0usize; 256];
-    while k < n {
+    for k in 0..model.constraints {
         let place = heads[k];
-        let code = payload_of(ws[place]);
+        let code = Word::from(ws[place]).payload();
+        let args = &ws[place + 1..];
         let first = at;
         at = pick_constraint(
             out,
             first,
             code,
-            &ws[place + 1..],
-            ls,
-            us,
+            &Instance { args, values },
+            domains,
             uses,
             &encoded,
-            values,
         );
-        record_encoding(&mut encoded, code, &ws[place + 1..], uses, first);
-        k += 1;
+        record_encoding(&mut encoded, code, args, uses, first);
     }
 }
 
@@ -89,103 +75,79 @@ fn write_picks(
 fn write_filled(
     ws: &[u32],
     heads: &[usize; 256],
-    read: Read,
-    ls: &[i64],
-    us: &[i64],
+    model: Model,
+    domains: &[Domain],
     uses: &[usize],
     values: &[i32],
     out: &mut [i32],
 )
-    requires { ModelBounds ws.now heads.now read ls.now us.now uses.now × Passes ws.now × SatisfiesModel ws.now values.now }
+    requires { ModelBounds ws.now heads.now model domains.now uses.now × Passes ws.now × SatisfiesModel ws.now values.now }
     ensures { out.new ≡ overlay out.old 0 (values.now ++ picks ws.now values.now) }
 {
-    copy_values(out, 0, values);
-    write_picks(ws, heads, read, ls, us, uses, values, out, values.len());
+    lay(out, 0, values);
+    write_picks(ws, heads, model, domains, uses, values, out, values.len());
 }
 
 // Of a model that passes the check, with this number of auxiliaries.
 fn fill_passed(
     ws: &[u32],
     heads: &[usize; 256],
-    read: Read,
-    ls: &[i64],
-    us: &[i64],
+    model: Model,
+    domains: &[Domain],
     uses: &[usize],
     values: &[i32],
     out: &mut [i32],
     added: usize,
-) -> Filled
-    requires { ModelBounds ws.now heads.now read ls.now us.now uses.now × Passes ws.now × (added ≡ length (auxiliaries ws.now)) }
+) -> Result<Filling, Refusal>
+    requires { ModelBounds ws.now heads.now model domains.now uses.now × Passes ws.now × (added ≡ length (auxiliaries ws.now)) }
     ensures answer { handed result ≡ fill_answer ws.now values.now (length out.old) }
     ensures output { out.new ≡ filled ws.now values.now out.old }
     ensures satisfied { Satisfied ws.now (handed result) out.new }
 {
-    let sources = read.variables;
-    if values.len() != sources {
-        return Filled::Refused(Refusal {
-            number: fault::WRONG_VALUE_COUNT,
+    let n = model.variables;
+    if values.len() != n {
+        return Err(Refusal {
+            fault: Fault::WrongValueCount,
             place: 0,
         });
     }
-    if out.len() < sources + added {
-        return Filled::Refused(Refusal {
-            number: fault::OUTPUT_TOO_SHORT,
+    if out.len() < n + added {
+        return Err(Refusal {
+            fault: Fault::OutputTooShort,
             place: 0,
         });
     }
-    match judge_read(read, ws, heads, values) {
-        Verdict::Refused(refusal) => Filled::Refused(refusal),
+    let verdict = judge_read(Ok(model), ws, heads, values)?;
+    match verdict {
         Verdict::Holds => {
-            write_filled(ws, heads, read, ls, us, uses, values, out);
-            Filled::Values(sources + added)
+            write_filled(ws, heads, model, domains, uses, values, out);
+            Ok(Filling::Values(n + added))
         }
-        Verdict::OutOfBounds(i) => Filled::OutOfBounds(i),
-        Verdict::False(i) => Filled::False(i),
+        Verdict::OutOfBounds(i) => Ok(Filling::OutOfBounds(i)),
+        Verdict::False(i) => Ok(Filling::False(i)),
     }
 }
 
 // Where judge-model says "holds", the values and the auxiliaries go to the front of the output; else nothing changes.
-pub fn fill(ws: &[u32], values: &[i32], out: &mut [i32]) -> Filled
+pub fn fill(ws: &[u32], values: &[i32], out: &mut [i32]) -> Result<Filling, Refusal>
     ensures answer { handed result ≡ fill_answer ws.now values.now (length out.old) }
     ensures output { out.new ≡ filled ws.now values.now out.old }
     ensures satisfied { Satisfied ws.now (handed result) out.new }
     ensures completes { HandsOver ws.now values.now (handed result) out.old out.new }
 {
     let mut heads = [0usize; 256];
-    let mut lowers = [0i64; 256];
-    let mut uppers = [0i64; 256];
+    let mut domains = [Domain::new(0, 0); 256];
     let mut uses = [0usize; 256];
-    let mut lows = [0i64; 256];
-    let mut highs = [0i64; 256];
-    let known = check_model(
+    let mut sums = [Bounds { lower: 0, upper: 0 }; 256];
+    let known = check_model(ws, &mut heads, &mut domains, &mut uses, &mut sums)?;
+    fill_passed(
         ws,
-        &mut heads,
-        &mut lowers,
-        &mut uppers,
-        &mut uses,
-        &mut lows,
-        &mut highs,
-    );
-    let read = known.read;
-    let checked = known.checked;
-    match checked {
-        Checked::Refused(refusal) => Filled::Refused(refusal),
-        Checked::Counts {
-            variables: _,
-            constraints: _,
-            auxiliaries,
-            rows: _,
-            words: _,
-        } => fill_passed(
-            ws,
-            &heads,
-            read,
-            &lowers,
-            &uppers,
-            &uses,
-            values,
-            out,
-            auxiliaries,
-        ),
-    }
+        &heads,
+        known.model,
+        &domains,
+        &uses,
+        values,
+        out,
+        known.counts.auxiliaries,
+    )
 }

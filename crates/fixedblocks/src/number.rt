@@ -1,94 +1,79 @@
 // Blocks: sums, products, absolute values, maxima and minima.
-ghost use Rattle.std.specs.Prelude.{[], ◌∷◌, ◌<◌, get_or};
+ghost use Rattle.std.specs.Prelude.{[], ◌∷◌, ◌<◌};
 ghost use Rattle.integers.specs.Number.{min_z, max_z, +0};
-ghost use Rattle.words.specs.Small.{Small};
 ghost use Rattle.models.specs.Builtin.{int_times, int_abs};
 ghost use Rattle.rules.specs.Rule.{rule, touching};
 ghost use Rattle.laying.specs.Part.{bound, block_parts};
-ghost use Rattle.laying.specs.Appends.{Appends, GrowsBy};
+ghost use Rattle.laying.specs.Writes.{Writes};
 ghost use Rattle.laying.specs.Room.{Room, BlockRoom};
 ghost use Rattle.laying.specs.Sizes.{first_numbers};
-ghost use Rattle.extremes.specs.BoundLists.{bounds_of};
+ghost use Rattle.integers.specs.Bounds.{bounds_in};
 
 use crate::rows::{three_terms, two_terms, where_bit};
-use extremes::{bound_at, end_product, zero_lower, zero_upper};
-use laying::{Laid, lay_bound, lay_only_negative, lay_row, lay_times};
-use words::kind;
+use extremes::{end_products, zero_lower, zero_upper};
+use laying::Writer;
+use laying::term::Term;
+use words::domain::{Domain, domain_of};
+use words::kind::Kind;
 
 // 7 int_times: the auxiliary is a×b, and c.
 pub fn int_times(
-    out: &mut [u32],
-    s: Laid,
+    writer: &mut Writer,
     a: usize,
     b: usize,
     c: usize,
-    ls: &[i64],
-    us: &[i64],
+    domains: &[Domain],
     first: usize,
-) -> Laid
-    requires { BlockRoom s × Small ls.now × Small us.now }
-    ensures { Appends s result out.old out.new (block_parts first (rule (bounds_of ls.now us.now) (int_times a b c))) × GrowsBy 10000 s result }
+)
+    requires { BlockRoom writer.old }
+    ensures { Writes 10000 writer.old writer.new (block_parts first (rule (bounds_in domains.now) (int_times a b c))) }
 {
-    let lower = end_product(ls, us, a, b, false);
-    let upper = end_product(ls, us, a, b, true);
-    let t = lay_bound(out, s, lower, upper);
-    let u = lay_times(out, t, first, a, b);
-    two_terms(out, u, kind::EQUAL, first, -1, c, 0)
+    let ends = end_products(domain_of(domains, a), domain_of(domains, b));
+    writer.bound(ends.lower, ends.upper);
+    writer.times(first, a, b);
+    two_terms(writer, Kind::Equal, first, -1, c, 0);
 }
 
 // The bounds Z(x).
-fn lay_zero_bound(out: &mut [u32], s: Laid, x: usize, ls: &[i64], us: &[i64]) -> Laid
-    requires { Room 10 s }
-    ensures { Appends s result out.old out.new (bound (min_z +0 (get_or ls.now x +0)) (max_z +0 (get_or us.now x +0)) ∷ []) × GrowsBy 10 s result }
+fn zero_bound(writer: &mut Writer, x: usize, domains: &[Domain])
+    requires { Room 10 writer.old }
+    ensures { Writes 10 writer.old writer.new (bound (min_z +0 (bounds_in domains.now x).lower) (max_z +0 (bounds_in domains.now x).upper) ∷ []) }
 {
-    let lower = zero_lower(bound_at(ls, x));
-    let upper = zero_upper(bound_at(us, x));
-    lay_bound(out, s, lower, upper)
+    let b = domain_of(domains, x);
+    writer.bound(zero_lower(b.lower()), zero_upper(b.upper()));
 }
 
 // 8 int_abs: y is x where the bit is 0 and −x where it is 1, and not negative; the bit is 1 only where x is negative.
-pub fn int_abs(
-    out: &mut [u32],
-    s: Laid,
-    x: usize,
-    y: usize,
-    ls: &[i64],
-    us: &[i64],
-    first: usize,
-) -> Laid
-    requires { BlockRoom s × (first < first_numbers) × Small us.now }
-    ensures { Appends s result out.old out.new (block_parts first (rule (bounds_of ls.now us.now) (int_abs x y))) × GrowsBy 10000 s result }
+pub fn int_abs(writer: &mut Writer, x: usize, y: usize, domains: &[Domain], first: usize)
+    requires { BlockRoom writer.old × (first < first_numbers) }
+    ensures { Writes 10000 writer.old writer.new (block_parts first (rule (bounds_in domains.now) (int_abs x y))) }
 {
-    let t = lay_bound(out, s, 0, 1);
-    let u = lay_zero_bound(out, t, x, ls, us);
+    writer.bound(0, 1);
+    zero_bound(writer, x, domains);
     let z = first + 1;
-    let v = lay_times(out, u, z, first, x);
-    let w = three_terms(out, v, kind::EQUAL, y, -1, x, 2, z, 0);
-    let xs = [y];
-    let cs = [-1];
-    let n = lay_row(out, w, kind::AT_MOST, &xs, &cs, 0);
-    lay_only_negative(out, n, x, first, bound_at(us, x))
+    writer.times(z, first, x);
+    three_terms(writer, Kind::Equal, y, -1, x, 2, z, 0);
+    writer.row(Kind::AtMost, &[Term::new(-1, y)], 0);
+    writer.only_negative(x, first, domain_of(domains, x).upper());
 }
 
 // 9 int_max and 29 int_min: x is at most y and u at most v; y is at most x where the auxiliary is 0, v at most u where it is 1, and there x is below y.
 pub fn touching(
-    out: &mut [u32],
-    s: Laid,
+    writer: &mut Writer,
     x: usize,
     y: usize,
     u: usize,
     v: usize,
-    ls: &[i64],
-    us: &[i64],
+    domains: &[Domain],
     first: usize,
-) -> Laid
-    requires { BlockRoom s × Small ls.now × Small us.now }
-    ensures { Appends s result out.old out.new (block_parts first (touching (bounds_of ls.now us.now) x y u v)) × GrowsBy 20000 s result }
+)
+    requires { BlockRoom writer.old }
+    ensures { Writes 20000 writer.old writer.new (block_parts first (touching (bounds_in domains.now) x y u v)) }
 {
-    let bit = lay_bound(out, s, 0, 1);
-    let one = two_terms(out, bit, kind::AT_MOST, x, -1, y, 0);
-    let two = two_terms(out, one, kind::AT_MOST, u, -1, v, 0);
-    let three = where_bit(out, two, first, y, x, 0, ls, us, false);
-    let four = where_bit(out, three, first, v, u, 0, ls, us, true);
-    where_bit(out, four, first, x, y, 1, ls, us, true)
+    writer.bound(0, 1);
+    two_terms(writer, Kind::AtMost, x, -1, y, 0);
+    two_terms(writer, Kind::AtMost, u, -1, v, 0);
+    where_bit(writer, first, y, x, 0, domains, false);
+    where_bit(writer, first, v, u, 0, domains, true);
+    where_bit(writer, first, x, y, 1, domains, true);
 }

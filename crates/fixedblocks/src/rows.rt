@@ -1,67 +1,66 @@
 // Rows of few terms, and rows that hold where a bit says so.
-ghost use Rattle.std.specs.Prelude.{[], ◌∷◌, ◌<◌, ◌≤◌, nat_abs};
-ghost use Rattle.integers.specs.Number.{+1};
-ghost use Rattle.words.specs.Small.{Small};
-ghost use Rattle.laying.specs.Lists.{row_parts_of};
-ghost use Rattle.laying.specs.Appends.{Appends, GrowsBy};
+ghost use Rattle.std.specs.Prelude.{[], ◌∷◌, ◌≤◌, nat_abs};
+ghost use Rattle.integers.specs.Number.{◌⊕◌, ◌⊖◌, +1};
+ghost use Rattle.words.specs.Kinds.{kind_number};
+ghost use Rattle.laying.specs.Lists.{term_of, row_parts_of};
+ghost use Rattle.laying.specs.Writes.{Writes};
 ghost use Rattle.laying.specs.Room.{Room};
-ghost use Rattle.extremes.specs.BoundLists.{gap_plus};
+ghost use Rattle.integers.specs.Bounds.{bounds_in};
 ghost use Rattle.fixedblocks.specs.Rows.{where_row};
 
 use extremes::gap_plus;
 use integers::{minus, opposite};
-use laying::{Laid, lay_row};
-use words::kind;
+use laying::Writer;
+use laying::term::Term;
+use words::domain::{Domain, domain_of};
+use words::kind::Kind;
 
 // x + q×y + c, of a kind.
-pub fn two_terms(out: &mut [u32], s: Laid, kind: u32, x: usize, q: i64, y: usize, c: i64) -> Laid
-    requires { Room 2000 s × (kind < 16) }
-    ensures { Appends s result out.old out.new (row_parts_of kind (x ∷ y ∷ []) (+1 ∷ q ∷ []) c) × GrowsBy 2000 s result }
+pub fn two_terms(writer: &mut Writer, kind: Kind, x: usize, q: i64, y: usize, c: i64)
+    requires { Room 2000 writer.old }
+    ensures { Writes 2000 writer.old writer.new (row_parts_of (kind_number kind) (term_of +1 x ∷ term_of q y ∷ []) c) }
 {
-    let xs = [x, y];
-    let cs = [1, q];
-    lay_row(out, s, kind, &xs, &cs, c)
+    writer.row(kind, &[Term::new(1, x), Term::new(q, y)], c);
 }
 
 // x + q×y + p×z + c, of a kind.
 pub fn three_terms(
-    out: &mut [u32],
-    s: Laid,
-    kind: u32,
+    writer: &mut Writer,
+    kind: Kind,
     x: usize,
     q: i64,
     y: usize,
     p: i64,
     z: usize,
     c: i64,
-) -> Laid
-    requires { Room 2000 s × (kind < 16) }
-    ensures { Appends s result out.old out.new (row_parts_of kind (x ∷ y ∷ z ∷ []) (+1 ∷ q ∷ p ∷ []) c) × GrowsBy 2000 s result }
+)
+    requires { Room 2000 writer.old }
+    ensures { Writes 2000 writer.old writer.new (row_parts_of (kind_number kind) (term_of +1 x ∷ term_of q y ∷ term_of p z ∷ []) c) }
 {
-    let xs = [x, y, z];
-    let cs = [1, q, p];
-    lay_row(out, s, kind, &xs, &cs, c)
+    writer.row(
+        kind,
+        &[Term::new(1, x), Term::new(q, y), Term::new(p, z)],
+        c,
+    );
 }
 
 // x − y + d ≤ 0 where z is 1: x − y + P×z + d − P ≤ 0, P = hi x − lo y + d. Where z is 0, if it is not `one`: x − y − P×z + d ≤ 0.
 pub fn where_bit(
-    out: &mut [u32],
-    s: Laid,
+    writer: &mut Writer,
     z: usize,
     x: usize,
     y: usize,
     d: i64,
-    ls: &[i64],
-    us: &[i64],
+    domains: &[Domain],
     one: bool,
-) -> Laid
-    requires { Room 2000 s × Small ls.now × Small us.now × (nat_abs d ≤ 1) }
-    ensures row { let P = gap_plus ls.now us.now x y d in Appends s result out.old out.new (where_row one x y z P d) }
-    ensures size { GrowsBy 2000 s result }
+)
+    requires { Room 2000 writer.old × (nat_abs d ≤ 1) }
+    ensures { let β = bounds_in domains.now in Writes 2000 writer.old writer.new (where_row one x y z ((β x).upper ⊖ (β y).lower ⊕ d) d) }
 {
-    let p = gap_plus(ls, us, x, y, d);
+    let p = gap_plus(domain_of(domains, x), domain_of(domains, y), d);
     if one {
-        return three_terms(out, s, kind::AT_MOST, x, -1, y, p, z, minus(d, p));
+        three_terms(writer, Kind::AtMost, x, -1, y, p, z, minus(d, p));
+    } else {
+        three_terms(writer, Kind::AtMost, x, -1, y, opposite(p), z, d);
     }
-    three_terms(out, s, kind::AT_MOST, x, -1, y, opposite(p), z, d)
 }

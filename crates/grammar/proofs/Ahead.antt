@@ -1,15 +1,8 @@
 -- The length of a list ahead, token by token. For `length_ahead`.
-use Rattle.std.proofs.Common.{◌≡◌, Bool, true, false, List, [], ◌∷◌, ℕ, ◌+◌, ◌≤◌, arith, eqb, eq-eqb, ne_eqb}
+use Rattle.std.proofs.Common.{◌≡◌, Bool, true, false, List, [], ◌∷◌, ℕ, ◌+◌, eqb}
 use Rattle.integers.specs.Choice.{◌if◌else◌}
 use Rattle.tokens.specs.Token.{Token}
 use Rattle.grammar.specs.Brackets.{fits_inside, length_from}
-
-pub at_most_one : (s e : ℕ) → (1 if eqb s e else 0) ≤ 1
-at_most_one s e = go (eqb s e)
-  where
-    go : (b : Bool) → (1 if b else 0) ≤ 1
-    go true = omega arith
-    go false = omega arith
 
 module _ (e c before n : ℕ) where
   pub length-end : {ts : List Token} → ts ≡ [] → length_from e c before n ts ≡ 0
@@ -21,10 +14,10 @@ module _ (e c before n : ℕ) where
     unfolding length_from
     length-broken f = rw (q, f)
 
-    pub length-closed : fits_inside e c before t.sort ≡ true → t.sort ≡ c → length_from e c before n ts ≡ n + 1
+    pub length-closed : fits_inside e c before t.sort ≡ true → eqb t.sort c ≡ true → length_from e c before n ts ≡ n + 1
     unfolding length_from
-    length-closed f h = rw (q, f, eq-eqb t.sort c h)
+    length-closed f h = rw (q, f, h)
 
-    pub length-on : fits_inside e c before t.sort ≡ true → (t.sort ≡ c → ⊥) → length_from e c before n ts ≡ length_from e c t.sort (n + (1 if eqb t.sort e else 0)) us
+    pub length-on : fits_inside e c before t.sort ≡ true → eqb t.sort c ≡ false → (b : Bool) → eqb t.sort e ≡ b → length_from e c before n ts ≡ length_from e c t.sort (n + (1 if b else 0)) us
     unfolding length_from
-    length-on f h = rw (q, f, ne_eqb t.sort c h)
+    length-on f h b g = rw (q, f, h, g)

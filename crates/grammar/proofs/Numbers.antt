@@ -1,13 +1,15 @@
--- Reading a number digit by digit, capped above the range. For `decimal_of` and `number_step`.
-use Rattle.std.proofs.Common.{◌≡◌, refl, sym, ap, ◌∙◌, Bool, true, false, ◌&&◌, List, [], ◌∷◌, ℕ, zero, suc, ◌+◌, ◌-◌, ◌*◌, ◌<◌, ◌≤◌, add-one, arith, leb, eqb, pos, neg_ℤ, drop-cons, length, get_or, take, drop, drop_of_length-le, le-leb, leb-true, leb-false, eq-eqb, ne_eqb}
+-- Reading a number digit by digit, capped above the range. For `decimal_of` and `value_of`.
+use Rattle.std.proofs.Common.{◌≡◌, refl, sym, ap, ◌∙◌, Bool, true, false, ◌&&◌, List, [], ◌∷◌, ℕ, zero, suc, ◌+◌, ◌-◌, ◌*◌, ◌<◌, ◌≤◌, min, add-one, arith, leb, eqb, ℤ, pos, negsuc, neg_ℤ, ◌-ℤ◌, w64, to_z, of_z, drop-cons, length, get_or, take, drop, drop_of_length-le, le-leb, lt-ltb, leb-true, leb-false, Option, Some, None}
+use Rattle.std.specs.Cmp.Lexicographic.{pointwise}
 use borrow.Author.Tests.{lt-leb}
+use mir.Facts.{to_z_pos}
 use Rattle.integers.specs.Choice.{◌if◌else◌}
 use Rattle.integers.specs.Bounds.{within}
-use Rattle.words.specs.Word.{word, complement, number_word, in_range}
+use Rattle.integers.proofs.Fits.{back}
+use Rattle.words.specs.Word.{in_range}
 use Rattle.tokens.specs.Byte.{front}
-use Rattle.tokens.specs.Unread.{bytes_between}
 use Rattle.grammar.specs.Value.{digits_from, value_of}
-use Rattle.grammar.specs.Machine.{cap, magnitude}
+use Rattle.grammar.specs.Machine.{cap}
 
 grows : (v : ℕ) (ds : List ℕ) → v ≤ digits_from v ds
 unfolding digits_from
@@ -22,21 +24,19 @@ cap-low : (n : ℕ) → n ≤ 134217727 → cap n ≡ n
 unfolding cap
 cap-low n l = rw (le-leb n 134217727 l)
 
-pub cap-most : (n : ℕ) → cap n ≤ 134217728
-cap-most n = go (leb n 134217727) refl
+pub cap-min : (n : ℕ) → min n 134217728 ≡ cap n
+cap-min n = go (leb n 134217727) refl
   where
-    go : (b : Bool) → leb n 134217727 ≡ b → cap n ≤ 134217728
+    go : (b : Bool) → leb n 134217727 ≡ b → min n 134217728 ≡ cap n
     go true q = omega (arith, cap-low n (leb-true n 134217727 q), leb-true n 134217727 q)
-    go false q = omega (arith, cap-high n (leb-false n 134217727 q))
+    go false q = omega (arith, cap-high n (leb-false n 134217727 q), leb-false n 134217727 q)
+
+pub cap-most : (n : ℕ) → cap n ≤ 134217728
+cap-most n = omega (arith, cap-min n)
 
 pub cap-again : (n : ℕ) → cap (cap n) ≡ cap n
-cap-again n = go (leb n 134217727) refl
-  where
-    go : (b : Bool) → leb n 134217727 ≡ b → cap (cap n) ≡ cap n
-    go true q = ap cap (cap-low n (leb-true n 134217727 q))
-    go false q = let e : cap n ≡ 134217728 = cap-high n (leb-false n 134217727 q) in cap-high (cap n) (omega (arith, e)) ∙ sym e
+cap-again n = omega (arith, cap-min n, cap-min (cap n))
 
--- a number read so far may be capped before the rest is read
 cap-early : (v : ℕ) (ds : List ℕ) → cap (digits_from v ds) ≡ cap (digits_from (cap v) ds)
 cap-early v ds = go (leb v 134217727) refl
   where
@@ -59,7 +59,10 @@ module _ (ds : List ℕ) (i v : ℕ) where
 
 -- ---- a number of the range by its size and its hyphen
 
-signed_range : (m : ℕ) (b : Bool) → in_range (neg_ℤ (pos m) if b else pos m) ≡ leb m 134217727
+abbrev signed : Bool → ℕ → ℤ
+signed b n = neg_ℤ (pos n) if b else pos n
+
+signed_range : (m : ℕ) (b : Bool) → in_range (signed b m) ≡ leb m 134217727
 unfolding within
 signed_range zero true = refl
 signed_range (suc n) true = by (leb n 134217726) refl
@@ -69,66 +72,48 @@ signed_range (suc n) true = by (leb n 134217726) refl
     by false e = sym (lt-leb (suc n) 134217727 (omega (arith, leb-false n 134217726 e)))
 signed_range m false = refl
 
-signed_word : (k m : ℕ) (b : Bool) → m ≤ 134217727 → number_word k (neg_ℤ (pos m) if b else pos m) ≡ word k (268435456 - m if b else m)
-unfolding number_word complement word
-signed_word k zero true h = refl
-signed_word k (suc n) true h = omega (arith, h)
-signed_word k m false h = omega (arith, h)
+-- a number, if it is in the range: capping its size first makes no difference
+abbrev pub ranged : ℤ → Option ℤ
+ranged z = Some z if in_range z else None
 
--- ---- the number between two places
+opposite : (m : ℕ) → m ≤ 134217728 → to_z w64 (of_z w64 (pos 0 -ℤ pos m)) ≡ neg_ℤ (pos m)
+opposite zero h = refl
+opposite (suc k) h = let e : pos 0 -ℤ pos (suc k) ≡ negsuc k = simp (lt-ltb 0 (suc k) (omega arith)) (ap negsuc (omega arith)) in rw e (back (negsuc k) (omega (arith, h)))
 
-module _ (bs : List ℕ) (p s : ℕ) (h : p < s) (l : s ≤ length bs) where
-  abbrev spelling : List ℕ
-  spelling = bytes_between bs p s
-
-  abbrev minus : Bool
-  minus = eqb (get_or bs p 0) 45
-
-  spelled : spelling ≡ get_or bs p 0 ∷ bytes_between bs (p + 1) s
-  spelled =
-      let e : drop p bs ≡ get_or bs p 0 ∷ drop (p + 1) bs = rw (add-one p) (drop-cons bs p 0 (omega (arith, h, l))) in
-      let n : s - p ≡ suc (s - (p + 1)) = omega (arith, h) in
-      ap (take (s - p)) e ∙ ap (λ (k : ℕ). take k (get_or bs p 0 ∷ drop (p + 1) bs)) n
-
-  first : front spelling ≡ get_or bs p 0
-  unfolding front
-  first = ap front spelled
-
-  pub after_hyphen : get_or bs p 0 ≡ 45 → magnitude spelling ≡ digits_from 0 (bytes_between bs (p + 1) s)
-  unfolding magnitude
-  after_hyphen e = rw (first, eq-eqb (get_or bs p 0) 45 e) (ap (λ (xs : List ℕ). digits_from 0 (drop 1 xs)) spelled)
-
-  pub without_hyphen : (get_or bs p 0 ≡ 45 → ⊥) → magnitude spelling ≡ digits_from 0 spelling
-  unfolding magnitude
-  without_hyphen e = rw (first, ne_eqb (get_or bs p 0) 45 e)
-
-  by_size : value_of spelling ≡ (neg_ℤ (pos (magnitude spelling)) if minus else pos (magnitude spelling))
-  unfolding value_of magnitude
-  by_size = rw first (by minus _ _)
+module _ (n : ℕ) where
+  ranged-cap : (b : Bool) → ranged (signed b (cap n)) ≡ ranged (signed b n)
+  ranged-cap b = go (leb n 134217727) refl
     where
-      by : (b : Bool) (x y : ℕ) → (neg_ℤ (pos x) if b else pos y) ≡ (neg_ℤ (pos (x if b else y)) if b else pos (x if b else y))
-      by true x y = refl
-      by false x y = refl
+      go : (t : Bool) → leb n 134217727 ≡ t → ranged (signed b (cap n)) ≡ ranged (signed b n)
+      go true q = rw (cap-low n (leb-true n 134217727 q))
+      go false q = let h = leb-false n 134217727 q in rw (signed_range (cap n) b, signed_range n b, q, lt-leb (cap n) 134217727 (omega (arith, cap-high n h)))
 
-  -- with the size capped
-  module _ {m : ℕ} (e : m ≡ cap (magnitude spelling)) where
-    pub outside : 134217727 < m → in_range (value_of spelling) ≡ false
-    outside g = go (leb (magnitude spelling) 134217727) refl
-      where
-        go : (b : Bool) → leb (magnitude spelling) 134217727 ≡ b → in_range (value_of spelling) ≡ false
-        go true q = absurd (omega (arith, g, e, cap-low (magnitude spelling) (leb-true (magnitude spelling) 134217727 q), leb-true (magnitude spelling) 134217727 q))
-        go false q = rw by_size (signed_range (magnitude spelling) minus ∙ q)
+  module _ {m : ℕ} (e : m ≡ cap n) where
+    pub plain : ranged (to_z w64 m) ≡ ranged (pos n)
+    plain = rw (to_z_pos w64 {n = m} (omega (arith, cap-most n)), e) (ranged-cap false)
 
-    module _ (g : m ≤ 134217727) where
-      size : m ≡ magnitude spelling
-      size = go (leb (magnitude spelling) 134217727) refl
+    pub negated : ranged (to_z w64 (of_z w64 (pos 0 -ℤ to_z w64 m))) ≡ ranged (neg_ℤ (pos n))
+    negated = rw (to_z_pos w64 {n = m} (omega (arith, cap-most n)), opposite m (omega (arith, cap-most n)), e) (ranged-cap true)
+
+-- ---- the number that a token spells, after a hyphen or not
+
+module _ (bs : List ℕ) where
+  starts : pointwise eqb (take 1 bs) (45 ∷ []) ≡ eqb (front bs) 45
+  unfolding front
+  starts = go bs
+    where
+      go : (xs : List ℕ) → pointwise eqb (take 1 xs) (45 ∷ []) ≡ eqb (get_or xs 0 0) 45
+      go [] = refl
+      go (x ∷ xs) = by (eqb x 45)
         where
-          go : (b : Bool) → leb (magnitude spelling) 134217727 ≡ b → m ≡ magnitude spelling
-          go true q = e ∙ cap-low (magnitude spelling) (leb-true (magnitude spelling) 134217727 q)
-          go false q = absurd (omega (arith, g, e, cap-high (magnitude spelling) (leb-false (magnitude spelling) 134217727 q)))
+          by : (b : Bool) → b && true ≡ b
+          by true = refl
+          by false = refl
 
-      pub inside : in_range (value_of spelling) ≡ true
-      inside = rw by_size (signed_range (magnitude spelling) minus ∙ rw (← size) (le-leb m 134217727 g))
+  pub after_hyphen : pointwise eqb (take 1 bs) (45 ∷ []) ≡ true → value_of bs ≡ neg_ℤ (pos (digits_from 0 (drop 1 bs)))
+  unfolding value_of
+  after_hyphen e = rw (← starts, e)
 
-      pub its-word : (k : ℕ) → word k (268435456 - m if minus else m) ≡ number_word k (value_of spelling)
-      its-word k = sym (rw (by_size, ← size) (signed_word k m minus g))
+  pub without_hyphen : pointwise eqb (take 1 bs) (45 ∷ []) ≡ false → value_of bs ≡ pos (digits_from 0 bs)
+  unfolding value_of
+  without_hyphen e = rw (← starts, e)

@@ -5,8 +5,13 @@ use Prim.Native.Char.{code}
 use Rattle.models.specs.Table as Table
 use Rattle.models.specs.Table.{Sort, Code, codes}
 use Rattle.tokens.specs.Token as Token
-use Rattle.grammar.specs.declared.Form.{Form}
-use Rattle.grammar.specs.declared.Form.TheVariants.{Missing, One, Many}
+
+-- an argument in a text: there is none; one token of a sort; a list or set, with its opening bracket, the sort of an element, its closing bracket,
+-- and whether it is the second of parallel lists
+pub data Form : Type 0 where
+  Missing : Form
+  One : (sort : ℕ) → Form
+  Many : (opening element closing : ℕ) (second : Bool) → Form
 
 -- "lists in square brackets": of numbers or of names; whether it is the second of parallel lists
 abbrev pub bracketed : ℕ → Bool → Form

@@ -1,6 +1,5 @@
 -- The grammar; 02, wish 8: "var lo..hi: name;" or "var bool: name;" items, then "constraint builtin(arguments);" items, then one "solve satisfy;".
--- What is due and the token met give a step: the token's fault, the word that it writes and what is due next. `Due`, `Form` and `TokenStep` are
--- declared in grammar/src/lib.rt.
+-- What is due and the token met give a step: the token's fault, the word that it writes and what is due next.
 use Rattle.std.specs.Prelude.{Bool, true, false, ◌&&◌, ◌||◌, List, ℕ, ◌+◌, ◌-◌, eqb, ltb, leb, length}
 use Prim.Native.Char.{code}
 use Rattle.integers.specs.Choice.{◌if◌else◌}
@@ -12,12 +11,7 @@ use Rattle.tokens.specs.Token.{Token}
 use Rattle.names.specs.Name.{is_word, code_of, variable_of}
 use Rattle.grammar.specs.Value.{value_of}
 use Rattle.grammar.specs.Brackets.{fits_inside, length_from}
-use Rattle.grammar.specs.Form.{argument_forms, argument_form}
-use Rattle.grammar.specs.declared.Form.{Form}
-use Rattle.grammar.specs.declared.Form.TheVariants.{Missing, One, Many}
-use Rattle.grammar.specs.declared.TokenStep.{TokenStep}
-use Rattle.grammar.specs.declared.Due.{Due}
-use Rattle.grammar.specs.declared.Due.TheVariants.{Item, Domain, Dots, Upper, Colon, Name, Semicolon, Builtin, Opening, Argument, Next, Inside, Satisfy}
+use Rattle.grammar.specs.Form.{Form, Missing, One, Many, argument_forms, argument_form}
 
 -- the stages of a text: a declaration may stand, only a constraint or the last item may, the last item was read
 abbrev pub declaration_stage : ℕ
@@ -28,6 +22,36 @@ constraint_stage = 1
 
 abbrev pub end_stage : ℕ
 end_stage = 2
+
+-- what is due at the next token of a text
+pub data Due : Type 0 where
+  -- the start of an item, at a stage of the text
+  Item : (stage : ℕ) → Due
+  -- after "var": "bool" or the lower bound; ".."; the upper bound; ":"; the name
+  Domain : Due
+  Dots : Due
+  Upper : Due
+  Colon : Due
+  Name : Due
+  -- ";", which ends an item; the stage of the next one
+  Semicolon : (stage : ℕ) → Due
+  -- after "constraint": the builtin's name, "("
+  Builtin : Due
+  Opening : (code : ℕ) → Due
+  -- the k-th argument of a code, after a list of length n
+  Argument : (code k n : ℕ) → Due
+  -- "," before the k-th argument, or ")"
+  Next : (code k n : ℕ) → Due
+  -- inside the brackets before the k-th argument: the sort of an element, the closing bracket, the sort of the token before
+  Inside : (code k n element closing before : ℕ) → Due
+  -- after "solve": "satisfy"
+  Satisfy : Due
+
+-- what a token gives: its fault, 0 for none; the word that it writes, 0 for none; what is due next
+pub record TokenStep : Type 0 where
+  pub fault : ℕ
+  pub word : ℕ
+  pub next : Due
 
 -- the step of a token with a fault, by its number, or with none: a token with a fault writes no word; 0 is no word
 unfoldable pub gives : ℕ → ℕ → Due → TokenStep

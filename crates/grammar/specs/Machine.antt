@@ -1,48 +1,102 @@
--- How the code has the arguments and numbers: a number for each form of argument in a table, and numbers capped above the range.
-use Rattle.std.specs.Prelude.{Bool, true, false, List, map, ◌≡◌, ℕ, suc, ◌-◌, eqb, leb, drop}
+-- How the code has the arguments, what is due and what a token gives, and numbers capped above the range.
+use Rattle.std.specs.Prelude.{Bool, true, false, ◌≡◌, ℕ, ◌-◌, leb, ◌<◌, Option, None, Some, IfSome, Result, MatchResult}
 use Prim.Native.Char.{code}
 use Rattle.integers.specs.Choice.{◌if◌else◌}
-use Rattle.integers.specs.Lists.{list_of}
 use Rattle.words.specs.Limit as Limit
-use Rattle.models.specs.Table.{last}
-use Rattle.tokens.specs.Byte.{front}
+use Rattle.words.specs.Fault as Fault
+use Rattle.words.specs.Faults.{fault_number}
+use Rattle.words.specs.declared.fault.Fault.{Fault}
+use Rattle.words.specs.declared.fault.Refusal as error
+use Rattle.models.specs.Codes.{code_number}
 use Rattle.tokens.specs.Token as Token
-use Rattle.grammar.specs.Form.{bracketed, argument_form}
-use Rattle.grammar.specs.Value.{digits_from}
-use Rattle.grammar.specs.declared.Form.{Form}
-use Rattle.grammar.specs.declared.Form.TheVariants.{Missing, One, Many}
+use Rattle.tokens.specs.Sorts.{sort_number}
+use Rattle.grammar.specs.Form as Form
+use Rattle.grammar.specs.Form.{Missing, One, Many}
+use Rattle.grammar.specs.Grammar as Grammar
+use Rattle.grammar.specs.Grammar.{TokenStep, declaration_stage, constraint_stage, end_stage}
+use Rattle.grammar.specs.declared.form.Bracketed.{Bracketed}
+use Rattle.grammar.specs.declared.form.Bracketed.TheVariants as b
+use Rattle.grammar.specs.declared.form.Form.{Form}
+use Rattle.grammar.specs.declared.form.Form.TheVariants as f
+use Rattle.grammar.specs.declared.due.Stage.{Stage}
+use Rattle.grammar.specs.declared.due.Stage.TheVariants as s
+use Rattle.grammar.specs.declared.due.Due.{Due}
+use Rattle.grammar.specs.declared.due.Due.TheVariants as d
+use Rattle.grammar.specs.declared.due.Step.{Step}
 
--- the form with a number
-unfoldable pub numbered_form : ℕ → Form
-numbered_form x =
-    One Token.name if eqb x 1
-    else One Token.number if eqb x 2
-    else bracketed Token.number false if eqb x 3
-    else bracketed Token.name false if eqb x 4
-    else Many (code "{") Token.number (code "}") false if eqb x 5
-    else bracketed Token.name true if eqb x 6
-    else Missing
+-- the brackets of a list or set, and the sort of its elements
+abbrev pub opening_of : Bracketed → ℕ
+opening_of b.Numbers = code "["
+opening_of b.Variables = code "["
+opening_of b.Set = code "{"
+opening_of b.Parallel = code "["
 
-unfoldable pub is_missing : Form → Bool
-is_missing Missing = true
-is_missing (One sort) = false
-is_missing (Many opening element closing second) = false
+abbrev pub element_of : Bracketed → ℕ
+element_of b.Numbers = Token.number
+element_of b.Variables = Token.name
+element_of b.Set = Token.number
+element_of b.Parallel = Token.name
 
--- the forms of each code, four of each, in a table of their numbers
-abbrev pub FormTable : List (List ℕ) → Type 0
-FormTable rows = map (map numbered_form) rows ≡ list_of (λ c. list_of (argument_form c) 4) (suc last)
+abbrev pub closing_of : Bracketed → ℕ
+closing_of b.Numbers = code "]"
+closing_of b.Variables = code "]"
+closing_of b.Set = code "}"
+closing_of b.Parallel = code "]"
 
--- what the byte of a digit adds to a number, and whether a byte is a hyphen
-abbrev pub digit_value : ℕ → ℕ
-digit_value b = b - code "0"
+abbrev pub is_second : Bracketed → Bool
+is_second b.Numbers = false
+is_second b.Variables = false
+is_second b.Set = false
+is_second b.Parallel = true
 
-abbrev pub is_hyphen : ℕ → Bool
-is_hyphen b = eqb b (code "-")
+-- an argument
+abbrev pub form_of : Form → Form.Form
+form_of f.Variable = One Token.name
+form_of f.Number = One Token.number
+form_of (f.Bracketed l) = Many (opening_of l) (element_of l) (closing_of l) (is_second l)
+
+abbrev pub form_or_missing : Option Form → Form.Form
+form_or_missing None = Missing
+form_or_missing (Some f) = form_of f
+
+-- which items may still come
+abbrev pub stage_number : Stage → ℕ
+stage_number s.Declarations = declaration_stage
+stage_number s.Constraints = constraint_stage
+stage_number s.Ended = end_stage
+
+-- what is due
+abbrev pub due_of : Due → Grammar.Due
+due_of (d.Item stage) = Grammar.Item (stage_number stage)
+due_of d.Domain = Grammar.Domain
+due_of d.Dots = Grammar.Dots
+due_of d.Upper = Grammar.Upper
+due_of d.Colon = Grammar.Colon
+due_of d.Name = Grammar.Name
+due_of (d.Semicolon stage) = Grammar.Semicolon (stage_number stage)
+due_of d.Builtin = Grammar.Builtin
+due_of (d.Opening c) = Grammar.Opening (code_number c)
+due_of (d.Argument p) = Grammar.Argument (code_number p.code) p.argument p.length
+due_of (d.Next p) = Grammar.Next (code_number p.code) p.argument p.length
+due_of (d.Inside p l before) = Grammar.Inside (code_number p.code) p.argument p.length (element_of l) (closing_of l) (sort_number before)
+due_of d.Satisfy = Grammar.Satisfy
+
+-- a word that a token writes, 0 where it writes none
+abbrev pub bits : Option ℕ → ℕ
+bits None = 0
+bits (Some w) = w
+
+-- what the definition's step gives: a word, which is not 0, or none, and what is due next, or a fault
+abbrev pub Passes : TokenStep → Step → Type 0
+Passes step s = (step ≡ record { fault = Fault.none; word = bits s.word; next = due_of s.next }) × IfSome s.word (λ w. 0 < w)
+
+abbrev pub Gives : TokenStep → Result Step Fault → Type 0
+Gives step r = MatchResult r (Passes step) (λ e. step.fault ≡ fault_number e)
+
+-- and a fault at the token's place
+abbrev pub GivesAt : TokenStep → ℕ → Result Step error.Refusal → Type 0
+GivesAt step place r = MatchResult r (Passes step) (λ e. (step.fault ≡ fault_number e.fault) × (e.place ≡ place))
 
 -- a number, or one above the range where it is above it
 unfoldable pub cap : ℕ → ℕ
 cap n = n if leb n (Limit.half - 1) else Limit.half
-
--- the digits of a number without its hyphen
-unfoldable pub magnitude : List ℕ → ℕ
-magnitude bs = digits_from 0 (drop 1 bs) if is_hyphen (front bs) else digits_from 0 bs

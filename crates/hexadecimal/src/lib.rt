@@ -10,10 +10,14 @@ fn hex_digit(n: u32) -> u8
     requires { n < 16 }
     ensures { result ≡ digit n }
 {
-    if n < 10 { 48 + n as u8 } else { 55 + n as u8 }
+    if n < 10 {
+        b'0' + n as u8
+    } else {
+        b'A' - 10 + n as u8
+    }
 }
 
-// The digits of a word.
+// The digits of a word. `{:08X}` is no plainer here: a format needs a writer, and the digits go to a page of fixed memory.
 #[tactic(auto, unfolding(crate::specs::Digits::digits, crate::specs::Digits::digit_at))]
 pub fn hex_digits(w: u32) -> [u8; 8]
     ensures text { result ≡ digits w }

@@ -33,13 +33,11 @@ use reasoning::reason;
 use rowjudge::judge_rows;
 use sheets::sheet;
 use solutions::solutions;
-use structs::{
-    Counts, Explanation, Judgement, Listed, PrintedBytes, WrittenWords, counts_of, explanation_of,
-    filled_of, judgement_of, listed_of, printed_of, refusal_number, written_of,
-};
+use structs::{Counts, Explanation, Judgement, Listed, PrintedBytes, WrittenWords, refusal_number};
 use texts::read_text;
 use translation::translate;
-use words::{fault, limit};
+use words::fault::Fault;
+use words::limit;
 
 // Models of at most so many words are copied to a shorter list, since the whole list is cleared first.
 const SHORT: usize = 512;
@@ -59,7 +57,7 @@ pub extern "C" fn pearrummy_check_bytes(bytes: &[u8]) -> u32
     ensures { result ≡ check_bytes bytes.now }
 {
     if limit::MODEL_WORDS < bytes.len() / 4 {
-        return fault::TOO_MANY_WORDS;
+        return Fault::TooManyWords.number();
     }
     if bytes.len() / 4 <= SHORT {
         let mut words = [0u32; SHORT];
@@ -74,7 +72,7 @@ pub extern "C" fn pearrummy_check_bytes(bytes: &[u8]) -> u32
 pub extern "C" fn pearrummy_check(words: &[u32]) -> Counts
     ensures { result ≡ counts_of (check_answer words.now) }
 {
-    counts_of(check(words))
+    Counts::from(check(words))
 }
 
 // Translate; the words of the row system go to the front of the output.
@@ -84,7 +82,7 @@ pub extern "C" fn pearrummy_translate(words: &[u32], out: &mut [u32]) -> Written
     ensures output { out.new ≡ translated words.now out.old }
     ensures shared { Shares words.now (translate_answer words.now (length out.old)) out.new }
 {
-    written_of(translate(words, out))
+    WrittenWords::from(translate(words, out))
 }
 
 // Judge-model.
@@ -92,7 +90,7 @@ pub extern "C" fn pearrummy_translate(words: &[u32], out: &mut [u32]) -> Written
 pub extern "C" fn pearrummy_judge_model(words: &[u32], values: &[i32]) -> Judgement
     ensures { result ≡ judgement_of (judge_model words.now values.now) }
 {
-    judgement_of(judge_model(words, values))
+    Judgement::from(judge_model(words, values))
 }
 
 // Judge-rows.
@@ -100,7 +98,7 @@ pub extern "C" fn pearrummy_judge_model(words: &[u32], values: &[i32]) -> Judgem
 pub extern "C" fn pearrummy_judge_rows(words: &[u32], values: &[i32]) -> Judgement
     ensures { result ≡ judgement_of (judge_rows words.now values.now) }
 {
-    judgement_of(judge_rows(words, values))
+    Judgement::from(judge_rows(words, values))
 }
 
 // Fill; where the values hold, they and the auxiliaries go to the front of the output.
@@ -111,7 +109,7 @@ pub extern "C" fn pearrummy_fill(words: &[u32], values: &[i32], out: &mut [i32])
     ensures satisfied { Satisfied words.now (fill_answer words.now values.now (length out.old)) out.new }
     ensures completes { let ws = words.now in let vs = values.now in let o = out.old in HandsOver ws vs (fill_answer ws vs (length o)) o out.new }
 {
-    filled_of(fill(words, values, out))
+    Judgement::from(fill(words, values, out))
 }
 
 // Sheet; the lines of the rows go to the front of the page.
@@ -120,7 +118,7 @@ pub extern "C" fn pearrummy_sheet(words: &[u32], page: &mut [u8]) -> PrintedByte
     ensures answer { result ≡ printed_of (sheet_answer words.now (length page.old)) }
     ensures page { page.new ≡ sheet_page words.now page.old }
 {
-    printed_of(sheet(words, page))
+    PrintedBytes::from(sheet(words, page))
 }
 
 // Text; the words of the model that a text of FlatZinc writes go to the front of the output.
@@ -129,7 +127,7 @@ pub extern "C" fn pearrummy_text(text: &[u8], out: &mut [u32]) -> WrittenWords
     ensures answer { result ≡ written_of (read_text text.now (length out.old)) }
     ensures output { out.new ≡ text_read text.now out.old }
 {
-    written_of(read_text(text, out))
+    WrittenWords::from(read_text(text, out))
 }
 
 // Every solution of a small model goes to the front of the output, one after another.
@@ -138,7 +136,7 @@ pub extern "C" fn pearrummy_solutions(words: &[u32], out: &mut [i32]) -> Listed
     ensures answer { result ≡ listed_of (solutions_answer words.now (length out.old)) }
     ensures output { out.new ≡ solutions_listed words.now out.old }
 {
-    listed_of(solutions(words, out))
+    Listed::from(solutions(words, out))
 }
 
 // Check of a candidate's model; candidate 1 is the first, every other number the second.
@@ -146,7 +144,7 @@ pub extern "C" fn pearrummy_solutions(words: &[u32], out: &mut [i32]) -> Listed
 pub extern "C" fn pearrummy_pair_check(words: &[u32], candidate: u32) -> Counts
     ensures { result ≡ counts_of (pair_check candidate words.now) }
 {
-    counts_of(pair_check(words, candidate))
+    Counts::from(pair_check(words, candidate))
 }
 
 // Translate of a candidate's model.
@@ -160,7 +158,7 @@ pub extern "C" fn pearrummy_pair_translate(
     ensures output { out.new ≡ pair_translated candidate words.now out.old }
     ensures shared { Shares (model_of candidate words.now) (pair_translate candidate words.now (length out.old)) out.new }
 {
-    written_of(pair_translate(words, candidate, out))
+    WrittenWords::from(pair_translate(words, candidate, out))
 }
 
 // Judge-model of a candidate's model.
@@ -172,7 +170,7 @@ pub extern "C" fn pearrummy_pair_judge_model(
 ) -> Judgement
     ensures { result ≡ judgement_of (pair_judge candidate words.now values.now) }
 {
-    judgement_of(pair_judge_model(words, candidate, values))
+    Judgement::from(pair_judge_model(words, candidate, values))
 }
 
 // Fill of a candidate's model.
@@ -188,7 +186,7 @@ pub extern "C" fn pearrummy_pair_fill(
     ensures satisfied { let ws = words.now in Satisfied (model_of candidate ws) (pair_fill candidate ws values.now (length out.old)) out.new }
     ensures completes { let ws = words.now in let vs = values.now in let o = out.old in PairHandsOver candidate ws vs (pair_fill candidate ws vs (length o)) o out.new }
 {
-    filled_of(pair_fill(words, candidate, values, out))
+    Judgement::from(pair_fill(words, candidate, values, out))
 }
 
 // Reason; the first failing row of a model's row system, the constraint whose block holds it, and why.
@@ -196,7 +194,7 @@ pub extern "C" fn pearrummy_pair_fill(
 pub extern "C" fn pearrummy_reason(words: &[u32], values: &[i32]) -> Explanation
     ensures { result ≡ explanation_of (reason_answer words.now values.now) }
 {
-    explanation_of(reason(words, values))
+    Explanation::from(reason(words, values))
 }
 
 // Bits; the words of the form of a row system go to the front of the output.
@@ -206,5 +204,5 @@ pub extern "C" fn pearrummy_bits(words: &[u32], out: &mut [u32]) -> WrittenWords
     ensures output { out.new ≡ bit_formed words.now out.old }
     ensures shared { FormShares words.now (bit_form words.now (length out.old)) out.new }
 {
-    written_of(bit_form(words, out))
+    WrittenWords::from(bit_form(words, out))
 }

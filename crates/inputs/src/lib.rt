@@ -14,6 +14,7 @@ pub fn read_full<R: Read>(from: &mut R, out: &mut [u8]) -> io::Result<usize>
     ensures bytes { IfOk result (λ n. Consumes (R.remaining from.old) (R.remaining from.new) (take n out.new)) }
     ensures end { IfOk result (λ n. n < length out.new → IsAtEnd (R.remaining from.new)) }
 {
+    // No `for`: a read says only afterwards how far it went.
     let mut done = 0;
     while done < out.len() {
         let n = from.read(&mut out[done..])?;

@@ -1,7 +1,7 @@
 // Signed numbers of 64 bits whose sums and products are those of whole numbers; the bounds of a variable.
 #![tactic(auto)]
 
-ghost use Rattle.std.specs.Prelude.{◌≡◌, ◌+◌, ◌*◌, ◌<◌, nat_abs};
+ghost use Rattle.std.specs.Prelude.{◌≡◌, ◌+◌, ◌*◌, ◌<◌, ◌≤◌, nat_abs};
 ghost use Rattle.std.specs.Int.Signed.{quot_z, rem_z};
 ghost use Rattle.integers.specs.Choice.{◌if◌else◌};
 ghost use Rattle.integers.specs.Number.{◌⊕◌, ◌⊖◌, ◌⊗◌, neg, min_z, max_z, cut, ◌≟◌};
@@ -10,7 +10,7 @@ pub mod test;
 
 // The bounds of a variable.
 #[repr(C)]
-#[derive(Clone, Copy)]
+#[derive(Clone, Copy, Debug, PartialEq, Eq)]
 pub struct Bounds {
     pub lower: i64,
     pub upper: i64,
@@ -19,7 +19,8 @@ pub struct Bounds {
 // The sum.
 pub fn plus(a: i64, b: i64) -> i64
     requires { nat_abs a + nat_abs b < 9223372036854775808 }
-    ensures { result ≡ a ⊕ b }
+    ensures value { result ≡ a ⊕ b }
+    ensures size { nat_abs result ≤ nat_abs a + nat_abs b }
 {
     a + b
 }
@@ -27,7 +28,8 @@ pub fn plus(a: i64, b: i64) -> i64
 // The difference.
 pub fn minus(a: i64, b: i64) -> i64
     requires { nat_abs a + nat_abs b < 9223372036854775808 }
-    ensures { result ≡ a ⊖ b }
+    ensures value { result ≡ a ⊖ b }
+    ensures size { nat_abs result ≤ nat_abs a + nat_abs b }
 {
     a - b
 }
@@ -35,7 +37,8 @@ pub fn minus(a: i64, b: i64) -> i64
 // The product.
 pub fn times(a: i64, b: i64) -> i64
     requires { nat_abs a * nat_abs b < 9223372036854775808 }
-    ensures { result ≡ a ⊗ b }
+    ensures value { result ≡ a ⊗ b }
+    ensures size { nat_abs result ≤ nat_abs a * nat_abs b }
 {
     a * b
 }
@@ -44,7 +47,8 @@ pub fn times(a: i64, b: i64) -> i64
 #[tactic(auto, unfolding(crate::specs::Number::neg))]
 pub fn opposite(a: i64) -> i64
     requires { nat_abs a < 9223372036854775808 }
-    ensures { result ≡ neg a }
+    ensures value { result ≡ neg a }
+    ensures size { nat_abs result ≤ nat_abs a }
 {
     0 - a
 }

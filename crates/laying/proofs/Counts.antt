@@ -1,5 +1,5 @@
 -- Parts for which the list has no room: they are counted, and the list stays as it is.
-use Rattle.std.proofs.Common.{◌≡◌, refl, sym, ap, ap₂, ◌∙◌, Bool, true, not, ◌&&◌, ◌||◌, List, [], ◌∷◌, ◌++◌, ℕ, zero, suc, ◌+◌, ◌*◌, ◌<◌, ◌≤◌, arith, ℤ, pos, length, length-append, set}
+use Rattle.std.proofs.Common.{◌≡◌, refl, sym, ap, ap₂, ◌∙◌, Bool, true, false, not, ◌&&◌, ◌||◌, List, [], ◌∷◌, ◌++◌, ℕ, zero, suc, ◌+◌, ◌*◌, ◌<◌, ◌≤◌, arith, ℤ, pos, length, length-append}
 use mathlib.Core.List.{flat_map}
 use lib.Seq.{set_out}
 use Rattle.integers.specs.Number.{◌⊕◌, +0, +1, -1}
@@ -9,15 +9,14 @@ use Rattle.integers.proofs.Linear.{◌⊑◌, linear}
 use Rattle.integers.proofs.Places.{all_append}
 use Rattle.integers.proofs.Booleans.{and-true}
 use Rattle.words.specs.Limit as Limit
-use Rattle.words.specs.Kind as Kind
-use Rattle.words.specs.Word.{in_range, word, number_word}
+use Rattle.words.specs.Word.{in_range}
 use Rattle.words.specs.Overlay.{overlay}
-use Rattle.words.proofs.Overlay.{overlay-append}
-use Rattle.words.proofs.Word.{says_range}
+use Rattle.words.proofs.ReadBack.{says_range}
 use Rattle.laying.specs.Part.{Part, bound, head, term, constant, times, part_words, part_numbers, part_auxiliaries, part_rows, words_in, numbers_in, auxiliaries_in, rows_in}
-use Rattle.laying.specs.Lists.{many, term_at, row_parts_of, same_at, bit_at, label_at}
-use Rattle.laying.specs.Appends.{some_outside, Appends, CountsMore, GrowsBy}
+use Rattle.laying.specs.Lists.{many, term_of, term_at, row_parts_of, bit_at, label_at}
+use Rattle.laying.specs.Appends.{some_outside, Appends, CountsMore}
 use Rattle.laying.specs.declared.Laid.{Laid}
+use Rattle.laying.specs.declared.term.Term.{Term}
 use Rattle.laying.proofs.Parts.{words_append, numbers-append, auxiliaries-append, rows_append, many_more}
 
 -- whether the numbers of parts are in the range
@@ -71,6 +70,10 @@ pub sized-times : (r f g : ℕ) → Sized (times r f g ∷ []) 4 0 1 true
 unfolding words_in numbers_in auxiliaries_in rows_in flat_map all part_words part_numbers part_auxiliaries part_rows
 sized-times r f g = record { words = refl; auxiliaries = refl; rows = refl; fits = refl }
 
+pub fitting-bound : (l u : ℤ) → fitting (bound l u ∷ []) ≡ (in_range l && in_range u)
+unfolding numbers_in flat_map all part_numbers
+fitting-bound l u = ap (λ (b : Bool). in_range l && b) (and-true (in_range u))
+
 -- ---- one turn of a loop
 
 pub sized-bit : (k : ℕ) → Sized (bit_at k) 2 1 0 true
@@ -91,25 +94,23 @@ sized-label from v n f l k h = sized-term _ (v + k) ((says_range (from ⊕ pos k
 
 -- ---- rows
 
-sized-terms : (xs : List ℕ) (cs : List ℤ) → length cs ≡ length xs → Sized (many (term_at xs cs) (length xs)) (2 * length xs) 0 0 (all in_range cs)
+sized-terms : (ts : List Term) → Sized (many (term_at ts) (length ts)) (2 * length ts) 0 0 (all (λ t. in_range t.coefficient) ts)
 unfolding many all
-sized-terms [] [] e = sized-none
-sized-terms [] (c ∷ cs) e = absurd (omega (arith, e))
-sized-terms (x ∷ xs) [] e = absurd (omega (arith, e))
-sized-terms (x ∷ xs) (c ∷ cs) e =
-    let d : 2 + 2 * length xs ≡ 2 * suc (length xs) = omega arith in
-    rw d at (sized-then (sized-any c x) (sized-terms xs cs (omega (arith, e))))
+sized-terms [] = sized-none
+sized-terms (t ∷ ts) =
+    let d : 2 + 2 * length ts ≡ 2 * suc (length ts) = omega arith in
+    rw d at (sized-then (sized-any t.coefficient t.variable) (sized-terms ts))
 
-pub sized_row : (kind : ℕ) (xs : List ℕ) (cs : List ℤ) (c : ℤ) → length cs ≡ length xs → Sized (row_parts_of kind xs cs c) (2 + 2 * length xs) 0 1 (all in_range cs && in_range c)
+pub sized_row : (kind : ℕ) (ts : List Term) (c : ℤ) → Sized (row_parts_of kind ts c) (2 + 2 * length ts) 0 1 (all (λ t. in_range t.coefficient) ts && in_range c)
 unfolding row_parts_of
-sized_row kind xs cs c e =
-    let d : 1 + (2 * length xs + 1) ≡ 2 + 2 * length xs = omega arith in
-    rw d at (sized-then (sized-head kind (length xs)) (sized-then (sized-terms xs cs e) (sized-constant c)))
+sized_row kind ts c =
+    let d : 1 + (2 * length ts + 1) ≡ 2 + 2 * length ts = omega arith in
+    rw d at (sized-then (sized-head kind (length ts)) (sized-then (sized-terms ts) (sized-constant c)))
 
 -- a row of two variables, the coefficients 1 and −1
-pub sized-pair : (kind x y : ℕ) → Sized (row_parts_of kind (x ∷ y ∷ []) (+1 ∷ -1 ∷ []) +0) 6 0 1 true
+pub sized-pair : (kind x y : ℕ) → Sized (row_parts_of kind (term_of +1 x ∷ term_of -1 y ∷ []) +0) 6 0 1 true
 unfolding within all
-sized-pair kind x y = sized_row kind (x ∷ y ∷ []) (+1 ∷ -1 ∷ []) +0 refl
+sized-pair kind x y = sized_row kind (term_of +1 x ∷ term_of -1 y ∷ []) +0
 
 -- ---- many lists, each of the same counts
 
@@ -123,7 +124,7 @@ sized-many f w a r (suc n) h =
     rw (← e w, ← e a, ← e r) (sized-then (h 0 (omega arith)) (sized-many (λ k. f (suc k)) w a r n (λ k l. h (suc k) (omega arith))))
 
 -- each with one number that is tested
-sized-listed : (f : ℕ → List Part) (g : ℕ → ℤ) (w a r n : ℕ) → ((k : ℕ) → Sized (f k) w a r (in_range (g k))) → Sized (many f n) (w * n) (a * n) (r * n) (all in_range (list_of g n))
+pub sized-listed : (f : ℕ → List Part) (g : ℕ → ℤ) (w a r n : ℕ) → ((k : ℕ) → Sized (f k) w a r (in_range (g k))) → Sized (many f n) (w * n) (a * n) (r * n) (all in_range (list_of g n))
 unfolding many all list_of
 sized-listed f g w a r zero h =
     let e : (x : ℕ) → 0 ≡ x * 0 = λ x. omega arith in
@@ -131,6 +132,21 @@ sized-listed f g w a r zero h =
 sized-listed f g w a r (suc n) h =
     let e : (x : ℕ) → x + x * n ≡ x * suc n = λ x. omega arith in
     rw (← e w, ← e a, ← e r) (sized-then (h 0) (sized-listed (λ k. f (suc k)) (λ k. g (suc k)) w a r n (λ k. h (suc k))))
+
+cross : (a b c d : Bool) → ((a && b) && (c && d)) ≡ ((a && c) && (b && d))
+cross true true c d = refl
+cross true false true d = refl
+cross true false false d = refl
+cross false b c d = refl
+
+pub sized-bounds : (l u : ℕ → ℤ) (n : ℕ) → Sized (many (λ k. bound (l k) (u k) ∷ []) n) (2 * n) n 0 (all in_range (list_of l n) && all in_range (list_of u n))
+unfolding many all list_of
+sized-bounds l u zero = sized-none
+sized-bounds l u (suc n) =
+    let d : 2 + 2 * n ≡ 2 * suc n = omega arith in
+    let m : 1 + n ≡ suc n = omega arith in
+    let z = sized-then (rw fitting-bound at (sized-bound (l 0) (u 0))) (sized-bounds (λ k. l (suc k)) (λ k. u (suc k)) n) in
+    rw (d, m, cross (in_range (l 0)) (in_range (u 0)) _ _) at z
 
 pub sized-each : (f : ℕ → List Part) (w a r n : ℕ) → ((k : ℕ) → Sized (f k) w a r (fitting (f k))) → Sized (many f n) (w * n) (a * n) (r * n) (fitting (many f n))
 unfolding many numbers_in flat_map all
@@ -158,56 +174,6 @@ no_room {s} {r} {o} {ps} z h c = record {
   over = sym (overlay-past o s.words (words_in ps) h);
 }
 
--- what a loop gives that has nothing to lay: many lists of w words, a auxiliaries and r rows each; their numbers in the range, or tested
-given : {s t : Laid} {o : List ℕ} (f : ℕ → List Part) (n : ℕ) {W A R : ℕ} (w a r b : ℕ) {fit : Bool} → Sized (many f n) (w * n) (a * n) (r * n) fit →
-    (W ≡ w * n) × (A ≡ a * n) × (R ≡ r * n) × (W + A + R ≤ b) → length o ≤ s.words → CountsMore s t W A R fit → Appends s t o o (many f n) × GrowsBy b s t
-given f n w a r b z e room c = (no_room (rw (← e.0, ← e.1, ← e.2) at z) room c, omega (arith, c.words, c.auxiliaries, c.rows, e.3))
-
-pub many-counted : {s t : Laid} {o : List ℕ} {f : ℕ → List Part} {n W A R : ℕ} (w a r b : ℕ) → ((k : ℕ) → k < n → Sized (f k) w a r true) →
-    (W ≡ w * n) × (A ≡ a * n) × (R ≡ r * n) × (W + A + R ≤ b) → length o ≤ s.words → CountsMore s t W A R true → Appends s t o o (many f n) × GrowsBy b s t
-many-counted {f = f} {n = n} w a r b h = given f n w a r b (sized-many f w a r n h)
-
-pub many-tested : {s t : Laid} {o : List ℕ} (f : ℕ → List Part) (n : ℕ) {W A R : ℕ} (w a r b : ℕ) → ((k : ℕ) → Sized (f k) w a r (fitting (f k))) →
-    (W ≡ w * n) × (A ≡ a * n) × (R ≡ r * n) × (W + A + R ≤ b) → length o ≤ s.words → CountsMore s t W A R (fitting (many f n)) → Appends s t o o (many f n) × GrowsBy b s t
-many-tested f n w a r b h = given f n w a r b (sized-each f w a r n h)
-
-pub many-listed : {s t : Laid} {o : List ℕ} {f : ℕ → List Part} {W A R : ℕ} (g : ℕ → ℤ) (n : ℕ) {fit : Bool} (w a r b : ℕ) → ((k : ℕ) → Sized (f k) w a r (in_range (g k))) →
-    (W ≡ w * n) × (A ≡ a * n) × (R ≡ r * n) × (W + A + R ≤ b) → length o ≤ s.words → fit ≡ all in_range (list_of g n) → CountsMore s t W A R fit → Appends s t o o (many f n) × GrowsBy b s t
-many-listed {f = f} g n w a r b h e room tested c = given f n w a r b (sized-listed f g w a r n h) e room (rw tested at c)
-
 -- one list more is tested
 pub fitting-more : (f : ℕ → List Part) (k : ℕ) → fitting (many f (k + 1)) ≡ (fitting (many f k) && fitting (f k))
 fitting-more f k = ap fitting (many_more f k) ∙ ap (all in_range) (numbers-append (many f k) (f k)) ∙ all_append in_range (numbers_in (many f k)) (numbers_in (f k))
-
-pub fitting-bound : (l u : ℤ) → fitting (bound l u ∷ []) ≡ (in_range l && in_range u)
-unfolding numbers_in flat_map all part_numbers
-fitting-bound l u = ap (λ (b : Bool). in_range l && b) (and-true (in_range u))
-
--- ---- all of it fits
-
--- one more term of a coefficient, word by word
-pub same_more : (o : List ℕ) (at : ℕ) (c : ℤ) (v k : ℕ) →
-    set (set (overlay o at (words_in (many (same_at c v) k))) (at + 2 * k) (word Kind.variable (v + k))) (at + 2 * k + 1) (number_word Kind.number c)
-    ≡ overlay o at (words_in (many (same_at c v) (k + 1)))
-unfolding overlay words_in flat_map part_words
-same_more o at c v k =
-    let f = same_at c v in
-    let ws = words_in (many f k) in
-    let n : length ws ≡ 2 * k = (sized-each f 2 0 0 k (λ j. sized-fitting c (v + j))).words in
-    let one : suc (at + 2 * k) ≡ at + 2 * k + 1 = omega arith in
-    rw (← one, ← n) (overlay-append o at ws (words_in (f k))) ∙ ap (overlay o at) (sym (words_append (many f k) (f k)) ∙ ap words_in (sym (many_more f k)))
-
--- many lists whose words went over the list
-pub many-laid : {s t : Laid} {o p : List ℕ} {f : ℕ → List Part} {n W A R : ℕ} (w a r b : ℕ) → ((k : ℕ) → k < n → Sized (f k) w a r true) →
-    (W ≡ w * n) × (A ≡ a * n) × (R ≡ r * n) × (W + A + R ≤ b) → p ≡ overlay o s.words (words_in (many f n)) → CountsMore s t W A R true → Appends s t o p (many f n) × GrowsBy b s t
-many-laid {s} {t} {f = f} {n = n} w a r b h e l c =
-    let z = sized-many f w a r n h in (
-      record {
-        words = omega (arith, c.words, z.words, e.0);
-        auxiliaries = omega (arith, c.auxiliaries, z.auxiliaries, e.1);
-        rows = omega (arith, c.rows, z.rows, e.2);
-        outside = c.outside ∙ ap (λ (g : Bool). some_outside s || not g) (sym z.fits);
-        over = l;
-      },
-      omega (arith, c.words, c.auxiliaries, c.rows, e.3),
-    )

@@ -4,3 +4,4 @@ pub mod Alike
 pub mod Counts
 pub mod Blocks
 pub mod Lists
+pub mod Written

@@ -1,5 +1,5 @@
 -- Laws of laying parts: nothing, one part, parts after parts; loops that lay a list of parts in each turn.
-use Rattle.std.proofs.Common.{◌≡◌, refl, sym, ap, ap₂, ◌∙◌, Bool, true, false, not, ◌&&◌, ◌||◌, List, [], ◌∷◌, ◌++◌, append-nil, append_assoc, ℕ, zero, suc, ◌+◌, ◌*◌, ◌<◌, ◌≤◌, add-one, arith, length, length-append}
+use Rattle.std.proofs.Common.{◌≡◌, refl, sym, ap, ap₂, ◌∙◌, Bool, true, false, not, ◌&&◌, ◌||◌, List, [], ◌∷◌, ◌++◌, append-nil, append_assoc, ℕ, zero, suc, ◌+◌, add-one, arith, length, length-append}
 use mathlib.Core.List.{flat_map}
 use Rattle.integers.specs.Lists.{all}
 use Rattle.integers.proofs.Lists.{flat_map_append}
@@ -10,7 +10,7 @@ use Rattle.words.specs.Overlay.{overlay}
 use Rattle.words.proofs.Overlay.{length-overlay, overlay-none, overlay-append}
 use Rattle.laying.specs.Part.{Part, part_words, part_numbers, part_auxiliaries, part_rows, words_in, numbers_in, auxiliaries_in, rows_in}
 use Rattle.laying.specs.Lists.{many}
-use Rattle.laying.specs.Appends.{some_outside, Appends, Over, GrowsBy}
+use Rattle.laying.specs.Appends.{some_outside, Appends, Over}
 use Rattle.laying.specs.declared.Laid.{Laid}
 
 -- ---- parts after parts
@@ -91,27 +91,3 @@ many_more f n = ap (many f) (add-one n) ∙ go f n
     go : (f : ℕ → List Part) (n : ℕ) → many f (suc n) ≡ many f n ++ f n
     go f zero = append-nil (f 0)
     go f (suc n) = ap (λ l. f 0 ++ l) (go (λ k. f (suc k)) n) ∙ sym (append_assoc (f 0) (many (λ k. f (suc k)) n) (f (suc n)))
-
--- a loop that lays f 0, f 1, .., f (n − 1), before its turn k; each lays at most m
-pub record Laying (m : ℕ) (f : ℕ → List Part) (n : ℕ) (s t : Laid) (o o' : List ℕ) (k : ℕ) : Type 0 where
-  pub below : k ≤ n
-  pub went : Appends s t o o' (many f k)
-  pub near : GrowsBy (m * k) s t
-
-pub begun : (m : ℕ) (f : ℕ → List Part) (n : ℕ) (s : Laid) (o : List ℕ) → Laying m f n s s o o 0
-unfolding many
-begun m f n s o = record { below = omega arith; went = went-none s o; near = omega arith }
-
-pub more : {m : ℕ} {f : ℕ → List Part} {n : ℕ} {s t u : Laid} {o p q : List ℕ} {k : ℕ} →
-    k < n → Laying m f n s t o p k → Appends t u p q (f k) × GrowsBy m t u → Laying m f n s u o q (k + 1)
-more {m} {f} {n} {s} {t} {u} {o} {p} {q} {k} h l w = record {
-  below = omega arith;
-  went = rw (many_more f k) (went_then l.went w.0);
-  near = omega (arith, l.near, w.1);
-}
-
-pub done : {m : ℕ} {f : ℕ → List Part} {n : ℕ} {s t : Laid} {o p : List ℕ} {k : ℕ} (b : ℕ) →
-    m * n ≤ b → n ≤ k → Laying m f n s t o p k → Appends s t o p (many f n) × GrowsBy b s t
-done {m} {f} {n} {s} {t} {o} {p} {k} b h e l =
-    let d : k ≡ n = omega (arith, l.below) in
-    (rw d at l.went, omega (arith, rw d at l.near))

@@ -2,5 +2,6 @@
 pub mod Part
 pub mod Lists
 pub mod Appends
+pub mod Writes
 pub mod Room
 pub mod Sizes

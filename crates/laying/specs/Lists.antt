@@ -1,22 +1,27 @@
--- What the loops lay, turn by turn; rows of given variables and coefficients.
+-- What the loops lay, turn by turn; rows of given terms.
 use Rattle.std.specs.Prelude.{Bool, List, [], ◌∷◌, ◌++◌, ℕ, zero, suc, ◌+◌, ℤ, pos, length, get_or}
 use Rattle.integers.specs.Choice.{◌if◌else◌}
 use Rattle.integers.specs.Number.{◌⊕◌, +0, +1, -1}
 use Rattle.words.specs.Kind as Kind
 use Rattle.models.specs.Model.{var, num}
 use Rattle.laying.specs.Part.{Part, bound, head, term, constant, times}
+use Rattle.laying.specs.declared.term.Term.{Term}
+
+-- coefficient × variable
+abbrev pub term_of : ℤ → ℕ → Term
+term_of c v = record { coefficient = c; variable = v }
 
 -- f 0, f 1, .. : n lists one after the other
 unfoldable pub many : (ℕ → List Part) → ℕ → List Part
 many f zero = []
 many f (suc n) = f 0 ++ many (λ k. f (suc k)) n
 
--- a row of given variables and coefficients
-abbrev pub term_at : List ℕ → List ℤ → ℕ → List Part
-term_at xs cs k = term (get_or cs k +0) (get_or xs k 0) ∷ []
+-- a row of given terms
+abbrev pub term_at : List Term → ℕ → List Part
+term_at ts k = term (get_or ts k (term_of +0 0)).coefficient (get_or ts k (term_of +0 0)).variable ∷ []
 
-unfoldable pub row_parts_of : ℕ → List ℕ → List ℤ → ℤ → List Part
-row_parts_of kind xs cs c = head kind (length xs) ∷ (many (term_at xs cs) (length xs) ++ (constant c ∷ []))
+unfoldable pub row_parts_of : ℕ → List Term → ℤ → List Part
+row_parts_of kind ts c = head kind (length ts) ∷ (many (term_at ts) (length ts) ++ (constant c ∷ []))
 
 -- number × variable, the numbers from place a on, the variables from place x on; c × variable
 abbrev pub sum_at : List ℕ → ℕ → ℕ → ℕ → List Part
@@ -42,4 +47,4 @@ product_at args x z b k = times (z + k) (var args (x + k)) (b + k) ∷ []
 
 -- x − m ≤ 0, the variables x from a place on; m − x ≤ 0, where it is not up
 abbrev pub order_at : List ℕ → ℕ → ℕ → Bool → ℕ → List Part
-order_at args x m up k = row_parts_of Kind.at_most ((var args (x + k) if up else m) ∷ (m if up else var args (x + k)) ∷ []) (+1 ∷ -1 ∷ []) +0
+order_at args x m up k = row_parts_of Kind.at_most (term_of +1 (var args (x + k) if up else m) ∷ term_of -1 (m if up else var args (x + k)) ∷ []) +0

@@ -14,28 +14,28 @@ use Rattle.rules.specs.Block.{Ref, aux, Block, numbered, block}
 use Rattle.rules.specs.Rule.{only_negative, zero_reified}
 use Rattle.linearsums.specs.Sum.{linear_sum, equal_sum}
 use Rattle.laying.specs.Part.{Part, head, term, constant, bound_parts, term_parts, row_parts, block_parts}
-use Rattle.laying.specs.Lists.{many, row_parts_of}
-use Rattle.laying.specs.Appends.{Appends}
-use Rattle.laying.specs.declared.Laid.{Laid}
-use Rattle.laying.proofs.Parts.{went_then}
+use Rattle.laying.specs.Lists.{many, term_of, row_parts_of}
+use Rattle.laying.specs.Writes.{Writes}
+use Rattle.laying.specs.declared.Writer.{Writer}
+use Rattle.laying.proofs.Written.{wrote-then}
 use Rattle.laying.proofs.Lists.{terms-append}
 use Rattle.linearblocks.specs.Rows.{terms_reified}
 
 module _ (first : ℕ) where
-  -- the parts of a row of terms, laid one after the other
-  pub row-went : {s a b r : Laid} {o p q o' : List ℕ} {k n : ℕ} {ps : List Part} {c : ℤ} (ts : List (Term Ref)) → length ts ≡ n → term_parts first ts ≡ ps →
-      Appends s a o p (head k n ∷ []) → Appends a b p q ps → Appends b r q o' (constant c ∷ []) → Appends s r o o' (head k (length ts) ∷ (term_parts first ts ++ (constant c ∷ [])))
-  row-went {k} {c} ts e f u v w = rw (e, f) (went_then u (went_then v w))
+  -- the parts of a row of terms, written one after the other
+  pub row-wrote : {s a b r : Writer} {k n l m h : ℕ} {ps : List Part} {c : ℤ} (ts : List (Term Ref)) → length ts ≡ n → term_parts first ts ≡ ps →
+      Writes h s a (head k n ∷ []) → Writes l a b ps → Writes m b r (constant c ∷ []) → Writes (h + (l + m)) s r (head k (length ts) ∷ (term_parts first ts ++ (constant c ∷ [])))
+  row-wrote ts e f u v w = rw (e, f) (wrote-then u (wrote-then v w))
 
   -- a block of one row; more rows after those of a block
   pub one-row : (q : Row Ref) → row_parts first q ≡ block_parts first (block [] (q ∷ []))
   unfolding block_parts bound_parts flat_map
   one-row q = sym (append-nil (row_parts first q))
 
-  pub rows_then : {s a r : Laid} {o p q : List ℕ} (B : Block) (rs : List (Row Ref)) →
-      Appends s a o p (block_parts first B) → Appends a r p q (flat_map (row_parts first) rs) → Appends s r o q (block_parts first (block B.auxiliaries (B.rows ++ rs)))
+  pub rows_then : {m n : ℕ} {s a r : Writer} (B : Block) (rs : List (Row Ref)) →
+      Writes m s a (block_parts first B) → Writes n a r (flat_map (row_parts first) rs) → Writes (m + n) s r (block_parts first (block B.auxiliaries (B.rows ++ rs)))
   unfolding block_parts
-  rows_then B rs v w = rw (flat_map_append (row_parts first) B.rows rs, ← append_assoc) (went_then v w)
+  rows_then B rs v w = rw (flat_map_append (row_parts first) B.rows rs, ← append_assoc) (wrote-then v w)
 
   -- one term more
   pub last-term : (ts : List (Term Ref)) (t : Term Ref) {ps : List Part} → term_parts first ts ≡ ps →
@@ -44,7 +44,7 @@ module _ (first : ℕ) where
   last-term ts t e = terms-append first ts (t ∷ []) ∙ rw e
 
   -- the row of the sign bit
-  pub sign-row : (u : ℤ) → row_parts_of Kind.at_most (first ∷ (first + 1) ∷ []) (+1 ∷ (u ⊕ +1) ∷ []) (neg u) ≡ flat_map (row_parts first) (only_negative (aux 0) (aux 1) u ∷ [])
+  pub sign-row : (u : ℤ) → row_parts_of Kind.at_most (term_of +1 first ∷ term_of (u ⊕ +1) (first + 1) ∷ []) (neg u) ≡ flat_map (row_parts first) (only_negative (aux 0) (aux 1) u ∷ [])
   unfolding only_negative flat_map row_parts term_parts numbered row_parts_of many
   sign-row u = rw (add-zero first)
 

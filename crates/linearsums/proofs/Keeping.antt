@@ -1,35 +1,32 @@
--- L and U of constraints, as a loop puts them into two lists.
-use Rattle.std.proofs.Common.{◌≡◌, refl, sym, ap₂, ◌∙◌, ⊎_elim, List, ℕ, zero, suc, ◌+◌, ◌<◌, ◌≤◌, arith, ℤ, length, get_or, set, length-set, get_or-set_same, get_or-set_other}
+-- L and U of constraints, as a loop puts them into a list.
+use Rattle.std.proofs.Common.{◌≡◌, refl, sym, ◌∙◌, ⊎_elim, List, ℕ, zero, suc, ◌+◌, ◌<◌, ◌≤◌, arith, length, get_or, set, length-set, get_or-set_same, get_or-set_other}
+use Rattle.std.proofs.lemmas.Bool.{cases_lt}
 use Rattle.integers.specs.Number.{+0}
 use Rattle.integers.specs.Bounds.{◌to◌, bounds_in}
 use Rattle.integers.specs.declared.Bounds.{Bounds}
 use Rattle.linearsums.specs.Places.{sum_bounds, sums_up_to, SumsKept}
-use Rattle.linearsums.proofs.Filling.{below_or_from}
 use Rattle.linearsums.proofs.Places.{in_list}
 
--- f j at each place j below k
-abbrev pub filled : (ℕ → ℤ) → List ℤ → ℕ → List ℤ
-filled f xs zero = xs
-filled f xs (suc k) = set (filled f xs k) k (f k)
-
-module _ (f : ℕ → ℤ) (xs : List ℤ) where
-  pub filled-length : (k : ℕ) → length (filled f xs k) ≡ length xs
-  filled-length zero = refl
-  filled-length (suc k) = length-set (filled f xs k) k (f k) ∙ filled-length k
-
-  filled-here : (k j : ℕ) → j < k → k ≤ length xs → get_or (filled f xs k) j +0 ≡ f j
-  filled-here zero j h l = absurd (omega (arith, h))
-  filled-here (suc k) j h l = ⊎_elim
-      (λ below. get_or-set_other (filled f xs k) k j (f k) +0 (λ e. omega arith) ∙ filled-here k j below (omega (arith, l)))
-      (λ from. let e : j ≡ k = omega arith in rw e (get_or-set_same (filled f xs k) k (f k) +0 (omega (arith, l, filled-length k))))
-      (below_or_from j k)
-
 module _ (ws hs : List ℕ) (β : ℕ → Bounds) where
-  abbrev pub sum : ℕ → Bounds
+  abbrev sum : ℕ → Bounds
   sum k = sum_bounds ws (get_or hs k 0 + 1) β
 
-  pub sums_kept : (lows highs : List ℤ) (n : ℕ) → n ≤ 256 → length lows ≡ 256 → length highs ≡ 256 → SumsKept (filled (λ k. (sum k).lower) lows n) (filled (λ k. (sum k).upper) highs n) n (sums_up_to ws hs β n)
+  -- L and U of constraint j at each place j below k
+  abbrev pub filled : List Bounds → ℕ → List Bounds
+  filled Bs zero = Bs
+  filled Bs (suc k) = set (filled Bs k) k (sum k)
+
+  filled-length : (Bs : List Bounds) (k : ℕ) → length (filled Bs k) ≡ length Bs
+  filled-length Bs zero = refl
+  filled-length Bs (suc k) = length-set (filled Bs k) k (sum k) ∙ filled-length Bs k
+
+  filled-here : (Bs : List Bounds) (d : Bounds) (k j : ℕ) → j < k → k ≤ length Bs → get_or (filled Bs k) j d ≡ sum j
+  filled-here Bs d zero j h l = absurd (omega (arith, h))
+  filled-here Bs d (suc k) j h l = ⊎_elim
+      (λ below. get_or-set_other (filled Bs k) k j (sum k) d (λ e. omega arith) ∙ filled-here Bs d k j below (omega (arith, l)))
+      (λ from. let e : j ≡ k = omega arith in rw e (get_or-set_same (filled Bs k) k (sum k) d (omega (arith, l, filled-length Bs k))))
+      (cases_lt j k)
+
+  pub sums_kept : (Bs : List Bounds) (n : ℕ) → n ≤ 256 → length Bs ≡ 256 → SumsKept (filled Bs n) n (sums_up_to ws hs β n)
   unfolding bounds_in
-  sums_kept lows highs n few l u j h =
-      ap₂ ◌to◌ (filled-here (λ k. (sum k).lower) lows n j h (omega (arith, few, l))) (filled-here (λ k. (sum k).upper) highs n j h (omega (arith, few, u)))
-      ∙ sym (in_list ws hs β (+0 to +0) n j h few)
+  sums_kept Bs n few l j h = filled-here Bs (+0 to +0) n j h (omega (arith, few, l)) ∙ sym (in_list ws hs β (+0 to +0) n j h few)

@@ -6,11 +6,9 @@ use Rattle.integers.specs.Bounds.{◌to◌, bounds_in}
 use Rattle.integers.specs.Lists.{list_of}
 use Rattle.integers.specs.Terms.{Term, ◌·◌}
 use Rattle.integers.specs.declared.Bounds.{Bounds}
-use Rattle.words.specs.Small.{Near, Small}
 use Rattle.words.specs.Word.{payload, word_at}
 use Rattle.models.specs.Model.{var, num, size, past, past_terms}
 use Rattle.rules.specs.Parts.{L, U}
-use Rattle.extremes.specs.BoundLists.{bounds_of}
 use Rattle.linearsums.specs.Sum.{no_sum, of_terms, of_two, form_of}
 
 module _ (ws : List ℕ) where
@@ -68,37 +66,14 @@ unfoldable pub sums_up_to : List ℕ → List ℕ → (ℕ → Bounds) → ℕ �
 sums_up_to ws hs β zero = replicate 256 (+0 to +0)
 sums_up_to ws hs β (suc k) = set (sums_up_to ws hs β k) k (sum_bounds ws (get_or hs k 0 + 1) β)
 
--- two lists have L and U of the first n of them
-abbrev pub SumsKept : List ℤ → List ℤ → ℕ → List Bounds → Type 0
-SumsKept lows highs n Bs = (k : ℕ) → k < n → bounds_of lows highs k ≡ bounds_in Bs k
+-- a list has L and U of the first n of them
+abbrev pub SumsKept : List Bounds → ℕ → List Bounds → Type 0
+SumsKept sums n Bs = (k : ℕ) → k < n → bounds_in sums k ≡ bounds_in Bs k
 
--- the bounds of every variable are near 0
-abbrev pub BoundsNear : List Bounds → Type 0
-BoundsNear Bs = (v : ℕ) → Near (bounds_in Bs v).lower × Near (bounds_in Bs v).upper
-
--- 0 and 0 from the v-th variable on
-abbrev pub NoneFrom : (ℕ → Bounds) → ℕ → Type 0
-NoneFrom β v = (x : ℕ) → v ≤ x → β x ≡ (+0 to +0)
-
--- what putting the sums of n constraints into two lists wants: few words, heads among them, bounds near 0, and 256 places in each
-abbrev pub Keepable : List ℕ → List ℕ → ℕ → List Bounds → List ℤ → List ℤ → Type 0
-Keepable ws hs n Bs lows highs =
+-- what working out the sums of n constraints wants: few words, heads among them, and a list for 256
+abbrev pub Summable : List ℕ → List ℕ → ℕ → List Bounds → Type 0
+Summable ws hs n sums =
     (length ws < 1099511627776)
     × (n ≤ 256)
     × HeadsInside ws hs n
-    × BoundsNear Bs
-    × (length lows ≡ 256)
-    × (length highs ≡ 256)
-
--- what working out the sums of n constraints wants: few words, heads among them, bounds of so many variables, and two lists of 256
-abbrev pub Summable : List ℕ → List ℕ → ℕ → List ℤ → List ℤ → ℕ → List ℤ → List ℤ → Type 0
-Summable ws hs n ls us v lows highs =
-    (length ws < 1099511627776)
-    × (n ≤ 256)
-    × HeadsInside ws hs n
-    × (v ≤ 256)
-    × NoneFrom (bounds_of ls us) v
-    × Small ls
-    × Small us
-    × (length lows ≡ 256)
-    × (length highs ≡ 256)
+    × (length sums ≡ 256)

@@ -1,15 +1,17 @@
 -- What a program prints, by the answer of its call: the front of its page.
-use Rattle.std.proofs.Common.{◌≡◌, refl, sym, ap, ◌∙◌, Bool, true, false, List, ℕ, zero, suc, ◌*◌, ◌≤◌, ◌<◌, arith, ltb, eqb, length, take, length-take-le, ne_eqb, lt-ltb, le-ltb, ltb-false}
+use Rattle.std.proofs.Common.{◌≡◌, refl, sym, ap, ◌∙◌, Bool, true, false, List, ℕ, zero, suc, ◌*◌, ◌≤◌, ◌<◌, arith, ltb, eqb, length, take, length-take, length-take-le, Result, Ok, Err, ne_eqb, lt-ltb, le-ltb, ltb-false}
 use Rattle.integers.specs.Choice.{◌if◌else◌}
 use Rattle.words.specs.Answer.{refused, written, refused_or, ◌else_answer◌}
 use Rattle.words.specs.Fault as Fault
+use Rattle.words.specs.Faults.{fault_number, written_of}
 use Rattle.words.specs.LaidAt.{LaidAt}
 use Rattle.words.specs.Overlay.{overlay}
 use Rattle.words.specs.Refusal.{◌at_place◌, accepted, fault_or, ◌else_refuse◌, room_fault}
 use Rattle.words.specs.declared.Refusal.{Refusal}
+use Rattle.words.specs.declared.fault.Refusal as error
 use Rattle.words.proofs.Overlay.{front-over}
 use Rattle.words.proofs.Rest.{laid-length}
-use Rattle.lines.specs.Lines.{word_lines, refusal_line, ◌else_print◌}
+use Rattle.lines.specs.Lines.{word_lines, refusal_line, ◌else_print◌, answer_lines}
 use Rattle.lines.proofs.Lines.{length-words}
 
 -- the text is the front of a list, and n its length
@@ -25,6 +27,13 @@ front-is {list} {text} {later} {end} l h =
 
 same-front : (list text more : List ℕ) (n : ℕ) → Front list n text → text ≡ more → Front list n more
 same-front list text more n f e = (f.0 ∙ e, f.1)
+
+-- what a call answers whose text fits a list: a refusal's line, the lines of words of a list
+pub front-line : (m p : ℕ) {page later : List ℕ} {end : ℕ} → LaidAt page 0 (refusal_line m p) later end → end ≤ 40 → 40 ≤ length page → Front later end (refusal_line m p)
+front-line m p l h n = front-is l (omega arith)
+
+pub front-words : (ws : List ℕ) (n : ℕ) {page later : List ℕ} {end : ℕ} → LaidAt page 0 (word_lines (take n ws)) later end → 9 * length ws ≤ length page → Front later end (word_lines (take n ws))
+front-words ws n l h = front-is l (omega (arith, l.ends, length-words (take n ws), length-take n ws))
 
 -- ---- Refusals
 
@@ -82,16 +91,20 @@ module _ {f : Refusal} {text list later : List ℕ} {n : ℕ} (w : Wrote f text 
       let o : later ≡ overlay list 0 text = rw z.0 at w.output in
       front-is (record { over = o; ends = omega (arith, z.1) }) (omega (arith, w.room z.0, z.1))
 
-  -- it is printed; or its elements are printed as words, each on a line
-  module _ {g : Refusal} (s : f ≡ g) where
-    pub front-text : Front later n (g else_print text)
-    front-text = same-front _ _ _ _ front-wrote (print_text g text (rw s at fault-none.0))
+  -- it is printed
+  pub front-text : {g : Refusal} → f ≡ g → Front later n (g else_print text)
+  front-text {g} s = same-front _ _ _ _ front-wrote (print_text g text (rw s at fault-none.0))
 
-    pub front-lines : {page after : List ℕ} {end : ℕ} → LaidAt page 0 (word_lines (take n later)) after end → 9 * length list ≤ length page → Front after end (g else_print word_lines text)
-    front-lines l h =
-        let k = front-wrote in
-        same-front _ _ _ _ (front-is l (omega (arith, l.ends, length-words (take n later), k.1.1, fault-none.1, w.room fault-none.0)))
-        (ap word_lines k.0 ∙ print_text g (word_lines text) (rw s at fault-none.0))
+-- its elements are printed as words, each on a line, or the fault is
+pub answered : (f g : Refusal) (text list later : List ℕ) (a : Result ℕ error.Refusal) → written_of a ≡ (f else_answer written (length text)) → later ≡ (overlay list 0 text if eqb f.number Fault.none else list) →
+    (f.number ≡ 0 → length text ≤ length list) → f ≡ g → answer_lines a later ≡ (g else_print word_lines text)
+unfolding answer_lines
+answered f g text list later (Err r) e o room s =
+    let k = refused-fault f (fault_number r.fault) r.place (length text) e in
+    rw (k.1.0, k.1.1, s) (print_fault g (word_lines text) (rw s at k.0))
+answered f g text list later (Ok n) e o room s =
+    let w : Wrote f text list later n = record { answer = e; output = o; room = room } in
+    ap word_lines (front-wrote w).0 ∙ print_text g (word_lines text) (rw s at (fault-none w).0)
 
 -- ---- Room
 

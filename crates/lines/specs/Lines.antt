@@ -1,10 +1,12 @@
 -- 01, the program "rows": the lines that it prints, in bytes of ASCII. The other programs print theirs alike.
-use Rattle.std.specs.Prelude.{List, [], ◌∷◌, ◌++◌, ℕ, eqb}
+use Rattle.std.specs.Prelude.{List, [], ◌∷◌, ◌++◌, ℕ, eqb, take, Result, Ok, Err}
 use Prim.Native.Char.{code}
 use Rattle.integers.specs.Choice.{◌if◌else◌}
 use Rattle.words.specs.Bytes.{bytes}
 use Rattle.words.specs.Fault as Fault
+use Rattle.words.specs.Faults.{fault_number}
 use Rattle.words.specs.declared.Refusal.{Refusal}
+use Rattle.words.specs.declared.fault.Refusal as error
 use Rattle.decimals.specs.Decimal.{decimal}
 use Rattle.hexadecimal.specs.Digits.{digits}
 
@@ -32,3 +34,8 @@ refusal_line number place = refused_word ++ (decimal number ++ (code " " ∷ (de
 infixr 1 ◌else_print◌
 unfoldable pub ◌else_print◌ : Refusal → List ℕ → List ℕ
 r else_print text = text if eqb r.number Fault.none else refusal_line r.number r.place
+
+-- the same of what a call answers that writes words to the front of a list
+unfoldable pub answer_lines : Result ℕ error.Refusal → List ℕ → List ℕ
+answer_lines (Ok n) list = word_lines (take n list)
+answer_lines (Err r) list = refusal_line (fault_number r.fault) r.place

@@ -1,7 +1,6 @@
 -- Laws for the proofs of the items' functions and of the reader.
 pub mod Table
 pub mod Places
-pub mod Order
 pub mod Onward
 pub mod Steps
 pub mod Inner

@@ -1,19 +1,31 @@
 -- Reading on from a place.
-use Rattle.std.specs.Prelude.{◌≡◌, List, Bool, ℕ, ◌+◌, ◌-◌, ◌<◌, ◌≤◌, ltb, eqb, length, drop}
+use Rattle.std.specs.Prelude.{◌≡◌, List, Bool, ℕ, Result, Ok, Err, ◌+◌, ◌≤◌, ltb, eqb, length, drop}
 use Rattle.integers.specs.Choice.{◌if◌else◌}
 use Rattle.words.specs.Fault as Fault
 use Rattle.words.specs.Limit as Limit
+use Rattle.words.specs.Faults.{fault_number}
 use Rattle.words.specs.Refusal.{◌at_place◌, first_fault}
-use Rattle.words.specs.Word.{payload}
+use Rattle.words.specs.Word.{word_at}
 use Rattle.words.specs.Variables.{variables}
 use Rattle.words.specs.declared.Refusal.{Refusal}
+use Rattle.words.specs.declared.fault.Refusal as error
 use Rattle.models.specs.Model.{constraints_from}
+use Rattle.models.specs.Shape as Shape
 use Rattle.models.specs.Shape.{argument}
 use Rattle.models.specs.Reading.{after, ended, after_argument}
-use Rattle.models.specs.InRange.{fault, fault_number}
+use Rattle.models.specs.InRange as InRange
+use Rattle.models.specs.InRange.{fault}
 use Rattle.models.specs.declared.Due.{Due}
 use Rattle.models.specs.declared.Due.TheVariants.{Arguments}
-use Rattle.modelitems.specs.declared.items.Step.{Step}
+
+-- a step: where reading goes on, with number 0; or a fault and its place
+pub record Step : Type 0 where
+  pub number : ℕ
+  pub at : ℕ
+
+abbrev pub step_of : Result ℕ error.Refusal → Step
+step_of (Ok at) = record { number = Fault.none; at = at }
+step_of (Err r) = record { number = fault_number r.fault; at = r.place }
 
 -- what reading the words from place `at` on finds, with variables of the types ts and c constraints before it
 unfoldable pub onward : Due → List ℕ → ℕ → ℕ → List ℕ → Refusal
@@ -48,16 +60,9 @@ pub record Placed (ws : List ℕ) (at : ℕ) : Type 0 where
   pub within : at ≤ length ws
   pub few : length ws ≤ Limit.model_words
 
--- where n words from a place on end, or the words, if they end before that
-pub record Ends (ws : List ℕ) (at n r : ℕ) : Type 0 where
-  pub on : at ≤ r
-  pub within : r ≤ length ws
-  pub most : r ≤ at + n
-  pub all : r < at + n → length ws ≤ r
-
 -- a word that is a number, without a fault
 unfoldable pub is_number : ℕ → Bool
-is_number w = eqb (fault_number w) Fault.none
+is_number w = eqb (InRange.fault_number w) Fault.none
 
 -- what is due at the k-th argument of a code
 abbrev pub arguments_from : ℕ → ℕ → Due
@@ -71,19 +76,13 @@ head_due = arguments_from 0 0
 abbrev pub NumbersRead : List ℕ → ℕ → ℕ → ℕ → Step → Type 0
 NumbersRead ws n at left r = (ts : List ℕ) (c l type code k : ℕ) → StepsTo ws ts c (Arguments n l type code k) at (Arguments left l type code k) r
 
--- the words from one place to a later one are numbers
-pub record NumbersPassed (ws : List ℕ) (at end r : ℕ) : Type 0 where
-  pub on : at ≤ r
-  pub most : r ≤ end
-  pub read : (n : ℕ) → end ≤ at + n → NumbersRead ws n at (at + n - r) (record { number = Fault.none; at = r })
-
 -- r is past the variables of a list, of a type, but for the last `left` of them
 abbrev pub VariablesRead : List ℕ → List ℕ → ℕ → ℕ → ℕ → ℕ → Step → Type 0
 VariablesRead ws ts type n at left r = (c code k : ℕ) → StepsTo ws ts c (Arguments 0 n type code k) at (Arguments 0 left type code k) r
 
--- r is past a list of n elements, after its length word w
-abbrev pub ListRead : List ℕ → List ℕ → ℕ → ℕ → ℕ → Step → Type 0
-ListRead ws ts arg n at r = (c code k w : ℕ) → n ≡ payload w → StepsTo ws ts c (after_argument arg code k w) at (arguments_from code k) r
+-- r is past the length word of a list
+abbrev pub LengthRead : List ℕ → ℕ → Step → Type 0
+LengthRead ws at r = (ts : List ℕ) (c arg code k : ℕ) → arg ≡ argument code k → Shape.numbers ≤ arg → StepsTo ws ts c (arguments_from code k) at (after_argument arg code (k + 1) (word_at ws at)) r
 
 -- r is past an argument
 abbrev pub ArgumentRead : List ℕ → List ℕ → ℕ → ℕ → Step → Type 0

@@ -7,8 +7,7 @@ use Rattle.words.specs.Variables.{variables}
 use Rattle.models.specs.Model.{constraints_from, source_words}
 use Rattle.models.specs.Reading.{declared}
 use Rattle.models.specs.declared.Due.TheVariants.{Start}
-use Rattle.modelitems.specs.Onward.{onward, stopped}
-use Rattle.modelitems.specs.declared.items.Step.{Step}
+use Rattle.modelitems.specs.Onward.{onward, stopped, Step}
 
 -- a variable's words stand from one place to another
 pub record VariablePassed (ws : List ℕ) (at to : ℕ) : Type 0 where

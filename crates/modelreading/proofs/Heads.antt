@@ -1,5 +1,6 @@
 -- For the callers: the constraints by the places of their heads, and the variables by their words alone.
-use Rattle.std.proofs.Common.{◌≡◌, refl, ap, sym, ◌∙◌, Bool, true, false, List, [], ◌∷◌, ℕ, suc, ◌+◌, ◌<◌, ◌≤◌, arith, add-one, eqb, length, get_or, take, drop, length-append, drop-cons, get_or-take, take_at}
+use Rattle.std.proofs.Common.{◌≡◌, refl, ap, sym, ◌∙◌, Bool, true, false, List, [], ◌∷◌, ℕ, suc, ◌+◌, ◌<◌, ◌≤◌, arith, add-one, eqb, length, get_or, take, drop, length-append, drop-cons, get_or-take, length-take-le, take_at}
+use Rattle.std.proofs.Math.Seq.{take-length}
 use lib.ListN.{get_or-map}
 use Rattle.integers.specs.Choice.{◌if◌else◌}
 use Rattle.integers.specs.declared.Bounds.{Bounds}
@@ -10,8 +11,7 @@ use Rattle.words.specs.Variables.{variables, starts_pair}
 use Rattle.words.proofs.Sources.{Sources, none, integer, boolean}
 use Rattle.models.specs.Model.{Constraint, headed, constraints_from, constraints, source_words}
 use Rattle.models.proofs.Accepted.{Split, split, sources-are}
-use Rattle.modelreading.specs.Seen.{Heads, Seen}
-use Rattle.modelreading.specs.declared.Read.{Read}
+use Rattle.modelreading.specs.Seen.{Heads, Read, Seen}
 
 -- every constraint's head is among the words
 stands : (p : ℕ) (ws : List ℕ) → All (λ c. c.place < p + length ws) (constraints_from p ws)
@@ -38,6 +38,12 @@ module _ {ws hs : List ℕ} {n : ℕ} (h : Heads ws hs n) (k : ℕ) (l : k < n) 
     where
       ap_place : (get_or (constraints ws) k (headed ws 0)).place < 0 + length ws → get_or hs k 0 < length ws
       ap_place q = omega (arith, q, ap (λ (c : Constraint). c.place) at)
+
+-- the front of a list alone, which a function is lent
+pub front-heads : {ws : List ℕ} (hs : List ℕ) {n : ℕ} → Heads ws hs n → n ≤ length hs → Heads ws (take n hs) (length (take n hs))
+front-heads hs {n} h l =
+    let e = length-take-le n hs l in
+    record { room = rw e h.room; counted = rw e h.counted; places = rw (take-length (take n hs)) h.places }
 
 -- for the loops over the heads, which name it once: a word is read at each head
 pub ruleset heads_inside = (head-inside)

@@ -1,56 +1,43 @@
 -- The two loops of the reader: reading the rest from here gives what reading the whole gives, and what was seen so far is kept. One law for each way a turn ends.
-use Rattle.std.proofs.Common.{◌≡◌, refl, ap, sym, ◌∙◌, ◌≢◌, ◌⊎◌, inl, inr, ⊎_elim, Bool, true, false, List, [], ◌∷◌, ◌++◌, map, append-nil, append_assoc, ℕ, ◌+◌, ◌<◌, ◌≤◌, arith, add-zero, add-one, eq-eqb, ne_eqb, lt-ltb, le-ltb, ltb, length, get_or, take, drop, set, length-set, drop_of_length-le, take-suc-set, length-take-le}
+use Rattle.std.proofs.Common.{◌≡◌, refl, ap, sym, ◌∙◌, ◌≢◌, ◌⊎◌, inl, inr, ⊎_elim, List, [], ◌∷◌, ◌++◌, map, append-nil, append_assoc, ℕ, ◌+◌, ◌<◌, ◌≤◌, arith, add-zero, add-one, eq-eqb, ne_eqb, lt-ltb, le-ltb, length, get_or, take, drop, set, length-set, drop_of_length-le, take-suc-set, length-take-le, Result, Ok, Err}
+use Rattle.std.specs.Result.{MatchResult}
+use Rattle.std.proofs.lemmas.List.{take-map}
+use Rattle.std.proofs.Math.Seq.{take-length}
 use mathlib.Core.List.{map-append}
 use borrow.Author.Tests.{lt-leb}
 use lib.ListN.{length-map}
-use Rattle.integers.specs.Choice.{◌if◌else◌}
-use Rattle.words.specs.Fault as Fault
 use Rattle.words.specs.Word.{kind, payload, word_at}
 use Rattle.words.specs.Refusal.{◌at_place◌, accepted}
 use Rattle.words.specs.Variables.{variables}
-use Rattle.words.specs.declared.Refusal.{Refusal}
+use Rattle.words.specs.declared.fault.Refusal as error
+use Rattle.words.specs.Faults.{fault_number}
+use Rattle.words.proofs.Faulty.{fault-number}
 use Rattle.words.proofs.Reading.{word-then}
 use Rattle.models.specs.Model.{headed, constraints_from, constraints, source_words}
+use Rattle.models.specs.Shapes.{shape_number}
+use Rattle.models.specs.declared.shape.Shape.{Shape}
+use Rattle.models.specs.declared.shape.Shape.TheVariants as s
 use Rattle.models.specs.Reading.{fault_head, fault_end, fault_due_in, after_head, declared, started, read_model, read_model_in}
 use Rattle.models.specs.declared.Due.TheVariants.{Start, Ended}
 use Rattle.models.proofs.Sound.{is-head, at-constraint, at-end}
 use Rattle.models.proofs.Constraints.{starts-one}
-use Rattle.modelitems.specs.Onward.{onward, stopped, Placed, head_due, arguments_from, ArgumentsRead}
+use Rattle.modelitems.specs.Onward.{onward, stopped, Placed, Step, head_due, arguments_from, ArgumentsRead}
 use Rattle.modelitems.specs.Variable.{Declares}
-use Rattle.modelitems.specs.declared.items.Step.{Step}
 use Rattle.modelitems.proofs.Onward.{fault_at, here, go_on, stop-here, end-here, stop-at, start-heads, head-fault, head-after}
 use Rattle.modelitems.proofs.Steps.{gone, halted, present}
 use Rattle.modelitems.proofs.Variable.{none-declared, none-posed}
-use Rattle.modelreading.specs.Seen.{VariablesSeen, VariablesKept, Seen, Kept}
-use Rattle.modelreading.specs.declared.Read.{Read}
+use Rattle.modelreading.specs.Seen.{model_read, read_of, VariablesSeen, Seen, Kept}
+use Rattle.modelreading.specs.declared.Model.{Model}
 
 -- ---- what is answered
 
-stopped-some : (ws : List ℕ) (f p : ℕ) → (f ≡ 0 → ⊥) → (stopped ws f p).number ≡ 0 → ⊥
-unfolding stopped
-stopped-some ws f p z = go (ltb p (length ws))
-  where
-    go : (b : Bool) → (f at_place p if b else Fault.words_end at_place p).number ≡ 0 → ⊥
-    go true e = z e
-    go false e = omega arith
+pub kept : {ws hs : List ℕ} (r : Result Model error.Refusal) → MatchResult r (λ m. Seen ws hs (model_read m)) (λ e. fault_number e.fault at_place e.place ≡ read_model ws) → Kept ws hs (read_of r)
+kept (Ok m) s = record { refusal = sym s.accepts; seen = λ n. s }
+kept (Err e) q = record { refusal = q; seen = λ n. absurd (fault-number e.fault n) }
 
-some : (ws : List ℕ) (f p : ℕ) {n q : ℕ} → (f ≡ 0 → ⊥) → n at_place q ≡ stopped ws f p → n ≡ 0 → ⊥
-some ws f p z e n = stopped-some ws f p z (ap (λ (x : Refusal). x.number) (sym e) ∙ n)
-
-module _ {ws : List ℕ} (f p : ℕ) {r : Read} (z : f ≡ 0 → ⊥) (w : stopped ws f p ≡ read_model ws) (e : r.number at_place r.place ≡ stopped ws f p) where
-  pub variables-fault : {types : List ℕ} → VariablesKept ws types r
-  variables-fault = record { refusal = λ n. e ∙ w; seen = λ n. absurd (some ws f p z e n) }
-
-  pub kept-fault : {hs : List ℕ} → Kept ws hs r
-  kept-fault = record { refusal = e ∙ w; seen = λ n. absurd (some ws f p z e n) }
-
--- a fault of the variables is the model's
-pub variables-refused : {ws types hs : List ℕ} {r : Read} → VariablesKept ws types r → (r.number ≡ 0 → ⊥) → Kept ws hs r
-variables-refused k z = record { refusal = k.refusal z; seen = λ n. absurd (z n) }
-
-pub too_long : (ws : List ℕ) → 8192 < length ws → stopped ws 1 0 ≡ read_model ws
-unfolding stopped read_model_in
-too_long ws h = rw (lt-ltb 8192 (length ws) h, lt-ltb 0 (length ws) (omega arith))
+pub too_long : (ws : List ℕ) → 8192 < length ws → 1 at_place 0 ≡ read_model ws
+unfolding read_model_in
+too_long ws h = rw (lt-ltb 8192 (length ws) h)
 
 all_read : (ws : List ℕ) → length ws ≤ 8192 → onward Start [] 0 0 ws ≡ read_model ws
 unfolding read_model_in onward
@@ -107,26 +94,45 @@ all-opened {ws} {types} {v} {at} o e = record {
   same = o.same;
 }
 
+-- their front alone, for which the constraints are read
+pub front-seen : {ws : List ℕ} (types : List Shape) {v at : ℕ} → length types ≡ 256 → VariablesSeen head_due ws (map shape_number types) v at → VariablesSeen head_due ws (map shape_number (take v types)) (length (take v types)) at
+front-seen {ws} types {v} {at} f o =
+    let l : length (take v types) ≡ v = length-take-le v types (omega (arith, o.few, f)) in
+    let e : take (length (take v types)) (map shape_number (take v types)) ≡ take v (map shape_number types) =
+    take-map shape_number (length (take v types)) (take v types) ∙ ap (map shape_number) (take-length (take v types)) ∙ sym (take-map shape_number v types)
+    in record {
+      few = rw l o.few;
+      placed = o.placed;
+      rest = rw e o.rest;
+      declares = rw l o.declares;
+      front = o.front;
+      same = o.same;
+    }
+
+-- no type of a variable has the number 0
+pub typed : (s : Shape) → shape_number s ≡ 0 → ⊥
+typed s.Integer z = omega (arith, z)
+typed s.Boolean z = omega (arith, z)
+typed s.Number z = omega (arith, z)
+typed s.Exponent z = omega (arith, z)
+typed s.Numbers z = omega (arith, z)
+typed s.Integers z = omega (arith, z)
+typed s.Booleans z = omega (arith, z)
+typed s.Parallel z = omega (arith, z)
+
 -- ---- the constraints; `sources` is the place where they begin
 
-pub record Posing (ws types hs : List ℕ) (v sources c at : ℕ) : Type 0 where
-  pub few : v ≤ 256
+pub record Posing (ws ts hs : List ℕ) (sources c at : ℕ) : Type 0 where
   pub room : c ≤ 256
   pub full : length hs ≡ 256
   pub placed : Placed ws at
-  pub rest : onward head_due (take v types) c at ws ≡ read_model ws
-  pub declares : v + length (variables (drop at ws)) ≡ length (variables ws)
+  pub rest : onward head_due ts c at ws ≡ read_model ws
+  pub declares : length ts + length (variables (drop at ws)) ≡ length (variables ws)
   pub front : sources + length (source_words (drop sources ws)) ≡ length (source_words ws)
   pub began : (sources ≡ at) ⊎ (3 < kind (word_at ws sources))
   pub posed : map (headed ws) (take c hs) ++ constraints_from at (drop at ws) ≡ constraints ws
 
-pub posing : {ws types hs : List ℕ} {v at : ℕ} → VariablesSeen head_due ws types v at → length hs ≡ 256 → Posing ws types hs v at 0 at
-posing o f = record { few = o.few; room = omega arith; full = f; placed = o.placed; rest = o.rest; declares = o.declares; front = o.front; began = inl refl; posed = o.same }
-
-module _ {ws types hs : List ℕ} {v sources c at : ℕ} (p : Posing ws types hs v sources c at) {f : ℕ} (e : f ≡ fault_head c (word_at ws at)) where
-  abbrev ts : List ℕ
-  ts = take v types
-
+module _ {ws ts hs : List ℕ} {sources c at : ℕ} (p : Posing ws ts hs sources c at) {f : ℕ} (e : f ≡ fault_head c (word_at ws at)) where
   abbrev w : ℕ
   w = word_at ws at
 
@@ -169,17 +175,16 @@ module _ {ws types hs : List ℕ} {v sources c at : ℕ} (p : Posing ws types hs
         unfolding word_at
         posed-one = starts-one ws at head-here posing-one.1 ∙ ap (λ cs. headed ws at ∷ cs) (g 0).skipped.same_constraints
 
-        pub posing-on : r.number ≡ 0 → Posing ws types (set hs c at) v sources (c + 1) r.at
+        pub posing-on : r.number ≡ 0 → Posing ws ts (set hs c at) sources (c + 1) r.at
         posing-on y =
             let k = posing-one.1 in
             let s = g (c + 1) in
             record {
-              few = p.few;
               room = omega (arith, posing-one.0);
               full = length-set hs c at ∙ p.full;
               placed = record { within = s.inside; few = p.placed.few };
               rest = sym (gone s y) ∙ due-arguments;
-              declares = ap (λ (l : ℕ). v + l) (ap length (sym (none-declared ws at head-here (λ j. omega arith) (λ j. omega arith) (λ j. omega arith) ∙ s.skipped.same_variables))) ∙ p.declares;
+              declares = ap (λ (l : ℕ). length ts + l) (ap length (sym (none-declared ws at head-here (λ j. omega arith) (λ j. omega arith) (λ j. omega arith) ∙ s.skipped.same_variables))) ∙ p.declares;
               front = p.front;
               began = inr (⊎_elim (λ q. rw q (omega arith)) (λ q. q) p.began);
               posed = rw one_more (append_assoc (map (headed ws) (take c hs)) (headed ws at ∷ []) (constraints_from r.at (drop r.at ws)) ∙ rw (← posed-one) p.posed);
@@ -218,7 +223,7 @@ module _ {ws types hs : List ℕ} {v sources c at : ℕ} (p : Posing ws types hs
         all-posed : map (headed ws) (take c hs) ≡ constraints ws
         all-posed = sym (append-nil (map (headed ws) (take c hs))) ∙ rw (no-constraint) at p.posed
 
-        pub seen : Seen ws hs (record { number = 0; place = 0; variables = v; sources = sources; constraints = c })
+        pub seen : Seen ws hs (record { number = 0; place = 0; variables = length ts; sources = sources; constraints = c })
         seen = record {
           accepts = sym no-fault;
           variables_counted = omega (arith, p.declares, no-variable);

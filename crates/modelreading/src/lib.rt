@@ -1,131 +1,122 @@
 // The reader of a model: the first faulty word, by faults 1 to 11 and 18; and of an accepted model what it saw.
 #![tactic(auto)]
 
-ghost use Rattle.std.specs.Prelude.{◌≡◌, ◌≤◌, length};
+ghost use Rattle.std.specs.Prelude.{◌≡◌, ◌≤◌, length, map, MatchResult};
 ghost use Rattle.words.specs.Limit as Limit;
+ghost use Rattle.words.specs.Faults.{fault_number};
 ghost use Rattle.words.specs.Refusal.{◌at_place◌};
+ghost use Rattle.models.specs.Shapes.{shape_number};
 ghost use Rattle.modelitems.specs.Onward.{head_due, stopped};
-ghost use Rattle.modelreading.specs.Seen.{VariablesSeen, VariablesKept, Kept};
+ghost use Rattle.modelreading.specs.Seen.{Stops, VariablesSeen, Seen, Kept, model_read, read_of};
 
-use modelitems::faults::of_head;
-use modelitems::items::{arguments_at, declared_by, variable_at};
+use modelitems::faults::check_head;
+use modelitems::items::{arguments_at, declared_by, over, variable_at};
 use modelitems::shapes;
-use words::{fault, kind, kind_of, limit, payload_of, word_at};
+use models::shape::Shape;
+use words::fault::{Fault, Refusal};
+use words::kind::Kind;
+use words::limit;
+use words::word::Word;
 
-// A fault and its place; where the number is 0, how many variables the model has, how many words they take, and how many constraints.
-#[derive(Clone, Copy)]
-pub struct Read {
-    pub number: u32,
-    pub place: usize,
+// What an accepted model has: how many variables, how many words they take, and how many constraints.
+#[derive(Clone, Copy, Debug, PartialEq, Eq)]
+pub struct Model {
     pub variables: usize,
     pub sources: usize,
     pub constraints: usize,
 }
 
-// The answer where a reading stops with a fault at a place, where a word is due: fault 2 where the words have ended before it.
+// The refusal where a reading stops, where a word is due: fault 2 where the words have ended before it.
 #[tactic(auto, unfolding(modelitems::specs::Onward::stopped))]
-fn refused(ws: &[u32], number: u32, place: usize) -> Read
-    ensures { result.number at_place result.place ≡ stopped ws.now number place }
+fn refused(ws: &[u32], refusal: Refusal) -> Refusal
+    ensures { fault_number result.fault at_place result.place ≡ stopped ws.now (fault_number refusal.fault) refusal.place }
 {
-    let mut found = fault::WORDS_END;
-    if place < ws.len() {
-        found = number;
+    if refusal.place < ws.len() {
+        return refusal;
     }
-    Read {
-        number: found,
-        place,
-        variables: 0,
-        sources: 0,
-        constraints: 0,
+    Refusal {
+        fault: Fault::WordsEnd,
+        place: refusal.place,
     }
 }
 
-// The variables of a model: the first fault and its place; or how many there are, how many words they take, and in types their types.
-fn read_variables(ws: &[u32], types: &mut [u32; 256]) -> Read
+// The variables of a model: how many there are and how many words they take; in types their types.
+fn read_variables(ws: &[u32], types: &mut [Shape; 256]) -> Result<(usize, usize), Refusal>
     requires { (length ws.now ≤ Limit.model_words) × (length types.old ≡ 256) }
-    ensures { VariablesKept ws.now types.new result }
+    ensures { MatchResult result (λ r. VariablesSeen head_due ws.now (map shape_number types.new) r.0 r.1) (Stops ws.now) }
 {
     let mut v = 0;
     let mut at = 0;
     loop {
-        let w = word_at(ws, at);
-        let declared = declared_by(w);
-        if declared == shapes::NONE {
+        let w = Word::at(ws, at);
+        let Some(declared) = declared_by(w) else {
             break;
-        }
-        let variable = variable_at(ws, at, w, v);
-        if variable.number != fault::NONE {
-            return refused(ws, variable.number, variable.at);
-        }
+        };
+        let next = variable_at(ws, at, w, v)?;
         types[v] = declared;
         v += 1;
-        at = variable.at;
+        at = next;
     }
-    Read {
-        number: fault::NONE,
-        place: 0,
-        variables: v,
-        sources: at,
-        constraints: 0,
-    }
+    Ok((v, at))
 }
 
-// The constraints of a model after its variables, which take so many words: what the model has, or its first fault and its place.
+// The constraints of a model after its variables, which take so many words and are of these types: how many there are; in heads their places.
 fn read_constraints(
     ws: &[u32],
-    types: &[u32; 256],
-    v: usize,
     sources: usize,
+    types: &[Shape],
     heads: &mut [usize; 256],
-) -> Read
-    requires { VariablesSeen head_due ws.now types.now v sources × (length heads.old ≡ 256) }
-    ensures { Kept ws.now heads.new result }
+) -> Result<usize, Refusal>
+    requires { VariablesSeen head_due ws.now (map shape_number types.now) (length types.now) sources × (length heads.old ≡ 256) }
+    ensures { MatchResult result (λ c. Seen ws.now heads.new (model_read (record { variables = length types.now; sources = sources; constraints = c }))) (Stops ws.now) }
 {
     let table = shapes::table();
     let mut at = sources;
     let mut c = 0;
     loop {
-        let head = word_at(ws, at);
-        let number = of_head(c, head);
-        if number != fault::NONE {
-            return refused(ws, number, at);
-        }
-        if kind_of(head) == kind::MODEL_END {
+        let head = Word::at(ws, at);
+        let first = over(at, check_head(c, head))?;
+        if head.is(Kind::ModelEnd) {
             break;
         }
-        let first = at + 1;
         heads[c] = at;
         c += 1;
-        let arguments = arguments_at(ws, first, payload_of(head), &table, types, v);
-        if arguments.number != fault::NONE {
-            return refused(ws, arguments.number, arguments.at);
-        }
-        at = arguments.at;
+        at = arguments_at(ws, first, head.payload(), &table, types)?;
     }
     if at + 1 < ws.len() {
-        return refused(ws, fault::WORD_AFTER_END, at + 1);
+        return Err(Refusal {
+            fault: Fault::WordAfterEnd,
+            place: at + 1,
+        });
     }
-    Read {
-        number: fault::NONE,
-        place: 0,
-        variables: v,
+    Ok(c)
+}
+
+// The variables and the constraints of a model.
+fn read_items(ws: &[u32], heads: &mut [usize; 256]) -> Result<Model, Refusal>
+    requires { (length ws.now ≤ Limit.model_words) × (length heads.old ≡ 256) }
+    ensures { MatchResult result (λ m. Seen ws.now heads.new (model_read m)) (Stops ws.now) }
+{
+    let mut types = [Shape::Integer; 256];
+    let (variables, sources) = read_variables(ws, &mut types)?;
+    let constraints = read_constraints(ws, sources, &types[..variables], heads)?;
+    Ok(Model {
+        variables,
         sources,
-        constraints: c,
-    }
+        constraints,
+    })
 }
 
 // The first fault of a model and its place; of an accepted model what it has, and in heads the places of its constraints.
-pub fn read_model(ws: &[u32], heads: &mut [usize; 256]) -> Read
+pub fn read_model(ws: &[u32], heads: &mut [usize; 256]) -> Result<Model, Refusal>
     requires { length heads.old ≡ 256 }
-    ensures { Kept ws.now heads.new result }
+    ensures { Kept ws.now heads.new (read_of result) }
 {
     if limit::MODEL_WORDS < ws.len() {
-        return refused(ws, fault::TOO_MANY_WORDS, 0);
+        return Err(Refusal {
+            fault: Fault::TooManyWords,
+            place: 0,
+        });
     }
-    let mut types = [shapes::NONE; 256];
-    let read = read_variables(ws, &mut types);
-    if read.number != fault::NONE {
-        return read;
-    }
-    read_constraints(ws, &types, read.variables, read.sources, heads)
+    read_items(ws, heads).map_err(|refusal| refused(ws, refusal))
 }

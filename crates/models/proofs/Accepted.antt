@@ -13,7 +13,7 @@ use Rattle.words.specs.Refusal.{◌at_place◌, accepted, first_fault}
 use Rattle.words.specs.declared.Refusal.{Refusal}
 use Rattle.words.specs.Variables.{variables}
 use Rattle.words.proofs.Sources.{Ordered, Sources, none, integer, boolean}
-use Rattle.words.proofs.Word.{says_range}
+use Rattle.words.proofs.ReadBack.{says_range}
 use Rattle.models.specs.Table as Table
 use Rattle.models.specs.Builtin.{Builtin}
 use Rattle.models.specs.Shape as Shape

@@ -3,6 +3,8 @@ pub mod Builtin
 pub mod Meaning
 pub mod Table
 pub mod Shape
+pub mod Shapes
+pub mod Codes
 pub mod Reading
 pub mod InRange
 pub mod Model

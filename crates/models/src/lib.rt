@@ -1,8 +1,12 @@
 // Models: what a reader of a model waits for.
 #![tactic(auto)]
 
+pub mod code;
+pub mod shape;
+
 // What is due at the next word of a model.
-#[derive(Drop)]
+// Only definitions build it, of the words' own numbers: so its parts are numbers, and not kinds, shapes and codes.
+#[derive(Clone, Copy, Debug, PartialEq, Eq)]
 pub enum Due {
     // a variable, a constraint or the end
     Start,

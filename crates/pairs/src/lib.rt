@@ -5,8 +5,7 @@ ghost use Rattle.std.specs.Prelude.{◌≡◌, ◌≤◌, ◌<◌, length};
 ghost use Rattle.integers.specs.Choice.{◌if◌else◌};
 ghost use Rattle.words.specs.Overlay.{overlay};
 ghost use Rattle.words.specs.Limit as Limit;
-ghost use Rattle.words.specs.Verdict.{verdict};
-ghost use Rattle.words.specs.Written.{wrote};
+ghost use Rattle.words.specs.Faults.{written_of, verdict_of};
 ghost use Rattle.checking.specs.Checked.{checked};
 ghost use Rattle.translation.specs.Shares.{Shares};
 ghost use Rattle.filling.specs.Filled.{handed};
@@ -16,36 +15,27 @@ ghost use Rattle.pairs.specs.Calls.{pair_check, pair_translate, pair_translated,
 ghost use Rattle.pairs.specs.HandsOver.{PairHandsOver};
 ghost use Rattle.pairs.specs.Copied.{Copies};
 
-use checking::{Checked, check};
-use filling::{Filled, fill};
+use checking::{Counts, check};
+use filling::{Filling, fill};
 use modeljudge::judge_model;
 use translation::translate;
-use words::{Refusal, Verdict, Written, fault, kind, kind_of, lay, limit, word_of};
+use words::answer::Verdict;
+use words::fault::{Fault, Refusal};
+use words::kind::Kind;
+use words::limit;
+use words::list::lay;
+use words::word::Word;
 
 // The word between the candidates.
 const SEPARATOR: u32 = 3489660928;
-
-// A candidate's model that was copied: a fault and its place, fault 0 for none, and how many words the model has.
-#[derive(Drop)]
-pub struct Copied {
-    pub number: u32,
-    pub place: usize,
-    pub words: usize,
-}
 
 // Whether the table ends before a word.
 #[tactic(auto, unfolding(crate::specs::Pair::ends_table, crate::specs::Pair::separates))]
 fn ends_table(w: u32) -> bool
     ensures { result ≡ ends_table w }
 {
-    let k = kind_of(w);
-    if k == kind::CONSTRAINT {
-        return true;
-    }
-    if k == kind::MODEL_END {
-        return true;
-    }
-    w == SEPARATOR
+    let word = Word::from(w);
+    word.is(Kind::Constraint) || word.is(Kind::ModelEnd) || w == SEPARATOR
 }
 
 // Whether a word ends the table, or is the one between the candidates.
@@ -63,14 +53,12 @@ fn stops(table: bool, w: u32) -> bool
 fn words_before(ws: &[u32], table: bool) -> usize
     ensures { result ≡ before (ends_table if table else separates) ws.now }
 {
-    let mut i = 0;
-    while i < ws.len() {
+    for i in 0..ws.len() {
         if stops(table, ws[i]) {
             return i;
         }
-        i += 1;
     }
-    i
+    ws.len()
 }
 
 // Lays the first candidate's model over the front of a list.
@@ -79,8 +67,7 @@ fn lay_first(ws: &[u32], d: usize, out: &mut [u32])
     ensures { out.new ≡ overlay out.old 0 (first_model ws.now) }
 {
     lay(out, 0, &ws[..d]);
-    let end = [word_of(kind::MODEL_END, 0)];
-    lay(out, d, &end);
+    lay(out, d, &[Word::new(Kind::ModelEnd, 0).bits()]);
 }
 
 // Lays the second candidate's model, a table of t words and what follows the word at place d, over the front of a list.
@@ -92,111 +79,79 @@ fn lay_second(ws: &[u32], d: usize, t: usize, out: &mut [u32])
     lay(out, t, &ws[d + 1..]);
 }
 
-// Copies a candidate's model to the front of a list: 1 is the first candidate, every other number the second.
-fn copy_model(ws: &[u32], candidate: u32, out: &mut [u32]) -> Copied
+// Copies a candidate's model to the front of a list: 1 is the first candidate, every other number the second. How many words the model has.
+fn copy_model(ws: &[u32], candidate: u32, out: &mut [u32]) -> Result<usize, Refusal>
     ensures { Copies candidate ws.now result out.old out.new }
 {
     let d = words_before(ws, false);
     if d == ws.len() {
-        return Copied {
-            number: fault::WORDS_END,
+        return Err(Refusal {
+            fault: Fault::WordsEnd,
             place: d,
-            words: 0,
-        };
+        });
     }
+    let too_many = Refusal {
+        fault: Fault::TooManyWords,
+        place: 0,
+    };
     if candidate == 1 {
         if limit::MODEL_WORDS <= d {
-            return Copied {
-                number: fault::TOO_MANY_WORDS,
-                place: 0,
-                words: 0,
-            };
+            return Err(too_many);
         }
         lay_first(ws, d, out);
-        return Copied {
-            number: fault::NONE,
-            place: 0,
-            words: d + 1,
-        };
+        return Ok(d + 1);
     }
     let t = words_before(ws, true);
     let n = ws.len() - (d + 1) + t;
     if limit::MODEL_WORDS < n {
-        return Copied {
-            number: fault::TOO_MANY_WORDS,
-            place: 0,
-            words: 0,
-        };
+        return Err(too_many);
     }
     lay_second(ws, d, t, out);
-    Copied {
-        number: fault::NONE,
-        place: 0,
-        words: n,
-    }
+    Ok(n)
 }
 
 // Check of a candidate's model.
-pub fn pair_check(ws: &[u32], candidate: u32) -> Checked
+pub fn pair_check(ws: &[u32], candidate: u32) -> Result<Counts, Refusal>
     ensures { checked result ≡ pair_check candidate ws.now }
 {
     let mut model = [0u32; limit::MODEL_WORDS];
-    let copied = copy_model(ws, candidate, &mut model);
-    if copied.number != fault::NONE {
-        return Checked::Refused(Refusal {
-            number: copied.number,
-            place: copied.place,
-        });
-    }
-    check(&model[..copied.words])
+    let words = copy_model(ws, candidate, &mut model)?;
+    check(&model[..words])
 }
 
 // Translate of a candidate's model.
-pub fn pair_translate(ws: &[u32], candidate: u32, out: &mut [u32]) -> Written
-    ensures answer { wrote result ≡ pair_translate candidate ws.now (length out.old) }
+pub fn pair_translate(ws: &[u32], candidate: u32, out: &mut [u32]) -> Result<usize, Refusal>
+    ensures answer { written_of result ≡ pair_translate candidate ws.now (length out.old) }
     ensures output { out.new ≡ pair_translated candidate ws.now out.old }
-    ensures shared { Shares (model_of candidate ws.now) (wrote result) out.new }
+    ensures shared { Shares (model_of candidate ws.now) (written_of result) out.new }
 {
     let mut model = [0u32; limit::MODEL_WORDS];
-    let copied = copy_model(ws, candidate, &mut model);
-    if copied.number != fault::NONE {
-        return Written::Refused(Refusal {
-            number: copied.number,
-            place: copied.place,
-        });
-    }
-    translate(&model[..copied.words], out)
+    let words = copy_model(ws, candidate, &mut model)?;
+    translate(&model[..words], out)
 }
 
 // Judge-model of a candidate's model.
-pub fn pair_judge_model(ws: &[u32], candidate: u32, values: &[i32]) -> Verdict
-    ensures { verdict result ≡ pair_judge candidate ws.now values.now }
+pub fn pair_judge_model(ws: &[u32], candidate: u32, values: &[i32]) -> Result<Verdict, Refusal>
+    ensures { verdict_of result ≡ pair_judge candidate ws.now values.now }
 {
     let mut model = [0u32; limit::MODEL_WORDS];
-    let copied = copy_model(ws, candidate, &mut model);
-    if copied.number != fault::NONE {
-        return Verdict::Refused(Refusal {
-            number: copied.number,
-            place: copied.place,
-        });
-    }
-    judge_model(&model[..copied.words], values)
+    let words = copy_model(ws, candidate, &mut model)?;
+    judge_model(&model[..words], values)
 }
 
 // Fill of a candidate's model.
-pub fn pair_fill(ws: &[u32], candidate: u32, values: &[i32], out: &mut [i32]) -> Filled
+pub fn pair_fill(
+    ws: &[u32],
+    candidate: u32,
+    values: &[i32],
+    out: &mut [i32],
+) -> Result<Filling, Refusal>
     ensures answer { handed result ≡ pair_fill candidate ws.now values.now (length out.old) }
     ensures output { out.new ≡ pair_filled candidate ws.now values.now out.old }
     ensures satisfied { Satisfied (model_of candidate ws.now) (handed result) out.new }
     ensures completes { PairHandsOver candidate ws.now values.now (handed result) out.old out.new }
 {
     let mut model = [0u32; limit::MODEL_WORDS];
-    let copied = copy_model(ws, candidate, &mut model);
-    if copied.number != fault::NONE {
-        return Filled::Refused(Refusal {
-            number: copied.number,
-            place: copied.place,
-        });
-    }
-    fill(&model[..copied.words], values, out)
+    let words = copy_model(ws, candidate, &mut model)?;
+    fill(&model[..words], values, out)
 }

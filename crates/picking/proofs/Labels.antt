@@ -1,13 +1,14 @@
 -- Laws of labels that rise by 1 from a first one: how many they are, and the place of a value among them.
-use Rattle.std.proofs.Common.{◌≡◌, refl, ap, ◌∙◌, Bool, true, false, ℕ, ◌<◌, arith, ℤ, pos, length}
+use Rattle.std.proofs.Common.{◌≡◌, refl, Bool, true, false, ℕ, ◌<◌, arith, ℤ, pos}
 use lib.Signed.{lt_z}
 use Rattle.integers.specs.Number.{◌⊕◌, ◌⊖◌, ◌≟◌, count, +1}
-use Rattle.integers.specs.Bounds.{◌to◌, width, values}
+use Rattle.integers.specs.Bounds.{width, values}
+use Rattle.integers.specs.declared.Bounds.{Bounds}
 use Rattle.integers.proofs.Linear.{◌⊑◌, ◌⊏◌, linear, rep}
 use Rattle.integers.proofs.Tests.{says-equal, says-lt, not-below}
 use Rattle.rules.specs.Pick.{first_bit}
 use Rattle.picking.specs.Only.{only_at, FirstAt}
-use Rattle.picking.proofs.Only.{only-length, first_bit-only_at}
+use Rattle.picking.proofs.Only.{first_bit-only_at}
 
 pub not_equal : (a b : ℤ) → ¬ (a ≡ b) → (a ≟ b) ≡ false
 not_equal a b n = by (a ≟ b) refl
@@ -55,12 +56,6 @@ no-later v first {n} {h} w k l m = not_equal _ _ (λ e. apart first v h k ((says
     apart first v = rw (rep first, rep v) (simp linear (omega arith))
 
 -- the bits of the values that bounds leave
-pub label-bits : (lower upper v : ℤ) (h : ℕ) → FirstAt (λ k. lower ⊕ pos k ≟ v) (width (lower to upper)) h →
-    first_bit (λ j. j ≟ v) (values (lower to upper)) ≡ only_at (width (lower to upper)) h +1
+pub label-bits : (B : Bounds) (v : ℤ) (h : ℕ) → FirstAt (λ k. B.lower ⊕ pos k ≟ v) (width B) h → first_bit (λ j. j ≟ v) (values B) ≡ only_at (width B) h +1
 unfolding values
-label-bits lower upper v h w = first_bit-only_at (λ j. j ≟ v) (λ k. lower ⊕ pos k) (width (lower to upper)) h w
-
-pub bits-length : (lower upper v : ℤ) → length (first_bit (λ j. j ≟ v) (values (lower to upper))) ≡ width (lower to upper)
-bits-length lower upper v =
-    let p = some-place v lower (width (lower to upper)) in
-    ap length (label-bits lower upper v p.0 p.1) ∙ only-length (width (lower to upper)) p.0 +1
+label-bits B v h w = first_bit-only_at (λ j. j ≟ v) (λ k. B.lower ⊕ pos k) (width B) h w

@@ -1,5 +1,5 @@
 -- Laws of one number among zeros: its elements, one-hot bits, and products with one-hot bits.
-use Rattle.std.proofs.Common.{◌≡◌, refl, ap, ◌∙◌, Bool, true, false, [], ◌∷◌, ◌++◌, map, ℕ, zero, suc, ◌+◌, ◌<◌, ◌≤◌, arith, eqb, ltb, ℤ, length, get_or, ne_eqb, ltb-true, ltb-false}
+use Rattle.std.proofs.Common.{◌≡◌, refl, ap, ◌∙◌, Bool, true, false, [], ◌∷◌, ◌++◌, map, ℕ, zero, suc, ◌<◌, ◌≤◌, arith, eqb, ℤ, length, get_or, ne_eqb}
 use mathlib.Core.List.{zip_with}
 use Prim.Native.Nat.compare
 use lib.Signed.{lt_z}
@@ -67,14 +67,6 @@ module _ {A : Type 0} (t : A → Bool) where
         before = λ k l m. w.before (suc k) (omega arith) (omega arith);
         here = λ l. w.here (omega arith);
       })))
-
--- one place more before the first
-pub none_more : (t : ℕ → Bool) (k : ℕ) → ((j : ℕ) → j < k → t j ≡ false) → t k ≡ false → (j : ℕ) → j < k + 1 → t j ≡ false
-none_more t k h e j l = by (ltb j k) refl
-  where
-    by : (b : Bool) → ltb j k ≡ b → t j ≡ false
-    by true p = h j (ltb-true j k p)
-    by false p = let q : j ≡ k = omega (arith, ltb-false j k p) in rw q e
 
 -- ---- a bit times a number
 

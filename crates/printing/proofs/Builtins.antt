@@ -8,7 +8,7 @@ use Rattle.integers.proofs.Tests.{says_all}
 use Rattle.integers.proofs.Booleans.{both_true}
 use Rattle.tokens.specs.Byte.{bytes, front, between, is_letter, in_name, is_digit, is_gap}
 use Rattle.tokens.specs.Token.{tokens_from}
-use Rattle.names.specs.Name.{same, look_up, builtin_names}
+use Rattle.names.specs.Name.{look_up, builtin_names}
 use Rattle.printing.specs.ModelText.{builtin_name}
 use Rattle.printing.proofs.Spelled.{token, spelled-name}
 
@@ -17,7 +17,7 @@ is_name_of [] code = false
 is_name_of (b ∷ bs) code = is_letter b && (not (is_gap b) && (all in_name bs && (ltb (length bs) 32 && eqb (look_up (b ∷ bs) 0 (map bytes builtin_names)) code)))
 
 names_hold : all (λ code. is_name_of (builtin_name (suc code)) (suc code)) (list_of (λ code. code) 39) ≡ true
-unfolding all list_of bytes builtin_name builtin_names look_up same is_letter in_name is_digit is_gap any between
+unfolding all list_of bytes builtin_name builtin_names look_up is_letter in_name is_digit is_gap any between
 names_hold = refl
 
 abbrev Holds : ℕ → Type 0

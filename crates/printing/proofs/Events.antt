@@ -3,16 +3,13 @@ use Rattle.std.proofs.Common.{◌≡◌, refl, ap, ◌∙◌, Bool, true, false,
 use Rattle.integers.specs.Lists.{list_of, any}
 use Rattle.words.specs.Word.{kind, payload, signed, in_range, word}
 use Rattle.decimals.specs.Decimal.{numeral}
-use Rattle.tokens.specs.Byte.{bytes, front, run, between, is_letter, in_name, is_digit, is_gap}
+use Rattle.tokens.specs.Byte.{bytes, front, between, is_letter, in_name, is_digit, is_gap}
 use Rattle.tokens.specs.Token.{Token, tokens_from, token_length, sort_of}
-use Rattle.names.specs.Name.{same, is_word, code_of, declared_from, variable_of}
-use Rattle.grammar.specs.Form.{argument_forms, argument_form}
+use Rattle.names.specs.Name.{is_word, code_of, declared_from, variable_of}
+use Rattle.grammar.specs.Form.{argument_forms, argument_form, One, Many}
 use Rattle.grammar.specs.Grammar as Grammar
 use Rattle.grammar.specs.Brackets.{fits_inside, length_from}
-use Rattle.grammar.specs.Grammar.{gives, fitting, of_sort, number_step, single_step, argument_step}
-use Rattle.grammar.specs.declared.Form.TheVariants.{One, Many}
-use Rattle.grammar.specs.declared.Due.{Due}
-use Rattle.grammar.specs.declared.Due.TheVariants.{Item, Domain, Dots, Upper, Colon, Name, Semicolon, Builtin, Opening, Argument, Next, Inside, Satisfy}
+use Rattle.grammar.specs.Grammar.{gives, fitting, of_sort, number_step, single_step, argument_step, Due, Item, Domain, Dots, Upper, Colon, Name, Semicolon, Builtin, Opening, Argument, Next, Inside, Satisfy}
 use Rattle.printing.specs.ModelText.{variable_name, builtin_name}
 use Rattle.printing.proofs.Spelled.{token, colon, semicolon, comma, opening, closing, open_list, close_list, open_set, close_set, Sign, spelled-sign, spelled_dots, spelled_blank, spelled-line}
 use Rattle.printing.proofs.Numerals.{numeral-some, named, found, not_found, name-token, number-token, value-back, signed_back}
@@ -87,25 +84,25 @@ module _ (all : List Token) (end : ℕ) where
     -- ---- keywords
 
     pub at-var : Reads all end Domain (p + 1 + 1 + 1) (32 ∷ bs) ns false us → Reads all end (Item 0) p (118 ∷ 97 ∷ 114 ∷ 32 ∷ bs) ns false us
-    unfolding Grammar.step fitting gives is_word same bytes list_of tokens_from token_length sort_of run is_gap any is_letter in_name is_digit between
+    unfolding Grammar.step fitting gives is_word bytes list_of tokens_from token_length sort_of is_gap any is_letter in_name is_digit between
     at-var r = plain_step all end (token 2 p (118 ∷ 97 ∷ 114 ∷ [])) 0 refl refl (omega arith) (λ e. refl) r
 
     pub at_bool : (w : ℕ) → kind w ≡ 3 → payload w ≡ 0 → Reads all end Colon (p + 1 + 1 + 1 + 1) (58 ∷ bs) ns false us → Reads all end Domain p (98 ∷ 111 ∷ 111 ∷ 108 ∷ 58 ∷ bs) ns false (w ∷ us)
-    unfolding Grammar.step fitting gives is_word same bytes list_of tokens_from token_length sort_of run is_gap any is_letter in_name is_digit between
+    unfolding Grammar.step fitting gives is_word bytes list_of tokens_from token_length sort_of is_gap any is_letter in_name is_digit between
     at_bool w k z r = word-step all end (token 2 p (98 ∷ 111 ∷ 111 ∷ 108 ∷ [])) w (some_word 2 w k) refl refl (omega arith) (λ e. worded (rw z at (word_back 3 w k))) r
 
     pub at-constraint : (stage : ℕ) → leb stage 1 ≡ true → Reads all end Builtin (p + 1 + 1 + 1 + 1 + 1 + 1 + 1 + 1 + 1 + 1) (32 ∷ bs) ns false us →
         Reads all end (Item stage) p (bytes "constraint " ++ bs) ns false us
-    unfolding Grammar.step fitting gives is_word same bytes list_of tokens_from token_length sort_of run is_gap any is_letter in_name is_digit between
+    unfolding Grammar.step fitting gives is_word bytes list_of tokens_from token_length sort_of is_gap any is_letter in_name is_digit between
     at-constraint stage h r = plain_step all end (token 2 p (bytes "constraint")) 0 refl refl (omega arith) (λ e. rw h) r
 
     pub at_solve : (stage : ℕ) → leb stage 1 ≡ true → Reads all end Satisfy (p + 1 + 1 + 1 + 1 + 1) (32 ∷ bs) ns false us →
         Reads all end (Item stage) p (bytes "solve " ++ bs) ns false us
-    unfolding Grammar.step fitting gives is_word same bytes list_of tokens_from token_length sort_of run is_gap any is_letter in_name is_digit between
+    unfolding Grammar.step fitting gives is_word bytes list_of tokens_from token_length sort_of is_gap any is_letter in_name is_digit between
     at_solve stage h r = plain_step all end (token 2 p (bytes "solve")) 0 refl refl (omega arith) (λ e. rw h) r
 
     pub at-satisfy : Reads all end (Semicolon 2) (p + 1 + 1 + 1 + 1 + 1 + 1 + 1) (59 ∷ bs) ns false us → Reads all end Satisfy p (bytes "satisfy;" ++ bs) ns false us
-    unfolding Grammar.step fitting gives is_word same bytes list_of tokens_from token_length sort_of run is_gap any is_letter in_name is_digit between
+    unfolding Grammar.step fitting gives is_word bytes list_of tokens_from token_length sort_of is_gap any is_letter in_name is_digit between
     at-satisfy r = plain_step all end (token 2 p (bytes "satisfy")) 0 refl refl (omega arith) (λ e. refl) r
 
     -- ---- numbers

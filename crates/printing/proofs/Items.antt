@@ -11,7 +11,7 @@ use Rattle.models.specs.declared.Due.TheVariants as Words
 use Rattle.models.proofs.Sound.{Sound, reading, at-constraint, at-end, is-head, at-lower, at-boolean, at_head, is-start, is-upper}
 use Rattle.tokens.specs.Byte.{bytes, front, between, is_digit}
 use Rattle.tokens.specs.Token.{Token}
-use Rattle.grammar.specs.declared.Due.TheVariants.{Item, Upper, Argument}
+use Rattle.grammar.specs.Grammar.{Item, Upper, Argument}
 use Rattle.printing.specs.ModelText.{variable_name, builtin_name, line, head_text, word_text, text_from}
 use Rattle.printing.proofs.Spelled.{colon, semicolon, ends-name, ends-number}
 use Rattle.printing.proofs.Numerals.{named}

@@ -8,16 +8,15 @@ use Rattle.models.specs.Shape as Shape
 use Rattle.models.specs.declared.Due.TheVariants as Words
 use Rattle.models.proofs.Sound.{Sound, reading}
 use Rattle.tokens.specs.Token.{Token}
-use Rattle.grammar.specs.Form.{argument_form}
-use Rattle.grammar.specs.Machine.{numbered_form}
-use Rattle.grammar.specs.declared.Form.TheVariants.{Many}
-use Rattle.grammar.specs.declared.Due.TheVariants.{Argument, Inside}
+use Rattle.grammar.specs.Form.{argument_form, Many}
+use Rattle.grammar.specs.Machine.{form_of}
+use Rattle.grammar.specs.Grammar.{Argument, Inside}
 use Rattle.printing.specs.ModelText.{variable_name, takes_set, opened, closed, numbers_end, variables_end, text_from}
 use Rattle.printing.proofs.Spelled.{Sign, comma, close_list, ends-name, ends-number}
 use Rattle.printing.proofs.Numerals.{named}
 use Rattle.printing.proofs.Steps.{Reads}
 use Rattle.printing.proofs.Events.{ListOf, of-numbers, of-variables, of_set, of-second, closing-of, number-element, variable-element, between-elements, at_close, at-empty, at-comma, at_second, at-list}
-use Rattle.printing.proofs.Aligned.{Aligned, is-numbers, is-variables, is-parallel, parallel-lists}
+use Rattle.printing.proofs.Aligned.{Aligned, numbers_form, is-numbers, is-variables, is-parallel, parallel-lists}
 use Rattle.printing.proofs.Turns.{Numeric, number_is, number-turn, more_numbers, last-number, variable-kind, variable-declared, variable-turn, more-variables, last-variable, length-is, numbers-turn, parallel-turn, integers-turn, booleans-turn}
 use Rattle.printing.proofs.Ahead.{at_once, numbers-from, variables-from}
 use Rattle.printing.proofs.Simulation.{numbers, parallel, variables, Read, after-argument}
@@ -100,8 +99,8 @@ record Numbered (code j : ℕ) : Type 0 where
   opened-is : opened code ≡ o ∷ []
   closed_is : closed code ≡ b ∷ []
 
-numbered : (code j : ℕ) → argument_form code j ≡ numbered_form (5 if takes_set code else 3) → Numbered code j
-unfolding opened closed numbered_form
+numbered : (code j : ℕ) → argument_form code j ≡ form_of (numbers_form (takes_set code)) → Numbered code j
+unfolding opened closed
 numbered code j h = go (takes_set code) refl
   where
     go : (t : Bool) → takes_set code ≡ t → Numbered code j

@@ -6,7 +6,7 @@ use Rattle.integers.proofs.Booleans.{both_true}
 use Rattle.integers.proofs.Places.{all_append}
 use Rattle.words.specs.Word.{payload, signed, word, complement, number_word}
 use Rattle.words.specs.Limit as Limit
-use Rattle.words.proofs.Word.{payload-below}
+use Rattle.words.proofs.ReadBack.{payload-below}
 use Rattle.decimals.specs.Decimal as Decimal
 use Rattle.decimals.specs.Decimal.{last_digits, numeral}
 use Rattle.decimals.proofs.Digits as Digits
@@ -89,13 +89,13 @@ signed_back k w = ap (word k) (go (ltb (payload w) Limit.half) refl)
 -- ---- the names of variables
 
 same-onward : (xs ys : List ℕ) (n : ℕ) → same xs ys ≡ true → digits_from n xs ≡ digits_from n ys
-unfolding same digits_from
+unfolding digits_from
 same-onward [] [] n h = refl
 same-onward [] (y ∷ ys) n h = absurd (let z : ◌≡◌ {A = ℕ} 0 1 = cc in omega arith)
 same-onward (x ∷ xs) [] n h = absurd (let z : ◌≡◌ {A = ℕ} 0 1 = cc in omega arith)
 same-onward (x ∷ xs) (y ∷ ys) n h = by (eqb x y) refl h (same-onward xs ys (n * 10 + (x - 48)))
   where
-    by : (b : Bool) → eqb x y ≡ b → (same xs ys if b else false) ≡ true → (same xs ys ≡ true → digits_from (n * 10 + (x - 48)) xs ≡ digits_from (n * 10 + (x - 48)) ys) → digits_from (n * 10 + (x - 48)) xs ≡ digits_from (n * 10 + (y - 48)) ys
+    by : (b : Bool) → eqb x y ≡ b → b && same xs ys ≡ true → (same xs ys ≡ true → digits_from (n * 10 + (x - 48)) xs ≡ digits_from (n * 10 + (x - 48)) ys) → digits_from (n * 10 + (x - 48)) xs ≡ digits_from (n * 10 + (y - 48)) ys
     by true e q more = more q ∙ ap (λ (z : ℕ). digits_from (n * 10 + (z - 48)) ys) (eqb-true x y e)
     by false e q more = absurd (let z : ◌≡◌ {A = ℕ} 0 1 = cc in omega arith)
 
@@ -103,7 +103,7 @@ name-same : (i : ℕ) → same (variable_name i) (variable_name i) ≡ true
 name-same i = same_self (variable_name i)
 
 name-other : (i j : ℕ) → (i ≡ j → ⊥) → same (variable_name i) (variable_name j) ≡ false
-unfolding same variable_name
+unfolding variable_name
 name-other i j h = by (same (Decimal.decimal i) (Decimal.decimal j)) refl
   where
     by : (b : Bool) → same (Decimal.decimal i) (Decimal.decimal j) ≡ b → b ≡ false

@@ -11,13 +11,10 @@ use Rattle.models.specs.declared.Due.TheVariants as Words
 use Rattle.models.proofs.Sound.{Sound, reading}
 use Rattle.tokens.specs.Byte.{front, in_name, is_digit}
 use Rattle.tokens.specs.Token.{Token, tokens_from}
-use Rattle.grammar.specs.Form.{argument_form}
+use Rattle.grammar.specs.Form.{argument_form, Many}
 use Rattle.grammar.specs.Grammar as Grammar
-use Rattle.grammar.specs.Grammar.{fitting, gives}
+use Rattle.grammar.specs.Grammar.{fitting, gives, Due, Item, Upper, Argument, Next, Inside}
 use Rattle.names.specs.Name.{is_word}
-use Rattle.grammar.specs.declared.Form.TheVariants.{Many}
-use Rattle.grammar.specs.declared.Due.{Due}
-use Rattle.grammar.specs.declared.Due.TheVariants.{Item, Upper, Argument, Next, Inside}
 use Rattle.texts.specs.Text.{fault_from, words_from}
 use Rattle.printing.specs.ModelText.{variable_name, closed, argument_end, text_from}
 use Rattle.printing.proofs.Spelled.{comma, closing, ends-name, no_digit}

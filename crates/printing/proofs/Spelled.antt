@@ -1,8 +1,7 @@
 -- Spelled tokens are read: a token before a byte that cannot continue it is the next one.
-use Rattle.std.proofs.Common.{◌≡◌, refl, sym, ap, ◌∙◌, Bool, true, false, ◌&&◌, ◌||◌, List, [], ◌∷◌, ◌++◌, ℕ, suc, ◌+◌, ◌-◌, ◌<◌, ◌≤◌, add-zero, arith, eqb, leb, length, le-leb, leb-true, ne_eqb}
+use Rattle.std.proofs.Common.{◌≡◌, refl, sym, ap, ◌∙◌, Bool, true, false, ◌&&◌, ◌||◌, List, [], ◌∷◌, ◌++◌, ℕ, suc, ◌+◌, ◌-◌, ◌<◌, ◌≤◌, add-zero, arith, eqb, leb, length, le-leb, leb-true, ne_eqb, cond}
 use lib.Seq.{take-append_seam}
 use borrow.Author.Tests.{lt-leb}
-use Rattle.integers.specs.Choice.{◌if◌else◌}
 use Rattle.integers.specs.Lists.{all, any, list_of}
 use Rattle.integers.proofs.Tests.{false-true}
 use Rattle.integers.proofs.Booleans.{both_true}
@@ -20,13 +19,13 @@ skipped p (x ∷ xs) ys = let e : p + 1 + length xs ≡ p + suc (length xs) = om
 
 -- a run of bytes that pass a test, before one that does not
 runs : (t : ℕ → Bool) (xs ys : List ℕ) → all t xs ≡ true → t (front ys) ≡ false → run t (xs ++ ys) ≡ length xs
-unfolding run all front
+unfolding all front
 runs t [] [] h e = refl
 runs t [] (y ∷ ys) h e = rw e
 runs t (x ∷ xs) ys h e = go (t x) h (runs t xs ys)
   where
-    go : (b : Bool) → b && all t xs ≡ true → (all t xs ≡ true → t (front ys) ≡ false → run t (xs ++ ys) ≡ length xs) → (suc (run t (xs ++ ys)) if b else 0) ≡ suc (length xs)
-    go true q more = ap suc (more q e)
+    go : (b : Bool) → b && all t xs ≡ true → (all t xs ≡ true → t (front ys) ≡ false → run t (xs ++ ys) ≡ length xs) → cond b (1 + run t (xs ++ ys)) 0 ≡ suc (length xs)
+    go true q more = omega (arith, more q e)
     go false q more = false-true q
 
 -- a name

@@ -5,8 +5,7 @@ use Rattle.words.specs.Refusal.{accepted}
 use Rattle.tokens.specs.Token.{Token, tokens_from}
 use Rattle.names.specs.Name.{declared_from}
 use Rattle.grammar.specs.Grammar as Grammar
-use Rattle.grammar.specs.declared.TokenStep.{TokenStep}
-use Rattle.grammar.specs.declared.Due.{Due}
+use Rattle.grammar.specs.Grammar.{TokenStep, Due}
 use Rattle.texts.specs.Text.{fault_from, words_from}
 
 -- the step of a token without a fault

@@ -13,9 +13,7 @@ use Rattle.models.specs.declared.Due.{Due}
 use Rattle.models.specs.declared.Due.TheVariants.{Start, Upper, Arguments, Ended}
 use Rattle.tokens.specs.Byte.{bytes}
 use Rattle.names.specs.Name.{builtin_names}
-use Rattle.grammar.specs.Form.{argument_forms}
-use Rattle.grammar.specs.declared.Form.{Form}
-use Rattle.grammar.specs.declared.Form.TheVariants.{Missing, One, Many}
+use Rattle.grammar.specs.Form.{argument_forms, Form, Missing, One, Many}
 
 -- variable i is called x and i in decimal
 unfoldable pub variable_name : ℕ → List ℕ

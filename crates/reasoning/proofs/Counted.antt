@@ -6,9 +6,20 @@ use Rattle.integers.specs.Terms.{Valuation}
 use Rattle.integers.specs.declared.Bounds.{Bounds}
 use Rattle.integers.proofs.Tests.{false-true}
 use Rattle.words.specs.Answer.{Answer, holds, out_of_bounds, is_false, is_holds}
+use Rattle.words.specs.Faults.{said_of}
 use Rattle.words.specs.Judge.{first_false, first_out_of_bounds}
+use Rattle.words.specs.declared.answer.Verdict.{Verdict}
+use Rattle.words.specs.declared.answer.Verdict.TheVariants.{Holds, OutOfBounds, False}
 use Rattle.reasons.specs.Reason.{Reason, in_block, answer_or}
 use Rattle.reasoning.specs.Walks.{shift, AtMost}
+
+-- ---- answers
+
+pub unheld : (v : Verdict) → (v ≡ Holds → ⊥) → is_holds (said_of v) ≡ false
+unfolding is_holds
+unheld Holds f = absurd (f refl)
+unheld (OutOfBounds i) f = refl
+unheld (False i) f = refl
 
 -- ---- rows
 
@@ -80,3 +91,19 @@ outside-then ρ k (B ∷ Bs) Cs after = go (within B (ρ k)) (let e : k + length
         (first_out_of_bounds ρ (k + 1) (Bs ++ Cs) after if s else out_of_bounds k) ≡ (first_out_of_bounds ρ (k + 1) Bs (first_out_of_bounds ρ (k + length (B ∷ Bs)) Cs after) if s else out_of_bounds k)
     go true e = e
     go false e = refl
+
+-- what is said of bounds holds, where it names no variable
+false-outside : (σ : Valuation) (j k : ℕ) (Bs : List Bounds) → is_false j ≡ first_out_of_bounds σ k Bs holds → ⊥
+unfolding first_out_of_bounds
+false-outside σ j k [] e = let z : ◌≡◌ {A = ℕ} 0 1 = cc in omega arith
+false-outside σ j k (B ∷ Bs) e = go (within B (σ k)) e (false-outside σ j (k + 1) Bs)
+  where
+    go : (s : Bool) → is_false j ≡ (first_out_of_bounds σ (k + 1) Bs holds if s else out_of_bounds k) → (is_false j ≡ first_out_of_bounds σ (k + 1) Bs holds → ⊥) → ⊥
+    go true e more = more e
+    go false e more = let z : ◌≡◌ {A = ℕ} 0 1 = cc in omega arith
+
+pub inside-said : (σ : Valuation) (k : ℕ) (Bs : List Bounds) (v : Verdict) → said_of v ≡ first_out_of_bounds σ k Bs holds → ((i : ℕ) → v ≡ OutOfBounds i → ⊥) → is_holds (said_of v) ≡ true
+unfolding is_holds
+inside-said σ k Bs Holds e f = refl
+inside-said σ k Bs (OutOfBounds i) e f = absurd (f i refl)
+inside-said σ k Bs (False i) e f = absurd (false-outside σ i k Bs e)

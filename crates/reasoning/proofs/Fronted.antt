@@ -10,8 +10,8 @@ use Rattle.words.specs.Refusal.{accepted}
 use Rattle.words.specs.Variables.{variables}
 use Rattle.words.specs.Answer.{Answer, holds}
 use Rattle.words.specs.Judge.{first_false, first_out_of_bounds}
-use Rattle.words.specs.Verdict.{verdict}
-use Rattle.words.specs.declared.Verdict.{Verdict}
+use Rattle.words.specs.Faults.{said_of}
+use Rattle.words.specs.declared.answer.Verdict.{Verdict}
 use Rattle.words.proofs.Overlay.{overlay-append, front-over}
 use Rattle.rowsystems.specs.Row.{Row, satisfied}
 use Rattle.rowsystems.specs.RowSystem.{rows}
@@ -80,7 +80,7 @@ module _ {first : ℕ} {B : Block} {l : Laid} {o : List ℕ} (d : ReadsBack firs
       pub outside-few : AtMost 1000000 a
       outside-few = rw here (outside_below (value part) 1000000 0 B.auxiliaries (omega (arith, f.auxiliaries, f.small)))
 
-      pub outside-said : {k : ℕ} {w : Verdict} → verdict w ≡ shift first a → BlockJudged true vs first k B (record { said = w; auxiliaries = l.auxiliaries; rows = l.rows })
+      pub outside-said : {k : ℕ} {w : Verdict} → said_of w ≡ shift first a → BlockJudged true vs first k B (record { said = w; auxiliaries = l.auxiliaries; rows = l.rows })
       outside-said g = record {
         says = g ∙ ap (shift first) here ∙ sym (outside-part (value vs) (value part) first 0 B.auxiliaries same-value) ∙ ap (λ (k : ℕ). first_out_of_bounds (value vs) k B.auxiliaries holds) (add-zero first);
         auxiliaries = f.auxiliaries;
@@ -98,7 +98,7 @@ module _ {first : ℕ} {B : Block} {l : Laid} {o : List ℕ} (d : ReadsBack firs
   pub no-variables : variables (drop (2 * l.auxiliaries) (take (l.words + 1) o)) ≡ []
   no-variables = rw (f.front, f.auxiliaries) d.no_more
 
-  pub failing-said : (vs : List ℤ) (k : ℕ) {w : Verdict} → verdict w ≡ first_false (satisfied (value vs)) k (rows (drop (2 * l.auxiliaries) (take (l.words + 1) o))) →
+  pub failing-said : (vs : List ℤ) (k : ℕ) {w : Verdict} → said_of w ≡ first_false (satisfied (value vs)) k (rows (drop (2 * l.auxiliaries) (take (l.words + 1) o))) →
       BlockJudged false vs first k B (record { said = w; auxiliaries = l.auxiliaries; rows = l.rows })
   failing-said vs k e = record {
     says = e ∙ ap (λ (xs : List (Row ℕ)). first_false (satisfied (value vs)) k xs) (rw (f.front, f.auxiliaries) d.the_rows);

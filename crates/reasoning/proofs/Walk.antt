@@ -8,20 +8,21 @@ use Rattle.words.specs.Word.{payload, word_at}
 use Rattle.words.specs.Variables.{variables}
 use Rattle.words.specs.Answer.{Answer, holds, is_holds}
 use Rattle.words.specs.Judge.{first_false, first_out_of_bounds}
-use Rattle.words.specs.Verdict.{verdict}
+use Rattle.words.specs.Faults.{said_of}
+use Rattle.words.specs.declared.answer.Verdict.{Verdict}
+use Rattle.words.specs.declared.answer.Verdict.TheVariants.{Holds, OutOfBounds, False}
 use Rattle.words.specs.Small.{Near, Small}
-use Rattle.words.proofs.Answers.{is-holds}
 use Rattle.variables.proofs.After.{next, found}
 use Rattle.models.specs.Meaning.{meaning}
 use Rattle.models.specs.Model.{Constraint, constraints, headed, builtin}
 use Rattle.models.proofs.Accepted as Accepted
-use Rattle.modelreading.specs.declared.Read.{Read}
+use Rattle.modelreading.specs.declared.Model.{Model}
 use Rattle.rowsystems.specs.Row.{rename, satisfied}
 use Rattle.rules.specs.Block.{numbered}
 use Rattle.rules.specs.Shared.{Encoded, none_yet, choice, encodes, encoded_after}
 use Rattle.rules.specs.Translation.{bounds, shared, block_of, each_block, auxiliaries}
 use Rattle.rules.specs.Check.{too_wide}
-use Rattle.extremes.specs.BoundLists.{bounds_of}
+use Rattle.integers.specs.Bounds.{bounds_in}
 use Rattle.encodings.specs.Uses.{shared_by, Recorded}
 use Rattle.encodings.proofs.Record.{recorded-none, recorded-after, none-many, length-after}
 use Rattle.sharing.specs.SharedSolutions.{Passes}
@@ -29,13 +30,13 @@ use Rattle.sharing.proofs.Accepts.{Fine, passes-fine, passes-read}
 use Rattle.sharing.proofs.Assembly.{auxiliaries_from, AllFormed}
 use Rattle.sharing.proofs.Theorem.{well-formed}
 use Rattle.checking.proofs.Kept.{head_at, summed_at}
-use Rattle.reasons.specs.Reason.{Reason, none, explained, in_block, first_failing}
+use Rattle.reasons.specs.Reason.{Reason, none, because, explained, in_block, first_failing}
 use Rattle.reasons.proofs.Judged.{explained_from}
-use Rattle.reasoning.specs.Walks.{PassedModel, ReadsBack, Layable, BlockJudged, Stops, said_of, rows_at}
+use Rattle.reasoning.specs.Walks.{PassedModel, ReadsBack, Layable, BlockJudged, Stops, said_of_block, rows_at}
 use Rattle.reasoning.specs.declared.Said.{Said}
 use Rattle.reasoning.specs.declared.Stopped.{Stopped}
 use Rattle.reasoning.proofs.OneBlock as OneBlock
-use Rattle.reasoning.proofs.Counted.{fails-here, outside-then}
+use Rattle.reasoning.proofs.Counted.{fails-here, outside-then, unheld}
 
 -- the constraints cs are left, the next auxiliary is `first`, and d is the record
 pub record Due (β : ℕ → Bounds) (s : ℕ → Bool) (cs : List Constraint) (first : ℕ) (d : Encoded) : Type 0 where
@@ -62,37 +63,35 @@ start : (ws : List ℕ) → Passes ws → Due (bounds ws) (shared ws) (constrain
 unfolding bounds
 start ws h = record { room = omega (arith, Accepted.few-variables ws (passes-read ws h)); recorded = recorded-none; many = none-many; fine = passes-fine ws h; formed = well-formed ws h }
 
-module _ {ws hs : List ℕ} {r : Read} {ls us : List ℤ} {uses : List ℕ} {lows highs vs : List ℤ} (y : PassedModel ws hs r ls us uses lows highs vs) where
+module _ {ws hs : List ℕ} {r : Model} {Ds : List Bounds} {uses : List ℕ} {sums : List Bounds} {vs : List ℤ} (y : PassedModel ws hs r Ds uses sums vs) where
   abbrev β : ℕ → Bounds
-  β = bounds_of ls us
+  β = bounds_in Ds
 
   abbrev s : ℕ → Bool
   s = shared_by uses
 
-  begun : Due (bounds_of ls us) (shared_by uses) (constraints ws) r.variables none_yet
+  begun : Due (bounds_in Ds) (shared_by uses) (constraints ws) r.variables none_yet
   begun = rw (y.model.same, y.model.shares, y.model.seen.variables_counted) (start ws y.passes)
 
   -- the k-th constraint: its block can be laid and read
-  module _ {k first : ℕ} {d : Encoded} (l : Due (bounds_of ls us) (shared_by uses) (drop k (constraints ws)) first d) (h : k < r.constraints) where
+  module _ {k first : ℕ} {d : Encoded} (l : Due (bounds_in Ds) (shared_by uses) (drop k (constraints ws)) first d) (h : k < r.constraints) where
     abbrev c : Constraint
     c = headed ws (get_or hs k 0)
 
-    pub here : Due (bounds_of ls us) (shared_by uses) (headed ws (get_or hs k 0) ∷ drop (k + 1) (constraints ws)) first d
+    pub here : Due (bounds_in Ds) (shared_by uses) (headed ws (get_or hs k 0) ∷ drop (k + 1) (constraints ws)) first d
     here = subst (λ cs. Due β s cs first d) (head_at y.model k h) l
 
-    pub layable : Layable ls us uses d (payload (word_at ws (get_or hs k 0))) (drop (get_or hs k 0 + 1) ws) (bounds_of lows highs k) first
+    pub layable : Layable Ds uses d (payload (word_at ws (get_or hs k 0))) (drop (get_or hs k 0 + 1) ws) (bounds_in sums k) first
     unfolding block_of builtin choice too_wide
     layable = record {
       near = l.room;
-      lowers = y.model.lowers;
-      uppers = y.model.uppers;
       narrow = here.fine.0;
       recorded = l.recorded;
-      summed = summed_at y.model k h lows highs y.sums_are;
+      summed = summed_at y.model k h sums y.sums_are;
       reads = reads here;
     }
 
-    pub room_after-block : first + length (block_of (bounds_of ls us) (shared_by uses) d (headed ws (get_or hs k 0))).auxiliaries ≤ 4096
+    pub room_after-block : first + length (block_of (bounds_in Ds) (shared_by uses) d (headed ws (get_or hs k 0))).auxiliaries ≤ 4096
     room_after-block = here.fine.2
 
 -- ---- the values of a block are there, where those of all that are left are
@@ -127,16 +126,16 @@ pub record Walking (bounds : Bool) (β : ℕ → Bounds) (s : ℕ → Bool) (ws 
   pub outside : bounds ≡ true → first_out_of_bounds (value vs) first (auxiliaries_from β s first d (drop k (constraints ws))) holds ≡ first_out_of_bounds (value vs) (length (variables ws)) (auxiliaries ws) holds
   pub failing : bounds ≡ false → (σ : Valuation) → first_failing σ (value vs) rows k (explained_from β s first d (drop k (constraints ws))) ≡ first_failing σ (value vs) 0 0 (explained ws)
 
-module _ {ws hs : List ℕ} {r : Read} {ls us : List ℤ} {uses : List ℕ} {lows highs vs : List ℤ} (y : PassedModel ws hs r ls us uses lows highs vs) where
-  all-auxiliaries : auxiliaries_from (bounds_of ls us) (shared_by uses) r.variables none_yet (constraints ws) ≡ auxiliaries ws
+module _ {ws hs : List ℕ} {r : Model} {Ds : List Bounds} {uses : List ℕ} {sums : List Bounds} {vs : List ℤ} (y : PassedModel ws hs r Ds uses sums vs) where
+  all-auxiliaries : auxiliaries_from (bounds_in Ds) (shared_by uses) r.variables none_yet (constraints ws) ≡ auxiliaries ws
   unfolding auxiliaries
   all-auxiliaries = rw (y.model.same, y.model.shares, y.model.seen.variables_counted)
 
-  all-explained : explained_from (bounds_of ls us) (shared_by uses) r.variables none_yet (constraints ws) ≡ explained ws
+  all-explained : explained_from (bounds_in Ds) (shared_by uses) r.variables none_yet (constraints ws) ≡ explained ws
   unfolding explained
   all-explained = rw (y.model.same, y.model.shares, y.model.seen.variables_counted)
 
-  pub walking : {bounds : Bool} → Walking bounds (bounds_of ls us) (shared_by uses) ws vs 0 r.variables 0 none_yet
+  pub walking : {bounds : Bool} → Walking bounds (bounds_in Ds) (shared_by uses) ws vs 0 r.variables 0 none_yet
   walking = record {
     walk = begun y;
     there = record { count = omega (arith, ap length all-auxiliaries, y.model.seen.variables_counted, y.counted) };
@@ -156,10 +155,10 @@ module _ {bounds : Bool} {β : ℕ → Bounds} {s : ℕ → Bool} {ws : List ℕ
     unfolding first_failing each_block
     all_true f σ = rw (drop_of_length-le (constraints ws) h) at (b.failing f σ)
 
-    pub walk-ended : {r : Stopped} → verdict r.said ≡ holds → Stops bounds ws vs r
+    pub walk-ended : {r : Stopped} → r.said ≡ Holds → Stops bounds ws vs r
     unfolding is_holds
     walk-ended v = record {
-      outside = λ t. v ∙ all-within t;
+      outside = λ t. rw v (all-within t);
       none_fails = λ f σ t. all_true f σ;
       one_fails = λ f σ c n e. false-true (sym (rw v at n));
       within = λ n. false-true (sym (rw v at n));
@@ -187,26 +186,27 @@ module _ {bounds : Bool} {β : ℕ → Bounds} {s : ℕ → Bool} {ws : List ℕ
     joined-rows f σ = rw e at (b.failing f σ)
 
     module _ {r : Said} (o : BlockJudged bounds vs first rows (block_of β s d c) r) where
-      said-bounds : bounds ≡ true → verdict r.said ≡ first_out_of_bounds (value vs) first A holds
-      said-bounds t = o.says ∙ ap (λ x. said_of x vs first rows (block_of β s d c)) t
+      said-bounds : bounds ≡ true → said_of r.said ≡ first_out_of_bounds (value vs) first A holds
+      said-bounds t = o.says ∙ ap (λ x. said_of_block x vs first rows (block_of β s d c)) t
 
-      said-rows : bounds ≡ false → verdict r.said ≡ R
-      said-rows f = o.says ∙ ap (λ x. said_of x vs first rows (block_of β s d c)) f
+      said-rows : bounds ≡ false → said_of r.said ≡ R
+      said-rows f = o.says ∙ ap (λ x. said_of_block x vs first rows (block_of β s d c)) f
 
-      stop-rows : bounds ≡ false → (σ : Valuation) → is_holds (verdict r.said) ≡ false → in_block (verdict r.said) k (meaning σ (builtin c)) none ≡ first_failing σ (value vs) 0 0 (explained ws)
+      stop-rows : bounds ≡ false → (σ : Valuation) → is_holds (said_of r.said) ≡ false → in_block (said_of r.said) k (meaning σ (builtin c)) none ≡ first_failing σ (value vs) 0 0 (explained ws)
       stop-rows f σ n = rw (said-rows f) (fails-here (satisfied (value vs)) rows (rows_at first (block_of β s d c)) k _ none (after σ) (rw (said-rows f) at n) ∙ joined-rows f σ)
 
-      pub walk-stopped : k < length (constraints ws) → is_holds (verdict r.said) ≡ false → Stops bounds ws vs (record { said = r.said; constraint = k })
+      pub walk-stopped : k < length (constraints ws) → (r.said ≡ Holds → ⊥) → Stops bounds ws vs (record { said = r.said; constraint = k })
       unfolding is_holds
-      walk-stopped l n = record {
+      walk-stopped l u = let n = unheld r.said u in record {
         outside = λ t. said-bounds t ∙ found (value vs) (first_out_of_bounds (value vs) (first + length A) As holds) first A (rw (said-bounds t) at n) ∙ joined t;
         none_fails = λ f σ h. false-true (sym n ∙ h);
         one_fails = λ f σ c' m e'. let q : c' ≡ c = cc in rw q (stop-rows f σ n);
         within = λ m. l;
       }
 
-      pub walk-on : {d' : Encoded} → is_holds (verdict r.said) ≡ true → d' ≡ encoded_after s first d (encodes (choice c)) → Walking bounds β s ws vs (k + 1) (first + r.auxiliaries) (rows + r.rows) d'
-      walk-on t q =
+      pub walk-on : {d' : Encoded} → r.said ≡ Holds → d' ≡ encoded_after s first d (encodes (choice c)) → Walking bounds β s ws vs (k + 1) (first + r.auxiliaries) (rows + r.rows) d'
+      walk-on h q =
+          let t : said_of r.said ≡ holds = rw h in
           let m : length (rows_at first (block_of β s d c)) ≡ length (block_of β s d c).rows = length-map (block_of β s d c).rows (rename (numbered first)) in
           let z : rows + r.rows ≤ 1000000 * (k + 1) = omega (arith, b.small, o.few) in
           let p : r.rows ≡ length (rows_at first (block_of β s d c)) = o.rows ∙ sym m in
@@ -214,13 +214,13 @@ module _ {bounds : Bool} {β : ℕ → Bounds} {s : ℕ → Bool} {ws : List ℕ
             walk = rw (o.auxiliaries, q) (due-after (subst (λ cs. Due β s cs first d) e b.walk));
             there = rw (o.auxiliaries, q) (later-there b.there e);
             small = z;
-            outside = λ x. rw (o.auxiliaries, q) (next (value vs) (first_out_of_bounds (value vs) (first + length A) As holds) first A (is-holds _ (rw (said-bounds x) at t)) ∙ joined x);
-            failing = λ f σ. let n : R ≡ holds = sym (said-rows f) ∙ is-holds (verdict r.said) t in rw (o.auxiliaries, p, q) (rw n at (joined-rows f σ));
+            outside = λ x. rw (o.auxiliaries, q) (next (value vs) (first_out_of_bounds (value vs) (first + length A) As holds) first A (sym (said-bounds x) ∙ t) ∙ joined x);
+            failing = λ f σ. let n : R ≡ holds = sym (said-rows f) ∙ t in rw (o.auxiliaries, p, q) (rw n at (joined-rows f σ));
           }
 
 -- ---- the source values
 
-module _ {ws hs : List ℕ} {r : Read} {ls us : List ℤ} {uses : List ℕ} {lows highs vs : List ℤ} (y : PassedModel ws hs r ls us uses lows highs vs) where
+module _ {ws hs : List ℕ} {r : Model} {Ds : List Bounds} {uses : List ℕ} {sums : List Bounds} {vs : List ℤ} (y : PassedModel ws hs r Ds uses sums vs) where
   enough-values : r.variables ≤ length vs
   enough-values = omega (arith, y.model.seen.variables_counted, y.counted)
 
@@ -236,3 +236,20 @@ module _ {ws hs : List ℕ} {r : Read} {ls us : List ℤ} {uses : List ℕ} {low
       go : (b : Bool) → ltb x n ≡ b → Near (get_or (take n vs) x (pos 0))
       go true t = rw (get_or-take n vs x (pos 0) (ltb-true x n t)) (h x)
       go false t = rw (get_or-eq_default (take n vs) (pos 0) {n = x} (omega (arith, sources-length, ltb-false x n t))) (omega arith)
+
+-- ---- the reason, where a walk over the rows stops
+
+module _ {ws : List ℕ} {vs : List ℤ} {r : Stopped} (o : Stops false ws vs r) (σ : Valuation) (c : Constraint)
+    (e : is_holds (said_of r.said) ≡ false → drop r.constraint (constraints ws) ≡ c ∷ drop (r.constraint + 1) (constraints ws)) where
+  pub failing-row : (i : ℕ) → r.said ≡ False i → because i r.constraint (meaning σ (builtin c)) ≡ first_failing σ (value vs) 0 0 (explained ws)
+  unfolding is_holds
+  failing-row i f = let n : is_holds (said_of r.said) ≡ false = rw f in rw f at (o.one_fails refl σ c n (e n))
+
+  pub no-row : ((i : ℕ) → r.said ≡ False i → ⊥) → none ≡ first_failing σ (value vs) 0 0 (explained ws)
+  unfolding is_holds
+  no-row f = go r.said refl
+    where
+      go : (v : Verdict) → r.said ≡ v → none ≡ first_failing σ (value vs) 0 0 (explained ws)
+      go Holds q = o.none_fails refl σ (rw q)
+      go (OutOfBounds i) q = let n : is_holds (said_of r.said) ≡ false = rw q in rw q at (o.one_fails refl σ c n (e n))
+      go (False i) q = absurd (f i q)

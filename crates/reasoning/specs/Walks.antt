@@ -9,12 +9,12 @@ use Rattle.words.specs.Variables.{variables}
 use Rattle.words.specs.Answer.{Answer, refused, counts, written, holds, out_of_bounds, is_false, is_holds}
 use Rattle.words.specs.Limit as Limit
 use Rattle.words.specs.Refusal.{accepted}
+use Rattle.words.specs.Faults.{said_of}
 use Rattle.words.specs.Judge.{first_false, first_out_of_bounds}
 use Rattle.words.specs.Small.{Small}
-use Rattle.words.specs.Verdict.{verdict}
 use Rattle.models.specs.Meaning.{meaning}
 use Rattle.models.specs.Model.{Constraint, constraints, builtin}
-use Rattle.modelreading.specs.declared.Read.{Read}
+use Rattle.modelreading.specs.declared.Model.{Model}
 use Rattle.rowsystems.specs.Row.{Row, rename, satisfied}
 use Rattle.rowsystems.specs.RowSystem.{rows}
 use Rattle.rowsystems.specs.declared.Due.TheVariants.{Item}
@@ -28,7 +28,7 @@ use Rattle.sharing.specs.SharedSolutions.{Passes}
 use Rattle.reasons.specs.Reason.{none, explained, in_block, first_failing}
 use Rattle.laying.specs.Sizes.{block_size}
 use Rattle.laying.specs.declared.Laid.{Laid}
-use Rattle.extremes.specs.BoundLists.{bounds_of}
+use Rattle.integers.specs.Bounds.{bounds_in}
 use Rattle.linearsums.specs.Sum.{Summed}
 use Rattle.encodings.specs.Uses.{shared_by, Recorded}
 use Rattle.blocks.specs.Coded.{constraint_of, block_at}
@@ -58,14 +58,12 @@ pub record ReadsBack (first : ℕ) (B : Block) : Type 0 where
   pub accepts : onward Item (first + length B.auxiliaries) (2 * length B.auxiliaries) (block_and_end first B) ≡ accepted
 
 -- what the writer of a block needs
-pub record Layable (ls us : List ℤ) (uses : List ℕ) (e : Encoded) (code : ℕ) (args : List ℕ) (sum : Bounds) (first : ℕ) : Type 0 where
+pub record Layable (Ds : List Bounds) (uses : List ℕ) (e : Encoded) (code : ℕ) (args : List ℕ) (sum : Bounds) (first : ℕ) : Type 0 where
   pub near : first ≤ Limit.in_all
-  pub lowers : Small ls
-  pub uppers : Small us
-  pub narrow : too_wide (bounds_of ls us) (shared_by uses) (constraint_of code args) ≡ false
+  pub narrow : too_wide (bounds_in Ds) (shared_by uses) (constraint_of code args) ≡ false
   pub recorded : Recorded e
-  pub summed : Summed (bounds_of ls us) code args sum
-  pub reads : ReadsBack first (block_at ls us uses e code args)
+  pub summed : Summed (bounds_in Ds) code args sum
+  pub reads : ReadsBack first (block_at (bounds_in Ds) uses e code args)
 
 -- the words of a block at the front of a list, and what they count
 pub record Front (first : ℕ) (B : Block) (r : Laid) (out : List ℕ) : Type 0 where
@@ -94,39 +92,39 @@ AtMost n (out_of_bounds i) = i ≤ n
 AtMost n (is_false i) = Unit {0}
 
 -- what a block says of the values: the first auxiliary out of its bounds, where the bounds are asked; else the first row that fails, counted from k
-abbrev pub said_of : Bool → List ℤ → ℕ → ℕ → Block → Answer
-said_of bounds vs first k B = first_out_of_bounds (value vs) first B.auxiliaries holds if bounds else first_false (satisfied (value vs)) k (rows_at first B)
+abbrev pub said_of_block : Bool → List ℤ → ℕ → ℕ → Block → Answer
+said_of_block bounds vs first k B = first_out_of_bounds (value vs) first B.auxiliaries holds if bounds else first_false (satisfied (value vs)) k (rows_at first B)
 
 -- what judging the block of a constraint wants: a list for its words, values of its auxiliaries, and values near 0 where the rows are asked
-pub record Judgeable (bounds : Bool) (ls us : List ℤ) (uses : List ℕ) (e : Encoded) (code : ℕ) (args : List ℕ) (sum : Bounds) (first : ℕ) (words : List ℕ) (vs : List ℤ) : Type 0 where
-  pub layable : Layable ls us uses e code args sum first
+pub record Judgeable (bounds : Bool) (Ds : List Bounds) (uses : List ℕ) (e : Encoded) (code : ℕ) (args : List ℕ) (sum : Bounds) (first : ℕ) (words : List ℕ) (vs : List ℤ) : Type 0 where
+  pub layable : Layable Ds uses e code args sum first
   pub room : block_words_most + 1 ≤ length words
-  pub there : first + length (block_at ls us uses e code args).auxiliaries ≤ length vs
+  pub there : first + length (block_at (bounds_in Ds) uses e code args).auxiliaries ≤ length vs
   pub small : bounds ≡ false → Small vs
 
 pub record BlockJudged (bounds : Bool) (vs : List ℤ) (first k : ℕ) (B : Block) (r : Said) : Type 0 where
-  pub says : verdict r.said ≡ said_of bounds vs first k B
+  pub says : said_of r.said ≡ said_of_block bounds vs first k B
   pub auxiliaries : r.auxiliaries ≡ length B.auxiliaries
   pub rows : r.rows ≡ length B.rows
   pub few : r.rows ≤ block_size
 
 -- a model that passes the check, with its bounds, its sums and how many auxiliaries it has
-abbrev pub CheckedModel : List ℕ → List ℕ → Read → List ℤ → List ℤ → List ℕ → List ℤ → List ℤ → ℕ → Type 0
-CheckedModel ws hs r ls us uses lows highs added =
-    ModelBounds ws hs r ls us uses × ModelSums ws hs r ls us lows highs × Passes ws × (added ≡ length (auxiliaries ws))
+abbrev pub CheckedModel : List ℕ → List ℕ → Model → List Bounds → List ℕ → List Bounds → ℕ → Type 0
+CheckedModel ws hs r Ds uses sums added =
+    ModelBounds ws hs r Ds uses × ModelSums ws hs r Ds sums × Passes ws × (added ≡ length (auxiliaries ws))
 
 -- a model that passes the check, with its bounds, its sums, and as many values as its row system has variables
-pub record PassedModel (ws hs : List ℕ) (r : Read) (ls us : List ℤ) (uses : List ℕ) (lows highs vs : List ℤ) : Type 0 where
+pub record PassedModel (ws hs : List ℕ) (r : Model) (Ds : List Bounds) (uses : List ℕ) (sums : List Bounds) (vs : List ℤ) : Type 0 where
   pub passes : Passes ws
-  pub model : ModelBounds ws hs r ls us uses
-  pub sums_are : ModelSums ws hs r ls us lows highs
+  pub model : ModelBounds ws hs r Ds uses
+  pub sums_are : ModelSums ws hs r Ds sums
   pub counted : length vs ≡ length (variables ws) + length (auxiliaries ws)
 
 -- where a walk over the blocks stops, and the constraint whose block says so: the first auxiliary of all that is out of bounds; else the first row that
 -- fails, of which the builtin of that constraint gives the reason
 pub record Stops (bounds : Bool) (ws : List ℕ) (vs : List ℤ) (r : Stopped) : Type 0 where
-  pub outside : bounds ≡ true → verdict r.said ≡ first_out_of_bounds (value vs) (length (variables ws)) (auxiliaries ws) holds
-  pub none_fails : bounds ≡ false → (σ : Valuation) → is_holds (verdict r.said) ≡ true → none ≡ first_failing σ (value vs) 0 0 (explained ws)
-  pub one_fails : bounds ≡ false → (σ : Valuation) (c : Constraint) → is_holds (verdict r.said) ≡ false → drop r.constraint (constraints ws) ≡ c ∷ drop (r.constraint + 1) (constraints ws) →
-      in_block (verdict r.said) r.constraint (meaning σ (builtin c)) none ≡ first_failing σ (value vs) 0 0 (explained ws)
-  pub within : is_holds (verdict r.said) ≡ false → r.constraint < length (constraints ws)
+  pub outside : bounds ≡ true → said_of r.said ≡ first_out_of_bounds (value vs) (length (variables ws)) (auxiliaries ws) holds
+  pub none_fails : bounds ≡ false → (σ : Valuation) → is_holds (said_of r.said) ≡ true → none ≡ first_failing σ (value vs) 0 0 (explained ws)
+  pub one_fails : bounds ≡ false → (σ : Valuation) (c : Constraint) → is_holds (said_of r.said) ≡ false → drop r.constraint (constraints ws) ≡ c ∷ drop (r.constraint + 1) (constraints ws) →
+      in_block (said_of r.said) r.constraint (meaning σ (builtin c)) none ≡ first_failing σ (value vs) 0 0 (explained ws)
+  pub within : is_holds (said_of r.said) ≡ false → r.constraint < length (constraints ws)

@@ -1,7 +1,8 @@
 // One block, laid into a lent list and judged there by itself.
 ghost use Rattle.std.specs.Prelude.{◌≡◌, ◌+◌, ◌≤◌, length};
-ghost use Rattle.words.specs.Verdict.{verdict};
+ghost use Rattle.words.specs.Faults.{said_of};
 ghost use Rattle.words.specs.Limit as Limit;
+ghost use Rattle.integers.specs.Bounds.{bounds_in};
 ghost use Rattle.laying.specs.Sizes.{block_size};
 ghost use Rattle.blocks.specs.Coded.{block_at};
 ghost use Rattle.reasoning.specs.Walks.{block_words_most, Layable, Front, Judgeable, BlockJudged, shift, AtMost};
@@ -12,37 +13,37 @@ use blocks::block;
 use integers::Bounds;
 use laying::Laid;
 use variables::first_out_of_bounds;
-use words::{Verdict, kind, lay, word_of};
+use words::answer::Verdict;
+use words::domain::Domain;
+use words::kind::Kind;
+use words::list::lay;
+use words::word::Word;
 
 // Lays the block of a constraint and an end word to the front of the list.
 fn lay_block(
     words: &mut [u32],
     code: usize,
     args: &[u32],
-    ls: &[i64],
-    us: &[i64],
+    domains: &[Domain],
     uses: &[usize],
     encoded: &[usize],
     sum: Bounds,
     first: usize,
 ) -> Laid
-    requires { Layable ls.now us.now uses.now encoded.now code args.now sum first × (block_words_most + 1 ≤ length words.old) }
-    ensures { Front first (block_at ls.now us.now uses.now encoded.now code args.now) result words.new }
+    requires { Layable domains.now uses.now encoded.now code args.now sum first × (block_words_most + 1 ≤ length words.old) }
+    ensures { Front first (block_at (bounds_in domains.now) uses.now encoded.now code args.now) result words.new }
 {
-    let laid = block(words, code, args, ls, us, uses, encoded, sum, first);
-    let end = [word_of(kind::ROWS_END, 0)];
-    lay(words, laid.words, &end);
+    let laid = block(words, code, args, domains, uses, encoded, sum, first);
+    lay(words, laid.words, &[Word::new(Kind::RowsEnd, 0).bits()]);
     laid
 }
 
 // The number of a variable counted on from k.
-#[tactic(auto, unfolding(words::specs::Verdict::verdict))]
 fn counted_on(answer: Verdict, k: usize) -> Verdict
-    requires { AtMost block_size (verdict answer) × (k ≤ Limit.in_all) }
-    ensures { verdict result ≡ shift k (verdict answer) }
+    requires { AtMost block_size (said_of answer) × (k ≤ Limit.in_all) }
+    ensures { said_of result ≡ shift k (said_of answer) }
 {
     match answer {
-        Verdict::Refused(refusal) => Verdict::Refused(refusal),
         Verdict::Holds => Verdict::Holds,
         Verdict::OutOfBounds(i) => Verdict::OutOfBounds(k + i),
         Verdict::False(i) => Verdict::False(i),
@@ -54,8 +55,7 @@ pub fn judge_block(
     words: &mut [u32],
     code: usize,
     args: &[u32],
-    ls: &[i64],
-    us: &[i64],
+    domains: &[Domain],
     uses: &[usize],
     encoded: &[usize],
     sum: Bounds,
@@ -64,10 +64,10 @@ pub fn judge_block(
     k: usize,
     bounds: bool,
 ) -> Said
-    requires { Judgeable bounds ls.now us.now uses.now encoded.now code args.now sum first words.old values.now × (k ≤ 1000000000) }
-    ensures { BlockJudged bounds values.now first k (block_at ls.now us.now uses.now encoded.now code args.now) result }
+    requires { Judgeable bounds domains.now uses.now encoded.now code args.now sum first words.old values.now × (k ≤ 1000000000) }
+    ensures { BlockJudged bounds values.now first k (block_at (bounds_in domains.now) uses.now encoded.now code args.now) result }
 {
-    let laid = lay_block(words, code, args, ls, us, uses, encoded, sum, first);
+    let laid = lay_block(words, code, args, domains, uses, encoded, sum, first);
     if bounds {
         let found = first_out_of_bounds(
             &words[..laid.words + 1],

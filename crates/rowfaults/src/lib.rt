@@ -1,209 +1,209 @@
-// The faults of a row system's words: of each word by what is due there, 0 for none.
-// A fault may depend on how many variables stand before the word, on a lower bound, or on a product's factors.
-#![tactic(auto)]
+// The faults of a row system's words: whether a word is what is due there.
+// It may depend on how many variables stand before the word, on a lower bound, or on a product's factors.
+#![tactic(auto, unfolding(rowsystems::specs::Reading::fault_lower, rowsystems::specs::Reading::fault_item, rowsystems::specs::Reading::fault_source, rowsystems::specs::Reading::fault_upper, rowsystems::specs::Reading::fault_variable, rowsystems::specs::Reading::fault_number, rowsystems::specs::Reading::not_above, rowsystems::specs::Reading::fault_result, crate::specs::Head::fault_at_head))]
 
-ghost use Rattle.std.specs.Prelude.{◌≡◌, true, eqb, ltb};
+ghost use Rattle.std.specs.Prelude.{◌≡◌, ◌≢◌, true, eqb, ltb, leb};
 ghost use Rattle.integers.specs.Choice.{◌if◌else◌};
-ghost use Rattle.words.specs.Fault as Fault;
+ghost use Rattle.words.specs.Fault as fault;
+ghost use Rattle.words.specs.Faults as Faults;
+ghost use Rattle.words.specs.Faults.{number_of};
+ghost use Rattle.words.specs.Kinds.{kind_number};
 ghost use Rattle.words.specs.Limit as Limit;
 ghost use Rattle.words.specs.Word.{payload};
 ghost use Rattle.variables.specs.Start.{starts};
 ghost use Rattle.rowsystems.specs.Reading.{fault_lower, fault_item, fault_source, fault_upper, fault_variable, fault_number, not_above, fault_result};
 ghost use Rattle.rowfaults.specs.Head.{fault_at_head};
 
-use words::{fault, is_lowest, kind, kind_of, limit, payload_of, signed_of};
-
-// A fault where a test is true.
-fn fault_if(test: bool, number: u32) -> u32
-    ensures { result ≡ (number if test else Fault.none) }
-{
-    if test { number } else { fault::NONE }
-}
+use words::fault::Fault;
+use words::kind::Kind;
+use words::limit;
+use words::word::Word;
 
 // Of a lower bound, after n variables.
-#[tactic(auto, unfolding(rowsystems::specs::Reading::fault_lower))]
-fn fault_lower(n: usize, w: u32) -> u32
-    ensures { result ≡ fault_lower n w }
+fn check_lower(n: usize, w: Word) -> Result<(), Fault>
+    ensures { number_of result ≡ fault_lower n w }
 {
-    if is_lowest(w) {
-        return fault::LOWEST_NUMBER;
+    if w.is_lowest() {
+        return Err(Fault::LowestNumber);
     }
-    fault_if(limit::IN_ALL <= n, fault::TOO_MANY_IN_ALL)
+    if limit::IN_ALL <= n {
+        return Err(Fault::TooManyInAll);
+    }
+    Ok(())
 }
 
 // Of a word where an auxiliary, a row, a product or the end may stand, after n variables.
-#[tactic(auto, unfolding(rowsystems::specs::Reading::fault_item))]
-fn fault_item(n: usize, w: u32) -> u32
-    ensures { result ≡ fault_item n w }
+fn check_item(n: usize, w: Word) -> Result<(), Fault>
+    ensures { number_of result ≡ fault_item n w }
 {
-    let k = kind_of(w);
-    let payload = payload_of(w);
-    let long = limit::TERMS < payload;
-    let above = 0 < payload;
-    if k == kind::AUXILIARY_LOWER {
-        return fault_lower(n, w);
+    if w.is(Kind::AuxiliaryLower) {
+        return check_lower(n, w);
     }
-    if k == kind::AT_MOST {
-        return fault_if(long, fault::LENGTH_OUTSIDE);
+    if w.is(Kind::AtMost) || w.is(Kind::Equal) {
+        return check_row(w);
     }
-    if k == kind::EQUAL {
-        return fault_if(long, fault::LENGTH_OUTSIDE);
+    if !w.is(Kind::Product) && !w.is(Kind::RowsEnd) {
+        return Err(Fault::WrongKind);
     }
-    if k == kind::PRODUCT {
-        return fault_if(above, fault::PAYLOAD_ABOVE_ZERO);
+    if 0 < w.payload() {
+        return Err(Fault::PayloadAboveZero);
     }
-    if k == kind::ROWS_END {
-        return fault_if(above, fault::PAYLOAD_ABOVE_ZERO);
-    }
-    fault::WRONG_KIND
+    Ok(())
 }
 
 // Of a word where a source variable may stand too.
-#[tactic(auto, unfolding(rowsystems::specs::Reading::fault_source))]
-fn fault_source(n: usize, w: u32) -> u32
-    ensures { result ≡ fault_source n w }
+fn check_source(n: usize, w: Word) -> Result<(), Fault>
+    ensures { number_of result ≡ fault_source n w }
 {
-    let k = kind_of(w);
-    if k == kind::LOWER {
-        return fault_lower(n, w);
+    if w.is(Kind::Lower) {
+        return check_lower(n, w);
     }
-    if k == kind::BOOLEAN {
-        if 0 < payload_of(w) {
-            return fault::PAYLOAD_ABOVE_ZERO;
-        }
-        return fault_if(limit::IN_ALL <= n, fault::TOO_MANY_IN_ALL);
+    if !w.is(Kind::Boolean) {
+        return check_item(n, w);
     }
-    fault_item(n, w)
+    check_boolean(n, w)
 }
 
-// Of the word that starts an item, a source variable among them where sources may stand.
-#[tactic(auto, unfolding(crate::specs::Head::fault_at_head))]
-pub fn fault_head(sources: bool, n: usize, w: u32) -> u32
-    ensures { result ≡ fault_at_head sources n w }
+// Of a Boolean variable, whose kind is known, after n variables.
+fn check_boolean(n: usize, w: Word) -> Result<(), Fault>
+    ensures { number_of result ≡ (fault.payload_above_zero if ltb 0 (payload w) else fault.too_many_in_all if leb Limit.in_all n else fault.none) }
+{
+    if 0 < w.payload() {
+        return Err(Fault::PayloadAboveZero);
+    }
+    if limit::IN_ALL <= n {
+        return Err(Fault::TooManyInAll);
+    }
+    Ok(())
+}
+
+// Of the word that starts an item; `sources`, which the clause reads, says whether source variables may stand there too.
+pub fn check_head(sources: bool, n: usize, w: Word) -> Result<(), Fault>
+    ensures { number_of result ≡ fault_at_head sources n w }
 {
     if sources {
-        return fault_source(n, w);
+        return check_source(n, w);
     }
-    fault_item(n, w)
+    check_item(n, w)
 }
 
 // Of a word that starts a variable.
-pub fn fault_start(sources: bool, n: usize, w: u32) -> u32
+#[tactic(auto, unfolding(variables::specs::Start::starts, words::specs::Variables::starts_pair, rowsystems::specs::Reading::fault_item, rowsystems::specs::Reading::fault_source, crate::specs::Head::fault_at_head))]
+pub fn check_start(sources: bool, n: usize, w: Word) -> Result<(), Fault>
     requires { starts w ≡ true }
-    ensures { result ≡ fault_at_head sources n w }
+    ensures { number_of result ≡ fault_at_head sources n w }
 {
-    let k = kind_of(w);
-    if k == kind::AUXILIARY_LOWER {
-        return fault_lower(n, w);
+    if w.is(Kind::AuxiliaryLower) {
+        return check_lower(n, w);
     }
     if !sources {
-        return fault::WRONG_KIND;
+        return Err(Fault::WrongKind);
     }
-    if k == kind::LOWER {
-        return fault_lower(n, w);
+    if w.is(Kind::Lower) {
+        return check_lower(n, w);
     }
-    if 0 < payload_of(w) {
-        return fault::PAYLOAD_ABOVE_ZERO;
-    }
-    fault_if(limit::IN_ALL <= n, fault::TOO_MANY_IN_ALL)
+    check_boolean(n, w)
 }
 
 // Of a word that starts a row.
-pub fn fault_row(w: u32) -> u32
-    ensures { result ≡ (Fault.length_outside if ltb Limit.terms (payload w) else Fault.none) }
+pub fn check_row(w: Word) -> Result<(), Fault>
+    ensures { number_of result ≡ (fault.length_outside if ltb Limit.terms (payload w) else fault.none) }
 {
-    fault_if(limit::TERMS < payload_of(w), fault::LENGTH_OUTSIDE)
+    if limit::TERMS < w.payload() {
+        return Err(Fault::LengthOutside);
+    }
+    Ok(())
 }
 
-// Of an upper bound, whose kind is k, after the word of its lower one.
-#[tactic(auto, unfolding(rowsystems::specs::Reading::fault_upper))]
-pub fn fault_upper(k: u32, lower: u32, w: u32) -> u32
-    ensures { result ≡ fault_upper k lower w }
+// Of an upper bound of a kind, after the word of its lower one.
+pub fn check_upper(kind: Kind, lower: Word, w: Word) -> Result<(), Fault>
+    ensures { number_of result ≡ fault_upper (kind_number kind) lower w }
 {
-    if kind_of(w) != k {
-        return fault::WRONG_KIND;
+    if !w.is(kind) {
+        return Err(Fault::WrongKind);
     }
-    if is_lowest(w) {
-        return fault::LOWEST_NUMBER;
+    if w.is_lowest() {
+        return Err(Fault::LowestNumber);
     }
-    if signed_of(w) < signed_of(lower) {
-        return fault::UPPER_BELOW_LOWER;
+    if w.signed() < lower.signed() {
+        return Err(Fault::UpperBelowLower);
     }
-    fault::NONE
+    Ok(())
+}
+
+// Whether a word is one of n variables.
+pub fn is_variable(n: usize, w: Word) -> bool
+    ensures { result ≡ eqb (fault_variable n w) fault.none }
+{
+    w.is(Kind::Variable) && w.payload() < n
+}
+
+// The fault of a word that is none of them, worked out only where there is one.
+#[cold]
+pub fn variable_fault(n: usize, w: Word) -> Fault
+    requires { fault_variable n w ≢ fault.none }
+    ensures { Faults.fault_number result ≡ fault_variable n w }
+{
+    if !w.is(Kind::Variable) {
+        return Fault::WrongKind;
+    }
+    Fault::NotDeclared
 }
 
 // Of a variable, after n variables.
-#[tactic(auto, unfolding(rowsystems::specs::Reading::fault_variable))]
-pub fn fault_variable(n: usize, w: u32) -> u32
-    ensures { result ≡ fault_variable n w }
+pub fn check_variable(n: usize, w: Word) -> Result<(), Fault>
+    ensures { number_of result ≡ fault_variable n w }
 {
-    if kind_of(w) != kind::VARIABLE {
-        return fault::WRONG_KIND;
+    if is_variable(n, w) {
+        return Ok(());
     }
-    fault_if(n <= payload_of(w), fault::NOT_DECLARED)
+    Err(variable_fault(n, w))
 }
 
-// Whether a word has no fault as a variable.
-#[tactic(auto, unfolding(rowsystems::specs::Reading::fault_variable))]
-pub fn is_variable(n: usize, w: u32) -> bool
-    ensures { result ≡ eqb (fault_variable n w) Fault.none }
+// Whether a word is a coefficient or a constant.
+pub fn is_number(w: Word) -> bool
+    ensures { result ≡ eqb (fault_number w) fault.none }
 {
-    if kind_of(w) != kind::VARIABLE {
-        return false;
+    w.is(Kind::Number) && !w.is_lowest()
+}
+
+// The fault of a word that is neither, worked out only where there is one.
+#[cold]
+pub fn number_fault(w: Word) -> Fault
+    requires { fault_number w ≢ fault.none }
+    ensures { Faults.fault_number result ≡ fault_number w }
+{
+    if !w.is(Kind::Number) {
+        return Fault::WrongKind;
     }
-    payload_of(w) < n
+    Fault::LowestNumber
 }
 
 // Of a coefficient or a constant.
-#[tactic(auto, unfolding(rowsystems::specs::Reading::fault_number))]
-pub fn fault_number(w: u32) -> u32
-    ensures { result ≡ fault_number w }
+pub fn check_number(w: Word) -> Result<(), Fault>
+    ensures { number_of result ≡ fault_number w }
 {
-    if kind_of(w) != kind::NUMBER {
-        return fault::WRONG_KIND;
+    if is_number(w) {
+        return Ok(());
     }
-    fault_if(is_lowest(w), fault::LOWEST_NUMBER)
+    Err(number_fault(w))
 }
 
-// Whether a word has no fault as a coefficient or a constant.
-#[tactic(auto, unfolding(rowsystems::specs::Reading::fault_number))]
-pub fn is_number(w: u32) -> bool
-    ensures { result ≡ eqb (fault_number w) Fault.none }
-{
-    if kind_of(w) != kind::NUMBER {
-        return false;
-    }
-    !is_lowest(w)
-}
-
-// Whether a product's factor words f and g have kind 5 and its result word r is not above both.
-#[tactic(auto, unfolding(rowsystems::specs::Reading::not_above))]
-fn not_above(r: u32, f: u32, g: u32) -> bool
+// Whether a product's factor words f and g are variables and its result word r is not above both.
+fn not_above(r: Word, f: Word, g: Word) -> bool
     ensures { result ≡ not_above r f g }
 {
-    if kind_of(f) != kind::VARIABLE {
-        return false;
-    }
-    if kind_of(g) != kind::VARIABLE {
-        return false;
-    }
-    let result = payload_of(r);
-    if result <= payload_of(f) {
-        return true;
-    }
-    result <= payload_of(g)
+    let r = r.payload();
+    f.is(Kind::Variable) && g.is(Kind::Variable) && (r <= f.payload() || r <= g.payload())
 }
 
 // Of a product's result, after n variables and before its two factors.
-#[tactic(auto, unfolding(rowsystems::specs::Reading::fault_result))]
-pub fn fault_result(n: usize, w: u32, f: u32, g: u32) -> u32
-    ensures { result ≡ fault_result n w f g }
+pub fn check_result(n: usize, w: Word, f: Word, g: Word) -> Result<(), Fault>
+    ensures { number_of result ≡ fault_result n w f g }
 {
-    if kind_of(w) != kind::VARIABLE {
-        return fault::WRONG_KIND;
+    check_variable(n, w)?;
+    if not_above(w, f, g) {
+        return Err(Fault::ResultNotAbove);
     }
-    if n <= payload_of(w) {
-        return fault::NOT_DECLARED;
-    }
-    fault_if(not_above(w, f, g), fault::RESULT_NOT_ABOVE)
+    Ok(())
 }

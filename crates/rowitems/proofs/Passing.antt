@@ -1,5 +1,7 @@
 -- One item: reading on from its head, what its kind says, and whether it is true.
-use Rattle.std.proofs.Common.{◌≡◌, refl, ap, ◌∙◌, ◌⊎◌, inl, inr, ⊎_elim, Bool, true, false, ◌||◌, List, ℕ, ◌+◌, ◌<◌, ◌≤◌, arith, ltb-false, eqb-true, eq-eqb, ne_eqb, le-leb, eqb, ltb, length, drop}
+use Rattle.std.proofs.Common.{◌≡◌, refl, ap, ◌∙◌, ◌⊎◌, inl, inr, ⊎_elim, Bool, true, false, ◌||◌, List, ℕ, ◌+◌, ◌<◌, ◌≤◌, arith, ltb-false, eqb-true, eq-eqb, ne_eqb, le-leb, eqb, ltb, length, drop, Result}
+use Rattle.std.specs.Prelude.{IfOk}
+use Rattle.std.proofs.lemmas.Result.{IfOk-weaker}
 use borrow.Author.Tests.{eqb-false}
 use Rattle.integers.specs.Choice.{◌if◌else◌}
 use Rattle.integers.specs.Number.{◌⊕◌}
@@ -19,10 +21,12 @@ use Rattle.rowsystems.specs.declared.Due.{Due}
 use Rattle.rowsystems.specs.declared.Due.TheVariants as due
 use Rattle.rowfaults.specs.Head.{fault_at_head}
 use Rattle.rowreading.specs.Onward.{starts_kind, Plain, is_ended, resumed, StepsTo}
-use Rattle.rowreading.specs.declared.items.Step.{Step}
+use Rattle.rowreading.specs.Step.{Step}
 use Rattle.rowreading.proofs.Heads.{head-here, head-halted, head-on}
 use Rattle.integers.proofs.Booleans.{neither}
 use Rattle.rowterms.specs.Values.{is_true}
+use Rattle.rowterms.specs.declared.Seen.{Seen}
+use Rattle.words.specs.declared.fault.Refusal.{Refusal}
 use Rattle.rowterms.proofs.Sums.{word-from}
 use Rattle.rowitems.specs.Passing.{ItemPassed}
 
@@ -169,3 +173,7 @@ pub product-true : (σ : Valuation) (ws : List ℕ) (w b : ℕ) → kind w ≡ K
     satisfied σ (product (variable_at ws b) (variable_at ws (b + 1)) (variable_at ws (b + 2))) ≡ satisfied σ (row_of w (drop b ws))
 unfolding row_of variable_at
 product-true σ ws w b k = rw (k, word-from ws b 0 b (omega arith), word-from ws b 1 (b + 1) (omega arith), word-from ws b 2 (b + 2) (omega arith))
+
+-- what is seen of a row or a product
+pub seen-row : (r : Result Seen Refusal) (w : ℕ) {x y : Bool} → starts_row w ≡ true → x ≡ y → IfOk r (λ s. s.holds ≡ x) → IfOk r (λ s. (starts_row w ≡ true) × (s.holds ≡ y))
+seen-row r w {x} {y} p e h = IfOk-weaker r (λ s. s.holds ≡ x) (λ s. (starts_row w ≡ true) × (s.holds ≡ y)) (λ s k. (p, k ∙ e)) h

@@ -4,7 +4,7 @@ use Rattle.words.specs.Fault as Fault
 use Rattle.rowsystems.specs.declared.Due.{Due}
 use Rattle.rowreading.specs.Item.{start_due}
 use Rattle.rowreading.specs.Onward.{onward, resumed, Plain}
-use Rattle.rowreading.specs.declared.items.Step.{Step}
+use Rattle.rowreading.specs.Step.{Step}
 
 -- the step r leads from the head at a place, with n variables before it, to what is due after the item, with m variables before that,
 -- or to the first fault

@@ -1,12 +1,12 @@
 // The items of a row system, each read and judged from its head on: a variable by its bounds, a row or a product by the values.
-// A fault of a word comes with its place; the end gives WORD_AFTER_END at the place after it, a fault only where a word stands there.
+// A fault of a word comes with its place; the end gives the fault of a word after it, a fault only where a word stands there.
 #![tactic(auto)]
 
-ghost use Rattle.std.specs.Prelude.{◌≡◌, true, false, not, ◌+◌, ◌≤◌, eqb, drop};
+ghost use Rattle.std.specs.Prelude.{◌≡◌, true, false, not, ◌+◌, ◌≤◌, IfOk, eqb, drop};
 ghost use Rattle.integers.specs.Bounds.{◌to◌, within};
 ghost use Rattle.integers.specs.Terms.{value};
-ghost use Rattle.words.specs.Fault as Fault;
-ghost use Rattle.words.specs.Kind as Kind;
+ghost use Rattle.words.specs.Kind as kinds;
+ghost use Rattle.words.specs.Kinds.{kind_number};
 ghost use Rattle.words.specs.Limit as Limit;
 ghost use Rattle.words.specs.Word.{kind, signed, word_at};
 ghost use Rattle.variables.specs.Start.{starts, pair_bounds};
@@ -18,111 +18,118 @@ ghost use Rattle.rowreading.specs.Onward.{Placed, step_over};
 ghost use Rattle.rowterms.specs.Values.{step_of, ValuesKnown};
 ghost use Rattle.rowitems.specs.Passing.{ItemPassed};
 
-use rowfaults::{fault_head, fault_row, fault_start, fault_upper};
+use rowfaults::{check_head, check_row, check_start};
+use rowreading::items::upper_at;
 use rowreading::rows::starts_sum;
 use rowsystems::Due;
-use rowterms::{JudgedStep, faulty, see_cut, see_factors, see_terms};
+use rowterms::{Seen, see_cut, see_factors, see_terms};
 use variables::between;
-use words::{fault, kind, kind_of, payload_of, signed_of, word_at};
+use words::fault::{Fault, Refusal};
+use words::kind::Kind;
+use words::word::Word;
 
-// The upper bound, of kind k, after the word of the lower one, and whether a value is between the two.
+// The upper bound, of a kind, after the word of the lower one, and whether a value is between the two.
 #[tactic(auto, unfolding(rowreading::specs::Onward::step_over))]
-fn see_upper(ws: &[u32], k: u32, lower: u32, at: usize, v: i64) -> JudgedStep
+fn see_upper(ws: &[u32], kind: Kind, lower: Word, at: usize, v: i64) -> Result<Seen, Refusal>
     requires { at ≤ Limit.row_words }
-    ensures { (step_of result ≡ step_over (fault_upper k lower (word_at ws.now at)) at) × (result.number ≡ Fault.none → result.holds ≡ within (signed lower to signed (word_at ws.now at)) v) }
+    ensures step { step_of result ≡ step_over (fault_upper (kind_number kind) lower (word_at ws.now at)) at }
+    ensures truth { IfOk result (λ s. s.holds ≡ within (signed lower to signed (word_at ws.now at)) v) }
 {
-    let upper = word_at(ws, at);
-    let number = fault_upper(k, lower, upper);
-    if number != fault::NONE {
-        return faulty(number, at);
-    }
-    let holds = between(signed_of(lower), v, signed_of(upper));
-    JudgedStep {
-        number: fault::NONE,
-        at: at + 1,
-        holds,
-    }
+    let next = upper_at(ws, kind, lower, at)?;
+    let holds = between(lower.signed(), v, Word::at(ws, at).signed());
+    Ok(Seen { at: next, holds })
 }
 
 // A variable, and whether v is within its bounds.
-pub fn see_variable(ws: &[u32], sources: bool, head: u32, n: usize, at: usize, v: i64) -> JudgedStep
+pub fn see_variable(
+    ws: &[u32],
+    sources: bool,
+    head: Word,
+    n: usize,
+    at: usize,
+    v: i64,
+) -> Result<Seen, Refusal>
     requires { Placed ws.now at × (head ≡ word_at ws.now at) × (starts head ≡ true) }
-    ensures step { ItemPassed ws.now sources n at (start_due (not (eqb (kind head) Kind.auxiliary_lower))) (n + 1) (step_of result) }
-    ensures truth { result.number ≡ Fault.none → result.holds ≡ within (pair_bounds head (word_at ws.now (at + 1))) v }
+    ensures step { ItemPassed ws.now sources n at (start_due (not (eqb (kind head) kinds.auxiliary_lower))) (n + 1) (step_of result) }
+    ensures truth { IfOk result (λ s. s.holds ≡ within (pair_bounds head (word_at ws.now (at + 1))) v) }
 {
-    let number = fault_start(sources, n, head);
-    if number != fault::NONE {
-        return faulty(number, at);
+    if let Err(fault) = check_start(sources, n, head) {
+        return Err(Refusal { fault, place: at });
     }
-    let k = kind_of(head);
-    if k == kind::AUXILIARY_LOWER {
-        return see_upper(ws, kind::AUXILIARY_UPPER, head, at + 1, v);
+    if head.is(Kind::AuxiliaryLower) {
+        return see_upper(ws, Kind::AuxiliaryUpper, head, at + 1, v);
     }
-    if k == kind::LOWER {
-        return see_upper(ws, kind::UPPER, head, at + 1, v);
+    if head.is(Kind::Lower) {
+        return see_upper(ws, Kind::Upper, head, at + 1, v);
     }
-    let holds = between(0, v, 1);
-    JudgedStep {
-        number: fault::NONE,
+    Ok(Seen {
         at: at + 1,
-        holds,
-    }
+        holds: between(0, v, 1),
+    })
 }
 
 // A row.
-fn see_row(ws: &[u32], sources: bool, head: u32, n: usize, at: usize, values: &[i32]) -> JudgedStep
+fn see_row(
+    ws: &[u32],
+    sources: bool,
+    head: Word,
+    n: usize,
+    at: usize,
+    values: &[i32],
+) -> Result<Seen, Refusal>
     requires { Placed ws.now at × (head ≡ word_at ws.now at) × ValuesKnown values.now n × (starts_sum head ≡ true) }
     ensures step { ItemPassed ws.now sources n at Due.Item n (step_of result) }
-    ensures truth { result.number ≡ Fault.none → result.holds ≡ satisfied (value values.now) (row_of head (drop (at + 1) ws.now)) }
+    ensures truth { IfOk result (λ s. s.holds ≡ satisfied (value values.now) (row_of head (drop (at + 1) ws.now))) }
 {
-    let number = fault_row(head);
-    if number != fault::NONE {
-        return faulty(number, at);
+    if let Err(fault) = check_row(head) {
+        return Err(Refusal { fault, place: at });
     }
-    let terms = payload_of(head);
+    let terms = head.payload();
     if at + 1 + 2 * terms < ws.len() {
         return see_terms(ws, head, n, at + 1, values);
     }
-    see_cut(ws, n, at + 1, terms)
+    Err(see_cut(ws, n, at + 1, terms))
 }
 
 // A product; or the end, answered as the fault that a word after it would have.
 fn see_other(
     ws: &[u32],
     sources: bool,
-    head: u32,
+    head: Word,
     n: usize,
     at: usize,
     values: &[i32],
-) -> JudgedStep
+) -> Result<Seen, Refusal>
     requires { Placed ws.now at × (head ≡ word_at ws.now at) × ValuesKnown values.now n × (starts head ≡ false) × (starts_sum head ≡ false) }
     ensures step { ItemPassed ws.now sources n at Due.Item n (step_of result) }
-    ensures truth { result.number ≡ Fault.none → (starts_row head ≡ true) × (result.holds ≡ satisfied (value values.now) (row_of head (drop (at + 1) ws.now))) }
+    ensures truth { IfOk result (λ s. (starts_row head ≡ true) × (s.holds ≡ satisfied (value values.now) (row_of head (drop (at + 1) ws.now)))) }
 {
-    let number = fault_head(sources, n, head);
-    if number != fault::NONE {
-        return faulty(number, at);
+    if let Err(fault) = check_head(sources, n, head) {
+        return Err(Refusal { fault, place: at });
     }
-    if kind_of(head) == kind::PRODUCT {
+    if head.is(Kind::Product) {
         return see_factors(ws, n, at + 1, values);
     }
-    faulty(fault::WORD_AFTER_END, at + 1)
+    Err(Refusal {
+        fault: Fault::WordAfterEnd,
+        place: at + 1,
+    })
 }
 
 // A row, a product or the end.
 pub fn see_item(
     ws: &[u32],
     sources: bool,
-    head: u32,
+    head: Word,
     n: usize,
     at: usize,
     values: &[i32],
-) -> JudgedStep
+) -> Result<Seen, Refusal>
     requires { Placed ws.now at × (head ≡ word_at ws.now at) × ValuesKnown values.now n × (starts head ≡ false) }
     ensures step { ItemPassed ws.now sources n at Due.Item n (step_of result) }
-    ensures truth { result.number ≡ Fault.none → (starts_row head ≡ true) × (result.holds ≡ satisfied (value values.now) (row_of head (drop (at + 1) ws.now))) }
+    ensures truth { IfOk result (λ s. (starts_row head ≡ true) × (s.holds ≡ satisfied (value values.now) (row_of head (drop (at + 1) ws.now)))) }
 {
-    if starts_sum(head) {
+    if starts_sum(head.bits()) {
         return see_row(ws, sources, head, n, at, values);
     }
     see_other(ws, sources, head, n, at, values)

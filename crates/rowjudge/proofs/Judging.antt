@@ -1,20 +1,22 @@
 -- The one pass: what it knows at a place, past an item, and where it stops.
-use Rattle.std.proofs.Common.{◌≡◌, refl, sym, ap, ◌∙◌, Bool, true, false, ◌||◌, List, ◌∷◌, ℕ, zero, suc, ◌+◌, ◌<◌, ◌≤◌, arith, ltb-true, ltb-false, eqb-true, eq-eqb, ne_eqb, eqb, ltb, ℤ, length, drop}
+use Rattle.std.proofs.Common.{◌≡◌, refl, sym, ap, ◌∙◌, Bool, true, false, ◌||◌, List, [], ◌∷◌, ℕ, ◌+◌, ◌<◌, ◌≤◌, arith, ltb-true, ltb-false, eqb-true, eq-eqb, ne_eqb, eqb, ltb, ℤ, length, drop, Result, Ok, Err}
+use Rattle.std.specs.Prelude.{IfOk}
 use Rattle.integers.specs.Choice.{◌if◌else◌}
 use Rattle.integers.specs.Bounds.{◌to◌, bit, within}
 use Rattle.integers.specs.Terms.{value}
 use Rattle.integers.proofs.Tests.{false-true, says-within}
-use Rattle.words.specs.Answer.{Answer, holds, out_of_bounds, is_false, refused_or, ◌else_answer◌}
-use Rattle.words.specs.Fault as Fault
+use Rattle.words.specs.Answer.{Answer, out_of_bounds, is_false}
+use Rattle.words.specs.Faults.{refusal_of, said_of}
 use Rattle.words.specs.Judge.{first_false, first_out_of_bounds}
 use Rattle.words.specs.Kind as Kind
-use Rattle.words.specs.Refusal.{◌at_place◌, accepted, fault_or, ◌else_refuse◌, count_fault}
 use Rattle.words.specs.Small.{Near}
 use Rattle.words.specs.Variables.{starts_pair, variables}
-use Rattle.words.specs.Verdict.{verdict}
 use Rattle.words.specs.Word.{kind, signed, word_at}
-use Rattle.words.specs.declared.Refusal.{Refusal}
-use Rattle.words.proofs.Word.{between-near, signed-near}
+use Rattle.words.specs.declared.Refusal as refusal
+use Rattle.words.specs.declared.fault.Refusal.{Refusal}
+use Rattle.words.specs.declared.answer.Verdict.{Verdict}
+use Rattle.words.specs.declared.answer.Verdict.TheVariants.{Holds, OutOfBounds, False}
+use Rattle.words.proofs.ReadBack.{between-near, signed-near}
 use Rattle.variables.specs.Start.{starts, pair_bounds}
 use Rattle.variables.proofs.Walk.{at_none, at_one, at_last}
 use Rattle.rowsystems.specs.Row.{Row, satisfied}
@@ -22,36 +24,50 @@ use Rattle.rowsystems.specs.RowSystem.{rows}
 use Rattle.rowsystems.specs.declared.Due.{Due}
 use Rattle.rowreading.specs.Item.{start_due}
 use Rattle.rowreading.specs.Onward.{starts_kind, Plain, onward, stopped, resumed}
-use Rattle.rowreading.specs.declared.items.Step.{Step}
+use Rattle.rowreading.specs.Step.{Step}
 use Rattle.rowreading.proofs.Counts.{CountedFrom, none-counted, count_none, count-one, count-plain, counted, along, plain-variables}
 use Rattle.rowreading.proofs.Onward.{at_the_end}
 use Rattle.integers.proofs.Booleans.{neither}
 use Rattle.rowsystems.specs.OneWord.{starts_row, row_of}
 use Rattle.rowterms.specs.Values.{ValuesKnown}
 use Rattle.rowitems.specs.Passing.{ItemPassed}
-use Rattle.rowjudge.specs.Judging.{ValueOrOutside, judged_on, JudgedOn}
+use Rattle.rowjudge.specs.Judging.{ValueOrOutside, with_row, judged_on, JudgedOn}
 use Rattle.rowjudge.specs.declared.Judged.{Judged}
 use Rattle.rowsystems.proofs.Walk.{starts_none, starts-one, none_left}
 
--- ---- the rows so far: whether all k are true, else the first wrong one
+-- ---- what the rows so far say, and those that are left
 
-abbrev pub tells : (Row ℕ → Bool) → ℕ → Bool → ℕ → List (Row ℕ) → Answer
-tells t k all wrong xs = first_false t k xs if all else is_false wrong
+abbrev pub tells : (Row ℕ → Bool) → ℕ → Verdict → List (Row ℕ) → Answer
+tells t k Holds xs = first_false t k xs
+tells t k (OutOfBounds i) xs = out_of_bounds i
+tells t k (False i) xs = is_false i
 
-module _ (t : Row ℕ → Bool) (k wrong : ℕ) (x : Row ℕ) (xs : List (Row ℕ)) where
-  pub row_told : tells t (k + 1) (t x) k xs ≡ tells t k true wrong (x ∷ xs)
+module _ (t : Row ℕ → Bool) (k : ℕ) where
+  row_told : (said : Verdict) (x : Row ℕ) (xs : List (Row ℕ)) → tells t k said (x ∷ xs) ≡ tells t (k + 1) (with_row said (t x) k) xs
   unfolding first_false
-  row_told = refl
+  row_told Holds x xs = go (t x)
+    where
+      go : (b : Bool) → (first_false t (k + 1) xs if b else is_false k) ≡ tells t (k + 1) (with_row Holds b k) xs
+      go true = refl
+      go false = refl
+  row_told (OutOfBounds i) x xs = refl
+  row_told (False i) x xs = refl
+
+  none_told : (said : Verdict) → said_of said ≡ tells t k said []
+  unfolding first_false
+  none_told Holds = refl
+  none_told (OutOfBounds i) = refl
+  none_told (False i) = refl
 
 -- ---- what the pass knows at a place, past n variables and k rows and products
 
-pub record Judging (ws : List ℕ) (vs : List ℤ) (before start first n k : ℕ) (all : Bool) (wrong at : ℕ) : Type 0 where
+pub record Judging (ws : List ℕ) (vs : List ℤ) (before start first n k : ℕ) (said : Verdict) (at : ℕ) : Type 0 where
   pub few : k ≤ first + at
   pub counted : CountedFrom ws before start n at
   pub known : ValuesKnown vs n
-  pub told : first_out_of_bounds (value vs) n (variables (drop at ws)) (tells (satisfied (value vs)) k all wrong (rows (drop at ws))) ≡ judged_on ws vs before start first
+  pub told : first_out_of_bounds (value vs) n (variables (drop at ws)) (tells (satisfied (value vs)) k said (rows (drop at ws))) ≡ judged_on ws vs before start first
 
-pub begun : (ws : List ℕ) (vs : List ℤ) (before start first : ℕ) → ValuesKnown vs before → Judging ws vs before start first before first true 0 start
+pub begun : (ws : List ℕ) (vs : List ℤ) (before start first : ℕ) → ValuesKnown vs before → Judging ws vs before start first before first Holds start
 unfolding judged_on
 begun ws vs before start first f = record { few = omega arith; counted = none-counted ws before start; known = f; told = refl }
 
@@ -60,8 +76,8 @@ pub plain_rows : (ws : List ℕ) (a b : ℕ) → Plain ws a b → a ≤ b → b 
 unfolding word_at starts_kind starts_row
 plain_rows ws = along ws rows (λ a h e. let k = kind (word_at ws a) in starts_none ws a h (neither ((eqb k Kind.lower || eqb k Kind.auxiliary_lower) || eqb k Kind.boolean) ((eqb k Kind.at_most || eqb k Kind.equal) || eqb k Kind.product) e).1)
 
-plain-to : {ws : List ℕ} {vs : List ℤ} {before start first n k : ℕ} {all : Bool} {wrong a b : ℕ} → Judging ws vs before start first n k all wrong a → Plain ws a b → a ≤ b → b ≤ length ws →
-    Judging ws vs before start first n k all wrong b
+plain-to : {ws : List ℕ} {vs : List ℤ} {before start first n k : ℕ} {said : Verdict} {a b : ℕ} → Judging ws vs before start first n k said a → Plain ws a b → a ≤ b → b ≤ length ws →
+    Judging ws vs before start first n k said b
 plain-to {ws} {a = a} {b} j p l h =
     record {
       few = omega (arith, j.few);
@@ -103,7 +119,7 @@ known_more vs n f l h = (l, λ x b. go x b (ltb x n) refl)
     go x b true e = f.1 x (ltb-true x n e)
     go x b false e = let q : n ≡ x = omega (arith, ltb-false x n e) in rw (← q) h
 
-module _ {ws : List ℕ} {vs : List ℤ} {before start first n k : ℕ} {all : Bool} {wrong at : ℕ} (j : Judging ws vs before start first n k all wrong at) (h : at < length ws) where
+module _ {ws : List ℕ} {vs : List ℤ} {before start first n k : ℕ} {said : Verdict} {at : ℕ} (j : Judging ws vs before start first n k said at) (h : at < length ws) where
   abbrev w : ℕ
   w = word_at ws at
 
@@ -116,7 +132,7 @@ module _ {ws : List ℕ} {vs : List ℤ} {before start first n k : ℕ} {all : B
       go false q = absurd (f.1 (ltb-false n (length vs) q) (kept_near w (word_at ws (at + 1)) v e))
 
   pub variable-judged : {v : ℤ} {b : ℕ} → starts w ≡ true → ValueOrOutside vs n v → within (pair_bounds w (word_at ws (at + 1))) v ≡ true →
-      Plain ws (at + 1) b → at + 1 ≤ b → b ≤ length ws → Judging ws vs before start first (n + 1) k all wrong b
+      Plain ws (at + 1) b → at + 1 ≤ b → b ≤ length ws → Judging ws vs before start first (n + 1) k said b
   unfolding word_at first_out_of_bounds
   variable-judged {v} s f e p l m =
       let known = there v f e in
@@ -130,22 +146,28 @@ module _ {ws : List ℕ} {vs : List ℤ} {before start first n k : ℕ} {all : B
       })
       p l m
 
-  -- a value out of its bounds is what is named
-  pub outside : {v : ℤ} → starts w ≡ true → ValueOrOutside vs n v → within (pair_bounds w (word_at ws (at + 1))) v ≡ false → n < length vs → out_of_bounds n ≡ judged_on ws vs before start first
+  -- a value out of its bounds is what is named, and the variables of the rest are counted
+  pub left : {sources : Bool} {v : ℤ} {b : ℕ} → starts w ≡ true → ValueOrOutside vs n v → within (pair_bounds w (word_at ws (at + 1))) v ≡ false →
+      Plain ws (at + 1) b → at + 1 ≤ b → b ≤ length ws → (q : Result Judged Refusal) → refusal_of q ≡ onward (start_due sources) before start ws →
+      IfOk q (λ r. (r.variables ≡ n + 1 + length (variables (drop b ws))) × (said_of r.said ≡ out_of_bounds n)) → JudgedOn ws vs sources before start first q
   unfolding word_at first_out_of_bounds
-  outside s f e known = rw (at_one ws at h s, rw (f.0 known) at e) at j.told
+  left s f e p l m (Err x) a c = record { reads = a; counts = tt; says = tt }
+  left s f e p l m (Ok x) a c = record {
+    reads = a;
+    counts = c.0 ∙ (count-plain (count-one j.counted h s) p l m).number;
+    says = λ g. c.1 ∙ rw (at_one ws at h s, rw (f.0 (omega (arith, g, c.0))) at e) at j.told;
+  }
 
-  pub row-judged : {more : Bool} {wrong' b : ℕ} → starts w ≡ false → starts_row w ≡ true →
-      tells (satisfied (value vs)) (k + 1) more wrong' (rows (drop (at + 1) ws)) ≡ tells (satisfied (value vs)) k all wrong (row_of w (drop (at + 1) ws) ∷ rows (drop (at + 1) ws)) →
-      Plain ws (at + 1) b → at + 1 ≤ b → b ≤ length ws → Judging ws vs before start first n (k + 1) more wrong' b
+  pub row-judged : {b : ℕ} → starts w ≡ false → starts_row w ≡ true → Plain ws (at + 1) b → at + 1 ≤ b → b ≤ length ws →
+      Judging ws vs before start first n (k + 1) (with_row said (satisfied (value vs) (row_of w (drop (at + 1) ws))) k) b
   unfolding word_at
-  row-judged s r q p l m =
+  row-judged s r p l m =
       plain-to
       (record {
         few = omega (arith, j.few);
         counted = count_none j.counted h s;
         known = j.known;
-        told = rw (at_none ws at h s, starts-one ws at h r, ← q) at j.told;
+        told = rw (at_none ws at h s, starts-one ws at h r, row_told) at j.told;
       })
       p l m
 
@@ -160,47 +182,24 @@ module _ {ws : List ℕ} {s : Bool} {n at m : ℕ} {d : Due} {r : Step} (g : Ite
   unfolding resumed
   halts z = g.reads ∙ rw (ne_eqb r.number 0 z)
 
-module _ {ws : List ℕ} {vs : List ℤ} {before start first n k : ℕ} {all : Bool} {wrong at : ℕ} where
-  all-counted : Judging ws vs before start first n k all wrong at → length ws ≤ at → n ≡ before + length (variables (drop start ws))
+module _ {ws : List ℕ} {vs : List ℤ} {before start first n k : ℕ} {said : Verdict} {at : ℕ} where
+  all-counted : Judging ws vs before start first n k said at → length ws ≤ at → n ≡ before + length (variables (drop start ws))
   all-counted j h = counted j.counted h
 
-  all-judged : Judging ws vs before start first n k all wrong at → length ws ≤ at → (holds if all else is_false wrong) ≡ judged_on ws vs before start first
-  unfolding first_false first_out_of_bounds
-  all-judged j h = rw (at_last ws at h, none_left ws at h) at j.told
+  all-judged : Judging ws vs before start first n k said at → length ws ≤ at → said_of said ≡ judged_on ws vs before start first
+  unfolding first_out_of_bounds
+  all-judged j h = none_told (satisfied (value vs)) k said ∙ rw (at_last ws at h, none_left ws at h) at j.told
 
 -- a fault past the end word is none, and all is judged
-pub stops : {ws : List ℕ} {vs : List ℤ} {sources : Bool} {before start first n k : ℕ} {all : Bool} {wrong at : ℕ} {s : Bool} {m : ℕ} {d : Due} {r : Step} {q : Judged} →
-    Judging ws vs before start first n k all wrong at → ItemPassed ws s n at d m r → (r.number ≡ 0 → ⊥) → onward (start_due s) n at ws ≡ onward (start_due sources) before start ws →
-    q.refusal ≡ stopped ws r.number r.at → q.variables ≡ n → verdict q.said ≡ (holds if all else is_false wrong) →
-    JudgedOn ws vs sources before start first q
-stops {ws} {vs} {n = n} {k} {all} {wrong} {r = r} {q} j g z e a b c =
-    let end : q.refusal.number ≡ 0 → (r.number ≡ Fault.word_after_end) × (length ws ≤ r.at) = λ i. at_the_end ws r.number r.at z (ap (λ (x : Refusal). x.number) (sym a) ∙ i) in
+pub stops : {ws : List ℕ} {vs : List ℤ} {sources : Bool} {before start first n k : ℕ} {said : Verdict} {at : ℕ} {s : Bool} {m : ℕ} {d : Due} {r : Step} →
+    Judging ws vs before start first n k said at → ItemPassed ws s n at d m r → (r.number ≡ 0 → ⊥) → onward (start_due s) n at ws ≡ onward (start_due sources) before start ws →
+    (q : Result Judged Refusal) → refusal_of q ≡ stopped ws r.number r.at → IfOk q (λ j. (j.variables ≡ n) × (j.said ≡ said)) → JudgedOn ws vs sources before start first q
+stops {ws} {vs} {n = n} {k} {said} {r = r} j g z e (Err x) a b = record { reads = a ∙ sym (halts g z) ∙ e; counts = tt; says = tt }
+stops {ws} {vs} {n = n} {k} {said} {r = r} j g z e (Ok x) a b =
+    let end = at_the_end ws r.number r.at z (ap (λ (x : refusal.Refusal). x.number) (sym a)) in
+    let past = plain-to j (g.last end.0) g.on g.inside in
     record {
       reads = a ∙ sym (halts g z) ∙ e;
-      counts = λ i. b ∙ all-counted (plain-to j (g.last (end i).0) g.on g.inside) (end i).1;
-      says = λ i h. c ∙ all-judged (plain-to j (g.last (end i).0) g.on g.inside) (end i).1;
+      counts = b.0 ∙ all-counted past end.1;
+      says = λ h. ap said_of b.1 ∙ all-judged past end.1;
     }
-
--- 15, by a count of the variables that is right where the words are accepted
-pub first-refusal : (read : Refusal) (ws : List ℕ) (vs : List ℤ) (n : ℕ) → (read.number ≡ 0 → n ≡ length (variables ws)) →
-    (read else_refuse (accepted if eqb (length vs) n else Fault.wrong_value_count at_place 0)) ≡ (read else_refuse count_fault ws vs)
-unfolding ◌else_refuse◌ count_fault
-first-refusal read ws vs n f = go read.number read.place f
-  where
-    go : (k p : ℕ) → (k ≡ 0 → n ≡ length (variables ws)) → fault_or k p (accepted if eqb (length vs) n else Fault.wrong_value_count at_place 0) ≡ fault_or k p (count_fault ws vs)
-    go zero p f = rw (f refl)
-    go (suc k) p f = refl
-
--- where nothing is refused, the first has no fault
-pub none_first : (k p : ℕ) (r : Refusal) → (fault_or k p r).number ≡ 0 → k ≡ 0
-none_first zero p r e = refl
-none_first (suc k) p r e = absurd (omega arith)
-
--- answers that are equal where nothing is refused
-pub same_answer : (r : Refusal) (a b : Answer) → (r.number ≡ 0 → a ≡ b) → (r else_answer a) ≡ (r else_answer b)
-unfolding ◌else_answer◌
-same_answer r a b f = go r.number r.place f
-  where
-    go : (k p : ℕ) → (k ≡ 0 → a ≡ b) → refused_or k p a ≡ refused_or k p b
-    go zero p f = f refl
-    go (suc k) p f = refl

@@ -2,95 +2,59 @@
 // Each item is read, and its bounds, its row or its product judged, before the next.
 #![tactic(auto)]
 
-ghost use Rattle.std.specs.Prelude.{◌≡◌, ◌+◌, ◌<◌, ◌≤◌, length, drop};
-ghost use Rattle.integers.specs.Choice.{◌if◌else◌};
-ghost use Rattle.words.specs.Answer.{holds, out_of_bounds, is_false, ◌else_answer◌};
-ghost use Rattle.words.specs.Fault as Fault;
-ghost use Rattle.words.specs.Refusal.{◌at_place◌, accepted, ◌else_refuse◌};
+ghost use Rattle.std.specs.Prelude.{◌≡◌, ◌+◌, ◌<◌, ◌≤◌, IfOk, length, drop};
+ghost use Rattle.words.specs.Answer.{out_of_bounds};
+ghost use Rattle.words.specs.Faults.{fault_number, refusal_of, said_of, verdict_of};
 ghost use Rattle.words.specs.Variables.{variables};
-ghost use Rattle.words.specs.Verdict.{verdict};
 ghost use Rattle.rowsystems.specs.JudgeRows.{judge_rows};
 ghost use Rattle.rowreading.specs.Item.{start_due};
 ghost use Rattle.rowreading.specs.Onward.{onward, stopped, Placed};
 ghost use Rattle.rowterms.specs.Values.{ValuesKnown};
-ghost use Rattle.rowjudge.specs.Judging.{JudgedOn, ValueOrOutside};
+ghost use Rattle.rowjudge.specs.Judging.{JudgedOn, ValueOrOutside, with_row};
 
 use rowitems::{see_item, see_variable};
 use rowreading::{read_on, refusal_at};
 use rowterms::known_value;
 use variables::starts_variable;
-use words::{Refusal, Verdict, fault, kind, kind_of, limit, word_at};
+use words::answer::Verdict;
+use words::fault::{Fault, Refusal};
+use words::kind::Kind;
+use words::limit;
+use words::word::Word;
 
-// The refusal of the words, else of the number of values, else what is judged.
-fn answer(read: Refusal, as_many: bool, judged: Verdict) -> Verdict
-    ensures { verdict result ≡ ((read else_refuse (accepted if as_many else Fault.wrong_value_count at_place 0)) else_answer verdict judged) }
-{
-    if read.number != fault::NONE {
-        return Verdict::Refused(read);
-    }
-    if !as_many {
-        return Verdict::Refused(Refusal {
-            number: fault::WRONG_VALUE_COUNT,
-            place: 0,
-        });
-    }
-    judged
-}
-
-// "Holds", else the first wrong row or product.
-#[tactic(auto, unfolding(words::specs::Verdict::verdict))]
-fn told(all: bool, wrong: usize) -> Verdict
-    ensures { verdict result ≡ (holds if all else is_false wrong) }
-{
-    if all {
-        return Verdict::Holds;
-    }
-    Verdict::False(wrong)
-}
-
-// What is judged from a place on: the refusal of the words, how many variables are counted, and what the values say.
-#[derive(Drop)]
+// What is judged from a place on where the words are accepted: how many variables are counted, and what the values say.
+#[derive(Clone, Copy, Debug, PartialEq, Eq)]
 pub struct Judged {
-    pub refusal: Refusal,
     pub variables: usize,
     pub said: Verdict,
 }
 
-// What is judged where reading stops: the refusal of a number at a place, none after the end; n variables; and what the rows so far say.
-fn judge_end(ws: &[u32], number: u32, at: usize, n: usize, all: bool, wrong: usize) -> Judged
-    ensures refusal { result.refusal ≡ stopped ws.now number at }
-    ensures variables { result.variables ≡ n }
-    ensures said { verdict result.said ≡ (holds if all else is_false wrong) }
+// What is judged where reading stops with a refusal, after n variables: none past the end, and then what the rows so far say.
+fn judge_end(ws: &[u32], found: Refusal, n: usize, said: Verdict) -> Result<Judged, Refusal>
+    ensures reads { refusal_of result ≡ stopped ws.now (fault_number found.fault) found.place }
+    ensures judged { IfOk result (λ j. (j.variables ≡ n) × (j.said ≡ said)) }
 {
-    let refusal = refusal_at(ws, number, at);
-    Judged {
-        refusal,
-        variables: n,
-        said: told(all, wrong),
-    }
+    refusal_at(ws, found)?;
+    Ok(Judged { variables: n, said })
 }
 
 // Where the value of variable x is missing or out of its bounds, the rest is read and not judged: what such values add up to may pass 64 bits.
-#[tactic(auto, unfolding(words::specs::Verdict::verdict))]
-fn judge_rest(ws: &[u32], sources: bool, x: usize, at: usize) -> Judged
+fn judge_rest(ws: &[u32], sources: bool, x: usize, at: usize) -> Result<Judged, Refusal>
     requires { Placed ws.now at × (x < 2000000000) }
-    ensures refusal { result.refusal ≡ onward (start_due sources) (x + 1) at ws.now }
-    ensures variables { result.refusal.number ≡ Fault.none → result.variables ≡ x + 1 + length (variables (drop at ws.now)) }
-    ensures said { verdict result.said ≡ out_of_bounds x }
+    ensures reads { refusal_of result ≡ onward (start_due sources) (x + 1) at ws.now }
+    ensures judged { IfOk result (λ j. (j.variables ≡ x + 1 + length (variables (drop at ws.now))) × (said_of j.said ≡ out_of_bounds x)) }
 {
-    let read = read_on(ws, sources, x + 1, at);
-    let refusal = read.refusal;
-    Judged {
-        refusal,
-        variables: read.variables,
+    let variables = read_on(ws, sources, x + 1, at)?;
+    Ok(Judged {
+        variables,
         said: Verdict::OutOfBounds(x),
-    }
+    })
 }
 
 // One more than the farthest number of a signed payload: within no bounds.
 const OUTSIDE: i64 = 134217729;
 
-// The value of variable x, OUTSIDE where it is missing.
+// The value of variable x, OUTSIDE where it is missing: judged as one out of its bounds is, with no case of its own.
 fn value_or_outside(values: &[i32], x: usize) -> i64
     ensures { ValueOrOutside values.now x result }
 {
@@ -98,6 +62,16 @@ fn value_or_outside(values: &[i32], x: usize) -> i64
         return known_value(values, x);
     }
     OUTSIDE
+}
+
+// What the rows say with row k: the first false one stands.
+fn with_row(said: Verdict, holds: bool, k: usize) -> Verdict
+    ensures { result ≡ with_row said holds k }
+{
+    match said {
+        Verdict::Holds if !holds => Verdict::False(k),
+        _ => said,
+    }
 }
 
 // The items from a place on, with so many variables and k rows before it, whose values are known.
@@ -108,7 +82,7 @@ pub fn judge_on(
     before: usize,
     start: usize,
     k: usize,
-) -> Judged
+) -> Result<Judged, Refusal>
     requires { Placed ws.now start × ValuesKnown values.now before × (before ≤ 1000000000) × (k ≤ 1000000000) }
     ensures { JudgedOn ws.now values.now first before start k result }
 {
@@ -116,49 +90,51 @@ pub fn judge_on(
     let mut n = before;
     let mut at = start;
     let mut rows = k;
-    let mut all = true;
-    let mut wrong = 0;
+    let mut said = Verdict::Holds;
+    // no list or count to go over: the pass ends by what it reads
     loop {
-        let head = word_at(ws, at);
+        let head = Word::at(ws, at);
         if starts_variable(head) {
-            let seen = see_variable(ws, sources, head, n, at, value_or_outside(values, n));
-            if seen.number != fault::NONE {
-                return judge_end(ws, seen.number, seen.at, n, all, wrong);
-            }
+            let v = value_or_outside(values, n);
+            let seen = match see_variable(ws, sources, head, n, at, v) {
+                Ok(seen) => seen,
+                Err(found) => return judge_end(ws, found, n, said),
+            };
             at = seen.at;
-            sources = kind_of(head) != kind::AUXILIARY_LOWER;
+            sources = !head.is(Kind::AuxiliaryLower);
             if !seen.holds {
                 return judge_rest(ws, sources, n, at);
             }
             n += 1;
         } else {
-            let seen = see_item(ws, sources, head, n, at, values);
-            if seen.number != fault::NONE {
-                return judge_end(ws, seen.number, seen.at, n, all, wrong);
-            }
+            let seen = match see_item(ws, sources, head, n, at, values) {
+                Ok(seen) => seen,
+                Err(found) => return judge_end(ws, found, n, said),
+            };
             at = seen.at;
             sources = false;
-            if all {
-                all = seen.holds;
-                wrong = rows;
-            }
+            said = with_row(said, seen.holds, rows);
             rows += 1;
         }
     }
 }
 
 // "Holds", else the first variable out of bounds, else the first false row or product; a refusal comes first.
-pub fn judge_rows(ws: &[u32], values: &[i32]) -> Verdict
-    ensures { verdict result ≡ judge_rows ws.now values.now }
+pub fn judge_rows(ws: &[u32], values: &[i32]) -> Result<Verdict, Refusal>
+    ensures { verdict_of result ≡ judge_rows ws.now values.now }
 {
     if limit::ROW_WORDS < ws.len() {
-        return Verdict::Refused(Refusal {
-            number: fault::TOO_MANY_WORDS,
+        return Err(Refusal {
+            fault: Fault::TooManyWords,
             place: 0,
         });
     }
-    let judged = judge_on(ws, values, true, 0, 0, 0);
-    let refusal = judged.refusal;
-    let said = judged.said;
-    answer(refusal, values.len() == judged.variables, said)
+    let judged = judge_on(ws, values, true, 0, 0, 0)?;
+    if values.len() != judged.variables {
+        return Err(Refusal {
+            fault: Fault::WrongValueCount,
+            place: 0,
+        });
+    }
+    Ok(judged.said)
 }

@@ -9,7 +9,7 @@ use Rattle.rowsystems.specs.Reading.{fault_item, fault_due, after_due, started}
 use Rattle.rowsystems.specs.declared.Due.TheVariants as due
 use Rattle.rowreading.specs.declared.items.Item.{Item}
 use Rattle.rowreading.specs.declared.items.Item.TheVariants.{Variable, Boolean, Auxiliary, Row, Product, End}
-use Rattle.rowreading.specs.declared.items.Step.{Step}
+use Rattle.rowreading.specs.Step.{Step}
 use Rattle.rowfaults.specs.Head.{fault_at_head}
 use Rattle.rowreading.specs.Item.{start_due, due_with, item_terms, due_after}
 use Rattle.rowreading.specs.Onward.{onward, stopped, StepsTo}

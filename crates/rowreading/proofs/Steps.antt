@@ -13,22 +13,9 @@ use Rattle.words.specs.Variables.{starts_pair}
 use Rattle.rowsystems.specs.Reading.{fault_upper, fault_variable, fault_number, not_above, fault_result, fault_due, after_due, started}
 use Rattle.rowsystems.specs.declared.Due.{Due}
 use Rattle.rowsystems.specs.declared.Due.TheVariants.{Source, SourceUpper, Item, AuxiliaryUpper, Terms, Coefficient, Result, FirstFactor, SecondFactor, Ended}
-use Rattle.rowreading.specs.declared.items.Step.{Step}
+use Rattle.rowreading.specs.Step.{Step}
 use Rattle.rowreading.specs.Onward.{onward, stopped, resumed, starts_kind, stage, is_ended, StepsTo, step_over}
 use Rattle.rowreading.proofs.Onward.{fault_at, here, go_on, stop-at}
-
--- ---- a step over a word without a fault leads to the next place
-
-pub stepped : (f at : ℕ) → (step_over f at).number ≡ 0 → (step_over f at).at ≡ at + 1
-unfolding step_over
-stepped f at = go (eqb f Fault.none) refl
-  where
-    over : Bool → Step
-    over b = record { number = f; at = at + 1 } if b else record { number = f; at = at }
-
-    go : (b : Bool) → eqb f Fault.none ≡ b → (over b).number ≡ 0 → (over b).at ≡ at + 1
-    go true q e = refl
-    go false q e = absurd (eqb-false f Fault.none q e)
 
 -- ---- a word inside an item starts no variable
 
@@ -36,7 +23,7 @@ stepped f at = go (eqb f Fault.none) refl
 abbrev pub inner : Due → Bool
 inner due = ltb 0 (stage due)
 
-pub plain-started : (w : ℕ) → starts_kind (kind w) ≡ false → started w ≡ 0
+plain-started : (w : ℕ) → starts_kind (kind w) ≡ false → started w ≡ 0
 unfolding started starts_pair starts_kind
 plain-started w e = rw (neither ((eqb (kind w) Kind.lower || eqb (kind w) Kind.auxiliary_lower) || eqb (kind w) Kind.boolean) ((eqb (kind w) Kind.at_most || eqb (kind w) Kind.equal) || eqb (kind w) Kind.product) e).0
 
@@ -144,7 +131,3 @@ module _ {ws : List ℕ} {n : ℕ} {a b : Due} {at : ℕ} {r : Step} (g : StepsT
   pub or-halted : {c : Due} → (r.number ≡ 0 → ⊥) → StepsTo ws n a at c r
   unfolding resumed
   or-halted z = record { reads = halted z ∙ rw (ne_eqb r.number 0 z); on = g.on; inside = g.inside; plain = g.plain; last = g.last }
-
--- ---- the word at a place, its fault, the step over it: one call after another
-pub word-step : (F : ℕ → ℕ) (at : ℕ) {w v f : ℕ} {r : Step} → w ≡ v → f ≡ F w → r ≡ step_over f at → r ≡ step_over (F v) at
-word-step F at e g h = rw (← e, ← g) h

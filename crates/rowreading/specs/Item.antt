@@ -1,6 +1,7 @@
 -- The items of a row system: what is due at a head word, and after it.
-use Rattle.std.specs.Prelude.{Bool, true, false, ℕ}
+use Rattle.std.specs.Prelude.{Bool, true, false, List, ℕ, ◌+◌, ◌<◌}
 use Rattle.integers.specs.Choice.{◌if◌else◌}
+use Rattle.rowsystems.specs.RowSystem.{variable_at}
 use Rattle.rowsystems.specs.declared.Due.{Due}
 use Rattle.rowsystems.specs.declared.Due.TheVariants as due
 use Rattle.rowreading.specs.declared.items.Item.{Item}
@@ -40,3 +41,7 @@ more_sources (Auxiliary lower) = false
 more_sources (Row terms) = false
 more_sources Product = false
 more_sources End = false
+
+-- the result and the two factors of a product, from a place on, are among n variables
+abbrev pub Declared : List ℕ → ℕ → ℕ → Type 0
+Declared ws n at = (variable_at ws at < n) × (variable_at ws (at + 1) < n) × (variable_at ws (at + 2) < n)

@@ -1,3 +1,4 @@
--- What the contracts cite: the items of a row system, and reading on from a place.
+-- What the contracts cite: a step, the items of a row system, and reading on from a place.
+pub mod Step
 pub mod Item
 pub mod Onward

@@ -10,7 +10,7 @@ use Rattle.words.specs.declared.Refusal.{Refusal}
 use Rattle.rowsystems.specs.Reading.{fault, after, ended}
 use Rattle.rowsystems.specs.declared.Due.{Due}
 use Rattle.rowsystems.specs.declared.Due.TheVariants.{Source, SourceUpper, Item, AuxiliaryUpper, Terms, Coefficient, Result, FirstFactor, SecondFactor, Ended}
-use Rattle.rowreading.specs.declared.items.Step.{Step}
+use Rattle.rowreading.specs.Step.{Step}
 
 -- what reading the words from place `at` on finds, with so many variables before it
 unfoldable pub onward : Due → ℕ → ℕ → List ℕ → Refusal

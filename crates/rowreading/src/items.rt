@@ -1,172 +1,164 @@
 // The items of a row system: variables, auxiliaries, rows, products, the end. Each function reads some words of an item.
-ghost use Rattle.std.specs.Prelude.{◌≡◌, ℕ, suc, ◌+◌, ◌≤◌};
+#![tactic(auto, unfolding(crate::specs::Onward::step_over))]
+
+ghost use Rattle.std.specs.Prelude.{◌≡◌, ℕ, suc, ◌+◌, ◌≤◌, IfOk};
+ghost use Rattle.words.specs.Faults.{number_of};
+ghost use Rattle.words.specs.Kinds.{kind_number};
 ghost use Rattle.words.specs.Limit as Limit;
 ghost use Rattle.words.specs.Word.{word_at};
-ghost use Rattle.rowsystems.specs.Reading.{fault_upper, fault_variable, fault_number, after_due};
-ghost use Rattle.rowreading.specs.Item.{due_after, item_terms, due_with, more_sources, start_due};
+ghost use Rattle.rowsystems.specs.Reading.{fault_upper, fault_variable, fault_number, fault_result};
+ghost use Rattle.rowreading.specs.Item.{item_terms, due_with, more_sources, start_due, Declared};
 ghost use Rattle.rowreading.specs.Onward.{Placed, StepsTo, step_over};
+ghost use Rattle.rowreading.specs.Step.{step_of};
 
-use rowfaults::{fault_number, fault_result, fault_upper, fault_variable};
+use rowfaults::{check_number, check_result, check_upper, check_variable};
 use rowsystems::Due;
-use words::{fault, kind, kind_of, payload_of, word_at};
+use words::fault::{Fault, Refusal};
+use words::kind::Kind;
+use words::word::Word;
 
 // What a head word starts.
-#[derive(Clone, Copy)]
+#[derive(Clone, Copy, Debug, PartialEq, Eq)]
 pub enum Item {
     // an integer variable, whose lower bound this word is
-    Variable(u32),
+    Variable(Word),
     // a Boolean variable
     Boolean,
     // an auxiliary, whose lower bound this word is
-    Auxiliary(u32),
+    Auxiliary(Word),
     // a row of so many terms
     Row(usize),
     Product,
     End,
 }
 
-// Where reading goes on, with number 0; or a fault and its place.
-#[derive(Drop)]
-pub struct Step {
-    pub number: u32,
-    pub at: usize,
-}
-
-// The item that a head word starts.
 #[tactic(auto, unfolding(crate::specs::Item::due_after, crate::specs::Item::due_with, crate::specs::Item::item_terms, rowsystems::specs::Reading::after_due, rowsystems::specs::Reading::after_item))]
-pub fn item_of(head: u32) -> Item
-    ensures { due_after result ≡ after_due Due.Source head }
-{
-    let k = kind_of(head);
-    if k == kind::LOWER {
-        return Item::Variable(head);
-    }
-    if k == kind::BOOLEAN {
-        return Item::Boolean;
-    }
-    if k == kind::AUXILIARY_LOWER {
-        return Item::Auxiliary(head);
-    }
-    if k == kind::PRODUCT {
-        return Item::Product;
-    }
-    if k == kind::ROWS_END {
-        return Item::End;
-    }
-    Item::Row(payload_of(head))
-}
+impl From<Word> for Item {
+    ghost use Rattle.std.specs.Prelude.{◌≡◌};
+    ghost use Rattle.rowsystems.specs.Reading.{after_due};
+    ghost use Rattle.rowsystems.specs.declared.Due.TheVariants as due;
+    ghost use Rattle.rowreading.specs.Item.{due_after};
 
-// The number of terms of an item.
-#[tactic(auto, unfolding(crate::specs::Item::item_terms))]
-pub fn terms_of(item: Item) -> usize
-    ensures { result ≡ item_terms item }
-{
-    match item {
-        Item::Variable(_) => 0,
-        Item::Boolean => 0,
-        Item::Auxiliary(_) => 0,
-        Item::Row(terms) => terms,
-        Item::Product => 0,
-        Item::End => 0,
+    ghost from_gives = { λ head item. due_after item ≡ after_due due.Source head };
+
+    fn from(head: Word) -> Item {
+        if head.is(Kind::Lower) {
+            return Item::Variable(head);
+        }
+        if head.is(Kind::Boolean) {
+            return Item::Boolean;
+        }
+        if head.is(Kind::AuxiliaryLower) {
+            return Item::Auxiliary(head);
+        }
+        if head.is(Kind::Product) {
+            return Item::Product;
+        }
+        if head.is(Kind::RowsEnd) {
+            return Item::End;
+        }
+        Item::Row(head.payload())
     }
 }
 
-// Whether a source variable may follow an item.
-#[tactic(auto, unfolding(crate::specs::Item::more_sources))]
-pub fn sources_after(item: Item) -> bool
-    ensures { result ≡ more_sources item }
-{
-    match item {
-        Item::Variable(_) => true,
-        Item::Boolean => true,
-        Item::Auxiliary(_) => false,
-        Item::Row(_) => false,
-        Item::Product => false,
-        Item::End => false,
-    }
-}
-
-// Past a word without a fault, or to its fault.
-#[tactic(auto, unfolding(crate::specs::Onward::step_over))]
-fn step_over(number: u32, at: usize) -> Step
+// The place after a word that is checked, or its fault.
+fn over(at: usize, checked: Result<(), Fault>) -> Result<usize, Refusal>
     requires { at ≤ Limit.row_words }
-    ensures { result ≡ step_over number at }
+    ensures { step_of result ≡ step_over (number_of checked) at }
 {
-    if number == fault::NONE {
-        return Step { number, at: at + 1 };
+    match checked {
+        Ok(()) => Ok(at + 1),
+        Err(fault) => Err(Refusal { fault, place: at }),
     }
-    Step { number, at }
 }
 
 // The variable at a place, after n variables.
-fn variable_at(ws: &[u32], n: usize, at: usize) -> Step
+fn variable_at(ws: &[u32], n: usize, at: usize) -> Result<usize, Refusal>
     requires { at ≤ Limit.row_words }
-    ensures { result ≡ step_over (fault_variable n (word_at ws.now at)) at }
+    ensures { step_of result ≡ step_over (fault_variable n (word_at ws.now at)) at }
 {
-    step_over(fault_variable(n, word_at(ws, at)), at)
+    over(at, check_variable(n, Word::at(ws, at)))
 }
 
 // The coefficient or constant at a place.
-pub fn number_at(ws: &[u32], at: usize) -> Step
+fn number_at(ws: &[u32], at: usize) -> Result<usize, Refusal>
     requires { at ≤ Limit.row_words }
-    ensures { result ≡ step_over (fault_number (word_at ws.now at)) at }
+    ensures { step_of result ≡ step_over (fault_number (word_at ws.now at)) at }
 {
-    step_over(fault_number(word_at(ws, at)), at)
+    over(at, check_number(Word::at(ws, at)))
 }
 
-// The upper bound, of kind k, at a place, after the word of its lower one.
-fn upper_at(ws: &[u32], k: u32, lower: u32, at: usize) -> Step
+// The upper bound of a kind at a place, after the word of its lower one.
+pub fn upper_at(ws: &[u32], kind: Kind, lower: Word, at: usize) -> Result<usize, Refusal>
     requires { at ≤ Limit.row_words }
-    ensures { result ≡ step_over (fault_upper k lower (word_at ws.now at)) at }
+    ensures { step_of result ≡ step_over (fault_upper (kind_number kind) lower (word_at ws.now at)) at }
 {
-    step_over(fault_upper(k, lower, word_at(ws, at)), at)
+    over(at, check_upper(kind, lower, Word::at(ws, at)))
 }
 
 // A term: its variable and its coefficient.
-pub fn read_term(ws: &[u32], n: usize, at: usize) -> Step
+pub fn read_term(ws: &[u32], n: usize, at: usize) -> Result<usize, Refusal>
     requires { Placed ws.now at }
-    ensures { ((left : ℕ) → StepsTo ws.now n (Due.Terms (suc left)) at (Due.Terms left) result) × (result.number ≡ 0 → result.at ≡ at + 2) }
+    ensures steps { (left : ℕ) → StepsTo ws.now n (Due.Terms (suc left)) at (Due.Terms left) (step_of result) }
+    ensures end { IfOk result (λ end. end ≡ at + 2) }
 {
-    let variable = variable_at(ws, n, at);
-    if variable.number != fault::NONE {
-        return variable;
-    }
-    number_at(ws, at + 1)
+    let next = variable_at(ws, n, at)?;
+    number_at(ws, next)
 }
 
-// A product's result and its two factors.
-fn read_product(ws: &[u32], n: usize, at: usize) -> Step
-    requires { Placed ws.now at }
-    ensures { StepsTo ws.now n Due.Result at Due.Item result }
+// A product's result at a place, before its two factors, after n variables.
+fn result_at(ws: &[u32], n: usize, at: usize) -> Result<usize, Refusal>
+    requires { at ≤ Limit.row_words }
+    ensures { step_of result ≡ step_over (fault_result n (word_at ws.now at) (word_at ws.now (at + 1)) (word_at ws.now (at + 2))) at }
 {
-    let result = step_over(
-        fault_result(n, word_at(ws, at), word_at(ws, at + 1), word_at(ws, at + 2)),
-        at,
-    );
-    if result.number != fault::NONE {
-        return result;
-    }
-    let first = variable_at(ws, n, result.at);
-    if first.number != fault::NONE {
-        return first;
-    }
-    variable_at(ws, n, first.at)
+    let f = Word::at(ws, at + 1);
+    let g = Word::at(ws, at + 2);
+    over(at, check_result(n, Word::at(ws, at), f, g))
 }
 
-// What an item has after its head and its terms.
-pub fn read_rest(ws: &[u32], item: Item, n: usize, at: usize) -> Step
+// A product's result and its two factors, which are declared.
+pub fn read_product(ws: &[u32], n: usize, at: usize) -> Result<usize, Refusal>
     requires { Placed ws.now at }
-    ensures { StepsTo ws.now n (due_with item 0) at (start_due (more_sources item)) result }
+    ensures step { StepsTo ws.now n Due.Result at Due.Item (step_of result) }
+    ensures end { IfOk result (λ end. (end ≡ at + 3) × Declared ws.now n at) }
 {
-    match item {
-        Item::Variable(lower) => upper_at(ws, kind::UPPER, lower, at),
-        Item::Boolean => Step {
-            number: fault::NONE,
-            at,
-        },
-        Item::Auxiliary(lower) => upper_at(ws, kind::AUXILIARY_UPPER, lower, at),
-        Item::Row(_) => number_at(ws, at),
-        Item::Product => read_product(ws, n, at),
-        Item::End => step_over(fault::WORD_AFTER_END, at),
+    let first = result_at(ws, n, at)?;
+    let second = variable_at(ws, n, first)?;
+    variable_at(ws, n, second)
+}
+
+impl Item {
+    // The number of its terms.
+    #[tactic(auto, unfolding(crate::specs::Item::item_terms))]
+    pub fn terms(&self) -> usize
+        ensures { result ≡ item_terms self.now }
+    {
+        match *self {
+            Item::Row(terms) => terms,
+            _ => 0,
+        }
+    }
+
+    // What it has after its head and its terms.
+    pub fn read_rest(&self, ws: &[u32], n: usize, at: usize) -> Result<usize, Refusal>
+        requires { Placed ws.now at }
+        ensures { StepsTo ws.now n (due_with self.now 0) at (start_due (more_sources self.now)) (step_of result) }
+    {
+        match *self {
+            Item::Variable(lower) => upper_at(ws, Kind::Upper, lower, at),
+            Item::Boolean => Ok(at),
+            Item::Auxiliary(lower) => upper_at(ws, Kind::AuxiliaryUpper, lower, at),
+            Item::Row(_) => number_at(ws, at),
+            Item::Product => read_product(ws, n, at),
+            Item::End => over(at, Err(Fault::WordAfterEnd)),
+        }
+    }
+
+    // Whether a source variable may follow it.
+    #[tactic(auto, unfolding(crate::specs::Item::more_sources))]
+    pub fn sources_after(&self) -> bool
+        ensures { result ≡ more_sources self.now }
+    {
+        matches!(*self, Item::Variable(_) | Item::Boolean)
     }
 }

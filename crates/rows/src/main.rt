@@ -9,11 +9,10 @@ ghost use Rattle.rows.specs.Text.{rows_text};
 
 use encoding::front_words;
 use inputs::read_full;
-use lines::{put_front, put_refusal};
+use lines::put_answer;
 use std::io;
 use std::io::Write;
 use translation::translate;
-use words::Written;
 
 // The words of a model at most and one more, and their bytes: translate refuses a longer model.
 const WORDS: usize = 8193;
@@ -35,14 +34,13 @@ fn rows_page(bytes: &[u8], page: &mut [u8]) -> usize
     let mut words = [0u32; WORDS];
     let n = front_words(bytes, &mut words);
     let mut out = [0u32; ROOM];
-    match translate(&words[..n], &mut out) {
-        Written::Refused(r) => put_refusal(page, r),
-        Written::Words(k) => put_front(page, &out, k),
-    }
+    let answer = translate(&words[..n], &mut out);
+    put_answer(page, answer, &out)
 }
 
 // The bytes of 8,193 words are read at most. The promises go from the bytes that read_full filled to the bytes that are handed to write_all; what
 // standard input gives and standard output takes no contract says.
+// Its lines stay in each program: a function of them, which takes a closure and the clauses that it needs, is no plainer.
 fn main(rt: HostRuntime) -> io::Result<()> {
     let mut bytes = [0u8; BYTES];
     let n = read_full(&mut rt.stdin(), &mut bytes)?;

@@ -17,7 +17,7 @@ use Rattle.words.specs.Limit as Limit
 use Rattle.words.specs.Variables.{starts_pair, variables}
 use Rattle.words.specs.Refusal.{accepted, first_fault}
 use Rattle.words.proofs.Sources.{Sources, none, integer, boolean}
-use Rattle.words.proofs.Word.{kind-word, kind-number, payload-word, signed-number}
+use Rattle.words.proofs.ReadBack.{kind-word, kind-number, payload-word, signed-number}
 use Rattle.rowsystems.specs.declared.Due.{Due}
 use Rattle.rowsystems.specs.declared.Due.TheVariants.{Source, Item, Terms}
 use Rattle.rowsystems.specs.Row.{Row, sum≤0, sum=0, product, rename_terms, rename}

@@ -2,7 +2,7 @@
 #![tactic(auto)]
 
 // What is due at the next word of a row system.
-#[derive(Drop)]
+#[derive(Clone, Copy, Debug, PartialEq, Eq)]
 pub enum Due {
     // a source variable, or what may follow these
     Source,

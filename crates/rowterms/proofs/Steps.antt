@@ -1,31 +1,14 @@
--- Steps over the words of a term or a product: what a variable without a fault is, and where reading goes on.
-use Rattle.std.proofs.Common.{◌≡◌, refl, Bool, true, false, not, List, ℕ, ◌+◌, ◌<◌, arith, leb-false, ne_eqb, eqb, leb}
-use Rattle.integers.specs.Choice.{◌if◌else◌}
+-- Steps over the words of a row.
+use Rattle.std.proofs.Common.{◌≡◌, refl, List, ℕ, suc, ◌+◌, ◌-◌, ◌*◌, ◌<◌, ◌≤◌, arith, ne_eqb, length}
+use lib.ListN.{get_or-eq_default}
 use Rattle.words.specs.Fault as Fault
-use Rattle.words.specs.Kind as Kind
-use Rattle.words.specs.Word.{kind, payload}
-use Rattle.rowsystems.specs.Reading.{fault_variable, fault_result, not_above}
+use Rattle.words.specs.Word.{kind, word_at}
+use Rattle.rowsystems.specs.Reading.{fault_variable, fault_number}
 use Rattle.rowsystems.specs.declared.Due.{Due}
+use Rattle.rowsystems.specs.declared.Due.TheVariants.{Terms, Coefficient, Item}
 use Rattle.rowreading.specs.Onward.{step_over, StepsTo}
-use Rattle.rowreading.specs.declared.items.Step.{Step}
-use Rattle.rowreading.proofs.Steps.{or-halted}
-
--- a variable without a fault is declared
-named : (n w x : ℕ) → 0 ≡ (Fault.wrong_kind if not (eqb (kind w) Kind.variable) else Fault.not_declared if leb n (payload w) else x) → payload w < n
-named n w x e = go (eqb (kind w) Kind.variable) (leb n (payload w)) refl e
-  where
-    go : (a b : Bool) → leb n (payload w) ≡ b → 0 ≡ (Fault.wrong_kind if not a else Fault.not_declared if b else x) → payload w < n
-    go true true q e = absurd (omega arith)
-    go true false q e = omega (arith, leb-false n (payload w) q)
-    go false b q e = absurd (omega arith)
-
-pub declared : (n w : ℕ) → 0 ≡ fault_variable n w → payload w < n
-unfolding fault_variable
-declared n w e = named n w Fault.none e
-
-pub declared-result : (n w f g : ℕ) → 0 ≡ fault_result n w f g → payload w < n
-unfolding fault_result
-declared-result n w f g e = named n w (Fault.result_not_above if not_above w f g else Fault.none) e
+use Rattle.rowreading.proofs.Inner.{term-variable, term-coefficient, row-constant}
+use Rattle.rowreading.proofs.Steps.{and_then, or-halted}
 
 -- past a word without a fault, or to its fault
 pub step-halts : {ws : List ℕ} {n p at f : ℕ} {a b c : Due} → StepsTo ws n a p b (step_over f at) → (f ≡ 0 → ⊥) → StepsTo ws n a p c (record { number = f; at = at })
@@ -36,5 +19,30 @@ pub step-goes : {ws : List ℕ} {n p f : ℕ} {a b : Due} (at : ℕ) → StepsTo
 unfolding step_over
 step-goes at g z = rw z at g
 
-pub as_step : {ws : List ℕ} {n p q : ℕ} {a b : Due} {r : Step} → StepsTo ws n a p b r → r.number ≡ 0 → r.at ≡ q → StepsTo ws n a p b (record { number = 0; at = q })
-as_step g z e = rw (← z, ← e) g
+-- where the words have ended, a constant is missing
+pub constant-missing : (ws : List ℕ) (at : ℕ) → length ws ≤ at → fault_number (word_at ws at) ≡ Fault.wrong_kind
+unfolding fault_number word_at kind
+constant-missing ws at h = rw (get_or-eq_default ws 0 {n = at} h)
+
+-- a row, k terms of which are read
+module _ (ws : List ℕ) (n start terms k : ℕ) (g : StepsTo ws n (Terms terms) start (Terms (terms - k)) (record { number = 0; at = start + 2 * k })) where
+  abbrev place : ℕ
+  place = start + 2 * k
+
+  pub next-variable : k < terms → StepsTo ws n (Terms terms) start (Coefficient (terms - (k + 1))) (step_over (fault_variable n (word_at ws place)) place)
+  next-variable h =
+      let e : suc (terms - (k + 1)) ≡ terms - k = omega arith in
+      and_then g refl refl (rw e at (term-variable ws n place g.inside (terms - (k + 1))))
+
+  pub next-coefficient : k < terms → fault_variable n (word_at ws place) ≡ 0 →
+      StepsTo ws n (Terms terms) start (Terms (terms - (k + 1))) (step_over (fault_number (word_at ws (place + 1))) (place + 1))
+  next-coefficient h z =
+      let v = step-goes place (next-variable h) z in
+      and_then v refl refl (term-coefficient ws n (place + 1) v.inside (terms - (k + 1)))
+
+  pub next-constant : k ≡ terms → StepsTo ws n (Terms terms) start Item (step_over (fault_number (word_at ws (start + 2 * terms))) (start + 2 * terms))
+  next-constant e =
+      let z : terms - k ≡ 0 = omega arith in
+      let a : start + 2 * k ≡ start + 2 * terms = omega arith in
+      let v = rw (z, a) at g in
+      and_then v refl refl (row-constant ws n (start + 2 * terms) v.inside)

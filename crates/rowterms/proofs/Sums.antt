@@ -1,18 +1,11 @@
--- The sum of a row's terms, term by term from a place on, and the size of its numbers.
+-- The sum of a row's terms, term by term from a place on.
 use Rattle.std.proofs.Common.{◌≡◌, refl, sym, ap, ◌∙◌, List, ℕ, ◌+◌, ◌*◌, arith, ℤ, get_or, drop, get_or-drop}
 use Rattle.integers.specs.Number.{◌⊕◌, ◌⊗◌, +0}
 use Rattle.integers.specs.Lists.{list_of}
 use Rattle.integers.specs.Terms.{value, sum}
 use Rattle.integers.proofs.Places.{sum_more}
-use Rattle.words.specs.Small.{Near}
 use Rattle.words.specs.Word.{word_at}
-use Rattle.words.proofs.Word.{signed-near}
 use Rattle.rowsystems.specs.RowSystem.{number_at, variable_at, terms_in, constant_in}
-
--- the numbers of words are near 0
-pub number_size : (ws : List ℕ) (i : ℕ) → Near (number_at ws i)
-unfolding number_at
-number_size ws i = signed-near (word_at ws i)
 
 -- the words of a list and of its rest
 pub word-from : (ws : List ℕ) (s i k : ℕ) → s + i ≡ k → word_at (drop s ws) i ≡ word_at ws k

@@ -1,5 +1,5 @@
 -- Reading and judging at once: where reading goes on, the values of the variables read so far, and what they make of a row.
-use Rattle.std.specs.Prelude.{Bool, List, ℕ, ◌<◌, ◌≤◌, eqb, ℤ, length}
+use Rattle.std.specs.Prelude.{Bool, List, ℕ, ◌<◌, ◌≤◌, eqb, ℤ, length, Result, Ok, Err}
 use Rattle.std.specs.Int.Signed.{le_z}
 use Rattle.integers.specs.Choice.{◌if◌else◌}
 use Rattle.integers.specs.Number.{◌⊕◌, ◌≟◌, +0}
@@ -8,12 +8,15 @@ use Rattle.words.specs.Kind as Kind
 use Rattle.words.specs.Small.{Near}
 use Rattle.words.specs.Word.{kind}
 use Rattle.rowsystems.specs.RowSystem.{terms_in, constant_in}
-use Rattle.rowreading.specs.declared.items.Step.{Step}
-use Rattle.rowterms.specs.declared.JudgedStep.{JudgedStep}
+use Rattle.words.specs.declared.fault.Refusal.{Refusal}
+use Rattle.rowreading.specs.Step as Step
+use Rattle.rowreading.specs.Step.{Step}
+use Rattle.rowterms.specs.declared.Seen.{Seen}
 
 -- where reading goes on
-abbrev pub step_of : JudgedStep → Step
-step_of r = record { number = r.number; at = r.at }
+abbrev pub step_of : Result Seen Refusal → Step
+step_of (Ok s) = Step.step_of (Ok s.at)
+step_of (Err r) = Step.step_of (Err r)
 
 -- the values of the variables read so far are there, no farther from 0 than signed payloads are
 abbrev pub ValuesKnown : List ℤ → ℕ → Type 0

@@ -24,7 +24,6 @@ use Rattle.laying.specs.Lists.{many, same_at, product_at}
 use Rattle.laying.specs.Lists as lists
 use Rattle.laying.proofs.Parts.{many-same}
 use Rattle.laying.proofs.Lists.{length-vars, length-nums, bits-parts, bounds-append, same_parts, here, further}
-use Rattle.extremes.specs.BoundLists.{bounds_of}
 use Rattle.encodings.specs.Uses.{choice_of, choosing}
 use Rattle.choiceblocks.specs.Rows.{zero_at, number_term_at, member_at, sum_row, choice_rows}
 use Rattle.choiceblocks.proofs.OneHot.{many_below, terms-many, bounds-many, row_parts-sum_row, chosen-row, choice-rows}
@@ -85,10 +84,7 @@ products-many first x b f (suc n) m =
     (products-many first x b (λ j. f (suc j)) n (suc m)
     ∙ many-same _ _ (λ j. ap (λ (z : ℕ). times z (x (f (suc j))) (numbered first (b (f (suc j)))) ∷ []) (further first m j)) n)
 
-module _ (ls us : List ℤ) (args : List ℕ) where
-  abbrev β : ℕ → Bounds
-  β = bounds_of ls us
-
+module _ (β : ℕ → Bounds) (args : List ℕ) where
   abbrev x : ℕ
   x = var args 0
 
@@ -98,12 +94,12 @@ module _ (ls us : List ℤ) (args : List ℕ) where
   abbrev at : ℕ
   at = 1 + count P.lower
 
-  pub kept-zeros : kept_zeros β args ≡ many (zero_at ls us args at) (width P)
+  pub kept-zeros : kept_zeros β args ≡ many (zero_at β args at) (width P)
   unfolding kept_zeros values vars Z
   kept-zeros =
       rw (length-vars args 1, places-kept (β x) (size args 1))
       (bounds-many (λ j. Z (β (nth 0 (vars args 1) j))) (λ k. P.lower ⊕ pos k) (width P)
-      ∙ many_below _ (zero_at ls us args at) (width P) (λ k h. rw (element 0 (var args) (β x) (size args 1) k h)))
+      ∙ many_below _ (zero_at β args at) (width P) (λ k h. rw (element 0 (var args) (β x) (size args 1) k h)))
 
   module _ (e : Encoded) (first : ℕ) where
     pub numbers-row : numbers_row β args e first ≡ sum_row (number_term_at args at (place_bit e first x (β x).lower)) (width P) (var args (past args 1))
@@ -150,7 +146,7 @@ module _ (ls us : List ℤ) (args : List ℕ) where
     -- ---- the blocks, piece by piece
 
     abbrev Pieced : ℕ → Type 0
-    Pieced code = shared_parts ls us e first code args ≡ new_bit_parts ls us e args ++ (zero_parts ls us code args ++ (new_row_parts ls us e first args ++ own_row_parts ls us e first code args))
+    Pieced code = shared_parts β e first code args ≡ new_bit_parts β e args ++ (zero_parts β code args ++ (new_row_parts β e first args ++ own_row_parts β e first code args))
 
     block-24 : Pieced 24
     unfolding shared_rule choice_of choice block_parts numbers_row keeps own_row_parts

@@ -1,3 +1,4 @@
 -- The blocks over a shared variable as the code lays them.
 pub mod LeftOut
 pub mod Blocks
+pub mod Codes

@@ -1,97 +1,85 @@
 // The row "sum of the bits left out = 0".
-ghost use Rattle.std.specs.Prelude.{◌≡◌, not, [], ◌∷◌, ◌<◌, ◌≤◌, nat_abs};
+ghost use Rattle.std.specs.Prelude.{◌≡◌, not, [], ◌∷◌, ◌<◌, ◌≤◌, nat_abs, pos};
 ghost use Rattle.integers.specs.Choice.{◌if◌else◌};
 ghost use Rattle.integers.specs.Number.{+1};
+ghost use Rattle.integers.specs.Bounds.{◌to◌, within};
 ghost use Rattle.words.specs.Limit as Limit;
+ghost use Rattle.models.specs.Codes.{code_number};
 ghost use Rattle.laying.specs.Part.{term};
 ghost use Rattle.laying.specs.Lists.{many};
-ghost use Rattle.laying.specs.Appends.{Appends, GrowsBy};
+ghost use Rattle.laying.specs.Writes.{Writes};
 ghost use Rattle.laying.specs.Room.{Room};
 ghost use Rattle.sharedblocks.specs.LeftOut.{keeps, left_at, left_count, left_row};
 
 use arguments::{is_member, size_at};
 use integers::plus;
-use integers::test::{at_most, both, one_if};
-use laying::{Laid, lay_constant, lay_head, lay_term};
-use words::kind;
+use integers::test::one_if;
+use laying::Writer;
+use models::code::Code;
+use words::kind::Kind;
 
-// Whether a constraint of code 24, 25 or 27 keeps the value v of its variable.
-fn is_kept(code: usize, args: &[u32], v: i64) -> bool
-    ensures { result ≡ keeps code args.now v }
+// Whether v is a place of a list of n elements, counted from 1.
+#[tactic(auto, unfolding(integers::specs::Bounds::within))]
+fn is_place(n: usize, v: i64) -> bool
+    requires { n ≤ Limit.list_length }
+    ensures { result ≡ within (+1 to pos n) v }
 {
-    if code < 26 {
-        return both(at_most(1, v), at_most(v, size_at(args, 1) as i64));
+    1 <= v && v <= n as i64
+}
+
+// Whether a constraint of array_int_element, array_var_int_element or set_in keeps the value v of its variable.
+fn is_kept(code: Code, args: &[u32], v: i64) -> bool
+    ensures { result ≡ keeps (code_number code) args.now v }
+{
+    if code.number() < Code::ArrayIntMaximum.number() {
+        return is_place(size_at(args, 1), v);
     }
     is_member(args, 1, v)
 }
 
 // A term of coefficient 1 where the value is not kept.
-fn lay_unless(out: &mut [u32], s: Laid, kept: bool, v: usize) -> Laid
-    requires { Room 10 s }
-    ensures { Appends s result out.old out.new (term +1 v ∷ [] if not kept else []) × GrowsBy 10 s result }
+fn unless(writer: &mut Writer, kept: bool, v: usize)
+    requires { Room 10 writer.old }
+    ensures { Writes 10 writer.old writer.new (term +1 v ∷ [] if not kept else []) }
 {
-    if kept {
-        return s;
+    if !kept {
+        writer.term(1, v);
     }
-    lay_term(out, s, 1, v)
 }
 
 // The bits, numbered from v on, of those of n values from `from` on that are left out.
-fn lay_left_bits(
-    out: &mut [u32],
-    s: Laid,
-    code: usize,
-    args: &[u32],
-    from: i64,
-    v: usize,
-    n: usize,
-) -> Laid
-    requires { Room 1000 s × (n ≤ Limit.terms) × (v < 1000000000000) × (nat_abs from < 1000000000000) }
-    ensures { Appends s result out.old out.new (many (left_at code args.now from v) n) × GrowsBy 1000 s result }
+fn left_bits(writer: &mut Writer, code: Code, args: &[u32], from: i64, v: usize, n: usize)
+    requires { Room 1000 writer.old × (n ≤ Limit.terms) × (v < 1000000000000) × (nat_abs from < 1000000000000) }
+    ensures { Writes 1000 writer.old writer.new (many (left_at (code_number code) args.now from v) n) }
 {
-    let mut t = s;
-    let mut k = 0;
-    while k < n {
-        let kept = is_kept(code, args, plus(from, k as i64));
-        t = lay_unless(out, t, kept, v + k);
-        k += 1;
+    for k in 0..n {
+        unless(writer, is_kept(code, args, plus(from, k as i64)), v + k);
     }
-    t
 }
 
 // How many of n values from `from` on are left out.
-fn count_left(code: usize, args: &[u32], from: i64, n: usize) -> usize
+fn count_left(code: Code, args: &[u32], from: i64, n: usize) -> usize
     requires { (n ≤ Limit.terms) × (nat_abs from < 1000000000000) }
-    ensures { (result ≡ left_count code args.now from n) × (result ≤ Limit.terms) }
+    ensures value { result ≡ left_count (code_number code) args.now from n }
+    ensures size { result ≤ Limit.terms }
 {
     let mut m = 0;
-    let mut k = 0;
-    while k < n {
-        let kept = is_kept(code, args, plus(from, k as i64));
-        m += one_if(!kept);
-        k += 1;
+    for k in 0..n {
+        m += one_if(!is_kept(code, args, plus(from, k as i64)));
     }
     m
 }
 
 // The row of the bits left out, where there are any.
-pub fn lay_left_row(
-    out: &mut [u32],
-    s: Laid,
-    code: usize,
-    args: &[u32],
-    from: i64,
-    v: usize,
-    n: usize,
-) -> Laid
-    requires { Room 2000 s × (n ≤ Limit.terms) × (v < 1000000000) × (nat_abs from < 1000000000) }
-    ensures { Appends s result out.old out.new (left_row code args.now from v n) × GrowsBy 2000 s result }
+pub fn left_row(writer: &mut Writer, code: Code, args: &[u32], from: i64, v: usize, n: usize)
+    requires { Room 2000 writer.old × (n ≤ Limit.terms) × (v < 1000000000) × (nat_abs from < 1000000000) }
+    ensures { Writes 2000 writer.old writer.new (left_row (code_number code) args.now from v n) }
 {
     let m = count_left(code, args, from, n);
     if m == 0 {
-        return s;
+        return;
     }
-    let t = lay_head(out, s, kind::EQUAL, m);
-    let u = lay_left_bits(out, t, code, args, from, v, n);
-    lay_constant(out, u, 0)
+    writer.head(Kind::Equal, m);
+    left_bits(writer, code, args, from, v, n);
+    writer.constant(0);
 }

@@ -1,37 +1,39 @@
-// The blocks of codes 24, 25, 27 and 28 over a shared variable: its bits are the block's own or an earlier block's.
+// The blocks of array_int_element, array_var_int_element, set_in and set_in_reif over a shared variable: its bits are the block's own or an earlier block's.
 #![tactic(auto)]
 
-ghost use Rattle.std.specs.Prelude.{◌≡◌, true, ◌+◌, ◌<◌, ◌≤◌, length, get_or};
-ghost use Rattle.integers.specs.Number.{+0};
-ghost use Rattle.integers.specs.Bounds.{width};
+ghost use Rattle.std.specs.Prelude.{◌≡◌, true, ◌<◌, ◌≤◌, length};
+ghost use Rattle.integers.specs.Bounds.{bounds_in, width};
 ghost use Rattle.words.specs.Limit as Limit;
-ghost use Rattle.words.specs.Small.{Small};
+ghost use Rattle.models.specs.Codes.{code_number};
 ghost use Rattle.models.specs.Model.{var};
 ghost use Rattle.rules.specs.Shared.{new_bits};
-ghost use Rattle.laying.specs.Appends.{Appends, GrowsBy};
+ghost use Rattle.laying.specs.Writes.{Writes};
 ghost use Rattle.laying.specs.Room.{Room, BlockRoom};
 ghost use Rattle.laying.specs.Sizes.{first_numbers, block_size};
-ghost use Rattle.extremes.specs.BoundLists.{bounds_of};
 ghost use Rattle.encodings.specs.Uses.{choosing, Recorded};
 ghost use Rattle.sharedblocks.specs.Pieces.{bits_from, place_bit, Encodable, new_bit_parts, new_row_parts, left_out_parts, shared_parts, zero_parts, own_row_parts, numbers_row, product_rows, members_row};
 
-use crate::left_out::lay_left_row;
 use arguments::{count_of, past_at, var_at};
-use choiceblocks::rows::{lay_choice, lay_member_row, lay_number_row, lay_one_row, lay_zeros};
-use choiceblocks::{first_element, labels, lower_label, members_of, width_at};
-use encodings::entry_of;
-use extremes::first_label;
+use choiceblocks::rows::{choice, member_row, number_row, one_row, zeros};
+use choiceblocks::{element_places, first_element, index_of, labels, members_of};
+use extremes::width_of;
 use integers::minus;
-use laying::{Laid, lay_bits, lay_products};
+use laying::Writer;
+use left_out::left_row;
+use models::code::Code;
+use words::domain::Domain;
+use words::limit;
+use words::list::at_or;
 
 mod left_out;
 
 // The number of the first bit of the variable at place 0: the block's own bits are numbered from `first` on.
 fn first_bit(args: &[u32], encoded: &[usize], first: usize) -> usize
     requires { (first < first_numbers) × Recorded encoded.now }
-    ensures { (result ≡ bits_from encoded.now first (var args.now 0)) × (result < 10000) }
+    ensures value { result ≡ bits_from encoded.now first (var args.now 0) }
+    ensures size { result < 10000 }
 {
-    let known = entry_of(encoded, var_at(args, 0));
+    let known = at_or(encoded, var_at(args, 0), 0);
     if known == 0 {
         return first;
     }
@@ -39,213 +41,184 @@ fn first_bit(args: &[u32], encoded: &[usize], first: usize) -> usize
 }
 
 // The number of the bit of the first place of the list at place 1 that the variable at place 0 can have.
-fn place_bit(args: &[u32], ls: &[i64], encoded: &[usize], first: usize) -> usize
-    requires { (first < first_numbers) × Small ls.now × Recorded encoded.now }
-    ensures { (result ≡ place_bit encoded.now first (var args.now 0) (get_or ls.now (var args.now 0) +0)) × (result < 1000000000) }
+fn place_bit(args: &[u32], domains: &[Domain], encoded: &[usize], first: usize) -> usize
+    requires { (first < first_numbers) × Recorded encoded.now }
+    ensures value { result ≡ place_bit encoded.now first (var args.now 0) (bounds_in domains.now (var args.now 0)).lower }
+    ensures size { result < 1000000000 }
 {
-    first_bit(args, encoded, first) + count_of(minus(first_label(args, ls), lower_label(args, ls)))
+    let place = element_places(args, domains).lower();
+    first_bit(args, encoded, first) + count_of(minus(place, index_of(args, domains).lower()))
 }
 
 // How many bits the block adds.
-fn new_bits(args: &[u32], ls: &[i64], us: &[i64], encoded: &[usize]) -> usize
-    requires { Small ls.now × Small us.now × (width (bounds_of ls.now us.now (var args.now 0)) ≤ Limit.set_bits) }
-    ensures { (result ≡ length (new_bits (bounds_of ls.now us.now) encoded.now (var args.now 0))) × (result ≤ Limit.set_bits) }
+fn new_bits(args: &[u32], domains: &[Domain], encoded: &[usize]) -> usize
+    requires { width (bounds_in domains.now (var args.now 0)) ≤ Limit.set_bits }
+    ensures value { result ≡ length (new_bits (bounds_in domains.now) encoded.now (var args.now 0)) }
+    ensures size { result ≤ Limit.set_bits }
 {
-    if entry_of(encoded, var_at(args, 0)) == 0 {
-        return width_at(args, ls, us);
+    if at_or(encoded, var_at(args, 0), 0) == 0 {
+        return width_of(index_of(args, domains));
     }
     0
 }
 
 // The bounds of the new bits.
-fn lay_new_bits(
-    out: &mut [u32],
-    s: Laid,
-    args: &[u32],
-    ls: &[i64],
-    us: &[i64],
-    encoded: &[usize],
-) -> Laid
-    requires { Room 2000 s × Small ls.now × Small us.now × (width (bounds_of ls.now us.now (var args.now 0)) ≤ Limit.set_bits) }
-    ensures { Appends s result out.old out.new (new_bit_parts ls.now us.now encoded.now args.now) × GrowsBy 2000 s result }
+fn write_new_bits(writer: &mut Writer, args: &[u32], domains: &[Domain], encoded: &[usize])
+    requires { Room 2000 writer.old × (width (bounds_in domains.now (var args.now 0)) ≤ Limit.set_bits) }
+    ensures { Writes 2000 writer.old writer.new (new_bit_parts (bounds_in domains.now) encoded.now args.now) }
 {
-    lay_bits(out, s, new_bits(args, ls, us, encoded))
+    writer.bits(new_bits(args, domains, encoded));
 }
 
 // The two rows of the new bits.
-fn lay_new_rows(
-    out: &mut [u32],
-    s: Laid,
+fn write_new_rows(
+    writer: &mut Writer,
     args: &[u32],
-    ls: &[i64],
-    us: &[i64],
+    domains: &[Domain],
     encoded: &[usize],
     first: usize,
-) -> Laid
-    requires { Room 5000 s × Encodable ls.now us.now encoded.now first args.now }
-    ensures { Appends s result out.old out.new (new_row_parts ls.now us.now encoded.now first args.now) × GrowsBy 5000 s result }
+)
+    requires { Room 5000 writer.old × Encodable (bounds_in domains.now) encoded.now first args.now }
+    ensures { Writes 5000 writer.old writer.new (new_row_parts (bounds_in domains.now) encoded.now first args.now) }
 {
     let x = var_at(args, 0);
-    if entry_of(encoded, x) == 0 {
-        return lay_choice(
-            out,
-            s,
-            lower_label(args, ls),
-            first,
-            width_at(args, ls, us),
-            x,
-        );
+    if at_or(encoded, x, 0) == 0 {
+        let index = index_of(args, domains);
+        choice(writer, index.lower(), first, width_of(index), x);
     }
-    s
 }
 
 // The row of the bits left out.
-fn lay_left_out(
-    out: &mut [u32],
-    s: Laid,
-    code: usize,
+fn write_left_out(
+    writer: &mut Writer,
+    code: Code,
     args: &[u32],
-    ls: &[i64],
-    us: &[i64],
+    domains: &[Domain],
     encoded: &[usize],
     first: usize,
-) -> Laid
-    requires { Room 5000 s × Encodable ls.now us.now encoded.now first args.now }
-    ensures { Appends s result out.old out.new (left_out_parts ls.now us.now encoded.now first code args.now) × GrowsBy 5000 s result }
+)
+    requires { Room 5000 writer.old × Encodable (bounds_in domains.now) encoded.now first args.now }
+    ensures { Writes 5000 writer.old writer.new (left_out_parts (bounds_in domains.now) encoded.now first (code_number code) args.now) }
 {
-    lay_left_row(
-        out,
-        s,
-        code,
-        args,
-        lower_label(args, ls),
-        first_bit(args, encoded, first),
-        width_at(args, ls, us),
-    )
+    let index = index_of(args, domains);
+    let v = first_bit(args, encoded, first);
+    left_row(writer, code, args, index.lower(), v, width_of(index));
 }
 
 // The row of the numbers: array_int_element.
-fn lay_numbers_row(
-    out: &mut [u32],
-    s: Laid,
+fn write_numbers_row(
+    writer: &mut Writer,
     args: &[u32],
-    ls: &[i64],
-    us: &[i64],
+    domains: &[Domain],
     encoded: &[usize],
     first: usize,
-) -> Laid
-    requires { Room 5000 s × Encodable ls.now us.now encoded.now first args.now }
-    ensures { Appends s result out.old out.new (numbers_row (bounds_of ls.now us.now) args.now encoded.now first) × GrowsBy 5000 s result }
+)
+    requires { Room 5000 writer.old × Encodable (bounds_in domains.now) encoded.now first args.now }
+    ensures { Writes 5000 writer.old writer.new (numbers_row (bounds_in domains.now) args.now encoded.now first) }
 {
-    let n = labels(args, ls, us);
-    let at = first_element(args, ls);
-    let v = place_bit(args, ls, encoded, first);
-    lay_number_row(out, s, args, at, v, n, var_at(args, past_at(args, 1)))
+    let at = first_element(element_places(args, domains));
+    let v = place_bit(args, domains, encoded, first);
+    number_row(
+        writer,
+        args,
+        at,
+        v,
+        labels(args, domains),
+        var_at(args, past_at(args, 1)),
+    );
 }
 
 // The bounds of the products: array_var_int_element; another code has none.
-fn lay_kept_zeros(
-    out: &mut [u32],
-    s: Laid,
-    code: usize,
-    args: &[u32],
-    ls: &[i64],
-    us: &[i64],
-) -> Laid
-    requires { Room 5000 s × Small ls.now × Small us.now }
-    ensures { Appends s result out.old out.new (zero_parts ls.now us.now code args.now) × GrowsBy 5000 s result }
+fn write_kept_zeros(writer: &mut Writer, code: Code, args: &[u32], domains: &[Domain])
+    requires { Room 5000 writer.old }
+    ensures { Writes 5000 writer.old writer.new (zero_parts (bounds_in domains.now) (code_number code) args.now) }
 {
-    if code == 25 {
-        let n = labels(args, ls, us);
-        return lay_zeros(out, s, args, first_element(args, ls), n, ls, us);
+    match code {
+        Code::ArrayVarIntElement => {
+            let at = first_element(element_places(args, domains));
+            zeros(writer, args, at, labels(args, domains), domains);
+        }
+        _ => {}
     }
-    s
 }
 
 // The products and their row: array_var_int_element.
-fn lay_product_rows(
-    out: &mut [u32],
-    s: Laid,
+fn write_product_rows(
+    writer: &mut Writer,
     args: &[u32],
-    ls: &[i64],
-    us: &[i64],
+    domains: &[Domain],
     encoded: &[usize],
     first: usize,
-) -> Laid
-    requires { Room 5000 s × Encodable ls.now us.now encoded.now first args.now }
-    ensures { Appends s result out.old out.new (product_rows (bounds_of ls.now us.now) args.now encoded.now first) × GrowsBy 5000 s result }
+)
+    requires { Room 5000 writer.old × Encodable (bounds_in domains.now) encoded.now first args.now }
+    ensures { Writes 5000 writer.old writer.new (product_rows (bounds_in domains.now) args.now encoded.now first) }
 {
-    let n = labels(args, ls, us);
-    let at = first_element(args, ls);
-    let b = place_bit(args, ls, encoded, first);
-    let z = first + new_bits(args, ls, us, encoded);
-    let t = lay_products(out, s, args, at, z, b, n);
-    lay_one_row(out, t, z, n, var_at(args, past_at(args, 1)))
+    let n = labels(args, domains);
+    let at = first_element(element_places(args, domains));
+    let b = place_bit(args, domains, encoded, first);
+    let z = first + new_bits(args, domains, encoded);
+    writer.products(args, at, z, b, n);
+    one_row(writer, z, n, var_at(args, past_at(args, 1)));
 }
 
 // The row of the members: set_in_reif.
-fn lay_members_row(
-    out: &mut [u32],
-    s: Laid,
+fn write_members_row(
+    writer: &mut Writer,
     args: &[u32],
-    ls: &[i64],
-    us: &[i64],
+    domains: &[Domain],
     encoded: &[usize],
     first: usize,
-) -> Laid
-    requires { Room 5000 s × Encodable ls.now us.now encoded.now first args.now }
-    ensures { Appends s result out.old out.new (members_row (bounds_of ls.now us.now) args.now encoded.now first) × GrowsBy 5000 s result }
+)
+    requires { Room 5000 writer.old × Encodable (bounds_in domains.now) encoded.now first args.now }
+    ensures { Writes 5000 writer.old writer.new (members_row (bounds_in domains.now) args.now encoded.now first) }
 {
-    let lower = lower_label(args, ls);
-    let mut vs = [0i64; 32];
-    let n = members_of(args, ls, us, &mut vs);
+    let lower = index_of(args, domains).lower();
+    let mut vs = [0i64; limit::LIST_LENGTH];
+    let n = members_of(args, domains, &mut vs);
     let v = first_bit(args, encoded, first);
-    lay_member_row(out, s, &vs, lower, v, n, var_at(args, past_at(args, 1)))
+    member_row(writer, &vs, lower, v, n, var_at(args, past_at(args, 1)));
 }
 
 // The rows of a code after those of the new bits: of the bits left out, and its own.
-fn lay_own_rows(
-    out: &mut [u32],
-    s: Laid,
-    code: usize,
+fn write_own_rows(
+    writer: &mut Writer,
+    code: Code,
     args: &[u32],
-    ls: &[i64],
-    us: &[i64],
+    domains: &[Domain],
     encoded: &[usize],
     first: usize,
-) -> Laid
-    requires { Room 10000 s × Encodable ls.now us.now encoded.now first args.now }
-    ensures { Appends s result out.old out.new (own_row_parts ls.now us.now encoded.now first code args.now) × GrowsBy 10000 s result }
+)
+    requires { Room 10000 writer.old × Encodable (bounds_in domains.now) encoded.now first args.now }
+    ensures { Writes 10000 writer.old writer.new (own_row_parts (bounds_in domains.now) encoded.now first (code_number code) args.now) }
 {
-    if code == 28 {
-        return lay_members_row(out, s, args, ls, us, encoded, first);
+    match code {
+        Code::ArrayIntElement => {
+            write_left_out(writer, code, args, domains, encoded, first);
+            write_numbers_row(writer, args, domains, encoded, first);
+        }
+        Code::ArrayVarIntElement => {
+            write_left_out(writer, code, args, domains, encoded, first);
+            write_product_rows(writer, args, domains, encoded, first);
+        }
+        Code::SetInReif => write_members_row(writer, args, domains, encoded, first),
+        _ => write_left_out(writer, code, args, domains, encoded, first),
     }
-    let t = lay_left_out(out, s, code, args, ls, us, encoded, first);
-    if code == 24 {
-        return lay_numbers_row(out, t, args, ls, us, encoded, first);
-    }
-    if code == 25 {
-        return lay_product_rows(out, t, args, ls, us, encoded, first);
-    }
-    t
 }
 
 // The block of a code that chooses by a shared variable.
 pub fn shared_block(
-    out: &mut [u32],
-    s: Laid,
-    code: usize,
+    writer: &mut Writer,
+    code: Code,
     args: &[u32],
-    ls: &[i64],
-    us: &[i64],
+    domains: &[Domain],
     encoded: &[usize],
     first: usize,
-) -> Laid
-    requires { BlockRoom s × Encodable ls.now us.now encoded.now first args.now × (choosing code ≡ true) }
-    ensures { Appends s result out.old out.new (shared_parts ls.now us.now encoded.now first code args.now) × GrowsBy block_size s result }
+)
+    requires { BlockRoom writer.old × Encodable (bounds_in domains.now) encoded.now first args.now × (choosing (code_number code) ≡ true) }
+    ensures { Writes block_size writer.old writer.new (shared_parts (bounds_in domains.now) encoded.now first (code_number code) args.now) }
 {
-    let t = lay_new_bits(out, s, args, ls, us, encoded);
-    let z = lay_kept_zeros(out, t, code, args, ls, us);
-    let u = lay_new_rows(out, z, args, ls, us, encoded, first);
-    lay_own_rows(out, u, code, args, ls, us, encoded, first)
+    write_new_bits(writer, args, domains, encoded);
+    write_kept_zeros(writer, code, args, domains);
+    write_new_rows(writer, args, domains, encoded, first);
+    write_own_rows(writer, code, args, domains, encoded, first);
 }

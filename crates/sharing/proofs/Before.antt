@@ -16,7 +16,7 @@ use Rattle.words.specs.Kind as Kind
 use Rattle.words.specs.Limit as Limit
 use Rattle.words.specs.Variables.{variables}
 use Rattle.words.specs.Refusal.{accepted}
-use Rattle.words.proofs.Word.{before, never_too_low, kind-number, payload-word}
+use Rattle.words.proofs.ReadBack.{before, never_too_low, kind-number, payload-word}
 use Rattle.words.proofs.Range.{is_signed, NumberIn, lowest-alone, in_range_low}
 use Rattle.models.specs.Model.{Constraint, constraints, source_words}
 use Rattle.models.proofs.Numbers.{Alike, reads-alike, all-number_in}

@@ -9,7 +9,7 @@ use Rattle.integers.proofs.Lists.{all_append, all_implies, all-at}
 use Rattle.integers.proofs.Tests.{In, says-within, All}
 use Rattle.words.specs.Word.{in_range}
 use Rattle.words.specs.Variables.{variables}
-use Rattle.words.proofs.Word.{says_range}
+use Rattle.words.proofs.ReadBack.{says_range}
 use Rattle.words.proofs.Sources.{Ordered}
 use Rattle.models.specs.Model.{Constraint, constraints}
 use Rattle.models.proofs.Accepted as Accepted

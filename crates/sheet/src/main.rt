@@ -9,7 +9,7 @@ ghost use Rattle.sheet.specs.Text.{page_bytes, printed_sheet};
 use encoding::front_words;
 use inputs::read_full;
 use lines::{put_refusal, put_too_long};
-use sheets::{Printed, sheet};
+use sheets::sheet;
 use std::io;
 use std::io::Write;
 
@@ -33,12 +33,13 @@ fn sheet_page(bytes: &[u8], page: &mut [u8]) -> usize
     let mut words = [0u32; WORDS];
     let n = front_words(bytes, &mut words);
     match sheet(&words[..n], page) {
-        Printed::Refused(r) => put_refusal(page, r),
-        Printed::Bytes(k) => k,
+        Ok(k) => k,
+        Err(r) => put_refusal(page, r),
     }
 }
 
 // The bytes of 16,385 words are read at most. The promises go from the bytes that read_full filled to the bytes that are handed to write_all.
+// Its lines stay in each program: a function of them, which takes a closure and the clauses that it needs, is no plainer.
 fn main(rt: HostRuntime) -> io::Result<()> {
     let mut bytes = [0u8; BYTES];
     let n = read_full(&mut rt.stdin(), &mut bytes)?;

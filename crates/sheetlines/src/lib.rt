@@ -1,130 +1,123 @@
-// The printed lines of a row or a product, laid over a page from a place on.
-// Each function that answers a place answers where it ended.
+// The printed lines of a row or a product, one after another on a page.
 #![tactic(auto)]
 
-ghost use Rattle.std.specs.Prelude.{◌≡◌, [], ◌∷◌, ◌+◌, ◌*◌, ◌<◌, ◌≤◌};
+ghost use Rattle.std.specs.Prelude.{◌≡◌, ◌+◌, ◌*◌, ◌<◌, ◌≤◌};
 ghost use Rattle.integers.specs.Terms.{◌·◌};
-ghost use Rattle.words.specs.LaidAt.{LaidAt};
 ghost use Rattle.words.specs.Limit as Limit;
-ghost use Rattle.words.specs.Overlay.{overlay};
 ghost use Rattle.words.specs.Word.{signed};
+ghost use Rattle.decimals.specs.Printed.{Prints};
 ghost use Rattle.rowsystems.specs.OneWord.{row_of};
 ghost use Rattle.rowsystems.specs.Row.{product};
 ghost use Rattle.rowsystems.specs.RowSystem.{variable_at, terms_in, constant_in};
 ghost use Rattle.sheetlines.specs.Lines.{cell, line_end, term_text, room_after, term_lines, sum_lines, row_lines};
 
-use decimals::{put_blanks, put_byte, put_left, put_number, put_right};
+use decimals::Page;
 use rowreading::rows::term_count;
-use words::{kind, kind_of, payload_of, signed_of, word_at};
+use words::kind::Kind;
+use words::word::Word;
 
 // A term, its coefficient the number of a word.
-fn put_cell(page: &mut [u8], at: usize, number: u32, variable: usize)
-    requires { (at + 23 < 1099511627776) × (variable < 268435456) }
-    ensures { page.new ≡ overlay page.old at (cell (signed number · variable)) }
+fn put_cell(page: &mut Page, number: Word, variable: usize)
+    requires { (page.old.at + 23 < 1099511627776) × (variable < 268435456) }
+    ensures text { Prints page.old (cell (signed number · variable)) page.new }
+    ensures end { page.new.at ≡ page.old.at + 23 }
 {
-    put_number(page, at, 10, signed_of(number));
-    put_byte(page, at + 10, b' ');
-    put_byte(page, at + 11, b'v');
-    put_left(page, at + 12, 11, variable)
+    page.number(10, number.signed());
+    page.text(b" v");
+    page.left(11, variable)
 }
 
 // The blanks after the last term of a line with room for more, and the line feed.
-fn put_line_end(page: &mut [u8], at: usize, room: usize) -> usize
-    requires { (at + 81 < 1099511627776) × (room ≤ 3) }
-    ensures { LaidAt page.old at (line_end room) page.new result }
+fn put_line_end(page: &mut Page, room: usize)
+    requires { (page.old.at + 81 < 1099511627776) × (room ≤ 3) }
+    ensures text { Prints page.old (line_end room) page.new }
+    ensures end { page.new.at ≡ page.old.at + (23 * room + 4) }
 {
-    let end = at + 23 * room + 3;
-    put_blanks(page, at, 23 * room + 3);
-    put_byte(page, end, b'\n');
-    end + 1
+    page.blanks(23 * room + 3);
+    page.byte(b'\n')
 }
 
 // A term where the line has room for so many.
-fn put_term(page: &mut [u8], at: usize, room: usize, number: u32, variable: usize) -> usize
-    requires { (at + 120 < 1099511627776) × (variable < 268435456) }
-    ensures { LaidAt page.old at (term_text room (signed number · variable)) page.new result }
+fn put_term(page: &mut Page, room: usize, number: Word, variable: usize)
+    requires { (page.old.at + 120 < 1099511627776) × (variable < 268435456) }
+    ensures text { Prints page.old (term_text room (signed number · variable)) page.new }
+    ensures size { page.new.at ≤ page.old.at + 35 }
 {
-    if 0 < room {
-        put_cell(page, at, number, variable);
-        return at + 23;
+    if room == 0 {
+        put_line_end(page, 0);
+        page.blanks(8);
     }
-    let start = put_line_end(page, at, 0);
-    put_blanks(page, start, 8);
-    put_cell(page, start + 8, number, variable);
-    start + 31
+    put_cell(page, number, variable)
 }
 
 // The room after a term.
+#[tactic(auto, unfolding(crate::specs::Lines::room_after))]
 fn room_after(room: usize) -> usize
     ensures { result ≡ room_after room }
 {
-    if 0 < room { room - 1 } else { 2 }
+    if room == 0 { 2 } else { room - 1 }
 }
 
 // The terms of a row, up to the end of their last line.
-fn put_terms(page: &mut [u8], at: usize, ws: &[u32], n: usize) -> usize
-    requires { (at + 2500 < 1099511627776) × (n ≤ Limit.terms) }
-    ensures { LaidAt page.old at (term_lines 3 (terms_in ws.now n)) page.new result × (result ≤ at + 2400) }
+fn put_terms(page: &mut Page, ws: &[u32], n: usize)
+    requires { (page.old.at + 2500 < 1099511627776) × (n ≤ Limit.terms) }
+    ensures text { Prints page.old (term_lines 3 (terms_in ws.now n)) page.new }
+    ensures size { page.new.at ≤ page.old.at + 2400 }
 {
-    let mut to = at;
     let mut room: usize = 3;
-    let mut k = 0;
-    while k < n {
-        to = put_term(
-            page,
-            to,
-            room,
-            word_at(ws, 2 * k + 1),
-            payload_of(word_at(ws, 2 * k)),
-        );
+    for k in 0..n {
+        let number = Word::at(ws, 2 * k + 1);
+        let variable = Word::at(ws, 2 * k).payload();
+        put_term(page, room, number, variable);
         room = room_after(room);
-        k += 1;
     }
-    put_line_end(page, to, room)
+    put_line_end(page, room)
 }
 
 // A row by its number, the two bytes of its sign, its terms and its constant.
-fn put_sum(
-    page: &mut [u8],
-    at: usize,
-    k: usize,
-    first: u8,
-    second: u8,
-    ws: &[u32],
-    n: usize,
-) -> usize
-    requires { (at + 2600 < 1099511627776) × (k < 1000000) × (n ≤ Limit.terms) }
-    ensures { LaidAt page.old at (sum_lines k (first ∷ second ∷ []) (terms_in ws.now n) (constant_in ws.now n)) page.new result × (result ≤ at + 2500) }
+fn put_sum(page: &mut Page, k: usize, sign: &[u8; 2], ws: &[u32], n: usize)
+    requires { (page.old.at + 2600 < 1099511627776) × (k < 1000000) × (n ≤ Limit.terms) }
+    ensures text { Prints page.old (sum_lines k sign.now (terms_in ws.now n) (constant_in ws.now n)) page.new }
+    ensures size { page.new.at ≤ page.old.at + 2500 }
 {
-    put_right(page, at, 6, false, k);
-    put_byte(page, at + 6, first);
-    put_byte(page, at + 7, second);
-    let end = put_terms(page, at + 8, ws, n);
-    put_number(page, end, 80, signed_of(word_at(ws, 2 * n)));
-    put_byte(page, end + 80, b'\n');
-    end + 81
+    page.right(6, false, k);
+    page.text(sign);
+    put_terms(page, ws, n);
+    page.number(80, Word::at(ws, 2 * n).signed());
+    page.byte(b'\n')
 }
 
 // A product, as a row of three terms with coefficient 1 and the constant 0.
-fn put_product(page: &mut [u8], at: usize, k: usize, ws: &[u32]) -> usize
-    requires { (at + 2600 < 1099511627776) × (k < 1000000) }
-    ensures { let ws = ws.now in LaidAt page.old at (row_lines k (product (variable_at ws 0) (variable_at ws 1) (variable_at ws 2))) page.new result × (result ≤ at + 2500) }
+fn put_product(page: &mut Page, k: usize, ws: &[u32])
+    requires { (page.old.at + 2600 < 1099511627776) × (k < 1000000) }
+    ensures text { let ws = ws.now in Prints page.old (row_lines k (product (variable_at ws 0) (variable_at ws 1) (variable_at ws 2))) page.new }
+    ensures size { page.new.at ≤ page.old.at + 2500 }
 {
-    let row = [word_at(ws, 0), 1, word_at(ws, 1), 1, word_at(ws, 2), 1, 0];
-    put_sum(page, at, k, b':', b'=', &row, 3)
+    let row = [
+        Word::at(ws, 0).bits(),
+        1,
+        Word::at(ws, 1).bits(),
+        1,
+        Word::at(ws, 2).bits(),
+        1,
+        0,
+    ];
+    put_sum(page, k, b":=", &row, 3)
 }
 
 // The row or product with this head, before the words ws.
-pub fn put_row(page: &mut [u8], at: usize, k: usize, head: u32, ws: &[u32]) -> usize
-    requires { (at + 2600 < 1099511627776) × (k < 1000000) }
-    ensures { LaidAt page.old at (row_lines k (row_of head ws.now)) page.new result × (result ≤ at + 2500) }
+#[tactic(auto, unfolding(rowsystems::specs::OneWord::row_of, crate::specs::Lines::row_lines, words::specs::Bytes::bytes, integers::specs::Lists::list_of))]
+pub fn put_row(page: &mut Page, k: usize, head: Word, ws: &[u32])
+    requires { (page.old.at + 2600 < 1099511627776) × (k < 1000000) }
+    ensures text { Prints page.old (row_lines k (row_of head ws.now)) page.new }
+    ensures size { page.new.at ≤ page.old.at + 2500 }
 {
-    let head_kind = kind_of(head);
-    if head_kind == kind::AT_MOST {
-        return put_sum(page, at, k, b'<', b'=', ws, term_count(head));
+    let n = term_count(head.bits());
+    if head.is(Kind::AtMost) {
+        return put_sum(page, k, b"<=", ws, n);
     }
-    if head_kind == kind::EQUAL {
-        return put_sum(page, at, k, b'=', b' ', ws, term_count(head));
+    if head.is(Kind::Equal) {
+        return put_sum(page, k, b"= ", ws, n);
     }
-    put_product(page, at, k, ws)
+    put_product(page, k, ws)
 }

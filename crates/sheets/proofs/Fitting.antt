@@ -8,7 +8,7 @@ use Rattle.integers.proofs.Lists.{all-list_of}
 use Rattle.words.specs.Kind as Kind
 use Rattle.words.specs.Small.{Near}
 use Rattle.words.specs.Word.{kind, word_at}
-use Rattle.words.proofs.Word.{payload-below, signed-near}
+use Rattle.words.proofs.ReadBack.{payload-below, signed-near}
 use Rattle.rowsystems.specs.Row.{Row, sum≤0, sum=0, product}
 use Rattle.rowsystems.specs.RowSystem.{term_count, number_at, variable_at, terms_in, constant_in, rows}
 use Rattle.sheetlines.proofs.Cells.{Fits}

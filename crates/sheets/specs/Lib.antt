@@ -1,3 +1,2 @@
 -- What the contracts cite: the sheet of a row system.
-pub mod Printed
 pub mod Sheet

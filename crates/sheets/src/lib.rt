@@ -3,59 +3,57 @@
 #![tactic(auto)]
 
 ghost use Rattle.std.specs.Prelude.{◌≡◌, ◌≤◌, length};
+ghost use Rattle.words.specs.Faults.{written_of};
 ghost use Rattle.words.specs.LaidAt.{LaidAt};
 ghost use Rattle.words.specs.Limit as Limit;
-ghost use Rattle.sheets.specs.Printed.{printed};
+ghost use Rattle.decimals.specs.Printed.{Prints};
 ghost use Rattle.sheets.specs.Sheet.{sheet_text, sheet as sheet_answer, sheet_page};
 
+use decimals::Page;
+use rowreading::read_rows;
 use rowreading::rows::starts_row;
 use sheetlines::put_row;
-use words::{Refusal, fault};
+use words::fault::{Fault, Refusal};
+use words::word::Word;
 
-// What sheet answers.
-#[derive(Drop)]
-pub enum Printed {
-    Refused(Refusal),
-    // how many bytes it wrote
-    Bytes(usize),
-}
-
-// The lines of all rows, as far as the page goes; answers how many bytes there are.
-fn put_rows(ws: &[u32], page: &mut [u8]) -> usize
-    requires { length ws.now ≤ Limit.row_words }
-    ensures { LaidAt page.old 0 (sheet_text ws.now) page.new result }
+// The lines of all rows, from the front of a page on.
+fn put_rows(ws: &[u32], page: &mut Page)
+    requires { (length ws.now ≤ Limit.row_words) × (page.old.at ≡ 0) }
+    ensures { Prints page.old (sheet_text ws.now) page.new }
 {
-    let mut at = 0;
-    let mut to = 0;
     let mut k: usize = 0;
-    while at < ws.len() {
-        let w = ws[at];
-        at += 1;
+    for (at, &w) in ws.iter().enumerate() {
+        let head = Word::from(w);
         if starts_row(w) {
-            to = put_row(page, to, k, w, &ws[at..]);
+            put_row(page, k, head, &ws[at + 1..]);
             k += 1;
         }
     }
-    to
+}
+
+// The sheet over the front of a list of bytes, as far as it goes; answers how many bytes there are.
+fn put_sheet(ws: &[u32], bytes: &mut [u8]) -> usize
+    requires { length ws.now ≤ Limit.row_words }
+    ensures { LaidAt bytes.old 0 (sheet_text ws.now) bytes.new result }
+{
+    let mut page = Page { bytes, at: 0 };
+    put_rows(ws, &mut page);
+    page.at
 }
 
 // Writes the sheet to the front of the page; a refusal changes nothing. The bytes are counted by writing to an empty page.
-pub fn sheet(ws: &[u32], page: &mut [u8]) -> Printed
-    ensures answer { printed result ≡ sheet_answer ws.now (length page.old) }
+pub fn sheet(ws: &[u32], page: &mut [u8]) -> Result<usize, Refusal>
+    ensures answer { written_of result ≡ sheet_answer ws.now (length page.old) }
     ensures page { page.new ≡ sheet_page ws.now page.old }
 {
-    let read = rowreading::read_rows(ws);
-    if read.number != fault::NONE {
-        return Printed::Refused(read);
-    }
-    let mut nothing = [0u8; 0];
-    let bytes = put_rows(ws, &mut nothing);
+    read_rows(ws)?;
+    let bytes = put_sheet(ws, &mut []);
     if page.len() < bytes {
-        return Printed::Refused(Refusal {
-            number: fault::OUTPUT_TOO_SHORT,
+        return Err(Refusal {
+            fault: Fault::OutputTooShort,
             place: 0,
         });
     }
-    put_rows(ws, page);
-    Printed::Bytes(bytes)
+    put_sheet(ws, page);
+    Ok(bytes)
 }

@@ -10,21 +10,20 @@ use Rattle.integers.proofs.Tests.{All, says-within}
 use Rattle.integers.proofs.Booleans.{or-true}
 use Rattle.integers.proofs.Places.{bounds-listed}
 use Rattle.words.specs.Overlay.{overlay}
+use Rattle.integers.specs.Bounds.{bounds_in}
+use Rattle.variables.proofs.Small.{bounds-near}
 use Rattle.words.specs.Variables.{variables}
 use Rattle.words.specs.Refusal.{◌at_place◌, accepted, ◌else_refuse◌, room_fault}
-use Rattle.words.specs.declared.Refusal.{Refusal}
 use Rattle.words.specs.Answer.{Answer, refused, written, ◌else_answer◌}
 use Rattle.words.proofs.Sources.{Ordered}
 use Rattle.models.proofs.Accepted.{ordered}
-use Rattle.modelreading.specs.Seen as Seen
-use Rattle.modelreading.specs.declared.Read.{Read}
+use Rattle.modelreading.specs.declared.Model.{Model}
 use Rattle.rules.specs.Check.{check}
 use Rattle.rules.specs.Translation.{bounds}
 use Rattle.sharing.specs.SharedSolutions.{Passes}
 use Rattle.sharing.proofs.Accepts.{passes-read}
-use Rattle.checking.proofs.Kept.{Kept}
+use Rattle.checking.specs.ModelBounds.{ModelBounds}
 use Rattle.checking.proofs.Answers.{refused-first, check-stands}
-use Rattle.extremes.specs.BoundLists.{bounds_of}
 use Rattle.rules.specs.Shared.{keep}
 use Rattle.solutions.specs.Lists.{value_lists, list_count}
 use Rattle.solutions.specs.AllWithin.{AllWithin, lowest_list}
@@ -37,23 +36,22 @@ use Rattle.solutions.proofs.Odometer.{from_lowest}
 
 -- ---- the first list
 
-module _ {ls us : List ℤ} {n : ℕ} (s : ListsSized ls us n) (vs : List ℤ) (e : vs ≡ lowest_list (bounds_to ls us n)) where
+module _ {Ds : List Bounds} {n : ℕ} (s : ListsSized Ds n) (vs : List ℤ) (e : vs ≡ lowest_list (bounds_to Ds n)) where
   as_many : length vs ≡ n
-  as_many = rw e ((inside-says (bounds_to ls us n) (lowest_list (bounds_to ls us n)) s.inside).0 ∙ list_of-length (bounds_of ls us) n)
+  as_many = rw e ((inside-says (bounds_to Ds n) (lowest_list (bounds_to Ds n)) s.inside).0 ∙ list_of-length (bounds_in Ds) n)
 
-  all-lists : lists_from (bounds_to ls us (length vs)) vs ≡ value_lists (bounds_to ls us n)
-  all-lists = ap (λ (k : ℕ). lists_from (bounds_to ls us k) vs) as_many ∙ ap (lists_from (bounds_to ls us n)) e ∙ from_lowest (bounds_to ls us n) (lowest_list (bounds_to ls us n)) s.inside
+  all-lists : lists_from (bounds_to Ds (length vs)) vs ≡ value_lists (bounds_to Ds n)
+  all-lists = ap (λ (k : ℕ). lists_from (bounds_to Ds k) vs) as_many ∙ ap (lists_from (bounds_to Ds n)) e ∙ from_lowest (bounds_to Ds n) (lowest_list (bounds_to Ds n)) s.inside
 
-  pub ready : Walkable ls us vs
+  pub ready : Walkable Ds vs
   ready = record {
-    lowers = s.lowers;
-    uppers = s.uppers;
+    near = s.near;
     inside = rw (as_many, e) s.inside;
-    few = rw all-lists (omega (arith, count-is (bounds_to ls us n), s.few));
+    few = rw all-lists (omega (arith, count-is (bounds_to Ds n), s.few));
     short = omega (arith, as_many, s.short);
   }
 
-  pub all-solutions : (ws : List ℕ) → solutions_from ws ls us vs ≡ solutions_in ws ls us n
+  pub all-solutions : (ws : List ℕ) → solutions_from ws Ds vs ≡ solutions_in ws Ds n
   all-solutions ws = ap (keep (every_true ws)) all-lists
 
 -- ---- the bounds of a model
@@ -95,22 +93,19 @@ module _ (ws : List ℕ) (passes : Passes ws) (out : List ℤ) where
     unfolding solutions_answer solutions_listed solutions_fault room_fault ◌else_refuse◌ ◌else_answer◌
     lists h = let e = le-ltb (length out) (length (solutions ws) * length (variables ws)) h in (rw (passes, small, e), rw (passes, small, e))
 
--- ---- what reading keeps of a model that passes, and its bounds
+-- ---- the bounds of a model that passes
 
-pub seen_of : {ws hs : List ℕ} {r : Read} → Passes ws → Seen.Kept ws hs r → Seen.Seen ws hs r
-seen_of {ws} {hs} {r} passes k = k.seen (ap (λ (f : Refusal). f.number) (k.refusal ∙ passes-read ws passes))
-
-module _ (ws : List ℕ) (passes : Passes ws) {k n : ℕ} {ls us : List ℤ} (kept : Kept ws k ls us) (e : n ≡ length (variables ws)) where
-  pub kept-list : bounds_to ls us n ≡ variables ws
+module _ (ws : List ℕ) (passes : Passes ws) {hs uses : List ℕ} {m : Model} {Ds : List Bounds} (kept : ModelBounds ws hs m Ds uses) where
+  pub kept-list : bounds_to Ds m.variables ≡ variables ws
   unfolding bounds
-  kept-list = rw (kept.same, e) (bounds-listed (variables ws))
+  kept-list = rw (kept.same, kept.seen.variables_counted) (bounds-listed (variables ws))
 
-  pub sized : n ≤ 8 → list_count (variables ws) ≤ 65536 → ListsSized ls us n
-  sized l m = record {
-    lowers = kept.lowers;
-    uppers = kept.uppers;
+  pub sized : m.variables ≤ 8 → list_count (variables ws) ≤ 65536 → ListsSized Ds m.variables
+  unfolding bounds
+  sized l c = record {
+    near = rw kept.same (bounds-near ws);
     inside = rw kept-list (ordered-inside (variables ws) (ordered ws (passes-read ws passes)));
-    few = rw kept-list m;
+    few = rw kept-list c;
     short = l;
   }
 
@@ -124,31 +119,31 @@ keep-le t (x ∷ xs) = go (t x) (keep-le t xs)
 
 -- ---- the room for the solutions within bounds
 
-module _ (ws : List ℕ) {ls us : List ℤ} {n : ℕ} (s : ListsSized ls us n) where
+module _ (ws : List ℕ) {Ds : List Bounds} {n : ℕ} (s : ListsSized Ds n) where
   abbrev Count : ℕ
-  Count = length (solutions_in ws ls us n)
+  Count = length (solutions_in ws Ds n)
 
-  few-solutions : Count ≤ list_count (bounds_to ls us n)
-  few-solutions = omega (arith, keep-le (every_true ws) (value_lists (bounds_to ls us n)), count-is (bounds_to ls us n))
+  few-solutions : Count ≤ list_count (bounds_to Ds n)
+  few-solutions = omega (arith, keep-le (every_true ws) (value_lists (bounds_to Ds n)), count-is (bounds_to Ds n))
 
-  pub lists-fit : list_count (bounds_to ls us n) * n ≤ 524288
+  pub lists-fit : list_count (bounds_to Ds n) * n ≤ 524288
   lists-fit = omega (arith, mul-le s.few s.short)
 
   pub solutions-fit : Count * n ≤ 524288
   solutions-fit = let h : Count ≤ 65536 = omega (arith, few-solutions, s.few) in omega (arith, mul-le h s.short)
 
   -- where all lists fit, the solutions do
-  pub all_fit : (room : ℕ) → list_count (bounds_to ls us n) * n ≤ room → false ≡ ltb room (Count * n)
+  pub all_fit : (room : ℕ) → list_count (bounds_to Ds n) * n ≤ room → false ≡ ltb room (Count * n)
   all_fit room l =
       let h : n ≤ n = omega arith in
       let f : Count * n ≤ room = omega (arith, mul-le few-solutions h) in
       sym (le-ltb room (Count * n) f)
 
-  module _ (passes : Passes ws) (out : List ℤ) (b : bounds_to ls us n ≡ variables ws) where
+  module _ (passes : Passes ws) (out : List ℤ) (b : bounds_to Ds n ≡ variables ws) where
     n-is : n ≡ length (variables ws)
-    n-is = sym (list_of-length (bounds_of ls us) n) ∙ ap length b
+    n-is = sym (list_of-length (bounds_in Ds) n) ∙ ap length b
 
-    same-solutions : solutions_in ws ls us n ≡ solutions ws
+    same-solutions : solutions_in ws Ds n ≡ solutions ws
     unfolding solutions
     same-solutions = rw b
 
@@ -164,15 +159,15 @@ module _ (ws : List ℕ) {ls us : List ℤ} {n : ℕ} (s : ListsSized ls us n) w
     pub no_room : ltb (length out) (Count * n) ≡ true → Gives ws out (refused 16 0) out
     no_room h = let l : length out < Count * n = ltb-true (length out) (Count * n) h in too_short ws passes out few small-enough (rw needs at l)
 
-    pub room : ltb (length out) (Count * n) ≡ false → (count : ℕ) → count ≡ Count → (out' : List ℤ) → out' ≡ overlay out 0 (flatten (solutions_in ws ls us n)) → Gives ws out (written count) out'
+    pub room : ltb (length out) (Count * n) ≡ false → (count : ℕ) → count ≡ Count → (out' : List ℤ) → out' ≡ overlay out 0 (flatten (solutions_in ws Ds n)) → Gives ws out (written count) out'
     room h count c out' f =
         let l : Count * n ≤ length out = ltb-false (length out) (Count * n) h in
         rw (f, c, same-solutions) (lists ws passes out few small-enough (rw needs at l))
 
 -- ---- a list of as many values as there are variables
 
-module _ {ls us : List ℤ} {n m : ℕ} (e : n ≡ m) where
-  pub sized_as : ListsSized ls us n → ListsSized ls us m
+module _ {Ds : List Bounds} {n m : ℕ} (e : n ≡ m) where
+  pub sized_as : ListsSized Ds n → ListsSized Ds m
   sized_as s = rw e at s
 
 -- ---- check's refusal stands

@@ -10,40 +10,39 @@ use Rattle.integers.proofs.Lists.{list_of-length}
 use Rattle.integers.proofs.Places.{get_or-list_of, map-list_of}
 use Rattle.integers.proofs.Tests.{says-within}
 use Rattle.words.specs.Small.{Near, Small}
-use Rattle.words.proofs.Word.{between-near}
-use Rattle.extremes.specs.BoundLists.{bounds_of}
+use Rattle.words.proofs.ReadBack.{between-near}
 use Rattle.solutions.specs.AllWithin.{AllWithin, lowest_list}
-use Rattle.solutions.specs.Walk.{bounds_to}
+use Rattle.solutions.specs.Walk.{bounds_to, AllNear}
 
 -- ---- the loop that sets the first list: the values before i are set
-pub record Setting (ls vs₀ vs : List ℤ) (i : ℕ) : Type 0 where
+pub record Setting (Ds : List Bounds) (vs₀ vs : List ℤ) (i : ℕ) : Type 0 where
   pub same : length vs ≡ length vs₀
-  pub done : (j : ℕ) → j < i → j < length vs₀ → get_or vs j +0 ≡ get_or ls j +0
+  pub done : (j : ℕ) → j < i → j < length vs₀ → get_or vs j +0 ≡ (bounds_in Ds j).lower
 
-pub set-begun : (ls vs : List ℤ) → Setting ls vs vs 0
-set-begun ls vs = record { same = refl; done = λ j l m. absurd (omega arith) }
+pub set-begun : (Ds : List Bounds) (vs : List ℤ) → Setting Ds vs vs 0
+set-begun Ds vs = record { same = refl; done = λ j l m. absurd (omega arith) }
 
-module _ {ls vs₀ vs : List ℤ} {i : ℕ} (s : Setting ls vs₀ vs i) where
-  pub set_more : i < length vs → Setting ls vs₀ (set vs i (get_or ls i +0)) (i + 1)
-  set_more l = record { same = length-set vs i (get_or ls i +0) ∙ s.same; done = at }
+module _ {Ds : List Bounds} {vs₀ vs : List ℤ} {i : ℕ} (s : Setting Ds vs₀ vs i) where
+  pub set_more : i < length vs → Setting Ds vs₀ (set vs i (bounds_in Ds i).lower) (i + 1)
+  set_more l = record { same = length-set vs i (bounds_in Ds i).lower ∙ s.same; done = at }
     where
-      one : (j : ℕ) → Dec (j ≡ i) → j < i + 1 → j < length vs₀ → get_or (set vs i (get_or ls i +0)) j +0 ≡ get_or ls j +0
-      one j (yes e) h m = rw e (get_or-set_same vs i (get_or ls i +0) +0 l)
-      one j (no n) h m = get_or-set_other vs i j (get_or ls i +0) +0 n ∙ s.done j (omega arith) m
+      one : (j : ℕ) → Dec (j ≡ i) → j < i + 1 → j < length vs₀ → get_or (set vs i (bounds_in Ds i).lower) j +0 ≡ (bounds_in Ds j).lower
+      one j (yes e) h m = rw e (get_or-set_same vs i (bounds_in Ds i).lower +0 l)
+      one j (no n) h m = get_or-set_other vs i j (bounds_in Ds i).lower +0 n ∙ s.done j (omega arith) m
 
-      at : (j : ℕ) → j < i + 1 → j < length vs₀ → get_or (set vs i (get_or ls i +0)) j +0 ≡ get_or ls j +0
+      at : (j : ℕ) → j < i + 1 → j < length vs₀ → get_or (set vs i (bounds_in Ds i).lower) j +0 ≡ (bounds_in Ds j).lower
       at j h m = one j (ℕ_discrete j i) h m
 
-  pub set-done : (us : List ℤ) → length vs ≤ i → vs ≡ lowest_list (bounds_to ls us (length vs₀))
+  pub set-done : length vs ≤ i → vs ≡ lowest_list (bounds_to Ds (length vs₀))
   unfolding lowest_list
-  set-done us l =
-      rw (map-list_of (λ B. B.lower) (bounds_of ls us) (length vs₀))
-      (ext_get_or +0 vs (list_of (λ k. get_or ls k +0) (length vs₀)) (s.same ∙ sym (list_of-length (λ k. get_or ls k +0) (length vs₀)))
-      (λ j h. s.done j (omega arith) (omega (arith, s.same)) ∙ sym (get_or-list_of (λ k. get_or ls k +0) (length vs₀) j +0 (omega (arith, s.same)))))
+  set-done l =
+      rw (map-list_of (λ B. B.lower) (bounds_in Ds) (length vs₀))
+      (ext_get_or +0 vs (list_of (λ k. (bounds_in Ds k).lower) (length vs₀)) (s.same ∙ sym (list_of-length (λ k. (bounds_in Ds k).lower) (length vs₀)))
+      (λ j h. s.done j (omega arith) (omega (arith, s.same)) ∙ sym (get_or-list_of (λ k. (bounds_in Ds k).lower) (length vs₀) j +0 (omega (arith, s.same)))))
 
 -- ---- values inside bounds that are near 0 are near 0
 
-inside-near : (Bs : List Bounds) (vs : List ℤ) → AllWithin Bs vs → ((x : ℕ) → Near (bounds_in Bs x).lower × Near (bounds_in Bs x).upper) → (x : ℕ) → Near (get_or vs x +0)
+inside-near : (Bs : List Bounds) (vs : List ℤ) → AllWithin Bs vs → AllNear Bs → (x : ℕ) → Near (get_or vs x +0)
 unfolding bounds_in
 inside-near [] [] h f x = omega arith
 inside-near [] (v ∷ vs) h f x = absurd h
@@ -51,13 +50,13 @@ inside-near (B ∷ Bs) [] h f x = absurd h
 inside-near (B ∷ Bs) (v ∷ vs) h f zero = let w = (says-within B v).0 h.0 in between-near B.lower v B.upper w.0 w.1 (f 0).0 (f 0).1
 inside-near (B ∷ Bs) (v ∷ vs) h f (suc x) = inside-near Bs vs h.1 (λ y. f (suc y)) x
 
-bounds-near : (ls us : List ℤ) → Small ls → Small us → (n x : ℕ) → Near (bounds_in (bounds_to ls us n) x).lower × Near (bounds_in (bounds_to ls us n) x).upper
+bounds-near : (Ds : List Bounds) → AllNear Ds → (n : ℕ) → AllNear (bounds_to Ds n)
 unfolding bounds_in
-bounds-near ls us p q n x = go (dec_lt x n)
+bounds-near Ds near n x = go (dec_lt x n)
   where
-    go : Dec (x < n) → Near (get_or (bounds_to ls us n) x (+0 to +0)).lower × Near (get_or (bounds_to ls us n) x (+0 to +0)).upper
-    go (yes l) = rw (get_or-list_of (bounds_of ls us) n x (+0 to +0) l) (p x, q x)
-    go (no l) = let m : length (bounds_to ls us n) ≤ x = omega (arith, list_of-length (bounds_of ls us) n) in rw (get_or-eq_default (bounds_to ls us n) (+0 to +0) m) (omega arith, omega arith)
+    go : Dec (x < n) → Near (get_or (bounds_to Ds n) x (+0 to +0)).lower × Near (get_or (bounds_to Ds n) x (+0 to +0)).upper
+    go (yes l) = rw (get_or-list_of (bounds_in Ds) n x (+0 to +0) l) (near x)
+    go (no l) = let m : length (bounds_to Ds n) ≤ x = omega (arith, list_of-length (bounds_in Ds) n) in rw (get_or-eq_default (bounds_to Ds n) (+0 to +0) m) (omega arith, omega arith)
 
-pub inside-small : (ls us vs : List ℤ) (n : ℕ) → Small ls → Small us → AllWithin (bounds_to ls us n) vs → Small vs
-inside-small ls us vs n p q h = inside-near (bounds_to ls us n) vs h (bounds-near ls us p q n)
+pub inside-small : (Ds : List Bounds) (vs : List ℤ) (n : ℕ) → AllNear Ds → AllWithin (bounds_to Ds n) vs → Small vs
+inside-small Ds vs n near h = inside-near (bounds_to Ds n) vs h (bounds-near Ds near n)

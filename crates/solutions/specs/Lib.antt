@@ -1,8 +1,7 @@
--- What the contracts cite: the value lists of bounds, the solutions of a model, the answer; and what only internal contracts cite, AllWithin, Odometer and
+-- What the contracts cite: the value lists of bounds, the solutions of a model; and what only internal contracts cite, AllWithin, Odometer and
 -- Walk.
 pub mod Lists
 pub mod Solutions
-pub mod Found
 pub mod AllWithin
 pub mod Odometer
 pub mod Walk

@@ -3,21 +3,13 @@
 
 ghost use Rattle.std.specs.Prelude.{◌≡◌};
 ghost use Rattle.words.specs.Answer.{refusal_number};
-ghost use Rattle.words.specs.Verdict.{verdict};
-ghost use Rattle.words.specs.Written.{wrote};
-ghost use Rattle.sheets.specs.Printed.{printed};
 ghost use Rattle.checking.specs.Checked.{checked};
-ghost use Rattle.filling.specs.Filled.{handed};
-ghost use Rattle.solutions.specs.Found.{found};
 ghost use Rattle.integers.specs.Choice.{◌if◌else◌};
-ghost use Rattle.reasoning.specs.Told.{told};
-ghost use Rattle.structs.specs.Structs.{counts_of, explanation_of, judgement_of, listed_of, printed_of, written_of};
 
-use checking::Checked;
-use filling::Filled;
-use reasoning::Reasoned;
-use solutions::Found;
-use words::{Verdict, fault};
+use filling::Filling;
+use reasoning::answer::Reason;
+use words::answer::Verdict;
+use words::fault::Refusal;
 
 // What a judge or fill answers a host, by what it said: 0 refused, with the fault and its place; 1 holds, in fill with how many values it wrote; 2 the variable out of bounds; 3 the false constraint or row.
 #[repr(C)]
@@ -80,60 +72,72 @@ pub struct Explanation {
 }
 
 // A judge's answer for a host.
-#[tactic(auto, unfolding(crate::specs::Structs::judgement_of, words::specs::Verdict::verdict))]
-pub fn judgement_of(v: Verdict) -> Judgement
-    ensures { result ≡ judgement_of (verdict v) }
-{
-    match v {
-        Verdict::Refused(r) => Judgement {
-            said: 0,
-            fault: r.number,
-            at: r.place,
-        },
-        Verdict::Holds => Judgement {
-            said: 1,
-            fault: 0,
-            at: 0,
-        },
-        Verdict::OutOfBounds(i) => Judgement {
-            said: 2,
-            fault: 0,
-            at: i,
-        },
-        Verdict::False(i) => Judgement {
-            said: 3,
-            fault: 0,
-            at: i,
-        },
+impl From<Result<Verdict, Refusal>> for Judgement {
+    ghost use Rattle.std.specs.Prelude.{◌≡◌};
+    ghost use Rattle.words.specs.Faults.{verdict_of};
+    ghost use Rattle.structs.specs.Structs.{judgement_of};
+
+    ghost from_gives = { λ answer judgement. judgement ≡ judgement_of (verdict_of answer) };
+
+    #[tactic(auto, unfolding(crate::specs::Structs::judgement_of))]
+    fn from(answer: Result<Verdict, Refusal>) -> Judgement {
+        match answer {
+            Err(r) => Judgement {
+                said: 0,
+                fault: r.fault.number(),
+                at: r.place,
+            },
+            Ok(Verdict::Holds) => Judgement {
+                said: 1,
+                fault: 0,
+                at: 0,
+            },
+            Ok(Verdict::OutOfBounds(i)) => Judgement {
+                said: 2,
+                fault: 0,
+                at: i,
+            },
+            Ok(Verdict::False(i)) => Judgement {
+                said: 3,
+                fault: 0,
+                at: i,
+            },
+        }
     }
 }
 
 // Fill's answer for a host.
-#[tactic(auto, unfolding(crate::specs::Structs::judgement_of, filling::specs::Filled::handed))]
-pub fn filled_of(f: Filled) -> Judgement
-    ensures { result ≡ judgement_of (handed f) }
-{
-    match f {
-        Filled::Refused(r) => Judgement {
-            said: 0,
-            fault: r.number,
-            at: r.place,
-        },
-        Filled::Values(n) => Judgement {
-            said: 1,
-            fault: 0,
-            at: n,
-        },
-        Filled::OutOfBounds(i) => Judgement {
-            said: 2,
-            fault: 0,
-            at: i,
-        },
-        Filled::False(i) => Judgement {
-            said: 3,
-            fault: 0,
-            at: i,
-        },
+impl From<Result<Filling, Refusal>> for Judgement {
+    ghost use Rattle.std.specs.Prelude.{◌≡◌};
+    ghost use Rattle.filling.specs.Filled.{handed};
+    ghost use Rattle.structs.specs.Structs.{judgement_of};
+
+    ghost from_gives = { λ answer judgement. judgement ≡ judgement_of (handed answer) };
+
+    #[tactic(auto, unfolding(crate::specs::Structs::judgement_of))]
+    fn from(answer: Result<Filling, Refusal>) -> Judgement {
+        match answer {
+            Err(r) => Judgement {
+                said: 0,
+                fault: r.fault.number(),
+                at: r.place,
+            },
+            Ok(Filling::Values(n)) => Judgement {
+                said: 1,
+                fault: 0,
+                at: n,
+            },
+            Ok(Filling::OutOfBounds(i)) => Judgement {
+                said: 2,
+                fault: 0,
+                at: i,
+            },
+            Ok(Filling::False(i)) => Judgement {
+                said: 3,
+                fault: 0,
+                at: i,
+            },
+        }
     }
 }
 
@@ -141,156 +145,173 @@ pub fn filled_of(f: Filled) -> Judgement
 fn reason_of(holds: bool) -> u32
     ensures { result ≡ (4 if holds else 3) }
 {
-    if holds {
-        return 4;
-    }
-    3
+    if holds { 4 } else { 3 }
 }
 
 // Reason's answer for a host.
-#[tactic(auto, unfolding(crate::specs::Structs::explanation_of, reasoning::specs::Told::told))]
-pub fn explanation_of(r: Reasoned) -> Explanation
-    ensures { result ≡ explanation_of (told r) }
-{
-    match r {
-        Reasoned::Refused(refusal) => Explanation {
-            reason: 0,
-            fault: refusal.number,
-            place: refusal.place,
-            row: 0,
-            constraint: 0,
-        },
-        Reasoned::OutOfBounds(i) => Explanation {
-            reason: 2,
-            fault: 0,
-            place: i,
-            row: 0,
-            constraint: 0,
-        },
-        Reasoned::Nothing => Explanation {
-            reason: 1,
-            fault: 0,
-            place: 0,
-            row: 0,
-            constraint: 0,
-        },
-        Reasoned::Because {
-            row,
-            constraint,
-            holds,
-        } => Explanation {
-            reason: reason_of(holds),
-            fault: 0,
-            place: 0,
-            row: row,
-            constraint: constraint,
-        },
+impl From<Result<Reason, Refusal>> for Explanation {
+    ghost use Rattle.std.specs.Prelude.{◌≡◌};
+    ghost use Rattle.reasoning.specs.Told.{told};
+    ghost use Rattle.structs.specs.Structs.{explanation_of};
+
+    ghost from_gives = { λ answer explanation. explanation ≡ explanation_of (told answer) };
+
+    #[tactic(auto, unfolding(crate::specs::Structs::explanation_of))]
+    fn from(answer: Result<Reason, Refusal>) -> Explanation {
+        match answer {
+            Err(r) => Explanation {
+                reason: 0,
+                fault: r.fault.number(),
+                place: r.place,
+                row: 0,
+                constraint: 0,
+            },
+            Ok(Reason::Nothing) => Explanation {
+                reason: 1,
+                fault: 0,
+                place: 0,
+                row: 0,
+                constraint: 0,
+            },
+            Ok(Reason::OutOfBounds(i)) => Explanation {
+                reason: 2,
+                fault: 0,
+                place: i,
+                row: 0,
+                constraint: 0,
+            },
+            Ok(
+                Reason::Because {
+                    row,
+                    constraint,
+                    holds,
+                },
+            ) => Explanation {
+                reason: reason_of(holds),
+                fault: 0,
+                place: 0,
+                row,
+                constraint,
+            },
+        }
     }
 }
 
 // Check's answer for a host.
-#[tactic(auto, unfolding(crate::specs::Structs::counts_of, checking::specs::Checked::checked))]
-pub fn counts_of(c: Checked) -> Counts
-    ensures { result ≡ counts_of (checked c) }
-{
-    match c {
-        Checked::Refused(r) => Counts {
-            fault: r.number,
-            place: r.place,
-            variables: 0,
-            constraints: 0,
-            auxiliaries: 0,
-            rows: 0,
-            words: 0,
-        },
-        Checked::Counts {
-            variables,
-            constraints,
-            auxiliaries,
-            rows,
-            words,
-        } => Counts {
-            fault: 0,
-            place: 0,
-            variables: variables,
-            constraints: constraints,
-            auxiliaries: auxiliaries,
-            rows: rows,
-            words: words,
-        },
+impl From<Result<checking::Counts, Refusal>> for Counts {
+    ghost use Rattle.std.specs.Prelude.{◌≡◌};
+    ghost use Rattle.checking.specs.Checked.{checked};
+    ghost use Rattle.structs.specs.Structs.{counts_of};
+
+    ghost from_gives = { λ answer counts. counts ≡ counts_of (checked answer) };
+
+    #[tactic(auto, unfolding(crate::specs::Structs::counts_of))]
+    fn from(answer: Result<checking::Counts, Refusal>) -> Counts {
+        match answer {
+            Err(r) => Counts {
+                fault: r.fault.number(),
+                place: r.place,
+                variables: 0,
+                constraints: 0,
+                auxiliaries: 0,
+                rows: 0,
+                words: 0,
+            },
+            Ok(n) => Counts {
+                fault: 0,
+                place: 0,
+                variables: n.variables,
+                constraints: n.constraints,
+                auxiliaries: n.auxiliaries,
+                rows: n.rows,
+                words: n.words,
+            },
+        }
     }
 }
 
 // The number of check's refusal, 0 if it accepts.
-#[tactic(auto, unfolding(words::specs::Answer::refusal_number, checking::specs::Checked::checked))]
-pub fn refusal_number(c: Checked) -> u32
-    ensures { result ≡ refusal_number (checked c) }
+#[tactic(auto, unfolding(words::specs::Answer::refusal_number))]
+pub fn refusal_number(answer: Result<checking::Counts, Refusal>) -> u32
+    ensures { result ≡ refusal_number (checked answer) }
 {
-    match c {
-        Checked::Refused(r) => r.number,
-        Checked::Counts {
-            variables: _,
-            constraints: _,
-            auxiliaries: _,
-            rows: _,
-            words: _,
-        } => fault::NONE,
+    match answer {
+        Ok(_) => 0,
+        Err(r) => r.fault.number(),
     }
 }
 
 // The answer of translate, text and bits for a host.
-#[tactic(auto, unfolding(crate::specs::Structs::count_of, crate::specs::Structs::written_of, words::specs::Written::wrote))]
-pub fn written_of(w: words::Written) -> WrittenWords
-    ensures { result ≡ written_of (wrote w) }
-{
-    match w {
-        words::Written::Refused(r) => WrittenWords {
-            fault: r.number,
-            place: r.place,
-            words: 0,
-        },
-        words::Written::Words(n) => WrittenWords {
-            fault: 0,
-            place: 0,
-            words: n,
-        },
+impl From<Result<usize, Refusal>> for WrittenWords {
+    ghost use Rattle.std.specs.Prelude.{◌≡◌};
+    ghost use Rattle.words.specs.Faults.{written_of as answered};
+    ghost use Rattle.structs.specs.Structs.{written_of};
+
+    ghost from_gives = { λ answer written. written ≡ written_of (answered answer) };
+
+    #[tactic(auto, unfolding(crate::specs::Structs::count_of, crate::specs::Structs::written_of))]
+    fn from(answer: Result<usize, Refusal>) -> WrittenWords {
+        match answer {
+            Ok(n) => WrittenWords {
+                fault: 0,
+                place: 0,
+                words: n,
+            },
+            Err(r) => WrittenWords {
+                fault: r.fault.number(),
+                place: r.place,
+                words: 0,
+            },
+        }
     }
 }
 
 // Sheet's answer for a host.
-#[tactic(auto, unfolding(crate::specs::Structs::count_of, crate::specs::Structs::printed_of, sheets::specs::Printed::printed))]
-pub fn printed_of(p: sheets::Printed) -> PrintedBytes
-    ensures { result ≡ printed_of (printed p) }
-{
-    match p {
-        sheets::Printed::Refused(r) => PrintedBytes {
-            fault: r.number,
-            place: r.place,
-            bytes: 0,
-        },
-        sheets::Printed::Bytes(n) => PrintedBytes {
-            fault: 0,
-            place: 0,
-            bytes: n,
-        },
+impl From<Result<usize, Refusal>> for PrintedBytes {
+    ghost use Rattle.std.specs.Prelude.{◌≡◌};
+    ghost use Rattle.words.specs.Faults.{written_of};
+    ghost use Rattle.structs.specs.Structs.{printed_of};
+
+    ghost from_gives = { λ answer printed. printed ≡ printed_of (written_of answer) };
+
+    #[tactic(auto, unfolding(crate::specs::Structs::count_of, crate::specs::Structs::printed_of))]
+    fn from(answer: Result<usize, Refusal>) -> PrintedBytes {
+        match answer {
+            Ok(n) => PrintedBytes {
+                fault: 0,
+                place: 0,
+                bytes: n,
+            },
+            Err(r) => PrintedBytes {
+                fault: r.fault.number(),
+                place: r.place,
+                bytes: 0,
+            },
+        }
     }
 }
 
 // The answer of listing the solutions for a host.
-#[tactic(auto, unfolding(crate::specs::Structs::count_of, crate::specs::Structs::listed_of, solutions::specs::Found::found))]
-pub fn listed_of(f: Found) -> Listed
-    ensures { result ≡ listed_of (found f) }
-{
-    match f {
-        Found::Refused(r) => Listed {
-            fault: r.number,
-            place: r.place,
-            solutions: 0,
-        },
-        Found::Solutions(n) => Listed {
-            fault: 0,
-            place: 0,
-            solutions: n,
-        },
+impl From<Result<usize, Refusal>> for Listed {
+    ghost use Rattle.std.specs.Prelude.{◌≡◌};
+    ghost use Rattle.words.specs.Faults.{written_of};
+    ghost use Rattle.structs.specs.Structs.{listed_of};
+
+    ghost from_gives = { λ answer listed. listed ≡ listed_of (written_of answer) };
+
+    #[tactic(auto, unfolding(crate::specs::Structs::count_of, crate::specs::Structs::listed_of))]
+    fn from(answer: Result<usize, Refusal>) -> Listed {
+        match answer {
+            Ok(n) => Listed {
+                fault: 0,
+                place: 0,
+                solutions: n,
+            },
+            Err(r) => Listed {
+                fault: r.fault.number(),
+                place: r.place,
+                solutions: 0,
+            },
+        }
     }
 }

@@ -4,16 +4,14 @@
 // A call that writes is lent the front of a longer list, as long as the room; what it may not write is looked at afterwards.
 #![tactic(auto)]
 
+use answer::{Answer, Wrote};
 use bitform::bit_form;
-use cases::input::{Head, next_head, read_bytes, read_values, read_words};
-use cases::lent::{BYTE_MARK, VALUE_MARK, WORD_MARK, bytes_within, values_within, words_within};
-use cases::output::print_verdict;
+use call::{Call, ModelCall, PairCall, RowsCall};
+use cases::input::{Head, next_head, read_front};
+use cases::lent::{Element, front, is_marked, lend};
 use checking::check;
 use filling::fill;
 use modeljudge::judge_model;
-use output::{
-    print_checked, print_filled, print_found, print_printed, print_reasoned, print_written,
-};
 use pairs::{pair_check, pair_fill, pair_judge_model, pair_translate};
 use reasoning::reason;
 use rowjudge::judge_rows;
@@ -24,37 +22,11 @@ use std::io::{Read, Write};
 use texts::read_text;
 use translation::translate;
 
-mod output;
+mod answer;
+mod call;
 
-// The calls, as a case numbers them.
-const CHECK: u32 = 1;
-
-const TRANSLATE: u32 = 2;
-
-const JUDGE_MODEL: u32 = 3;
-
-const JUDGE_ROWS: u32 = 4;
-
-const FILL: u32 = 5;
-
-const SHEET: u32 = 6;
-
-const TEXT: u32 = 7;
-
-const REASON: u32 = 8;
-
-const SOLUTIONS: u32 = 9;
-
-const BITS: u32 = 10;
-
-// The calls of a candidate, in the order of those of a model.
-const PAIR_CHECK: u32 = 11;
-
-const PAIR_TRANSLATE: u32 = 12;
-
-const PAIR_JUDGE_MODEL: u32 = 13;
-
-const PAIR_FILL: u32 = 14;
+// How many cases are read at most.
+const CASES: usize = 1000000;
 
 // How long the lists are that are read to or lent: of model words, of row words, of values, of bytes.
 const MODEL_WORDS: usize = 12288;
@@ -65,277 +37,159 @@ const VALUES: usize = 4200;
 
 const PAGE: usize = 32768;
 
-// Translate into the front of a list.
-fn translate_to<W: Write>(
+// Prints the answer of a call that writes nothing.
+fn print_answer<W: Write>(to: &mut W, answer: Answer<'_>) -> io::Result<()> {
+    writeln!(to, "{answer}")
+}
+
+// Prints the answer of a call that is lent the front of a marked list; the line ends in " changed" where it wrote what it may not.
+fn print_lent<T: Element, A: Wrote<T>, W: Write, F: FnOnce(&mut [T]) -> A>(
     to: &mut W,
-    words: &[u32],
-    out: &mut [u32],
+    list: &mut [T],
     room: usize,
-) -> io::Result<()> {
-    let k = words_within(out, room);
-    let answer = translate(words, &mut out[..k]);
-    print_written(to, answer, out)
-}
-
-// The same, a list being lent; so for each call that writes.
-fn answer_translate<W: Write>(to: &mut W, words: &[u32], room: usize) -> io::Result<()> {
-    let mut out = [WORD_MARK; ROW_WORDS];
-    translate_to(to, words, &mut out, room)
-}
-
-// Fill.
-fn fill_to<W: Write>(
-    to: &mut W,
-    words: &[u32],
-    values: &[i32],
-    out: &mut [i32],
-    room: usize,
-) -> io::Result<()> {
-    let k = values_within(out, room);
-    let answer = fill(words, values, &mut out[..k]);
-    print_filled(to, answer, out)
-}
-
-fn answer_fill<W: Write>(to: &mut W, words: &[u32], values: &[i32], room: usize) -> io::Result<()> {
-    let mut out = [VALUE_MARK; VALUES];
-    fill_to(to, words, values, &mut out, room)
-}
-
-// Every solution.
-fn solutions_to<W: Write>(
-    to: &mut W,
-    words: &[u32],
-    out: &mut [i32],
-    room: usize,
-) -> io::Result<()> {
-    let k = values_within(out, room);
-    let answer = solutions(words, &mut out[..k]);
-    print_found(to, answer, out)
-}
-
-fn answer_solutions<W: Write>(to: &mut W, words: &[u32], room: usize) -> io::Result<()> {
-    let mut out = [VALUE_MARK; VALUES];
-    solutions_to(to, words, &mut out, room)
-}
-
-// Sheet.
-fn sheet_to<W: Write>(to: &mut W, rows: &[u32], page: &mut [u8], room: usize) -> io::Result<()> {
-    let k = bytes_within(page, room);
-    let answer = sheet(rows, &mut page[..k]);
-    print_printed(to, answer, page)
-}
-
-fn answer_sheet<W: Write>(to: &mut W, rows: &[u32], room: usize) -> io::Result<()> {
-    let mut page = [BYTE_MARK; PAGE];
-    sheet_to(to, rows, &mut page, room)
-}
-
-// The form over bits.
-fn form_to<W: Write>(to: &mut W, rows: &[u32], out: &mut [u32], room: usize) -> io::Result<()> {
-    let k = words_within(out, room);
-    let answer = bit_form(rows, &mut out[..k]);
-    print_written(to, answer, out)
-}
-
-fn answer_bits<W: Write>(to: &mut W, rows: &[u32], room: usize) -> io::Result<()> {
-    let mut out = [WORD_MARK; MODEL_WORDS];
-    form_to(to, rows, &mut out, room)
-}
-
-// Text.
-fn text_to<W: Write>(to: &mut W, text: &[u8], out: &mut [u32], room: usize) -> io::Result<()> {
-    let k = words_within(out, room);
-    let answer = read_text(text, &mut out[..k]);
-    print_written(to, answer, out)
-}
-
-// Translate of a candidate's model.
-fn pair_translate_to<W: Write>(
-    to: &mut W,
-    words: &[u32],
-    candidate: u32,
-    out: &mut [u32],
-    room: usize,
-) -> io::Result<()> {
-    let k = words_within(out, room);
-    let answer = pair_translate(words, candidate, &mut out[..k]);
-    print_written(to, answer, out)
-}
-
-fn answer_pair_translate<W: Write>(
-    to: &mut W,
-    words: &[u32],
-    candidate: u32,
-    room: usize,
-) -> io::Result<()> {
-    let mut out = [WORD_MARK; ROW_WORDS];
-    pair_translate_to(to, words, candidate, &mut out, room)
-}
-
-// Fill of a candidate's model.
-fn pair_fill_to<W: Write>(
-    to: &mut W,
-    words: &[u32],
-    candidate: u32,
-    values: &[i32],
-    out: &mut [i32],
-    room: usize,
-) -> io::Result<()> {
-    let k = values_within(out, room);
-    let answer = pair_fill(words, candidate, values, &mut out[..k]);
-    print_filled(to, answer, out)
-}
-
-fn answer_pair_fill<W: Write>(
-    to: &mut W,
-    words: &[u32],
-    candidate: u32,
-    values: &[i32],
-    room: usize,
-) -> io::Result<()> {
-    let mut out = [VALUE_MARK; VALUES];
-    pair_fill_to(to, words, candidate, values, &mut out, room)
-}
-
-// The answer of a call on a pair, for a candidate.
-fn answer_candidate<W: Write>(
-    to: &mut W,
-    call: u32,
-    words: &[u32],
-    candidate: u32,
-    values: &[i32],
-    room: usize,
-) -> io::Result<()> {
-    match call {
-        PAIR_CHECK => print_checked(to, pair_check(words, candidate)),
-        PAIR_TRANSLATE => answer_pair_translate(to, words, candidate, room),
-        PAIR_JUDGE_MODEL => print_verdict(to, pair_judge_model(words, candidate, values)),
-        PAIR_FILL => answer_pair_fill(to, words, candidate, values, room),
-        _ => to.write_all(b"unknown\n"),
-    }
-}
-
-// The same, the candidate being the first of the values.
-fn answer_pair<W: Write>(
-    to: &mut W,
-    call: u32,
-    words: &[u32],
-    values: &[i32],
-    room: usize,
-) -> io::Result<()> {
-    if 0 < values.len() {
-        let candidate = if values[0] == 1 { 1 } else { 2 };
-        answer_candidate(to, call, words, candidate, &values[1..], room)?;
-    }
-    Ok(())
+    call: F,
+) -> io::Result<()>
+    requires { F.IsAlwaysCallable call }
+{
+    let answer = lend(list, room, call).to_list(list);
+    let changed = if is_marked(list, answer.written()) {
+        ""
+    } else {
+        " changed"
+    };
+    writeln!(to, "{answer}{changed}")
 }
 
 // The answer of a call on a model.
-fn answer_call<W: Write>(
+fn answer_model<W: Write>(
     to: &mut W,
-    call: u32,
+    call: ModelCall,
     words: &[u32],
     values: &[i32],
     room: usize,
 ) -> io::Result<()> {
     match call {
-        CHECK => print_checked(to, check(words)),
-        TRANSLATE => answer_translate(to, words, room),
-        JUDGE_MODEL => print_verdict(to, judge_model(words, values)),
-        FILL => answer_fill(to, words, values, room),
-        REASON => print_reasoned(to, reason(words, values)),
-        SOLUTIONS => answer_solutions(to, words, room),
-        _ => answer_pair(to, call, words, values, room),
+        ModelCall::Check => print_answer(to, Answer::from(check(words))),
+        ModelCall::Translate => print_lent(to, &mut [u32::MARK; ROW_WORDS], room, |out| {
+            translate(words, out)
+        }),
+        ModelCall::Judge => print_answer(to, Answer::from(judge_model(words, values))),
+        ModelCall::Fill => print_lent(to, &mut [i32::MARK; VALUES], room, |out| {
+            fill(words, values, out)
+        }),
+        ModelCall::Reason => print_answer(to, Answer::from(reason(words, values))),
+        ModelCall::Solutions => print_lent(to, &mut [i32::MARK; VALUES], room, |out| {
+            solutions(words, out)
+        }),
     }
 }
 
-// Reads the words and values of a case on a model, and answers it.
-fn answer_model<R: Read, W: Write>(input: &mut R, to: &mut W, head: Head) -> io::Result<()> {
-    let n = head.words;
-    let m = head.values;
-    let mut model = [0u32; MODEL_WORDS];
-    read_words(input, &mut model, n)?;
-    let mut values = [0i32; VALUES];
-    read_values(input, &mut values, m)?;
-    let k = words_within(&model, n);
-    let l = values_within(&values, m);
-    answer_call(to, head.call, &model[..k], &values[..l], head.room)
+// The answer of a call on a pair, for the candidate that the first value names.
+fn answer_pair<W: Write>(
+    to: &mut W,
+    call: PairCall,
+    words: &[u32],
+    values: &[i32],
+    room: usize,
+) -> io::Result<()> {
+    let Some((&first, values)) = values.split_first() else {
+        return Ok(());
+    };
+    let candidate = if first == 1 { 1 } else { 2 };
+    match call {
+        PairCall::Check => print_answer(to, Answer::from(pair_check(words, candidate))),
+        PairCall::Translate => print_lent(to, &mut [u32::MARK; ROW_WORDS], room, |out| {
+            pair_translate(words, candidate, out)
+        }),
+        PairCall::Judge => print_answer(
+            to,
+            Answer::from(pair_judge_model(words, candidate, values)),
+        ),
+        PairCall::Fill => print_lent(to, &mut [i32::MARK; VALUES], room, |out| {
+            pair_fill(words, candidate, values, out)
+        }),
+    }
 }
 
-// Reads m values, and answers judge-rows.
+// Reads the words and values of a case on a model or a pair, and answers it.
+fn with_model<R: Read, F: FnOnce(&[u32], &[i32]) -> io::Result<()>>(
+    input: &mut R,
+    head: Head,
+    answer: F,
+) -> io::Result<()>
+    requires { F.IsAlwaysCallable answer }
+{
+    let mut words = [0u32; MODEL_WORDS];
+    read_front(input, &mut words, head.words)?;
+    let mut values = [0i32; VALUES];
+    read_front(input, &mut values, head.values)?;
+    answer(front(&words, head.words), front(&values, head.values))
+}
+
+// Reads the words of a case on a row system, for a judge the values too, and answers it.
 fn answer_rows<R: Read, W: Write>(
     input: &mut R,
     to: &mut W,
-    rows: &[u32],
-    m: usize,
+    call: RowsCall,
+    head: Head,
 ) -> io::Result<()> {
-    let mut values = [0i32; VALUES];
-    read_values(input, &mut values, m)?;
-    let l = values_within(&values, m);
-    print_verdict(to, judge_rows(rows, &values[..l]))
-}
-
-// The answer of a call on a row system.
-fn answer_system_call<R: Read, W: Write>(
-    input: &mut R,
-    to: &mut W,
-    call: u32,
-    rows: &[u32],
-    m: usize,
-    room: usize,
-) -> io::Result<()> {
+    let mut words = [0u32; ROW_WORDS];
+    read_front(input, &mut words, head.words)?;
+    let rows = front(&words, head.words);
     match call {
-        SHEET => answer_sheet(to, rows, room),
-        BITS => answer_bits(to, rows, room),
-        _ => answer_rows(input, to, rows, m),
-    }
-}
-
-// Reads the words of a case on a row system, and answers it.
-fn answer_system<R: Read, W: Write>(input: &mut R, to: &mut W, head: Head) -> io::Result<()> {
-    let n = head.words;
-    let mut rows = [0u32; ROW_WORDS];
-    read_words(input, &mut rows, n)?;
-    let k = words_within(&rows, n);
-    answer_system_call(input, to, head.call, &rows[..k], head.values, head.room)
-}
-
-// Reads n bytes, and answers text.
-fn answer_text<R: Read, W: Write>(
-    input: &mut R,
-    to: &mut W,
-    n: usize,
-    room: usize,
-) -> io::Result<()> {
-    let mut text = [0u8; PAGE];
-    read_bytes(input, &mut text, n)?;
-    let k = bytes_within(&text, n);
-    let mut out = [WORD_MARK; ROW_WORDS];
-    text_to(to, &text[..k], &mut out, room)
-}
-
-// Reads the rest of a case and answers it.
-fn answer_case<R: Read, W: Write>(input: &mut R, to: &mut W, head: Head) -> io::Result<()> {
-    let call = head.call;
-    match call {
-        TEXT => answer_text(input, to, head.words, head.room),
-        JUDGE_ROWS => answer_system(input, to, head),
-        SHEET => answer_system(input, to, head),
-        BITS => answer_system(input, to, head),
-        _ => answer_model(input, to, head),
-    }
-}
-
-// At most a million cases.
-fn main(rt: HostRuntime) -> io::Result<()> {
-    let mut left: usize = 1000000;
-    while 0 < left {
-        let head = next_head(&mut rt.stdin())?;
-        if !head.there {
-            return Ok(());
+        RowsCall::Judge => {
+            let mut values = [0i32; VALUES];
+            read_front(input, &mut values, head.values)?;
+            print_answer(
+                to,
+                Answer::from(judge_rows(rows, front(&values, head.values))),
+            )
         }
+        RowsCall::Sheet => print_lent(to, &mut [u8::MARK; PAGE], head.room, |page| {
+            sheet(rows, page)
+        }),
+        RowsCall::Bits => print_lent(to, &mut [u32::MARK; MODEL_WORDS], head.room, |out| {
+            bit_form(rows, out)
+        }),
+    }
+}
+
+// Reads a text, and answers it.
+fn answer_text<R: Read, W: Write>(input: &mut R, to: &mut W, head: Head) -> io::Result<()> {
+    let mut bytes = [0u8; PAGE];
+    read_front(input, &mut bytes, head.words)?;
+    let text = front(&bytes, head.words);
+    print_lent(to, &mut [u32::MARK; ROW_WORDS], head.room, |out| {
+        read_text(text, out)
+    })
+}
+
+// Reads the rest of a case and answers it. A call that is not known has words and values as one on a pair has.
+fn answer_case<R: Read, W: Write>(input: &mut R, to: &mut W, head: Head) -> io::Result<()> {
+    match Call::try_from(head.call) {
+        Ok(Call::Model(call)) => with_model(input, head, |words, values| {
+            answer_model(to, call, words, values, head.room)
+        }),
+        Ok(Call::Rows(call)) => answer_rows(input, to, call, head),
+        Ok(Call::Text) => answer_text(input, to, head),
+        Ok(Call::Pair(call)) => with_model(input, head, |words, values| {
+            answer_pair(to, call, words, values, head.room)
+        }),
+        Err(_) => with_model(input, head, |_, values| {
+            if values.is_empty() {
+                return Ok(());
+            }
+            to.write_all(b"unknown\n")
+        }),
+    }
+}
+
+fn main(rt: HostRuntime) -> io::Result<()> {
+    for _ in 0..CASES {
+        let Some(head) = next_head(&mut rt.stdin())? else {
+            return Ok(());
+        };
         answer_case(&mut rt.stdin(), &mut rt.stdout(), head)?;
-        left -= 1;
     }
     Ok(())
 }

@@ -1,5 +1,6 @@
--- What the symbol table says stays right when a name is declared. For `number_in`, `variable_in` and `declare`.
-use Rattle.std.proofs.Common.{◌≡◌, refl, sym, ap, ◌∙◌, ◌⊎◌, inl, inr, Bool, true, false, List, [], ◌∷◌, append-nil, ℕ, ◌+◌, ◌-◌, ◌<◌, ◌≤◌, zero-add, arith, eqb, ltb, get_or-set_same, get_or-set_other, length, get_or, set, eqb-true, eq-eqb, ne_eqb, ltb-true, ltb-false}
+-- What the symbol table says stays right when a name is declared. For `number_in`, `variable` and `declare`.
+use Rattle.std.proofs.Common.{◌≡◌, refl, sym, ap, ◌∙◌, ◌⊎◌, inl, inr, Bool, true, false, List, [], ◌∷◌, ℕ, ◌+◌, ◌-◌, ◌<◌, ◌≤◌, zero-add, arith, eqb, ltb, get_or-set_same, get_or-set_other, length, get_or, set, eqb-true, eq-eqb, ne_eqb, ltb-true, ltb-false}
+use Rattle.std.proofs.lemmas.Slice.Eq.{bytes_eq-Decides}
 use lib.Seq.{set_out}
 use borrow.Author.Tests.{eqb-false}
 use Rattle.integers.specs.Choice.{◌if◌else◌}
@@ -14,20 +15,12 @@ use Rattle.symbols.specs.Symbol.{declared_before, number_in, place_in, length_in
 -- ---- the same bytes are the same name
 
 pub same-equal : (x y : List ℕ) → same x y ≡ true → x ≡ y
-unfolding same
-same-equal [] [] e = refl
-same-equal [] (c ∷ cs) e = false-true e
-same-equal (b ∷ bs) [] e = false-true e
-same-equal (b ∷ bs) (c ∷ cs) e = go (eqb b c) refl (same-equal bs cs) e
-  where
-    go : (t : Bool) → eqb b c ≡ t → (same bs cs ≡ true → bs ≡ cs) → (same bs cs if t else false) ≡ true → b ∷ bs ≡ c ∷ cs
-    go true q i s = rw (eqb-true b c q, i s)
-    go false q i s = false-true s
+same-equal x y e = (bytes_eq-Decides x y).0 e
 
 -- ---- a list with one word set has at each place the word it had, or that one
 
-pub set-either : (l : List ℕ) (i e s : ℕ) → (get_or (set l i e) s 0 ≡ get_or l s 0) ⊎ (get_or (set l i e) s 0 ≡ e)
-set-either l i e s = go (eqb s i) refl (ltb i (length l)) refl
+pub set_either : (l : List ℕ) (i e s : ℕ) → (get_or (set l i e) s 0 ≡ get_or l s 0) ⊎ (get_or (set l i e) s 0 ≡ e)
+set_either l i e s = go (eqb s i) refl (ltb i (length l)) refl
   where
     go : (a : Bool) → eqb s i ≡ a → (b : Bool) → ltb i (length l) ≡ b → (get_or (set l i e) s 0 ≡ get_or l s 0) ⊎ (get_or (set l i e) s 0 ≡ e)
     go true p true q = inr (rw (eqb-true s i p) (get_or-set_same l i e 0 (ltb-true i (length l) q)))
@@ -47,12 +40,6 @@ module _ {bs : List ℕ} {place stop : ℕ} {colon : Bool} (d : AddsName bs plac
   slots_kept s = record { right = λ i n. right_kept n (s.right i n) }
 
 module _ {bs : List ℕ} {place stop : ℕ} where
-  -- no name is declared
-  pub none_new : {filter slots : List ℕ} → AddsName bs place stop false → Indexed bs place filter slots → Indexed bs stop filter slots
-  none_new {filter} {slots} d i =
-      let e : declared_before bs stop ≡ declared_before bs place = d.names ∙ append-nil (declared_before bs place) in
-      record { size = i.size; marks = λ x h. i.marks x (λ z. h (ap (look_up x 0) e ∙ z)); right = slots_kept d i.right }
-
   -- one is
   module _ (d : AddsName bs place stop true) where
     later : (x : List ℕ) → look_up x 0 (declared_before bs place) ≡ 0 → look_up x 0 (declared_before bs stop) ≡ (length (declared_before bs place) + 1 if same x (bytes_between bs place stop) else 0)

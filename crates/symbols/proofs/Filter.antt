@@ -1,10 +1,10 @@
 -- A Bloom filter: a mark that is set is there, and takes no other away. For `declare`. The hash of a name byte by byte. For `hash_of`.
-use Rattle.std.proofs.Common.{◌≡◌, refl, sym, ap, ap₂, ◌∙◌, Bool, true, false, List, ℕ, ◌+◌, ◌*◌, ◌/◌, ◌%◌, ◌<◌, ◌≤◌, max, suc-le-suc, le_of_suc-le-suc, arith, bit_or, eqb, add-one, length, get_or, length-set, drop, drop_of_length-le, get_or-set_same, get_or-set_other, drop-cons, eqb-true, eq-eqb}
+use Rattle.std.proofs.Common.{◌≡◌, refl, sym, ap, ap₂, ◌∙◌, Bool, true, false, List, [], ◌∷◌, fold, ℕ, ◌+◌, ◌*◌, ◌/◌, ◌%◌, ◌<◌, max, suc-le-suc, le_of_suc-le-suc, arith, bit_or, eqb, length, get_or, length-set, get_or-set_same, get_or-set_other, eqb-true, eq-eqb}
 use native.Mathlib.Nat.{max-le}
 use lib.Arith.{bin_ind, digits_mod}
 use lib.Bits.{or_step, or_shr, or_comm, or_self}
 use borrow.Author.Tests.{eqb-false}
-use Rattle.symbols.specs.Hash.{hashes, filter_words, mix, hash_from, cell_at, mask_of, is_marked, with_mark}
+use Rattle.symbols.specs.Hash.{hashes, filter_words, mix, hash, hash_from, cell_at, mask_of, is_marked, with_mark}
 
 below_two : (x : ℕ) → x % 2 < 2
 below_two x = omega arith
@@ -60,11 +60,11 @@ module _ (filter : List ℕ) (h : ℕ) (inside : cell_at h < length filter) wher
 
 -- ---- the hash of a name, byte by byte
 
-module _ (name : List ℕ) (h i : ℕ) where
-  pub hash-on : i < length name → hash_from h (drop i name) ≡ hash_from (mix h (get_or name i 0)) (drop (i + 1) name)
-  unfolding hash_from
-  hash-on l = rw (add-one i, drop-cons name i 0 l)
+hash_on : (h : ℕ) (xs : List ℕ) → hash_from h xs ≡ mix (fold mix h xs) 0
+unfolding hash_from
+hash_on h [] = refl
+hash_on h (x ∷ xs) = hash_on (mix h x) xs
 
-  pub hash-end : length name ≤ i → hash_from h (drop i name) ≡ mix h 0
-  unfolding hash_from
-  hash-end l = rw (drop_of_length-le name l)
+pub hash_folds : (xs : List ℕ) → hash xs ≡ mix (fold mix 0 xs) 0
+unfolding hash
+hash_folds xs = hash_on 0 xs

@@ -7,7 +7,7 @@ use Rattle.tokens.specs.Byte.{is_gap}
 use Rattle.tokens.specs.Token.{tokens_from, token_length, sort_of}
 use Rattle.tokens.specs.Unread.{bytes_between, unread, spanned, Met}
 use Rattle.tokens.specs.declared.Span.{Span}
-use Rattle.tokens.proofs.Places.{met-token}
+use Rattle.tokens.specs.Sorts.{sort_number}
 use Rattle.names.specs.Name.{look_up, declared_from}
 use Rattle.symbols.specs.Hash.{filter_words}
 use Rattle.symbols.specs.Symbol.{declared_before, number_in, AddsName, Indexed}
@@ -46,39 +46,39 @@ many : (c : Bool) (k : ℕ) (y : List ℕ) → k + length (y ∷ [] if c else []
 many true k y = refl
 many false k y = add-zero k
 
-module _ {bs : List ℕ} {i k : ℕ} {colon : Bool} (r : Reached bs i k colon) {t : Span} (m : Met bs i t) (some : t.sort ≡ 257 → ⊥) where
+module _ {bs : List ℕ} {i k : ℕ} {colon : Bool} (r : Reached bs i k colon) {t : Span} (m : Met bs i t) where
   abbrev name : List ℕ
   name = bytes_between bs t.place t.stop
 
   -- the names declared before the token
   none : declared_from colon t.place (unread bs i) ≡ []
   unfolding declared_from spanned
-  none = rw (met-token m some, le-ltb t.place t.place (omega arith))
+  none = rw (m.found, le-ltb t.place t.place (omega arith))
 
   pub at-token : declared_before bs t.place ≡ declared_before bs i
   at-token = r.on t.place m.onward ∙ ap (λ (l : List (List ℕ)). declared_before bs i ++ l) none ∙ append-nil (declared_before bs i)
 
-  past : (p : ℕ) → t.place < p → declared_from colon p (unread bs i) ≡ (name ∷ declared_from (eqb t.sort 58) p (unread bs t.stop) if colon else declared_from (eqb t.sort 58) p (unread bs t.stop))
+  past : (p : ℕ) → t.place < p → declared_from colon p (unread bs i) ≡ (name ∷ declared_from (eqb (sort_number t.sort) 58) p (unread bs t.stop) if colon else declared_from (eqb (sort_number t.sort) 58) p (unread bs t.stop))
   unfolding declared_from spanned
-  past p h = rw (met-token m some, lt-ltb t.place p h)
+  past p h = rw (m.found, lt-ltb t.place p h)
 
-  all_past : (p : ℕ) → t.place < p → declared_before bs p ≡ (declared_before bs t.place ++ (name ∷ [] if colon else [])) ++ declared_from (eqb t.sort 58) p (unread bs t.stop)
+  all_past : (p : ℕ) → t.place < p → declared_before bs p ≡ (declared_before bs t.place ++ (name ∷ [] if colon else [])) ++ declared_from (eqb (sort_number t.sort) 58) p (unread bs t.stop)
   all_past p h =
-      r.on p (omega (arith, m.onward, h)) ∙ ap (λ (l : List (List ℕ)). declared_before bs i ++ l) (past p h) ∙ ap (λ (l : List (List ℕ)). l ++ (name ∷ declared_from (eqb t.sort 58) p (unread bs t.stop) if colon else declared_from (eqb t.sort 58) p (unread bs t.stop))) (sym at-token)
-      ∙ one_more colon (declared_before bs t.place) (declared_from (eqb t.sort 58) p (unread bs t.stop)) name
+      r.on p (omega (arith, m.onward, h)) ∙ ap (λ (l : List (List ℕ)). declared_before bs i ++ l) (past p h) ∙ ap (λ (l : List (List ℕ)). l ++ (name ∷ declared_from (eqb (sort_number t.sort) 58) p (unread bs t.stop) if colon else declared_from (eqb (sort_number t.sort) 58) p (unread bs t.stop))) (sym at-token)
+      ∙ one_more colon (declared_before bs t.place) (declared_from (eqb (sort_number t.sort) 58) p (unread bs t.stop)) name
 
   pub declares : AddsName bs t.place t.stop colon
-  declares = record { names = all_past t.stop (m.longer some) ∙ ap (λ (l : List (List ℕ)). (declared_before bs t.place ++ (name ∷ [] if colon else [])) ++ l) (none_here (eqb t.sort 58) bs t.stop) ∙ append-nil (declared_before bs t.place ++ (name ∷ [] if colon else [])) }
+  declares = record { names = all_past t.stop (m.longer) ∙ ap (λ (l : List (List ℕ)). (declared_before bs t.place ++ (name ∷ [] if colon else [])) ++ l) (none_here (eqb (sort_number t.sort) 58) bs t.stop) ∙ append-nil (declared_before bs t.place ++ (name ∷ [] if colon else [])) }
 
   fewer : (c : Bool) → (k + 1 if c else k) ≤ t.stop
-  fewer true = omega (arith, r.few, m.onward, m.longer some)
-  fewer false = omega (arith, r.few, m.onward, m.longer some)
+  fewer true = omega (arith, r.few, m.onward, m.longer)
+  fewer false = omega (arith, r.few, m.onward, m.longer)
 
-  pub next : Reached bs t.stop (k + 1 if colon else k) (eqb t.sort 58)
+  pub next : Reached bs t.stop (k + 1 if colon else k) (eqb (sort_number t.sort) 58)
   next = record {
     count = ap length declares.names ∙ length-append (declared_before bs t.place) (name ∷ [] if colon else []) ∙ ap (λ (l : List (List ℕ)). length l + length (name ∷ [] if colon else [])) at-token ∙ ap (λ (n : ℕ). n + length (name ∷ [] if colon else [])) r.count ∙ many colon k name;
     few = fewer colon;
-    on = λ p h. all_past p (omega (arith, h, m.longer some)) ∙ ap (λ (l : List (List ℕ)). l ++ declared_from (eqb t.sort 58) p (unread bs t.stop)) (sym declares.names);
+    on = λ p h. all_past p (omega (arith, h, m.longer)) ∙ ap (λ (l : List (List ℕ)). l ++ declared_from (eqb (sort_number t.sort) 58) p (unread bs t.stop)) (sym declares.names);
   }
 
 -- a symbol table at one of two places with the same names before them is one at the other
@@ -105,15 +105,15 @@ empty bs m = record {
   };
 }
 
-module _ {bs : List ℕ} {i k : ℕ} {colon : Bool} {filter slots : List ℕ} (b : Tabled bs i k colon filter slots) {t : Span} (m : Met bs i t) (some : t.sort ≡ 257 → ⊥) where
+module _ {bs : List ℕ} {i k : ℕ} {colon : Bool} {filter slots : List ℕ} (b : Tabled bs i k colon filter slots) {t : Span} (m : Met bs i t) where
   pub index-here : Indexed bs t.place filter slots
-  index-here = same_index (at-token b.reached m some) b.index
+  index-here = same_index (at-token b.reached m) b.index
 
   pub count-here : length (declared_before bs t.place) ≡ k
-  count-here = ap length (at-token b.reached m some) ∙ b.reached.count
+  count-here = ap length (at-token b.reached m) ∙ b.reached.count
 
-  pub next-table : {after taken : List ℕ} {n : ℕ} → n ≡ (k + 1 if colon else k) → Indexed bs t.stop after taken → Tabled bs t.stop n (eqb t.sort 58) after taken
-  next-table e x = record { reached = rw e (next b.reached m some); index = x }
+  pub next-table : {after taken : List ℕ} {n : ℕ} → n ≡ (k + 1 if colon else k) → Indexed bs t.stop after taken → Tabled bs t.stop n (eqb (sort_number t.sort) 58) after taken
+  next-table e x = record { reached = rw e (next b.reached m); index = x }
 
 -- the table at the end of the text
 pub index-end : {bs : List ℕ} {i k : ℕ} {colon : Bool} {filter slots : List ℕ} → Tabled bs i k colon filter slots → i ≤ length bs → unread bs i ≡ [] → Indexed bs (length bs) filter slots

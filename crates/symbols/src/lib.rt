@@ -1,14 +1,15 @@
 // The symbol table of a FlatZinc text: a Bloom filter of the declared names, and slots that have the place and the number of most of them.
 #![tactic(auto)]
 
-ghost use Rattle.std.specs.Prelude.{◌≡◌, ◌⊎◌, ℕ, ◌+◌, ◌-◌, ◌<◌, ◌≤◌, length, get_or};
+ghost use Rattle.std.specs.Prelude.{◌≡◌, ◌⊎◌, ◌+◌, ◌-◌, ◌<◌, ℕ, get_or, IfSome};
 ghost use Rattle.integers.specs.Choice.{◌if◌else◌};
-ghost use Rattle.tokens.specs.Unread.{bytes_between};
 ghost use Rattle.names.specs.Name.{look_up};
-ghost use Rattle.symbols.specs.Hash.{hashes, filter_words, mix, hash, cell_at, hash_bit, mask_of, is_marked, with_mark};
+ghost use Rattle.names.specs.Found.{found_number};
+ghost use Rattle.symbols.specs.Hash.{filter_words, mix, hash, cell_at, hash_bit, mask_of, is_marked, with_mark};
 ghost use Rattle.symbols.specs.Symbol.{declared_before, number_in, place_in, length_in, Right, Slots, Indexed, Enterable};
 
-use names::{same_bytes, variable_of};
+use names::variable_of;
+use tokens::Span;
 
 // the words of the filter, of 64 bits, and the slots: one for each name of the longest model
 pub const FILTER: usize = 16384;
@@ -18,56 +19,48 @@ pub const SLOTS: usize = 8192;
 // how many slots a name may stand in
 const PROBES: usize = 32;
 
-// a hash is below HASHES; MULTIPLIER is that over the golden ratio, and a product's middle bits begin at MIDDLE, those that choose a word of the filter at TOP
+// a hash is below HASHES; MULTIPLIER is that over the golden ratio
 const HASHES: u64 = 4294967296;
 
 const MULTIPLIER: u64 = 2654435769;
-
-const MIDDLE: u64 = 65536;
-
-const TOP: u64 = 1125899906842624;
 
 // a slot has a number, a place below PLACES and a length below LENGTHS
 const PLACES: u64 = 4294967296;
 
 const LENGTHS: u64 = 64;
 
-// A byte as a number.
-fn wide(b: u8) -> u64
-    ensures { (result ≡ b) × (result < 256) }
-{
-    b as u64
+// The names declared up to a place of a text; a table of its own, since a map of the library takes memory from the heap.
+#[derive(Drop)]
+pub struct Symbols {
+    // the bits of each name
+    pub filter: [u64; FILTER],
+    // the place and the number of most, 0 for none: as many of `Option` would take twice as long to clear
+    pub slots: [u64; SLOTS],
 }
 
-// A hash and one byte more.
+// A hash and one byte more: the middle bits of a product.
 #[tactic(auto, unfolding(crate::specs::Hash::mix))]
-fn mixed(h: u64, b: u64) -> u64
-    requires { (h < hashes) × (b < 256) }
-    ensures { (result ≡ mix h b) × (result < hashes) }
+fn mixed(h: u32, b: u8) -> u32
+    ensures { result ≡ mix h b }
 {
-    (h + b) * MULTIPLIER / MIDDLE % HASHES
+    (((u64::from(h) + u64::from(b)) * MULTIPLIER >> 16) % HASHES) as u32
 }
 
 // The hash of a name.
-fn hash_of(name: &[u8]) -> u64
-    ensures { (result ≡ hash name.now) × (result < hashes) }
+#[tactic(auto, using(crate::proofs::Filter::hash_folds))]
+fn hash_of(name: &[u8]) -> u32
+    ensures { result ≡ hash name.now }
 {
-    let mut h = 0;
-    let mut i = 0;
-    while i < name.len() {
-        h = mixed(h, wide(name[i]));
-        i += 1;
-    }
+    let h = name.iter().fold(0, |h, &b| mixed(h, b));
     mixed(h, 0)
 }
 
 // The word of the filter that has the bits of a hash.
 #[tactic(auto, unfolding(crate::specs::Hash::cell_at))]
-fn cell_of(h: u64) -> usize
-    requires { h < hashes }
+fn cell_of(h: u32) -> usize
     ensures { (result ≡ cell_at h) × (result < filter_words) }
 {
-    (h * MULTIPLIER / TOP) as usize
+    (u64::from(h) * MULTIPLIER >> 50) as usize
 }
 
 // One bit of a word.
@@ -75,34 +68,30 @@ fn cell_of(h: u64) -> usize
 fn bit_of(g: u64) -> u64
     ensures { result ≡ hash_bit g }
 {
-    1u64 << (g % 64)
+    1 << (g % 64)
 }
 
 // The bits of a hash.
 #[tactic(auto, unfolding(crate::specs::Hash::mask_of))]
-fn mask_of(h: u64) -> u64
-    requires { h < hashes }
+fn mask_of(h: u32) -> u64
     ensures { result ≡ mask_of h }
 {
-    let g = h * MULTIPLIER;
+    let g = u64::from(h) * MULTIPLIER;
     bit_of(g >> 44) | bit_of(g >> 38) | bit_of(g >> 32) | bit_of(g >> 26)
 }
 
 // Whether the bits of a hash are set.
 #[tactic(auto, unfolding(crate::specs::Hash::is_marked))]
-fn is_marked(filter: &[u64; FILTER], h: u64) -> bool
-    requires { h < hashes }
+fn is_marked(filter: &[u64; FILTER], h: u32) -> bool
     ensures { result ≡ is_marked filter.now h }
 {
-    let c = cell_of(h);
-    let w = filter[c];
+    let w = filter[cell_of(h)];
     w | mask_of(h) == w
 }
 
 // Sets the bits of a hash.
 #[tactic(auto, unfolding(crate::specs::Hash::with_mark))]
-fn mark(filter: &mut [u64; FILTER], h: u64)
-    requires { h < hashes }
+fn mark(filter: &mut [u64; FILTER], h: u32)
     ensures { filter.new ≡ with_mark filter.old h }
 {
     let c = cell_of(h);
@@ -110,119 +99,99 @@ fn mark(filter: &mut [u64; FILTER], h: u64)
     filter[c] = w | mask_of(h);
 }
 
-// The number in a slot, if the name that it has the place of is the one between two places; else 0.
-fn number_in(text: &[u8], e: u64, place: usize, stop: usize) -> usize
-    requires { (place ≤ stop) × (stop ≤ length text.now) × ((number_in e ≡ 0 → ⊥) → Right text.now place e) }
-    ensures { (result ≡ 0 → ⊥) → look_up (bytes_between text.now place stop) 0 (declared_before text.now place) ≡ result }
+// The number of the variable that a slot has, if the name that it has the place of is this one.
+fn number_in(text: &[u8], e: u64, place: usize, name: &[u8]) -> Option<usize>
+    requires { (number_in e ≡ 0 → ⊥) → Right text.now place e }
+    ensures { IfSome result (λ v. look_up name.now 0 (declared_before text.now place) ≡ v + 1) }
 {
-    let n = (e / LENGTHS / PLACES) as usize;
-    if n == 0 {
-        return 0;
+    let number = (e / LENGTHS / PLACES) as usize;
+    if number == 0 {
+        return None;
     }
     let from = (e / LENGTHS % PLACES) as usize;
     let to = from + (e % LENGTHS) as usize;
-    if same_bytes(&text[place..stop], &text[from..to]) {
-        return n;
+    if name == &text[from..to] {
+        return Some(number - 1);
     }
-    0
+    None
 }
 
-// The number of the variable whose name stands between two places, if a slot has it; else 0.
-fn number_of(text: &[u8], slots: &[u64; SLOTS], h: u64, place: usize, stop: usize) -> usize
-    requires { (h < hashes) × (place ≤ stop) × (stop ≤ length text.now) × Slots text.now place slots.now }
-    ensures { (result ≡ 0 → ⊥) → look_up (bytes_between text.now place stop) 0 (declared_before text.now place) ≡ result }
+// The number of the variable of a name, if a slot has it.
+fn number_of(text: &[u8], slots: &[u64; SLOTS], h: u32, place: usize, name: &[u8]) -> Option<usize>
+    requires { Slots text.now place slots.now }
+    ensures { IfSome result (λ v. look_up name.now 0 (declared_before text.now place) ≡ v + 1) }
 {
-    let mut j = 0;
-    while j < PROBES {
-        let s = (h as usize + j) % SLOTS;
-        let e = slots[s];
+    for j in 0..PROBES {
+        let e = slots[(h as usize + j) % SLOTS];
         if e == 0 {
-            return 0;
+            return None;
         }
-        let n = number_in(text, e, place, stop);
-        if n != 0 {
-            return n;
+        let number = number_in(text, e, place, name);
+        if number.is_some() {
+            return number;
         }
-        j += 1;
     }
-    0
+    None
 }
 
-// 1 more than the number of the variable whose name stands between two places, 0 if it is not declared before them.
-pub fn variable_in(
-    text: &[u8],
-    filter: &[u64; FILTER],
-    slots: &[u64; SLOTS],
-    place: usize,
-    stop: usize,
-) -> usize
-    requires { (place ≤ stop) × (stop ≤ length text.now) × Indexed text.now place filter.now slots.now }
-    ensures { result ≡ look_up (bytes_between text.now place stop) 0 (declared_before text.now place) }
-{
-    let h = hash_of(&text[place..stop]);
-    if is_marked(filter, h) {
-        let n = number_of(text, slots, h, place, stop);
-        if n != 0 {
-            return n;
-        }
-        return variable_of(text, place, stop);
-    }
-    0
-}
-
-// The word of a slot for variable k and its name, 0 if a number is too large for it.
+// The word of a slot for a variable and its name; that of an empty slot, 0, if a number is too large for it.
 #[tactic(auto, unfolding(crate::specs::Symbol::number_in, crate::specs::Symbol::place_in, crate::specs::Symbol::length_in))]
-fn slot_word(k: usize, place: usize, len: usize) -> u64
-    ensures { (number_in result ≡ 0 → ⊥) → (number_in result ≡ k + 1) × (place_in result ≡ place) × (length_in result ≡ len) }
+fn slot_word(variable: usize, place: usize, bytes: usize) -> u64
+    ensures { (number_in result ≡ 0 → ⊥) → (number_in result ≡ variable + 1) × (place_in result ≡ place) × (length_in result ≡ bytes) }
 {
-    if k < 67108863 {
-        if place < 4294967296 {
-            if len < 64 {
-                return ((k as u64 + 1) * PLACES + place as u64) * LENGTHS + len as u64;
-            }
-        }
+    if variable < 67108863 && place < 4294967296 && bytes < 64 {
+        return ((variable as u64 + 1) * PLACES + place as u64) * LENGTHS + bytes as u64;
     }
     0
 }
 
 // Puts a word to the first empty slot of those that a name may stand in, if there is one.
-fn put_slot(slots: &mut [u64; SLOTS], h: u64, e: u64)
-    requires { h < hashes }
+#[tactic(auto, using(crate::proofs::Entries::set_either))]
+fn put_slot(slots: &mut [u64; SLOTS], h: u32, e: u64)
     ensures { (s : ℕ) → (get_or slots.new s 0 ≡ get_or slots.old s 0) ⊎ (get_or slots.new s 0 ≡ e) }
 {
-    let mut j = 0;
-    while j < PROBES {
+    for j in 0..PROBES {
         let s = (h as usize + j) % SLOTS;
         if slots[s] == 0 {
             slots[s] = e;
             return;
         }
-        j += 1;
     }
 }
 
-// Enters the name between two places as variable k, if it follows a colon, and answers the next number.
-pub fn declare(
-    text: &[u8],
-    filter: &mut [u64; FILTER],
-    slots: &mut [u64; SLOTS],
-    k: usize,
-    colon: bool,
-    place: usize,
-    stop: usize,
-) -> usize
-    requires { Enterable text.now place stop k colon filter.old slots.old }
-    ensures next { result ≡ (k + 1 if colon else k) }
-    ensures index { Indexed text.now stop filter.new slots.new }
-{
-    if colon {
-        let h = hash_of(&text[place..stop]);
-        if is_marked(filter, h) {
+impl Symbols {
+    // The number of the variable of a name, if it is declared before a place.
+    #[tactic(auto, unfolding(crate::specs::Symbol::declared_before))]
+    pub fn variable(&self, text: &[u8], place: usize, name: &[u8]) -> Option<usize>
+        requires { Indexed text.now place self.now.filter self.now.slots }
+        ensures { found_number result ≡ look_up name.now 0 (declared_before text.now place) }
+    {
+        let h = hash_of(name);
+        if !is_marked(&self.filter, h) {
+            return None;
+        }
+        number_of(text, &self.slots, h, place, name).or_else(|| variable_of(text, place, name))
+    }
+
+    // Enters the name that a token is as variable k, if it follows a colon, and answers the next number.
+    pub fn declare(&mut self, text: &[u8], k: usize, colon: bool, token: Span) -> usize
+        requires { Enterable text.now token.place token.stop k colon self.old.filter self.old.slots }
+        ensures next { result ≡ (k + 1 if colon else k) }
+        ensures index { Indexed text.now token.stop self.new.filter self.new.slots }
+    {
+        if !colon {
+            return k;
+        }
+        let h = hash_of(token.bytes(text));
+        if is_marked(&self.filter, h) {
             return k + 1;
         }
-        put_slot(slots, h, slot_word(k, place, stop - place));
-        mark(filter, h);
-        return k + 1;
+        put_slot(
+            &mut self.slots,
+            h,
+            slot_word(k, token.place, token.stop - token.place),
+        );
+        mark(&mut self.filter, h);
+        k + 1
     }
-    k
 }

@@ -7,11 +7,11 @@ ghost use Rattle.words.specs.Limit as Limit;
 ghost use Rattle.text.specs.Text.{printed_text};
 
 use inputs::read_full;
-use lines::{put_front, put_refusal, put_too_long};
+use lines::{put_answer, put_too_long};
 use std::io;
 use std::io::{Read, Write};
 use texts::read_text;
-use words::{Written, limit};
+use words::limit;
 
 // The bytes above which it says 16, and one more.
 const MOST: usize = 524288;
@@ -36,10 +36,8 @@ fn text_page(text: &[u8], page: &mut [u8]) -> usize
         return put_too_long(page);
     }
     let mut out = [0u32; limit::MODEL_WORDS];
-    match read_text(text, &mut out) {
-        Written::Refused(r) => put_refusal(page, r),
-        Written::Words(k) => put_front(page, &out, k),
-    }
+    let answer = read_text(text, &mut out);
+    put_answer(page, answer, &out)
 }
 
 // Reads a text to rows of bytes, and prints its words or the refusal. The promises go from the bytes that read_full filled to the bytes that are
@@ -56,7 +54,7 @@ fn print_text<R: Read, W: Write>(
     output.write_all(&page[..end])
 }
 
-// 524,289 bytes are read at most.
+// 524,289 bytes are read at most. Its lines stay in each program, as in rows.
 fn main(rt: HostRuntime) -> io::Result<()> {
     let mut rows = [[0u8; ROW]; ROWS];
     let mut input = rt.stdin().take(BYTES as u64);

@@ -1,17 +1,17 @@
 -- Translate's walk over the constraints: writing the blocks that are left from here gives what writing them all gives.
-use Rattle.std.proofs.Common.{◌≡◌, refl, ap, sym, ◌∙◌, subst, Bool, false, List, ◌∷◌, ◌++◌, ℕ, ◌+◌, ◌≤◌, arith, ℤ, length, drop, length-append, drop_of_length-le}
+use Rattle.std.proofs.Common.{◌≡◌, refl, ap, sym, ◌∙◌, subst, Bool, false, List, ◌∷◌, ◌++◌, ℕ, ◌+◌, ◌≤◌, arith, length, drop, length-append, drop_of_length-le}
 use Rattle.integers.specs.declared.Bounds.{Bounds}
 use Rattle.words.specs.Overlay.{overlay}
 use Rattle.words.proofs.Overlay.{length-overlay, overlay-none, overlay-append}
 use Rattle.models.specs.Model.{Constraint, constraints}
-use Rattle.modelreading.specs.declared.Read.{Read}
+use Rattle.modelreading.specs.declared.Model.{Model}
 use Rattle.rules.specs.Block.{block_words}
 use Rattle.rules.specs.InRange.{outside}
 use Rattle.rules.specs.Shared.{Encoded, none_yet, choice, encodes, encoded_after}
 use Rattle.rules.specs.Translation.{block_of, each_block, blocks_words, all_blocks}
 use Rattle.rules.specs.Check.{too_wide}
 use Rattle.laying.specs.declared.Laid.{Laid}
-use Rattle.extremes.specs.BoundLists.{bounds_of}
+use Rattle.integers.specs.Bounds.{bounds_in}
 use Rattle.encodings.specs.Uses.{shared_by, Recorded}
 use Rattle.encodings.proofs.Record.{none-many, recorded-none, recorded-after, length-after}
 use Rattle.sharing.specs.SharedSolutions.{Passes}
@@ -68,9 +68,9 @@ module _ {β : ℕ → Bounds} {s : ℕ → Bool} {v : ℕ} {cs : List Constrain
 
 -- ---- the whole
 
-module _ {ws hs : List ℕ} {r : Read} {ls us : List ℤ} {uses : List ℕ} (m : ModelBounds ws hs r ls us uses) where
-  pub blocks-are : blocks_words (bounds_of ls us) (shared_by uses) r.variables none_yet (constraints ws) ≡ all_blocks ws
+module _ {ws hs : List ℕ} {r : Model} {Ds : List Bounds} {uses : List ℕ} (m : ModelBounds ws hs r Ds uses) where
+  pub blocks-are : blocks_words (bounds_in Ds) (shared_by uses) r.variables none_yet (constraints ws) ≡ all_blocks ws
   blocks-are = rw (m.same, m.shares, m.seen.variables_counted)
 
-  pub all-fine : Passes ws → Fine (bounds_of ls us) (shared_by uses) r.variables none_yet (constraints ws)
+  pub all-fine : Passes ws → Fine (bounds_in Ds) (shared_by uses) r.variables none_yet (constraints ws)
   all-fine h = rw (m.same, m.shares, m.seen.variables_counted) (passes-fine ws h)

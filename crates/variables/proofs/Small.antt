@@ -12,7 +12,7 @@ use Rattle.words.specs.Small.{Near, Small}
 use Rattle.words.specs.Variables.{starts_pair, variables}
 use Rattle.words.specs.Word.{kind, signed, word_at}
 use Rattle.words.proofs.Judge.{first-outside}
-use Rattle.words.proofs.Word.{between-near, signed-near}
+use Rattle.words.proofs.ReadBack.{between-near, signed-near}
 
 abbrev Narrow : Bounds → Type 0
 Narrow B = Near B.lower × Near B.upper

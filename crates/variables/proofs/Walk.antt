@@ -1,5 +1,5 @@
 -- The walks over the variables: what is left from a place on, and one law for each way a turn ends.
-use Rattle.std.proofs.Common.{◌≡◌, refl, ap, sym, ◌∙◌, Bool, true, false, ◌||◌, List, [], ◌∷◌, ℕ, ◌+◌, ◌<◌, ◌≤◌, arith, eqb, ltb, ℤ, length, get_or, drop, drop_of_length-le, ltb-true, ltb-false}
+use Rattle.std.proofs.Common.{◌≡◌, refl, ap, sym, ◌∙◌, Bool, true, false, ◌||◌, List, [], ◌∷◌, ℕ, ◌+◌, ◌<◌, ◌≤◌, arith, eqb, ℤ, length, get_or, drop, drop_of_length-le}
 use Rattle.integers.specs.Choice.{◌if◌else◌}
 use Rattle.integers.specs.Bounds.{◌to◌, bit, within}
 use Rattle.integers.specs.Terms.{value}
@@ -59,14 +59,6 @@ module _ {ws : List ℕ} {n at : ℕ} (k : VariablesBefore ws n at) where
   pub counted : length ws ≤ at → n ≡ length (variables ws)
   counted h = omega (arith, rw (at_last ws at h) at k.number)
 
-  -- where variables are left, so are words
-  pub words_left : n < length (variables ws) → at < length ws
-  words_left h = go (ltb at (length ws)) refl
-    where
-      go : (b : Bool) → ltb at (length ws) ≡ b → at < length ws
-      go true e = ltb-true _ _ e
-      go false e = absurd (omega (arith, counted (ltb-false _ _ e)))
-
   -- where all are counted, none is left
   pub none_left : n ≡ length (variables ws) → variables (drop at ws) ≡ []
   none_left e = empty (variables (drop at ws)) (omega (arith, k.number))
@@ -80,7 +72,6 @@ abbrev out_from : List ℤ → ℕ → List ℕ → Answer
 out_from vs x ws = first_out_of_bounds (value vs) x (variables ws) holds
 
 pub record Kept (ws : List ℕ) (vs : List ℤ) (x at : ℕ) : Type 0 where
-  pub few : x ≤ at
   pub rest : out_from vs x (drop at ws) ≡ out_from vs 0 ws
 
 module _ {ws : List ℕ} {vs : List ℤ} {x at : ℕ} (k : Kept ws vs x at) where
@@ -88,11 +79,11 @@ module _ {ws : List ℕ} {vs : List ℤ} {x at : ℕ} (k : Kept ws vs x at) wher
   kept = within (pair_bounds (get_or ws at 0) (word_at ws (at + 1))) (value vs x)
 
   pub keep-none : at < length ws → starts (get_or ws at 0) ≡ false → Kept ws vs x (at + 1)
-  keep-none h e = record { few = omega (arith, k.few); rest = rw (at_none ws at h e) at k.rest }
+  keep-none h e = record { rest = rw (at_none ws at h e) at k.rest }
 
   pub keep_one : at < length ws → starts (get_or ws at 0) ≡ true → kept ≡ true → Kept ws vs (x + 1) (at + 1)
   unfolding first_out_of_bounds
-  keep_one h e t = record { few = omega (arith, k.few); rest = rw (at_one ws at h e, t) at k.rest }
+  keep_one h e t = record { rest = rw (at_one ws at h e, t) at k.rest }
 
   pub break_one : at < length ws → starts (get_or ws at 0) ≡ true → kept ≡ false → out_of_bounds x ≡ out_from vs 0 ws
   unfolding first_out_of_bounds

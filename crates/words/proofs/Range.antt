@@ -10,7 +10,7 @@ use Rattle.integers.proofs.Tests.{says-not, false-true}
 use Rattle.words.specs.Kind as Kind
 use Rattle.words.specs.Limit as Limit
 use Rattle.words.specs.Word.{kind, payload, signed, in_range, too_low}
-use Rattle.words.proofs.Word.{says_range}
+use Rattle.words.proofs.ReadBack.{says_range}
 
 -- a payload without fault 18 is in the range
 pub not_too_low : (w : ℕ) → too_low Limit.range w ≡ false → in_range (signed w) ≡ true

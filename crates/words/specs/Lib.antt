@@ -1,5 +1,6 @@
 -- What the contracts cite: words, the named numbers of documents 01 and 02, text as bytes, laying words over a list, faults and answers, both judges.
 pub mod Kind
+pub mod Kinds
 pub mod Limit
 pub mod Fault
 pub mod Word
@@ -10,6 +11,7 @@ pub mod Overlay
 pub mod LaidAt
 pub mod Refusal
 pub mod Answer
+pub mod Faults
 pub mod Judge
 pub mod Verdict
 pub mod Written

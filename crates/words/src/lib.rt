@@ -9,9 +9,13 @@ ghost use Rattle.words.specs.Overlay.{overlay};
 ghost use Rattle.words.specs.Answer.{is_holds};
 ghost use Rattle.words.specs.Verdict.{verdict};
 
+pub mod answer;
+pub mod domain;
 pub mod fault;
 pub mod kind;
 pub mod limit;
+pub mod list;
+pub mod word;
 
 // A fault and its place; number 0 is no fault.
 #[repr(C)]

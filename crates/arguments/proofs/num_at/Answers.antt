@@ -1,9 +1,7 @@
--- The signed payload of the word that is read.
-use Rattle.std.proofs.Common.{◌∙◌}
-use Rattle.models.specs.Model.{num}
+-- A signed payload is near 0.
+use Rattle.words.proofs.ReadBack.{signed-near}
 use Rattle.arguments.proofs.Size.{read}
 use Rattle.arguments.proofs.num_at.Goals as goal
 
-pub returns : goal.returns
-unfolding num
-returns c = read c.signed_of.type_inv c.signed_of.ensures ∙ rw c.word_at.ensures
+pub returns-clause-near : goal.returns-clause-near
+returns-clause-near c = rw (read c.signed.type_inv c.signed.ensures) (signed-near c.at.result)

@@ -9,7 +9,7 @@ use Rattle.bitchecks.proofs.check_rows.Goals as goal
 pub returns-then-not-checked : goal.returns-then-not-checked
 returns-then-not-checked c =
     let e = not-true _ c.if-not-checked.true in
-    let said = rw (tail-is c.args.ws.now (c.loop-at.at + 1), c.loop-at.invariant.long) at c.check_row-checked.ensures.tested in
+    let said = rw (tail-is c.args.ws.now (c.loop-at.at + 1), c.from-item.ensures, c.loop-at.invariant.long) at c.check_row-checked.ensures.tested in
     record { tested = checking_fails c.loop-at.invariant c.loop-at-test.true (sym c.starts_row.ensures ∙ c.if-starts_row.true) said e; summed = λ t. false-true (sym e ∙ t) }
 
 pub plus-constant-requires : goal.plus-constant-requires
@@ -20,8 +20,8 @@ pub loop-at-preserved-then-starts_row : goal.loop-at-preserved-then-starts_row
 loop-at-preserved-then-starts_row c =
     let tail = tail-is c.args.ws.now (c.loop-at.at + 1) in
     checking_one c.loop-at.invariant c.loop-at-test.true (sym c.starts_row.ensures ∙ c.if-starts_row.true) (not-false _ c.if-not-checked.false)
-    (rw (tail, c.loop-at.invariant.long) at c.check_row-checked.ensures) c.own_bits-first.ensures.1 (rw tail at (c.own_bits-first.ensures.0 c.args.firsts.now c.loop-at.first)) c.check_row-checked.auto.row
-    (back c.plus-constant.result c.plus-constant.type_inv ∙ rw (back c.check_row-checked.result.constant (search rules)) at c.plus-constant.ensures)
+    (rw (tail, c.from-item.ensures, c.loop-at.invariant.long) at c.check_row-checked.ensures) c.own_bits-first.ensures.few (rw (tail, c.from-item.ensures) at (c.own_bits-first.ensures.value c.args.firsts.now c.loop-at.first)) c.check_row-checked.auto.row
+    (back c.plus-constant.result c.plus-constant.type_inv ∙ rw (back c.check_row-checked.result.constant (search rules)) at c.plus-constant.ensures.value)
 
 pub loop-at-preserved : goal.loop-at-preserved
 loop-at-preserved c =
@@ -32,4 +32,4 @@ returns c =
     checking_done c.loop-at.invariant c.loop-at-test.false
 
 pub loop-at-init : goal.loop-at-init
-loop-at-init c = checking_begun _ _ _ _ _ _
+loop-at-init c = checking_begun _ _ _ _ _

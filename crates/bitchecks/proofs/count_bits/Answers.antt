@@ -5,8 +5,8 @@ use Rattle.bitchecks.proofs.count_bits.Goals as goal
 
 pub loop-at-preserved-then-starts_row : goal.loop-at-preserved-then-starts_row
 loop-at-preserved-then-starts_row c =
-    counting_one c.loop-at.invariant c.loop-at-test.true (sym c.starts_row.ensures ∙ c.if-starts_row.true) c.own_bits-first.ensures.1
-    (rw (tail-is c.args.ws.now (c.loop-at.at + 1)) at c.own_bits-first.ensures.0)
+    counting_one c.loop-at.invariant c.loop-at-test.true (sym c.starts_row.ensures ∙ c.if-starts_row.true) c.own_bits-first.ensures.few
+    (rw (tail-is c.args.ws.now (c.loop-at.at + 1), c.from.ensures) at c.own_bits-first.ensures.value)
 
 pub loop-at-preserved : goal.loop-at-preserved
 loop-at-preserved c =

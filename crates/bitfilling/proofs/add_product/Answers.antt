@@ -7,4 +7,4 @@ pub returns : goal.returns
 returns c =
     c.add_crossed.ensures
     ∙ rw (c.add_less_lower-2.ensures.sum, c.add_less_lower.ensures.sum, c.add_variable.ensures.sum, c.row_variable.ensures, c.row_variable-f.ensures, c.row_variable-g.ensures)
-    (product-added c.args.row.now c.args.ls.now c.args.us.now c.args.firsts.now c.args.first _ _ _)
+    (product-added c.args.row.now c.args.domains.now c.args.firsts.now c.args.first _ _ _)

@@ -5,4 +5,4 @@ use Rattle.bitfilling.proofs.add_slacked.Goals as goal
 
 pub returns : goal.returns
 returns c =
-    c.add_weights.ensures.1 ∙ rw (c.slack_of.ensures.0, c.add_terms.ensures.sum) (slacked_added c.args.row.now c.args.ls.now c.args.us.now c.args.firsts.now c.args.first _ _)
+    c.add_weights.ensures.1 ∙ rw (c.slack_of.ensures.value, c.add_terms.ensures.sum) (slacked_added c.args.row.now c.args.domains.now c.args.firsts.now c.args.first _ _)

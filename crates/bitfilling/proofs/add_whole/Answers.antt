@@ -7,9 +7,9 @@ use Rattle.bitfilling.proofs.add_whole.Goals as goal
 
 pub add_square-requires : goal.add_square-requires
 add_square-requires c =
-    let f = fits-sizes (length c.args.row.now) (row_by c.args.ls.now c.args.us.now c.args.firsts.now c.args.first c.args.head c.args.args.now) c.requires.fits in (
+    let f = fits-sizes (length c.args.row.now) (row_by c.args.domains.now c.args.firsts.now c.args.first c.args.head c.args.args.now) c.requires.fits in (
       rw c.fill_row.ensures f.1,
-      rw (read c.row_constant.type_inv (c.row_constant.ensures c.args.us.now c.args.firsts.now c.args.first)) f.0,
+      rw (read c.row_constant.type_inv (c.row_constant.ensures c.args.firsts.now c.args.first)) f.0,
       c.requires.bit_lists.2,
       omega (arith, c.requires.bit_lists.3),
     )

@@ -1,7 +1,6 @@
 -- By the kind of the head, from a list of zeros.
-use Rattle.std.proofs.Common.{sym, ◌∙◌, arith, length, eq-eqb, ne_eqb}
+use Rattle.std.proofs.Common.{sym, ◌∙◌, arith, length}
 use Rattle.rowsystems.specs.RowSystem.{terms_in, constant_in}
-use Rattle.rowsystems.proofs.Sizes.{count-few}
 use Rattle.bitrows.proofs.Constant.{row_at_most, row-equal, row-product}
 use Rattle.bitfilling.specs.Filled.{dense}
 use Rattle.bitfilling.proofs.Filling.{zeros-peak, equal-added}
@@ -9,21 +8,21 @@ use Rattle.bitfilling.proofs.fill_row.Goals as goal
 
 pub add_slacked-requires : goal.add_slacked-requires
 add_slacked-requires c =
-    (c.requires.0, omega (arith, c.term_count.ensures, count-few c.args.head), c.requires.1, rw c.clear.ensures (omega (arith, zeros-peak (length c.args.row.now))))
+    (c.requires.0, c.sum_terms.ensures.few, c.requires.1, rw c.clear.ensures (omega (arith, zeros-peak (length c.args.row.now))))
 
-pub returns-then-k-eq-AT_MOST : goal.returns-then-k-eq-AT_MOST
+pub returns-then-is : goal.returns-then-is
 unfolding dense
-returns-then-k-eq-AT_MOST c =
-    rw (row_at_most c.args.head c.args.args.now (eq-eqb _ _ (sym c.kind_of-k.ensures ∙ c.if-k-eq-AT_MOST.true)), ← c.term_count.ensures, ← c.clear.ensures) c.add_slacked.ensures
+returns-then-is c =
+    rw (row_at_most c.args.head c.args.args.now (sym c.is.ensures ∙ c.if-is.true), ← c.sum_terms.ensures.value, ← c.clear.ensures) c.add_slacked.ensures
 
 pub add_terms-requires : goal.add_terms-requires
 add_terms-requires c =
-    (c.requires.0, omega (arith, c.term_count-then-k-eq-EQUAL.ensures, count-few c.args.head), rw c.clear.ensures (omega (arith, zeros-peak (length c.args.row.now))))
+    (c.requires.0, c.sum_terms-then-is-2.ensures.few, rw c.clear.ensures (omega (arith, zeros-peak (length c.args.row.now))))
 
-pub returns-then-k-eq-EQUAL : goal.returns-then-k-eq-EQUAL
+pub returns-then-is-2 : goal.returns-then-is-2
 unfolding dense
-returns-then-k-eq-EQUAL c =
-    rw (row-equal c.args.head c.args.args.now (ne_eqb _ _ (λ e. c.if-k-eq-AT_MOST.false (c.kind_of-k.ensures ∙ e))) (eq-eqb _ _ (sym c.kind_of-k.ensures ∙ c.if-k-eq-EQUAL.true)), ← c.term_count-then-k-eq-EQUAL.ensures, ← c.clear.ensures) (c.add_terms.ensures.sum ∙ equal-added _ c.args.ls.now c.args.us.now c.args.firsts.now c.args.first (terms_in c.args.args.now c.term_count-then-k-eq-EQUAL.result) (constant_in c.args.args.now c.term_count-then-k-eq-EQUAL.result))
+returns-then-is-2 c =
+    rw (row-equal c.args.head c.args.args.now (sym c.is.ensures ∙ c.if-is.false) (sym c.is-2.ensures ∙ c.if-is-2.true), ← c.sum_terms-then-is-2.ensures.value, ← c.clear.ensures) (c.add_terms.ensures.sum ∙ equal-added _ c.args.domains.now c.args.firsts.now c.args.first (terms_in c.args.args.now c.sum_terms-then-is-2.result) (constant_in c.args.args.now c.sum_terms-then-is-2.result))
 
 pub add_product-requires : goal.add_product-requires
 add_product-requires c =
@@ -32,4 +31,4 @@ add_product-requires c =
 pub returns : goal.returns
 unfolding dense
 returns c =
-    rw (row-product c.args.head c.args.args.now (ne_eqb _ _ (λ e. c.if-k-eq-AT_MOST.false (c.kind_of-k.ensures ∙ e))) (ne_eqb _ _ (λ e. c.if-k-eq-EQUAL.false (c.kind_of-k.ensures ∙ e))), ← c.clear.ensures) c.add_product.ensures
+    rw (row-product c.args.head c.args.args.now (sym c.is.ensures ∙ c.if-is.false) (sym c.is-2.ensures ∙ c.if-is-2.false), ← c.clear.ensures) c.add_product.ensures

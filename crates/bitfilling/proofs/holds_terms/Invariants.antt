@@ -1,11 +1,8 @@
 -- The invariant: no term passed has the bit.
-use Rattle.std.proofs.Common.{ℕ, ◌-◌, ◌<◌, ◌≤◌}
+use Rattle.std.proofs.Common.{ℕ, ◌<◌}
 use Rattle.bitrows.specs.Terms.{term_in}
 use Rattle.bitfilling.specs.Idle.{NoBitOf, Idle}
 use Rattle.bitfilling.proofs.holds_terms.Given as goal
 
 abbrev pub invariant-loop-k : goal.invariant-loop-k
-invariant-loop-k l = (l.k ≤ l.n) × ((j : ℕ) → j < l.k → Idle (NoBitOf l.firsts l.counts l.i) (term_in l.args j))
-
-abbrev pub decreases-loop-k : goal.decreases-loop-k
-decreases-loop-k l = l.n - l.k
+invariant-loop-k l = (j : ℕ) → j < l.k → Idle (NoBitOf l.firsts l.counts l.i) (term_in l.args j)

@@ -2,4 +2,4 @@
 use Rattle.bitfilling.proofs.holds_variable.Goals as goal
 
 pub returns : goal.returns
-returns c = rw (c.table_entry.ensures, c.table_entry-2.ensures) at c.among.ensures
+returns c = rw (c.at_or.ensures, c.at_or-2.ensures) at c.among.ensures

@@ -1,23 +1,23 @@
 -- The reader's fault, or what comes after; and what the words say.
-use Rattle.std.proofs.Common.{sym, ap, ◌∙◌}
+use Rattle.std.proofs.Common.{sym}
+use Rattle.std.proofs.lemmas.Result.{err_from_is_err_and}
+use Rattle.words.proofs.Faulty.{fault-number}
 use Rattle.bitsharing.proofs.Written.{shares_of}
-use Rattle.words.specs.Written.{wrote}
 use Rattle.bitform.proofs.Answers.{stands}
-use Rattle.bitform.proofs.Accepted.{accepts}
 use Rattle.bitform.proofs.bit_form.Goals as goal
 
-pub returns-then-read-ne-NONE : goal.returns-then-read-ne-NONE
-unfolding wrote
-returns-then-read-ne-NONE c =
-    let a = stands c.args.ws.now c.args.out.now c.read_rows-read.result c.read_rows-read.ensures c.if-read-ne-NONE.true in
+pub returns-in_err-read_rows : goal.returns-in_err-read_rows
+returns-in_err-read_rows c =
+    let p = err_from_is_err_and c.from_residual.result c.from_residual.ensures.1 in
+    let a = stands c.args.ws.now c.args.out.now _ c.in_err-read_rows.ensures.reads (fault-number _) in
     record {
-      answer = a.says;
+      answer = rw (p.1, p.2) a.says;
       output = a.holds;
-      shared = shares_of c.args.ws.now c.args.out.now a.says a.holds;
+      shared = rw (p.1, p.2) (shares_of c.args.ws.now c.args.out.now a.says a.holds);
     }
 
 pub form_accepted-requires : goal.form_accepted-requires
-form_accepted-requires c = accepts c.args.ws.now (ap (λ r. r.number) (sym c.read_rows-read.ensures) ∙ c.if-read-ne-NONE.false)
+form_accepted-requires c = sym c.in_ok-read_rows.ensures.reads
 
 pub returns : goal.returns
 returns c =

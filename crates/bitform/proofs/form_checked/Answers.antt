@@ -22,14 +22,14 @@ constant c y =
 
 pub returns-then-not-checked : goal.returns-then-not-checked
 returns-then-not-checked c =
-    rw c.refuse.ensures (too_large c.args.ws.now c.args.out.now c.requires.0.read (omega (arith, c.requires.0.count, c.requires.0.few)) (row_unfit c.args.ws.now (fits (goal.at.returns-then-not-checked c).After-check_rows-checked ∙ not-true _ c.if-not-checked.true)))
+    too_large c.args.ws.now c.args.out.now c.requires.0.read (omega (arith, c.requires.0.count, c.requires.0.few)) (row_unfit c.args.ws.now (fits (goal.at.returns-then-not-checked c).After-check_rows-checked ∙ not-true _ c.if-not-checked.true))
 
 pub returns-then-not-in_range : goal.returns-then-not-in_range
 returns-then-not-in_range c =
     let y = not-false _ c.if-not-checked.false in
     let b = back c.check_rows-checked.result.constant (search rules) in
     let k = sym (rw (b, constant (goal.at.returns-then-not-in_range c).After-check_rows-checked y) at c.in_range.ensures) ∙ c.if-not-in_range.true in
-    rw c.refuse-then-not-in_range.ensures (too_large c.args.ws.now c.args.out.now c.requires.0.read (omega (arith, c.requires.0.count, c.requires.0.few)) (constant_unfit c.args.ws.now (fits (goal.at.returns-then-not-in_range c).After-check_rows-checked ∙ y) k))
+    too_large c.args.ws.now c.args.out.now c.requires.0.read (omega (arith, c.requires.0.count, c.requires.0.few)) (constant_unfit c.args.ws.now (fits (goal.at.returns-then-not-in_range c).After-check_rows-checked ∙ y) k)
 
 pub form_lines-requires : goal.form_lines-requires
 form_lines-requires c =

@@ -2,7 +2,6 @@
 use Rattle.std.proofs.Common.{◌≡◌, sym, ◌∙◌, true, arith, to_z-of_z, rules}
 use borrow.Author.Tests.{not-true, not-false}
 use Rattle.bitforms.specs.FormAnswer.{form_fits}
-use Rattle.words.specs.Written.{wrote}
 use Rattle.bitform.proofs.Answers.{too_large, too_short, writes}
 use Rattle.bitform.proofs.Pieces.{fits_by, words-length}
 use Rattle.bitform.proofs.form_lines.Goals.{After-put_lines-counted}
@@ -14,13 +13,13 @@ fits c =
 
 pub returns-then-not-counted : goal.returns-then-not-counted
 returns-then-not-counted c =
-    rw c.refuse.ensures (too_large c.args.ws.now c.args.out.now c.requires.bits_listed.0.read (omega (arith, c.requires.bits_listed.0.count, c.requires.bits_listed.0.few)) (fits (goal.at.returns-then-not-counted c).After-put_lines-counted ∙ not-true _ c.if-not-counted.true))
+    too_large c.args.ws.now c.args.out.now c.requires.bits_listed.0.read (omega (arith, c.requires.bits_listed.0.count, c.requires.bits_listed.0.few)) (fits (goal.at.returns-then-not-counted c).After-put_lines-counted ∙ not-true _ c.if-not-counted.true)
 
 pub returns-then-out-end : goal.returns-then-out-end
 returns-then-out-end c =
     let y = not-false _ c.if-not-counted.false in
     let d = rw (c.requires.bits_listed.0.rows_are, c.requires.bits_listed.0.count) at (c.put_lines-counted.ensures.laid y) in
-    rw c.refuse-then-out-end.ensures (too_short c.args.ws.now c.args.out.now c.requires.bits_listed.0.read (omega (arith, c.requires.bits_listed.0.count, c.requires.bits_listed.0.few)) (fits (goal.at.returns-then-out-end c).After-put_lines-counted ∙ y) (omega (arith, words-length c.args.ws.now, d.ends, c.if-out-end.true)))
+    too_short c.args.ws.now c.args.out.now c.requires.bits_listed.0.read (omega (arith, c.requires.bits_listed.0.count, c.requires.bits_listed.0.few)) (fits (goal.at.returns-then-out-end c).After-put_lines-counted ∙ y) (omega (arith, words-length c.args.ws.now, d.ends, c.if-out-end.true))
 
 pub write_form-requires : goal.write_form-requires
 write_form-requires c =
@@ -28,7 +27,6 @@ write_form-requires c =
     (c.requires.bits_listed.0, record { line_size = search rules; row_size = search rules; few = c.requires.bits_listed.0.few }, rw (to_z-of_z c.ranges.c) c.requires.fitting.1, fits (goal.at.write_form-requires c).After-put_lines-counted ∙ y)
 
 pub returns : goal.returns
-unfolding wrote
 returns c =
     let y = not-false _ c.if-not-counted.false in
     let d = rw (c.requires.bits_listed.0.rows_are, c.requires.bits_listed.0.count) at (c.put_lines-counted.ensures.laid y) in

@@ -17,10 +17,6 @@ laid c =
     let y : c.put_lines-put.result.fits ≡ true = c.put_lines-put.ensures.tested ∙ rw (c.requires.0.rows_are, c.requires.0.count) (fits-inside c.args.ws.now c.requires.3).1 in
     rw (c.requires.0.rows_are, c.requires.0.count) at (c.put_lines-put.ensures.laid y)
 
-pub put_end-requires : goal.put_end-requires
-put_end-requires c =
-    omega (arith, (laid (goal.at.put_end-requires c).After-put_lines-put).ends, lines-few (entry_of (bit_rows_of c.args.ws.now)) 0 (bit_count c.args.ws.now) (omega (arith, c.requires.0.count, c.requires.0.few)), c.requires.0.count, c.requires.0.few)
-
 pub overflow_add-result : goal.overflow_add-result
 overflow_add-result c =
     record { fits = omega (arith, (laid (goal.at.overflow_add-result c).After-put_lines-put).ends, lines-few (entry_of (bit_rows_of c.args.ws.now)) 0 (bit_count c.args.ws.now) (omega (arith, c.requires.0.count, c.requires.0.few)), c.requires.0.count, c.requires.0.few) }

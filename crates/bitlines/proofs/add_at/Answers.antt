@@ -14,7 +14,7 @@ plus-requires c =
 pub returns-then-i-row : goal.returns-then-i-row
 unfolding bump
 returns-then-i-row c =
-    rw (back c.plus.result c.plus.type_inv, c.plus.ensures, back (get_or c.args.row.now c.args.i +0) (omega arith), to_z-of_z c.ranges.k) refl
+    rw (back c.plus.result c.plus.type_inv, c.plus.ensures.value, back (get_or c.args.row.now c.args.i +0) (omega arith), to_z-of_z c.ranges.k) refl
 
 pub returns-else-i-row : goal.returns-else-i-row
 unfolding bump

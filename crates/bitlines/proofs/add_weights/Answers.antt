@@ -13,7 +13,7 @@ as-pos c =
     to_z_pos w64 {n = c.lesser-w.result} h ∙ ap pos c.lesser-w.ensures
 
 product : (c : After-times) → to_z w64 (of_z w64 c.times.result) ≡ to_z w64 (of_z w64 c.args.k) ⊗ pos (min c.loop-left.weight c.loop-left.left)
-product c = back c.times.result c.times.type_inv ∙ c.times.ensures ∙ ap (λ w. to_z w64 (of_z w64 c.args.k) ⊗ w) (as-pos c.before.before)
+product c = back c.times.result c.times.type_inv ∙ c.times.ensures.value ∙ ap (λ w. to_z w64 (of_z w64 c.args.k) ⊗ w) (as-pos c.before.before)
 
 pub loop-left-init : goal.loop-left-init
 loop-left-init c =

@@ -1,8 +1,8 @@
-use Rattle.bitrows.proofs.Pairs.{pairing_begun, pairing_more}
+use Rattle.bitrows.proofs.Pairs.{with-none, with-more}
 use Rattle.bitrows.proofs.add_pairs_with.Goals as goal
 
 pub loop-b-init : goal.loop-b-init
-loop-b-init c = pairing_begun _ _ _ _ _ _
+loop-b-init c = with-none _ _ _ _ _
 
 pub loop-b-preserved : goal.loop-b-preserved
-loop-b-preserved c = rw c.add_pair.ensures (pairing_more c.loop-b-test.true c.loop-b.invariant)
+loop-b-preserved c = rw c.add_pair.ensures (with-more _ _ _ _ _ c.loop-b.invariant)

@@ -13,7 +13,7 @@ as-pos c =
     (h, to_z_pos w64 {n = c.lesser-w.result} h ∙ ap pos c.lesser-w.ensures)
 
 less : (c : After-opposite) → to_z w64 (of_z w64 c.opposite.result) ≡ neg (pos (min c.loop-left.weight c.loop-left.left))
-less c = back c.opposite.result c.opposite.type_inv ∙ c.opposite.ensures ∙ ap neg (as-pos c.before.before).1
+less c = back c.opposite.result c.opposite.type_inv ∙ c.opposite.ensures.value ∙ ap neg (as-pos c.before.before).1
 
 pub loop-left-init : goal.loop-left-init
 loop-left-init c =

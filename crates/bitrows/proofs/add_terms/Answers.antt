@@ -1,11 +1,10 @@
-use Rattle.integers.proofs.Fits.{back}
-use Rattle.bitrows.proofs.Over.{termed_begun, termed_more}
+use Rattle.arguments.proofs.Size.{read}
+use Rattle.bitrows.proofs.Over.{terms-none, terms-more}
 use Rattle.bitrows.proofs.add_terms.Goals as goal
+
+pub loop-k-init : goal.loop-k-init
+loop-k-init c = terms-none _ _ _ _
 
 pub loop-k-preserved : goal.loop-k-preserved
 loop-k-preserved c =
-    rw (c.add_variable.ensures.sum, back c.signed_at.result c.signed_at.type_inv, c.signed_at.ensures.0, c.row_variable.ensures)
-    (termed_more c.requires.0.near_lower c.requires.0.near_upper c.loop-k-test.true (rw c.signed_at.ensures.0 at c.signed_at.ensures.1) c.loop-k.invariant)
-
-pub loop-k-init : goal.loop-k-init
-loop-k-init c = termed_begun _ _ _ _ _ _
+    terms-more c.args.args.now c.args.domains.now c.args.firsts.now c.loop-k.k (rw (read c.signed_at.type_inv c.signed_at.ensures.value, c.row_variable.ensures) at c.add_variable.ensures) c.loop-k.invariant

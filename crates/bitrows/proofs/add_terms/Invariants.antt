@@ -1,10 +1,11 @@
--- The loop's invariant is `Termed`: the terms passed are added.
-use Rattle.std.proofs.Common.{◌-◌}
-use Rattle.bitrows.proofs.Over.{Termed}
+-- The loop's invariant: the terms passed are added.
+use Rattle.std.proofs.Common.{◌*◌}
+use Rattle.rowsystems.specs.RowSystem.{terms_in}
+use Rattle.bitforms.specs.OverBits.{over_bits}
+use Rattle.bitlines.specs.Sizes as Size
+use Rattle.bitlines.specs.Dense.{Adds}
+use Rattle.bittables.specs.BitTables.{bits_of}
 use Rattle.bitrows.proofs.add_terms.Given as goal
 
 abbrev pub invariant-loop-k : goal.invariant-loop-k
-invariant-loop-k l = Termed l.initial.row l.args l.ls l.us l.firsts l.n l.row l.k
-
-abbrev pub decreases-loop-k : goal.decreases-loop-k
-decreases-loop-k l = l.n - l.k
+invariant-loop-k l = Adds (over_bits (bits_of l.domains l.firsts) (terms_in l.args l.k)) (l.k * Size.largest_term) l.initial.row l.row

@@ -5,5 +5,5 @@ use Rattle.bitrows.proofs.add_variable.Goals as goal
 
 pub returns : goal.returns
 returns c =
-    variable-added c.args.row.now c.args.ls.now c.args.us.now c.args.firsts.now c.args.v c.args.k c.requires.0.near_lower c.requires.0.near_upper c.requires.1 c.table_entry.ensures c.span_at.ensures.0
+    variable-added c.args.row.now c.args.domains.now c.args.firsts.now c.args.v c.args.k c.span_at.ensures.size c.requires.1 c.at_or.ensures c.span_at.ensures.value
     (rw (to_z-of_z c.ranges.k) at c.add_weights.ensures.1)

@@ -1,29 +1,22 @@
 -- The constant by the kind of the head.
-use Rattle.std.proofs.Common.{sym, ◌∙◌, arith, eq-eqb, ne_eqb}
-use Rattle.rowsystems.proofs.Sizes.{count-few}
+use Rattle.std.proofs.Common.{sym, ◌∙◌}
 use Rattle.arguments.proofs.Size.{read}
 use Rattle.bitforms.specs.OverBits.{over}
 use Rattle.bitforms.specs.BitRow.{product_whole, bit_row}
-use Rattle.bitrows.proofs.Constant.{least-lower, row_at_most, row-equal, row-product}
+use Rattle.bitrows.proofs.Constant.{row_at_most, row-equal, row-product}
 use Rattle.bitrows.proofs.row_constant.Goals as goal
 
-pub least_of-requires : goal.least_of-requires
-least_of-requires c = (c.requires, c.requires, omega (arith, c.term_count.ensures, count-few c.args.head))
-
-pub returns-then-k-eq-AT_MOST : goal.returns-then-k-eq-AT_MOST
+pub returns-then-is : goal.returns-then-is
 unfolding bit_row over
-returns-then-k-eq-AT_MOST c us firsts first =
-    rw (row_at_most c.args.head c.args.args.now (eq-eqb _ _ (sym c.kind_of-k.ensures ∙ c.if-k-eq-AT_MOST.true)), ← c.term_count.ensures) (read c.least_of.type_inv c.least_of.ensures.0 ∙ least-lower c.args.ls.now _ _)
+returns-then-is c firsts first =
+    rw (row_at_most c.args.head c.args.args.now (sym c.is.ensures ∙ c.if-is.true), ← c.sum_terms.ensures.value) (read c.lower_sum.type_inv c.lower_sum.ensures)
 
-pub least_of-requires-then-k-eq-EQUAL : goal.least_of-requires-then-k-eq-EQUAL
-least_of-requires-then-k-eq-EQUAL c = (c.requires, c.requires, omega (arith, c.term_count-then-k-eq-EQUAL.ensures, count-few c.args.head))
-
-pub returns-then-k-eq-EQUAL : goal.returns-then-k-eq-EQUAL
+pub returns-then-is-2 : goal.returns-then-is-2
 unfolding bit_row over
-returns-then-k-eq-EQUAL c us firsts first =
-    rw (row-equal c.args.head c.args.args.now (ne_eqb _ _ (λ e. c.if-k-eq-AT_MOST.false (c.kind_of-k.ensures ∙ e))) (eq-eqb _ _ (sym c.kind_of-k.ensures ∙ c.if-k-eq-EQUAL.true)), ← c.term_count-then-k-eq-EQUAL.ensures) (read c.least_of-then-k-eq-EQUAL.type_inv c.least_of-then-k-eq-EQUAL.ensures.0 ∙ least-lower c.args.ls.now _ _)
+returns-then-is-2 c firsts first =
+    rw (row-equal c.args.head c.args.args.now (sym c.is.ensures ∙ c.if-is.false) (sym c.is-2.ensures ∙ c.if-is-2.true), ← c.sum_terms-then-is-2.ensures.value) (read c.lower_sum-then-is-2.type_inv c.lower_sum-then-is-2.ensures)
 
 pub returns : goal.returns
 unfolding bit_row product_whole
-returns c us firsts first =
-    rw (row-product c.args.head c.args.args.now (ne_eqb _ _ (λ e. c.if-k-eq-AT_MOST.false (c.kind_of-k.ensures ∙ e))) (ne_eqb _ _ (λ e. c.if-k-eq-EQUAL.false (c.kind_of-k.ensures ∙ e)))) (read c.product_constant.type_inv c.product_constant.ensures)
+returns c firsts first =
+    rw (row-product c.args.head c.args.args.now (sym c.is.ensures ∙ c.if-is.false) (sym c.is-2.ensures ∙ c.if-is-2.false)) (read c.product_constant.type_inv c.product_constant.ensures)

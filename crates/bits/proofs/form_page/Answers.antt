@@ -1,11 +1,10 @@
 -- The refusal's line, or the lines of the form's words.
-use Rattle.std.proofs.Common.{◌≤◌, arith, length}
-use Rattle.words.specs.Written.{wrote}
+use Rattle.std.proofs.Common.{◌∙◌, ◌≤◌, arith, length}
 use Rattle.encoding.specs.Bytes.{bytes_words}
 use Rattle.encoding.proofs.Words.{quarter}
 use Rattle.bitforms.specs.FormAnswer.{bit_form, bit_formed}
 use Rattle.lines.specs.Lines.{program_words}
-use Rattle.lines.proofs.Printed.{front_too_long, front-refused, front-lines, short-enough}
+use Rattle.lines.proofs.Printed.{front_too_long, answered, short-enough}
 use Rattle.bits.specs.Text.{form_text}
 use Rattle.bits.proofs.Text.{fits}
 use Rattle.bits.proofs.form_page.Goals.{Else-bytes-gt-WORDS}
@@ -21,21 +20,13 @@ returns-then-bytes-gt-WORDS c =
     c.put_too_long.ensures.text (omega (arith, c.put_too_long.ensures.end, c.requires)) in
     record { text = p.0; count = p.1 }
 
-pub returns-in-Refused : goal.returns-in-Refused
-unfolding form_text wrote bit_form
-returns-in-Refused c =
-    let says = rw (c.in-Refused.is, c.front_words-n.ensures.words) at c.bit_form.ensures.answer in
-    let p = front-refused _ _ c.put_refusal.ensures.text (omega (arith, c.put_refusal.ensures.end, c.requires)) _ says (short-enough program_words (length (bytes_words c.args.bytes.now)) _ (few (goal.at.returns-in-Refused c).Else-bytes-gt-WORDS)) in
-    record { text = p.0; count = p.1 }
-
-pub returns-in-Words : goal.returns-in-Words
-unfolding form_text wrote bit_form bit_formed
-returns-in-Words c =
-    let ws = bytes_words c.args.bytes.now in
-    let form = rw (c.in-Words.is, c.front_words-n.ensures.words) at c.bit_form.ensures in
-    let p = front-lines (record { answer = form.answer; output = form.output; room = fits ws program_words }) (short-enough program_words (length ws) _ (few (goal.at.returns-in-Words c).Else-bytes-gt-WORDS))
-    c.put_front.ensures c.requires in
-    record { text = p.0; count = p.1 }
-
 pub front_words-n-requires : goal.front_words-n-requires
 front_words-n-requires c = few (goal.at.front_words-n-requires c).Else-bytes-gt-WORDS
+
+pub returns-clause-text : goal.returns-clause-text
+unfolding form_text bit_form bit_formed
+returns-clause-text c =
+    let ws = bytes_words c.args.bytes.now in
+    let form = rw c.front_words-n.ensures.words at c.bit_form-answer.ensures in
+    c.put_answer.ensures.text
+    ∙ answered _ _ _ _ _ _ form.answer form.output (fits ws program_words) (short-enough program_words (length ws) _ (few (goal.at.returns-clause-text c).Else-bytes-gt-WORDS))

@@ -9,4 +9,4 @@ unfolding peak
 add_weights-requires c = search rules
 
 pub returns : goal.returns
-returns c = (search rules, omega (arith, c.add_weights.ensures.0, few-weights c.args.width c.requires))
+returns c = record { value = search rules; few = omega (arith, c.add_weights.ensures.0, few-weights c.args.width c.requires) }

@@ -5,8 +5,8 @@ use Rattle.bitwriting.proofs.add_to_line.Goals as goal
 
 pub returns : goal.returns
 returns c =
-    let e = c.own_bits-own.ensures.0 c.args.firsts.now c.args.first in
+    let e = c.own_bits-own.ensures.value c.args.firsts.now c.args.first in
     record {
-      added = none-added c.args.ls.now c.args.us.now c.args.firsts.now c.args.counts.now c.requires.bit_tables.0.counted c.args.first _ c.args.head c.args.args.now c.args.i c.args.line.now e (c.holds_bit.ensures c.if-holds_bit.false);
-      next = (ap (λ n. c.args.first + n) e, omega (arith, c.own_bits-own.ensures.1));
+      added = none-added c.args.domains.now c.args.firsts.now c.args.counts.now c.requires.bit_tables.0.counted c.args.first _ c.args.head c.args.args.now c.args.i c.args.line.now e (c.holds_bit.ensures c.if-holds_bit.false);
+      next = (ap (λ n. c.args.first + n) e, omega (arith, c.own_bits-own.ensures.few));
     }

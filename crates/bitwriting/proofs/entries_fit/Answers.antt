@@ -1,4 +1,4 @@
-use Rattle.std.proofs.Common.{refl, sym, ap, ◌∙◌, ◌+◌, arith, get_or, rules}
+use Rattle.std.proofs.Common.{refl, sym, ap, ◌∙◌, ◌+◌, get_or}
 use Rattle.integers.specs.Number.{+0}
 use Rattle.integers.specs.Lists.{list_of, all}
 use Rattle.integers.proofs.Places.{all_more}
@@ -10,7 +10,7 @@ use Rattle.bitwriting.proofs.entries_fit.Goals as goal
 
 pub loop-d-init : goal.loop-d-init
 unfolding line_entries list_of all
-loop-d-init c = (search rules, refl)
+loop-d-init c = refl
 
 pub returns-then-not-in_range : goal.returns-then-not-in_range
 unfolding line_entries
@@ -22,4 +22,4 @@ pub loop-d-preserved : goal.loop-d-preserved
 unfolding line_entries
 loop-d-preserved c =
     let e = ap in_range (sym (read c.coefficient_at.type_inv c.coefficient_at.ensures)) ∙ sym c.in_range.ensures ∙ c.if-not-in_range.false in
-    (omega (arith, c.loop-d-test.true), all_more (λ x. in_range x.number) (λ d. entry_at c.args.i (c.args.i + d) (get_or c.args.line.now (c.args.i + d) +0)) c.loop-d.d ∙ rw c.loop-d.invariant.1 e)
+    all_more (λ x. in_range x.number) (λ d. entry_at c.args.i (c.args.i + d) (get_or c.args.line.now (c.args.i + d) +0)) c.loop-d.d ∙ rw c.loop-d.invariant e

@@ -1,13 +1,9 @@
--- The loop's invariant is `Checking`: what the constraints that are left give is what all give, check's answer.
-use Rattle.std.proofs.Common.{◌-◌}
 use Rattle.models.specs.Model.{constraints}
-use Rattle.extremes.specs.BoundLists.{bounds_of}
+use Rattle.integers.specs.Bounds.{bounds_in}
 use Rattle.encodings.specs.Uses.{shared_by}
 use Rattle.checking.proofs.CheckWalk.{Checking}
 use Rattle.checking.proofs.check_read.Given as goal
 
-abbrev pub invariant-loop-constraints : goal.invariant-loop-constraints
-invariant-loop-constraints l = Checking (bounds_of l.ls l.us) (shared_by l.uses) l.variables (constraints l.ws) l.initial.words l.constraints l.auxiliaries l.rows l.words l.encoded
-
-abbrev pub decreases-loop-constraints : goal.decreases-loop-constraints
-decreases-loop-constraints l = l.n - l.constraints
+-- The loop's invariant is `Checking`: what the constraints that are left give is what all give, check's answer.
+abbrev pub invariant-loop-k : goal.invariant-loop-k
+invariant-loop-k l = Checking (bounds_in l.domains) (shared_by l.uses) l.model.variables (constraints l.ws) l.initial.words l.k l.auxiliaries l.rows l.words l.encoded

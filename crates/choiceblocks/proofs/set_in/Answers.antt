@@ -1,17 +1,15 @@
--- Bits, their row, the row of the members.
 use Rattle.std.proofs.Common.{sym, arith}
+use Rattle.integers.specs.Bounds.{bounds_in}
 use Rattle.models.specs.Model.{var, nums}
-use Rattle.laying.proofs.Parts.{went_then, went_as}
-use Rattle.extremes.specs.BoundLists.{bounds_of}
+use Rattle.laying.proofs.Written.{wrote-then, wrote-most, wrote-as}
 use Rattle.choiceblocks.proofs.Blocks.{block_parts-set_in}
 use Rattle.choiceblocks.proofs.set_in.Goals as goal
 
+-- Bits, their row, the row of the members.
 pub returns : goal.returns
 returns c =
-    let a = rw c.members_of-n.ensures.many at c.lay_bits-t.ensures in
-    let b = rw c.members_of-n.ensures.many at c.lay_one_bit-u.ensures in
-    let d = rw (c.members_of-n.ensures.many, c.var_at-x.ensures) at c.lay_value_row.ensures in
-    record {
-      parts = went_as (sym (block_parts-set_in c.args.first (bounds_of c.args.ls.now c.args.us.now) (nums c.args.args.now 1) c.members_of-n.new.vs (var c.args.args.now 0) c.members_of-n.ensures.same)) (went_then a.0 (went_then b.0 d.0));
-      size = omega (arith, a.1, b.1, d.1);
-    }
+    let m = c.members_of-n.ensures in
+    let a = rw m.many at c.bits.ensures in
+    let b = rw m.many at c.one_bit.ensures in
+    let d = rw (m.many, c.var_at.ensures) at c.value_row.ensures in
+    wrote-as (sym (block_parts-set_in c.args.first (bounds_in c.args.domains.now) (nums c.args.args.now 1) c.members_of-n.new.vs (var c.args.args.now 0) m.same)) (wrote-most (omega arith) (wrote-then a (wrote-then b d)))

@@ -5,13 +5,14 @@ use Rattle.modelreading.proofs.Heads.{head_at}
 use Rattle.encodings.proofs.Uses.{begun, more, done}
 use Rattle.encodings.proofs.count_uses.Goals as goal
 
-pub loop-k-preserved : goal.loop-k-preserved
+pub loop-place-preserved : goal.loop-place-preserved
 unfolding word_at
-loop-k-preserved c =
-    more c.loop-k.invariant (head_at c.requires.1 c.loop-k.k c.loop-k-test.true) (rw (c.payload_of-code.ensures, tail-is c.args.ws.now (get_or c.args.heads.now c.loop-k.k 0 + 1)) at c.count_use.ensures)
+loop-place-preserved c =
+    let k = c.loop-place.place-index in
+    more c.loop-place.invariant (head_at c.requires.1 k c.loop-place-test.true) (rw (c.payload-code.ensures, c.from.ensures, tail-is c.args.ws.now (get_or c.args.heads.now k 0 + 1)) at c.count_use.ensures)
 
-pub loop-k-init : goal.loop-k-init
-loop-k-init c = begun _ c.requires.2
+pub loop-place-init : goal.loop-place-init
+loop-place-init c = begun _ c.requires.2
 
 pub returns : goal.returns
-returns c = done c.loop-k.invariant (omega (arith, c.loop-k-test.false, c.requires.1.counted))
+returns c = done c.loop-place.invariant (omega (arith, c.loop-place-test.false, c.requires.1.counted))

@@ -1,12 +1,9 @@
 -- The loop's invariant is `Rising`: the members found stand in the list, and the rest follows.
-use Rattle.integers.specs.Bounds.{◌to◌}
+use Rattle.std.proofs.Common.{◌-◌}
 use Rattle.models.specs.Model.{nums}
 use Rattle.rules.specs.Parts.{members}
 use Rattle.extremes.proofs.Rising.{Rising}
 use Rattle.extremes.proofs.members.Given as goal
 
-abbrev pub invariant-loop-left : goal.invariant-loop-left
-invariant-loop-left l = Rising (nums l.args l.i) l.upper (members (nums l.args l.i) (l.lower to l.upper)) l.initial.out l.out l.k l.left l.from
-
-abbrev pub decreases-loop-left : goal.decreases-loop-left
-decreases-loop-left l = l.left
+abbrev pub invariant-loop : goal.invariant-loop
+invariant-loop l = Rising (nums l.args l.i) l.fn.b.upper (members (nums l.args l.i) l.fn.b) l.initial.out l.out l.k (l.end - l.counter) l.from

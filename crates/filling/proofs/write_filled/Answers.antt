@@ -1,5 +1,5 @@
 -- The values, then the picks of the definition, which are in the range.
-use Rattle.std.proofs.Common.{◌∙◌, arith}
+use Rattle.std.proofs.Common.{◌∙◌}
 use Rattle.picking.proofs.Picks.{values-then}
 use Rattle.filling.proofs.Ranges.{values-small, picks-ranged, picks-fit}
 use Rattle.filling.proofs.write_filled.Goals as goal
@@ -10,7 +10,4 @@ write_picks-requires c =
 
 pub returns : goal.returns
 returns c =
-    rw c.copy_values.ensures at c.write_picks.ensures ∙ values-then c.args.out.now c.args.values.now _
-
-pub copy_values-requires : goal.copy_values-requires
-copy_values-requires c = omega (arith, picks-fit c.args.ws.now c.requires.1 c.args.values.now c.requires.2)
+    rw c.lay.ensures at c.write_picks.ensures ∙ values-then c.args.out.now c.args.values.now _

@@ -13,8 +13,8 @@ use Rattle.filling.proofs.write_picks.Goals.{After-record_encoding, Start}
 use Rattle.filling.proofs.write_picks.Goals as goal
 
 -- the picks are those of the definition
-same : (c : Start) → let a = c.args in picks a.ws.now a.values.now ≡ picks_from a.ls.now a.us.now a.uses.now a.values.now a.start none_yet (constraints a.ws.now)
-same c = rw c.requires.3 (picks-from c.args.ls.now c.args.us.now c.args.uses.now c.args.values.now c.args.ws.now c.requires.0.same c.requires.0.shares)
+same : (c : Start) → let a = c.args in picks a.ws.now a.values.now ≡ picks_from a.domains.now a.uses.now a.values.now a.start none_yet (constraints a.ws.now)
+same c = rw c.requires.3 (picks-from c.args.domains.now c.args.uses.now c.args.values.now c.args.ws.now c.requires.0.same c.requires.0.shares)
 
 -- the record after it
 recorded : (c : After-record_encoding) →
@@ -24,7 +24,7 @@ recorded : (c : After-record_encoding) →
 unfolding word_at
 recorded c =
     let at = get_or c.args.heads.now c.loop-k.k 0 in
-    placed_record (shared_by c.args.uses.now) c.loop-k.at c.loop-k.encoded (headed c.args.ws.now at) (rw (c.payload_of-code.ensures, tail-is c.args.ws.now (at + 1)) at c.record_encoding.ensures)
+    placed_record (shared_by c.args.uses.now) c.loop-k.at c.loop-k.encoded (headed c.args.ws.now at) (rw (c.payload-code.ensures, c.from.ensures, tail-is c.args.ws.now (at + 1)) at c.record_encoding.ensures)
 
 pub pick_constraint-at-requires : goal.pick_constraint-at-requires
 unfolding word_at
@@ -32,21 +32,18 @@ pick_constraint-at-requires c =
     let at = get_or c.args.heads.now c.loop-k.k 0 in
     record {
       place = omega (arith, place-le c.loop-k.invariant, ap length (same (goal.at.pick_constraint-at-requires c).Start), c.requires.4);
-      lowers = c.requires.0.lowers;
-      uppers = c.requires.0.uppers;
-      small = c.requires.1;
-      ranged = rw (c.payload_of-code.ensures, tail-is c.args.ws.now (at + 1)) (here-ranged c.loop-k.invariant (head_at c.requires.0 c.loop-k.k c.loop-k-test.true) (block-picks c.args.ls.now c.args.us.now c.args.uses.now c.loop-k.encoded c.args.values.now (headed c.args.ws.now at)));
+      ranged = rw (c.payload-code.ensures, c.from.ensures, tail-is c.args.ws.now (at + 1)) (here-ranged c.loop-k.invariant (head_at c.requires.0 c.loop-k.k c.loop-k-test.true) (block-picks c.args.domains.now c.args.uses.now c.loop-k.encoded c.args.values.now (headed c.args.ws.now at)));
     }
 
 pub loop-k-preserved : goal.loop-k-preserved
 unfolding word_at
 loop-k-preserved c =
     let at = get_or c.args.heads.now c.loop-k.k 0 in
-    picked c.loop-k.invariant (head_at c.requires.0 c.loop-k.k c.loop-k-test.true) (block-picks c.args.ls.now c.args.us.now c.args.uses.now c.loop-k.encoded c.args.values.now (headed c.args.ws.now at))
-    (rw (c.payload_of-code.ensures, tail-is c.args.ws.now (at + 1)) at c.pick_constraint-at.ensures) (recorded (goal.at.loop-k-preserved c).After-record_encoding)
+    picked c.loop-k.invariant (head_at c.requires.0 c.loop-k.k c.loop-k-test.true) (block-picks c.args.domains.now c.args.uses.now c.loop-k.encoded c.args.values.now (headed c.args.ws.now at))
+    (rw (c.payload-code.ensures, c.from.ensures, tail-is c.args.ws.now (at + 1)) at c.pick_constraint-at.ensures) (recorded (goal.at.loop-k-preserved c).After-record_encoding)
 
 pub loop-k-init : goal.loop-k-init
-loop-k-init c = begun _ _ _ _ _ _ _ (rw (← same (goal.at.loop-k-init c).Start) c.requires.2)
+loop-k-init c = begun _ _ _ _ _ _ (rw (← same (goal.at.loop-k-init c).Start) c.requires.2)
 
 pub returns : goal.returns
 returns c = rw (same (goal.at.returns c).Start) (ended c.loop-k.invariant (none_left c.requires.0 c.loop-k-test.false))

@@ -5,17 +5,16 @@ use Rattle.integers.specs.Lists.{list_of}
 use Rattle.tokens.specs.Byte.{bytes}
 use Rattle.tokens.specs.Unread.{spanned}
 use Rattle.names.specs.Name.{is_word}
-use Rattle.grammar.proofs.Variables.{variable-here}
 use Rattle.grammar.proofs.step_of.Goals as goal
 
 pub returns-in-Satisfy : goal.returns-in-Satisfy
 unfolding step spanned is_word bytes list_of
 returns-in-Satisfy c = rw (c.in-Satisfy.is, ← c.is_word.ensures) c.fitting-in-Satisfy.ensures
 
-pub returns-in-Name : goal.returns-in-Name
-unfolding step spanned
-returns-in-Name c = rw (c.in-Name.is, ← variable-here _ _ c.variable_in-v.ensures) c.name_step.ensures
-
 pub returns-in-Next : goal.returns-in-Next
 unfolding step spanned
 returns-in-Next c = rw c.in-Next.is (c.next_step.ensures [])
+
+pub returns-in-Semicolon : goal.returns-in-Semicolon
+unfolding step spanned
+returns-in-Semicolon c = rw c.in-Semicolon.is (c.semicolon_step.ensures [])

@@ -6,7 +6,7 @@ use Rattle.host.proofs.pearrummy_bits.Goals as goal
 pub returns : goal.returns
 returns c =
     (record {
-      answer = c.written_of.ensures ∙ ap written_of c.bit_form.ensures.answer;
+      answer = c.from.ensures ∙ ap written_of c.bit_form.ensures.answer;
       output = c.bit_form.ensures.output;
       shared = rw c.bit_form.ensures.answer at c.bit_form.ensures.shared;
     })

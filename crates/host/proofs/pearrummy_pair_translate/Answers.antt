@@ -6,7 +6,7 @@ use Rattle.host.proofs.pearrummy_pair_translate.Goals as goal
 pub returns : goal.returns
 returns c =
     (record {
-      answer = c.written_of.ensures ∙ ap written_of c.pair_translate.ensures.answer;
+      answer = c.from.ensures ∙ ap written_of c.pair_translate.ensures.answer;
       output = c.pair_translate.ensures.output;
       shared = rw c.pair_translate.ensures.answer at c.pair_translate.ensures.shared;
     })

@@ -6,7 +6,7 @@ use Rattle.host.proofs.pearrummy_translate.Goals as goal
 pub returns : goal.returns
 returns c =
     (record {
-      answer = c.written_of.ensures ∙ ap written_of c.translate.ensures.answer;
+      answer = c.from.ensures ∙ ap written_of c.translate.ensures.answer;
       output = c.translate.ensures.output;
       shared = rw c.translate.ensures.answer at c.translate.ensures.shared;
     })

@@ -8,6 +8,9 @@ pub overflow_sub-result : goal.overflow_sub-result
 unfolding ◌⊖◌
 overflow_sub-result c = simp (to_z-of_z c.ranges.a, to_z-of_z c.ranges.b) (fits64 _ (omega (arith, minus-size c.args.a c.args.b)))
 
-pub returns : goal.returns
+pub returns-clause-value : goal.returns-clause-value
 unfolding ◌⊖◌
-returns c = to_z-of_z (overflow_sub-result c) ∙ simp (to_z-of_z c.ranges.a, to_z-of_z c.ranges.b)
+returns-clause-value c = to_z-of_z (overflow_sub-result c) ∙ simp (to_z-of_z c.ranges.a, to_z-of_z c.ranges.b)
+
+pub returns-clause-size : goal.returns-clause-size
+returns-clause-size c = rw (returns-clause-value c) (minus-size c.args.a c.args.b)

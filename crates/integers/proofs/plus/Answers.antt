@@ -8,6 +8,9 @@ pub overflow_add-result : goal.overflow_add-result
 unfolding ◌⊕◌
 overflow_add-result c = simp (to_z-of_z c.ranges.a, to_z-of_z c.ranges.b) (fits64 _ (omega (arith, plus-size c.args.a c.args.b)))
 
-pub returns : goal.returns
+pub returns-clause-value : goal.returns-clause-value
 unfolding ◌⊕◌
-returns c = to_z-of_z (overflow_add-result c) ∙ simp (to_z-of_z c.ranges.a, to_z-of_z c.ranges.b)
+returns-clause-value c = to_z-of_z (overflow_add-result c) ∙ simp (to_z-of_z c.ranges.a, to_z-of_z c.ranges.b)
+
+pub returns-clause-size : goal.returns-clause-size
+returns-clause-size c = rw (returns-clause-value c) (plus-size c.args.a c.args.b)

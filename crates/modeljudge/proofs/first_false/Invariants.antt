@@ -1,5 +1,5 @@
 -- The loop's invariant: judging the constraints from the k-th on gives what judging all gives.
-use Rattle.std.proofs.Common.{◌-◌, ◌≤◌, drop}
+use Rattle.std.proofs.Common.{drop}
 use Rattle.integers.specs.Terms.{value}
 use Rattle.words.proofs.Judge.{Passed}
 use Rattle.models.specs.Meaning.{meaning}
@@ -7,7 +7,4 @@ use Rattle.models.specs.Model.{builtin, constraints}
 use Rattle.modeljudge.proofs.first_false.Given as goal
 
 abbrev pub invariant-loop-k : goal.invariant-loop-k
-invariant-loop-k l = (l.k ≤ l.n) × Passed (λ c. meaning (value l.values) (builtin c)) (constraints l.ws) l.k l.k (drop l.k (constraints l.ws))
-
-abbrev pub decreases-loop-k : goal.decreases-loop-k
-decreases-loop-k l = l.n - l.k
+invariant-loop-k l = Passed (λ c. meaning (value l.values) (builtin c)) (constraints l.ws) l.k l.k (drop l.k (constraints l.ws))

@@ -1,61 +1,75 @@
-use Rattle.std.proofs.Common.{◌≡◌, sym, ◌∙◌, ◌+◌, ◌<◌, arith, length, take}
-use Rattle.words.specs.Word.{kind, payload, word_at}
+use Rattle.std.proofs.Common.{◌≡◌, sym, ap, ◌∙◌, ◌+◌, arith, refl, eqb-true}
+use Rattle.std.proofs.lemmas.Result.{err_from_is_err_and}
+use borrow.Author.Tests.{eqb-false}
+use lib.ListN.{length-map}
+use Rattle.words.proofs.Faulty.{fault-number}
+use Rattle.words.specs.Faults.{number_of}
+use Rattle.words.specs.Word.{kind, word_at}
 use Rattle.models.specs.Reading.{fault_head}
-use Rattle.modelitems.specs.Onward.{ArgumentsRead}
-use Rattle.modelreading.proofs.Loop.{kept-fault, head-halted, head-here, posing-one, arguments-halted, posing-on, after-end, no-fault, seen}
-use Rattle.modelreading.proofs.read_constraints.Goals.{After-arguments_at-arguments, After-of_head-number, Else-kind_of-eq-MODEL_END, Then-kind_of-eq-MODEL_END}
+use Rattle.models.specs.Shapes.{shape_number}
+use Rattle.modelitems.specs.Onward.{Step}
+use Rattle.modelitems.proofs.Steps.{passed, refused}
+use Rattle.modelreading.proofs.Loop.{head-halted, head-here, posing-one, arguments-halted, posing-on, after-end, seen}
+use Rattle.modelreading.proofs.read_constraints.Goals.{After-over, In_ok-first, Else-is, Then-is}
 use Rattle.modelreading.proofs.read_constraints.Goals as goal
 
 -- the head's fault
-head : (c : After-of_head-number) →
-    c.of_head-number.result ≡ fault_head c.loop-table.c (word_at c.args.ws.now c.loop-table.at)
-head c = c.of_head-number.ensures ∙ rw c.word_at-head.ensures
+head : (c : After-over) → number_of c.check_head.result ≡ fault_head c.loop-first.c (word_at c.args.ws.now c.loop-first.at)
+head c = rw c.at-head.ensures at c.check_head.ensures
 
-pub returns-then-number-ne-NONE : goal.returns-then-number-ne-NONE
-returns-then-number-ne-NONE c =
-    kept-fault _ _ c.if-number-ne-NONE.true (head-halted c.loop-table.invariant (head (goal.at.returns-then-number-ne-NONE c).After-of_head-number) c.if-number-ne-NONE.true) c.refused.ensures
+pub returns-in_err-first : goal.returns-in_err-first
+returns-in_err-first c =
+    let p = err_from_is_err_and c.from_residual.result c.from_residual.ensures.1 in
+    let q = refused _ _ c.over.ensures c.in_err-first.was in
+    rw (p.1, p.2) (rw (ap (λ (s : Step). s.number) q.1, ap (λ (s : Step). s.at) q.1) (head-halted c.loop-first.invariant (head (goal.at.returns-in_err-first c).After-over) q.0))
+
+-- a head without a fault
+none : (c : In_ok-first) → (number_of c.check_head.result ≡ 0) × (c.in_ok-first.first ≡ c.loop-first.at + 1)
+none c = passed _ _ c.over.ensures c.in_ok-first.was
 
 -- it is no end
-not_end : (c : Else-kind_of-eq-MODEL_END) →
-    kind (word_at c.args.ws.now c.loop-table.at) ≡ 7 → ⊥
-not_end c k = c.if-kind_of-eq-MODEL_END.false (c.kind_of.ensures ∙ rw c.word_at-head.ensures k)
-
-room : (c : Else-kind_of-eq-MODEL_END) → c.loop-table.c < 256
-room c = (posing-one c.loop-table.invariant (head (record { before = c.before.before.before.before; type_inv = record { ws = c.type_inv.ws } })) c.if-number-ne-NONE.false (not_end c)).0
-
-inside : (c : Else-kind_of-eq-MODEL_END) →
-    c.loop-table.at < length c.args.ws.now
-inside c = head-here c.loop-table.invariant (head (record { before = c.before.before.before.before; type_inv = record { ws = c.type_inv.ws } })) c.if-number-ne-NONE.false
+not_end : (c : Else-is) → kind (word_at c.args.ws.now c.loop-first.at) ≡ 7 → ⊥
+not_end c = eqb-false _ 7 (rw c.at-head.ensures at (sym c.is.ensures ∙ c.if-is.false))
 
 pub bounds-heads-c : goal.bounds-heads-c
-bounds-heads-c c = room (goal.at.bounds-heads-c c).Else-kind_of-eq-MODEL_END
+bounds-heads-c c =
+    let g = goal.at.bounds-heads-c c in
+    (posing-one c.loop-first.invariant (head g.After-over) (none g.In_ok-first).0 (not_end g.Else-is)).0
 
-pub arguments_at-arguments-requires : goal.arguments_at-arguments-requires
-arguments_at-arguments-requires c =
-    (record { within = omega (arith, inside (goal.at.arguments_at-arguments-requires c).Else-kind_of-eq-MODEL_END); few = c.loop-table.invariant.placed.few }, c.loop-table.invariant.few, c.table-table.ensures)
+pub arguments_at-requires : goal.arguments_at-requires
+arguments_at-requires c =
+    let g = goal.at.arguments_at-requires c in
+    let l = head-here c.loop-first.invariant (head g.After-over) (none g.In_ok-first).0 in
+    (record { within = omega (arith, l, (none g.In_ok-first).1); few = c.loop-first.invariant.placed.few }, c.table-table.ensures)
 
--- the arguments read
-arguments : (c : After-arguments_at-arguments) →
-    ArgumentsRead c.args.ws.now (take c.args.v c.args.types.now) (payload (word_at c.args.ws.now c.loop-table.at)) (c.loop-table.at + 1) c.arguments_at-arguments.result
-arguments c = rw (c.payload_of.ensures, c.word_at-head.ensures) at c.arguments_at-arguments.ensures
+pub returns-in_err-at : goal.returns-in_err-at
+returns-in_err-at c =
+    let p = err_from_is_err_and c.from_residual-in_err-at.result c.from_residual-in_err-at.ensures.1 in
+    let g = goal.at.returns-in_err-at c in
+    rw (p.1, p.2)
+    (arguments-halted c.loop-first.invariant (head g.After-over) (none g.In_ok-first).0 (not_end g.Else-is) (rw (c.payload.ensures, c.at-head.ensures, (none g.In_ok-first).1) at c.in_err-at.ensures) (fault-number _))
 
-pub returns-then-arguments-ne-NONE : goal.returns-then-arguments-ne-NONE
-returns-then-arguments-ne-NONE c =
-    kept-fault _ _ c.if-arguments-ne-NONE.true (arguments-halted c.loop-table.invariant (head (goal.at.returns-then-arguments-ne-NONE c).After-of_head-number) c.if-number-ne-NONE.false (not_end (goal.at.returns-then-arguments-ne-NONE c).Else-kind_of-eq-MODEL_END) (arguments (goal.at.returns-then-arguments-ne-NONE c).After-arguments_at-arguments) c.if-arguments-ne-NONE.true) c.refused-then-arguments-ne-NONE.ensures
+pub loop-first-preserved : goal.loop-first-preserved
+loop-first-preserved c =
+    let g = goal.at.loop-first-preserved c in
+    posing-on c.loop-first.invariant (head g.After-over) (none g.In_ok-first).0 (not_end g.Else-is) (rw (c.payload.ensures, c.at-head.ensures, (none g.In_ok-first).1) at c.in_ok-at.ensures) refl
 
-pub loop-table-preserved : goal.loop-table-preserved
-loop-table-preserved c =
-    posing-on c.loop-table.invariant (head (goal.at.loop-table-preserved c).After-of_head-number) c.if-number-ne-NONE.false (not_end (goal.at.loop-table-preserved c).Else-kind_of-eq-MODEL_END) (arguments (goal.at.loop-table-preserved c).After-arguments_at-arguments) c.if-arguments-ne-NONE.false
+pub loop-first-smaller : goal.loop-first-smaller
+loop-first-smaller c =
+    let g = goal.at.loop-first-smaller c in
+    let s = c.in_ok-at.ensures 0 in
+    omega (arith, s.on, s.inside, (none g.In_ok-first).1)
 
 -- the end word
-ended : (c : Then-kind_of-eq-MODEL_END) →
-    kind (word_at c.args.ws.now c.loop-table.at) ≡ 7
-ended c = rw c.word_at-head.ensures at (sym c.kind_of.ensures ∙ c.if-kind_of-eq-MODEL_END.true)
+ended : (c : Then-is) → kind (word_at c.args.ws.now c.loop-first.at) ≡ 7
+ended c = eqb-true _ 7 (rw c.at-head.ensures at (sym c.is.ensures ∙ c.if-is.true))
 
 pub returns-then-at-ws : goal.returns-then-at-ws
 returns-then-at-ws c =
-    kept-fault _ _ (λ z. omega arith) (after-end c.loop-table.invariant (head (goal.at.returns-then-at-ws c).After-of_head-number) c.if-number-ne-NONE.false (ended (goal.at.returns-then-at-ws c).Then-kind_of-eq-MODEL_END) c.if-at-ws.true) c.refused-then-at-ws.ensures
+    let g = goal.at.returns-then-at-ws c in
+    after-end c.loop-first.invariant (head g.After-over) (none g.In_ok-first).0 (ended g.Then-is) c.if-at-ws.true
 
 pub returns : goal.returns
 returns c =
-    record { refusal = no-fault c.loop-table.invariant (head (goal.at.returns c).After-of_head-number) c.if-number-ne-NONE.false (ended (goal.at.returns c).Then-kind_of-eq-MODEL_END) c.if-at-ws.false; seen = λ n. seen c.loop-table.invariant (head (goal.at.returns c).After-of_head-number) c.if-number-ne-NONE.false (ended (goal.at.returns c).Then-kind_of-eq-MODEL_END) c.if-at-ws.false }
+    let g = goal.at.returns c in
+    rw (← length-map c.args.types.now shape_number) (seen c.loop-first.invariant (head g.After-over) (none g.In_ok-first).0 (ended g.Then-is) c.if-at-ws.false)

@@ -1,10 +1,11 @@
 -- The invariant: reading the rest from here gives what reading the whole gives, and the heads so far are kept.
-use Rattle.std.proofs.Common.{◌-◌, length}
+use Rattle.std.proofs.Common.{◌-◌, length, map}
+use Rattle.models.specs.Shapes.{shape_number}
 use Rattle.modelreading.proofs.Loop.{Posing}
 use Rattle.modelreading.proofs.read_constraints.Given as goal
 
-abbrev pub invariant-loop-table : goal.invariant-loop-table
-invariant-loop-table l = Posing l.ws l.types l.heads l.v l.sources l.c l.at
+abbrev pub invariant-loop-first : goal.invariant-loop-first
+invariant-loop-first l = Posing l.ws (map shape_number l.types) l.heads l.sources l.c l.at
 
-abbrev pub decreases-loop-table : goal.decreases-loop-table
-decreases-loop-table l = length l.ws - l.at
+abbrev pub decreases-loop-first : goal.decreases-loop-first
+decreases-loop-first l = length l.ws - l.at

@@ -1,34 +1,39 @@
-use Rattle.std.proofs.Common.{arith, refl, sym, ◌∙◌}
+use Rattle.std.proofs.Common.{arith, refl, ◌∙◌}
+use Rattle.std.proofs.lemmas.List.{map-set}
+use Rattle.std.proofs.lemmas.Result.{err_from_is_err_and}
+use lib.ListN.{length-map}
+use Rattle.words.proofs.Faulty.{fault-number}
+use Rattle.models.specs.Shapes.{shape_number}
+use Rattle.modelitems.specs.Onward.{step_of}
 use Rattle.modelitems.specs.Variable.{Declares}
-use Rattle.modelreading.proofs.Loop.{variables-fault, opening, opening-halted, opened, all-opened}
-use Rattle.modelreading.proofs.read_variables.Goals.{After-variable_at-variable}
+use Rattle.modelreading.proofs.Loop.{opening, opening-halted, opened, all-opened, typed}
+use Rattle.modelreading.proofs.read_variables.Goals.{After-variable_at, In_ok-next}
 use Rattle.modelreading.proofs.read_variables.Goals as goal
 
-pub loop-w-init : goal.loop-w-init
-loop-w-init c = opening c.requires.0 c.requires.1
+pub loop-declared-init : goal.loop-declared-init
+loop-declared-init c = opening c.requires.0 (length-map c.args.types.now shape_number ∙ c.requires.1)
 
 -- the variable read
-variable : (c : After-variable_at-variable) →
-    Declares c.args.ws.now c.loop-w.v c.loop-w.at c.declared_by-declared.result c.variable_at-variable.result
-variable c = c.variable_at-variable.ensures c.declared_by-declared.result c.declared_by-declared.ensures c.if-declared-eq-NONE.false
+variable : (c : After-variable_at) → Declares c.args.ws.now c.loop-declared.v c.loop-declared.at (shape_number c.in-Some.declared) (step_of c.variable_at.result)
+variable c = c.variable_at.ensures (shape_number c.in-Some.declared) c.in-Some.ensures (typed c.in-Some.declared)
 
-pub returns-then-variable-ne-NONE : goal.returns-then-variable-ne-NONE
-returns-then-variable-ne-NONE c =
-    variables-fault _ _ c.if-variable-ne-NONE.true (opening-halted c.loop-w.invariant.0 c.loop-w.invariant.1 (variable (goal.at.returns-then-variable-ne-NONE c).After-variable_at-variable) c.if-variable-ne-NONE.true) c.refused.ensures
+passed : (c : In_ok-next) → Declares c.args.ws.now c.loop-declared.v c.loop-declared.at (shape_number c.in-Some.declared) (record { number = 0; at = c.in_ok-next.next })
+passed c = c.in_ok-next.ensures (shape_number c.in-Some.declared) c.in-Some.ensures (typed c.in-Some.declared)
+
+pub returns-in_err-next : goal.returns-in_err-next
+returns-in_err-next c =
+    let p = err_from_is_err_and c.from_residual.result c.from_residual.ensures.1 in
+    rw (p.1, p.2) (opening-halted c.loop-declared.invariant.0 c.loop-declared.invariant.1 (c.in_err-next.ensures (shape_number c.in-Some.declared) c.in-Some.ensures (typed c.in-Some.declared)) (fault-number _))
 
 pub bounds-types-v : goal.bounds-types-v
-bounds-types-v c = (variable (goal.at.bounds-types-v c).After-variable_at-variable).room c.if-variable-ne-NONE.false
+bounds-types-v c = (passed (goal.at.bounds-types-v c).In_ok-next).room refl
 
-pub loop-w-smaller : goal.loop-w-smaller
-loop-w-smaller c = omega (arith, (variable (goal.at.loop-w-smaller c).After-variable_at-variable).on c.if-variable-ne-NONE.false, (variable (goal.at.loop-w-smaller c).After-variable_at-variable).inside c.if-variable-ne-NONE.false)
+pub loop-declared-smaller : goal.loop-declared-smaller
+loop-declared-smaller c = let g = passed (goal.at.loop-declared-smaller c).In_ok-next in omega (arith, g.on refl, g.inside refl)
 
-pub loop-w-preserved : goal.loop-w-preserved
-loop-w-preserved c =
-    opened c.loop-w.invariant.0 c.loop-w.invariant.1 (variable (goal.at.loop-w-preserved c).After-variable_at-variable) c.if-variable-ne-NONE.false
+pub loop-declared-preserved : goal.loop-declared-preserved
+loop-declared-preserved c =
+    rw (map-set shape_number c.loop-declared.types c.loop-declared.v c.in-Some.declared) (opened c.loop-declared.invariant.0 c.loop-declared.invariant.1 (passed (goal.at.loop-declared-preserved c).In_ok-next) refl)
 
 pub returns : goal.returns
-returns c =
-    record {
-      refusal = λ z. absurd (z refl);
-      seen = λ n. all-opened c.loop-w.invariant.1 (rw c.word_at-w.ensures at (sym c.if-declared-eq-NONE.true ∙ c.declared_by-declared.ensures));
-    }
+returns c = all-opened c.loop-declared.invariant.1 (rw c.at-w.ensures at c.in_default.ensures)

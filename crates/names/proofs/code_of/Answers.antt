@@ -1,11 +1,11 @@
--- The spellings of the listed text are the names, by computation.
-use Rattle.integers.specs.Lists.{list_of, any}
-use Rattle.tokens.specs.Byte.{bytes, between, is_digit, is_letter, in_name, is_gap, front, run, in_comment}
-use Rattle.tokens.specs.Token.{starts_number, starts_dots, token_length, tokens_from}
-use Rattle.tokens.specs.Unread.{unread, spellings}
-use Rattle.names.specs.Name.{builtin_names}
+-- Every place among the names is below the number of the last code.
+use Rattle.std.proofs.Common.{ap, ◌∙◌, arith}
+use Rattle.names.specs.Found.{found_code}
+use Rattle.names.proofs.Codes.{look_names, decoded}
 use Rattle.names.proofs.code_of.Goals as goal
 
+pub overflow_add-branch : goal.overflow_add-branch
+overflow_add-branch c = omega (arith, c.in_ok-place_of.ensures, look_names c.args.name.now)
+
 pub returns : goal.returns
-unfolding spellings unread tokens_from token_length is_gap any is_letter between is_digit in_name starts_number starts_dots run in_comment front builtin_names bytes list_of
-returns c = c.place_among.ensures
+returns c = let e = c.in_ok-place_of.ensures in ap found_code c.ok.ensures.value ∙ decoded _ (omega (arith, e, look_names c.args.name.now)) _ c.try_from.ensures ∙ e

@@ -1,27 +1,24 @@
-use Rattle.std.proofs.Common.{sym, ◌∙◌, arith}
+use Rattle.std.proofs.Common.{sym, ap, ◌∙◌, arith}
 use Rattle.tokens.specs.Unread.{spanned}
-use Rattle.tokens.proofs.Places.{none_left, met-token, met-end}
+use Rattle.names.specs.Name.{same}
 use Rattle.names.proofs.Names.{none-spelled, spelled-here, spelled-on}
 use Rattle.names.proofs.place_among.Goals as goal
 
-pub returns-then-t-eq-END : goal.returns-then-t-eq-END
-returns-then-t-eq-END c =
-    sym (c.loop-i.invariant.2 ∙ none-spelled c.args.name.now c.loop-i.k (met-end c.next_token-t.ensures c.if-t-eq-END.true))
-
-pub returns-then-same_bytes : goal.returns-then-same_bytes
+pub returns-then-eq : goal.returns-then-eq
 unfolding spanned
-returns-then-same_bytes c =
-    let m = met-token c.next_token-t.ensures c.if-t-eq-END.false in
-    sym (c.loop-i.invariant.2 ∙ spelled-here c.args.name.now c.loop-i.k (spanned c.args.names.now c.next_token-t.result) m (sym c.same_bytes.ensures ∙ c.if-same_bytes.true))
+returns-then-eq c =
+    let e = ap (same c.args.name.now) (sym c.bytes.ensures) ∙ sym c.eq.ensures ∙ c.if-eq.true in
+    sym (c.loop-token.invariant.2 ∙ spelled-here c.args.name.now c.loop-token.place (spanned c.args.names.now c.in-Some.token) c.in-Some.ensures.found e)
 
-pub loop-i-preserved : goal.loop-i-preserved
+pub loop-token-preserved : goal.loop-token-preserved
 unfolding spanned
-loop-i-preserved c =
-    let m = met-token c.next_token-t.ensures c.if-t-eq-END.false in (
-      c.next_token-t.ensures.inside,
-      omega (arith, c.loop-i.invariant.1, c.next_token-t.ensures.longer c.if-t-eq-END.false, c.next_token-t.ensures.onward),
-      c.loop-i.invariant.2 ∙ spelled-on c.args.name.now c.loop-i.k (spanned c.args.names.now c.next_token-t.result) m (sym c.same_bytes.ensures ∙ c.if-same_bytes.false),
+loop-token-preserved c =
+    let m = c.in-Some.ensures in
+    let e = ap (same c.args.name.now) (sym c.bytes.ensures) ∙ sym c.eq.ensures ∙ c.if-eq.false in (
+      m.inside,
+      omega (arith, c.loop-token.invariant.1, m.longer, m.onward),
+      c.loop-token.invariant.2 ∙ spelled-on c.args.name.now c.loop-token.place (spanned c.args.names.now c.in-Some.token) m.found e,
     )
 
 pub returns : goal.returns
-returns c = sym (c.loop-i.invariant.2 ∙ none-spelled c.args.name.now c.loop-i.k (none_left c.args.names.now c.loop-i.i c.loop-i-test.false))
+returns c = sym (c.loop-token.invariant.2 ∙ none-spelled c.args.name.now c.loop-token.place c.in_default.ensures)

@@ -1,35 +1,42 @@
-use Rattle.std.proofs.Common.{sym, ap, ◌∙◌, ℕ, ◌+◌, ◌-◌, arith, eqb, take, drop}
-use Rattle.integers.proofs.Booleans.{bit_le}
-use Rattle.tokens.specs.Unread.{unread, spanned}
-use Rattle.names.specs.Name.{look_up, declared_from}
-use Rattle.tokens.proofs.Places.{none_left, met-token, met-end}
-use Rattle.names.proofs.Names.{look_end, look_past, look_here, look_on}
+use Rattle.std.proofs.Common.{◌≡◌, sym, ap, ◌∙◌, eqb, arith, rules}
+use Rattle.tokens.specs.Sorts.{sort_number}
+use Rattle.tokens.specs.Unread.{spanned}
+use Rattle.names.specs.Name.{same}
+use Rattle.names.proofs.Names.{look_end, look_past, look_here, look_on, look_over}
 use Rattle.names.proofs.variable_of.Goals as goal
+use Rattle.names.proofs.variable_of.Goals.{then-after_colon+else-eq, else-after_colon}
 
-pub returns-then-place-t : goal.returns-then-place-t
+pub returns-then-place-token : goal.returns-then-place-token
 unfolding spanned
-returns-then-place-t c =
-    sym (c.loop-i.invariant.2 ∙ look_past _ _ _ _ (spanned c.args.text.now c.next_token-t.result) (met-token c.next_token-t.ensures c.if-t-eq-END.false) c.if-place-t.true)
+returns-then-place-token c =
+    sym (c.loop-token.invariant.2 ∙ look_past _ _ _ _ (spanned c.args.text.now c.in-Some.token) c.in-Some.ensures.found c.if-place-token.true)
 
-pub returns-then-is_declared_here : goal.returns-then-is_declared_here
+pub returns-then-eq : goal.returns-then-eq
 unfolding spanned
-returns-then-is_declared_here c =
-    let m = met-token c.next_token-t.ensures c.if-t-eq-END.false in
-    sym (c.loop-i.invariant.2 ∙ look_here _ _ _ _ (spanned c.args.text.now c.next_token-t.result) m c.if-place-t.false c.is_declared_here.ensures c.if-is_declared_here.true)
+returns-then-eq c =
+    let e = ap (same c.args.name.now) (sym c.bytes.ensures) ∙ sym c.eq.ensures ∙ c.if-eq.true in
+    let i = rw c.if-after_colon.true at c.loop-token.invariant.2 in
+    sym (i ∙ look_here c.args.name.now _ _ (spanned c.args.text.now c.in-Some.token) c.in-Some.ensures.found c.if-place-token.false e)
 
-pub loop-i-preserved : goal.loop-i-preserved
+pub loop-token-preserved : goal.loop-token-preserved
 unfolding spanned
-loop-i-preserved c =
-    let x = take (c.args.stop - c.args.place) (drop c.args.place c.args.text.now) in (
-      c.next_token-t.ensures.inside,
-      omega (arith, bit_le c.loop-i.after_colon, c.one_if-k.ensures, c.loop-i.invariant.1, c.next_token-t.ensures.longer c.if-t-eq-END.false, c.next_token-t.ensures.onward),
-      c.loop-i.invariant.2
-          ∙ look_on x c.loop-i.k c.args.place c.loop-i.after_colon (spanned c.args.text.now c.next_token-t.result) (met-token c.next_token-t.ensures c.if-t-eq-END.false) c.if-place-t.false c.is_declared_here.ensures c.if-is_declared_here.false
-          ∙ ap (λ (n : ℕ). look_up x (c.loop-i.k + n) (declared_from (eqb c.next_token-t.result.sort 58) c.args.place (unread c.args.text.now c.next_token-t.result.stop))) (sym c.one_if-k.ensures),
-    )
-
-pub returns-then-t-eq-END : goal.returns-then-t-eq-END
-returns-then-t-eq-END c = sym (c.loop-i.invariant.2 ∙ look_end _ _ _ _ (met-end c.next_token-t.ensures c.if-t-eq-END.true))
+loop-token-preserved c =
+    let name = c.args.name.now in
+    let token = spanned c.args.text.now c.in-Some.token in
+    let m = c.in-Some.ensures in
+    let colon : c.eq-after_colon.result ≡ eqb (sort_number c.in-Some.token.sort) 58 = search rules in
+    elim c.if-after_colon.branch [
+      | then-after_colon+else-eq w ↦ (
+        m.inside,
+        omega (arith, w.variable-is, c.loop-token.invariant.1, m.longer, m.onward),
+        rw (colon, w.variable-is) ((rw w.if-after_colon.true at c.loop-token.invariant.2) ∙ look_on name _ _ token m.found c.if-place-token.false (ap (same name) (sym w.bytes.ensures) ∙ sym w.eq.ensures ∙ w.if-eq.false)),
+      )
+      | else-after_colon w ↦ (
+        m.inside,
+        omega (arith, w.variable-is, c.loop-token.invariant.1, m.longer, m.onward),
+        rw (colon, w.variable-is) ((rw w.if-after_colon.false at c.loop-token.invariant.2) ∙ look_over name _ _ token m.found c.if-place-token.false),
+      )
+    ]
 
 pub returns : goal.returns
-returns c = sym (c.loop-i.invariant.2 ∙ look_end _ _ _ _ (none_left c.args.text.now c.loop-i.i c.loop-i-test.false))
+returns c = sym (c.loop-token.invariant.2 ∙ look_end _ _ _ _ c.in_default.ensures)

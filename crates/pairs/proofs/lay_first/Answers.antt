@@ -5,4 +5,4 @@ use Rattle.pairs.proofs.lay_first.Goals as goal
 
 pub returns : goal.returns
 returns c =
-    c.lay-2.ensures ∙ rw (c.lay.ensures, c.word_of.ensures, c.requires.0) (first-laid c.args.ws.now c.args.out.now)
+    c.lay-2.ensures ∙ rw (c.lay.ensures, c.bits.ensures, c.new.ensures, c.requires.0) (first-laid c.args.ws.now c.args.out.now)

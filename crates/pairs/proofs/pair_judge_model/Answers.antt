@@ -1,16 +1,20 @@
 -- The answer of copying where it refuses; else the front of the list is the candidate's model, and judge-model's answer is its own.
-use Rattle.std.proofs.Common.{refl, sym, ap, ◌∙◌, List, ℕ}
-use Rattle.words.specs.Verdict.{verdict}
+use Rattle.std.proofs.Common.{refl, ap, ◌∙◌, List, ℕ}
+use Rattle.std.proofs.lemmas.Result.{err_from_is_err_and}
 use Rattle.models.specs.JudgeModel.{judge_model}
+use Rattle.pairs.proofs.Copying.{refusal-is, no-refusal}
 use Rattle.pairs.proofs.Front.{front}
 use Rattle.pairs.proofs.Long.{judge-refused, judge-copied}
 use Rattle.pairs.proofs.pair_judge_model.Goals as goal
 
-pub returns-then-copied-ne-NONE : goal.returns-then-copied-ne-NONE
-unfolding verdict
-returns-then-copied-ne-NONE c =
-    rw (c.copy_model-copied.ensures.number, c.copy_model-copied.ensures.place) (judge-refused c.args.candidate c.args.ws.now c.args.values.now (λ e. c.if-copied-ne-NONE.true (c.copy_model-copied.ensures.number ∙ e)))
+pub returns-in_err-words : goal.returns-in_err-words
+returns-in_err-words c =
+    let p = err_from_is_err_and c.from_residual.result c.from_residual.ensures.1 in
+    let q = refusal-is (rw c.in_err-words.was at c.copy_model.ensures) in
+    rw (p.1, p.2) (q.0 ∙ judge-refused c.args.candidate c.args.ws.now c.args.values.now q.1)
 
 pub returns : goal.returns
 returns c =
-    c.judge_model.ensures ∙ ap (λ (m : List ℕ). judge_model m c.args.values.now) (front (c.copy_model-copied.ensures.model c.if-copied-ne-NONE.false) refl) ∙ judge-copied c.args.candidate c.args.ws.now c.args.values.now (sym c.copy_model-copied.ensures.number ∙ c.if-copied-ne-NONE.false)
+    let k = rw c.in_ok-words.was at c.copy_model.ensures in
+    let f = front k.model refl in
+    c.judge_model.ensures ∙ ap (λ (m : List ℕ). judge_model m c.args.values.now) f ∙ judge-copied c.args.candidate c.args.ws.now c.args.values.now (no-refusal k)

@@ -1,26 +1,25 @@
 -- The answer of copying where it refuses; else the front of the list is the candidate's model, and translate's answer, output and shared solutions are its own.
-use Rattle.std.proofs.Common.{refl, sym, ap, ◌∙◌, List, ℕ, length}
-use Rattle.words.specs.Written.{wrote}
+use Rattle.std.proofs.Common.{refl, ap, ◌∙◌, List, ℕ, length}
+use Rattle.std.proofs.lemmas.Result.{err_from_is_err_and}
 use Rattle.rules.specs.Translate.{translate, translated}
 use Rattle.checking.proofs.Answers.{clash}
+use Rattle.pairs.proofs.Copying.{refusal-is, no-refusal}
 use Rattle.pairs.proofs.Front.{front}
 use Rattle.pairs.proofs.Long.{translate-refused, translate-copied}
 use Rattle.pairs.proofs.pair_translate.Goals as goal
 
-pub returns-then-copied-ne-NONE : goal.returns-then-copied-ne-NONE
-unfolding wrote
-returns-then-copied-ne-NONE c =
-    let s = translate-refused c.args.candidate c.args.ws.now c.args.out.now (λ e. c.if-copied-ne-NONE.true (c.copy_model-copied.ensures.number ∙ e)) in
-    record {
-      answer = rw (c.copy_model-copied.ensures.number, c.copy_model-copied.ensures.place) s.0;
-      output = s.1;
-      shared = λ m e. clash (cc);
-    }
+pub returns-in_err-words : goal.returns-in_err-words
+returns-in_err-words c =
+    let p = err_from_is_err_and c.from_residual.result c.from_residual.ensures.1 in
+    let q = refusal-is (rw c.in_err-words.was at c.copy_model.ensures) in
+    let s = translate-refused c.args.candidate c.args.ws.now c.args.out.now q.1 in
+    rw (p.1, p.2) (record { answer = q.0 ∙ s.0; output = s.1; shared = λ m e. clash (cc) })
 
 pub returns : goal.returns
 returns c =
-    let f = front (c.copy_model-copied.ensures.model c.if-copied-ne-NONE.false) refl in
-    let s = translate-copied c.args.candidate c.args.ws.now c.args.out.now (sym c.copy_model-copied.ensures.number ∙ c.if-copied-ne-NONE.false) in
+    let k = rw c.in_ok-words.was at c.copy_model.ensures in
+    let f = front k.model refl in
+    let s = translate-copied c.args.candidate c.args.ws.now c.args.out.now (no-refusal k) in
     record {
       answer = c.translate.ensures.answer ∙ ap (λ (m : List ℕ). translate m (length c.args.out.now)) f ∙ s.0;
       output = c.translate.ensures.output ∙ ap (λ (m : List ℕ). translated m c.args.out.now) f ∙ s.1;

@@ -1,5 +1,4 @@
 -- The invariant: no word so far passes the test.
-use Rattle.std.proofs.Common.{◌-◌, length}
 use Rattle.integers.specs.Choice.{◌if◌else◌}
 use Rattle.pairs.specs.Pair.{ends_table, separates}
 use Rattle.pairs.proofs.Before.{Passed}
@@ -7,6 +6,3 @@ use Rattle.pairs.proofs.words_before.Given as goal
 
 abbrev pub invariant-loop-i : goal.invariant-loop-i
 invariant-loop-i l = Passed (ends_table if l.table else separates) l.ws l.i
-
-abbrev pub decreases-loop-i : goal.decreases-loop-i
-decreases-loop-i l = length l.ws - l.i

@@ -1,5 +1,5 @@
 use Rattle.std.proofs.Common.{arith, to_z-of_z}
-use Rattle.words.proofs.Word.{near-back}
+use Rattle.words.proofs.ReadBack.{near-back}
 use Rattle.picking.proofs.Powers.{powers_one, half-ranged, square_in, odd_in, square-put, even_put, odd-put}
 use Rattle.picking.proofs.+put_powers.Goals as goal
 

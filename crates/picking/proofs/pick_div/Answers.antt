@@ -9,10 +9,5 @@ use Rattle.picking.proofs.pick_div.Goals as goal
 pub put_division-requires : goal.put_division-requires
 unfolding pick builtin builtins
 put_division-requires c =
-    rw (back c.value_of.result c.value_of.type_inv, c.value_of.ensures, back c.value_of-2.result c.value_of-2.type_inv, c.value_of-2.ensures, back c.value_of-3.result c.value_of-3.type_inv, c.value_of-3.ensures)
-    (omega (arith, c.requires.place), value-near c.args.values.now c.requires.small (var c.args.args.now 1), value-near c.args.values.now c.requires.small (var c.args.args.now 2), c.requires.ranged)
-
-pub returns : goal.returns
-unfolding pick builtin builtins
-returns c =
-    rw (back c.value_of.result c.value_of.type_inv, c.value_of.ensures, back c.value_of-2.result c.value_of-2.type_inv, c.value_of-2.ensures, back c.value_of-3.result c.value_of-3.type_inv, c.value_of-3.ensures) at c.put_division.ensures
+    rw (back c.value.result c.value.type_inv, c.value.ensures.value, back c.value-2.result c.value-2.type_inv, c.value-2.ensures.value, back c.value-3.result c.value-3.type_inv, c.value-3.ensures.value)
+    (omega (arith, c.requires.place), value-near c.args.instance.now.values.now c.args.instance.now.small (var c.args.instance.now.args.now 1), value-near c.args.instance.now.values.now c.args.instance.now.small (var c.args.instance.now.args.now 2), c.requires.ranged)

@@ -1,8 +1,9 @@
 -- The place of x among the members that stand at the front of the array.
-use Rattle.std.proofs.Common.{◌≡◌, refl, ◌∙◌, arith, length, get_or}
-use Rattle.integers.specs.Number.{+0, +1}
-use Rattle.integers.specs.Bounds.{◌to◌}
+use Rattle.std.proofs.Common.{◌≡◌, refl, sym, ap, ◌∙◌, ◌≤◌, arith, length, length-take-le}
+use Rattle.integers.specs.Number.{+1}
+use Rattle.integers.specs.Bounds.{bounds_in}
 use Rattle.integers.proofs.Fits.{back}
+use Rattle.words.proofs.Overlay.{length-overlay}
 use Rattle.models.specs.Model.{nums, var}
 use Rattle.rules.specs.Parts.{members}
 use Rattle.extremes.proofs.Rising.{members-length}
@@ -13,20 +14,36 @@ use Rattle.picking.proofs.Members.{member-picks}
 use Rattle.picking.proofs.pick_member.Goals.{After-first_number-h, After-members-n}
 use Rattle.picking.proofs.pick_member.Goals as goal
 
-many : (c : After-members-n) → c.members-n.result ≡ length (members (nums c.args.args.now 1) (get_or c.args.ls.now (var c.args.args.now 0) +0 to get_or c.args.us.now (var c.args.args.now 0) +0))
+many : (c : After-members-n) → let a = c.args in let ws = a.instance.now.args.now in
+    c.members-n.result ≡ length (members (nums ws 1) (bounds_in a.domains.now (var ws 0)))
 many c =
-    c.members-n.ensures.0 ∙ rw (back c.bound_at.result c.bound_at.type_inv, c.bound_at.ensures, back c.bound_at-2.result c.bound_at-2.type_inv, c.bound_at-2.ensures, c.var_at-x.ensures)
+    c.members-n.ensures.count ∙ rw c.bounds_of_first.ensures
 
-picks : (c : After-first_number-h) → let a = c.args in picks_of a.ls.now a.us.now a.values.now 27 a.args.now ≡ only_at c.members-n.result c.first_number-h.result +1
+few : (c : After-members-n) → c.members-n.result ≤ 32
+few c =
+    let a = c.args in
+    let ws = a.instance.now.args.now in
+    omega (arith, many c, members-length ws 1 (bounds_in a.domains.now (var ws 0)))
+
+long : (c : After-members-n) → length c.members-n.new.out ≡ 32
+long c = ap length c.members-n.ensures.listed ∙ length-overlay _ 0 _
+
+picks : (c : After-first_number-h) → let a = c.args in picks_of a.domains.now a.instance.now.values.now 27 a.instance.now.args.now ≡ only_at c.members-n.result c.first_number-h.result +1
 picks c =
-    rw (many (record { before = c.before.before.before.before.before; type_inv = record { args = c.type_inv.args } }))
-    (member-picks c.args.ls.now c.args.us.now c.args.values.now c.args.args.now _ c.members-n.new.out c.first_number-h.result refl
-    (rw (back c.bound_at.result c.bound_at.type_inv, c.bound_at.ensures, back c.bound_at-2.result c.bound_at-2.type_inv, c.bound_at-2.ensures, c.var_at-x.ensures) at c.members-n.ensures.1)
-    (rw (back c.value_of.result c.value_of.type_inv, c.value_of.ensures, many (record { before = c.before.before.before.before.before; type_inv = record { args = c.type_inv.args } })) at c.first_number-h.ensures))
+    member-picks c.args.domains.now c.args.instance.now.values.now c.args.instance.now.args.now _ c.members-n.new.out c.members-n.result c.first_number-h.result refl (c.members-n.ensures.count ∙ rw c.bounds_of_first.ensures)
+    (rw c.bounds_of_first.ensures at c.members-n.ensures.listed)
+    (rw (back c.value.result c.value.type_inv, c.value.ensures.value) at c.first_number-h.ensures)
+
+pub slice_bounds-inside-end : goal.slice_bounds-inside-end
+slice_bounds-inside-end c = let m = (goal.at.slice_bounds-inside-end c).After-members-n in omega (arith, few m, long m)
+
+pub slice_bounds-first_number-end : goal.slice_bounds-first_number-end
+slice_bounds-first_number-end c =
+    let m = (goal.at.slice_bounds-first_number-end c).After-members-n in
+    sym (length-take-le _ _ (omega (arith, few m, long m)))
 
 pub put_only-requires : goal.put_only-requires
-put_only-requires c =
-    (omega (arith, many (goal.at.put_only-requires c).After-members-n, members-length c.args.args.now 1 (get_or c.args.ls.now (var c.args.args.now 0) +0 to get_or c.args.us.now (var c.args.args.now 0) +0)), bits-ranged c.members-n.result c.first_number-h.result)
+put_only-requires c = (omega (arith, few (goal.at.put_only-requires c).After-members-n), bits-ranged c.members-n.result c.first_number-h.result)
 
 pub returns : goal.returns
 returns c = rw (picks (goal.at.returns c).After-first_number-h) c.put_only.ensures

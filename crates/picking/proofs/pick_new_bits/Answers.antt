@@ -5,14 +5,14 @@ use Rattle.rules.specs.Shared.{new_pick}
 use Rattle.picking.proofs.Codes.{set-picks}
 use Rattle.picking.proofs.pick_new_bits.Goals as goal
 
-pub returns-then-entry_of-eq0 : goal.returns-then-entry_of-eq0
+pub returns-then-at_or-eq0-clause-laid : goal.returns-then-at_or-eq0-clause-laid
 unfolding new_pick
-returns-then-entry_of-eq0 c =
-    let e = rw c.var_at.ensures at c.entry_of.ensures in
-    rw (eq-eqb _ _ (sym e ∙ c.if-entry_of-eq0.true)) (rw (set-picks c.args.ls.now c.args.us.now c.args.values.now c.args.args.now) at c.pick_set_reif.ensures)
+returns-then-at_or-eq0-clause-laid c =
+    let e = rw c.var_at.ensures at c.at_or.ensures in
+    rw (eq-eqb _ _ (sym e ∙ c.if-at_or-eq0.true)) (rw (set-picks c.args.domains.now c.args.instance.now.values.now c.args.instance.now.args.now) at c.pick_set_reif.ensures.laid)
 
-pub returns : goal.returns
+pub returns-clause-laid : goal.returns-clause-laid
 unfolding new_pick
-returns c =
-    let e = rw c.var_at.ensures at c.entry_of.ensures in
-    rw (ne_eqb _ _ (λ z. c.if-entry_of-eq0.false (e ∙ z))) laid_none
+returns-clause-laid c =
+    let e = rw c.var_at.ensures at c.at_or.ensures in
+    rw (ne_eqb _ _ (λ z. c.if-at_or-eq0.false (e ∙ z))) laid_none

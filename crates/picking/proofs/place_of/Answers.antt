@@ -10,4 +10,4 @@ returns-then-v-first c = label-none c.args.v c.args.first c.args.n ((says-lt _ _
 
 pub returns : goal.returns
 returns c =
-    rw (c.count_of.ensures, back c.minus.result c.minus.type_inv, c.minus.ensures, to_z-of_z c.ranges.v, to_z-of_z c.ranges.first) (label_at c.args.v c.args.first c.args.n (not-below _ _ (rw (to_z-of_z c.ranges.v, to_z-of_z c.ranges.first) at c.if-v-first.false)))
+    rw (c.count_of.ensures.value, back c.minus.result c.minus.type_inv, c.minus.ensures.value, to_z-of_z c.ranges.v, to_z-of_z c.ranges.first) (label_at c.args.v c.args.first c.args.n (not-below _ _ (rw (to_z-of_z c.ranges.v, to_z-of_z c.ranges.first) at c.if-v-first.false)))

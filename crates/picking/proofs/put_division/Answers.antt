@@ -10,11 +10,11 @@ pub put_pick-fourth-requires : goal.put_pick-fourth-requires
 unfolding division_pick
 put_pick-fourth-requires c = (
   omega (arith, c.put_bit-second.ensures.ends, c.put_bit-third.ensures.ends, c.requires.0),
-  rw (back c.times.result c.times.type_inv, c.times.ensures, to_z-of_z c.ranges.d, to_z-of_z c.ranges.q) (c.requires.3 2),
+  rw (back c.times.result c.times.type_inv, c.times.ensures.value, to_z-of_z c.ranges.d, to_z-of_z c.ranges.q) (c.requires.3 2),
 )
 
 pub returns : goal.returns
 returns c =
     rw division-pick
-    (rw (c.both.ensures, c.at_most-alpha.ensures, c.below-beta.ensures, back c.times.result c.times.type_inv, c.times.ensures, to_z-of_z c.ranges.n, to_z-of_z c.ranges.d, to_z-of_z c.ranges.q) at
+    (rw (back c.times.result c.times.type_inv, c.times.ensures.value, to_z-of_z c.ranges.n, to_z-of_z c.ranges.d, to_z-of_z c.ranges.q) at
     (laid_then c.put_bit-second.ensures (laid_then c.put_bit-third.ensures (laid_then c.put_pick-fourth.ensures c.put_bit.ensures))))

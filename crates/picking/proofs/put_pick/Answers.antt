@@ -1,22 +1,17 @@
--- Inside the list the number is written; past its end nothing changes.
-use Rattle.std.proofs.Common.{◌≡◌, sym, ◌∙◌, set, to_z-of_z, rules, arith}
-use lib.Seq.{set_out}
+-- A number of the range fits.
+use Rattle.std.proofs.Common.{◌≡◌, ◌∙◌, SFits, ℤ, to_z-of_z, w32, rules, arith, true}
 use Rattle.integers.proofs.Fits.{fits32}
 use Rattle.words.specs.Overlay.{overlay}
-use Rattle.words.proofs.Word.{range-near}
-use Rattle.picking.proofs.put_pick.Goals.{Joined-at-out, then-at-out, else-at-out}
+use Rattle.words.specs.Word.{in_range}
+use Rattle.words.proofs.ReadBack.{range-near}
 use Rattle.picking.proofs.put_pick.Goals as goal
 
-written : (c : Joined-at-out) → c.if-at-out.out ≡ set c.args.out.now c.args.at c.args.v
-written c =
-    elim c.if-at-out.branch [
-      | then-at-out w ↦ w.out-is ∙ rw (to_z-of_z c.ranges.v, to_z-of_z (fits32 c.args.v (omega (arith, range-near c.args.v c.requires.1))))
-      | else-at-out w ↦ w.out-is ∙ sym (set_out _ _ _ w.if-at-out.false)
-    ]
+fits : (v : ℤ) → in_range v ≡ true → SFits w32 v
+fits v h = fits32 v (omega (arith, range-near v h))
 
-pub overflow_cast-out : goal.overflow_cast-out
-overflow_cast-out c = rw (to_z-of_z c.ranges.v) (fits32 c.args.v (omega (arith, range-near c.args.v c.requires.1)))
+pub overflow_cast-v : goal.overflow_cast-v
+overflow_cast-v c = rw (to_z-of_z c.ranges.v) (fits c.args.v c.requires.1)
 
 pub returns : goal.returns
 unfolding overlay
-returns c = record { over = written c; ends = search rules }
+returns c = record { over = c.put.ensures ∙ rw (to_z-of_z c.ranges.v, to_z-of_z (fits c.args.v c.requires.1)); ends = search rules }

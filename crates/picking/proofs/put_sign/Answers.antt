@@ -8,8 +8,8 @@ use Rattle.picking.proofs.put_sign.Goals as goal
 pub put_if-requires : goal.put_if-requires
 unfolding sign_pick
 put_if-requires c =
-    (omega (arith, c.put_bit-next.ensures.ends), rw (to_z-of_z c.ranges.x, c.below-negative.ensures, to_z-of_z c.ranges.x) (rw bit-times at (c.requires.1 1)))
+    (omega (arith, c.put_bit-next.ensures.ends), rw (to_z-of_z c.ranges.x) (rw bit-times at (c.requires.1 1)))
 
 pub returns : goal.returns
 returns c =
-    rw (sign-pick) (rw (c.below-negative.ensures, to_z-of_z c.ranges.x) at (laid_then c.put_bit-next.ensures c.put_if.ensures))
+    rw (sign-pick) (rw (to_z-of_z c.ranges.x) at (laid_then c.put_bit-next.ensures c.put_if.ensures))

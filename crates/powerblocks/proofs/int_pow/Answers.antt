@@ -1,30 +1,26 @@
--- For k=0 one row; else the bounds, the products and the last row.
 use Rattle.std.proofs.Common.{arith, rules}
-use Rattle.integers.specs.Bounds.{bit}
-use Rattle.integers.proofs.Fits.{back}
+use Rattle.integers.specs.Bounds.{bit, bounds_in}
+use Rattle.words.specs.Small.{Near}
 use Rattle.rules.specs.Rule.{rule}
-use Rattle.laying.proofs.Parts.{went_then, went_as}
-use Rattle.laying.proofs.Alike.{went-alike, went-fitting}
-use Rattle.extremes.specs.BoundLists.{bounds_of}
+use Rattle.laying.proofs.Written.{wrote-then, wrote-as, wrote-most, wrote-alike, wrote-fitting}
 use Rattle.powerblocks.proofs.Block.{none-parts, power-alike}
 use Rattle.powerblocks.proofs.int_pow.Goals as goal
 
+-- For k=0 one row; else the bounds, the products and the last row.
 pub returns-then-k-eq0 : goal.returns-then-k-eq0
 unfolding rule
 returns-then-k-eq0 c =
-    rw c.if-k-eq0.true (went-fitting (went_as (none-parts c.args.first (bounds_of c.args.ls.now c.args.us.now) c.args.x c.args.z) c.lay_row.ensures.0), omega (arith, c.lay_row.ensures.1))
+    rw c.if-k-eq0.true (wrote-fitting (wrote-as (none-parts c.args.first (bounds_in c.args.domains.now) c.args.x c.args.z) (wrote-most (omega arith) (simp c.new.ensures at c.row.ensures))))
 
-pub lay_row-requires-2 : goal.lay_row-requires-2
-lay_row-requires-2 c =
-    (omega (arith, c.requires.0, c.requires.2, c.lay_ranges-ranged.ensures.size, (c.lay_power-chained.ensures bit).size), search rules, search rules, search rules)
+pub row-requires-2 : goal.row-requires-2
+row-requires-2 c = (omega (arith, c.requires.0, c.requires.2, c.write_ranges.ensures.wrote.size, (c.write_power-power.ensures bit).wrote.size), search rules)
 
 pub returns : goal.returns
 unfolding rule
 returns c =
-    let β = bounds_of c.args.ls.now c.args.us.now in
-    let r = rw (back c.bound_at-lower.result c.bound_at-lower.type_inv, c.bound_at-lower.ensures, back c.bound_at-upper.result c.bound_at-upper.type_inv, c.bound_at-upper.ensures) at c.lay_ranges-ranged.ensures in
-    let p = c.lay_power-chained.ensures (β c.args.x) in (
-      went-alike (power-alike c.args.first β c.args.x c.args.k c.args.z c.lay_power-chained.result.held (omega (arith, c.if-k-eq0.false)) (c.requires.3 c.args.x) (c.requires.4 c.args.x) p.held)
-          (went_then r.went (went_then p.went c.lay_row-2.ensures.0)),
-      omega (arith, c.requires.2, r.size, p.size, c.lay_row-2.ensures.1),
-    )
+    let β = bounds_in c.args.domains.now in
+    let r = rw c.domain_of.ensures at c.write_ranges.ensures in
+    let near : Near c.domain_of.result.lower × Near c.domain_of.result.upper = (search rules, search rules) in
+    let p = c.write_power-power.ensures (β c.args.x) in
+    wrote-alike (power-alike c.args.first β c.args.x c.args.k c.args.z c.write_power-power.result.held (omega (arith, c.if-k-eq0.false)) (rw c.domain_of.ensures at near.0) (rw c.domain_of.ensures at near.1) p.held)
+    (wrote-most (omega (arith, c.requires.2)) (wrote-then r.wrote (wrote-then p.wrote (simp (c.new-2.ensures, c.new-3.ensures) at c.row-2.ensures))))

@@ -1,16 +1,15 @@
 -- A refusal of check stands; else what comes after the check.
-use Rattle.checking.specs.Checked.{checked}
+use Rattle.std.proofs.lemmas.Result.{err_from_is_err_and}
 use Rattle.checking.proofs.Answers.{counted}
-use Rattle.reasoning.specs.Told.{told}
 use Rattle.reasoning.proofs.Whole.{stands}
 use Rattle.reasoning.proofs.reason.Goals as goal
 
-pub reason_passed-requires : goal.reason_passed-requires
-unfolding checked
-reason_passed-requires c =
-    let p = counted c.args.ws.now (rw c.in-Counts.is at c.check_model-known.ensures.answer) in
-    (c.check_model-known.ensures.bounds p.0, c.check_model-known.ensures.sums p.0, p.0, p.2)
+pub returns-in_err-known : goal.returns-in_err-known
+returns-in_err-known c =
+    let p = err_from_is_err_and c.from_residual.result c.from_residual.ensures.1 in
+    rw (p.1, p.2) (stands c.args.ws.now c.args.values.now (rw c.in_err-known.was at c.check_model.ensures.answer))
 
-pub returns-in-Refused : goal.returns-in-Refused
-unfolding told checked
-returns-in-Refused c = stands c.args.ws.now c.args.values.now (rw c.in-Refused.is at c.check_model-known.ensures.answer)
+pub reason_passed-requires : goal.reason_passed-requires
+reason_passed-requires c =
+    let p = counted c.args.ws.now (rw c.in_ok-known.was at c.check_model.ensures.answer) in
+    (rw c.in_ok-known.was at c.check_model.ensures.bounds, rw c.in_ok-known.was at c.check_model.ensures.sums, p.0, p.2)

@@ -1,45 +1,32 @@
-use Rattle.std.proofs.Common.{◌≡◌, refl, sym, ap, ◌∙◌, arith, suc, ◌+◌, ◌-◌}
-use Rattle.rowsystems.specs.declared.Due.TheVariants.{Terms, Item}
-use Rattle.rowreading.specs.Onward.{StepsTo}
-use Rattle.rowreading.specs.declared.items.Step.{Step}
-use Rattle.rowreading.proofs.Inner.{no_word, row-constant}
-use Rattle.rowreading.proofs.Steps.{and_then, or-halted, stepped}
-use Rattle.rowterms.proofs.Steps.{as_step}
-use Rattle.rowterms.proofs.see_cut.Goals.{After-number_at-constant, After-read_term-term, Else-term-ne-NONE}
+use Rattle.std.proofs.Common.{◌≡◌, refl, arith, suc, ◌+◌, ◌-◌, ◌*◌}
+use Rattle.words.proofs.Faulty.{fault-number}
+use Rattle.rowsystems.specs.declared.Due.TheVariants.{Item}
+use Rattle.rowreading.proofs.Inner.{no_word}
+use Rattle.rowreading.proofs.Steps.{and_then, or-halted}
+use Rattle.rowterms.proofs.Steps.{step-halts, constant-missing, next-constant}
 use Rattle.rowterms.proofs.see_cut.Goals as goal
 
--- reading on past the term, or to its fault
-went : (c : After-read_term-term) → StepsTo c.args.ws.now c.args.n (Terms c.args.terms) c.args.start (Terms (c.loop-left.left - 1)) c.read_term-term.result
-went c =
-    let e : suc (c.loop-left.left - 1) ≡ c.loop-left.left = omega (arith, c.loop-left-test.true) in and_then c.loop-left.invariant.2 refl refl (rw e at (c.read_term-term.ensures.0 (c.loop-left.left - 1)))
+pub loop-init : goal.loop-init
+loop-init c =
+    let e : c.args.terms - 0 ≡ c.args.terms = omega arith in
+    record { place = omega arith; reads = rw e (no_word c.args.ws.now c.args.n c.args.start c.requires.0.within) }
 
--- past a term without a fault
-past-term : (c : Else-term-ne-NONE) → c.read_term-term.result.at ≡ c.loop-left.at + 2
-past-term c = c.read_term-term.ensures.1 c.if-term-ne-NONE.false
+pub returns-in-Err : goal.returns-in-Err
+returns-in-Err c =
+    let e : suc (c.args.terms - (c.loop.counter + 1)) ≡ c.args.terms - c.loop.counter = omega arith in
+    or-halted (and_then c.loop.invariant.reads refl refl (rw e at (c.in-Err.ensures.steps (c.args.terms - (c.loop.counter + 1))))) (fault-number _)
 
--- the constant
-last : (c : After-number_at-constant) → let a = c.args in StepsTo a.ws.now a.n (Terms a.terms) a.start Item c.number_at-constant.result
-last c =
-    let z : c.loop-left.left ≡ 0 = omega (arith, c.loop-left-test.false) in and_then (rw z at c.loop-left.invariant.2) refl refl (rw c.number_at-constant.ensures (row-constant c.args.ws.now c.args.n c.loop-left.at c.loop-left.invariant.2.inside))
-
-pub loop-left-init : goal.loop-left-init
-loop-left-init c =
-    (omega arith, omega arith, no_word c.args.ws.now c.args.n c.args.start c.requires.0.within)
-
-pub returns-then-term-ne-NONE : goal.returns-then-term-ne-NONE
-returns-then-term-ne-NONE c = rw c.faulty.ensures (or-halted (went (goal.at.returns-then-term-ne-NONE c).After-read_term-term) c.if-term-ne-NONE.true, c.if-term-ne-NONE.true)
-
-pub loop-left-preserved : goal.loop-left-preserved
-loop-left-preserved c = (
-  omega (arith, c.loop-left.invariant.0, c.loop-left.invariant.1, c.loop-left-test.true),
-  omega (arith, c.loop-left.invariant.1),
-  as_step (went (goal.at.loop-left-preserved c).After-read_term-term) c.if-term-ne-NONE.false (past-term (c)),
-)
+pub loop-preserved : goal.loop-preserved
+loop-preserved c =
+    let e : suc (c.args.terms - (c.loop.counter + 1)) ≡ c.args.terms - c.loop.counter = omega arith in
+    record {
+      place = omega (arith, c.in-Ok.ensures.end, c.loop.invariant.place);
+      reads = and_then c.loop.invariant.reads refl refl (rw e at (c.in-Ok.ensures.steps (c.args.terms - (c.loop.counter + 1))));
+    }
 
 pub returns : goal.returns
 returns c =
-    rw c.faulty-2.ensures (
-      last (goal.at.returns c).After-number_at-constant,
-      λ z. let e = ap (λ (r : Step). r.at) c.number_at-constant.ensures ∙ stepped _ _ (ap (λ (r : Step). r.number) (sym c.number_at-constant.ensures) ∙ z) in
-          omega (arith, e, (last (goal.at.returns c).After-number_at-constant).inside, c.loop-left.invariant.0, c.loop-left-test.false, c.requires.1),
-    )
+    let e : c.loop.counter ≡ c.args.terms = omega (arith, c.loop-test.false) in
+    let a : c.args.start + 2 * c.args.terms ≡ c.loop.at = omega (arith, c.loop.invariant.place) in
+    let m = constant-missing c.args.ws.now c.loop.at (omega (arith, c.requires.1)) in
+    rw m at (step-halts {c = Item} (rw a at (next-constant c.args.ws.now c.args.n c.args.start c.args.terms c.loop.counter (rw c.loop.invariant.place at c.loop.invariant.reads) e)) (λ z. omega (arith, z, m)))

@@ -1,143 +1,93 @@
-use Rattle.std.proofs.Common.{◌≡◌, refl, sym, ◌∙◌, arith, eqb-true, suc, ◌+◌, ◌-◌, ◌<◌, ◌≤◌, nat_abs, length, drop, w64, to_z, of_z}
+use Rattle.std.proofs.Common.{◌≡◌, refl, sym, ◌∙◌, arith, eqb-true, ◌+◌, ◌-◌, ◌*◌, drop}
 use borrow.Author.Tests.{eqb-false}
-use Rattle.integers.specs.Number.{◌⊗◌}
-use Rattle.integers.specs.Terms.{value}
-use Rattle.integers.proofs.Fits.{back, plus-size}
-use Rattle.words.specs.Small.{Near}
+use Rattle.integers.proofs.Fits.{back}
 use Rattle.words.specs.Word.{payload, word_at}
-use Rattle.words.proofs.Word.{factors-fit, product-size}
+use Rattle.words.proofs.ReadBack.{signed-near}
 use Rattle.rowsystems.specs.Reading.{fault_variable, fault_number}
 use Rattle.rowsystems.specs.RowSystem.{number_at, variable_at}
 use Rattle.rowsystems.specs.declared.Due.TheVariants.{Terms, Coefficient, Item}
 use Rattle.rowreading.specs.Onward.{StepsTo, step_over}
-use Rattle.rowreading.proofs.Inner.{no_word, term-variable, term-coefficient, row-constant}
-use Rattle.rowreading.proofs.Steps.{and_then}
-use Rattle.rowterms.proofs.Steps.{step-halts, step-goes, declared}
-use Rattle.rowterms.proofs.Sums.{number_size, constant-from, no-terms, term-added}
-use Rattle.rowterms.proofs.see_terms.Goals.{After-is_number, After-is_number-2, After-is_variable, After-known_value, After-payload_of, After-signed_of-2, After-times, Else-not-is_number, Else-not-is_number-2, Else-not-is_variable, In-loop-left}
+use Rattle.rowreading.proofs.Answered.{declared}
+use Rattle.rowreading.proofs.Inner.{no_word}
+use Rattle.rowterms.proofs.Steps.{step-halts, step-goes, next-variable, next-coefficient, next-constant}
+use Rattle.rowterms.proofs.Sums.{constant-from, no-terms, term-added}
+use Rattle.rowterms.proofs.see_terms.Goals.{After-from-x, After-from-c, After-from-c-2}
 use Rattle.rowterms.proofs.see_terms.Goals as goal
 
--- the words of a term and of the constant are there
-there : (c : In-loop-left) → c.loop-left.at + 2 < length c.args.ws.now
-there c =
-    omega (arith, c.loop-left.invariant.0, c.loop-left.invariant.1, c.loop-left-test.true, c.payload_of-terms.ensures, c.requires.3)
-
 -- reading on past the variable, past the coefficient, past the constant
-variable : (c : After-is_variable) → let a = c.args in let l = c.loop-left in StepsTo a.ws.now a.n (Terms c.payload_of-terms.result) a.start (Coefficient (l.left - 1)) (step_over (fault_variable a.n (word_at a.ws.now l.at)) l.at)
-variable c =
-    let e : suc (c.loop-left.left - 1) ≡ c.loop-left.left = omega (arith, c.loop-left-test.true) in and_then c.loop-left.invariant.2 refl refl (rw e at (term-variable c.args.ws.now c.args.n c.loop-left.at c.loop-left.invariant.2.inside (c.loop-left.left - 1)))
-
-fits : (c : Else-not-is_variable) → fault_variable c.args.n (word_at c.args.ws.now c.loop-left.at) ≡ 0
+variable : (c : After-from-x) → let a = c.args in let k = c.loop-k.k in StepsTo a.ws.now a.n (Terms c.payload-terms.result) a.start (Coefficient (c.payload-terms.result - (k + 1))) (step_over (fault_variable a.n c.from-x.result) (a.start + 2 * k))
 unfolding word_at
-fits c = eqb-true _ _ (sym c.is_variable.ensures ∙ c.if-not-is_variable.false)
+variable c = rw c.from-x.ensures (next-variable _ _ _ _ _ c.loop-k.invariant.reads c.loop-k-test.true)
 
-coefficient : (c : After-is_number) → let a = c.args in let l = c.loop-left in StepsTo a.ws.now a.n (Terms c.payload_of-terms.result) a.start (Terms (l.left - 1)) (step_over (fault_number (word_at a.ws.now (l.at + 1))) (l.at + 1))
-coefficient c =
-    and_then (step-goes c.loop-left.at (variable (record { before = c.before.before.before.before; type_inv = record { ws = c.type_inv.ws } })) (fits (record { before = c.before.before.before; type_inv = record { ws = c.type_inv.ws } }))) refl refl (term-coefficient c.args.ws.now c.args.n (c.loop-left.at + 1) (omega (arith, there (record { before = c.before.before.before.before.before.before; type_inv = record { ws = c.type_inv.ws } }))) (c.loop-left.left - 1))
-
-constant : (c : After-is_number-2) → let a = c.args in StepsTo a.ws.now a.n (Terms c.payload_of-terms.result) a.start Item (step_over (fault_number (word_at a.ws.now c.loop-left.at)) c.loop-left.at)
-constant c =
-    let z : c.loop-left.left ≡ 0 = omega (arith, c.loop-left-test.false) in and_then (rw z at c.loop-left.invariant.2) refl refl (row-constant c.args.ws.now c.args.n c.loop-left.at c.loop-left.invariant.2.inside)
-
-sound : (c : Else-not-is_number) → fault_number (word_at c.args.ws.now (c.loop-left.at + 1)) ≡ 0
+coefficient : (c : After-from-c) → let a = c.args in let k = c.loop-k.k in fault_variable a.n c.from-x.result ≡ 0 → StepsTo a.ws.now a.n (Terms c.payload-terms.result) a.start (Terms (c.payload-terms.result - (k + 1))) (step_over (fault_number c.from-c.result) (a.start + 2 * k + 1))
 unfolding word_at
-sound c = eqb-true _ _ (sym c.is_number.ensures ∙ c.if-not-is_number.false)
+coefficient c z = rw c.from-c.ensures (next-coefficient _ _ _ _ _ c.loop-k.invariant.reads c.loop-k-test.true (rw c.from-x.ensures at z))
 
-last-sound : (c : Else-not-is_number-2) → fault_number (word_at c.args.ws.now c.loop-left.at) ≡ 0
+constant : (c : After-from-c-2) → let a = c.args in StepsTo a.ws.now a.n (Terms c.payload-terms.result) a.start Item (step_over (fault_number c.from-c-2.result) (a.start + 2 * c.payload-terms.result))
 unfolding word_at
-last-sound c = eqb-true _ _ (sym c.is_number-2.ensures ∙ c.if-not-is_number-2.false)
+constant c = rw c.from-c-2.ensures (next-constant _ _ _ _ _ c.loop-k.invariant.reads (omega (arith, c.loop-k-test.false)))
 
--- the term's variable is declared, so that its value is there and known
-here : (c : After-payload_of) → payload (word_at c.args.ws.now c.loop-left.at) < c.args.n
-here c = declared c.args.n (word_at c.args.ws.now c.loop-left.at) (sym (fits (record { before = c.before.before.before.before.before.before; type_inv = record { ws = c.type_inv.ws } })))
+pub loop-k-init : goal.loop-k-init
+loop-k-init c =
+    let e : c.payload-terms.result - 0 ≡ c.payload-terms.result = omega arith in
+    let p : c.args.start + 0 ≡ c.args.start = omega arith in
+    record {
+      reads = rw (e, p) (no_word c.args.ws.now c.args.n c.args.start c.requires.0.within);
+      total = sym (no-terms (drop c.args.start c.args.ws.now) c.args.values.now);
+      size = omega arith;
+    }
 
-pub known_value-requires : goal.known_value-requires
-unfolding word_at
-known_value-requires c = omega (arith, c.payload_of.ensures, here c, c.requires.1.0)
+pub returns-then-not-is_variable-clause-step : goal.returns-then-not-is_variable-clause-step
+returns-then-not-is_variable-clause-step c =
+    rw (c.variable_fault-fault.ensures, ← c.payload-terms.ensures)
+    (step-halts (variable (goal.at.returns-then-not-is_variable-clause-step c).After-from-x) (eqb-false _ _ (sym c.is_variable.ensures ∙ c.if-not-is_variable.true)))
 
-near : (c : After-known_value) → Near (value c.args.values.now (variable_at c.args.ws.now c.loop-left.at))
-unfolding variable_at
-near c = c.requires.1.1 _ (here (record { before = c.before.before; type_inv = record { ws = c.type_inv.ws } }))
+pub returns-then-not-is_number-clause-step : goal.returns-then-not-is_number-clause-step
+returns-then-not-is_number-clause-step c =
+    let z = eqb-true _ _ (sym c.is_variable.ensures ∙ c.if-not-is_variable.false) in
+    rw (c.number_fault-fault.ensures, ← c.payload-terms.ensures)
+    (step-halts (coefficient (goal.at.returns-then-not-is_number-clause-step c).After-from-c z) (eqb-false _ _ (sym c.is_number.ensures ∙ c.if-not-is_number.true)))
 
--- the factors of the term, and the term
-factors : (c : After-known_value) → (to_z w64 (of_z w64 c.signed_of.result) ≡ number_at c.args.ws.now (c.loop-left.at + 1)) × (to_z w64 (of_z w64 c.known_value.result) ≡ value c.args.values.now (variable_at c.args.ws.now c.loop-left.at))
+pub term_of-requires : goal.term_of-requires
+term_of-requires c =
+    let z = eqb-true _ _ (sym c.is_variable.ensures ∙ c.if-not-is_variable.false) in
+    let h = declared c.args.n c.from-x.result (sym z) in
+    rw c.payload.ensures (omega (arith, h, c.requires.1.0), c.requires.1.1 _ h)
+
+pub loop-k-preserved : goal.loop-k-preserved
 unfolding number_at variable_at word_at
-factors c = (back c.signed_of.result c.signed_of.type_inv ∙ c.signed_of.ensures, back c.known_value.result c.known_value.type_inv ∙ c.known_value.ensures ∙ rw c.payload_of.ensures)
+loop-k-preserved c =
+    let place = c.args.start + 2 * c.loop-k.k in
+    let e : place + 1 + 1 ≡ c.args.start + 2 * (c.loop-k.k + 1) = omega arith in
+    let z = eqb-true _ _ (sym c.is_variable.ensures ∙ c.if-not-is_variable.false) in
+    let y = eqb-true _ _ (sym c.is_number.ensures ∙ c.if-not-is_number.false) in
+    let term = back c.term_of.result c.term_of.type_inv in
+    let b = back c.plus-total.result c.plus-total.type_inv ∙ c.plus-total.ensures.value in
+    record {
+      reads = rw e at (step-goes (place + 1) (coefficient (goal.at.loop-k-preserved c).After-from-c z) y);
+      total =
+          b ∙ rw (term, c.term_of.ensures.value, c.payload.ensures, c.from-x.ensures, c.from-c.ensures)
+          (term-added c.args.ws.now c.args.values.now c.args.start c.loop-k.k place _ refl c.loop-k.invariant.total);
+      size = rw (back c.plus-total.result c.plus-total.type_inv) (omega (arith, rw term at c.plus-total.ensures.size, c.term_of.ensures.size, c.loop-k.invariant.size));
+    }
 
-term : (c : After-times) → to_z w64 (of_z w64 c.times.result) ≡ number_at c.args.ws.now (c.loop-left.at + 1) ⊗ value c.args.values.now (variable_at c.args.ws.now c.loop-left.at)
-term c = back c.times.result c.times.type_inv ∙ c.times.ensures ∙ rw ((factors (record { before = c.before.before; type_inv = record { ws = c.type_inv.ws } })).0, (factors (record { before = c.before.before; type_inv = record { ws = c.type_inv.ws } })).1)
-
-small : (c : After-times) → nat_abs (to_z w64 (of_z w64 c.times.result)) ≤ 18014398509481984
-small c =
-    rw (term c) (product-size (number_at c.args.ws.now (c.loop-left.at + 1)) (value c.args.values.now (variable_at c.args.ws.now c.loop-left.at)) (number_size c.args.ws.now (c.loop-left.at + 1)) (near (record { before = c.before.before; type_inv = record { ws = c.type_inv.ws } })))
-
--- the constant's number
-number : (c : After-signed_of-2) → to_z w64 (of_z w64 c.signed_of-2.result) ≡ number_at c.args.ws.now c.loop-left.at
-unfolding number_at word_at
-number c = back c.signed_of-2.result c.signed_of-2.type_inv ∙ c.signed_of-2.ensures
-
-pub loop-left-init : goal.loop-left-init
-loop-left-init c =
-    let e : c.payload_of-terms.result - c.payload_of-terms.result ≡ 0 = omega arith in
-    (omega arith, omega arith, no_word c.args.ws.now c.args.n c.args.start c.requires.0.within, rw e (sym (no-terms (drop c.args.start c.args.ws.now) c.args.values.now)), omega arith)
-
-pub returns-then-not-is_variable : goal.returns-then-not-is_variable
-unfolding word_at
-returns-then-not-is_variable c =
-    let some = eqb-false _ _ (sym c.is_variable.ensures ∙ c.if-not-is_variable.true) in
-    rw (c.faulty.ensures, c.fault_variable.ensures, ← c.payload_of-terms.ensures) (record {
-      step = step-halts (variable (goal.at.returns-then-not-is_variable c).After-is_variable) some;
-      truth = λ z. absurd (some z);
-    })
-
-pub returns-then-not-is_number : goal.returns-then-not-is_number
-unfolding word_at
-returns-then-not-is_number c =
-    let some = eqb-false _ _ (sym c.is_number.ensures ∙ c.if-not-is_number.true) in
-    rw (c.faulty-then-not-is_number.ensures, c.fault_number.ensures, ← c.payload_of-terms.ensures) (record {
-      step = step-halts (coefficient (goal.at.returns-then-not-is_number c).After-is_number) some;
-      truth = λ z. absurd (some z);
-    })
-
-pub times-requires : goal.times-requires
-times-requires c =
-    rw ((factors c).0, (factors c).1) (omega (arith, factors-fit (number_at c.args.ws.now (c.loop-left.at + 1)) (value c.args.values.now (variable_at c.args.ws.now c.loop-left.at)) (number_size c.args.ws.now (c.loop-left.at + 1)) (near c)))
-
-pub plus-total-requires : goal.plus-total-requires
-plus-total-requires c =
-    omega (arith, c.loop-left.invariant.4, c.loop-left.invariant.1, small c, c.payload_of-terms.ensures, c.requires.2)
-
-pub loop-left-preserved : goal.loop-left-preserved
-loop-left-preserved c =
-    let next : c.loop-left.at + 1 + 1 ≡ c.loop-left.at + 2 = omega arith in
-    let d = c.payload_of-terms.result - c.loop-left.left in
-    let z : c.payload_of-terms.result - (c.loop-left.left - 1) ≡ d + 1 = omega (arith, c.loop-left.invariant.1, c.loop-left-test.true) in
-    let e = back c.plus-total.result c.plus-total.type_inv ∙ c.plus-total.ensures in (
-      omega (arith, c.loop-left.invariant.0, z),
-      omega (arith, c.loop-left.invariant.1),
-      rw next at (step-goes (c.loop-left.at + 1) (coefficient (goal.at.loop-left-preserved c).After-is_number) (sound (goal.at.loop-left-preserved c).Else-not-is_number)),
-      e ∙ rw (term (goal.at.loop-left-preserved c).After-times, z) (term-added c.args.ws.now c.args.values.now c.args.start d c.loop-left.at (to_z w64 c.loop-left.total-bits) c.loop-left.invariant.0 c.loop-left.invariant.3),
-      rw (e, z) (omega (arith, plus-size (to_z w64 c.loop-left.total-bits) (to_z w64 (of_z w64 c.times.result)), c.loop-left.invariant.4, small (goal.at.loop-left-preserved c).After-times)),
-    )
-
-pub returns-then-not-is_number-2 : goal.returns-then-not-is_number-2
-unfolding word_at
-returns-then-not-is_number-2 c =
-    let some = eqb-false _ _ (sym c.is_number-2.ensures ∙ c.if-not-is_number-2.true) in
-    rw (c.faulty-then-not-is_number-2.ensures, c.fault_number-then-not-is_number-2.ensures, ← c.payload_of-terms.ensures) (record {
-      step = step-halts (constant (goal.at.returns-then-not-is_number-2 c).After-is_number-2) some;
-      truth = λ z. absurd (some z);
-    })
+pub returns-then-not-is_number-2-clause-step : goal.returns-then-not-is_number-2-clause-step
+returns-then-not-is_number-2-clause-step c =
+    rw (c.number_fault-fault-then-not-is_number-2.ensures, ← c.payload-terms.ensures)
+    (step-halts (constant (goal.at.returns-then-not-is_number-2-clause-step c).After-from-c-2) (eqb-false _ _ (sym c.is_number-2.ensures ∙ c.if-not-is_number-2.true)))
 
 pub plus-requires : goal.plus-requires
 plus-requires c =
-    rw (number c) (omega (arith, c.loop-left.invariant.4, c.loop-left.invariant.1, number_size c.args.ws.now c.loop-left.at, c.payload_of-terms.ensures, c.requires.2))
+    rw (back c.signed.result c.signed.type_inv, c.signed.ensures)
+    (omega (arith, c.loop-k.invariant.size, signed-near c.from-c-2.result, c.loop-k.auto.k-end, c.payload-terms.ensures, c.requires.2))
 
-pub returns : goal.returns
-returns c =
-    let z : c.loop-left.left ≡ 0 = omega (arith, c.loop-left-test.false) in
-    let d : c.payload_of-terms.result - c.loop-left.left ≡ payload c.args.head = omega (arith, z, c.payload_of-terms.ensures) in
-    record {
-      step = rw (← c.payload_of-terms.ensures) (step-goes c.loop-left.at (constant (goal.at.returns c).After-is_number-2) (last-sound (goal.at.returns c).Else-not-is_number-2));
-      truth = λ i. c.is_true-holds.ensures ∙ rw (back c.plus.result c.plus.type_inv, c.plus.ensures, number (goal.at.returns c).After-signed_of-2, rw d at c.loop-left.invariant.3, constant-from c.args.ws.now c.args.start (payload c.args.head) c.loop-left.at (omega (arith, c.loop-left.invariant.0, d)));
-    }
+pub returns-clause-step : goal.returns-clause-step
+returns-clause-step c =
+    rw (← c.payload-terms.ensures) (step-goes _ (constant (goal.at.returns-clause-step c).After-from-c-2) (eqb-true _ _ (sym c.is_number-2.ensures ∙ c.if-not-is_number-2.false)))
+
+pub returns-clause-truth : goal.returns-clause-truth
+unfolding number_at word_at
+returns-clause-truth c =
+    let e : c.loop-k.k ≡ payload c.args.head = omega (arith, c.loop-k-test.false, c.payload-terms.ensures) in
+    c.is_true.ensures
+    ∙ rw (back c.plus.result c.plus.type_inv, c.plus.ensures.value, back c.signed.result c.signed.type_inv, c.signed.ensures, c.from-c-2.ensures, c.payload-terms.ensures, rw e at c.loop-k.invariant.total, ← constant-from c.args.ws.now c.args.start (payload c.args.head) (c.args.start + 2 * payload c.args.head) refl)

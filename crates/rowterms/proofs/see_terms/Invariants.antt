@@ -6,8 +6,10 @@ use Rattle.rowsystems.specs.declared.Due.TheVariants.{Terms}
 use Rattle.rowreading.specs.Onward.{StepsTo}
 use Rattle.rowterms.proofs.see_terms.Given as goal
 
-abbrev pub invariant-loop-left : goal.invariant-loop-left
-invariant-loop-left l = (l.at ≡ l.start + 2 * (l.terms - l.left)) × (l.left ≤ l.terms) × StepsTo l.ws l.n (Terms l.terms) l.start (Terms l.left) (record { number = 0; at = l.at }) × (l.total ≡ sum (value l.values) (terms_in (drop l.start l.ws) (l.terms - l.left))) × (nat_abs l.total ≤ (l.terms - l.left) * 18014398509481984)
-
-abbrev pub decreases-loop-left : goal.decreases-loop-left
-decreases-loop-left l = l.left
+abbrev pub invariant-loop-k : goal.invariant-loop-k
+invariant-loop-k l =
+    record {
+      reads : StepsTo l.ws l.n (Terms l.terms) l.start (Terms (l.terms - l.k)) (record { number = 0; at = l.start + 2 * l.k });
+      total : l.total ≡ sum (value l.values) (terms_in (drop l.start l.ws) l.k);
+      size : nat_abs l.total ≤ l.k * 18014398509481984;
+    }

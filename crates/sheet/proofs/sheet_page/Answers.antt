@@ -2,7 +2,6 @@
 use Rattle.std.proofs.Common.{ap, ◌∙◌, ◌≤◌, arith, length}
 use Rattle.encoding.specs.Bytes.{bytes_words}
 use Rattle.encoding.proofs.Words.{quarter}
-use Rattle.sheets.specs.Printed.{printed}
 use Rattle.sheets.specs.Sheet.{sheet, sheet_page}
 use Rattle.lines.specs.Lines.{program_words}
 use Rattle.lines.proofs.Printed.{front_too_long, front-refused, front-text, short-enough}
@@ -21,21 +20,21 @@ returns-then-bytes-gt-WORDS c =
     c.put_too_long.ensures.text (omega (arith, c.put_too_long.ensures.end, c.requires)) in
     record { text = p.0; count = p.1 }
 
-pub returns-in-Refused : goal.returns-in-Refused
-unfolding printed_sheet printed sheet
-returns-in-Refused c =
+pub returns-in-Err : goal.returns-in-Err
+unfolding printed_sheet sheet
+returns-in-Err c =
     let ws = bytes_words c.args.bytes.now in
-    let says = rw (c.in-Refused.is, c.front_words-n.ensures.words, c.requires) at c.sheet.ensures.answer in
+    let says = rw (c.in-Err.is, c.front_words-n.ensures.words, c.requires) at c.sheet.ensures.answer in
     let l = ap length c.sheet.ensures.page ∙ same_length _ c.args.page.now in
-    let p = front-refused _ _ c.put_refusal.ensures.text (omega (arith, c.put_refusal.ensures.end, c.requires, l)) _ says (short-enough program_words (length ws) _ (few (goal.at.returns-in-Refused c).Else-bytes-gt-WORDS)) in
+    let p = front-refused _ _ c.put_refusal.ensures.text (omega (arith, c.put_refusal.ensures.end, c.requires, l)) _ says (short-enough program_words (length ws) _ (few (goal.at.returns-in-Err c).Else-bytes-gt-WORDS)) in
     record { text = p.0; count = p.1 }
 
-pub returns-in-Bytes : goal.returns-in-Bytes
-unfolding printed_sheet printed sheet sheet_page
-returns-in-Bytes c =
+pub returns-in-Ok : goal.returns-in-Ok
+unfolding printed_sheet sheet sheet_page
+returns-in-Ok c =
     let ws = bytes_words c.args.bytes.now in
-    let call = rw (c.in-Bytes.is, c.front_words-n.ensures.words, c.requires) at c.sheet.ensures in
-    let p = front-text (record { answer = call.answer; output = call.page; room = rw c.requires (fits ws page_bytes) }) (short-enough program_words (length ws) _ (few (goal.at.returns-in-Bytes c).Else-bytes-gt-WORDS)) in
+    let call = rw (c.in-Ok.is, c.front_words-n.ensures.words, c.requires) at c.sheet.ensures in
+    let p = front-text (record { answer = call.answer; output = call.page; room = rw c.requires (fits ws page_bytes) }) (short-enough program_words (length ws) _ (few (goal.at.returns-in-Ok c).Else-bytes-gt-WORDS)) in
     record { text = p.0; count = p.1 }
 
 pub front_words-n-requires : goal.front_words-n-requires

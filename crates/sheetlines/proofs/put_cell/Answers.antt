@@ -1,28 +1,24 @@
--- The four parts of a term, one after another.
+-- The parts of a term, one after another.
 use Rattle.std.proofs.Common.{◌≡◌, ◌∙◌, arith, to_z-of_z, w64, to_z, of_z}
 use Rattle.words.specs.Word.{signed}
-use Rattle.words.proofs.Word.{signed-near}
-use Rattle.decimals.specs.Decimal.{numeral}
-use Rattle.decimals.proofs.Columns.{length-right}
+use Rattle.words.proofs.ReadBack.{signed-near}
+use Rattle.decimals.proofs.Printed.{then_prints}
 use Rattle.sheetlines.specs.Lines.{cell}
-use Rattle.sheetlines.proofs.Cells.{number_fits, variable-fits, lay-cell}
-use Rattle.sheetlines.proofs.put_cell.Goals.{After-signed_of}
+use Rattle.sheetlines.proofs.Cells.{number_fits, variable-fits}
+use Rattle.sheetlines.proofs.put_cell.Goals.{After-signed}
 use Rattle.sheetlines.proofs.put_cell.Goals as goal
 
 -- the number of the word
-number : (c : After-signed_of) → to_z w64 (of_z w64 c.signed_of.result) ≡ signed c.args.number
-number c = to_z-of_z {w = w64} (record { sfits = c.signed_of.type_inv }) ∙ c.signed_of.ensures
+number : (c : After-signed) → to_z w64 (of_z w64 c.signed.result) ≡ signed c.args.number
+number c = to_z-of_z {w = w64} (record { sfits = c.signed.type_inv }) ∙ c.signed.ensures
 
-pub put_left-requires : goal.put_left-requires
-put_left-requires c =
-    (omega (arith, c.requires.0), variable-fits c.args.variable c.requires.1)
+pub number-requires : goal.number-requires
+number-requires c = (omega (arith, c.requires.0), rw (number c) (number_fits _ (signed-near c.args.number)))
 
-pub returns : goal.returns
+pub left-requires : goal.left-requires
+left-requires c = (omega (arith, c.requires.0, c.number.ensures.end, c.text.ensures.end), variable-fits c.args.variable c.requires.1)
+
+pub returns-clause-text : goal.returns-clause-text
 unfolding cell
-returns c =
-    c.put_left.ensures
-    ∙ rw (c.put_byte-2.ensures, c.put_byte.ensures, c.put_number.ensures, number (goal.at.returns c).After-signed_of)
-    (lay-cell _ _ _ _ (length-right 10 (numeral (signed c.args.number)) (number_fits _ (signed-near c.args.number))))
-
-pub put_number-requires : goal.put_number-requires
-put_number-requires c = (omega (arith, c.requires.0), rw (number c) (number_fits _ (signed-near c.args.number)))
+returns-clause-text c =
+    then_prints (rw (number (goal.at.returns-clause-text c).After-signed) at c.number.ensures.text) (then_prints c.text.ensures.text c.left.ensures.text)

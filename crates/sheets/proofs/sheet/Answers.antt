@@ -1,32 +1,28 @@
 -- The reader's refusal, or 16, or the text on the page.
 use Rattle.std.proofs.Common.{◌≡◌, arith, length}
-use Rattle.sheets.specs.Sheet.{sheet_text}
-use Rattle.sheets.specs.Printed.{printed}
+use Rattle.std.proofs.lemmas.Result.{err_from_is_err_and}
+use Rattle.words.proofs.Faulty.{fault-number}
 use Rattle.rowsystems.proofs.Sizes.{few_words}
+use Rattle.sheets.specs.Sheet.{sheet_text}
 use Rattle.sheets.proofs.Answers.{stands, too_short, writes}
 use Rattle.sheets.proofs.sheet.Goals as goal
 
-pub returns-then-read-ne-NONE : goal.returns-then-read-ne-NONE
-unfolding printed
-returns-then-read-ne-NONE c =
-    let p = stands c.args.ws.now c.args.page.now c.read_rows-read.result c.read_rows-read.ensures c.if-read-ne-NONE.true in
-    record { answer = p.0; page = p.1 }
+pub returns-in_err-read_rows : goal.returns-in_err-read_rows
+returns-in_err-read_rows c =
+    let p = err_from_is_err_and c.from_residual.result c.from_residual.ensures.1 in
+    rw (p.1, p.2) (stands _ _ _ _ (fault-number _) c.in_err-read_rows.ensures.reads)
+
+pub put_sheet-bytes-requires : goal.put_sheet-bytes-requires
+put_sheet-bytes-requires c = few_words c.args.ws.now (rw (← c.in_ok-read_rows.ensures.reads))
+
+pub put_sheet-requires : goal.put_sheet-requires
+put_sheet-requires c = few_words c.args.ws.now (rw (← c.in_ok-read_rows.ensures.reads))
 
 pub returns-then-page-bytes : goal.returns-then-page-bytes
-unfolding printed
 returns-then-page-bytes c =
-    let p = too_short c.args.ws.now c.args.page.now c.read_rows-read.result c.read_rows-read.ensures c.if-read-ne-NONE.false (omega (arith, c.put_rows-bytes.ensures.ends, c.if-page-bytes.true)) in
-    record { answer = p.0; page = p.1 }
+    too_short c.args.ws.now c.args.page.now c.in_ok-read_rows.ensures.reads (omega (arith, c.put_sheet-bytes.ensures.ends, c.if-page-bytes.true))
 
 pub returns : goal.returns
-unfolding printed
 returns c =
-    let e : c.put_rows-bytes.result ≡ length (sheet_text c.args.ws.now) = omega (arith, c.put_rows-bytes.ensures.ends) in
-    let p = writes c.args.ws.now c.args.page.now c.read_rows-read.result c.read_rows-read.ensures c.if-read-ne-NONE.false (omega (arith, e, c.if-page-bytes.false)) in
-    record { answer = rw e p.0; page = rw c.put_rows.ensures.over p.1 }
-
-pub put_rows-bytes-requires : goal.put_rows-bytes-requires
-put_rows-bytes-requires c = few_words _ (rw c.read_rows-read.ensures at c.if-read-ne-NONE.false)
-
-pub put_rows-requires : goal.put_rows-requires
-put_rows-requires c = few_words _ (rw c.read_rows-read.ensures at c.if-read-ne-NONE.false)
+    let e : c.put_sheet-bytes.result ≡ length (sheet_text c.args.ws.now) = omega (arith, c.put_sheet-bytes.ensures.ends) in
+    rw (e, c.put_sheet.ensures.over) (writes c.args.ws.now c.args.page.now c.in_ok-read_rows.ensures.reads (omega (arith, e, c.if-page-bytes.false)))

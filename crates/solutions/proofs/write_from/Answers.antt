@@ -1,6 +1,6 @@
 use Rattle.std.proofs.Common.{sym, ◌∙◌, inl, inr, arith, length}
 use Rattle.integers.proofs.Lists.{list_of-length}
-use Rattle.extremes.specs.BoundLists.{bounds_of}
+use Rattle.integers.specs.Bounds.{bounds_in}
 use Rattle.solutions.proofs.Through.{count-begun, count_turn, count-done, list-begun, list-turn, list-less, list_done, listing-length}
 use Rattle.solutions.proofs.Values.{inside-small}
 use Rattle.solutions.proofs.write_from.Goals.{then-all_true, else-all_true}
@@ -8,15 +8,15 @@ use Rattle.solutions.proofs.write_from.Goals as goal
 
 pub loop-more-init : goal.loop-more-init
 loop-more-init c =
-    (count-begun _ _ _ c.requires.1.inside, list-begun _ _ _ _ c.requires.1.inside (omega (arith, c.requires.1.short, list_of-length (bounds_of c.args.ls.now c.args.us.now) (length c.args.values.now))))
+    (count-begun _ _ _ c.requires.1.inside, list-begun _ _ _ _ c.requires.1.inside (omega (arith, c.requires.1.short, list_of-length (bounds_in c.args.domains.now) (length c.args.values.now))))
 
 pub all_true-requires : goal.all_true-requires
 all_true-requires c =
-    (c.requires.0, inside-small c.args.ls.now c.args.us.now _ _ c.requires.1.lowers c.requires.1.uppers c.loop-more.invariant.1.inside)
+    (c.requires.0, inside-small c.args.domains.now _ _ c.requires.1.near c.loop-more.invariant.1.inside)
 
 pub step-more-requires : goal.step-more-requires
 step-more-requires c =
-    (c.requires.1.lowers, c.requires.1.uppers, inside-small c.args.ls.now c.args.us.now _ _ c.requires.1.lowers c.requires.1.uppers c.loop-more.invariant.1.inside)
+    (inside-small c.args.domains.now _ _ c.requires.1.near c.loop-more.invariant.1.inside)
 
 pub loop-more-smaller : goal.loop-more-smaller
 loop-more-smaller c =
@@ -32,7 +32,7 @@ loop-more-preserved c =
         | else-all_true w ↦ inr (true_of ∙ w.if-all_true.false, w.count-is)
       ]) _ _ l.list l.more,
       list-turn _ _ _ _ c.loop-more.invariant.1 c.loop-more-test.true _ _ (elim c.if-all_true.branch [
-        | then-all_true w ↦ inl (true_of ∙ w.if-all_true.true, (w.out-is ∙ w.copy_values.ensures, w.at-is))
+        | then-all_true w ↦ inl (true_of ∙ w.if-all_true.true, (w.out-is ∙ w.lay.ensures, w.at-is))
         | else-all_true w ↦ inr (true_of ∙ w.if-all_true.false, (w.out-is, w.at-is))
       ]) _ _ l.list l.more,
     )

@@ -8,8 +8,8 @@ use Rattle.solutions.proofs.write_from.Given as goal
 
 abbrev pub invariant-loop-more : goal.invariant-loop-more
 invariant-loop-more l =
-    Counting (every_true l.ws) (bounds_to l.ls l.us (length l.initial.values)) l.initial.values l.values l.count l.more
-    × Listing (every_true l.ws) (bounds_to l.ls l.us (length l.initial.values)) l.initial.values l.initial.out l.values l.out l.at l.more
+    Counting (every_true l.ws) (bounds_to l.domains (length l.initial.values)) l.initial.values l.values l.count l.more
+    × Listing (every_true l.ws) (bounds_to l.domains (length l.initial.values)) l.initial.values l.initial.out l.values l.out l.at l.more
 
 abbrev pub decreases-loop-more : goal.decreases-loop-more
-decreases-loop-more l = length (left l.more (bounds_to l.ls l.us (length l.initial.values)) l.values)
+decreases-loop-more l = length (left l.more (bounds_to l.domains (length l.initial.values)) l.values)

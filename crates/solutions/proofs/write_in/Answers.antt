@@ -13,9 +13,9 @@ write_all-requires c =
 pub returns : goal.returns
 returns c =
     record {
-      count = c.write_all.ensures.count ∙ ap (λ (k : ℕ). length (solutions_in c.args.ws.now c.args.ls.now c.args.us.now k)) (length-take-le c.args.n _ (omega (arith, c.requires.1.short)));
+      count = c.write_all.ensures.count ∙ ap (λ (k : ℕ). length (solutions_in c.args.ws.now c.args.domains.now k)) (length-take-le c.args.n _ (omega (arith, c.requires.1.short)));
       output = c.write_all.ensures.output
-          ∙ ap (λ (k : ℕ). overlay c.args.out.now 0 (flatten (solutions_in c.args.ws.now c.args.ls.now c.args.us.now k))) (length-take-le c.args.n _ (omega (arith, c.requires.1.short)));
+          ∙ ap (λ (k : ℕ). overlay c.args.out.now 0 (flatten (solutions_in c.args.ws.now c.args.domains.now k))) (length-take-le c.args.n _ (omega (arith, c.requires.1.short)));
     }
 
 pub slice_bounds-write_all-end : goal.slice_bounds-write_all-end

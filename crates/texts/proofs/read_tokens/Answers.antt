@@ -1,39 +1,45 @@
-use Rattle.std.proofs.Common.{refl, arith, ◌<◌}
-use mathlib.Core.List.{flat_map, flatten}
-use Rattle.integers.specs.Lists.{list_of}
-use Rattle.tokens.proofs.Places.{none_left, met-end}
+use Rattle.std.proofs.Common.{◌≡◌, eqb, arith, rules}
+use Rattle.tokens.specs.Sorts.{sort_number}
+use Rattle.std.proofs.lemmas.Result.{err_from_is_err_and}
 use Rattle.symbols.proofs.Reached.{empty, index-here, index-end, count-here, declares, next-table}
-use Rattle.grammar.specs.Form.{in_text, argument_forms, argument_form}
-use Rattle.grammar.specs.Machine.{numbered_form}
-use Rattle.texts.proofs.Loop.{begin, again, stands, stop-reads, end_reads}
-use Rattle.texts.proofs.read_tokens.Goals.{In-loop-at}
+use Rattle.texts.proofs.Loop.{begin, again, stands, stop-reads, ends-well, ends-early}
 use Rattle.texts.proofs.read_tokens.Goals as goal
 
--- the number of the names is a number of the machine
-few : (c : In-loop-at) → c.loop-at.k < 18446744073709551615
-few c = omega (arith, c.loop-at.invariant.1.reached.few, c.loop-at-test.true)
+pub loop-t-init : goal.loop-t-init
+loop-t-init c = (begin c.args.text.now c.args.out.now, empty c.args.text.now 8192)
 
-pub loop-at-init : goal.loop-at-init
-unfolding numbered_form argument_form argument_forms in_text list_of flat_map flatten
-loop-at-init c = (begin c.args.text.now c.args.out.now, empty c.args.text.now 8192, refl)
+pub step_at-requires : goal.step_at-requires
+step_at-requires c = (stands c.in-Some.ensures, index-here c.loop-t.invariant.1 c.in-Some.ensures)
 
-pub ended-requires : goal.ended-requires
-ended-requires c = (index-end c.loop-at.invariant.1 c.loop-at.invariant.0.inside (met-end c.next_token-t.ensures c.if-t-eq-END.true), c.loop-at.invariant.2)
+pub returns-in_err-step : goal.returns-in_err-step
+returns-in_err-step c =
+    let p = err_from_is_err_and c.from_residual.result c.from_residual.ensures.1 in
+    rw (p.1, p.2) (stop-reads c.loop-t.invariant.0 c.in-Some.ensures _ c.in_err-step.ensures.0 c.in_err-step.ensures.1)
 
-pub returns-then-t-eq-END : goal.returns-then-t-eq-END
-returns-then-t-eq-END c = end_reads c.loop-at.invariant.0 (met-end c.next_token-t.ensures c.if-t-eq-END.true) c.ended.ensures
+pub declare-variables-requires : goal.declare-variables-requires
+declare-variables-requires c = (
+  omega (arith, c.in-Some.ensures.longer),
+  c.in-Some.ensures.inside,
+  omega (arith, c.loop-t.invariant.1.reached.few, c.loop-t.invariant.0.inside),
+  count-here c.loop-t.invariant.1 c.in-Some.ensures,
+  declares c.loop-t.invariant.1.reached c.in-Some.ensures,
+  index-here c.loop-t.invariant.1 c.in-Some.ensures,
+)
 
-pub step_of-s-requires : goal.step_of-s-requires
-step_of-s-requires c = (stands c.next_token-t.ensures c.if-t-eq-END.false, index-here c.loop-at.invariant.1 c.next_token-t.ensures c.if-t-eq-END.false, c.loop-at.invariant.2)
+pub loop-t-preserved : goal.loop-t-preserved
+loop-t-preserved c =
+    let colon : c.eq-after_colon.result ≡ eqb (sort_number c.in-Some.t.sort) 58 = search rules in (
+      again c.loop-t.invariant.0 c.in-Some.ensures c.in_ok-step.step c.in_ok-step.ensures c.append-n.ensures,
+      rw colon (next-table c.loop-t.invariant.1 c.in-Some.ensures c.declare-variables.ensures.next c.declare-variables.ensures.index),
+    )
 
-pub returns-then-s-ne-NONE : goal.returns-then-s-ne-NONE
-returns-then-s-ne-NONE c = stop-reads c.loop-at.invariant.0 c.next_token-t.ensures c.if-t-eq-END.false c.step_of-s.ensures c.if-s-ne-NONE.true
+pub check_end-requires : goal.check_end-requires
+check_end-requires c = index-end c.loop-t.invariant.1 c.loop-t.invariant.0.inside c.in_default.ensures
 
-pub declare-k-requires : goal.declare-k-requires
-declare-k-requires c = (omega (arith, c.next_token-t.ensures.longer c.if-t-eq-END.false), c.next_token-t.ensures.inside, few (goal.at.declare-k-requires c).In-loop-at, count-here c.loop-at.invariant.1 c.next_token-t.ensures c.if-t-eq-END.false, declares c.loop-at.invariant.1.reached c.next_token-t.ensures c.if-t-eq-END.false, index-here c.loop-at.invariant.1 c.next_token-t.ensures c.if-t-eq-END.false)
-
-pub loop-at-preserved : goal.loop-at-preserved
-loop-at-preserved c = (rw (c.append_word-n.ensures.next, c.append_word-n.ensures.output) (again c.loop-at.invariant.0 c.next_token-t.ensures c.if-t-eq-END.false c.step_of-s.ensures c.if-s-ne-NONE.false), next-table c.loop-at.invariant.1 c.next_token-t.ensures c.if-t-eq-END.false c.declare-k.ensures.next c.declare-k.ensures.index, c.loop-at.invariant.2)
+pub returns-in_err-check_end : goal.returns-in_err-check_end
+returns-in_err-check_end c =
+    let p = err_from_is_err_and c.from_residual-in_err-check_end.result c.from_residual-in_err-check_end.ensures.1 in
+    rw (p.1, p.2) (ends-early c.loop-t.invariant.0 c.in_default.ensures _ c.in_err-check_end.ensures)
 
 pub returns : goal.returns
-returns c = end_reads c.loop-at.invariant.0 (none_left c.args.text.now c.loop-at.at c.loop-at-test.false) c.ended-2.ensures
+returns c = ends-well c.loop-t.invariant.0 c.in_default.ensures c.in_ok-check_end.ensures

@@ -1,13 +1,12 @@
-use Rattle.std.proofs.Common.{sym, ◌∙◌, arith}
-use Rattle.tokens.specs.Unread.{goes_on}
-use Rattle.tokens.proofs.Places.{run_on, run-off, run_end}
+-- The chain counts the bytes up to the first that does not pass.
+use Rattle.std.proofs.Common.{rules, tests, ◌∙◌}
+use Rattle.std.proofs.lemmas.Iterator.{YieldsList-from_slice}
+use Rattle.std.proofs.lemmas.Iterator.Consumers.{count_from_yields_List}
+use Rattle.std.proofs.lemmas.Iterator.Search.{YieldsList-from_take_while}
+use Rattle.std.proofs.lemmas.List.Folds.{length-prefix_len}
 use Rattle.tokens.proofs.run_of.Goals as goal
 
-pub returns-else-goes_on : goal.returns-else-goes_on
-returns-else-goes_on c = sym (c.loop-i.invariant.1 ∙ run-off c.args.text.now (goes_on c.args.class) c.loop-i.i c.loop-i-test.true (sym c.goes_on.ensures ∙ c.if-goes_on.false))
-
-pub loop-i-preserved : goal.loop-i-preserved
-loop-i-preserved c = (omega (arith, c.loop-i-test.true), c.loop-i.invariant.1 ∙ run_on c.args.text.now (goes_on c.args.class) c.loop-i.i c.loop-i-test.true (sym c.goes_on.ensures ∙ c.if-goes_on.true))
-
-pub returns : goal.returns
-returns c = sym (c.loop-i.invariant.1 ∙ run_end c.args.text.now (goes_on c.args.class) c.loop-i.i c.loop-i-test.false)
+pub returns-clause-value : goal.returns-clause-value
+returns-clause-value g c = λ t h.
+    count_from_yields_List c.take_while.result c.count.result c.count.ensures.ran (YieldsList-from_take_while _ t (YieldsList-from_slice c.args.bytes.now cc) c.take_while.ensures.closure c.take_while.ensures.done (λ x b q k. search (rules, tests, h)))
+    ∙ length-prefix_len t c.args.bytes.now

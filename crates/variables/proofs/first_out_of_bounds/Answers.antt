@@ -1,55 +1,33 @@
-use Rattle.std.proofs.Common.{◌≡◌, sym, ◌∙◌, ◌+◌, ◌<◌, arith, length, get_or, to_z-of_z, rules}
-use Rattle.integers.specs.Bounds.{within}
-use Rattle.integers.specs.Terms.{value}
-use Rattle.words.specs.Verdict.{verdict}
-use Rattle.words.specs.Word.{word_at}
-use Rattle.variables.specs.Start.{pair_bounds}
-use Rattle.variables.proofs.Walk.{count_none, count-one, words_left, none_left, keep-none, keep_one, break_one, keep_all}
-use Rattle.variables.proofs.first_out_of_bounds.Goals.{After-keeps, In-loop-x}
+use Rattle.std.proofs.Common.{◌≡◌, sym, ◌∙◌, arith, get_or, to_z-of_z}
+use Rattle.variables.specs.Start.{starts}
+use Rattle.variables.proofs.Walk.{count_none, count-one, none_left, keep-none, keep_one, break_one, keep_all, at_last}
+use Rattle.variables.proofs.first_out_of_bounds.Goals.{After-starts_variable, then-starts_variable+else-not-keeps, else-starts_variable}
 use Rattle.variables.proofs.first_out_of_bounds.Goals as goal
 
--- what keeps says of the variable
-said : (c : After-keeps) →
-    within (pair_bounds (get_or c.args.ws.now c.loop-x.at 0) (word_at c.args.ws.now (c.loop-x.at + 1))) (value c.args.values.now c.loop-x.x) ≡ c.keeps.result
-said c = sym (c.keeps.ensures ∙ rw (to_z-of_z (record { sfits = c.value_at.type_inv }), c.value_at.ensures, c.word_at.ensures))
-
--- a turn has a word
-here : (c : In-loop-x) → c.loop-x.at < length c.args.ws.now
-here c = words_left c.loop-x.invariant.1 (rw c.requires at c.loop-x-test.true)
-
-pub offset_bounds-ws-at : goal.offset_bounds-ws-at
-offset_bounds-ws-at c = let h = here c in search rules
-
-pub bounds-ws-at : goal.bounds-ws-at
-bounds-ws-at c = let h = here (goal.at.bounds-ws-at c).In-loop-x in search rules
-
-pub overflow_add-at : goal.overflow_add-at
-overflow_add-at c = let h = here (goal.at.overflow_add-at c).In-loop-x in search rules
+-- what the tests say of the word, and of its variable
+said : (c : After-starts_variable) → starts (get_or c.args.ws.now c.loop-at.at 0) ≡ c.starts_variable.result
+said c = rw c.from-head.ensures at (sym c.starts_variable.ensures)
 
 pub returns-then-not-keeps : goal.returns-then-not-keeps
-unfolding verdict
 returns-then-not-keeps c =
-    break_one c.loop-x.invariant.0 (here (goal.at.returns-then-not-keeps c).In-loop-x) (sym c.starts_variable.ensures ∙ c.if-starts_variable.true) (said (goal.at.returns-then-not-keeps c).After-keeps ∙ c.if-not-keeps.true)
+    break_one c.loop-at.invariant.0 c.loop-at-test.true (said (goal.at.returns-then-not-keeps c).After-starts_variable ∙ c.if-starts_variable.true)
+    (rw (to_z-of_z (record { sfits = c.value_at.type_inv }), c.value_at.ensures, c.at.ensures, c.from-head.ensures) at (sym c.keeps.ensures) ∙ c.if-not-keeps.true)
 
-pub loop-x-smaller-then-starts_variable : goal.loop-x-smaller-then-starts_variable
-loop-x-smaller-then-starts_variable c = let h = here (goal.at.loop-x-smaller-then-starts_variable c).In-loop-x in omega (arith, h)
+pub loop-at-preserved : goal.loop-at-preserved
+loop-at-preserved c =
+    let e = said (goal.at.loop-at-preserved c).After-starts_variable in
+    elim c.if-starts_variable.branch [
+      | then-starts_variable+else-not-keeps w ↦
+          let t = e ∙ w.if-starts_variable.true in
+          let k = rw (to_z-of_z (record { sfits = w.value_at.type_inv }), w.value_at.ensures, w.at.ensures, c.from-head.ensures) at (sym w.keeps.ensures) ∙ w.if-not-keeps.false in
+          rw w.x-is (keep_one c.loop-at.invariant.0 c.loop-at-test.true t k, count-one c.loop-at.invariant.1 c.loop-at-test.true t)
+      | else-starts_variable w ↦
+          let t = e ∙ w.if-starts_variable.false in
+          rw w.x-is (keep-none c.loop-at.invariant.0 c.loop-at-test.true t, count_none c.loop-at.invariant.1 c.loop-at-test.true t)
+    ]
 
-pub loop-x-preserved-then-starts_variable : goal.loop-x-preserved-then-starts_variable
-loop-x-preserved-then-starts_variable c =
-    let h = here (goal.at.loop-x-preserved-then-starts_variable c).In-loop-x in
-    let e = sym c.starts_variable.ensures ∙ c.if-starts_variable.true in
-    (keep_one c.loop-x.invariant.0 h e (said (goal.at.loop-x-preserved-then-starts_variable c).After-keeps ∙ c.if-not-keeps.false), count-one c.loop-x.invariant.1 h e)
+pub returns-after-loop-at : goal.returns-after-loop-at
+returns-after-loop-at c = keep_all c.loop-at.invariant.0 (at_last _ _ c.loop-at-test.false)
 
-pub loop-x-smaller : goal.loop-x-smaller
-loop-x-smaller c = let h = here (goal.at.loop-x-smaller c).In-loop-x in omega (arith, h)
-
-pub loop-x-preserved : goal.loop-x-preserved
-loop-x-preserved c =
-    let h = here (goal.at.loop-x-preserved c).In-loop-x in
-    let e = sym c.starts_variable.ensures ∙ c.if-starts_variable.false in
-    (keep-none c.loop-x.invariant.0 h e, count_none c.loop-x.invariant.1 h e)
-
-pub returns : goal.returns
-unfolding verdict
-returns c =
-    keep_all c.loop-x.invariant.0 (none_left c.loop-x.invariant.1 (omega (arith, c.loop-x.invariant.1.number, c.loop-x-test.false, c.requires)))
+pub returns-then-values-x : goal.returns-then-values-x
+returns-then-values-x c = keep_all c.loop-at.invariant.0 (none_left c.loop-at.invariant.1 (omega (arith, c.loop-at.invariant.1.number, c.requires)))

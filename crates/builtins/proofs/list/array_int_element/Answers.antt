@@ -1,22 +1,17 @@
 -- Inside the list the number there is compared; outside it the test is false.
-use Rattle.std.proofs.Common.{◌∙◌, arith}
-use Rattle.integers.specs.Terms.{value}
-use Rattle.models.specs.Model.{var, size, num, nums}
+use Rattle.std.proofs.Common.{sym, ◌∙◌}
+use Rattle.models.specs.Model.{num, nums}
 use Rattle.models.specs.Meaning.{meaning}
-use Rattle.arguments.proofs.Size.{size-le, read}
-use Rattle.builtins.proofs.Element.{index-le, inside, outside}
+use Rattle.arguments.proofs.Size.{read}
+use Rattle.builtins.proofs.Element.{inside, outside}
 use Rattle.builtins.proofs.list.array_int_element.Goals as goal
 
-pub overflow_add-k : goal.overflow_add-k
-overflow_add-k c =
-    omega (arith, index-le (size c.args.args.now 1) (value c.args.values.now (var c.args.args.now 0)), size-le c.args.args.now 1)
-
-pub returns-then-k-ge1 : goal.returns-then-k-ge1
+pub returns-in-Some : goal.returns-in-Some
 unfolding meaning nums
-returns-then-k-ge1 c =
-    c.equal.ensures ∙ rw (read c.num_at.type_inv c.num_at.ensures, read c.value_of.type_inv c.value_of.ensures, c.past_at.ensures)
-    (inside (num c.args.args.now) _ _ _ _ c.index_of-k.ensures c.if-k-ge1.true)
+returns-in-Some c =
+    c.equal.ensures ∙ rw (read c.num_at.type_inv c.num_at.ensures.value, read c.value.type_inv c.value.ensures.value, c.past_at.ensures.value)
+    (inside (num c.args.instance.now.args.now) _ _ _ _ (sym c.in-Some.ensures.value))
 
-pub returns : goal.returns
+pub returns-in-None : goal.returns-in-None
 unfolding meaning nums
-returns c = outside (num c.args.args.now) _ _ _ _ c.index_of-k.ensures c.if-k-ge1.false
+returns-in-None c = outside (num c.args.instance.now.args.now) _ _ _ (sym c.in-None.ensures.value)

@@ -1,24 +1,20 @@
 -- Inside the list the value of the variable there is compared; outside it the test is false.
-use Rattle.std.proofs.Common.{◌∙◌, arith}
+use Rattle.std.proofs.Common.{sym, ◌∙◌}
 use Rattle.integers.specs.Terms.{value}
 use Rattle.integers.proofs.Places.{map-list_of}
-use Rattle.models.specs.Model.{var, size, vars}
+use Rattle.models.specs.Model.{var, vars}
 use Rattle.models.specs.Meaning.{meaning}
-use Rattle.arguments.proofs.Size.{size-le, read}
-use Rattle.builtins.proofs.Element.{index-le, inside, outside}
+use Rattle.arguments.proofs.Size.{read}
+use Rattle.builtins.proofs.Element.{inside, outside}
 use Rattle.builtins.proofs.list.array_var_int_element.Goals as goal
 
-pub overflow_add-k : goal.overflow_add-k
-overflow_add-k c =
-    omega (arith, index-le (size c.args.args.now 1) (value c.args.values.now (var c.args.args.now 0)), size-le c.args.args.now 1)
-
-pub returns-then-k-ge1 : goal.returns-then-k-ge1
+pub returns-in-Some : goal.returns-in-Some
 unfolding meaning vars
-returns-then-k-ge1 c =
-    c.equal.ensures ∙ rw (read c.value_of.type_inv c.value_of.ensures, read c.value_of-then-k-ge1.type_inv c.value_of-then-k-ge1.ensures, c.past_at.ensures, map-list_of)
-    (inside (λ k. value c.args.values.now (var c.args.args.now k)) _ _ _ _ c.index_of-k.ensures c.if-k-ge1.true)
+returns-in-Some c =
+    c.equal.ensures ∙ rw (read c.value.type_inv c.value.ensures.value, read c.value-in-Some.type_inv c.value-in-Some.ensures.value, c.past_at.ensures.value, map-list_of)
+    (inside (λ k. value c.args.instance.now.values.now (var c.args.instance.now.args.now k)) _ _ _ _ (sym c.in-Some.ensures.value))
 
-pub returns : goal.returns
+pub returns-in-None : goal.returns-in-None
 unfolding meaning vars
-returns c =
-    rw map-list_of (outside (λ k. value c.args.values.now (var c.args.args.now k)) _ _ _ _ c.index_of-k.ensures c.if-k-ge1.false)
+returns-in-None c =
+    rw map-list_of (outside (λ k. value c.args.instance.now.values.now (var c.args.instance.now.args.now k)) _ _ _ (sym c.in-None.ensures.value))

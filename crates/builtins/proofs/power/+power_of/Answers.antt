@@ -16,18 +16,18 @@ returns-then-k-eq0 t c =
     let h = rw (to_z-of_z c.ranges.x) at c.power_of-half.ensures in
     back c.cut_to-square.result c.cut_to-square.type_inv
     ∙ c.cut_to-square.ensures
-    ∙ rw (back c.times.result c.times.type_inv, c.times.ensures, back c.power_of-half.result c.power_of-half.type_inv) (cut_even c.args.x c.args.k c.power_of-half.result h c.if-k-eq0.true)
+    ∙ rw (back c.times.result c.times.type_inv, c.times.ensures.value, back c.power_of-half.result c.power_of-half.type_inv) (cut_even c.args.x c.args.k c.power_of-half.result h c.if-k-eq0.true)
 
 pub times-requires-2 : goal.times-requires-2
 times-requires-2 t c =
     let h = rw (to_z-of_z c.ranges.x) at c.power_of-half.ensures in
-    let e = rw (back c.times.result c.times.type_inv, c.times.ensures, back c.power_of-half.result c.power_of-half.type_inv) at c.cut_to-square.ensures ∙ cut-square c.args.x (c.args.k / 2) c.power_of-half.result h in
+    let e = rw (back c.times.result c.times.type_inv, c.times.ensures.value, back c.power_of-half.result c.power_of-half.type_inv) at c.cut_to-square.ensures ∙ cut-square c.args.x (c.args.k / 2) c.power_of-half.result h in
     rw (to_z-of_z c.ranges.x, back c.cut_to-square.result c.cut_to-square.type_inv) (near_fits c.args.x c.cut_to-square.result _ c.requires.0 e)
 
 pub returns : goal.returns
 returns t c =
     let h = rw (to_z-of_z c.ranges.x) at c.power_of-half.ensures in
-    let e = rw (back c.times.result c.times.type_inv, c.times.ensures, back c.power_of-half.result c.power_of-half.type_inv) at c.cut_to-square.ensures ∙ cut-square c.args.x (c.args.k / 2) c.power_of-half.result h in
+    let e = rw (back c.times.result c.times.type_inv, c.times.ensures.value, back c.power_of-half.result c.power_of-half.type_inv) at c.cut_to-square.ensures ∙ cut-square c.args.x (c.args.k / 2) c.power_of-half.result h in
     back c.cut_to.result c.cut_to.type_inv
     ∙ c.cut_to.ensures
-    ∙ rw (back c.times-2.result c.times-2.type_inv, c.times-2.ensures, to_z-of_z c.ranges.x, back c.cut_to-square.result c.cut_to-square.type_inv) (cut-odd c.args.x c.args.k c.cut_to-square.result c.requires.0 e c.if-k-eq0.false)
+    ∙ rw (back c.times-2.result c.times-2.type_inv, c.times-2.ensures.value, to_z-of_z c.ranges.x, back c.cut_to-square.result c.cut_to-square.type_inv) (cut-odd c.args.x c.args.k c.cut_to-square.result c.requires.0 e c.if-k-eq0.false)

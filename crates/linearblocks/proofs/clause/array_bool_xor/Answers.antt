@@ -4,12 +4,12 @@ use mathlib.Core.List.{flat_map}
 use Rattle.arguments.proofs.Size.{read}
 use Rattle.rules.specs.Rule.{rule}
 use Rattle.laying.specs.Part.{bound_parts, block_parts}
-use Rattle.laying.proofs.Parts.{went_then}
 use Rattle.laying.proofs.Lists.{length-vars}
+use Rattle.laying.proofs.Written.{wrote-most, wrote-then}
 use Rattle.linearblocks.proofs.clause.array_bool_xor.Goals as goal
 
 pub returns : goal.returns
 unfolding rule block_parts bound_parts flat_map
 returns c =
-    let d = rw (read c.half_less.type_inv c.half_less.ensures, c.size_at.ensures, ← length-vars c.args.args.now 0) at c.lay_bound-t.ensures in
-    (λ β. rw append-nil (went_then d.0 c.lay_odd.ensures.0), omega (arith, d.1, c.lay_odd.ensures.1))
+    let d = rw (read c.half_less.type_inv c.half_less.ensures, c.size_at.ensures.value, ← length-vars c.args.args.now 0) at c.bound.ensures in
+    λ β. rw append-nil (wrote-most (omega arith) (wrote-then d c.write_odd.ensures))

@@ -2,10 +2,10 @@
 use Rattle.std.proofs.Common.{arith}
 use Rattle.rules.specs.Rule.{rule}
 use Rattle.laying.specs.Part.{row_parts}
-use Rattle.laying.proofs.Parts.{went_as}
+use Rattle.laying.proofs.Written.{wrote-as, wrote-most}
 use Rattle.linearblocks.proofs.Rows.{one-row}
 use Rattle.linearblocks.proofs.linear.int_lin_eq.Goals as goal
 
 pub returns : goal.returns
 unfolding rule row_parts
-returns c = (λ first β. went_as (one-row first _) (c.lay_sum.ensures.parts first), omega (arith, c.lay_sum.ensures.size))
+returns c = λ first β. wrote-as (one-row first _) (wrote-most (omega arith) (c.write_sum.ensures first))

@@ -10,20 +10,17 @@ use Rattle.rules.specs.Block.{aux, numbered}
 use Rattle.rules.specs.Rule.{linked, sign_split, only_negative, lin_not_equal, rule}
 use Rattle.laying.specs.Part.{term_parts, row_parts}
 use Rattle.laying.specs.Lists.{many, row_parts_of}
-use Rattle.laying.proofs.Parts.{went_then}
 use Rattle.linearsums.specs.Sum.{linear_sum}
 use Rattle.linearblocks.specs.Rows.{link, split}
+use Rattle.laying.proofs.Written.{wrote-most, wrote-then}
 use Rattle.linearblocks.proofs.Rows.{rows_then}
 use Rattle.linearblocks.proofs.linear.int_lin_ne.Goals as goal
 
 pub returns : goal.returns
 unfolding rule lin_not_equal only_negative sign_split linked split link flat_map row_parts term_parts numbered row_parts_of many linear_sum
 returns c =
-    record {
-      parts = λ β e.
-          let l = back c.args.sum.lower (search rules) ∙ ap (λ (S : Bounds). S.lower) e in
-          let u = back c.args.sum.upper (search rules) ∙ ap (λ (S : Bounds). S.upper) e in
-          rows_then c.args.first _ (sum≤0 (-1 · aux 0 ∷ +2 · aux 2 ∷ []) +1 ∷ only_negative (aux 0) (aux 1) (linear_sum β c.args.args.now).upper ∷ []) (rw (l, u) at c.lay_split-t.ensures.0)
-          (rw (add-zero c.args.first) (went_then c.lay_row-u.ensures.0 (rw u at c.lay_only_negative.ensures.0)));
-      size = omega (arith, c.lay_split-t.ensures.1, c.lay_row-u.ensures.1, c.lay_only_negative.ensures.1);
-    }
+    λ β e. let l = back c.args.sum.lower (search rules) ∙ ap (λ (S : Bounds). S.lower) e in
+    let u = back c.args.sum.upper (search rules) ∙ ap (λ (S : Bounds). S.upper) e in
+    wrote-most (omega arith)
+    (rows_then c.args.first {n = 4000} _ (sum≤0 (-1 · aux 0 ∷ +2 · aux 2 ∷ []) +1 ∷ only_negative (aux 0) (aux 1) (linear_sum β c.args.args.now).upper ∷ []) (rw (l, u) at c.write_split.ensures)
+    (rw (add-zero c.args.first) (wrote-then (simp (c.new.ensures, c.new-2.ensures) at c.row.ensures) (rw u at c.only_negative.ensures))))

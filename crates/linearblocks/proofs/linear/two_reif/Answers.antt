@@ -3,7 +3,7 @@ use Rattle.std.proofs.Common.{ap, ◌∙◌}
 use Rattle.words.specs.Word.{word_at}
 use Rattle.models.specs.Model.{var}
 use Rattle.laying.specs.Part.{block_parts}
-use Rattle.laying.proofs.Parts.{went_as}
+use Rattle.laying.proofs.Written.{wrote-as}
 use Rattle.linearblocks.proofs.Rows.{two-terms, two-sum}
 use Rattle.linearblocks.proofs.linear.two_reif.Goals as goal
 
@@ -11,7 +11,4 @@ pub returns : goal.returns
 unfolding var
 returns c =
     let w = rw (c.word_at-a.ensures, c.word_at-b.ensures, c.word_at-r.ensures) at c.zero_reif.ensures in
-    record {
-      parts = λ β e. went_as (ap (block_parts c.args.first) (two-terms β c.args.equal (word_at c.args.args.now 0) (word_at c.args.args.now 1) (word_at c.args.args.now 2))) (w.parts β (e ∙ two-sum β c.args.args.now (word_at c.args.args.now 2)));
-      size = w.size;
-    }
+    λ β e. wrote-as (ap (block_parts c.args.first) (two-terms β c.args.equal (word_at c.args.args.now 0) (word_at c.args.args.now 1) (word_at c.args.args.now 2))) (w β (e ∙ two-sum β c.args.args.now (word_at c.args.args.now 2)))

@@ -1,14 +1,13 @@
-use Rattle.std.proofs.Common.{refl, ◌∙◌, rules}
+use Rattle.std.proofs.Common.{refl}
 use Rattle.integers.specs.Lists.{list_of, all}
 use Rattle.integers.proofs.Places.{all_more}
 use Rattle.words.specs.Word.{word_at}
 use Rattle.modelitems.proofs.faults.are_numbers.Goals as goal
 
-pub loop-k-init : goal.loop-k-init
+pub loop-w-init : goal.loop-w-init
 unfolding list_of all
-loop-k-init c = (search rules, refl)
+loop-w-init c = refl
 
-pub loop-k-preserved : goal.loop-k-preserved
+pub loop-w-preserved : goal.loop-w-preserved
 unfolding word_at
-loop-k-preserved c =
-    (search rules, c.both-so_far.ensures ∙ rw (all_more, c.loop-k.invariant.1, c.is_number.ensures))
+loop-w-preserved c = rw (all_more, c.loop-w.invariant, c.is_number-so_far.ensures, c.into.ensures)

@@ -1,60 +1,90 @@
 -- One word, or a length word and its list.
-use Rattle.std.proofs.Common.{◌≡◌, sym, ap, ◌∙◌, ℕ, ◌+◌, ◌≤◌, arith, length, take}
-use Rattle.words.specs.Word.{payload, word_at}
+use Rattle.std.proofs.Common.{◌≡◌, refl, ⊎_elim, ◌+◌, ◌<◌, ◌≤◌, arith, [], ℕ, map}
+use Rattle.std.proofs.lemmas.Result.{err_from_is_err_and}
 use Rattle.models.specs.Shape.{argument}
+use Rattle.models.specs.Shapes.{shape_number}
 use Rattle.models.specs.Reading.{after_argument}
-use Rattle.models.specs.InRange.{fault_count}
-use Rattle.models.proofs.Sound.{is-count}
+use Rattle.models.specs.declared.Due.TheVariants.{Arguments}
 use Rattle.modelitems.specs.Onward.{StepsTo, arguments_from}
-use Rattle.modelitems.specs.declared.items.Step.{Step}
-use Rattle.modelitems.proofs.Steps.{and_then, or-halted, stepped, present}
-use Rattle.modelitems.proofs.Inner.{one_variable, one_number, one-exponent, a-length}
-use Rattle.modelitems.proofs.items.argument_at.Goals.{After-step_over-length, Else-argument-eq-EXPONENT}
+use Rattle.modelitems.proofs.Onward.{any-type}
+use Rattle.modelitems.proofs.Steps.{and_then, or-refused, to-alike}
+use Rattle.modelitems.proofs.Inner.{one_variable, one_number, one-exponent}
+use Rattle.modelitems.proofs.items.argument_at.Goals.{In_ok-past_length-in-Parallel}
 use Rattle.modelitems.proofs.items.argument_at.Goals as goal
 
-pub returns-then-argument-lt-NUMBER : goal.returns-then-argument-lt-NUMBER
-returns-then-argument-lt-NUMBER c d code k e =
-    rw (c.step_over.ensures, c.of_variable.ensures, c.word_at-w.ensures)
-    (one_variable c.args.ws.now (take c.args.v c.args.types.now) d c.args.at c.requires.0.within c.args.argument code k e c.requires.2 c.if-argument-lt-NUMBER.true)
+pub returns-in-Integer : goal.returns-in-Integer
+returns-in-Integer c d code k e =
+    let s : (1 ≤ shape_number c.args.argument) × (shape_number c.args.argument < 3) = ⊎_elim (λ i. rw i (omega arith, omega arith)) (λ i. rw i (omega arith, omega arith)) c.in-Integer.is in
+    rw (c.over.ensures, c.check_variable.ensures, c.at-w.ensures) (one_variable c.args.ws.now (map shape_number c.args.types.now) d c.args.at c.requires.within _ code k e s.0 s.1)
 
-pub returns-then-argument-eq-NUMBER : goal.returns-then-argument-eq-NUMBER
-returns-then-argument-eq-NUMBER c d code k e =
-    rw (c.step_over-then-argument-eq-NUMBER.ensures, c.of_number.ensures, c.word_at-w.ensures)
-    (one_number c.args.ws.now (take c.args.v c.args.types.now) d c.args.at c.requires.0.within c.args.argument code k e c.if-argument-eq-NUMBER.true)
+pub returns-in-Number : goal.returns-in-Number
+returns-in-Number c d code k e =
+    rw (c.over-in-Number.ensures, c.check_number.ensures, c.at-w.ensures)
+    (one_number c.args.ws.now (map shape_number c.args.types.now) d c.args.at c.requires.within _ code k e (rw c.in-Number.is refl))
 
-pub returns-then-argument-eq-EXPONENT : goal.returns-then-argument-eq-EXPONENT
-returns-then-argument-eq-EXPONENT c d code k e =
-    rw (c.step_over-then-argument-eq-EXPONENT.ensures, c.of_count.ensures, c.word_at-w.ensures)
-    (one-exponent c.args.ws.now (take c.args.v c.args.types.now) d c.args.at c.requires.0.within c.args.argument code k e c.if-argument-eq-EXPONENT.true)
+pub returns-in-Exponent : goal.returns-in-Exponent
+returns-in-Exponent c d code k e =
+    rw (c.over-in-Exponent.ensures, c.check_count.ensures, c.at-w.ensures)
+    (one-exponent c.args.ws.now (map shape_number c.args.types.now) d c.args.at c.requires.within _ code k e (rw c.in-Exponent.is refl))
 
--- the argument is a list
-listed : (c : Else-argument-eq-EXPONENT) → 5 ≤ c.args.argument
-listed c = omega (arith, c.if-argument-lt-NUMBER.false, c.if-argument-eq-NUMBER.false, c.if-argument-eq-EXPONENT.false)
+pub returns-in_err-past_length-in-Numbers : goal.returns-in_err-past_length-in-Numbers
+returns-in_err-past_length-in-Numbers c d code k e =
+    let p = err_from_is_err_and c.from_residual.result c.from_residual.ensures.1 in
+    rw (p.1, p.2) (or-refused (c.in_err-past_length-in-Numbers.ensures.read (map shape_number c.args.types.now) d _ code k e (rw c.in-Numbers.is (omega arith))) _ refl)
 
--- the length word
-length-word : (c : After-step_over-length) (d code k : ℕ) → c.args.argument ≡ argument code k →
-    StepsTo c.args.ws.now (take c.args.v c.args.types.now) d (arguments_from code k) c.args.at (after_argument c.args.argument code (k + 1) (word_at c.args.ws.now c.args.at)) c.step_over-length.result
-length-word c d code k e =
-    rw (c.step_over-length.ensures, c.of_count-2.ensures, c.word_at-w.ensures)
-    (a-length c.args.ws.now (take c.args.v c.args.types.now) d c.args.at c.requires.0.within c.args.argument code k e (omega arith))
+pub returns-in_ok-past_length-in-Numbers : goal.returns-in_ok-past_length-in-Numbers
+unfolding after_argument
+returns-in_ok-past_length-in-Numbers c d code k e =
+    let ts = map shape_number c.args.types.now in
+    let l = rw (← c.at-w.ensures, ← c.payload.ensures) at (c.in_ok-past_length-in-Numbers.ensures.read ts d 5 code k (rw c.in-Numbers.is at e) (omega arith)) in
+    and_then l refl (c.numbers_at.ensures ts d 0 0 code (k + 1))
 
--- it is there, and names a length
-after-length : (c : After-step_over-length) → c.step_over-length.result.number ≡ 0 →
-    (c.step_over-length.result.at ≤ length c.args.ws.now) × (payload (word_at c.args.ws.now c.args.at) ≤ 32)
-after-length c z =
-    let w = c.word_at-w in
-    let q = stepped c.of_count-2.result c.args.at (ap (λ (r : Step). r.number) (sym c.step_over-length.ensures) ∙ z) in
-    let f : fault_count 32 (word_at c.args.ws.now c.args.at) ≡ 0 = rw (← w.ensures) (sym c.of_count-2.ensures ∙ q.0) in
-    (omega (arith, present c.args.ws.now c.args.at (omega (arith, (is-count _ 32 f).0)), ap (λ (r : Step). r.at) c.step_over-length.ensures ∙ q.1), (is-count _ 32 f).1)
+pub returns-in_err-past_length-in-Integers : goal.returns-in_err-past_length-in-Integers
+returns-in_err-past_length-in-Integers c d code k e =
+    let p = err_from_is_err_and c.from_residual-in_err-past_length-in-Integers.result c.from_residual-in_err-past_length-in-Integers.ensures.1 in
+    rw (p.1, p.2) (or-refused (c.in_err-past_length-in-Integers.ensures.read (map shape_number c.args.types.now) d _ code k e (rw c.in-Integers.is (omega arith))) _ refl)
 
-pub returns-then-length-ne-NONE : goal.returns-then-length-ne-NONE
-returns-then-length-ne-NONE c d code k e = or-halted (length-word (goal.at.returns-then-length-ne-NONE c).After-step_over-length d code k e) c.if-length-ne-NONE.true
+pub returns-in_ok-past_length-in-Integers : goal.returns-in_ok-past_length-in-Integers
+unfolding after_argument
+returns-in_ok-past_length-in-Integers c d code k e =
+    let l = rw (← c.at-w.ensures, ← c.payload-in-Integers.ensures) at (c.in_ok-past_length-in-Integers.ensures.read (map shape_number c.args.types.now) d 6 code k (rw c.in-Integers.is at e) (omega arith)) in
+    and_then l refl (to-alike (c.variables_at.ensures d code (k + 1)) (any-type _ _ 1 code (k + 1) d _))
 
-pub list_at-requires : goal.list_at-requires
-list_at-requires c =
-    let h = after-length (goal.at.list_at-requires c).After-step_over-length c.if-length-ne-NONE.false in
-    (record { within = h.0; few = c.requires.0.few }, rw (c.payload_of.ensures, c.word_at-w.ensures) h.1, c.requires.1, listed (goal.at.list_at-requires c).Else-argument-eq-EXPONENT)
+pub returns-in_err-past_length-in-Booleans : goal.returns-in_err-past_length-in-Booleans
+returns-in_err-past_length-in-Booleans c d code k e =
+    let p = err_from_is_err_and c.from_residual-in_err-past_length-in-Booleans.result c.from_residual-in_err-past_length-in-Booleans.ensures.1 in
+    rw (p.1, p.2) (or-refused (c.in_err-past_length-in-Booleans.ensures.read (map shape_number c.args.types.now) d _ code k e (rw c.in-Booleans.is (omega arith))) _ refl)
 
-pub returns : goal.returns
-returns c d code k e =
-    and_then (length-word (goal.at.returns c).After-step_over-length d code k e) c.if-length-ne-NONE.false (rw (← c.word_at-w.ensures) (c.list_at.ensures d code (k + 1) _ c.payload_of.ensures))
+pub returns-in_ok-past_length-in-Booleans : goal.returns-in_ok-past_length-in-Booleans
+unfolding after_argument
+returns-in_ok-past_length-in-Booleans c d code k e =
+    let l = rw (← c.at-w.ensures, ← c.payload-in-Booleans.ensures) at (c.in_ok-past_length-in-Booleans.ensures.read (map shape_number c.args.types.now) d 7 code k (rw c.in-Booleans.is at e) (omega arith)) in
+    and_then l refl (to-alike (c.variables_at-in-Booleans.ensures d code (k + 1)) (any-type _ _ 2 code (k + 1) d _))
+
+pub returns-in_err-past_length-in-Parallel : goal.returns-in_err-past_length-in-Parallel
+returns-in_err-past_length-in-Parallel c d code k e =
+    let p = err_from_is_err_and c.from_residual-in_err-past_length-in-Parallel.result c.from_residual-in_err-past_length-in-Parallel.ensures.1 in
+    rw (p.1, p.2) (or-refused (c.in_err-past_length-in-Parallel.ensures.read (map shape_number c.args.types.now) d _ code k e (rw c.in-Parallel.is (omega arith))) _ refl)
+
+-- the length word of parallel lists, and their numbers
+both : (c : In_ok-past_length-in-Parallel) (d code k : ℕ) → shape_number c.args.argument ≡ argument code k →
+    StepsTo c.args.ws.now (map shape_number c.args.types.now) d (arguments_from code k) c.args.at (Arguments c.payload-n.result c.payload-n.result 1 code (k + 1)) (record { number = 0; at = c.in_ok-past_length-in-Parallel.field-0 })
+unfolding after_argument
+both c d code k e =
+    rw (← c.at-w.ensures, ← c.payload-n.ensures) at (c.in_ok-past_length-in-Parallel.ensures.read (map shape_number c.args.types.now) d 8 code k (rw c.in-Parallel.is at e) (omega arith))
+
+pub returns-in_err-variables-in-Parallel : goal.returns-in_err-variables-in-Parallel
+returns-in_err-variables-in-Parallel c d code k e =
+    let p = err_from_is_err_and c.from_residual-in_err-variables-in-Parallel.result c.from_residual-in_err-variables-in-Parallel.ensures.1 in
+    rw (p.1, p.2)
+    (or-refused (and_then (both (goal.at.returns-in_err-variables-in-Parallel c).In_ok-past_length-in-Parallel d code k e) refl (c.in_err-variables-in-Parallel.ensures (map shape_number c.args.types.now) d c.payload-n.result 1 code (k + 1))) _ refl)
+
+pub variables_at-requires-in-Parallel : goal.variables_at-requires-in-Parallel
+variables_at-requires-in-Parallel c =
+    let r = c.in_ok-past_length-in-Parallel.ensures.short in
+    (record { within = (c.in_ok-variables-in-Parallel.ensures [] 0 0 0 0 0).inside; few = r.0.few }, rw (c.payload-n.ensures, c.at-w.ensures) r.1)
+
+pub returns-in_ok-variables-in-Parallel : goal.returns-in_ok-variables-in-Parallel
+returns-in_ok-variables-in-Parallel c d code k e =
+    and_then (both (goal.at.returns-in_ok-variables-in-Parallel c).In_ok-past_length-in-Parallel d code k e) refl
+    (and_then (c.in_ok-variables-in-Parallel.ensures (map shape_number c.args.types.now) d c.payload-n.result 1 code (k + 1)) refl (to-alike (c.variables_at-in-Parallel.ensures d code (k + 1)) (any-type _ _ 1 code (k + 1) d _)))

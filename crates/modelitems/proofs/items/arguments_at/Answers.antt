@@ -1,37 +1,30 @@
-use Rattle.std.proofs.Common.{refl, sym, ◌∙◌, ℕ, ◌+◌, arith, take}
-use Rattle.modelitems.specs.Onward.{StepsTo, arguments_from}
+use Rattle.std.proofs.Common.{refl}
+use Rattle.std.proofs.lemmas.Result.{err_from_is_err_and}
 use Rattle.modelitems.proofs.Onward.{at-heads}
 use Rattle.modelitems.proofs.Places.{past-arguments}
-use Rattle.modelitems.proofs.Steps.{no_word, and_then, or-halted, to-alike, clean}
-use Rattle.modelitems.proofs.items.arguments_at.Goals.{After-argument_at-step}
+use Rattle.modelitems.proofs.Steps.{no_word, and_then, or-refused, to-alike}
 use Rattle.modelitems.proofs.items.arguments_at.Goals as goal
 
 pub loop-k-init : goal.loop-k-init
 loop-k-init c d = no_word c.requires.0.within
 
-pub argument_at-step-requires : goal.argument_at-step-requires
-argument_at-step-requires c =
-    (record { within = (c.loop-k.invariant 0).inside; few = c.requires.0.few }, c.requires.1, omega (arith, c.if-argument-eq-NONE.false))
+pub argument_at-requires : goal.argument_at-requires
+argument_at-requires c = record { within = (c.loop-k.invariant 0).inside; few = c.requires.0.few }
 
--- one more argument
-turn : (c : After-argument_at-step) (d : ℕ) →
-    StepsTo c.args.ws.now (take c.args.v c.args.types.now) d (arguments_from c.args.code 0) c.args.at (arguments_from c.args.code (c.loop-k.k + 1)) c.argument_at-step.result
-turn c d =
-    let p = c.loop-k in
-    and_then (p.invariant d) refl (c.argument_at-step.ensures d c.args.code p.k c.argument_of-argument.ensures)
-
-pub returns-then-step-ne-NONE : goal.returns-then-step-ne-NONE
-returns-then-step-ne-NONE c d = or-halted (turn (goal.at.returns-then-step-ne-NONE c).After-argument_at-step d) c.if-step-ne-NONE.true
+pub returns-in_err-place : goal.returns-in_err-place
+returns-in_err-place c d =
+    let p = err_from_is_err_and c.from_residual.result c.from_residual.ensures.1 in
+    rw (p.1, p.2) (or-refused (and_then (c.loop-k.invariant d) refl (c.in_err-place.ensures d c.args.code c.loop-k.k c.in-Some.ensures)) _ refl)
 
 pub loop-k-preserved : goal.loop-k-preserved
-loop-k-preserved c d = clean (turn (goal.at.loop-k-preserved c).After-argument_at-step d) c.if-step-ne-NONE.false
+loop-k-preserved c d = and_then (c.loop-k.invariant d) refl (c.in_ok-place.ensures d c.args.code c.loop-k.k c.in-Some.ensures)
 
 pub returns-after-loop-k : goal.returns-after-loop-k
 returns-after-loop-k c d =
     let p = c.loop-k in
     to-alike (p.invariant d) (at-heads _ _ c.args.code p.k d _ (past-arguments c.args.code p.k c.loop-k-test.false))
 
-pub returns-then-argument-eq-NONE : goal.returns-then-argument-eq-NONE
-returns-then-argument-eq-NONE c d =
+pub returns-in_default : goal.returns-in_default
+returns-in_default c d =
     let p = c.loop-k in
-    to-alike (p.invariant d) (at-heads _ _ c.args.code p.k d _ (sym c.if-argument-eq-NONE.true ∙ c.argument_of-argument.ensures))
+    to-alike (p.invariant d) (at-heads _ _ c.args.code p.k d _ c.in_default.ensures)

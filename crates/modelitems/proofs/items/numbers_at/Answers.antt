@@ -1,45 +1,40 @@
-use Rattle.std.proofs.Common.{◌≡◌, ◌+◌, ◌-◌, ◌<◌, arith}
-use Rattle.words.specs.Word.{word_at}
-use Rattle.modelitems.specs.Onward.{NumbersRead, step_over}
-use Rattle.modelitems.specs.declared.items.Step.{Step}
-use Rattle.modelitems.proofs.Steps.{or-halted, over_none, over-fault}
-use Rattle.modelitems.proofs.Inner.{more_numbers, no_number}
-use Rattle.modelitems.proofs.items.numbers_at.Goals.{After-of_number-number}
+use Rattle.std.proofs.Common.{◌≡◌, refl, sym, ◌∙◌, ◌+◌, ◌-◌, arith}
+use Rattle.std.proofs.lemmas.Result.{err_from_is_err_and}
+use Rattle.modelitems.specs.Onward.{NumbersRead, step_of}
+use Rattle.modelitems.proofs.Steps.{no_word, passed, or-refused}
+use Rattle.modelitems.proofs.Inner.{part_length, numbers-passed, more_numbers}
+use Rattle.modelitems.proofs.items.numbers_at.Goals.{After-over}
 use Rattle.modelitems.proofs.items.numbers_at.Goals as goal
 
+pub returns-then-are_numbers : goal.returns-then-are_numbers
+returns-then-are_numbers c =
+    let ws = c.args.ws.now in
+    let at = c.args.at in
+    let n = c.args.n in
+    let m : at + n - at ≡ n = omega arith in
+    let z : n - n ≡ 0 = omega arith in
+    let all_numbers = rw (m, part_length ws at n c.if-end-ws.true) at (sym c.are_numbers.ensures ∙ c.if-are_numbers.true) in
+    rw z at (numbers-passed ws at n c.if-end-ws.true n (omega arith) all_numbers)
+
 pub loop-place-init : goal.loop-place-init
-loop-place-init c =
-    let passed = c.past_numbers-place.ensures in
-    (passed.on, passed.most, passed.read c.args.n c.end_of-end.ensures.most)
+loop-place-init c ts d l type code k = let q : c.args.at + c.args.n - c.args.at ≡ c.args.n = omega arith in rw q (no_word c.requires.0.within)
 
 -- one more
-turn : (c : After-of_number-number) {r : Step} → step_over c.of_number-number.result c.loop-place.place ≡ r →
-    let a = c.args in
-    NumbersRead a.ws.now a.n a.at (a.at + a.n - (c.loop-place.place + 1)) r
-unfolding word_at
-turn c e =
-    let a = c.args in
-    let p = c.loop-place in
-    let i = p.invariant in
-    let l : p.place < a.at + a.n = omega (arith, c.loop-place-test.true, c.end_of-end.ensures.most) in
-    let q : a.at + a.n - p.place - 1 ≡ a.at + a.n - (p.place + 1) = omega arith in
-    rw (← e, ← q) (more_numbers (omega arith) i.2 c.of_number-number.result c.of_number-number.ensures)
+turn : (c : After-over) → NumbersRead c.args.ws.now c.args.n c.args.at (c.args.at + c.args.n - (c.loop-place.place + 1)) (step_of c.over.result)
+turn c =
+    let q : c.args.at + c.args.n - c.loop-place.place - 1 ≡ c.args.at + c.args.n - (c.loop-place.place + 1) = omega arith in
+    rw (← q, c.over.ensures, c.check_number.ensures, c.at.ensures) (more_numbers (omega (arith, c.loop-place-test.true)) c.loop-place.invariant)
 
-pub returns-then-number-ne-NONE : goal.returns-then-number-ne-NONE
-returns-then-number-ne-NONE c ts d l type code k = or-halted (turn (goal.at.returns-then-number-ne-NONE c).After-of_number-number (over-fault _ _ c.if-number-ne-NONE.true) ts d l type code k) c.if-number-ne-NONE.true
+pub returns-in_err-over : goal.returns-in_err-over
+returns-in_err-over c ts d l type code k =
+    let p = err_from_is_err_and c.from_residual.result c.from_residual.ensures.1 in
+    rw (p.1, p.2) (or-refused (turn (goal.at.returns-in_err-over c).After-over ts d l type code k) _ (rw c.in_err-over.was refl))
 
 pub loop-place-preserved : goal.loop-place-preserved
-loop-place-preserved c = (omega (arith, c.loop-place.invariant.0), omega (arith, c.loop-place-test.true), λ ts d l type code k. rw c.if-number-ne-NONE.false at (turn (goal.at.loop-place-preserved c).After-of_number-number (over_none _ _ c.if-number-ne-NONE.false) ts d l type code k))
-
-pub returns-then-place-at : goal.returns-then-place-at
-returns-then-place-at c =
-    let p = c.loop-place in
-    let e = c.end_of-end.ensures in
-    let q : c.end_of-end.result ≡ p.place = omega (arith, p.invariant.1, c.loop-place-test.false) in
-    no_number (omega arith) p.invariant.2 (rw q at (e.all (rw q c.if-place-at.true)))
+loop-place-preserved c = rw (c.in_ok-over.was, (passed _ _ c.over.ensures c.in_ok-over.was).1) at (turn (goal.at.loop-place-preserved c).After-over)
 
 pub returns : goal.returns
 returns c =
-    let p = c.loop-place in
-    let z : c.args.at + c.args.n - p.place ≡ 0 = omega (arith, c.if-place-at.false) in
-    rw z at p.invariant.2
+    let e : c.loop-place.place ≡ c.args.at + c.args.n = omega (arith, c.loop-place-test.false, c.loop-place.auto.place-end) in
+    let z : c.args.at + c.args.n - (c.args.at + c.args.n) ≡ 0 = omega arith in
+    rw (e, z) at c.loop-place.invariant

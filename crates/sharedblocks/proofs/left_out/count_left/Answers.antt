@@ -9,12 +9,14 @@ use Rattle.sharedblocks.proofs.left_out.count_left.Goals as goal
 
 pub loop-k-init : goal.loop-k-init
 unfolding left_count list_of
-loop-k-init c = (omega arith, omega arith, refl)
+loop-k-init c = (omega arith, refl)
 
 pub loop-k-preserved : goal.loop-k-preserved
 loop-k-preserved c =
-    let e = rw (c.is_kept-kept.ensures, back c.plus.result c.plus.type_inv, c.plus.ensures, to_z_pos w64 {n = c.loop-k.k} (omega arith)) at c.one_if-m.ensures in (
-      omega (arith, c.loop-k-test.true),
-      omega (arith, c.one_if-m.ensures, bit_le (not c.is_kept-kept.result)),
-      ap₂ ◌+◌ c.loop-k.invariant.2 e ∙ sym (left-more _ _ _ c.loop-k.k),
+    let e = rw (c.is_kept.ensures, back c.plus.result c.plus.type_inv, c.plus.ensures.value, to_z_pos w64 {n = c.loop-k.k} (omega arith)) at c.one_if-m.ensures in (
+      omega (arith, c.loop-k.invariant.0, c.one_if-m.ensures, bit_le (not c.is_kept.result)),
+      ap₂ ◌+◌ c.loop-k.invariant.1 e ∙ sym (left-more _ _ _ c.loop-k.k),
     )
+
+pub overflow_add-m : goal.overflow_add-m
+overflow_add-m c = omega (arith, c.loop-k.invariant.0, c.one_if-m.ensures, bit_le (not c.is_kept.result), c.loop-k-test.true, c.requires.0)

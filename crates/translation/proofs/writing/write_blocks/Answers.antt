@@ -3,7 +3,7 @@ use Rattle.words.specs.Word.{word_at}
 use Rattle.words.proofs.Reading.{tail-is}
 use Rattle.models.specs.Model.{headed}
 use Rattle.rules.specs.Shared.{choice, encodes, encoded_after}
-use Rattle.extremes.specs.BoundLists.{bounds_of}
+use Rattle.integers.specs.Bounds.{bounds_in}
 use Rattle.encodings.specs.Uses.{shared_by}
 use borrow.Rule.Slice.PartMut.{mid_of}
 use Rattle.rules.specs.Translation.{block_of}
@@ -26,11 +26,11 @@ fits c =
 went : (c : After-block-laid) →
     let a = c.args in
     let l = c.loop-k in
-    AppendsFitting nothing c.block-laid.result (mid_of l.at (length l.out - l.at) l.out) c.block-laid.new.out (block_parts l.first (block_of (bounds_of a.ls.now a.us.now) (shared_by a.uses.now) l.encoded (headed a.ws.now (get_or a.heads.now l.k 0))))
+    AppendsFitting nothing c.block-laid.result (mid_of l.at (length l.out - l.at) l.out) c.block-laid.new.out (block_parts l.first (block_of (bounds_in a.domains.now) (shared_by a.uses.now) l.encoded (headed a.ws.now (get_or a.heads.now l.k 0))))
 unfolding word_at
 went c =
     let at = get_or c.args.heads.now c.loop-k.k 0 in
-    placed-block (bounds_of c.args.ls.now c.args.us.now) (shared_by c.args.uses.now) (headed c.args.ws.now at) c.loop-k.first c.loop-k.encoded (rw (c.payload_of-code.ensures, tail-is c.args.ws.now (at + 1)) at c.block-laid.ensures.parts)
+    placed-block (bounds_in c.args.domains.now) (shared_by c.args.uses.now) (headed c.args.ws.now at) c.loop-k.first c.loop-k.encoded (rw (c.payload-code.ensures, c.from.ensures, tail-is c.args.ws.now (at + 1)) at c.block-laid.ensures.parts)
 
 -- the record after it
 recorded : (c : After-record_encoding) →
@@ -40,18 +40,16 @@ recorded : (c : After-record_encoding) →
 unfolding word_at
 recorded c =
     let at = get_or c.args.heads.now c.loop-k.k 0 in
-    placed_record (shared_by c.args.uses.now) c.loop-k.first c.loop-k.encoded (headed c.args.ws.now at) (rw (c.payload_of-code.ensures, tail-is c.args.ws.now (at + 1)) at c.record_encoding.ensures)
+    placed_record (shared_by c.args.uses.now) c.loop-k.first c.loop-k.encoded (headed c.args.ws.now at) (rw (c.payload-code.ensures, c.from.ensures, tail-is c.args.ws.now (at + 1)) at c.record_encoding.ensures)
 
 pub block-laid-requires : goal.block-laid-requires
 unfolding word_at
 block-laid-requires c =
     let at = get_or c.args.heads.now c.loop-k.k 0 in (
       omega (arith, c.loop-k.invariant.room),
-      c.requires.0.lowers,
-      c.requires.0.uppers,
-      rw (c.payload_of-code.ensures, tail-is c.args.ws.now (at + 1)) (placed-wide (bounds_of c.args.ls.now c.args.us.now) (shared_by c.args.uses.now) (headed c.args.ws.now at) (not_wide c.loop-k.invariant (head_at c.requires.0 c.loop-k.k c.loop-k-test.true))),
+      rw (c.payload-code.ensures, c.from.ensures, tail-is c.args.ws.now (at + 1)) (placed-wide (bounds_in c.args.domains.now) (shared_by c.args.uses.now) (headed c.args.ws.now at) (not_wide c.loop-k.invariant (head_at c.requires.0 c.loop-k.k c.loop-k-test.true))),
       c.loop-k.invariant.recorded,
-      rw (c.payload_of-code.ensures, tail-is c.args.ws.now (at + 1), c.sum_at-sum.ensures) (summed_at c.requires.0 c.loop-k.k c.loop-k-test.true c.args.lows.now c.args.highs.now c.requires.1),
+      rw (c.payload-code.ensures, c.from.ensures, tail-is c.args.ws.now (at + 1), c.sum_at-sum.ensures) (summed_at c.requires.0 c.loop-k.k c.loop-k-test.true c.args.sums.now c.requires.1),
     )
 
 pub loop-k-preserved : goal.loop-k-preserved
@@ -59,7 +57,7 @@ loop-k-preserved c =
     let w = went (goal.at.loop-k-preserved c).After-block-laid in
     let h = head_at c.requires.0 c.loop-k.k c.loop-k-test.true in
     more c.loop-k.invariant h (told w)
-    (block_back c.loop-k.first (block_of (bounds_of c.args.ls.now c.args.us.now) (shared_by c.args.uses.now) c.loop-k.encoded (headed c.args.ws.now (get_or c.args.heads.now c.loop-k.k 0))) c.loop-k.at c.loop-k.out (fits (goal.at.loop-k-preserved c).At-loop-k) (not-outside c.loop-k.invariant h) w)
+    (block_back c.loop-k.first (block_of (bounds_in c.args.domains.now) (shared_by c.args.uses.now) c.loop-k.encoded (headed c.args.ws.now (get_or c.args.heads.now c.loop-k.k 0))) c.loop-k.at c.loop-k.out (fits (goal.at.loop-k-preserved c).At-loop-k) (not-outside c.loop-k.invariant h) w)
     (recorded (goal.at.loop-k-preserved c).After-record_encoding)
 
 pub returns : goal.returns

@@ -2,8 +2,6 @@
 use Rattle.std.proofs.Common.{◌≡◌, sym, ap, ◌∙◌, arith, length, length-take-le}
 use Rattle.words.proofs.Overlay.{length-overlay}
 use Rattle.modelreading.proofs.Heads.{front-inside, front-words}
-use Rattle.sharing.proofs.Theorem.{never_too_many}
-use Rattle.checking.proofs.Kept.{few-sources}
 use Rattle.translation.proofs.Refusals.{system-length, system-over}
 use Rattle.translation.proofs.writing.write_system.Goals.{After-lay}
 use Rattle.translation.proofs.writing.write_system.Goals as goal
@@ -15,15 +13,9 @@ pub write_blocks-at-requires : goal.write_blocks-at-requires
 write_blocks-at-requires c =
     (c.requires.0, c.requires.1, c.requires.2, rw (same-room (goal.at.write_blocks-at-requires c).After-lay) (omega (arith, system-length c.args.ws.now, c.requires.3)))
 
-pub lay-requires-2 : goal.lay-requires-2
-lay-requires-2 c = omega (arith, c.write_blocks-at.ensures.end, system-length c.args.ws.now, never_too_many c.args.ws.now c.requires.2)
-
 pub returns : goal.returns
 returns c =
-    c.lay-2.ensures ∙ rw (c.write_blocks-at.ensures.output, c.write_blocks-at.ensures.end, c.lay.ensures, c.word_of.ensures, front-words c.requires.0.seen) (system-over c.args.ws.now c.args.out.now)
+    c.lay-2.ensures ∙ rw (c.write_blocks-at.ensures.output, c.write_blocks-at.ensures.end, c.lay.ensures, c.bits.ensures, c.new.ensures, front-words c.requires.0.seen) (system-over c.args.ws.now c.args.out.now)
 
 pub slice_bounds-lay-end : goal.slice_bounds-lay-end
 slice_bounds-lay-end c = sym (length-take-le _ _ (front-inside c.requires.0.seen))
-
-pub lay-requires : goal.lay-requires
-lay-requires c = rw (length-take-le _ _ (front-inside c.requires.0.seen)) (omega (arith, few-sources c.requires.0))

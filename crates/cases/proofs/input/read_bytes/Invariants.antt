@@ -1,6 +1,0 @@
--- The measure: how many are left.
-use Rattle.std.proofs.Common.{◌-◌}
-use Rattle.cases.proofs.input.read_bytes.Given as goal
-
-abbrev pub decreases-loop-i : goal.decreases-loop-i
-decreases-loop-i g l = l.n - l.i

@@ -1,0 +1,11 @@
+use Rattle.std.proofs.Common.{arith}
+use Rattle.laying.proofs.Written.{wrote-then, wrote-most}
+use Rattle.choiceblocks.specs.Rows.{one_of_parts}
+use Rattle.choiceblocks.proofs.one_of.Goals as goal
+
+-- Bounds, the row of the bits, products and their row.
+pub returns : goal.returns
+unfolding one_of_parts
+returns c =
+    let n = c.size_at-n.ensures.value in
+    wrote-most (omega arith) (wrote-then (rw n at c.gates.ensures) (wrote-then (rw n at c.one_bit.ensures) (rw (n, c.var_at.ensures) at c.gated.ensures)))

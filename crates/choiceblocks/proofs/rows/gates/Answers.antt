@@ -1,0 +1,7 @@
+use Rattle.laying.proofs.Written.{wrote-then}
+use Rattle.choiceblocks.specs.Rows.{gates}
+use Rattle.choiceblocks.proofs.rows.gates.Goals as goal
+
+pub returns : goal.returns
+unfolding gates
+returns c = wrote-then c.bits.ensures c.zeros.ensures

@@ -1,2 +1,0 @@
--- Laws for proofs about the blocks of builtins without lists.
-pub mod Laid

@@ -1,0 +1,190 @@
+// Rows, and the parts that a writer puts for each place of a list.
+ghost use Rattle.std.specs.Prelude.{◌≡◌, [], ◌∷◌, ℕ, ℤ, ◌+◌, ◌<◌, ◌≤◌, nat_abs, length};
+ghost use Rattle.integers.specs.Choice.{◌if◌else◌};
+ghost use Rattle.integers.specs.Number.{◌⊕◌, neg, +1};
+ghost use Rattle.integers.specs.Lists.{all, list_of};
+ghost use Rattle.words.specs.Kind.{at_most};
+ghost use Rattle.words.specs.Kinds.{kind_number};
+ghost use Rattle.words.specs.Limit as Limit;
+ghost use Rattle.words.specs.Word.{in_range};
+ghost use Rattle.models.specs.Model.{size, past};
+ghost use Rattle.laying.specs.Part.{bound, term};
+ghost use Rattle.laying.specs.Lists.{many, term_of, row_parts_of, sum_at, each_at, same_at, label_at, bit_at, product_at, order_at};
+ghost use Rattle.laying.specs.Appends.{GrowsBy};
+ghost use Rattle.laying.specs.Writes.{Writes};
+ghost use Rattle.laying.specs.Room.{Room};
+
+use crate::Writer;
+use crate::term::Term;
+use arguments::{num_at, past_at, size_at, var_at};
+use integers::{opposite, plus};
+use words::in_range;
+use words::kind::Kind;
+
+// Whether n numbers, each given by its place, are in the range.
+fn all_fit<C: Fn(usize) -> i64>(n: usize, number: C) -> bool
+    requires { (k : ℕ) → k < n → C.pre number k }
+    ensures { (c : ℕ → ℤ) → ((k : ℕ) (r : ℤ) → k < n → C.post number k r → r ≡ c k) → result ≡ all in_range (list_of c n) }
+{
+    let mut fit = true;
+    for k in 0..n {
+        fit &= in_range(number(k));
+    }
+    fit
+}
+
+impl<'a> Writer<'a> {
+    // n terms, each given by its place: its coefficient and its variable. Where the list has no room left, they are counted.
+    pub fn terms<C: Fn(usize) -> i64, V: Fn(usize) -> usize>(
+        &mut self,
+        n: usize,
+        coefficient: C,
+        variable: V,
+    )
+        requires room { Room 1000 self.old × (n ≤ Limit.terms) }
+        requires coefficients { (k : ℕ) → k < n → C.pre coefficient k }
+        requires variables { (k : ℕ) → k < n → V.pre variable k }
+        ensures size { GrowsBy 1000 self.old.laid self.new.laid }
+        ensures parts { (c : ℕ → ℤ) (v : ℕ → ℕ) → ((k : ℕ) (r : ℤ) → k < n → C.post coefficient k r → r ≡ c k) → ((k r : ℕ) → k < n → V.post variable k r → r ≡ v k) → Writes 1000 self.old self.new (many (λ k. term (c k) (v k) ∷ []) n) }
+    {
+        if self.out.len() <= self.laid.words {
+            let fit = all_fit(n, coefficient);
+            self.count(2 * n, 0, 0, fit);
+            return;
+        }
+        for k in 0..n {
+            self.term(coefficient(k), variable(k));
+        }
+    }
+
+    // c × each of n consecutive variables from v on.
+    pub fn same(&mut self, c: i64, v: usize, n: usize)
+        requires { Room 1000 self.old × (n ≤ Limit.terms) × (v < 1000000000000) }
+        ensures { Writes 1000 self.old self.new (many (same_at c v) n) }
+    {
+        self.terms(n, |_| c, |k| v + k);
+    }
+
+    // The terms of the parallel lists whose length word is at place i.
+    pub fn sum(&mut self, args: &[u32], i: usize)
+        requires { Room 1000 self.old × (i < 1000000000000) }
+        ensures { Writes 1000 self.old self.new (many (sum_at args.now (i + 1) (past args.now i)) (size args.now i)) }
+    {
+        let numbers = i + 1;
+        let variables = past_at(args, i);
+        self.terms(
+            size_at(args, i),
+            |k| num_at(args, numbers + k),
+            |k| var_at(args, variables + k),
+        );
+    }
+
+    // c × each variable of the list whose length word is at place i.
+    pub fn each(&mut self, args: &[u32], i: usize, c: i64)
+        requires { Room 1000 self.old × (i < 1000000000000) }
+        ensures { Writes 1000 self.old self.new (many (each_at args.now c (i + 1)) (size args.now i)) }
+    {
+        let variables = i + 1;
+        self.terms(size_at(args, i), |_| c, |k| var_at(args, variables + k));
+    }
+
+    // Consecutive numbers × consecutive variables, n of them.
+    pub fn labels(&mut self, from: i64, v: usize, n: usize)
+        requires { Room 1000 self.old × (n ≤ Limit.terms) × (v < 1000000000000) × (nat_abs from < 1000000000000) }
+        ensures { Writes 1000 self.old self.new (many (label_at from v) n) }
+    {
+        self.terms(n, |k| plus(from, k as i64), |k| v + k);
+    }
+
+    // A row of a kind, of given terms.
+    pub fn row(&mut self, kind: Kind, terms: &[Term], c: i64)
+        requires { Room 2000 self.old × (length terms.now ≤ Limit.terms) }
+        ensures { Writes 2000 self.old self.new (row_parts_of (kind_number kind) terms.now c) }
+    {
+        self.head(kind, terms.len());
+        self.terms(terms.len(), |k| terms[k].number(), |k| terms[k].variable);
+        self.constant(c);
+    }
+
+    // For the sign bit b of x, which is at most u: x + (u+1)×b − u ≤ 0.
+    pub fn only_negative(&mut self, x: usize, b: usize, u: i64)
+        requires { Room 2000 self.old × (nat_abs u ≤ 1152921504606846976) }
+        ensures { Writes 2000 self.old self.new (row_parts_of at_most (term_of +1 x ∷ term_of (u ⊕ +1) b ∷ []) (neg u)) }
+    {
+        self.row(
+            Kind::AtMost,
+            &[Term::new(1, x), Term::new(plus(u, 1), b)],
+            opposite(u),
+        );
+    }
+
+    // n auxiliaries, the bounds of each given by its place. Where the list has no room left, they are counted.
+    pub fn bounds<L: Fn(usize) -> i64, U: Fn(usize) -> i64>(&mut self, n: usize, lower: L, upper: U)
+        requires room { Room 1000 self.old × (n ≤ Limit.terms) }
+        requires lowers { (k : ℕ) → k < n → L.pre lower k }
+        requires uppers { (k : ℕ) → k < n → U.pre upper k }
+        ensures size { GrowsBy 1000 self.old.laid self.new.laid }
+        ensures parts { (l u : ℕ → ℤ) → ((k : ℕ) (r : ℤ) → k < n → L.post lower k r → r ≡ l k) → ((k : ℕ) (r : ℤ) → k < n → U.post upper k r → r ≡ u k) → Writes 1000 self.old self.new (many (λ k. bound (l k) (u k) ∷ []) n) }
+    {
+        if self.out.len() <= self.laid.words {
+            let lowers = all_fit(n, lower);
+            let uppers = all_fit(n, upper);
+            self.count(2 * n, n, 0, lowers & uppers);
+            return;
+        }
+        for k in 0..n {
+            self.bound(lower(k), upper(k));
+        }
+    }
+
+    // The bounds of n bits.
+    pub fn bits(&mut self, n: usize)
+        requires { Room 1000 self.old × (n ≤ Limit.terms) }
+        ensures { Writes 1000 self.old self.new (many bit_at n) }
+    {
+        self.bounds(n, |_| 0, |_| 1);
+    }
+
+    // n products: from z on, of the variables from place base on and those from b on.
+    pub fn products(&mut self, args: &[u32], base: usize, z: usize, b: usize, n: usize)
+        requires { Room 1000 self.old × (n ≤ Limit.terms) × (base < 1000000000000) × (z < 1000000000000) × (b < 1000000000000) }
+        ensures { Writes 1000 self.old self.new (many (product_at args.now base z b) n) }
+    {
+        if self.out.len() <= self.laid.words {
+            self.count(4 * n, 0, n, true);
+            return;
+        }
+        for k in 0..n {
+            self.times(z + k, var_at(args, base + k), b + k);
+        }
+    }
+
+    // n rows x − m ≤ 0, x the variables from place base on; m − x ≤ 0, where it is not `up`.
+    pub fn order(&mut self, args: &[u32], base: usize, m: usize, n: usize, up: bool)
+        requires { Room 200000 self.old × (n ≤ Limit.terms) × (base < 1000000000000) }
+        ensures { Writes 200000 self.old self.new (many (order_at args.now base m up) n) }
+    {
+        if self.out.len() <= self.laid.words {
+            self.count(6 * n, 0, n, true);
+            return;
+        }
+        for k in 0..n {
+            let x = var_at(args, base + k);
+            self.row(
+                Kind::AtMost,
+                &[
+                    Term::new(1, first_if(up, x, m)),
+                    Term::new(-1, first_if(up, m, x)),
+                ],
+                0,
+            );
+        }
+    }
+}
+
+// x; y, where it is not `up`.
+pub fn first_if(up: bool, x: usize, y: usize) -> usize
+    ensures { result ≡ (x if up else y) }
+{
+    if up { x } else { y }
+}

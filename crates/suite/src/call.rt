@@ -1,0 +1,65 @@
+// The calls, by what they are on, and the numbers that a case gives them.
+
+// A call on a model.
+#[derive(Clone, Copy, Debug, PartialEq, Eq)]
+pub enum ModelCall {
+    Check,
+    Translate,
+    Judge,
+    Fill,
+    Reason,
+    Solutions,
+}
+
+// A call on a row system.
+#[derive(Clone, Copy, Debug, PartialEq, Eq)]
+pub enum RowsCall {
+    Judge,
+    Sheet,
+    Bits,
+}
+
+// A call on a pair, for a candidate.
+#[derive(Clone, Copy, Debug, PartialEq, Eq)]
+pub enum PairCall {
+    Check,
+    Translate,
+    Judge,
+    Fill,
+}
+
+#[derive(Clone, Copy, Debug, PartialEq, Eq)]
+pub enum Call {
+    Model(ModelCall),
+    Rows(RowsCall),
+    Text,
+    Pair(PairCall),
+}
+
+// A number that no call has.
+#[derive(Clone, Copy, Debug, PartialEq, Eq)]
+pub struct UnknownCall(pub u32);
+
+impl TryFrom<u32> for Call {
+    type Error = UnknownCall;
+
+    fn try_from(number: u32) -> Result<Call, UnknownCall> {
+        match number {
+            1 => Ok(Call::Model(ModelCall::Check)),
+            2 => Ok(Call::Model(ModelCall::Translate)),
+            3 => Ok(Call::Model(ModelCall::Judge)),
+            4 => Ok(Call::Rows(RowsCall::Judge)),
+            5 => Ok(Call::Model(ModelCall::Fill)),
+            6 => Ok(Call::Rows(RowsCall::Sheet)),
+            7 => Ok(Call::Text),
+            8 => Ok(Call::Model(ModelCall::Reason)),
+            9 => Ok(Call::Model(ModelCall::Solutions)),
+            10 => Ok(Call::Rows(RowsCall::Bits)),
+            11 => Ok(Call::Pair(PairCall::Check)),
+            12 => Ok(Call::Pair(PairCall::Translate)),
+            13 => Ok(Call::Pair(PairCall::Judge)),
+            14 => Ok(Call::Pair(PairCall::Fill)),
+            _ => Err(UnknownCall(number)),
+        }
+    }
+}

@@ -1,0 +1,34 @@
+// Lent lists of any type: an element put, one read, a list laid over another.
+ghost use Rattle.std.specs.Prelude.{◌≡◌, set, get_or};
+ghost use Rattle.words.specs.Overlay.{overlay};
+
+// Puts an element to a place, where the list has that place.
+pub fn put<T: Copy>(list: &mut [T], at: usize, x: T)
+    ensures { list.new ≡ set list.old at x }
+{
+    if at < list.len() {
+        list[at] = x;
+    }
+}
+
+// The element at a place, `none` past the last one.
+pub fn at_or<T: Copy>(list: &[T], at: usize, none: T) -> T
+    ensures { result ≡ get_or list.now at none }
+{
+    list.get(at).copied().unwrap_or(none)
+}
+
+// Lays a list over another one from a place on; what does not fit is left out.
+pub fn lay<T: Copy>(out: &mut [T], at: usize, list: &[T])
+    ensures { out.new ≡ overlay out.old at list.now }
+{
+    if out.len() <= at {
+        return;
+    }
+    let room = out.len() - at;
+    if list.len() <= room {
+        out[at..at + list.len()].copy_from_slice(list);
+    } else {
+        out[at..].copy_from_slice(&list[..room]);
+    }
+}
