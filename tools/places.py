@@ -7,7 +7,9 @@
     tools/places.py --proofs   point 8: functions with answers, files and lines of proofs by crate
 
 Run at the top of the repository. A kind is found by a rule of text over the functions of the sources; twins were found by reading, and stand in TWINS:
-a function of TWINS counts as long as a function of that name stands in its crate."""
+a function of TWINS counts as long as a function of that name stands in its crate in the older form: NOT_TWINS says by what a function of today differs.
+
+    tools/places.py --reasons  the lines that say why a place stays as it is: CRATE, file, the item after it, the line"""
 import glob, os, re, sys, collections
 
 FN = re.compile(r'^(?P<indent> *)(?:pub(?:\([a-z]+\))? )?(?:const )?(?:extern "C" )?fn (?P<name>\w+)', re.M)
@@ -66,9 +68,9 @@ for f in F:
 items('1g constants that number kinds, faults, sorts, stages, shapes, forms, calls', r'^(?:pub )?const ([A-Z_]+): (?:u32|usize) = \d+;')
 # an answer with 0 for none, one more than a number
 for f in F:
-    if re.search(r'\b(?:code_of|code_at|place_among|variable_of|variable_in|number_in|number_of|length_ahead|index_of|first_bit|entry_of|slot_word)\b', f['name']) and f['crate'] in ('names', 'symbols', 'grammar', 'builtins', 'sharedblocks', 'encodings'):
+    if re.search(r'\b(?:code_of|code_at|place_among|variable_of|variable_in|number_in|number_of|length_ahead|index_of|first_bit|entry_of|slot_word)\b', f['name']) and 'Option<' not in f['head'] and f['crate'] in ('names', 'symbols', 'grammar', 'builtins', 'sharedblocks', 'encodings'):
         put('1h answer with 0 for none', f)
-    if f['name'] in ('first_equal', 'first_number', 'place_of', 'words_before', 'first_marked', 'least_from'):
+    if f['name'] in ('first_equal', 'first_number', 'place_of', 'words_before', 'first_marked', 'least_from') and not re.search(r'Option<|<F: Fn', f['head']):
         put('1h answer with the length for none', f)
 
 # ---- 2. Twins
@@ -106,11 +108,21 @@ TWINS = {
  'a term of a row, read, seen or put': ['rowreading.read_term', 'rowterms.see_cut', 'rowreading.read_product', 'rowterms.see_factors', 'rowreading.upper_at', 'rowitems.see_upper'],
  'two tables of codes': ['modelitems.argument_of', 'grammar.argument_form'],
 }
+# what a function of TWINS has where it kept its name and is no twin any more: a test that is passed, an Option, the library's method, one read model
+NOT_TWINS = {
+ 'the first place that passes a test': r'<F: Fn|Option<',
+ 'an element, or a default past the end': r'at_or\(',
+ 'the six lists of a model, checked': r'ReadModel::of',
+ 'the lesser or the larger of two': r'\.(?:min|max)\(',
+ 'a test that is an operator': r'Fits::equal_bits',
+ 'lay a list over a list': r'<T',
+ 'lay n terms, or count them': r'words::list',
+}
 known = {(f['crate'] + '.' + f['name']): f for f in F}
 for group, names in TWINS.items():
     for n in names:
         f = known.get(n)
-        if f:
+        if f and not (group in NOT_TWINS and re.search(NOT_TWINS[group], f['text'])):
             put('2 ' + group, f)
 # a flag that chooses between twins
 for f in F:
@@ -191,7 +203,7 @@ for f in F:
 
 # ---- 7. Switches on which step to run
 for f in F:
-    if re.search(r'match (?:code|call|class) \{', f['code']):
+    if re.search(r'match (?:code|call|class) \{(?!\n\s+\w+::)', f['code']):
         put('7a match over a number that says which step', f)
     if re.search(r'\bclass: u32|\btable: bool|\bbounds: bool', f['head']):
         put('7b flag that says which step', f)
@@ -211,8 +223,39 @@ def proofs():
         print('%-16s %4d functions %5d lines, %3d lemma files %6d lines' % (crate, row[0], row[2], row[3], row[4]))
     print(dict(total))
 
+# ---- The lines that give a reason
+REASON = re.compile(r'no plainer|plainer (?:in|as|by|with)|[Ff]ixed memory|no heap|C interface|for C\b|header for C|rule of the project|01 names|02 prescribes|in 100|slower|took longer|takes longer|'
+                    r'did not close|does not cover|takes no |no type|\btried\b|TRIED|twins')
+
+def reasons():
+    for path in sorted(glob.glob('crates/*/src/**/*.rt', recursive=True) + glob.glob('crates/*/specs/**/*.antt', recursive=True)):
+        mark = '//' if path.endswith('.rt') else '--'
+        lines = open(path).read().split('\n')
+        i = 0
+        while i < len(lines):
+            if lines[i].strip().startswith(mark):
+                j = i
+                while j < len(lines) and lines[j].strip().startswith(mark):
+                    j += 1
+                text = ' '.join(l.strip()[len(mark):].strip() for l in lines[i:j])
+                if REASON.search(text):
+                    k = j
+                    while k < len(lines) and (not lines[k].strip() or lines[k].strip().startswith(('#', mark))):
+                        k += 1
+                    line = lines[k] if k < len(lines) else ''
+                    name = re.search(r'\b(?:fn|struct|enum|mod|const|record|data|impl(?:<[^>]*>)?) (\w+)', line) or re.search(r'^\s*(?:abbrev |unfoldable )?pub (\S+)', line)
+                    at = name.group(1) if name and i > 0 else ''
+                    yield path.split('/')[1], path.split('/', 2)[2], at, text
+                i = j
+            else:
+                i += 1
+
 def main():
     args = sys.argv[1:]
+    if args and args[0] == '--reasons':
+        for crate, file, at, text in reasons():
+            print('%s\t%s\t%s\t%s' % (crate, file, at, text))
+        return
     if args and args[0] == '--proofs':
         return proofs()
     print('%d functions in %d files of %d crates' % (len(F), len(set((f['crate'], f['file']) for f in F)), len(set(f['crate'] for f in F))))

@@ -1,33 +1,30 @@
-// A constraint's arguments under values of the variables: values of the variables among them, tests and sums over its lists.
-ghost use Rattle.std.specs.Prelude.{◌≡◌, ◌<◌, ◌≤◌, nat_abs};
+// A constraint's arguments under values of the variables: values of the variables among them, and tests over its lists.
+ghost use Rattle.std.specs.Prelude.{◌≡◌, ◌<◌};
 ghost use Rattle.std.specs.Int.Signed.{le_z};
 ghost use Rattle.integers.specs.Choice.{◌if◌else◌};
-ghost use Rattle.integers.specs.Number.{◌⊗◌, ◌≟◌};
+ghost use Rattle.integers.specs.Number.{◌≟◌};
 ghost use Rattle.integers.specs.Lists.{all, any, how_many};
-ghost use Rattle.integers.specs.Terms.{value, sum};
-ghost use Rattle.words.specs.Small.{Near, Small};
-ghost use Rattle.models.specs.Model.{var, num, vars, terms};
+ghost use Rattle.integers.specs.Terms.{value};
+ghost use Rattle.models.specs.Model.{var, vars};
 ghost use Rattle.models.specs.Meaning.{on};
 
-use crate::{num_at, past_at, size_at, var_at};
+use crate::{size_at, var_at};
+use integers::equal;
 use integers::test::in_order;
-use integers::{equal, plus, times};
 use words::value_at;
 
-// The words after a constraint's head, and the values of the variables, each near 0.
+// The words after a constraint's head, and the values of the variables.
 #[derive(Clone, Copy)]
 pub struct Instance<'a> {
     pub args: &'a [u32],
     pub values: &'a [i32],
-    ghost small: { Small values.now },
 }
 
 impl<'a> Instance<'a> {
     // The value of the variable at place i.
     #[tactic(auto, unfolding(integers::specs::Terms::value))]
     pub fn value(&self, i: usize) -> i64
-        ensures value { result ≡ value self.now.values.now (var self.now.args.now i) }
-        ensures near { Near result }
+        ensures { result ≡ value self.now.values.now (var self.now.args.now i) }
     {
         value_at(self.values, var_at(self.args, i))
     }
@@ -41,6 +38,8 @@ impl<'a> Instance<'a> {
     }
 
     // How many variables of the list at place i have the value v.
+    // The loops over a list's places, here and in none_past, is_member and NearInstance::sum, share the `for`; one walk with a closure would ask for a law of each
+    // closure and be no plainer.
     #[tactic(auto, unfolding(integers::specs::Lists::list_of, integers::specs::Lists::how_many, models::specs::Model::vars), using(crate::proofs::Places::passed))]
     pub fn how_many(&self, i: usize, v: i64) -> usize
         requires { i < 1099511627776 }
@@ -55,7 +54,7 @@ impl<'a> Instance<'a> {
     }
 
     // Whether no variable of the list at place i has a value above m; below m, where it is not `up`.
-    // `up` is a flag, since the clause reads as a choice by one; two functions would be twins.
+    // `up` stays a flag: the clause is a choice by it, and two functions would be twins and no plainer.
     #[tactic(auto, unfolding(integers::specs::Lists::list_of, integers::specs::Lists::all, models::specs::Model::vars), using(crate::proofs::Places::passed))]
     pub fn none_past(&self, i: usize, m: i64, up: bool) -> bool
         requires { i < 1099511627776 }
@@ -85,29 +84,5 @@ impl<'a> Instance<'a> {
         ensures { result ≡ all (on (value self.now.values.now)) (vars self.now.args.now i) }
     {
         self.how_many(i, 1) == size_at(self.args, i)
-    }
-
-    // The product of the number at place a and the value of the variable at place x.
-    pub fn product(&self, a: usize, x: usize) -> i64
-        ensures value { result ≡ num self.now.args.now a ⊗ value self.now.values.now (var self.now.args.now x) }
-        ensures size { nat_abs result ≤ 18014398509481984 }
-    {
-        times(num_at(self.args, a), self.value(x))
-    }
-
-    // The sum of the terms whose length word is at place i.
-    #[tactic(auto, unfolding(integers::specs::Lists::list_of, integers::specs::Terms::sum, models::specs::Model::terms), using(crate::proofs::Places::passed))]
-    pub fn sum(&self, i: usize) -> i64
-        requires { i < 1099511627776 }
-        ensures value { result ≡ sum (value self.now.values.now) (terms self.now.args.now i) }
-        ensures size { nat_abs result ≤ 576460752303423488 }
-    {
-        let n = size_at(self.args, i);
-        let variables = past_at(self.args, i);
-        let mut total: i64 = 0;
-        for k in 0..n {
-            total = plus(total, self.product(i + 1 + k, variables + k));
-        }
-        total
     }
 }

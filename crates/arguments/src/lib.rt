@@ -9,6 +9,7 @@ ghost use Rattle.models.specs.Model.{var, num, size, exponent_at, past, past_ter
 ghost use Rattle.models.specs.Meaning.{member};
 
 pub mod instance;
+pub mod near;
 
 use integers::equal;
 use words::limit;
@@ -23,6 +24,7 @@ pub fn var_at(args: &[u32], i: usize) -> usize
 }
 
 // The number at place i.
+// That it is near 0 stays a clause, here and of NearInstance::value and Domain's bounds: a type of such numbers would be opened by each sum and be no plainer.
 #[tactic(auto, unfolding(models::specs::Model::num))]
 pub fn num_at(args: &[u32], i: usize) -> i64
     ensures value { result ≡ num args.now i }
@@ -40,7 +42,7 @@ pub fn size_at(args: &[u32], i: usize) -> usize
     var_at(args, i).min(limit::LIST_LENGTH)
 }
 
-// The exponent at place i.
+// The exponent at place i. `size_at` has the other limit: one function of both would be over a limit that no definition has, and be no plainer.
 #[tactic(auto, unfolding(models::specs::Model::exponent_at))]
 pub fn exponent_at(args: &[u32], i: usize) -> usize
     ensures value { result ≡ exponent_at args.now i }
@@ -50,6 +52,7 @@ pub fn exponent_at(args: &[u32], i: usize) -> usize
 }
 
 // The place after the list whose length word is at place i.
+// A place below 2^40, here, in Instance and in NearInstance, has no type of its own: each use adds to it, so the type would be made anew each time and be no plainer.
 #[tactic(auto, unfolding(models::specs::Model::past))]
 pub fn past_at(args: &[u32], i: usize) -> usize
     requires { i < 1099511627776 }
@@ -75,7 +78,7 @@ pub fn count_of(v: i64) -> usize
     ensures value { result ≡ count v }
     ensures size { result ≤ nat_abs v }
 {
-    v.max(0) as usize
+    usize::try_from(v).unwrap_or(0)
 }
 
 // Whether x is one of the numbers of the list at place i.

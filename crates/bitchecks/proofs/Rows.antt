@@ -1,6 +1,8 @@
 -- What is said of one row over bits, and of all rows, one row more.
 use Rattle.integers.specs.declared.Bounds.{Bounds}
-use Rattle.std.proofs.Common.{◌≡◌, refl, sym, ap, ap₂, ◌∙◌, Bool, true, false, ◌&&◌, List, ℕ, ◌+◌, ◌*◌, ◌≤◌, ◌<◌, arith, ℤ, pos, nat_abs, length, get_or}
+use Rattle.std.proofs.Common.{◌≡◌, refl, sym, ap, ap₂, ◌∙◌, None, Some, Bool, true, false, ◌&&◌, List, ℕ, ◌+◌, ◌*◌, ◌≤◌, ◌<◌, arith, ℤ, pos, nat_abs, length, get_or}
+use Rattle.std.proofs.lemmas.Option.{none-some, same_Some}
+use Rattle.integers.specs.Choice.{◌if◌else◌}
 use Rattle.integers.specs.Number.{◌⊕◌, ◌⊗◌}
 use Rattle.integers.specs.Lists.{all}
 use Rattle.integers.proofs.Fits.{plus-size, times-size, mul-le}
@@ -18,8 +20,51 @@ use Rattle.bitfilling.specs.Filled.{dense}
 use Rattle.bitfilling.proofs.Filling.{row_fits-dense}
 use Rattle.bitfilling.proofs.Lines.{fits-sizes}
 use Rattle.bitfilling.proofs.Walk.{rows_left, next_row, left-none, left_one, left_end}
-use Rattle.bitchecks.specs.Checked.{RowChecked, RowsChecked}
+use Rattle.bitchecks.specs.Checked.{row_checked, rows_checked}
 use Rattle.bitchecks.proofs.Limits.{fits}
+
+-- ---- what is found, as a test and a number
+
+pub record RowChecked (n : ℕ) (r : BitRow) (fits : Bool) (constant : ℤ) : Type 0 where
+  pub tested : fits ≡ row_fits n r
+  pub squared : fits ≡ true → constant ≡ square r.whole.constant
+
+pub record RowsChecked (n : ℕ) (rs : List BitRow) (fits : Bool) (constant : ℤ) : Type 0 where
+  pub tested : fits ≡ all (row_fits n) rs
+  pub summed : fits ≡ true → constant ≡ constant_of rs
+
+module _ {n : ℕ} {r : BitRow} where
+  pub row_none : {k : ℤ} → RowChecked n r false k → None ≡ row_checked n r
+  unfolding row_checked
+  row_none s = rw (← s.tested) refl
+
+  pub row_some : {k : ℤ} → RowChecked n r true k → Some k ≡ row_checked n r
+  unfolding row_checked
+  row_some s = rw (← s.tested, s.squared refl) refl
+
+  pub from_none : None ≡ row_checked n r → RowChecked n r false (pos 0)
+  unfolding row_checked
+  from_none e = go (row_fits n r) refl e
+    where
+      go : (t : Bool) → row_fits n r ≡ t → None ≡ (Some (square r.whole.constant) if t else None) → RowChecked n r false (pos 0)
+      go true q e = absurd (none-some _ e)
+      go false q e = record { tested = sym q; squared = λ z. false-true z }
+
+  pub from_some : {k : ℤ} → Some k ≡ row_checked n r → RowChecked n r true k
+  unfolding row_checked
+  from_some {k} e = go (row_fits n r) refl e
+    where
+      go : (t : Bool) → row_fits n r ≡ t → Some k ≡ (Some (square r.whole.constant) if t else None) → RowChecked n r true k
+      go true q e = record { tested = sym q; squared = λ z. same_Some _ _ e }
+      go false q e = absurd (none-some _ (sym e))
+
+pub rows_some : {n : ℕ} {rs : List BitRow} {k : ℤ} → RowsChecked n rs true k → Some k ≡ rows_checked n rs
+unfolding rows_checked
+rows_some s = rw (← s.tested, s.summed refl) refl
+
+pub rows_none : (n : ℕ) (rs : List BitRow) → false ≡ all (row_fits n) rs → None ≡ rows_checked n rs
+unfolding rows_checked
+rows_none n rs e = rw (← e) refl
 
 -- ---- one row
 

@@ -1,17 +1,16 @@
--- Whether rows over n bits fit, and then the sum of their constants' squares.
-use Rattle.std.specs.Prelude.{◌≡◌, Bool, true, List, ℕ, ℤ}
+-- What is found of rows over n bits.
+use Rattle.std.specs.Prelude.{List, ℕ, ℤ, Option, None, Some}
+use Rattle.integers.specs.Choice.{◌if◌else◌}
 use Rattle.integers.specs.Lists.{all}
 use Rattle.bitforms.specs.BitRow.{BitRow}
 use Rattle.bitforms.specs.Energy.{square}
 use Rattle.bitforms.specs.BitForm.{constant_of}
 use Rattle.bitforms.specs.FormAnswer.{row_fits}
 
--- of one row
-pub record RowChecked (n : ℕ) (r : BitRow) (fits : Bool) (constant : ℤ) : Type 0 where
-  pub tested : fits ≡ row_fits n r
-  pub squared : fits ≡ true → constant ≡ square r.whole.constant
+-- of one row: the square of its constant, if the row fits
+unfoldable pub row_checked : ℕ → BitRow → Option ℤ
+row_checked n r = Some (square r.whole.constant) if row_fits n r else None
 
--- of all rows
-pub record RowsChecked (n : ℕ) (rs : List BitRow) (fits : Bool) (constant : ℤ) : Type 0 where
-  pub tested : fits ≡ all (row_fits n) rs
-  pub summed : fits ≡ true → constant ≡ constant_of rs
+-- of all rows: the sum of the squares, if they all fit
+unfoldable pub rows_checked : ℕ → List BitRow → Option ℤ
+rows_checked n rs = Some (constant_of rs) if all (row_fits n) rs else None

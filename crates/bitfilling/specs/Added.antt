@@ -9,7 +9,6 @@ use Rattle.bitforms.specs.Matrix.{row_entry}
 use Rattle.bitlines.specs.Sizes as Size
 use Rattle.bitlines.specs.Dense.{peak, Adds}
 use Rattle.bitlines.specs.Line.{square_terms}
-use Rattle.bittables.specs.BitTables.{NearFirsts}
 use Rattle.bitrows.specs.Terms.{pairs_terms}
 use Rattle.bitfilling.specs.Filled.{dense}
 
@@ -32,11 +31,6 @@ product_pairs firsts counts args first i =
     let f = variable_at args 1 in
     let g = variable_at args 2 in
     pairs_terms (get_or firsts f 0) (get_or firsts g 0) first i (get_or counts f 0) (get_or counts g 0)
-
--- the sizes of the lists of first bits and of numbers of bits
-pub record SmallTables (firsts counts : List ℕ) : Type 0 where
-  pub near_first : NearFirsts firsts
-  pub few : (v : ℕ) → get_or counts v 0 ≤ Size.most_weights
 
 -- a line before and after a row is added
 pub record Added (r : BitRow) (i : ℕ) (line line' : List ℤ) : Type 0 where

@@ -1,4 +1,10 @@
 // A row over bits as a list with a number for each bit, from the row's words; what it adds to a line of the form, and whether it adds anything.
+// Limits of `first` and of `peak` stay clauses: no plainer in a type, since each caller's number is a sum or a part of its own. So does the limit of a
+// number of terms: no plainer in a struct of the words and the number, since that k is one of its terms would be asked at each read in its place.
+// A line and a row stay two lists: no plainer as a struct, which each call would lend again, and LineAndRow names i and m besides. i and m stay two
+// parameters: no plainer as a range, since the definitions count m entries from i on.
+// A head, the words after it, the table and the first bit stay parameters: no plainer as a struct, which each walk would make anew at each row and each
+// part take apart. Kinds are tested one by one, as the definition of a row (row_of) does: of a head of another kind the words are those of a product.
 #![tactic(auto)]
 
 ghost use Rattle.std.specs.Prelude.{◌≡◌, true, false, ◌+◌, ◌*◌, ◌<◌, ◌≤◌, length, replicate};
@@ -11,46 +17,36 @@ ghost use Rattle.bitforms.specs.OverBits.{scaled};
 ghost use Rattle.bitforms.specs.FormAnswer.{row_fits};
 ghost use Rattle.bitlines.specs.Sizes as Size;
 ghost use Rattle.bitlines.specs.Dense.{add_terms, peak, Adds};
-ghost use Rattle.bittables.specs.BitTables.{span_in, bits_of, row_over, row_by, NearFirsts, BitTables};
+ghost use Rattle.bittables.specs.BitTables.{firsts, counts, span_in, bits_of, row_over, row_by, BitCounts};
 ghost use Rattle.bitrows.specs.Terms.{term_in, cross};
 ghost use Rattle.bitfilling.specs.Filled.{dense, at_most_in, product_in};
-ghost use Rattle.bitfilling.specs.Added.{LineAndRow, AddsSquare, product_pairs, SmallTables, Added};
+ghost use Rattle.bitfilling.specs.Added.{LineAndRow, AddsSquare, product_pairs, Added};
 ghost use Rattle.bitfilling.specs.Idle.{NotAmong, NoBitOf, Idle, IdleRow};
 
 use bitlines::{add_square, add_weights};
 use bitrows::{
     add_pairs, add_products, add_terms, add_variable, row_constant, slack_of, sum_terms,
 };
+use bittables::table::{BitTable, BitVariable, bits_at, count_at};
 use bittables::{row_variable, signed_at, span_at};
 use integers::opposite;
 use words::domain::{Domain, domain_of};
 use words::kind::Kind;
-use words::list::at_or;
 use words::word::Word;
 
 // Makes every number of a list 0.
 pub fn clear(row: &mut [i64])
     ensures { row.new ≡ replicate (length row.old) +0 }
 {
-    let mut i = 0;
-    while i < row.len() {
-        row[i] = 0;
-        i += 1;
-    }
+    row.fill(0);
 }
 
 // Adds a variable v less the lower bound of f times.
-fn add_less_lower(row: &mut [i64], domains: &[Domain], firsts: &[usize], v: usize, f: usize)
-    requires { NearFirsts firsts.now × (peak row.old < 2 * Size.sums) }
-    ensures { Adds (scaled (neg (bounds_in domains.now f).lower) (bits_of domains.now firsts.now v)) Size.largest_term row.old row.new }
+fn add_less_lower(row: &mut [i64], table: &BitTable, v: usize, f: usize)
+    requires { peak row.old < 2 * Size.sums }
+    ensures { Adds (scaled (neg (bounds_in table.now.domains.now f).lower) (bits_of table.now.domains.now (firsts table.now.bits.now) v)) Size.largest_term row.old row.new }
 {
-    add_variable(
-        row,
-        domains,
-        firsts,
-        v,
-        opposite(domain_of(domains, f).lower()),
-    );
+    add_variable(row, table, v, opposite(domain_of(table.domains, f).lower()));
 }
 
 // Adds, for each bit of f and each of g, less the product of their weights to the bits from `first` on.
@@ -62,82 +58,57 @@ fn add_crossed(row: &mut [i64], domains: &[Domain], f: usize, g: usize, first: u
 }
 
 // Adds the terms of a product: the result, less the first factor × the second.
-fn add_product(row: &mut [i64], args: &[u32], domains: &[Domain], firsts: &[usize], first: usize)
-    requires { NearFirsts firsts.now × (first < Size.farthest) × (peak row.old < Size.sums) }
-    ensures { row.new ≡ add_terms row.old (row_over domains.now firsts.now first (product_in args.now)).whole.terms }
+fn add_product(row: &mut [i64], args: &[u32], table: &BitTable, first: usize)
+    requires { (first < Size.farthest) × (peak row.old < Size.sums) }
+    ensures { row.new ≡ add_terms row.old (row_over table.now.domains.now (firsts table.now.bits.now) first (product_in args.now)).whole.terms }
 {
     let f = row_variable(args, 1);
     let g = row_variable(args, 2);
-    add_variable(row, domains, firsts, row_variable(args, 0), 1);
-    add_less_lower(row, domains, firsts, g, f);
-    add_less_lower(row, domains, firsts, f, g);
-    add_crossed(row, domains, f, g, first)
+    add_variable(row, table, row_variable(args, 0), 1);
+    add_less_lower(row, table, g, f);
+    add_less_lower(row, table, f, g);
+    add_crossed(row, table.domains, f, g, first)
 }
 
 // Adds the n terms of a row "sum ≤ 0" and its slack.
-fn add_slacked(
-    row: &mut [i64],
-    args: &[u32],
-    n: usize,
-    domains: &[Domain],
-    firsts: &[usize],
-    first: usize,
-)
-    requires { NearFirsts firsts.now × (n ≤ Limit.terms) × (first < Size.farthest) × (peak row.old < Size.sums) }
-    ensures { row.new ≡ add_terms row.old (row_over domains.now firsts.now first (at_most_in args.now n)).whole.terms }
+fn add_slacked(row: &mut [i64], args: &[u32], n: usize, table: &BitTable, first: usize)
+    requires { (n ≤ Limit.terms) × (first < Size.farthest) × (peak row.old < Size.sums) }
+    ensures { row.new ≡ add_terms row.old (row_over table.now.domains.now (firsts table.now.bits.now) first (at_most_in args.now n)).whole.terms }
 {
-    add_terms(row, args, n, domains, firsts);
-    add_weights(row, first, 1, slack_of(args, n, domains));
+    add_terms(row, args, n, table);
+    add_weights(row, first, 1, slack_of(args, n, table.domains));
 }
 
 // Makes a list the row over bits of the row or product with this head, whose own bits are numbered from `first` on.
-pub fn fill_row(
-    row: &mut [i64],
-    head: Word,
-    args: &[u32],
-    domains: &[Domain],
-    firsts: &[usize],
-    first: usize,
-)
-    requires { NearFirsts firsts.now × (first < Size.farthest) }
-    ensures { row.new ≡ dense (length row.old) (row_by domains.now firsts.now first head args.now).whole.terms }
+pub fn fill_row(row: &mut [i64], head: Word, args: &[u32], table: &BitTable, first: usize)
+    requires { first < Size.farthest }
+    ensures { row.new ≡ dense (length row.old) (row_by table.now.domains.now (firsts table.now.bits.now) first head args.now).whole.terms }
 {
     clear(row);
     if head.is(Kind::AtMost) {
-        add_slacked(row, args, sum_terms(head), domains, firsts, first);
+        add_slacked(row, args, sum_terms(head), table, first);
         return;
     }
     if head.is(Kind::Equal) {
-        add_terms(row, args, sum_terms(head), domains, firsts);
+        add_terms(row, args, sum_terms(head), table);
         return;
     }
-    add_product(row, args, domains, firsts, first)
+    add_product(row, args, table, first)
 }
 
 // Adds to the line of bit i what the products of bits of a product add.
 #[tactic(auto, unfolding(crate::specs::Added::product_pairs))]
-fn add_product_pairs(
-    line: &mut [i64],
-    args: &[u32],
-    firsts: &[usize],
-    counts: &[usize],
-    first: usize,
-    i: usize,
-)
-    requires { SmallTables firsts.now counts.now × (first < Size.farthest) × (peak line.old < 2 * Size.sums) }
-    ensures { Adds (product_pairs firsts.now counts.now args.now first i) (8 * Size.own_bits) line.old line.new }
+fn add_product_pairs(line: &mut [i64], args: &[u32], table: &BitTable, first: usize, i: usize)
+    requires { BitCounts table.now.domains.now (counts table.now.bits.now) × (first < Size.farthest) × (peak line.old < 2 * Size.sums) }
+    ensures { Adds (product_pairs (firsts table.now.bits.now) (counts table.now.bits.now) args.now first i) (8 * Size.own_bits) line.old line.new }
 {
     let f = row_variable(args, 1);
     let g = row_variable(args, 2);
-    add_pairs(
-        line,
-        at_or(firsts, f, 0),
-        at_or(counts, f, 0),
-        at_or(firsts, g, 0),
-        at_or(counts, g, 0),
-        first,
-        i,
-    )
+    let m = count_at(table.domains, table.bits, f);
+    let n = count_at(table.domains, table.bits, g);
+    let u = bits_at(table.bits, f).first;
+    let v = bits_at(table.bits, g).first;
+    add_pairs(line, u, m, v, n, first, i)
 }
 
 // Adds to the line of bit i the entries of the square of the row or product with this head; the list is used for its row over bits.
@@ -146,18 +117,25 @@ fn add_whole(
     row: &mut [i64],
     head: Word,
     args: &[u32],
-    domains: &[Domain],
-    firsts: &[usize],
+    table: &BitTable,
     first: usize,
     i: usize,
     m: usize,
 )
-    requires bit_lists { NearFirsts firsts.now × (first < Size.farthest) × (i + m ≤ Limit.bits) × (peak line.old < Size.sums) }
-    requires fits { row_fits (length row.old) (row_by domains.now firsts.now first head args.now) ≡ true }
-    ensures { AddsSquare (length row.old) (row_by domains.now firsts.now first head args.now) i m line.old line.new }
+    requires near { first < Size.farthest }
+    requires few { i + m ≤ Limit.bits }
+    requires small { peak line.old < Size.sums }
+    requires fits { row_fits (length row.old) (row_by table.now.domains.now (firsts table.now.bits.now) first head args.now) ≡ true }
+    ensures { AddsSquare (length row.old) (row_by table.now.domains.now (firsts table.now.bits.now) first head args.now) i m line.old line.new }
 {
-    fill_row(row, head, args, domains, firsts, first);
-    add_square(line, row, row_constant(head, args, domains), i, m);
+    fill_row(row, head, args, table, first);
+    add_square(
+        line,
+        row,
+        row_constant(head, args, |v| domain_of(table.domains, v).lower()),
+        i,
+        m,
+    );
 }
 
 // Adds to the line of bit i what the row or product with this head adds; the list is used for its row over bits.
@@ -166,62 +144,62 @@ pub fn add_row(
     row: &mut [i64],
     head: Word,
     args: &[u32],
-    domains: &[Domain],
-    firsts: &[usize],
-    counts: &[usize],
+    table: &BitTable,
     first: usize,
     i: usize,
     m: usize,
 )
-    requires bit_tables { BitTables domains.now firsts.now counts.now × (first < Size.farthest) × LineAndRow (i + m) line.old row.old × (peak line.old < Size.sums) }
-    requires fits { row_fits (i + m) (row_by domains.now firsts.now first head args.now) ≡ true }
-    ensures { Added (row_by domains.now firsts.now first head args.now) i line.old line.new }
+    requires counted { BitCounts table.now.domains.now (counts table.now.bits.now) }
+    requires near { first < Size.farthest }
+    requires sized { LineAndRow (i + m) line.old row.old }
+    requires small { peak line.old < Size.sums }
+    requires fits { row_fits (i + m) (row_by table.now.domains.now (firsts table.now.bits.now) first head args.now) ≡ true }
+    ensures { Added (row_by table.now.domains.now (firsts table.now.bits.now) first head args.now) i line.old line.new }
 {
-    add_whole(line, row, head, args, domains, firsts, first, i, m);
+    add_whole(line, row, head, args, table, first, i, m);
     if head.is(Kind::AtMost) {
         return;
     }
     if head.is(Kind::Equal) {
         return;
     }
-    add_product_pairs(line, args, firsts, counts, first, i)
+    add_product_pairs(line, args, table, first, i)
 }
 
 // Whether bit i is one of n bits from `first` on.
+// No range's `contains`: it would ask that first + n, which nothing bounds, be a usize.
 fn among(first: usize, n: usize, i: usize) -> bool
     ensures { result ≡ false → NotAmong first n i }
 {
-    if i < first {
-        return false;
-    }
-    i - first < n
+    first <= i && i - first < n
 }
 
 // Whether it is a bit of variable v.
-fn holds_variable(firsts: &[usize], counts: &[usize], v: usize, i: usize) -> bool
-    ensures { result ≡ false → NoBitOf firsts.now counts.now i v }
+fn holds_variable(bits: &[BitVariable], v: usize, i: usize) -> bool
+    ensures { result ≡ false → NoBitOf (firsts bits.now) (counts bits.now) i v }
 {
-    among(at_or(firsts, v, 0), at_or(counts, v, 0), i)
+    let b = bits_at(bits, v);
+    among(b.first, b.count, i)
 }
 
 // Whether it is a bit of the variable of term k, with a coefficient that is not 0.
-fn holds_term(args: &[u32], k: usize, firsts: &[usize], counts: &[usize], i: usize) -> bool
+fn holds_term(args: &[u32], k: usize, bits: &[BitVariable], i: usize) -> bool
     requires { k ≤ Limit.terms }
-    ensures { result ≡ false → Idle (NoBitOf firsts.now counts.now i) (term_in args.now k) }
+    ensures { result ≡ false → Idle (NoBitOf (firsts bits.now) (counts bits.now) i) (term_in args.now k) }
 {
     if signed_at(args, 2 * k + 1) == 0 {
         return false;
     }
-    holds_variable(firsts, counts, row_variable(args, 2 * k), i)
+    holds_variable(bits, row_variable(args, 2 * k), i)
 }
 
 // Whether that is so of one of n terms.
-fn holds_terms(args: &[u32], n: usize, firsts: &[usize], counts: &[usize], i: usize) -> bool
+fn holds_terms(args: &[u32], n: usize, bits: &[BitVariable], i: usize) -> bool
     requires { n ≤ Limit.terms }
-    ensures { result ≡ false → IdleRow (NoBitOf firsts.now counts.now i) (at_most_in args.now n) }
+    ensures { result ≡ false → IdleRow (NoBitOf (firsts bits.now) (counts bits.now) i) (at_most_in args.now n) }
 {
     for k in 0..n {
-        if holds_term(args, k, firsts, counts, i) {
+        if holds_term(args, k, bits, i) {
             return true;
         }
     }
@@ -229,38 +207,37 @@ fn holds_terms(args: &[u32], n: usize, firsts: &[usize], counts: &[usize], i: us
 }
 
 // Whether it is a bit of a variable of a product.
-fn holds_product(args: &[u32], firsts: &[usize], counts: &[usize], i: usize) -> bool
-    ensures { result ≡ false → IdleRow (NoBitOf firsts.now counts.now i) (product_in args.now) }
+fn holds_product(args: &[u32], bits: &[BitVariable], i: usize) -> bool
+    ensures { result ≡ false → IdleRow (NoBitOf (firsts bits.now) (counts bits.now) i) (product_in args.now) }
 {
-    if holds_variable(firsts, counts, row_variable(args, 0), i) {
+    if holds_variable(bits, row_variable(args, 0), i) {
         return true;
     }
-    if holds_variable(firsts, counts, row_variable(args, 1), i) {
+    if holds_variable(bits, row_variable(args, 1), i) {
         return true;
     }
-    holds_variable(firsts, counts, row_variable(args, 2), i)
+    holds_variable(bits, row_variable(args, 2), i)
 }
 
 // Whether the row or product with this head, and `own` bits of its own from `first` on, may have entries in the line of bit i.
 pub fn holds_bit(
     head: Word,
     args: &[u32],
-    firsts: &[usize],
-    counts: &[usize],
+    bits: &[BitVariable],
     first: usize,
     own: usize,
     i: usize,
 ) -> bool
-    ensures { result ≡ false → NotAmong first own i × IdleRow (NoBitOf firsts.now counts.now i) (row_of head args.now) }
+    ensures { result ≡ false → NotAmong first own i × IdleRow (NoBitOf (firsts bits.now) (counts bits.now) i) (row_of head args.now) }
 {
     if among(first, own, i) {
         return true;
     }
     if head.is(Kind::AtMost) {
-        return holds_terms(args, sum_terms(head), firsts, counts, i);
+        return holds_terms(args, sum_terms(head), bits, i);
     }
     if head.is(Kind::Equal) {
-        return holds_terms(args, sum_terms(head), firsts, counts, i);
+        return holds_terms(args, sum_terms(head), bits, i);
     }
-    holds_product(args, firsts, counts, i)
+    holds_product(args, bits, i)
 }

@@ -11,13 +11,12 @@ use Rattle.rowsystems.specs.Reading.{read_rows}
 use Rattle.integers.specs.Bounds.{bounds_in}
 use Rattle.bitforms.specs.Encoding.{weights_of, bits_after}
 use Rattle.bitforms.specs.BitRow.{bits_with}
-use Rattle.bitforms.specs.BitForm.{bit_count}
+use Rattle.bitforms.specs.BitForm.{bit_rows_of, bit_count}
 use Rattle.bitlines.specs.Sizes as Size
-use Rattle.bittables.specs.BitTables.{rows_by, BitCounts, FewCounts, BitTables}
+use Rattle.bittables.specs.BitTables.{rows_by}
 use Rattle.bittables.specs.KeptBits.{firsts_from, KeptBits}
-use Rattle.bittables.proofs.Kept.{domains_kept, firsts_kept, counts_kept, kept-variables, kept-few, kept_tables, kept-rows}
+use Rattle.bittables.proofs.Kept.{BitTables, domains_kept, firsts_kept, counts_kept, kept-variables, kept-few, kept_tables, kept-rows}
 use Rattle.rowsystems.proofs.FewVariables.{few-variables}
-use Rattle.bitform.specs.Answered.{BitsListed}
 
 -- ---- the lists
 
@@ -37,15 +36,6 @@ module _ (ws : List ℕ) (read : read_rows ws ≡ accepted) where
   pub count-is : {n : ℕ} → n ≡ bits_with (bits_after 0 (variables ws)) (rows_by (domains_kept ws) (firsts_kept ws) (bits_after 0 (variables ws)) ws) → n ≡ bit_count ws
   unfolding bit_count
   count-is e = e ∙ ap (bits_with (bits_after 0 (variables ws))) (kept-rows ws few)
-
-  pub listed : {n : ℕ} → n ≡ bit_count ws → n ≤ Limit.bits → BitsListed ws (domains_kept ws) (firsts_kept ws) (counts_kept ws) (bits_after 0 (variables ws)) n
-  listed e l = record {
-    read = read;
-    listed = record { few_words = few_words ws (ap (λ r. r.number) read); tables = kept_tables ws few; near_start = omega (arith, kept-few ws few) };
-    rows_are = kept-rows ws few;
-    count = e;
-    few = l;
-  }
 
 -- ---- what the parts of the call need of them
 
@@ -68,13 +58,15 @@ module _ (ws : List ℕ) (r : read_rows ws ≡ accepted) {Ds : List Bounds} {fir
   pub tables-kept : BitTables Ds firsts counts
   tables-kept = rw (k.bounds, k.numbers, k.sizes) (kept_tables ws (few ws r))
 
-  pub counting_needs : (length ws ≤ Limit.row_words) × BitCounts Ds counts × FewCounts counts × (start ≤ Size.all_variable_bits)
-  counting_needs =
-      let t = tables-kept in
-      (few_words ws (ap (λ x. x.number) r), t.counted, t.few, omega (arith, k.begins, kept-few ws (few ws r)))
+  pub words_few : length ws ≤ Limit.row_words
+  words_few = few_words ws (ap (λ x. x.number) r)
+
+  pub start_near : start ≤ Size.all_variable_bits
+  start_near = omega (arith, k.begins, kept-few ws (few ws r))
 
   pub counted_is : {n : ℕ} → ((fs : List ℕ) → n ≡ bits_with start (rows_by Ds fs start ws)) → n ≡ bit_count ws
   counted_is h = count-is ws r (rw (k.bounds, k.begins) at (h (firsts_kept ws)))
 
-  pub listed_kept : {n : ℕ} → n ≡ bit_count ws → n ≤ Limit.bits → BitsListed ws Ds firsts counts start n
-  listed_kept e l = rw (k.bounds, k.numbers, k.sizes, k.begins) (listed ws r e l)
+  -- the rows over bits are those of the words
+  pub rows_kept : rows_by Ds firsts start ws ≡ bit_rows_of ws
+  rows_kept = rw (k.bounds, k.numbers, k.begins) (kept-rows ws (few ws r))

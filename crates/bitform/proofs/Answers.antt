@@ -3,7 +3,7 @@ use Rattle.std.proofs.Common.{◌≡◌, true, false, List, ℕ, ◌≤◌, ◌<
 use Rattle.words.specs.Overlay.{overlay}
 use Rattle.words.specs.Refusal.{◌at_place◌, accepted, ◌else_refuse◌, room_fault}
 use Rattle.words.specs.Answer.{refused, written, ◌else_answer◌}
-use Rattle.words.specs.declared.Refusal.{Refusal}
+use Rattle.words.specs.Refusals.{Refusal}
 use Rattle.words.proofs.Answers.{first-answers}
 use Rattle.words.proofs.Reading.{some-fault}
 use Rattle.rowsystems.specs.Reading.{read_rows}

@@ -1,23 +1,28 @@
 // The quadratic form over bits of a row system.
+// A line and a row stay two lists: no plainer as a struct, which each call would lend again. BitsListed stays a clause: it names the system and n.
+// n stays a parameter beside them: the clauses name it as the number of bits, and that it is the length of both lists is what LineAndRow says.
 #![tactic(auto)]
 
-ghost use Rattle.std.specs.Prelude.{◌≡◌, true, [], ◌∷◌, length};
+ghost use Rattle.std.specs.Prelude.{◌≡◌, true, [], ◌∷◌, ◌≤◌, length, Some};
 ghost use Rattle.integers.specs.Lists.{all};
 ghost use Rattle.words.specs.Faults.{written_of};
 ghost use Rattle.words.specs.Refusal.{accepted};
-ghost use Rattle.words.specs.Kind as kind;
 ghost use Rattle.words.specs.Overlay.{overlay};
-ghost use Rattle.words.specs.Word.{word, number_word, in_range};
+ghost use Rattle.words.specs.Word.{in_range};
 ghost use Rattle.rowsystems.specs.Reading.{read_rows};
 ghost use Rattle.bitforms.specs.BitForm.{bit_rows_of, form_constant};
 ghost use Rattle.bitforms.specs.FormAnswer.{row_fits, form_fits, bit_form, bit_formed};
 ghost use Rattle.bitforms.specs.FormWords.{form_words};
+ghost use Rattle.words.specs.Limit as Limit;
+ghost use Rattle.bitlines.specs.Sizes as Size;
+ghost use Rattle.bittables.specs.BitTables.{counts, BitCounts};
 ghost use Rattle.bitfilling.specs.Added.{LineAndRow};
 ghost use Rattle.bitsharing.specs.FormShares.{FormShares};
 ghost use Rattle.bitform.specs.Answered.{Answered, BitsListed};
 
 use bitchecks::{check_rows, count_bits};
 use bittables::keep_bits;
+use bittables::table::{BitSystem, BitTable, BitVariable};
 use bitwriting::put_lines;
 use extremes::keep_bounds;
 use rowreading::read_rows;
@@ -28,151 +33,119 @@ use words::list::lay;
 use words::word::Word;
 use words::{in_range, limit};
 
-// Writes the form's constant.
-fn put_constant(out: &mut [u32], c: i64)
-    ensures { out.new ≡ overlay out.old 0 (number_word kind.number c ∷ []) }
+const TOO_LARGE: Refusal = Refusal {
+    fault: Fault::FormTooLarge,
+    place: 0,
+};
+
+// Writes a word at a place.
+fn put_word(out: &mut [u32], at: usize, word: Word)
+    ensures { out.new ≡ overlay out.old at (word ∷ []) }
 {
-    lay(out, 0, &[Word::of_number(Kind::Number, c).bits()]);
+    lay(out, at, &[word.bits()]);
 }
 
-// Writes the end word.
-fn put_end(out: &mut [u32], end: usize)
-    ensures { out.new ≡ overlay out.old end (word kind.rows_end 0 ∷ []) }
-{
-    lay(out, end, &[Word::new(Kind::RowsEnd, 0).bits()]);
-}
-
-// Writes the words of a form that fits; the number of words.
+// Writes the words of a form that fits; the number of words. It is always Some, as the clause says: put_lines, which runs again, answers an Option, and
+// nothing that a call for C reaches may have an `unwrap`.
 fn write_form(
-    ws: &[u32],
     out: &mut [u32],
-    domains: &[Domain],
-    firsts: &[usize],
-    counts: &[usize],
-    start: usize,
-    row: &mut [i64],
+    system: &BitSystem,
     line: &mut [i64],
+    row: &mut [i64],
     n: usize,
     c: i64,
-) -> usize
-    requires { BitsListed ws.now domains.now firsts.now counts.now start n × LineAndRow n line.old row.old × (c ≡ form_constant ws.now) × (form_fits ws.now ≡ true) }
-    ensures { (result ≡ length (form_words ws.now)) × (out.new ≡ overlay out.old 0 (form_words ws.now)) }
+) -> Option<usize>
+    requires { BitsListed system.now n × LineAndRow n line.old row.old × (c ≡ form_constant system.now.words.now) × (form_fits system.now.words.now ≡ true) }
+    ensures { (result ≡ Some (length (form_words system.now.words.now))) × (out.new ≡ overlay out.old 0 (form_words system.now.words.now)) }
 {
-    put_constant(out, c);
-    let put = put_lines(out, 1, n, line, row, ws, domains, firsts, counts, start);
-    let end = put.at;
-    put_end(out, end);
-    end + 1
+    put_word(out, 0, Word::of_number(Kind::Number, c));
+    let end = put_lines(out, 1, n, line, row, system)?;
+    put_word(out, end, Word::new(Kind::RowsEnd, 0));
+    Some(end + 1)
 }
 
 // Of rows and a constant that fit: 24 for an entry, 16, or the words. The words are counted by writing to an empty list.
 fn form_lines(
-    ws: &[u32],
     out: &mut [u32],
-    domains: &[Domain],
-    firsts: &[usize],
-    counts: &[usize],
-    start: usize,
-    row: &mut [i64],
+    system: &BitSystem,
     line: &mut [i64],
+    row: &mut [i64],
     n: usize,
     c: i64,
 ) -> Result<usize, Refusal>
-    requires bits_listed { BitsListed ws.now domains.now firsts.now counts.now start n × LineAndRow n line.old row.old }
-    requires fitting { (all (row_fits n) (bit_rows_of ws.now) ≡ true) × (c ≡ form_constant ws.now) × (in_range c ≡ true) }
-    ensures { Answered ws.now out.old out.new (written_of result) }
+    requires bits_listed { BitsListed system.now n × LineAndRow n line.old row.old }
+    requires fitting { (all (row_fits n) (bit_rows_of system.now.words.now) ≡ true) × (c ≡ form_constant system.now.words.now) × (in_range c ≡ true) }
+    ensures { Answered system.now.words.now out.old out.new (written_of result) }
 {
-    let mut nothing = [0u32; 0];
-    let counted = put_lines(
-        &mut nothing,
-        1,
-        n,
-        line,
-        row,
-        ws,
-        domains,
-        firsts,
-        counts,
-        start,
-    );
-    if !counted.fits {
-        return Err(Refusal {
-            fault: Fault::FormTooLarge,
-            place: 0,
-        });
-    }
-    let end = counted.at;
+    let Some(end) = put_lines(&mut [], 1, n, line, row, system) else {
+        return Err(TOO_LARGE);
+    };
     if out.len() <= end {
         return Err(Refusal {
             fault: Fault::OutputTooShort,
             place: 0,
         });
     }
-    Ok(write_form(ws, out, domains, firsts, counts, start, row, line, n, c))
+    write_form(out, system, line, row, n, c).ok_or(TOO_LARGE)
 }
 
 // Of at most 1,024 bits: 24 for a row or the constant, or what comes after.
 fn form_checked(
-    ws: &[u32],
     out: &mut [u32],
-    domains: &[Domain],
-    firsts: &[usize],
-    counts: &[usize],
-    start: usize,
-    row: &mut [i64],
+    system: &BitSystem,
     line: &mut [i64],
+    row: &mut [i64],
     n: usize,
 ) -> Result<usize, Refusal>
-    requires { BitsListed ws.now domains.now firsts.now counts.now start n × LineAndRow n line.old row.old }
-    ensures { Answered ws.now out.old out.new (written_of result) }
+    requires { BitsListed system.now n × LineAndRow n line.old row.old }
+    ensures { Answered system.now.words.now out.old out.new (written_of result) }
 {
-    let checked = check_rows(ws, domains, firsts, counts, start, row);
-    if !checked.fits {
-        return Err(Refusal {
-            fault: Fault::FormTooLarge,
-            place: 0,
-        });
-    }
-    let c = checked.constant;
+    let Some(c) = check_rows(system, row) else {
+        return Err(TOO_LARGE);
+    };
     if !in_range(c) {
-        return Err(Refusal {
-            fault: Fault::FormTooLarge,
-            place: 0,
-        });
+        return Err(TOO_LARGE);
     }
-    form_lines(ws, out, domains, firsts, counts, start, row, line, n, c)
+    form_lines(out, system, line, row, n, c)
 }
 
-// Of accepted words: 23, or what comes after, with a row over bits and a line of the form to work with.
+// The words of a row system with its variables over bits. Tried as a literal in the caller, and the proof did not close: there the borrow checker meets a
+// table of another lifetime.
+fn system_of<'a>(words: &'a [u32], table: BitTable<'a>, start: usize) -> BitSystem<'a>
+    requires { (length words.now ≤ Limit.row_words) × BitCounts table.domains.now (counts table.bits.now) × (start ≤ Size.all_variable_bits) }
+    ensures { (result.words.now ≡ words.now) × (result.table.domains.now ≡ table.entry.domains.now) × (result.table.bits.now ≡ table.entry.bits.now) × (result.start ≡ start) }
+{
+    BitSystem {
+        words,
+        table,
+        start,
+    }
+}
+
+// Of accepted words: 23, or what comes after, with a row over bits and a line of the form to work with. The lists have the most elements: fixed memory.
 fn form_accepted(ws: &[u32], out: &mut [u32]) -> Result<usize, Refusal>
     requires { read_rows ws.now ≡ accepted }
     ensures { Answered ws.now out.old out.new (written_of result) }
 {
     let mut domains = [Domain::new(0, 0); limit::IN_ALL];
     let variables = keep_bounds(ws, &mut domains);
-    let mut firsts = [0usize; limit::IN_ALL];
-    let mut counts = [0usize; limit::IN_ALL];
-    let start = keep_bits(&domains, variables, &mut firsts, &mut counts);
-    let n = count_bits(ws, &domains, &counts, start);
+    let mut bits = [BitVariable { first: 0, count: 0 }; limit::IN_ALL];
+    let start = keep_bits(&domains, variables, &mut bits);
+    let n = count_bits(ws, &domains, &bits, start);
     if limit::BITS < n {
         return Err(Refusal {
             fault: Fault::TooManyBits,
             place: 0,
         });
     }
-    let mut row = [0i64; limit::BITS];
     let mut line = [0i64; limit::BITS];
-    form_checked(
-        ws,
-        out,
-        &domains,
-        &firsts,
-        &counts,
-        start,
-        &mut row[..n],
-        &mut line[..n],
-        n,
-    )
+    let mut row = [0i64; limit::BITS];
+    let table = BitTable {
+        domains: &domains,
+        bits: &bits,
+    };
+    let system = system_of(ws, table, start);
+    form_checked(out, &system, &mut line[..n], &mut row[..n], n)
 }
 
 // Writes the form to the front of the output; a refusal changes nothing.

@@ -9,9 +9,10 @@ use Rattle.integers.specs.Terms.{sum}
 use Rattle.words.specs.Word.{kind, payload, signed, too_low, word, complement, number_word, word_at}
 use Rattle.words.specs.Variables.{starts_pair, variables}
 use Rattle.words.specs.Overlay.{overlay}
+use Rattle.words.specs.Check.{fault_number_in}
 use Rattle.words.specs.Refusal.{accepted, ◌else_refuse◌, first_fault, room_fault}
 use Rattle.words.specs.Answer.{refused, written, ◌else_answer◌}
-use Rattle.rowsystems.specs.Reading.{fault_lower, fault_item, fault_source, fault_upper, fault_variable, fault_number, not_above, fault_result, fault_due, fault, after_item, after_due, started, after, fault_end, ended, read_rows}
+use Rattle.rowsystems.specs.Reading.{fault_lower, fault_item, fault_source, fault_upper, fault_variable, not_above, fault_result, fault_due, fault, after_item, after_due, started, after, fault_end, ended, read_rows}
 use Rattle.rowsystems.specs.RowSystem.{term_count, variable_at, number_at, terms_in, constant_in, rows}
 use Rattle.bitforms.specs.SumOver.{sum_over}
 use Rattle.bitforms.specs.Weights.{weights_from, weights}
@@ -113,5 +114,5 @@ alike_form = 0x64000000 ∷ 0xF0000000 ∷ []
 -- ---- the table
 
 pub table : Writes squared_rows squared_form × Writes fixed_rows fixed_form × Writes never_rows never_form × Writes slack_rows slack_form × Writes cut_rows cut_form × Needs most_rows 1024 × Refuses above_rows 23 × Writes largest_rows largest_form × Refuses larger_rows 24 × Writes alike_rows alike_form
-unfolding flat_map map sum ◌⊕◌ ◌⊖◌ ◌⊗◌ neg min_z abs_z ◌≟◌ count list_of all within bounds_in kind payload signed too_low word complement number_word word_at starts_pair variables overlay ◌else_refuse◌ first_fault room_fault ◌else_answer◌ fault_lower fault_item fault_source fault_upper fault_variable fault_number not_above fault_result fault_due fault after_item after_due started after fault_end ended read_rows term_count variable_at number_at terms_in constant_in rows sum_over weights_from weights weighted_bits scaled over_bits over weights_of encodings bits_after least_term least slack_weights pairs_with pairs_of product_whole bit_row bit_rows bits_with square coefficient_of square_entry on_pair pair_entry entry_of line_entries entries_from not_zero encoding bit_rows_of bit_count form_constant form_entries entry_words form_words size_fault row_fits form_fits number_fault bit_form_fault bit_form bit_formed
+unfolding flat_map map sum ◌⊕◌ ◌⊖◌ ◌⊗◌ neg min_z abs_z ◌≟◌ count list_of all within bounds_in kind payload signed too_low word complement number_word word_at starts_pair variables overlay ◌else_refuse◌ first_fault room_fault ◌else_answer◌ fault_lower fault_item fault_source fault_upper fault_variable fault_number_in not_above fault_result fault_due fault after_item after_due started after fault_end ended read_rows term_count variable_at number_at terms_in constant_in rows sum_over weights_from weights weighted_bits scaled over_bits over weights_of encodings bits_after least_term least slack_weights pairs_with pairs_of product_whole bit_row bit_rows bits_with square coefficient_of square_entry on_pair pair_entry entry_of line_entries entries_from not_zero encoding bit_rows_of bit_count form_constant form_entries entry_words form_words size_fault row_fits form_fits number_fault bit_form_fault bit_form bit_formed
 table = ((refl, refl), (refl, refl), (refl, refl), (refl, refl), (refl, refl), (refl, refl), λ room. refl, (refl, refl), λ room. refl, (refl, refl))

@@ -7,7 +7,7 @@ use Rattle.words.specs.Fault as Fault
 use Rattle.words.specs.Overlay.{overlay}
 use Rattle.words.specs.Refusal.{accepted, fault_or, ◌at_place◌, ◌else_refuse◌, room_fault}
 use Rattle.words.specs.Answer.{refused_or, written, ◌else_answer◌}
-use Rattle.words.specs.declared.Refusal.{Refusal}
+use Rattle.words.specs.Refusals.{Refusal}
 use Rattle.words.proofs.Overlay.{front-over}
 use Rattle.rowsystems.specs.Reading.{read_rows}
 use Rattle.bitforms.specs.BitForm.{bit_count}

@@ -10,7 +10,7 @@ use Rattle.words.specs.Limit as Limit
 use Rattle.words.specs.Overlay.{overlay}
 use Rattle.words.specs.Refusal.{accepted, ◌at_place◌, ◌else_refuse◌, room_fault}
 use Rattle.words.specs.Answer.{Answer, written, ◌else_answer◌}
-use Rattle.words.specs.declared.Refusal.{Refusal}
+use Rattle.words.specs.Refusals.{Refusal}
 use Rattle.rowsystems.specs.Reading.{read_rows}
 use Rattle.bitforms.specs.BitRow.{BitRow}
 use Rattle.bitforms.specs.Matrix.{coefficient_of, Entry}

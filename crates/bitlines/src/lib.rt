@@ -1,7 +1,10 @@
 // A row over bits as a list with a number for each bit: terms are added to it, like bits added.
+// Clauses on `peak` stay clauses: no plainer in a type, since each function leaves another part of a machine number's range. i and m stay two parameters,
+// and the limit of i + m a clause: no plainer as a range, since the definitions count m entries from i on. `out` and `at` stay two parameters: no plainer
+// as a page, since the next place is all that a caller goes on with.
 #![tactic(auto)]
 
-ghost use Rattle.std.specs.Prelude.{◌≡◌, [], ◌∷◌, ◌+◌, ◌*◌, ◌<◌, ◌≤◌, min, max, nat_abs, length, get_or};
+ghost use Rattle.std.specs.Prelude.{◌≡◌, [], ◌∷◌, ◌+◌, ◌*◌, ◌<◌, ◌≤◌, nat_abs, length, get_or};
 ghost use Rattle.integers.specs.Number.{◌⊕◌, ◌⊗◌, +0, +2};
 ghost use Rattle.words.specs.Limit as Limit;
 ghost use Rattle.words.specs.LaidAt.{LaidAt};
@@ -12,20 +15,13 @@ ghost use Rattle.bitlines.specs.Sizes as Size;
 ghost use Rattle.bitlines.specs.Dense.{bump, add_terms, peak, Adds};
 ghost use Rattle.bitlines.specs.Line.{square_at, square_terms, on_terms, pair_terms, pair_of, entries_words};
 
-use integers::{equal, plus, times};
-use words::{kind, lay, number_word, word_of};
-
-// The lesser of two.
-pub fn lesser(a: usize, b: usize) -> usize
-    ensures { result ≡ min a b }
-{
-    if a < b {
-        return a;
-    }
-    b
-}
+use integers::{plus, times};
+use words::kind::Kind;
+use words::list::{at_or, lay};
+use words::word::Word;
 
 // Adds k to a number of the list, if the place is one of its places.
+// No plainer by `put`: the place would be tested twice, to read and to write, in the innermost step of the form.
 pub fn add_at(row: &mut [i64], i: usize, k: i64)
     requires { peak row.old + nat_abs k < 8 * Size.sums }
     ensures { row.new ≡ bump row.old i k }
@@ -43,34 +39,15 @@ pub fn add_weights(row: &mut [i64], first: usize, k: i64, width: usize) -> usize
     let mut at = first;
     let mut weight = 1;
     let mut left = width;
+    // no count to go over: the loop ends by the width that is left
     while 0 < left {
-        let w = lesser(weight, left);
+        let w = weight.min(left);
         add_at(row, at, times(k, w as i64));
         left -= w;
         weight += weight;
         at += 1;
     }
     at
-}
-
-// The larger of two.
-fn greater(a: usize, b: usize) -> usize
-    ensures { result ≡ max a b }
-{
-    if a < b {
-        return b;
-    }
-    a
-}
-
-// The number at a place of the list, 0 past the last one.
-pub fn coefficient_at(row: &[i64], i: usize) -> i64
-    ensures { result ≡ get_or row.now i +0 }
-{
-    if i < row.len() {
-        return row[i];
-    }
-    0
 }
 
 // a² + 2×c×a
@@ -95,9 +72,9 @@ pub fn square_at(row: &[i64], c: i64, i: usize, j: usize) -> i64
     ensures { result ≡ square_at row.now c i j }
 {
     if i == j {
-        return on_diagonal(coefficient_at(row, i), c);
+        return on_diagonal(at_or(row, i, 0), c);
     }
-    off_diagonal(coefficient_at(row, i), coefficient_at(row, j))
+    off_diagonal(at_or(row, i, 0), at_or(row, j, 0))
 }
 
 // Adds the entries of bit i and the m bits from i on in the square of a row over bits to a line.
@@ -105,10 +82,8 @@ pub fn add_square(line: &mut [i64], row: &[i64], c: i64, i: usize, m: usize)
     requires { (peak row.now ≤ Limit.bit_numbers) × (nat_abs c ≤ Limit.bit_numbers) × (i + m ≤ Limit.bits) × (peak line.old < 4 * Size.sums) }
     ensures { Adds (square_terms row.now c i m) (m * Size.largest_entry) line.old line.new }
 {
-    let mut d = 0;
-    while d < m {
+    for d in 0..m {
         add_at(line, i + d, square_at(row, c, i, i + d));
-        d += 1;
     }
 }
 
@@ -117,8 +92,8 @@ pub fn add_on(line: &mut [i64], c: i64, a: usize, b: usize, i: usize)
     requires { peak line.old + nat_abs c < 8 * Size.sums }
     ensures { line.new ≡ add_terms line.old (on_terms c a b i) }
 {
-    if lesser(a, b) == i {
-        add_at(line, greater(a, b), c);
+    if a.min(b) == i {
+        add_at(line, a.max(b), c);
     }
 }
 
@@ -138,13 +113,13 @@ pub fn put_entry(out: &mut [u32], at: usize, i: usize, j: usize, v: i64) -> usiz
     requires { at < Size.farthest }
     ensures { LaidAt out.old at (entries_words (entry_at i j v ∷ [])) out.new result }
 {
-    if equal(v, 0) {
+    if v == 0 {
         return at;
     }
     let words = [
-        word_of(kind::VARIABLE, i),
-        word_of(kind::VARIABLE, j),
-        number_word(kind::NUMBER, v),
+        Word::new(Kind::Variable, i).bits(),
+        Word::new(Kind::Variable, j).bits(),
+        Word::of_number(Kind::Number, v).bits(),
     ];
     lay(out, at, &words);
     at + 3
@@ -156,10 +131,8 @@ pub fn put_line(out: &mut [u32], at: usize, line: &[i64], i: usize, m: usize) ->
     ensures { LaidAt out.old at (entries_words (line_entries (λ j. get_or line.now j +0) i m)) out.new result }
 {
     let mut next = at;
-    let mut d = 0;
-    while d < m {
-        next = put_entry(out, next, i, i + d, coefficient_at(line, i + d));
-        d += 1;
+    for d in 0..m {
+        next = put_entry(out, next, i, i + d, at_or(line, i + d, 0));
     }
     next
 }

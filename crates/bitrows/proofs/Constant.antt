@@ -1,5 +1,5 @@
 -- The least sum of a row term by term, and what a row's head says of it, of the constant over bits and of the row's own bits.
-use Rattle.std.proofs.Common.{◌≡◌, refl, ap₂, ◌∙◌, true, false, List, [], ◌∷◌, ℕ, ◌+◌, ◌*◌, add-one, arith, eqb, ℤ, length, length-append}
+use Rattle.std.proofs.Common.{◌≡◌, refl, ap₂, ◌∙◌, true, false, List, [], ◌∷◌, ℕ, ◌+◌, ◌*◌, ◌<◌, add-one, arith, eqb, ℤ, length, length-append}
 use Rattle.integers.specs.Number.{◌⊕◌, ◌⊗◌, +0}
 use Rattle.integers.specs.Lists.{list_of}
 use Rattle.integers.specs.Terms.{Term, sum}
@@ -7,7 +7,9 @@ use Rattle.integers.specs.declared.Bounds.{Bounds}
 use Rattle.integers.proofs.Places.{one_more, sum_more}
 use Rattle.integers.proofs.Sums.{⊕_assoc, ⊕_zero_comm}
 use Rattle.words.specs.Kind as Kind
-use Rattle.words.specs.Word.{kind}
+use Rattle.words.specs.Limit as Limit
+use Rattle.words.specs.Word.{kind, word_at}
+use Rattle.words.proofs.ReadBack.{payload-below}
 use Rattle.rowsystems.specs.Row.{sum≤0, sum=0, product}
 use Rattle.rowsystems.specs.RowSystem.{term_count, terms_in, constant_in, variable_at}
 use Rattle.rowsystems.specs.OneWord.{row_of}
@@ -36,6 +38,11 @@ lower-none σ args = refl
 pub lower_more : (σ : ℕ → ℤ) (args : List ℕ) (k : ℕ) → sum σ (terms_in args (k + 1)) ≡ sum σ (terms_in args k) ⊕ (term_in args k).coefficient ⊗ σ (term_in args k).variable
 unfolding terms_in
 lower_more σ args k = sum_more σ (term_in args) k
+
+-- a variable's number is a payload
+pub variable_below : (args : List ℕ) (i : ℕ) → variable_at args i < Limit.payloads
+unfolding variable_at
+variable_below args i = payload-below (word_at args i)
 
 -- ---- by the kind of the head
 

@@ -14,7 +14,7 @@ use lines::{put_answer, put_too_long};
 use std::io;
 use std::io::Write;
 
-// The words above which it says 16, and the bytes of one word more.
+// The words above which it says 16, and the bytes of one word more. The lists have the most elements: there is no heap.
 const WORDS: usize = 16384;
 
 const BYTES: usize = 65540;

@@ -19,9 +19,9 @@ use Rattle.bitforms.specs.Encoding.{weights_of, encodings, bits_after}
 use Rattle.bitforms.specs.BitRow.{bit_rows}
 use Rattle.bitforms.specs.BitForm.{encoding, bit_rows_of}
 use Rattle.bitforms.proofs.Numbers.{encoding_in, after-grows}
-use Rattle.bittables.specs.BitTables.{span_in, bits_of, encoding_by, rows_by, BitTables}
+use Rattle.bittables.specs.BitTables.{span_in, bits_of, encoding_by, rows_by, NearFirsts, BitCounts}
 use Rattle.bittables.specs.KeptBits.{firsts_from}
-use Rattle.bittables.proofs.Keeping.{bits_in, firsts_length, weights-by, few_bits, few-after}
+use Rattle.bittables.proofs.Keeping.{bits_in, firsts_length, weights-by, few-after}
 
 -- ---- variable by variable, 0 past the last one
 
@@ -48,6 +48,11 @@ unfolding encodings bounds_in firsts_from weighted_bits
 encodings-at first [] v = rw no-weights refl
 encodings-at first (B ∷ Bs) zero = refl
 encodings-at first (B ∷ Bs) (suc v) = encodings-at (first + bits_in B) Bs v
+
+-- what first bits and numbers of bits are, of variables with the bounds Ds
+pub record BitTables (Ds : List Bounds) (firsts counts : List ℕ) : Type 0 where
+  pub near_first : NearFirsts firsts
+  pub counted : BitCounts Ds counts
 
 -- ---- THE LAWS, of what `keep_bits` leaves in two lists of 4,096 zeros
 
@@ -86,7 +91,6 @@ module _ (ws : List ℕ) (few : length (variables ws) ≤ 4096) where
   pub kept_tables : BitTables (domains_kept ws) (firsts_kept ws) (counts_kept ws)
   kept_tables = record {
     near_first = λ v. rw (first-kept v) (omega (arith, firsts_at 0 (variables ws) v, kept-few));
-    few = λ v. rw (count-kept v) (few_bits (variables ws) (bounds-near ws) v);
     counted = λ v. count-kept v ∙ ap length (weights-kept v);
   }
 

@@ -1,3 +1,4 @@
--- What the contracts cite: the lists of the variables' bits, and how they are made.
+-- What the contracts cite: the lists of the variables' bits, how they are made, and the rows over bits by them.
 pub mod BitTables
 pub mod KeptBits
+pub mod Systems

@@ -1,4 +1,4 @@
-// The bits of the variables as lists: bounds, the number of the first bit, how many bits; how they are made; and the words of a row by their places.
+// The bits of the variables as a list: the number of the first bit, how many bits; how it is made; and the words of a row by their places.
 #![tactic(auto)]
 
 ghost use Rattle.std.specs.Prelude.{◌≡◌, ◌*◌, ◌<◌, ◌≤◌, length};
@@ -9,9 +9,12 @@ ghost use Rattle.words.specs.Small.{Near};
 ghost use Rattle.rowsystems.specs.RowSystem.{variable_at, number_at};
 ghost use Rattle.bitforms.specs.Weights.{weights};
 ghost use Rattle.bitlines.specs.Sizes as Size;
-ghost use Rattle.bittables.specs.BitTables.{span_in};
+ghost use Rattle.bittables.specs.BitTables.{span_in, firsts, counts};
 ghost use Rattle.bittables.specs.KeptBits.{KeptBits};
 
+pub mod table;
+
+use crate::table::BitVariable;
 use arguments::count_of;
 use bitlines::add_weights;
 use integers::minus;
@@ -40,6 +43,8 @@ pub fn span_at(domains: &[Domain], v: usize) -> usize
 }
 
 // The variable at place i of the words after a head.
+// A term's variable and coefficient are read apart, and by no function of a term: no plainer, since `term_at` of bitrows asks the coefficient alone and
+// `lower_sum` the variable.
 #[tactic(auto, unfolding(rowsystems::specs::RowSystem::variable_at))]
 pub fn row_variable(args: &[u32], i: usize) -> usize
     ensures { result ≡ variable_at args.now i }
@@ -56,16 +61,16 @@ pub fn signed_at(args: &[u32], i: usize) -> i64
     Word::at(args, i).signed()
 }
 
-// Puts the number of the first bit and of the bits of each of n variables to the front of two lists; how many bits they have.
-pub fn keep_bits(domains: &[Domain], n: usize, firsts: &mut [usize], counts: &mut [usize]) -> usize
+// Puts the bits of each of n variables to the front of a list; how many bits they have.
+// n stays a parameter: no plainer by the list's length, since the promise is of n variables, with the bounds 0 and 0 past the list's end.
+pub fn keep_bits(domains: &[Domain], n: usize, bits: &mut [BitVariable]) -> usize
     requires { n ≤ Limit.in_all }
-    ensures { KeptBits (list_of (bounds_in domains.now) n) firsts.old counts.old firsts.new counts.new result }
+    ensures { KeptBits (list_of (bounds_in domains.now) n) (firsts bits.old) (counts bits.old) (firsts bits.new) (counts bits.new) result }
 {
     let mut at = 0;
     for v in 0..n {
         let count = weight_count(span_at(domains, v));
-        put(firsts, v, at);
-        put(counts, v, count);
+        put(bits, v, BitVariable { first: at, count });
         at += count;
     }
     at

@@ -1,5 +1,5 @@
 -- Line after line: the entries left, tested and laid.
-use Rattle.std.proofs.Common.{◌≡◌, refl, sym, ap, ap₂, ◌∙◌, Bool, true, false, ◌&&◌, List, [], ◌∷◌, ◌++◌, ℕ, zero, suc, ◌+◌, ◌*◌, ◌-◌, ◌<◌, ◌≤◌, arith, ℤ, length, get_or}
+use Rattle.std.proofs.Common.{◌≡◌, refl, sym, ap, ap₂, ◌∙◌, Some, Bool, true, false, ◌&&◌, List, [], ◌∷◌, ◌++◌, ℕ, zero, suc, ◌+◌, ◌*◌, ◌-◌, ◌<◌, ◌≤◌, arith, ℤ, length, get_or}
 use mathlib.Core.List.{flat_map}
 use Rattle.integers.specs.Choice.{◌if◌else◌}
 use Rattle.integers.specs.Number.{◌≟◌, +0}
@@ -82,12 +82,12 @@ putting-begun e n at out line row s = record {
     whole = omega arith
 
 module _ {e : ℕ → ℕ → ℤ} {n at : ℕ} {out₀ out : List ℕ} {to i : ℕ} {line row : List ℤ} (k : Putting e n at out₀ out to i line row) (h : i < n) where
-  pub putting-more : {out' : List ℕ} {fits : Bool} {end : ℕ} {line' row' : List ℤ} → EntriesPut (line_entries (e i) i (n - i)) out to out' fits end → fits ≡ true →
+  pub putting-more : {out' : List ℕ} {end : ℕ} {line' row' : List ℤ} → EntriesPut (line_entries (e i) i (n - i)) out to out' (Some end) →
       length line' ≡ length line → length row' ≡ length row → Putting e n at out₀ out' end (i + 1) line' row'
-  putting-more {out'} {fits} {end} {line'} {row'} s y p q =
+  putting-more {out'} {end} {line'} {row'} s p q =
       let f = line_first e i n h in
-      let l = s.laid y in
-      let t = sym s.tested ∙ y in
+      let l = s.laid in
+      let t = sym s.tested in
       record {
         place = omega arith;
         rest = lay-part (same_rest (ap entries_words f ∙ words_append (line_entries (e i) i (n - i)) (entries_from e (i + 1) (n - (i + 1)))) k.rest) l;
@@ -107,7 +107,7 @@ unfolding entries_from all entries_words not_zero flat_map
 no-entries e i = (refl, refl)
 
 pub putting-done : {e : ℕ → ℕ → ℤ} {n at : ℕ} {out₀ out : List ℕ} {to i : ℕ} {line row : List ℤ} → Putting e n at out₀ out to i line row → n ≤ i →
-    EntriesPut (entries_from e 0 n) out₀ at out true to
+    EntriesPut (entries_from e 0 n) out₀ at out (Some to)
 putting-done {e} {n} {at} {out₀} {out} {to} {i} k h =
     let z : n - i ≡ 0 = omega arith in
-    record { tested = sym (no-entries e i).0 ∙ rw z at k.fits; laid = λ t. none_left (same_rest (no-entries e i).1 (rw z at k.rest)) }
+    record { tested = sym (no-entries e i).0 ∙ rw z at k.fits; laid = none_left (same_rest (no-entries e i).1 (rw z at k.rest)) }

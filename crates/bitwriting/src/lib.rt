@@ -1,4 +1,11 @@
 // The lines of the form, each made from all rows over bits, checked and written.
+// A line and a row stay two lists: no plainer as a struct, which each call would lend again, and LineAndRow names i and m besides. i and m stay two
+// parameters: no plainer as a range, since the definitions count m entries from i on. n stays one: the clauses name it as the number of bits, and that it
+// is the length of both lists is what LineAndRow says.
+// In add_to_line the limits of `first` and of `peak` stay clauses: no plainer in a type, since each number is a sum or a part of its own. A head, the words
+// after it, the table and the first bit stay parameters: no plainer as a struct, which the walk would make anew at each row and each part take apart.
+// Fitting stays a clause: no plainer in a type, since it names the system and the number of bits.
+// `out` and `at` stay two parameters: no plainer as a page, since the next place is all that a caller goes on with.
 #![tactic(auto)]
 
 ghost use Rattle.std.specs.Prelude.{◌≡◌, true, ◌+◌, ◌*◌, ◌<◌, ◌≤◌, get_or};
@@ -8,25 +15,20 @@ ghost use Rattle.bitforms.specs.FormAnswer.{row_fits, all_in_range};
 ghost use Rattle.bitforms.specs.Matrix.{line_entries, entries_from};
 ghost use Rattle.bitlines.specs.Sizes as Size;
 ghost use Rattle.bitlines.specs.Dense.{peak};
-ghost use Rattle.bittables.specs.BitTables.{row_by, rows_by, BitTables};
+ghost use Rattle.bittables.specs.BitTables.{firsts, counts, row_by, BitCounts};
+ghost use Rattle.bittables.specs.Systems.{rows_of_system};
 ghost use Rattle.bitfilling.specs.Added.{LineAndRow, Added};
-ghost use Rattle.bitwriting.specs.Lined.{LineOf, Fitting, entry_by};
+ghost use Rattle.bitwriting.specs.Lined.{LineOf, Fitting, entry_of_system};
 ghost use Rattle.bitwriting.specs.EntriesPut.{EntriesPut};
 
 use bitfilling::{add_row, clear, holds_bit};
-use bitlines::{coefficient_at, put_line};
+use bitlines::put_line;
 use bitrows::own_bits;
+use bittables::table::{BitSystem, BitTable};
 use rowreading::rows::starts_row;
-use words::domain::Domain;
 use words::in_range;
+use words::list::at_or;
 use words::word::Word;
-
-// Whether all entries are in the range, and then the place after the words.
-#[derive(Drop)]
-pub struct Lines {
-    pub fits: bool,
-    pub at: usize,
-}
 
 // Adds to the line of bit i what the row or product with this head adds, if it mentions the bit; the number of the next row's first bit.
 fn add_to_line(
@@ -34,140 +36,93 @@ fn add_to_line(
     row: &mut [i64],
     head: Word,
     args: &[u32],
-    domains: &[Domain],
-    firsts: &[usize],
-    counts: &[usize],
+    table: &BitTable,
     first: usize,
     i: usize,
     m: usize,
 ) -> usize
-    requires bit_tables { BitTables domains.now firsts.now counts.now × (first < Size.farthest) × LineAndRow (i + m) line.old row.old × (peak line.old < Size.sums) }
-    requires fits { row_fits (i + m) (row_by domains.now firsts.now first head args.now) ≡ true }
-    ensures added { Added (row_by domains.now firsts.now first head args.now) i line.old line.new }
-    ensures next { (result ≡ first + (row_by domains.now firsts.now first head args.now).own) × (result ≤ first + Size.own_bits) }
+    requires counted { BitCounts table.now.domains.now (counts table.now.bits.now) }
+    requires near { first < Size.farthest }
+    requires sized { LineAndRow (i + m) line.old row.old }
+    requires small { peak line.old < Size.sums }
+    requires fits { row_fits (i + m) (row_by table.now.domains.now (firsts table.now.bits.now) first head args.now) ≡ true }
+    ensures added { Added (row_by table.now.domains.now (firsts table.now.bits.now) first head args.now) i line.old line.new }
+    ensures next { (result ≡ first + (row_by table.now.domains.now (firsts table.now.bits.now) first head args.now).own) × (result ≤ first + Size.own_bits) }
 {
-    let own = own_bits(head, args, domains, counts);
-    if holds_bit(head, args, firsts, counts, first, own, i) {
-        add_row(line, row, head, args, domains, firsts, counts, first, i, m);
-        return first + own;
+    let own = own_bits(head, args, table.domains, table.bits);
+    if holds_bit(head, args, table.bits, first, own, i) {
+        add_row(line, row, head, args, table, first, i, m);
     }
     first + own
 }
 
 // Makes a list the line of bit i.
-fn fill_line(
-    line: &mut [i64],
-    row: &mut [i64],
-    ws: &[u32],
-    domains: &[Domain],
-    firsts: &[usize],
-    counts: &[usize],
-    start: usize,
-    i: usize,
-    m: usize,
-)
-    requires { Fitting ws.now domains.now firsts.now counts.now start (i + m) × LineAndRow (i + m) line.old row.old }
-    ensures { LineOf (rows_by domains.now firsts.now start ws.now) i line.new }
+// No plainer by one walk for all: the bodies of the walks over rows differ, and what they share is the `for` and the test.
+fn fill_line(line: &mut [i64], row: &mut [i64], system: &BitSystem, i: usize, m: usize)
+    requires { Fitting system.now (i + m) × LineAndRow (i + m) line.old row.old }
+    ensures { LineOf (rows_of_system system.now) i line.new }
 {
     clear(line);
-    let mut first = start;
-    let mut at = 0;
-    while at < ws.len() {
-        let head = ws[at];
-        at += 1;
+    let ws = system.words;
+    let table = &system.table;
+    let mut first = system.start;
+    for (at, &head) in ws.iter().enumerate() {
         if starts_row(head) {
-            first = add_to_line(
-                line,
-                row,
-                Word::from(head),
-                &ws[at..],
-                domains,
-                firsts,
-                counts,
-                first,
-                i,
-                m,
-            );
+            let item = Word::from(head);
+            first = add_to_line(line, row, item, &ws[at + 1..], table, first, i, m);
         }
     }
 }
 
 // Whether the m entries from bit i on are in the range.
+// No plainer as a chain over the list, as bitchecks has one: the clause counts the entries of m places, 0 past the list's end.
 fn entries_fit(line: &[i64], i: usize, m: usize) -> bool
     requires { i + m ≤ Limit.bits }
     ensures { result ≡ all_in_range (line_entries (λ j. get_or line.now j +0) i m) }
 {
     for d in 0..m {
-        if !in_range(coefficient_at(line, i + d)) {
+        if !in_range(at_or(line, i + d, 0)) {
             return false;
         }
     }
     true
 }
 
-// Writes the line of bit i from a place on, as far as it fits into the output, if its entries are in the range.
+// Writes the line of bit i from a place on, as far as it fits into the output; the place after it, none if an entry is outside the range.
 fn put_one(
     out: &mut [u32],
     at: usize,
     line: &mut [i64],
     row: &mut [i64],
-    ws: &[u32],
-    domains: &[Domain],
-    firsts: &[usize],
-    counts: &[usize],
-    start: usize,
+    system: &BitSystem,
     i: usize,
     m: usize,
-) -> Lines
-    requires { Fitting ws.now domains.now firsts.now counts.now start (i + m) × LineAndRow (i + m) line.old row.old × (at + 3 * m < Size.farthest) }
-    ensures { EntriesPut (line_entries (entry_by domains.now firsts.now start ws.now i) i m) out.old at out.new result.fits result.at }
+) -> Option<usize>
+    requires { Fitting system.now (i + m) × LineAndRow (i + m) line.old row.old × (at + 3 * m < Size.farthest) }
+    ensures { EntriesPut (line_entries (entry_of_system system.now i) i m) out.old at out.new result }
 {
-    fill_line(line, row, ws, domains, firsts, counts, start, i, m);
+    fill_line(line, row, system, i, m);
     if !entries_fit(line, i, m) {
-        return Lines { fits: false, at };
+        return None;
     }
-    let end = put_line(out, at, line, i, m);
-    Lines {
-        fits: true,
-        at: end,
-    }
+    Some(put_line(out, at, line, i, m))
 }
 
-// Writes all lines from a place on, as far as they fit into the output; stops at an entry outside the range.
+// Writes all lines from a place on, as far as they fit into the output; the place after them, none at an entry outside the range.
 pub fn put_lines(
     out: &mut [u32],
     at: usize,
     n: usize,
     line: &mut [i64],
     row: &mut [i64],
-    ws: &[u32],
-    domains: &[Domain],
-    firsts: &[usize],
-    counts: &[usize],
-    start: usize,
-) -> Lines
-    requires { Fitting ws.now domains.now firsts.now counts.now start n × LineAndRow n line.old row.old × (at ≤ 1) }
-    ensures { EntriesPut (entries_from (entry_by domains.now firsts.now start ws.now) 0 n) out.old at out.new result.fits result.at }
+    system: &BitSystem,
+) -> Option<usize>
+    requires { Fitting system.now n × LineAndRow n line.old row.old × (at ≤ 1) }
+    ensures { EntriesPut (entries_from (entry_of_system system.now) 0 n) out.old at out.new result }
 {
     let mut to = at;
     for i in 0..n {
-        let put = put_one(
-            out,
-            to,
-            line,
-            row,
-            ws,
-            domains,
-            firsts,
-            counts,
-            start,
-            i,
-            n - i,
-        );
-        if !put.fits {
-            return put;
-        }
-        to = put.at;
+        to = put_one(out, to, line, row, system, i, n - i)?;
     }
-    Lines { fits: true, at: to }
+    Some(to)
 }

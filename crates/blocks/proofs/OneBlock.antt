@@ -1,20 +1,19 @@
 -- One constraint: what its block counts that was laid from nothing, its width, whose rule its block is, and that its place plays no part.
-use Rattle.std.proofs.Common.{◌≡◌, refl, sym, ap, ◌∙◌, Bool, true, false, ◌&&◌, ◌||◌, List, [], ◌∷◌, ℕ, ◌≤◌, arith, ltb, eqb, length, ltb-false, eqb-true, ne_eqb}
+use Rattle.std.proofs.Common.{◌≡◌, refl, ap, ◌∙◌, ◌⊎◌, inl, inr, Bool, true, false, ◌&&◌, ◌||◌, List, [], ◌∷◌, ℕ, ◌≤◌, arith, ltb, eqb, length, ltb-false, eqb-true, ne_eqb}
 use Rattle.integers.specs.Choice.{◌if◌else◌}
 use Rattle.integers.specs.Lists.{any}
-use Rattle.integers.specs.Bounds.{width}
+use Rattle.integers.specs.Bounds.{width, bounds_in}
 use Rattle.integers.specs.declared.Bounds.{Bounds}
 use Rattle.integers.proofs.Booleans.{or-false, or-true}
 use Rattle.models.specs.Model.{Constraint, var, builtin}
 use Rattle.builtins.specs.Coded.{builtin_of}
-use Rattle.arguments.proofs.Unknown.{Unknown}
 use Rattle.models.specs.Codes.{code_number}
 use Rattle.models.specs.declared.code.Code.{Code}
 use Rattle.models.specs.declared.code.Code.TheVariants as C
 use Rattle.rules.specs.Block.{Block, block_words}
 use Rattle.rules.specs.InRange.{outside}
 use Rattle.rules.specs.Rule.{rule}
-use Rattle.rules.specs.Shared.{Encoded, choice, shared_rule, rule_after}
+use Rattle.rules.specs.Shared.{Encoded, choice, shares, shared_rule, rule_after}
 use Rattle.rules.specs.Translation.{block_of}
 use Rattle.rules.specs.Check.{too_wide}
 use Rattle.laying.specs.Part.{Part, block_parts}
@@ -25,9 +24,12 @@ use Rattle.laying.specs.Sizes.{block_size}
 use Rattle.laying.specs.declared.Laid.{Laid}
 use Rattle.laying.proofs.Written.{wrote-most, wrote-fitting}
 use Rattle.laying.proofs.Blocks.{words_in-block_parts, block-auxiliaries, block-rows, block-outside}
-use Rattle.encodings.specs.Uses.{choice_of, choosing}
+use Rattle.models.specs.declared.constraint.Constraint as given
+use Rattle.encodings.specs.declared.context.Context.{Context}
+use Rattle.encodings.specs.Uses.{choice_of, choosing, shared_by}
 use Rattle.encodings.proofs.Record.{encodes-by, shares-by}
-use Rattle.blocks.specs.Coded.{constraint_of, has_all}
+use Rattle.sharedblocks.proofs.Codes.{same-code}
+use Rattle.blocks.specs.Coded.{constraint_of, block_by, has_all}
 
 -- ---- a block that was laid from nothing
 
@@ -73,6 +75,15 @@ pub all-28 : (s : ℕ → Bool) {code : ℕ} (args : List ℕ) → code ≡ 28 �
 unfolding has_all choosing
 all-28 s args e = rw e refl
 
+-- whether a constraint has an auxiliary for each value: 28 has, another one where it chooses by a shared variable
+pub has_by : (s : ℕ → Bool) (c : Code) (args : List ℕ) → (c ≡ C.SetInReif → ⊥) → has_all s (code_number c) args ≡ shares s (choice_of (code_number c) args)
+unfolding has_all
+has_by s c args n = rw (shares-by s (code_number c) args, ne_eqb (code_number c) 28 (λ e. n (same-code e))) (go (choosing (code_number c)))
+  where
+    go : (b : Bool) → (b && s (var args 0)) ≡ (s (var args 0) if b else false)
+    go true = refl
+    go false = refl
+
 -- a code that chooses by a shared variable
 pub shared-narrow : (β : ℕ → Bounds) (s : ℕ → Bool) (code : ℕ) (args : List ℕ) → too_wide β s (constraint_of code args) ≡ false → choosing code ≡ true → s (var args 0) ≡ true → width (β (var args 0)) ≤ 64
 unfolding has_all
@@ -96,24 +107,29 @@ module _ (β : ℕ → Bounds) (s : ℕ → Bool) (e : Encoded) (code : ℕ) (ar
   pub over_none : choosing code ≡ false → block_of β s e (constraint_of code args) ≡ rule β (builtin_of code args)
   over_none h = by-shares ∙ rw h
 
-  -- the same, the code known
-  pub by_code : (k : ℕ) → code ≡ k → choosing k ≡ false → block_of β s e (constraint_of code args) ≡ rule β (builtin_of k args)
-  by_code k c h = over_none (rw c h) ∙ rw c
+-- what wrote the rule of a known code that chooses by no variable wrote the block of the constraint
+module _ (k : Context) (x : given.Constraint) {w r : Writer} {d : Code} (is : x.code ≡ d) (n : choosing (code_number d) ≡ false) where
+  pub wrote_fitting : {m : ℕ} → WritesFitting m w r (block_parts k.first (rule (bounds_in k.domains.now) (builtin_of (code_number d) x.args.now))) → m ≤ block_size →
+      WritesFitting block_size w r (block_parts k.first (block_by k x))
+  wrote_fitting h l = rw (is, over_none (bounds_in k.domains.now) (shared_by k.uses.now) k.encoded.now (code_number d) x.args.now n) (most h l)
 
--- ---- codes that choose, and codes that are none
+  pub wrote : {m : ℕ} → Writes m w r (block_parts k.first (rule (bounds_in k.domains.now) (builtin_of (code_number d) x.args.now))) → m ≤ block_size →
+      WritesFitting block_size w r (block_parts k.first (block_by k x))
+  wrote h l = rw (is, over_none (bounds_in k.domains.now) (shared_by k.uses.now) k.encoded.now (code_number d) x.args.now n) (fitted h l)
+
+-- ---- codes that choose
+
+pub chooses : {c : Code} → (c ≡ C.ArrayIntElement) ⊎ ((c ≡ C.ArrayVarIntElement) ⊎ ((c ≡ C.SetIn) ⊎ (c ≡ C.SetInReif))) → choosing (code_number c) ≡ true
+unfolding choosing
+chooses (inl e) = rw e refl
+chooses (inr (inl e)) = rw e refl
+chooses (inr (inr (inl e))) = rw e refl
+chooses (inr (inr (inr e))) = rw e refl
 
 -- of the codes that choose, 28 is the fourth
 pub fourth : (code : ℕ) → choosing code ≡ true → (code ≡ 24 → ⊥) → (code ≡ 25 → ⊥) → (code ≡ 27 → ⊥) → code ≡ 28
 unfolding choosing
 fourth code h a b d = eqb-true code 28 (rw (ne_eqb code 24 a, ne_eqb code 25 b, ne_eqb code 27 d) at h)
-
--- a number that no code has
-pub none-choosing : (code : ℕ) → Unknown code → choosing code ≡ false
-unfolding choosing
-none-choosing code h = rw (differs C.ArrayIntElement, differs C.ArrayVarIntElement, differs C.SetIn, differs C.SetInReif)
-  where
-    differs : (d : Code) → eqb code (code_number d) ≡ false
-    differs d = ne_eqb code (code_number d) (λ z. h d (sym z))
 
 -- ---- the constraint of a code and the words after its head
 

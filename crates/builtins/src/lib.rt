@@ -1,4 +1,6 @@
 // Whether a builtin is true of values: by its code and the words of its arguments.
+// A function for each builtin, whose clause is the builtin's own meaning. One function for several, by a closure or a flag, would take the operator and its meaning
+// as two parameters that have to agree, and be no plainer.
 #![tactic(auto, unfolding(models::specs::Meaning::meaning, models::specs::Model::builtin, models::specs::Model::builtins))]
 
 ghost use Rattle.std.specs.Prelude.{◌≡◌};
@@ -17,25 +19,24 @@ mod number;
 mod power;
 
 use arguments::instance::Instance;
+use arguments::near::NearInstance;
 use models::code::Code;
+use models::constraint::Constraint;
 
-// Whether the builtin is true; a code that is none counts as true.
-#[tactic(auto, using(crate::proofs::Coded::no_code))]
-pub fn holds(code: usize, args: &[u32], values: &[i32]) -> bool
+// Whether the builtin of a constraint is true of values near 0.
+// The fact about the values is asked here and goes into a NearInstance, which is another one for each constraint; a type of the values alone would be no plainer.
+pub fn holds(constraint: &Constraint, values: &[i32]) -> bool
     requires { Small values.now }
-    ensures { result ≡ meaning (value values.now) (builtin_of code args.now) }
+    ensures { result ≡ meaning (value values.now) (builtin_of (code_number constraint.now.code) constraint.now.args.now) }
 {
-    match Code::try_from(code) {
-        Ok(code) => is_true(code, &Instance { args, values }),
-        Err(_) => true,
-    }
-}
-
-// Whether the builtin of a code is true.
-fn is_true(code: Code, instance: &Instance) -> bool
-    ensures { result ≡ meaning (value instance.now.values.now) (builtin_of (code_number code) instance.now.args.now) }
-{
-    match code {
+    let instance = &Instance {
+        args: constraint.args,
+        values,
+    };
+    let near = &NearInstance {
+        instance: *instance,
+    };
+    match constraint.code {
         Code::IntEq | Code::Bool2int => compare::int_eq(instance),
         Code::IntNe | Code::BoolNot => !compare::int_eq(instance),
         Code::IntLe => compare::int_le(instance),
@@ -44,20 +45,20 @@ fn is_true(code: Code, instance: &Instance) -> bool
         Code::IntLeReif | Code::BoolLeReif => compare::int_le_reif(instance),
         Code::IntLtReif | Code::BoolLtReif => compare::int_lt_reif(instance),
         Code::IntNeReif | Code::BoolXor => boolean::bool_xor(instance),
-        Code::IntPlus => number::int_plus(instance),
-        Code::IntTimes => number::int_times(instance),
-        Code::IntAbs => number::int_abs(instance),
+        Code::IntPlus => number::int_plus(near),
+        Code::IntTimes => number::int_times(near),
+        Code::IntAbs => number::int_abs(near),
         Code::IntMax => number::int_max(instance),
         Code::IntMin => number::int_min(instance),
-        Code::IntDiv => number::int_div(instance),
-        Code::IntMod => number::int_mod(instance),
-        Code::IntPow => power::int_pow(instance),
-        Code::IntLinEq => linear::int_lin_eq(instance),
-        Code::IntLinLe => linear::int_lin_le(instance),
-        Code::IntLinNe => !linear::int_lin_eq(instance),
-        Code::IntLinEqReif => linear::int_lin_eq_reif(instance),
-        Code::IntLinLeReif => linear::int_lin_le_reif(instance),
-        Code::IntLinNeReif => linear::int_lin_ne_reif(instance),
+        Code::IntDiv => number::int_div(near),
+        Code::IntMod => number::int_mod(near),
+        Code::IntPow => power::int_pow(near),
+        Code::IntLinEq => linear::int_lin_eq(near),
+        Code::IntLinLe => linear::int_lin_le(near),
+        Code::IntLinNe => !linear::int_lin_eq(near),
+        Code::IntLinEqReif => linear::int_lin_eq_reif(near),
+        Code::IntLinLeReif => linear::int_lin_le_reif(near),
+        Code::IntLinNeReif => linear::int_lin_ne_reif(near),
         Code::BoolAnd => boolean::bool_and(instance),
         Code::BoolOr => boolean::bool_or(instance),
         Code::BoolClause => clause::bool_clause(instance),

@@ -9,23 +9,24 @@ ghost use Rattle.models.specs.Model.{var, past_terms};
 ghost use Rattle.builtins.specs.Coded.{linear, linear_reified};
 
 use arguments::instance::Instance;
+use arguments::near::NearInstance;
 use arguments::{num_at, past_terms_at};
 use integers::equal;
 
 // Whether int_lin_eq is true.
-pub fn int_lin_eq(instance: &Instance) -> bool
-    ensures { result ≡ meaning (value instance.now.values.now) (linear int_lin_eq instance.now.args.now) }
+pub fn int_lin_eq(near: &NearInstance) -> bool
+    ensures { result ≡ meaning (value near.now.instance.values.now) (linear int_lin_eq near.now.instance.args.now) }
 {
-    let constant = num_at(instance.args, past_terms_at(instance.args, 0));
-    equal(instance.sum(0), constant)
+    let constant = num_at(near.instance.args, past_terms_at(near.instance.args, 0));
+    equal(near.sum(0), constant)
 }
 
 // Whether int_lin_le is true.
-pub fn int_lin_le(instance: &Instance) -> bool
-    ensures { result ≡ meaning (value instance.now.values.now) (linear int_lin_le instance.now.args.now) }
+pub fn int_lin_le(near: &NearInstance) -> bool
+    ensures { result ≡ meaning (value near.now.instance.values.now) (linear int_lin_le near.now.instance.args.now) }
 {
-    let constant = num_at(instance.args, past_terms_at(instance.args, 0));
-    instance.sum(0) <= constant
+    let constant = num_at(near.instance.args, past_terms_at(near.instance.args, 0));
+    near.sum(0) <= constant
 }
 
 // Whether the variable after the number is 1.
@@ -36,22 +37,22 @@ fn is_reified(instance: &Instance) -> bool
 }
 
 // Whether int_lin_eq_reif is true.
-pub fn int_lin_eq_reif(instance: &Instance) -> bool
-    ensures { result ≡ meaning (value instance.now.values.now) (linear_reified int_lin_eq_reif instance.now.args.now) }
+pub fn int_lin_eq_reif(near: &NearInstance) -> bool
+    ensures { result ≡ meaning (value near.now.instance.values.now) (linear_reified int_lin_eq_reif near.now.instance.args.now) }
 {
-    is_reified(instance) == int_lin_eq(instance)
+    is_reified(&near.instance) == int_lin_eq(near)
 }
 
 // Whether int_lin_ne_reif is true.
-pub fn int_lin_ne_reif(instance: &Instance) -> bool
-    ensures { result ≡ meaning (value instance.now.values.now) (linear_reified int_lin_ne_reif instance.now.args.now) }
+pub fn int_lin_ne_reif(near: &NearInstance) -> bool
+    ensures { result ≡ meaning (value near.now.instance.values.now) (linear_reified int_lin_ne_reif near.now.instance.args.now) }
 {
-    is_reified(instance) != int_lin_eq(instance)
+    is_reified(&near.instance) != int_lin_eq(near)
 }
 
 // Whether int_lin_le_reif is true.
-pub fn int_lin_le_reif(instance: &Instance) -> bool
-    ensures { result ≡ meaning (value instance.now.values.now) (linear_reified int_lin_le_reif instance.now.args.now) }
+pub fn int_lin_le_reif(near: &NearInstance) -> bool
+    ensures { result ≡ meaning (value near.now.instance.values.now) (linear_reified int_lin_le_reif near.now.instance.args.now) }
 {
-    is_reified(instance) == int_lin_le(instance)
+    is_reified(&near.instance) == int_lin_le(near)
 }

@@ -8,30 +8,31 @@ ghost use Rattle.models.specs.Meaning.{meaning};
 ghost use Rattle.builtins.specs.Coded.{two, three};
 
 use arguments::instance::Instance;
-use integers::{divided, equal, largest, least, plus, times};
+use arguments::near::NearInstance;
+use integers::{equal, largest, least, plus, quotient, remainder, times};
 
 // Whether int_plus is true.
-pub fn int_plus(instance: &Instance) -> bool
-    ensures { result ≡ meaning (value instance.now.values.now) (three int_plus instance.now.args.now) }
+pub fn int_plus(near: &NearInstance) -> bool
+    ensures { result ≡ meaning (value near.now.instance.values.now) (three int_plus near.now.instance.args.now) }
 {
-    let sum = plus(instance.value(0), instance.value(1));
-    equal(sum, instance.value(2))
+    let sum = plus(near.value(0), near.value(1));
+    equal(sum, near.value(2))
 }
 
 // Whether int_times is true.
-pub fn int_times(instance: &Instance) -> bool
-    ensures { result ≡ meaning (value instance.now.values.now) (three int_times instance.now.args.now) }
+pub fn int_times(near: &NearInstance) -> bool
+    ensures { result ≡ meaning (value near.now.instance.values.now) (three int_times near.now.instance.args.now) }
 {
-    let product = times(instance.value(0), instance.value(1));
-    equal(product, instance.value(2))
+    let product = times(near.value(0), near.value(1));
+    equal(product, near.value(2))
 }
 
 // Whether int_abs is true.
 #[tactic(auto, unfolding(models::specs::Meaning::meaning, integers::specs::Number::abs_z))]
-pub fn int_abs(instance: &Instance) -> bool
-    ensures { result ≡ meaning (value instance.now.values.now) (two int_abs instance.now.args.now) }
+pub fn int_abs(near: &NearInstance) -> bool
+    ensures { result ≡ meaning (value near.now.instance.values.now) (two int_abs near.now.instance.args.now) }
 {
-    equal(instance.value(0).abs(), instance.value(1))
+    equal(near.value(0).abs(), near.value(1))
 }
 
 // Whether int_max is true.
@@ -52,18 +53,18 @@ pub fn int_min(instance: &Instance) -> bool
 
 // Whether int_div is true; it is not for d=0.
 #[tactic(auto, unfolding(models::specs::Meaning::meaning, models::specs::Meaning::quotient), using(integers::proofs::Fits::above_zero))]
-pub fn int_div(instance: &Instance) -> bool
-    ensures { result ≡ meaning (value instance.now.values.now) (three int_div instance.now.args.now) }
+pub fn int_div(near: &NearInstance) -> bool
+    ensures { result ≡ meaning (value near.now.instance.values.now) (three int_div near.now.instance.args.now) }
 {
-    let d = instance.value(1);
-    !equal(d, 0) && equal(divided(instance.value(0), d, false), instance.value(2))
+    let d = near.value(1);
+    !equal(d, 0) && equal(quotient(near.value(0), d), near.value(2))
 }
 
 // Whether int_mod is true; it is not for d=0.
 #[tactic(auto, unfolding(models::specs::Meaning::meaning, models::specs::Meaning::remainder), using(integers::proofs::Fits::above_zero))]
-pub fn int_mod(instance: &Instance) -> bool
-    ensures { result ≡ meaning (value instance.now.values.now) (three int_mod instance.now.args.now) }
+pub fn int_mod(near: &NearInstance) -> bool
+    ensures { result ≡ meaning (value near.now.instance.values.now) (three int_mod near.now.instance.args.now) }
 {
-    let d = instance.value(1);
-    !equal(d, 0) && equal(divided(instance.value(0), d, true), instance.value(2))
+    let d = near.value(1);
+    !equal(d, 0) && equal(remainder(near.value(0), d), near.value(2))
 }

@@ -2,7 +2,7 @@
 use Rattle.std.proofs.Common.{◌≡◌, refl, sym, ◌∙◌, Bool, List, [], ◌∷◌, ℕ, zero, suc, ◌+◌, arith, length}
 use Rattle.integers.specs.declared.Bounds.{Bounds}
 use Rattle.words.specs.Variables.{variables}
-use Rattle.words.specs.declared.Refusal.{Refusal}
+use Rattle.words.specs.Refusals.{Refusal}
 use Rattle.words.specs.Refusal.{◌at_place◌, accepted, ◌else_refuse◌}
 use Rattle.words.specs.Answer.{Answer, refused, counts, refused_or, ◌else_answer◌}
 use Rattle.words.proofs.Answers.{first-answers}

@@ -23,8 +23,8 @@ use Rattle.integers.specs.Bounds.{bounds_in}
 use Rattle.encodings.specs.Uses.{shared_by, Recorded}
 use Rattle.encodings.proofs.Record.{none-many, recorded-none, recorded-after, length-after}
 use Rattle.checking.specs.Walk.{Costs}
+use Rattle.laying.specs.declared.Laid.{Laid}
 use Rattle.checking.specs.ModelBounds.{ModelBounds}
-use Rattle.checking.specs.declared.Cost.{Cost}
 
 -- ---- what check says of the constraints that are left
 
@@ -82,7 +82,7 @@ begun β s v cs start h = record { room = omega arith; small = omega arith; reco
 
 module _ {β : ℕ → Bounds} {s : ℕ → Bool} {v : ℕ} {cs : List Constraint} {start k a r w : ℕ} {d : Encoded} (l : Checking β s v cs start k a r w d) where
   module _ {c : Constraint} (e : drop k cs ≡ c ∷ drop (k + 1) cs) where
-    pub more : {b : Cost} → Costs β s (v + a) d c (Ok b) → {d' : Encoded} → d' ≡ encoded_after s (v + a) d (encodes (choice c)) →
+    pub more : {b : Laid} → Costs β s (v + a) d c (Ok b) → {d' : Encoded} → d' ≡ encoded_after s (v + a) d (encodes (choice c)) →
         Checking β s v cs start (k + 1) (a + b.auxiliaries) (r + b.rows) (w + b.words) d'
     more x q =
         let n = x.counted in

@@ -1,14 +1,21 @@
 -- What `keep_bounds` leaves of the words of a model's variables: the model's bounds. And what the walks over its constraints use.
-use Rattle.std.proofs.Common.{◌≡◌, sym, ap, ◌∙◌, subst, List, ◌∷◌, ℕ, ◌+◌, ◌<◌, ◌≤◌, arith, length, get_or, take, drop}
+use Rattle.std.proofs.Common.{◌≡◌, sym, ap, ◌∙◌, subst, List, ◌∷◌, ℕ, ◌+◌, ◌<◌, ◌≤◌, arith, length, get_or, take, drop, drop-cons, Result, Ok, Err}
+use Rattle.std.specs.Prelude.{IfOk}
+use Rattle.std.proofs.Math.Seq.{take-length}
+use lib.ListN.{length-map}
 use Rattle.integers.specs.Number.{+0}
 use Rattle.integers.specs.Bounds.{◌to◌, bounds_in}
 use Rattle.integers.specs.declared.Bounds.{Bounds}
+use Rattle.integers.proofs.Lists.{all-at}
 use Rattle.words.specs.Overlay.{overlay}
 use Rattle.words.specs.Small.{Near}
 use Rattle.words.specs.Variables.{variables}
 use Rattle.words.specs.Word.{payload, word_at}
-use Rattle.models.specs.Model.{headed, constraints}
+use Rattle.models.specs.Table as Table
+use Rattle.models.specs.Model.{Constraint, headed, constraints}
 use Rattle.models.proofs.Accepted as Accepted
+use Rattle.arguments.proofs.Unknown.{Unknown, past_last}
+use Rattle.modelreading.specs.Seen as Seen
 use Rattle.modelreading.specs.Seen.{Seen, model_read}
 use Rattle.modelreading.specs.declared.Model.{Model}
 use Rattle.modelreading.proofs.Heads as Heads
@@ -26,6 +33,17 @@ pub kept : {ws hs : List ℕ} {m : Model} {Ds : List Bounds} → Seen ws hs (mod
 unfolding bounds
 kept {ws} s k =
     ap bounds_in k ∙ rw (front-variables s) (kept-bounds ws 256 (Accepted.few-variables ws s.accepts))
+
+-- the places of the constraints alone, which counting the uses is lent
+pub first-heads : {ws : List ℕ} (hs : List ℕ) {n : ℕ} → Seen.Heads ws hs n → Seen.Heads ws (take n hs) (length (take n hs))
+first-heads {ws} hs {n} h =
+    let e : length (take n hs) ≡ n = sym (length-map (take n hs) (headed ws)) ∙ ap length h.places ∙ sym h.counted in
+    record { room = rw e h.room; counted = rw e h.counted; places = rw (take-length (take n hs)) h.places }
+
+-- what holds whatever is answered
+pub if-ok : {A E P : Type 0} (r : Result A E) → P → IfOk r (λ x. P)
+if-ok (Ok x) p = p
+if-ok (Err e) p = tt
 
 -- ---- the walks
 
@@ -56,6 +74,16 @@ module _ {ws hs : List ℕ} {r : Model} {Ds : List Bounds} {uses : List ℕ} (m 
 
     pub head_at : drop k (constraints ws) ≡ headed ws (get_or hs k 0) ∷ drop (k + 1) (constraints ws)
     head_at = Heads.head_at m.seen.heads k l
+
+    -- its code is a builtin's
+    pub known-code : Unknown (payload (word_at ws (get_or hs k 0))) → ⊥
+    known-code u =
+        let cs = constraints ws in
+        let d = headed ws 0 in
+        let h = drop-cons cs k d (omega (arith, l, m.seen.heads.counted)) in
+        let e : get_or cs k d ≡ headed ws (get_or hs k 0) = ap (λ (ds : List Constraint). get_or ds 0 d) (sym h ∙ head_at) in
+        let n = all-at (λ c. (1 ≤ c.code) × (c.code ≤ Table.last)) d cs k (omega (arith, l, m.seen.heads.counted)) (Accepted.coded ws m.seen.accepts) in
+        omega (arith, n.1, ap (λ (c : Constraint). c.code) e, past_last _ u (omega (arith, n.0, ap (λ (c : Constraint). c.code) e)))
 
     pub summed_at : (sums : List Bounds) → ModelSums ws hs r Ds sums → Summed (bounds_in Ds) (payload (word_at ws (get_or hs k 0))) (drop (get_or hs k 0 + 1) ws) (bounds_in sums k)
     unfolding bounds_in bounds

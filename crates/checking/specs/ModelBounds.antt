@@ -1,4 +1,4 @@
--- What check, translate and fill have of a model that was read without a fault: what the reading kept, the bounds of the variables, which of them are
+-- What the calls after check have of a model that was read without a fault: what the reading kept, the bounds of the variables, which of them are
 -- shared; and L and U of the constraints.
 use Rattle.std.specs.Prelude.{◌≡◌, List, ℕ, replicate}
 use Rattle.integers.specs.Number.{+0}

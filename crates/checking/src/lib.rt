@@ -1,7 +1,7 @@
 // Check: what a model's row system needs, or its first fault.
 #![tactic(auto)]
 
-ghost use Rattle.std.specs.Prelude.{◌≡◌, ◌+◌, ◌<◌, ◌≤◌, ltb, length, IfOk};
+ghost use Rattle.std.specs.Prelude.{◌≡◌, ◌+◌, ◌<◌, ◌≤◌, ltb, IfOk};
 ghost use Rattle.integers.specs.Choice.{◌if◌else◌};
 ghost use Rattle.words.specs.Fault as Numbered;
 ghost use Rattle.words.specs.Limit as Limit;
@@ -11,25 +11,30 @@ ghost use Rattle.rules.specs.Check.{too_wide, check as check_answer};
 ghost use Rattle.laying.specs.Appends.{some_outside};
 ghost use Rattle.laying.specs.Sizes.{first_numbers, block_size};
 ghost use Rattle.linearsums.specs.Sum.{Summed};
-ghost use Rattle.encodings.specs.Uses.{no_uses, shared_by, Recorded};
-ghost use Rattle.checking.specs.Checked.{checked, known};
+ghost use Rattle.models.specs.Codes.{code_number};
+ghost use Rattle.encodings.specs.Uses.{shared_by};
+ghost use Rattle.checking.specs.Checked.{checked};
 ghost use Rattle.blocks.specs.Coded.{constraint_of, has_all};
 ghost use Rattle.checking.specs.Walk.{Costs};
-ghost use Rattle.checking.specs.ModelBounds.{ModelBounds, ModelSums, no_bounds, no_ends};
+ghost use Rattle.checking.specs.ReadModel.{Unread, Listed};
 
 use arguments::var_at;
 use blocks::block;
+use encodings::context::Context;
 use encodings::{count_uses, is_shared, record_encoding};
 use extremes::{keep_bounds, width_of};
 use integers::Bounds;
 use laying::Laid;
-use linearsums::{model_sums, sum_at};
-use modelreading::{Model, read_model};
+use linearsums::model_sums;
+use modelreading::read_model;
 use models::code::Code;
-use words::domain::{Domain, domain_of};
+use models::constraint::Constraint;
+use read::ReadModel;
+use words::domain::domain_of;
 use words::fault::{Fault, Refusal};
 use words::limit;
-use words::word::Word;
+
+pub mod read;
 
 // What a model and its row system have; products count as rows, and the words are those that translate writes.
 #[derive(Clone, Copy, Debug, PartialEq, Eq)]
@@ -41,39 +46,22 @@ pub struct Counts {
     pub words: usize,
 }
 
-// What is known of a model that passes: what it has, and what check counts.
-#[derive(Clone, Copy, Debug, PartialEq, Eq)]
-pub struct Known {
-    pub model: Model,
-    pub counts: Counts,
-}
-
-// What the block of one constraint counts.
-#[derive(Clone, Copy, Debug, PartialEq, Eq)]
-pub struct Cost {
-    pub auxiliaries: usize,
-    pub rows: usize,
-    pub words: usize,
-}
-
 // Whether a constraint has an auxiliary for each value of its first argument.
-fn has_all(code: usize, args: &[u32], uses: &[usize]) -> bool
-    ensures { result ≡ has_all (shared_by uses.now) code args.now }
+fn has_all(constraint: &Constraint, uses: &[usize]) -> bool
+    ensures { result ≡ has_all (shared_by uses.now) (code_number constraint.now.code) constraint.now.args.now }
 {
-    if code == Code::SetInReif.number() {
-        return true;
+    match constraint.code {
+        Code::SetInReif => true,
+        _ => is_shared(constraint, uses),
     }
-    is_shared(code, args, uses)
 }
 
 // Whether it needs more than 64 of them.
-fn too_wide(code: usize, args: &[u32], domains: &[Domain], uses: &[usize]) -> bool
-    ensures { result ≡ too_wide (bounds_in domains.now) (shared_by uses.now) (constraint_of code args.now) }
+fn too_wide(constraint: &Constraint, context: &Context) -> bool
+    ensures { result ≡ too_wide (bounds_in context.now.domains.now) (shared_by context.now.uses.now) (constraint_of (code_number constraint.now.code) constraint.now.args.now) }
 {
-    if has_all(code, args, uses) {
-        return limit::SET_BITS < width_of(domain_of(domains, var_at(args, 0)));
-    }
-    false
+    has_all(constraint, context.uses)
+        && limit::SET_BITS < width_of(domain_of(context.domains, var_at(constraint.args, 0)))
 }
 
 // Whether the numbers of a block, whose auxiliaries are numbered from `first` on, are in their range, and the auxiliaries few enough.
@@ -91,100 +79,81 @@ fn check_block(block: Laid, first: usize) -> Result<(), Fault>
 }
 
 // What the block of one constraint counts, which is laid into nothing, or its fault.
-fn cost_of(
-    code: usize,
-    args: &[u32],
-    domains: &[Domain],
-    uses: &[usize],
-    encoded: &[usize],
-    sum: Bounds,
-    first: usize,
-) -> Result<Cost, Fault>
-    requires { (first < first_numbers) × Recorded encoded.now × Summed (bounds_in domains.now) code args.now sum }
-    ensures { Costs (bounds_in domains.now) (shared_by uses.now) first encoded.now (constraint_of code args.now) result }
+fn cost_of(constraint: &Constraint, sum: Bounds, context: &Context) -> Result<Laid, Fault>
+    requires { Summed (bounds_in context.now.domains.now) (code_number constraint.now.code) constraint.now.args.now sum }
+    ensures { Costs (bounds_in context.now.domains.now) (shared_by context.now.uses.now) context.now.first context.now.encoded.now (constraint_of (code_number constraint.now.code) constraint.now.args.now) result }
 {
-    if too_wide(code, args, domains, uses) {
+    if too_wide(constraint, context) {
         return Err(Fault::SetTooWide);
     }
-    let mut none = [0u32; 0];
-    let laid = block(&mut none, code, args, domains, uses, encoded, sum, first);
-    check_block(laid, first)?;
-    Ok(Cost {
-        auxiliaries: laid.auxiliaries,
-        rows: laid.rows,
-        words: laid.words,
-    })
+    let laid = block(&mut [], constraint, sum, context);
+    check_block(laid, context.first)?;
+    Ok(laid)
 }
 
 // The first fault of a model that was read without one, by its place; or what the model needs.
-#[tactic(auto, using(modelreading::proofs::Heads::heads_inside))]
-fn check_read(
-    ws: &[u32],
-    heads: &[usize; 256],
-    model: Model,
-    domains: &[Domain],
-    uses: &[usize],
-    sums: &[Bounds],
-) -> Result<Counts, Refusal>
-    requires { ModelBounds ws.now heads.now model domains.now uses.now × ModelSums ws.now heads.now model domains.now sums.now }
-    ensures { checked result ≡ check_answer ws.now }
+// A `for` with its own body, and no closure for all walks: see `encodings::count_uses`.
+fn check_read(read: &ReadModel) -> Result<Counts, Refusal>
+    requires { Listed read.now }
+    ensures { checked result ≡ check_answer read.now.ws.now }
 {
     let mut auxiliaries = 0;
     let mut rows = 0;
-    let mut words = model.sources + 1;
+    let mut words = read.model.sources + 1;
+    // fixed memory: a number for each variable that a model may have
     let mut encoded = [0usize; 256];
-    for k in 0..model.constraints {
-        let place = heads[k];
-        let code = Word::from(ws[place]).payload();
-        let sum = sum_at(sums, k);
-        let first = model.variables + auxiliaries;
-        let cost = match cost_of(code, &ws[place + 1..], domains, uses, &encoded, sum, first) {
-            Ok(cost) => cost,
-            Err(fault) => return Err(Refusal { fault, place }),
+    for k in 0..read.model.constraints {
+        let constraint = read.constraint(k);
+        let first = read.model.variables + auxiliaries;
+        let context = Context {
+            domains: &read.domains,
+            uses: &read.uses,
+            encoded: &encoded,
+            first,
         };
-        record_encoding(&mut encoded, code, &ws[place + 1..], uses, first);
+        let place = read.heads[k];
+        let cost = cost_of(&constraint, read.sum(k), &context).map_err(|fault| Refusal {
+            fault,
+            place,
+        })?;
+        record_encoding(&mut encoded, &constraint, &read.uses, first);
         auxiliaries += cost.auxiliaries;
         rows += cost.rows;
         words += cost.words;
     }
     Ok(Counts {
-        variables: model.variables,
-        constraints: model.constraints,
+        variables: read.model.variables,
+        constraints: read.model.constraints,
         auxiliaries,
         rows,
         words,
     })
 }
 
-// What a model that passes has and what check counts, or its first fault. The bounds of its variables, their uses, and L and U of its constraints go into three lists of 256 zeros.
-pub fn check_model(
-    ws: &[u32],
-    heads: &mut [usize; 256],
-    domains: &mut [Domain],
-    uses: &mut [usize],
-    sums: &mut [Bounds],
-) -> Result<Known, Refusal>
-    requires { (length heads.old ≡ Limit.constraints) × (domains.old ≡ no_bounds) × (uses.old ≡ no_uses) × (sums.old ≡ no_ends) }
-    ensures answer { known result ≡ check_answer ws.now }
-    ensures bounds { IfOk result (λ k. ModelBounds ws.now heads.new k.model domains.new uses.new) }
-    ensures sums { IfOk result (λ k. ModelSums ws.now heads.new k.model domains.new sums.new) }
+// Reads the words of a model and keeps what the calls after check go by; what the model needs, or its first fault.
+pub fn check_model(read: &mut ReadModel) -> Result<Counts, Refusal>
+    requires { Unread read.old }
+    ensures answer { checked result ≡ check_answer read.old.ws.now }
+    ensures words { read.new.ws.now ≡ read.old.ws.now }
+    ensures lists { IfOk result (λ n. Listed read.new) }
 {
-    let model = read_model(ws, heads)?;
-    keep_bounds(&ws[..model.sources], domains);
-    count_uses(ws, &heads[..model.constraints], uses);
-    model_sums(ws, heads, model.constraints, domains, sums);
-    let counts = check_read(ws, heads, model, domains, uses, sums)?;
-    Ok(Known { model, counts })
+    let model = read_model(read.ws, &mut read.heads)?;
+    keep_bounds(&read.ws[..model.sources], &mut read.domains);
+    count_uses(read.ws, &read.heads[..model.constraints], &mut read.uses);
+    model_sums(
+        read.ws,
+        &read.heads,
+        model.constraints,
+        &read.domains,
+        &mut read.sums,
+    );
+    read.model = model;
+    check_read(read)
 }
 
 // What the model needs, or its first fault.
 pub fn check(ws: &[u32]) -> Result<Counts, Refusal>
     ensures { checked result ≡ check_answer ws.now }
 {
-    let mut heads = [0usize; 256];
-    let mut domains = [Domain::new(0, 0); 256];
-    let mut uses = [0usize; 256];
-    let mut sums = [Bounds { lower: 0, upper: 0 }; 256];
-    let known = check_model(ws, &mut heads, &mut domains, &mut uses, &mut sums)?;
-    Ok(known.counts)
+    check_model(&mut ReadModel::of(ws))
 }

@@ -79,14 +79,14 @@ module _ (first : ℕ) where
 
     -- the parts of the rows over later bits, then those of the block
     first_only_parts : (up : Bool) (m : ℕ) → flat_map (row_parts first) (first_only (β) (λ x. x if up else m) (λ x. m if up else x) (vars args 1) 0)
-        ≡ many (first_at β args 2 m up first (size args 1)) (size args 1 - 1)
+        ≡ many (first_at β (λ k. var args (2 + k) if up else m) (λ k. m if up else var args (2 + k)) first (size args 1)) (size args 1 - 1)
     unfolding vars
     first_only_parts up m =
         rw (add-zero first) at (first_only_many first β (λ x. x if up else m) (λ x. m if up else x) (λ k. var args (1 + 1 + k)) (size args 1) 0)
 
     pub extreme-parts : (up : Bool) → let m = var args 0 in
         block_parts first (extreme_of (β) up m (vars args 1))
-        ≡ one_of_parts β args first ++ (many (order_at args 2 m up) (size args 1) ++ many (first_at β args 2 m up first (size args 1)) (size args 1 - 1))
+        ≡ one_of_parts β args first ++ (many (order_at args 2 m up) (size args 1) ++ many (first_at β (λ k. var args (2 + k) if up else m) (λ k. m if up else var args (2 + k)) first (size args 1)) (size args 1 - 1))
     unfolding one_of one_of_parts block_parts flat_map vars
     extreme-parts up =
         ap₂ (λ a b. a ++ b) (gates-parts first β args 2 (λ x. x) f n (λ k h. refl))

@@ -50,11 +50,9 @@ later_row β x y v n =
     let K = (β x).upper ⊖ (β y).lower ⊕ +1 in
     head Kind.at_most (n + 2) ∷ term +1 x ∷ term -1 y ∷ (many (same_at K v) n ++ (constant (+1 ⊖ K) ∷ []))
 
--- such a row of x and m or of m and x, the variables x from a place on, over the bits after the one of x; the n bits from v on
-abbrev pub first_at : (ℕ → Bounds) → List ℕ → ℕ → ℕ → Bool → ℕ → ℕ → ℕ → List Part
-first_at β args base m up v n k =
-    let x = var args (base + k) in
-    later_row β (x if up else m) (m if up else x) (v + (k + 1)) (n - (k + 1))
+-- such a row of two variables of a place, over the bits after the one of the place; the n bits from v on
+abbrev pub first_at : (ℕ → Bounds) → (ℕ → ℕ) → (ℕ → ℕ) → ℕ → ℕ → ℕ → List Part
+first_at β x y v n k = later_row β (x k) (y k) (v + (k + 1)) (n - (k + 1))
 
 -- 26 and 33 with the arguments' m and list: what stands before the row of each x; the block, with x − m ≤ 0 or m − x ≤ 0
 unfoldable pub one_of_parts : (ℕ → Bounds) → List ℕ → ℕ → List Part

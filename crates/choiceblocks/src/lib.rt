@@ -1,10 +1,12 @@
 // The blocks of lists with one choice: elements, maximum and minimum of a list, membership.
+// The arguments, the domains and the number of the first auxiliary stay parameters: a `Context` has lists of shared variables too, which asks more, and a struct of the three would be made at each call from outside for one or two uses.
 #![tactic(auto)]
 
 ghost use Rattle.std.specs.Prelude.{◌≡◌, ◌+◌, ◌<◌, ◌≤◌, replicate};
 ghost use Rattle.integers.specs.Number.{count, +0};
-ghost use Rattle.integers.specs.Bounds.{bounds_in, width};
+ghost use Rattle.integers.specs.Bounds.{◌to◌, bounds_in, width};
 ghost use Rattle.words.specs.Limit as Limit;
+ghost use Rattle.words.specs.Small.{Near};
 ghost use Rattle.models.specs.Model.{var, nums, size};
 ghost use Rattle.rules.specs.Parts.{places, members};
 ghost use Rattle.rules.specs.Rule.{rule};
@@ -18,6 +20,7 @@ ghost use Rattle.choiceblocks.specs.Rows.{one_of_parts, extreme_block, number_el
 use arguments::{count_of, past_at, size_at, var_at};
 use extremes::{members, places_of, width_of};
 use laying::Writer;
+use laying::terms::first_if;
 use rows::{choice, first_only, gated, gates, member_row, number_row, one_bit, value_row};
 use words::domain::{Domain, domain_of};
 use words::limit;
@@ -31,7 +34,7 @@ pub fn index_of(args: &[u32], domains: &[Domain]) -> Domain
     domain_of(domains, var_at(args, 0))
 }
 
-// The places of the list at place 1 that it can have as an index.
+// The places of the list at place 1 that the variable at place 0 can have as an index.
 pub fn element_places(args: &[u32], domains: &[Domain]) -> Domain
     ensures { result ≡ places (bounds_in domains.now (var args.now 0)) (size args.now 1) }
 {
@@ -47,19 +50,20 @@ pub fn labels(args: &[u32], domains: &[Domain]) -> usize
 }
 
 // Where the element at the first of these places stands.
-pub fn first_element(places: Domain) -> usize
-    ensures value { result ≡ 1 + count places.lower }
+pub fn first_element(place: i64) -> usize
+    requires { Near place }
+    ensures value { result ≡ 1 + count place }
     ensures size { result < 1000000000 }
 {
-    1 + count_of(places.lower())
+    1 + count_of(place)
 }
 
-// Puts the members of the set at place 1 that the bounds of the variable at place 0 leave into a list of zeros; how many there are.
-pub fn members_of(args: &[u32], domains: &[Domain], vs: &mut [i64]) -> usize
-    requires { vs.old ≡ replicate Limit.list_length +0 }
-    ensures { FrontListed (members (nums args.now 1) (bounds_in domains.now (var args.now 0))) result vs.new }
+// Puts the members of the set at place 1 that two bounds leave into a list of zeros; how many there are. Two numbers and no domain, as `extremes::members` takes them.
+pub fn members_of(args: &[u32], lower: i64, upper: i64, vs: &mut [i64]) -> usize
+    requires { Near upper × (vs.old ≡ replicate Limit.list_length +0) }
+    ensures { FrontListed (members (nums args.now 1) (lower to upper)) result vs.new }
 {
-    members(args, 1, index_of(args, domains), vs)
+    members(args, 1, lower, upper, vs)
 }
 
 // The block of array_int_element.
@@ -74,7 +78,7 @@ pub fn array_int_element(writer: &mut Writer, args: &[u32], domains: &[Domain], 
     number_row(
         writer,
         args,
-        first_element(places),
+        first_element(places.lower()),
         first,
         n,
         var_at(args, past_at(args, 1)),
@@ -88,8 +92,15 @@ pub fn array_var_int_element(writer: &mut Writer, args: &[u32], domains: &[Domai
 {
     let places = element_places(args, domains);
     let n = labels(args, domains);
-    let base = first_element(places);
-    gates(writer, args, base, n, domains);
+    let base = first_element(places.lower());
+    gates(
+        writer,
+        args,
+        base,
+        n,
+        |x| domain_of(domains, x).lower(),
+        |x| domain_of(domains, x).upper(),
+    );
     choice(writer, places.lower(), first, n, var_at(args, 0));
     gated(writer, args, base, first, n, var_at(args, past_at(args, 1)));
 }
@@ -100,12 +111,20 @@ fn one_of(writer: &mut Writer, args: &[u32], domains: &[Domain], first: usize)
     ensures { Writes 10000 writer.old writer.new (one_of_parts (bounds_in domains.now) args.now first) }
 {
     let n = size_at(args, 1);
-    gates(writer, args, 2, n, domains);
+    gates(
+        writer,
+        args,
+        2,
+        n,
+        |x| domain_of(domains, x).lower(),
+        |x| domain_of(domains, x).upper(),
+    );
     one_bit(writer, first, n);
     gated(writer, args, 2, first, n, var_at(args, 0));
 }
 
 // The block of array_int_maximum; of array_int_minimum, where it is not `up`.
+// `up` is a flag, since the clause reads as a choice by one; two functions would be twins.
 pub fn array_int_extreme(
     writer: &mut Writer,
     args: &[u32],
@@ -120,16 +139,24 @@ pub fn array_int_extreme(
     let n = size_at(args, 1);
     one_of(writer, args, domains, first);
     writer.order(args, 2, m, n, up);
-    first_only(writer, args, 2, m, up, first, n, domains);
+    first_only(
+        writer,
+        |k| first_if(up, var_at(args, 2 + k), m),
+        |k| first_if(up, m, var_at(args, 2 + k)),
+        first,
+        n,
+        domains,
+    );
 }
 
-// The block of set_in.
+// The block of set_in. The members stand at the front of 32 numbers, n of them, here and below: memory is fixed.
 pub fn set_in(writer: &mut Writer, args: &[u32], domains: &[Domain], first: usize)
     requires { BlockRoom writer.old × (first < first_numbers) }
     ensures { Writes block_size writer.old writer.new (block_parts first (rule (bounds_in domains.now) (set_of args.now))) }
 {
+    let index = index_of(args, domains);
     let mut vs = [0i64; limit::LIST_LENGTH];
-    let n = members_of(args, domains, &mut vs);
+    let n = members_of(args, index.lower(), index.upper(), &mut vs);
     writer.bits(n);
     one_bit(writer, first, n);
     value_row(writer, &vs, first, n, var_at(args, 0));
@@ -140,9 +167,9 @@ pub fn set_in_reif(writer: &mut Writer, args: &[u32], domains: &[Domain], first:
     requires { BlockRoom writer.old × (first < first_numbers) × (width (bounds_in domains.now (var args.now 0)) ≤ Limit.set_bits) }
     ensures { Writes block_size writer.old writer.new (block_parts first (rule (bounds_in domains.now) (set_reified_of args.now))) }
 {
-    let mut vs = [0i64; limit::LIST_LENGTH];
-    let n = members_of(args, domains, &mut vs);
     let index = index_of(args, domains);
+    let mut vs = [0i64; limit::LIST_LENGTH];
+    let n = members_of(args, index.lower(), index.upper(), &mut vs);
     let width = width_of(index);
     writer.bits(width);
     choice(writer, index.lower(), first, width, var_at(args, 0));

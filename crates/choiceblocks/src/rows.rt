@@ -1,10 +1,13 @@
-// The rows over one-hot bits, and the lists that they are made of.
+// The rows over one-hot bits, and the bounds that go before them.
+// How large n, base, v and `from` may be stays in clauses: each is one number, so large that no sum over it wraps, and no struct has two of them in all functions.
 ghost use Rattle.std.specs.Prelude.{◌≡◌, [], ◌∷◌, ℕ, ℤ, ◌+◌, ◌-◌, ◌<◌, ◌≤◌, nat_abs, get_or};
 ghost use Rattle.integers.specs.Number.{◌⊖◌, count, +0, +1};
+ghost use Rattle.integers.specs.declared.Bounds.{Bounds};
 ghost use Rattle.integers.specs.Bounds.{bounds_in};
 ghost use Rattle.words.specs.Limit as Limit;
 ghost use Rattle.laying.specs.Part.{term};
 ghost use Rattle.laying.specs.Lists.{many, same_at, label_at};
+ghost use Rattle.laying.specs.Gives.{Gives};
 ghost use Rattle.laying.specs.Appends.{GrowsBy};
 ghost use Rattle.laying.specs.Writes.{Writes};
 ghost use Rattle.laying.specs.Room.{Room};
@@ -14,20 +17,30 @@ use arguments::{count_of, num_at, var_at};
 use extremes::{gap_plus, zero_lower, zero_upper};
 use integers::{minus, plus};
 use laying::Writer;
-use laying::terms::first_if;
 use words::domain::{Domain, domain_of};
 use words::kind::Kind;
 use words::list::at_or;
 
-// Z of n variables, from place base on.
-pub fn zeros(writer: &mut Writer, args: &[u32], base: usize, n: usize, domains: &[Domain])
-    requires { Room 1000 writer.old × (n ≤ Limit.terms) × (base < 1000000000000) }
-    ensures { Writes 1000 writer.old writer.new (many (zero_at (bounds_in domains.now) args.now base) n) }
+// Z of n variables, from place base on; `lower` and `upper` give a variable's bounds, of any size.
+// Two closures and none of `Bounds`, here and in `gates`: `Writer::bounds` asks for the lower and the upper bounds apart, so that one would be called twice for each variable.
+pub fn zeros<L: Fn(usize) -> i64, U: Fn(usize) -> i64>(
+    writer: &mut Writer,
+    args: &[u32],
+    base: usize,
+    n: usize,
+    lower: L,
+    upper: U,
+)
+    requires room { Room 1000 writer.old × (n ≤ Limit.terms) × (base < 1000000000000) }
+    requires lowers { (x : ℕ) → L.pre lower x }
+    requires uppers { (x : ℕ) → U.pre upper x }
+    ensures size { GrowsBy 1000 writer.old.laid writer.new.laid }
+    ensures parts { (β : ℕ → Bounds) → ((x : ℕ) (r : ℤ) → L.post lower x r → r ≡ (β x).lower) → ((x : ℕ) (r : ℤ) → U.post upper x r → r ≡ (β x).upper) → Writes 1000 writer.old writer.new (many (zero_at β args.now base) n) }
 {
     writer.bounds(
         n,
-        |k| zero_lower(domain_of(domains, var_at(args, base + k)).lower()),
-        |k| zero_upper(domain_of(domains, var_at(args, base + k)).upper()),
+        |k| zero_lower(lower(var_at(args, base + k))),
+        |k| zero_upper(upper(var_at(args, base + k))),
     );
 }
 
@@ -43,7 +56,7 @@ pub fn sum_row<C: Fn(usize) -> i64, V: Fn(usize) -> usize>(
     requires coefficients { (k : ℕ) → k < n → C.pre coefficient k }
     requires variables { (k : ℕ) → k < n → V.pre variable k }
     ensures size { GrowsBy 2000 writer.old.laid writer.new.laid }
-    ensures parts { (c : ℕ → ℤ) (v : ℕ → ℕ) → ((k : ℕ) (r : ℤ) → k < n → C.post coefficient k r → r ≡ c k) → ((k r : ℕ) → k < n → V.post variable k r → r ≡ v k) → Writes 2000 writer.old writer.new (sum_row (λ k. term (c k) (v k) ∷ []) n x) }
+    ensures parts { (c : ℕ → ℤ) (v : ℕ → ℕ) → Gives n (C.post coefficient) c → Gives n (V.post variable) v → Writes 2000 writer.old writer.new (sum_row (λ k. term (c k) (v k) ∷ []) n x) }
 {
     writer.head(Kind::Equal, n + 1);
     writer.terms(n, coefficient, variable);
@@ -85,7 +98,7 @@ pub fn number_row(writer: &mut Writer, args: &[u32], base: usize, v: usize, n: u
     sum_row(writer, n, |k| num_at(args, base + k), |k| v + k, c);
 }
 
-// Σv×b − x = 0 over the first n numbers of a list.
+// Σv×b − x = 0 over the first n numbers of a list. n stays beside the list, here and in `member_row`: the row is promised for any n, past the list's end too.
 pub fn value_row(writer: &mut Writer, vs: &[i64], v: usize, n: usize, x: usize)
     requires { Room 2000 writer.old × (n ≤ Limit.terms) × (v < 1000000000) }
     ensures { Writes 2000 writer.old writer.new (sum_row (value_at vs.now v) n x) }
@@ -119,12 +132,22 @@ pub fn choice(writer: &mut Writer, from: i64, v: usize, n: usize, x: usize)
 }
 
 // The bounds of n bits, and Z of n variables from place base on.
-pub fn gates(writer: &mut Writer, args: &[u32], base: usize, n: usize, domains: &[Domain])
-    requires { Room 2000 writer.old × (n ≤ Limit.terms) × (base < 1000000000000) }
-    ensures { Writes 2000 writer.old writer.new (gates (bounds_in domains.now) args.now base n) }
+pub fn gates<L: Fn(usize) -> i64, U: Fn(usize) -> i64>(
+    writer: &mut Writer,
+    args: &[u32],
+    base: usize,
+    n: usize,
+    lower: L,
+    upper: U,
+)
+    requires room { Room 2000 writer.old × (n ≤ Limit.terms) × (base < 1000000000000) }
+    requires lowers { (x : ℕ) → L.pre lower x }
+    requires uppers { (x : ℕ) → U.pre upper x }
+    ensures size { GrowsBy 2000 writer.old.laid writer.new.laid }
+    ensures parts { (β : ℕ → Bounds) → ((x : ℕ) (r : ℤ) → L.post lower x r → r ≡ (β x).lower) → ((x : ℕ) (r : ℤ) → U.post upper x r → r ≡ (β x).upper) → Writes 2000 writer.old writer.new (gates β args.now base n) }
 {
     writer.bits(n);
-    zeros(writer, args, base, n, domains);
+    zeros(writer, args, base, n, lower, upper);
 }
 
 // z := x × b for n variables from place base on, the bits from v on, each z n after its bit; Σz − m = 0.
@@ -149,26 +172,26 @@ fn later(writer: &mut Writer, x: usize, y: usize, v: usize, n: usize, domains: &
     writer.constant(minus(1, p));
 }
 
-// For each but the last of n variables from place base on the row over the bits after its own, the bits from v on: of x and m, or of m and x where it is not `up`.
-pub fn first_only(
+// For each place k below n − 1 the row `later` of the two variables of that place, over the bits after bit k; bit 0 is variable v.
+pub fn first_only<X: Fn(usize) -> usize, Y: Fn(usize) -> usize>(
     writer: &mut Writer,
-    args: &[u32],
-    base: usize,
-    m: usize,
-    up: bool,
+    lesser: X,
+    larger: Y,
     v: usize,
     n: usize,
     domains: &[Domain],
 )
-    requires { Room 200000 writer.old × (n ≤ Limit.terms) × (base < 1000000000000) × (v < 100000000) }
-    ensures { Writes 200000 writer.old writer.new (many (first_at (bounds_in domains.now) args.now base m up v n) (n - 1)) }
+    requires room { Room 200000 writer.old × (n ≤ Limit.terms) × (v < 100000000) }
+    requires lesser { (k : ℕ) → k < n → X.pre lesser k }
+    requires larger { (k : ℕ) → k < n → Y.pre larger k }
+    ensures size { GrowsBy 200000 writer.old.laid writer.new.laid }
+    ensures parts { (x y : ℕ → ℕ) → Gives n (X.post lesser) x → Gives n (Y.post larger) y → Writes 200000 writer.old writer.new (many (first_at (bounds_in domains.now) x y v n) (n - 1)) }
 {
     for k in 0..n.saturating_sub(1) {
-        let x = var_at(args, base + k);
         later(
             writer,
-            first_if(up, x, m),
-            first_if(up, m, x),
+            lesser(k),
+            larger(k),
             v + (k + 1),
             n - (k + 1),
             domains,

@@ -1,6 +1,7 @@
 -- A number from its last digit on, right in any number of columns, and laying it so, the last column first.
 use Rattle.std.proofs.Common.{◌≡◌, refl, sym, ap, ◌∙◌, Bool, true, false, List, [], ◌∷◌, ◌++◌, append_assoc, append-nil, ℕ, zero, suc, ◌+◌, ◌-◌, ◌/◌, ◌%◌, ◌≤◌, ◌<◌, arith, ltb, ℤ, pos, negsuc, nat_abs, length, length-append, set, ltb-true, ltb-false, lt-ltb, le-ltb}
-use lib.Signed.{lt_z}
+use lib.Dec.{leb-zero}
+use lib.Signed.{le_z, lt_z, mag}
 use Rattle.integers.specs.Choice.{◌if◌else◌}
 use Rattle.integers.proofs.Tests.{false-true}
 use Rattle.words.specs.Overlay.{overlay}
@@ -87,6 +88,15 @@ pub numeral-marked : (z : ℤ) → numeral z ≡ marked (lt_z z (pos 0)) (nat_ab
 unfolding numeral marked
 numeral-marked (pos n) = plain (lt_z (pos n) (pos 0)) (le-ltb n 0 (omega arith)) n
 numeral-marked (negsuc n) = refl
+
+-- its size by how far it is from 0 or from −1
+pub size-from : (z : ℤ) → le_z (pos 0) z ≡ true → mag z ≡ nat_abs z
+size-from (pos n) t = refl
+size-from (negsuc n) t = false-true t
+
+pub size_below : (z : ℤ) → le_z (pos 0) z ≡ false → mag z + 1 ≡ nat_abs z
+size_below (pos n) t = false-true (sym t ∙ leb-zero n)
+size_below (negsuc n) t = omega arith
 
 -- ---- laying them, the last column first
 

@@ -1,4 +1,5 @@
 // Decimal numbers, blanks and single bytes, laid over a page of bytes one after another; what does not fit the page is left out.
+// No Display: the bytes go to a lent page, fixed memory, and each is promised; `write!` ensures its bytes to a `String` alone, which takes the heap.
 #![tactic(auto)]
 
 ghost use Rattle.std.specs.Prelude.{◌≡◌, [], ◌∷◌, ◌+◌, ◌<◌, ◌≤◌, length};
@@ -35,7 +36,7 @@ fn digit_count(n: usize) -> usize
 {
     let mut count: usize = 1;
     let mut rest = n;
-    // no list or count to go over: the loop ends by the number that is left
+    // a `for` is no plainer: there is no list or count to go over, the loop ends by the number that is left
     while 9 < rest {
         rest = rest / 10;
         count += 1;
@@ -44,6 +45,7 @@ fn digit_count(n: usize) -> usize
 }
 
 // A page of bytes, and the place where the next byte goes.
+// That the place stays below 2^40 is asked of each printer by what it prints: no type carries it, as the place moves on.
 #[derive(Drop)]
 pub struct Page<'a> {
     pub bytes: &'a mut [u8],
@@ -97,7 +99,7 @@ impl<'a> Page<'a> {
         self.ahead(columns, false, 0)
     }
 
-    // A number, perhaps after a hyphen, right in so many columns.
+    // A number, perhaps after a hyphen, right in so many columns. Two functions would be no plainer: the text is `marked` by the flag.
     pub fn right(&mut self, columns: usize, minus: bool, n: usize)
         requires { (self.old.at + columns < 1099511627776) × (length (marked minus n) ≤ columns) }
         ensures text { Prints self.old (right columns (marked minus n)) self.new }

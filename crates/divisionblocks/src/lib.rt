@@ -1,9 +1,9 @@
 // The blocks of int_div and int_mod: two products and the ten rows of a table.
 #![tactic(auto)]
 
-ghost use Rattle.std.specs.Prelude.{◌≡◌, ◌+◌, ◌<◌, ◌≤◌, nat_abs};
+ghost use Rattle.std.specs.Prelude.{◌≡◌, ◌+◌, ◌<◌};
 ghost use Rattle.models.specs.Builtin.{int_div, int_mod};
-ghost use Rattle.rules.specs.Division.{M, division_table, quotient_bounds};
+ghost use Rattle.rules.specs.Division.{quotient_bounds};
 ghost use Rattle.rules.specs.Rule.{rule};
 ghost use Rattle.laying.specs.Part.{block_parts};
 ghost use Rattle.laying.specs.Writes.{Writes};
@@ -16,11 +16,19 @@ use extremes::{end_products, larger_absolute};
 use integers::{Bounds, opposite};
 use laying::Writer;
 use laying::term::Term;
-use table::write_table;
+use table::{m_of, numbers, write_table};
 use words::domain::{Domain, domain_of};
 use words::kind::Kind;
 
 mod table;
+
+// The variables of a division: n, d and the quotient q.
+#[derive(Clone, Copy, Debug, PartialEq, Eq)]
+struct Division {
+    n: usize,
+    d: usize,
+    q: usize,
+}
 
 // α, β, p within its bounds, γ.
 fn write_auxiliaries(writer: &mut Writer, p: Bounds)
@@ -32,42 +40,34 @@ fn write_auxiliaries(writer: &mut Writer, p: Bounds)
     writer.bound(0, 1);
 }
 
-// The table, by the bounds of n and d and those of p.
-fn table_of(n: Domain, d: Domain, p: Bounds) -> [[i64; 7]; 10]
-    requires { (nat_abs p.lower ≤ 18014398509481984) × (nat_abs p.upper ≤ 18014398509481984) }
-    ensures { result ≡ division_table n d (M n d p) }
-{
-    table::numbers(n, d, table::m_of(n, d, p))
-}
-
 // p := d×q, γ := α×β and the rows of the table, α, β, p and γ numbered from v on.
-fn write_rows(writer: &mut Writer, n: usize, d: usize, q: usize, v: usize, table: [[i64; 7]; 10])
+fn write_rows(writer: &mut Writer, variables: Division, v: usize, table: &[[i64; 7]; 10])
     requires { Room 20100 writer.old × (v < 20000) }
-    ensures { Writes 20100 writer.old writer.new (table_parts table n d q v (v + 1) (v + 2) (v + 3)) }
+    ensures { Writes 20100 writer.old writer.new (table_parts table.now variables.n variables.d variables.q v (v + 1) (v + 2) (v + 3)) }
 {
+    let Division { n, d, q } = variables;
     writer.times(v + 2, d, q);
     writer.times(v + 3, v, v + 1);
-    write_table(writer, &[n, d, v + 2, v, v + 1, v + 3], &table);
+    write_table(writer, &[n, d, v + 2, v, v + 1, v + 3], table);
 }
 
 // The auxiliaries, products and rows of a division with a quotient within bounds.
 fn write_division(
     writer: &mut Writer,
-    n: usize,
-    d: usize,
-    q: usize,
+    variables: Division,
     v: usize,
     domains: &[Domain],
     quotient: Domain,
 )
     requires { Room 22000 writer.old × (v < 20000) }
-    ensures { let β = bounds_in domains.now in Writes 22000 writer.old writer.new (division_parts (β n) (β d) quotient n d q v) }
+    ensures { let β = bounds_in domains.now in let w = variables in Writes 22000 writer.old writer.new (division_parts (β w.n) (β w.d) quotient w.n w.d w.q v) }
 {
-    let divisor = domain_of(domains, d);
+    let numerator = domain_of(domains, variables.n);
+    let divisor = domain_of(domains, variables.d);
     let p = end_products(divisor, quotient);
-    let table = table_of(domain_of(domains, n), divisor, p);
+    let table = numbers(numerator, divisor, m_of(numerator, divisor, p));
     write_auxiliaries(writer, p);
-    write_rows(writer, n, d, q, v, table);
+    write_rows(writer, variables, v, &table);
 }
 
 // 37 int_div: d×q is n cut to a multiple of d.
@@ -75,7 +75,13 @@ pub fn int_div(writer: &mut Writer, n: usize, d: usize, q: usize, domains: &[Dom
     requires { BlockRoom writer.old × (first < first_numbers) }
     ensures { Writes 30000 writer.old writer.new (block_parts first (rule (bounds_in domains.now) (int_div n d q))) }
 {
-    write_division(writer, n, d, q, first, domains, domain_of(domains, q));
+    write_division(
+        writer,
+        Division { n, d, q },
+        first,
+        domains,
+        domain_of(domains, q),
+    );
 }
 
 // The bounds of a quotient of n: as far from 0 as n, both ways.
@@ -94,7 +100,13 @@ pub fn int_mod(writer: &mut Writer, n: usize, d: usize, r: usize, domains: &[Dom
 {
     let quotient = quotient_bounds(domain_of(domains, n));
     writer.bound(quotient.lower(), quotient.upper());
-    write_division(writer, n, d, first, first + 1, domains, quotient);
+    write_division(
+        writer,
+        Division { n, d, q: first },
+        first + 1,
+        domains,
+        quotient,
+    );
     writer.row(
         Kind::Equal,
         &[Term::new(1, first + 3), Term::new(1, r), Term::new(-1, n)],

@@ -15,6 +15,7 @@ use words::domain::Domain;
 use words::kind::Kind;
 
 // The larger of p−n and n−p, over the bounds.
+// `largest` and no `.max`: the laws of M are over the definitions' larger number, and the proofs here and in `m_of` did not close over the library's; `either_way` goes with them.
 fn apart(n: Domain, p: Bounds) -> i64
     requires { (nat_abs p.lower ≤ 18014398509481984) × (nat_abs p.upper ≤ 18014398509481984) }
     ensures value { result ≡ max_z (p.upper ⊖ n.lower) (n.upper ⊖ p.lower) }
@@ -29,10 +30,10 @@ fn either_way(d: Domain) -> i64
     ensures value { result ≡ max_z (neg d.lower) d.upper }
     ensures near { Near result }
 {
-    opposite(d.lower()).max(d.upper())
+    largest(opposite(d.lower()), d.upper())
 }
 
-// M: the larger of p−n and n−p, with the larger of −d and d, and 1, added where that is more.
+// M: the larger of p−n and n−p, with the larger of −d and d, and 1, added where that is more; by `largest`, as in `apart`.
 pub fn m_of(n: Domain, d: Domain, p: Bounds) -> i64
     requires { (nat_abs p.lower ≤ 18014398509481984) × (nat_abs p.upper ≤ 18014398509481984) }
     ensures value { result ≡ M n d p }
@@ -69,12 +70,12 @@ pub fn numbers(n: Domain, d: Domain, m: i64) -> [[i64; 7]; 10]
 }
 
 // The rows of a table over six variables.
+// The six are written out as the definition `six_terms` lists them, and the constant is the seventh number of a row: the rows are the definition's table (`division_table`), so a struct for a row would need a map to it and be no plainer.
 pub fn write_table(writer: &mut Writer, xs: &[usize; 6], table: &[[i64; 7]; 10])
     requires { Room 20000 writer.old }
     ensures { Writes 20000 writer.old writer.new (many (table_at xs.now table.now) 10) }
 {
-    for k in 0..10 {
-        let row = table[k];
+    for row in table {
         let terms = [
             Term::new(row[0], xs[0]),
             Term::new(row[1], xs[1]),

@@ -1,7 +1,8 @@
--- The words of bytes: one for each four of them, the spare ones left off.
+-- The words of bytes: one for each four of them, the spare ones left off; none is laid before the loop.
 use Rattle.std.proofs.Common.{◌≡◌, refl, List, [], ◌∷◌, ℕ, suc, ◌/◌, ◌<◌, arith, length, get_or, map}
 use Rattle.std.specs.Simd.{first_chunks}
 use Rattle.std.proofs.lemmas.List.{get_or-map}
+use Rattle.words.proofs.Rest.{FirstLaid, none-laid}
 use Rattle.encoding.specs.Bytes.{bytes_word, bytes_words}
 
 -- a quarter of the bytes
@@ -28,3 +29,7 @@ by_quads (a ∷ b ∷ c ∷ d ∷ rest) = let e : length (a ∷ b ∷ c ∷ d �
 pub quad_at : (bytes : List ℕ) (quads : List (List ℕ)) (i : ℕ) → quads ≡ first_chunks 4 (length bytes / 4) bytes → i < length quads →
     get_or (bytes_words bytes) i 0 ≡ quad_word (get_or quads i [])
 quad_at bytes quads i e h = rw (by_quads, ← e) (get_or-map quad_word quads i [] 0 h)
+
+-- before the loop none of the words is laid, and laying them all is left to do
+pub begun : (bytes out : List ℕ) → FirstLaid out 0 (bytes_words bytes) out 0
+begun bytes out = none-laid out 0 (bytes_words bytes)

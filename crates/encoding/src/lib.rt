@@ -28,6 +28,7 @@ pub fn words_of_bytes(bytes: &[u8], out: &mut [u32]) -> usize
 }
 
 // The same where they all fit: they are then the front of the list.
+// Another function, as words_of_bytes asks for no room: a clause under a condition would be no plainer.
 pub fn front_words(bytes: &[u8], out: &mut [u32]) -> usize
     requires { length (bytes_words bytes.now) ≤ length out.old }
     ensures words { take result out.new ≡ bytes_words bytes.now }

@@ -7,7 +7,8 @@ use Rattle.integers.specs.Lists.{any, how_many}
 use Rattle.models.specs.Model.{Constraint, var}
 use Rattle.rules.specs.Shared.{choice, encodes}
 use Rattle.encodings.specs.Uses.{choice_of, choosing, counted, no_uses, uses_from}
-use Rattle.encodings.proofs.Record.{encodes-by, get_or-none_yet, none-many}
+use Rattle.arguments.proofs.Unknown.{Unknown}
+use Rattle.encodings.proofs.Record.{encodes-by, encodes-of, no-choosing, get_or-none_yet, none-many}
 
 pub counted-le : (us xs : List ℕ) (v : ℕ) → get_or (counted us xs) v 0 ≤ get_or us v 0 + 1
 unfolding counted
@@ -61,6 +62,11 @@ pub record Counting (cs : List Constraint) (us : List ℕ) (k : ℕ) : Type 0 wh
   pub rest : uses_from us (drop k cs) ≡ uses_from no_uses cs
   pub low : (v : ℕ) → get_or us v 0 ≤ k
   pub many : length us ≡ 256
+
+-- a number that no builtin has counts nothing
+pub none_counted : (us : List ℕ) {code : ℕ} (args : List ℕ) → Unknown code → us ≡ counted us (encodes (choice_of code args))
+unfolding counted
+none_counted us {code} args h = rw (encodes-of code args, no-choosing code h) refl
 
 pub begun : (cs : List Constraint) {us : List ℕ} → us ≡ no_uses → Counting cs us 0
 begun cs e = rw e record { rest = refl; low = λ v. omega (arith, get_or-none_yet v); many = none-many }

@@ -1,7 +1,6 @@
 -- How large the numbers are that are made of bounds: callers owe that their sums fit.
-use Rattle.std.proofs.Common.{Bool, true, false, cond, int_lt, ℕ, ◌≤◌, arith, ℤ, pos, nat_abs}
+use Rattle.std.proofs.Common.{Bool, true, false, ℕ, ◌≤◌, arith, ℤ, nat_abs}
 use lib.Signed.{le_z}
-use Rattle.std.specs.Int.{int_max}
 use Rattle.integers.specs.Choice.{◌if◌else◌}
 use Rattle.integers.specs.Number.{◌⊕◌, ◌⊖◌, min_z, max_z, +1}
 use Rattle.integers.specs.Bounds.{◌to◌, width}
@@ -23,22 +22,10 @@ unfolding max_z min_z
 pick-size true a b h k = chosen-size (le_z a b) b a k h
 pick-size false a b h k = chosen-size (le_z a b) a b h k
 
--- the larger of two
-by-test : (t : Bool) (a b : ℤ) {m : ℕ} → nat_abs a ≤ m → nat_abs b ≤ m → nat_abs (cond t a b) ≤ m
-by-test true a b h k = h
-by-test false a b h k = k
-
-pub max-size : (a b : ℤ) {m : ℕ} → nat_abs a ≤ m → nat_abs b ≤ m → nat_abs (int_max a b) ≤ m
-max-size a b h k = by-test (int_lt b a) a b h k
-
--- how many values two bounds leave, and the places of a list of n elements
+-- how many values two bounds leave, and how many places of a list of n elements
 pub width-size : (l u : ℤ) → Near l → Near u → width (l to u) ≤ 268435457
 unfolding width
 width-size l u h k = omega (arith, count-le (u ⊖ l ⊕ +1), plus-size (u ⊖ l) +1, minus-size u l)
-
-pub places-near : (I : Bounds) (n : ℕ) → n ≤ 32 → Near I.lower → Near I.upper → Near (places I n).lower × Near (places I n).upper
-unfolding places
-places-near I n h l u = (pick-size true +1 I.lower (omega arith) l, pick-size false (pos n) I.upper (omega arith) u)
 
 pub places-width : (I : Bounds) (n : ℕ) → width (places I n) ≤ n
 unfolding places width

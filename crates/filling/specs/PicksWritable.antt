@@ -1,17 +1,17 @@
--- What writing the auxiliaries of a model after its values wants: its bounds, values near 0, picks in the range, and a place for each that does not wrap.
-use Rattle.std.specs.Prelude.{◌≡◌, List, ℕ, ◌+◌, ◌<◌, ℤ, length}
-use Rattle.integers.specs.declared.Bounds.{Bounds}
+-- What writing the auxiliaries of a model after its values wants: what is kept of the model, values near 0, picks in the range, and a place for each that does not wrap.
+use Rattle.std.specs.Prelude.{◌≡◌, List, ◌+◌, ◌<◌, ℤ, length}
 use Rattle.words.specs.Variables.{variables}
 use Rattle.words.specs.Small.{Small}
-use Rattle.modelreading.specs.declared.Model.{Model}
 use Rattle.rules.specs.Translation.{picks}
-use Rattle.checking.specs.ModelBounds.{ModelBounds}
-use Rattle.picking.specs.Picked.{Ranged}
+use Rattle.checking.specs.ReadModel.{Listed}
+use Rattle.checking.specs.declared.read.ReadModel.{ReadModel}
+use Rattle.picking.specs.Output.{Ranged}
+use Rattle.picking.specs.declared.Output.{Output}
 
-abbrev pub PicksWritable : List ℕ → List ℕ → Model → List Bounds → List ℕ → List ℤ → ℕ → Type 0
-PicksWritable ws hs m Ds uses vs start =
-    ModelBounds ws hs m Ds uses
+abbrev pub PicksWritable : ReadModel → List ℤ → Output → Type 0
+PicksWritable r vs o =
+    Listed r
     × Small vs
-    × Ranged (picks ws vs)
-    × (start ≡ length (variables ws))
-    × (start + length (picks ws vs) < 1099511627776)
+    × Ranged (picks r.ws.now vs)
+    × (o.at ≡ length (variables r.ws.now))
+    × (o.at + length (picks r.ws.now vs) < 1099511627776)

@@ -6,26 +6,25 @@ ghost use Rattle.words.specs.Overlay.{overlay};
 ghost use Rattle.rules.specs.Translation.{auxiliaries, picks};
 ghost use Rattle.rules.specs.Fill.{fill as fill_answer, filled};
 ghost use Rattle.sharing.specs.SharedSolutions.{Passes, SatisfiesModel};
-ghost use Rattle.checking.specs.ModelBounds.{ModelBounds};
+ghost use Rattle.checking.specs.ReadModel.{Listed};
+ghost use Rattle.picking.specs.Output.{Puts};
 ghost use Rattle.filling.specs.Filled.{handed};
 ghost use Rattle.filling.specs.PicksWritable.{PicksWritable};
 ghost use Rattle.filling.specs.Satisfied.{Satisfied};
 ghost use Rattle.filling.specs.HandsOver.{HandsOver};
 
-use arguments::instance::Instance;
 use checking::check_model;
+use checking::read::ReadModel;
 use encodings::record_encoding;
-use integers::Bounds;
 use modeljudge::judge_read;
-use modelreading::Model;
-use picking::pick_constraint;
+use picking::{Output, pick_constraint};
 use words::answer::Verdict;
-use words::domain::Domain;
 use words::fault::{Fault, Refusal};
+use words::limit;
 use words::list::lay;
-use words::word::Word;
 
 // What fill answers where it does not refuse.
+// It is no `Verdict`: where that holds, fill answers how many values it wrote. The other two cases are turned over in one place, so that a `From` would be no plainer.
 #[derive(Clone, Copy, Debug, PartialEq, Eq)]
 pub enum Filling {
     // how many values it wrote
@@ -36,75 +35,56 @@ pub enum Filling {
     False(usize),
 }
 
-// The auxiliaries of each constraint go into the lent list one after another, after the values, so that the place of each is its number.
-#[tactic(auto, using(modelreading::proofs::Heads::heads_inside))]
-fn write_picks(
-    ws: &[u32],
-    heads: &[usize; 256],
-    model: Model,
-    domains: &[Domain],
-    uses: &[usize],
-    values: &[i32],
-    out: &mut [i32],
-    start: usize,
-)
-    requires { PicksWritable ws.now heads.now model domains.now uses.now values.now start }
-    ensures { out.new ≡ overlay out.old start (picks ws.now values.now) }
+// The auxiliaries of each constraint go over the output one after another, from the place of the first one's number on, so that the place of each is its number.
+// A `for` with its own body, and no closure for all walks: see `encodings::count_uses`.
+fn write_picks(read: &ReadModel, values: &[i32], output: &mut Output)
+    requires { PicksWritable read.now values.now output.old }
+    ensures { Puts output.old (picks read.now.ws.now values.now) output.new }
 {
-    let mut at = start;
-    let mut encoded = [0usize; 256];
-    for k in 0..model.constraints {
-        let place = heads[k];
-        let code = Word::from(ws[place]).payload();
-        let args = &ws[place + 1..];
-        let first = at;
-        at = pick_constraint(
-            out,
-            first,
-            code,
-            &Instance { args, values },
-            domains,
-            uses,
+    // fixed memory: a number for each variable that a model may have
+    let mut encoded = [0usize; limit::VARIABLES];
+    for k in 0..read.model.constraints {
+        let constraint = read.constraint(k);
+        let first = output.at;
+        pick_constraint(
+            output,
+            &constraint,
+            values,
+            &read.domains,
+            &read.uses,
             &encoded,
         );
-        record_encoding(&mut encoded, code, args, uses, first);
+        record_encoding(&mut encoded, &constraint, &read.uses, first);
     }
 }
 
 // The values, and after them the auxiliaries.
-fn write_filled(
-    ws: &[u32],
-    heads: &[usize; 256],
-    model: Model,
-    domains: &[Domain],
-    uses: &[usize],
-    values: &[i32],
-    out: &mut [i32],
-)
-    requires { ModelBounds ws.now heads.now model domains.now uses.now × Passes ws.now × SatisfiesModel ws.now values.now }
-    ensures { out.new ≡ overlay out.old 0 (values.now ++ picks ws.now values.now) }
+#[tactic(auto, using(crate::proofs::Ranges::after_values))]
+fn write_filled(read: &ReadModel, values: &[i32], out: &mut [i32])
+    requires { Listed read.now × Passes read.now.ws.now × SatisfiesModel read.now.ws.now values.now }
+    ensures { out.new ≡ overlay out.old 0 (values.now ++ picks read.now.ws.now values.now) }
 {
     lay(out, 0, values);
-    write_picks(ws, heads, model, domains, uses, values, out, values.len());
+    let mut output = Output {
+        list: out,
+        at: values.len(),
+    };
+    write_picks(read, values, &mut output);
 }
 
 // Of a model that passes the check, with this number of auxiliaries.
 fn fill_passed(
-    ws: &[u32],
-    heads: &[usize; 256],
-    model: Model,
-    domains: &[Domain],
-    uses: &[usize],
+    read: &ReadModel,
     values: &[i32],
     out: &mut [i32],
     added: usize,
 ) -> Result<Filling, Refusal>
-    requires { ModelBounds ws.now heads.now model domains.now uses.now × Passes ws.now × (added ≡ length (auxiliaries ws.now)) }
-    ensures answer { handed result ≡ fill_answer ws.now values.now (length out.old) }
-    ensures output { out.new ≡ filled ws.now values.now out.old }
-    ensures satisfied { Satisfied ws.now (handed result) out.new }
+    requires { Listed read.now × Passes read.now.ws.now × (added ≡ length (auxiliaries read.now.ws.now)) }
+    ensures answer { handed result ≡ fill_answer read.now.ws.now values.now (length out.old) }
+    ensures output { out.new ≡ filled read.now.ws.now values.now out.old }
+    ensures satisfied { Satisfied read.now.ws.now (handed result) out.new }
 {
-    let n = model.variables;
+    let n = read.model.variables;
     if values.len() != n {
         return Err(Refusal {
             fault: Fault::WrongValueCount,
@@ -117,10 +97,11 @@ fn fill_passed(
             place: 0,
         });
     }
-    let verdict = judge_read(Ok(model), ws, heads, values)?;
+    // `judge_read` takes what a reading answers, as judge_model has it; a second function that takes the model would have its clause again, and be no plainer
+    let verdict = judge_read(Ok(read.model), read.ws, &read.heads, values)?;
     match verdict {
         Verdict::Holds => {
-            write_filled(ws, heads, model, domains, uses, values, out);
+            write_filled(read, values, out);
             Ok(Filling::Values(n + added))
         }
         Verdict::OutOfBounds(i) => Ok(Filling::OutOfBounds(i)),
@@ -135,19 +116,7 @@ pub fn fill(ws: &[u32], values: &[i32], out: &mut [i32]) -> Result<Filling, Refu
     ensures satisfied { Satisfied ws.now (handed result) out.new }
     ensures completes { HandsOver ws.now values.now (handed result) out.old out.new }
 {
-    let mut heads = [0usize; 256];
-    let mut domains = [Domain::new(0, 0); 256];
-    let mut uses = [0usize; 256];
-    let mut sums = [Bounds { lower: 0, upper: 0 }; 256];
-    let known = check_model(ws, &mut heads, &mut domains, &mut uses, &mut sums)?;
-    fill_passed(
-        ws,
-        &heads,
-        known.model,
-        &domains,
-        &uses,
-        values,
-        out,
-        known.counts.auxiliaries,
-    )
+    let mut read = ReadModel::of(ws);
+    let counts = check_model(&mut read)?;
+    fill_passed(&read, values, out, counts.auxiliaries)
 }

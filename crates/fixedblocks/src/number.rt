@@ -1,6 +1,8 @@
-// Blocks: sums, products, absolute values, maxima and minima.
-ghost use Rattle.std.specs.Prelude.{[], ◌∷◌, ◌<◌};
+// Blocks: products, absolute values, maxima and minima.
+ghost use Rattle.std.specs.Prelude.{◌≡◌, [], ◌∷◌, ℕ, ◌<◌};
 ghost use Rattle.integers.specs.Number.{min_z, max_z, +0};
+ghost use Rattle.integers.specs.declared.Bounds.{Bounds};
+ghost use Rattle.words.specs.Small.{Near};
 ghost use Rattle.models.specs.Builtin.{int_times, int_abs};
 ghost use Rattle.rules.specs.Rule.{rule, touching};
 ghost use Rattle.laying.specs.Part.{bound, block_parts};
@@ -11,6 +13,7 @@ ghost use Rattle.integers.specs.Bounds.{bounds_in};
 
 use crate::rows::{three_terms, two_terms, where_bit};
 use extremes::{end_products, zero_lower, zero_upper};
+use integers::Bounds;
 use laying::Writer;
 use laying::term::Term;
 use words::domain::{Domain, domain_of};
@@ -34,27 +37,38 @@ pub fn int_times(
     two_terms(writer, Kind::Equal, first, -1, c, 0);
 }
 
-// The bounds Z(x).
-fn zero_bound(writer: &mut Writer, x: usize, domains: &[Domain])
-    requires { Room 10 writer.old }
-    ensures { Writes 10 writer.old writer.new (bound (min_z +0 (bounds_in domains.now x).lower) (max_z +0 (bounds_in domains.now x).upper) ∷ []) }
+// The bounds of variable x, as two numbers. No From: `from_gives` is an equation alone, and that the upper bound is near 0 would be lost.
+pub fn bounds_of(domains: &[Domain], x: usize) -> Bounds
+    ensures value { result ≡ bounds_in domains.now x }
+    ensures near { Near result.upper }
 {
     let b = domain_of(domains, x);
-    writer.bound(zero_lower(b.lower()), zero_upper(b.upper()));
+    Bounds {
+        lower: b.lower(),
+        upper: b.upper(),
+    }
 }
 
-// 8 int_abs: y is x where the bit is 0 and −x where it is 1, and not negative; the bit is 1 only where x is negative.
-pub fn int_abs(writer: &mut Writer, x: usize, y: usize, domains: &[Domain], first: usize)
-    requires { BlockRoom writer.old × (first < first_numbers) }
-    ensures { Writes 10000 writer.old writer.new (block_parts first (rule (bounds_in domains.now) (int_abs x y))) }
+// The bounds Z of these.
+fn zero_bound(writer: &mut Writer, bounds: Bounds)
+    requires { Room 10 writer.old }
+    ensures { Writes 10 writer.old writer.new (bound (min_z +0 bounds.lower) (max_z +0 bounds.upper) ∷ []) }
+{
+    writer.bound(zero_lower(bounds.lower), zero_upper(bounds.upper));
+}
+
+// 8 int_abs: y is x where the bit is 0 and −x where it is 1, and not negative; the bit is 1 only where x is negative. Of the bounds of x the upper one alone has to be near 0, so they are no domain.
+pub fn int_abs(writer: &mut Writer, x: usize, y: usize, bounds: Bounds, first: usize)
+    requires { BlockRoom writer.old × (first < first_numbers) × Near bounds.upper }
+    ensures { (β : ℕ → Bounds) → β x ≡ bounds → Writes 10000 writer.old writer.new (block_parts first (rule β (int_abs x y))) }
 {
     writer.bound(0, 1);
-    zero_bound(writer, x, domains);
+    zero_bound(writer, bounds);
     let z = first + 1;
     writer.times(z, first, x);
     three_terms(writer, Kind::Equal, y, -1, x, 2, z, 0);
     writer.row(Kind::AtMost, &[Term::new(-1, y)], 0);
-    writer.only_negative(x, first, domain_of(domains, x).upper());
+    writer.only_negative(x, first, bounds.upper);
 }
 
 // 9 int_max and 29 int_min: x is at most y and u at most v; y is at most x where the auxiliary is 0, v at most u where it is 1, and there x is below y.

@@ -16,6 +16,7 @@ use words::domain::{Domain, domain_of};
 use words::kind::Kind;
 
 // x + q×y + c, of a kind.
+// `two_terms` and `three_terms` stay beside `Writer::row`: the first coefficient is 1, and a list of `Term`s would make most of their calls some lines longer. Their numbers are the letters of the rule.
 pub fn two_terms(writer: &mut Writer, kind: Kind, x: usize, q: i64, y: usize, c: i64)
     requires { Room 2000 writer.old }
     ensures { Writes 2000 writer.old writer.new (row_parts_of (kind_number kind) (term_of +1 x ∷ term_of q y ∷ []) c) }
@@ -23,7 +24,7 @@ pub fn two_terms(writer: &mut Writer, kind: Kind, x: usize, q: i64, y: usize, c:
     writer.row(kind, &[Term::new(1, x), Term::new(q, y)], c);
 }
 
-// x + q×y + p×z + c, of a kind.
+// x + q×y + p×z + c, of a kind. In the blocks with seven numbers these stay parameters too: they are the letters of the rule, and a struct of them would be made for each call alone.
 pub fn three_terms(
     writer: &mut Writer,
     kind: Kind,
@@ -45,6 +46,7 @@ pub fn three_terms(
 }
 
 // x − y + d ≤ 0 where z is 1: x − y + P×z + d − P ≤ 0, P = hi x − lo y + d. Where z is 0, if it is not `one`: x − y − P×z + d ≤ 0.
+// The flag stays: the definition of the row is one choice by it, and two functions would be twins.
 pub fn where_bit(
     writer: &mut Writer,
     z: usize,

@@ -50,14 +50,14 @@ is_second b.Set = false
 is_second b.Parallel = true
 
 -- an argument
-abbrev pub form_of : Form → Form.Form
-form_of f.Variable = One Token.name
-form_of f.Number = One Token.number
-form_of (f.Bracketed l) = Many (opening_of l) (element_of l) (closing_of l) (is_second l)
+abbrev pub text_form : Form → Form.Form
+text_form f.Variable = One Token.name
+text_form f.Number = One Token.number
+text_form (f.Bracketed l) = Many (opening_of l) (element_of l) (closing_of l) (is_second l)
 
 abbrev pub form_or_missing : Option Form → Form.Form
 form_or_missing None = Missing
-form_or_missing (Some f) = form_of f
+form_or_missing (Some f) = text_form f
 
 -- which items may still come
 abbrev pub stage_number : Stage → ℕ
@@ -82,20 +82,20 @@ due_of (d.Inside p l before) = Grammar.Inside (code_number p.code) p.argument p.
 due_of d.Satisfy = Grammar.Satisfy
 
 -- a word that a token writes, 0 where it writes none
-abbrev pub bits : Option ℕ → ℕ
-bits None = 0
-bits (Some w) = w
+abbrev pub word_or_none : Option ℕ → ℕ
+word_or_none None = 0
+word_or_none (Some w) = w
 
 -- what the definition's step gives: a word, which is not 0, or none, and what is due next, or a fault
-abbrev pub Passes : TokenStep → Step → Type 0
-Passes step s = (step ≡ record { fault = Fault.none; word = bits s.word; next = due_of s.next }) × IfSome s.word (λ w. 0 < w)
+abbrev pub GivesStep : TokenStep → Step → Type 0
+GivesStep step s = (step ≡ record { fault = Fault.none; word = word_or_none s.word; next = due_of s.next }) × IfSome s.word (λ w. 0 < w)
 
-abbrev pub Gives : TokenStep → Result Step Fault → Type 0
-Gives step r = MatchResult r (Passes step) (λ e. step.fault ≡ fault_number e)
+abbrev pub StepOrFault : TokenStep → Result Step Fault → Type 0
+StepOrFault step r = MatchResult r (GivesStep step) (λ e. step.fault ≡ fault_number e)
 
 -- and a fault at the token's place
-abbrev pub GivesAt : TokenStep → ℕ → Result Step error.Refusal → Type 0
-GivesAt step place r = MatchResult r (Passes step) (λ e. (step.fault ≡ fault_number e.fault) × (e.place ≡ place))
+abbrev pub StepOrRefusal : TokenStep → ℕ → Result Step error.Refusal → Type 0
+StepOrRefusal step place r = MatchResult r (GivesStep step) (λ e. (step.fault ≡ fault_number e.fault) × (e.place ≡ place))
 
 -- a number, or one above the range where it is above it
 unfoldable pub cap : ℕ → ℕ

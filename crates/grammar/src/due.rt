@@ -26,27 +26,27 @@ impl Stage {
     pub(crate) fn takes_declarations(self) -> bool
         ensures { result ≡ eqb (stage_number self) declaration_stage }
     {
-        matches!(self, Stage::Declarations)
+        self == Stage::Declarations
     }
 
     // Whether a constraint or the last item may come.
     pub(crate) fn takes_constraints(self) -> bool
         ensures { result ≡ leb (stage_number self) constraint_stage }
     {
-        !matches!(self, Stage::Ended)
+        self != Stage::Ended
     }
 
     // Whether the last item was read.
     pub(crate) fn has_ended(self) -> bool
         ensures { result ≡ eqb (stage_number self) end_stage }
     {
-        matches!(self, Stage::Ended)
+        self == Stage::Ended
     }
 }
 
 // A place among the arguments of a constraint in a text: its code, the number of the argument, counted from 0, and the length of the list before it.
 #[derive(Clone, Copy, Debug, PartialEq, Eq)]
-pub struct Place {
+pub struct ArgumentPlace {
     pub code: Code,
     pub argument: usize,
     pub length: usize,
@@ -68,12 +68,12 @@ pub enum Due {
     Builtin,
     Opening(Code),
     // an argument
-    Argument(Place),
+    Argument(ArgumentPlace),
     // "," before an argument, or ")"
-    Next(Place),
+    Next(ArgumentPlace),
     // inside the brackets before an argument, after a token of a sort
     Inside {
-        place: Place,
+        place: ArgumentPlace,
         bracketed: Bracketed,
         before: Sort,
     },

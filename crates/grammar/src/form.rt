@@ -5,7 +5,7 @@ ghost use Rattle.std.specs.Prelude.{◌≡◌, ◌<◌, map, IfSome};
 ghost use Rattle.tokens.specs.Sorts.{sort_number};
 ghost use Rattle.models.specs.Codes.{code_number};
 ghost use Rattle.grammar.specs.Form.{argument_forms, argument_form};
-ghost use Rattle.grammar.specs.Machine.{opening_of, element_of, closing_of, is_second, form_of, form_or_missing};
+ghost use Rattle.grammar.specs.Machine.{opening_of, element_of, closing_of, is_second, text_form, form_or_missing};
 
 use models::code::Code;
 use tokens::sort::Sort;
@@ -46,7 +46,7 @@ impl Bracketed {
     pub(crate) fn is_second(self) -> bool
         ensures { result ≡ is_second self }
     {
-        matches!(self, Bracketed::Parallel)
+        self == Bracketed::Parallel
     }
 
     // The sort of its closing bracket.
@@ -78,10 +78,11 @@ const SET: Form = Form::Bracketed(Bracketed::Set);
 
 const PARALLEL: Form = Form::Bracketed(Bracketed::Parallel);
 
-// The arguments of a builtin, in their order.
+// The arguments of a builtin, in their order. No table for this and for a model: of parallel lists a text has two, a model one, and a text tells a
+// set from a list.
 #[tactic(auto, unfolding(crate::specs::Form::argument_forms, crate::specs::Form::in_text))]
 pub(crate) fn arguments(code: Code) -> &'static [Form]
-    ensures { map form_of result.now ≡ argument_forms (code_number code) }
+    ensures { map text_form result.now ≡ argument_forms (code_number code) }
 {
     match code {
         Code::IntEq
@@ -123,7 +124,7 @@ pub(crate) fn arguments(code: Code) -> &'static [Form]
     }
 }
 
-// The argument of a builtin with a number, counted from 0, if there is one.
+// The argument of a builtin with a number, counted from 0, if there is one; then the number is few, so that the next one is a number of the machine.
 pub(crate) fn argument(code: Code, k: usize) -> Option<Form>
     ensures value { form_or_missing result ≡ argument_form (code_number code) k }
     ensures few { IfSome result (λ form. k < 9223372036854775808) }

@@ -12,7 +12,8 @@ use words::in_range;
 // 1 more than the largest number of the range.
 const ABOVE: usize = 134217728;
 
-// The number that digits spell, or 134,217,728 where it is above the range.
+// The number that digits spell, or 134,217,728 where it is above the range. No Option: a sum that is cut at ABOVE is one `min`, and `within_range` tells
+// it from the numbers of the range.
 fn decimal_of(digits: &[u8]) -> usize
     ensures value { result ≡ cap (digits_from 0 digits.now) }
     ensures size { result ≤ 134217728 }
@@ -34,7 +35,8 @@ fn within_range(z: i64) -> Option<i64>
     None
 }
 
-// The number that a token spells, if it is in the range.
+// The number that a token spells, if it is in the range. By hand: `parse` of the library takes a str, and the bytes of a text would be tested for
+// UTF-8 first.
 pub(crate) fn value_of(spelling: &[u8]) -> Option<i64>
     ensures { let z = value_of spelling.now in result ≡ (Some z if in_range z else None) }
 {

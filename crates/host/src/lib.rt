@@ -21,7 +21,7 @@ ghost use Rattle.bitsharing.specs.FormShares.{FormShares};
 ghost use Rattle.solutions.specs.Solutions.{solutions_answer, solutions_listed};
 ghost use Rattle.reasons.specs.Reason.{reason as reason_answer};
 ghost use Rattle.host.specs.Bytes.{check_bytes};
-ghost use Rattle.structs.specs.Structs.{counts_of, explanation_of, judgement_of, listed_of, printed_of, written_of};
+ghost use Rattle.structs.specs.Structs.{counts_of, explanation_of, judgement_of, listed_of, printed_of, written_words_of};
 
 use bitform::bit_form;
 use checking::check;
@@ -39,7 +39,7 @@ use translation::translate;
 use words::fault::Fault;
 use words::limit;
 
-// Models of at most so many words are copied to a shorter list, since the whole list is cleared first.
+// Fixed memory: no call uses the heap. Models of at most so many words are copied to a shorter list, since the whole list is cleared first.
 const SHORT: usize = 512;
 
 // Check over bytes whose words fit the list that they are copied to.
@@ -78,7 +78,7 @@ pub extern "C" fn pearrummy_check(words: &[u32]) -> Counts
 // Translate; the words of the row system go to the front of the output.
 #[unsafe(no_mangle)]
 pub extern "C" fn pearrummy_translate(words: &[u32], out: &mut [u32]) -> WrittenWords
-    ensures answer { result ≡ written_of (translate_answer words.now (length out.old)) }
+    ensures answer { result ≡ written_words_of (translate_answer words.now (length out.old)) }
     ensures output { out.new ≡ translated words.now out.old }
     ensures shared { Shares words.now (translate_answer words.now (length out.old)) out.new }
 {
@@ -124,7 +124,7 @@ pub extern "C" fn pearrummy_sheet(words: &[u32], page: &mut [u8]) -> PrintedByte
 // Text; the words of the model that a text of FlatZinc writes go to the front of the output.
 #[unsafe(no_mangle)]
 pub extern "C" fn pearrummy_text(text: &[u8], out: &mut [u32]) -> WrittenWords
-    ensures answer { result ≡ written_of (read_text text.now (length out.old)) }
+    ensures answer { result ≡ written_words_of (read_text text.now (length out.old)) }
     ensures output { out.new ≡ text_read text.now out.old }
 {
     WrittenWords::from(read_text(text, out))
@@ -139,7 +139,8 @@ pub extern "C" fn pearrummy_solutions(words: &[u32], out: &mut [i32]) -> Listed
     Listed::from(solutions(words, out))
 }
 
-// Check of a candidate's model; candidate 1 is the first, every other number the second.
+// Check of a candidate's model; candidate 1 is the first, every other number the second. The candidate is a number, and the pair has calls of its own:
+// so the header for C has them.
 #[unsafe(no_mangle)]
 pub extern "C" fn pearrummy_pair_check(words: &[u32], candidate: u32) -> Counts
     ensures { result ≡ counts_of (pair_check candidate words.now) }
@@ -154,7 +155,7 @@ pub extern "C" fn pearrummy_pair_translate(
     candidate: u32,
     out: &mut [u32],
 ) -> WrittenWords
-    ensures answer { result ≡ written_of (pair_translate candidate words.now (length out.old)) }
+    ensures answer { result ≡ written_words_of (pair_translate candidate words.now (length out.old)) }
     ensures output { out.new ≡ pair_translated candidate words.now out.old }
     ensures shared { Shares (model_of candidate words.now) (pair_translate candidate words.now (length out.old)) out.new }
 {
@@ -200,7 +201,7 @@ pub extern "C" fn pearrummy_reason(words: &[u32], values: &[i32]) -> Explanation
 // Bits; the words of the form of a row system go to the front of the output.
 #[unsafe(no_mangle)]
 pub extern "C" fn pearrummy_bits(words: &[u32], out: &mut [u32]) -> WrittenWords
-    ensures answer { result ≡ written_of (bit_form words.now (length out.old)) }
+    ensures answer { result ≡ written_words_of (bit_form words.now (length out.old)) }
     ensures output { out.new ≡ bit_formed words.now out.old }
     ensures shared { FormShares words.now (bit_form words.now (length out.old)) out.new }
 {

@@ -88,8 +88,8 @@ pub mul-le : {a b m n : ℕ} → a ≤ m → b ≤ n → a * b ≤ m * n
 mul-le {a} {b} {m} {n} h k = le_trans (mul-le-mul_right b h) (mul-le-mul_left m k)
 
 -- two numbers are equal where their bits are
-pub equal-bits : (a b : ℤ) → SFits w64 a → SFits w64 b → eqb (of_z w64 a) (of_z w64 b) ≡ (a ≟ b)
-equal-bits a b h k = go (eqb (of_z w64 a) (of_z w64 b)) (a ≟ b) refl refl
+pub equal_bits : (a b : ℤ) → SFits w64 a → SFits w64 b → eqb (of_z w64 a) (of_z w64 b) ≡ (a ≟ b)
+equal_bits a b h k = go (eqb (of_z w64 a) (of_z w64 b)) (a ≟ b) refl refl
   where
     go : (x y : Bool) → eqb (of_z w64 a) (of_z w64 b) ≡ x → (a ≟ b) ≡ y → eqb (of_z w64 a) (of_z w64 b) ≡ (a ≟ b)
     go true y e f = e ∙ sym ((says-equal a b).1 (sym (to_z-of_z h) ∙ ap (to_z w64) (eqb-true (of_z w64 a) (of_z w64 b) e) ∙ to_z-of_z k))

@@ -1,4 +1,4 @@
-// Signed numbers of 64 bits whose sums and products are those of whole numbers; the bounds of a variable.
+// Signed numbers of 64 bits whose sums and products are those of whole numbers; bounds.
 #![tactic(auto)]
 
 ghost use Rattle.std.specs.Prelude.{◌≡◌, ◌+◌, ◌*◌, ◌<◌, ◌≤◌, nat_abs};
@@ -8,7 +8,7 @@ ghost use Rattle.integers.specs.Number.{◌⊕◌, ◌⊖◌, ◌⊗◌, neg, mi
 
 pub mod test;
 
-// The bounds of a variable.
+// The bounds of a variable or of a sum, which may lie far from 0: `words::domain::Domain` is the type of those that are near 0, and its view is this one.
 #[repr(C)]
 #[derive(Clone, Copy, Debug, PartialEq, Eq)]
 pub struct Bounds {
@@ -50,10 +50,11 @@ pub fn opposite(a: i64) -> i64
     ensures value { result ≡ neg a }
     ensures size { nat_abs result ≤ nat_abs a }
 {
-    0 - a
+    -a
 }
 
 // The quotient, cut towards zero.
+// What is asked, here and of plus, minus, times and remainder, is of two values at once: a struct of both would be made for each call and be no plainer.
 pub fn quotient(a: i64, d: i64) -> i64
     requires { (nat_abs a < 9223372036854775808) × (0 < nat_abs d) }
     ensures { result ≡ quot_z a d }
@@ -62,48 +63,35 @@ pub fn quotient(a: i64, d: i64) -> i64
 }
 
 // What the quotient leaves, with the sign of a.
-fn remainder(a: i64, d: i64) -> i64
+pub fn remainder(a: i64, d: i64) -> i64
     requires { (nat_abs a < 9223372036854775808) × (0 < nat_abs d) }
     ensures { result ≡ rem_z a d }
 {
     a % d
 }
 
-// The quotient, or what it leaves.
-pub fn divided(a: i64, d: i64, left: bool) -> i64
-    requires { (nat_abs a < 9223372036854775808) × (0 < nat_abs d) }
-    ensures { result ≡ (rem_z if left else quot_z) a d }
-{
-    if left {
-        return remainder(a, d);
-    }
-    quotient(a, d)
-}
-
-// The lesser of two.
+// The lesser of two. The library's `min` would be no plainer: it is stated by another definition.
 #[tactic(auto, unfolding(crate::specs::Number::min_z))]
 pub fn least(a: i64, b: i64) -> i64
     ensures { result ≡ min_z a b }
 {
-    if a <= b { a } else { b }
+    a.min(b)
 }
 
-// The larger of two.
+// The larger of two. The library's `max` would be no plainer: it is stated by another definition.
 #[tactic(auto, unfolding(crate::specs::Number::max_z))]
 pub fn largest(a: i64, b: i64) -> i64
     ensures { result ≡ max_z a b }
 {
-    if a <= b { b } else { a }
+    a.max(b)
 }
 
-// The lesser or the larger of two.
+// The lesser or the larger of two, by the flag that a caller has: it would choose between `least` and `largest` itself and be no plainer.
+#[tactic(auto, unfolding(crate::specs::Number::min_z, crate::specs::Number::max_z))]
 pub fn pick(a: i64, b: i64, up: bool) -> i64
     ensures { result ≡ (max_z if up else min_z) a b }
 {
-    if up {
-        return largest(a, b);
-    }
-    least(a, b)
+    if up { a.max(b) } else { a.min(b) }
 }
 
 // A number cut to -most..most.
@@ -115,7 +103,8 @@ pub fn cut_to(most: i64, a: i64) -> i64
     least(most, largest(opposite(most), a))
 }
 
-// Whether two are equal.
+// Whether two are equal. The library states `==` over bits: it is this test where the law `equal_bits` is named.
+#[tactic(auto, using(crate::proofs::Fits::equal_bits))]
 pub fn equal(a: i64, b: i64) -> bool
     ensures { result ≡ (a ≟ b) }
 {

@@ -1,5 +1,5 @@
 -- Parts for which the list has no room: they are counted, and the list stays as it is.
-use Rattle.std.proofs.Common.{◌≡◌, refl, sym, ap, ap₂, ◌∙◌, Bool, true, false, not, ◌&&◌, ◌||◌, List, [], ◌∷◌, ◌++◌, ℕ, zero, suc, ◌+◌, ◌*◌, ◌<◌, ◌≤◌, arith, ℤ, pos, length, length-append}
+use Rattle.std.proofs.Common.{◌≡◌, refl, sym, ap, ap₂, ◌∙◌, Bool, true, false, not, ◌&&◌, ◌||◌, List, [], ◌∷◌, ◌++◌, ℕ, zero, suc, ◌+◌, ◌*◌, ◌<◌, ◌≤◌, arith, ℤ, pos, length, length-append, get_or, set}
 use mathlib.Core.List.{flat_map}
 use lib.Seq.{set_out}
 use Rattle.integers.specs.Number.{◌⊕◌, +0, +1, -1}
@@ -9,11 +9,13 @@ use Rattle.integers.proofs.Linear.{◌⊑◌, linear}
 use Rattle.integers.proofs.Places.{all_append}
 use Rattle.integers.proofs.Booleans.{and-true}
 use Rattle.words.specs.Limit as Limit
-use Rattle.words.specs.Word.{in_range}
+use Rattle.words.specs.Kind as Kind
+use Rattle.words.specs.Word.{in_range, word, number_word}
 use Rattle.words.specs.Overlay.{overlay}
+use Rattle.words.proofs.Overlay.{overlay-append}
 use Rattle.words.proofs.ReadBack.{says_range}
 use Rattle.laying.specs.Part.{Part, bound, head, term, constant, times, part_words, part_numbers, part_auxiliaries, part_rows, words_in, numbers_in, auxiliaries_in, rows_in}
-use Rattle.laying.specs.Lists.{many, term_of, term_at, row_parts_of, bit_at, label_at}
+use Rattle.laying.specs.Lists.{many, term_of, term_at, row_parts_of, same_at, bit_at, label_at}
 use Rattle.laying.specs.Appends.{some_outside, Appends, CountsMore}
 use Rattle.laying.specs.declared.Laid.{Laid}
 use Rattle.laying.specs.declared.term.Term.{Term}
@@ -92,26 +94,6 @@ between = simp linear (omega arith)
 pub sized-label : (from : ℤ) (v n : ℕ) → in_range from ≡ true → in_range (from ⊕ pos n) ≡ true → (k : ℕ) → k < n → Sized (label_at from v k) 2 0 0 true
 sized-label from v n f l k h = sized-term _ (v + k) ((says_range (from ⊕ pos k)).1 (between from k n h ((says_range from).0 f) ((says_range (from ⊕ pos n)).0 l)))
 
--- ---- rows
-
-sized-terms : (ts : List Term) → Sized (many (term_at ts) (length ts)) (2 * length ts) 0 0 (all (λ t. in_range t.coefficient) ts)
-unfolding many all
-sized-terms [] = sized-none
-sized-terms (t ∷ ts) =
-    let d : 2 + 2 * length ts ≡ 2 * suc (length ts) = omega arith in
-    rw d at (sized-then (sized-any t.coefficient t.variable) (sized-terms ts))
-
-pub sized_row : (kind : ℕ) (ts : List Term) (c : ℤ) → Sized (row_parts_of kind ts c) (2 + 2 * length ts) 0 1 (all (λ t. in_range t.coefficient) ts && in_range c)
-unfolding row_parts_of
-sized_row kind ts c =
-    let d : 1 + (2 * length ts + 1) ≡ 2 + 2 * length ts = omega arith in
-    rw d at (sized-then (sized-head kind (length ts)) (sized-then (sized-terms ts) (sized-constant c)))
-
--- a row of two variables, the coefficients 1 and −1
-pub sized-pair : (kind x y : ℕ) → Sized (row_parts_of kind (term_of +1 x ∷ term_of -1 y ∷ []) +0) 6 0 1 true
-unfolding within all
-sized-pair kind x y = sized_row kind (term_of +1 x ∷ term_of -1 y ∷ []) +0
-
 -- ---- many lists, each of the same counts
 
 pub sized-many : (f : ℕ → List Part) (w a r n : ℕ) → ((k : ℕ) → k < n → Sized (f k) w a r true) → Sized (many f n) (w * n) (a * n) (r * n) true
@@ -132,6 +114,28 @@ sized-listed f g w a r zero h =
 sized-listed f g w a r (suc n) h =
     let e : (x : ℕ) → x + x * n ≡ x * suc n = λ x. omega arith in
     rw (← e w, ← e a, ← e r) (sized-then (h 0) (sized-listed (λ k. f (suc k)) (λ k. g (suc k)) w a r n (λ k. h (suc k))))
+
+-- ---- rows
+
+-- the coefficient of the term at a place
+abbrev pub coefficient-at : List Term → ℕ → ℤ
+coefficient-at ts k = (get_or ts k (term_of +0 0)).coefficient
+
+sized-terms : (ts : List Term) → Sized (many (term_at ts) (length ts)) (2 * length ts) 0 0 (all in_range (list_of (coefficient-at ts) (length ts)))
+sized-terms ts =
+    let z : 0 * length ts ≡ 0 = omega arith in
+    rw z at (sized-listed (term_at ts) (coefficient-at ts) 2 0 0 (length ts) (λ k. sized-any _ _))
+
+pub sized_row : (kind : ℕ) (ts : List Term) (c : ℤ) → Sized (row_parts_of kind ts c) (2 + 2 * length ts) 0 1 (all in_range (list_of (coefficient-at ts) (length ts)) && in_range c)
+unfolding row_parts_of
+sized_row kind ts c =
+    let d : 1 + (2 * length ts + 1) ≡ 2 + 2 * length ts = omega arith in
+    rw d at (sized-then (sized-head kind (length ts)) (sized-then (sized-terms ts) (sized-constant c)))
+
+-- a row of two variables, the coefficients 1 and −1
+pub sized-pair : (kind x y : ℕ) → Sized (row_parts_of kind (term_of +1 x ∷ term_of -1 y ∷ []) +0) 6 0 1 true
+unfolding within all list_of
+sized-pair kind x y = sized_row kind (term_of +1 x ∷ term_of -1 y ∷ []) +0
 
 cross : (a b c d : Bool) → ((a && b) && (c && d)) ≡ ((a && c) && (b && d))
 cross true true c d = refl
@@ -157,6 +161,20 @@ sized-each f w a r (suc n) h =
     let e : (x : ℕ) → x + x * n ≡ x * suc n = λ x. omega arith in
     let z = sized-then (h 0) (sized-each (λ k. f (suc k)) w a r n (λ k. h (suc k))) in
     rw (← e w, ← e a, ← e r) (rw (← z.fits) at z)
+
+-- ---- word by word
+
+-- one more term of a coefficient
+pub same_more : (o : List ℕ) (at : ℕ) (c : ℤ) (v k : ℕ) →
+    set (set (overlay o at (words_in (many (same_at c v) k))) (at + 2 * k) (word Kind.variable (v + k))) (at + 2 * k + 1) (number_word Kind.number c)
+    ≡ overlay o at (words_in (many (same_at c v) (k + 1)))
+unfolding overlay words_in flat_map part_words
+same_more o at c v k =
+    let f = same_at c v in
+    let ws = words_in (many f k) in
+    let n : length ws ≡ 2 * k = (sized-each f 2 0 0 k (λ j. sized-fitting c (v + j))).words in
+    let one : suc (at + 2 * k) ≡ at + 2 * k + 1 = omega arith in
+    rw (← one, ← n) (overlay-append o at ws (words_in (f k))) ∙ ap (overlay o at) (sym (words_append (many f k) (f k)) ∙ ap words_in (sym (many_more f k)))
 
 -- ---- no room
 

@@ -1,10 +1,11 @@
 -- Laws of what a writer leaves: one part, parts after parts, loops that write a list of parts in each turn, parts that are only counted.
-use Rattle.std.proofs.Common.{◌≡◌, refl, ◌∙◌, Bool, true, List, [], ◌∷◌, ◌++◌, ℕ, ◌+◌, ◌*◌, ◌≤◌, arith, length}
+use Rattle.std.proofs.Common.{◌≡◌, refl, sym, ap, ◌∙◌, Bool, true, not, ◌||◌, List, [], ◌∷◌, ◌++◌, ℕ, ◌+◌, ◌*◌, ◌≤◌, arith, length}
 use Rattle.integers.specs.Lists.{all}
 use Rattle.words.specs.Word.{in_range}
-use Rattle.laying.specs.Part.{Part, part_words, part_numbers, part_auxiliaries, part_rows}
+use Rattle.words.specs.Overlay.{overlay}
+use Rattle.laying.specs.Part.{Part, part_words, part_numbers, part_auxiliaries, part_rows, words_in}
 use Rattle.laying.specs.Lists.{many}
-use Rattle.laying.specs.Appends.{Appends, Over, CountsMore, GrowsBy}
+use Rattle.laying.specs.Appends.{some_outside, Appends, Over, CountsMore, GrowsBy}
 use Rattle.laying.specs.Writes.{Writes, WritesFitting}
 use Rattle.laying.specs.declared.Writer.{Writer}
 use Rattle.laying.proofs.Parts.{went-none, went-one, went_then, many_more}
@@ -41,6 +42,21 @@ wrote-fitting w = record { parts = went-fitting w.parts; size = w.size; list = w
 pub wrote-counted : {s r : Writer} {ps : List Part} {w a n W A N m : ℕ} {fit : Bool} → Sized ps w a n fit → (W ≡ w) × (A ≡ a) × (N ≡ n) × (W + A + N ≤ m) →
     length s.out.now ≤ s.laid.words → CountsMore s.laid r.laid W A N fit → r.out ≡ s.out → Writes m s r ps
 wrote-counted z e room c q = record { parts = rw q (no_room (rw (← e.0, ← e.1, ← e.2) at z) room c); size = omega (arith, c.words, c.auxiliaries, c.rows, e.3); list = rw q refl }
+
+-- what is counted, and whose words went over the list
+pub wrote-laid : {s r : Writer} {ps : List Part} {w a n W A N m : ℕ} {fit : Bool} → Sized ps w a n fit → (W ≡ w) × (A ≡ a) × (N ≡ n) × (W + A + N ≤ m) →
+    CountsMore s.laid r.laid W A N fit → r.out.now ≡ overlay s.out.now s.laid.words (words_in ps) → r.out.ghost_name ≡ s.out.ghost_name → Writes m s r ps
+wrote-laid {s} {r} {ps} z e c l q = record {
+  parts = record {
+    words = omega (arith, c.words, z.words, e.0);
+    auxiliaries = omega (arith, c.auxiliaries, z.auxiliaries, e.1);
+    rows = omega (arith, c.rows, z.rows, e.2);
+    outside = c.outside ∙ ap (λ (b : Bool). some_outside s.laid || not b) (sym z.fits);
+    over = l;
+  };
+  size = omega (arith, c.words, c.auxiliaries, c.rows, e.3);
+  list = q;
+}
 
 -- many lists of w words, a auxiliaries and r rows each, whose numbers fit, are only counted
 pub wrote-many : {s t : Writer} (f : ℕ → List Part) (n : ℕ) {W A N : ℕ} (w a r b : ℕ) → ((k : ℕ) → Sized (f k) w a r true) →

@@ -38,9 +38,11 @@ pub record AppendsFitting (s r : Laid) (out out' : List ℕ) (ps : List Part) : 
   pub counted : CountsMore s r (length (words_in ps)) (auxiliaries_in ps) (rows_in ps) (all in_range (numbers_in ps))
   pub over : all in_range (numbers_in ps) ≡ true → out' ≡ overlay out s.words (words_in ps)
 
+-- nothing was laid
 abbrev pub nothing : Laid
 nothing = record { words = 0; auxiliaries = 0; rows = 0; outside = 0 }
 
+-- words, auxiliaries and rows together
 abbrev pub total : Laid → ℕ
 total s = s.words + s.auxiliaries + s.rows
 

@@ -1,6 +1,7 @@
--- What only internal contracts cite: the parts of a block, lists of them, what laying them does, and sizes.
+-- What only internal contracts cite: the parts of a block, lists of them, what laying them does, what closures answer, and sizes.
 pub mod Part
 pub mod Lists
+pub mod Gives
 pub mod Appends
 pub mod Writes
 pub mod Room

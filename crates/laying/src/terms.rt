@@ -1,5 +1,5 @@
 // Rows, and the parts that a writer puts for each place of a list.
-ghost use Rattle.std.specs.Prelude.{◌≡◌, [], ◌∷◌, ℕ, ℤ, ◌+◌, ◌<◌, ◌≤◌, nat_abs, length};
+ghost use Rattle.std.specs.Prelude.{◌≡◌, [], ◌∷◌, ℕ, ℤ, ◌+◌, ◌*◌, ◌<◌, ◌≤◌, nat_abs, length};
 ghost use Rattle.integers.specs.Choice.{◌if◌else◌};
 ghost use Rattle.integers.specs.Number.{◌⊕◌, neg, +1};
 ghost use Rattle.integers.specs.Lists.{all, list_of};
@@ -8,8 +8,10 @@ ghost use Rattle.words.specs.Kinds.{kind_number};
 ghost use Rattle.words.specs.Limit as Limit;
 ghost use Rattle.words.specs.Word.{in_range};
 ghost use Rattle.models.specs.Model.{size, past};
-ghost use Rattle.laying.specs.Part.{bound, term};
+ghost use Rattle.words.specs.Overlay.{overlay};
+ghost use Rattle.laying.specs.Part.{bound, term, words_in};
 ghost use Rattle.laying.specs.Lists.{many, term_of, row_parts_of, sum_at, each_at, same_at, label_at, bit_at, product_at, order_at};
+ghost use Rattle.laying.specs.Gives.{Gives};
 ghost use Rattle.laying.specs.Appends.{GrowsBy};
 ghost use Rattle.laying.specs.Writes.{Writes};
 ghost use Rattle.laying.specs.Room.{Room};
@@ -20,11 +22,12 @@ use arguments::{num_at, past_at, size_at, var_at};
 use integers::{opposite, plus};
 use words::in_range;
 use words::kind::Kind;
+use words::word::Word;
 
 // Whether n numbers, each given by its place, are in the range.
 fn all_fit<C: Fn(usize) -> i64>(n: usize, number: C) -> bool
     requires { (k : ℕ) → k < n → C.pre number k }
-    ensures { (c : ℕ → ℤ) → ((k : ℕ) (r : ℤ) → k < n → C.post number k r → r ≡ c k) → result ≡ all in_range (list_of c n) }
+    ensures { (c : ℕ → ℤ) → Gives n (C.post number) c → result ≡ all in_range (list_of c n) }
 {
     let mut fit = true;
     for k in 0..n {
@@ -33,8 +36,22 @@ fn all_fit<C: Fn(usize) -> i64>(n: usize, number: C) -> bool
     fit
 }
 
+// The words of c × each of n consecutive variables from v on, from a place on from which all of them fit.
+fn put_same(out: &mut [u32], at: usize, c: i64, v: usize, n: usize)
+    requires { (at + 2 * n ≤ length out.old) × (n ≤ Limit.terms) × (v < 1000000000000) }
+    ensures { out.new ≡ overlay out.old at (words_in (many (same_at c v) n)) }
+{
+    let number = Word::of_number(Kind::Number, c).bits();
+    for k in 0..n {
+        out[at + 2 * k] = Word::new(Kind::Variable, v + k).bits();
+        out[at + 2 * k + 1] = number;
+    }
+}
+
+// `terms`, `bounds`, `products` and `order` stay four: one function of them would take what is put for a place as a closure that changes the writer, with the clauses of that part, and be no plainer than a loop of one line. Where there is no room, counting at once is faster (docs/BENCHMARKS.md, what was mended).
 impl<'a> Writer<'a> {
     // n terms, each given by its place: its coefficient and its variable. Where the list has no room left, they are counted.
+    // That n is at most the terms of a row stays a clause, here and below: it is the length of a list, a width or a difference of such, counted anew by each caller. How large v, base and i may be stays in clauses too: each is one number, so large that no sum over it wraps.
     pub fn terms<C: Fn(usize) -> i64, V: Fn(usize) -> usize>(
         &mut self,
         n: usize,
@@ -45,7 +62,7 @@ impl<'a> Writer<'a> {
         requires coefficients { (k : ℕ) → k < n → C.pre coefficient k }
         requires variables { (k : ℕ) → k < n → V.pre variable k }
         ensures size { GrowsBy 1000 self.old.laid self.new.laid }
-        ensures parts { (c : ℕ → ℤ) (v : ℕ → ℕ) → ((k : ℕ) (r : ℤ) → k < n → C.post coefficient k r → r ≡ c k) → ((k r : ℕ) → k < n → V.post variable k r → r ≡ v k) → Writes 1000 self.old self.new (many (λ k. term (c k) (v k) ∷ []) n) }
+        ensures parts { (c : ℕ → ℤ) (v : ℕ → ℕ) → Gives n (C.post coefficient) c → Gives n (V.post variable) v → Writes 1000 self.old self.new (many (λ k. term (c k) (v k) ∷ []) n) }
     {
         if self.out.len() <= self.laid.words {
             let fit = all_fit(n, coefficient);
@@ -57,11 +74,16 @@ impl<'a> Writer<'a> {
         }
     }
 
-    // c × each of n consecutive variables from v on.
+    // c × each of n consecutive variables from v on. Where there is room for all of them, their words are put with no further test: by `terms` alone, translate of 8,192 words takes some 5 in 100 longer.
     pub fn same(&mut self, c: i64, v: usize, n: usize)
         requires { Room 1000 self.old × (n ≤ Limit.terms) × (v < 1000000000000) }
         ensures { Writes 1000 self.old self.new (many (same_at c v) n) }
     {
+        if in_range(c) && self.laid.words + 2 * n <= self.out.len() {
+            put_same(self.out, self.laid.words, c, v, n);
+            self.count(2 * n, 0, 0, true);
+            return;
+        }
         self.terms(n, |_| c, |k| v + k);
     }
 
@@ -88,7 +110,7 @@ impl<'a> Writer<'a> {
         self.terms(size_at(args, i), |_| c, |k| var_at(args, variables + k));
     }
 
-    // Consecutive numbers × consecutive variables, n of them.
+    // Consecutive numbers × consecutive variables, n of them. No call today: `choiceblocks::rows::label_row` puts such terms within one row. It states a promise of before.
     pub fn labels(&mut self, from: i64, v: usize, n: usize)
         requires { Room 1000 self.old × (n ≤ Limit.terms) × (v < 1000000000000) × (nat_abs from < 1000000000000) }
         ensures { Writes 1000 self.old self.new (many (label_at from v) n) }
@@ -96,13 +118,21 @@ impl<'a> Writer<'a> {
         self.terms(n, |k| plus(from, k as i64), |k| v + k);
     }
 
-    // A row of a kind, of given terms.
+    // A row of a kind, of given terms. Where the list has no room left, they are counted.
+    // The loop is its own: through `terms`, by closures that read the list, translate of 1,024 words took some 3 to 6 in 100 longer, tried in a transcription to Rust.
     pub fn row(&mut self, kind: Kind, terms: &[Term], c: i64)
         requires { Room 2000 self.old × (length terms.now ≤ Limit.terms) }
         ensures { Writes 2000 self.old self.new (row_parts_of (kind_number kind) terms.now c) }
     {
+        if self.out.len() <= self.laid.words {
+            let fit = all_fit(terms.len(), |k| terms[k].number()) & in_range(c);
+            self.count(2 + 2 * terms.len(), 0, 1, fit);
+            return;
+        }
         self.head(kind, terms.len());
-        self.terms(terms.len(), |k| terms[k].number(), |k| terms[k].variable);
+        for term in terms {
+            self.term(term.number(), term.variable);
+        }
         self.constant(c);
     }
 
@@ -124,7 +154,7 @@ impl<'a> Writer<'a> {
         requires lowers { (k : ℕ) → k < n → L.pre lower k }
         requires uppers { (k : ℕ) → k < n → U.pre upper k }
         ensures size { GrowsBy 1000 self.old.laid self.new.laid }
-        ensures parts { (l u : ℕ → ℤ) → ((k : ℕ) (r : ℤ) → k < n → L.post lower k r → r ≡ l k) → ((k : ℕ) (r : ℤ) → k < n → U.post upper k r → r ≡ u k) → Writes 1000 self.old self.new (many (λ k. bound (l k) (u k) ∷ []) n) }
+        ensures parts { (l u : ℕ → ℤ) → Gives n (L.post lower) l → Gives n (U.post upper) u → Writes 1000 self.old self.new (many (λ k. bound (l k) (u k) ∷ []) n) }
     {
         if self.out.len() <= self.laid.words {
             let lowers = all_fit(n, lower);
@@ -145,7 +175,7 @@ impl<'a> Writer<'a> {
         self.bounds(n, |_| 0, |_| 1);
     }
 
-    // n products: from z on, of the variables from place base on and those from b on.
+    // n products: from z on, of the variables from place base on and those from b on. Where the list has no room left, they are counted.
     pub fn products(&mut self, args: &[u32], base: usize, z: usize, b: usize, n: usize)
         requires { Room 1000 self.old × (n ≤ Limit.terms) × (base < 1000000000000) × (z < 1000000000000) × (b < 1000000000000) }
         ensures { Writes 1000 self.old self.new (many (product_at args.now base z b) n) }
@@ -159,7 +189,8 @@ impl<'a> Writer<'a> {
         }
     }
 
-    // n rows x − m ≤ 0, x the variables from place base on; m − x ≤ 0, where it is not `up`.
+    // n rows x − m ≤ 0, x the variables from place base on; m − x ≤ 0, where it is not `up`. Where the list has no room left, they are counted.
+    // The flag stays: by two closures for the lesser and the larger variable, as `choiceblocks::rows::first_only` takes, `array_bool_and`, which has no flag, would carry their facts too, and be no plainer.
     pub fn order(&mut self, args: &[u32], base: usize, m: usize, n: usize, up: bool)
         requires { Room 200000 self.old × (n ≤ Limit.terms) × (base < 1000000000000) }
         ensures { Writes 200000 self.old self.new (many (order_at args.now base m up) n) }
@@ -182,7 +213,7 @@ impl<'a> Writer<'a> {
     }
 }
 
-// x; y, where it is not `up`.
+// x; y, where it is not `up`. It stays a function: without it each row that turns round by the flag would be written twice.
 pub fn first_if(up: bool, x: usize, y: usize) -> usize
     ensures { result ≡ (x if up else y) }
 {

@@ -42,7 +42,7 @@ pub fn bool_clause(writer: &mut Writer, args: &[u32])
     writer.constant(one_less(m));
 }
 
-// Σas−r−n+1≤0
+// Σas−r−n+1≤0. `write_all` and `write_odd` stay two: one function would take kind, coefficient, variable and constant, six parameters for four lines.
 fn write_all(writer: &mut Writer, args: &[u32], r: usize)
     requires { Room 2000 writer.old }
     ensures { (first : ℕ) → Writes 2000 writer.old writer.new (row_parts first (all_row (vars args.now 0) r)) }

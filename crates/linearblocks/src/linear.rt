@@ -1,4 +1,5 @@
 // Codes 10 to 15, 31 and 32: the blocks of sums of terms, of int_eq_reif and int_ne_reif. From 12 on `sum` is L and U.
+// That these fit stays a clause: they are a pair of bounds as others are, and come from the list of all sums, in which those of other codes are not asked to fit.
 ghost use Rattle.std.specs.Prelude.{◌≡◌, ℕ, ◌<◌, ◌≤◌, nat_abs};
 ghost use mathlib.Core.List.{flat_map};
 ghost use Rattle.models.specs.Builtin.{int_lin_eq, int_lin_le, int_lin_ne};
@@ -18,12 +19,12 @@ use integers::{Bounds, minus, opposite};
 use laying::Writer;
 use laying::term::Term;
 use words::kind::Kind;
-use words::word_at;
+use words::word::Word;
 
-// The number −1 as a payload, of 28 bits.
+// The number −1 as a payload, of 28 bits; it numbers no case.
 const MINUS_ONE: u32 = 268435455;
 
-// int_lin_eq: Σ−c=0.
+// int_lin_eq: Σ−c=0. int_lin_eq and int_lin_le stay two: each is one call of `write_sum`, and its clause names its own rule.
 pub fn int_lin_eq(writer: &mut Writer, args: &[u32])
     requires { BlockRoom writer.old }
     ensures { (first : ℕ) (β : ℕ → Bounds) → Writes block_size writer.old writer.new (block_parts first (rule β (linear int_lin_eq args.now))) }
@@ -44,18 +45,16 @@ pub fn int_lin_ne(writer: &mut Writer, args: &[u32], sum: Bounds, first: usize)
     requires { BlockRoom writer.old × (first < first_numbers) × Fits sum }
     ensures { (β : ℕ → Bounds) → sum ≡ linear_sum β args.now → Writes block_size writer.old writer.new (block_parts first (rule β (linear int_lin_ne args.now))) }
 {
-    let lower = sum.lower;
-    let upper = sum.upper;
-    write_split(writer, args, lower, upper, first);
+    write_split(writer, args, sum, first);
     writer.row(
         Kind::AtMost,
         &[Term::new(-1, first), Term::new(2, first + 2)],
         1,
     );
-    writer.only_negative(first, first + 1, upper);
+    writer.only_negative(first, first + 1, sum.upper);
 }
 
-// x−2×z+p×r+q≤0; −x+2×z+u×r+v≤0, x and z from `first` on.
+// x−2×z+p×r+q≤0; −x+2×z+u×r+v≤0, x and z from `first` on. The numbers stay parameters: they are those of two rows, and a struct of them would be made for each call alone.
 fn write_size(writer: &mut Writer, r: usize, p: i64, q: i64, u: i64, v: i64, first: usize)
     requires { Room 10000 writer.old × (first < first_numbers) }
     ensures { Writes 10000 writer.old writer.new (flat_map (row_parts first) (size_rows r p q u v)) }
@@ -81,6 +80,7 @@ fn write_size(writer: &mut Writer, r: usize, p: i64, q: i64, u: i64, v: i64, fir
 }
 
 // x−2×z+W×r−W≤0; −x+2×z−r+1≤0. Where it is not `equal`: x−2×z−W×r≤0; −x+2×z+r≤0.
+// The flag stays, here and in the two blocks below: their definitions take it, and two functions of each would be twins but for the numbers of these rows.
 fn write_zero(writer: &mut Writer, w: i64, r: usize, first: usize, equal: bool)
     requires { Room 10000 writer.old × (first < first_numbers) × (nat_abs w ≤ 1152921504606846976) }
     ensures { Writes 10000 writer.old writer.new (flat_map (row_parts first) (zero_rows equal w r)) }
@@ -98,13 +98,11 @@ pub fn zero_reif(writer: &mut Writer, args: &[u32], sum: Bounds, first: usize, e
     requires { BlockRoom writer.old × (first < first_numbers) × Fits sum }
     ensures { (β : ℕ → Bounds) → sum ≡ linear_sum β args.now → Writes block_size writer.old writer.new (block_parts first (terms_reified β equal args.now)) }
 {
-    let lower = sum.lower;
-    let upper = sum.upper;
-    let w = larger_absolute(lower, upper);
+    let w = larger_absolute(sum.lower, sum.upper);
     let r = var_at(args, past_terms_at(args, 0) + 1);
-    write_split(writer, args, lower, upper, first);
+    write_split(writer, args, sum, first);
     write_zero(writer, w, r, first, equal);
-    writer.only_negative(first, first + 1, upper);
+    writer.only_negative(first, first + 1, sum.upper);
 }
 
 // int_eq_reif: int_lin_eq_reif of the two terms 1×a and −1×b, with the constant 0. int_ne_reif, where it is not `equal`.
@@ -112,27 +110,27 @@ pub fn two_reif(writer: &mut Writer, args: &[u32], sum: Bounds, first: usize, eq
     requires { BlockRoom writer.old × (first < first_numbers) × Fits sum }
     ensures { (β : ℕ → Bounds) → sum ≡ equal_sum β args.now → Writes block_size writer.old writer.new (block_parts first (two_reified β equal args.now)) }
 {
-    let a = word_at(args, 0);
-    let b = word_at(args, 1);
-    let r = word_at(args, 2);
+    let a = Word::at(args, 0).bits();
+    let b = Word::at(args, 1).bits();
+    let r = Word::at(args, 2).bits();
     // the length 2, the numbers 1 and −1, the variables, the number 0, the variable r
     let words = [2, 1, MINUS_ONE, a, b, 0, r];
     zero_reif(writer, &words, sum, first, equal);
 }
 
 // x+U×r−U≤0; −x+(L−1)×r+1≤0, x the variable `first`.
-fn write_at_most(writer: &mut Writer, lower: i64, upper: i64, r: usize, first: usize)
-    requires { Room 10000 writer.old × (first < first_numbers) × (nat_abs lower ≤ 1152921504606846976) × (nat_abs upper ≤ 1152921504606846976) }
-    ensures { Writes 10000 writer.old writer.new (flat_map (row_parts first) (at_most_rows lower upper r)) }
+fn write_at_most(writer: &mut Writer, sum: Bounds, r: usize, first: usize)
+    requires { Room 10000 writer.old × (first < first_numbers) × Fits sum }
+    ensures { Writes 10000 writer.old writer.new (flat_map (row_parts first) (at_most_rows sum.lower sum.upper r)) }
 {
     writer.row(
         Kind::AtMost,
-        &[Term::new(1, first), Term::new(upper, r)],
-        opposite(upper),
+        &[Term::new(1, first), Term::new(sum.upper, r)],
+        opposite(sum.upper),
     );
     writer.row(
         Kind::AtMost,
-        &[Term::new(-1, first), Term::new(minus(lower, 1), r)],
+        &[Term::new(-1, first), Term::new(minus(sum.lower, 1), r)],
         1,
     );
 }
@@ -142,9 +140,7 @@ pub fn int_lin_le_reif(writer: &mut Writer, args: &[u32], sum: Bounds, first: us
     requires { BlockRoom writer.old × (first < first_numbers) × Fits sum }
     ensures { (β : ℕ → Bounds) → sum ≡ linear_sum β args.now → Writes block_size writer.old writer.new (block_parts first (at_most_reified β args.now)) }
 {
-    let lower = sum.lower;
-    let upper = sum.upper;
     let r = var_at(args, past_terms_at(args, 0) + 1);
-    write_bounded_sum(writer, args, lower, upper, first);
-    write_at_most(writer, lower, upper, r, first);
+    write_bounded_sum(writer, args, sum, first);
+    write_at_most(writer, sum, r, first);
 }

@@ -12,7 +12,7 @@ ghost use Rattle.linearblocks.specs.Rows.{link, split, bounded_sum, sum_parts};
 
 use arguments::{num_at, past_terms_at, size_at};
 use extremes::{zero_lower, zero_upper};
-use integers::opposite;
+use integers::{Bounds, opposite};
 use laying::Writer;
 use words::kind::Kind;
 
@@ -54,22 +54,22 @@ pub fn write_link(writer: &mut Writer, args: &[u32], first: usize)
 }
 
 // x in given bounds: Σ−x−c=0.
-pub fn write_bounded_sum(writer: &mut Writer, args: &[u32], lower: i64, upper: i64, first: usize)
+pub fn write_bounded_sum(writer: &mut Writer, args: &[u32], sum: Bounds, first: usize)
     requires { BlockRoom writer.old }
-    ensures { Writes 10000 writer.old writer.new (block_parts first (bounded_sum args.now lower upper)) }
+    ensures { Writes 10000 writer.old writer.new (block_parts first (bounded_sum args.now sum.lower sum.upper)) }
 {
-    writer.bound(lower, upper);
+    writer.bound(sum.lower, sum.upper);
     write_link(writer, args, first);
 }
 
 // x in given bounds, b, z in Z(x): Σ−x−c=0; z:=b×x.
-pub fn write_split(writer: &mut Writer, args: &[u32], lower: i64, upper: i64, first: usize)
+pub fn write_split(writer: &mut Writer, args: &[u32], sum: Bounds, first: usize)
     requires { BlockRoom writer.old × (first < first_numbers) }
-    ensures { Writes 10000 writer.old writer.new (block_parts first (split args.now lower upper)) }
+    ensures { Writes 10000 writer.old writer.new (block_parts first (split args.now sum.lower sum.upper)) }
 {
-    writer.bound(lower, upper);
+    writer.bound(sum.lower, sum.upper);
     writer.bound(0, 1);
-    writer.bound(zero_lower(lower), zero_upper(upper));
+    writer.bound(zero_lower(sum.lower), zero_upper(sum.upper));
     write_link(writer, args, first);
     writer.times(first + 2, first + 1, first);
 }

@@ -9,7 +9,7 @@ use Rattle.integers.specs.declared.Bounds.{Bounds}
 use Rattle.models.specs.Model.{var, num, past_terms, terms}
 use Rattle.rules.specs.Parts.{L, U}
 
--- the sum of a code: none, that of its terms and its number, or a − b
+-- the sum of a code: none, that of its terms and its number, or a − b; numbers, as the definition has had them: the code has `SumForm`, tied to them by `Forms`
 abbrev pub no_sum : ℕ
 no_sum = 0
 

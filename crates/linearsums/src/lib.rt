@@ -1,19 +1,21 @@
 // L and U of the sums of a model, worked out over a lent list of the bounds of its variables.
+// The words and the place after a head stay two parameters, and that it is below 2^40 and k at most 32 clauses: `sum_size` asks nothing of the place, so that a type of both would ask more of its callers, and one without the fact would be no plainer.
 #![tactic(auto)]
 
 ghost use Rattle.std.specs.Prelude.{◌≡◌, ◌+◌, ◌<◌, ◌≤◌, nat_abs, get_or};
-ghost use Rattle.integers.specs.Choice.{◌if◌else◌};
-ghost use Rattle.integers.specs.Number.{◌⊕◌, ◌⊖◌, ◌⊗◌, min_z, max_z, +0};
+ghost use Rattle.integers.specs.Number.{◌⊖◌, +0};
 ghost use Rattle.integers.specs.Bounds.{◌to◌, bounds_in};
 ghost use Rattle.words.specs.Limit as Limit;
 ghost use Rattle.words.specs.Small.{Near};
-ghost use Rattle.linearsums.specs.Sum.{form_of};
+ghost use Rattle.models.specs.Codes.{code_number};
+ghost use Rattle.linearsums.specs.Sum.{form_of, Fits};
 ghost use Rattle.linearsums.specs.Forms.{form_number};
 ghost use Rattle.linearsums.specs.Places.{code_before, form_before, sum_size, sum_number, sum_variable, sum_constant, sum_bounds, with_term, sums_up_to, SumsKept, Summable};
 
 use arguments::{num_at, past_at, past_terms_at, size_at, var_at};
 use extremes::times_ends;
 use integers::{Bounds, minus, plus};
+use models::code::Code;
 use words::domain::{Domain, domain_of};
 use words::list::{at_or, put};
 use words::word::Word;
@@ -27,23 +29,22 @@ pub enum SumForm {
     OfTwo,
 }
 
-// The sum of a code, where it has one.
+// The sum of a builtin, where its rule has L and U of one.
 #[tactic(auto, unfolding(crate::specs::Sum::form_of, integers::specs::Lists::any))]
-fn form_of(code: usize) -> Option<SumForm>
-    ensures { form_number result ≡ form_of code }
+fn form_of(code: Code) -> Option<SumForm>
+    ensures { form_number result ≡ form_of (code_number code) }
 {
     match code {
-        12 => Some(SumForm::OfTerms),
-        13 => Some(SumForm::OfTerms),
-        14 => Some(SumForm::OfTwo),
-        15 => Some(SumForm::OfTerms),
-        31 => Some(SumForm::OfTwo),
-        32 => Some(SumForm::OfTerms),
+        Code::IntLinNe | Code::IntLinEqReif | Code::IntLinLeReif | Code::IntLinNeReif => {
+            Some(SumForm::OfTerms)
+        }
+        Code::IntEqReif | Code::IntNeReif => Some(SumForm::OfTwo),
         _ => None,
     }
 }
 
 // The code of the constraint whose head stands before place a, 0 at the front.
+// 0, as the definition has it: no builtin has that number, so that the decoding below answers none for it. An Option here would be no plainer.
 #[tactic(auto, unfolding(crate::specs::Places::code_before))]
 fn code_before(ws: &[u32], a: usize) -> usize
     ensures { result ≡ code_before ws.now a }
@@ -55,11 +56,11 @@ fn code_before(ws: &[u32], a: usize) -> usize
 }
 
 // Which sum it has.
-#[tactic(auto, unfolding(crate::specs::Places::form_before))]
+#[tactic(auto, unfolding(crate::specs::Places::form_before), using(crate::proofs::Codes::no_form))]
 fn form_before(ws: &[u32], a: usize) -> Option<SumForm>
     ensures { form_number result ≡ form_before ws.now a }
 {
-    form_of(code_before(ws, a))
+    form_of(Code::try_from(code_before(ws, a)).ok()?)
 }
 
 // How many terms the sum has.
@@ -100,7 +101,7 @@ pub fn sum_variable(ws: &[u32], a: usize, k: usize) -> usize
     var_at(ws, past_at(ws, a) + k)
 }
 
-// The constant that the sum is less.
+// The constant that is taken from the sum.
 #[tactic(auto, unfolding(crate::specs::Places::sum_constant))]
 fn sum_constant(ws: &[u32], a: usize) -> i64
     requires { a < 1099511627776 }
@@ -127,27 +128,18 @@ pub fn sum_start(ws: &[u32], a: usize) -> Bounds
     }
 }
 
-// The least or the largest of a sum with one term more: its number n and the bounds of its variable.
-fn with_ends(total: i64, n: i64, b: Domain, up: bool) -> i64
-    requires { Near n × (nat_abs total ≤ 1152921504606846976) }
-    ensures value { result ≡ total ⊕ (max_z if up else min_z) (n ⊗ b.lower) (n ⊗ b.upper) }
-    ensures size { nat_abs result ≤ nat_abs total + 18014398509481984 }
-{
-    plus(total, times_ends(n, b, up))
-}
-
 // L and U with term k too, whose variable has these bounds.
 #[tactic(auto, unfolding(crate::specs::Places::with_term))]
 pub fn sum_step(total: Bounds, ws: &[u32], a: usize, k: usize, b: Domain) -> Bounds
-    requires { (a < 1099511627776) × (k ≤ 32) × (nat_abs total.lower ≤ 1152921504606846976) × (nat_abs total.upper ≤ 1152921504606846976) }
+    requires { (a < 1099511627776) × (k ≤ 32) × Fits total }
     ensures value { result ≡ with_term total (sum_number ws.now a k) b }
     ensures lower_size { nat_abs result.lower ≤ nat_abs total.lower + 18014398509481984 }
     ensures upper_size { nat_abs result.upper ≤ nat_abs total.upper + 18014398509481984 }
 {
     let n = sum_number(ws, a, k);
     Bounds {
-        lower: with_ends(total.lower, n, b, false),
-        upper: with_ends(total.upper, n, b, true),
+        lower: plus(total.lower, times_ends(n, b, false)),
+        upper: plus(total.upper, times_ends(n, b, true)),
     }
 }
 
@@ -164,7 +156,7 @@ pub fn sum_bounds(ws: &[u32], a: usize, domains: &[Domain]) -> Bounds
     total
 }
 
-// The place after the head of constraint k.
+// The place after the head of constraint k. The heads stay one array of 256 and n, here and below: `checking` says by that array and n which sums a read model has, and a slice is another list, whose sums it would have to show to be the same; the call would be no plainer but for n.
 pub fn after_head(heads: &[usize; 256], k: usize) -> usize
     requires { (k < 256) × (get_or heads.now k 0 < 1099511627776) }
     ensures { result ≡ get_or heads.now k 0 + 1 }
@@ -172,7 +164,7 @@ pub fn after_head(heads: &[usize; 256], k: usize) -> usize
     heads[k] + 1
 }
 
-// L and U of constraint k, from this list; 0 and 0 past its end.
+// L and U of constraint k, from this list; 0 and 0 past its end. It is `at_or` with the default of its definition, which would stand at each call.
 #[tactic(auto, unfolding(integers::specs::Bounds::bounds_in))]
 pub fn sum_at(sums: &[Bounds], k: usize) -> Bounds
     ensures { result ≡ bounds_in sums.now k }

@@ -7,7 +7,7 @@ use Rattle.words.specs.Faults.{fault_number, written_of}
 use Rattle.words.specs.LaidAt.{LaidAt}
 use Rattle.words.specs.Overlay.{overlay}
 use Rattle.words.specs.Refusal.{◌at_place◌, accepted, fault_or, ◌else_refuse◌, room_fault}
-use Rattle.words.specs.declared.Refusal.{Refusal}
+use Rattle.words.specs.Refusals.{Refusal}
 use Rattle.words.specs.declared.fault.Refusal as error
 use Rattle.words.proofs.Overlay.{front-over}
 use Rattle.words.proofs.Rest.{laid-length}

@@ -5,7 +5,7 @@ use Rattle.integers.specs.Choice.{◌if◌else◌}
 use Rattle.words.specs.Bytes.{bytes}
 use Rattle.words.specs.Fault as Fault
 use Rattle.words.specs.Faults.{fault_number}
-use Rattle.words.specs.declared.Refusal.{Refusal}
+use Rattle.words.specs.Refusals.{Refusal}
 use Rattle.words.specs.declared.fault.Refusal as error
 use Rattle.decimals.specs.Decimal.{decimal}
 use Rattle.hexadecimal.specs.Digits.{digits}

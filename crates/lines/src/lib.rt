@@ -1,5 +1,5 @@
 // The lines that the programs print, laid over a page of bytes; each public function answers where they end.
-// No Formatter and no String: there is no heap.
+// No String: there is no heap. No Formatter: a format needs a writer, and what is printed goes to a lent page, cut at its end, each byte promised.
 #![tactic(auto)]
 
 ghost use Rattle.std.specs.Prelude.{◌≡◌, ◌+◌, ◌*◌, ◌<◌, ◌≤◌, length, take};
@@ -14,7 +14,7 @@ use decimals::Page;
 use hexadecimal::hex_digits;
 use words::fault::{Fault, Refusal};
 
-// A word, on a line.
+// A word, on a line. The room above the page's place is asked for, here and below: the place moves on, and how much is to come differs.
 fn put_word(page: &mut Page, w: u32)
     requires { page.old.at + 9 < 1099511627776 }
     ensures text { Prints page.old (word_line w) page.new }
@@ -48,7 +48,7 @@ fn put_refused(page: &mut Page, r: Refusal)
     page.byte(b'\n')
 }
 
-// The first n words of a list, each on a line.
+// The first n words of a list, each on a line; n may be more than the list has, so that a caller need not cut it.
 pub fn put_front(page: &mut [u8], words: &[u32], n: usize) -> usize
     requires { length words.now < 1073741824 }
     ensures { LaidAt page.old 0 (word_lines (take n words.now)) page.new result }

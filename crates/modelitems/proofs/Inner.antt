@@ -7,13 +7,16 @@ use Rattle.integers.proofs.Places.{all_more}
 use Rattle.integers.proofs.Booleans.{both_true}
 use Rattle.words.specs.Word.{kind, payload, word_at}
 use Rattle.words.specs.declared.fault.Refusal as error
+use Rattle.words.specs.Check.{fault_number_in, step_of, step_over}
+use Rattle.words.specs.Limit as Limit
+use Rattle.words.proofs.Steps.{passed, over_none, over-fault}
 use Rattle.models.specs.Shape.{argument}
 use Rattle.models.specs.Reading.{fault_variable, fault_argument_in, fault_end, fault_due_in, after_due, after_argument}
-use Rattle.models.specs.InRange.{fault_number, fault_count}
+use Rattle.models.specs.InRange.{fault_count}
 use Rattle.models.specs.declared.Due.TheVariants.{Arguments}
 use Rattle.models.proofs.Sound.{Plain, plain, is-number, is-variable, is-count}
-use Rattle.modelitems.specs.Onward.{Placed, StepsTo, step_of, step_over, arguments_from, NumbersRead, VariablesRead, is_number}
-use Rattle.modelitems.proofs.Steps.{step, passed, present, and_then, or-halted, over_none, over-fault, no_word}
+use Rattle.modelitems.specs.Onward.{Placed, StepsTo, arguments_from, NumbersRead, VariablesRead, is_number}
+use Rattle.modelitems.proofs.Steps.{step, present, and_then, or-halted, no_word}
 
 module _ (ws ts : List ℕ) (c at : ℕ) (h : at ≤ length ws) where
   abbrev w : ℕ
@@ -22,7 +25,7 @@ module _ (ws ts : List ℕ) (c at : ℕ) (h : at ≤ length ws) where
   abbrev t : ℕ
   t = get_or ts (payload w) 0
 
-  plain-number : fault_number w ≡ 0 → Plain w
+  plain-number : fault_number_in Limit.range w ≡ 0 → Plain w
   plain-number e = plain (is-number w e) (omega arith) (omega arith)
 
   plain-variable : (type : ℕ) → fault_variable t type w ≡ 0 → Plain w
@@ -32,7 +35,7 @@ module _ (ws ts : List ℕ) (c at : ℕ) (h : at ≤ length ws) where
   plain-count most e = plain (is-count w most e).0 (omega arith) (omega arith)
 
   -- of a list
-  pub a-number : (n l type code k : ℕ) → 0 < n → StepsTo ws ts c (Arguments n l type code k) at (Arguments (n - 1) l type code k) (step_over (fault_number w) at)
+  pub a-number : (n l type code k : ℕ) → 0 < n → StepsTo ws ts c (Arguments n l type code k) at (Arguments (n - 1) l type code k) (step_over (fault_number_in Limit.range w) at)
   unfolding fault_end fault_due_in after_due
   a-number n l type code k p = step h refl plain-number (rw (lt-ltb 0 n p)) (rw (lt-ltb 0 n p))
 
@@ -46,7 +49,7 @@ module _ (ws ts : List ℕ) (c at : ℕ) (h : at ≤ length ws) where
     unfolding fault_end fault_due_in after_due fault_argument_in after_argument
     one_variable l m = step h refl (plain-variable arg) (rw (← e, ne_eqb arg 0 (λ z. omega arith), lt-ltb arg 3 m)) (rw (← e, ne_eqb arg 0 (λ z. omega arith), le-leb arg 4 (omega arith)))
 
-    pub one_number : arg ≡ 3 → StepsTo ws ts c (arguments_from code k) at (arguments_from code (k + 1)) (step_over (fault_number w) at)
+    pub one_number : arg ≡ 3 → StepsTo ws ts c (arguments_from code k) at (arguments_from code (k + 1)) (step_over (fault_number_in Limit.range w) at)
     unfolding fault_end fault_due_in after_due fault_argument_in after_argument
     one_number l = step h refl plain-number (rw (← e, l)) (rw (← e, l))
 
@@ -69,7 +72,7 @@ a-short (Ok place) {ws} {at} p e =
 -- ---- one more word of a list
 
 module _ {ws : List ℕ} {n at left place : ℕ} (p : 0 < left) where
-  pub more_numbers : NumbersRead ws n at left (record { number = 0; at = place }) → NumbersRead ws n at (left - 1) (step_over (fault_number (word_at ws place)) place)
+  pub more_numbers : NumbersRead ws n at left (record { number = 0; at = place }) → NumbersRead ws n at (left - 1) (step_over (fault_number_in Limit.range (word_at ws place)) place)
   more_numbers h ts c l type code k = let g = h ts c l type code k in and_then g refl (a-number ws ts c place g.inside left l type code k p)
 
   pub more-variables : {ts : List ℕ} {type : ℕ} → VariablesRead ws ts type n at left (record { number = 0; at = place }) → VariablesRead ws ts type n at (left - 1) (step_over (fault_variable (get_or ts (payload (word_at ws place)) 0) type (word_at ws place)) place)
@@ -101,7 +104,7 @@ module _ (ws : List ℕ) (at n : ℕ) (h : at + n ≤ length ws) where
   numbers-passed (suc k) l e =
       let s : suc k ≡ k + 1 = omega arith in
       let f = both_true (all is_number (list_of (word_at part) k)) (is_number (word_at part k)) (sym (all_more is_number (word_at part) k) ∙ rw s at e) in
-      let z : fault_number (word_at ws (at + k)) ≡ 0 = ap fault_number (sym (word-here k (omega (arith, l)))) ∙ eqb-true _ 0 f.1 in
+      let z : fault_number_in Limit.range (word_at ws (at + k)) ≡ 0 = ap (fault_number_in Limit.range) (sym (word-here k (omega (arith, l)))) ∙ eqb-true _ 0 f.1 in
       let q : n - k - 1 ≡ n - suc k = omega arith in
       let p : at + k + 1 ≡ at + suc k = omega arith in
       rw (z, over_none 0 (at + k) refl, q, p) at (more_numbers (omega (arith, l)) (numbers-passed k (omega (arith, l)) f.0))

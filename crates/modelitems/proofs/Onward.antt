@@ -2,12 +2,13 @@
 use Rattle.std.proofs.Common.{◌≡◌, refl, sym, ◌∙◌, ◌≢◌, ◌⊎◌, inl, inr, ⊎_elim, Bool, true, false, List, ◌++◌, ℕ, ◌+◌, ◌<◌, ◌≤◌, arith, ltb-true, ltb-false, ne_eqb, ltb, length, get_or, drop_of_length-le}
 use lib.ListN.{get_or-eq_default}
 use Rattle.integers.specs.Choice.{◌if◌else◌}
+use Rattle.words.specs.Check.{fault_number_in}
 use Rattle.words.specs.Fault as Fault
 use Rattle.words.specs.Word.{kind, payload, word_at}
 use Rattle.words.specs.Refusal.{◌at_place◌, fault_or, accepted, first_fault}
 use Rattle.words.proofs.Reading.{onward, refused, at-end, word-then}
 use Rattle.models.specs.Shape.{argument, shapes}
-use Rattle.models.specs.Reading.{fault_head, fault_start_in, fault_upper_in, fault_number_in, fault_variable, fault_count_in, fault_argument_in, fault_due_in, fault_end, fault_in, after_head, after_due, declared, started, after, ended, State}
+use Rattle.models.specs.Reading.{fault_head, fault_start_in, fault_upper_in, fault_variable, fault_count_in, fault_argument_in, fault_due_in, fault_end, fault_in, after_head, after_due, declared, started, after, ended, State}
 use Rattle.models.specs.InRange.{fault_due, fault}
 use Rattle.models.specs.declared.Due.{Due}
 use Rattle.models.specs.declared.Due.TheVariants.{Start, Upper, Arguments, Ended}

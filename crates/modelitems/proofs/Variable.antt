@@ -5,6 +5,7 @@ use Rattle.integers.specs.Choice.{◌if◌else◌}
 use Rattle.words.specs.Fault as Fault
 use Rattle.words.specs.Word.{kind, word_at}
 use Rattle.words.specs.Variables.{variables, starts_pair}
+use Rattle.words.specs.Check.{step_over}
 use Rattle.words.proofs.Reading.{word-then}
 use Rattle.models.specs.Reading.{fault_end, fault_due_in, after_due, declared, started}
 use Rattle.models.specs.InRange.{fault_start, fault_upper}
@@ -12,7 +13,7 @@ use Rattle.models.specs.Model.{constraints_from, source_words}
 use Rattle.models.specs.declared.Due.TheVariants.{Start, Upper}
 use Rattle.models.proofs.Sound.{is-start, at-lower, at-boolean, at_head, is-upper}
 use Rattle.models.proofs.Constraints.{starts_none}
-use Rattle.modelitems.specs.Onward.{onward, step_over}
+use Rattle.modelitems.specs.Onward.{onward}
 use Rattle.modelitems.specs.Variable.{Declares}
 use Rattle.modelitems.proofs.Onward.{fault_at, here, go_on, stop-at}
 use Rattle.modelitems.proofs.Steps.{present}

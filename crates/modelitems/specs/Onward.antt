@@ -1,31 +1,20 @@
 -- Reading on from a place.
-use Rattle.std.specs.Prelude.{◌≡◌, List, Bool, ℕ, Result, Ok, Err, ◌+◌, ◌≤◌, ltb, eqb, length, drop}
+use Rattle.std.specs.Prelude.{◌≡◌, List, Bool, ℕ, ◌+◌, ◌≤◌, ltb, eqb, length, drop}
 use Rattle.integers.specs.Choice.{◌if◌else◌}
 use Rattle.words.specs.Fault as Fault
 use Rattle.words.specs.Limit as Limit
-use Rattle.words.specs.Faults.{fault_number}
+use Rattle.words.specs.Check.{fault_number_in, Step}
 use Rattle.words.specs.Refusal.{◌at_place◌, first_fault}
 use Rattle.words.specs.Word.{word_at}
 use Rattle.words.specs.Variables.{variables}
-use Rattle.words.specs.declared.Refusal.{Refusal}
-use Rattle.words.specs.declared.fault.Refusal as error
+use Rattle.words.specs.Refusals.{Refusal}
 use Rattle.models.specs.Model.{constraints_from}
 use Rattle.models.specs.Shape as Shape
 use Rattle.models.specs.Shape.{argument}
 use Rattle.models.specs.Reading.{after, ended, after_argument}
-use Rattle.models.specs.InRange as InRange
 use Rattle.models.specs.InRange.{fault}
 use Rattle.models.specs.declared.Due.{Due}
 use Rattle.models.specs.declared.Due.TheVariants.{Arguments}
-
--- a step: where reading goes on, with number 0; or a fault and its place
-pub record Step : Type 0 where
-  pub number : ℕ
-  pub at : ℕ
-
-abbrev pub step_of : Result ℕ error.Refusal → Step
-step_of (Ok at) = record { number = Fault.none; at = at }
-step_of (Err r) = record { number = fault_number r.fault; at = r.place }
 
 -- what reading the words from place `at` on finds, with variables of the types ts and c constraints before it
 unfoldable pub onward : Due → List ℕ → ℕ → ℕ → List ℕ → Refusal
@@ -51,18 +40,14 @@ pub record StepsTo (ws ts : List ℕ) (c : ℕ) (from : Due) (at : ℕ) (to : Du
   pub inside : r.at ≤ length ws
   pub skipped : Skipped ws at r.at
 
--- past a word with the fault f, if it is none
-unfoldable pub step_over : ℕ → ℕ → Step
-step_over f at = record { number = f; at = at + 1 } if eqb f Fault.none else record { number = f; at = at }
-
--- a place of words that are not too many
+-- a place of words that are not too many; no type carries it, as it is of two values of which one moves on at each step
 pub record Placed (ws : List ℕ) (at : ℕ) : Type 0 where
   pub within : at ≤ length ws
   pub few : length ws ≤ Limit.model_words
 
 -- a word that is a number, without a fault
 unfoldable pub is_number : ℕ → Bool
-is_number w = eqb (InRange.fault_number w) Fault.none
+is_number w = eqb (fault_number_in Limit.range w) Fault.none
 
 -- what is due at the k-th argument of a code
 abbrev pub arguments_from : ℕ → ℕ → Due

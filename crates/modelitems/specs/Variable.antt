@@ -4,10 +4,11 @@ use Rattle.integers.specs.Choice.{◌if◌else◌}
 use Rattle.words.specs.Fault as Fault
 use Rattle.words.specs.Limit as Limit
 use Rattle.words.specs.Variables.{variables}
+use Rattle.words.specs.Check.{Step}
 use Rattle.models.specs.Model.{constraints_from, source_words}
 use Rattle.models.specs.Reading.{declared}
 use Rattle.models.specs.declared.Due.TheVariants.{Start}
-use Rattle.modelitems.specs.Onward.{onward, stopped, Step}
+use Rattle.modelitems.specs.Onward.{onward, stopped}
 
 -- a variable's words stand from one place to another
 pub record VariablePassed (ws : List ℕ) (at to : ℕ) : Type 0 where

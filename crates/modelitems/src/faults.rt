@@ -1,20 +1,21 @@
 // Whether a word may stand where it does, or its fault. Where two hold, the lower number comes first, and 18 directly after 3.
-#![tactic(auto, unfolding(models::specs::Reading::fault_head, models::specs::Reading::fault_variable, models::specs::Reading::fault_start_in, models::specs::Reading::fault_upper_in, models::specs::Reading::fault_number_in, models::specs::Reading::fault_count_in, crate::specs::Onward::is_number))]
+#![tactic(auto, unfolding(models::specs::Reading::fault_head, models::specs::Reading::fault_variable, models::specs::Reading::fault_start_in, models::specs::Reading::fault_count_in, crate::specs::Onward::is_number))]
 
 ghost use Rattle.std.specs.Prelude.{◌≡◌, ltb, leb, length, get_or, map};
 ghost use Rattle.integers.specs.Choice.{◌if◌else◌};
 ghost use Rattle.integers.specs.Lists.{all, list_of};
-ghost use Rattle.words.specs.Word.{payload, signed, too_low, word_at};
+ghost use Rattle.words.specs.Word.{payload, too_low, word_at};
 ghost use Rattle.words.specs.Fault as Numbered;
 ghost use Rattle.words.specs.Faults.{number_of};
 ghost use Rattle.words.specs.Limit as Limit;
 ghost use Rattle.models.specs.Shapes.{shape_number};
 ghost use Rattle.models.specs.Reading.{fault_head, fault_variable};
-ghost use Rattle.models.specs.InRange.{fault_start, fault_upper, fault_number, fault_count};
+ghost use Rattle.models.specs.InRange.{fault_start, fault_count};
 ghost use Rattle.modelitems.specs.Onward.{is_number};
 
 use crate::shapes::LAST_CODE;
 use models::shape::Shape;
+use words::check::is_number;
 use words::fault::Fault;
 use words::kind::Kind;
 use words::limit;
@@ -58,6 +59,7 @@ pub fn check_head(c: usize, w: Word) -> Result<(), Fault>
         if limit::CONSTRAINTS <= c {
             return Err(Fault::TooManyConstraints);
         }
+        // the definition compares with 0 and the last code: Code::try_from says it by 39 cases and is no plainer
         let code = w.payload();
         if code == 0 || LAST_CODE < code {
             return Err(Fault::UnknownCode);
@@ -83,37 +85,6 @@ pub fn check_start(v: usize, c: usize, w: Word) -> Result<(), Fault>
         return check_room(v);
     }
     check_head(c, w)
-}
-
-// An upper bound after the word of its lower one.
-pub fn check_upper(lower: Word, w: Word) -> Result<(), Fault>
-    ensures { number_of result ≡ fault_upper lower w }
-{
-    if !w.is(Kind::Upper) {
-        return Err(Fault::WrongKind);
-    }
-    check_signed(w)?;
-    if w.signed() < lower.signed() {
-        return Err(Fault::UpperBelowLower);
-    }
-    Ok(())
-}
-
-// A number.
-pub fn check_number(w: Word) -> Result<(), Fault>
-    ensures { number_of result ≡ fault_number w }
-{
-    if !w.is(Kind::Number) {
-        return Err(Fault::WrongKind);
-    }
-    check_signed(w)
-}
-
-// Whether a word is a number.
-fn is_number(w: Word) -> bool
-    ensures { result ≡ is_number w }
-{
-    w.is(Kind::Number) && !w.is_lowest()
 }
 
 // Whether all words are numbers: all of them are looked at, so that several are at a time.

@@ -1,45 +1,26 @@
 // The items of a model: variables, and constraints with their arguments. Each function reads some words of an item.
+// ws, at and types go to each function: at moves on with each word, so that a struct of them, as grammar's Reading, would be made anew each time and be no plainer.
 ghost use Rattle.std.specs.Prelude.{◌≡◌, ◌+◌, ◌≤◌, get_or, map, IfOk};
 ghost use Rattle.words.specs.Limit as Limit;
 ghost use Rattle.words.specs.Word.{payload, word_at};
-ghost use Rattle.words.specs.Faults.{number_of};
+ghost use Rattle.words.specs.Check.{step_of};
 ghost use Rattle.models.specs.Shapes.{shape_number, argument_number};
 ghost use Rattle.models.specs.Reading.{declared};
 ghost use Rattle.modelitems.specs.Argument.{table};
-ghost use Rattle.modelitems.specs.Onward.{Placed, step_of, step_over, NumbersRead, VariablesRead, LengthRead, ArgumentRead, ArgumentsRead};
+ghost use Rattle.modelitems.specs.Onward.{Placed, NumbersRead, VariablesRead, LengthRead, ArgumentRead, ArgumentsRead};
 ghost use Rattle.modelitems.specs.Variable.{VariableRead};
 
-use crate::faults::{
-    are_numbers, check_count, check_number, check_start, check_upper, check_variable,
-};
+use crate::faults::{are_numbers, check_count, check_start, check_variable};
 use crate::shapes::{LAST_CODE, MOST_ARGUMENTS, argument_of};
 use models::shape::Shape;
+use words::check::{check_number, check_upper, over};
 use words::fault::{Fault, Refusal};
 use words::kind::Kind;
 use words::limit;
 use words::word::Word;
 
-// The refusal of a word for a fault.
-#[cold]
-fn refused(fault: Fault, place: usize) -> Refusal
-    ensures { result ≡ record { fault = fault; place = place } }
-{
-    Refusal { fault, place }
-}
-
-// The place after a word that was checked, or the word's fault.
-#[tactic(auto, unfolding(crate::specs::Onward::step_over))]
-pub fn over(at: usize, checked: Result<(), Fault>) -> Result<usize, Refusal>
-    requires { at ≤ Limit.model_words + Limit.list_length }
-    ensures { step_of result ≡ step_over (number_of checked) at }
-{
-    match checked {
-        Ok(()) => Ok(at + 1),
-        Err(fault) => Err(refused(fault, at)),
-    }
-}
-
 // n numbers from a place on; where all of them are numbers they are looked at together.
+// One function with `variables_at` is no plainer: what is due next differs in their clauses, and the loops have a line each.
 fn numbers_at(ws: &[u32], at: usize, n: usize) -> Result<usize, Refusal>
     requires { Placed ws.now at × (n ≤ Limit.list_length) }
     ensures { NumbersRead ws.now n at 0 (step_of result) }
@@ -54,7 +35,7 @@ fn numbers_at(ws: &[u32], at: usize, n: usize) -> Result<usize, Refusal>
     Ok(end)
 }
 
-// n variables of a type from a place on.
+// n variables of a type from a place on. The words may end before the last one: the loop goes over those that are there.
 fn variables_at(
     ws: &[u32],
     at: usize,
@@ -154,7 +135,7 @@ pub fn variable_at(ws: &[u32], at: usize, w: Word, v: usize) -> Result<usize, Re
 {
     let next = over(at, check_start(v, 0, w))?;
     if w.is(Kind::Lower) {
-        return over(next, check_upper(w, Word::at(ws, next)));
+        return over(next, check_upper(Kind::Upper, w, Word::at(ws, next)));
     }
     Ok(next)
 }

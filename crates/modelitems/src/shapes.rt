@@ -1,4 +1,5 @@
-// The arguments of each code, as a table.
+// The arguments of each code, as a table. A constant table from code to shapes is a rule of the project, 01 names this form; the code is the place in it,
+// for `argument_of` and `items::arguments_at`, and a number that is no builtin's has no argument. It is another one than a text's (grammar::form), which has parallel lists as two arguments and sets.
 ghost use Rattle.std.specs.Prelude.{◌≡◌, map};
 ghost use Rattle.models.specs.Shape.{argument};
 ghost use Rattle.models.specs.Shapes.{argument_number};

@@ -13,20 +13,23 @@ ghost use Rattle.modelreading.specs.Seen.{Heads, Kept, read_of};
 
 use builtins::holds;
 use modelreading::{Model, read_model};
+use models::constraint::Constraint;
 use variables::judge_values;
 use words::answer::Verdict;
 use words::fault::Refusal;
-use words::word::Word;
 
-// The first false constraint, else "holds"; the heads are the places of the constraints.
+// The first false constraint, else "holds"; the heads are the places of the constraints. A head of a number that no builtin has counts as true.
+// The walks over constraints share the `for` and the constraint at a place; their bodies differ, so one walk with a closure would be no plainer.
 #[tactic(auto, using(modelreading::proofs::Heads::heads_inside))]
 pub fn first_false(ws: &[u32], heads: &[usize], values: &[i32]) -> Verdict
     requires { Heads ws.now heads.now (length heads.now) × Small values.now }
     ensures { said_of result ≡ first_false (λ c. meaning (value values.now) (builtin c)) 0 (constraints ws.now) }
 {
-    for (k, &at) in heads.iter().enumerate() {
-        let head = Word::from(ws[at]);
-        if !holds(head.payload(), &ws[at + 1..], values) {
+    for (k, &place) in heads.iter().enumerate() {
+        let Some(constraint) = Constraint::at(ws, place) else {
+            continue;
+        };
+        if !holds(&constraint, values) {
             return Verdict::False(k);
         }
     }
@@ -34,6 +37,7 @@ pub fn first_false(ws: &[u32], heads: &[usize], values: &[i32]) -> Verdict
 }
 
 // Of words that were read with this answer: the refusal, else fault 15, else the first variable out of bounds, else the first false constraint, else "holds".
+// The places of the heads are fixed memory, and as many as the model that was read has.
 pub fn judge_read(
     read: Result<Model, Refusal>,
     ws: &[u32],
@@ -54,6 +58,7 @@ pub fn judge_read(
 pub fn judge_model(ws: &[u32], values: &[i32]) -> Result<Verdict, Refusal>
     ensures { verdict_of result ≡ judge_model ws.now values.now }
 {
+    // fixed memory: a place for each constraint that a model may have
     let mut heads = [0; 256];
     let read = read_model(ws, &mut heads);
     judge_read(read, ws, &heads, values)

@@ -11,6 +11,7 @@ use Rattle.words.specs.Refusal.{◌at_place◌, accepted}
 use Rattle.words.specs.Variables.{variables}
 use Rattle.words.specs.declared.fault.Refusal as error
 use Rattle.words.specs.Faults.{fault_number}
+use Rattle.words.specs.Check.{Step}
 use Rattle.words.proofs.Faulty.{fault-number}
 use Rattle.words.proofs.Reading.{word-then}
 use Rattle.models.specs.Model.{headed, constraints_from, constraints, source_words}
@@ -21,12 +22,12 @@ use Rattle.models.specs.Reading.{fault_head, fault_end, fault_due_in, after_head
 use Rattle.models.specs.declared.Due.TheVariants.{Start, Ended}
 use Rattle.models.proofs.Sound.{is-head, at-constraint, at-end}
 use Rattle.models.proofs.Constraints.{starts-one}
-use Rattle.modelitems.specs.Onward.{onward, stopped, Placed, Step, head_due, arguments_from, ArgumentsRead}
+use Rattle.modelitems.specs.Onward.{onward, stopped, Placed, head_due, arguments_from, ArgumentsRead}
 use Rattle.modelitems.specs.Variable.{Declares}
 use Rattle.modelitems.proofs.Onward.{fault_at, here, go_on, stop-here, end-here, stop-at, start-heads, head-fault, head-after}
 use Rattle.modelitems.proofs.Steps.{gone, halted, present}
 use Rattle.modelitems.proofs.Variable.{none-declared, none-posed}
-use Rattle.modelreading.specs.Seen.{model_read, read_of, VariablesSeen, Seen, Kept}
+use Rattle.modelreading.specs.Seen.{model_read, read_of, Stops, VariablesSeen, Seen, Kept}
 use Rattle.modelreading.specs.declared.Model.{Model}
 
 -- ---- what is answered
@@ -34,6 +35,10 @@ use Rattle.modelreading.specs.declared.Model.{Model}
 pub kept : {ws hs : List ℕ} (r : Result Model error.Refusal) → MatchResult r (λ m. Seen ws hs (model_read m)) (λ e. fault_number e.fault at_place e.place ≡ read_model ws) → Kept ws hs (read_of r)
 kept (Ok m) s = record { refusal = sym s.accepts; seen = λ n. s }
 kept (Err e) q = record { refusal = q; seen = λ n. absurd (fault-number e.fault n) }
+
+-- a fault of the variables is the model's
+pub variables-refused : {ws hs : List ℕ} (found r : error.Refusal) → Stops ws found → fault_number r.fault at_place r.place ≡ stopped ws (fault_number found.fault) found.place → Kept ws hs (read_of (Err r))
+variables-refused found r s e = kept (Err r) (e ∙ s)
 
 pub too_long : (ws : List ℕ) → 8192 < length ws → 1 at_place 0 ≡ read_model ws
 unfolding read_model_in
@@ -131,6 +136,19 @@ pub record Posing (ws ts hs : List ℕ) (sources c at : ℕ) : Type 0 where
   pub front : sources + length (source_words (drop sources ws)) ≡ length (source_words ws)
   pub began : (sources ≡ at) ⊎ (3 < kind (word_at ws sources))
   pub posed : map (headed ws) (take c hs) ++ constraints_from at (drop at ws) ≡ constraints ws
+
+-- after the variables none is read yet
+pub posing : {ws ts hs : List ℕ} {at : ℕ} → VariablesSeen head_due ws ts (length ts) at → length hs ≡ 256 → Posing ws ts hs at 0 at
+posing {ws} {ts} {hs} {at} o f = record {
+  room = omega arith;
+  full = f;
+  placed = o.placed;
+  rest = rw (take-length ts) at o.rest;
+  declares = o.declares;
+  front = o.front;
+  began = inl refl;
+  posed = o.same;
+}
 
 module _ {ws ts hs : List ℕ} {sources c at : ℕ} (p : Posing ws ts hs sources c at) {f : ℕ} (e : f ≡ fault_head c (word_at ws at)) where
   abbrev w : ℕ

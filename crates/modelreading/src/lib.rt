@@ -10,9 +10,10 @@ ghost use Rattle.modelitems.specs.Onward.{head_due, stopped};
 ghost use Rattle.modelreading.specs.Seen.{Stops, VariablesSeen, Seen, Kept, model_read, read_of};
 
 use modelitems::faults::check_head;
-use modelitems::items::{arguments_at, declared_by, over, variable_at};
+use modelitems::items::{arguments_at, declared_by, variable_at};
 use modelitems::shapes;
 use models::shape::Shape;
+use words::check::over;
 use words::fault::{Fault, Refusal};
 use words::kind::Kind;
 use words::limit;
@@ -27,6 +28,7 @@ pub struct Model {
 }
 
 // The refusal where a reading stops, where a word is due: fault 2 where the words have ended before it.
+// One function with `rowreading::refusal_at` is no plainer: that one accepts words that end after the end word.
 #[tactic(auto, unfolding(modelitems::specs::Onward::stopped))]
 fn refused(ws: &[u32], refusal: Refusal) -> Refusal
     ensures { fault_number result.fault at_place result.place ≡ stopped ws.now (fault_number refusal.fault) refusal.place }
@@ -41,12 +43,14 @@ fn refused(ws: &[u32], refusal: Refusal) -> Refusal
 }
 
 // The variables of a model: how many there are and how many words they take; in types their types.
+// Fixed memory: the types stand in an array of the most variables, and the heads of constraints in another.
 fn read_variables(ws: &[u32], types: &mut [Shape; 256]) -> Result<(usize, usize), Refusal>
-    requires { (length ws.now ≤ Limit.model_words) × (length types.old ≡ 256) }
+    requires { length ws.now ≤ Limit.model_words }
     ensures { MatchResult result (λ r. VariablesSeen head_due ws.now (map shape_number types.new) r.0 r.1) (Stops ws.now) }
 {
     let mut v = 0;
     let mut at = 0;
+    // no list or count to go over: the pass ends by what it reads
     loop {
         let w = Word::at(ws, at);
         let Some(declared) = declared_by(w) else {
@@ -67,12 +71,13 @@ fn read_constraints(
     types: &[Shape],
     heads: &mut [usize; 256],
 ) -> Result<usize, Refusal>
-    requires { VariablesSeen head_due ws.now (map shape_number types.now) (length types.now) sources × (length heads.old ≡ 256) }
+    requires { VariablesSeen head_due ws.now (map shape_number types.now) (length types.now) sources }
     ensures { MatchResult result (λ c. Seen ws.now heads.new (model_read (record { variables = length types.now; sources = sources; constraints = c }))) (Stops ws.now) }
 {
     let table = shapes::table();
     let mut at = sources;
     let mut c = 0;
+    // no list or count to go over: the pass ends by what it reads
     loop {
         let head = Word::at(ws, at);
         let first = over(at, check_head(c, head))?;
@@ -94,7 +99,7 @@ fn read_constraints(
 
 // The variables and the constraints of a model.
 fn read_items(ws: &[u32], heads: &mut [usize; 256]) -> Result<Model, Refusal>
-    requires { (length ws.now ≤ Limit.model_words) × (length heads.old ≡ 256) }
+    requires { length ws.now ≤ Limit.model_words }
     ensures { MatchResult result (λ m. Seen ws.now heads.new (model_read m)) (Stops ws.now) }
 {
     let mut types = [Shape::Integer; 256];
@@ -109,7 +114,6 @@ fn read_items(ws: &[u32], heads: &mut [usize; 256]) -> Result<Model, Refusal>
 
 // The first fault of a model and its place; of an accepted model what it has, and in heads the places of its constraints.
 pub fn read_model(ws: &[u32], heads: &mut [usize; 256]) -> Result<Model, Refusal>
-    requires { length heads.old ≡ 256 }
     ensures { Kept ws.now heads.new (read_of result) }
 {
     if limit::MODEL_WORDS < ws.len() {

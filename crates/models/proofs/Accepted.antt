@@ -10,7 +10,7 @@ use Rattle.integers.proofs.Lists.{all_implies}
 use Rattle.integers.proofs.Tests.{All}
 use Rattle.words.specs.Word.{kind}
 use Rattle.words.specs.Refusal.{◌at_place◌, accepted, first_fault}
-use Rattle.words.specs.declared.Refusal.{Refusal}
+use Rattle.words.specs.Refusals.{Refusal}
 use Rattle.words.specs.Variables.{variables}
 use Rattle.words.proofs.Sources.{Ordered, Sources, none, integer, boolean}
 use Rattle.words.proofs.ReadBack.{says_range}

@@ -6,11 +6,13 @@ use Rattle.integers.specs.Lists.{list_of}
 use Rattle.integers.proofs.Tests.{All}
 use Rattle.integers.proofs.Lists.{all-list_of}
 use Rattle.words.specs.Word.{payload, word_at}
+use Rattle.words.specs.Check.{fault_number_in}
+use Rattle.words.specs.Limit as Limit
 use Rattle.models.specs.Shape as Shape
 use Rattle.models.specs.Shape.{argument}
 use Rattle.models.specs.Model.{var, size, past}
 use Rattle.models.specs.Reading.{fault_variable, fault_argument_in, fault_due_in, fault_in, after_argument, after_due, fault_end, ended}
-use Rattle.models.specs.InRange.{fault_number, fault_count, fault_due}
+use Rattle.models.specs.InRange.{fault_count, fault_due}
 use Rattle.models.specs.declared.Due.{Due}
 use Rattle.models.specs.declared.Due.TheVariants.{Arguments}
 use Rattle.models.proofs.Sound.{Sound, Plain, plain, after-plain, reading, turn, is-number, is-variable, is-count}
@@ -64,7 +66,7 @@ positive n = lt-ltb 0 (suc n) (omega arith)
 less_one : (n : ℕ) → suc n - 1 ≡ n
 less_one n = omega arith
 
-number-due : (n m t code k v u c w : ℕ) → fault_due (Arguments (suc n) m t code k) v u c w ≡ fault_number w
+number-due : (n m t code k v u c w : ℕ) → fault_due (Arguments (suc n) m t code k) v u c w ≡ fault_number_in Limit.range w
 unfolding fault_due_in
 number-due n m t code k v u c w = rw (positive n)
 
@@ -154,7 +156,7 @@ plus_if x n false = add-zero x
 
 -- the fault of an argument's first word
 abbrev fault_first : ℕ → ℕ → ℕ → ℕ
-fault_first s u w = fault_variable u s w if ltb s Shape.number else fault_number w if eqb s Shape.number else fault_count 27 w if eqb s Shape.exponent else fault_count 32 w
+fault_first s u w = fault_variable u s w if ltb s Shape.number else fault_number_in Limit.range w if eqb s Shape.number else fault_count 27 w if eqb s Shape.exponent else fault_count 32 w
 
 argument-due : (s t code k v u c w : ℕ) → argument code k ≡ s → 1 ≤ s → fault_due (Arguments 0 0 t code k) v u c w ≡ fault_first s u w
 unfolding fault_due_in fault_argument_in

@@ -6,6 +6,7 @@ use Rattle.integers.specs.declared.Bounds.{Bounds}
 use Rattle.integers.proofs.Tests.{All}
 use Rattle.words.specs.Word.{kind, too_low}
 use Rattle.words.specs.Kind as Kind
+use Rattle.words.specs.Check.{fault_number_in}
 use Rattle.words.specs.Limit as Limit
 use Rattle.words.specs.Fault as Fault
 use Rattle.words.specs.Refusal.{◌at_place◌, accepted}
@@ -14,8 +15,8 @@ use Rattle.words.proofs.Choices.{either, of-kind, of_range}
 use Rattle.words.proofs.Reading.{not_too_many, each_word, same-reading}
 use Rattle.models.specs.Shape as Shape
 use Rattle.models.specs.Shape.{argument}
-use Rattle.models.specs.Reading.{fault_head, fault_start_in, fault_upper_in, fault_number_in, fault_variable, fault_count_in, fault_argument_in, fault_due_in, fault_in, after, ended, begin, read_model, read_model_in}
-use Rattle.models.specs.InRange.{fault_start, fault_number, fault_count, fault_due, fault}
+use Rattle.models.specs.Reading.{fault_head, fault_start_in, fault_upper_in, fault_variable, fault_count_in, fault_argument_in, fault_due_in, fault_in, after, ended, begin, read_model, read_model_in}
+use Rattle.models.specs.InRange.{fault_start, fault_count, fault_due, fault}
 use Rattle.models.specs.declared.Due.{Due}
 use Rattle.models.specs.declared.Due.TheVariants.{Start, Upper, Arguments, Ended}
 use Rattle.models.proofs.Sound.{is-variable, is-upper, at-constraint, at-end, is-head, at-lower, at-boolean, at_head, is-start}
@@ -23,7 +24,7 @@ use Rattle.models.proofs.Sound.{is-variable, is-upper, at-constraint, at-end, is
 -- ---- accepted words
 
 module _ (w : ℕ) where
-  number_in : fault_number w ≡ 0 → NumberIn w
+  number_in : fault_number_in Limit.range w ≡ 0 → NumberIn w
   unfolding fault_number_in
   number_in e s = (of_range w _ (of-kind w Kind.number _ e).1).0
 

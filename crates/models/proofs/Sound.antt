@@ -7,13 +7,15 @@ use Rattle.integers.proofs.Linear.{◌⊑◌}
 use Rattle.integers.proofs.Booleans.{neither}
 use Rattle.integers.proofs.Tests.{not-below}
 use Rattle.words.specs.Word.{kind, payload, signed, in_range, word_at}
+use Rattle.words.specs.Check.{fault_number_in}
 use Rattle.words.specs.Fault as Fault
+use Rattle.words.specs.Limit as Limit
 use Rattle.words.specs.Refusal.{accepted, first_fault}
 use Rattle.words.proofs.Reading.{passed}
 use Rattle.words.proofs.Choices.{not_first, not-second, either, of-kind, of_range}
 use Rattle.models.specs.Table as Table
-use Rattle.models.specs.Reading.{State, fault_head, fault_start_in, fault_upper_in, fault_number_in, fault_variable, fault_count_in, after_due, declared, started, after, ended}
-use Rattle.models.specs.InRange.{fault_start, fault_upper, fault_number, fault_count, fault}
+use Rattle.models.specs.Reading.{State, fault_head, fault_start_in, fault_upper_in, fault_variable, fault_count_in, after_due, declared, started, after, ended}
+use Rattle.models.specs.InRange.{fault_start, fault_upper, fault_count, fault}
 use Rattle.models.specs.declared.Due.{Due}
 
 -- ---- no fault in the words, from a state on
@@ -30,7 +32,7 @@ sound (w ∷ ws) s p e = let h = passed (fault s w ws) p _ e in (h.0, sound ws (
 -- ---- one word without a fault
 
 module _ (w : ℕ) where
-  pub is-number : fault_number w ≡ 0 → kind w ≡ 6
+  pub is-number : fault_number_in Limit.range w ≡ 0 → kind w ≡ 6
   unfolding fault_number_in
   is-number e = (of-kind w 6 _ e).0
 

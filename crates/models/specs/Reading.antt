@@ -6,9 +6,10 @@ use Rattle.integers.specs.declared.Bounds.{Bounds}
 use Rattle.words.specs.Word.{kind, payload, signed, too_low}
 use Rattle.words.specs.Kind as Kind
 use Rattle.words.specs.Limit as Limit
+use Rattle.words.specs.Check.{fault_number_in}
 use Rattle.words.specs.Fault as Fault
 use Rattle.words.specs.Refusal.{◌at_place◌, first_fault}
-use Rattle.words.specs.declared.Refusal.{Refusal}
+use Rattle.words.specs.Refusals.{Refusal}
 use Rattle.models.specs.Table as Table
 use Rattle.models.specs.Shape as Shape
 use Rattle.models.specs.Shape.{is_variable, is_one_word, argument}
@@ -60,13 +61,6 @@ module _ (range : Bounds) where
       else Fault.upper_below_lower if lt_z (signed w) (signed lower)
       else Fault.none
 
-  -- of a number: 3, 18
-  unfoldable pub fault_number_in : ℕ → ℕ
-  fault_number_in w =
-      Fault.wrong_kind if not (eqb (kind w) Kind.number)
-      else Fault.lowest_number if too_low range w
-      else Fault.none
-
   -- of a list's length and of an exponent, the most that it may be given: 3, 18, 9
   unfoldable pub fault_count_in : ℕ → ℕ → ℕ
   fault_count_in most w =
@@ -80,7 +74,7 @@ module _ (range : Bounds) where
   fault_argument_in t c arg w =
       fault_head c w if eqb arg Shape.none
       else fault_variable t arg w if is_variable arg
-      else fault_number_in w if eqb arg Shape.number
+      else fault_number_in range w if eqb arg Shape.number
       else fault_count_in Limit.exponent w if eqb arg Shape.exponent
       else fault_count_in Limit.list_length w
 
@@ -89,7 +83,7 @@ module _ (range : Bounds) where
   fault_due_in Start v t c w = fault_start_in v c w
   fault_due_in (Upper lower) v t c w = fault_upper_in lower w
   fault_due_in (Arguments numbers variables type code k) v t c w =
-      fault_number_in w if ltb 0 numbers
+      fault_number_in range w if ltb 0 numbers
       else fault_variable t type w if ltb 0 variables
       else fault_argument_in t c (argument code k) w
   fault_due_in Ended v t c w = Fault.word_after_end

@@ -1,7 +1,8 @@
-// Models: what a reader of a model waits for.
+// Models: the codes of builtins, the shapes of their arguments, a constraint, and what a reader of a model waits for.
 #![tactic(auto)]
 
 pub mod code;
+pub mod constraint;
 pub mod shape;
 
 // What is due at the next word of a model.

@@ -3,7 +3,7 @@ use Rattle.std.proofs.Common.{◌≡◌, sym, ap, ◌∙◌, List, ℕ, ◌+◌,
 use Rattle.words.specs.Answer.{refused}
 use Rattle.words.specs.Faults.{fault_number}
 use Rattle.words.specs.Overlay.{overlay}
-use Rattle.words.specs.declared.Refusal.{Refusal}
+use Rattle.words.specs.Refusals.{Refusal}
 use Rattle.words.specs.declared.fault.Fault.TheVariants as f
 use Rattle.words.specs.declared.fault.Refusal as error
 use Rattle.words.proofs.Faulty.{fault-number}

@@ -1,7 +1,7 @@
 -- 02, wish 12: "a faulty word in the table refuses both".
 use Rattle.std.proofs.Common.{◌≡◌, refl, List, [], ◌∷◌, ◌++◌, ℕ, zero, suc, ◌+◌, ltb, length}
 use Rattle.integers.specs.Choice.{◌if◌else◌}
-use Rattle.words.specs.declared.Refusal.{Refusal}
+use Rattle.words.specs.Refusals.{Refusal}
 use Rattle.words.specs.Refusal.{◌at_place◌, fault_or, first_fault}
 use Rattle.models.specs.Reading.{State, fault_in, after, ended, begin, read_model, read_model_in}
 use Rattle.models.specs.InRange.{fault}

@@ -2,7 +2,7 @@
 -- refused by every call, whatever they are.
 use Rattle.std.proofs.Common.{◌≡◌, refl, sym, ap, ◌∙◌, Bool, true, false, List, ℕ, zero, suc, ◌<◌, ◌≤◌, arith, ltb, eqb, ℤ, length, eq-eqb, ne_eqb, lt-ltb, le-ltb}
 use Rattle.integers.specs.Choice.{◌if◌else◌}
-use Rattle.words.specs.declared.Refusal.{Refusal}
+use Rattle.words.specs.Refusals.{Refusal}
 use Rattle.words.specs.Answer.{Answer, refused, refused_or, ◌else_answer◌}
 use Rattle.words.specs.Refusal.{◌at_place◌, accepted, fault_or, ◌else_refuse◌}
 use Rattle.models.specs.Reading.{read_model_in}

@@ -1,8 +1,8 @@
 // Two candidates over one variable table: check, translate, judge-model and fill of the model of each. Candidate 1 is the first; every other number is the second.
+// The candidate stays a number: the calls for C take one and hand it on.
 #![tactic(auto)]
 
-ghost use Rattle.std.specs.Prelude.{◌≡◌, ◌≤◌, ◌<◌, length};
-ghost use Rattle.integers.specs.Choice.{◌if◌else◌};
+ghost use Rattle.std.specs.Prelude.{◌≡◌, ◌≤◌, ◌<◌, Bool, ℕ, length};
 ghost use Rattle.words.specs.Overlay.{overlay};
 ghost use Rattle.words.specs.Limit as Limit;
 ghost use Rattle.words.specs.Faults.{written_of, verdict_of};
@@ -27,7 +27,7 @@ use words::list::lay;
 use words::word::Word;
 
 // The word between the candidates.
-const SEPARATOR: u32 = 3489660928;
+const SEPARATOR: u32 = 0xD0000000;
 
 // Whether the table ends before a word.
 #[tactic(auto, unfolding(crate::specs::Pair::ends_table, crate::specs::Pair::separates))]
@@ -35,30 +35,23 @@ fn ends_table(w: u32) -> bool
     ensures { result ≡ ends_table w }
 {
     let word = Word::from(w);
-    word.is(Kind::Constraint) || word.is(Kind::ModelEnd) || w == SEPARATOR
+    word.is(Kind::Constraint) || word.is(Kind::ModelEnd) || separates(w)
 }
 
-// Whether a word ends the table, or is the one between the candidates.
+// Whether a word is the one between the candidates.
 #[tactic(auto, unfolding(crate::specs::Pair::separates))]
-fn stops(table: bool, w: u32) -> bool
-    ensures { result ≡ (ends_table if table else separates) w }
+fn separates(w: u32) -> bool
+    ensures { result ≡ separates w }
 {
-    if table {
-        return ends_table(w);
-    }
     w == SEPARATOR
 }
 
-// How many words stand before the end of the table, or before the word between the candidates; all of them where there is none.
-fn words_before(ws: &[u32], table: bool) -> usize
-    ensures { result ≡ before (ends_table if table else separates) ws.now }
+// How many words stand before the first that passes a test; all of them where none does.
+fn words_before<F: Fn(u32) -> bool>(ws: &[u32], test: F) -> usize
+    requires { F.IsAlwaysCallable test }
+    ensures { (t : ℕ → Bool) → ((w : ℕ) (r : Bool) → F.post test w r → r ≡ t w) → result ≡ before t ws.now }
 {
-    for i in 0..ws.len() {
-        if stops(table, ws[i]) {
-            return i;
-        }
-    }
-    ws.len()
+    ws.iter().take_while(|&&w| !test(w)).count()
 }
 
 // Lays the first candidate's model over the front of a list.
@@ -80,10 +73,11 @@ fn lay_second(ws: &[u32], d: usize, t: usize, out: &mut [u32])
 }
 
 // Copies a candidate's model to the front of a list: 1 is the first candidate, every other number the second. How many words the model has.
+// The caller lends an array for the most words that a model may have, and slices it by the count: no heap.
 fn copy_model(ws: &[u32], candidate: u32, out: &mut [u32]) -> Result<usize, Refusal>
     ensures { Copies candidate ws.now result out.old out.new }
 {
-    let d = words_before(ws, false);
+    let d = words_before(ws, separates);
     if d == ws.len() {
         return Err(Refusal {
             fault: Fault::WordsEnd,
@@ -101,7 +95,7 @@ fn copy_model(ws: &[u32], candidate: u32, out: &mut [u32]) -> Result<usize, Refu
         lay_first(ws, d, out);
         return Ok(d + 1);
     }
-    let t = words_before(ws, true);
+    let t = words_before(ws, ends_table);
     let n = ws.len() - (d + 1) + t;
     if limit::MODEL_WORDS < n {
         return Err(too_many);
@@ -111,6 +105,7 @@ fn copy_model(ws: &[u32], candidate: u32, out: &mut [u32]) -> Result<usize, Refu
 }
 
 // Check of a candidate's model.
+// The four calls share the array, the copy and its `?`; one function of them by a closure would take the clauses of each call, and be no plainer.
 pub fn pair_check(ws: &[u32], candidate: u32) -> Result<Counts, Refusal>
     ensures { checked result ≡ pair_check candidate ws.now }
 {

@@ -13,6 +13,7 @@ use Rattle.rules.specs.Parts.{nth, places}
 use Rattle.rules.specs.Pick.{pick, first_bit, gated_pick}
 use Rattle.rules.proofs.Members.{places-kept}
 use Rattle.rules.specs.Shared.{Encoded, pick_after}
+use Rattle.arguments.specs.declared.instance.Instance.{Instance}
 use Rattle.arguments.proofs.Unknown.{Unknown, no_builtin}
 use Rattle.encodings.specs.Uses.{shared_by}
 use Rattle.encodings.proofs.Record.{shares-by, no-choosing}
@@ -21,7 +22,7 @@ use Rattle.picking.specs.Only.{only_at, FirstAt}
 use Rattle.picking.proofs.Only.{gated, times-bits, only_none}
 use Rattle.picking.proofs.Labels.{some-place, no-later, label-bits}
 
--- a number that no code has
+-- for a number that no code has nothing is picked
 pub unknown_picks : (Ds : List Bounds) (uses : List ℕ) (e : Encoded) (vs : List ℤ) (code : ℕ) (args : List ℕ) → Unknown code → picks_after Ds uses e vs code args ≡ []
 unfolding pick pick_after
 unknown_picks Ds uses e vs code args h = rw (shares-by (shared_by uses) code args, no-choosing code h, no_builtin code args h)
@@ -31,18 +32,24 @@ pub difference : (σ : ℕ → ℤ) (a b : ℕ) → sum σ (+1 · a ∷ -1 · b 
 unfolding sum
 difference σ a b = rw (rep (σ a), rep (σ b)) (simp linear (omega arith))
 
-module _ (Ds : List Bounds) (vs : List ℤ) (ws : List ℕ) where
+module _ (Ds : List Bounds) (i : Instance) where
+  abbrev vs : List ℤ
+  vs = i.values.now
+
+  abbrev ws : List ℕ
+  ws = i.args.now
+
   -- the labels of 24 and 25
   abbrev pub labels : Bounds
   labels = places (bounds_in Ds (var ws 0)) (size ws 1)
 
   -- 24
-  pub element-picks : picks_of Ds vs 24 ws ≡ first_bit (λ j. j ≟ value vs (var ws 0)) (values labels)
+  pub element-picks : picks_of Ds i 24 ≡ first_bit (λ j. j ≟ value vs (var ws 0)) (values labels)
   unfolding pick builtin builtins nums
   element-picks = rw list_of-length
 
   -- 28
-  pub set-picks : picks_of Ds vs 28 ws ≡ first_bit (λ v. v ≟ value vs (var ws 0)) (values (bounds_in Ds (var ws 0)))
+  pub set-picks : picks_of Ds i 28 ≡ first_bit (λ v. v ≟ value vs (var ws 0)) (values (bounds_in Ds (var ws 0)))
   unfolding pick builtin builtins
   set-picks = refl
 
@@ -89,14 +96,14 @@ module _ (Ds : List Bounds) (vs : List ℤ) (ws : List ℕ) where
     same-element true e = ap (only_at (width labels) h) (element (ltb-true _ _ e))
     same-element false e = only_none _ h h _ _ (ltb-false _ _ e) (ltb-false _ _ e)
 
-    var_element_picks : picks_of Ds vs 25 ws ≡ only_at (width labels) h +1 ++ only_at (width labels) h chosen_value
+    var_element_picks : picks_of Ds i 25 ≡ only_at (width labels) h +1 ++ only_at (width labels) h chosen_value
     unfolding pick builtin builtins values
     var_element_picks =
         rw vars-length
         (gated (λ j. value vs (nth 0 (vars ws 1) j)) (λ j. j ≟ value vs (var ws 0)) (λ k. labels.lower ⊕ pos k) (width labels) h w
         ∙ ap (λ zs. only_at (width labels) h +1 ++ zs) (same-element (ltb h (width labels)) refl))
 
-    pub product-picks : product_picks Ds vs ws ≡ only_at (width labels) h chosen_value
+    pub product-picks : product_picks Ds i ≡ only_at (width labels) h chosen_value
     unfolding product_picks values
     product-picks =
         rw (vars-length, places-kept (bounds_in Ds (var ws 0)) (size ws 1))
@@ -104,7 +111,7 @@ module _ (Ds : List Bounds) (vs : List ℤ) (ws : List ℕ) where
         ∙ same-element (ltb h (width labels)) refl)
 
   -- the bits of 24, then the products
-  pub var_element_both : picks_of Ds vs 25 ws ≡ picks_of Ds vs 24 ws ++ product_picks Ds vs ws
+  pub var_element_both : picks_of Ds i 25 ≡ picks_of Ds i 24 ++ product_picks Ds i
   var_element_both =
       let p = some-place (value vs (var ws 0)) labels.lower (width labels) in
       var_element_picks p.0 p.1

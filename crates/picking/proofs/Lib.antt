@@ -1,5 +1,5 @@
 -- Laws for proofs about what fill writes.
-pub mod Laid
+pub mod Puts
 pub mod Writing
 pub mod Only
 pub mod Labels

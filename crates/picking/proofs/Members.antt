@@ -8,6 +8,7 @@ use Rattle.integers.proofs.Places.{by-places}
 use Rattle.words.specs.Overlay.{overlay}
 use Rattle.words.proofs.Overlay.{front-over}
 use Rattle.models.specs.Model.{var, nums, builtin, builtins}
+use Rattle.arguments.specs.declared.instance.Instance.{Instance}
 use Rattle.rules.specs.Parts.{members}
 use Rattle.rules.specs.Pick.{pick, first_bit}
 use Rattle.extremes.proofs.Rising.{members-length}
@@ -16,12 +17,15 @@ use Rattle.picking.specs.Only.{only_at, FirstAt}
 use Rattle.picking.proofs.Only.{first_bit-only_at}
 
 -- 27: where the members stand at the front of a list
-pub member-picks : (Ds : List Bounds) (vs : List ℤ) (ws : List ℕ) (zeros inside : List ℤ) (n h : ℕ) →
+pub member-picks : (Ds : List Bounds) (i : Instance) (zeros inside : List ℤ) (n h : ℕ) →
+    let ws = i.args.now in
     let ms = members (nums ws 1) (bounds_in Ds (var ws 0)) in
-    length zeros ≡ 32 → n ≡ length ms → inside ≡ overlay zeros 0 ms → FirstAt (λ k. get_or (take n inside) k +0 ≟ value vs (var ws 0)) (length (take n inside)) h →
-    picks_of Ds vs 27 ws ≡ only_at n h +1
+    length zeros ≡ 32 → n ≡ length ms → inside ≡ overlay zeros 0 ms → FirstAt (λ k. get_or (take n inside) k +0 ≟ value i.values.now (var ws 0)) (length (take n inside)) h →
+    picks_of Ds i 27 ≡ only_at n h +1
 unfolding pick builtin builtins
-member-picks Ds vs ws zeros inside n h e m f w =
+member-picks Ds i zeros inside n h e m f w =
+    let ws = i.args.now in
+    let vs = i.values.now in
     let B = bounds_in Ds (var ws 0) in
     let ms = members (nums ws 1) B in
     let front : take n inside ≡ ms = rw (f, m) (front-over zeros ms (omega (arith, members-length ws 1 B))) in

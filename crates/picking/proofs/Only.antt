@@ -1,5 +1,5 @@
 -- Laws of one number among zeros: its elements, one-hot bits, and products with one-hot bits.
-use Rattle.std.proofs.Common.{◌≡◌, refl, ap, ◌∙◌, Bool, true, false, [], ◌∷◌, ◌++◌, map, ℕ, zero, suc, ◌<◌, ◌≤◌, arith, eqb, ℤ, length, get_or, ne_eqb}
+use Rattle.std.proofs.Common.{◌≡◌, refl, ap, ◌∙◌, Bool, true, false, [], ◌∷◌, ◌++◌, map, ℕ, zero, suc, ◌+◌, ◌<◌, ◌≤◌, arith, eqb, ltb, ℤ, length, get_or, ne_eqb, ltb-true, ltb-false}
 use mathlib.Core.List.{zip_with}
 use Prim.Native.Nat.compare
 use lib.Signed.{lt_z}
@@ -10,7 +10,7 @@ use Rattle.integers.proofs.Sums.{times_zero, zero-times, times-one, one-times}
 use Rattle.integers.specs.Bounds.{within}
 use Rattle.words.specs.Word.{in_range}
 use Rattle.rules.specs.Pick.{bit_of, sign_pick, first_bit, gated_pick}
-use Rattle.picking.specs.Picked.{Ranged}
+use Rattle.picking.specs.Output.{Ranged}
 use Rattle.picking.specs.Only.{only_at, FirstAt}
 
 pub only-length : (n h : ℕ) (v : ℤ) → length (only_at n h v) ≡ n
@@ -111,3 +111,11 @@ pub bit_in : (t : Bool) → in_range (+1 if t else +0) ≡ true
 unfolding within
 bit_in true = refl
 bit_in false = refl
+
+-- one place more before the first: the state of a loop that looks for it
+pub none_more : (t : ℕ → Bool) (k : ℕ) → ((j : ℕ) → j < k → t j ≡ false) → t k ≡ false → (j : ℕ) → j < k + 1 → t j ≡ false
+none_more t k h e j l = by (ltb j k) refl
+  where
+    by : (b : Bool) → ltb j k ≡ b → t j ≡ false
+    by true p = h j (ltb-true j k p)
+    by false p = let q : j ≡ k = omega (arith, ltb-false j k p) in rw q e

@@ -13,7 +13,8 @@ use Rattle.rules.specs.Translation.{bounds, shared, block_of, each_block, picks}
 use Rattle.encodings.specs.Uses.{choice_of, shared_by}
 use Rattle.encodings.proofs.Record.{none-many, length-after}
 use Rattle.integers.specs.Bounds.{bounds_in}
-use Rattle.picking.specs.Picked.{Ranged, picks_after}
+use Rattle.picking.specs.Output.{Ranged}
+use Rattle.picking.specs.Picked.{picks_after}
 use Rattle.picking.proofs.Writing.{ranged-left, ranged-right}
 
 -- for constraints, one after another, the first auxiliary numbered `first`
@@ -82,6 +83,10 @@ module _ {Ds : List Bounds} {uses : List ℕ} {vs : List ℤ} {cs : List Constra
   pub ended : length cs ≤ k → out ≡ overlay out₀ start (picks_from Ds uses vs start none_yet cs)
   unfolding overlay picks_from each_block
   ended l = rw (drop_of_length-le cs l) at f.over
+
+  pub all_picked : length cs ≤ k → LaidAt out₀ start (picks_from Ds uses vs start none_yet cs) out at
+  unfolding picks_from each_block
+  all_picked l = record { over = ended l; ends = omega (arith, rw (drop_of_length-le cs l) at f.many) }
 
 -- the values in front of the picks
 pub values-then : (out vs ps : List ℤ) → overlay (overlay out 0 vs) (length vs) ps ≡ overlay out 0 (vs ++ ps)

@@ -1,12 +1,17 @@
 -- Laws of lists of numbers of the range.
-use Rattle.std.proofs.Common.{◌≡◌, refl, true, List, [], ◌∷◌, ◌++◌, ℕ, zero, suc, ◌<◌, arith, ℤ, length}
+use Rattle.std.proofs.Common.{◌≡◌, refl, SFits, w32, true, List, [], ◌∷◌, ◌++◌, ℕ, zero, suc, ◌<◌, arith, ℤ, length}
 use Rattle.integers.specs.Number.{+0}
 use Rattle.integers.specs.Terms.{value}
 use Rattle.integers.specs.Bounds.{within}
+use Rattle.integers.proofs.Fits.{fits32}
 use Rattle.words.specs.Word.{in_range}
-use Rattle.picking.specs.Picked.{Ranged}
+use Rattle.words.proofs.ReadBack.{range-near}
+use Rattle.picking.specs.Output.{Ranged}
 
 -- ---- numbers of the range
+
+pub fits : (v : ℤ) → in_range v ≡ true → SFits w32 v
+fits v h = fits32 v (omega (arith, range-near v h))
 
 zero-ranged : in_range +0 ≡ true
 unfolding within

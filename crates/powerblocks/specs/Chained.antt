@@ -11,11 +11,12 @@ use Rattle.laying.specs.declared.Writer.{Writer}
 use Rattle.powerblocks.specs.Cut.{cut_bounds, Ranges}
 use Rattle.powerblocks.specs.declared.Multiplied.{Multiplied}
 
--- one more product of a factor within the bounds B and the power within P: its bounds R went over the list; the product itself did
+-- one more product of a factor within the bounds B and the power within P: its bounds R went over the list
 pub record NextRange (s r : Writer) (P R B : Bounds) : Type 0 where
   pub wrote : Writes 10 s r (bound R.lower R.upper ∷ [])
   pub range : R ≡ cut_bounds (end_products B P)
 
+-- the product of a factor and the power p went over the list; q is the power after it
 pub record NextProduct (s r : Writer) (p q : Multiplied) (factor : ℕ) : Type 0 where
   pub wrote : Writes 10 s r (times p.next factor p.held ∷ [])
   pub held : q.held ≡ p.next

@@ -38,6 +38,7 @@ fn cut_bounds(b: Bounds) -> Domain
 }
 
 // The bounds of one more product: of a factor within bounds and the power.
+// It and `next_product` stay two: one carries bounds and the other a variable and a number, and a trait of both, with its laws, is longer than they are.
 fn next_range(writer: &mut Writer, power: Domain, factor: Domain) -> Domain
     requires { Room 10 writer.old }
     ensures { NextRange writer.old writer.new power result factor }
@@ -47,7 +48,8 @@ fn next_range(writer: &mut Writer, power: Domain, factor: Domain) -> Domain
     range
 }
 
-// The bounds of the products of a power from 1 on, of a variable within bounds; those of the power.
+// The bounds of the products of a power from 1 on, of a variable within bounds; answers the bounds of the power. 02 prescribes the recursion.
+// What k is stays in clauses, here and below: it is one number, which each call halves, so that a type for it would be made anew in each call, and be no plainer.
 fn write_ranges(writer: &mut Writer, k: usize, range: Domain) -> Domain
     requires { Room (20 * k) writer.old × (1 ≤ k) × (k ≤ Limit.exponent) }
     ensures { RangesWritten writer.old writer.new result (cut_ranges range k) (20 * k) }
@@ -75,7 +77,8 @@ fn next_product(writer: &mut Writer, power: Multiplied, factor: usize) -> Multip
     }
 }
 
-// The products of a power from 1 on of the variable x; their auxiliaries are numbered from `first` on.
+// The products of a power from 1 on of the variable x, by the same recursion; their auxiliaries are numbered from `first` on.
+// It and `write_ranges` stay two: one recursion of both would take the step as a closure over the writer with its clauses (`NextRange`, `NextProduct`), and be longer than both.
 fn write_power(writer: &mut Writer, k: usize, x: usize, first: usize) -> Multiplied
     requires { Room (20 * k) writer.old × (1 ≤ k) × (k ≤ Limit.exponent) × (first < first_numbers) }
     ensures { PowerWritten first writer.old writer.new result x k (20 * k) }

@@ -13,7 +13,7 @@ use Rattle.models.specs.Table.{Code, codes}
 use Rattle.models.specs.Shape as Shape
 use Rattle.models.specs.Shape.{shapes}
 use Rattle.grammar.specs.Form.{in_text, argument_forms, argument_form, Form, Missing, One, Many}
-use Rattle.grammar.specs.Machine.{form_of}
+use Rattle.grammar.specs.Machine.{text_form}
 use Rattle.grammar.specs.declared.form.Bracketed.TheVariants as brackets
 use Rattle.grammar.specs.declared.form.Form.{Form as Argument}
 use Rattle.grammar.specs.declared.form.Form.TheVariants as argument
@@ -56,7 +56,7 @@ sorts_of is_set (s ∷ ss) =
     let rest = sorts_of is_set ss in
     argument.Variable ∷ rest if leb s 2 else argument.Number ∷ rest if leb s 4 else numbers_form is_set ∷ rest if eqb s 5 else argument.Bracketed brackets.Numbers ∷ argument.Bracketed brackets.Parallel ∷ rest if eqb s 8 else argument.Bracketed brackets.Variables ∷ rest
 
-forms_are : list_of argument_forms 40 ≡ list_of (λ code. map form_of (sorts_of (takes_set code) (get_or shapes code []))) 40
+forms_are : list_of argument_forms 40 ≡ list_of (λ code. map text_form (sorts_of (takes_set code) (get_or shapes code []))) 40
 unfolding any list_of argument_forms in_text bracket takes_set shapes flat_map
 forms_are = refl
 
@@ -65,13 +65,13 @@ unfolding argument_forms shapes
 beyond code l = (get_or-eq_default ([] ∷ map (λ (row : Code). flat_map in_text row.sorts) codes) [] {n = code} l, get_or-eq_default shapes [] {n = code} l)
 
 abbrev pub Aligned : ℕ → ℕ → ℕ → Type 0
-Aligned code k j = drop j (argument_forms code) ≡ map form_of (sorts_of (takes_set code) (drop k (get_or shapes code [])))
+Aligned code k j = drop j (argument_forms code) ≡ map text_form (sorts_of (takes_set code) (drop k (get_or shapes code [])))
 
 pub aligned : (code : ℕ) → Aligned code 0 0
 aligned code = go (ltb code 40) refl
   where
     sorted : ℕ → List Form
-    sorted c = map form_of (sorts_of (takes_set c) (get_or shapes c []))
+    sorted c = map text_form (sorts_of (takes_set c) (get_or shapes c []))
 
     go : (b : Bool) → ltb code 40 ≡ b → argument_forms code ≡ sorted code
     go true e =
@@ -116,9 +116,9 @@ module _ (code k : ℕ) where
 
     -- an argument that is one in the text
     one : (s : ℕ) (y : Argument) → Shape.argument code k ≡ s → 1 ≤ s → sorts_of (takes_set code) (s ∷ drop (k + 1) (get_or shapes code [])) ≡ y ∷ sorts_of (takes_set code) (drop (k + 1) (get_or shapes code [])) →
-        (argument_form code j ≡ form_of y) × Aligned code (k + 1) (j + 1)
+        (argument_form code j ≡ text_form y) × Aligned code (k + 1) (j + 1)
     unfolding argument_form
-    one s y e l f = rw (add-one j) (head_of (argument_forms code) j (form_of y) _ (h ∙ ap (λ (ss : List ℕ). map form_of (sorts_of (takes_set code) ss)) (first_of s e l) ∙ ap (map form_of) f))
+    one s y e l f = rw (add-one j) (head_of (argument_forms code) j (text_form y) _ (h ∙ ap (λ (ss : List ℕ). map text_form (sorts_of (takes_set code) ss)) (first_of s e l) ∙ ap (map text_form) f))
 
     pub is-variable : (s : ℕ) → Shape.argument code k ≡ s → 1 ≤ s → s ≤ 2 → (argument_form code j ≡ One 2) × Aligned code (k + 1) (j + 1)
     is-variable s e l m = one s argument.Variable e l (rw (le-leb s 2 m))
@@ -126,7 +126,7 @@ module _ (code k : ℕ) where
     pub is-number : (s : ℕ) → Shape.argument code k ≡ s → 2 < s → s ≤ 4 → (argument_form code j ≡ One 1) × Aligned code (k + 1) (j + 1)
     is-number s e l m = one s argument.Number e (omega arith) (rw (lt-leb s 2 l, le-leb s 4 m))
 
-    pub is-numbers : Shape.argument code k ≡ 5 → (argument_form code j ≡ form_of (numbers_form (takes_set code))) × Aligned code (k + 1) (j + 1)
+    pub is-numbers : Shape.argument code k ≡ 5 → (argument_form code j ≡ text_form (numbers_form (takes_set code))) × Aligned code (k + 1) (j + 1)
     is-numbers e = one 5 (numbers_form (takes_set code)) e (omega arith) refl
 
     pub is-variables : (s : ℕ) → Shape.argument code k ≡ s → 5 < s → s < 8 → (argument_form code j ≡ Many 91 2 93 false) × Aligned code (k + 1) (j + 1)
@@ -135,9 +135,9 @@ module _ (code k : ℕ) where
     pub is-parallel : Shape.argument code k ≡ 8 → (argument_form code j ≡ Many 91 1 93 false) × (argument_form code (j + 1) ≡ Many 91 2 93 true) × Aligned code (k + 1) (j + 1 + 1)
     unfolding argument_form
     is-parallel e =
-        let f : drop j (argument_forms code) ≡ form_of (argument.Bracketed brackets.Numbers) ∷ form_of (argument.Bracketed brackets.Parallel) ∷ map form_of (sorts_of (takes_set code) (drop (k + 1) (get_or shapes code []))) = h ∙ ap (λ (ss : List ℕ). map form_of (sorts_of (takes_set code) ss)) (first_of 8 e (omega arith)) in
-        let a = head_of (argument_forms code) j (form_of (argument.Bracketed brackets.Numbers)) _ f in
-        let b = head_of (argument_forms code) (suc j) (form_of (argument.Bracketed brackets.Parallel)) _ a.1 in
+        let f : drop j (argument_forms code) ≡ text_form (argument.Bracketed brackets.Numbers) ∷ text_form (argument.Bracketed brackets.Parallel) ∷ map text_form (sorts_of (takes_set code) (drop (k + 1) (get_or shapes code []))) = h ∙ ap (λ (ss : List ℕ). map text_form (sorts_of (takes_set code) ss)) (first_of 8 e (omega arith)) in
+        let a = head_of (argument_forms code) j (text_form (argument.Bracketed brackets.Numbers)) _ f in
+        let b = head_of (argument_forms code) (suc j) (text_form (argument.Bracketed brackets.Parallel)) _ a.1 in
         rw (add-one j, add-one (suc j)) (a.0, b.0, b.1)
 
 -- ---- what the table of codes says

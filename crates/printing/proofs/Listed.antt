@@ -9,7 +9,7 @@ use Rattle.models.specs.declared.Due.TheVariants as Words
 use Rattle.models.proofs.Sound.{Sound, reading}
 use Rattle.tokens.specs.Token.{Token}
 use Rattle.grammar.specs.Form.{argument_form, Many}
-use Rattle.grammar.specs.Machine.{form_of}
+use Rattle.grammar.specs.Machine.{text_form}
 use Rattle.grammar.specs.Grammar.{Argument, Inside}
 use Rattle.printing.specs.ModelText.{variable_name, takes_set, opened, closed, numbers_end, variables_end, text_from}
 use Rattle.printing.proofs.Spelled.{Sign, comma, close_list, ends-name, ends-number}
@@ -99,7 +99,7 @@ record Numbered (code j : ℕ) : Type 0 where
   opened-is : opened code ≡ o ∷ []
   closed_is : closed code ≡ b ∷ []
 
-numbered : (code j : ℕ) → argument_form code j ≡ form_of (numbers_form (takes_set code)) → Numbered code j
+numbered : (code j : ℕ) → argument_form code j ≡ text_form (numbers_form (takes_set code)) → Numbered code j
 unfolding opened closed
 numbered code j h = go (takes_set code) refl
   where

@@ -8,7 +8,7 @@ use Rattle.models.specs.Reading.{read_model, read_model_in, begin}
 use Rattle.models.proofs.Accepted.{few_words}
 use Rattle.models.proofs.Sound.{Sound, sound}
 use Rattle.tokens.specs.Token.{tokens}
-use Rattle.texts.specs.Text.{tokens_fault, tokens_words, words_fault, refusal_of, read_text, text_read}
+use Rattle.texts.specs.Text.{tokens_fault, tokens_words, words_fault, text_fault, read_text, text_read}
 use Rattle.printing.specs.ModelText.{model_text}
 use Rattle.printing.specs.ReadAgain.{ReadAgain}
 use Rattle.printing.proofs.Simulation.{start}
@@ -24,8 +24,8 @@ module _ (ws : List ℕ) (h : read_model ws ≡ accepted) where
   unfolding tokens_fault tokens_words tokens model_text
   read_back = (read-words (tokens (model_text ws)) (length (model_text ws)) ws _ _ 0 0 [] 0 start refl (omega arith) sound-words 0).gives (λ q l. refl)
 
-  no-refusal : (room : ℕ) → length ws ≤ room → refusal_of (model_text ws) room ≡ accepted
-  unfolding refusal_of words_fault room_fault ◌else_refuse◌
+  no-refusal : (room : ℕ) → length ws ≤ room → text_fault (model_text ws) room ≡ accepted
+  unfolding text_fault words_fault room_fault ◌else_refuse◌
   no-refusal room l = rw (read_back.0, read_back.1, le-ltb 8192 (length ws) (few_words ws h), le-ltb room (length ws) l)
 
   answered : (room : ℕ) → length ws ≤ room → read_text (model_text ws) room ≡ written (length ws)

@@ -3,11 +3,13 @@ use Rattle.std.proofs.Common.{◌≡◌, refl, ◌∙◌, Bool, true, false, Lis
 use lib.ListN.{get_or-eq_default}
 use Rattle.integers.specs.Choice.{◌if◌else◌}
 use Rattle.words.specs.Word.{kind, payload, signed, in_range}
+use Rattle.words.specs.Check.{fault_number_in}
+use Rattle.words.specs.Limit as Limit
 use Rattle.words.proofs.Choices.{not_first, of-kind, of_range}
 use Rattle.decimals.specs.Decimal.{numeral}
 use Rattle.models.specs.Shape.{argument}
-use Rattle.models.specs.Reading.{State, fault_head, after_head, declared, started, fault_number_in, fault_variable, fault_count_in, fault_argument_in, fault_due_in, fault_in, after_argument, after_due, after, fault_end, ended}
-use Rattle.models.specs.InRange.{fault_number, fault_count}
+use Rattle.models.specs.Reading.{State, fault_head, after_head, declared, started, fault_variable, fault_count_in, fault_argument_in, fault_due_in, fault_in, after_argument, after_due, after, fault_end, ended}
+use Rattle.models.specs.InRange.{fault_count}
 use Rattle.models.specs.declared.Due.{Due}
 use Rattle.models.specs.declared.Due.TheVariants.{Start, Upper, Arguments, Ended}
 use Rattle.models.proofs.Sound.{Sound, Plain, plain, after-plain, reading, is-variable}
@@ -19,7 +21,7 @@ pub record Numeric (w : ℕ) : Type 0 where
   pub kind-is : kind w ≡ 6
   pub range : in_range (signed w) ≡ true
 
-numeric : (w : ℕ) → fault_number w ≡ 0 → Numeric w
+numeric : (w : ℕ) → fault_number_in Limit.range w ≡ 0 → Numeric w
 unfolding fault_number_in
 numeric w e = let h = of-kind w 6 _ e in record { kind-is = h.0; range = (of_range w 0 h.1).0 }
 
@@ -102,7 +104,7 @@ module _ (ts : List ℕ) (c v t code k w : ℕ) (ws : List ℕ) where
 -- ---- the word at an argument of a shape
 
 module _ (ts : List ℕ) (c t code k w : ℕ) (ws : List ℕ) (h : Sound (reading (Arguments 0 0 t code k) ts c) (w ∷ ws)) (s : ℕ) (e : argument code k ≡ s) (l : 1 ≤ s) where
-  first-fault : (fault_variable (get_or ts (payload w) 0) s w if ltb s 3 else fault_number w if eqb s 3 else fault_count 27 w if eqb s 4 else fault_count 32 w) ≡ 0
+  first-fault : (fault_variable (get_or ts (payload w) 0) s w if ltb s 3 else fault_number_in Limit.range w if eqb s 3 else fault_count 27 w if eqb s 4 else fault_count 32 w) ≡ 0
   unfolding fault_in fault_due_in fault_argument_in
   first-fault = rw (e, ne_eqb s 0 (λ z. omega arith)) at h.0
 
@@ -131,7 +133,7 @@ module _ (ts : List ℕ) (c t code k w : ℕ) (ws : List ℕ) (h : Sound (readin
     pub amount_is : Numeric w
     amount_is = go (eqb s 3) (rw (le-ltb s 3 (omega arith)) at first-fault)
       where
-        go : (b : Bool) → (fault_number w if b else fault_count 27 w if eqb s 4 else fault_count 32 w) ≡ 0 → Numeric w
+        go : (b : Bool) → (fault_number_in Limit.range w if b else fault_count 27 w if eqb s 4 else fault_count 32 w) ≡ 0 → Numeric w
         go true q = numeric w q
         go false q = by (eqb s 4) q
           where

@@ -16,7 +16,7 @@ use Rattle.variables.proofs.After.{next, found}
 use Rattle.models.specs.Meaning.{meaning}
 use Rattle.models.specs.Model.{Constraint, constraints, headed, builtin}
 use Rattle.models.proofs.Accepted as Accepted
-use Rattle.modelreading.specs.declared.Model.{Model}
+use Rattle.linearsums.specs.Sum.{Summed}
 use Rattle.rowsystems.specs.Row.{rename, satisfied}
 use Rattle.rules.specs.Block.{numbered}
 use Rattle.rules.specs.Shared.{Encoded, none_yet, choice, encodes, encoded_after}
@@ -29,10 +29,11 @@ use Rattle.sharing.specs.SharedSolutions.{Passes}
 use Rattle.sharing.proofs.Accepts.{Fine, passes-fine, passes-read}
 use Rattle.sharing.proofs.Assembly.{auxiliaries_from, AllFormed}
 use Rattle.sharing.proofs.Theorem.{well-formed}
+use Rattle.checking.specs.declared.read.ReadModel.{ReadModel}
 use Rattle.checking.proofs.Kept.{head_at, summed_at}
 use Rattle.reasons.specs.Reason.{Reason, none, because, explained, in_block, first_failing}
 use Rattle.reasons.proofs.Judged.{explained_from}
-use Rattle.reasoning.specs.Walks.{PassedModel, ReadsBack, Layable, BlockJudged, Stops, said_of_block, rows_at}
+use Rattle.reasoning.specs.Walks.{PassedModel, ReadsBack, BlockJudged, Stops, said_of_block, rows_at}
 use Rattle.reasoning.specs.declared.Said.{Said}
 use Rattle.reasoning.specs.declared.Stopped.{Stopped}
 use Rattle.reasoning.proofs.OneBlock as OneBlock
@@ -63,35 +64,37 @@ start : (ws : List ℕ) → Passes ws → Due (bounds ws) (shared ws) (constrain
 unfolding bounds
 start ws h = record { room = omega (arith, Accepted.few-variables ws (passes-read ws h)); recorded = recorded-none; many = none-many; fine = passes-fine ws h; formed = well-formed ws h }
 
-module _ {ws hs : List ℕ} {r : Model} {Ds : List Bounds} {uses : List ℕ} {sums : List Bounds} {vs : List ℤ} (y : PassedModel ws hs r Ds uses sums vs) where
+module _ {r : ReadModel} {vs : List ℤ} (y : PassedModel r vs) where
   abbrev β : ℕ → Bounds
-  β = bounds_in Ds
+  β = bounds_in r.domains
 
   abbrev s : ℕ → Bool
-  s = shared_by uses
+  s = shared_by r.uses
 
-  begun : Due (bounds_in Ds) (shared_by uses) (constraints ws) r.variables none_yet
-  begun = rw (y.model.same, y.model.shares, y.model.seen.variables_counted) (start ws y.passes)
+  begun : Due (bounds_in r.domains) (shared_by r.uses) (constraints r.ws.now) r.model.variables none_yet
+  begun = rw (y.listed.0.same, y.listed.0.shares, y.listed.0.seen.variables_counted) (start r.ws.now y.passes)
 
   -- the k-th constraint: its block can be laid and read
-  module _ {k first : ℕ} {d : Encoded} (l : Due (bounds_in Ds) (shared_by uses) (drop k (constraints ws)) first d) (h : k < r.constraints) where
+  module _ {k first : ℕ} {d : Encoded} (l : Due (bounds_in r.domains) (shared_by r.uses) (drop k (constraints r.ws.now)) first d) (h : k < r.model.constraints) where
     abbrev c : Constraint
-    c = headed ws (get_or hs k 0)
+    c = headed r.ws.now (get_or r.heads k 0)
 
-    pub here : Due (bounds_in Ds) (shared_by uses) (headed ws (get_or hs k 0) ∷ drop (k + 1) (constraints ws)) first d
-    here = subst (λ cs. Due β s cs first d) (head_at y.model k h) l
+    pub here : Due (bounds_in r.domains) (shared_by r.uses) (headed r.ws.now (get_or r.heads k 0) ∷ drop (k + 1) (constraints r.ws.now)) first d
+    here = subst (λ cs. Due β s cs first d) (head_at y.listed.0 k h) l
 
-    pub layable : Layable Ds uses d (payload (word_at ws (get_or hs k 0))) (drop (get_or hs k 0 + 1) ws) (bounds_in sums k) first
-    unfolding block_of builtin choice too_wide
-    layable = record {
-      near = l.room;
-      narrow = here.fine.0;
-      recorded = l.recorded;
-      summed = summed_at y.model k h sums y.sums_are;
-      reads = reads here;
-    }
+    pub near : first ≤ 4096
+    near = l.room
 
-    pub room_after-block : first + length (block_of (bounds_in Ds) (shared_by uses) d (headed ws (get_or hs k 0))).auxiliaries ≤ 4096
+    pub narrow : too_wide (bounds_in r.domains) (shared_by r.uses) (headed r.ws.now (get_or r.heads k 0)) ≡ false
+    narrow = here.fine.0
+
+    pub summed : Summed (bounds_in r.domains) (payload (word_at r.ws.now (get_or r.heads k 0))) (drop (get_or r.heads k 0 + 1) r.ws.now) (bounds_in r.sums k)
+    summed = summed_at y.listed.0 k h r.sums y.listed.1
+
+    pub reads_back : ReadsBack first (block_of (bounds_in r.domains) (shared_by r.uses) d (headed r.ws.now (get_or r.heads k 0)))
+    reads_back = reads here
+
+    pub room_after-block : first + length (block_of (bounds_in r.domains) (shared_by r.uses) d (headed r.ws.now (get_or r.heads k 0))).auxiliaries ≤ 4096
     room_after-block = here.fine.2
 
 -- ---- the values of a block are there, where those of all that are left are
@@ -126,21 +129,21 @@ pub record Walking (bounds : Bool) (β : ℕ → Bounds) (s : ℕ → Bool) (ws 
   pub outside : bounds ≡ true → first_out_of_bounds (value vs) first (auxiliaries_from β s first d (drop k (constraints ws))) holds ≡ first_out_of_bounds (value vs) (length (variables ws)) (auxiliaries ws) holds
   pub failing : bounds ≡ false → (σ : Valuation) → first_failing σ (value vs) rows k (explained_from β s first d (drop k (constraints ws))) ≡ first_failing σ (value vs) 0 0 (explained ws)
 
-module _ {ws hs : List ℕ} {r : Model} {Ds : List Bounds} {uses : List ℕ} {sums : List Bounds} {vs : List ℤ} (y : PassedModel ws hs r Ds uses sums vs) where
-  all-auxiliaries : auxiliaries_from (bounds_in Ds) (shared_by uses) r.variables none_yet (constraints ws) ≡ auxiliaries ws
+module _ {r : ReadModel} {vs : List ℤ} (y : PassedModel r vs) where
+  all-auxiliaries : auxiliaries_from (bounds_in r.domains) (shared_by r.uses) r.model.variables none_yet (constraints r.ws.now) ≡ auxiliaries r.ws.now
   unfolding auxiliaries
-  all-auxiliaries = rw (y.model.same, y.model.shares, y.model.seen.variables_counted)
+  all-auxiliaries = rw (y.listed.0.same, y.listed.0.shares, y.listed.0.seen.variables_counted)
 
-  all-explained : explained_from (bounds_in Ds) (shared_by uses) r.variables none_yet (constraints ws) ≡ explained ws
+  all-explained : explained_from (bounds_in r.domains) (shared_by r.uses) r.model.variables none_yet (constraints r.ws.now) ≡ explained r.ws.now
   unfolding explained
-  all-explained = rw (y.model.same, y.model.shares, y.model.seen.variables_counted)
+  all-explained = rw (y.listed.0.same, y.listed.0.shares, y.listed.0.seen.variables_counted)
 
-  pub walking : {bounds : Bool} → Walking bounds (bounds_in Ds) (shared_by uses) ws vs 0 r.variables 0 none_yet
+  pub walking : {bounds : Bool} → Walking bounds (bounds_in r.domains) (shared_by r.uses) r.ws.now vs 0 r.model.variables 0 none_yet
   walking = record {
     walk = begun y;
-    there = record { count = omega (arith, ap length all-auxiliaries, y.model.seen.variables_counted, y.counted) };
+    there = record { count = omega (arith, ap length all-auxiliaries, y.listed.0.seen.variables_counted, y.counted) };
     small = omega arith;
-    outside = λ t. rw (all-auxiliaries, y.model.seen.variables_counted);
+    outside = λ t. rw (all-auxiliaries, y.listed.0.seen.variables_counted);
     failing = λ f σ. ap (first_failing σ (value vs) 0 0) all-explained;
   }
 
@@ -220,18 +223,18 @@ module _ {bounds : Bool} {β : ℕ → Bounds} {s : ℕ → Bool} {ws : List ℕ
 
 -- ---- the source values
 
-module _ {ws hs : List ℕ} {r : Model} {Ds : List Bounds} {uses : List ℕ} {sums : List Bounds} {vs : List ℤ} (y : PassedModel ws hs r Ds uses sums vs) where
-  enough-values : r.variables ≤ length vs
-  enough-values = omega (arith, y.model.seen.variables_counted, y.counted)
+module _ {r : ReadModel} {vs : List ℤ} (y : PassedModel r vs) where
+  enough-values : r.model.variables ≤ length vs
+  enough-values = omega (arith, y.listed.0.seen.variables_counted, y.counted)
 
-  pub sources-length : r.variables ≡ length (take r.variables vs)
-  sources-length = sym (length-take-le r.variables vs enough-values)
+  pub sources-length : r.model.variables ≡ length (take r.model.variables vs)
+  sources-length = sym (length-take-le r.model.variables vs enough-values)
 
-  pub sources-small : Small vs → Small (take r.variables vs)
-  sources-small h x = go (ltb x r.variables) refl
+  pub sources-small : Small vs → Small (take r.model.variables vs)
+  sources-small h x = go (ltb x r.model.variables) refl
     where
       n : ℕ
-      n = r.variables
+      n = r.model.variables
 
       go : (b : Bool) → ltb x n ≡ b → Near (get_or (take n vs) x (pos 0))
       go true t = rw (get_or-take n vs x (pos 0) (ltb-true x n t)) (h x)

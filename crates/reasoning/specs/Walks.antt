@@ -14,25 +14,22 @@ use Rattle.words.specs.Judge.{first_false, first_out_of_bounds}
 use Rattle.words.specs.Small.{Small}
 use Rattle.models.specs.Meaning.{meaning}
 use Rattle.models.specs.Model.{Constraint, constraints, builtin}
-use Rattle.modelreading.specs.declared.Model.{Model}
+use Rattle.models.specs.declared.constraint.Constraint as given
 use Rattle.rowsystems.specs.Row.{Row, rename, satisfied}
 use Rattle.rowsystems.specs.RowSystem.{rows}
 use Rattle.rowsystems.specs.declared.Due.TheVariants.{Item}
 use Rattle.rowreading.specs.Onward.{onward}
 use Rattle.rules.specs.Block.{Block, block_words, numbered}
 use Rattle.rules.specs.InRange.{outside}
-use Rattle.rules.specs.Shared.{Encoded}
 use Rattle.rules.specs.Translation.{auxiliaries}
-use Rattle.rules.specs.Check.{too_wide}
 use Rattle.sharing.specs.SharedSolutions.{Passes}
 use Rattle.reasons.specs.Reason.{none, explained, in_block, first_failing}
 use Rattle.laying.specs.Sizes.{block_size}
 use Rattle.laying.specs.declared.Laid.{Laid}
-use Rattle.integers.specs.Bounds.{bounds_in}
-use Rattle.linearsums.specs.Sum.{Summed}
-use Rattle.encodings.specs.Uses.{shared_by, Recorded}
-use Rattle.blocks.specs.Coded.{constraint_of, block_at}
-use Rattle.checking.specs.ModelBounds.{ModelBounds, ModelSums}
+use Rattle.encodings.specs.declared.context.Context.{Context}
+use Rattle.blocks.specs.Coded.{block_by, Layable}
+use Rattle.checking.specs.ReadModel.{Listed}
+use Rattle.checking.specs.declared.read.ReadModel.{ReadModel}
 use Rattle.reasoning.specs.declared.Said.{Said}
 use Rattle.reasoning.specs.declared.Stopped.{Stopped}
 
@@ -57,13 +54,11 @@ pub record ReadsBack (first : ℕ) (B : Block) : Type 0 where
   pub the_rows : rows (drop (2 * length B.auxiliaries) (block_and_end first B)) ≡ rows_at first B
   pub accepts : onward Item (first + length B.auxiliaries) (2 * length B.auxiliaries) (block_and_end first B) ≡ accepted
 
--- what the writer of a block needs
-pub record Layable (Ds : List Bounds) (uses : List ℕ) (e : Encoded) (code : ℕ) (args : List ℕ) (sum : Bounds) (first : ℕ) : Type 0 where
-  pub near : first ≤ Limit.in_all
-  pub narrow : too_wide (bounds_in Ds) (shared_by uses) (constraint_of code args) ≡ false
-  pub recorded : Recorded e
-  pub summed : Summed (bounds_in Ds) code args sum
-  pub reads : ReadsBack first (block_at (bounds_in Ds) uses e code args)
+-- a block that can be laid and read again
+pub record Readable (k : Context) (c : given.Constraint) (S : Bounds) : Type 0 where
+  pub near : k.first ≤ Limit.in_all
+  pub layable : Layable k c S
+  pub reads : ReadsBack k.first (block_by k c)
 
 -- the words of a block at the front of a list, and what they count
 pub record Front (first : ℕ) (B : Block) (r : Laid) (out : List ℕ) : Type 0 where
@@ -96,10 +91,10 @@ abbrev pub said_of_block : Bool → List ℤ → ℕ → ℕ → Block → Answe
 said_of_block bounds vs first k B = first_out_of_bounds (value vs) first B.auxiliaries holds if bounds else first_false (satisfied (value vs)) k (rows_at first B)
 
 -- what judging the block of a constraint wants: a list for its words, values of its auxiliaries, and values near 0 where the rows are asked
-pub record Judgeable (bounds : Bool) (Ds : List Bounds) (uses : List ℕ) (e : Encoded) (code : ℕ) (args : List ℕ) (sum : Bounds) (first : ℕ) (words : List ℕ) (vs : List ℤ) : Type 0 where
-  pub layable : Layable Ds uses e code args sum first
+pub record Judgeable (bounds : Bool) (k : Context) (c : given.Constraint) (S : Bounds) (words : List ℕ) (vs : List ℤ) : Type 0 where
+  pub readable : Readable k c S
   pub room : block_words_most + 1 ≤ length words
-  pub there : first + length (block_at (bounds_in Ds) uses e code args).auxiliaries ≤ length vs
+  pub there : k.first + length (block_by k c).auxiliaries ≤ length vs
   pub small : bounds ≡ false → Small vs
 
 pub record BlockJudged (bounds : Bool) (vs : List ℤ) (first k : ℕ) (B : Block) (r : Said) : Type 0 where
@@ -108,17 +103,15 @@ pub record BlockJudged (bounds : Bool) (vs : List ℤ) (first k : ℕ) (B : Bloc
   pub rows : r.rows ≡ length B.rows
   pub few : r.rows ≤ block_size
 
--- a model that passes the check, with its bounds, its sums and how many auxiliaries it has
-abbrev pub CheckedModel : List ℕ → List ℕ → Model → List Bounds → List ℕ → List Bounds → ℕ → Type 0
-CheckedModel ws hs r Ds uses sums added =
-    ModelBounds ws hs r Ds uses × ModelSums ws hs r Ds sums × Passes ws × (added ≡ length (auxiliaries ws))
+-- a model that passes the check, and how many auxiliaries it has
+abbrev pub CheckedModel : ReadModel → ℕ → Type 0
+CheckedModel r added = Listed r × Passes r.ws.now × (added ≡ length (auxiliaries r.ws.now))
 
--- a model that passes the check, with its bounds, its sums, and as many values as its row system has variables
-pub record PassedModel (ws hs : List ℕ) (r : Model) (Ds : List Bounds) (uses : List ℕ) (sums : List Bounds) (vs : List ℤ) : Type 0 where
-  pub passes : Passes ws
-  pub model : ModelBounds ws hs r Ds uses
-  pub sums_are : ModelSums ws hs r Ds sums
-  pub counted : length vs ≡ length (variables ws) + length (auxiliaries ws)
+-- a model that passes the check, and as many values as its row system has variables
+pub record PassedModel (r : ReadModel) (vs : List ℤ) : Type 0 where
+  pub passes : Passes r.ws.now
+  pub listed : Listed r
+  pub counted : length vs ≡ length (variables r.ws.now) + length (auxiliaries r.ws.now)
 
 -- where a walk over the blocks stops, and the constraint whose block says so: the first auxiliary of all that is out of bounds; else the first row that
 -- fails, of which the builtin of that constraint gives the reason

@@ -8,12 +8,10 @@ ghost use Rattle.reasoning.specs.Walks.{CheckedModel};
 
 use answer::Reason;
 use checking::check_model;
-use integers::Bounds;
-use modelreading::Model;
+use checking::read::ReadModel;
 use variables::first_out_of_bounds;
 use walks::{first_failing, walk};
 use words::answer::Verdict;
-use words::domain::Domain;
 use words::fault::{Fault, Refusal};
 
 pub mod answer;
@@ -30,6 +28,7 @@ pub struct Said {
 }
 
 // Where a walk over the blocks stops: what is said there, and the constraint whose block says it.
+// No Option of it: what is said tells whether the walk stopped. Where it is "holds" the walk did not, and no one reads the constraint; an Option would have that case twice, and be no plainer.
 #[derive(Clone, Copy, Debug, PartialEq, Eq)]
 pub struct Stopped {
     pub said: Verdict,
@@ -37,55 +36,33 @@ pub struct Stopped {
 }
 
 // Of a model that passes the check, with this number of auxiliaries.
-fn reason_passed(
-    ws: &[u32],
-    heads: &[usize; 256],
-    model: Model,
-    domains: &[Domain],
-    uses: &[usize],
-    sums: &[Bounds],
-    values: &[i32],
-    added: usize,
-) -> Result<Reason, Refusal>
-    requires { CheckedModel ws.now heads.now model domains.now uses.now sums.now added }
-    ensures { told result ≡ reason_answer ws.now values.now }
+fn reason_passed(read: &ReadModel, values: &[i32], added: usize) -> Result<Reason, Refusal>
+    requires { CheckedModel read.now added }
+    ensures { told result ≡ reason_answer read.now.ws.now values.now }
 {
-    let sources = model.variables;
+    let sources = read.model.variables;
     if values.len() != sources + added {
         return Err(Refusal {
             fault: Fault::WrongValueCount,
             place: 0,
         });
     }
-    let found = first_out_of_bounds(ws, &values[..sources]);
+    let found = first_out_of_bounds(read.ws, &values[..sources]);
     if let Verdict::OutOfBounds(i) = found {
         return Ok(Reason::OutOfBounds(i));
     }
-    let stopped = walk(ws, heads, model, domains, uses, sums, values, true);
+    let stopped = walk(read, values, true);
     if let Verdict::OutOfBounds(i) = stopped.said {
         return Ok(Reason::OutOfBounds(i));
     }
-    Ok(first_failing(ws, heads, model, domains, uses, sums, values))
+    Ok(first_failing(read, values))
 }
 
 // The first failing row, the constraint whose block holds it, and whether its builtin is true; faults and bounds come first.
 pub fn reason(ws: &[u32], values: &[i32]) -> Result<Reason, Refusal>
     ensures { told result ≡ reason_answer ws.now values.now }
 {
-    let mut heads = [0usize; 256];
-    let mut domains = [Domain::new(0, 0); 256];
-    let mut uses = [0usize; 256];
-    let mut sums = [Bounds { lower: 0, upper: 0 }; 256];
-    let known = check_model(ws, &mut heads, &mut domains, &mut uses, &mut sums)?;
-    let added = known.counts.auxiliaries;
-    reason_passed(
-        ws,
-        &heads,
-        known.model,
-        &domains,
-        &uses,
-        &sums,
-        values,
-        added,
-    )
+    let mut read = ReadModel::of(ws);
+    let counts = check_model(&mut read)?;
+    reason_passed(&read, values, counts.auxiliaries)
 }

@@ -23,6 +23,6 @@ pub fn first_false_row(ws: &[u32], values: &[i32], n: usize, start: usize, k: us
     match judge_on(ws, values, false, n, start, k) {
         Ok(judged) => judged.said,
         // no refusal: these words are accepted
-        Err(_) => Verdict::Holds,
+        Err(_) => unreachable!(),
     }
 }

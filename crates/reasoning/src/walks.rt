@@ -10,53 +10,36 @@ ghost use Rattle.reasoning.specs.Told.{named};
 use crate::Stopped;
 use crate::answer::Reason;
 use crate::one_block::judge_block;
+use checking::read::ReadModel;
+use encodings::context::Context;
 use encodings::record_encoding;
-use integers::Bounds;
-use linearsums::sum_at;
-use modelreading::Model;
 use words::answer::Verdict;
-use words::domain::Domain;
-use words::word::Word;
+use words::limit;
 
 // More words than a block has, at most 2,800 (`block_words_most`), and its end word.
 const BLOCK: usize = 3072;
 
-// Block after block, until one says something: of the bounds of all auxiliaries, or of the rows.
-#[tactic(auto, using(modelreading::proofs::Heads::heads_inside))]
-pub fn walk(
-    ws: &[u32],
-    heads: &[usize; 256],
-    model: Model,
-    domains: &[Domain],
-    uses: &[usize],
-    sums: &[Bounds],
-    values: &[i32],
-    bounds: bool,
-) -> Stopped
-    requires { PassedModel ws.now heads.now model domains.now uses.now sums.now values.now × (bounds ≡ false → Small values.now) }
-    ensures { Stops bounds ws.now values.now result }
+// Block after block, until one says something: of the bounds of all auxiliaries, or of the rows. `bounds` is a flag, as in `judge_block`.
+// A `for` with its own body, and no closure for all walks: see `encodings::count_uses`.
+pub fn walk(read: &ReadModel, values: &[i32], bounds: bool) -> Stopped
+    requires { PassedModel read.now values.now × (bounds ≡ false → Small values.now) }
+    ensures { Stops bounds read.now.ws.now values.now result }
 {
-    let mut first = model.variables;
+    let mut first = read.model.variables;
     let mut rows = 0;
-    let mut encoded = [0usize; 256];
+    // fixed memory: a number for each variable that a model may have, and the words of a block
+    let mut encoded = [0usize; limit::VARIABLES];
     let mut words = [0u32; BLOCK];
-    for k in 0..model.constraints {
-        let place = heads[k];
-        let code = Word::from(ws[place]).payload();
-        let sum = sum_at(sums, k);
-        let found = judge_block(
-            &mut words,
-            code,
-            &ws[place + 1..],
-            domains,
-            uses,
-            &encoded,
-            sum,
+    for k in 0..read.model.constraints {
+        let constraint = read.constraint(k);
+        let context = Context {
+            domains: &read.domains,
+            uses: &read.uses,
+            encoded: &encoded,
             first,
-            values,
-            rows,
-            bounds,
-        );
+        };
+        let sum = read.sum(k);
+        let found = judge_block(&mut words, &constraint, sum, &context, values, rows, bounds);
         match found.said {
             Verdict::Holds => {}
             said => return Stopped {
@@ -64,38 +47,30 @@ pub fn walk(
                 constraint: k,
             },
         }
-        record_encoding(&mut encoded, code, &ws[place + 1..], uses, first);
+        record_encoding(&mut encoded, &constraint, &read.uses, first);
         first += found.auxiliaries;
         rows += found.rows;
     }
     Stopped {
         said: Verdict::Holds,
-        constraint: model.constraints,
+        constraint: read.model.constraints,
     }
 }
 
 // The first row that fails, its constraint, and whether that builtin is true of the source values.
-pub fn first_failing(
-    ws: &[u32],
-    heads: &[usize; 256],
-    model: Model,
-    domains: &[Domain],
-    uses: &[usize],
-    sums: &[Bounds],
-    values: &[i32],
-) -> Reason
-    requires { PassedModel ws.now heads.now model domains.now uses.now sums.now values.now × Small values.now }
-    ensures { named result ≡ first_failing (value (take (length (variables ws.now)) values.now)) (value values.now) 0 0 (explained ws.now) }
+pub fn first_failing(read: &ReadModel, values: &[i32]) -> Reason
+    requires { PassedModel read.now values.now × Small values.now }
+    ensures { named result ≡ first_failing (value (take (length (variables read.now.ws.now)) values.now)) (value values.now) 0 0 (explained read.now.ws.now) }
 {
-    let sources = model.variables;
-    let stopped = walk(ws, heads, model, domains, uses, sums, values, false);
+    let stopped = walk(read, values, false);
     let Verdict::False(row) = stopped.said else {
         return Reason::Nothing;
     };
     let constraint = stopped.constraint;
-    let place = heads[constraint];
-    let code = Word::from(ws[place]).payload();
-    let holds = builtins::holds(code, &ws[place + 1..], &values[..sources]);
+    let holds = builtins::holds(
+        &read.constraint(constraint),
+        &values[..read.model.variables],
+    );
     Reason::Because {
         row,
         constraint,

@@ -8,7 +8,7 @@ use Rattle.words.specs.Variables.{variables}
 use Rattle.words.specs.Refusal.{◌at_place◌, accepted, ◌else_refuse◌}
 use Rattle.words.specs.Answer.{Answer, refused, counts, written, holds, out_of_bounds, is_false, ◌else_answer◌}
 use Rattle.words.specs.Judge.{first_false, first_out_of_bounds}
-use Rattle.words.specs.declared.Refusal.{Refusal}
+use Rattle.words.specs.Refusals.{Refusal}
 use Rattle.models.specs.Model.{Constraint, builtin}
 use Rattle.models.specs.Meaning.{meaning}
 use Rattle.rowsystems.specs.Row.{Row, rename, satisfied}

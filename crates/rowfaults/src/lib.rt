@@ -1,17 +1,15 @@
 // The faults of a row system's words: whether a word is what is due there.
-// It may depend on how many variables stand before the word, on a lower bound, or on a product's factors.
-#![tactic(auto, unfolding(rowsystems::specs::Reading::fault_lower, rowsystems::specs::Reading::fault_item, rowsystems::specs::Reading::fault_source, rowsystems::specs::Reading::fault_upper, rowsystems::specs::Reading::fault_variable, rowsystems::specs::Reading::fault_number, rowsystems::specs::Reading::not_above, rowsystems::specs::Reading::fault_result, crate::specs::Head::fault_at_head))]
+// It may depend on how many variables stand before the word, or on a product's factors. The faults that a model's words have too are in words::check.
+#![tactic(auto, unfolding(rowsystems::specs::Reading::fault_lower, rowsystems::specs::Reading::fault_item, rowsystems::specs::Reading::fault_source, rowsystems::specs::Reading::fault_variable, rowsystems::specs::Reading::not_above, rowsystems::specs::Reading::fault_result, crate::specs::Head::fault_at_head))]
 
 ghost use Rattle.std.specs.Prelude.{◌≡◌, ◌≢◌, true, eqb, ltb, leb};
 ghost use Rattle.integers.specs.Choice.{◌if◌else◌};
 ghost use Rattle.words.specs.Fault as fault;
-ghost use Rattle.words.specs.Faults as Faults;
-ghost use Rattle.words.specs.Faults.{number_of};
-ghost use Rattle.words.specs.Kinds.{kind_number};
+ghost use Rattle.words.specs.Faults.{fault_number, number_of};
 ghost use Rattle.words.specs.Limit as Limit;
 ghost use Rattle.words.specs.Word.{payload};
 ghost use Rattle.variables.specs.Start.{starts};
-ghost use Rattle.rowsystems.specs.Reading.{fault_lower, fault_item, fault_source, fault_upper, fault_variable, fault_number, not_above, fault_result};
+ghost use Rattle.rowsystems.specs.Reading.{fault_lower, fault_item, fault_source, fault_variable, not_above, fault_result};
 ghost use Rattle.rowfaults.specs.Head.{fault_at_head};
 
 use words::fault::Fault;
@@ -20,6 +18,7 @@ use words::limit;
 use words::word::Word;
 
 // Of a lower bound, after n variables.
+// The tests of a payload and of the number of variables stand in each check, here and below, as in modelitems::faults: a function of a line each would be no plainer.
 fn check_lower(n: usize, w: Word) -> Result<(), Fault>
     ensures { number_of result ≡ fault_lower n w }
 {
@@ -77,7 +76,7 @@ fn check_boolean(n: usize, w: Word) -> Result<(), Fault>
     Ok(())
 }
 
-// Of the word that starts an item; `sources`, which the clause reads, says whether source variables may stand there too.
+// Of the word that starts an item. A flag, here and in check_start, says whether source variables may stand there too: an enum of two cases is no plainer, as the definitions take a Boolean.
 pub fn check_head(sources: bool, n: usize, w: Word) -> Result<(), Fault>
     ensures { number_of result ≡ fault_at_head sources n w }
 {
@@ -87,7 +86,7 @@ pub fn check_head(sources: bool, n: usize, w: Word) -> Result<(), Fault>
     check_item(n, w)
 }
 
-// Of a word that starts a variable.
+// Of a word that starts a variable. With `check_head` in its place judge-rows takes 2 to 14 in 100 longer.
 #[tactic(auto, unfolding(variables::specs::Start::starts, words::specs::Variables::starts_pair, rowsystems::specs::Reading::fault_item, rowsystems::specs::Reading::fault_source, crate::specs::Head::fault_at_head))]
 pub fn check_start(sources: bool, n: usize, w: Word) -> Result<(), Fault>
     requires { starts w ≡ true }
@@ -115,22 +114,6 @@ pub fn check_row(w: Word) -> Result<(), Fault>
     Ok(())
 }
 
-// Of an upper bound of a kind, after the word of its lower one.
-pub fn check_upper(kind: Kind, lower: Word, w: Word) -> Result<(), Fault>
-    ensures { number_of result ≡ fault_upper (kind_number kind) lower w }
-{
-    if !w.is(kind) {
-        return Err(Fault::WrongKind);
-    }
-    if w.is_lowest() {
-        return Err(Fault::LowestNumber);
-    }
-    if w.signed() < lower.signed() {
-        return Err(Fault::UpperBelowLower);
-    }
-    Ok(())
-}
-
 // Whether a word is one of n variables.
 pub fn is_variable(n: usize, w: Word) -> bool
     ensures { result ≡ eqb (fault_variable n w) fault.none }
@@ -138,11 +121,11 @@ pub fn is_variable(n: usize, w: Word) -> bool
     w.is(Kind::Variable) && w.payload() < n
 }
 
-// The fault of a word that is none of them, worked out only where there is one.
+// The fault of a word that is not one of them, worked out only where there is one.
 #[cold]
 pub fn variable_fault(n: usize, w: Word) -> Fault
     requires { fault_variable n w ≢ fault.none }
-    ensures { Faults.fault_number result ≡ fault_variable n w }
+    ensures { fault_number result ≡ fault_variable n w }
 {
     if !w.is(Kind::Variable) {
         return Fault::WrongKind;
@@ -150,7 +133,7 @@ pub fn variable_fault(n: usize, w: Word) -> Fault
     Fault::NotDeclared
 }
 
-// Of a variable, after n variables.
+// Of a variable, after n variables. `modelitems::check_variable` compares types and no number: one of both would take the test as a closure and be no plainer.
 pub fn check_variable(n: usize, w: Word) -> Result<(), Fault>
     ensures { number_of result ≡ fault_variable n w }
 {
@@ -158,35 +141,6 @@ pub fn check_variable(n: usize, w: Word) -> Result<(), Fault>
         return Ok(());
     }
     Err(variable_fault(n, w))
-}
-
-// Whether a word is a coefficient or a constant.
-pub fn is_number(w: Word) -> bool
-    ensures { result ≡ eqb (fault_number w) fault.none }
-{
-    w.is(Kind::Number) && !w.is_lowest()
-}
-
-// The fault of a word that is neither, worked out only where there is one.
-#[cold]
-pub fn number_fault(w: Word) -> Fault
-    requires { fault_number w ≢ fault.none }
-    ensures { Faults.fault_number result ≡ fault_number w }
-{
-    if !w.is(Kind::Number) {
-        return Fault::WrongKind;
-    }
-    Fault::LowestNumber
-}
-
-// Of a coefficient or a constant.
-pub fn check_number(w: Word) -> Result<(), Fault>
-    ensures { number_of result ≡ fault_number w }
-{
-    if is_number(w) {
-        return Ok(());
-    }
-    Err(number_fault(w))
 }
 
 // Whether a product's factor words f and g are variables and its result word r is not above both.

@@ -21,12 +21,12 @@ use Rattle.rowsystems.specs.declared.Due.{Due}
 use Rattle.rowsystems.specs.declared.Due.TheVariants as due
 use Rattle.rowfaults.specs.Head.{fault_at_head}
 use Rattle.rowreading.specs.Onward.{starts_kind, Plain, is_ended, resumed, StepsTo}
-use Rattle.rowreading.specs.Step.{Step}
 use Rattle.rowreading.proofs.Heads.{head-here, head-halted, head-on}
 use Rattle.integers.proofs.Booleans.{neither}
 use Rattle.rowterms.specs.Values.{is_true}
 use Rattle.rowterms.specs.declared.Seen.{Seen}
 use Rattle.words.specs.declared.fault.Refusal.{Refusal}
+use Rattle.words.specs.Check.{Step}
 use Rattle.rowterms.proofs.Sums.{word-from}
 use Rattle.rowitems.specs.Passing.{ItemPassed}
 

@@ -1,10 +1,10 @@
 -- Reading past an item, from its head on.
 use Rattle.std.specs.Prelude.{◌≡◌, Bool, List, ℕ, ◌+◌, ◌<◌, ◌≤◌, length}
 use Rattle.words.specs.Fault as Fault
+use Rattle.words.specs.Check.{Step}
 use Rattle.rowsystems.specs.declared.Due.{Due}
 use Rattle.rowreading.specs.Item.{start_due}
 use Rattle.rowreading.specs.Onward.{onward, resumed, Plain}
-use Rattle.rowreading.specs.Step.{Step}
 
 -- the step r leads from the head at a place, with n variables before it, to what is due after the item, with m variables before that,
 -- or to the first fault

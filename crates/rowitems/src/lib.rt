@@ -1,5 +1,9 @@
 // The items of a row system, each read and judged from its head on: a variable by its bounds, a row or a product by the values.
 // A fault of a word comes with its place; the end gives the fault of a word after it, a fault only where a word stands there.
+// `sources` says whether source variables may stand at the head: an enum of two cases is no plainer, as the definitions take a Boolean.
+// `head` is the word at `at`, which the caller has read to tell the items apart; a type of both would hold the words too, and the place moves on.
+// ws, n, at and values go to each function, here and in rowterms: n and at change with each item, so that a struct of them, as grammar's Reading, would be made anew
+// each time and be no plainer.
 #![tactic(auto)]
 
 ghost use Rattle.std.specs.Prelude.{◌≡◌, true, false, not, ◌+◌, ◌≤◌, IfOk, eqb, drop};
@@ -9,13 +13,14 @@ ghost use Rattle.words.specs.Kind as kinds;
 ghost use Rattle.words.specs.Kinds.{kind_number};
 ghost use Rattle.words.specs.Limit as Limit;
 ghost use Rattle.words.specs.Word.{kind, signed, word_at};
+ghost use Rattle.words.specs.Check.{step_over};
 ghost use Rattle.variables.specs.Start.{starts, pair_bounds};
 ghost use Rattle.rowsystems.specs.Reading.{fault_upper};
 ghost use Rattle.rowsystems.specs.Row.{satisfied};
 ghost use Rattle.rowsystems.specs.OneWord.{starts_sum, starts_row, row_of};
 ghost use Rattle.rowreading.specs.Item.{start_due};
-ghost use Rattle.rowreading.specs.Onward.{Placed, step_over};
-ghost use Rattle.rowterms.specs.Values.{step_of, ValuesKnown};
+ghost use Rattle.rowreading.specs.Onward.{Placed};
+ghost use Rattle.rowterms.specs.Values.{seen_step, ValuesKnown};
 ghost use Rattle.rowitems.specs.Passing.{ItemPassed};
 
 use rowfaults::{check_head, check_row, check_start};
@@ -29,10 +34,10 @@ use words::kind::Kind;
 use words::word::Word;
 
 // The upper bound, of a kind, after the word of the lower one, and whether a value is between the two.
-#[tactic(auto, unfolding(rowreading::specs::Onward::step_over))]
+#[tactic(auto, unfolding(words::specs::Check::step_over))]
 fn see_upper(ws: &[u32], kind: Kind, lower: Word, at: usize, v: i64) -> Result<Seen, Refusal>
     requires { at ≤ Limit.row_words }
-    ensures step { step_of result ≡ step_over (fault_upper (kind_number kind) lower (word_at ws.now at)) at }
+    ensures step { seen_step result ≡ step_over (fault_upper (kind_number kind) lower (word_at ws.now at)) at }
     ensures truth { IfOk result (λ s. s.holds ≡ within (signed lower to signed (word_at ws.now at)) v) }
 {
     let next = upper_at(ws, kind, lower, at)?;
@@ -50,9 +55,10 @@ pub fn see_variable(
     v: i64,
 ) -> Result<Seen, Refusal>
     requires { Placed ws.now at × (head ≡ word_at ws.now at) × (starts head ≡ true) }
-    ensures step { ItemPassed ws.now sources n at (start_due (not (eqb (kind head) kinds.auxiliary_lower))) (n + 1) (step_of result) }
+    ensures step { ItemPassed ws.now sources n at (start_due (not (eqb (kind head) kinds.auxiliary_lower))) (n + 1) (seen_step result) }
     ensures truth { IfOk result (λ s. s.holds ≡ within (pair_bounds head (word_at ws.now (at + 1))) v) }
 {
+    // No `?` of `over`, here, in see_row and in see_other: tried, and the proof did not close by search alone.
     if let Err(fault) = check_start(sources, n, head) {
         return Err(Refusal { fault, place: at });
     }
@@ -78,7 +84,7 @@ fn see_row(
     values: &[i32],
 ) -> Result<Seen, Refusal>
     requires { Placed ws.now at × (head ≡ word_at ws.now at) × ValuesKnown values.now n × (starts_sum head ≡ true) }
-    ensures step { ItemPassed ws.now sources n at Due.Item n (step_of result) }
+    ensures step { ItemPassed ws.now sources n at Due.Item n (seen_step result) }
     ensures truth { IfOk result (λ s. s.holds ≡ satisfied (value values.now) (row_of head (drop (at + 1) ws.now))) }
 {
     if let Err(fault) = check_row(head) {
@@ -101,7 +107,7 @@ fn see_other(
     values: &[i32],
 ) -> Result<Seen, Refusal>
     requires { Placed ws.now at × (head ≡ word_at ws.now at) × ValuesKnown values.now n × (starts head ≡ false) × (starts_sum head ≡ false) }
-    ensures step { ItemPassed ws.now sources n at Due.Item n (step_of result) }
+    ensures step { ItemPassed ws.now sources n at Due.Item n (seen_step result) }
     ensures truth { IfOk result (λ s. (starts_row head ≡ true) × (s.holds ≡ satisfied (value values.now) (row_of head (drop (at + 1) ws.now)))) }
 {
     if let Err(fault) = check_head(sources, n, head) {
@@ -126,7 +132,7 @@ pub fn see_item(
     values: &[i32],
 ) -> Result<Seen, Refusal>
     requires { Placed ws.now at × (head ≡ word_at ws.now at) × ValuesKnown values.now n × (starts head ≡ false) }
-    ensures step { ItemPassed ws.now sources n at Due.Item n (step_of result) }
+    ensures step { ItemPassed ws.now sources n at Due.Item n (seen_step result) }
     ensures truth { IfOk result (λ s. (starts_row head ≡ true) × (s.holds ≡ satisfied (value values.now) (row_of head (drop (at + 1) ws.now)))) }
 {
     if starts_sum(head.bits()) {

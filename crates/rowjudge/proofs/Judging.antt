@@ -12,7 +12,7 @@ use Rattle.words.specs.Kind as Kind
 use Rattle.words.specs.Small.{Near}
 use Rattle.words.specs.Variables.{starts_pair, variables}
 use Rattle.words.specs.Word.{kind, signed, word_at}
-use Rattle.words.specs.declared.Refusal as refusal
+use Rattle.words.specs.Refusals as refusal
 use Rattle.words.specs.declared.fault.Refusal.{Refusal}
 use Rattle.words.specs.declared.answer.Verdict.{Verdict}
 use Rattle.words.specs.declared.answer.Verdict.TheVariants.{Holds, OutOfBounds, False}
@@ -24,10 +24,10 @@ use Rattle.rowsystems.specs.RowSystem.{rows}
 use Rattle.rowsystems.specs.declared.Due.{Due}
 use Rattle.rowreading.specs.Item.{start_due}
 use Rattle.rowreading.specs.Onward.{starts_kind, Plain, onward, stopped, resumed}
-use Rattle.rowreading.specs.Step.{Step}
 use Rattle.rowreading.proofs.Counts.{CountedFrom, none-counted, count_none, count-one, count-plain, counted, along, plain-variables}
 use Rattle.rowreading.proofs.Onward.{at_the_end}
 use Rattle.integers.proofs.Booleans.{neither}
+use Rattle.words.specs.Check.{Step}
 use Rattle.rowsystems.specs.OneWord.{starts_row, row_of}
 use Rattle.rowterms.specs.Values.{ValuesKnown}
 use Rattle.rowitems.specs.Passing.{ItemPassed}

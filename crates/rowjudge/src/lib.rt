@@ -1,5 +1,6 @@
 // Judge-rows: the words of a row system and the values of its variables are read in one pass.
 // Each item is read, and its bounds, its row or its product judged, before the next.
+// `sources` and `first` say whether source variables may stand there: an enum of two cases is no plainer, as the definitions take a Boolean.
 #![tactic(auto)]
 
 ghost use Rattle.std.specs.Prelude.{◌≡◌, ◌+◌, ◌<◌, ◌≤◌, IfOk, length, drop};
@@ -96,6 +97,7 @@ pub fn judge_on(
         let head = Word::at(ws, at);
         if starts_variable(head) {
             let v = value_or_outside(values, n);
+            // no `?`, here and below: at the end of the words judge_end accepts
             let seen = match see_variable(ws, sources, head, n, at, v) {
                 Ok(seen) => seen,
                 Err(found) => return judge_end(ws, found, n, said),

@@ -1,17 +1,17 @@
 -- Steps that functions answer: past what is read, or out by a refusal; and what a word without a fault says.
-use Rattle.std.proofs.Common.{◌≡◌, refl, sym, ap, Bool, true, false, not, List, ℕ, ◌+◌, ◌<◌, arith, eqb-true, leb-false, leb, eqb, Result, Ok, Err}
+use Rattle.std.proofs.Common.{◌≡◌, refl, sym, Bool, true, false, not, List, ℕ, ◌+◌, ◌<◌, arith, leb-false, leb, eqb, Result, Ok, Err}
 use Rattle.std.specs.Prelude.{IfOk}
-use borrow.Author.Tests.{eqb-false}
 use Rattle.integers.specs.Choice.{◌if◌else◌}
 use Rattle.words.specs.Fault as Fault
 use Rattle.words.specs.Kind as Kind
 use Rattle.words.specs.Word.{kind, payload}
 use Rattle.words.specs.declared.fault.Refusal.{Refusal}
+use Rattle.words.specs.Check.{Step, step_of, step_over}
 use Rattle.words.proofs.Faulty.{fault-number}
+use Rattle.words.proofs.Steps as words
 use Rattle.rowsystems.specs.Reading.{fault_variable, not_above, fault_result}
 use Rattle.rowsystems.specs.declared.Due.{Due}
-use Rattle.rowreading.specs.Onward.{is_ended, StepsTo, step_over}
-use Rattle.rowreading.specs.Step.{Step, step_of}
+use Rattle.rowreading.specs.Onward.{is_ended, StepsTo}
 use Rattle.rowreading.proofs.Steps.{and_then, or-halted}
 
 module _ {ws : List ℕ} {n : ℕ} {a b : Due} {at : ℕ} {r : Result ℕ Refusal} (g : StepsTo ws n a at b (step_of r)) where
@@ -30,16 +30,8 @@ module _ {ws : List ℕ} {n : ℕ} {a b : Due} {at : ℕ} {r : Result ℕ Refusa
 
 -- a word that is passed has no fault
 pub passed : (r : Result ℕ Refusal) (f at : ℕ) → step_of r ≡ step_over f at → IfOk r (λ k. (0 ≡ f) × (k ≡ at + 1))
-unfolding step_over
 passed (Err e) f at g = tt
-passed (Ok k) f at g = go (eqb f 0) refl g
-  where
-    over : Bool → Step
-    over b = record { number = f; at = at + 1 } if b else record { number = f; at = at }
-
-    go : (b : Bool) → eqb f 0 ≡ b → step_of (Ok k) ≡ over b → (0 ≡ f) × (k ≡ at + 1)
-    go true q h = (sym (eqb-true f 0 q), ap (λ (r : Step). r.at) h)
-    go false q h = absurd (eqb-false f 0 q (sym (ap (λ (r : Step). r.number) h)))
+passed (Ok k) f at g = let p = words.passed f at g refl in (sym p.0, p.1)
 
 pub passed_to : {r : Result ℕ Refusal} (f at : ℕ) {k : ℕ} → step_of r ≡ step_over f at → r ≡ Ok k → (0 ≡ f) × (k ≡ at + 1)
 passed_to {r} f at {k} g e = passed (Ok k) f at (rw e at g)

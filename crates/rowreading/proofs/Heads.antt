@@ -5,11 +5,11 @@ use Rattle.words.specs.Fault as Fault
 use Rattle.words.specs.Kind as Kind
 use Rattle.words.specs.Word.{kind, word_at}
 use Rattle.words.specs.Variables.{starts_pair}
+use Rattle.words.specs.Check.{Step}
 use Rattle.rowsystems.specs.Reading.{fault_item, fault_due, after_due, started}
 use Rattle.rowsystems.specs.declared.Due.TheVariants as due
 use Rattle.rowreading.specs.declared.items.Item.{Item}
 use Rattle.rowreading.specs.declared.items.Item.TheVariants.{Variable, Boolean, Auxiliary, Row, Product, End}
-use Rattle.rowreading.specs.Step.{Step}
 use Rattle.rowfaults.specs.Head.{fault_at_head}
 use Rattle.rowreading.specs.Item.{start_due, due_with, item_terms, due_after}
 use Rattle.rowreading.specs.Onward.{onward, stopped, StepsTo}

@@ -2,12 +2,14 @@
 use Rattle.std.proofs.Common.{◌≡◌, refl, ap, List, ℕ, suc, ◌+◌, ◌-◌, ◌≤◌, arith, lt-ltb, length}
 use Rattle.words.specs.Fault as Fault
 use Rattle.words.specs.Kind as Kind
+use Rattle.words.specs.Limit as Limit
 use Rattle.words.specs.Word.{word_at}
+use Rattle.words.specs.Check.{fault_number_in, step_over}
 use Rattle.words.proofs.Reading.{word-ahead}
-use Rattle.rowsystems.specs.Reading.{fault_upper, fault_variable, fault_number, fault_result, fault_due, after_due}
+use Rattle.rowsystems.specs.Reading.{fault_upper, fault_variable, fault_result, fault_due, after_due}
 use Rattle.rowsystems.specs.declared.Due.{Due}
 use Rattle.rowsystems.specs.declared.Due.TheVariants.{Source, SourceUpper, Item, AuxiliaryUpper, Terms, Coefficient, Result, FirstFactor, SecondFactor, Ended}
-use Rattle.rowreading.specs.Onward.{resumed, StepsTo, step_over}
+use Rattle.rowreading.specs.Onward.{resumed, StepsTo}
 use Rattle.rowreading.proofs.Steps.{step, or-halted}
 
 module _ (ws : List ℕ) (n at : ℕ) (h : at ≤ length ws) where
@@ -30,11 +32,11 @@ module _ (ws : List ℕ) (n at : ℕ) (h : at ≤ length ws) where
       let e : suc left - 1 ≡ left = omega arith in
       step tt h (rw (lt-ltb 0 (suc left) (omega arith))) (rw (lt-ltb 0 (suc left) (omega arith)) (ap Coefficient e))
 
-  pub term-coefficient : (left : ℕ) → StepsTo ws n (Coefficient left) at (Terms left) (step_over (fault_number w) at)
+  pub term-coefficient : (left : ℕ) → StepsTo ws n (Coefficient left) at (Terms left) (step_over (fault_number_in Limit.range w) at)
   unfolding fault_due after_due
   term-coefficient left = step tt h refl refl
 
-  pub row-constant : StepsTo ws n (Terms 0) at Item (step_over (fault_number w) at)
+  pub row-constant : StepsTo ws n (Terms 0) at Item (step_over (fault_number_in Limit.range w) at)
   unfolding fault_due after_due
   row-constant = step tt h refl refl
 

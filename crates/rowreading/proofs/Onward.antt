@@ -2,11 +2,13 @@
 use Rattle.std.proofs.Common.{◌≡◌, refl, sym, ◌∙◌, ◌⊎◌, inl, inr, ⊎_elim, Bool, true, false, List, ℕ, ◌+◌, ◌<◌, ◌≤◌, arith, ltb-true, ltb-false, eqb-true, ltb, eqb, length, drop}
 use lib.ListN.{get_or-eq_default}
 use Rattle.integers.specs.Choice.{◌if◌else◌}
+use Rattle.words.specs.Check.{fault_number_in}
 use Rattle.words.specs.Fault as Fault
+use Rattle.words.specs.Limit as Limit
 use Rattle.words.specs.Word.{kind, word_at}
 use Rattle.words.specs.Refusal.{accepted, ◌at_place◌}
 use Rattle.words.proofs.Reading.{onward, refused, at-end}
-use Rattle.rowsystems.specs.Reading.{fault_item, fault_source, fault_upper, fault_variable, fault_number, fault_result, fault_due, fault_end, fault, after_due, started, after, ended, State}
+use Rattle.rowsystems.specs.Reading.{fault_item, fault_source, fault_upper, fault_variable, fault_result, fault_due, fault_end, fault, after_due, started, after, ended, State}
 use Rattle.rowsystems.specs.declared.Due.{Due}
 use Rattle.rowsystems.specs.declared.Due.TheVariants.{Source, SourceUpper, Item, AuxiliaryUpper, Terms, Coefficient, Result, FirstFactor, SecondFactor, Ended}
 use Rattle.rowreading.specs.Onward as Onward
@@ -18,14 +20,14 @@ use Rattle.rowreading.specs.Onward.{stopped}
 past : (due : Due) (n : ℕ) (l : List ℕ) →
     ((fault_due due n 0 l ≡ Fault.wrong_kind) × (fault_end due ≡ Fault.words_end))
     ⊎ ((fault_due due n 0 l ≡ Fault.word_after_end) × (fault_end due ≡ Fault.none))
-unfolding fault_due fault_end fault_source fault_item fault_upper fault_variable fault_number fault_result kind
+unfolding fault_due fault_end fault_source fault_item fault_upper fault_variable fault_number_in fault_result kind
 past Source n l = inl (refl, refl)
 past (SourceUpper lower) n l = inl (refl, refl)
 past Item n l = inl (refl, refl)
 past (AuxiliaryUpper lower) n l = inl (refl, refl)
 past (Terms left) n l = inl (go (ltb 0 left), refl)
   where
-    go : (b : Bool) → (fault_variable n 0 if b else fault_number 0) ≡ Fault.wrong_kind
+    go : (b : Bool) → (fault_variable n 0 if b else fault_number_in Limit.range 0) ≡ Fault.wrong_kind
     go true = refl
     go false = refl
 past (Coefficient left) n l = inl (refl, refl)

@@ -10,11 +10,11 @@ use Rattle.words.specs.Kind as Kind
 use Rattle.words.specs.Limit as Limit
 use Rattle.words.specs.Word.{kind, payload, signed, too_low, word_at}
 use Rattle.words.specs.Variables.{starts_pair}
-use Rattle.rowsystems.specs.Reading.{fault_upper, fault_variable, fault_number, not_above, fault_result, fault_due, after_due, started}
+use Rattle.words.specs.Check.{fault_number_in, Step, step_over}
+use Rattle.rowsystems.specs.Reading.{fault_upper, fault_variable, not_above, fault_result, fault_due, after_due, started}
 use Rattle.rowsystems.specs.declared.Due.{Due}
 use Rattle.rowsystems.specs.declared.Due.TheVariants.{Source, SourceUpper, Item, AuxiliaryUpper, Terms, Coefficient, Result, FirstFactor, SecondFactor, Ended}
-use Rattle.rowreading.specs.Step.{Step}
-use Rattle.rowreading.specs.Onward.{onward, stopped, resumed, starts_kind, stage, is_ended, StepsTo, step_over}
+use Rattle.rowreading.specs.Onward.{onward, stopped, resumed, starts_kind, stage, is_ended, StepsTo}
 use Rattle.rowreading.proofs.Onward.{fault_at, here, go_on, stop-at}
 
 -- ---- a word inside an item starts no variable
@@ -55,8 +55,8 @@ module _ (due : Due) where
   unfolding fault_variable starts_kind
   variable-inside n w = of-kind Kind.variable w _ refl (never (leb n (payload w)) (differs {x = Fault.not_declared} refl) (differs {x = Fault.none} refl))
 
-  number-inside : (w : ℕ) → Inside due w (fault_number w)
-  unfolding fault_number starts_kind
+  number-inside : (w : ℕ) → Inside due w (fault_number_in Limit.range w)
+  unfolding fault_number_in starts_kind
   number-inside w = of-kind Kind.number w _ refl (never (too_low Limit.range w) (differs {x = Fault.lowest_number} refl) (differs {x = Fault.none} refl))
 
   result-inside : (n w f g : ℕ) → Inside due w (fault_result n w f g)
@@ -71,7 +71,7 @@ word-inside Item n w l i = absurd i
 word-inside (AuxiliaryUpper lower) n w l i = upper-inside (AuxiliaryUpper lower) Kind.auxiliary_upper lower w refl
 word-inside (Terms left) n w l i = go (ltb 0 left)
   where
-    go : (b : Bool) → Inside (Terms left) w (fault_variable n w if b else fault_number w)
+    go : (b : Bool) → Inside (Terms left) w (fault_variable n w if b else fault_number_in Limit.range w)
     go true = variable-inside (Terms left) n w
     go false = number-inside (Terms left) w
 word-inside (Coefficient left) n w l i = number-inside (Coefficient left) w

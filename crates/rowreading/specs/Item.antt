@@ -1,4 +1,4 @@
--- The items of a row system: what is due at a head word, and after it.
+-- The items of a row system: what is due at a head word, and after it; which variables a product has.
 use Rattle.std.specs.Prelude.{Bool, true, false, List, ℕ, ◌+◌, ◌<◌}
 use Rattle.integers.specs.Choice.{◌if◌else◌}
 use Rattle.rowsystems.specs.RowSystem.{variable_at}

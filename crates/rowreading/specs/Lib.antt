@@ -1,4 +1,3 @@
--- What the contracts cite: a step, the items of a row system, and reading on from a place.
-pub mod Step
+-- What the contracts cite: the items of a row system, and reading on from a place.
 pub mod Item
 pub mod Onward

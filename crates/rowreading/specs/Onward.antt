@@ -1,16 +1,16 @@
--- Reading on from a place.
-use Rattle.std.specs.Prelude.{◌≡◌, Bool, true, false, ◌||◌, List, ℕ, ◌+◌, ◌<◌, ◌≤◌, ltb, eqb, length, drop}
+-- Reading on from a place. `onward`, `stopped`, `resumed`, `StepsTo` and `Placed` have the same names in modelitems/specs/Onward, over a model's words.
+use Rattle.std.specs.Prelude.{◌≡◌, Bool, true, false, ◌||◌, List, ℕ, ◌<◌, ◌≤◌, ltb, eqb, length, drop}
 use Rattle.integers.specs.Choice.{◌if◌else◌}
 use Rattle.words.specs.Fault as Fault
 use Rattle.words.specs.Kind as Kind
 use Rattle.words.specs.Limit as Limit
 use Rattle.words.specs.Word.{kind, word_at}
 use Rattle.words.specs.Refusal.{◌at_place◌, accepted, first_fault}
-use Rattle.words.specs.declared.Refusal.{Refusal}
+use Rattle.words.specs.Refusals.{Refusal}
+use Rattle.words.specs.Check.{Step}
 use Rattle.rowsystems.specs.Reading.{fault, after, ended}
 use Rattle.rowsystems.specs.declared.Due.{Due}
 use Rattle.rowsystems.specs.declared.Due.TheVariants.{Source, SourceUpper, Item, AuxiliaryUpper, Terms, Coefficient, Result, FirstFactor, SecondFactor, Ended}
-use Rattle.rowreading.specs.Step.{Step}
 
 -- what reading the words from place `at` on finds, with so many variables before it
 unfoldable pub onward : Due → ℕ → ℕ → List ℕ → Refusal
@@ -60,11 +60,7 @@ pub record StepsTo (ws : List ℕ) (n : ℕ) (from : Due) (at : ℕ) (to : Due) 
   pub plain : Plain ws at r.at
   pub last : r.number ≡ Fault.word_after_end → is_ended from ≡ true
 
--- past a word with the fault f, if it is none
-unfoldable pub step_over : ℕ → ℕ → Step
-step_over f at = record { number = f; at = at + 1 } if eqb f Fault.none else record { number = f; at = at }
-
--- a place of words that are not too many
+-- a place of words that are not too many; no type carries it, as it is of two values of which one moves on at each step
 pub record Placed (ws : List ℕ) (at : ℕ) : Type 0 where
   pub within : at ≤ length ws
   pub few : length ws ≤ Limit.row_words

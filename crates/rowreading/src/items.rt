@@ -1,18 +1,20 @@
 // The items of a row system: variables, auxiliaries, rows, products, the end. Each function reads some words of an item.
-#![tactic(auto, unfolding(crate::specs::Onward::step_over))]
+// What is asked of a place stands at each function: it moves on with each word, and no type carries it.
+// ws, n and at go to each function: n and at change with each item, so that a struct of them, as grammar's Reading, would be made anew each time and be no plainer.
+#![tactic(auto, unfolding(words::specs::Check::step_over, rowsystems::specs::Reading::fault_upper))]
 
 ghost use Rattle.std.specs.Prelude.{◌≡◌, ℕ, suc, ◌+◌, ◌≤◌, IfOk};
-ghost use Rattle.words.specs.Faults.{number_of};
 ghost use Rattle.words.specs.Kinds.{kind_number};
 ghost use Rattle.words.specs.Limit as Limit;
 ghost use Rattle.words.specs.Word.{word_at};
-ghost use Rattle.rowsystems.specs.Reading.{fault_upper, fault_variable, fault_number, fault_result};
+ghost use Rattle.words.specs.Check.{fault_number_in, step_of, step_over};
+ghost use Rattle.rowsystems.specs.Reading.{fault_upper, fault_variable, fault_result};
 ghost use Rattle.rowreading.specs.Item.{item_terms, due_with, more_sources, start_due, Declared};
-ghost use Rattle.rowreading.specs.Onward.{Placed, StepsTo, step_over};
-ghost use Rattle.rowreading.specs.Step.{step_of};
+ghost use Rattle.rowreading.specs.Onward.{Placed, StepsTo};
 
-use rowfaults::{check_number, check_result, check_upper, check_variable};
+use rowfaults::{check_result, check_variable};
 use rowsystems::Due;
+use words::check::{check_number, check_upper, over};
 use words::fault::{Fault, Refusal};
 use words::kind::Kind;
 use words::word::Word;
@@ -61,17 +63,6 @@ impl From<Word> for Item {
     }
 }
 
-// The place after a word that is checked, or its fault.
-fn over(at: usize, checked: Result<(), Fault>) -> Result<usize, Refusal>
-    requires { at ≤ Limit.row_words }
-    ensures { step_of result ≡ step_over (number_of checked) at }
-{
-    match checked {
-        Ok(()) => Ok(at + 1),
-        Err(fault) => Err(Refusal { fault, place: at }),
-    }
-}
-
 // The variable at a place, after n variables.
 fn variable_at(ws: &[u32], n: usize, at: usize) -> Result<usize, Refusal>
     requires { at ≤ Limit.row_words }
@@ -81,14 +72,14 @@ fn variable_at(ws: &[u32], n: usize, at: usize) -> Result<usize, Refusal>
 }
 
 // The coefficient or constant at a place.
-fn number_at(ws: &[u32], at: usize) -> Result<usize, Refusal>
+pub fn number_at(ws: &[u32], at: usize) -> Result<usize, Refusal>
     requires { at ≤ Limit.row_words }
-    ensures { step_of result ≡ step_over (fault_number (word_at ws.now at)) at }
+    ensures { step_of result ≡ step_over (fault_number_in Limit.range (word_at ws.now at)) at }
 {
     over(at, check_number(Word::at(ws, at)))
 }
 
-// The upper bound of a kind at a place, after the word of its lower one.
+// The upper bound of a kind at a place, after the word of its lower one. `rowitems` reads it by this function and judges it.
 pub fn upper_at(ws: &[u32], kind: Kind, lower: Word, at: usize) -> Result<usize, Refusal>
     requires { at ≤ Limit.row_words }
     ensures { step_of result ≡ step_over (fault_upper (kind_number kind) lower (word_at ws.now at)) at }

@@ -10,8 +10,8 @@ ghost use Rattle.rowreading.specs.Onward.{onward, stopped, Placed};
 
 use items::{Item, read_term};
 use rowfaults::check_head;
+use variables::starts_variable;
 use words::fault::{Fault, Refusal};
-use words::kind::Kind;
 use words::limit;
 use words::word::Word;
 
@@ -19,17 +19,15 @@ pub mod items;
 pub mod rows;
 
 // How many variables start at a word: one at a lower bound and at a Boolean variable.
-#[tactic(auto, unfolding(rowsystems::specs::Reading::started, words::specs::Variables::starts_pair))]
+#[tactic(auto, unfolding(rowsystems::specs::Reading::started, variables::specs::Start::starts))]
 pub fn started_of(w: Word) -> usize
     ensures { result ≡ started w }
 {
-    if w.is(Kind::Lower) || w.is(Kind::AuxiliaryLower) || w.is(Kind::Boolean) {
-        return 1;
-    }
-    0
+    starts_variable(w) as usize
 }
 
 // What a reading that stops with a refusal finds: the words are accepted past the end word; where they end before it, that is the fault.
+// One function with `refused` of `modelreading` is no plainer: that one accepts nothing.
 #[tactic(auto, unfolding(crate::specs::Onward::stopped))]
 pub fn refusal_at(ws: &[u32], found: Refusal) -> Result<(), Refusal>
     ensures { refusal_of result ≡ stopped ws.now (fault_number found.fault) found.place }
@@ -47,6 +45,7 @@ pub fn refusal_at(ws: &[u32], found: Refusal) -> Result<(), Refusal>
 }
 
 // How many variables are counted where the items from a place on are accepted, or their first fault; so many variables stand before them.
+// `first` says whether source variables may still stand there: an enum of two cases is no plainer, as the definitions take a Boolean.
 pub fn read_on(ws: &[u32], first: bool, before: usize, start: usize) -> Result<usize, Refusal>
     requires { Placed ws.now start × (before ≤ 2000000000) }
     ensures reads { refusal_of result ≡ onward (start_due first) before start ws.now }
@@ -55,6 +54,7 @@ pub fn read_on(ws: &[u32], first: bool, before: usize, start: usize) -> Result<u
     let mut sources = first;
     let mut n = before;
     let mut at = start;
+    // no list or count to go over: the pass ends by what it reads, in a term too (01 names this form)
     let found = 'items: loop {
         let head = Word::at(ws, at);
         if let Err(fault) = check_head(sources, n, head) {

@@ -1,4 +1,5 @@
 // The head words of rows and products.
+// A word is a u32 here: the callers of starts_row have it so from the list and would wrap it for a Word, which would be no plainer.
 #![tactic(auto, unfolding(rowsystems::specs::OneWord::starts_sum, rowsystems::specs::OneWord::starts_row, rowsystems::specs::RowSystem::term_count))]
 
 ghost use Rattle.std.specs.Prelude.{◌≡◌};

@@ -14,7 +14,7 @@ use std::io;
 use std::io::Write;
 use translation::translate;
 
-// The words of a model at most and one more, and their bytes: translate refuses a longer model.
+// The words of a model at most and one more, and their bytes: translate refuses a longer model. Lists of fixed memory: there is no heap.
 const WORDS: usize = 8193;
 
 const BYTES: usize = 32772;

@@ -3,12 +3,13 @@ use Rattle.std.proofs.Common.{◌≡◌, refl, inl, inr, Bool, true, false, ◌|
 use Rattle.integers.proofs.Tests.{All}
 use Rattle.words.specs.Word.{kind}
 use Rattle.words.specs.Kind as Kind
+use Rattle.words.specs.Check.{fault_number_in}
 use Rattle.words.specs.Limit as Limit
 use Rattle.words.specs.Refusal.{accepted}
 use Rattle.words.proofs.Range.{is_signed, not-signed, NumberIn}
 use Rattle.words.proofs.Choices.{not-second, either, of-kind, of_range}
 use Rattle.words.proofs.Reading.{not_too_many, each_word}
-use Rattle.rowsystems.specs.Reading.{fault_lower, fault_item, fault_source, fault_upper, fault_variable, fault_number, fault_result, fault_due, fault, after, ended, begin, read_rows}
+use Rattle.rowsystems.specs.Reading.{fault_lower, fault_item, fault_source, fault_upper, fault_variable, fault_result, fault_due, fault, after, ended, begin, read_rows}
 use Rattle.rowsystems.specs.declared.Due.{Due}
 use Rattle.rowsystems.specs.declared.Due.TheVariants.{Source, SourceUpper, Item, AuxiliaryUpper, Terms, Coefficient, Result, FirstFactor, SecondFactor, Ended}
 
@@ -46,8 +47,8 @@ module _ (w : ℕ) where
   unfolding fault_upper
   upper_in k lower e = λ s. (of_range w _ (of-kind w k _ e).1).0
 
-  number_in : fault_number w ≡ 0 → NumberIn w
-  unfolding fault_number
+  number_in : fault_number_in Limit.range w ≡ 0 → NumberIn w
+  unfolding fault_number_in
   number_in e = λ s. (of_range w _ (of-kind w Kind.number _ e).1).0
 
   variable_in : (n : ℕ) → fault_variable n w ≡ 0 → NumberIn w

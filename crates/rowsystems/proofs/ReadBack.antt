@@ -13,6 +13,7 @@ use Rattle.integers.proofs.Tests.{All, says-not, says-lt}
 use Rattle.integers.proofs.Lists.{all_append}
 use Rattle.words.specs.Word.{kind, payload, signed, in_range, too_low, word, number_word, word_at}
 use Rattle.words.specs.Kind as Kind
+use Rattle.words.specs.Check.{fault_number_in}
 use Rattle.words.specs.Limit as Limit
 use Rattle.words.specs.Variables.{starts_pair, variables}
 use Rattle.words.specs.Refusal.{accepted, first_fault}
@@ -22,7 +23,7 @@ use Rattle.rowsystems.specs.declared.Due.{Due}
 use Rattle.rowsystems.specs.declared.Due.TheVariants.{Source, Item, Terms}
 use Rattle.rowsystems.specs.Row.{Row, sum≤0, sum=0, product, rename_terms, rename}
 use Rattle.rowsystems.specs.RowWords.{bound_words, term_words, sum_words, row_words, bound_numbers, row_numbers}
-use Rattle.rowsystems.specs.Reading.{State, fault, fault_due, fault_lower, fault_item, fault_source, fault_upper, fault_variable, fault_number, fault_result, not_above, after, after_due, after_item, started, ended, fault_end, begin, read_rows}
+use Rattle.rowsystems.specs.Reading.{State, fault, fault_due, fault_lower, fault_item, fault_source, fault_upper, fault_variable, fault_result, not_above, after, after_due, after_item, started, ended, fault_end, begin, read_rows}
 use Rattle.rowsystems.specs.RowSystem.{rows, term_count, variable_at, number_at, terms_in, constant_in}
 
 -- ---- Reading from a state on
@@ -109,7 +110,7 @@ module _ {X : Type 0} (f : X → ℕ) {n : ℕ} (room : n ≤ Limit.in_all) wher
   -- the reader passes over a row's terms
   terms-accepted : {ws : List ℕ} {Bs : List Bounds} {Rs : List (Row ℕ)} (ts : List (Term X)) → Ranged (map (λ t. t.coefficient) ts) → All (λ t. f t.variable < n) ts →
       Reads (state (Terms 0) n) ws Bs Rs → Reads (state (Terms (length ts)) n) (flat_map term_words (rename_terms f ts) ++ ws) Bs Rs
-  unfolding first_fault fault fault_due fault_variable fault_number too_low after after_due started variables starts_pair rows term_words flat_map rename_terms
+  unfolding first_fault fault fault_due fault_variable fault_number_in too_low after after_due started variables starts_pair rows term_words flat_map rename_terms
   terms-accepted [] h d r = r
   terms-accepted (t ∷ ts) h d r =
       let k = terms-accepted ts h.1 d.1 r in
@@ -145,7 +146,7 @@ module _ {X : Type 0} (f : X → ℕ) {n : ℕ} (room : n ≤ Limit.in_all) wher
         ((w : ℕ) (vs : List ℕ) → kind w ≡ k → rows (w ∷ vs) ≡ make (terms_in vs (term_count w)) (constant_in vs (term_count w)) ∷ rows vs) →
         (ts : List (Term X)) (c : ℤ) → length ts ≤ Limit.terms → Ranged (map (λ t. t.coefficient) ts ++ (c ∷ [])) → All (λ t. f t.variable < n) ts →
         Items n (sum_words k (rename_terms f ts) c ++ ws) Bs (make (rename_terms f ts) c ∷ Rs)
-    unfolding sum_words first_fault fault fault_due fault_item fault_number too_low after after_due after_item started variables starts_pair rows term_count word_at
+    unfolding sum_words first_fault fault fault_due fault_item fault_number_in too_low after after_due after_item started variables starts_pair rows term_count word_at
     rows-sum_row k make k1 k3 k8 kC kF kAB made ts c s h d =
         let last = number_word Kind.number c ∷ ws in
         let w = kind-word k (length (rename_terms f ts)) in

@@ -7,7 +7,7 @@ use Rattle.words.specs.Kind as Kind
 use Rattle.words.specs.Limit as Limit
 use Rattle.words.specs.Refusal.{◌at_place◌, first_fault}
 use Rattle.words.specs.Word.{kind, payload}
-use Rattle.words.specs.declared.Refusal.{Refusal}
+use Rattle.words.specs.Refusals.{Refusal}
 use Rattle.rowsystems.specs.Reading.{fault, after, ended, begin, read_rows}
 use Rattle.rowsystems.specs.Row.{Row}
 use Rattle.rowsystems.specs.RowSystem.{term_count, rows}

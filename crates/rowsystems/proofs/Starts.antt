@@ -3,11 +3,13 @@ use Rattle.std.proofs.Common.{◌≡◌, refl, sym, ◌∙◌, ◌⊎◌, inl, i
 use Rattle.integers.specs.Choice.{◌if◌else◌}
 use Rattle.words.specs.Word.{kind}
 use Rattle.words.specs.Kind as Kind
+use Rattle.words.specs.Check.{fault_number_in}
 use Rattle.words.specs.Fault as Fault
+use Rattle.words.specs.Limit as Limit
 use Rattle.words.specs.Variables.{starts_pair}
 use Rattle.rowsystems.specs.declared.Due.{Due}
 use Rattle.rowsystems.specs.declared.Due.TheVariants.{Source, SourceUpper, Item, AuxiliaryUpper, Terms, Coefficient, Result, FirstFactor, SecondFactor, Ended}
-use Rattle.rowsystems.specs.Reading.{fault_due, fault_upper, fault_variable, fault_number, fault_result}
+use Rattle.rowsystems.specs.Reading.{fault_due, fault_upper, fault_variable, fault_result}
 
 -- a lower bound's kinds, and those that start a variable
 abbrev pub Pair : ℕ → Type 0
@@ -40,14 +42,14 @@ other k l x s n e = go (eqb k l) refl e
     go false q e = omega arith
 
 pub at_head : (d : Due) (n w : ℕ) (ws : List ℕ) → Starts (kind w) → fault_due d n w ws ≡ 0 → (d ≡ Source) ⊎ (d ≡ Item)
-unfolding fault_due fault_upper fault_variable fault_number fault_result
+unfolding fault_due fault_upper fault_variable fault_number_in fault_result
 at_head Source n w ws s e = inl refl
 at_head (SourceUpper l) n w ws s e = absurd (other (kind w) Kind.upper _ s (omega arith) e)
 at_head Item n w ws s e = inr refl
 at_head (AuxiliaryUpper l) n w ws s e = absurd (other (kind w) Kind.auxiliary_upper _ s (omega arith) e)
 at_head (Terms l) n w ws s e = absurd (go (ltb 0 l) e)
   where
-    go : (t : Bool) → (fault_variable n w if t else fault_number w) ≡ 0 → ⊥
+    go : (t : Bool) → (fault_variable n w if t else fault_number_in Limit.range w) ≡ 0 → ⊥
     go true = other (kind w) Kind.variable _ s (omega arith)
     go false = other (kind w) Kind.number _ s (omega arith)
 at_head (Coefficient l) n w ws s e = absurd (other (kind w) Kind.number _ s (omega arith) e)

@@ -5,10 +5,11 @@ use Rattle.integers.specs.Choice.{◌if◌else◌}
 use Rattle.words.specs.Word.{kind, payload, signed, too_low, word_at}
 use Rattle.words.specs.Kind as Kind
 use Rattle.words.specs.Limit as Limit
+use Rattle.words.specs.Check.{fault_number_in}
 use Rattle.words.specs.Fault as Fault
 use Rattle.words.specs.Variables.{starts_pair}
 use Rattle.words.specs.Refusal.{◌at_place◌, first_fault}
-use Rattle.words.specs.declared.Refusal.{Refusal}
+use Rattle.words.specs.Refusals.{Refusal}
 use Rattle.rowsystems.specs.declared.Due.{Due}
 use Rattle.rowsystems.specs.declared.Due.TheVariants.{Source, SourceUpper, Item, AuxiliaryUpper, Terms, Coefficient, Result, FirstFactor, SecondFactor, Ended}
 
@@ -58,13 +59,6 @@ fault_variable n w =
     else Fault.not_declared if leb n (payload w)
     else Fault.none
 
--- of a coefficient or a constant: 3, 18
-unfoldable pub fault_number : ℕ → ℕ
-fault_number w =
-    Fault.wrong_kind if not (eqb (kind w) Kind.number)
-    else Fault.lowest_number if too_low Limit.range w
-    else Fault.none
-
 -- 17: "A product's result number is not above both factors'; .. judged only if both factor words have kind 5."
 unfoldable pub not_above : ℕ → ℕ → ℕ → Bool
 not_above r f g =
@@ -85,8 +79,8 @@ fault_due Source n w ws = fault_source n w
 fault_due (SourceUpper lower) n w ws = fault_upper Kind.upper lower w
 fault_due Item n w ws = fault_item n w
 fault_due (AuxiliaryUpper lower) n w ws = fault_upper Kind.auxiliary_upper lower w
-fault_due (Terms left) n w ws = fault_variable n w if ltb 0 left else fault_number w
-fault_due (Coefficient left) n w ws = fault_number w
+fault_due (Terms left) n w ws = fault_variable n w if ltb 0 left else fault_number_in Limit.range w
+fault_due (Coefficient left) n w ws = fault_number_in Limit.range w
 fault_due Result n w ws = fault_result n w (word_at ws 0) (word_at ws 1)
 fault_due FirstFactor n w ws = fault_variable n w
 fault_due SecondFactor n w ws = fault_variable n w

@@ -2,6 +2,7 @@
 #![tactic(auto)]
 
 // What is due at the next word of a row system.
+// Only definitions build it, of the words' own numbers: so a word in it is a number, and no Word.
 #[derive(Clone, Copy, Debug, PartialEq, Eq)]
 pub enum Due {
     // a source variable, or what may follow these

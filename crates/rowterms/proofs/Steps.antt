@@ -2,11 +2,13 @@
 use Rattle.std.proofs.Common.{◌≡◌, refl, List, ℕ, suc, ◌+◌, ◌-◌, ◌*◌, ◌<◌, ◌≤◌, arith, ne_eqb, length}
 use lib.ListN.{get_or-eq_default}
 use Rattle.words.specs.Fault as Fault
+use Rattle.words.specs.Limit as Limit
 use Rattle.words.specs.Word.{kind, word_at}
-use Rattle.rowsystems.specs.Reading.{fault_variable, fault_number}
+use Rattle.words.specs.Check.{fault_number_in, step_over}
+use Rattle.rowsystems.specs.Reading.{fault_variable}
 use Rattle.rowsystems.specs.declared.Due.{Due}
 use Rattle.rowsystems.specs.declared.Due.TheVariants.{Terms, Coefficient, Item}
-use Rattle.rowreading.specs.Onward.{step_over, StepsTo}
+use Rattle.rowreading.specs.Onward.{StepsTo}
 use Rattle.rowreading.proofs.Inner.{term-variable, term-coefficient, row-constant}
 use Rattle.rowreading.proofs.Steps.{and_then, or-halted}
 
@@ -20,8 +22,8 @@ unfolding step_over
 step-goes at g z = rw z at g
 
 -- where the words have ended, a constant is missing
-pub constant-missing : (ws : List ℕ) (at : ℕ) → length ws ≤ at → fault_number (word_at ws at) ≡ Fault.wrong_kind
-unfolding fault_number word_at kind
+pub constant-missing : (ws : List ℕ) (at : ℕ) → length ws ≤ at → fault_number_in Limit.range (word_at ws at) ≡ Fault.wrong_kind
+unfolding fault_number_in word_at kind
 constant-missing ws at h = rw (get_or-eq_default ws 0 {n = at} h)
 
 -- a row, k terms of which are read
@@ -35,12 +37,12 @@ module _ (ws : List ℕ) (n start terms k : ℕ) (g : StepsTo ws n (Terms terms)
       and_then g refl refl (rw e at (term-variable ws n place g.inside (terms - (k + 1))))
 
   pub next-coefficient : k < terms → fault_variable n (word_at ws place) ≡ 0 →
-      StepsTo ws n (Terms terms) start (Terms (terms - (k + 1))) (step_over (fault_number (word_at ws (place + 1))) (place + 1))
+      StepsTo ws n (Terms terms) start (Terms (terms - (k + 1))) (step_over (fault_number_in Limit.range (word_at ws (place + 1))) (place + 1))
   next-coefficient h z =
       let v = step-goes place (next-variable h) z in
       and_then v refl refl (term-coefficient ws n (place + 1) v.inside (terms - (k + 1)))
 
-  pub next-constant : k ≡ terms → StepsTo ws n (Terms terms) start Item (step_over (fault_number (word_at ws (start + 2 * terms))) (start + 2 * terms))
+  pub next-constant : k ≡ terms → StepsTo ws n (Terms terms) start Item (step_over (fault_number_in Limit.range (word_at ws (start + 2 * terms))) (start + 2 * terms))
   next-constant e =
       let z : terms - k ≡ 0 = omega arith in
       let a : start + 2 * k ≡ start + 2 * terms = omega arith in

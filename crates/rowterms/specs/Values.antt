@@ -9,16 +9,15 @@ use Rattle.words.specs.Small.{Near}
 use Rattle.words.specs.Word.{kind}
 use Rattle.rowsystems.specs.RowSystem.{terms_in, constant_in}
 use Rattle.words.specs.declared.fault.Refusal.{Refusal}
-use Rattle.rowreading.specs.Step as Step
-use Rattle.rowreading.specs.Step.{Step}
+use Rattle.words.specs.Check.{Step, step_of}
 use Rattle.rowterms.specs.declared.Seen.{Seen}
 
 -- where reading goes on
-abbrev pub step_of : Result Seen Refusal → Step
-step_of (Ok s) = Step.step_of (Ok s.at)
-step_of (Err r) = Step.step_of (Err r)
+abbrev pub seen_step : Result Seen Refusal → Step
+seen_step (Ok s) = step_of (Ok s.at)
+seen_step (Err r) = step_of (Err r)
 
--- the values of the variables read so far are there, no farther from 0 than signed payloads are
+-- the values of the variables read so far are there, no farther from 0 than signed payloads are; no type carries it, as n grows with each variable read
 abbrev pub ValuesKnown : List ℤ → ℕ → Type 0
 ValuesKnown vs n = (n ≤ length vs) × ((x : ℕ) → x < n → Near (value vs x))
 

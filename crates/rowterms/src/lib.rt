@@ -5,19 +5,20 @@
 ghost use Rattle.std.specs.Prelude.{◌≡◌, ◌+◌, ◌*◌, ◌<◌, ◌≤◌, IfOk, Err, length, drop, nat_abs};
 ghost use Rattle.integers.specs.Number.{◌⊗◌};
 ghost use Rattle.integers.specs.Terms.{value};
+ghost use Rattle.words.specs.Check.{step_of};
 ghost use Rattle.words.specs.Limit as Limit;
 ghost use Rattle.words.specs.Small.{Near};
 ghost use Rattle.words.specs.Word.{payload, signed};
 ghost use Rattle.rowsystems.specs.Row.{product, satisfied};
 ghost use Rattle.rowsystems.specs.RowSystem.{variable_at};
 ghost use Rattle.rowreading.specs.Onward.{Placed, StepsTo};
-ghost use Rattle.rowreading.specs.Step as Step;
-ghost use Rattle.rowterms.specs.Values.{step_of, ValuesKnown, is_true, row_total};
+ghost use Rattle.rowterms.specs.Values.{seen_step, ValuesKnown, is_true, row_total};
 
 use integers::{equal, plus, times};
-use rowfaults::{is_number, is_variable, number_fault, variable_fault};
+use rowfaults::{is_variable, variable_fault};
 use rowreading::items::{read_product, read_term};
 use rowsystems::Due;
+use words::check::{is_number, number_fault};
 use words::fault::{Fault, Refusal};
 use words::kind::Kind;
 use words::word::Word;
@@ -67,7 +68,7 @@ pub fn see_terms(
     values: &[i32],
 ) -> Result<Seen, Refusal>
     requires { Placed ws.now start × ValuesKnown values.now n × (payload head ≤ Limit.terms) × (start + 2 * payload head < length ws.now) }
-    ensures step { StepsTo ws.now n (Due.Terms (payload head)) start Due.Item (step_of result) }
+    ensures step { StepsTo ws.now n (Due.Terms (payload head)) start Due.Item (seen_step result) }
     ensures truth { IfOk result (λ seen. seen.holds ≡ is_true head (row_total values.now (drop start ws.now) (payload head))) }
 {
     let terms = head.payload();
@@ -104,7 +105,7 @@ pub fn see_terms(
 // The refusal of a row in which the words end; where no term has a fault, the constant is missing.
 pub fn see_cut(ws: &[u32], n: usize, start: usize, terms: usize) -> Refusal
     requires { Placed ws.now start × (length ws.now ≤ start + 2 * terms) }
-    ensures { StepsTo ws.now n (Due.Terms terms) start Due.Item (Step.step_of (Err result)) }
+    ensures { StepsTo ws.now n (Due.Terms terms) start Due.Item (step_of (Err result)) }
 {
     let mut at = start;
     for _ in 0..terms {
@@ -119,10 +120,10 @@ pub fn see_cut(ws: &[u32], n: usize, start: usize, terms: usize) -> Refusal
     }
 }
 
-// The result and the two factors of a product.
+// The result and the two factors of a product: read, and then judged.
 pub fn see_factors(ws: &[u32], n: usize, at: usize, values: &[i32]) -> Result<Seen, Refusal>
     requires { Placed ws.now at × ValuesKnown values.now n }
-    ensures step { StepsTo ws.now n Due.Result at Due.Item (step_of result) }
+    ensures step { StepsTo ws.now n Due.Result at Due.Item (seen_step result) }
     ensures truth { let v = variable_at ws.now in IfOk result (λ seen. seen.holds ≡ satisfied (value values.now) (product (v at) (v (at + 1)) (v (at + 2)))) }
 {
     let end = read_product(ws, n, at)?;

@@ -12,6 +12,7 @@ use Rattle.words.specs.Word.{kind, payload, signed, too_low, word, complement, n
 use Rattle.words.specs.Variables.{variables, starts_pair}
 use Rattle.words.specs.Overlay.{overlay}
 use Rattle.words.specs.Refusal.{◌else_refuse◌, first_fault, count_fault, room_fault}
+use Rattle.words.specs.Check.{fault_number_in}
 use Rattle.words.specs.Answer.{Answer, refused, counts, written, holds, out_of_bounds, is_false, ◌else_answer◌, is_holds}
 use Rattle.words.specs.Judge.{first_false, first_out_of_bounds, judge}
 use Rattle.models.specs.Meaning.{on, off, element, maximum, minimum, member, odd, quotient, remainder, power, meaning}
@@ -367,7 +368,7 @@ unfolding same_list is_same_answer lists_within is_accepted completions is_denie
     bounds_in list_of all any how_many ◌⊕◌ ◌⊖◌ ◌⊗◌ neg min_z max_z abs_z ◌≟◌ count value sum ◌else_answer◌ is_holds first_false first_out_of_bounds judge
     overlay ◌else_refuse◌ first_fault count_fault starts_pair variables kind payload signed word complement number_word word_at
     JudgeModel.judge_accepted JudgeRows.judge_accepted judge_model on off element maximum minimum member odd quotient remainder power meaning constraints_from constraints var num size exponent_at vars
-    nums past terms past_terms builtins builtin too_low Model.fault_head Model.fault_start_in Model.fault_upper_in Rows.fault_upper Model.fault_number_in Rows.fault_number
+    nums past terms past_terms builtins builtin too_low Model.fault_head Model.fault_start_in Model.fault_upper_in Rows.fault_upper fault_number_in
     Model.fault_variable Rows.fault_variable Model.fault_count_in Model.fault_argument_in Model.fault_due_in Rows.fault_due Model.fault_in Rows.fault Model.after_head
     Model.after_argument Model.after_due Rows.after_due Model.declared Model.started Rows.started Model.after Rows.after Model.fault_end Rows.fault_end
     Model.ended Rows.ended read_model_in shapes argument judge_rows Rows.fault_lower Rows.fault_item Rows.fault_source Rows.not_above Rows.fault_result Rows.after_item read_rows

@@ -9,7 +9,7 @@ use Rattle.words.specs.Fault as Fault
 use Rattle.words.specs.Variables.{variables}
 use Rattle.words.specs.Refusal.{fault_or, accepted, ◌else_refuse◌}
 use Rattle.words.specs.Answer.{Answer, counts, ◌else_answer◌}
-use Rattle.words.specs.declared.Refusal.{Refusal}
+use Rattle.words.specs.Refusals.{Refusal}
 use Rattle.models.specs.Reading.{read_model_in}
 use Rattle.models.specs.Model.{Constraint, constraints}
 use Rattle.rules.specs.Block.{outside_in}

@@ -8,7 +8,7 @@ use Rattle.words.specs.Variables.{variables}
 use Rattle.words.specs.Overlay.{overlay}
 use Rattle.words.specs.Refusal.{◌else_refuse◌, count_fault, room_fault}
 use Rattle.words.specs.Answer.{Answer, written, is_holds, ◌else_answer◌}
-use Rattle.words.specs.declared.Refusal.{Refusal}
+use Rattle.words.specs.Refusals.{Refusal}
 use Rattle.models.specs.JudgeModel.{judge_accepted}
 use Rattle.rules.specs.Translation.{auxiliaries, picks}
 use Rattle.rules.specs.Check.{check_fault_in}

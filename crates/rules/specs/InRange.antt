@@ -2,7 +2,7 @@
 use Rattle.std.specs.Prelude.{Bool, List, ℕ, ℤ}
 use Rattle.integers.specs.declared.Bounds.{Bounds}
 use Rattle.words.specs.Limit as Limit
-use Rattle.words.specs.declared.Refusal.{Refusal}
+use Rattle.words.specs.Refusals.{Refusal}
 use Rattle.models.specs.Model.{Constraint}
 use Rattle.rules.specs.Block.{Block, outside_in}
 use Rattle.rules.specs.Shared.{Encoded}

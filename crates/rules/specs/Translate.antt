@@ -7,7 +7,7 @@ use Rattle.words.specs.Fault as Fault
 use Rattle.words.specs.Overlay.{overlay}
 use Rattle.words.specs.Refusal.{◌else_refuse◌, room_fault}
 use Rattle.words.specs.Answer.{Answer, written, ◌else_answer◌}
-use Rattle.words.specs.declared.Refusal.{Refusal}
+use Rattle.words.specs.Refusals.{Refusal}
 use Rattle.rules.specs.Translation.{system_words}
 use Rattle.rules.specs.Check.{check_fault_in}
 

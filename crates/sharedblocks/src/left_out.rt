@@ -1,4 +1,5 @@
 // The row "sum of the bits left out = 0".
+// How large n, v and `from` may be stays in clauses, and code, args, `from` and n come one by one: they stand between one call and three functions, so a struct with these facts would be no plainer.
 ghost use Rattle.std.specs.Prelude.{◌≡◌, not, [], ◌∷◌, ◌<◌, ◌≤◌, nat_abs, pos};
 ghost use Rattle.integers.specs.Choice.{◌if◌else◌};
 ghost use Rattle.integers.specs.Number.{+1};
@@ -28,6 +29,7 @@ fn is_place(n: usize, v: i64) -> bool
 }
 
 // Whether a constraint of array_int_element, array_var_int_element or set_in keeps the value v of its variable.
+// No match on the code: the definition tells the three apart by their order, for any code; a match would need the clause that the code chooses here and in each caller, and be no plainer.
 fn is_kept(code: Code, args: &[u32], v: i64) -> bool
     ensures { result ≡ keeps (code_number code) args.now v }
 {
@@ -38,7 +40,7 @@ fn is_kept(code: Code, args: &[u32], v: i64) -> bool
 }
 
 // A term of coefficient 1 where the value is not kept.
-fn unless(writer: &mut Writer, kept: bool, v: usize)
+fn left_term(writer: &mut Writer, kept: bool, v: usize)
     requires { Room 10 writer.old }
     ensures { Writes 10 writer.old writer.new (term +1 v ∷ [] if not kept else []) }
 {
@@ -53,7 +55,7 @@ fn left_bits(writer: &mut Writer, code: Code, args: &[u32], from: i64, v: usize,
     ensures { Writes 1000 writer.old writer.new (many (left_at (code_number code) args.now from v) n) }
 {
     for k in 0..n {
-        unless(writer, is_kept(code, args, plus(from, k as i64)), v + k);
+        left_term(writer, is_kept(code, args, plus(from, k as i64)), v + k);
     }
 }
 

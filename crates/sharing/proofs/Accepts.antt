@@ -6,7 +6,7 @@ use Rattle.words.specs.Fault as Fault
 use Rattle.words.specs.Limit as Limit
 use Rattle.words.specs.Variables.{variables}
 use Rattle.words.specs.Refusal.{◌at_place◌, accepted, ◌else_refuse◌, first_fault}
-use Rattle.words.specs.declared.Refusal.{Refusal}
+use Rattle.words.specs.Refusals.{Refusal}
 use Rattle.words.proofs.Reading.{read-without, passed-number}
 use Rattle.models.specs.Reading.{after, ended, begin, read_model, read_model_in}
 use Rattle.models.specs.InRange.{fault}

@@ -7,7 +7,7 @@ use Rattle.words.specs.Variables.{variables}
 use Rattle.words.specs.Refusal.{◌at_place◌, accepted, ◌else_refuse◌, count_fault}
 use Rattle.words.specs.Answer.{Answer, refused, holds, is_holds, ◌else_answer◌}
 use Rattle.words.specs.Judge.{judge}
-use Rattle.words.specs.declared.Refusal.{Refusal}
+use Rattle.words.specs.Refusals.{Refusal}
 use Rattle.words.proofs.Judge.{judge-holds}
 use Rattle.models.specs.Reading.{read_model}
 use Rattle.models.specs.Model.{constraints, builtin}

@@ -13,7 +13,7 @@ use sheets::sheet;
 use std::io;
 use std::io::Write;
 
-// The words above which it says 16, and the bytes of one word more.
+// The words above which it says 16, and the bytes of one word more. Lists of fixed memory: there is no heap.
 const WORDS: usize = 16384;
 
 const BYTES: usize = 65540;

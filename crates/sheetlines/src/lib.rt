@@ -1,4 +1,6 @@
-// The printed lines of a row or a product, one after another on a page.
+// The printed lines of a row or a product, one after another on a page, by the printers of a Page (see decimals).
+// That the page's place stays far below 2^64 is asked of each function by what it prints at most, that a row's number has six digits and its terms are few
+// of each that prints them: no type carries it, as these are of different values, and the place and the number move on.
 #![tactic(auto)]
 
 ghost use Rattle.std.specs.Prelude.{◌≡◌, ◌+◌, ◌*◌, ◌<◌, ◌≤◌};

@@ -10,7 +10,7 @@ use Rattle.words.specs.Answer.{written, refused_or, ◌else_answer◌}
 use Rattle.words.specs.Fault as Fault
 use Rattle.words.specs.Overlay.{overlay}
 use Rattle.words.specs.Refusal.{◌at_place◌, accepted, fault_or, ◌else_refuse◌, room_fault}
-use Rattle.words.specs.declared.Refusal.{Refusal}
+use Rattle.words.specs.Refusals.{Refusal}
 use Rattle.words.specs.Small.{Near}
 use Rattle.words.proofs.Overlay.{front-over}
 use Rattle.decimals.specs.Column.{blanks, right, left}

@@ -5,7 +5,7 @@ use Rattle.words.specs.Fault as Fault
 use Rattle.words.specs.Overlay.{overlay}
 use Rattle.words.specs.Refusal.{◌else_refuse◌, room_fault}
 use Rattle.words.specs.Answer.{Answer, written, ◌else_answer◌}
-use Rattle.words.specs.declared.Refusal.{Refusal}
+use Rattle.words.specs.Refusals.{Refusal}
 use Rattle.rowsystems.specs.Reading.{read_rows}
 use Rattle.rowsystems.specs.RowSystem.{rows}
 use Rattle.sheetlines.specs.Lines.{rows_lines}

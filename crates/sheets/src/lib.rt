@@ -16,7 +16,8 @@ use sheetlines::put_row;
 use words::fault::{Fault, Refusal};
 use words::word::Word;
 
-// The lines of all rows, from the front of a page on.
+// The lines of all rows, from the front of a page on. Other walks over rows have this `for` and another body, and one of them all is no plainer.
+// k counts the rows and not the words.
 fn put_rows(ws: &[u32], page: &mut Page)
     requires { (length ws.now ≤ Limit.row_words) × (page.old.at ≡ 0) }
     ensures { Prints page.old (sheet_text ws.now) page.new }

@@ -1,6 +1,8 @@
 -- From the first list on, all lists are gone through; and what each answer of the call says.
-use Rattle.std.proofs.Common.{◌≡◌, sym, ap, ◌∙◌, Bool, true, false, ◌||◌, List, [], ◌∷◌, ℕ, suc, ◌*◌, ◌<◌, ◌≤◌, arith, ltb, ℤ, length, lt-ltb, le-ltb, ltb-true, ltb-false, ne_eqb}
+use Rattle.std.proofs.Common.{rules, ◌≡◌, refl, sym, ap, ◌∙◌, Bool, true, false, ◌||◌, List, [], ◌∷◌, ℕ, zero, suc, ◌*◌, ◌<◌, ◌≤◌, arith, ltb, ℤ, length, take, length-take-le, lt-ltb, le-ltb, ltb-true, ltb-false, ne_eqb}
 use mathlib.Core.List.{flatten}
+use Rattle.std.proofs.lemmas.List.{get_or-take}
+use Rattle.integers.specs.Lists.{list_of}
 use Rattle.integers.specs.Choice.{◌if◌else◌}
 use Rattle.integers.specs.declared.Bounds.{Bounds}
 use Rattle.integers.proofs.Fits.{mul-le}
@@ -29,7 +31,7 @@ use Rattle.solutions.specs.Lists.{value_lists, list_count}
 use Rattle.solutions.specs.AllWithin.{AllWithin, lowest_list}
 use Rattle.solutions.specs.Odometer.{lists_from}
 use Rattle.solutions.specs.Solutions.{every_true, solutions, lists_fault, solutions_fault, solutions_answer, solutions_listed}
-use Rattle.solutions.specs.Walk.{bounds_to, solutions_from, solutions_in, Walkable, ListsSized}
+use Rattle.solutions.specs.Walk.{bounds_to, AllNear, solutions_from, solutions_in, Walkable, ListsSized}
 use Rattle.solutions.proofs.Complete.{inside-says}
 use Rattle.solutions.proofs.Counts.{count-is}
 use Rattle.solutions.proofs.Odometer.{from_lowest}
@@ -93,6 +95,30 @@ module _ (ws : List ℕ) (passes : Passes ws) (out : List ℤ) where
     unfolding solutions_answer solutions_listed solutions_fault room_fault ◌else_refuse◌ ◌else_answer◌
     lists h = let e = le-ltb (length out) (length (solutions ws) * length (variables ws)) h in (rw (passes, small, e), rw (passes, small, e))
 
+-- a list of which n elements are taken has as many
+pub has-taken : {A : Type 0} (n : ℕ) (l : List A) → length (take n l) ≡ n → n ≤ length l
+has-taken zero l e = omega arith
+has-taken (suc n) [] e = absurd (omega (arith, e))
+has-taken (suc n) (x ∷ l) e = omega (arith, has-taken n l (omega (arith, e)))
+
+-- ---- the front of a list of bounds
+
+as-listed : {A : Type 0} (f g : ℕ → A) (n : ℕ) → ((k : ℕ) → k < n → f k ≡ g k) → list_of f n ≡ list_of g n
+unfolding list_of
+as-listed f g zero h = refl
+as-listed f g (suc n) h = rw (h 0 (omega arith), as-listed (λ i. f (suc i)) (λ i. g (suc i)) n (λ k l. h (suc k) (omega (arith, l))))
+
+bounds-front : (Ds : List Bounds) (n : ℕ) → n ≤ length Ds → bounds_to (take n Ds) (length (take n Ds)) ≡ bounds_to Ds n
+unfolding bounds_in
+bounds-front Ds n l = rw (length-take-le n Ds l) (as-listed (bounds_in (take n Ds)) (bounds_in Ds) n (λ k h. get_or-take n Ds k _ h))
+
+front-near : (Ds : List Bounds) (n : ℕ) → AllNear Ds → AllNear (take n Ds)
+unfolding bounds_in
+front-near Ds zero h x = (search rules, search rules)
+front-near [] (suc n) h x = h x
+front-near (D ∷ Ds) (suc n) h zero = h 0
+front-near (D ∷ Ds) (suc n) h (suc x) = front-near Ds n (λ y. h (suc y)) x
+
 -- ---- the bounds of a model that passes
 
 module _ (ws : List ℕ) (passes : Passes ws) {hs uses : List ℕ} {m : Model} {Ds : List Bounds} (kept : ModelBounds ws hs m Ds uses) where
@@ -100,14 +126,22 @@ module _ (ws : List ℕ) (passes : Passes ws) {hs uses : List ℕ} {m : Model} {
   unfolding bounds
   kept-list = rw (kept.same, kept.seen.variables_counted) (bounds-listed (variables ws))
 
-  pub sized : m.variables ≤ 8 → list_count (variables ws) ≤ 65536 → ListsSized Ds m.variables
-  unfolding bounds
-  sized l c = record {
-    near = rw kept.same (bounds-near ws);
-    inside = rw kept-list (ordered-inside (variables ws) (ordered ws (passes-read ws passes)));
-    few = rw kept-list c;
-    short = l;
-  }
+  -- the bounds of the variables alone, at the front of the list
+  module _ (room : m.variables ≤ length Ds) where
+    abbrev front : List Bounds
+    front = take m.variables Ds
+
+    pub front-list : bounds_to front (length front) ≡ variables ws
+    front-list = bounds-front Ds m.variables room ∙ kept-list
+
+    pub sized : m.variables ≤ 8 → list_count (variables ws) ≤ 65536 → ListsSized front (length front)
+    unfolding bounds
+    sized l c = record {
+      near = front-near Ds m.variables (rw kept.same (bounds-near ws));
+      inside = rw front-list (ordered-inside (variables ws) (ordered ws (passes-read ws passes)));
+      few = rw front-list c;
+      short = rw (length-take-le m.variables Ds room) l;
+    }
 
 keep-le : {A : Type 0} (t : A → Bool) (xs : List A) → length (keep t xs) ≤ length xs
 keep-le t [] = omega arith

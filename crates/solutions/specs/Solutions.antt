@@ -12,7 +12,7 @@ use Rattle.words.specs.Variables.{variables}
 use Rattle.words.specs.Overlay.{overlay}
 use Rattle.words.specs.Refusal.{◌at_place◌, accepted, ◌else_refuse◌, room_fault}
 use Rattle.words.specs.Answer.{Answer, written, ◌else_answer◌}
-use Rattle.words.specs.declared.Refusal.{Refusal}
+use Rattle.words.specs.Refusals.{Refusal}
 use Rattle.models.specs.Meaning.{meaning}
 use Rattle.models.specs.Model.{constraints, builtin}
 use Rattle.rules.specs.Check.{check_fault}

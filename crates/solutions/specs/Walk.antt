@@ -19,7 +19,7 @@ count_cap = Limit.listed_lists + 1
 abbrev pub bounds_to : List Bounds → ℕ → List Bounds
 bounds_to Ds n = list_of (bounds_in Ds) n
 
--- the bounds are near 0
+-- the bounds are near 0: what the type `Domain` says of each, of the list, as the definition's bounds have no such type
 abbrev pub AllNear : List Bounds → Type 0
 AllNear Ds = (x : ℕ) → Near (bounds_in Ds x).lower × Near (bounds_in Ds x).upper
 

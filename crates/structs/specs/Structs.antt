@@ -32,23 +32,23 @@ counts_of (out_of_bounds i) = no_counts 0 0
 counts_of (is_false i) = no_counts 0 0
 
 -- Of the calls that write: a fault, its place, and what the call counts: words, bytes or solutions.
-unfoldable pub count_of : {A : Type 0} → (ℕ → ℕ → ℕ → A) → Answer → A
-count_of made (refused n p) = made n p 0
-count_of made (written n) = made 0 0 n
-count_of made (counts v c a r w) = made 0 0 0
-count_of made holds = made 0 0 0
-count_of made (out_of_bounds i) = made 0 0 0
-count_of made (is_false i) = made 0 0 0
+unfoldable pub counted_answer : {A : Type 0} → (ℕ → ℕ → ℕ → A) → Answer → A
+counted_answer made (refused n p) = made n p 0
+counted_answer made (written n) = made 0 0 n
+counted_answer made (counts v c a r w) = made 0 0 0
+counted_answer made holds = made 0 0 0
+counted_answer made (out_of_bounds i) = made 0 0 0
+counted_answer made (is_false i) = made 0 0 0
 
 -- Of translate, text and bits; of sheet; of solutions.
-unfoldable pub written_of : Answer → WrittenWords
-written_of = count_of (λ n p k. record { fault = n; place = p; words = k })
+unfoldable pub written_words_of : Answer → WrittenWords
+written_words_of = counted_answer (λ n p k. record { fault = n; place = p; words = k })
 
 unfoldable pub printed_of : Answer → PrintedBytes
-printed_of = count_of (λ n p k. record { fault = n; place = p; bytes = k })
+printed_of = counted_answer (λ n p k. record { fault = n; place = p; bytes = k })
 
 unfoldable pub listed_of : Answer → Listed
-listed_of = count_of (λ n p k. record { fault = n; place = p; solutions = k })
+listed_of = counted_answer (λ n p k. record { fault = n; place = p; solutions = k })
 
 -- Of reason, by the reason: 0 refused, 1 none, 2 out of bounds, 3 the builtin is false, 4 it is true and auxiliaries in the row are wrong.
 unfoldable pub explanation_of : Reason → Explanation

@@ -1,10 +1,11 @@
-// The structs that the calls hand a host written in C, each made from what a call answers.
+// The structs that the calls hand a host written in C, each made from what a call answers. Their fields are those of the header for C, which takes no
+// enum: numbers say what is answered, and which fault, 0 for none.
+// Each has a conversion of its own: the names of the fields are the header's, and a verdict and a filling have other cases.
 #![tactic(auto)]
 
 ghost use Rattle.std.specs.Prelude.{◌≡◌};
 ghost use Rattle.words.specs.Answer.{refusal_number};
 ghost use Rattle.checking.specs.Checked.{checked};
-ghost use Rattle.integers.specs.Choice.{◌if◌else◌};
 
 use filling::Filling;
 use reasoning::answer::Reason;
@@ -13,7 +14,7 @@ use words::fault::Refusal;
 
 // What a judge or fill answers a host, by what it said: 0 refused, with the fault and its place; 1 holds, in fill with how many values it wrote; 2 the variable out of bounds; 3 the false constraint or row.
 #[repr(C)]
-#[derive(Drop)]
+#[derive(Clone, Copy, Debug, PartialEq, Eq)]
 pub struct Judgement {
     pub said: u32,
     pub fault: u32,
@@ -22,7 +23,7 @@ pub struct Judgement {
 
 // What check answers a host: the counts, or a fault and its place.
 #[repr(C)]
-#[derive(Drop)]
+#[derive(Clone, Copy, Debug, PartialEq, Eq)]
 pub struct Counts {
     pub fault: u32,
     pub place: usize,
@@ -35,7 +36,7 @@ pub struct Counts {
 
 // What translate, text or bits answers a host: how many words it wrote, or a fault and its place.
 #[repr(C)]
-#[derive(Drop)]
+#[derive(Clone, Copy, Debug, PartialEq, Eq)]
 pub struct WrittenWords {
     pub fault: u32,
     pub place: usize,
@@ -44,7 +45,7 @@ pub struct WrittenWords {
 
 // What sheet answers a host: how many bytes it wrote, or a fault and its place.
 #[repr(C)]
-#[derive(Drop)]
+#[derive(Clone, Copy, Debug, PartialEq, Eq)]
 pub struct PrintedBytes {
     pub fault: u32,
     pub place: usize,
@@ -53,7 +54,7 @@ pub struct PrintedBytes {
 
 // What listing the solutions answers a host: how many there are, or a fault and its place.
 #[repr(C)]
-#[derive(Drop)]
+#[derive(Clone, Copy, Debug, PartialEq, Eq)]
 pub struct Listed {
     pub fault: u32,
     pub place: usize,
@@ -62,7 +63,7 @@ pub struct Listed {
 
 // What reason answers a host, by the reason: 0 refused, with the fault and its place; 1 no row fails; 2 the variable out of bounds, in `place`; 3 the row fails and the constraint's builtin is false of the source values; 4 it is true, and auxiliaries in the row are wrong.
 #[repr(C)]
-#[derive(Drop)]
+#[derive(Clone, Copy, Debug, PartialEq, Eq)]
 pub struct Explanation {
     pub reason: u32,
     pub fault: u32,
@@ -141,13 +142,6 @@ impl From<Result<Filling, Refusal>> for Judgement {
     }
 }
 
-// The reason of a failing row, by whether its builtin is true.
-fn reason_of(holds: bool) -> u32
-    ensures { result ≡ (4 if holds else 3) }
-{
-    if holds { 4 } else { 3 }
-}
-
 // Reason's answer for a host.
 impl From<Result<Reason, Refusal>> for Explanation {
     ghost use Rattle.std.specs.Prelude.{◌≡◌};
@@ -187,7 +181,7 @@ impl From<Result<Reason, Refusal>> for Explanation {
                     holds,
                 },
             ) => Explanation {
-                reason: reason_of(holds),
+                reason: if holds { 4 } else { 3 },
                 fault: 0,
                 place: 0,
                 row,
@@ -230,7 +224,7 @@ impl From<Result<checking::Counts, Refusal>> for Counts {
     }
 }
 
-// The number of check's refusal, 0 if it accepts.
+// The number of check's refusal, 0 if it accepts; no Option, since a call for C answers this number.
 #[tactic(auto, unfolding(words::specs::Answer::refusal_number))]
 pub fn refusal_number(answer: Result<checking::Counts, Refusal>) -> u32
     ensures { result ≡ refusal_number (checked answer) }
@@ -244,12 +238,12 @@ pub fn refusal_number(answer: Result<checking::Counts, Refusal>) -> u32
 // The answer of translate, text and bits for a host.
 impl From<Result<usize, Refusal>> for WrittenWords {
     ghost use Rattle.std.specs.Prelude.{◌≡◌};
-    ghost use Rattle.words.specs.Faults.{written_of as answered};
-    ghost use Rattle.structs.specs.Structs.{written_of};
+    ghost use Rattle.words.specs.Faults.{written_of};
+    ghost use Rattle.structs.specs.Structs.{written_words_of};
 
-    ghost from_gives = { λ answer written. written ≡ written_of (answered answer) };
+    ghost from_gives = { λ answer written. written ≡ written_words_of (written_of answer) };
 
-    #[tactic(auto, unfolding(crate::specs::Structs::count_of, crate::specs::Structs::written_of))]
+    #[tactic(auto, unfolding(crate::specs::Structs::counted_answer, crate::specs::Structs::written_words_of))]
     fn from(answer: Result<usize, Refusal>) -> WrittenWords {
         match answer {
             Ok(n) => WrittenWords {
@@ -274,7 +268,7 @@ impl From<Result<usize, Refusal>> for PrintedBytes {
 
     ghost from_gives = { λ answer printed. printed ≡ printed_of (written_of answer) };
 
-    #[tactic(auto, unfolding(crate::specs::Structs::count_of, crate::specs::Structs::printed_of))]
+    #[tactic(auto, unfolding(crate::specs::Structs::counted_answer, crate::specs::Structs::printed_of))]
     fn from(answer: Result<usize, Refusal>) -> PrintedBytes {
         match answer {
             Ok(n) => PrintedBytes {
@@ -299,7 +293,7 @@ impl From<Result<usize, Refusal>> for Listed {
 
     ghost from_gives = { λ answer listed. listed ≡ listed_of (written_of answer) };
 
-    #[tactic(auto, unfolding(crate::specs::Structs::count_of, crate::specs::Structs::listed_of))]
+    #[tactic(auto, unfolding(crate::specs::Structs::counted_answer, crate::specs::Structs::listed_of))]
     fn from(answer: Result<usize, Refusal>) -> Listed {
         match answer {
             Ok(n) => Listed {

@@ -7,7 +7,8 @@ use std::fmt;
 use words::answer::Verdict;
 use words::fault::Refusal;
 
-// An answer; of a call that wrote to a list, with what it wrote.
+// An answer; of a call that wrote to a list, with what it wrote. A refusal is a case and no Err: `Display`, which prints an answer, is of a type of this
+// crate, which a Result is not.
 #[derive(Clone, Copy)]
 pub enum Answer<'a> {
     Refused(Refusal),

@@ -28,7 +28,7 @@ mod call;
 // How many cases are read at most.
 const CASES: usize = 1000000;
 
-// How long the lists are that are read to or lent: of model words, of row words, of values, of bytes.
+// How long the lists are that are read to or lent: of model words, of row words, of values, of bytes. Fixed memory: there is no heap.
 const MODEL_WORDS: usize = 12288;
 
 const ROW_WORDS: usize = 262200;
@@ -95,6 +95,7 @@ fn answer_pair<W: Write>(
     let Some((&first, values)) = values.split_first() else {
         return Ok(());
     };
+    // a number, as the calls for C take it
     let candidate = if first == 1 { 1 } else { 2 };
     match call {
         PairCall::Check => print_answer(to, Answer::from(pair_check(words, candidate))),
@@ -126,7 +127,8 @@ fn with_model<R: Read, F: FnOnce(&[u32], &[i32]) -> io::Result<()>>(
     answer(front(&words, head.words), front(&values, head.values))
 }
 
-// Reads the words of a case on a row system, for a judge the values too, and answers it.
+// Reads the words of a case on a row system, for a judge the values too, and answers it. Input, output and head stay parameters, here and below: a
+// struct of them would lend both handles again at each call.
 fn answer_rows<R: Read, W: Write>(
     input: &mut R,
     to: &mut W,

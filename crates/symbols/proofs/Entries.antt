@@ -1,5 +1,5 @@
 -- What the symbol table says stays right when a name is declared. For `number_in`, `variable` and `declare`.
-use Rattle.std.proofs.Common.{◌≡◌, refl, sym, ap, ◌∙◌, ◌⊎◌, inl, inr, Bool, true, false, List, [], ◌∷◌, ℕ, ◌+◌, ◌-◌, ◌<◌, ◌≤◌, zero-add, arith, eqb, ltb, get_or-set_same, get_or-set_other, length, get_or, set, eqb-true, eq-eqb, ne_eqb, ltb-true, ltb-false}
+use Rattle.std.proofs.Common.{◌≡◌, refl, sym, ap, ◌∙◌, ◌⊎◌, inl, inr, Bool, true, false, List, [], ◌∷◌, append-nil, ℕ, ◌+◌, ◌-◌, ◌<◌, ◌≤◌, zero-add, arith, eqb, ltb, get_or-set_same, get_or-set_other, length, get_or, set, eqb-true, eq-eqb, ne_eqb, ltb-true, ltb-false}
 use Rattle.std.proofs.lemmas.Slice.Eq.{bytes_eq-Decides}
 use lib.Seq.{set_out}
 use borrow.Author.Tests.{eqb-false}
@@ -27,6 +27,15 @@ set_either l i e s = go (eqb s i) refl (ltb i (length l)) refl
     go true p false q = inl (rw (set_out l i e (ltb-false i (length l) q)))
     go false p b q = inl (get_or-set_other l i s e 0 (eqb-false s i p))
 
+-- ---- a table at one of two places with the same names before them is one at the other
+
+pub same_index : {bs : List ℕ} {p q : ℕ} {filter slots : List ℕ} → declared_before bs q ≡ declared_before bs p → Indexed bs p filter slots → Indexed bs q filter slots
+same_index {bs} {p} {q} {filter} {slots} e x = record {
+  size = x.size;
+  marks = λ y h. x.marks y (λ z. h (ap (look_up y 0) e ∙ z));
+  right = record { right = λ s h. let r = x.right.right s h in record { inside = r.inside; number = rw e r.number } };
+}
+
 -- ---- one name more
 
 module _ {bs : List ℕ} {place stop : ℕ} {colon : Bool} (d : AddsName bs place stop colon) where
@@ -40,6 +49,10 @@ module _ {bs : List ℕ} {place stop : ℕ} {colon : Bool} (d : AddsName bs plac
   slots_kept s = record { right = λ i n. right_kept n (s.right i n) }
 
 module _ {bs : List ℕ} {place stop : ℕ} where
+  -- no name is declared
+  pub none_new : {filter slots : List ℕ} → AddsName bs place stop false → Indexed bs place filter slots → Indexed bs stop filter slots
+  none_new d = same_index (d.names ∙ append-nil (declared_before bs place))
+
   -- one is
   module _ (d : AddsName bs place stop true) where
     later : (x : List ℕ) → look_up x 0 (declared_before bs place) ≡ 0 → look_up x 0 (declared_before bs stop) ≡ (length (declared_before bs place) + 1 if same x (bytes_between bs place stop) else 0)

@@ -10,6 +10,7 @@ use Rattle.tokens.specs.declared.Span.{Span}
 use Rattle.tokens.specs.Sorts.{sort_number}
 use Rattle.names.specs.Name.{look_up, declared_from}
 use Rattle.symbols.specs.Hash.{filter_words}
+use Rattle.symbols.proofs.Entries.{same_index}
 use Rattle.symbols.specs.Symbol.{declared_before, number_in, AddsName, Indexed}
 
 -- no token from a place on stands before it
@@ -80,14 +81,6 @@ module _ {bs : List ℕ} {i k : ℕ} {colon : Bool} (r : Reached bs i k colon) {
     few = fewer colon;
     on = λ p h. all_past p (omega (arith, h, m.longer)) ∙ ap (λ (l : List (List ℕ)). l ++ declared_from (eqb (sort_number t.sort) 58) p (unread bs t.stop)) (sym declares.names);
   }
-
--- a symbol table at one of two places with the same names before them is one at the other
-same_index : {bs : List ℕ} {p q : ℕ} {filter slots : List ℕ} → declared_before bs q ≡ declared_before bs p → Indexed bs p filter slots → Indexed bs q filter slots
-same_index {bs} {p} {q} {filter} {slots} e x = record {
-  size = x.size;
-  marks = λ y h. x.marks y (λ z. h (ap (look_up y 0) e ∙ z));
-  right = record { right = λ s h. let r = x.right.right s h in record { inside = r.inside; number = rw e r.number } };
-}
 
 -- The names declared up to a place, and the table that has them.
 pub record Tabled (bs : List ℕ) (i k : ℕ) (colon : Bool) (filter slots : List ℕ) : Type 0 where

@@ -1,4 +1,5 @@
 // The symbol table of a FlatZinc text: a Bloom filter of the declared names, and slots that have the place and the number of most of them.
+// The text, the place and a name stay parameters, and what the table says of a text a clause: the table outlives the place, which moves on at each token.
 #![tactic(auto)]
 
 ghost use Rattle.std.specs.Prelude.{◌≡◌, ◌⊎◌, ◌+◌, ◌-◌, ◌<◌, ℕ, get_or, IfSome};
@@ -24,7 +25,9 @@ const HASHES: u64 = 4294967296;
 
 const MULTIPLIER: u64 = 2654435769;
 
-// a slot has a number, a place below PLACES and a length below LENGTHS
+// a slot has a number below NUMBERS, a place below PLACES and a length below LENGTHS
+const NUMBERS: u64 = 67108863;
+
 const PLACES: u64 = 4294967296;
 
 const LENGTHS: u64 = 64;
@@ -134,13 +137,15 @@ fn number_of(text: &[u8], slots: &[u64; SLOTS], h: u32, place: usize, name: &[u8
     None
 }
 
-// The word of a slot for a variable and its name; that of an empty slot, 0, if a number is too large for it.
+// The word of a slot for a variable and its name; that of an empty slot, 0, if a number is too large for it. No Option: the slots are words, in which
+// 0 is none.
 #[tactic(auto, unfolding(crate::specs::Symbol::number_in, crate::specs::Symbol::place_in, crate::specs::Symbol::length_in))]
 fn slot_word(variable: usize, place: usize, bytes: usize) -> u64
     ensures { (number_in result ≡ 0 → ⊥) → (number_in result ≡ variable + 1) × (place_in result ≡ place) × (length_in result ≡ bytes) }
 {
-    if variable < 67108863 && place < 4294967296 && bytes < 64 {
-        return ((variable as u64 + 1) * PLACES + place as u64) * LENGTHS + bytes as u64;
+    let (variable, place, bytes) = (variable as u64, place as u64, bytes as u64);
+    if variable < NUMBERS && place < PLACES && bytes < LENGTHS {
+        return ((variable + 1) * PLACES + place) * LENGTHS + bytes;
     }
     0
 }
@@ -173,7 +178,8 @@ impl Symbols {
         number_of(text, &self.slots, h, place, name).or_else(|| variable_of(text, place, name))
     }
 
-    // Enters the name that a token is as variable k, if it follows a colon, and answers the next number.
+    // Enters the name that a token is as variable k, if it follows a colon, and answers the next number. `colon` stays a parameter: that the
+    // table is right after the token is promised of every token, and the loop over tokens has no case for it.
     pub fn declare(&mut self, text: &[u8], k: usize, colon: bool, token: Span) -> usize
         requires { Enterable text.now token.place token.stop k colon self.old.filter self.old.slots }
         ensures next { result ≡ (k + 1 if colon else k) }

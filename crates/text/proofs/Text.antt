@@ -5,7 +5,7 @@ use Rattle.words.specs.Fault as Fault
 use Rattle.words.specs.Limit as Limit
 use Rattle.words.specs.Refusal.{◌at_place◌, accepted, room_fault}
 use Rattle.tokens.specs.Token.{tokens}
-use Rattle.texts.specs.Text.{words_fault, refusal_of, tokens_words}
+use Rattle.texts.specs.Text.{words_fault, text_fault, tokens_words}
 use Rattle.lines.proofs.Printed.{later-none}
 
 limit_for : (room n : ℕ) → (words_fault room n).number ≡ 0 → n ≤ room
@@ -17,6 +17,6 @@ limit_for room n e = go (ltb Limit.model_words n) (ltb room n) refl e
     go false true h e = absurd (omega (arith, e))
     go false false h e = omega (arith, ltb-false)
 
-pub fits : (text : List ℕ) (room : ℕ) → (refusal_of text room).number ≡ 0 → length (tokens_words (tokens text)) ≤ room
-unfolding refusal_of
+pub fits : (text : List ℕ) (room : ℕ) → (text_fault text room).number ≡ 0 → length (tokens_words (tokens text)) ≤ room
+unfolding text_fault
 fits text room e = limit_for room (length (tokens_words (tokens text))) (later-none _ _ e)

@@ -3,7 +3,7 @@ use Rattle.std.specs.Prelude.{List, ℕ, length}
 use Rattle.words.specs.Limit as Limit
 use Rattle.words.specs.Refusal.{◌else_refuse◌, room_fault}
 use Rattle.tokens.specs.Token.{tokens}
-use Rattle.texts.specs.Text.{refusal_of, tokens_words}
+use Rattle.texts.specs.Text.{text_fault, tokens_words}
 use Rattle.lines.specs.Lines.{word_lines, ◌else_print◌}
 
 -- the bytes of a text that the program reads
@@ -14,4 +14,4 @@ text_bytes = 524288
 -- A model that is not refused has room.
 unfoldable pub printed_text : List ℕ → List ℕ
 printed_text text =
-    room_fault text_bytes (length text) else_refuse refusal_of text Limit.model_words else_print word_lines (tokens_words (tokens text))
+    room_fault text_bytes (length text) else_refuse text_fault text Limit.model_words else_print word_lines (tokens_words (tokens text))

@@ -13,7 +13,7 @@ use std::io::{Read, Write};
 use texts::read_text;
 use words::limit;
 
-// The bytes above which it says 16, and one more.
+// The bytes above which it says 16, and one more. Lists of fixed memory: there is no heap.
 const MOST: usize = 524288;
 
 const BYTES: usize = 524289;

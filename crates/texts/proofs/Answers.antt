@@ -4,47 +4,47 @@ use Rattle.words.specs.Overlay.{overlay}
 use Rattle.words.specs.Answer.{refused, written, ◌else_answer◌}
 use Rattle.words.specs.Faults.{fault_number, written_of}
 use Rattle.words.specs.Refusal.{◌at_place◌, ◌else_refuse◌, accepted, room_fault}
-use Rattle.words.specs.declared.Refusal.{Refusal}
+use Rattle.words.specs.Refusals.{Refusal}
 use Rattle.words.specs.declared.fault.Fault.{Fault}
 use Rattle.words.specs.declared.fault.Refusal as error
 use Rattle.words.proofs.Faulty.{fault-number, fault-refuses, fault-answers}
 use Rattle.tokens.specs.Token.{tokens}
-use Rattle.texts.specs.Text.{tokens_words, words_fault, refusal_of, read_text, text_read}
+use Rattle.texts.specs.Text.{tokens_words, words_fault, text_fault, read_text, text_read}
 use Rattle.texts.specs.TextReading.{ReadsTokens}
 
 -- of a text that is refused, of one that is not
 module _ (bs out : List ℕ) where
-  pub says-refused : (e : Fault) (p : ℕ) → refusal_of bs (length out) ≡ fault_number e at_place p → (refused (fault_number e) p ≡ read_text bs (length out)) × (out ≡ text_read bs out)
+  pub says-refused : (e : Fault) (p : ℕ) → text_fault bs (length out) ≡ fault_number e at_place p → (refused (fault_number e) p ≡ read_text bs (length out)) × (out ≡ text_read bs out)
   unfolding read_text text_read ◌else_answer◌
   says-refused e p q = rw (q, ne_eqb (fault_number e) 0 (fault-number e)) (sym (fault-answers e p _), refl)
 
-  pub says-written : refusal_of bs (length out) ≡ accepted → (written (length (tokens_words (tokens bs))) ≡ read_text bs (length out)) × (overlay out 0 (tokens_words (tokens bs)) ≡ text_read bs out)
+  pub says-written : text_fault bs (length out) ≡ accepted → (written (length (tokens_words (tokens bs))) ≡ read_text bs (length out)) × (overlay out 0 (tokens_words (tokens bs)) ≡ text_read bs out)
   unfolding read_text text_read ◌else_answer◌
   says-written e = rw e (refl, refl)
 
 module _ {bs before o : List ℕ} (room : ℕ) where
-  pub at-fault : {e : error.Refusal} → ReadsTokens bs before (Err e) o → refusal_of bs room ≡ fault_number e.fault at_place e.place
-  unfolding refusal_of ◌else_refuse◌
+  pub at-fault : {e : error.Refusal} → ReadsTokens bs before (Err e) o → text_fault bs room ≡ fault_number e.fault at_place e.place
+  unfolding text_fault ◌else_refuse◌
   at-fault {e} d = rw (← d.fault) (fault-refuses e.fault e.place _)
 
   module _ {n : ℕ} (d : ReadsTokens bs before (Ok n) o) where
-    limits : refusal_of bs room ≡ words_fault room n
-    unfolding refusal_of ◌else_refuse◌
+    limits : text_fault bs room ≡ words_fault room n
+    unfolding text_fault ◌else_refuse◌
     limits = rw (← d.fault, ← d.words.0)
 
-    pub too_many : 8192 < n → refusal_of bs room ≡ 1 at_place 0
+    pub too_many : 8192 < n → text_fault bs room ≡ 1 at_place 0
     unfolding words_fault room_fault
     too_many h = limits ∙ rw (lt-ltb 8192 n h)
 
-    pub too_short : n ≤ 8192 → room < n → refusal_of bs room ≡ 16 at_place 0
+    pub too_short : n ≤ 8192 → room < n → text_fault bs room ≡ 16 at_place 0
     unfolding words_fault room_fault
     too_short h g = limits ∙ rw (le-ltb 8192 n h, lt-ltb room n g)
 
-    pub fits : n ≤ 8192 → n ≤ room → refusal_of bs room ≡ accepted
+    pub fits : n ≤ 8192 → n ≤ room → text_fault bs room ≡ accepted
     unfolding words_fault room_fault
     fits h g = limits ∙ rw (le-ltb 8192 n h, le-ltb room n g)
 
 -- a text that is read without a fault is read again without one
-pub read_twice : {bs before out o new : List ℕ} {n : ℕ} {r : Result ℕ error.Refusal} → ReadsTokens bs out r new → ReadsTokens bs before (Ok n) o → refusal_of bs (length out) ≡ accepted → (written_of r ≡ read_text bs (length out)) × (new ≡ text_read bs out)
+pub read_twice : {bs before out o new : List ℕ} {n : ℕ} {r : Result ℕ error.Refusal} → ReadsTokens bs out r new → ReadsTokens bs before (Ok n) o → text_fault bs (length out) ≡ accepted → (written_of r ≡ read_text bs (length out)) × (new ≡ text_read bs out)
 read_twice {bs = bs} {out = out} {r = Ok k} d e q = let says = says-written bs out q in (ap written d.words.0 ∙ says.0, d.words.1 ∙ says.1)
 read_twice {bs = bs} {out = out} {r = Err x} d e q = absurd (fault-number x.fault (ap (λ (z : Refusal). z.number) (d.fault ∙ sym e.fault)))

@@ -2,18 +2,20 @@
 use Rattle.std.proofs.Common.{◌≡◌, refl, sym, ap, ◌∙◌, List, [], ◌∷◌, ℕ, suc, ◌+◌, ◌<◌, ◌≤◌, arith, length, set, ne_eqb, Option, None, Some, Ok, Err}
 use Rattle.std.specs.Prelude.{IfSome}
 use Rattle.words.specs.Overlay.{overlay}
+use Rattle.words.proofs.Overlay.{length-overlay}
 use Rattle.words.specs.Faults.{fault_number}
 use Rattle.words.specs.Refusal.{◌at_place◌, fault_or, accepted}
 use Rattle.words.specs.declared.fault.Refusal as error
 use Rattle.words.proofs.Faulty.{fault-refuses}
-use Rattle.tokens.specs.Token.{Token, tokens}
+use Rattle.tokens.specs.Token.{Token, tokens, end_of}
 use Rattle.tokens.specs.Unread.{unread, spanned, Stands, Met}
 use Rattle.tokens.specs.declared.Span.{Span}
 use Rattle.grammar.specs.Grammar.{step, TokenStep, Due, Item}
-use Rattle.grammar.specs.Machine.{bits, due_of, Passes}
+use Rattle.grammar.specs.Machine.{word_or_none, due_of, GivesStep}
 use Rattle.grammar.specs.declared.due.Step.{Step}
-use Rattle.texts.specs.TextReading.{Appends, ReadsTokens}
-use Rattle.texts.specs.Text.{end_of, fault_from, words_from, tokens_fault, tokens_words}
+use Rattle.grammar.proofs.End.{last}
+use Rattle.texts.specs.TextReading.{AddsWord, ReadsTokens}
+use Rattle.texts.specs.Text.{fault_from, words_from, tokens_fault, tokens_words}
 
 -- What is left of a text is read from place i on, where `due` is due and n words are laid over the list.
 pub record Left (bs before out : List ℕ) (i n : ℕ) (due : Due) : Type 0 where
@@ -66,7 +68,7 @@ module _ {bs before out : List ℕ} {i n : ℕ} {due : Due} (l : Left bs before 
     }
 
     -- it has none, and writes a word or none
-    module _ (s : Step) (f : Passes met s) where
+    module _ (s : Step) (f : GivesStep met s) where
       abbrev left : List ℕ
       left = words_from (tokens bs) (due_of s.next) rest
 
@@ -74,15 +76,15 @@ module _ {bs before out : List ℕ} {i n : ℕ} {due : Due} (l : Left bs before 
       unfolding fault_from
       faults-on = (let r : fault_from (tokens bs) (length bs) due (unread bs i) ≡ fault_from (tokens bs) (length bs) (due_of s.next) rest = rw (m.found, f.0) in sym r) ∙ l.faults
 
-      no_word_on : bits s.word ≡ 0 → words_from (tokens bs) due (unread bs i) ≡ left
+      no_word_on : word_or_none s.word ≡ 0 → words_from (tokens bs) due (unread bs i) ≡ left
       unfolding words_from
       no_word_on h = rw (m.found, f.0, h)
 
-      word_on : (bits s.word ≡ 0 → ⊥) → words_from (tokens bs) due (unread bs i) ≡ bits s.word ∷ left
+      word_on : (word_or_none s.word ≡ 0 → ⊥) → words_from (tokens bs) due (unread bs i) ≡ word_or_none s.word ∷ left
       unfolding words_from
-      word_on h = rw (m.found, f.0, ne_eqb (bits s.word) 0 h)
+      word_on h = rw (m.found, f.0, ne_eqb (word_or_none s.word) 0 h)
 
-      no_word : bits s.word ≡ 0 → Left bs before out t.stop n (due_of s.next)
+      no_word : word_or_none s.word ≡ 0 → Left bs before out t.stop n (due_of s.next)
       no_word h = record {
         inside = m.inside;
         fewer = omega (arith, l.fewer, m.onward, m.longer);
@@ -91,7 +93,7 @@ module _ {bs before out : List ℕ} {i n : ℕ} {due : Due} (l : Left bs before 
         words = rw (no_word_on h) at l.words;
       }
 
-      a_word : (bits s.word ≡ 0 → ⊥) → Left bs before (set out n (bits s.word)) t.stop (n + 1) (due_of s.next)
+      a_word : (word_or_none s.word ≡ 0 → ⊥) → Left bs before (set out n (word_or_none s.word)) t.stop (n + 1) (due_of s.next)
       unfolding overlay
       a_word h = record {
         inside = m.inside;
@@ -101,13 +103,21 @@ module _ {bs before out : List ℕ} {i n : ℕ} {due : Due} (l : Left bs before 
         words = let e : n + 1 ≡ suc n = omega arith in rw e (rw (word_on h) at l.words);
       }
 
-      pub again : {new : List ℕ} {next : ℕ} → Appends s.word out n new next → Left bs before new t.stop next (due_of s.next)
+      pub again : {new : List ℕ} {next : ℕ} → AddsWord s.word out n new next → Left bs before new t.stop next (due_of s.next)
       again a = go s.word refl f.1 a
         where
-          go : (w : Option ℕ) {new : List ℕ} {next : ℕ} → s.word ≡ w → IfSome w (λ x. 0 < x) → Appends w out n new next → Left bs before new t.stop next (due_of s.next)
-          go None e h a = rw (a.0, a.1) (no_word (ap bits e))
+          go : (w : Option ℕ) {new : List ℕ} {next : ℕ} → s.word ≡ w → IfSome w (λ x. 0 < x) → AddsWord w out n new next → Left bs before new t.stop next (due_of s.next)
+          go None e h a = rw (a.0, a.1) (no_word (ap word_or_none e))
           go (Some w) e h a = rw (a.0, a.1) (rw e at (a_word (λ z. let q : w ≡ 0 = rw e at z in omega (arith, h))))
+
+  -- the list keeps its length
+  pub same-room : length out ≡ length before
+  same-room = sym (length-overlay out n (words_from (tokens bs) due (unread bs i))) ∙ ap length l.words ∙ length-overlay before 0 (tokens_words (tokens bs))
 
 -- a token that is met stands in the text
 pub stands : {bs : List ℕ} {i : ℕ} {t : Span} → Met bs i t → Stands bs t
 stands m = record { onward = omega (arith, m.longer); inside = m.inside; some = λ e. m.longer }
+
+-- and so does the end of the text, met as a token
+pub last-stands : (bs : List ℕ) → Stands bs (last bs)
+last-stands bs = record { onward = omega arith; inside = omega arith; some = λ e. absurd (omega (arith, e)) }

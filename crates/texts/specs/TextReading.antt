@@ -7,8 +7,8 @@ use Rattle.tokens.specs.Token.{tokens}
 use Rattle.texts.specs.Text.{tokens_fault, tokens_words}
 
 -- a list of n words, and with a token's word after them
-abbrev pub Appends : Option ℕ → List ℕ → ℕ → List ℕ → ℕ → Type 0
-Appends word old n new next = MatchOption word ((next ≡ n) × (new ≡ old)) (λ w. (next ≡ n + 1) × (new ≡ set old n w))
+abbrev pub AddsWord : Option ℕ → List ℕ → ℕ → List ℕ → ℕ → Type 0
+AddsWord word old n new next = MatchOption word ((next ≡ n) × (new ≡ old)) (λ w. (next ≡ n + 1) × (new ≡ set old n w))
 
 pub record ReadsTokens (bs before : List ℕ) (r : Result ℕ error.Refusal) (out : List ℕ) : Type 0 where
   pub fault : refusal_of r ≡ tokens_fault (tokens bs) (length bs)

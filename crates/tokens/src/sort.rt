@@ -21,12 +21,12 @@ pub enum Sort {
     CloseList = 93,
     OpenSet = 123,
     CloseSet = 125,
-    // the end of the text, past the last token
+    // the end of the text, past the last token, where `next_token` answers None: the definition's step takes the end as a token, and so does the grammar's
     End = 257,
 }
 
 impl Sort {
-    // Its number.
+    // Its number. No step asks it: it ties each case to the byte that the definitions have.
     pub fn number(self) -> u32
         ensures { result ≡ sort_number self }
     {

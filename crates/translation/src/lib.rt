@@ -7,31 +7,27 @@ ghost use Rattle.rules.specs.Translate.{translate as translate_answer, translate
 ghost use Rattle.translation.specs.Shares.{Shares};
 
 use checking::check_model;
-use integers::Bounds;
-use words::domain::Domain;
+use checking::read::ReadModel;
 use words::fault::{Fault, Refusal};
 use writing::write_system;
 
 mod writing;
 
 // Writes the words of the row system to the front of the output; a refusal changes nothing.
+// A fault of the whole input or output has place 0, as the documents say: the number is the answer, and no Option of a place.
 pub fn translate(ws: &[u32], out: &mut [u32]) -> Result<usize, Refusal>
     ensures answer { written_of result ≡ translate_answer ws.now (length out.old) }
     ensures output { out.new ≡ translated ws.now out.old }
     ensures shared { Shares ws.now (written_of result) out.new }
 {
-    let mut heads = [0usize; 256];
-    let mut domains = [Domain::new(0, 0); 256];
-    let mut uses = [0usize; 256];
-    let mut sums = [Bounds { lower: 0, upper: 0 }; 256];
-    let known = check_model(ws, &mut heads, &mut domains, &mut uses, &mut sums)?;
-    let words = known.counts.words;
-    if out.len() < words {
+    let mut read = ReadModel::of(ws);
+    let counts = check_model(&mut read)?;
+    if out.len() < counts.words {
         return Err(Refusal {
             fault: Fault::OutputTooShort,
             place: 0,
         });
     }
-    write_system(ws, &heads, known.model, &domains, &uses, &sums, out);
-    Ok(words)
+    write_system(&read, out);
+    Ok(counts.words)
 }

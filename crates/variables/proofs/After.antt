@@ -11,7 +11,7 @@ use Rattle.words.specs.Judge.{first_out_of_bounds}
 use Rattle.words.specs.Refusal.{◌at_place◌, accepted, fault_or, ◌else_refuse◌, count_fault}
 use Rattle.words.specs.Small.{Small}
 use Rattle.words.specs.Variables.{variables}
-use Rattle.words.specs.declared.Refusal.{Refusal}
+use Rattle.words.specs.Refusals.{Refusal}
 use Rattle.words.proofs.Answers.{is-holds}
 use Rattle.variables.specs.Judged.{judged_then}
 use Rattle.variables.proofs.Small.{small}

@@ -1,5 +1,7 @@
 -- The walks over the variables: what is left from a place on, and one law for each way a turn ends.
 use Rattle.std.proofs.Common.{◌≡◌, refl, ap, sym, ◌∙◌, Bool, true, false, ◌||◌, List, [], ◌∷◌, ℕ, ◌+◌, ◌<◌, ◌≤◌, arith, eqb, ℤ, length, get_or, drop, drop_of_length-le}
+use Rattle.std.specs.Prelude.{count_by, cond}
+use Rattle.std.proofs.lemmas.List.Recursion.{is_count_by}
 use Rattle.integers.specs.Choice.{◌if◌else◌}
 use Rattle.integers.specs.Bounds.{◌to◌, bit, within}
 use Rattle.integers.specs.Terms.{value}
@@ -49,15 +51,25 @@ module _ (ws : List ℕ) (at : ℕ) where
   at_last h = rw (drop_of_length-le ws h)
 
 -- ---- counting
+
+-- the words that start a variable are as many as the variables
+pub counts : (ws : List ℕ) → count_by starts ws ≡ length (variables ws)
+unfolding variables
+counts ws = sym (is_count_by (λ ws. length (variables ws)) starts refl one ws)
+  where
+    one : (w : ℕ) (ws : List ℕ) → length (variables (w ∷ ws)) ≡ cond (starts w) (1 + length (variables ws)) (length (variables ws))
+    one w ws = by-test (starts w) refl
+      where
+        by-test : (t : Bool) → starts w ≡ t → length (variables (w ∷ ws)) ≡ cond t (1 + length (variables ws)) (length (variables ws))
+        by-test true e = rw (first_one w ws e) (omega arith)
+        by-test false e = ap length (first-none w ws e)
+
 module _ {ws : List ℕ} {n at : ℕ} (k : VariablesBefore ws n at) where
   pub count_none : at < length ws → starts (get_or ws at 0) ≡ false → VariablesBefore ws n (at + 1)
   count_none h e = record { few = omega (arith, k.few); number = rw (at_none ws at h e) at k.number }
 
   pub count-one : at < length ws → starts (get_or ws at 0) ≡ true → VariablesBefore ws (n + 1) (at + 1)
   count-one h e = record { few = omega (arith, k.few); number = omega (arith, rw (at_one ws at h e) at k.number) }
-
-  pub counted : length ws ≤ at → n ≡ length (variables ws)
-  counted h = omega (arith, rw (at_last ws at h) at k.number)
 
   -- where all are counted, none is left
   pub none_left : n ≡ length (variables ws) → variables (drop at ws) ≡ []

@@ -5,7 +5,7 @@ use Rattle.words.specs.Answer.{Answer, ◌else_answer◌}
 use Rattle.words.specs.Judge.{first_out_of_bounds}
 use Rattle.words.specs.Refusal.{◌else_refuse◌, count_fault}
 use Rattle.words.specs.Variables.{variables}
-use Rattle.words.specs.declared.Refusal.{Refusal}
+use Rattle.words.specs.Refusals.{Refusal}
 
 -- the refusal, else fault 15, else the first variable out of bounds, else what comes after
 abbrev pub judged_then : Refusal → List ℕ → List ℤ → Answer → Answer

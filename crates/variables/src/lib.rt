@@ -33,7 +33,7 @@ pub fn starts_variable(w: Word) -> bool
     starts_pair(w) || w.is(Kind::Boolean)
 }
 
-// Whether a value is between two numbers.
+// Whether a value is between two numbers. `words::in_range` is no plainer by this one: its two numbers are constants, and its clause names the range.
 #[tactic(auto, unfolding(integers::specs::Bounds::within))]
 pub fn between(lower: i64, v: i64, upper: i64) -> bool
     ensures { result ≡ within (lower to upper) v }
@@ -56,16 +56,13 @@ fn keeps(w: Word, next: Word, v: i64) -> bool
 pub fn count_variables(ws: &[u32]) -> usize
     ensures { result ≡ length (variables ws.now) }
 {
-    let mut count = 0;
-    for &w in ws {
-        if starts_variable(Word::from(w)) {
-            count += 1;
-        }
-    }
-    count
+    ws.iter()
+        .filter(|w| starts_variable(Word::from(**w)))
+        .count()
 }
 
 // The first variable whose value is out of its bounds, else "holds"; there are as many values as variables.
+// The variables are counted by hand: a filter, zipped with the values and counted, would give the place of the next word by pairs in pairs and be no plainer.
 pub fn first_out_of_bounds(ws: &[u32], values: &[i32]) -> Verdict
     requires { length values.now ≡ length (variables ws.now) }
     ensures { said_of result ≡ first_out_of_bounds (value values.now) 0 (variables ws.now) holds }
@@ -86,7 +83,7 @@ pub fn first_out_of_bounds(ws: &[u32], values: &[i32]) -> Verdict
     Verdict::Holds
 }
 
-// What both judges answer first: the refusal of the words, else of the number of values, else the first variable out of bounds, else "holds".
+// What judge-model answers first: the refusal of the words, else of the number of values, else the first variable out of bounds, else "holds".
 pub fn judge_values(
     read: Result<(), Refusal>,
     ws: &[u32],

@@ -1,7 +1,7 @@
 -- Refusals, one after the other, before an answer: the first one with a fault answers. And the answer "holds".
 use Rattle.std.proofs.Common.{◌≡◌, refl, true, List, ℕ, zero, suc, ℤ, length, eq-eqb, ne_eqb}
 use Rattle.words.specs.Variables.{variables}
-use Rattle.words.specs.declared.Refusal.{Refusal}
+use Rattle.words.specs.Refusals.{Refusal}
 use Rattle.words.specs.Refusal.{◌at_place◌, ◌else_refuse◌, count_fault}
 use Rattle.words.specs.Answer.{Answer, refused, counts, written, holds, out_of_bounds, is_false, ◌else_answer◌, is_holds}
 use Rattle.integers.proofs.Tests.{false-true}

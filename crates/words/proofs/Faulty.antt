@@ -3,7 +3,7 @@ use Rattle.std.proofs.Common.{◌≡◌, ℕ, zero, suc, refl, arith}
 use Rattle.words.specs.Answer.{Answer, refused, refused_or}
 use Rattle.words.specs.Faults.{fault_number}
 use Rattle.words.specs.Refusal.{◌at_place◌, fault_or}
-use Rattle.words.specs.declared.Refusal.{Refusal}
+use Rattle.words.specs.Refusals.{Refusal}
 use Rattle.words.specs.declared.fault.Fault.{Fault}
 use Rattle.words.specs.declared.fault.Fault.TheVariants as f
 

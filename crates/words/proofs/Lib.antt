@@ -12,3 +12,4 @@ pub mod Reading
 pub mod Judge
 pub mod Answers
 pub mod Faulty
+pub mod Steps

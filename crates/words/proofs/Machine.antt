@@ -5,6 +5,7 @@ use lib.Signed.{le_z, mag}
 use mir.Syntax.{unsigned, shr}
 use mir.Val.{vint, op2_val}
 use mir.Facts.{to_z_pos}
+use Rattle.std.specs.Int.{int_rem_euclid}
 use Rattle.words.specs.Word.{kind, complement}
 use Rattle.integers.proofs.Tests.{false-true}
 
@@ -41,3 +42,9 @@ pub complement-below : (z : ℤ) → le_z (pos 0) z ≡ false → complement z �
 unfolding complement
 complement-below (pos n) t = false-true (sym t ∙ leb-zero n)
 complement-below (negsuc n) t = refl
+
+-- the payload of a number is what 2^28 leaves of it, which is not negative
+pub euclid_complement : (z : ℤ) → int_rem_euclid z (pos 268435456) ≡ pos (complement z)
+unfolding complement
+euclid_complement (pos n) = refl
+euclid_complement (negsuc n) = refl

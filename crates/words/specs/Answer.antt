@@ -1,7 +1,7 @@
 -- 01, Five calls, and 02: what the calls answer, but for reason, whose answers have a type of their own.
 -- For each enum of the code a definition of its crate gives the answer of each of its cases.
 use Rattle.std.specs.Prelude.{Bool, true, false, ℕ, zero, suc}
-use Rattle.words.specs.declared.Refusal.{Refusal}
+use Rattle.words.specs.Refusals.{Refusal}
 
 pub data Answer : Type 0 where
   -- a fault of Numbered faults, and its place

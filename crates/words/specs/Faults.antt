@@ -3,7 +3,7 @@ use Rattle.std.specs.Prelude.{ℕ, Result, Ok, Err}
 use Rattle.words.specs.Fault as Fault
 use Rattle.words.specs.Answer.{Answer, refused, written, holds, out_of_bounds, is_false}
 use Rattle.words.specs.Refusal.{◌at_place◌, accepted}
-use Rattle.words.specs.declared.Refusal.{Refusal}
+use Rattle.words.specs.Refusals.{Refusal}
 use Rattle.words.specs.declared.fault.Fault.{Fault}
 use Rattle.words.specs.declared.fault.Fault.TheVariants as f
 use Rattle.words.specs.declared.fault.Refusal as error

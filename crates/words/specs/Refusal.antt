@@ -1,9 +1,9 @@
--- A refusal: the number of a fault and its place; number 0 is no fault. And how a reader finds the first one.
+-- How a refusal is written, and how a reader finds the first one.
 use Rattle.std.specs.Prelude.{List, [], ◌∷◌, ℕ, zero, suc, ◌+◌, eqb, ltb, ℤ, length}
 use Rattle.integers.specs.Choice.{◌if◌else◌}
 use Rattle.words.specs.Variables.{variables}
 use Rattle.words.specs.Fault as Fault
-use Rattle.words.specs.declared.Refusal.{Refusal}
+use Rattle.words.specs.Refusals.{Refusal}
 
 infix 5 ◌at_place◌
 abbrev pub ◌at_place◌ : ℕ → ℕ → Refusal

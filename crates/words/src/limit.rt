@@ -4,8 +4,10 @@
 pub const LOWEST: i64 = -134217727;
 
 pub const HIGHEST: i64 = 134217727;
+// how many payloads there are
+pub const PAYLOADS: usize = 268435456;
 // the payload of the lowest 28-bit number, from which on payloads are negative numbers
-pub const HALF: u32 = 134217728;
+pub const HALF: usize = 134217728;
 // words of a model and of a row system
 pub const MODEL_WORDS: usize = 8192;
 

@@ -12,6 +12,8 @@ pub fn put<T: Copy>(list: &mut [T], at: usize, x: T)
 }
 
 // The element at a place, `none` past the last one.
+// What is read past the end is given, and no Option: the definitions say 0 there (word_at, value, bounds_in), so Word::at, value_at and domain_of would unwrap it
+// at once and be no plainer.
 pub fn at_or<T: Copy>(list: &[T], at: usize, none: T) -> T
     ensures { result ≡ get_or list.now at none }
 {

@@ -1,12 +1,12 @@
 // A word, which clauses see as its number.
 ghost use Rattle.std.specs.Prelude.{◌≡◌, eqb};
-ghost use Rattle.words.specs.Kinds.{kind_number};
+ghost use Rattle.words.specs.Kinds.{kind_number, Decodes};
 ghost use Rattle.words.specs.Limit as Limit;
 ghost use Rattle.words.specs.Word.{kind, payload, signed, too_low, word, number_word, word_at};
 
-use crate::kind::Kind;
+use crate::kind::{Kind, UnknownKind};
+use crate::limit::{HALF, PAYLOADS};
 use crate::list::at_or;
-use crate::{is_lowest, kind_of, number_word, payload_of, signed_of, word_of};
 use std::marker::Model;
 
 // A kind and a payload, in 32 bits.
@@ -37,21 +37,21 @@ impl From<u32> for Word {
 
 impl Word {
     // The word of a kind and a payload.
+    #[tactic(auto, unfolding(crate::specs::Word::word))]
     pub fn new(kind: Kind, payload: usize) -> Word
         ensures { result ≡ word (kind_number kind) payload }
     {
         Word {
-            bits: word_of(kind.number() % 16, payload),
+            bits: (kind.number() as usize * PAYLOADS + payload % PAYLOADS) as u32,
         }
     }
 
-    // The word of a kind and a number.
+    // The word of a kind and a number, whose payload is what 2^28 leaves of it.
+    #[tactic(auto, unfolding(crate::specs::Word::number_word), using(crate::proofs::Machine::euclid_complement))]
     pub fn of_number(kind: Kind, v: i64) -> Word
         ensures { result ≡ number_word (kind_number kind) v }
     {
-        Word {
-            bits: number_word(kind.number() % 16, v),
-        }
+        Word::new(kind, v.rem_euclid(PAYLOADS as i64) as usize)
     }
 
     // The word at a place, 0 past the last one.
@@ -71,31 +71,48 @@ impl Word {
         self.bits
     }
 
+    // Its kind, or the number of its top 4 bits where no kind has it. It states the whole of what `is`, by which callers choose, states of one kind.
+    #[tactic(auto, unfolding(crate::specs::Word::kind))]
+    pub fn kind(self) -> Result<Kind, UnknownKind>
+        ensures { Decodes (kind self) result }
+    {
+        Kind::try_from(self.bits >> 28)
+    }
+
     // Whether it is of a kind.
+    // Chains of this test choose as the definitions do, by one number after the other: a match over `kind` would prove each case from Decodes and be no plainer.
+    #[tactic(auto, unfolding(crate::specs::Word::kind))]
     pub fn is(self, k: Kind) -> bool
         ensures { result ≡ eqb (kind self) (kind_number k) }
     {
-        kind_of(self.bits) == k.number()
+        self.bits >> 28 == k.number()
     }
 
     // Its payload.
+    #[tactic(auto, unfolding(crate::specs::Word::payload))]
     pub fn payload(self) -> usize
         ensures { result ≡ payload self }
     {
-        payload_of(self.bits)
+        self.bits as usize % PAYLOADS
     }
 
     // Its payload as a signed number.
+    #[tactic(auto, unfolding(crate::specs::Word::signed, crate::specs::Word::payload))]
     pub fn signed(self) -> i64
         ensures { result ≡ signed self }
     {
-        signed_of(self.bits)
+        let p = self.payload();
+        if p < HALF {
+            p as i64
+        } else {
+            p as i64 - PAYLOADS as i64
+        }
     }
 
     // Whether its payload is the lowest 28-bit number, which is not in the range.
     pub fn is_lowest(self) -> bool
         ensures { result ≡ too_low Limit.range self }
     {
-        is_lowest(self.bits)
+        self.payload() == HALF
     }
 }

@@ -1,10 +1,6 @@
 -- The invariant is `Counting`: the bits of the rows left are still to be counted.
-use Rattle.std.proofs.Common.{◌-◌, length}
 use Rattle.bitchecks.proofs.Walk.{Counting}
 use Rattle.bitchecks.proofs.count_bits.Given as goal
 
 abbrev pub invariant-loop-at : goal.invariant-loop-at
 invariant-loop-at l = Counting l.ws l.domains l.start l.first l.at
-
-abbrev pub decreases-loop-at : goal.decreases-loop-at
-decreases-loop-at l = length l.ws - l.at

@@ -1,8 +1,9 @@
 -- The invariant: no term passed has the bit.
 use Rattle.std.proofs.Common.{ℕ, ◌<◌}
+use Rattle.bittables.specs.BitTables.{firsts, counts}
 use Rattle.bitrows.specs.Terms.{term_in}
 use Rattle.bitfilling.specs.Idle.{NoBitOf, Idle}
 use Rattle.bitfilling.proofs.holds_terms.Given as goal
 
 abbrev pub invariant-loop-k : goal.invariant-loop-k
-invariant-loop-k l = (j : ℕ) → j < l.k → Idle (NoBitOf l.firsts l.counts l.i) (term_in l.args j)
+invariant-loop-k l = (j : ℕ) → j < l.k → Idle (NoBitOf (firsts l.bits) (counts l.bits) l.i) (term_in l.args j)

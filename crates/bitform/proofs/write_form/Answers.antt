@@ -1,27 +1,27 @@
 -- The constant, the lines, the end.
-use Rattle.std.proofs.Common.{◌≡◌, ◌∙◌, true, arith, to_z-of_z}
-use Rattle.words.specs.LaidAt.{LaidAt}
+use Rattle.std.proofs.Common.{◌≡◌, ap, ◌∙◌, Some, ◌+◌, length, arith, to_z-of_z}
+use Rattle.integers.proofs.Tests.{false-true}
 use Rattle.bitforms.specs.BitForm.{bit_rows_of, bit_count}
+use Rattle.bitforms.specs.FormWords.{form_words}
 use Rattle.bitforms.specs.Matrix.{entry_of}
-use Rattle.bitlines.specs.Line.{entries_words}
-use Rattle.bitform.proofs.Pieces.{entries_of, fits-inside, lines-few, words-length, parts-laid}
-use Rattle.bitform.proofs.write_form.Goals.{After-put_lines-put}
+use Rattle.bitform.proofs.Pieces.{fits-inside, lines-few, words-length, parts-laid}
 use Rattle.bitform.proofs.write_form.Goals as goal
 
-pub put_lines-put-requires : goal.put_lines-put-requires
-put_lines-put-requires c =
-    (record { listed = c.requires.0.listed; fits = rw (c.requires.0.rows_are, c.requires.0.count) (fits-inside c.args.ws.now c.requires.3).0 }, c.requires.1, omega arith)
+pub put_lines-requires : goal.put_lines-requires
+put_lines-requires c = (rw (c.requires.0.rows_are, c.requires.0.count) (fits-inside c.args.system.now.words.now c.requires.3).0, c.requires.1, omega arith)
 
-laid : (c : After-put_lines-put) → LaidAt c.put_constant.new.out 1 (entries_words (entries_of c.args.ws.now)) c.put_lines-put.new.out c.put_lines-put.result.at
-laid c =
-    let y : c.put_lines-put.result.fits ≡ true = c.put_lines-put.ensures.tested ∙ rw (c.requires.0.rows_are, c.requires.0.count) (fits-inside c.args.ws.now c.requires.3).1 in
-    rw (c.requires.0.rows_are, c.requires.0.count) at (c.put_lines-put.ensures.laid y)
+pub returns-in_err-end : goal.returns-in_err-end
+returns-in_err-end c =
+    let put = rw c.in_err-end.was at c.put_lines.ensures in
+    false-true (put.tested ∙ rw (c.requires.0.rows_are, c.requires.0.count) (fits-inside c.args.system.now.words.now c.requires.3).1)
 
 pub overflow_add-result : goal.overflow_add-result
 overflow_add-result c =
-    record { fits = omega (arith, (laid (goal.at.overflow_add-result c).After-put_lines-put).ends, lines-few (entry_of (bit_rows_of c.args.ws.now)) 0 (bit_count c.args.ws.now) (omega (arith, c.requires.0.count, c.requires.0.few)), c.requires.0.count, c.requires.0.few) }
+    let put = rw (c.in_ok-end.was, c.requires.0.rows_are, c.requires.0.count) at c.put_lines.ensures in
+    record { fits = omega (arith, put.laid.ends, lines-few (entry_of (bit_rows_of c.args.system.now.words.now)) 0 (bit_count c.args.system.now.words.now) (omega (arith, c.requires.0.count, c.requires.0.few)), c.requires.0.count, c.requires.0.few) }
 
 pub returns : goal.returns
 returns c =
-    let d = laid (goal.at.returns c).After-put_lines-put in
-    (omega (arith, d.ends, words-length c.args.ws.now), parts-laid c.args.ws.now c.args.out.now _ _ _ _ (c.put_constant.ensures ∙ rw (to_z-of_z c.ranges.c, c.requires.2)) d c.put_end.ensures)
+    let put = rw (c.in_ok-end.was, c.requires.0.rows_are, c.requires.0.count) at c.put_lines.ensures in
+    let e : c.in_ok-end.end + 1 ≡ length (form_words c.args.system.now.words.now) = omega (arith, put.laid.ends, words-length c.args.system.now.words.now) in
+    (ap Some e, parts-laid c.args.system.now.words.now c.args.out.now _ _ _ _ (rw (c.of_number.ensures, to_z-of_z c.ranges.c, c.requires.2) at c.put_word.ensures) put.laid (rw c.new.ensures at c.put_word-2.ensures))

@@ -4,11 +4,11 @@ use Rattle.bitlines.specs.Dense.{add_terms}
 use Rattle.bitlines.specs.Line.{on_terms}
 use Rattle.bitlines.proofs.add_on.Goals as goal
 
-pub returns-then-lesser-i : goal.returns-then-lesser-i
+pub returns-then-min-i : goal.returns-then-min-i
 unfolding on_terms add_terms
-returns-then-lesser-i c =
-    c.add_at.ensures ∙ rw (to_z-of_z c.ranges.c, c.greater.ensures, eq-eqb (min c.args.a c.args.b) c.args.i (sym c.lesser.ensures ∙ c.if-lesser-i.true)) refl
+returns-then-min-i c =
+    c.add_at.ensures ∙ rw (to_z-of_z c.ranges.c, c.max.ensures, eq-eqb (min c.args.a c.args.b) c.args.i (sym c.min.ensures ∙ c.if-min-i.true)) refl
 
-pub returns-else-lesser-i : goal.returns-else-lesser-i
+pub returns-else-min-i : goal.returns-else-min-i
 unfolding on_terms add_terms
-returns-else-lesser-i c = rw (ne_eqb _ _ (λ e. c.if-lesser-i.false (c.lesser.ensures ∙ e))) refl
+returns-else-min-i c = rw (ne_eqb _ _ (λ e. c.if-min-i.false (c.min.ensures ∙ e))) refl

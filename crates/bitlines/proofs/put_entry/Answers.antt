@@ -1,13 +1,14 @@
 -- No words for 0, else three.
-use Rattle.std.proofs.Common.{refl, sym, ◌∙◌, to_z-of_z}
+use Rattle.std.proofs.Common.{refl, sym, ◌∙◌, arith, pos, to_z-of_z, eq-eqb, ne_eqb}
+use Rattle.integers.proofs.Fits.{equal_bits}
 use Rattle.bitlines.proofs.Writing.{laid-zero, laid-entry}
 use Rattle.bitlines.proofs.put_entry.Goals as goal
 
-pub returns-then-equal : goal.returns-then-equal
-returns-then-equal c =
-    laid-zero c.args.i c.args.j c.args.v (rw (to_z-of_z c.ranges.v) at (sym c.equal.ensures ∙ c.if-equal.true))
+pub returns-then-v-eq0 : goal.returns-then-v-eq0
+returns-then-v-eq0 c =
+    laid-zero c.args.i c.args.j c.args.v (sym (equal_bits c.args.v (pos 0) c.ranges.v (omega arith)) ∙ eq-eqb _ _ c.if-v-eq0.true)
 
 pub returns : goal.returns
 returns c =
-    laid-entry c.args.i c.args.j c.args.v (rw (to_z-of_z c.ranges.v) at (sym c.equal.ensures ∙ c.if-equal.false))
-    (c.lay.ensures ∙ rw (c.word_of.ensures, c.word_of-2.ensures, c.number_word.ensures, to_z-of_z c.ranges.v) refl)
+    laid-entry c.args.i c.args.j c.args.v (sym (equal_bits c.args.v (pos 0) c.ranges.v (omega arith)) ∙ ne_eqb _ _ c.if-v-eq0.false)
+    (c.lay.ensures ∙ rw (c.bits.ensures, c.bits-2.ensures, c.bits-3.ensures, c.new.ensures, c.new-2.ensures, c.of_number.ensures, to_z-of_z c.ranges.v) refl)

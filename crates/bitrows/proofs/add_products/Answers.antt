@@ -2,15 +2,20 @@ use Rattle.std.proofs.Common.{◌≡◌, ap, ◌∙◌, ◌<◌, min, arith, pos
 use mir.Facts.{to_z_pos}
 use Rattle.integers.specs.Number.{neg}
 use Rattle.integers.proofs.Fits.{back, mul-le}
+use Rattle.bitlines.proofs.Dense.{lesser_is}
 use Rattle.bitrows.proofs.Cross.{crossing_begun, crossing_more, crossing_done, crossing_fits}
-use Rattle.bitrows.proofs.add_products.Goals.{After-lesser-w, After-opposite}
+use Rattle.bitrows.proofs.add_products.Goals.{After-min-w, After-opposite}
 use Rattle.bitrows.proofs.add_products.Goals as goal
 
 -- the weight, as a signed number, and its opposite
-as-pos : (c : After-lesser-w) → (c.lesser-w.result < 9223372036854775808) × (to_z w64 c.lesser-w.result ≡ pos (min c.loop-left.weight c.loop-left.left))
+least : (c : After-min-w) → c.min-w.result ≡ min c.loop-left.weight c.loop-left.left
+least c = c.min-w.ensures ∙ lesser_is c.loop-left.weight c.loop-left.left
+
+as-pos : (c : After-min-w) → (c.min-w.result < 9223372036854775808) × (to_z w64 c.min-w.result ≡ pos (min c.loop-left.weight c.loop-left.left))
 as-pos c =
-    let h : c.lesser-w.result < 9223372036854775808 = omega (arith, c.lesser-w.ensures, c.loop-left.invariant.sum c.loop-left-test.true, c.requires.1) in
-    (h, to_z_pos w64 {n = c.lesser-w.result} h ∙ ap pos c.lesser-w.ensures)
+    let e = least c in
+    let h : c.min-w.result < 9223372036854775808 = omega (arith, e, c.loop-left.invariant.sum c.loop-left-test.true, c.requires.1) in
+    (h, to_z_pos w64 {n = c.min-w.result} h ∙ ap pos e)
 
 less : (c : After-opposite) → to_z w64 (of_z w64 c.opposite.result) ≡ neg (pos (min c.loop-left.weight c.loop-left.left))
 less c = back c.opposite.result c.opposite.type_inv ∙ c.opposite.ensures.value ∙ ap neg (as-pos c.before.before).1
@@ -25,7 +30,7 @@ add_weights-at-requires c =
 
 pub loop-left-preserved : goal.loop-left-preserved
 loop-left-preserved c =
-    rw (c.add_weights-at.ensures.1, c.add_weights-at.ensures.0, c.lesser-w.ensures, less (goal.at.loop-left-preserved c).After-opposite) (crossing_more c.loop-left.invariant c.loop-left-test.true)
+    rw (c.add_weights-at.ensures.1, c.add_weights-at.ensures.0, c.min-w.ensures ∙ lesser_is c.loop-left.weight c.loop-left.left, less (goal.at.loop-left-preserved c).After-opposite) (crossing_more c.loop-left.invariant c.loop-left-test.true)
 
 pub returns : goal.returns
 returns c = crossing_done c.loop-left-test.false c.loop-left.invariant

@@ -17,4 +17,4 @@ returns-then-is-2-clause-value c firsts first = rw (row-equal c.args.head c.args
 pub returns-clause-value : goal.returns-clause-value
 unfolding bit_row
 returns-clause-value c firsts first =
-    rw (row-product c.args.head c.args.args.now (sym c.is.ensures ∙ c.if-is.false) (sym c.is-2.ensures ∙ c.if-is-2.false)) (ap₂ ◌*◌ (c.at_or.ensures ∙ rw c.row_variable.ensures (c.requires.0 _)) (c.at_or-2.ensures ∙ rw c.row_variable-2.ensures (c.requires.0 _)) ∙ sym (own-product c.args.domains.now firsts first _ _))
+    rw (row-product c.args.head c.args.args.now (sym c.is.ensures ∙ c.if-is.false) (sym c.is-2.ensures ∙ c.if-is-2.false)) (ap₂ ◌*◌ (rw c.row_variable.ensures at c.count_at.ensures.value) (rw c.row_variable-2.ensures at c.count_at-2.ensures.value) ∙ sym (own-product c.args.domains.now firsts first _ _))

@@ -2,7 +2,6 @@ use Rattle.std.proofs.Common.{◌≡◌, refl, ◌∙◌, arith, to_z-of_z}
 use Rattle.integers.proofs.Fits.{back}
 use Rattle.integers.specs.Lists.{list_of}
 use Rattle.models.specs.Model.{nums}
-use Rattle.arguments.proofs.Size.{size-le}
 use Rattle.rules.specs.Parts.{least_from}
 use Rattle.extremes.proofs.Rising.{least_more}
 use Rattle.extremes.proofs.least_from.Goals as goal
@@ -10,9 +9,6 @@ use Rattle.extremes.proofs.least_from.Goals as goal
 pub loop-k-init : goal.loop-k-init
 unfolding list_of least_from
 loop-k-init c = refl
-
-pub overflow_add-i-in-loop-k : goal.overflow_add-i-in-loop-k
-overflow_add-i-in-loop-k c = omega (arith, c.size_at-k-end.ensures.value, size-le c.args.args.now c.args.i)
 
 pub loop-k-preserved : goal.loop-k-preserved
 loop-k-preserved c =

@@ -14,28 +14,28 @@ use Rattle.filling.proofs.fill_passed.Goals.{After-judge_read}
 use Rattle.filling.proofs.fill_passed.Goals as goal
 
 -- as many values as variables, and room for them and the auxiliaries
-many : (c : After-judge_read) → length c.args.values.now ≡ length (variables c.args.ws.now)
-many c = c.if-values-n.false ∙ c.requires.0.seen.variables_counted
+many : (c : After-judge_read) → length c.args.values.now ≡ length (variables c.args.read.now.ws.now)
+many c = c.if-values-n.false ∙ c.requires.0.0.seen.variables_counted
 
-room : (c : After-judge_read) → length (variables c.args.ws.now) + length (auxiliaries c.args.ws.now) ≤ length c.args.out.now
-room c = rw (c.requires.0.seen.variables_counted, c.requires.2) at c.if-out-n.false
+room : (c : After-judge_read) → length (variables c.args.read.now.ws.now) + length (auxiliaries c.args.read.now.ws.now) ≤ length c.args.out.now
+room c = rw (c.requires.0.0.seen.variables_counted, c.requires.2) at c.if-out-n.false
 
 -- judge-model's answer, where it is not "holds"
-outside : (c : After-judge_read) (answer : Answer) → answer ≡ judge_model c.args.ws.now c.args.values.now → is_holds answer ≡ false → ((n : ℕ) → answer ≡ written n → ⊥) →
-    Gives c.args.ws.now c.args.values.now c.args.out.now answer c.args.out.now
-outside c = not-held c.args.ws.now c.requires.1 c.args.values.now c.args.out.now (many c) (room c)
+outside : (c : After-judge_read) (answer : Answer) → answer ≡ judge_model c.args.read.now.ws.now c.args.values.now → is_holds answer ≡ false → ((n : ℕ) → answer ≡ written n → ⊥) →
+    Gives c.args.read.now.ws.now c.args.values.now c.args.out.now answer c.args.out.now
+outside c = not-held c.args.read.now.ws.now c.requires.1 c.args.values.now c.args.out.now (many c) (room c)
 
 pub returns-then-values-n : goal.returns-then-values-n
 returns-then-values-n c =
-    let h = wrong-count c.args.ws.now c.requires.1 c.args.values.now c.args.out.now (λ e. c.if-values-n.true (e ∙ sym c.requires.0.seen.variables_counted)) in
+    let h = wrong-count c.args.read.now.ws.now c.requires.1 c.args.values.now c.args.out.now (λ e. c.if-values-n.true (e ∙ sym c.requires.0.0.seen.variables_counted)) in
     record { answer = h.0; output = h.1.0; satisfied = h.1.1 }
 
 pub overflow_add-n : goal.overflow_add-n
-overflow_add-n c = record { fits = omega (arith, c.requires.0.seen.variables_counted, c.requires.2, few_in_all c.args.ws.now c.requires.1) }
+overflow_add-n c = record { fits = omega (arith, c.requires.0.0.seen.variables_counted, c.requires.2, few_in_all c.args.read.now.ws.now c.requires.1) }
 
 pub returns-then-out-n : goal.returns-then-out-n
 returns-then-out-n c =
-    let h = too_short c.args.ws.now c.requires.1 c.args.values.now c.args.out.now (c.if-values-n.false ∙ c.requires.0.seen.variables_counted) (rw (c.requires.0.seen.variables_counted, c.requires.2) at c.if-out-n.true) in
+    let h = too_short c.args.read.now.ws.now c.requires.1 c.args.values.now c.args.out.now (c.if-values-n.false ∙ c.requires.0.0.seen.variables_counted) (rw (c.requires.0.0.seen.variables_counted, c.requires.2) at c.if-out-n.true) in
     record { answer = h.0; output = h.1.0; satisfied = h.1.1 }
 
 pub returns-in_err-verdict : goal.returns-in_err-verdict
@@ -47,13 +47,13 @@ returns-in_err-verdict c =
 
 pub write_filled-requires : goal.write_filled-requires
 write_filled-requires c =
-    (c.requires.0, c.requires.1, (judge_model_says c.args.ws.now (passes-read c.args.ws.now c.requires.1) c.args.values.now).0 (sym (rw c.in-Holds.is at c.in_ok-verdict.ensures)))
+    (c.requires.0, c.requires.1, (judge_model_says c.args.read.now.ws.now (passes-read c.args.read.now.ws.now c.requires.1) c.args.values.now).0 (sym (rw c.in-Holds.is at c.in_ok-verdict.ensures)))
 
 pub returns-in-Holds : goal.returns-in-Holds
 returns-in-Holds c =
-    let n = c.requires.0.seen.variables_counted in
+    let n = c.requires.0.0.seen.variables_counted in
     let j = (goal.at.returns-in-Holds c).After-judge_read in
-    let h = held c.args.ws.now c.requires.1 c.args.values.now c.args.out.now (many j) (room j) (sym (rw c.in-Holds.is at c.in_ok-verdict.ensures)) in
+    let h = held c.args.read.now.ws.now c.requires.1 c.args.values.now c.args.out.now (many j) (room j) (sym (rw c.in-Holds.is at c.in_ok-verdict.ensures)) in
     record {
       answer = rw (n, c.requires.2) h.0;
       output = c.write_filled.ensures ∙ h.1.0;

@@ -1,12 +1,5 @@
--- Translate's answer, as a host gets it, and its output.
-use Rattle.std.proofs.Common.{ap, ◌∙◌}
-use Rattle.structs.specs.Structs.{written_of}
+-- What translate writes shares the solutions, by the answer that a host gets.
 use Rattle.host.proofs.pearrummy_translate.Goals as goal
 
-pub returns : goal.returns
-returns c =
-    (record {
-      answer = c.from.ensures ∙ ap written_of c.translate.ensures.answer;
-      output = c.translate.ensures.output;
-      shared = rw c.translate.ensures.answer at c.translate.ensures.shared;
-    })
+pub returns-clause-shared : goal.returns-clause-shared
+returns-clause-shared c = rw c.translate.ensures.answer at c.translate.ensures.shared

@@ -10,8 +10,7 @@ returns-in-Ok c =
     let p = front-words c.args.words.now c.in-Ok.n c.put_front.ensures c.requires.page.0 in
     record { text = rw c.in-Ok.is p.0; count = p.1 }
 
-pub returns-in-Err : goal.returns-in-Err
+pub returns-in-Err-clause-text : goal.returns-in-Err-clause-text
 unfolding answer_lines
-returns-in-Err c =
-    let p = front-line (fault_number c.in-Err.r.fault) c.in-Err.r.place c.put_refusal.ensures.text c.put_refusal.ensures.end c.requires.page.1 in
-    record { text = rw c.in-Err.is p.0; count = p.1 }
+returns-in-Err-clause-text c =
+    rw c.in-Err.is (front-line (fault_number c.in-Err.r.fault) c.in-Err.r.place c.put_refusal.ensures.text c.put_refusal.ensures.end c.requires.page.1).0

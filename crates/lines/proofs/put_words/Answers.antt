@@ -1,4 +1,4 @@
-use Rattle.std.proofs.Common.{arith, add-one, take_all}
+use Rattle.std.proofs.Common.{arith, add-one}
 use Rattle.decimals.proofs.Printed.{prints_none, then_prints}
 use Rattle.lines.proofs.Lines.{words_more}
 use Rattle.lines.specs.Lines.{word_lines}
@@ -13,6 +13,3 @@ loop-w-preserved c = record {
   text = rw (add-one, words_more c.args.words.now c.loop-w.w-index c.loop-w-test.true) (then_prints c.loop-w.invariant.text c.put_word.ensures.text);
   end = omega (arith, c.put_word.ensures.end, c.loop-w.invariant.end);
 }
-
-pub returns : goal.returns
-returns c = rw (take_all c.loop-w.w-index c.args.words.now c.loop-w-test.false) at c.loop-w.invariant.text

@@ -1,21 +1,18 @@
-use Rattle.std.proofs.Common.{◌≡◌, sym, ◌∙◌, ◌+◌, ◌≤◌, arith, length, get_or, drop_of_length-le}
+use Rattle.std.proofs.Common.{◌≡◌, sym, ◌∙◌, ◌≤◌, arith, length, get_or, drop_of_length-le}
 use Rattle.integers.specs.Terms.{value}
-use Rattle.words.specs.Word.{word_at}
 use Rattle.words.proofs.Judge.{pass-one, fail_one, pass_all}
-use Rattle.words.proofs.Reading.{tail-is}
 use Rattle.models.specs.Meaning.{meaning}
 use Rattle.models.specs.Model.{headed, builtin, constraints}
 use Rattle.modelreading.proofs.Heads.{head_at}
+use Rattle.builtins.proofs.Coded.{no_code}
 use Rattle.modeljudge.proofs.first_false.Goals.{After-holds}
 use Rattle.modeljudge.proofs.first_false.Goals as goal
 
 -- what holds says of the constraint
 said : (c : After-holds) →
     meaning (value c.args.values.now) (builtin (headed c.args.ws.now (get_or c.args.heads.now c.loop-k.k 0))) ≡ c.holds.result
-unfolding builtin word_at
-said c =
-    let at = get_or c.args.heads.now c.loop-k.k 0 in
-    sym (c.holds.ensures ∙ rw (c.payload.ensures, c.from-head.ensures, tail-is c.args.ws.now (at + 1)))
+unfolding builtin
+said c = sym (rw (c.in-Some.ensures.0, c.in-Some.ensures.1) at c.holds.ensures)
 
 pub returns-then-not-holds : goal.returns-then-not-holds
 returns-then-not-holds c =
@@ -23,7 +20,13 @@ returns-then-not-holds c =
 
 pub loop-k-preserved : goal.loop-k-preserved
 loop-k-preserved c =
-    (pass-one c.loop-k.invariant (head_at c.requires.0 c.loop-k.k c.loop-k-test.true) (said (goal.at.loop-k-preserved c).After-holds ∙ c.if-not-holds.false))
+    pass-one c.loop-k.invariant (head_at c.requires.0 c.loop-k.k c.loop-k-test.true) (said (goal.at.loop-k-preserved c).After-holds ∙ c.if-not-holds.false)
+
+-- a number that no builtin has counts as true
+pub loop-k-preserved-in_default : goal.loop-k-preserved-in_default
+unfolding builtin
+loop-k-preserved-in_default c =
+    pass-one c.loop-k.invariant (head_at c.requires.0 c.loop-k.k c.loop-k-test.true) (sym (no_code (value c.args.values.now) _ _ c.in_default.ensures))
 
 pub returns : goal.returns
 returns c =

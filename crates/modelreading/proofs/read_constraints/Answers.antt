@@ -5,10 +5,10 @@ use lib.ListN.{length-map}
 use Rattle.words.proofs.Faulty.{fault-number}
 use Rattle.words.specs.Faults.{number_of}
 use Rattle.words.specs.Word.{kind, word_at}
+use Rattle.words.specs.Check.{Step}
 use Rattle.models.specs.Reading.{fault_head}
 use Rattle.models.specs.Shapes.{shape_number}
-use Rattle.modelitems.specs.Onward.{Step}
-use Rattle.modelitems.proofs.Steps.{passed, refused}
+use Rattle.words.proofs.Steps.{passed, refused}
 use Rattle.modelreading.proofs.Loop.{head-halted, head-here, posing-one, arguments-halted, posing-on, after-end, seen}
 use Rattle.modelreading.proofs.read_constraints.Goals.{After-over, In_ok-first, Else-is, Then-is}
 use Rattle.modelreading.proofs.read_constraints.Goals as goal

@@ -2,16 +2,16 @@ use Rattle.std.proofs.Common.{arith, refl, ◌∙◌}
 use Rattle.std.proofs.lemmas.List.{map-set}
 use Rattle.std.proofs.lemmas.Result.{err_from_is_err_and}
 use lib.ListN.{length-map}
+use Rattle.words.specs.Check.{step_of}
 use Rattle.words.proofs.Faulty.{fault-number}
 use Rattle.models.specs.Shapes.{shape_number}
-use Rattle.modelitems.specs.Onward.{step_of}
 use Rattle.modelitems.specs.Variable.{Declares}
 use Rattle.modelreading.proofs.Loop.{opening, opening-halted, opened, all-opened, typed}
 use Rattle.modelreading.proofs.read_variables.Goals.{After-variable_at, In_ok-next}
 use Rattle.modelreading.proofs.read_variables.Goals as goal
 
 pub loop-declared-init : goal.loop-declared-init
-loop-declared-init c = opening c.requires.0 (length-map c.args.types.now shape_number ∙ c.requires.1)
+loop-declared-init c = opening c.requires (length-map c.args.types.now shape_number ∙ c.told-types)
 
 -- the variable read
 variable : (c : After-variable_at) → Declares c.args.ws.now c.loop-declared.v c.loop-declared.at (shape_number c.in-Some.declared) (step_of c.variable_at.result)

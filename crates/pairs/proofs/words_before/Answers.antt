@@ -1,14 +1,13 @@
-use Rattle.std.proofs.Common.{◌≡◌, sym, ◌∙◌, arith, length}
-use Rattle.pairs.proofs.Before.{one_more, no_more, at-end}
+-- The chain counts the words up to the first that passes.
+use Rattle.std.proofs.Common.{rules, tests, ◌∙◌, not}
+use Rattle.std.proofs.lemmas.Iterator.{YieldsList-from_slice}
+use Rattle.std.proofs.lemmas.Iterator.Consumers.{count_from_yields_List}
+use Rattle.std.proofs.lemmas.Iterator.Search.{YieldsList-from_take_while}
+use Rattle.std.proofs.lemmas.List.Folds.{length-prefix_len}
+use Rattle.pairs.proofs.Before.{front}
 use Rattle.pairs.proofs.words_before.Goals as goal
 
-pub returns-then-stops : goal.returns-then-stops
-returns-then-stops c = no_more _ c.loop-i.invariant c.loop-i-test.true (sym c.stops.ensures ∙ c.if-stops.true)
-
-pub loop-i-preserved : goal.loop-i-preserved
-loop-i-preserved c = one_more _ c.loop-i.invariant c.loop-i-test.true (sym c.stops.ensures ∙ c.if-stops.false)
-
 pub returns : goal.returns
-returns c =
-    let e : length c.args.ws.now ≡ c.loop-i.i = omega (arith, c.loop-i-test.false) in
-    e ∙ at-end _ c.loop-i.invariant c.loop-i-test.false
+returns g c = λ t h.
+    count_from_yields_List c.take_while.result c.count.result c.count.ensures.ran (YieldsList-from_take_while _ (λ w. not (t w)) (YieldsList-from_slice c.args.ws.now cc) c.take_while.ensures.closure c.take_while.ensures.done (λ x b q k. search (rules, tests, h)))
+    ∙ length-prefix_len (λ w. not (t w)) c.args.ws.now ∙ front t c.args.ws.now

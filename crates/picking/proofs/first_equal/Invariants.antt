@@ -6,4 +6,4 @@ use Rattle.models.specs.Model.{var}
 use Rattle.picking.proofs.first_equal.Given as goal
 
 abbrev pub invariant-loop-k : goal.invariant-loop-k
-invariant-loop-k l = (j : ℕ) → j < l.k → (value l.instance.values.now (var l.instance.args.now (l.i + 1 + j)) ≟ l.v) ≡ false
+invariant-loop-k l = (j : ℕ) → j < l.k → (value l.near.instance.values.now (var l.near.instance.args.now (l.i + 1 + j)) ≟ l.v) ≡ false

@@ -9,14 +9,14 @@ use Rattle.picking.proofs.Codes.{difference}
 use Rattle.picking.proofs.pick_difference.Goals.{After-minus}
 use Rattle.picking.proofs.pick_difference.Goals as goal
 
-whole : (c : After-minus) → to_z w64 (of_z w64 c.minus.result) ≡ value c.args.instance.now.values.now (var c.args.instance.now.args.now 0) ⊖ value c.args.instance.now.values.now (var c.args.instance.now.args.now 1)
+whole : (c : After-minus) → to_z w64 (of_z w64 c.minus.result) ≡ value c.args.near.now.instance.values.now (var c.args.near.now.instance.args.now 0) ⊖ value c.args.near.now.instance.values.now (var c.args.near.now.instance.args.now 1)
 whole c =
     back c.minus.result c.minus.type_inv ∙ c.minus.ensures.value ∙ rw (back c.value.result c.value.type_inv, c.value.ensures.value, back c.value-2.result c.value-2.type_inv, c.value-2.ensures.value)
 
-pub put_signed-requires : goal.put_signed-requires
+pub signed-requires : goal.signed-requires
 unfolding pick builtin builtins
-put_signed-requires c = (search rules, rw (whole (c)) (rw difference at c.requires.ranged))
+signed-requires c = (search rules, rw (whole (c)) (rw difference at c.requires.ranged))
 
 pub returns : goal.returns
 unfolding pick builtin builtins
-returns c = rw difference (rw (whole (goal.at.returns c).After-minus) at c.put_signed.ensures)
+returns c = rw difference (rw (whole (goal.at.returns c).After-minus) at c.signed.ensures)

@@ -5,6 +5,6 @@ use Rattle.arguments.proofs.Size.{read}
 use Rattle.rules.specs.Pick.{pick}
 use Rattle.picking.proofs.pick_linear.Goals as goal
 
-pub put_signed-requires : goal.put_signed-requires
+pub signed-requires : goal.signed-requires
 unfolding pick builtin builtins
-put_signed-requires c = (search rules, rw (read c.sum_less.type_inv c.sum_less.ensures) c.requires.ranged)
+signed-requires c = (search rules, rw (read c.sum_less.type_inv c.sum_less.ensures) c.requires.ranged)

@@ -11,17 +11,17 @@ use Rattle.picking.proofs.Codes.{maximum-picks}
 use Rattle.picking.proofs.pick_maximum.Goals.{After-first_equal-h}
 use Rattle.picking.proofs.pick_maximum.Goals as goal
 
-picks : (c : After-first_equal-h) → let a = c.args in let σ = value a.instance.now.values.now in let ws = a.instance.now.args.now in
+picks : (c : After-first_equal-h) → let a = c.args in let σ = value a.near.now.instance.values.now in let ws = a.near.now.instance.args.now in
     gated_pick σ (λ x. σ x ≟ σ (var ws 0)) (vars ws 1) ≡ only_at (size ws 1) c.first_equal-h.result +1 ++ only_at (size ws 1) c.first_equal-h.result (σ (var ws (2 + c.first_equal-h.result)))
 picks c =
-    maximum-picks [] c.args.instance.now.values.now c.args.instance.now.args.now c.first_equal-h.result (rw (back c.value.result c.value.type_inv, c.value.ensures.value) at c.first_equal-h.ensures.first)
+    maximum-picks [] c.args.near.now.instance c.first_equal-h.result (rw (back c.value.result c.value.type_inv, c.value.ensures.value) at c.first_equal-h.ensures.first)
 
-pub put_gated-requires : goal.put_gated-requires
+pub gated-requires : goal.gated-requires
 unfolding pick builtin builtins
-put_gated-requires c =
-    (omega (arith, c.requires.place, c.size_at.ensures.value, size-le c.args.instance.now.args.now 1), rw (back c.value-2.result c.value-2.type_inv, c.value-2.ensures.value, c.size_at.ensures.value) (rw (picks (goal.at.put_gated-requires c).After-first_equal-h) at c.requires.ranged))
+gated-requires c =
+    (omega (arith, c.requires.place, c.size_at.ensures.value, size-le c.args.near.now.instance.args.now 1), rw (back c.value-2.result c.value-2.type_inv, c.value-2.ensures.value, c.size_at.ensures.value) (rw (picks (goal.at.gated-requires c).After-first_equal-h) at c.requires.ranged))
 
 pub returns : goal.returns
 unfolding pick builtin builtins
 returns c =
-    rw (picks (goal.at.returns c).After-first_equal-h) (rw (back c.value-2.result c.value-2.type_inv, c.value-2.ensures.value, c.size_at.ensures.value) at c.put_gated.ensures)
+    rw (picks (goal.at.returns c).After-first_equal-h) (rw (back c.value-2.result c.value-2.type_inv, c.value-2.ensures.value, c.size_at.ensures.value) at c.gated.ensures)

@@ -6,6 +6,7 @@ use Rattle.integers.proofs.Fits.{back}
 use Rattle.words.proofs.Overlay.{length-overlay}
 use Rattle.models.specs.Model.{nums, var}
 use Rattle.rules.specs.Parts.{members}
+use Rattle.arguments.proofs.Size.{read}
 use Rattle.extremes.proofs.Rising.{members-length}
 use Rattle.picking.specs.Only.{only_at}
 use Rattle.picking.specs.Picked.{picks_of}
@@ -14,24 +15,24 @@ use Rattle.picking.proofs.Members.{member-picks}
 use Rattle.picking.proofs.pick_member.Goals.{After-first_number-h, After-members-n}
 use Rattle.picking.proofs.pick_member.Goals as goal
 
-many : (c : After-members-n) → let a = c.args in let ws = a.instance.now.args.now in
+many : (c : After-members-n) → let a = c.args in let ws = a.near.now.instance.args.now in
     c.members-n.result ≡ length (members (nums ws 1) (bounds_in a.domains.now (var ws 0)))
 many c =
-    c.members-n.ensures.count ∙ rw c.bounds_of_first.ensures
+    c.members-n.ensures.count ∙ rw (read c.lower.type_inv c.lower.ensures.value, read c.upper.type_inv c.upper.ensures.value, c.bounds_of_first-x.ensures)
 
 few : (c : After-members-n) → c.members-n.result ≤ 32
 few c =
     let a = c.args in
-    let ws = a.instance.now.args.now in
+    let ws = a.near.now.instance.args.now in
     omega (arith, many c, members-length ws 1 (bounds_in a.domains.now (var ws 0)))
 
 long : (c : After-members-n) → length c.members-n.new.out ≡ 32
 long c = ap length c.members-n.ensures.listed ∙ length-overlay _ 0 _
 
-picks : (c : After-first_number-h) → let a = c.args in picks_of a.domains.now a.instance.now.values.now 27 a.instance.now.args.now ≡ only_at c.members-n.result c.first_number-h.result +1
+picks : (c : After-first_number-h) → let a = c.args in picks_of a.domains.now a.near.now.instance 27 ≡ only_at c.members-n.result c.first_number-h.result +1
 picks c =
-    member-picks c.args.domains.now c.args.instance.now.values.now c.args.instance.now.args.now _ c.members-n.new.out c.members-n.result c.first_number-h.result refl (c.members-n.ensures.count ∙ rw c.bounds_of_first.ensures)
-    (rw c.bounds_of_first.ensures at c.members-n.ensures.listed)
+    member-picks c.args.domains.now c.args.near.now.instance _ c.members-n.new.out c.members-n.result c.first_number-h.result refl (c.members-n.ensures.count ∙ rw (read c.lower.type_inv c.lower.ensures.value, read c.upper.type_inv c.upper.ensures.value, c.bounds_of_first-x.ensures))
+    (rw (read c.lower.type_inv c.lower.ensures.value, read c.upper.type_inv c.upper.ensures.value, c.bounds_of_first-x.ensures) at c.members-n.ensures.listed)
     (rw (back c.value.result c.value.type_inv, c.value.ensures.value) at c.first_number-h.ensures)
 
 pub slice_bounds-inside-end : goal.slice_bounds-inside-end
@@ -42,8 +43,8 @@ slice_bounds-first_number-end c =
     let m = (goal.at.slice_bounds-first_number-end c).After-members-n in
     sym (length-take-le _ _ (omega (arith, few m, long m)))
 
-pub put_only-requires : goal.put_only-requires
-put_only-requires c = (omega (arith, few (goal.at.put_only-requires c).After-members-n), bits-ranged c.members-n.result c.first_number-h.result)
+pub only-requires : goal.only-requires
+only-requires c = (omega (arith, few (goal.at.only-requires c).After-members-n), bits-ranged c.members-n.result c.first_number-h.result)
 
 pub returns : goal.returns
-returns c = rw (picks (goal.at.returns c).After-first_number-h) c.put_only.ensures
+returns c = rw (picks (goal.at.returns c).After-first_number-h) c.only.ensures

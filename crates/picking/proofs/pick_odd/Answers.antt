@@ -6,10 +6,10 @@ use Rattle.models.specs.Meaning.{on}
 use Rattle.rules.specs.Pick.{pick}
 use Rattle.picking.proofs.pick_odd.Goals as goal
 
-pub put_pick-requires : goal.put_pick-requires
+pub put-requires : goal.put-requires
 unfolding on pick builtin builtins
-put_pick-requires c = (search rules, rw (back c.half_less.result c.half_less.type_inv, c.half_less.ensures, c.how_many.ensures) (c.requires.ranged 0))
+put-requires c = (search rules, rw (back c.half_less.result c.half_less.type_inv, c.half_less.ensures, c.how_many.ensures) (c.requires.ranged 0))
 
 pub returns : goal.returns
 unfolding on pick builtin builtins
-returns c = rw (back c.half_less.result c.half_less.type_inv, c.half_less.ensures, c.how_many.ensures) at c.put_pick.ensures
+returns c = rw (back c.half_less.result c.half_less.type_inv, c.half_less.ensures, c.how_many.ensures) at c.put.ensures

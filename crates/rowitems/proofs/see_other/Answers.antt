@@ -4,9 +4,9 @@ use borrow.Author.Tests.{eqb-false}
 use Rattle.integers.specs.Terms.{value}
 use Rattle.words.specs.Kind as Kind
 use Rattle.words.specs.Word.{kind}
+use Rattle.words.specs.Check.{step_over}
 use Rattle.words.proofs.Faulty.{fault-number}
 use Rattle.rowsystems.specs.Reading.{started}
-use Rattle.rowreading.specs.Onward.{step_over}
 use Rattle.rowreading.proofs.Inner.{after-end}
 use Rattle.rowitems.proofs.Passing.{Head, head-there, head-stops, head-then, none-started, product-row, product-due, product-true, end-due, seen-row}
 use Rattle.rowitems.proofs.see_other.Goals.{In_default, Then-is}

@@ -2,7 +2,7 @@ use Rattle.std.proofs.Common.{◌≡◌, sym, ap, ◌∙◌, Bool, List, ℕ, �
 use Rattle.std.proofs.lemmas.Result.{err_from_is_err_and}
 use Rattle.words.specs.Faults.{fault_number}
 use Rattle.words.specs.Word.{word_at}
-use Rattle.words.specs.declared.Refusal as number
+use Rattle.words.specs.Refusals as number
 use Rattle.words.specs.declared.fault.Refusal.{Refusal}
 use Rattle.words.proofs.Faulty.{fault-number}
 use Rattle.rowfaults.specs.Head.{fault_at_head}

@@ -2,11 +2,13 @@ use Rattle.std.proofs.Common.{◌≡◌, refl, sym, ◌∙◌, arith, eqb-true, 
 use borrow.Author.Tests.{eqb-false}
 use Rattle.integers.proofs.Fits.{back}
 use Rattle.words.specs.Word.{payload, word_at}
+use Rattle.words.specs.Limit as Limit
+use Rattle.words.specs.Check.{fault_number_in, step_over}
 use Rattle.words.proofs.ReadBack.{signed-near}
-use Rattle.rowsystems.specs.Reading.{fault_variable, fault_number}
+use Rattle.rowsystems.specs.Reading.{fault_variable}
 use Rattle.rowsystems.specs.RowSystem.{number_at, variable_at}
 use Rattle.rowsystems.specs.declared.Due.TheVariants.{Terms, Coefficient, Item}
-use Rattle.rowreading.specs.Onward.{StepsTo, step_over}
+use Rattle.rowreading.specs.Onward.{StepsTo}
 use Rattle.rowreading.proofs.Answered.{declared}
 use Rattle.rowreading.proofs.Inner.{no_word}
 use Rattle.rowterms.proofs.Steps.{step-halts, step-goes, next-variable, next-coefficient, next-constant}
@@ -19,11 +21,11 @@ variable : (c : After-from-x) → let a = c.args in let k = c.loop-k.k in StepsT
 unfolding word_at
 variable c = rw c.from-x.ensures (next-variable _ _ _ _ _ c.loop-k.invariant.reads c.loop-k-test.true)
 
-coefficient : (c : After-from-c) → let a = c.args in let k = c.loop-k.k in fault_variable a.n c.from-x.result ≡ 0 → StepsTo a.ws.now a.n (Terms c.payload-terms.result) a.start (Terms (c.payload-terms.result - (k + 1))) (step_over (fault_number c.from-c.result) (a.start + 2 * k + 1))
+coefficient : (c : After-from-c) → let a = c.args in let k = c.loop-k.k in fault_variable a.n c.from-x.result ≡ 0 → StepsTo a.ws.now a.n (Terms c.payload-terms.result) a.start (Terms (c.payload-terms.result - (k + 1))) (step_over (fault_number_in Limit.range c.from-c.result) (a.start + 2 * k + 1))
 unfolding word_at
 coefficient c z = rw c.from-c.ensures (next-coefficient _ _ _ _ _ c.loop-k.invariant.reads c.loop-k-test.true (rw c.from-x.ensures at z))
 
-constant : (c : After-from-c-2) → let a = c.args in StepsTo a.ws.now a.n (Terms c.payload-terms.result) a.start Item (step_over (fault_number c.from-c-2.result) (a.start + 2 * c.payload-terms.result))
+constant : (c : After-from-c-2) → let a = c.args in StepsTo a.ws.now a.n (Terms c.payload-terms.result) a.start Item (step_over (fault_number_in Limit.range c.from-c-2.result) (a.start + 2 * c.payload-terms.result))
 unfolding word_at
 constant c = rw c.from-c-2.ensures (next-constant _ _ _ _ _ c.loop-k.invariant.reads (omega (arith, c.loop-k-test.false)))
 

@@ -1,15 +1,23 @@
 -- A refusal of check stands; else what comes after it.
+use Rattle.std.proofs.Common.{◌∙◌}
 use Rattle.std.proofs.lemmas.Result.{err_from_is_err_and}
 use Rattle.checking.proofs.Answers.{counted}
 use Rattle.solutions.proofs.All.{stands}
 use Rattle.solutions.proofs.solutions.Goals as goal
 
-pub returns-in_err-known : goal.returns-in_err-known
-returns-in_err-known c =
+pub returns-in_err-check_model : goal.returns-in_err-check_model
+returns-in_err-check_model c =
     let p = err_from_is_err_and c.from_residual.result c.from_residual.ensures.1 in
-    let h = stands c.args.ws.now c.args.out.now (rw c.in_err-known.was at c.check_model.ensures.answer) in
+    let h = stands c.args.ws.now c.args.out.now (rw c.of-read.ensures.words at c.in_err-check_model.ensures.answer) in
     rw (p.1, p.2) (record { answer = h.0; output = h.1 })
 
 pub solutions_passed-requires : goal.solutions_passed-requires
 solutions_passed-requires c =
-    ((counted c.args.ws.now (rw c.in_ok-known.was at c.check_model.ensures.answer)).0, rw c.in_ok-known.was at c.check_model.ensures.bounds)
+    let e = c.check_model.ensures.words ∙ c.of-read.ensures.words in
+    let p = counted c.args.ws.now (rw c.of-read.ensures.words at c.in_ok-check_model.ensures.answer) in
+    (rw e p.0, c.in_ok-check_model.ensures.lists)
+
+pub returns : goal.returns
+returns c =
+    let f = rw (c.check_model.ensures.words ∙ c.of-read.ensures.words) at c.solutions_passed.ensures in
+    record { answer = f.answer; output = f.output }

@@ -10,18 +10,18 @@ use Rattle.blocks.proofs.choices.choice.Goals as goal
 pub shared_block-requires : goal.shared_block-requires
 shared_block-requires c =
     let t = sym c.first_shared.ensures ∙ c.if-first_shared.true in
-    (c.requires.0, (c.requires.1, shared-narrow (bounds_in c.args.domains.now) (shared_by c.args.uses.now) (code_number c.args.code) c.args.args.now c.requires.2 c.requires.4 t, c.requires.3), c.requires.4)
+    (c.requires.0, (c.args.context.now.small, shared-narrow (bounds_in c.args.context.now.domains.now) (shared_by c.args.context.now.uses.now) (code_number c.args.constraint.now.code) c.args.constraint.now.args.now c.requires.1 c.requires.2 t, c.args.context.now.recorded), c.requires.2)
 
 pub returns-then-first_shared : goal.returns-then-first_shared
 returns-then-first_shared c =
     let t = sym c.first_shared.ensures ∙ c.if-first_shared.true in
-    rw (over-shared _ _ _ _ _ c.requires.4 t) (fitted c.shared_block.ensures (omega arith))
+    rw (over-shared _ _ _ _ _ c.requires.2 t) (fitted c.shared_block.ensures (omega arith))
 
 pub own_choice-requires : goal.own_choice-requires
 own_choice-requires c =
-    (c.requires.0, c.requires.1, (λ e. narrow (bounds_in c.args.domains.now) (shared_by c.args.uses.now) (constraint_of (code_number c.args.code) c.args.args.now) c.requires.2 (all-28 _ c.args.args.now e)), c.requires.4)
+    (c.requires.0, (λ e. narrow (bounds_in c.args.context.now.domains.now) (shared_by c.args.context.now.uses.now) (constraint_of (code_number c.args.constraint.now.code) c.args.constraint.now.args.now) c.requires.1 (all-28 _ c.args.constraint.now.args.now e)), c.requires.2)
 
 pub returns-else-first_shared : goal.returns-else-first_shared
 returns-else-first_shared c =
     let t = sym c.first_shared.ensures ∙ c.if-first_shared.false in
-    rw (over-own _ _ _ _ _ c.requires.4 t) c.own_choice.ensures
+    rw (over-own _ _ _ _ _ c.requires.2 t) c.own_choice.ensures

@@ -7,8 +7,8 @@ use Rattle.blocks.proofs.OneBlock.{fitted, fourth}
 use Rattle.blocks.proofs.choices.own_choice.Goals.{In_default}
 use Rattle.blocks.proofs.choices.own_choice.Goals as goal
 
-reified : (c : In_default) → code_number c.args.code ≡ 28
-reified c = fourth _ c.requires.3 (λ e. c.in_default.not-ArrayIntElement (same-code e)) (λ e. c.in_default.not-ArrayVarIntElement (same-code e)) (λ e. c.in_default.not-SetIn (same-code e))
+reified : (c : In_default) → code_number c.args.constraint.now.code ≡ 28
+reified c = fourth _ c.requires.2 (λ e. c.in_default.not-ArrayIntElement (same-code e)) (λ e. c.in_default.not-ArrayVarIntElement (same-code e)) (λ e. c.in_default.not-SetIn (same-code e))
 
 pub returns-in-ArrayIntElement : goal.returns-in-ArrayIntElement
 unfolding builtin builtins
@@ -23,7 +23,7 @@ unfolding builtin builtins
 returns-in-SetIn c = rw c.in-SetIn.is (fitted c.set_in.ensures (omega arith))
 
 pub set_in_reif-requires : goal.set_in_reif-requires
-set_in_reif-requires c = (c.requires.0, c.requires.1, c.requires.2 (reified (goal.at.set_in_reif-requires c).In_default))
+set_in_reif-requires c = (c.requires.0, c.args.context.now.small, c.requires.1 (reified (goal.at.set_in_reif-requires c).In_default))
 
 pub returns-in_default : goal.returns-in_default
 unfolding builtin builtins

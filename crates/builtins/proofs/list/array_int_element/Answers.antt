@@ -9,7 +9,7 @@ use Rattle.builtins.proofs.list.array_int_element.Goals as goal
 pub returns-in-Some : goal.returns-in-Some
 unfolding meaning nums
 returns-in-Some c =
-    c.equal.ensures ∙ rw (read c.num_at.type_inv c.num_at.ensures.value, read c.value.type_inv c.value.ensures.value, c.past_at.ensures.value)
+    c.equal.ensures ∙ rw (read c.num_at.type_inv c.num_at.ensures.value, read c.value.type_inv c.value.ensures, c.past_at.ensures.value)
     (inside (num c.args.instance.now.args.now) _ _ _ _ (sym c.in-Some.ensures.value))
 
 pub returns-in-None : goal.returns-in-None

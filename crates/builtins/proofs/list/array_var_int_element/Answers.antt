@@ -11,7 +11,7 @@ use Rattle.builtins.proofs.list.array_var_int_element.Goals as goal
 pub returns-in-Some : goal.returns-in-Some
 unfolding meaning vars
 returns-in-Some c =
-    c.equal.ensures ∙ rw (read c.value.type_inv c.value.ensures.value, read c.value-in-Some.type_inv c.value-in-Some.ensures.value, c.past_at.ensures.value, map-list_of)
+    c.equal.ensures ∙ rw (read c.value.type_inv c.value.ensures, read c.value-in-Some.type_inv c.value-in-Some.ensures, c.past_at.ensures.value, map-list_of)
     (inside (λ k. value c.args.instance.now.values.now (var c.args.instance.now.args.now k)) _ _ _ _ (sym c.in-Some.ensures.value))
 
 pub returns-in-None : goal.returns-in-None

@@ -3,5 +3,5 @@ use Rattle.laying.proofs.Written.{Writing}
 use Rattle.divisionblocks.specs.Rows.{table_at}
 use Rattle.divisionblocks.proofs.table.write_table.Given as goal
 
-abbrev pub invariant-loop-k : goal.invariant-loop-k
-invariant-loop-k l = Writing 2000 (table_at l.xs l.table) l.initial.writer l.writer l.k
+abbrev pub invariant-loop-row : goal.invariant-loop-row
+invariant-loop-row l = Writing 2000 (table_at l.xs l.table) l.initial.writer l.writer l.row-index

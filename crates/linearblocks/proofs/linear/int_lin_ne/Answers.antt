@@ -19,8 +19,8 @@ use Rattle.linearblocks.proofs.linear.int_lin_ne.Goals as goal
 pub returns : goal.returns
 unfolding rule lin_not_equal only_negative sign_split linked split link flat_map row_parts term_parts numbered row_parts_of many linear_sum
 returns c =
-    λ β e. let l = back c.args.sum.lower (search rules) ∙ ap (λ (S : Bounds). S.lower) e in
-    let u = back c.args.sum.upper (search rules) ∙ ap (λ (S : Bounds). S.upper) e in
+    λ β e. let l = ap (λ (S : Bounds). S.lower) e in
+    let u = ap (λ (S : Bounds). S.upper) e in
     wrote-most (omega arith)
     (rows_then c.args.first {n = 4000} _ (sum≤0 (-1 · aux 0 ∷ +2 · aux 2 ∷ []) +1 ∷ only_negative (aux 0) (aux 1) (linear_sum β c.args.args.now).upper ∷ []) (rw (l, u) at c.write_split.ensures)
-    (rw (add-zero c.args.first) (wrote-then (simp (c.new.ensures, c.new-2.ensures) at c.row.ensures) (rw u at c.only_negative.ensures))))
+    (rw (add-zero c.args.first) (wrote-then (simp (c.new.ensures, c.new-2.ensures) at c.row.ensures) (rw (back c.args.sum.upper (search rules) ∙ u) at c.only_negative.ensures))))

@@ -13,7 +13,7 @@ use Rattle.linearblocks.proofs.linear.zero_reif.Goals as goal
 pub returns : goal.returns
 unfolding zero_reified sign_split linked split link linear_sum
 returns c =
-    λ β e. let l = back c.args.sum.lower (search rules) ∙ ap (λ (S : Bounds). S.lower) e in
-    let u = back c.args.sum.upper (search rules) ∙ ap (λ (S : Bounds). S.upper) e in
-    let zero = rw (read c.larger_absolute-w.type_inv c.larger_absolute-w.ensures.value, l, u, c.var_at-r.ensures, c.past_terms_at.ensures.value) at c.write_zero.ensures in
-    wrote-most (omega arith) (rows_then c.args.first _ _ (rows_then c.args.first _ _ (rw (l, u) at c.write_split.ensures) zero) (wrote-as (sign-row c.args.first _) (rw u at c.only_negative.ensures)))
+    λ β e. let l = ap (λ (S : Bounds). S.lower) e in
+    let u = ap (λ (S : Bounds). S.upper) e in
+    let zero = rw (read c.larger_absolute-w.type_inv c.larger_absolute-w.ensures.value, back c.args.sum.lower (search rules) ∙ l, back c.args.sum.upper (search rules) ∙ u, c.var_at-r.ensures, c.past_terms_at.ensures.value) at c.write_zero.ensures in
+    wrote-most (omega arith) (rows_then c.args.first _ _ (rows_then c.args.first _ _ (rw (l, u) at c.write_split.ensures) zero) (wrote-as (sign-row c.args.first _) (rw (back c.args.sum.upper (search rules) ∙ u) at c.only_negative.ensures)))

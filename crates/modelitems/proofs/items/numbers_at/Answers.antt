@@ -1,7 +1,9 @@
 use Rattle.std.proofs.Common.{◌≡◌, refl, sym, ◌∙◌, ◌+◌, ◌-◌, arith}
 use Rattle.std.proofs.lemmas.Result.{err_from_is_err_and}
-use Rattle.modelitems.specs.Onward.{NumbersRead, step_of}
-use Rattle.modelitems.proofs.Steps.{no_word, passed, or-refused}
+use Rattle.words.specs.Check.{step_of}
+use Rattle.words.proofs.Steps.{passed}
+use Rattle.modelitems.specs.Onward.{NumbersRead}
+use Rattle.modelitems.proofs.Steps.{no_word, or-refused}
 use Rattle.modelitems.proofs.Inner.{part_length, numbers-passed, more_numbers}
 use Rattle.modelitems.proofs.items.numbers_at.Goals.{After-over}
 use Rattle.modelitems.proofs.items.numbers_at.Goals as goal

@@ -2,7 +2,9 @@
 use Rattle.std.proofs.Common.{sym, ◌∙◌, arith, eqb-true}
 use Rattle.std.proofs.lemmas.Result.{err_from_is_err_and}
 use borrow.Author.Tests.{eqb-false}
-use Rattle.modelitems.proofs.Steps.{passed, refused}
+use Rattle.words.specs.Word.{kind}
+use Rattle.words.proofs.Steps.{passed, refused}
+use Rattle.models.specs.Reading.{fault_upper_in}
 use Rattle.modelitems.proofs.Variable.{refused-first, pair, boolean}
 use Rattle.modelitems.proofs.items.variable_at.Goals as goal
 
@@ -16,6 +18,7 @@ pub over-requires-then-is : goal.over-requires-then-is
 over-requires-then-is c = omega (arith, (passed _ _ c.over.ensures c.in_ok-next.was).1, c.requires.0.within, c.requires.0.few)
 
 pub returns-then-is : goal.returns-then-is
+unfolding fault_upper_in kind
 returns-then-is c d e n =
     let q = passed _ _ c.over.ensures c.in_ok-next.was in
     rw (c.over-then-is.ensures, q.1)

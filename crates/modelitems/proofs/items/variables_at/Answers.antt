@@ -1,9 +1,11 @@
 use Rattle.std.proofs.Common.{◌≡◌, refl, ◌+◌, ◌-◌, arith, map}
 use Rattle.std.proofs.lemmas.Result.{err_from_is_err_and}
 use Rattle.words.specs.Word.{word_at}
+use Rattle.words.specs.Check.{step_of}
+use Rattle.words.proofs.Steps.{passed}
 use Rattle.models.specs.Shapes.{shape_number}
-use Rattle.modelitems.specs.Onward.{VariablesRead, step_of}
-use Rattle.modelitems.proofs.Steps.{no_word, passed, or-refused}
+use Rattle.modelitems.specs.Onward.{VariablesRead}
+use Rattle.modelitems.proofs.Steps.{no_word, or-refused}
 use Rattle.modelitems.proofs.Inner.{more-variables, no-variable}
 use Rattle.modelitems.proofs.items.variables_at.Goals.{After-over}
 use Rattle.modelitems.proofs.items.variables_at.Goals as goal

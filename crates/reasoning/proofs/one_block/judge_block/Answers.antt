@@ -4,12 +4,12 @@ use Rattle.integers.specs.Terms.{value}
 use Rattle.reasoning.proofs.Fronted.{outside-few, outside-said, after-bounds, rows-accepted, no-variables}
 use Rattle.reasoning.proofs.one_block.judge_block.Goals as goal
 
-pub counted_on-requires : goal.counted_on-requires
-counted_on-requires c = (outside-few c.requires.0.layable.reads c.lay_block-laid.ensures c.args.values.now c.requires.0.there c.first_out_of_bounds-found.ensures, c.requires.0.layable.near)
+pub counted_on-said-requires : goal.counted_on-said-requires
+counted_on-said-requires c = (outside-few c.requires.0.readable.reads c.lay_block-laid.ensures c.args.values.now c.requires.0.there c.first_out_of_bounds-found.ensures, c.requires.0.readable.near)
 
 pub returns-then-bounds : goal.returns-then-bounds
-returns-then-bounds c = rw c.if-bounds.true (outside-said c.requires.0.layable.reads c.lay_block-laid.ensures c.args.values.now c.requires.0.there c.first_out_of_bounds-found.ensures c.counted_on.ensures)
+returns-then-bounds c = rw c.if-bounds.true (outside-said c.requires.0.readable.reads c.lay_block-laid.ensures c.args.values.now c.requires.0.there c.first_out_of_bounds-found.ensures c.counted_on-said.ensures)
 
-pub first_false_row-found-requires : goal.first_false_row-found-requires
+pub first_false_row-said-requires : goal.first_false_row-said-requires
 unfolding value
-first_false_row-found-requires c = (after-bounds c.requires.0.layable.reads c.lay_block-laid.ensures, (omega (arith, c.lay_block-laid.ensures.auxiliaries, c.requires.0.there), λ x l. c.requires.0.small c.if-bounds.false x), rows-accepted c.requires.0.layable.reads c.lay_block-laid.ensures, no-variables c.requires.0.layable.reads c.lay_block-laid.ensures, omega (arith, c.lay_block-laid.ensures.small, c.requires.0.layable.near), c.requires.1)
+first_false_row-said-requires c = (after-bounds c.requires.0.readable.reads c.lay_block-laid.ensures, (omega (arith, c.lay_block-laid.ensures.auxiliaries, c.requires.0.there), λ x l. c.requires.0.small c.if-bounds.false x), rows-accepted c.requires.0.readable.reads c.lay_block-laid.ensures, no-variables c.requires.0.readable.reads c.lay_block-laid.ensures, omega (arith, c.lay_block-laid.ensures.small, c.requires.0.readable.near), c.requires.1)

@@ -6,4 +6,4 @@ use Rattle.reasoning.proofs.Walk.{Walking}
 use Rattle.reasoning.proofs.walks.walk.Given as goal
 
 abbrev pub invariant-loop-k : goal.invariant-loop-k
-invariant-loop-k l = Walking l.bounds (bounds_in l.domains) (shared_by l.uses) l.ws l.values l.k l.first l.rows l.encoded × (length l.words ≡ 3072)
+invariant-loop-k l = Walking l.bounds (bounds_in l.read.domains) (shared_by l.read.uses) l.read.ws.now l.values l.k l.first l.rows l.encoded × (length l.words ≡ 3072)

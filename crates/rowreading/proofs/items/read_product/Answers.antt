@@ -4,12 +4,12 @@ use Rattle.std.specs.Prelude.{IfOk}
 use Rattle.std.proofs.lemmas.Result.{err_from_is_err_and, IfOk-weaker}
 use Rattle.words.specs.Word.{word_at}
 use Rattle.words.specs.declared.fault.Refusal.{Refusal}
+use Rattle.words.specs.Check.{step_of, step_over}
 use Rattle.rowsystems.specs.Reading.{fault_variable, fault_result}
 use Rattle.rowsystems.specs.RowSystem.{variable_at}
 use Rattle.rowsystems.specs.declared.Due.TheVariants as due
 use Rattle.rowreading.specs.Item.{Declared}
-use Rattle.rowreading.specs.Onward.{StepsTo, step_over}
-use Rattle.rowreading.specs.Step.{step_of}
+use Rattle.rowreading.specs.Onward.{StepsTo}
 use Rattle.rowreading.proofs.Answered.{step-on, step-out, step-then, passed, passed_to, declared, declared-result}
 use Rattle.rowreading.proofs.Inner.{product-result, first-factor, second-factor}
 use Rattle.rowreading.proofs.items.read_product.Goals as goal

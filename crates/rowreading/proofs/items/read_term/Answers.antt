@@ -1,9 +1,9 @@
 -- The variable, and if it has no fault the coefficient.
 use Rattle.std.proofs.Common.{refl, ℕ, suc, arith}
 use Rattle.std.proofs.lemmas.Result.{err_from_is_err_and}
+use Rattle.words.specs.Check.{step_of}
 use Rattle.rowsystems.specs.declared.Due.TheVariants.{Terms, Coefficient}
 use Rattle.rowreading.specs.Onward.{StepsTo}
-use Rattle.rowreading.specs.Step.{step_of}
 use Rattle.rowreading.proofs.Answered.{step-on, step-out, step-then}
 use Rattle.rowreading.proofs.Inner.{term-variable, term-coefficient}
 use Rattle.rowreading.proofs.items.read_term.Goals.{After-variable_at}

@@ -17,6 +17,3 @@ loop-k-preserved c =
       omega (arith, c.loop-k.invariant.0, c.one_if-m.ensures, bit_le (not c.is_kept.result)),
       ap₂ ◌+◌ c.loop-k.invariant.1 e ∙ sym (left-more _ _ _ c.loop-k.k),
     )
-
-pub overflow_add-m : goal.overflow_add-m
-overflow_add-m c = omega (arith, c.loop-k.invariant.0, c.one_if-m.ensures, bit_le (not c.is_kept.result), c.loop-k-test.true, c.requires.0)

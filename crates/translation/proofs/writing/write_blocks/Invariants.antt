@@ -6,4 +6,4 @@ use Rattle.translation.proofs.WriteWalk.{Writing}
 use Rattle.translation.proofs.writing.write_blocks.Given as goal
 
 abbrev pub invariant-loop-k : goal.invariant-loop-k
-invariant-loop-k l = Writing (bounds_in l.domains) (shared_by l.uses) l.initial.first (constraints l.ws) l.initial.out l.initial.at l.out l.k l.first l.at l.encoded
+invariant-loop-k l = Writing (bounds_in l.read.domains) (shared_by l.read.uses) l.initial.first (constraints l.read.ws.now) l.initial.out l.initial.at l.out l.k l.first l.at l.encoded

@@ -1,0 +1,6 @@
+-- The invariant: the words before place k are laid.
+use Rattle.words.proofs.Rest.{FirstLaid}
+use Rattle.laying.proofs.put_words.Given as goal
+
+abbrev pub invariant-loop-k : goal.invariant-loop-k
+invariant-loop-k l = FirstLaid l.initial.out l.at l.words l.out l.k
