@@ -195,7 +195,7 @@ struct pearrummy_written pearrummy_pair_translate(const uint32_t *words, size_t 
 struct pearrummy_judgement pearrummy_pair_judge_model(const uint32_t *words, size_t words_count, uint32_t candidate, const int32_t *values, size_t values_count);
 
 /* Judges values of the variables of a candidate's model and, where they hold, writes them and the auxiliaries to the front of `out`.
- * Stack: 50 KiB. */
+ * Stack: 51 KiB. */
 struct pearrummy_judgement pearrummy_pair_fill(const uint32_t *words, size_t words_count, uint32_t candidate, const int32_t *values, size_t values_count, int32_t *out, size_t out_count);
 
 /* Writes the words of the quadratic form over bits of a row system to the front of `out`: the constant, then for each pair of bits whose entry is
