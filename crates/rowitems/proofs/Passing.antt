@@ -1,5 +1,5 @@
 -- One item: reading on from its head, what its kind says, and whether it is true.
-use Rattle.std.proofs.Common.{◌≡◌, refl, ap, ◌∙◌, ◌⊎◌, inl, inr, ⊎_elim, Bool, true, false, ◌||◌, List, ℕ, ◌+◌, ◌<◌, ◌≤◌, arith, ltb-false, eqb-true, eq-eqb, ne_eqb, le-leb, eqb, ltb, length, drop, Result}
+use Rattle.std.proofs.Common.{◌≡◌, refl, ap, ◌∙◌, ◌⊎◌, inl, inr, ⊎_elim, Bool, true, false, ◌||◌, List, ℕ, ◌+◌, ◌*◌, ◌<◌, ◌≤◌, arith, ltb-false, eqb-true, eq-eqb, ne_eqb, le-leb, le-ltb, eqb, ltb, ℤ, length, drop, Result}
 use Rattle.std.specs.Prelude.{IfOk}
 use Rattle.std.proofs.lemmas.Result.{IfOk-weaker}
 use borrow.Author.Tests.{eqb-false}
@@ -15,7 +15,7 @@ use Rattle.words.specs.Word.{kind, payload, word_at}
 use Rattle.variables.specs.Start.{starts}
 use Rattle.rowsystems.specs.Reading.{fault_item, fault_source, after_due, after_item, started}
 use Rattle.rowsystems.specs.Row.{product, satisfied}
-use Rattle.rowsystems.specs.RowSystem.{variable_at, terms_in, constant_in, term_count}
+use Rattle.rowsystems.specs.RowSystem.{number_at, variable_at, terms_in, constant_in, term_count}
 use Rattle.rowsystems.specs.OneWord.{starts_sum, starts_row, row_of}
 use Rattle.rowsystems.specs.declared.Due.{Due}
 use Rattle.rowsystems.specs.declared.Due.TheVariants as due
@@ -27,7 +27,7 @@ use Rattle.rowterms.specs.Values.{is_true}
 use Rattle.rowterms.specs.declared.Seen.{Seen}
 use Rattle.words.specs.declared.fault.Refusal.{Refusal}
 use Rattle.words.specs.Check.{Step}
-use Rattle.rowterms.proofs.Sums.{word-from}
+use Rattle.rowterms.proofs.Sums.{word-from, constant-from}
 use Rattle.rowitems.specs.Passing.{ItemPassed}
 
 -- ---- reading on from the head
@@ -143,6 +143,22 @@ module _ (w : ℕ) (t : starts_sum w ≡ true) where
       (λ k. rw (eq-eqb (kind w) Kind.at_most k, le-leb (payload w) Limit.terms h))
       (λ k. rw (ne_eqb (kind w) Kind.at_most (λ i. omega (arith, i, k)), eq-eqb (kind w) Kind.equal k, le-leb (payload w) Limit.terms h))
       (sum-kind w t)
+
+-- a row at a place, whose terms are not too many: its head has no fault, and what is due after it are its terms
+module _ (ws : List ℕ) (at w : ℕ) (l : at ≤ length ws) (e : w ≡ word_at ws at) (t : starts_sum w ≡ true) (h : payload w ≤ Limit.terms) where
+  pub row-head : (n : ℕ) (s : Bool) → Head ws s n at w 0
+  row-head n s = record { within = l; word = e; fault = rw (sum-fault w t s n, le-ltb Limit.terms (payload w) h) }
+
+  pub row-passed : {s : Bool} {n : ℕ} {to : Due} {r : Step} → StepsTo ws n (due.Terms (payload w)) (at + 1) to r → ItemPassed ws s n at to n r
+  row-passed {s} {n} g = head-then (row-head n s) refl (omega (arith, none-started w (sum-starts w t))) (rw (sum-due w t) g)
+
+  -- it is true or not, as what its terms add up to and its constant say
+  pub row-true : (σ : Valuation) → is_true w (sum σ (terms_in (drop (at + 1) ws) (payload w)) ⊕ number_at ws (at + 1 + 2 * payload w)) ≡ satisfied σ (row_of w (drop (at + 1) ws))
+  row-true σ = rw (constant-from ws (at + 1) (payload w) (at + 1 + 2 * payload w) refl) (sum-true w t σ (drop (at + 1) ws) h)
+
+  pub row-judges : (σ : Valuation) {terms k : ℕ} {total : ℤ} {holds : Bool} → terms ≡ payload w → k ≡ terms → total ≡ sum σ (terms_in (drop (at + 1) ws) k) →
+      holds ≡ is_true w (total ⊕ number_at ws (at + 1 + 2 * terms)) → holds ≡ satisfied σ (row_of w (drop (at + 1) ws))
+  row-judges σ p q r s = s ∙ rw (r, q, p) (row-true σ)
 
 pub product-row : (w : ℕ) → kind w ≡ Kind.product → starts_row w ≡ true
 unfolding starts_row

@@ -6,14 +6,14 @@
 // each time and be no plainer.
 #![tactic(auto)]
 
-ghost use Rattle.std.specs.Prelude.{◌≡◌, true, false, not, ◌+◌, ◌≤◌, IfOk, eqb, drop};
+ghost use Rattle.std.specs.Prelude.{◌≡◌, Bool, true, false, not, ◌+◌, ◌*◌, ◌<◌, ◌≤◌, IfOk, IfErr, Err, eqb, length, drop};
 ghost use Rattle.integers.specs.Bounds.{◌to◌, within};
 ghost use Rattle.integers.specs.Terms.{value};
 ghost use Rattle.words.specs.Kind as kinds;
 ghost use Rattle.words.specs.Kinds.{kind_number};
 ghost use Rattle.words.specs.Limit as Limit;
-ghost use Rattle.words.specs.Word.{kind, signed, word_at};
-ghost use Rattle.words.specs.Check.{step_over};
+ghost use Rattle.words.specs.Word.{kind, payload, signed, word_at};
+ghost use Rattle.words.specs.Check.{step_of, step_over};
 ghost use Rattle.variables.specs.Start.{starts, pair_bounds};
 ghost use Rattle.rowsystems.specs.Reading.{fault_upper};
 ghost use Rattle.rowsystems.specs.Row.{satisfied};
@@ -25,9 +25,8 @@ ghost use Rattle.rowitems.specs.Passing.{ItemPassed};
 
 use rowfaults::{check_head, check_row, check_start};
 use rowreading::items::upper_at;
-use rowreading::rows::starts_sum;
 use rowsystems::Due;
-use rowterms::{Seen, see_cut, see_factors, see_terms};
+use rowterms::{Seen, see_cut, see_factors};
 use variables::between;
 use words::fault::{Fault, Refusal};
 use words::kind::Kind;
@@ -58,7 +57,7 @@ pub fn see_variable(
     ensures step { ItemPassed ws.now sources n at (start_due (not (eqb (kind head) kinds.auxiliary_lower))) (n + 1) (seen_step result) }
     ensures truth { IfOk result (λ s. s.holds ≡ within (pair_bounds head (word_at ws.now (at + 1))) v) }
 {
-    // No `?` of `over`, here, in see_row and in see_other: tried, and the proof did not close by search alone.
+    // No `?` of `over`, here, in row_terms and in see_other: tried, and the proof did not close by search alone.
     if let Err(fault) = check_start(sources, n, head) {
         return Err(Refusal { fault, place: at });
     }
@@ -74,31 +73,24 @@ pub fn see_variable(
     })
 }
 
-// A row.
-fn see_row(
-    ws: &[u32],
-    sources: bool,
-    head: Word,
-    n: usize,
-    at: usize,
-    values: &[i32],
-) -> Result<Seen, Refusal>
-    requires { Placed ws.now at × (head ≡ word_at ws.now at) × ValuesKnown values.now n × (starts_sum head ≡ true) }
-    ensures step { ItemPassed ws.now sources n at Due.Item n (seen_step result) }
-    ensures truth { IfOk result (λ s. s.holds ≡ satisfied (value values.now) (row_of head (drop (at + 1) ws.now))) }
+// How many terms a row has whose words are all there; else the row is refused: its head, or the word at which it is cut or faulty.
+pub fn row_terms(ws: &[u32], head: Word, n: usize, at: usize) -> Result<usize, Refusal>
+    requires { Placed ws.now at × (head ≡ word_at ws.now at) × (starts_sum head ≡ true) }
+    ensures whole { IfOk result (λ terms. (terms ≡ payload head) × (terms ≤ Limit.terms) × (at + 1 + 2 * terms < length ws.now)) }
+    ensures halts { IfErr result (λ r. (sources : Bool) → ItemPassed ws.now sources n at Due.Item n (step_of (Err r))) }
 {
     if let Err(fault) = check_row(head) {
         return Err(Refusal { fault, place: at });
     }
     let terms = head.payload();
     if at + 1 + 2 * terms < ws.len() {
-        return see_terms(ws, head, n, at + 1, values);
+        return Ok(terms);
     }
     Err(see_cut(ws, n, at + 1, terms))
 }
 
 // A product; or the end, answered as the fault that a word after it would have.
-fn see_other(
+pub fn see_other(
     ws: &[u32],
     sources: bool,
     head: Word,
@@ -120,23 +112,4 @@ fn see_other(
         fault: Fault::WordAfterEnd,
         place: at + 1,
     })
-}
-
-// A row, a product or the end.
-pub fn see_item(
-    ws: &[u32],
-    sources: bool,
-    head: Word,
-    n: usize,
-    at: usize,
-    values: &[i32],
-) -> Result<Seen, Refusal>
-    requires { Placed ws.now at × (head ≡ word_at ws.now at) × ValuesKnown values.now n × (starts head ≡ false) }
-    ensures step { ItemPassed ws.now sources n at Due.Item n (seen_step result) }
-    ensures truth { IfOk result (λ s. (starts_row head ≡ true) × (s.holds ≡ satisfied (value values.now) (row_of head (drop (at + 1) ws.now)))) }
-{
-    if starts_sum(head.bits()) {
-        return see_row(ws, sources, head, n, at, values);
-    }
-    see_other(ws, sources, head, n, at, values)
 }

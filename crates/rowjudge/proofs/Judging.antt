@@ -8,6 +8,7 @@ use Rattle.integers.proofs.Tests.{false-true, says-within}
 use Rattle.words.specs.Answer.{Answer, out_of_bounds, is_false}
 use Rattle.words.specs.Faults.{refusal_of, said_of}
 use Rattle.words.specs.Judge.{first_false, first_out_of_bounds}
+use Rattle.words.specs.Fault as Fault
 use Rattle.words.specs.Kind as Kind
 use Rattle.words.specs.Small.{Near}
 use Rattle.words.specs.Variables.{starts_pair, variables}
@@ -190,16 +191,26 @@ module _ {ws : List ℕ} {vs : List ℤ} {before start first n k : ℕ} {said : 
   unfolding first_out_of_bounds
   all-judged j h = none_told (satisfied (value vs)) k said ∙ rw (at_last ws at h, none_left ws at h) at j.told
 
--- a fault past the end word is none, and all is judged
+-- the pass stops at a place with a fault, which is none past the end word: then all is judged
+pub record Stopping (ws : List ℕ) (vs : List ℤ) (sources : Bool) (before start first n : ℕ) (said : Verdict) (f p : ℕ) : Type 0 where
+  pub faulty : f ≡ 0 → ⊥
+  pub reads : stopped ws f p ≡ onward (start_due sources) before start ws
+  pub all : f ≡ Fault.word_after_end → length ws ≤ p → (n ≡ before + length (variables (drop start ws))) × (said_of said ≡ judged_on ws vs before start first)
+
 pub stops : {ws : List ℕ} {vs : List ℤ} {sources : Bool} {before start first n k : ℕ} {said : Verdict} {at : ℕ} {s : Bool} {m : ℕ} {d : Due} {r : Step} →
     Judging ws vs before start first n k said at → ItemPassed ws s n at d m r → (r.number ≡ 0 → ⊥) → onward (start_due s) n at ws ≡ onward (start_due sources) before start ws →
-    (q : Result Judged Refusal) → refusal_of q ≡ stopped ws r.number r.at → IfOk q (λ j. (j.variables ≡ n) × (j.said ≡ said)) → JudgedOn ws vs sources before start first q
-stops {ws} {vs} {n = n} {k} {said} {r = r} j g z e (Err x) a b = record { reads = a ∙ sym (halts g z) ∙ e; counts = tt; says = tt }
-stops {ws} {vs} {n = n} {k} {said} {r = r} j g z e (Ok x) a b =
-    let end = at_the_end ws r.number r.at z (ap (λ (x : refusal.Refusal). x.number) (sym a)) in
-    let past = plain-to j (g.last end.0) g.on g.inside in
+    Stopping ws vs sources before start first n said r.number r.at
+stops {ws} {vs} {n = n} {said = said} {r = r} j g z e =
     record {
-      reads = a ∙ sym (halts g z) ∙ e;
-      counts = b.0 ∙ all-counted past end.1;
-      says = λ h. ap said_of b.1 ∙ all-judged past end.1;
+      faulty = z;
+      reads = sym (halts g z) ∙ e;
+      all = λ f h. let past = plain-to j (g.last f) g.on g.inside in (all-counted past h, all-judged past h);
     }
+
+pub stopped-judged : {ws : List ℕ} {vs : List ℤ} {sources : Bool} {before start first n : ℕ} {said : Verdict} {f p : ℕ} → Stopping ws vs sources before start first n said f p →
+    (q : Result Judged Refusal) → refusal_of q ≡ stopped ws f p → IfOk q (λ j. (j.variables ≡ n) × (j.said ≡ said)) → JudgedOn ws vs sources before start first q
+stopped-judged s (Err x) a b = record { reads = a ∙ s.reads; counts = tt; says = tt }
+stopped-judged {ws} {f = f} {p} s (Ok x) a b =
+    let end = at_the_end ws f p s.faulty (ap (λ (x : refusal.Refusal). x.number) (sym a)) in
+    let all = s.all end.0 end.1 in
+    record { reads = a ∙ s.reads; counts = b.0 ∙ all.0; says = λ h. ap said_of b.1 ∙ all.1 }

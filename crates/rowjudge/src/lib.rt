@@ -13,9 +13,11 @@ ghost use Rattle.rowreading.specs.Onward.{onward, stopped, Placed};
 ghost use Rattle.rowterms.specs.Values.{ValuesKnown};
 ghost use Rattle.rowjudge.specs.Judging.{JudgedOn, ValueOrOutside, with_row};
 
-use rowitems::{see_item, see_variable};
+use integers::plus;
+use rowitems::{row_terms, see_other, see_variable};
+use rowreading::rows::starts_sum;
 use rowreading::{read_on, refusal_at};
-use rowterms::known_value;
+use rowterms::{known_value, see_constant, see_term};
 use variables::starts_variable;
 use words::answer::Verdict;
 use words::fault::{Fault, Refusal};
@@ -92,15 +94,15 @@ pub fn judge_on(
     let mut at = start;
     let mut rows = k;
     let mut said = Verdict::Holds;
-    // no list or count to go over: the pass ends by what it reads
-    loop {
+    // no list or count to go over: the pass ends by what it reads, in the middle of a row's terms too (01 names this form)
+    let found = 'items: loop {
         let head = Word::at(ws, at);
         if starts_variable(head) {
             let v = value_or_outside(values, n);
             // no `?`, here and below: at the end of the words judge_end accepts
             let seen = match see_variable(ws, sources, head, n, at, v) {
                 Ok(seen) => seen,
-                Err(found) => return judge_end(ws, found, n, said),
+                Err(refusal) => break refusal,
             };
             at = seen.at;
             sources = !head.is(Kind::AuxiliaryLower);
@@ -108,17 +110,38 @@ pub fn judge_on(
                 return judge_rest(ws, sources, n, at);
             }
             n += 1;
-        } else {
-            let seen = match see_item(ws, sources, head, n, at, values) {
+        } else if starts_sum(head.bits()) {
+            let terms = match row_terms(ws, head, n, at) {
+                Ok(terms) => terms,
+                Err(refusal) => break refusal,
+            };
+            let mut total = 0;
+            for term in 0..terms {
+                match see_term(ws, n, at + 1 + 2 * term, values) {
+                    Ok(product) => total = plus(total, product),
+                    Err(refusal) => break 'items refusal,
+                }
+            }
+            let seen = match see_constant(ws, head, n, at + 1 + 2 * terms, total) {
                 Ok(seen) => seen,
-                Err(found) => return judge_end(ws, found, n, said),
+                Err(refusal) => break refusal,
+            };
+            at = seen.at;
+            sources = false;
+            said = with_row(said, seen.holds, rows);
+            rows += 1;
+        } else {
+            let seen = match see_other(ws, sources, head, n, at, values) {
+                Ok(seen) => seen,
+                Err(refusal) => break refusal,
             };
             at = seen.at;
             sources = false;
             said = with_row(said, seen.holds, rows);
             rows += 1;
         }
-    }
+    };
+    judge_end(ws, found, n, said)
 }
 
 // "Holds", else the first variable out of bounds, else the first false row or product; a refusal comes first.

@@ -4,12 +4,11 @@ use lib.ListN.{get_or-eq_default}
 use Rattle.words.specs.Fault as Fault
 use Rattle.words.specs.Limit as Limit
 use Rattle.words.specs.Word.{kind, word_at}
-use Rattle.words.specs.Check.{fault_number_in, step_over}
-use Rattle.rowsystems.specs.Reading.{fault_variable}
+use Rattle.words.specs.Check.{Step, fault_number_in, step_over}
 use Rattle.rowsystems.specs.declared.Due.{Due}
-use Rattle.rowsystems.specs.declared.Due.TheVariants.{Terms, Coefficient, Item}
+use Rattle.rowsystems.specs.declared.Due.TheVariants.{Terms, Item}
 use Rattle.rowreading.specs.Onward.{StepsTo}
-use Rattle.rowreading.proofs.Inner.{term-variable, term-coefficient, row-constant}
+use Rattle.rowreading.proofs.Inner.{row-constant}
 use Rattle.rowreading.proofs.Steps.{and_then, or-halted}
 
 -- past a word without a fault, or to its fault
@@ -31,20 +30,20 @@ module _ (ws : List ℕ) (n start terms k : ℕ) (g : StepsTo ws n (Terms terms)
   abbrev place : ℕ
   place = start + 2 * k
 
-  pub next-variable : k < terms → StepsTo ws n (Terms terms) start (Coefficient (terms - (k + 1))) (step_over (fault_variable n (word_at ws place)) place)
-  next-variable h =
+  -- past the next term, or to its fault
+  pub next-term : {r : Step} → k < terms → ((left : ℕ) → StepsTo ws n (Terms (suc left)) place (Terms left) r) → StepsTo ws n (Terms terms) start (Terms (terms - (k + 1))) r
+  next-term h f =
       let e : suc (terms - (k + 1)) ≡ terms - k = omega arith in
-      and_then g refl refl (rw e at (term-variable ws n place g.inside (terms - (k + 1))))
+      and_then g refl refl (rw e at (f (terms - (k + 1))))
 
-  pub next-coefficient : k < terms → fault_variable n (word_at ws place) ≡ 0 →
-      StepsTo ws n (Terms terms) start (Terms (terms - (k + 1))) (step_over (fault_number_in Limit.range (word_at ws (place + 1))) (place + 1))
-  next-coefficient h z =
-      let v = step-goes place (next-variable h) z in
-      and_then v refl refl (term-coefficient ws n (place + 1) v.inside (terms - (k + 1)))
+  -- past what follows the last term, or to its fault
+  pub after-terms : {r : Step} → k ≡ terms → StepsTo ws n (Terms 0) (start + 2 * terms) Item r → StepsTo ws n (Terms terms) start Item r
+  after-terms e f =
+      let z : terms - k ≡ 0 = omega arith in
+      let a : start + 2 * k ≡ start + 2 * terms = omega arith in
+      and_then (rw (z, a) at g) refl refl f
 
   pub next-constant : k ≡ terms → StepsTo ws n (Terms terms) start Item (step_over (fault_number_in Limit.range (word_at ws (start + 2 * terms))) (start + 2 * terms))
   next-constant e =
-      let z : terms - k ≡ 0 = omega arith in
       let a : start + 2 * k ≡ start + 2 * terms = omega arith in
-      let v = rw (z, a) at g in
-      and_then v refl refl (row-constant ws n (start + 2 * terms) v.inside)
+      after-terms e (row-constant ws n (start + 2 * terms) (omega (arith, g.inside)))

@@ -1,18 +1,17 @@
-// The terms of a row and the variables of a product, read and judged by the values of the variables at once.
-// A fault of a word comes with its place; else the row or the product is true or not.
+// A term and the constant of a row, and the variables of a product, read and judged by the values of the variables at once.
+// A fault of a word comes with its place.
 #![tactic(auto)]
 
-ghost use Rattle.std.specs.Prelude.{◌≡◌, ◌+◌, ◌*◌, ◌<◌, ◌≤◌, IfOk, Err, length, drop, nat_abs};
-ghost use Rattle.integers.specs.Number.{◌⊗◌};
+ghost use Rattle.std.specs.Prelude.{◌≡◌, ℕ, suc, ◌+◌, ◌*◌, ◌<◌, ◌≤◌, IfOk, Err, length, nat_abs};
+ghost use Rattle.integers.specs.Number.{◌⊕◌, ◌⊗◌};
 ghost use Rattle.integers.specs.Terms.{value};
 ghost use Rattle.words.specs.Check.{step_of};
-ghost use Rattle.words.specs.Limit as Limit;
 ghost use Rattle.words.specs.Small.{Near};
-ghost use Rattle.words.specs.Word.{payload, signed};
+ghost use Rattle.words.specs.Word.{signed};
 ghost use Rattle.rowsystems.specs.Row.{product, satisfied};
-ghost use Rattle.rowsystems.specs.RowSystem.{variable_at};
+ghost use Rattle.rowsystems.specs.RowSystem.{number_at, variable_at};
 ghost use Rattle.rowreading.specs.Onward.{Placed, StepsTo};
-ghost use Rattle.rowterms.specs.Values.{seen_step, ValuesKnown, is_true, row_total};
+ghost use Rattle.rowterms.specs.Values.{seen_step, term_step, ValuesKnown, is_true};
 
 use integers::{equal, plus, times};
 use rowfaults::{is_variable, variable_fault};
@@ -59,38 +58,41 @@ fn term_of(values: &[i32], c: Word, x: usize) -> i64
     times(c.signed(), known_value(values, x))
 }
 
-// The terms and the constant of a row, all of which are there. The tests stand first: with `?` the loop takes 5 to 10 in 100 longer.
-pub fn see_terms(
+// A term, both of whose words are there: its coefficient times the value of its variable, or the fault of one of the two.
+pub fn see_term(ws: &[u32], n: usize, place: usize, values: &[i32]) -> Result<i64, Refusal>
+    requires { ValuesKnown values.now n × (place + 1 < length ws.now) }
+    ensures steps { (left : ℕ) → StepsTo ws.now n (Due.Terms (suc left)) place (Due.Terms left) (term_step place result) }
+    ensures value { IfOk result (λ t. t ≡ number_at ws.now (place + 1) ⊗ value values.now (variable_at ws.now place)) }
+    ensures size { IfOk result (λ t. nat_abs t ≤ 18014398509481984) }
+{
+    let x = Word::from(ws[place]);
+    if !is_variable(n, x) {
+        let fault = variable_fault(n, x);
+        return Err(Refusal { fault, place });
+    }
+    let c = Word::from(ws[place + 1]);
+    if !is_number(c) {
+        let fault = number_fault(c);
+        return Err(Refusal {
+            fault,
+            place: place + 1,
+        });
+    }
+    Ok(term_of(values, c, x.payload()))
+}
+
+// The constant of a row, which is there, after terms that add up to a total; and whether the row is true.
+pub fn see_constant(
     ws: &[u32],
     head: Word,
     n: usize,
-    start: usize,
-    values: &[i32],
+    place: usize,
+    total: i64,
 ) -> Result<Seen, Refusal>
-    requires { Placed ws.now start × ValuesKnown values.now n × (payload head ≤ Limit.terms) × (start + 2 * payload head < length ws.now) }
-    ensures step { StepsTo ws.now n (Due.Terms (payload head)) start Due.Item (seen_step result) }
-    ensures truth { IfOk result (λ seen. seen.holds ≡ is_true head (row_total values.now (drop start ws.now) (payload head))) }
+    requires { (place < length ws.now) × (nat_abs total ≤ 4611686018427387904) }
+    ensures step { StepsTo ws.now n (Due.Terms 0) place Due.Item (seen_step result) }
+    ensures truth { IfOk result (λ seen. seen.holds ≡ is_true head (total ⊕ number_at ws.now place)) }
 {
-    let terms = head.payload();
-    let mut total: i64 = 0;
-    for k in 0..terms {
-        let place = start + 2 * k;
-        let x = Word::from(ws[place]);
-        if !is_variable(n, x) {
-            let fault = variable_fault(n, x);
-            return Err(Refusal { fault, place });
-        }
-        let c = Word::from(ws[place + 1]);
-        if !is_number(c) {
-            let fault = number_fault(c);
-            return Err(Refusal {
-                fault,
-                place: place + 1,
-            });
-        }
-        total = plus(total, term_of(values, c, x.payload()));
-    }
-    let place = start + 2 * terms;
     let c = Word::from(ws[place]);
     if !is_number(c) {
         let fault = number_fault(c);
