@@ -9,6 +9,7 @@ ghost use Rattle.rules.specs.Check.{check as check_answer};
 ghost use Rattle.rules.specs.Translate.{translate as translate_answer, translated};
 ghost use Rattle.rules.specs.Fill.{fill as fill_answer, filled};
 ghost use Rattle.sheets.specs.Sheet.{sheet as sheet_answer, sheet_page};
+ghost use Rattle.sheets.specs.EightyColumns.{EightyColumns};
 ghost use Rattle.translation.specs.Shares.{Shares};
 ghost use Rattle.filling.specs.HandsOver.{HandsOver};
 ghost use Rattle.filling.specs.Satisfied.{Satisfied};
@@ -117,6 +118,7 @@ pub extern "C" fn pearrummy_fill(words: &[u32], values: &[i32], out: &mut [i32])
 pub extern "C" fn pearrummy_sheet(words: &[u32], page: &mut [u8]) -> PrintedBytes
     ensures answer { result ≡ printed_of (sheet_answer words.now (length page.old)) }
     ensures page { page.new ≡ sheet_page words.now page.old }
+    ensures lines { EightyColumns (sheet_answer words.now (length page.old)) page.new }
 {
     PrintedBytes::from(sheet(words, page))
 }

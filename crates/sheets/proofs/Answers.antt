@@ -8,15 +8,20 @@ use Rattle.words.proofs.Answers.{first-answers}
 use Rattle.words.proofs.Reading.{some-fault}
 use Rattle.rowsystems.specs.Reading.{read_rows}
 use Rattle.sheets.specs.Sheet.{sheet_text, sheet_fault, sheet, sheet_page}
+use Rattle.sheets.specs.EightyColumns.{EightyColumns}
+use Rattle.sheets.proofs.EightyColumns.{columns_of}
 
 module _ (ws page : List ℕ) where
   -- the answer, and the page afterwards
   abbrev pub Promise : Answer → List ℕ → Type 0
-  Promise answer later = record { answer : answer ≡ sheet ws (length page); page : later ≡ sheet_page ws page }
+  Promise given later = record { answer : given ≡ sheet ws (length page); page : later ≡ sheet_page ws page; lines : EightyColumns given later }
+
+  promise : {given : Answer} {later : List ℕ} → given ≡ sheet ws (length page) → later ≡ sheet_page ws page → Promise given later
+  promise e f = record { answer = e; page = f; lines = columns_of ws page e f }
 
   refuses : (n p : ℕ) (after : Refusal) → (n ≡ 0 → ⊥) → sheet_fault ws (length page) ≡ (n at_place p else_refuse after) → Promise (refused n p) page
   unfolding sheet sheet_page ◌else_refuse◌
-  refuses n p after f e = record { answer = rw e (first-answers n p after _ f); page = rw (e, ← some-fault n p after f, ne_eqb n 0 f) }
+  refuses n p after f e = promise (rw e (first-answers n p after _ f)) (rw (e, ← some-fault n p after f, ne_eqb n 0 f))
 
   pub stands : (n p : ℕ) → (n ≡ 0 → ⊥) → n at_place p ≡ read_rows ws → Promise (refused n p) page
   unfolding sheet_fault
@@ -29,4 +34,4 @@ module _ (ws page : List ℕ) where
 
     pub writes : length (sheet_text ws) ≤ length page → Promise (written (length (sheet_text ws))) (overlay page 0 (sheet_text ws))
     unfolding sheet sheet_page sheet_fault room_fault ◌else_refuse◌ ◌else_answer◌
-    writes l = let f = le-ltb (length page) (length (sheet_text ws)) l in record { answer = rw (← e, f); page = rw (← e, f) }
+    writes l = let f = le-ltb (length page) (length (sheet_text ws)) l in promise (rw (← e, f)) (rw (← e, f))

@@ -1,11 +1,12 @@
 -- Every line of a sheet has exactly 80 printed columns and a line feed, for every accepted row system; so its bytes are 81 times its lines.
-use Rattle.std.proofs.Common.{◌≡◌, refl, ◌∙◌, Bool, true, false, List, [], ◌∷◌, ◌++◌, append_assoc, ℕ, zero, suc, ◌+◌, ◌-◌, ◌*◌, ◌/◌, ◌%◌, ◌≤◌, ◌<◌, arith, ltb, ℤ, pos, negsuc, length, length-append}
-use Rattle.integers.specs.Lists.{list_of}
+use Rattle.std.proofs.Common.{◌≡◌, refl, ◌∙◌, Bool, true, false, List, [], ◌∷◌, ◌++◌, append_assoc, ℕ, zero, suc, ◌+◌, ◌-◌, ◌*◌, ◌/◌, ◌%◌, ◌≤◌, ◌<◌, arith, ltb, le-leb, ℤ, pos, negsuc, length, length-append}
+use Rattle.integers.specs.Lists.{list_of, all}
 use Rattle.integers.specs.Choice.{◌if◌else◌}
 use Rattle.integers.specs.Number.{+0, +1}
 use Rattle.integers.specs.Terms.{Term, ◌·◌}
 use Rattle.integers.proofs.Lists.{all_append}
 use Rattle.integers.proofs.Tests.{All}
+use Rattle.words.specs.Answer.{Answer}
 use Rattle.words.specs.Small.{Near}
 use Rattle.decimals.specs.Column.{blanks, right, left}
 use Rattle.decimals.specs.Decimal.{last_digits, decimal, numeral}
@@ -16,21 +17,27 @@ use Rattle.rowsystems.specs.Row.{Row, sum≤0, sum=0, product}
 use Rattle.rowsystems.specs.RowSystem.{rows}
 use Rattle.rowsystems.proofs.Sizes.{few_words, rows_few}
 use Rattle.sheetlines.specs.Lines.{cell, line_end, term_text, room_after, term_lines, constant_line, sum_lines, row_lines, rows_lines}
-use Rattle.sheets.specs.Sheet.{sheet_text}
+use Rattle.sheets.specs.Sheet.{sheet_text, sheet, sheet_page}
+use Rattle.sheets.specs.EightyColumns.{takes_a_column, InLines, no_line, a-line, EightyColumns}
 use Rattle.sheetlines.proofs.Cells.{Fits, number_fits, length-row_number, cell-length}
 use Rattle.sheets.proofs.Fitting.{RowFits, one-fits, rows_fit}
+use Rattle.sheets.proofs.ReadBack.{page_is, wrote_all}
 
 abbrev pub Printable : ℕ → Type 0
 Printable b = (32 ≤ b) × (b ≤ 126)
 
--- so many lines, each of 80 printed columns and a line feed
-pub data InLines : List ℕ → ℕ → Type 0 where
-  no_line : InLines [] 0
-  a-line : (l : List ℕ) {rest : List ℕ} {n : ℕ} → length l ≡ 80 → All Printable l → InLines rest n → InLines (l ++ (10 ∷ rest)) (suc n)
+-- as the test says it
+printed-all : (l : List ℕ) → All Printable l → all takes_a_column l ≡ true
+unfolding all
+printed-all [] h = refl
+printed-all (b ∷ l) h = rw (le-leb 32 b h.0.0, le-leb b 126 h.0.1) (printed-all l h.1)
+
+line_of : (l : List ℕ) {rest : List ℕ} {n : ℕ} → length l ≡ 80 → All Printable l → InLines rest n → InLines (l ++ (10 ∷ rest)) (suc n)
+line_of l e h r = a-line l e (printed-all l h) r
 
 pub lines-length : {t : List ℕ} {n : ℕ} → InLines t n → length t ≡ 81 * n
 lines-length no_line = refl
-lines-length (a-line l {rest = rest} {n = n} e h r) = length-append l (10 ∷ rest) ∙ omega (arith, lines-length r)
+lines-length (a-line l {rest = rest} {lines = n} e h r) = length-append l (10 ∷ rest) ∙ omega (arith, lines-length r)
 
 -- ---- what is printed
 
@@ -88,12 +95,12 @@ unfolding term_lines term_text room_after line_end
 terms_in_lines p room [] {rest} {n} e h f r =
     let same : p ++ ((blanks (23 * room + 3) ++ (10 ∷ [])) ++ rest) ≡ (p ++ blanks (23 * room + 3)) ++ (10 ∷ rest) = simp append_assoc in
     let count : 1 + n ≡ suc n = omega arith in
-    rw (same, count) (a-line (p ++ blanks (23 * room + 3)) (length-append p (blanks (23 * room + 3)) ∙ omega (arith, length-blanks (23 * room + 3))) (printed-append p _ h (printed-blanks (23 * room + 3))) r)
+    rw (same, count) (line_of (p ++ blanks (23 * room + 3)) (length-append p (blanks (23 * room + 3)) ∙ omega (arith, length-blanks (23 * room + 3))) (printed-append p _ h (printed-blanks (23 * room + 3))) r)
 terms_in_lines p zero (t ∷ ts) {rest} {n} e h f r =
     let same : p ++ ((((blanks 3 ++ (10 ∷ [])) ++ (blanks 8 ++ cell t)) ++ term_lines 2 ts) ++ rest) ≡ (p ++ blanks 3) ++ (10 ∷ ((blanks 8 ++ cell t) ++ (term_lines 2 ts ++ rest))) = simp append_assoc in
     let count : suc (lines_of 2 (length ts)) + n ≡ suc (lines_of 2 (length ts) + n) = omega arith in
     rw (same, count)
-    (a-line (p ++ blanks 3) (length-append p (blanks 3) ∙ omega (arith, length-blanks 3)) (printed-append p _ h (printed-blanks 3))
+    (line_of (p ++ blanks 3) (length-append p (blanks 3) ∙ omega (arith, length-blanks 3)) (printed-append p _ h (printed-blanks 3))
     (terms_in_lines (blanks 8 ++ cell t) 2 ts (omega (arith, length-append (blanks 8) (cell t), length-blanks 8, cell-length t f.0)) (printed-append (blanks 8) (cell t) (printed-blanks 8) (printed-cell t)) f.1 r))
 terms_in_lines p (suc room) (t ∷ ts) {rest} {n} e h f r =
     let same : p ++ ((cell t ++ term_lines room ts) ++ rest) ≡ (p ++ cell t) ++ (term_lines room ts ++ rest) = simp append_assoc in
@@ -120,7 +127,7 @@ sum_in_lines k x y ts c {rest} {n} l hx hy f h r =
     (terms_in_lines H 3 ts
     (omega (arith, length-append (right 6 (decimal k)) (x ∷ y ∷ []), length-right 6 (decimal k) (length-row_number k l)))
     (printed-append (right 6 (decimal k)) _ (printed-right 6 _ (printed-decimal k)) (hx, (hy, tt))) f
-    (a-line C (length-right 80 (numeral c) (omega (arith, number_fits c h))) (printed-right 80 _ (printed-numeral c)) r))
+    (line_of C (length-right 80 (numeral c) (omega (arith, number_fits c h))) (printed-right 80 _ (printed-numeral c)) r))
 
 row_in_lines : (k : ℕ) (row : Row ℕ) {rest : List ℕ} {n : ℕ} → k < 1000000 → RowFits row → InLines rest n → InLines (row_lines k row ++ rest) (line_count row + n)
 unfolding row_lines bytes list_of
@@ -159,3 +166,13 @@ sheet_in_lines ws e = rows_in_lines 0 (rows ws) (omega (arith, rows_few ws, few_
 
 pub sheet-bytes : (ws : List ℕ) → (read_rows ws).number ≡ 0 → length (sheet_text ws) ≡ 81 * lines_count (rows ws)
 sheet-bytes ws e = lines-length (sheet_in_lines ws e)
+
+-- THE LAW, of the bytes that were written
+pub eighty_columns : (ws page : List ℕ) → EightyColumns (sheet ws (length page)) (sheet_page ws page)
+eighty_columns ws page n e =
+    let text = page_is ws page n e in
+    let w = wrote_all ws page n e in
+    (lines_count (rows ws), (w.1 ∙ sheet-bytes ws w.0, rw text (sheet_in_lines ws w.0)))
+
+pub columns_of : (ws before : List ℕ) {later : List ℕ} {answer : Answer} → answer ≡ sheet ws (length before) → later ≡ sheet_page ws before → EightyColumns answer later
+columns_of ws before e f = rw (e, f) (eighty_columns ws before)

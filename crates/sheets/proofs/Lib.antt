@@ -1,5 +1,5 @@
--- Laws of a sheet: its answers, that every line has 80 columns, and that it can be read back.
-pub mod Answers
+-- Laws of a sheet: that it can be read back, that every line has 80 columns, and its answers.
 pub mod Fitting
-pub mod EightyColumns
 pub mod ReadBack
+pub mod EightyColumns
+pub mod Answers

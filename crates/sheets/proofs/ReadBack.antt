@@ -234,6 +234,17 @@ page_is ws page n e = by (read_rows ws).number (read_rows ws).place (ltb (length
     by zero p false h e = let l : n ≡ length (sheet_text ws) = cc in rw l (front-over page (sheet_text ws) (omega (arith, ltb-false)))
     by (suc m) p short h e = let z : ◌≡◌ {A = ℕ} 0 1 = cc in absurd (omega arith)
 
+-- then the words have no fault, and all bytes of the text were written
+pub wrote_all : (ws page : List ℕ) (n : ℕ) → sheet ws (length page) ≡ written n → ((read_rows ws).number ≡ 0) × (n ≡ length (sheet_text ws))
+unfolding sheet sheet_fault room_fault ◌else_refuse◌ ◌else_answer◌
+wrote_all ws page n e = by (read_rows ws).number (read_rows ws).place (ltb (length page) (length (sheet_text ws))) e
+  where
+    by : (m p : ℕ) (short : Bool) → refused_or (found m p short).number (found m p short).place (written (length (sheet_text ws))) ≡ written n →
+        (m ≡ 0) × (n ≡ length (sheet_text ws))
+    by zero p true e = let z : ◌≡◌ {A = ℕ} 0 1 = cc in absurd (omega arith)
+    by zero p false e = let l : n ≡ length (sheet_text ws) = cc in (refl, l)
+    by (suc m) p short e = let z : ◌≡◌ {A = ℕ} 0 1 = cc in absurd (omega arith)
+
 -- two row systems are printed, each on a page of its own, and the pages have the same bytes: they have the same rows
 pub read_back : (ws us page other : List ℕ) (n : ℕ) → sheet ws (length page) ≡ written n → sheet us (length other) ≡ written n →
     take n (sheet_page ws page) ≡ take n (sheet_page us other) → rows ws ≡ rows us

@@ -8,6 +8,7 @@ ghost use Rattle.words.specs.LaidAt.{LaidAt};
 ghost use Rattle.words.specs.Limit as Limit;
 ghost use Rattle.decimals.specs.Printed.{Prints};
 ghost use Rattle.sheets.specs.Sheet.{sheet_text, sheet as sheet_answer, sheet_page};
+ghost use Rattle.sheets.specs.EightyColumns.{EightyColumns};
 
 use decimals::Page;
 use rowreading::read_rows;
@@ -46,6 +47,7 @@ fn put_sheet(ws: &[u32], bytes: &mut [u8]) -> usize
 pub fn sheet(ws: &[u32], page: &mut [u8]) -> Result<usize, Refusal>
     ensures answer { written_of result ≡ sheet_answer ws.now (length page.old) }
     ensures page { page.new ≡ sheet_page ws.now page.old }
+    ensures lines { EightyColumns (written_of result) page.new }
 {
     read_rows(ws)?;
     let bytes = put_sheet(ws, &mut []);
