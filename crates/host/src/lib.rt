@@ -21,6 +21,7 @@ ghost use Rattle.bitforms.specs.FormAnswer.{bit_form, bit_formed};
 ghost use Rattle.bitsharing.specs.FormShares.{FormShares};
 ghost use Rattle.solutions.specs.Solutions.{solutions_answer, solutions_listed};
 ghost use Rattle.reasons.specs.Reason.{reason as reason_answer};
+ghost use Rattle.reasons.specs.Behind.{TrueReason};
 ghost use Rattle.host.specs.Bytes.{check_bytes};
 ghost use Rattle.structs.specs.Structs.{counts_of, explanation_of, judgement_of, listed_of, printed_of, written_words_of};
 
@@ -195,7 +196,8 @@ pub extern "C" fn pearrummy_pair_fill(
 // Reason; the first failing row of a model's row system, the constraint whose block holds it, and why.
 #[unsafe(no_mangle)]
 pub extern "C" fn pearrummy_reason(words: &[u32], values: &[i32]) -> Explanation
-    ensures { result ≡ explanation_of (reason_answer words.now values.now) }
+    ensures answer { result ≡ explanation_of (reason_answer words.now values.now) }
+    ensures behind { TrueReason words.now values.now (reason_answer words.now values.now) }
 {
     Explanation::from(reason(words, values))
 }

@@ -3,6 +3,7 @@
 
 ghost use Rattle.std.specs.Prelude.{◌≡◌};
 ghost use Rattle.reasons.specs.Reason.{reason as reason_answer};
+ghost use Rattle.reasons.specs.Behind.{TrueReason};
 ghost use Rattle.reasoning.specs.Told.{told};
 ghost use Rattle.reasoning.specs.Walks.{CheckedModel};
 
@@ -60,7 +61,8 @@ fn reason_passed(read: &ReadModel, values: &[i32], added: usize) -> Result<Reaso
 
 // The first failing row, the constraint whose block holds it, and whether its builtin is true; faults and bounds come first.
 pub fn reason(ws: &[u32], values: &[i32]) -> Result<Reason, Refusal>
-    ensures { told result ≡ reason_answer ws.now values.now }
+    ensures answer { told result ≡ reason_answer ws.now values.now }
+    ensures behind { TrueReason ws.now values.now (told result) }
 {
     let mut read = ReadModel::of(ws);
     let counts = check_model(&mut read)?;

@@ -1,5 +1,5 @@
 -- THE LAW OF REASONS: of a model that passes the check, the row, the constraint and the reason that are named are the true ones (specs/Behind.antt).
-use Rattle.std.proofs.Common.{◌≡◌, refl, sym, ◌∙◌, subst, Bool, true, false, List, [], ◌∷◌, ◌++◌, append-nil, ℕ, suc, ◌+◌, ◌≤◌, ◌<◌, arith, eqb, ℤ, pos, length, length-append, take, get_or-take, length-take-le, eqb-true}
+use Rattle.std.proofs.Common.{◌≡◌, refl, sym, ap, ◌∙◌, subst, Bool, true, false, List, [], ◌∷◌, ◌++◌, append-nil, ℕ, suc, ◌+◌, ◌≤◌, ◌<◌, arith, eqb, ℤ, pos, length, length-append, take, get_or-take, length-take-le, eqb-true}
 use mathlib.Core.List.{flat_map}
 use lib.ListN.{get_or-append}
 use Rattle.integers.specs.Choice.{◌if◌else◌}
@@ -26,9 +26,9 @@ use Rattle.sharing.proofs.OneHot.{From}
 use Rattle.sharing.proofs.Satisfied.{keeps-bounds}
 use Rattle.sharing.proofs.Shared.{agrees, all_fit, all_plain, none-held}
 use Rattle.sharing.proofs.Theorem.{typed, plain, well-formed}
-use Rattle.reasons.specs.Reason.{Reason, because, explained, answer_or, reason_fault, reason}
-use Rattle.reasons.specs.Behind.{At, rows_before, source_values, completed, Behind}
-use Rattle.reasons.proofs.Judged.{explained-rows, explained-constraints, same_row}
+use Rattle.reasons.specs.Reason.{Reason, refuse, outside, none, because, explained, answer_or, reason_fault, reason}
+use Rattle.reasons.specs.Behind.{At, rows_before, source_values, completed, Behind, TrueReason}
+use Rattle.reasons.proofs.Judged.{explained-rows, explained-constraints, row_answer, same_answer, same_row}
 use Rattle.reasons.proofs.Found.{at-member, at_map, found}
 use Rattle.reasons.proofs.Completed.{Holds, picks_hold, one-differs}
 
@@ -123,3 +123,14 @@ module _ (ws : List ℕ) (passes : Passes ws) (vs : List ℤ) where
         said = r.said;
         auxiliaries = λ h. one-differs n (value vs) τ (λ v l. source-value v l ∙ sym (f.1 v l)) r.row r.fails (true-rows h);
       }
+
+  -- THE LAW, of every answer
+  pub true-reason : (x : Reason) → reason ws vs ≡ x → TrueReason ws vs x
+  true-reason (refuse n p) e = tt
+  true-reason (outside i) e = sym (same_answer ws passes vs) ∙ ap row_answer e
+  true-reason none e = sym (same_answer ws passes vs) ∙ ap row_answer e
+  true-reason (because k j b) e = behind k j b e
+
+-- of an answer that is the definition's
+pub true_of : (ws : List ℕ) (vs : List ℤ) {x : Reason} → Passes ws → x ≡ reason ws vs → TrueReason ws vs x
+true_of ws vs {x} passes e = true-reason ws passes vs x (sym e)

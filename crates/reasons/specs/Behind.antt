@@ -5,14 +5,14 @@ use Rattle.integers.specs.Number.{◌≟◌}
 use Rattle.integers.specs.Lists.{any}
 use Rattle.integers.specs.Terms.{value}
 use Rattle.words.specs.Variables.{variables}
-use Rattle.words.specs.Answer.{is_false}
+use Rattle.words.specs.Answer.{holds, out_of_bounds, is_false}
 use Rattle.models.specs.Model.{Constraint, constraints, builtin}
 use Rattle.models.specs.Meaning.{meaning}
 use Rattle.rowsystems.specs.Row.{Row, sum≤0, sum=0, product, satisfied}
 use Rattle.rowsystems.specs.RowSystem.{rows}
 use Rattle.rowsystems.specs.JudgeRows.{judge_rows}
 use Rattle.rules.specs.Translation.{system_words, picks}
-use Rattle.reasons.specs.Reason.{explained}
+use Rattle.reasons.specs.Reason.{Reason, refuse, outside, none, because, explained}
 
 -- x stands at place k of a list
 abbrev pub At : {A : Type 0} → List A → ℕ → A → Type 0
@@ -56,3 +56,10 @@ pub record Behind (ws : List ℕ) (vs : List ℤ) (k j : ℕ) (true_of_sources :
   pub said : true_of_sources ≡ meaning (value (source_values ws vs)) (builtin constraint)
   -- ".., and auxiliaries in the row are wrong"
   pub auxiliaries : true_of_sources ≡ true → any (wrong ws vs) (row_variables row) ≡ true
+
+-- what an answer of reason says is so: "a value out of bounds judge-rows' answer", "No failing row gives "none"", and "the true one of two reasons"
+abbrev pub TrueReason : List ℕ → List ℤ → Reason → Type 0
+TrueReason ws vs (refuse n p) = Unit {0}
+TrueReason ws vs (outside i) = judge_rows (system_words ws) vs ≡ out_of_bounds i
+TrueReason ws vs none = judge_rows (system_words ws) vs ≡ holds
+TrueReason ws vs (because k j true_of_sources) = Behind ws vs k j true_of_sources
