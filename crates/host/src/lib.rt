@@ -20,6 +20,7 @@ ghost use Rattle.texts.specs.Text.{read_text, text_read};
 ghost use Rattle.bitforms.specs.FormAnswer.{bit_form, bit_formed};
 ghost use Rattle.bitsharing.specs.FormShares.{FormShares};
 ghost use Rattle.solutions.specs.Solutions.{solutions_answer, solutions_listed};
+ghost use Rattle.solutions.specs.AllSolutions.{AllSolutions};
 ghost use Rattle.reasons.specs.Reason.{reason as reason_answer};
 ghost use Rattle.reasons.specs.Behind.{TrueReason};
 ghost use Rattle.host.specs.Bytes.{check_bytes};
@@ -138,6 +139,7 @@ pub extern "C" fn pearrummy_text(text: &[u8], out: &mut [u32]) -> WrittenWords
 pub extern "C" fn pearrummy_solutions(words: &[u32], out: &mut [i32]) -> Listed
     ensures answer { result ≡ listed_of (solutions_answer words.now (length out.old)) }
     ensures output { out.new ≡ solutions_listed words.now out.old }
+    ensures all { AllSolutions words.now (solutions_answer words.now (length out.old)) out.new }
 {
     Listed::from(solutions(words, out))
 }

@@ -8,8 +8,9 @@ use Rattle.rules.specs.Translation.{picks, system_words}
 use Rattle.sharing.specs.SharedSolutions.{Passes, SatisfiesRows}
 use Rattle.sharing.proofs.Theorem.{as_many_solutions}
 use Rattle.solutions.specs.Solutions.{solutions}
+use Rattle.solutions.specs.AllSolutions.{Before}
 use Rattle.solutions.proofs.Complete.{map_in, map-out, complete}
-use Rattle.solutions.proofs.Order.{Before, Sorted, sorted-solutions}
+use Rattle.solutions.proofs.Order.{Sorted, sorted-solutions}
 
 -- values, and what fill picks for them
 abbrev pub completed : List ℕ → List ℤ → List ℤ

@@ -2,6 +2,7 @@
 pub mod Order
 pub mod Complete
 pub mod AsMany
+pub mod Listed
 pub mod Odometer
 pub mod Counts
 pub mod Stepping

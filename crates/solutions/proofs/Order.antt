@@ -1,5 +1,5 @@
 -- Each solution stands once, and they rise: every list comes before all later ones, by the first place where they differ.
-use Rattle.std.proofs.Common.{◌≡◌, refl, ◌⊎◌, inl, inr, Bool, true, false, List, [], ◌∷◌, ◌++◌, map, ℕ, zero, suc, ◌<◌, arith, ℤ, pos}
+use Rattle.std.proofs.Common.{refl, inl, inr, Bool, true, false, List, [], ◌∷◌, ◌++◌, map, ℕ, zero, suc, ◌<◌, arith, ℤ, pos}
 use mathlib.Core.List.{flat_map}
 use Rattle.integers.specs.Choice.{◌if◌else◌}
 use Rattle.integers.specs.Number.{◌⊕◌}
@@ -13,11 +13,7 @@ use Rattle.words.specs.Variables.{variables}
 use Rattle.rules.specs.Shared.{keep}
 use Rattle.solutions.specs.Lists.{begun, value_lists}
 use Rattle.solutions.specs.Solutions.{every_true, solutions}
-
-abbrev pub Before : List ℤ → List ℤ → Type 0
-Before [] us = ⊥
-Before (v ∷ vs) [] = ⊥
-Before (v ∷ vs) (u ∷ us) = (v ⊏ u) ⊎ ((v ≡ u) × Before vs us)
+use Rattle.solutions.specs.AllSolutions.{Before}
 
 abbrev pub Sorted : List (List ℤ) → Type 0
 Sorted [] = Unit {0}

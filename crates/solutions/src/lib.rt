@@ -14,6 +14,7 @@ ghost use Rattle.solutions.specs.Lists.{list_count};
 ghost use Rattle.solutions.specs.AllWithin.{lowest_list};
 ghost use Rattle.solutions.specs.Odometer.{is_last, next_list};
 ghost use Rattle.solutions.specs.Solutions.{every_true, solutions_answer, solutions_listed};
+ghost use Rattle.solutions.specs.AllSolutions.{AllSolutions};
 ghost use Rattle.solutions.specs.Walk.{count_cap, bounds_to, solutions_from, solutions_in, Walkable, ListsSized};
 
 use checking::check_model;
@@ -204,6 +205,7 @@ fn solutions_passed(read: &ReadModel, out: &mut [i32]) -> Result<usize, Refusal>
 pub fn solutions(ws: &[u32], out: &mut [i32]) -> Result<usize, Refusal>
     ensures answer { written_of result ≡ solutions_answer ws.now (length out.old) }
     ensures output { out.new ≡ solutions_listed ws.now out.old }
+    ensures all { AllSolutions ws.now (written_of result) out.new }
 {
     let mut read = ReadModel::of(ws);
     check_model(&mut read)?;
