@@ -1,7 +1,7 @@
 // Calls for a host written in C: the calls over lists of words, values and bytes, and check over bytes.
 #![tactic(auto)]
 
-ghost use Rattle.std.specs.Prelude.{◌≡◌, ◌≤◌, length};
+ghost use Rattle.std.specs.Prelude.{◌≡◌, List, ℕ, ◌≤◌, length};
 ghost use Rattle.encoding.specs.Bytes.{bytes_words};
 ghost use Rattle.models.specs.JudgeModel.{judge_model};
 ghost use Rattle.rowsystems.specs.JudgeRows.{judge_rows};
@@ -16,6 +16,8 @@ ghost use Rattle.filling.specs.Satisfied.{Satisfied};
 ghost use Rattle.pairs.specs.Calls.{pair_check, pair_translate, pair_translated, pair_judge, pair_fill, pair_filled};
 ghost use Rattle.pairs.specs.HandsOver.{PairHandsOver};
 ghost use Rattle.pairs.specs.Pair.{model_of};
+ghost use Rattle.pairs.specs.Alone.{OtherWrote};
+ghost use Rattle.pairs.specs.FaultyTable.{RefusedByTable};
 ghost use Rattle.texts.specs.Text.{read_text, text_read};
 ghost use Rattle.bitforms.specs.FormAnswer.{bit_form, bit_formed};
 ghost use Rattle.bitsharing.specs.FormShares.{FormShares};
@@ -148,7 +150,9 @@ pub extern "C" fn pearrummy_solutions(words: &[u32], out: &mut [i32]) -> Listed
 // so the header for C has them.
 #[unsafe(no_mangle)]
 pub extern "C" fn pearrummy_pair_check(words: &[u32], candidate: u32) -> Counts
-    ensures { result ≡ counts_of (pair_check candidate words.now) }
+    ensures answer { result ≡ counts_of (pair_check candidate words.now) }
+    ensures alone { (us : List ℕ) → OtherWrote candidate words.now us → result ≡ counts_of (pair_check candidate us) }
+    ensures faulty { RefusedByTable candidate words.now (pair_check candidate words.now) }
 {
     Counts::from(pair_check(words, candidate))
 }
@@ -163,6 +167,8 @@ pub extern "C" fn pearrummy_pair_translate(
     ensures answer { result ≡ written_words_of (pair_translate candidate words.now (length out.old)) }
     ensures output { out.new ≡ pair_translated candidate words.now out.old }
     ensures shared { Shares (model_of candidate words.now) (pair_translate candidate words.now (length out.old)) out.new }
+    ensures alone { (us : List ℕ) → OtherWrote candidate words.now us → (result ≡ written_words_of (pair_translate candidate us (length out.old))) × (out.new ≡ pair_translated candidate us out.old) }
+    ensures faulty { RefusedByTable candidate words.now (pair_translate candidate words.now (length out.old)) }
 {
     WrittenWords::from(pair_translate(words, candidate, out))
 }
@@ -174,7 +180,9 @@ pub extern "C" fn pearrummy_pair_judge_model(
     candidate: u32,
     values: &[i32],
 ) -> Judgement
-    ensures { result ≡ judgement_of (pair_judge candidate words.now values.now) }
+    ensures answer { result ≡ judgement_of (pair_judge candidate words.now values.now) }
+    ensures alone { (us : List ℕ) → OtherWrote candidate words.now us → result ≡ judgement_of (pair_judge candidate us values.now) }
+    ensures faulty { RefusedByTable candidate words.now (pair_judge candidate words.now values.now) }
 {
     Judgement::from(pair_judge_model(words, candidate, values))
 }
@@ -191,6 +199,8 @@ pub extern "C" fn pearrummy_pair_fill(
     ensures output { out.new ≡ pair_filled candidate words.now values.now out.old }
     ensures satisfied { let ws = words.now in Satisfied (model_of candidate ws) (pair_fill candidate ws values.now (length out.old)) out.new }
     ensures completes { let ws = words.now in let vs = values.now in let o = out.old in PairHandsOver candidate ws vs (pair_fill candidate ws vs (length o)) o out.new }
+    ensures alone { (us : List ℕ) → OtherWrote candidate words.now us → (result ≡ judgement_of (pair_fill candidate us values.now (length out.old))) × (out.new ≡ pair_filled candidate us values.now out.old) }
+    ensures faulty { RefusedByTable candidate words.now (pair_fill candidate words.now values.now (length out.old)) }
 {
     Judgement::from(pair_fill(words, candidate, values, out))
 }

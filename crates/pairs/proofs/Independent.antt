@@ -13,17 +13,9 @@ use Rattle.rules.specs.Check.{check}
 use Rattle.rules.specs.Translate.{translate, translated}
 use Rattle.rules.specs.Fill.{fill, filled}
 use Rattle.pairs.specs.Pair.{separator, separates, ends_table, before, variable_table, first_model, second_model, model_of, pair_fault}
+use Rattle.pairs.specs.Alone.{Table, FirstWords, none, begins, OtherWrote, the_second, the_first}
 use Rattle.pairs.specs.Calls.{pair_check, pair_translate, pair_translated, pair_judge, pair_fill, pair_filled}
 use Rattle.pairs.proofs.Before.{before-over, before-none}
-
--- the words of a table: none ends it
-abbrev pub Table : List ℕ → Type 0
-Table T = any ends_table T ≡ false
-
--- "as long as the first candidate's words are none or begin with kind 4, and hold no D0000000"
-pub data FirstWords : List ℕ → Type 0 where
-  none : FirstWords []
-  begins : (w : ℕ) (F : List ℕ) → kind w ≡ 4 → any separates (w ∷ F) ≡ false → FirstWords (w ∷ F)
 
 -- what a candidate gets from the calls is what the model m gets by itself
 pub record Gets (candidate : ℕ) (ws m : List ℕ) : Type 0 where
@@ -93,7 +85,7 @@ module _ (T : List ℕ) (t : Table T) where
     regroup : pair_of F S ≡ (T ++ F) ++ (separator ∷ S)
     regroup = sym (append_assoc T F _)
 
-    no-fault : pair_fault (pair_of F S) ≡ accepted
+    pub no-fault : pair_fault (pair_of F S) ≡ accepted
     unfolding pair_fault
     no-fault =
         rw (ne_eqb (before separates (pair_of F S)) (length (pair_of F S)) (λ e. omega (arith, at-separator, ap length regroup, length-append (T ++ F) (separator ∷ S))))
@@ -145,3 +137,52 @@ first_unaltered ws S S' = ap (λ (l : List ℕ). l ++ (word 7 0 ∷ [])) (cut S 
 pub second_unaltered : (T : List ℕ) → Table T → (F F' S : List ℕ) → FirstWords F → FirstWords F' →
     second_model (T ++ (F ++ (separator ∷ S))) ≡ second_model (T ++ (F' ++ (separator ∷ S)))
 second_unaltered T t F F' S f f' = second_is T t F S f ∙ sym (second_is T t F' S f')
+
+-- ---- so the calls say the same
+
+-- the model is the same, and both pairs have D0000000
+pub record SameModel (candidate : ℕ) (ws us : List ℕ) : Type 0 where
+  pub model : model_of candidate ws ≡ model_of candidate us
+  pub one : pair_fault ws ≡ accepted
+  pub other : pair_fault us ≡ accepted
+
+separated : (ws S : List ℕ) → pair_fault (ws ++ (separator ∷ S)) ≡ accepted
+unfolding pair_fault
+separated ws S =
+    let h : before separates (ws ++ (separator ∷ S)) ≡ length (ws ++ (separator ∷ S)) → ⊥ = λ e. omega (arith, e, (upto ws S).1, length-append ws (separator ∷ S)) in
+    rw (ne_eqb (before separates (ws ++ (separator ∷ S))) (length (ws ++ (separator ∷ S))) h)
+
+pub same-model : {candidate : ℕ} {ws us : List ℕ} → OtherWrote candidate ws us → SameModel candidate ws us
+unfolding model_of
+same-model {candidate} (the_second e ws S S') = record { model = rw (eq-eqb candidate 1 e) (first_unaltered ws S S'); one = separated ws S; other = separated ws S' }
+same-model {candidate} (the_first e T F F' S t f f') =
+    record { model = rw (ne_eqb candidate 1 e) (second_unaltered T t F F' S f f'); one = no-fault T t F S f; other = no-fault T t F' S f' }
+
+-- THE LAW, of the calls
+module _ {candidate : ℕ} {ws us : List ℕ} (o : OtherWrote candidate ws us) where
+  abbrev s : SameModel candidate ws us
+  s = same-model o
+
+  pub same-check : pair_check candidate ws ≡ pair_check candidate us
+  unfolding pair_check
+  same-check = rw (s.one, s.other, s.model)
+
+  pub same-translate : (room : ℕ) → pair_translate candidate ws room ≡ pair_translate candidate us room
+  unfolding pair_translate
+  same-translate room = rw (s.one, s.other, s.model)
+
+  pub same-translated : (out : List ℕ) → pair_translated candidate ws out ≡ pair_translated candidate us out
+  unfolding pair_translated
+  same-translated out = rw (s.one, s.other, s.model)
+
+  pub same-judge : (vs : List ℤ) → pair_judge candidate ws vs ≡ pair_judge candidate us vs
+  unfolding pair_judge
+  same-judge vs = rw (s.one, s.other, s.model)
+
+  pub same-fill : (vs : List ℤ) (room : ℕ) → pair_fill candidate ws vs room ≡ pair_fill candidate us vs room
+  unfolding pair_fill
+  same-fill vs room = rw (s.one, s.other, s.model)
+
+  pub same-filled : (vs out : List ℤ) → pair_filled candidate ws vs out ≡ pair_filled candidate us vs out
+  unfolding pair_filled
+  same-filled vs out = rw (s.one, s.other, s.model)

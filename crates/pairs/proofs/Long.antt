@@ -14,7 +14,8 @@ use Rattle.sharing.specs.SharedSolutions.{Passes}
 use Rattle.checking.proofs.Answers.{clash}
 use Rattle.pairs.specs.Pair.{separates, before, model_of, pair_fault}
 use Rattle.pairs.specs.Calls.{pair_check, pair_translate, pair_translated, pair_judge, pair_fill, pair_filled}
-use Rattle.pairs.specs.Copied.{length_fault, copy_fault}
+use Rattle.pairs.specs.FaultyTable.{length_fault}
+use Rattle.pairs.specs.Copied.{copy_fault}
 
 -- ---- of words that are too many
 module _ (ws : List ℕ) (l : ltb 8192 (length ws) ≡ true) where

@@ -2,7 +2,7 @@
 // The candidate stays a number: the calls for C take one and hand it on.
 #![tactic(auto)]
 
-ghost use Rattle.std.specs.Prelude.{◌≡◌, ◌≤◌, ◌<◌, Bool, ℕ, length};
+ghost use Rattle.std.specs.Prelude.{◌≡◌, ◌≤◌, ◌<◌, Bool, List, ℕ, length};
 ghost use Rattle.words.specs.Overlay.{overlay};
 ghost use Rattle.words.specs.Limit as Limit;
 ghost use Rattle.words.specs.Faults.{written_of, verdict_of};
@@ -14,6 +14,8 @@ ghost use Rattle.pairs.specs.Pair.{before, separates, ends_table, first_model, s
 ghost use Rattle.pairs.specs.Calls.{pair_check, pair_translate, pair_translated, pair_judge, pair_fill, pair_filled};
 ghost use Rattle.pairs.specs.HandsOver.{PairHandsOver};
 ghost use Rattle.pairs.specs.Copied.{Copies};
+ghost use Rattle.pairs.specs.Alone.{OtherWrote};
+ghost use Rattle.pairs.specs.FaultyTable.{RefusedByTable};
 
 use checking::{Counts, check};
 use filling::{Filling, fill};
@@ -107,7 +109,9 @@ fn copy_model(ws: &[u32], candidate: u32, out: &mut [u32]) -> Result<usize, Refu
 // Check of a candidate's model.
 // The four calls share the array, the copy and its `?`; one function of them by a closure would take the clauses of each call, and be no plainer.
 pub fn pair_check(ws: &[u32], candidate: u32) -> Result<Counts, Refusal>
-    ensures { checked result ≡ pair_check candidate ws.now }
+    ensures answer { checked result ≡ pair_check candidate ws.now }
+    ensures alone { (us : List ℕ) → OtherWrote candidate ws.now us → checked result ≡ pair_check candidate us }
+    ensures faulty { RefusedByTable candidate ws.now (checked result) }
 {
     let mut model = [0u32; limit::MODEL_WORDS];
     let words = copy_model(ws, candidate, &mut model)?;
@@ -119,6 +123,8 @@ pub fn pair_translate(ws: &[u32], candidate: u32, out: &mut [u32]) -> Result<usi
     ensures answer { written_of result ≡ pair_translate candidate ws.now (length out.old) }
     ensures output { out.new ≡ pair_translated candidate ws.now out.old }
     ensures shared { Shares (model_of candidate ws.now) (written_of result) out.new }
+    ensures alone { (us : List ℕ) → OtherWrote candidate ws.now us → (written_of result ≡ pair_translate candidate us (length out.old)) × (out.new ≡ pair_translated candidate us out.old) }
+    ensures faulty { RefusedByTable candidate ws.now (written_of result) }
 {
     let mut model = [0u32; limit::MODEL_WORDS];
     let words = copy_model(ws, candidate, &mut model)?;
@@ -127,7 +133,9 @@ pub fn pair_translate(ws: &[u32], candidate: u32, out: &mut [u32]) -> Result<usi
 
 // Judge-model of a candidate's model.
 pub fn pair_judge_model(ws: &[u32], candidate: u32, values: &[i32]) -> Result<Verdict, Refusal>
-    ensures { verdict_of result ≡ pair_judge candidate ws.now values.now }
+    ensures answer { verdict_of result ≡ pair_judge candidate ws.now values.now }
+    ensures alone { (us : List ℕ) → OtherWrote candidate ws.now us → verdict_of result ≡ pair_judge candidate us values.now }
+    ensures faulty { RefusedByTable candidate ws.now (verdict_of result) }
 {
     let mut model = [0u32; limit::MODEL_WORDS];
     let words = copy_model(ws, candidate, &mut model)?;
@@ -145,6 +153,8 @@ pub fn pair_fill(
     ensures output { out.new ≡ pair_filled candidate ws.now values.now out.old }
     ensures satisfied { Satisfied (model_of candidate ws.now) (handed result) out.new }
     ensures completes { PairHandsOver candidate ws.now values.now (handed result) out.old out.new }
+    ensures alone { (us : List ℕ) → OtherWrote candidate ws.now us → (handed result ≡ pair_fill candidate us values.now (length out.old)) × (out.new ≡ pair_filled candidate us values.now out.old) }
+    ensures faulty { RefusedByTable candidate ws.now (handed result) }
 {
     let mut model = [0u32; limit::MODEL_WORDS];
     let words = copy_model(ws, candidate, &mut model)?;
