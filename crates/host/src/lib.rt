@@ -19,6 +19,7 @@ ghost use Rattle.pairs.specs.Pair.{model_of};
 ghost use Rattle.pairs.specs.Alone.{OtherWrote};
 ghost use Rattle.pairs.specs.FaultyTable.{RefusedByTable};
 ghost use Rattle.texts.specs.Text.{read_text, text_read};
+ghost use Rattle.texts.specs.ModelWords.{ModelWords};
 ghost use Rattle.bitforms.specs.FormAnswer.{bit_form, bit_formed};
 ghost use Rattle.bitsharing.specs.FormShares.{FormShares};
 ghost use Rattle.solutions.specs.Solutions.{solutions_answer, solutions_listed};
@@ -132,6 +133,7 @@ pub extern "C" fn pearrummy_sheet(words: &[u32], page: &mut [u8]) -> PrintedByte
 pub extern "C" fn pearrummy_text(text: &[u8], out: &mut [u32]) -> WrittenWords
     ensures answer { result ≡ written_words_of (read_text text.now (length out.old)) }
     ensures output { out.new ≡ text_read text.now out.old }
+    ensures words { ModelWords (read_text text.now (length out.old)) out.new }
 {
     WrittenWords::from(read_text(text, out))
 }

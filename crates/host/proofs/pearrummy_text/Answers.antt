@@ -1,0 +1,5 @@
+-- The words of a text, by the answer that a host gets.
+use Rattle.host.proofs.pearrummy_text.Goals as goal
+
+pub returns-clause-words : goal.returns-clause-words
+returns-clause-words c = rw c.read_text.ensures.answer at c.read_text.ensures.words
