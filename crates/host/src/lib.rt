@@ -20,6 +20,7 @@ ghost use Rattle.pairs.specs.Alone.{OtherWrote};
 ghost use Rattle.pairs.specs.FaultyTable.{RefusedByTable};
 ghost use Rattle.texts.specs.Text.{read_text, text_read};
 ghost use Rattle.texts.specs.ModelWords.{ModelWords};
+ghost use Rattle.texts.specs.RightText.{ReadsRight};
 ghost use Rattle.bitforms.specs.FormAnswer.{bit_form, bit_formed};
 ghost use Rattle.bitsharing.specs.FormShares.{FormShares};
 ghost use Rattle.solutions.specs.Solutions.{solutions_answer, solutions_listed};
@@ -134,6 +135,7 @@ pub extern "C" fn pearrummy_text(text: &[u8], out: &mut [u32]) -> WrittenWords
     ensures answer { result ≡ written_words_of (read_text text.now (length out.old)) }
     ensures output { out.new ≡ text_read text.now out.old }
     ensures words { ModelWords (read_text text.now (length out.old)) out.new }
+    ensures right { ReadsRight text.now (read_text text.now (length out.old)) out.new }
 {
     WrittenWords::from(read_text(text, out))
 }

@@ -402,7 +402,7 @@ model_words bs e l =
 -- ---- of the words that were written
 
 module _ (all : List Token) (end : ℕ) where
-  no_fault : (due : Due) (ts : List Token) → (fault_from all end due ts).number ≡ 0 → fault_from all end due ts ≡ accepted
+  pub no_fault : (due : Due) (ts : List Token) → (fault_from all end due ts).number ≡ 0 → fault_from all end due ts ≡ accepted
   unfolding fault_from
   no_fault due [] e = sym (no-fault (step all due (end_of end) []).fault end accepted (passed-number _ end accepted e).0)
   no_fault due (t ∷ ts) e =
@@ -410,7 +410,7 @@ module _ (all : List Token) (end : ℕ) where
       sym (no-fault (step all due t ts).fault t.place _ p.0) ∙ no_fault (step all due t ts).next ts p.1
 
 module _ (bs out : List ℕ) (n : ℕ) (e : read_text bs (length out) ≡ written n) where
-  abbrev us : List ℕ
+  abbrev pub us : List ℕ
   us = tokens_words (tokens bs)
 
   -- the text's fault, 1, 16
@@ -419,10 +419,10 @@ module _ (bs out : List ℕ) (n : ℕ) (e : read_text bs (length out) ≡ writte
       let second : Refusal = 1 at_place 0 if long else (16 at_place 0 if short else accepted) in
       fault_or m p second
 
-  abbrev Written : ℕ → ℕ → Type 0
+  abbrev pub Written : ℕ → ℕ → Type 0
   Written m number = (m ≡ 0) × ((n ≡ length us) × ((length us ≤ 8192) × ((length us ≤ length out) × ((overlay out 0 us if eqb number 0 else out) ≡ overlay out 0 us))))
 
-  wrote : Written (tokens_fault (tokens bs) (length bs)).number (text_fault bs (length out)).number
+  pub wrote : Written (tokens_fault (tokens bs) (length bs)).number (text_fault bs (length out)).number
   unfolding read_text text_fault words_fault room_fault ◌else_refuse◌ ◌else_answer◌
   wrote = by (tokens_fault (tokens bs) (length bs)).number (tokens_fault (tokens bs) (length bs)).place (ltb 8192 (length us)) (ltb (length out) (length us)) refl refl e
     where

@@ -3,3 +3,6 @@ use Rattle.host.proofs.pearrummy_text.Goals as goal
 
 pub returns-clause-words : goal.returns-clause-words
 returns-clause-words c = rw c.read_text.ensures.answer at c.read_text.ensures.words
+
+pub returns-clause-right : goal.returns-clause-right
+returns-clause-right c = rw c.read_text.ensures.answer at c.read_text.ensures.right
