@@ -1,4 +1,3 @@
 pub mod Answers
 pub mod Pieces
-pub mod Accepted
 pub mod Found

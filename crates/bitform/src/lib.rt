@@ -3,7 +3,7 @@
 // n stays a parameter beside them: the clauses name it as the number of bits, and that it is the length of both lists is what LineAndRow says.
 #![tactic(auto)]
 
-ghost use Rattle.std.specs.Prelude.{◌≡◌, true, [], ◌∷◌, ◌≤◌, length, Some};
+ghost use Rattle.std.specs.Prelude.{◌≡◌, true, [], ◌∷◌, length, Some};
 ghost use Rattle.integers.specs.Lists.{all};
 ghost use Rattle.words.specs.Faults.{written_of};
 ghost use Rattle.words.specs.Refusal.{accepted};
@@ -13,18 +13,14 @@ ghost use Rattle.rowsystems.specs.Reading.{read_rows};
 ghost use Rattle.bitforms.specs.BitForm.{bit_rows_of, form_constant};
 ghost use Rattle.bitforms.specs.FormAnswer.{row_fits, form_fits, bit_form, bit_formed};
 ghost use Rattle.bitforms.specs.FormWords.{form_words};
-ghost use Rattle.words.specs.Limit as Limit;
-ghost use Rattle.bitlines.specs.Sizes as Size;
-ghost use Rattle.bittables.specs.BitTables.{counts, BitCounts};
 ghost use Rattle.bitfilling.specs.Added.{LineAndRow};
 ghost use Rattle.bitsharing.specs.FormShares.{FormShares};
 ghost use Rattle.bitform.specs.Answered.{Answered, BitsListed};
 
-use bitchecks::{check_rows, count_bits};
-use bittables::keep_bits;
-use bittables::table::{BitSystem, BitTable, BitVariable};
+use bitchecks::check_rows;
+use bitreading::list_bits;
+use bittables::table::{BitSystem, BitTable, BitVariable, system_of};
 use bitwriting::put_lines;
-use extremes::keep_bounds;
 use rowreading::read_rows;
 use words::domain::Domain;
 use words::fault::{Fault, Refusal};
@@ -109,29 +105,15 @@ fn form_checked(
     form_lines(out, system, line, row, n, c)
 }
 
-// The words of a row system with its variables over bits. Tried as a literal in the caller, and the proof did not close: there the borrow checker meets a
-// table of another lifetime.
-fn system_of<'a>(words: &'a [u32], table: BitTable<'a>, start: usize) -> BitSystem<'a>
-    requires { (length words.now ≤ Limit.row_words) × BitCounts table.domains.now (counts table.bits.now) × (start ≤ Size.all_variable_bits) }
-    ensures { (result.words.now ≡ words.now) × (result.table.domains.now ≡ table.entry.domains.now) × (result.table.bits.now ≡ table.entry.bits.now) × (result.start ≡ start) }
-{
-    BitSystem {
-        words,
-        table,
-        start,
-    }
-}
-
 // Of accepted words: 23, or what comes after, with a row over bits and a line of the form to work with. The lists have the most elements: fixed memory.
 fn form_accepted(ws: &[u32], out: &mut [u32]) -> Result<usize, Refusal>
     requires { read_rows ws.now ≡ accepted }
     ensures { Answered ws.now out.old out.new (written_of result) }
 {
     let mut domains = [Domain::new(0, 0); limit::IN_ALL];
-    let variables = keep_bounds(ws, &mut domains);
     let mut bits = [BitVariable { first: 0, count: 0 }; limit::IN_ALL];
-    let start = keep_bits(&domains, variables, &mut bits);
-    let n = count_bits(ws, &domains, &bits, start);
+    let listed = list_bits(ws, &mut domains, &mut bits);
+    let n = listed.all;
     if limit::BITS < n {
         return Err(Refusal {
             fault: Fault::TooManyBits,
@@ -144,7 +126,7 @@ fn form_accepted(ws: &[u32], out: &mut [u32]) -> Result<usize, Refusal>
         domains: &domains,
         bits: &bits,
     };
-    let system = system_of(ws, table, start);
+    let system = system_of(ws, table, listed.start);
     form_checked(out, &system, &mut line[..n], &mut row[..n], n)
 }
 

@@ -19,7 +19,7 @@ use Rattle.bitforms.specs.BitRow.{least_term, pairs_with, pairs_of}
 use Rattle.bitforms.proofs.Numbers.{with-length}
 use Rattle.bittables.specs.BitTables.{span_in, bits_of}
 use Rattle.bitrows.specs.Terms.{term_in}
-use Rattle.bitrows.proofs.Cross.{length-weighted}
+use Rattle.bitforms.proofs.Complete.{length-weighted}
 
 -- ---- sums term by term
 

@@ -44,7 +44,7 @@ pub fn span_at(domains: &[Domain], v: usize) -> usize
 
 // The variable at place i of the words after a head.
 // A term's variable and coefficient are read apart, and by no function of a term: no plainer, since `term_at` of bitrows asks the coefficient alone and
-// `lower_sum` the variable.
+// `terms_sum` the variable.
 #[tactic(auto, unfolding(rowsystems::specs::RowSystem::variable_at))]
 pub fn row_variable(args: &[u32], i: usize) -> usize
     ensures { result ≡ variable_at args.now i }

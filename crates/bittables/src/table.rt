@@ -39,6 +39,19 @@ pub struct BitSystem<'a> {
     ghost near_start: { start ≤ Size.all_variable_bits },
 }
 
+// The words of a row system with its variables over bits. Tried as a literal in a caller, and the proof did not close: there the borrow checker meets a
+// table of another lifetime.
+pub fn system_of<'a>(words: &'a [u32], table: BitTable<'a>, start: usize) -> BitSystem<'a>
+    requires { (length words.now ≤ Limit.row_words) × BitCounts table.domains.now (counts table.bits.now) × (start ≤ Size.all_variable_bits) }
+    ensures { (result.words.now ≡ words.now) × (result.table.domains.now ≡ table.entry.domains.now) × (result.table.bits.now ≡ table.entry.bits.now) × (result.start ≡ start) }
+{
+    BitSystem {
+        words,
+        table,
+        start,
+    }
+}
+
 // The bits of variable v, none past the last one.
 #[tactic(auto, using(crate::proofs::Bits::first_at, crate::proofs::Bits::count_at))]
 pub fn bits_at(bits: &[BitVariable], v: usize) -> BitVariable

@@ -1,4 +1,4 @@
--- 01, Numbered faults, and 18 to 24 of 02: the numbers, each named once. 0 is no fault.
+-- 01, Numbered faults, 18 to 24 of 02, and 25 of 03: the numbers, each named once. 0 is no fault.
 use Rattle.std.specs.Prelude.{ℕ}
 
 abbrev pub none : ℕ
@@ -99,3 +99,7 @@ too_many_bits = 23
 -- "when a row over bits, like bits added, has a coefficient or constant beyond plus or minus 16,384, or an entry or the form's constant is outside the range"
 abbrev pub form_too_large : ℕ
 form_too_large = 24
+
+-- 03, request 15: "a bit is neither 0 nor 1"
+abbrev pub not_a_bit : ℕ
+not_a_bit = 25

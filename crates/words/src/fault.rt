@@ -29,6 +29,7 @@ pub enum Fault {
     TooManyLists = 22,
     TooManyBits = 23,
     FormTooLarge = 24,
+    NotABit = 25,
 }
 
 impl Fault {

@@ -9,12 +9,12 @@ use Rattle.bitrows.proofs.row_constant.Goals as goal
 pub returns-then-is : goal.returns-then-is
 unfolding bit_row over
 returns-then-is g c Ds firsts first p =
-    rw (row_at_most c.args.head c.args.args.now (sym c.is.ensures ∙ c.if-is.true), ← c.sum_terms.ensures.value) (read c.lower_sum.type_inv (c.lower_sum.ensures _ p))
+    rw (row_at_most c.args.head c.args.args.now (sym c.is.ensures ∙ c.if-is.true), ← c.sum_terms.ensures.value) (read c.terms_sum.type_inv (c.terms_sum.ensures.sums _ p))
 
 pub returns-then-is-2 : goal.returns-then-is-2
 unfolding bit_row over
 returns-then-is-2 g c Ds firsts first p =
-    rw (row-equal c.args.head c.args.args.now (sym c.is.ensures ∙ c.if-is.false) (sym c.is-2.ensures ∙ c.if-is-2.true), ← c.sum_terms-then-is-2.ensures.value) (read c.lower_sum-then-is-2.type_inv (c.lower_sum-then-is-2.ensures _ p))
+    rw (row-equal c.args.head c.args.args.now (sym c.is.ensures ∙ c.if-is.false) (sym c.is-2.ensures ∙ c.if-is-2.true), ← c.sum_terms-then-is-2.ensures.value) (read c.terms_sum-then-is-2.type_inv (c.terms_sum-then-is-2.ensures.sums _ p))
 
 pub returns : goal.returns
 unfolding bit_row product_whole

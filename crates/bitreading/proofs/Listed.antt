@@ -11,12 +11,15 @@ use Rattle.rowsystems.specs.Reading.{read_rows}
 use Rattle.integers.specs.Bounds.{bounds_in}
 use Rattle.bitforms.specs.Encoding.{weights_of, bits_after}
 use Rattle.bitforms.specs.BitRow.{bits_with}
-use Rattle.bitforms.specs.BitForm.{bit_rows_of, bit_count}
+use Rattle.bitforms.specs.BitForm.{bit_count}
 use Rattle.bitlines.specs.Sizes as Size
-use Rattle.bittables.specs.BitTables.{rows_by}
+use Rattle.bittables.specs.BitTables.{firsts, counts, rows_by}
 use Rattle.bittables.specs.KeptBits.{firsts_from, KeptBits}
-use Rattle.bittables.proofs.Kept.{BitTables, domains_kept, firsts_kept, counts_kept, kept-variables, kept-few, kept_tables, kept-rows}
+use Rattle.bittables.specs.declared.table.BitVariable.{BitVariable}
+use Rattle.bittables.proofs.Kept.{BitTables, domains_kept, firsts_kept, counts_kept, kept-variables, kept-few, kept_tables, kept-encoding, kept-rows}
 use Rattle.rowsystems.proofs.FewVariables.{few-variables}
+use Rattle.extremes.proofs.Kept.{kept-bounds}
+use Rattle.bitreading.specs.BitsGiven.{BitsKept}
 
 -- ---- the lists
 
@@ -37,7 +40,7 @@ module _ (ws : List ℕ) (read : read_rows ws ≡ accepted) where
   unfolding bit_count
   count-is e = e ∙ ap (bits_with (bits_after 0 (variables ws))) (kept-rows ws few)
 
--- ---- what the parts of the call need of them
+-- ---- what the parts of the calls need of them
 
 pub record Kept (ws : List ℕ) (Ds : List Bounds) (firsts counts : List ℕ) (start : ℕ) : Type 0 where
   pub bounds : Ds ≡ domains_kept ws
@@ -67,6 +70,20 @@ module _ (ws : List ℕ) (r : read_rows ws ≡ accepted) {Ds : List Bounds} {fir
   pub counted_is : {n : ℕ} → ((fs : List ℕ) → n ≡ bits_with start (rows_by Ds fs start ws)) → n ≡ bit_count ws
   counted_is h = count-is ws r (rw (k.bounds, k.begins) at (h (firsts_kept ws)))
 
-  -- the rows over bits are those of the words
-  pub rows_kept : rows_by Ds firsts start ws ≡ bit_rows_of ws
-  rows_kept = rw (k.bounds, k.numbers, k.begins) (kept-rows ws (few ws r))
+-- what is listed, of words and two lists
+pub listed : (ws : List ℕ) (r : read_rows ws ≡ accepted) {Ds : List Bounds} {bits : List BitVariable} {n start all : ℕ} → Kept ws Ds (firsts bits) (counts bits) start →
+    n ≡ length (variables ws) → ((fs : List ℕ) → all ≡ bits_with start (rows_by Ds fs start ws)) → BitsKept ws Ds bits n start all
+listed ws r k e h =
+    let t = tables-kept ws r k in
+    record {
+      as_many = e;
+      few = rw e (few ws r);
+      few_words = words_few ws r k;
+      near = t.near_first;
+      counted = t.counted;
+      near_start = start_near ws r k;
+      same_bounds = rw k.bounds (kept-bounds ws 4096 (few ws r));
+      same_encodings = rw (k.bounds, k.numbers) (kept-encoding ws (few ws r));
+      same_rows = rw (k.bounds, k.numbers, k.begins) (kept-rows ws (few ws r));
+      same_count = counted_is ws r k h;
+    }

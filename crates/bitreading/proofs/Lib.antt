@@ -1,0 +1,4 @@
+pub mod Listed
+pub mod Weighing
+pub mod Variable
+pub mod Faults

@@ -1,0 +1,25 @@
+-- The reader's fault, or what comes after; and what the values say.
+use Rattle.std.proofs.lemmas.Result.{err_from_is_err_and}
+use Rattle.words.proofs.Faulty.{fault-number}
+use Rattle.bitsharing.proofs.ReadShares.{values-shared}
+use Rattle.bitvalues.proofs.Answers.{stands}
+use Rattle.bitvalues.proofs.bit_values.Goals as goal
+
+pub returns-in_err-read_rows : goal.returns-in_err-read_rows
+returns-in_err-read_rows c =
+    let p = err_from_is_err_and c.from_residual.result c.from_residual.ensures.1 in
+    let a = stands c.args.ws.now c.args.bits.now c.args.out.now _ c.in_err-read_rows.ensures.reads (fault-number _) in
+    record {
+      answer = rw (p.1, p.2) a.says;
+      output = a.holds;
+      shared = rw (p.1, p.2) (values-shared c.args.ws.now c.args.bits.now c.args.out.now a.says a.holds);
+    }
+
+pub returns : goal.returns
+returns c =
+    let a = c.values_accepted.ensures in
+    record {
+      answer = a.says;
+      output = a.holds;
+      shared = values-shared c.args.ws.now c.args.bits.now c.args.out.now a.says a.holds;
+    }

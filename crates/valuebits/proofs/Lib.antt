@@ -1,0 +1,5 @@
+pub mod Choosing
+pub mod Variables
+pub mod Products
+pub mod Rows
+pub mod Answers

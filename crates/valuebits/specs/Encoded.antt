@@ -1,0 +1,15 @@
+-- The answer of each case of what the call says, and of what it hands over.
+use Rattle.std.specs.Prelude.{Result}
+use Rattle.words.specs.Answer.{Answer, written, out_of_bounds, is_false}
+use Rattle.words.specs.Faults.{answer_of}
+use Rattle.words.specs.declared.fault.Refusal as error
+use Rattle.valuebits.specs.declared.Encoded.{Encoded}
+use Rattle.valuebits.specs.declared.Encoded.TheVariants.{Bits, OutOfBounds, False}
+
+abbrev pub encoding_of : Encoded → Answer
+encoding_of (Bits n) = written n
+encoding_of (OutOfBounds i) = out_of_bounds i
+encoding_of (False i) = is_false i
+
+abbrev pub encoded : Result Encoded error.Refusal → Answer
+encoded = answer_of encoding_of
