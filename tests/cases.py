@@ -11,7 +11,8 @@ import glob, os, struct, sys
 HERE = os.path.dirname(os.path.abspath(__file__))
 SUITE = os.path.join(os.path.dirname(HERE), 'crates', 'suite')
 CALLS = {'check': 1, 'translate': 2, 'judge_model': 3, 'judge_rows': 4, 'fill': 5, 'sheet': 6, 'text': 7, 'reason': 8, 'solutions': 9, 'bits': 10,
-         'pair_check': 11, 'pair_translate': 12, 'pair_judge_model': 13, 'pair_fill': 14}
+         'pair_check': 11, 'pair_translate': 12, 'pair_judge_model': 13, 'pair_fill': 14, 'bit_values': 15,
+         'bit_energy': 16, 'value_bits': 17}
 MORE = 3  # how much longer than wanted a list is lent, so that what stands past the end is seen
 
 
@@ -19,14 +20,14 @@ def recorded():
     for path in sorted(glob.glob(os.path.join(HERE, 'vectors', '*.txt'))):
         for line in open(path):
             call, words, values, room, answer = (part.strip() for part in line.rstrip('\n').split('|'))
-            yield (call, [int(w, 16) for w in words.split()], [] if values == '-' else [int(v) for v in values.split()],
+            yield (call, [] if words == '-' else [int(w, 16) for w in words.split()], [] if values == '-' else [int(v) for v in values.split()],
                    0 if room == '-' else int(room), answer)
 
 
 def rooms(call, words, values, room, answer):
     """The same call with a list one too short, of the wanted length and longer; what is wanted is what the recorded answer writes."""
     kind, *written = answer.split()
-    if kind not in ('words', 'filled', 'bytes', 'solutions'):
+    if kind not in ('words', 'filled', 'bytes', 'solutions', 'values', 'bits'):
         return
     if kind == 'solutions':
         written = written[1:]

@@ -4,6 +4,7 @@ use checking::Counts;
 use filling::Filling;
 use reasoning::answer::Reason;
 use std::fmt;
+use valuebits::Encoded;
 use words::answer::Verdict;
 use words::fault::Refusal;
 
@@ -22,6 +23,10 @@ pub enum Answer<'a> {
     Words(&'a [u32]),
     Bytes(&'a [u8]),
     Filled(&'a [i32]),
+    // the values that bits read as, their energy, the bits of values
+    Values(&'a [i32]),
+    Energy(i64),
+    Bits(&'a [u8]),
     // how many solutions, and their values
     Solutions(usize, &'a [i32]),
     // reason has nothing to say; the first failing row, the constraint whose block holds it, whether the auxiliaries fail it and not the builtin
@@ -40,9 +45,24 @@ impl Answer<'_> {
             Answer::Words(words) => words.len(),
             Answer::Bytes(bytes) => bytes.len(),
             Answer::Filled(values) => values.len(),
+            Answer::Values(values) => values.len(),
+            Answer::Bits(bits) => bits.len(),
             Answer::Solutions(_, values) => values.len(),
             _ => 0,
         }
+    }
+}
+
+// Bytes as numbers, a blank before each.
+#[derive(Drop)]
+struct Digits<'a>(&'a [u8]);
+
+impl fmt::Display for Digits<'_> {
+    fn fmt<W: fmt::Write>(&self, f: &mut fmt::Formatter<W>) -> fmt::Result {
+        for &x in self.0 {
+            write!(f, " {x}")?;
+        }
+        Ok(())
     }
 }
 
@@ -69,6 +89,9 @@ impl fmt::Display for Answer<'_> {
             Answer::Bytes(bytes) if bytes.is_empty() => write!(f, "bytes"),
             Answer::Bytes(bytes) => write!(f, "bytes {}", Elements(bytes)),
             Answer::Filled(values) => write!(f, "filled{}", Elements(values)),
+            Answer::Values(values) => write!(f, "values{}", Elements(values)),
+            Answer::Energy(e) => write!(f, "energy {e}"),
+            Answer::Bits(bits) => write!(f, "bits{}", Digits(bits)),
             Answer::Solutions(n, values) => write!(f, "solutions {n}{}", Elements(values)),
             Answer::NoReason => write!(f, "none"),
             Answer::Reason {
@@ -126,6 +149,19 @@ impl<'a> From<Result<Reason, Refusal>> for Answer<'a> {
     }
 }
 
+impl<'a> From<Result<i64, Refusal>> for Answer<'a> {
+    fn from(answer: Result<i64, Refusal>) -> Answer<'a> {
+        match answer {
+            Ok(e) => Answer::Energy(e),
+            Err(r) => Answer::Refused(r),
+        }
+    }
+}
+
+// What bit_values answers: a type of its own, since that of solutions is the same.
+#[derive(Clone, Copy, Debug, PartialEq, Eq)]
+pub struct BitValues(pub Result<usize, Refusal>);
+
 // What a call says that was lent the front of a list.
 pub trait Wrote<T> {
     // Its answer, with what it wrote to the list.
@@ -171,6 +207,26 @@ impl Wrote<i32> for Result<usize, Refusal> {
                 let end = first_marked(list).unwrap_or(list.len());
                 Answer::Solutions(n, front(list, end))
             }
+            Err(r) => Answer::Refused(r),
+        }
+    }
+}
+
+impl Wrote<i32> for BitValues {
+    fn to_list(self, list: &[i32]) -> Answer<'_> {
+        match self.0 {
+            Ok(n) => Answer::Values(front(list, n)),
+            Err(r) => Answer::Refused(r),
+        }
+    }
+}
+
+impl Wrote<u8> for Result<Encoded, Refusal> {
+    fn to_list(self, list: &[u8]) -> Answer<'_> {
+        match self {
+            Ok(Encoded::Bits(n)) => Answer::Bits(front(list, n)),
+            Ok(Encoded::OutOfBounds(i)) => Answer::OutOfBounds(i),
+            Ok(Encoded::False(i)) => Answer::False(i),
             Err(r) => Answer::Refused(r),
         }
     }

@@ -17,6 +17,9 @@ pub enum RowsCall {
     Judge,
     Sheet,
     Bits,
+    BitValues,
+    BitEnergy,
+    ValueBits,
 }
 
 // A call on a pair, for a candidate.
@@ -59,6 +62,9 @@ impl TryFrom<u32> for Call {
             12 => Ok(Call::Pair(PairCall::Translate)),
             13 => Ok(Call::Pair(PairCall::Judge)),
             14 => Ok(Call::Pair(PairCall::Fill)),
+            15 => Ok(Call::Rows(RowsCall::BitValues)),
+            16 => Ok(Call::Rows(RowsCall::BitEnergy)),
+            17 => Ok(Call::Rows(RowsCall::ValueBits)),
             _ => Err(UnknownCall(number)),
         }
     }

@@ -4,8 +4,10 @@
 // A call that writes is lent the front of a longer list, as long as the room; what it may not write is looked at afterwards.
 #![tactic(auto)]
 
-use answer::{Answer, Wrote};
+use answer::{Answer, BitValues, Wrote};
+use bitenergy::bit_energy;
 use bitform::bit_form;
+use bitvalues::bit_values;
 use call::{Call, ModelCall, PairCall, RowsCall};
 use cases::input::{Head, next_head, read_front};
 use cases::lent::{Element, front, is_marked, lend};
@@ -21,6 +23,7 @@ use std::io;
 use std::io::{Read, Write};
 use texts::read_text;
 use translation::translate;
+use valuebits::value_bits;
 
 mod answer;
 mod call;
@@ -153,6 +156,28 @@ fn answer_rows<R: Read, W: Write>(
         RowsCall::Bits => print_lent(to, &mut [u32::MARK; MODEL_WORDS], head.room, |out| {
             bit_form(rows, out)
         }),
+        RowsCall::BitValues => {
+            let mut bits = [0u8; VALUES];
+            read_front(input, &mut bits, head.values)?;
+            print_lent(to, &mut [i32::MARK; VALUES], head.room, |out| {
+                BitValues(bit_values(rows, front(&bits, head.values), out))
+            })
+        }
+        RowsCall::BitEnergy => {
+            let mut bits = [0u8; VALUES];
+            read_front(input, &mut bits, head.values)?;
+            print_answer(
+                to,
+                Answer::from(bit_energy(rows, front(&bits, head.values))),
+            )
+        }
+        RowsCall::ValueBits => {
+            let mut values = [0i32; VALUES];
+            read_front(input, &mut values, head.values)?;
+            print_lent(to, &mut [u8::MARK; VALUES], head.room, |out| {
+                value_bits(rows, front(&values, head.values), out)
+            })
+        }
     }
 }
 
