@@ -1,4 +1,3 @@
 -- Laws for proofs about arguments.
 pub mod Size
 pub mod Places
-pub mod Unknown

@@ -28,7 +28,7 @@ use Rattle.models.specs.declared.constraint.Constraint as given
 use Rattle.encodings.specs.declared.context.Context.{Context}
 use Rattle.encodings.specs.Uses.{choice_of, choosing, shared_by}
 use Rattle.encodings.proofs.Record.{encodes-by, shares-by}
-use Rattle.sharedblocks.proofs.Codes.{same-code}
+use Rattle.models.proofs.AllCodes.{same-code}
 use Rattle.blocks.specs.Coded.{constraint_of, block_by, has_all}
 
 -- ---- a block that was laid from nothing

@@ -3,7 +3,7 @@ use Rattle.std.proofs.Common.{◌≡◌, refl, sym, true, List, ℕ}
 use Rattle.integers.specs.Terms.{Valuation}
 use Rattle.integers.proofs.Tests.{says-equal}
 use Rattle.models.specs.Meaning.{meaning}
-use Rattle.arguments.proofs.Unknown.{Unknown, no_builtin}
+use Rattle.models.proofs.AllCodes.{Unknown, no_builtin}
 use Rattle.builtins.specs.Coded.{builtin_of}
 
 pub no_code : (σ : Valuation) (code : ℕ) (ws : List ℕ) → Unknown code → true ≡ meaning σ (builtin_of code ws)

@@ -14,7 +14,7 @@ use Rattle.words.specs.Word.{payload, word_at}
 use Rattle.models.specs.Table as Table
 use Rattle.models.specs.Model.{Constraint, headed, constraints}
 use Rattle.models.proofs.Accepted as Accepted
-use Rattle.arguments.proofs.Unknown.{Unknown, past_last}
+use Rattle.models.proofs.AllCodes.{Unknown, past_last}
 use Rattle.modelreading.specs.Seen as Seen
 use Rattle.modelreading.specs.Seen.{Seen, model_read}
 use Rattle.modelreading.specs.declared.Model.{Model}

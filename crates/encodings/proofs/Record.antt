@@ -1,5 +1,5 @@
 -- What a constraint encodes, by its code; the record after its block, and how large the numbers in it are.
-use Rattle.std.proofs.Common.{◌≡◌, refl, Bool, true, false, ◌&&◌, ◌||◌, List, [], ◌∷◌, ℕ, zero, suc, ◌<◌, arith, eqb, ne_eqb, length, get_or, set, length-set, get_or-set_same, get_or-set_other}
+use Rattle.std.proofs.Common.{◌≡◌, refl, sym, Bool, true, false, ◌&&◌, ◌||◌, List, [], ◌∷◌, ℕ, zero, suc, ◌<◌, arith, eqb, ne_eqb, length, get_or, set, length-set, get_or-set_same, get_or-set_other}
 use native.Mathlib.Decide.{ℕ_discrete, dec_lt}
 use lib.ListN.{length-replicate}
 use lib.Seq.{set_out}
@@ -8,7 +8,8 @@ use Rattle.integers.specs.Lists.{any}
 use Rattle.integers.proofs.Booleans.{or-false}
 use Rattle.integers.proofs.Places.{get_or-replicate_same}
 use Rattle.models.specs.Model.{Constraint, var, vars, nums, past}
-use Rattle.arguments.proofs.Unknown.{Unknown, past_last}
+use Rattle.models.specs.declared.code.Code.TheVariants as of_code
+use Rattle.models.proofs.AllCodes.{Unknown}
 use Rattle.rules.specs.Shared.{of_element, of_var_element, of_set, of_set_reif, no_choice, choice, encodes, shares, Encoded, none_yet, first_of, encoded_after}
 use Rattle.encodings.specs.Uses.{choice_of, choosing, Recorded}
 
@@ -36,10 +37,8 @@ encodes-of code args = encodes-by (record { place = 0; code = code; arguments = 
 -- a number that no code has
 pub no-choosing : (code : ℕ) → Unknown code → choosing code ≡ false
 unfolding choosing
-no-choosing zero h = refl
-no-choosing (suc n) h =
-    let l : 39 < suc n = past_last (suc n) h (omega arith) in
-    rw (ne_eqb (suc n) 24 (omega arith), ne_eqb (suc n) 25 (omega arith), ne_eqb (suc n) 27 (omega arith), ne_eqb (suc n) 28 (omega arith))
+no-choosing code h =
+    rw (ne_eqb code 24 (λ e. h of_code.ArrayIntElement (sym e)), ne_eqb code 25 (λ e. h of_code.ArrayVarIntElement (sym e)), ne_eqb code 27 (λ e. h of_code.SetIn (sym e)), ne_eqb code 28 (λ e. h of_code.SetInReif (sym e)))
 
 -- whether its variable is shared
 pub shares-by : (s : ℕ → Bool) (code : ℕ) (args : List ℕ) → shares s (choice_of code args) ≡ (s (var args 0) if choosing code else false)

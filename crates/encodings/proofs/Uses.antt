@@ -7,7 +7,7 @@ use Rattle.integers.specs.Lists.{any, how_many}
 use Rattle.models.specs.Model.{Constraint, var}
 use Rattle.rules.specs.Shared.{choice, encodes}
 use Rattle.encodings.specs.Uses.{choice_of, choosing, counted, no_uses, uses_from}
-use Rattle.arguments.proofs.Unknown.{Unknown}
+use Rattle.models.proofs.AllCodes.{Unknown}
 use Rattle.encodings.proofs.Record.{encodes-by, encodes-of, no-choosing, get_or-none_yet, none-many}
 
 pub counted-le : (us xs : List ℕ) (v : ℕ) → get_or (counted us xs) v 0 ≤ get_or us v 0 + 1

@@ -5,6 +5,7 @@ pub mod Numbers
 pub mod Fits
 pub mod Form
 pub mod Codes
+pub mod AllCodes
 pub mod Typed
 pub mod Contents
 pub mod Accepted

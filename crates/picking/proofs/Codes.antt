@@ -14,7 +14,7 @@ use Rattle.rules.specs.Pick.{pick, first_bit, gated_pick}
 use Rattle.rules.proofs.Members.{places-kept}
 use Rattle.rules.specs.Shared.{Encoded, pick_after}
 use Rattle.arguments.specs.declared.instance.Instance.{Instance}
-use Rattle.arguments.proofs.Unknown.{Unknown, no_builtin}
+use Rattle.models.proofs.AllCodes.{Unknown, no_builtin}
 use Rattle.encodings.specs.Uses.{shared_by}
 use Rattle.encodings.proofs.Record.{shares-by, no-choosing}
 use Rattle.picking.specs.Picked.{picks_of, picks_after, product_picks}

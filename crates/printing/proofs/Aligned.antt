@@ -9,7 +9,7 @@ use Rattle.integers.proofs.Lists.{all-at, list_of-length, all_or_past}
 use Rattle.integers.proofs.Places.{get_or-list_of}
 use Rattle.integers.proofs.Tests.{All, says_all, says-and}
 use Rattle.integers.proofs.Booleans.{both_true}
-use Rattle.models.specs.Table.{Code, codes}
+use Rattle.models.specs.Table.{Code, codes, last}
 use Rattle.models.specs.Shape as Shape
 use Rattle.models.specs.Shape.{shapes}
 use Rattle.grammar.specs.Form.{in_text, argument_forms, argument_form, Form, Missing, One, Many}
@@ -56,11 +56,11 @@ sorts_of is_set (s ∷ ss) =
     let rest = sorts_of is_set ss in
     argument.Variable ∷ rest if leb s 2 else argument.Number ∷ rest if leb s 4 else numbers_form is_set ∷ rest if eqb s 5 else argument.Bracketed brackets.Numbers ∷ argument.Bracketed brackets.Parallel ∷ rest if eqb s 8 else argument.Bracketed brackets.Variables ∷ rest
 
-forms_are : list_of argument_forms 40 ≡ list_of (λ code. map text_form (sorts_of (takes_set code) (get_or shapes code []))) 40
+forms_are : list_of argument_forms (suc last) ≡ list_of (λ code. map text_form (sorts_of (takes_set code) (get_or shapes code []))) (suc last)
 unfolding any list_of argument_forms in_text bracket takes_set shapes flat_map
 forms_are = refl
 
-beyond : (code : ℕ) → 39 < code → (argument_forms code ≡ []) × (get_or shapes code [] ≡ [])
+beyond : (code : ℕ) → last < code → (argument_forms code ≡ []) × (get_or shapes code [] ≡ [])
 unfolding argument_forms shapes
 beyond code l = (get_or-eq_default ([] ∷ map (λ (row : Code). flat_map in_text row.sorts) codes) [] {n = code} l, get_or-eq_default shapes [] {n = code} l)
 
@@ -68,16 +68,16 @@ abbrev pub Aligned : ℕ → ℕ → ℕ → Type 0
 Aligned code k j = drop j (argument_forms code) ≡ map text_form (sorts_of (takes_set code) (drop k (get_or shapes code [])))
 
 pub aligned : (code : ℕ) → Aligned code 0 0
-aligned code = go (ltb code 40) refl
+aligned code = go (ltb code (suc last)) refl
   where
     sorted : ℕ → List Form
     sorted c = map text_form (sorts_of (takes_set c) (get_or shapes c []))
 
-    go : (b : Bool) → ltb code 40 ≡ b → argument_forms code ≡ sorted code
+    go : (b : Bool) → ltb code (suc last) ≡ b → argument_forms code ≡ sorted code
     go true e =
-        let l = ltb-true code 40 e in
-        sym (get_or-list_of argument_forms 40 code [] l) ∙ ap (λ (r : List (List Form)). get_or r code []) forms_are ∙ get_or-list_of sorted 40 code [] l
-    go false e = let q = beyond code (omega (arith, ltb-false code 40 e)) in rw (q.0, q.1)
+        let l = ltb-true code (suc last) e in
+        sym (get_or-list_of argument_forms (suc last) code [] l) ∙ ap (λ (r : List (List Form)). get_or r code []) forms_are ∙ get_or-list_of sorted (suc last) code [] l
+    go false e = let q = beyond code (omega (arith, ltb-false code (suc last) e)) in rw (q.0, q.1)
 
 module _ (code k : ℕ) where
   within : 1 ≤ Shape.argument code k → k < length (get_or shapes code [])
@@ -146,11 +146,11 @@ module _ (code k : ℕ) where
 abbrev Some : List ℕ → Type 0
 Some ss = 1 ≤ length ss
 
-some_of : (code : ℕ) → code < 39 → Some (get_or shapes (suc code) [])
+some_of : (code : ℕ) → code < last → Some (get_or shapes (suc code) [])
 unfolding shapes all
 some_of code l = all-at Some [] (drop 1 shapes) code (omega arith) ((says_all (λ ss. leb 1 (length ss)) Some (λ ss. (leb-true 1 (length ss), le-leb 1 (length ss))) (drop 1 shapes)).0 refl)
 
-pub some-argument : (code : ℕ) → 1 ≤ code → code ≤ 39 → 1 ≤ Shape.argument code 0
+pub some-argument : (code : ℕ) → 1 ≤ code → code ≤ last → 1 ≤ Shape.argument code 0
 unfolding Shape.argument
 some-argument zero l h = absurd (omega arith)
 some-argument (suc code) l h = (shaped-at (get_or shapes (suc code) []) 0 (shaped (suc code)) (some_of code (omega arith))).0
@@ -165,24 +165,24 @@ no-parallel (x ∷ xs) (suc k) h e = no-parallel xs k (both_true (not (eqb x 8))
 abbrev is_apart : ℕ → Bool
 is_apart code = all (λ s. not (eqb s 8)) (get_or shapes code []) if takes_set code else true
 
-apart-all : all is_apart (list_of (λ code. code) 40) ≡ true
+apart-all : all is_apart (list_of (λ code. code) (suc last)) ≡ true
 unfolding all any list_of argument_forms in_text bracket takes_set shapes flat_map
 apart-all = refl
 
 abbrev Apart : ℕ → Type 0
 Apart code = is_apart code ≡ true
 
-apart : (code : ℕ) → code < 40 → Apart code
+apart : (code : ℕ) → code < (suc last) → Apart code
 apart code l =
-    let m : code < length (list_of (λ (n : ℕ). n) 40) = rw (list_of-length (λ (n : ℕ). n) 40) l in
-    rw (get_or-list_of (λ (n : ℕ). n) 40 code 0 l) at
-    (all-at Apart 0 (list_of (λ (n : ℕ). n) 40) code m ((says_all is_apart Apart (λ n. (λ e. e, λ e. e)) (list_of (λ (n : ℕ). n) 40)).0 apart-all))
+    let m : code < length (list_of (λ (n : ℕ). n) (suc last)) = rw (list_of-length (λ (n : ℕ). n) (suc last)) l in
+    rw (get_or-list_of (λ (n : ℕ). n) (suc last) code 0 l) at
+    (all-at Apart 0 (list_of (λ (n : ℕ). n) (suc last)) code m ((says_all is_apart Apart (λ n. (λ e. e, λ e. e)) (list_of (λ (n : ℕ). n) (suc last))).0 apart-all))
 
 pub parallel-lists : (code k : ℕ) → Shape.argument code k ≡ 8 → takes_set code ≡ false
 unfolding Shape.argument all
-parallel-lists code k e = go (takes_set code) (ltb code 40) refl refl
+parallel-lists code k e = go (takes_set code) (ltb code (suc last)) refl refl
   where
-    go : (a b : Bool) → takes_set code ≡ a → ltb code 40 ≡ b → a ≡ false
-    go true true f g = absurd (no-parallel (get_or shapes code []) k (rw f at (apart code (ltb-true code 40 g))) e)
-    go true false f g = absurd (no-parallel [] k refl (rw (beyond code (omega (arith, ltb-false code 40 g))).1 at e))
+    go : (a b : Bool) → takes_set code ≡ a → ltb code (suc last) ≡ b → a ≡ false
+    go true true f g = absurd (no-parallel (get_or shapes code []) k (rw f at (apart code (ltb-true code (suc last) g))) e)
+    go true false f g = absurd (no-parallel [] k refl (rw (beyond code (omega (arith, ltb-false code (suc last) g))).1 at e))
     go false b f g = refl

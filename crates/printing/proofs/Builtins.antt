@@ -6,6 +6,7 @@ use Rattle.integers.proofs.Lists.{all-at, list_of-length}
 use Rattle.integers.proofs.Places.{get_or-list_of}
 use Rattle.integers.proofs.Tests.{says_all}
 use Rattle.integers.proofs.Booleans.{both_true}
+use Rattle.models.specs.Table.{last}
 use Rattle.tokens.specs.Byte.{bytes, front, between, is_letter, in_name, is_digit, is_gap}
 use Rattle.tokens.specs.Token.{tokens_from}
 use Rattle.names.specs.Name.{look_up, builtin_names}
@@ -16,18 +17,18 @@ abbrev is_name_of : List ℕ → ℕ → Bool
 is_name_of [] code = false
 is_name_of (b ∷ bs) code = is_letter b && (not (is_gap b) && (all in_name bs && (ltb (length bs) 32 && eqb (look_up (b ∷ bs) 0 (map bytes builtin_names)) code)))
 
-names_hold : all (λ code. is_name_of (builtin_name (suc code)) (suc code)) (list_of (λ code. code) 39) ≡ true
+names_hold : all (λ code. is_name_of (builtin_name (suc code)) (suc code)) (list_of (λ code. code) last) ≡ true
 unfolding all list_of bytes builtin_name builtin_names look_up is_letter in_name is_digit is_gap any between
 names_hold = refl
 
 abbrev Holds : ℕ → Type 0
 Holds code = is_name_of (builtin_name (suc code)) (suc code) ≡ true
 
-holds : (code : ℕ) → code < 39 → Holds code
+holds : (code : ℕ) → code < last → Holds code
 holds code l =
-    let m : code < length (list_of (λ (n : ℕ). n) 39) = rw (list_of-length (λ (n : ℕ). n) 39) l in
-    rw (get_or-list_of (λ (n : ℕ). n) 39 code 0 l) at
-    (all-at Holds 0 (list_of (λ (n : ℕ). n) 39) code m ((says_all (λ n. is_name_of (builtin_name (suc n)) (suc n)) Holds (λ n. (λ e. e, λ e. e)) (list_of (λ (n : ℕ). n) 39)).0 names_hold))
+    let m : code < length (list_of (λ (n : ℕ). n) last) = rw (list_of-length (λ (n : ℕ). n) last) l in
+    rw (get_or-list_of (λ (n : ℕ). n) last code 0 l) at
+    (all-at Holds 0 (list_of (λ (n : ℕ). n) last) code m ((says_all (λ n. is_name_of (builtin_name (suc n)) (suc n)) Holds (λ n. (λ e. e, λ e. e)) (list_of (λ (n : ℕ). n) last)).0 names_hold))
 
 no_name_opening : (bs : List ℕ) → in_name (front (40 ∷ bs)) ≡ false
 unfolding in_name is_letter is_digit between front
@@ -53,6 +54,6 @@ named_by p (b ∷ xs) code bs h =
       code_is = eqb-true _ _ short.1;
     }
 
-pub builtin-named : (p code : ℕ) (bs : List ℕ) → 1 ≤ code → code ≤ 39 → Named p (builtin_name code) code bs
+pub builtin-named : (p code : ℕ) (bs : List ℕ) → 1 ≤ code → code ≤ last → Named p (builtin_name code) code bs
 builtin-named p zero bs l h = absurd (omega arith)
 builtin-named p (suc code) bs l h = named_by p (builtin_name (suc code)) (suc code) bs (holds code (omega arith))

@@ -2,6 +2,7 @@
 use Rattle.std.proofs.Common.{◌≡◌, refl, ap, ◌∙◌, Bool, true, false, List, [], ◌∷◌, ◌++◌, ℕ, suc, ◌+◌, ◌-◌, ◌<◌, ◌≤◌, arith, eqb, leb, length, lt-ltb, eq-eqb, ne_eqb}
 use Rattle.integers.specs.Lists.{list_of, any}
 use Rattle.words.specs.Word.{kind, payload, signed, in_range, word}
+use Rattle.models.specs.Table.{last}
 use Rattle.decimals.specs.Decimal.{numeral}
 use Rattle.tokens.specs.Byte.{bytes, front, between, is_letter, in_name, is_digit, is_gap}
 use Rattle.tokens.specs.Token.{Token, tokens_from, token_length, sort_of}
@@ -226,7 +227,7 @@ module _ (all : List Token) (end : ℕ) where
   -- ---- the name of a builtin
 
   module _ {p : ℕ} {bs : List ℕ} {ns : List (List ℕ)} {us : List ℕ} (code w : ℕ) where
-    pub at-builtin : kind w ≡ 4 → payload w ≡ code → 1 ≤ code → code ≤ 39 → Reads all end (Opening code) (p + length (builtin_name code)) (40 ∷ bs) ns false us →
+    pub at-builtin : kind w ≡ 4 → payload w ≡ code → 1 ≤ code → code ≤ last → Reads all end (Opening code) (p + length (builtin_name code)) (40 ∷ bs) ns false us →
         Reads all end Builtin p (builtin_name code ++ (40 ∷ bs)) ns false (w ∷ us)
     unfolding Grammar.step Grammar.name_step of_sort gives code_of
     at-builtin k e l h r =

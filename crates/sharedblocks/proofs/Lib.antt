@@ -1,4 +1,3 @@
 -- The blocks over a shared variable as the code lays them.
 pub mod LeftOut
 pub mod Blocks
-pub mod Codes

@@ -2,7 +2,7 @@
 use Rattle.std.proofs.Common.{◌≡◌, arith}
 use Rattle.models.specs.Codes.{code_number}
 use Rattle.models.specs.Model.{builtin, builtins}
-use Rattle.sharedblocks.proofs.Codes.{same-code}
+use Rattle.models.proofs.AllCodes.{same-code}
 use Rattle.blocks.proofs.OneBlock.{fitted, fourth}
 use Rattle.blocks.proofs.choices.own_choice.Goals.{In_default}
 use Rattle.blocks.proofs.choices.own_choice.Goals as goal

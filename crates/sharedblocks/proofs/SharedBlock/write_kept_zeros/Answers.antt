@@ -3,7 +3,7 @@ use Rattle.arguments.proofs.Size.{read}
 use Rattle.integers.specs.Bounds.{bounds_in}
 use Rattle.laying.proofs.Written.{wrote-nothing, wrote-as, wrote-most}
 use Rattle.sharedblocks.proofs.Blocks.{kept-zeros}
-use Rattle.sharedblocks.proofs.Codes.{same-code}
+use Rattle.models.proofs.AllCodes.{same-code}
 use Rattle.sharedblocks.proofs.SharedBlock.write_kept_zeros.Goals as goal
 
 -- The bounds of the places that the index can have; nothing for another code.

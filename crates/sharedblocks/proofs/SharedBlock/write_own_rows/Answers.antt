@@ -1,7 +1,7 @@
 use Rattle.std.proofs.Common.{arith, ne_eqb, append-nil}
 use Rattle.laying.proofs.Written.{wrote-then, wrote-most}
 use Rattle.sharedblocks.specs.Pieces.{own_row_parts}
-use Rattle.sharedblocks.proofs.Codes.{same-code}
+use Rattle.models.proofs.AllCodes.{same-code}
 use Rattle.sharedblocks.proofs.SharedBlock.write_own_rows.Goals as goal
 
 -- The row of the members, or the row of what is left out and the rows of the code.
