@@ -10,20 +10,23 @@ use Rattle.builtins.specs.Coded.{builtin_of}
 use Rattle.models.specs.Codes.{code_number}
 use Rattle.models.specs.declared.code.Code.{Code}
 use Rattle.models.specs.declared.code.Code.TheVariants as C
-use Rattle.rules.specs.Block.{Block, block_words}
+use Rattle.rowsystems.specs.Row.{Row, sum≤0, sum=0, product}
+use Rattle.rules.specs.Block.{Ref, Block, block_words}
 use Rattle.rules.specs.InRange.{outside}
 use Rattle.rules.specs.Rule.{rule}
 use Rattle.rules.specs.Shared.{Encoded, choice, shares, shared_rule, rule_after}
 use Rattle.rules.specs.Translation.{block_of}
 use Rattle.rules.specs.Check.{too_wide}
-use Rattle.laying.specs.Part.{Part, block_parts}
-use Rattle.laying.specs.Appends.{some_outside, AppendsFitting, nothing}
+use Rattle.laying.specs.Part.{block_parts, size_in}
+use Rattle.laying.specs.Appends.{some_outside, AppendsFitting, GrowsBy, nothing}
 use Rattle.laying.specs.Writes.{Writes, WritesFitting}
 use Rattle.laying.specs.declared.Writer.{Writer}
 use Rattle.laying.specs.Sizes.{block_size}
 use Rattle.laying.specs.declared.Laid.{Laid}
-use Rattle.laying.proofs.Written.{wrote-most, wrote-fitting}
+use Rattle.laying.proofs.Written.{wrote-fitting}
 use Rattle.laying.proofs.Blocks.{words_in-block_parts, block-auxiliaries, block-rows, block-outside}
+use Rattle.sharing.proofs.Sizes.{total, row_size, block-length}
+use Rattle.sharing.proofs.ChoicesSizes.{block-short}
 use Rattle.models.specs.declared.constraint.Constraint as given
 use Rattle.encodings.specs.declared.context.Context.{Context}
 use Rattle.encodings.specs.Uses.{choice_of, choosing, shared_by}
@@ -47,12 +50,26 @@ told {first} {B} w = record {
   outside-is = w.counted.outside ∙ block-outside first B;
 }
 
--- a part of a block's words, as the contract of a block has it
-pub fitted : {s r : Writer} {ps : List Part} {n : ℕ} → Writes n s r ps → n ≤ block_size → WritesFitting block_size s r ps
-fitted w h = wrote-fitting (wrote-most h w)
+-- ---- there is room for the counts of a block
 
-pub most : {s r : Writer} {ps : List Part} {n : ℕ} → WritesFitting n s r ps → n ≤ block_size → WritesFitting block_size s r ps
-most w h = record { parts = w.parts; size = omega (arith, w.size, h); list = w.list }
+few_rows : (qs : List (Row Ref)) → length qs ≤ total row_size qs
+few_rows [] = omega arith
+few_rows (q ∷ qs) = omega (arith, some q, few_rows qs)
+  where
+    some : (q : Row Ref) → 1 ≤ row_size q
+    some (sum≤0 ts c) = omega arith
+    some (sum=0 ts c) = omega arith
+    some (product r f g) = omega arith
+
+pub few_parts : (first : ℕ) (β : ℕ → Bounds) (s : ℕ → Bool) (e : Encoded) (c : Constraint) → too_wide β s c ≡ false → size_in (block_parts first (block_of β s e c)) ≤ block_size
+unfolding size_in
+few_parts first β s e c w =
+    let B = block_of β s e c in
+    omega (arith, block-short first β s e c w, block-length first B, few_rows B.rows, ap length (words_in-block_parts first B), block-auxiliaries first B, block-rows first B)
+
+pub grown : (first : ℕ) (B : Block) {r : Laid} {o o' : List ℕ} → size_in (block_parts first B) ≤ block_size → AppendsFitting nothing r o o' (block_parts first B) → GrowsBy block_size nothing r
+unfolding size_in
+grown first B h w = omega (arith, h, w.counted.words, w.counted.auxiliaries, w.counted.rows)
 
 -- ---- fault 12
 
@@ -109,13 +126,13 @@ module _ (β : ℕ → Bounds) (s : ℕ → Bool) (e : Encoded) (code : ℕ) (ar
 
 -- what wrote the rule of a known code that chooses by no variable wrote the block of the constraint
 module _ (k : Context) (x : given.Constraint) {w r : Writer} {d : Code} (is : x.code ≡ d) (n : choosing (code_number d) ≡ false) where
-  pub wrote_fitting : {m : ℕ} → WritesFitting m w r (block_parts k.first (rule (bounds_in k.domains.now) (builtin_of (code_number d) x.args.now))) → m ≤ block_size →
-      WritesFitting block_size w r (block_parts k.first (block_by k x))
-  wrote_fitting h l = rw (is, over_none (bounds_in k.domains.now) (shared_by k.uses.now) k.encoded.now (code_number d) x.args.now n) (most h l)
+  pub wrote_fitting : WritesFitting w r (block_parts k.first (rule (bounds_in k.domains.now) (builtin_of (code_number d) x.args.now))) →
+      WritesFitting w r (block_parts k.first (block_by k x))
+  wrote_fitting h = rw (is, over_none (bounds_in k.domains.now) (shared_by k.uses.now) k.encoded.now (code_number d) x.args.now n) h
 
-  pub wrote : {m : ℕ} → Writes m w r (block_parts k.first (rule (bounds_in k.domains.now) (builtin_of (code_number d) x.args.now))) → m ≤ block_size →
-      WritesFitting block_size w r (block_parts k.first (block_by k x))
-  wrote h l = rw (is, over_none (bounds_in k.domains.now) (shared_by k.uses.now) k.encoded.now (code_number d) x.args.now n) (fitted h l)
+  pub wrote : Writes w r (block_parts k.first (rule (bounds_in k.domains.now) (builtin_of (code_number d) x.args.now))) →
+      WritesFitting w r (block_parts k.first (block_by k x))
+  wrote h = rw (is, over_none (bounds_in k.domains.now) (shared_by k.uses.now) k.encoded.now (code_number d) x.args.now n) (wrote-fitting h)
 
 -- ---- codes that choose
 

@@ -7,8 +7,6 @@ ghost use Rattle.rules.specs.Rule.{rule};
 ghost use Rattle.encodings.specs.Uses.{choosing};
 ghost use Rattle.laying.specs.Part.{block_parts};
 ghost use Rattle.laying.specs.Writes.{WritesFitting};
-ghost use Rattle.laying.specs.Room.{BlockRoom};
-ghost use Rattle.laying.specs.Sizes.{block_size};
 ghost use Rattle.blocks.specs.Coded.{Narrow, ReifiedNarrow, block_by};
 
 use choiceblocks::{array_int_element, array_var_int_element, set_in, set_in_reif};
@@ -21,8 +19,8 @@ use sharedblocks::shared_block;
 
 // By the code's own rule. Four codes choose, so the last arm is set_in_reif's: an arm for each other code would be no plainer.
 fn own_choice(writer: &mut Writer, constraint: &Constraint, context: &Context)
-    requires { BlockRoom writer.old × ReifiedNarrow (bounds_in context.now.domains.now) (code_number constraint.now.code) constraint.now.args.now × (choosing (code_number constraint.now.code) ≡ true) }
-    ensures { WritesFitting block_size writer.old writer.new (block_parts context.now.first (rule (bounds_in context.now.domains.now) (builtin_of (code_number constraint.now.code) constraint.now.args.now))) }
+    requires { ReifiedNarrow (bounds_in context.now.domains.now) (code_number constraint.now.code) constraint.now.args.now × (choosing (code_number constraint.now.code) ≡ true) }
+    ensures { WritesFitting writer.old writer.new (block_parts context.now.first (rule (bounds_in context.now.domains.now) (builtin_of (code_number constraint.now.code) constraint.now.args.now))) }
 {
     let args = constraint.args;
     let domains = context.domains;
@@ -37,8 +35,8 @@ fn own_choice(writer: &mut Writer, constraint: &Constraint, context: &Context)
 
 // The block of a code that chooses.
 pub fn choice(writer: &mut Writer, constraint: &Constraint, context: &Context)
-    requires { BlockRoom writer.old × Narrow (bounds_in context.now.domains.now) context.now.uses.now (code_number constraint.now.code) constraint.now.args.now × (choosing (code_number constraint.now.code) ≡ true) }
-    ensures { WritesFitting block_size writer.old writer.new (block_parts context.now.first (block_by context.now constraint.now)) }
+    requires { Narrow (bounds_in context.now.domains.now) context.now.uses.now (code_number constraint.now.code) constraint.now.args.now × (choosing (code_number constraint.now.code) ≡ true) }
+    ensures { WritesFitting writer.old writer.new (block_parts context.now.first (block_by context.now constraint.now)) }
 {
     if first_shared(constraint.args, context.uses) {
         shared_block(

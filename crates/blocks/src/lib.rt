@@ -3,9 +3,8 @@
 
 ghost use Rattle.laying.specs.Part.{block_parts};
 ghost use Rattle.laying.specs.Appends.{GrowsBy, nothing};
-ghost use Rattle.laying.specs.Writes.{WritesFitting};
-ghost use Rattle.laying.specs.Room.{BlockRoom};
 ghost use Rattle.laying.specs.Sizes.{block_size};
+ghost use Rattle.laying.specs.Writes.{WritesFitting};
 ghost use Rattle.blocks.specs.Coded.{block_by, Layable, Lays};
 
 use arguments::{exponent_at, var_at};
@@ -28,8 +27,8 @@ mod choices;
 // The block of a constraint; `sum` is L and U where its rule has these. An arm for each code.
 // The rules take bounds and `first` and no `Context`: that has the record and the uses, which no rule of its own asks for.
 fn write_block(writer: &mut Writer, constraint: &Constraint, sum: Bounds, context: &Context)
-    requires { BlockRoom writer.old × Layable context.now constraint.now sum }
-    ensures { WritesFitting block_size writer.old writer.new (block_parts context.now.first (block_by context.now constraint.now)) }
+    requires { Layable context.now constraint.now sum }
+    ensures { WritesFitting writer.old writer.new (block_parts context.now.first (block_by context.now constraint.now)) }
 {
     let args = constraint.args;
     let domains = context.domains;

@@ -12,8 +12,7 @@ ghost use Rattle.rules.specs.Parts.{places, members};
 ghost use Rattle.rules.specs.Rule.{rule};
 ghost use Rattle.laying.specs.Part.{block_parts};
 ghost use Rattle.laying.specs.Writes.{Writes};
-ghost use Rattle.laying.specs.Room.{BlockRoom};
-ghost use Rattle.laying.specs.Sizes.{first_numbers, block_size};
+ghost use Rattle.laying.specs.Sizes.{first_numbers};
 ghost use Rattle.choiceblocks.specs.FrontListed.{FrontListed};
 ghost use Rattle.choiceblocks.specs.Rows.{one_of_parts, extreme_block, number_element_of, variable_element_of, set_of, set_reified_of};
 
@@ -68,8 +67,8 @@ pub fn members_of(args: &[u32], lower: i64, upper: i64, vs: &mut [i64]) -> usize
 
 // The block of array_int_element.
 pub fn array_int_element(writer: &mut Writer, args: &[u32], domains: &[Domain], first: usize)
-    requires { BlockRoom writer.old × (first < first_numbers) }
-    ensures { Writes block_size writer.old writer.new (block_parts first (rule (bounds_in domains.now) (number_element_of args.now))) }
+    requires { first < first_numbers }
+    ensures { Writes writer.old writer.new (block_parts first (rule (bounds_in domains.now) (number_element_of args.now))) }
 {
     let places = element_places(args, domains);
     let n = labels(args, domains);
@@ -87,8 +86,8 @@ pub fn array_int_element(writer: &mut Writer, args: &[u32], domains: &[Domain], 
 
 // The block of array_var_int_element.
 pub fn array_var_int_element(writer: &mut Writer, args: &[u32], domains: &[Domain], first: usize)
-    requires { BlockRoom writer.old × (first < first_numbers) }
-    ensures { Writes block_size writer.old writer.new (block_parts first (rule (bounds_in domains.now) (variable_element_of args.now))) }
+    requires { first < first_numbers }
+    ensures { Writes writer.old writer.new (block_parts first (rule (bounds_in domains.now) (variable_element_of args.now))) }
 {
     let places = element_places(args, domains);
     let n = labels(args, domains);
@@ -107,8 +106,8 @@ pub fn array_var_int_element(writer: &mut Writer, args: &[u32], domains: &[Domai
 
 // What array_int_maximum and array_int_minimum begin with: m is one of the list.
 fn one_of(writer: &mut Writer, args: &[u32], domains: &[Domain], first: usize)
-    requires { BlockRoom writer.old × (first < first_numbers) }
-    ensures { Writes 10000 writer.old writer.new (one_of_parts (bounds_in domains.now) args.now first) }
+    requires { first < first_numbers }
+    ensures { Writes writer.old writer.new (one_of_parts (bounds_in domains.now) args.now first) }
 {
     let n = size_at(args, 1);
     gates(
@@ -132,8 +131,8 @@ pub fn array_int_extreme(
     first: usize,
     up: bool,
 )
-    requires { BlockRoom writer.old × (first < first_numbers) }
-    ensures { Writes block_size writer.old writer.new (block_parts first (extreme_block (bounds_in domains.now) up args.now)) }
+    requires { first < first_numbers }
+    ensures { Writes writer.old writer.new (block_parts first (extreme_block (bounds_in domains.now) up args.now)) }
 {
     let m = var_at(args, 0);
     let n = size_at(args, 1);
@@ -151,8 +150,8 @@ pub fn array_int_extreme(
 
 // The block of set_in. The members stand at the front of 32 numbers, n of them, here and below: memory is fixed.
 pub fn set_in(writer: &mut Writer, args: &[u32], domains: &[Domain], first: usize)
-    requires { BlockRoom writer.old × (first < first_numbers) }
-    ensures { Writes block_size writer.old writer.new (block_parts first (rule (bounds_in domains.now) (set_of args.now))) }
+    requires { first < first_numbers }
+    ensures { Writes writer.old writer.new (block_parts first (rule (bounds_in domains.now) (set_of args.now))) }
 {
     let index = index_of(args, domains);
     let mut vs = [0i64; limit::LIST_LENGTH];
@@ -164,8 +163,8 @@ pub fn set_in(writer: &mut Writer, args: &[u32], domains: &[Domain], first: usiz
 
 // The block of set_in_reif.
 pub fn set_in_reif(writer: &mut Writer, args: &[u32], domains: &[Domain], first: usize)
-    requires { BlockRoom writer.old × (first < first_numbers) × (width (bounds_in domains.now (var args.now 0)) ≤ Limit.set_bits) }
-    ensures { Writes block_size writer.old writer.new (block_parts first (rule (bounds_in domains.now) (set_reified_of args.now))) }
+    requires { (first < first_numbers) × (width (bounds_in domains.now (var args.now 0)) ≤ Limit.set_bits) }
+    ensures { Writes writer.old writer.new (block_parts first (rule (bounds_in domains.now) (set_reified_of args.now))) }
 {
     let index = index_of(args, domains);
     let mut vs = [0i64; limit::LIST_LENGTH];

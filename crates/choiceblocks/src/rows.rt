@@ -8,9 +8,7 @@ ghost use Rattle.words.specs.Limit as Limit;
 ghost use Rattle.laying.specs.Part.{term};
 ghost use Rattle.laying.specs.Lists.{many, same_at, label_at};
 ghost use Rattle.laying.specs.Gives.{Gives};
-ghost use Rattle.laying.specs.Appends.{GrowsBy};
 ghost use Rattle.laying.specs.Writes.{Writes};
-ghost use Rattle.laying.specs.Room.{Room};
 ghost use Rattle.choiceblocks.specs.Rows.{zero_at, number_term_at, value_at, member_at, one_row, sum_row, choice_rows, gates, gated_rows, later_row, first_at};
 
 use arguments::{count_of, num_at, var_at};
@@ -31,11 +29,10 @@ pub fn zeros<L: Fn(usize) -> i64, U: Fn(usize) -> i64>(
     lower: L,
     upper: U,
 )
-    requires room { Room 1000 writer.old × (n ≤ Limit.terms) × (base < 1000000000000) }
+    requires few { (n ≤ Limit.terms) × (base < 1000000000000) }
     requires lowers { (x : ℕ) → L.pre lower x }
     requires uppers { (x : ℕ) → U.pre upper x }
-    ensures size { GrowsBy 1000 writer.old.laid writer.new.laid }
-    ensures parts { (β : ℕ → Bounds) → ((x : ℕ) (r : ℤ) → L.post lower x r → r ≡ (β x).lower) → ((x : ℕ) (r : ℤ) → U.post upper x r → r ≡ (β x).upper) → Writes 1000 writer.old writer.new (many (zero_at β args.now base) n) }
+    ensures { (β : ℕ → Bounds) → ((x : ℕ) (r : ℤ) → L.post lower x r → r ≡ (β x).lower) → ((x : ℕ) (r : ℤ) → U.post upper x r → r ≡ (β x).upper) → Writes writer.old writer.new (many (zero_at β args.now base) n) }
 {
     writer.bounds(
         n,
@@ -52,11 +49,10 @@ pub fn sum_row<C: Fn(usize) -> i64, V: Fn(usize) -> usize>(
     variable: V,
     x: usize,
 )
-    requires room { Room 2000 writer.old × (n ≤ Limit.terms) }
+    requires few { n ≤ Limit.terms }
     requires coefficients { (k : ℕ) → k < n → C.pre coefficient k }
     requires variables { (k : ℕ) → k < n → V.pre variable k }
-    ensures size { GrowsBy 2000 writer.old.laid writer.new.laid }
-    ensures parts { (c : ℕ → ℤ) (v : ℕ → ℕ) → Gives n (C.post coefficient) c → Gives n (V.post variable) v → Writes 2000 writer.old writer.new (sum_row (λ k. term (c k) (v k) ∷ []) n x) }
+    ensures { (c : ℕ → ℤ) (v : ℕ → ℕ) → Gives n (C.post coefficient) c → Gives n (V.post variable) v → Writes writer.old writer.new (sum_row (λ k. term (c k) (v k) ∷ []) n x) }
 {
     writer.head(Kind::Equal, n + 1);
     writer.terms(n, coefficient, variable);
@@ -66,8 +62,8 @@ pub fn sum_row<C: Fn(usize) -> i64, V: Fn(usize) -> usize>(
 
 // Σb − 1 = 0 over n consecutive variables.
 pub fn one_bit(writer: &mut Writer, v: usize, n: usize)
-    requires { Room 2000 writer.old × (n ≤ Limit.terms) × (v < 1000000000) }
-    ensures { Writes 2000 writer.old writer.new (one_row v n) }
+    requires { (n ≤ Limit.terms) × (v < 1000000000) }
+    ensures { Writes writer.old writer.new (one_row v n) }
 {
     writer.head(Kind::Equal, n);
     writer.same(1, v, n);
@@ -76,32 +72,32 @@ pub fn one_bit(writer: &mut Writer, v: usize, n: usize)
 
 // Σz − m = 0 over n consecutive variables.
 pub fn one_row(writer: &mut Writer, v: usize, n: usize, m: usize)
-    requires { Room 2000 writer.old × (n ≤ Limit.terms) × (v < 1000000000) }
-    ensures { Writes 2000 writer.old writer.new (sum_row (same_at +1 v) n m) }
+    requires { (n ≤ Limit.terms) × (v < 1000000000) }
+    ensures { Writes writer.old writer.new (sum_row (same_at +1 v) n m) }
 {
     sum_row(writer, n, |_| 1, |k| v + k, m);
 }
 
 // Σj×b − x = 0 over n consecutive labels from `from` on.
 fn label_row(writer: &mut Writer, from: i64, v: usize, n: usize, x: usize)
-    requires { Room 2000 writer.old × (n ≤ Limit.terms) × (v < 1000000000) × (nat_abs from < 1000000000) }
-    ensures { Writes 2000 writer.old writer.new (sum_row (label_at from v) n x) }
+    requires { (n ≤ Limit.terms) × (v < 1000000000) × (nat_abs from < 1000000000) }
+    ensures { Writes writer.old writer.new (sum_row (label_at from v) n x) }
 {
     sum_row(writer, n, |k| plus(from, k as i64), |k| v + k, x);
 }
 
 // Σa×b − c = 0 over n numbers, from place base on.
 pub fn number_row(writer: &mut Writer, args: &[u32], base: usize, v: usize, n: usize, c: usize)
-    requires { Room 2000 writer.old × (n ≤ Limit.terms) × (base < 1000000000) × (v < 1000000000) }
-    ensures { Writes 2000 writer.old writer.new (sum_row (number_term_at args.now base v) n c) }
+    requires { (n ≤ Limit.terms) × (base < 1000000000) × (v < 1000000000) }
+    ensures { Writes writer.old writer.new (sum_row (number_term_at args.now base v) n c) }
 {
     sum_row(writer, n, |k| num_at(args, base + k), |k| v + k, c);
 }
 
 // Σv×b − x = 0 over the first n numbers of a list. n stays beside the list, here and in `member_row`: the row is promised for any n, past the list's end too.
 pub fn value_row(writer: &mut Writer, vs: &[i64], v: usize, n: usize, x: usize)
-    requires { Room 2000 writer.old × (n ≤ Limit.terms) × (v < 1000000000) }
-    ensures { Writes 2000 writer.old writer.new (sum_row (value_at vs.now v) n x) }
+    requires { (n ≤ Limit.terms) × (v < 1000000000) }
+    ensures { Writes writer.old writer.new (sum_row (value_at vs.now v) n x) }
 {
     sum_row(writer, n, |k| at_or(vs, k, 0), |k| v + k, x);
 }
@@ -116,16 +112,16 @@ fn labelled(v: usize, number: i64, from: i64) -> usize
 
 // Σb − r = 0 over the bits that the first n numbers of a list label; v has the label `from`.
 pub fn member_row(writer: &mut Writer, vs: &[i64], from: i64, v: usize, n: usize, r: usize)
-    requires { Room 2000 writer.old × (n ≤ Limit.terms) × (v < 1000000000) × (nat_abs from < 1000000000) × ((k : ℕ) → nat_abs (get_or vs.now k +0) < 1000000000) }
-    ensures { Writes 2000 writer.old writer.new (sum_row (member_at vs.now from v) n r) }
+    requires { (n ≤ Limit.terms) × (v < 1000000000) × (nat_abs from < 1000000000) × ((k : ℕ) → nat_abs (get_or vs.now k +0) < 1000000000) }
+    ensures { Writes writer.old writer.new (sum_row (member_at vs.now from v) n r) }
 {
     sum_row(writer, n, |_| 1, |k| labelled(v, at_or(vs, k, 0), from), r);
 }
 
 // One of n consecutive bits is 1; their labels rise from `from` on, and x is the label of that bit.
 pub fn choice(writer: &mut Writer, from: i64, v: usize, n: usize, x: usize)
-    requires { Room 4000 writer.old × (n ≤ Limit.terms) × (v < 1000000000) × (nat_abs from < 1000000000) }
-    ensures { Writes 4000 writer.old writer.new (choice_rows from v n x) }
+    requires { (n ≤ Limit.terms) × (v < 1000000000) × (nat_abs from < 1000000000) }
+    ensures { Writes writer.old writer.new (choice_rows from v n x) }
 {
     one_bit(writer, v, n);
     label_row(writer, from, v, n, x);
@@ -140,11 +136,10 @@ pub fn gates<L: Fn(usize) -> i64, U: Fn(usize) -> i64>(
     lower: L,
     upper: U,
 )
-    requires room { Room 2000 writer.old × (n ≤ Limit.terms) × (base < 1000000000000) }
+    requires few { (n ≤ Limit.terms) × (base < 1000000000000) }
     requires lowers { (x : ℕ) → L.pre lower x }
     requires uppers { (x : ℕ) → U.pre upper x }
-    ensures size { GrowsBy 2000 writer.old.laid writer.new.laid }
-    ensures parts { (β : ℕ → Bounds) → ((x : ℕ) (r : ℤ) → L.post lower x r → r ≡ (β x).lower) → ((x : ℕ) (r : ℤ) → U.post upper x r → r ≡ (β x).upper) → Writes 2000 writer.old writer.new (gates β args.now base n) }
+    ensures { (β : ℕ → Bounds) → ((x : ℕ) (r : ℤ) → L.post lower x r → r ≡ (β x).lower) → ((x : ℕ) (r : ℤ) → U.post upper x r → r ≡ (β x).upper) → Writes writer.old writer.new (gates β args.now base n) }
 {
     writer.bits(n);
     zeros(writer, args, base, n, lower, upper);
@@ -152,8 +147,8 @@ pub fn gates<L: Fn(usize) -> i64, U: Fn(usize) -> i64>(
 
 // z := x × b for n variables from place base on, the bits from v on, each z n after its bit; Σz − m = 0.
 pub fn gated(writer: &mut Writer, args: &[u32], base: usize, v: usize, n: usize, m: usize)
-    requires { Room 4000 writer.old × (n ≤ Limit.terms) × (base < 1000000000) × (v < 100000000) }
-    ensures { Writes 4000 writer.old writer.new (gated_rows args.now base v n m) }
+    requires { (n ≤ Limit.terms) × (base < 1000000000) × (v < 100000000) }
+    ensures { Writes writer.old writer.new (gated_rows args.now base v n m) }
 {
     writer.products(args, base, v + n, v, n);
     one_row(writer, v + n, n, m);
@@ -161,8 +156,8 @@ pub fn gated(writer: &mut Writer, args: &[u32], base: usize, v: usize, n: usize,
 
 // x − y + 1 ≤ 0 where one of n consecutive bits is 1: x − y + K×(their sum) + 1 − K ≤ 0, K = hi x − lo y + 1.
 fn later(writer: &mut Writer, x: usize, y: usize, v: usize, n: usize, domains: &[Domain])
-    requires { Room 2000 writer.old × (n ≤ Limit.terms) × (v < 1000000000) }
-    ensures { Writes 2000 writer.old writer.new (later_row (bounds_in domains.now) x y v n) }
+    requires { (n ≤ Limit.terms) × (v < 1000000000) }
+    ensures { Writes writer.old writer.new (later_row (bounds_in domains.now) x y v n) }
 {
     let p = gap_plus(domain_of(domains, x), domain_of(domains, y), 1);
     writer.head(Kind::AtMost, n + 2);
@@ -181,11 +176,10 @@ pub fn first_only<X: Fn(usize) -> usize, Y: Fn(usize) -> usize>(
     n: usize,
     domains: &[Domain],
 )
-    requires room { Room 200000 writer.old × (n ≤ Limit.terms) × (v < 100000000) }
+    requires few { (n ≤ Limit.terms) × (v < 100000000) }
     requires lesser { (k : ℕ) → k < n → X.pre lesser k }
     requires larger { (k : ℕ) → k < n → Y.pre larger k }
-    ensures size { GrowsBy 200000 writer.old.laid writer.new.laid }
-    ensures parts { (x y : ℕ → ℕ) → Gives n (X.post lesser) x → Gives n (Y.post larger) y → Writes 200000 writer.old writer.new (many (first_at (bounds_in domains.now) x y v n) (n - 1)) }
+    ensures { (x y : ℕ → ℕ) → Gives n (X.post lesser) x → Gives n (Y.post larger) y → Writes writer.old writer.new (many (first_at (bounds_in domains.now) x y v n) (n - 1)) }
 {
     for k in 0..n.saturating_sub(1) {
         later(

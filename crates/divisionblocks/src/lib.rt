@@ -7,7 +7,6 @@ ghost use Rattle.rules.specs.Division.{quotient_bounds};
 ghost use Rattle.rules.specs.Rule.{rule};
 ghost use Rattle.laying.specs.Part.{block_parts};
 ghost use Rattle.laying.specs.Writes.{Writes};
-ghost use Rattle.laying.specs.Room.{Room, BlockRoom};
 ghost use Rattle.laying.specs.Sizes.{first_numbers};
 ghost use Rattle.integers.specs.Bounds.{bounds_in};
 ghost use Rattle.divisionblocks.specs.Rows.{auxiliary_parts, table_parts, division_parts};
@@ -32,8 +31,7 @@ struct Division {
 
 // α, β, p within its bounds, γ.
 fn write_auxiliaries(writer: &mut Writer, p: Bounds)
-    requires { Room 1100 writer.old }
-    ensures { Writes 1100 writer.old writer.new (auxiliary_parts p) }
+    ensures { Writes writer.old writer.new (auxiliary_parts p) }
 {
     writer.bits(2);
     writer.bound(p.lower, p.upper);
@@ -42,8 +40,8 @@ fn write_auxiliaries(writer: &mut Writer, p: Bounds)
 
 // p := d×q, γ := α×β and the rows of the table, α, β, p and γ numbered from v on.
 fn write_rows(writer: &mut Writer, variables: Division, v: usize, table: &[[i64; 7]; 10])
-    requires { Room 20100 writer.old × (v < 20000) }
-    ensures { Writes 20100 writer.old writer.new (table_parts table.now variables.n variables.d variables.q v (v + 1) (v + 2) (v + 3)) }
+    requires { v < 20000 }
+    ensures { Writes writer.old writer.new (table_parts table.now variables.n variables.d variables.q v (v + 1) (v + 2) (v + 3)) }
 {
     let Division { n, d, q } = variables;
     writer.times(v + 2, d, q);
@@ -59,8 +57,8 @@ fn write_division(
     domains: &[Domain],
     quotient: Domain,
 )
-    requires { Room 22000 writer.old × (v < 20000) }
-    ensures { let β = bounds_in domains.now in let w = variables in Writes 22000 writer.old writer.new (division_parts (β w.n) (β w.d) quotient w.n w.d w.q v) }
+    requires { v < 20000 }
+    ensures { let β = bounds_in domains.now in let w = variables in Writes writer.old writer.new (division_parts (β w.n) (β w.d) quotient w.n w.d w.q v) }
 {
     let numerator = domain_of(domains, variables.n);
     let divisor = domain_of(domains, variables.d);
@@ -72,8 +70,8 @@ fn write_division(
 
 // 37 int_div: d×q is n cut to a multiple of d.
 pub fn int_div(writer: &mut Writer, n: usize, d: usize, q: usize, domains: &[Domain], first: usize)
-    requires { BlockRoom writer.old × (first < first_numbers) }
-    ensures { Writes 30000 writer.old writer.new (block_parts first (rule (bounds_in domains.now) (int_div n d q))) }
+    requires { first < first_numbers }
+    ensures { Writes writer.old writer.new (block_parts first (rule (bounds_in domains.now) (int_div n d q))) }
 {
     write_division(
         writer,
@@ -95,8 +93,8 @@ fn quotient_bounds(n: Domain) -> Domain
 
 // 38 int_mod: n is d times a quotient and r, with the rows of int_div for the quotient.
 pub fn int_mod(writer: &mut Writer, n: usize, d: usize, r: usize, domains: &[Domain], first: usize)
-    requires { BlockRoom writer.old × (first < first_numbers) }
-    ensures { Writes 30000 writer.old writer.new (block_parts first (rule (bounds_in domains.now) (int_mod n d r))) }
+    requires { first < first_numbers }
+    ensures { Writes writer.old writer.new (block_parts first (rule (bounds_in domains.now) (int_mod n d r))) }
 {
     let quotient = quotient_bounds(domain_of(domains, n));
     writer.bound(quotient.lower(), quotient.upper());

@@ -5,7 +5,6 @@ ghost use Rattle.words.specs.Small.{Near};
 ghost use Rattle.rules.specs.Division.{M, division_table};
 ghost use Rattle.laying.specs.Lists.{many};
 ghost use Rattle.laying.specs.Writes.{Writes};
-ghost use Rattle.laying.specs.Room.{Room};
 ghost use Rattle.divisionblocks.specs.Rows.{table_at};
 
 use integers::{Bounds, largest, minus, opposite, plus};
@@ -72,8 +71,7 @@ pub fn numbers(n: Domain, d: Domain, m: i64) -> [[i64; 7]; 10]
 // The rows of a table over six variables.
 // The six are written out as the definition `six_terms` lists them, and the constant is the seventh number of a row: the rows are the definition's table (`division_table`), so a struct for a row would need a map to it and be no plainer.
 pub fn write_table(writer: &mut Writer, xs: &[usize; 6], table: &[[i64; 7]; 10])
-    requires { Room 20000 writer.old }
-    ensures { Writes 20000 writer.old writer.new (many (table_at xs.now table.now) 10) }
+    ensures { Writes writer.old writer.new (many (table_at xs.now table.now) 10) }
 {
     for row in table {
         let terms = [

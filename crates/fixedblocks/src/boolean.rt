@@ -6,7 +6,6 @@ ghost use Rattle.models.specs.Builtin.{bool_and, bool_or, bool_xor, bool_eq_reif
 ghost use Rattle.rules.specs.Rule.{rule};
 ghost use Rattle.laying.specs.Part.{bound, times, block_parts};
 ghost use Rattle.laying.specs.Writes.{Writes};
-ghost use Rattle.laying.specs.Room.{BlockRoom};
 ghost use Rattle.laying.specs.Sizes.{first_numbers};
 
 use crate::rows::{three_terms, two_terms};
@@ -16,8 +15,7 @@ use words::kind::Kind;
 
 // 18 bool_and: r is at most a and at most b, and at least a + b − 1.
 pub fn bool_and(writer: &mut Writer, a: usize, b: usize, r: usize)
-    requires { BlockRoom writer.old }
-    ensures { (β : ℕ → Bounds) (first : ℕ) → Writes 10000 writer.old writer.new (block_parts first (rule β (bool_and a b r))) }
+    ensures { (β : ℕ → Bounds) (first : ℕ) → Writes writer.old writer.new (block_parts first (rule β (bool_and a b r))) }
 {
     two_terms(writer, Kind::AtMost, r, -1, a, 0);
     two_terms(writer, Kind::AtMost, r, -1, b, 0);
@@ -26,8 +24,7 @@ pub fn bool_and(writer: &mut Writer, a: usize, b: usize, r: usize)
 
 // 19 bool_or: r is at most a + b, and 2×r at least that.
 pub fn bool_or(writer: &mut Writer, a: usize, b: usize, r: usize)
-    requires { BlockRoom writer.old }
-    ensures { (β : ℕ → Bounds) (first : ℕ) → Writes 10000 writer.old writer.new (block_parts first (rule β (bool_or a b r))) }
+    ensures { (β : ℕ → Bounds) (first : ℕ) → Writes writer.old writer.new (block_parts first (rule β (bool_or a b r))) }
 {
     three_terms(writer, Kind::AtMost, r, -1, a, -1, b, 0);
     three_terms(writer, Kind::AtMost, a, 1, b, -2, r, 0);
@@ -35,8 +32,8 @@ pub fn bool_or(writer: &mut Writer, a: usize, b: usize, r: usize)
 
 // 20 and 34: x is r×a and y is r×b.
 fn two_products(writer: &mut Writer, a: usize, b: usize, r: usize, first: usize)
-    requires { BlockRoom writer.old × (first < first_numbers) }
-    ensures { Writes 40 writer.old writer.new (bound +0 +1 ∷ bound +0 +1 ∷ times first r a ∷ times (first + 1) r b ∷ []) }
+    requires { first < first_numbers }
+    ensures { Writes writer.old writer.new (bound +0 +1 ∷ bound +0 +1 ∷ times first r a ∷ times (first + 1) r b ∷ []) }
 {
     writer.bound(0, 1);
     writer.bound(0, 1);
@@ -46,8 +43,8 @@ fn two_products(writer: &mut Writer, a: usize, b: usize, r: usize, first: usize)
 
 // 20 bool_xor: x is r×a and y is r×b; a − x is b − y, and x + y is r.
 pub fn bool_xor(writer: &mut Writer, a: usize, b: usize, r: usize, first: usize)
-    requires { BlockRoom writer.old × (first < first_numbers) }
-    ensures { (β : ℕ → Bounds) → Writes 10000 writer.old writer.new (block_parts first (rule β (bool_xor a b r))) }
+    requires { first < first_numbers }
+    ensures { (β : ℕ → Bounds) → Writes writer.old writer.new (block_parts first (rule β (bool_xor a b r))) }
 {
     let x = first;
     let y = first + 1;
@@ -67,8 +64,8 @@ pub fn bool_xor(writer: &mut Writer, a: usize, b: usize, r: usize, first: usize)
 
 // 34 bool_eq_reif: x is r×a and y is r×b; x is y, and 1 + x + y is r + a + b.
 pub fn bool_eq_reif(writer: &mut Writer, a: usize, b: usize, r: usize, first: usize)
-    requires { BlockRoom writer.old × (first < first_numbers) }
-    ensures { (β : ℕ → Bounds) → Writes 10000 writer.old writer.new (block_parts first (rule β (bool_eq_reif a b r))) }
+    requires { first < first_numbers }
+    ensures { (β : ℕ → Bounds) → Writes writer.old writer.new (block_parts first (rule β (bool_eq_reif a b r))) }
 {
     let x = first;
     let y = first + 1;
@@ -89,8 +86,7 @@ pub fn bool_eq_reif(writer: &mut Writer, a: usize, b: usize, r: usize, first: us
 
 // 35 bool_le_reif: r is 1 where a is 0 and where b is 1; a is at most b where r is 1.
 pub fn bool_le_reif(writer: &mut Writer, a: usize, b: usize, r: usize)
-    requires { BlockRoom writer.old }
-    ensures { (β : ℕ → Bounds) (first : ℕ) → Writes 10000 writer.old writer.new (block_parts first (rule β (bool_le_reif a b r))) }
+    ensures { (β : ℕ → Bounds) (first : ℕ) → Writes writer.old writer.new (block_parts first (rule β (bool_le_reif a b r))) }
 {
     writer.row(Kind::AtMost, &[Term::new(-1, a), Term::new(-1, r)], 1);
     two_terms(writer, Kind::AtMost, b, -1, r, 0);
@@ -99,8 +95,7 @@ pub fn bool_le_reif(writer: &mut Writer, a: usize, b: usize, r: usize)
 
 // 36 bool_lt_reif: where r is 1, a is 0 and b is 1; b is at most a where r is 0.
 pub fn bool_lt_reif(writer: &mut Writer, a: usize, b: usize, r: usize)
-    requires { BlockRoom writer.old }
-    ensures { (β : ℕ → Bounds) (first : ℕ) → Writes 10000 writer.old writer.new (block_parts first (rule β (bool_lt_reif a b r))) }
+    ensures { (β : ℕ → Bounds) (first : ℕ) → Writes writer.old writer.new (block_parts first (rule β (bool_lt_reif a b r))) }
 {
     two_terms(writer, Kind::AtMost, a, 1, r, -1);
     two_terms(writer, Kind::AtMost, r, -1, b, 0);

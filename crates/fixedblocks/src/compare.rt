@@ -5,7 +5,6 @@ ghost use Rattle.models.specs.Builtin.{int_eq, int_ne};
 ghost use Rattle.rules.specs.Rule.{rule, order_reified};
 ghost use Rattle.laying.specs.Part.{block_parts};
 ghost use Rattle.laying.specs.Writes.{Writes};
-ghost use Rattle.laying.specs.Room.{BlockRoom};
 ghost use Rattle.integers.specs.Bounds.{bounds_in};
 
 use crate::rows::{two_terms, where_bit};
@@ -15,16 +14,14 @@ use words::kind::Kind;
 
 // 1 int_eq: a − b is 0.
 pub fn int_eq(writer: &mut Writer, a: usize, b: usize)
-    requires { BlockRoom writer.old }
-    ensures { (β : ℕ → Bounds) (first : ℕ) → Writes 10000 writer.old writer.new (block_parts first (rule β (int_eq a b))) }
+    ensures { (β : ℕ → Bounds) (first : ℕ) → Writes writer.old writer.new (block_parts first (rule β (int_eq a b))) }
 {
     two_terms(writer, Kind::Equal, a, -1, b, 0);
 }
 
 // 4 int_ne: a < b where the auxiliary is 0, b < a where it is 1.
 pub fn int_ne(writer: &mut Writer, a: usize, b: usize, domains: &[Domain], first: usize)
-    requires { BlockRoom writer.old }
-    ensures { Writes 10000 writer.old writer.new (block_parts first (rule (bounds_in domains.now) (int_ne a b))) }
+    ensures { Writes writer.old writer.new (block_parts first (rule (bounds_in domains.now) (int_ne a b))) }
 {
     writer.bound(0, 1);
     where_bit(writer, first, a, b, 1, domains, false);
@@ -41,8 +38,8 @@ pub fn order_reif(
     e: i64,
     domains: &[Domain],
 )
-    requires { BlockRoom writer.old × (nat_abs d ≤ 1) × (nat_abs e ≤ 1) }
-    ensures { (first : ℕ) → Writes 10000 writer.old writer.new (block_parts first (order_reified (bounds_in domains.now) d e a b r)) }
+    requires { (nat_abs d ≤ 1) × (nat_abs e ≤ 1) }
+    ensures { (first : ℕ) → Writes writer.old writer.new (block_parts first (order_reified (bounds_in domains.now) d e a b r)) }
 {
     where_bit(writer, r, a, b, d, domains, true);
     where_bit(writer, r, b, a, e, domains, false);

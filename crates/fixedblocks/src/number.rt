@@ -7,7 +7,6 @@ ghost use Rattle.models.specs.Builtin.{int_times, int_abs};
 ghost use Rattle.rules.specs.Rule.{rule, touching};
 ghost use Rattle.laying.specs.Part.{bound, block_parts};
 ghost use Rattle.laying.specs.Writes.{Writes};
-ghost use Rattle.laying.specs.Room.{Room, BlockRoom};
 ghost use Rattle.laying.specs.Sizes.{first_numbers};
 ghost use Rattle.integers.specs.Bounds.{bounds_in};
 
@@ -28,8 +27,7 @@ pub fn int_times(
     domains: &[Domain],
     first: usize,
 )
-    requires { BlockRoom writer.old }
-    ensures { Writes 10000 writer.old writer.new (block_parts first (rule (bounds_in domains.now) (int_times a b c))) }
+    ensures { Writes writer.old writer.new (block_parts first (rule (bounds_in domains.now) (int_times a b c))) }
 {
     let ends = end_products(domain_of(domains, a), domain_of(domains, b));
     writer.bound(ends.lower, ends.upper);
@@ -51,16 +49,15 @@ pub fn bounds_of(domains: &[Domain], x: usize) -> Bounds
 
 // The bounds Z of these.
 fn zero_bound(writer: &mut Writer, bounds: Bounds)
-    requires { Room 10 writer.old }
-    ensures { Writes 10 writer.old writer.new (bound (min_z +0 bounds.lower) (max_z +0 bounds.upper) ∷ []) }
+    ensures { Writes writer.old writer.new (bound (min_z +0 bounds.lower) (max_z +0 bounds.upper) ∷ []) }
 {
     writer.bound(zero_lower(bounds.lower), zero_upper(bounds.upper));
 }
 
 // 8 int_abs: y is x where the bit is 0 and −x where it is 1, and not negative; the bit is 1 only where x is negative. Of the bounds of x the upper one alone has to be near 0, so they are no domain.
 pub fn int_abs(writer: &mut Writer, x: usize, y: usize, bounds: Bounds, first: usize)
-    requires { BlockRoom writer.old × (first < first_numbers) × Near bounds.upper }
-    ensures { (β : ℕ → Bounds) → β x ≡ bounds → Writes 10000 writer.old writer.new (block_parts first (rule β (int_abs x y))) }
+    requires { (first < first_numbers) × Near bounds.upper }
+    ensures { (β : ℕ → Bounds) → β x ≡ bounds → Writes writer.old writer.new (block_parts first (rule β (int_abs x y))) }
 {
     writer.bound(0, 1);
     zero_bound(writer, bounds);
@@ -81,8 +78,7 @@ pub fn touching(
     domains: &[Domain],
     first: usize,
 )
-    requires { BlockRoom writer.old }
-    ensures { Writes 20000 writer.old writer.new (block_parts first (touching (bounds_in domains.now) x y u v)) }
+    ensures { Writes writer.old writer.new (block_parts first (touching (bounds_in domains.now) x y u v)) }
 {
     writer.bound(0, 1);
     two_terms(writer, Kind::AtMost, x, -1, y, 0);

@@ -4,7 +4,6 @@ ghost use Rattle.integers.specs.Number.{◌⊕◌, ◌⊖◌, +1};
 ghost use Rattle.words.specs.Kinds.{kind_number};
 ghost use Rattle.laying.specs.Lists.{term_of, row_parts_of};
 ghost use Rattle.laying.specs.Writes.{Writes};
-ghost use Rattle.laying.specs.Room.{Room};
 ghost use Rattle.integers.specs.Bounds.{bounds_in};
 ghost use Rattle.fixedblocks.specs.Rows.{where_row};
 
@@ -18,8 +17,7 @@ use words::kind::Kind;
 // x + q×y + c, of a kind.
 // `two_terms` and `three_terms` stay beside `Writer::row`: the first coefficient is 1, and a list of `Term`s would make most of their calls some lines longer. Their numbers are the letters of the rule.
 pub fn two_terms(writer: &mut Writer, kind: Kind, x: usize, q: i64, y: usize, c: i64)
-    requires { Room 2000 writer.old }
-    ensures { Writes 2000 writer.old writer.new (row_parts_of (kind_number kind) (term_of +1 x ∷ term_of q y ∷ []) c) }
+    ensures { Writes writer.old writer.new (row_parts_of (kind_number kind) (term_of +1 x ∷ term_of q y ∷ []) c) }
 {
     writer.row(kind, &[Term::new(1, x), Term::new(q, y)], c);
 }
@@ -35,8 +33,7 @@ pub fn three_terms(
     z: usize,
     c: i64,
 )
-    requires { Room 2000 writer.old }
-    ensures { Writes 2000 writer.old writer.new (row_parts_of (kind_number kind) (term_of +1 x ∷ term_of q y ∷ term_of p z ∷ []) c) }
+    ensures { Writes writer.old writer.new (row_parts_of (kind_number kind) (term_of +1 x ∷ term_of q y ∷ term_of p z ∷ []) c) }
 {
     writer.row(
         kind,
@@ -56,8 +53,8 @@ pub fn where_bit(
     domains: &[Domain],
     one: bool,
 )
-    requires { Room 2000 writer.old × (nat_abs d ≤ 1) }
-    ensures { let β = bounds_in domains.now in Writes 2000 writer.old writer.new (where_row one x y z ((β x).upper ⊖ (β y).lower ⊕ d) d) }
+    requires { nat_abs d ≤ 1 }
+    ensures { let β = bounds_in domains.now in Writes writer.old writer.new (where_row one x y z ((β x).upper ⊖ (β y).lower ⊕ d) d) }
 {
     let p = gap_plus(domain_of(domains, x), domain_of(domains, y), d);
     if one {

@@ -46,6 +46,6 @@ nothing = record { words = 0; auxiliaries = 0; rows = 0; outside = 0 }
 abbrev pub total : Laid → ℕ
 total s = s.words + s.auxiliaries + s.rows
 
--- the counts grow by at most n, so that none wraps
+-- the counts grow by at most n
 abbrev pub GrowsBy : ℕ → Laid → Laid → Type 0
 GrowsBy n s r = total r ≤ total s + n

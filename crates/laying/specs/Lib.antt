@@ -3,6 +3,6 @@ pub mod Part
 pub mod Lists
 pub mod Gives
 pub mod Appends
-pub mod Writes
 pub mod Room
+pub mod Writes
 pub mod Sizes

@@ -62,6 +62,10 @@ unfoldable pub rows_in : List Part → ℕ
 rows_in [] = 0
 rows_in (p ∷ ps) = part_rows p + rows_in ps
 
+-- how many words, auxiliaries and rows
+unfoldable pub size_in : List Part → ℕ
+size_in ps = length (words_in ps) + auxiliaries_in ps + rows_in ps
+
 -- the parts of bounds, terms, rows, blocks
 unfoldable pub bound_parts : List Bounds → List Part
 bound_parts Bs = map (λ B. bound B.lower B.upper) Bs

@@ -49,11 +49,10 @@ pub fn none_yet() -> Laid
 
 // Puts a few words over a list from a place on, those that fit. They are put one by one: over `words::list::lay`, which copies them, translate takes up to 1.6 times as long.
 fn put_words(out: &mut [u32], at: usize, words: &[u32])
-    requires { at + length words.now < 1099511627776 }
-    ensures { out.new ≡ overlay out.old at words.now }
+    ensures { at + length words.now < 18446744073709551616 → out.new ≡ overlay out.old at words.now }
 {
     for (k, &word) in words.iter().enumerate() {
-        put(out, at + k, word);
+        put(out, at.wrapping_add(k), word);
     }
 }
 
@@ -75,22 +74,20 @@ impl<'a> Writer<'a> {
     // So many words, auxiliaries and rows more, whose numbers fit or not; the list stays as it is.
     // Four numbers and no `Laid`, here and below: each call would be the six lines of a literal.
     pub fn count(&mut self, words: usize, auxiliaries: usize, rows: usize, fit: bool)
-        requires { Room (words + auxiliaries + rows) self.old × (words < 1000) × (auxiliaries < 1000) × (rows < 1000) }
-        ensures counts { CountsMore self.old.laid self.new.laid words auxiliaries rows fit }
+        ensures counts { Room (words + auxiliaries + rows) self.old.laid → CountsMore self.old.laid self.new.laid words auxiliaries rows fit }
         ensures same { self.new.out ≡ self.old.out }
     {
         self.laid = Laid {
-            words: self.laid.words + words,
-            auxiliaries: self.laid.auxiliaries + auxiliaries,
-            rows: self.laid.rows + rows,
+            words: self.laid.words.wrapping_add(words),
+            auxiliaries: self.laid.auxiliaries.wrapping_add(auxiliaries),
+            rows: self.laid.rows.wrapping_add(rows),
             outside: outside_after(self.laid.outside, fit),
         };
     }
 
     // The words of one part, whose numbers fit or not, with so many auxiliaries and rows more.
     fn part(&mut self, words: &[u32], auxiliaries: usize, rows: usize, fit: bool)
-        requires { Room (length words.now + auxiliaries + rows) self.old × (length words.now < 1000) × (auxiliaries < 1000) × (rows < 1000) }
-        ensures went { Over self.old.laid self.new.laid self.old.out.now self.new.out.now words.now auxiliaries rows fit }
+        ensures went { Room (length words.now + auxiliaries + rows) self.old.laid → Over self.old.laid self.new.laid self.old.out.now self.new.out.now words.now auxiliaries rows fit }
         ensures list { self.new.out.ghost_name ≡ self.old.out.ghost_name }
     {
         put_words(self.out, self.laid.words, words);
@@ -99,8 +96,7 @@ impl<'a> Writer<'a> {
 
     // The bounds of an auxiliary.
     pub fn bound(&mut self, lower: i64, upper: i64)
-        requires { Room 10 self.old }
-        ensures { Writes 10 self.old self.new (bound lower upper ∷ []) }
+        ensures { Writes self.old self.new (bound lower upper ∷ []) }
     {
         let words = [
             Word::of_number(Kind::AuxiliaryLower, lower).bits(),
@@ -111,16 +107,14 @@ impl<'a> Writer<'a> {
 
     // The head of a row of a kind, with n terms.
     pub fn head(&mut self, kind: Kind, n: usize)
-        requires { Room 10 self.old }
-        ensures { Writes 10 self.old self.new (head (kind_number kind) n ∷ []) }
+        ensures { Writes self.old self.new (head (kind_number kind) n ∷ []) }
     {
         self.part(&[Word::new(kind, n).bits()], 0, 0, true);
     }
 
     // A term of a row. Two numbers and no `Term`: only `row` has one.
     pub fn term(&mut self, coefficient: i64, v: usize)
-        requires { Room 10 self.old }
-        ensures { Writes 10 self.old self.new (term coefficient v ∷ []) }
+        ensures { Writes self.old self.new (term coefficient v ∷ []) }
     {
         let words = [
             Word::new(Kind::Variable, v).bits(),
@@ -131,8 +125,7 @@ impl<'a> Writer<'a> {
 
     // The constant of a row, its last word.
     pub fn constant(&mut self, c: i64)
-        requires { Room 10 self.old }
-        ensures { Writes 10 self.old self.new (constant c ∷ []) }
+        ensures { Writes self.old self.new (constant c ∷ []) }
     {
         self.part(
             &[Word::of_number(Kind::Number, c).bits()],
@@ -144,8 +137,7 @@ impl<'a> Writer<'a> {
 
     // A product, r := f × g.
     pub fn times(&mut self, r: usize, f: usize, g: usize)
-        requires { Room 10 self.old }
-        ensures { Writes 10 self.old self.new (times r f g ∷ []) }
+        ensures { Writes self.old self.new (times r f g ∷ []) }
     {
         let words = [
             Word::new(Kind::Product, 0).bits(),

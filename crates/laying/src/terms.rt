@@ -12,9 +12,7 @@ ghost use Rattle.words.specs.Overlay.{overlay};
 ghost use Rattle.laying.specs.Part.{bound, term, words_in};
 ghost use Rattle.laying.specs.Lists.{many, term_of, row_parts_of, sum_at, each_at, same_at, label_at, bit_at, product_at, order_at};
 ghost use Rattle.laying.specs.Gives.{Gives};
-ghost use Rattle.laying.specs.Appends.{GrowsBy};
 ghost use Rattle.laying.specs.Writes.{Writes};
-ghost use Rattle.laying.specs.Room.{Room};
 
 use crate::Writer;
 use crate::term::Term;
@@ -58,11 +56,10 @@ impl<'a> Writer<'a> {
         coefficient: C,
         variable: V,
     )
-        requires room { Room 1000 self.old × (n ≤ Limit.terms) }
+        requires few { n ≤ Limit.terms }
         requires coefficients { (k : ℕ) → k < n → C.pre coefficient k }
         requires variables { (k : ℕ) → k < n → V.pre variable k }
-        ensures size { GrowsBy 1000 self.old.laid self.new.laid }
-        ensures parts { (c : ℕ → ℤ) (v : ℕ → ℕ) → Gives n (C.post coefficient) c → Gives n (V.post variable) v → Writes 1000 self.old self.new (many (λ k. term (c k) (v k) ∷ []) n) }
+        ensures { (c : ℕ → ℤ) (v : ℕ → ℕ) → Gives n (C.post coefficient) c → Gives n (V.post variable) v → Writes self.old self.new (many (λ k. term (c k) (v k) ∷ []) n) }
     {
         if self.out.len() <= self.laid.words {
             let fit = all_fit(n, coefficient);
@@ -76,10 +73,13 @@ impl<'a> Writer<'a> {
 
     // c × each of n consecutive variables from v on. Where there is room for all of them, their words are put with no further test: by `terms` alone, translate of 8,192 words takes some 5 in 100 longer.
     pub fn same(&mut self, c: i64, v: usize, n: usize)
-        requires { Room 1000 self.old × (n ≤ Limit.terms) × (v < 1000000000000) }
-        ensures { Writes 1000 self.old self.new (many (same_at c v) n) }
+        requires { (n ≤ Limit.terms) × (v < 1000000000000) }
+        ensures { Writes self.old self.new (many (same_at c v) n) }
     {
-        if in_range(c) && self.laid.words + 2 * n <= self.out.len() {
+        if in_range(c)
+            && self.laid.words <= self.out.len()
+            && 2 * n <= self.out.len() - self.laid.words
+        {
             put_same(self.out, self.laid.words, c, v, n);
             self.count(2 * n, 0, 0, true);
             return;
@@ -89,8 +89,8 @@ impl<'a> Writer<'a> {
 
     // The terms of the parallel lists whose length word is at place i.
     pub fn sum(&mut self, args: &[u32], i: usize)
-        requires { Room 1000 self.old × (i < 1000000000000) }
-        ensures { Writes 1000 self.old self.new (many (sum_at args.now (i + 1) (past args.now i)) (size args.now i)) }
+        requires { i < 1000000000000 }
+        ensures { Writes self.old self.new (many (sum_at args.now (i + 1) (past args.now i)) (size args.now i)) }
     {
         let numbers = i + 1;
         let variables = past_at(args, i);
@@ -103,8 +103,8 @@ impl<'a> Writer<'a> {
 
     // c × each variable of the list whose length word is at place i.
     pub fn each(&mut self, args: &[u32], i: usize, c: i64)
-        requires { Room 1000 self.old × (i < 1000000000000) }
-        ensures { Writes 1000 self.old self.new (many (each_at args.now c (i + 1)) (size args.now i)) }
+        requires { i < 1000000000000 }
+        ensures { Writes self.old self.new (many (each_at args.now c (i + 1)) (size args.now i)) }
     {
         let variables = i + 1;
         self.terms(size_at(args, i), |_| c, |k| var_at(args, variables + k));
@@ -112,8 +112,8 @@ impl<'a> Writer<'a> {
 
     // Consecutive numbers × consecutive variables, n of them. No call today: `choiceblocks::rows::label_row` puts such terms within one row. It states a promise of before.
     pub fn labels(&mut self, from: i64, v: usize, n: usize)
-        requires { Room 1000 self.old × (n ≤ Limit.terms) × (v < 1000000000000) × (nat_abs from < 1000000000000) }
-        ensures { Writes 1000 self.old self.new (many (label_at from v) n) }
+        requires { (n ≤ Limit.terms) × (v < 1000000000000) × (nat_abs from < 1000000000000) }
+        ensures { Writes self.old self.new (many (label_at from v) n) }
     {
         self.terms(n, |k| plus(from, k as i64), |k| v + k);
     }
@@ -123,8 +123,8 @@ impl<'a> Writer<'a> {
     // It is taken in where it is called: there the terms are a list of known length.
     #[inline(always)]
     pub fn row(&mut self, kind: Kind, terms: &[Term], c: i64)
-        requires { Room 2000 self.old × (length terms.now ≤ Limit.terms) }
-        ensures { Writes 2000 self.old self.new (row_parts_of (kind_number kind) terms.now c) }
+        requires { length terms.now ≤ Limit.terms }
+        ensures { Writes self.old self.new (row_parts_of (kind_number kind) terms.now c) }
     {
         if self.out.len() <= self.laid.words {
             let fit = all_fit(terms.len(), |k| terms[k].number()) & in_range(c);
@@ -140,8 +140,8 @@ impl<'a> Writer<'a> {
 
     // For the sign bit b of x, which is at most u: x + (u+1)×b − u ≤ 0.
     pub fn only_negative(&mut self, x: usize, b: usize, u: i64)
-        requires { Room 2000 self.old × (nat_abs u ≤ 1152921504606846976) }
-        ensures { Writes 2000 self.old self.new (row_parts_of at_most (term_of +1 x ∷ term_of (u ⊕ +1) b ∷ []) (neg u)) }
+        requires { nat_abs u ≤ 1152921504606846976 }
+        ensures { Writes self.old self.new (row_parts_of at_most (term_of +1 x ∷ term_of (u ⊕ +1) b ∷ []) (neg u)) }
     {
         self.row(
             Kind::AtMost,
@@ -152,11 +152,10 @@ impl<'a> Writer<'a> {
 
     // n auxiliaries, the bounds of each given by its place. Where the list has no room left, they are counted.
     pub fn bounds<L: Fn(usize) -> i64, U: Fn(usize) -> i64>(&mut self, n: usize, lower: L, upper: U)
-        requires room { Room 1000 self.old × (n ≤ Limit.terms) }
+        requires few { n ≤ Limit.terms }
         requires lowers { (k : ℕ) → k < n → L.pre lower k }
         requires uppers { (k : ℕ) → k < n → U.pre upper k }
-        ensures size { GrowsBy 1000 self.old.laid self.new.laid }
-        ensures parts { (l u : ℕ → ℤ) → Gives n (L.post lower) l → Gives n (U.post upper) u → Writes 1000 self.old self.new (many (λ k. bound (l k) (u k) ∷ []) n) }
+        ensures { (l u : ℕ → ℤ) → Gives n (L.post lower) l → Gives n (U.post upper) u → Writes self.old self.new (many (λ k. bound (l k) (u k) ∷ []) n) }
     {
         if self.out.len() <= self.laid.words {
             let lowers = all_fit(n, lower);
@@ -171,16 +170,16 @@ impl<'a> Writer<'a> {
 
     // The bounds of n bits.
     pub fn bits(&mut self, n: usize)
-        requires { Room 1000 self.old × (n ≤ Limit.terms) }
-        ensures { Writes 1000 self.old self.new (many bit_at n) }
+        requires { n ≤ Limit.terms }
+        ensures { Writes self.old self.new (many bit_at n) }
     {
         self.bounds(n, |_| 0, |_| 1);
     }
 
     // n products: from z on, of the variables from place base on and those from b on. Where the list has no room left, they are counted.
     pub fn products(&mut self, args: &[u32], base: usize, z: usize, b: usize, n: usize)
-        requires { Room 1000 self.old × (n ≤ Limit.terms) × (base < 1000000000000) × (z < 1000000000000) × (b < 1000000000000) }
-        ensures { Writes 1000 self.old self.new (many (product_at args.now base z b) n) }
+        requires { (n ≤ Limit.terms) × (base < 1000000000000) × (z < 1000000000000) × (b < 1000000000000) }
+        ensures { Writes self.old self.new (many (product_at args.now base z b) n) }
     {
         if self.out.len() <= self.laid.words {
             self.count(4 * n, 0, n, true);
@@ -194,8 +193,8 @@ impl<'a> Writer<'a> {
     // n rows x − m ≤ 0, x the variables from place base on; m − x ≤ 0, where it is not `up`. Where the list has no room left, they are counted.
     // The flag stays: by two closures for the lesser and the larger variable, as `choiceblocks::rows::first_only` takes, `array_bool_and`, which has no flag, would carry their facts too, and be no plainer.
     pub fn order(&mut self, args: &[u32], base: usize, m: usize, n: usize, up: bool)
-        requires { Room 200000 self.old × (n ≤ Limit.terms) × (base < 1000000000000) }
-        ensures { Writes 200000 self.old self.new (many (order_at args.now base m up) n) }
+        requires { (n ≤ Limit.terms) × (base < 1000000000000) }
+        ensures { Writes self.old self.new (many (order_at args.now base m up) n) }
     {
         if self.out.len() <= self.laid.words {
             self.count(6 * n, 0, n, true);

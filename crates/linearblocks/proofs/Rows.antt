@@ -23,8 +23,8 @@ use Rattle.linearblocks.specs.Rows.{terms_reified}
 
 module _ (first : ℕ) where
   -- the parts of a row of terms, written one after the other
-  pub row-wrote : {s a b r : Writer} {k n l m h : ℕ} {ps : List Part} {c : ℤ} (ts : List (Term Ref)) → length ts ≡ n → term_parts first ts ≡ ps →
-      Writes h s a (head k n ∷ []) → Writes l a b ps → Writes m b r (constant c ∷ []) → Writes (h + (l + m)) s r (head k (length ts) ∷ (term_parts first ts ++ (constant c ∷ [])))
+  pub row-wrote : {s a b r : Writer} {k n : ℕ} {ps : List Part} {c : ℤ} (ts : List (Term Ref)) → length ts ≡ n → term_parts first ts ≡ ps →
+      Writes s a (head k n ∷ []) → Writes a b ps → Writes b r (constant c ∷ []) → Writes s r (head k (length ts) ∷ (term_parts first ts ++ (constant c ∷ [])))
   row-wrote ts e f u v w = rw (e, f) (wrote-then u (wrote-then v w))
 
   -- a block of one row; more rows after those of a block
@@ -32,8 +32,8 @@ module _ (first : ℕ) where
   unfolding block_parts bound_parts flat_map
   one-row q = sym (append-nil (row_parts first q))
 
-  pub rows_then : {m n : ℕ} {s a r : Writer} (B : Block) (rs : List (Row Ref)) →
-      Writes m s a (block_parts first B) → Writes n a r (flat_map (row_parts first) rs) → Writes (m + n) s r (block_parts first (block B.auxiliaries (B.rows ++ rs)))
+  pub rows_then : {s a r : Writer} (B : Block) (rs : List (Row Ref)) →
+      Writes s a (block_parts first B) → Writes a r (flat_map (row_parts first) rs) → Writes s r (block_parts first (block B.auxiliaries (B.rows ++ rs)))
   unfolding block_parts
   rows_then B rs v w = rw (flat_map_append (row_parts first) B.rows rs, ← append_assoc) (wrote-then v w)
 

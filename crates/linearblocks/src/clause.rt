@@ -11,8 +11,6 @@ ghost use Rattle.rules.specs.Block.{aux};
 ghost use Rattle.rules.specs.Parts.{each};
 ghost use Rattle.laying.specs.Part.{row_parts, block_parts};
 ghost use Rattle.laying.specs.Writes.{Writes};
-ghost use Rattle.laying.specs.Room.{Room, BlockRoom};
-ghost use Rattle.laying.specs.Sizes.{block_size};
 ghost use Rattle.linearblocks.specs.Rows.{all_row, clause_of, and_of};
 
 use arguments::{past_at, size_at, var_at};
@@ -31,8 +29,7 @@ fn one_less(n: usize) -> i64
 
 // bool_clause: −Σas+Σbs+1−m≤0, m the second list's length.
 pub fn bool_clause(writer: &mut Writer, args: &[u32])
-    requires { BlockRoom writer.old }
-    ensures { (first : ℕ) (β : ℕ → Bounds) → Writes block_size writer.old writer.new (block_parts first (rule β (clause_of args.now))) }
+    ensures { (first : ℕ) (β : ℕ → Bounds) → Writes writer.old writer.new (block_parts first (rule β (clause_of args.now))) }
 {
     let second = past_at(args, 0);
     let m = size_at(args, second);
@@ -44,8 +41,7 @@ pub fn bool_clause(writer: &mut Writer, args: &[u32])
 
 // Σas−r−n+1≤0. `write_all` and `write_odd` stay two: one function would take kind, coefficient, variable and constant, six parameters for four lines.
 fn write_all(writer: &mut Writer, args: &[u32], r: usize)
-    requires { Room 2000 writer.old }
-    ensures { (first : ℕ) → Writes 2000 writer.old writer.new (row_parts first (all_row (vars args.now 0) r)) }
+    ensures { (first : ℕ) → Writes writer.old writer.new (row_parts first (all_row (vars args.now 0) r)) }
 {
     let n = size_at(args, 0);
     writer.head(Kind::AtMost, n + 1);
@@ -56,8 +52,7 @@ fn write_all(writer: &mut Writer, args: &[u32], r: usize)
 
 // array_bool_and: each r−as_i≤0; Σas−r−n+1≤0.
 pub fn array_bool_and(writer: &mut Writer, args: &[u32])
-    requires { BlockRoom writer.old }
-    ensures { (first : ℕ) (β : ℕ → Bounds) → Writes block_size writer.old writer.new (block_parts first (rule β (and_of args.now))) }
+    ensures { (first : ℕ) (β : ℕ → Bounds) → Writes writer.old writer.new (block_parts first (rule β (and_of args.now))) }
 {
     let r = var_at(args, past_at(args, 0));
     writer.order(args, 1, r, size_at(args, 0), false);
@@ -66,8 +61,7 @@ pub fn array_bool_and(writer: &mut Writer, args: &[u32])
 
 // Σ−2×t−1=0, t the variable `first`.
 fn write_odd(writer: &mut Writer, args: &[u32], first: usize)
-    requires { Room 2000 writer.old }
-    ensures { Writes 2000 writer.old writer.new (row_parts first (sum=0 (each +1 (vars args.now 0) ++ (-2 · aux 0 ∷ [])) -1)) }
+    ensures { Writes writer.old writer.new (row_parts first (sum=0 (each +1 (vars args.now 0) ++ (-2 · aux 0 ∷ [])) -1)) }
 {
     writer.head(Kind::Equal, size_at(args, 0) + 1);
     writer.each(args, 0, 1);
@@ -77,8 +71,7 @@ fn write_odd(writer: &mut Writer, args: &[u32], first: usize)
 
 // array_bool_xor: t from 0 to (n−1)/2: Σ−2×t−1=0.
 pub fn array_bool_xor(writer: &mut Writer, args: &[u32], first: usize)
-    requires { BlockRoom writer.old }
-    ensures { (β : ℕ → Bounds) → Writes block_size writer.old writer.new (block_parts first (rule β (array_bool_xor (vars args.now 0)))) }
+    ensures { (β : ℕ → Bounds) → Writes writer.old writer.new (block_parts first (rule β (array_bool_xor (vars args.now 0)))) }
 {
     writer.bound(0, half_less(size_at(args, 0)));
     write_odd(writer, args, first);

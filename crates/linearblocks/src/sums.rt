@@ -6,7 +6,6 @@ ghost use Rattle.models.specs.Model.{num, past_terms};
 ghost use Rattle.words.specs.Kinds.{kind_number};
 ghost use Rattle.laying.specs.Part.{constant, row_parts, block_parts};
 ghost use Rattle.laying.specs.Writes.{Writes};
-ghost use Rattle.laying.specs.Room.{Room, BlockRoom};
 ghost use Rattle.laying.specs.Sizes.{first_numbers};
 ghost use Rattle.linearblocks.specs.Rows.{link, split, bounded_sum, sum_parts};
 
@@ -26,16 +25,14 @@ fn constant_of(args: &[u32]) -> i64
 
 // The constant of a row, the opposite of the constant after the terms.
 fn write_minus_constant(writer: &mut Writer, args: &[u32])
-    requires { Room 10 writer.old }
-    ensures { Writes 10 writer.old writer.new (constant (neg (num args.now (past_terms args.now 0))) ∷ []) }
+    ensures { Writes writer.old writer.new (constant (neg (num args.now (past_terms args.now 0))) ∷ []) }
 {
     writer.constant(opposite(constant_of(args)));
 }
 
 // A row of a kind: Σ−c.
 pub fn write_sum(writer: &mut Writer, kind: Kind, args: &[u32])
-    requires { Room 2000 writer.old }
-    ensures { (first : ℕ) → Writes 2000 writer.old writer.new (sum_parts (kind_number kind) first args.now) }
+    ensures { (first : ℕ) → Writes writer.old writer.new (sum_parts (kind_number kind) first args.now) }
 {
     writer.head(kind, size_at(args, 0));
     writer.sum(args, 0);
@@ -44,8 +41,7 @@ pub fn write_sum(writer: &mut Writer, kind: Kind, args: &[u32])
 
 // Σ−x−c=0
 pub fn write_link(writer: &mut Writer, args: &[u32], first: usize)
-    requires { Room 2000 writer.old }
-    ensures { Writes 2000 writer.old writer.new (row_parts first (link args.now)) }
+    ensures { Writes writer.old writer.new (row_parts first (link args.now)) }
 {
     writer.head(Kind::Equal, size_at(args, 0) + 1);
     writer.sum(args, 0);
@@ -55,8 +51,7 @@ pub fn write_link(writer: &mut Writer, args: &[u32], first: usize)
 
 // x in given bounds: Σ−x−c=0.
 pub fn write_bounded_sum(writer: &mut Writer, args: &[u32], sum: Bounds, first: usize)
-    requires { BlockRoom writer.old }
-    ensures { Writes 10000 writer.old writer.new (block_parts first (bounded_sum args.now sum.lower sum.upper)) }
+    ensures { Writes writer.old writer.new (block_parts first (bounded_sum args.now sum.lower sum.upper)) }
 {
     writer.bound(sum.lower, sum.upper);
     write_link(writer, args, first);
@@ -64,8 +59,8 @@ pub fn write_bounded_sum(writer: &mut Writer, args: &[u32], sum: Bounds, first: 
 
 // x in given bounds, b, z in Z(x): Σ−x−c=0; z:=b×x.
 pub fn write_split(writer: &mut Writer, args: &[u32], sum: Bounds, first: usize)
-    requires { BlockRoom writer.old × (first < first_numbers) }
-    ensures { Writes 10000 writer.old writer.new (block_parts first (split args.now sum.lower sum.upper)) }
+    requires { first < first_numbers }
+    ensures { Writes writer.old writer.new (block_parts first (split args.now sum.lower sum.upper)) }
 {
     writer.bound(sum.lower, sum.upper);
     writer.bound(0, 1);

@@ -10,7 +10,7 @@ use Rattle.rules.specs.Power.{Chain, next, no_product, squared, multiplied, chai
 use Rattle.rules.proofs.Power.{at_one, at_even, at-odd}
 use Rattle.laying.specs.Part.{bound, times, bound_parts, row_parts}
 use Rattle.laying.specs.declared.Writer.{Writer}
-use Rattle.laying.proofs.Written.{wrote-nothing, wrote-then, wrote-as, wrote-most}
+use Rattle.laying.proofs.Written.{wrote-nothing, wrote-then, wrote-as}
 use Rattle.laying.proofs.Lists.{bounds-append}
 use Rattle.powerblocks.specs.Cut.{cut_bounds, Ranges, cut_next, no_range, cut_squared, cut_multiplied, cut_ranges}
 use Rattle.powerblocks.specs.Chained.{NextRange, RangesWritten, NextProduct, ProductsWritten}
@@ -18,8 +18,8 @@ use Rattle.powerblocks.specs.declared.Multiplied.{Multiplied}
 
 -- ---- bounds
 
-next_ranges : {s t u : Writer} {P R A : Bounds} {c : Ranges} {m : ℕ} (B : Bounds) → RangesWritten s t P c m → A ≡ B → NextRange t u P R A →
-    RangesWritten s u R (cut_next c B) (m + 10)
+next_ranges : {s t u : Writer} {P R A : Bounds} {c : Ranges} (B : Bounds) → RangesWritten s t P c → A ≡ B → NextRange t u P R A →
+    RangesWritten s u R (cut_next c B)
 unfolding cut_next bound_parts
 next_ranges {P = P} {R = R} {c = c} B h e n =
     let E = cut_bounds (end_products B c.range) in
@@ -29,30 +29,30 @@ next_ranges {P = P} {R = R} {c = c} B h e n =
       range = q;
     }
 
-pub ranges_one : (s : Writer) (B : Bounds) (k : ℕ) → k < 2 → RangesWritten s s B (cut_ranges B k) (20 * k)
+pub ranges_one : (s : Writer) (B : Bounds) (k : ℕ) → k < 2 → RangesWritten s s B (cut_ranges B k)
 unfolding cut_ranges no_range bound_parts
 ranges_one s B k i =
-    subst (λ c. RangesWritten s s B c (20 * k)) (sym (at_one (no_range B) (cut_squared B) (cut_multiplied B) k (omega arith)))
+    subst (λ c. RangesWritten s s B c) (sym (at_one (no_range B) (cut_squared B) (cut_multiplied B) k (omega arith)))
     (record { wrote = wrote-nothing; range = refl })
 
-module _ {s t u : Writer} (B : Bounds) (k : ℕ) (two : 2 ≤ k) {P Q : Bounds} (h : RangesWritten s t P (cut_ranges B (k / 2)) (20 * (k / 2)))
+module _ {s t u : Writer} (B : Bounds) (k : ℕ) (two : 2 ≤ k) {P Q : Bounds} (h : RangesWritten s t P (cut_ranges B (k / 2)))
     (n : NextRange t u P Q P) where
-  square : RangesWritten s u Q (cut_squared B (cut_ranges B (k / 2))) (20 * (k / 2) + 10)
+  square : RangesWritten s u Q (cut_squared B (cut_ranges B (k / 2)))
   unfolding cut_squared
   square = next_ranges (cut_ranges B (k / 2)).range h h.range n
 
-  pub ranges_even : k % 2 ≡ 0 → RangesWritten s u Q (cut_ranges B k) (20 * k)
+  pub ranges_even : k % 2 ≡ 0 → RangesWritten s u Q (cut_ranges B k)
   unfolding cut_ranges
   ranges_even e =
-      subst (λ c. RangesWritten s u Q c (20 * k)) (sym (at_even (no_range B) (cut_squared B) (cut_multiplied B) k two e))
-      (record { wrote = wrote-most (omega arith) square.wrote; range = square.range })
+      subst (λ c. RangesWritten s u Q c) (sym (at_even (no_range B) (cut_squared B) (cut_multiplied B) k two e))
+      (record { wrote = square.wrote; range = square.range })
 
-  pub ranges_odd : ¬ (k % 2 ≡ 0) → {v : Writer} {R : Bounds} → NextRange u v Q R B → RangesWritten s v R (cut_ranges B k) (20 * k)
+  pub ranges_odd : ¬ (k % 2 ≡ 0) → {v : Writer} {R : Bounds} → NextRange u v Q R B → RangesWritten s v R (cut_ranges B k)
   unfolding cut_ranges cut_multiplied
   ranges_odd e {v} {R} m =
       let t = next_ranges B square refl m in
-      subst (λ c. RangesWritten s v R c (20 * k)) (sym (at-odd (no_range B) (cut_squared B) (cut_multiplied B) k two e))
-      (record { wrote = wrote-most (omega arith) t.wrote; range = t.range })
+      subst (λ c. RangesWritten s v R c) (sym (at-odd (no_range B) (cut_squared B) (cut_multiplied B) k two e))
+      (record { wrote = t.wrote; range = t.range })
 
 -- ---- products
 
@@ -95,11 +95,11 @@ module _ {first : ℕ} {s t u : Writer} (x k : ℕ) (two : 2 ≤ k) {p q : Multi
   products_even e =
       let t = squared-products in
       subst (λ c. ProductsWritten first s u q c (20 * k)) (sym (at_even (no_product B x) (squared B x) (multiplied B x) k two e))
-      (record { wrote = wrote-most (omega arith) t.wrote; held = t.held; next = t.next; few = omega (arith, t.few) })
+      (record { wrote = t.wrote; held = t.held; next = t.next; few = omega (arith, t.few) })
 
   pub products-odd : ¬ (k % 2 ≡ 0) → {v : Writer} {r : Multiplied} → NextProduct u v q r x → ProductsWritten first s v r (chain B x k) (20 * k)
   unfolding chain multiplied numbered
   products-odd e {v} {r} m =
       let t = next-products (source x) B squared-products refl m in
       subst (λ c. ProductsWritten first s v r c (20 * k)) (sym (at-odd (no_product B x) (squared B x) (multiplied B x) k two e))
-      (record { wrote = wrote-most (omega arith) t.wrote; held = t.held; next = t.next; few = omega (arith, t.few) })
+      (record { wrote = t.wrote; held = t.held; next = t.next; few = omega (arith, t.few) })

@@ -13,23 +13,23 @@ use Rattle.powerblocks.specs.declared.Multiplied.{Multiplied}
 
 -- one more product of a factor within the bounds B and the power within P: its bounds R went over the list
 pub record NextRange (s r : Writer) (P R B : Bounds) : Type 0 where
-  pub wrote : Writes 10 s r (bound R.lower R.upper ∷ [])
+  pub wrote : Writes s r (bound R.lower R.upper ∷ [])
   pub range : R ≡ cut_bounds (end_products B P)
 
 -- the product of a factor and the power p went over the list; q is the power after it
 pub record NextProduct (s r : Writer) (p q : Multiplied) (factor : ℕ) : Type 0 where
-  pub wrote : Writes 10 s r (times p.next factor p.held ∷ [])
+  pub wrote : Writes s r (times p.next factor p.held ∷ [])
   pub held : q.held ≡ p.next
   pub next : q.next ≡ p.next + 1
 
 -- bounds of a chain went over the list, the last of them R
-pub record RangesWritten (s r : Writer) (R : Bounds) (c : Ranges) (most : ℕ) : Type 0 where
-  pub wrote : Writes most s r (bound_parts c.auxiliaries)
+pub record RangesWritten (s r : Writer) (R : Bounds) (c : Ranges) : Type 0 where
+  pub wrote : Writes s r (bound_parts c.auxiliaries)
   pub range : R ≡ c.range
 
 -- products of a chain, whose auxiliaries are numbered from `first` on
 pub record ProductsWritten (first : ℕ) (s r : Writer) (q : Multiplied) (c : Chain) (most : ℕ) : Type 0 where
-  pub wrote : Writes most s r (flat_map (row_parts first) c.products)
+  pub wrote : Writes s r (flat_map (row_parts first) c.products)
   pub held : q.held ≡ numbered first c.result
   pub next : q.next ≡ first + length c.auxiliaries
   pub few : q.next ≤ first + most

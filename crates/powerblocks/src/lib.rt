@@ -7,7 +7,6 @@ ghost use Rattle.models.specs.Builtin.{int_pow};
 ghost use Rattle.rules.specs.Rule.{rule};
 ghost use Rattle.laying.specs.Part.{block_parts};
 ghost use Rattle.laying.specs.Writes.{WritesFitting};
-ghost use Rattle.laying.specs.Room.{Room, BlockRoom};
 ghost use Rattle.laying.specs.Sizes.{first_numbers};
 ghost use Rattle.integers.specs.Bounds.{bounds_in};
 ghost use Rattle.powerblocks.specs.Cut.{cut_bounds, cut_ranges};
@@ -40,7 +39,6 @@ fn cut_bounds(b: Bounds) -> Domain
 // The bounds of one more product: of a factor within bounds and the power.
 // It and `next_product` stay two: one carries bounds and the other a variable and a number, and a trait of both, with its laws, is longer than they are.
 fn next_range(writer: &mut Writer, power: Domain, factor: Domain) -> Domain
-    requires { Room 10 writer.old }
     ensures { NextRange writer.old writer.new power result factor }
 {
     let range = cut_bounds(end_products(factor, power));
@@ -51,8 +49,8 @@ fn next_range(writer: &mut Writer, power: Domain, factor: Domain) -> Domain
 // The bounds of the products of a power from 1 on, of a variable within bounds; answers the bounds of the power. 02 prescribes the recursion.
 // What k is stays in clauses, here and below: it is one number, which each call halves, so that a type for it would be made anew in each call, and be no plainer.
 fn write_ranges(writer: &mut Writer, k: usize, range: Domain) -> Domain
-    requires { Room (20 * k) writer.old × (1 ≤ k) × (k ≤ Limit.exponent) }
-    ensures { RangesWritten writer.old writer.new result (cut_ranges range k) (20 * k) }
+    requires { 1 ≤ k }
+    ensures { RangesWritten writer.old writer.new result (cut_ranges range k) }
 {
     if k < 2 {
         return range;
@@ -67,7 +65,7 @@ fn write_ranges(writer: &mut Writer, k: usize, range: Domain) -> Domain
 
 // One more product: of a factor and the power.
 fn next_product(writer: &mut Writer, power: Multiplied, factor: usize) -> Multiplied
-    requires { Room 10 writer.old × (power.next < 1000000000) }
+    requires { power.next < 1000000000 }
     ensures { NextProduct writer.old writer.new power result factor }
 {
     writer.times(power.next, factor, power.held);
@@ -80,7 +78,7 @@ fn next_product(writer: &mut Writer, power: Multiplied, factor: usize) -> Multip
 // The products of a power from 1 on of the variable x, by the same recursion; their auxiliaries are numbered from `first` on.
 // It and `write_ranges` stay two: one recursion of both would take the step as a closure over the writer with its clauses (`NextRange`, `NextProduct`), and be longer than both.
 fn write_power(writer: &mut Writer, k: usize, x: usize, first: usize) -> Multiplied
-    requires { Room (20 * k) writer.old × (1 ≤ k) × (k ≤ Limit.exponent) × (first < first_numbers) }
+    requires { (1 ≤ k) × (k ≤ Limit.exponent) × (first < first_numbers) }
     ensures { PowerWritten first writer.old writer.new result x k (20 * k) }
 {
     if k < 2 {
@@ -99,8 +97,8 @@ fn write_power(writer: &mut Writer, k: usize, x: usize, first: usize) -> Multipl
 
 // int_pow: z is 1 for k=0, else the last of the products.
 pub fn int_pow(writer: &mut Writer, x: usize, k: usize, z: usize, domains: &[Domain], first: usize)
-    requires { BlockRoom writer.old × (first < first_numbers) × (k ≤ Limit.exponent) }
-    ensures { WritesFitting 30000 writer.old writer.new (block_parts first (rule (bounds_in domains.now) (int_pow x k z))) }
+    requires { (first < first_numbers) × (k ≤ Limit.exponent) }
+    ensures { WritesFitting writer.old writer.new (block_parts first (rule (bounds_in domains.now) (int_pow x k z))) }
 {
     if k == 0 {
         writer.row(Kind::Equal, &[Term::new(1, z)], -1);

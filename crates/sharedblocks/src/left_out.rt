@@ -9,7 +9,6 @@ ghost use Rattle.models.specs.Codes.{code_number};
 ghost use Rattle.laying.specs.Part.{term};
 ghost use Rattle.laying.specs.Lists.{many};
 ghost use Rattle.laying.specs.Writes.{Writes};
-ghost use Rattle.laying.specs.Room.{Room};
 ghost use Rattle.sharedblocks.specs.LeftOut.{keeps, left_at, left_count, left_row};
 
 use arguments::{is_member, size_at};
@@ -41,8 +40,7 @@ fn is_kept(code: Code, args: &[u32], v: i64) -> bool
 
 // A term of coefficient 1 where the value is not kept.
 fn left_term(writer: &mut Writer, kept: bool, v: usize)
-    requires { Room 10 writer.old }
-    ensures { Writes 10 writer.old writer.new (term +1 v ∷ [] if not kept else []) }
+    ensures { Writes writer.old writer.new (term +1 v ∷ [] if not kept else []) }
 {
     if !kept {
         writer.term(1, v);
@@ -51,8 +49,8 @@ fn left_term(writer: &mut Writer, kept: bool, v: usize)
 
 // The bits, numbered from v on, of those of n values from `from` on that are left out.
 fn left_bits(writer: &mut Writer, code: Code, args: &[u32], from: i64, v: usize, n: usize)
-    requires { Room 1000 writer.old × (n ≤ Limit.terms) × (v < 1000000000000) × (nat_abs from < 1000000000000) }
-    ensures { Writes 1000 writer.old writer.new (many (left_at (code_number code) args.now from v) n) }
+    requires { (n ≤ Limit.terms) × (v < 1000000000000) × (nat_abs from < 1000000000000) }
+    ensures { Writes writer.old writer.new (many (left_at (code_number code) args.now from v) n) }
 {
     for k in 0..n {
         left_term(writer, is_kept(code, args, plus(from, k as i64)), v + k);
@@ -74,8 +72,8 @@ fn count_left(code: Code, args: &[u32], from: i64, n: usize) -> usize
 
 // The row of the bits left out, where there are any.
 pub fn left_row(writer: &mut Writer, code: Code, args: &[u32], from: i64, v: usize, n: usize)
-    requires { Room 2000 writer.old × (n ≤ Limit.terms) × (v < 1000000000) × (nat_abs from < 1000000000) }
-    ensures { Writes 2000 writer.old writer.new (left_row (code_number code) args.now from v n) }
+    requires { (n ≤ Limit.terms) × (v < 1000000000) × (nat_abs from < 1000000000) }
+    ensures { Writes writer.old writer.new (left_row (code_number code) args.now from v n) }
 {
     let m = count_left(code, args, from, n);
     if m == 0 {

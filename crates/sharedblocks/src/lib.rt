@@ -8,8 +8,6 @@ ghost use Rattle.models.specs.Codes.{code_number};
 ghost use Rattle.models.specs.Model.{var};
 ghost use Rattle.rules.specs.Shared.{new_bits};
 ghost use Rattle.laying.specs.Writes.{Writes};
-ghost use Rattle.laying.specs.Room.{Room, BlockRoom};
-ghost use Rattle.laying.specs.Sizes.{block_size};
 ghost use Rattle.encodings.specs.Uses.{choosing};
 ghost use Rattle.sharedblocks.specs.Pieces.{bits_from, place_bit, Encodable, new_bit_parts, new_row_parts, left_out_parts, shared_parts, zero_parts, own_row_parts, numbers_row, product_rows, members_row};
 
@@ -75,16 +73,14 @@ impl<'a> SharedBlock<'a> {
 
     // The bounds of the new bits.
     fn write_new_bits(&self, writer: &mut Writer)
-        requires { Room 2000 writer.old }
-        ensures { Writes 2000 writer.old writer.new (new_bit_parts (bounds_in self.now.domains.now) self.now.encoded.now self.now.args.now) }
+        ensures { Writes writer.old writer.new (new_bit_parts (bounds_in self.now.domains.now) self.now.encoded.now self.now.args.now) }
     {
         writer.bits(self.new_bits());
     }
 
     // The two rows of the new bits.
     fn write_new_rows(&self, writer: &mut Writer)
-        requires { Room 5000 writer.old }
-        ensures { Writes 5000 writer.old writer.new (new_row_parts (bounds_in self.now.domains.now) self.now.encoded.now self.now.first self.now.args.now) }
+        ensures { Writes writer.old writer.new (new_row_parts (bounds_in self.now.domains.now) self.now.encoded.now self.now.first self.now.args.now) }
     {
         let x = var_at(self.args, 0);
         if at_or(self.encoded, x, 0) == 0 {
@@ -95,8 +91,7 @@ impl<'a> SharedBlock<'a> {
 
     // The row of the bits left out.
     fn write_left_out(&self, writer: &mut Writer)
-        requires { Room 5000 writer.old }
-        ensures { Writes 5000 writer.old writer.new (left_out_parts (bounds_in self.now.domains.now) self.now.encoded.now self.now.first (code_number self.now.code) self.now.args.now) }
+        ensures { Writes writer.old writer.new (left_out_parts (bounds_in self.now.domains.now) self.now.encoded.now self.now.first (code_number self.now.code) self.now.args.now) }
     {
         let index = index_of(self.args, self.domains);
         let v = self.first_bit();
@@ -112,8 +107,7 @@ impl<'a> SharedBlock<'a> {
 
     // The row of the numbers: array_int_element.
     fn write_numbers_row(&self, writer: &mut Writer)
-        requires { Room 5000 writer.old }
-        ensures { Writes 5000 writer.old writer.new (numbers_row (bounds_in self.now.domains.now) self.now.args.now self.now.encoded.now self.now.first) }
+        ensures { Writes writer.old writer.new (numbers_row (bounds_in self.now.domains.now) self.now.args.now self.now.encoded.now self.now.first) }
     {
         let places = element_places(self.args, self.domains);
         let v = self.place_bit();
@@ -129,8 +123,7 @@ impl<'a> SharedBlock<'a> {
 
     // The bounds of the products: array_var_int_element; another code has none.
     fn write_kept_zeros(&self, writer: &mut Writer)
-        requires { Room 5000 writer.old }
-        ensures { Writes 5000 writer.old writer.new (zero_parts (bounds_in self.now.domains.now) (code_number self.now.code) self.now.args.now) }
+        ensures { Writes writer.old writer.new (zero_parts (bounds_in self.now.domains.now) (code_number self.now.code) self.now.args.now) }
     {
         match self.code {
             Code::ArrayVarIntElement => {
@@ -150,8 +143,7 @@ impl<'a> SharedBlock<'a> {
 
     // The products and their row: array_var_int_element.
     fn write_product_rows(&self, writer: &mut Writer)
-        requires { Room 5000 writer.old }
-        ensures { Writes 5000 writer.old writer.new (product_rows (bounds_in self.now.domains.now) self.now.args.now self.now.encoded.now self.now.first) }
+        ensures { Writes writer.old writer.new (product_rows (bounds_in self.now.domains.now) self.now.args.now self.now.encoded.now self.now.first) }
     {
         let n = labels(self.args, self.domains);
         let at = first_element(element_places(self.args, self.domains).lower());
@@ -163,8 +155,7 @@ impl<'a> SharedBlock<'a> {
 
     // The row of the members: set_in_reif.
     fn write_members_row(&self, writer: &mut Writer)
-        requires { Room 5000 writer.old }
-        ensures { Writes 5000 writer.old writer.new (members_row (bounds_in self.now.domains.now) self.now.args.now self.now.encoded.now self.now.first) }
+        ensures { Writes writer.old writer.new (members_row (bounds_in self.now.domains.now) self.now.args.now self.now.encoded.now self.now.first) }
     {
         let index = index_of(self.args, self.domains);
         // fixed memory: as many numbers as a set may have. The row reads the whole list, which is 0 past the members (`FrontListed`), so a slice of the first n would need a law of its own, and be no plainer.
@@ -177,8 +168,7 @@ impl<'a> SharedBlock<'a> {
     // The rows of the code after those of the new bits: of the bits left out, and its own.
     // Of the four codes that choose, the last arm is set_in's: an arm for each other code would be no plainer.
     fn write_own_rows(&self, writer: &mut Writer)
-        requires { Room 10000 writer.old }
-        ensures { Writes 10000 writer.old writer.new (own_row_parts (bounds_in self.now.domains.now) self.now.encoded.now self.now.first (code_number self.now.code) self.now.args.now) }
+        ensures { Writes writer.old writer.new (own_row_parts (bounds_in self.now.domains.now) self.now.encoded.now self.now.first (code_number self.now.code) self.now.args.now) }
     {
         match self.code {
             Code::ArrayIntElement => {
@@ -205,8 +195,8 @@ pub fn shared_block(
     encoded: &[usize],
     first: usize,
 )
-    requires { BlockRoom writer.old × Encodable (bounds_in domains.now) encoded.now first args.now × (choosing (code_number code) ≡ true) }
-    ensures { Writes block_size writer.old writer.new (shared_parts (bounds_in domains.now) encoded.now first (code_number code) args.now) }
+    requires { Encodable (bounds_in domains.now) encoded.now first args.now × (choosing (code_number code) ≡ true) }
+    ensures { Writes writer.old writer.new (shared_parts (bounds_in domains.now) encoded.now first (code_number code) args.now) }
 {
     let block = SharedBlock {
         code,

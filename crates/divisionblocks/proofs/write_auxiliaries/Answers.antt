@@ -1,6 +1,6 @@
-use Rattle.std.proofs.Common.{arith, rules}
+use Rattle.std.proofs.Common.{rules}
 use Rattle.integers.proofs.Fits.{back}
-use Rattle.laying.proofs.Written.{wrote-then, wrote-most}
+use Rattle.laying.proofs.Written.{wrote-then}
 use Rattle.divisionblocks.specs.Rows.{auxiliary_parts}
 use Rattle.divisionblocks.proofs.write_auxiliaries.Goals as goal
 
@@ -9,4 +9,4 @@ pub returns : goal.returns
 unfolding auxiliary_parts
 returns c =
     let v = rw (back c.args.p.lower (search rules), back c.args.p.upper (search rules)) at c.bound.ensures in
-    wrote-most (omega arith) (wrote-then c.bits.ensures (wrote-then v c.bound-2.ensures))
+    wrote-then c.bits.ensures (wrote-then v c.bound-2.ensures)

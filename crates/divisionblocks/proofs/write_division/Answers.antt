@@ -1,6 +1,5 @@
-use Rattle.std.proofs.Common.{arith}
 use Rattle.arguments.proofs.Size.{read}
-use Rattle.laying.proofs.Written.{wrote-then, wrote-most}
+use Rattle.laying.proofs.Written.{wrote-then}
 use Rattle.divisionblocks.specs.Rows.{division_parts}
 use Rattle.divisionblocks.proofs.write_division.Goals as goal
 
@@ -11,4 +10,4 @@ returns c =
     let M = read c.m_of.type_inv c.m_of.ensures.value in
     let v = rw (c.end_products-p.ensures.value, c.domain_of-divisor.ensures) at c.write_auxiliaries.ensures in
     let w = rw (c.numbers-table.ensures, M, c.end_products-p.ensures.value, c.domain_of-divisor.ensures, c.domain_of-numerator.ensures) at c.write_rows.ensures in
-    wrote-most (omega arith) (wrote-then v w)
+    wrote-then v w

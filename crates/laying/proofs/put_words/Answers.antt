@@ -1,8 +1,11 @@
+use Rattle.std.proofs.Common.{◌≡◌, ◌+◌, ◌%◌, arith}
 use Rattle.words.proofs.Rest.{one-laid, all_laid}
 use Rattle.laying.proofs.put_words.Goals as goal
 
 pub loop-k-preserved : goal.loop-k-preserved
-loop-k-preserved c = one-laid c.loop-k.invariant 0 c.loop-k-test.true c.put.ensures
+loop-k-preserved c = λ h.
+    let e : (c.args.at + c.loop-k.k) % 18446744073709551616 ≡ c.args.at + c.loop-k.k = omega (arith, c.loop-k-test.true, h) in
+    one-laid (c.loop-k.invariant h) 0 c.loop-k-test.true (rw e at c.put.ensures)
 
 pub returns : goal.returns
-returns c = (all_laid c.loop-k.invariant c.loop-k-test.false).over
+returns c = λ h. (all_laid (c.loop-k.invariant h) c.loop-k-test.false).over

@@ -1,8 +1,7 @@
-use Rattle.std.proofs.Common.{arith}
-use Rattle.laying.proofs.Written.{wrote-then, wrote-most}
+use Rattle.laying.proofs.Written.{wrote-then}
 use Rattle.choiceblocks.specs.Rows.{one_row}
 use Rattle.choiceblocks.proofs.rows.one_bit.Goals as goal
 
 pub returns : goal.returns
 unfolding one_row
-returns c = wrote-most (omega arith) (wrote-then c.head.ensures (wrote-then c.same.ensures c.constant.ensures))
+returns c = wrote-then c.head.ensures (wrote-then c.same.ensures c.constant.ensures)

@@ -5,7 +5,7 @@ use Rattle.laying.proofs.Written.{writing-none, writing-more}
 use Rattle.divisionblocks.proofs.table.write_table.Goals as goal
 
 pub loop-row-init : goal.loop-row-init
-loop-row-init c = writing-none 2000 _ _
+loop-row-init c = writing-none _ _
 
 pub loop-row-preserved : goal.loop-row-preserved
 loop-row-preserved c =

@@ -4,4 +4,4 @@ use Rattle.divisionblocks.specs.Rows.{table_at}
 use Rattle.divisionblocks.proofs.table.write_table.Given as goal
 
 abbrev pub invariant-loop-row : goal.invariant-loop-row
-invariant-loop-row l = Writing 2000 (table_at l.xs l.table) l.initial.writer l.writer l.row-index
+invariant-loop-row l = Writing (table_at l.xs l.table) l.initial.writer l.writer l.row-index

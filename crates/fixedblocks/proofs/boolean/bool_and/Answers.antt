@@ -1,14 +1,13 @@
-use Rattle.std.proofs.Common.{arith}
 use mathlib.Core.List.{flat_map}
 use Rattle.rules.specs.Block.{numbered}
 use Rattle.laying.specs.Part.{bound_parts, term_parts, row_parts, block_parts}
 use Rattle.laying.specs.Lists.{many, row_parts_of}
 use Rattle.rules.specs.Parts.{◌─◌≤0}
 use Rattle.rules.specs.Rule.{rule}
-use Rattle.laying.proofs.Written.{wrote-then, wrote-most}
+use Rattle.laying.proofs.Written.{wrote-then}
 use Rattle.fixedblocks.proofs.boolean.bool_and.Goals as goal
 
 -- Three rows, one after the other.
 pub returns : goal.returns
 unfolding rule ◌─◌≤0 block_parts bound_parts flat_map row_parts term_parts numbered row_parts_of many
-returns c = λ β first. wrote-most (omega arith) (wrote-then c.two_terms.ensures (wrote-then c.two_terms-2.ensures c.three_terms.ensures))
+returns c = λ β first. wrote-then c.two_terms.ensures (wrote-then c.two_terms-2.ensures c.three_terms.ensures)

@@ -4,13 +4,13 @@ use Rattle.laying.proofs.Written.{wrote-many, writing-none, writing-more, writin
 use Rattle.laying.proofs.Writer.products.Goals as goal
 
 pub returns-then-self : goal.returns-then-self
-returns-then-self c = wrote-many _ c.args.n 4 0 1 1000 (λ k. sized-times _ _ _) (omega arith, omega arith, omega arith, omega arith) c.if-self.true c.count.ensures.counts c.count.ensures.same
+returns-then-self c = wrote-many _ c.args.n 4 0 1 (λ k. sized-times _ _ _) (omega arith, omega arith, omega arith) c.if-self.true c.count.ensures.counts c.count.ensures.same
 
 pub loop-k-init : goal.loop-k-init
-loop-k-init c = writing-none 10 _ _
+loop-k-init c = writing-none _ _
 
 pub loop-k-preserved : goal.loop-k-preserved
 loop-k-preserved c = writing-more c.loop-k.invariant (simp c.var_at.ensures at c.times.ensures)
 
 pub returns : goal.returns
-returns c = writing-done (omega (arith, c.loop-k-test.false)) (omega arith) c.loop-k.invariant
+returns c = writing-done (omega (arith, c.loop-k-test.false)) c.loop-k.invariant

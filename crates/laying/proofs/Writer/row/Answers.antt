@@ -2,28 +2,22 @@ use Rattle.std.proofs.Common.{◌≡◌, rules, arith, length, to_z-of_z}
 use Rattle.integers.proofs.Fits.{back}
 use Rattle.laying.specs.Lists.{row_parts_of}
 use Rattle.laying.proofs.Counts.{coefficient-at, sized_row}
-use Rattle.laying.proofs.Written.{wrote-then, wrote-most, wrote-counted, writing-none, writing-more, writing-done}
+use Rattle.laying.proofs.Written.{wrote-then, wrote-counted, writing-none, writing-more, writing-done}
 use Rattle.laying.proofs.Writer.row.Goals as goal
 
 pub returns-then-self : goal.returns-then-self
 returns-then-self c =
-    wrote-counted (sized_row _ c.args.terms.now c.args.c) (omega arith, omega arith, omega arith, omega (arith, c.requires.1)) c.if-self.true
+    wrote-counted (sized_row _ c.args.terms.now c.args.c) (omega arith, omega arith, omega arith) c.if-self.true
     (rw (c.all_fit.ensures (coefficient-at c.args.terms.now) (λ k r h p. search rules), c.in_range.ensures, to_z-of_z c.ranges.c) at c.count.ensures.counts) c.count.ensures.same
 
 pub loop-term-init : goal.loop-term-init
-loop-term-init c = writing-none 10 _ _
-
-pub term-requires : goal.term-requires
-term-requires c = omega (arith, c.loop-term.invariant.near, c.head.ensures.size, c.requires.0, c.requires.1, c.loop-term-test.true)
+loop-term-init c = writing-none _ _
 
 pub loop-term-preserved : goal.loop-term-preserved
 loop-term-preserved c = writing-more c.loop-term.invariant (rw (back c.number.result c.number.type_inv, c.number.ensures) at c.term.ensures)
-
-pub constant-requires : goal.constant-requires
-constant-requires c = omega (arith, c.loop-term.invariant.near, c.head.ensures.size, c.requires.0, c.requires.1, c.loop-term.auto.term-index-end)
 
 pub returns : goal.returns
 unfolding row_parts_of
 returns c =
     let all : c.loop-term.term-index ≡ length c.args.terms.now = omega (arith, c.loop-term-test.false, c.loop-term.auto.term-index-end) in
-    wrote-most (omega arith) (wrote-then c.head.ensures (wrote-then (writing-done {b = 1000} all (omega (arith, c.requires.1)) c.loop-term.invariant) (rw (to_z-of_z c.ranges.c) at c.constant.ensures)))
+    wrote-then c.head.ensures (wrote-then (writing-done all c.loop-term.invariant) (rw (to_z-of_z c.ranges.c) at c.constant.ensures))

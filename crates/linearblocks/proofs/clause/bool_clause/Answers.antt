@@ -1,5 +1,5 @@
 -- A head, the terms of both lists and the constant are the one row of the block.
-use Rattle.std.proofs.Common.{◌≡◌, ap, ◌∙◌, ◌++◌, arith, length-append}
+use Rattle.std.proofs.Common.{◌≡◌, ap, ◌∙◌, ◌++◌, length-append}
 use Rattle.integers.specs.Number.{+1, -1}
 use Rattle.models.specs.Model.{size, vars, past}
 use Rattle.arguments.proofs.Size.{read}
@@ -8,7 +8,7 @@ use Rattle.rules.specs.Rule.{rule}
 use Rattle.laying.specs.Part.{row_parts}
 use Rattle.rules.proofs.Lengths.{each-length}
 use Rattle.laying.proofs.Lists.{length-vars, terms-append, each-parts}
-use Rattle.laying.proofs.Written.{wrote-as, wrote-most, wrote-then}
+use Rattle.laying.proofs.Written.{wrote-as, wrote-then}
 use Rattle.linearblocks.proofs.Rows.{row-wrote, one-row}
 use Rattle.linearblocks.proofs.clause.bool_clause.Goals as goal
 
@@ -21,4 +21,4 @@ returns c =
     let h = rw (m, c.size_at.ensures.value) at c.head.ensures in
     let u = rw c.past_at-second.ensures.value at c.each-2.ensures in
     let k = rw (read c.one_less.type_inv c.one_less.ensures, m, ← length-vars c.args.args.now (past c.args.args.now 0)) at c.constant.ensures in
-    λ first β. wrote-most (omega arith) (wrote-as (one-row first _) (row-wrote first (xs ++ ys) (simp (length-append, each-length, length-vars)) (terms-append first xs ys ∙ rw (each-parts first -1 c.args.args.now 0, each-parts first +1 c.args.args.now (past c.args.args.now 0))) h (wrote-then c.each.ensures u) k))
+    λ first β. wrote-as (one-row first _) (row-wrote first (xs ++ ys) (simp (length-append, each-length, length-vars)) (terms-append first xs ys ∙ rw (each-parts first -1 c.args.args.now 0, each-parts first +1 c.args.args.now (past c.args.args.now 0))) h (wrote-then c.each.ensures u) k)

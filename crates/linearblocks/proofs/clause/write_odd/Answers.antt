@@ -1,5 +1,5 @@
 -- A head, the terms, t and the constant are the parts of the row.
-use Rattle.std.proofs.Common.{[], ◌∷◌, ◌++◌, arith, add-zero, length-append}
+use Rattle.std.proofs.Common.{[], ◌∷◌, ◌++◌, add-zero, length-append}
 use Rattle.integers.specs.Number.{+1, -2}
 use Rattle.integers.specs.Terms.{◌·◌}
 use Rattle.models.specs.Model.{vars}
@@ -8,7 +8,7 @@ use Rattle.rules.specs.Parts.{each}
 use Rattle.laying.specs.Part.{row_parts}
 use Rattle.rules.proofs.Lengths.{each-length}
 use Rattle.laying.proofs.Lists.{length-vars, each-parts}
-use Rattle.laying.proofs.Written.{wrote-most, wrote-then}
+use Rattle.laying.proofs.Written.{wrote-then}
 use Rattle.linearblocks.proofs.Rows.{row-wrote, last-term}
 use Rattle.linearblocks.proofs.clause.write_odd.Goals as goal
 
@@ -16,4 +16,4 @@ pub returns : goal.returns
 unfolding row_parts numbered
 returns c =
     let ts = each +1 (vars c.args.args.now 0) in
-    wrote-most (omega arith) (row-wrote c.args.first (ts ++ (-2 · aux 0 ∷ [])) (simp (length-append, each-length, length-vars)) (last-term c.args.first ts (-2 · aux 0) (each-parts c.args.first +1 c.args.args.now 0)) (rw c.size_at.ensures.value at c.head.ensures) (wrote-then {n = 10} c.each.ensures (rw (add-zero c.args.first) c.term.ensures)) c.constant.ensures)
+    row-wrote c.args.first (ts ++ (-2 · aux 0 ∷ [])) (simp (length-append, each-length, length-vars)) (last-term c.args.first ts (-2 · aux 0) (each-parts c.args.first +1 c.args.args.now 0)) (rw c.size_at.ensures.value at c.head.ensures) (wrote-then c.each.ensures (rw (add-zero c.args.first) c.term.ensures)) c.constant.ensures

@@ -1,13 +1,12 @@
 -- A head, the terms and the constant are the parts of the row.
-use Rattle.std.proofs.Common.{◌∙◌, arith}
+use Rattle.std.proofs.Common.{◌∙◌}
 use Rattle.models.specs.Model.{terms}
 use Rattle.rules.specs.Parts.{sources}
 use Rattle.rules.proofs.Lengths.{sources-length}
 use Rattle.laying.proofs.Lists.{length-terms, terms-parts}
-use Rattle.laying.proofs.Written.{wrote-most}
 use Rattle.linearblocks.proofs.Rows.{row-wrote}
 use Rattle.linearblocks.proofs.sums.write_sum.Goals as goal
 
 pub returns : goal.returns
 returns c =
-    λ first. wrote-most (omega arith) (row-wrote first (sources (terms c.args.args.now 0)) (sources-length (terms c.args.args.now 0) ∙ length-terms c.args.args.now 0) (terms-parts first c.args.args.now 0) (rw c.size_at.ensures.value at c.head.ensures) c.sum.ensures c.write_minus_constant.ensures)
+    λ first. row-wrote first (sources (terms c.args.args.now 0)) (sources-length (terms c.args.args.now 0) ∙ length-terms c.args.args.now 0) (terms-parts first c.args.args.now 0) (rw c.size_at.ensures.value at c.head.ensures) c.sum.ensures c.write_minus_constant.ensures

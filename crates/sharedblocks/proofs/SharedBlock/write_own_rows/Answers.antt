@@ -1,5 +1,5 @@
-use Rattle.std.proofs.Common.{arith, ne_eqb, append-nil}
-use Rattle.laying.proofs.Written.{wrote-then, wrote-most}
+use Rattle.std.proofs.Common.{ne_eqb, append-nil}
+use Rattle.laying.proofs.Written.{wrote-then}
 use Rattle.sharedblocks.specs.Pieces.{own_row_parts}
 use Rattle.models.proofs.AllCodes.{same-code}
 use Rattle.sharedblocks.proofs.SharedBlock.write_own_rows.Goals as goal
@@ -15,10 +15,10 @@ returns-in-ArrayVarIntElement c = rw c.in-ArrayVarIntElement.is (wrote-then (rw 
 
 pub returns-in-SetInReif : goal.returns-in-SetInReif
 unfolding own_row_parts
-returns-in-SetInReif c = rw c.in-SetInReif.is (wrote-most (omega arith) c.write_members_row.ensures)
+returns-in-SetInReif c = rw c.in-SetInReif.is (c.write_members_row.ensures)
 
 pub returns-in_default : goal.returns-in_default
 unfolding own_row_parts
 returns-in_default c =
     let n = c.in_default in
-    rw (ne_eqb _ _ (λ e. n.not-SetInReif (same-code e)), ne_eqb _ _ (λ e. n.not-ArrayIntElement (same-code e)), ne_eqb _ _ (λ e. n.not-ArrayVarIntElement (same-code e)), append-nil) (wrote-most (omega arith) c.write_left_out-in_default.ensures)
+    rw (ne_eqb _ _ (λ e. n.not-SetInReif (same-code e)), ne_eqb _ _ (λ e. n.not-ArrayIntElement (same-code e)), ne_eqb _ _ (λ e. n.not-ArrayVarIntElement (same-code e)), append-nil) (c.write_left_out-in_default.ensures)

@@ -5,4 +5,4 @@ use Rattle.sharedblocks.specs.LeftOut.{left_at}
 use Rattle.sharedblocks.proofs.left_out.left_bits.Given as goal
 
 abbrev pub invariant-loop-k : goal.invariant-loop-k
-invariant-loop-k l = Writing 10 (left_at (code_number l.code) l.args l.from l.v) l.initial.writer l.writer l.k
+invariant-loop-k l = Writing (left_at (code_number l.code) l.args l.from l.v) l.initial.writer l.writer l.k
