@@ -12,5 +12,5 @@ pub(crate) struct Reading<'a> {
     pub(crate) symbols: &'a Symbols,
     pub(crate) token: Span,
     ghost stands: { Stands text.now token },
-    ghost indexed: { Indexed text.now token.place symbols.now.filter symbols.now.slots },
+    ghost indexed: { Indexed text.now token.place symbols.now },
 }

@@ -1,8 +1,7 @@
 -- Looking a name up, token by token. For `variable_of`, the symbol table, and names that are printed.
-use Rattle.std.proofs.Common.{◌≡◌, refl, sym, ap, ◌∙◌, Bool, true, false, List, [], ◌∷◌, ◌++◌, ℕ, suc, ◌+◌, ◌<◌, ◌≤◌, add-zero, arith, eqb, length, eq-eqb, ne_eqb, lt-ltb, le-ltb}
+use Rattle.std.proofs.Common.{◌≡◌, refl, sym, ap, ◌∙◌, Bool, true, false, List, [], ◌∷◌, ◌++◌, map, drop, drop-cons, drop_of_length-le, get_or, ℕ, suc, ◌+◌, ◌<◌, ◌≤◌, add-zero, arith, eqb, length, eq-eqb, ne_eqb, lt-ltb, le-ltb}
 use Rattle.integers.specs.Choice.{◌if◌else◌}
 use Rattle.tokens.specs.Token.{Token}
-use Rattle.tokens.specs.Unread.{spellings}
 use Rattle.names.specs.Name.{same, look_up, declared_from}
 
 -- ---- a name is the same as itself
@@ -25,21 +24,20 @@ look_append x k (y ∷ xs) ys = go (same x y) (look_append x (k + 1) xs ys)
         let e : k + 1 + length xs ≡ k + suc (length xs) = omega arith in
         i ∙ ap (λ (n : ℕ). look_up x n ys if eqb (look_up x (k + 1) xs) 0 else look_up x (k + 1) xs) e
 
--- ---- a name among the spellings of tokens
+-- ---- a name among those of a list, from a place on
 
-module _ (x : List ℕ) (k : ℕ) where
-  pub none-spelled : {ts : List Token} → ts ≡ [] → look_up x k (spellings ts) ≡ 0
-  unfolding look_up spellings
-  none-spelled q = rw q
+module _ {A : Type 0} (f : A → List ℕ) (x : List ℕ) (xs : List A) (k : ℕ) (d : A) where
+  pub names-end : length xs ≤ k → look_up x k (map f (drop k xs)) ≡ 0
+  unfolding look_up
+  names-end h = rw (drop_of_length-le xs h)
 
-  module _ (t : Token) {ts us : List Token} (q : ts ≡ t ∷ us) where
-    pub spelled-here : same x t.spelling ≡ true → look_up x k (spellings ts) ≡ k + 1
-    unfolding look_up spellings
-    spelled-here s = rw (q, s)
+  pub names-here : k < length xs → same x (f (get_or xs k d)) ≡ true → look_up x k (map f (drop k xs)) ≡ k + 1
+  unfolding look_up
+  names-here h s = rw (drop-cons xs k d h, s)
 
-    pub spelled-on : same x t.spelling ≡ false → look_up x k (spellings ts) ≡ look_up x (k + 1) (spellings us)
-    unfolding look_up spellings
-    spelled-on s = rw (q, s)
+  pub names-on : k < length xs → same x (f (get_or xs k d)) ≡ false → look_up x k (map f (drop k xs)) ≡ look_up x (k + 1) (map f (drop (k + 1) xs))
+  unfolding look_up
+  names-on h s = let e : suc k ≡ k + 1 = omega arith in rw (drop-cons xs k d h, s) (ap (λ (n : ℕ). look_up x (k + 1) (map f (drop n xs))) e)
 
 -- ---- a name among the declared ones
 

@@ -1,126 +1,149 @@
--- What the symbol table says stays right when a name is declared. For `number_in`, `variable` and `declare`.
-use Rattle.std.proofs.Common.{◌≡◌, refl, sym, ap, ◌∙◌, ◌⊎◌, inl, inr, Bool, true, false, List, [], ◌∷◌, append-nil, ℕ, ◌+◌, ◌-◌, ◌<◌, ◌≤◌, zero-add, arith, eqb, ltb, get_or-set_same, get_or-set_other, length, get_or, set, eqb-true, eq-eqb, ne_eqb, ltb-true, ltb-false}
-use Rattle.std.proofs.lemmas.Slice.Eq.{bytes_eq-Decides}
-use lib.Seq.{set_out}
+-- What the symbol table says stays right when a name is declared. For `enter` and `note`.
+use Rattle.std.proofs.Common.{◌≡◌, refl, sym, ap, ◌∙◌, Bool, true, false, List, [], ◌∷◌, ◌++◌, append-nil, ℕ, ◌+◌, ◌<◌, ◌≤◌, zero-add, arith, eqb, get_or-set_same, get_or-set_other, length, length-set, get_or, set, eqb-true, eq-eqb, ne_eqb}
 use borrow.Author.Tests.{eqb-false}
 use Rattle.integers.specs.Choice.{◌if◌else◌}
 use Rattle.integers.proofs.Tests.{false-true}
 use Rattle.tokens.specs.Unread.{bytes_between}
 use Rattle.names.specs.Name.{same, look_up}
 use Rattle.names.proofs.Names.{same_self, look_append}
-use Rattle.symbols.specs.Hash.{hashes, hash, cell_at, is_marked, with_mark}
-use Rattle.symbols.proofs.Filter.{cell-inside, size-kept, marked, stays_marked}
-use Rattle.symbols.specs.Symbol.{declared_before, number_in, place_in, length_in, Right, Slots, Indexed, AddsName}
-
--- ---- the same bytes are the same name
-
-pub same-equal : (x y : List ℕ) → same x y ≡ true → x ≡ y
-same-equal x y e = (bytes_eq-Decides x y).0 e
-
--- ---- a list with one word set has at each place the word it had, or that one
-
-pub set_either : (l : List ℕ) (i e s : ℕ) → (get_or (set l i e) s 0 ≡ get_or l s 0) ⊎ (get_or (set l i e) s 0 ≡ e)
-set_either l i e s = go (eqb s i) refl (ltb i (length l)) refl
-  where
-    go : (a : Bool) → eqb s i ≡ a → (b : Bool) → ltb i (length l) ≡ b → (get_or (set l i e) s 0 ≡ get_or l s 0) ⊎ (get_or (set l i e) s 0 ≡ e)
-    go true p true q = inr (rw (eqb-true s i p) (get_or-set_same l i e 0 (ltb-true i (length l) q)))
-    go true p false q = inl (rw (set_out l i e (ltb-false i (length l) q)))
-    go false p b q = inl (get_or-set_other l i s e 0 (eqb-false s i p))
+use Rattle.symbols.specs.Entry.{named}
+use Rattle.symbols.specs.Tree.{IsTree, Vacant, Grows, name_at}
+use Rattle.symbols.specs.Symbol.{declared_before, IsNew, Indexed, AddsName}
+use Rattle.symbols.specs.declared.tree.Tree.{Tree}
+use Rattle.symbols.specs.declared.Symbols.{Symbols}
+use Rattle.symbols.proofs.Walk.{same-equal}
 
 -- ---- a table at one of two places with the same names before them is one at the other
 
-pub same_index : {bs : List ℕ} {p q : ℕ} {filter slots : List ℕ} → declared_before bs q ≡ declared_before bs p → Indexed bs p filter slots → Indexed bs q filter slots
-same_index {bs} {p} {q} {filter} {slots} e x = record {
+pub same_index : {bs : List ℕ} {p q : ℕ} {s : Symbols} → declared_before bs q ≡ declared_before bs p → Indexed bs p s → Indexed bs q s
+same_index {bs} {p} {q} {s} e x = record {
+  tree = x.tree;
   size = x.size;
-  marks = λ y h. x.marks y (λ z. h (ap (look_up y 0) e ∙ z));
-  right = record { right = λ s h. let r = x.right.right s h in record { inside = r.inside; number = rw e r.number } };
+  right = λ i h. rw e (x.right i h);
+  all = λ w y h. x.all w y (λ z. h (ap (look_up y 0) e ∙ z));
 }
+
+-- a name that is looked up is declared or not
+pub zero_or : {A : Type 0} (n : ℕ) → (n ≡ 0 → A) → ((n ≡ 0 → ⊥) → A) → A
+zero_or {A} n f g = go (eqb n 0) refl
+  where
+    go : (b : Bool) → eqb n 0 ≡ b → A
+    go true q = f (eqb-true n 0 q)
+    go false q = g (eqb-false n 0 q)
+
+-- ---- what is found of a name
+
+module _ {bs : List ℕ} {p : ℕ} {s : Symbols} (i : Indexed bs p s) {x : List ℕ} where
+  pub found : {j : ℕ} → (j < s.tree.count) × (x ≡ name_at bs s.tree j) → look_up x 0 (declared_before bs p) ≡ get_or s.numbers j 0
+  found {j} q = rw q.1 (i.right j q.0)
+
+  pub not_found : {l : ℕ} → s.whole ≡ true → Vacant bs s.tree x l → look_up x 0 (declared_before bs p) ≡ 0
+  not_found w n = zero_or (look_up x 0 (declared_before bs p)) (λ z. z) (λ z. absurd (i.all w x z n.none))
+
+-- ---- the names after a token that follows no colon
+
+pub none_new : {bs : List ℕ} {place stop : ℕ} {s : Symbols} → AddsName bs place stop false → Indexed bs place s → Indexed bs stop s
+none_new {bs} {place} d = same_index (d.names ∙ append-nil (declared_before bs place))
 
 -- ---- one name more
 
-module _ {bs : List ℕ} {place stop : ℕ} {colon : Bool} (d : AddsName bs place stop colon) where
-  kept : (x : List ℕ) → (look_up x 0 (declared_before bs place) ≡ 0 → ⊥) → look_up x 0 (declared_before bs stop) ≡ look_up x 0 (declared_before bs place)
-  kept x h = rw d.names (look_append x 0 (declared_before bs place) (bytes_between bs place stop ∷ [] if colon else []) ∙ rw (ne_eqb (look_up x 0 (declared_before bs place)) 0 h))
+module _ {bs : List ℕ} {place stop : ℕ} (d : AddsName bs place stop true) where
+  abbrev name : List ℕ
+  name = bytes_between bs place stop
 
-  right_kept : {e : ℕ} → (number_in e ≡ 0 → ⊥) → Right bs place e → Right bs stop e
-  right_kept {e} n r = record { inside = r.inside; number = kept (bytes_between bs (place_in e) (place_in e + length_in e)) (λ z. n (sym r.number ∙ z)) ∙ r.number }
+  abbrev before : List (List ℕ)
+  before = declared_before bs place
 
-  pub slots_kept : {slots : List ℕ} → Slots bs place slots → Slots bs stop slots
-  slots_kept s = record { right = λ i n. right_kept n (s.right i n) }
+  kept : (y : List ℕ) → (look_up y 0 before ≡ 0 → ⊥) → look_up y 0 (declared_before bs stop) ≡ look_up y 0 before
+  kept y h = rw d.names (look_append y 0 before (name ∷ []) ∙ rw (ne_eqb (look_up y 0 before) 0 h))
 
-module _ {bs : List ℕ} {place stop : ℕ} where
-  -- no name is declared
-  pub none_new : {filter slots : List ℕ} → AddsName bs place stop false → Indexed bs place filter slots → Indexed bs stop filter slots
-  none_new d = same_index (d.names ∙ append-nil (declared_before bs place))
+  later : (y : List ℕ) → look_up y 0 before ≡ 0 → look_up y 0 (declared_before bs stop) ≡ (length before + 1 if same y name else 0)
+  unfolding look_up
+  later y z = rw d.names (look_append y 0 before (name ∷ []) ∙ rw (eq-eqb (look_up y 0 before) 0 z) (ap (λ (n : ℕ). n + 1 if same y name else 0) (zero-add (length before))))
 
-  -- one is
-  module _ (d : AddsName bs place stop true) where
-    later : (x : List ℕ) → look_up x 0 (declared_before bs place) ≡ 0 → look_up x 0 (declared_before bs stop) ≡ (length (declared_before bs place) + 1 if same x (bytes_between bs place stop) else 0)
-    unfolding look_up
-    later x z = rw d.names (look_append x 0 (declared_before bs place) (bytes_between bs place stop ∷ []) ∙ rw (eq-eqb (look_up x 0 (declared_before bs place)) 0 z) (ap (λ (n : ℕ). n + 1 if same x (bytes_between bs place stop) else 0) (zero-add (length (declared_before bs place)))))
-
-    new_name : (x : List ℕ) → look_up x 0 (declared_before bs place) ≡ 0 → (look_up x 0 (declared_before bs stop) ≡ 0 → ⊥) → x ≡ bytes_between bs place stop
-    new_name x z h = go (same x (bytes_between bs place stop)) refl
-      where
-        go : (t : Bool) → same x (bytes_between bs place stop) ≡ t → x ≡ bytes_between bs place stop
-        go true q = same-equal x (bytes_between bs place stop) q
-        go false q = absurd (h (later x z ∙ rw q))
-
-    new_number : look_up (bytes_between bs place stop) 0 (declared_before bs place) ≡ 0 → look_up (bytes_between bs place stop) 0 (declared_before bs stop) ≡ length (declared_before bs place) + 1
-    new_number z = later (bytes_between bs place stop) z ∙ rw (same_self (bytes_between bs place stop))
-
-    pub marks_new : (filter after : List ℕ) → ((x : List ℕ) → (look_up x 0 (declared_before bs place) ≡ 0 → ⊥) → is_marked filter (hash x) ≡ true)
-        → ((g : ℕ) → is_marked filter g ≡ true → is_marked after g ≡ true) → is_marked after (hash (bytes_between bs place stop)) ≡ true
-        → (x : List ℕ) → (look_up x 0 (declared_before bs stop) ≡ 0 → ⊥) → is_marked after (hash x) ≡ true
-    marks_new filter after m stays here x h = go (eqb (look_up x 0 (declared_before bs place)) 0) refl
-      where
-        go : (t : Bool) → eqb (look_up x 0 (declared_before bs place)) 0 ≡ t → is_marked after (hash x) ≡ true
-        go true q = rw (new_name x (eqb-true (look_up x 0 (declared_before bs place)) 0 q) h) here
-        go false q = stays (hash x) (m x (eqb-false (look_up x 0 (declared_before bs place)) 0 q))
-
-    -- its word in a slot
-    pub right_new : {e : ℕ} → place ≤ stop → stop ≤ length bs → look_up (bytes_between bs place stop) 0 (declared_before bs place) ≡ 0
-        → (number_in e ≡ length (declared_before bs place) + 1) × (place_in e ≡ place) × (length_in e ≡ stop - place) → Right bs stop e
-    right_new {e} l k z w =
-        let f : place + (stop - place) ≡ stop = omega arith in
-        record {
-          inside = rw (w.1, w.2) (omega (arith, l, k));
-          number = rw (w.1, w.2, w.0, f) (new_number z);
-        }
-
-    pub slots_new : (slots after : List ℕ) (e : ℕ) → Slots bs place slots → ((number_in e ≡ 0 → ⊥) → Right bs stop e)
-        → ((s : ℕ) → (get_or after s 0 ≡ get_or slots s 0) ⊎ (get_or after s 0 ≡ e)) → Slots bs stop after
-    slots_new slots after e r n either = record { right = λ s h. go s h (either s) }
-      where
-        go : (s : ℕ) → (number_in (get_or after s 0) ≡ 0 → ⊥) → (get_or after s 0 ≡ get_or slots s 0) ⊎ (get_or after s 0 ≡ e) → Right bs stop (get_or after s 0)
-        go s h (inl q) = rw q ((slots_kept d r).right s (λ z. h (ap number_in q ∙ z)))
-        go s h (inr q) = rw q (n (λ z. h (ap number_in q ∙ z)))
-
--- ---- the whole table
-
-module _ {bs : List ℕ} {place : ℕ} {filter slots : List ℕ} (i : Indexed bs place filter slots) where
-  -- a name without its mark is not declared
-  pub unmarked : (x : List ℕ) → is_marked filter (hash x) ≡ false → look_up x 0 (declared_before bs place) ≡ 0
-  unmarked x u = go (eqb (look_up x 0 (declared_before bs place)) 0) refl
+  -- it is the only one that can be new
+  new_name : (y : List ℕ) → look_up y 0 before ≡ 0 → (look_up y 0 (declared_before bs stop) ≡ 0 → ⊥) → y ≡ name
+  new_name y z h = go (same y name) refl
     where
-      go : (t : Bool) → eqb (look_up x 0 (declared_before bs place)) 0 ≡ t → look_up x 0 (declared_before bs place) ≡ 0
-      go true q = eqb-true (look_up x 0 (declared_before bs place)) 0 q
-      go false q = false-true (sym u ∙ i.marks x (eqb-false (look_up x 0 (declared_before bs place)) 0 q))
+      go : (t : Bool) → same y name ≡ t → y ≡ name
+      go true q = same-equal y name q
+      go false q = absurd (h (later y z ∙ rw q))
 
-  module _ {stop : ℕ} (d : AddsName bs place stop true) where
-    -- a name that has its mark is declared
-    pub marked-name : is_marked filter (hash (bytes_between bs place stop)) ≡ true → Indexed bs stop filter slots
-    marked-name m = record { size = i.size; marks = marks_new d filter filter i.marks (λ g e. e) m; right = slots_kept d i.right }
+  -- its number
+  new_number : (y : List ℕ) → y ≡ name → look_up y 0 before ≡ 0 → look_up y 0 (declared_before bs stop) ≡ length before + 1
+  new_number y e z = later y z ∙ (let q : same y name ≡ true = rw e (same_self name) in rw q)
 
-    -- a name that has none is entered
-    pub new_entry : {after : List ℕ} {e h : ℕ} → place ≤ stop → stop ≤ length bs → h < hashes → h ≡ hash (bytes_between bs place stop) → is_marked filter h ≡ false
-        → ((number_in e ≡ 0 → ⊥) → (number_in e ≡ length (declared_before bs place) + 1) × (place_in e ≡ place) × (length_in e ≡ stop - place))
-        → ((s : ℕ) → (get_or after s 0 ≡ get_or slots s 0) ⊎ (get_or after s 0 ≡ e)) → Indexed bs stop (with_mark filter h) after
-    new_entry {after} {e} {h} l k b q u w either =
-        let c : cell_at h < length filter = omega (arith, i.size, cell-inside h b) in
-        let z = unmarked (bytes_between bs place stop) (rw (← q) u) in
-        record {
-          size = size-kept filter h ∙ i.size;
-          marks = marks_new d filter (with_mark filter h) i.marks (stays_marked filter h c) (rw (← q) (marked filter h c));
-          right = slots_new d slots after e i.right (λ n. right_new d l k z (w n)) either;
-        }
+  -- another one's, or that of a name that was declared before
+  stays : (y : List ℕ) → (look_up y 0 before ≡ 0 → y ≡ name → ⊥) → look_up y 0 (declared_before bs stop) ≡ look_up y 0 before
+  stays y h = zero_or (look_up y 0 before) (λ z. go z (same y name) refl) (kept y)
+    where
+      go : look_up y 0 before ≡ 0 → (t : Bool) → same y name ≡ t → look_up y 0 (declared_before bs stop) ≡ look_up y 0 before
+      go z true q = absurd (h z (same-equal y name q))
+      go z false q = later y z ∙ rw q (sym z)
+
+  -- every name that is declared now was declared before or is this one
+  has_all : (t : Tree) {whole : Bool} → (whole ≡ true → (y : List ℕ) → (look_up y 0 before ≡ 0 → ⊥) → IsNew bs t y → ⊥) → (whole ≡ true → IsNew bs t name → ⊥)
+      → whole ≡ true → (y : List ℕ) → (look_up y 0 (declared_before bs stop) ≡ 0 → ⊥) → IsNew bs t y → ⊥
+  has_all t all here w y h n = zero_or (look_up y 0 before) (λ z. let e = new_name y z h in here w (rw e at n)) (λ z. all w y z n)
+
+  module _ {s : Symbols} (i : Indexed bs place s) where
+    -- the table has not the name, and is not whole
+    pub absent : {l : ℕ} {new : Symbols} → Vacant bs s.tree name l → new.tree ≡ s.tree → new.numbers ≡ s.numbers → new.whole ≡ false → Indexed bs stop new
+    absent {l} {new} n t m w = record {
+      tree = rw t i.tree;
+      size = rw m i.size;
+      right = rw (t, m) (λ j h. stays (name_at bs s.tree j) (λ z e. n.none j h (sym e)) ∙ i.right j h);
+      all = λ x. false-true (sym w ∙ x);
+    }
+
+    -- the table has the name, and it was declared before
+    pub declared : (j : ℕ) → j < s.tree.count → name ≡ name_at bs s.tree j → (get_or s.numbers j 0 ≡ 0 → ⊥) → Indexed bs stop s
+    declared j h e z = record {
+      tree = i.tree;
+      size = i.size;
+      right = λ k f. stays (name_at bs s.tree k) (λ o q. z (sym (i.right j h) ∙ (let r : name_at bs s.tree j ≡ name_at bs s.tree k = sym e ∙ sym q in rw r o))) ∙ i.right k f;
+      all = has_all s.tree i.all (λ w n. n j h e);
+    }
+
+    -- it has the name, and it is declared now
+    pub numbered : (j : ℕ) → j < s.tree.count → name ≡ name_at bs s.tree j → get_or s.numbers j 0 ≡ 0 → Indexed bs stop (record s { numbers = set s.numbers j (length before + 1) })
+    numbered j h e z = record {
+      tree = i.tree;
+      size = length-set s.numbers j (length before + 1) ∙ i.size;
+      right = λ k f. go k f (eqb k j) refl;
+      all = has_all s.tree i.all (λ w n. n j h e);
+    }
+      where
+        go : (k : ℕ) → k < s.tree.count → (b : Bool) → eqb k j ≡ b → look_up (name_at bs s.tree k) 0 (declared_before bs stop) ≡ get_or (set s.numbers j (length before + 1)) k 0
+        go k f true q =
+            let room : j < length s.numbers = (let a = i.tree.few in let b = i.size in omega (arith, a, b, h)) in
+            rw (eqb-true k j q, get_or-set_same s.numbers j (length before + 1) 0 room) (new_number (name_at bs s.tree j) (sym e) (i.right j h ∙ z))
+        go k f false q =
+            let o = eqb-false k j q in
+            rw (get_or-set_other s.numbers j k (length before + 1) 0 o) (stays (name_at bs s.tree k) (λ z' r. o (i.tree.distinct k j f h (r ∙ e))) ∙ i.right k f)
+
+    -- it has not the name, and takes it
+    module _ (w : s.whole ≡ true) {l : ℕ} (n : Vacant bs s.tree name l) (r : s.tree.count < 8192) {t : Tree} (g : Grows bs s.tree t name) where
+      undeclared : look_up name 0 before ≡ 0
+      undeclared = zero_or (look_up name 0 before) (λ z. z) (λ z. absurd (i.all w name z n.none))
+
+      same_name : (j : ℕ) → j < s.tree.count → name_at bs t j ≡ name_at bs s.tree j
+      same_name j h = ap (named bs) (g.kept j h)
+
+      pub taken_in : Indexed bs stop (record s { tree = t; numbers = set s.numbers s.tree.count (length before + 1) })
+      taken_in = record {
+        tree = g.tree;
+        size = length-set s.numbers s.tree.count (length before + 1) ∙ i.size;
+        right = λ k f. go k f (eqb k s.tree.count) refl;
+        all = has_all t (λ w y h m. i.all w y h (λ k f q. m k (let c = g.count in omega (arith, f, c)) (q ∙ sym (same_name k f))))
+            (λ w m. m s.tree.count (let c = g.count in omega (arith, c)) (sym g.last));
+      }
+        where
+          go : (k : ℕ) → k < t.count → (b : Bool) → eqb k s.tree.count ≡ b → look_up (name_at bs t k) 0 (declared_before bs stop) ≡ get_or (set s.numbers s.tree.count (length before + 1)) k 0
+          go k f true q =
+              let room : s.tree.count < length s.numbers = (let b = i.size in omega (arith, b, r)) in
+              rw (eqb-true k s.tree.count q, get_or-set_same s.numbers s.tree.count (length before + 1) 0 room, g.last) (new_number name refl undeclared)
+          go k f false q =
+              let o = eqb-false k s.tree.count q in
+              let h : k < s.tree.count = (let c = g.count in omega (arith, f, c, o)) in
+              rw (get_or-set_other s.numbers s.tree.count k (length before + 1) 0 o, g.kept k h) (stays (name_at bs s.tree k) (λ z e. n.none k h (sym e)) ∙ i.right k h)

@@ -1,3 +1,4 @@
-pub mod Filter
+pub mod Walk
+pub mod Grown
 pub mod Entries
 pub mod Reached

@@ -1,17 +1,17 @@
 -- The names declared up to the place that a reader has reached, from token to token. For `read_tokens`.
 use Rattle.std.proofs.Common.{◌≡◌, refl, sym, ap, ◌∙◌, Bool, true, false, List, [], ◌∷◌, ◌++◌, append-nil, append_assoc, ℕ, zero, suc, ◌+◌, ◌-◌, ◌<◌, ◌≤◌, add-zero, arith, eqb, replicate, length, take, drop, length-append, lt-ltb, le-ltb}
-use lib.ListN.{length-replicate}
 use Rattle.integers.specs.Choice.{◌if◌else◌}
-use Rattle.integers.proofs.Places.{get_or-replicate_same}
+use Rattle.integers.proofs.Tests.{false-true}
 use Rattle.tokens.specs.Byte.{is_gap}
 use Rattle.tokens.specs.Token.{tokens_from, token_length, sort_of}
 use Rattle.tokens.specs.Unread.{bytes_between, unread, spanned, Met}
 use Rattle.tokens.specs.declared.Span.{Span}
 use Rattle.tokens.specs.Sorts.{sort_number}
 use Rattle.names.specs.Name.{look_up, declared_from}
-use Rattle.symbols.specs.Hash.{filter_words}
 use Rattle.symbols.proofs.Entries.{same_index}
-use Rattle.symbols.specs.Symbol.{declared_before, number_in, AddsName, Indexed}
+use Rattle.symbols.specs.Tree.{IsTree}
+use Rattle.symbols.specs.Symbol.{declared_before, AddsName, Indexed, Cleared}
+use Rattle.symbols.specs.declared.Symbols.{Symbols}
 
 -- no token from a place on stands before it
 none_before : (c : Bool) (p q left : ℕ) (l : List ℕ) → p ≤ q → declared_from c p (tokens_from left q l) ≡ []
@@ -71,6 +71,13 @@ module _ {bs : List ℕ} {i k : ℕ} {colon : Bool} (r : Reached bs i k colon) {
   pub declares : AddsName bs t.place t.stop colon
   declares = record { names = all_past t.stop (m.longer) ∙ ap (λ (l : List (List ℕ)). (declared_before bs t.place ++ (name ∷ [] if colon else [])) ++ l) (none_here (eqb (sort_number t.sort) 58) bs t.stop) ∙ append-nil (declared_before bs t.place ++ (name ∷ [] if colon else [])) }
 
+  -- those declared before a place inside the token
+  pub same-names : (p : ℕ) → t.place < p → p ≤ t.stop → declared_before bs p ≡ declared_before bs t.stop
+  unfolding unread
+  same-names p h l =
+      all_past p h ∙ ap (λ (l : List (List ℕ)). (declared_before bs t.place ++ (name ∷ [] if colon else [])) ++ l) (none_before (eqb (sort_number t.sort) 58) p t.stop 0 (drop t.stop bs) l)
+      ∙ append-nil (declared_before bs t.place ++ (name ∷ [] if colon else [])) ∙ sym declares.names
+
   fewer : (c : Bool) → (k + 1 if c else k) ≤ t.stop
   fewer true = omega (arith, r.few, m.onward, m.longer)
   fewer false = omega (arith, r.few, m.onward, m.longer)
@@ -82,33 +89,51 @@ module _ {bs : List ℕ} {i k : ℕ} {colon : Bool} (r : Reached bs i k colon) {
     on = λ p h. all_past p (omega (arith, h, m.longer)) ∙ ap (λ (l : List (List ℕ)). l ++ declared_from (eqb (sort_number t.sort) 58) p (unread bs t.stop)) (sym declares.names);
   }
 
--- The names declared up to a place, and the table that has them.
-pub record Tabled (bs : List ℕ) (i k : ℕ) (colon : Bool) (filter slots : List ℕ) : Type 0 where
-  pub reached : Reached bs i k colon
-  pub index : Indexed bs i filter slots
+-- a table whose names have no number, before the first token
+pub nothing_declared : (bs : List ℕ) → declared_before bs 0 ≡ []
+unfolding declared_before
+nothing_declared bs = none_here false bs 0
 
-pub empty : (bs : List ℕ) (m : ℕ) → Tabled bs 0 0 false (replicate filter_words 0) (replicate m 0)
-unfolding declared_before look_up number_in
-empty bs m = record {
-  reached = begin bs;
-  index = record {
-    size = length-replicate {A = ℕ} filter_words 0;
-    marks = λ x h. absurd (h (rw (none_here false bs 0)));
-    right = record { right = λ s h. absurd (h (rw (get_or-replicate_same {A = ℕ} m s 0))) };
-  };
+pub cleared_index : {bs : List ℕ} {s : Symbols} → Cleared bs s → Indexed bs 0 s
+unfolding look_up
+cleared_index {bs} {s} c = record {
+  tree = c.tree;
+  size = c.size;
+  right = λ i h. rw (nothing_declared bs, c.none i);
+  all = λ w. absurd (false-true (sym c.lost ∙ w));
 }
 
-module _ {bs : List ℕ} {i k : ℕ} {colon : Bool} {filter slots : List ℕ} (b : Tabled bs i k colon filter slots) {t : Span} (m : Met bs i t) where
-  pub index-here : Indexed bs t.place filter slots
-  index-here = same_index (at-token b.reached m) b.index
+pub empty_index : {s : Symbols} → ((bs : List ℕ) → IsTree bs s.tree) → s.tree.count ≡ 0 → length s.numbers ≡ 8192 → (bs : List ℕ) → Indexed bs 0 s
+unfolding look_up
+empty_index {s} t c l bs = record {
+  tree = t bs;
+  size = l;
+  right = λ i h. absurd (omega (arith, c, h));
+  all = λ w x h. absurd (h (rw (nothing_declared bs)));
+}
 
-  pub count-here : length (declared_before bs t.place) ≡ k
-  count-here = ap length (at-token b.reached m) ∙ b.reached.count
+-- The names declared up to a place, and the table that has them.
+pub record Tabled (bs : List ℕ) (i k : ℕ) (colon : Bool) (s : Symbols) : Type 0 where
+  pub reached : Reached bs i k colon
+  pub index : Indexed bs i s
 
-  pub next-table : {after taken : List ℕ} {n : ℕ} → n ≡ (k + 1 if colon else k) → Indexed bs t.stop after taken → Tabled bs t.stop n (eqb (sort_number t.sort) 58) after taken
-  next-table e x = record { reached = rw e (next b.reached m); index = x }
+module _ {bs : List ℕ} {i k : ℕ} {colon : Bool} {s : Symbols} (b : Tabled bs i k colon s) where
+  module _ {t : Span} (m : Met bs i t) where
+    pub index-here : Indexed bs t.place s
+    index-here = same_index (at-token b.reached m) b.index
 
--- the table at the end of the text
-pub index-end : {bs : List ℕ} {i k : ℕ} {colon : Bool} {filter slots : List ℕ} → Tabled bs i k colon filter slots → i ≤ length bs → unread bs i ≡ [] → Indexed bs (length bs) filter slots
-unfolding declared_from
-index-end {bs} {i} b l q = same_index (b.reached.on (length bs) l ∙ rw q (append-nil (declared_before bs i))) b.index
+    pub count-here : length (declared_before bs t.place) ≡ k
+    count-here = ap length (at-token b.reached m) ∙ b.reached.count
+
+    pub next-table : {new : Symbols} {n : ℕ} → n ≡ (k + 1 if colon else k) → Indexed bs t.stop new → Tabled bs t.stop n (eqb (sort_number t.sort) 58) new
+    next-table e x = record { reached = rw e (next b.reached m); index = x }
+
+    -- at a place up to which no other token begins
+    pub index-before : (p : ℕ) → i ≤ p → p ≤ t.place → Indexed bs p s
+    unfolding declared_from spanned
+    index-before p l h = same_index (b.reached.on p l ∙ (let e : declared_from colon p (unread bs i) ≡ [] = rw (m.found, le-ltb t.place p h) in rw e (append-nil (declared_before bs i)))) b.index
+
+  -- the table at a place after the last token
+  pub index-end : (p : ℕ) → i ≤ p → unread bs i ≡ [] → Indexed bs p s
+  unfolding declared_from
+  index-end p l q = same_index (b.reached.on p l ∙ rw q (append-nil (declared_before bs i))) b.index

@@ -1,3 +1,5 @@
--- What the contracts cite: the hash of a name, and the symbol table of a text.
-pub mod Hash
+-- What the contracts cite: the links of a name, entries, the tree of names, the symbol table of a text.
+pub mod Links
+pub mod Entry
+pub mod Tree
 pub mod Symbol

@@ -1,6 +1,7 @@
 -- What a text answers, from what reading it token by token gives. For `read_text`.
-use Rattle.std.proofs.Common.{◌≡◌, refl, sym, ap, ◌∙◌, List, ℕ, ◌<◌, ◌≤◌, length, ne_eqb, lt-ltb, le-ltb, Result, Ok, Err}
+use Rattle.std.proofs.Common.{◌≡◌, refl, sym, ap, ◌∙◌, List, ℕ, ◌<◌, ◌≤◌, length, take, ne_eqb, lt-ltb, le-ltb, Result, Ok, Err}
 use Rattle.words.specs.Overlay.{overlay}
+use Rattle.words.proofs.Overlay.{front-over}
 use Rattle.words.specs.Answer.{refused, written, ◌else_answer◌}
 use Rattle.words.specs.Faults.{fault_number, written_of}
 use Rattle.words.specs.Refusal.{◌at_place◌, ◌else_refuse◌, accepted, room_fault}
@@ -44,7 +45,10 @@ module _ {bs before o : List ℕ} (room : ℕ) where
     unfolding words_fault room_fault
     fits h g = limits ∙ rw (le-ltb 8192 n h, le-ltb room n g)
 
--- a text that is read without a fault is read again without one
-pub read_twice : {bs before out o new : List ℕ} {n : ℕ} {r : Result ℕ error.Refusal} → ReadsTokens bs out r new → ReadsTokens bs before (Ok n) o → text_fault bs (length out) ≡ accepted → (written_of r ≡ read_text bs (length out)) × (new ≡ text_read bs out)
-read_twice {bs = bs} {out = out} {r = Ok k} d e q = let says = says-written bs out q in (ap written d.words.0 ∙ says.0, d.words.1 ∙ says.1)
-read_twice {bs = bs} {out = out} {r = Err x} d e q = absurd (fault-number x.fault (ap (λ (z : Refusal). z.number) (d.fault ∙ sym e.fault)))
+-- the words that were read, at the front of a list with room for them
+pub words-read : {bs before o : List ℕ} {n : ℕ} → ReadsTokens bs before (Ok n) o → n ≤ length before → take n o ≡ tokens_words (tokens bs)
+words-read {bs} {before} {o} {n} d h = rw (d.words.1, d.words.0) (front-over before (tokens_words (tokens bs)) (rw d.words.0 at h))
+
+pub lays-words : {bs before o new : List ℕ} {n : ℕ} (out : List ℕ) → ReadsTokens bs before (Ok n) o → n ≤ length before → new ≡ overlay out 0 (take n o) → text_fault bs (length out) ≡ accepted → (written n ≡ read_text bs (length out)) × (new ≡ text_read bs out)
+lays-words {bs} {before} {o} {new} {n} out d h e q =
+    let says = says-written bs out q in (ap written d.words.0 ∙ says.0, e ∙ ap (overlay out 0) (words-read d h) ∙ says.1)

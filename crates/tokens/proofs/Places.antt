@@ -1,9 +1,10 @@
 -- The tokens of a text from a place on. For the functions that find tokens.
-use Rattle.std.proofs.Common.{◌≡◌, refl, sym, ap, ◌∙◌, Bool, true, false, ◌&&◌, List, [], ◌∷◌, ℕ, zero, suc, ◌+◌, ◌-◌, ◌<◌, ◌≤◌, add-zero, arith, eqb, drop-drop, length, get_or, drop, drop_of_length-le}
+use Rattle.std.proofs.Common.{◌≡◌, refl, sym, ap, ◌∙◌, ◌⊎◌, inl, inr, Bool, true, false, ◌&&◌, ◌||◌, eqb-true, List, [], ◌∷◌, ℕ, zero, suc, ◌+◌, ◌-◌, ◌<◌, ◌≤◌, add-zero, arith, eqb, drop-drop, length, get_or, drop, drop_of_length-le}
 use Rattle.words.proofs.Reading.{word-then}
 use Rattle.integers.specs.Choice.{◌if◌else◌}
+use Rattle.integers.specs.Lists.{any, list_of}
 use Rattle.integers.proofs.Tests.{false-true}
-use Rattle.tokens.specs.Byte.{front, run, is_letter, in_name, is_digit, in_comment, is_gap}
+use Rattle.tokens.specs.Byte.{bytes, between, front, run, is_letter, in_name, is_digit, in_comment, is_gap}
 use Rattle.tokens.specs.Token.{Token, token_length, starts_number, starts_dots, sort_of, tokens_from}
 use Rattle.tokens.specs.Sorts.{sort_number}
 use Rattle.tokens.specs.Unread.{unread, spanned}
@@ -38,6 +39,42 @@ unfolding tokens_from
 later zero p xs = ap (λ (q : ℕ). tokens_from 0 q xs) (sym (add-zero p))
 later (suc k) p [] = refl
 later (suc k) p (x ∷ xs) = let e : p + 1 + k ≡ p + suc k = omega arith in later k (p + 1) xs ∙ ap (λ (q : ℕ). tokens_from 0 q (drop k xs)) e
+
+-- a blank or a line feed is one byte, a comment goes up to the line feed
+gap_cases : (b : ℕ) → is_gap b ≡ true → (b ≡ 37 → ⊥) → (b ≡ 32) ⊎ (b ≡ 10)
+unfolding is_gap any bytes list_of
+gap_cases b e n = go (eqb b 32) refl (eqb b 10) refl (eqb b 37) refl e
+  where
+    go : (l : Bool) → eqb b 32 ≡ l → (m : Bool) → eqb b 10 ≡ m → (o : Bool) → eqb b 37 ≡ o → l || (m || (o || false)) ≡ true → (b ≡ 32) ⊎ (b ≡ 10)
+    go true p m q o r e = inl (eqb-true b 32 p)
+    go false p true q o r e = inr (eqb-true b 10 q)
+    go false p false q true r e = absurd (n (eqb-true b 37 r))
+    go false p false q false r e = absurd (false-true e)
+
+blank : (b : ℕ) (xs : List ℕ) → (b ≡ 32) ⊎ (b ≡ 10) → token_length b xs ≡ 1
+unfolding token_length is_letter starts_number starts_dots is_digit between
+blank b xs (inl e) = rw e refl
+blank b xs (inr e) = rw e refl
+
+pub blank_length : (b : ℕ) (xs : List ℕ) → is_gap b ≡ true → (b ≡ 37 → ⊥) → token_length b xs ≡ 1
+blank_length b xs e n = blank b xs (gap_cases b e n)
+
+pub comment_length : (b : ℕ) (xs : List ℕ) → b ≡ 37 → token_length b xs ≡ 1 + run in_comment xs
+unfolding token_length is_letter starts_number starts_dots is_digit between
+comment_length b xs e = rw e refl
+
+percent : is_gap 37 ≡ true
+unfolding is_gap any bytes list_of
+percent = refl
+
+-- what is no comment and begins no name, number or dots is one byte
+pub sign_length : (b : ℕ) (xs : List ℕ) → is_gap b ≡ false → is_letter b ≡ false → starts_number b xs ≡ false → starts_dots b xs ≡ false → token_length b xs ≡ 1
+unfolding token_length
+sign_length b xs g l n d = rw (l, n, d) (go (eqb b 37) refl)
+  where
+    go : (o : Bool) → eqb b 37 ≡ o → (1 + run in_comment xs if o else 1) ≡ 1
+    go true q = absurd (false-true (sym g ∙ (rw (eqb-true b 37 q) percent)))
+    go false q = refl
 
 -- ---- places
 

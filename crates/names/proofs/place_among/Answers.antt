@@ -1,24 +1,17 @@
-use Rattle.std.proofs.Common.{sym, ap, ◌∙◌, arith}
-use Rattle.tokens.specs.Unread.{spanned}
-use Rattle.names.specs.Name.{same}
-use Rattle.names.proofs.Names.{none-spelled, spelled-here, spelled-on}
+-- Name by name.
+use Rattle.std.proofs.Common.{sym, ◌∙◌, List, [], ℕ}
+use Rattle.std.specs.Borrow.{Bor}
+use Rattle.names.proofs.Names.{names-here, names-on, names-end}
 use Rattle.names.proofs.place_among.Goals as goal
 
-pub returns-then-eq : goal.returns-then-eq
-unfolding spanned
-returns-then-eq c =
-    let e = ap (same c.args.name.now) (sym c.bytes.ensures) ∙ sym c.eq.ensures ∙ c.if-eq.true in
-    sym (c.loop-token.invariant.2 ∙ spelled-here c.args.name.now c.loop-token.place (spanned c.args.names.now c.in-Some.token) c.in-Some.ensures.found e)
+abbrev nothing : Bor (List ℕ)
+nothing = record { ref_ptr = (0, 0); now = [] }
 
-pub loop-token-preserved : goal.loop-token-preserved
-unfolding spanned
-loop-token-preserved c =
-    let m = c.in-Some.ensures in
-    let e = ap (same c.args.name.now) (sym c.bytes.ensures) ∙ sym c.eq.ensures ∙ c.if-eq.false in (
-      m.inside,
-      omega (arith, c.loop-token.invariant.1, m.longer, m.onward),
-      c.loop-token.invariant.2 ∙ spelled-on c.args.name.now c.loop-token.place (spanned c.args.names.now c.in-Some.token) m.found e,
-    )
+pub returns-then-eq : goal.returns-then-eq
+returns-then-eq c = sym (c.loop-place.invariant ∙ names-here (λ (x : Bor (List ℕ)). x.now) c.args.name.now c.args.names.now c.loop-place.place nothing c.loop-place-test.true (sym c.eq.ensures ∙ c.if-eq.true))
+
+pub loop-place-preserved : goal.loop-place-preserved
+loop-place-preserved c = c.loop-place.invariant ∙ names-on (λ (x : Bor (List ℕ)). x.now) c.args.name.now c.args.names.now c.loop-place.place nothing c.loop-place-test.true (sym c.eq.ensures ∙ c.if-eq.false)
 
 pub returns : goal.returns
-returns c = sym (c.loop-token.invariant.2 ∙ none-spelled c.args.name.now c.loop-token.place c.in_default.ensures)
+returns c = sym (c.loop-place.invariant ∙ names-end (λ (x : Bor (List ℕ)). x.now) c.args.name.now c.args.names.now c.loop-place.place nothing c.loop-place-test.false)

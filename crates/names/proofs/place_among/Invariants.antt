@@ -1,14 +1,7 @@
--- The invariant: the tokens passed are not the name. The measure: the bytes left.
-use Rattle.std.proofs.Common.{◌≡◌, ◌-◌, ◌≤◌, length}
-use Rattle.tokens.specs.Unread.{unread, spellings}
+-- The invariant: the names passed are not the name.
+use Rattle.std.proofs.Common.{◌≡◌, map, drop}
 use Rattle.names.specs.Name.{look_up}
 use Rattle.names.proofs.place_among.Given as goal
 
-abbrev pub invariant-loop-token : goal.invariant-loop-token
-invariant-loop-token l =
-    (l.at ≤ length l.names) ×
-    (l.place ≤ l.at) ×
-    (look_up l.name 0 (spellings (unread l.names 0)) ≡ look_up l.name l.place (spellings (unread l.names l.at)))
-
-abbrev pub decreases-loop-token : goal.decreases-loop-token
-decreases-loop-token l = length l.names - l.at
+abbrev pub invariant-loop-place : goal.invariant-loop-place
+invariant-loop-place l = look_up l.name 0 (map (λ x. x.now) l.names) ≡ look_up l.name l.place (map (λ x. x.now) (drop l.place l.names))

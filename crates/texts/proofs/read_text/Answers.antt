@@ -1,8 +1,9 @@
--- A first reading counts and finds the fault; where there is none and the list is long enough a second one writes.
-use Rattle.std.proofs.Common.{length}
+-- The words are read to a list that has room for those of any model; where the text is accepted they are laid over the lent one.
+use Rattle.std.proofs.Common.{ℕ, length}
+use lib.ListN.{length-replicate}
 use Rattle.std.proofs.lemmas.Result.{err_from_is_err_and}
 use Rattle.words.specs.declared.fault.Fault.TheVariants as f
-use Rattle.texts.proofs.Answers.{says-refused, at-fault, too_many, too_short, fits, read_twice}
+use Rattle.texts.proofs.Answers.{says-refused, at-fault, too_many, too_short, fits, lays-words}
 use Rattle.texts.proofs.ModelWords.{words_of}
 use Rattle.texts.proofs.ReadsRight.{right_of}
 use Rattle.texts.proofs.read_text.Goals as goal
@@ -25,5 +26,5 @@ returns-then-out-n c =
 
 pub returns : goal.returns
 returns c =
-    let s = read_twice c.read_tokens-2.ensures c.in_ok-n.ensures (fits (length c.args.out.now) c.in_ok-n.ensures c.if-n-gt-MODEL_WORDS.false c.if-out-n.false) in
+    let s = lays-words c.args.out.now c.in_ok-n.ensures (rw (length-replicate {A = ℕ} 8192 0) c.if-n-gt-MODEL_WORDS.false) c.lay.ensures (fits (length c.args.out.now) c.in_ok-n.ensures c.if-n-gt-MODEL_WORDS.false c.if-out-n.false) in
     record { answer = s.0; output = s.1; words = words_of c.args.text.now c.args.out.now s.0 s.1; right = right_of c.args.text.now c.args.out.now s.0 s.1 }

@@ -1,12 +1,13 @@
 use Rattle.std.proofs.Common.{◌≡◌, eqb, arith, rules}
 use Rattle.tokens.specs.Sorts.{sort_number}
 use Rattle.std.proofs.lemmas.Result.{err_from_is_err_and}
-use Rattle.symbols.proofs.Reached.{empty, index-here, index-end, count-here, declares, next-table}
+use Rattle.symbols.proofs.Reached as Reached
+use Rattle.symbols.proofs.Reached.{index-here, index-end, count-here, declares, next-table}
 use Rattle.texts.proofs.Loop.{begin, again, stands, stop-reads, ends-well, ends-early}
 use Rattle.texts.proofs.read_tokens.Goals as goal
 
 pub loop-t-init : goal.loop-t-init
-loop-t-init c = (begin c.args.text.now c.args.out.now, empty c.args.text.now 8192)
+loop-t-init c = (begin c.args.text.now c.args.out.now, record { reached = Reached.begin c.args.text.now; index = c.new-symbols.ensures c.args.text.now })
 
 pub step_at-requires : goal.step_at-requires
 step_at-requires c = (stands c.in-Some.ensures, index-here c.loop-t.invariant.1 c.in-Some.ensures)
@@ -18,12 +19,15 @@ returns-in_err-step c =
 
 pub declare-variables-requires : goal.declare-variables-requires
 declare-variables-requires c = (
+  (
+    omega (arith, c.in-Some.ensures.longer),
+    c.in-Some.ensures.inside,
+    omega (arith, c.loop-t.invariant.1.reached.few, c.loop-t.invariant.0.inside),
+    count-here c.loop-t.invariant.1 c.in-Some.ensures,
+    declares c.loop-t.invariant.1.reached c.in-Some.ensures,
+    index-here c.loop-t.invariant.1 c.in-Some.ensures,
+  ),
   omega (arith, c.in-Some.ensures.longer),
-  c.in-Some.ensures.inside,
-  omega (arith, c.loop-t.invariant.1.reached.few, c.loop-t.invariant.0.inside),
-  count-here c.loop-t.invariant.1 c.in-Some.ensures,
-  declares c.loop-t.invariant.1.reached c.in-Some.ensures,
-  index-here c.loop-t.invariant.1 c.in-Some.ensures,
 )
 
 pub loop-t-preserved : goal.loop-t-preserved
@@ -34,7 +38,7 @@ loop-t-preserved c =
     )
 
 pub check_end-requires : goal.check_end-requires
-check_end-requires c = index-end c.loop-t.invariant.1 c.loop-t.invariant.0.inside c.in_default.ensures
+check_end-requires c = index-end c.loop-t.invariant.1 _ c.loop-t.invariant.0.inside c.in_default.ensures
 
 pub returns-in_err-check_end : goal.returns-in_err-check_end
 returns-in_err-check_end c =

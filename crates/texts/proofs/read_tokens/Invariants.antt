@@ -6,7 +6,7 @@ use Rattle.texts.proofs.Loop.{Left}
 use Rattle.texts.proofs.read_tokens.Given as goal
 
 abbrev pub invariant-loop-t : goal.invariant-loop-t
-invariant-loop-t l = Left l.text l.initial.out l.out l.at l.n (due_of l.due) × Tabled l.text l.at l.variables l.after_colon l.symbols.filter l.symbols.slots
+invariant-loop-t l = Left l.text l.initial.out l.out l.at l.n (due_of l.due) × Tabled l.text l.at l.variables l.after_colon l.symbols
 
 abbrev pub decreases-loop-t : goal.decreases-loop-t
 decreases-loop-t l = length l.text - l.at

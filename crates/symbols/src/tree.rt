@@ -1,0 +1,174 @@
+// The names that stand at places of a text, in a tree. A name has a first link by its hash; from a name that is another one's it goes on by one of two links,
+// by a bit of the hash, then of its own bytes. So it passes no more names than it and a hash have bits, whatever the names are.
+#![tactic(auto)]
+
+ghost use Rattle.std.specs.Prelude.{List, ℕ, true, ◌≡◌, ◌+◌, ◌<◌, ◌≤◌, length};
+ghost use Rattle.names.specs.Name.{same};
+ghost use Rattle.tokens.specs.Unread.{bytes_between};
+ghost use Rattle.symbols.specs.Links.{mix, hash, first_link, side};
+ghost use Rattle.symbols.specs.Entry.{place_in, length_in, named};
+ghost use Rattle.symbols.specs.Tree.{IsTree, FindsSeat, Vacant, HasRoom, Grows};
+
+use tokens::Span;
+use words::list::at_or;
+
+// the names that there is room for: one for each word of the longest model
+pub const ROOM: usize = 8192;
+
+// the first links, and these with two for each name
+const ROOTS: usize = 8192;
+
+const LINKS: usize = 24576;
+
+// a hash is below HASHES; MULTIPLIER is that over the golden ratio
+const HASHES: u64 = 4294967296;
+
+const MULTIPLIER: u64 = 2654435769;
+
+// an entry has a place below PLACES and a length below LENGTHS
+const PLACES: usize = 288230376151711744;
+
+const LENGTHS: usize = 64;
+
+#[derive(Drop)]
+pub struct Tree {
+    // how many names it has
+    pub count: usize,
+    // the place and the length of each
+    pub entries: [u64; ROOM],
+    // 1 more than the number of the name that a link leads to, 0 where it leads nowhere
+    pub links: [u16; LINKS],
+}
+
+// Where a name stands: its number, or the link that leads nowhere and is to lead to it.
+#[derive(Clone, Copy, Debug, PartialEq, Eq)]
+pub enum Seat {
+    Taken(usize),
+    Free(usize),
+}
+
+// A hash and one byte more.
+#[tactic(auto, unfolding(crate::specs::Links::mix))]
+fn mixed(h: u32, b: u8) -> u32
+    ensures { result ≡ mix h b }
+{
+    ((u64::from(h) * 257 + u64::from(b)) % HASHES) as u32
+}
+
+// The hash of a name.
+#[tactic(auto, unfolding(crate::specs::Links::hash))]
+fn hash_of(name: &[u8]) -> u32
+    ensures { result ≡ hash name.now }
+{
+    let h = name.iter().fold(0, |h, &b| mixed(h, b));
+    (u64::from(h) * MULTIPLIER % HASHES) as u32
+}
+
+// The first link of a hash.
+fn first_link(h: u32) -> usize
+    ensures { (result ≡ first_link h) × (result < 8192) }
+{
+    (h >> 19) as usize
+}
+
+// The side of a name at a depth: a bit of its hash, then of its bytes.
+#[tactic(auto, unfolding(crate::specs::Links::side))]
+fn side(name: &[u8], h: u32, depth: usize) -> usize
+    ensures { (result ≡ side h name.now depth) × (result < 2) }
+{
+    if depth < 19 {
+        return (h >> (18 - depth)) as usize % 2;
+    }
+    let bit = depth - 19;
+    (at_or(name, bit / 8, 0) >> (bit % 8)) as usize % 2
+}
+
+// Whether an entry has a name.
+#[tactic(auto, unfolding(crate::specs::Entry::place_in, crate::specs::Entry::length_in))]
+fn is_named(text: &[u8], e: u64, name: &[u8]) -> bool
+    requires { place_in e + length_in e ≤ length text.now }
+    ensures { result ≡ same name.now (named text.now e) }
+{
+    let from = e as usize / LENGTHS;
+    let to = from + e as usize % LENGTHS;
+    name == &text[from..to]
+}
+
+// The entry of a name.
+#[tactic(auto, unfolding(crate::specs::Entry::place_in, crate::specs::Entry::length_in))]
+fn entry_of(place: usize, bytes: usize) -> u64
+    requires { (place < 288230376151711744) × (bytes < 64) }
+    ensures { (place_in result ≡ place) × (length_in result ≡ bytes) }
+{
+    (place * LENGTHS + bytes) as u64
+}
+
+impl Tree {
+    // The tree of no names.
+    pub fn new() -> Tree
+        ensures empty { result.count ≡ 0 }
+        ensures tree { (bs : List ℕ) → IsTree bs result }
+    {
+        Tree {
+            count: 0,
+            entries: [0; ROOM],
+            links: [0; LINKS],
+        }
+    }
+
+    // Whether there is room for the name that a token is.
+    pub fn has_room(&self, token: Span) -> bool
+        ensures { result ≡ true → HasRoom self.now token }
+    {
+        if ROOM <= self.count || PLACES <= token.place {
+            return false;
+        }
+        token.stop < token.place + LENGTHS
+    }
+
+    // Where a name stands. A `while`, since a link leads to a later name and the names before it are not counted.
+    pub fn seat_of(&self, text: &[u8], name: &[u8]) -> Seat
+        requires { IsTree text.now self.now }
+        ensures { FindsSeat text.now self.now name.now result }
+    {
+        let h = hash_of(name);
+        let mut link = first_link(h);
+        let mut depth = 0;
+        let mut v = self.links[link] as usize;
+        while v != 0 {
+            if is_named(text, self.entries[v - 1], name) {
+                return Seat::Taken(v - 1);
+            }
+            link = ROOTS + 2 * (v - 1) + side(name, h, depth);
+            depth += 1;
+            v = self.links[link] as usize;
+        }
+        Seat::Free(link)
+    }
+
+    // Puts the name that a token is where it stands.
+    pub fn put(&mut self, text: &[u8], link: usize, token: Span)
+        requires stands { (token.place ≤ token.stop) × (token.stop ≤ length text.now) }
+        requires tree { IsTree text.now self.old }
+        requires free { Vacant text.now self.old (bytes_between text.now token.place token.stop) link }
+        requires room { HasRoom self.old token }
+        ensures { Grows text.now self.old self.new (bytes_between text.now token.place token.stop) }
+    {
+        self.entries[self.count] = entry_of(token.place, token.stop - token.place);
+        self.links[link] = self.count as u16 + 1;
+        self.count += 1;
+    }
+
+    // Puts the name that a token is, if it is none of its names.
+    pub fn take_in(&mut self, text: &[u8], token: Span)
+        requires stands { (token.place ≤ token.stop) × (token.stop ≤ length text.now) }
+        requires tree { IsTree text.now self.old }
+        requires room { HasRoom self.old token }
+        ensures { IsTree text.now self.new }
+    {
+        match self.seat_of(text, token.bytes(text)) {
+            Seat::Taken(_) => {}
+            Seat::Free(link) => self.put(text, link, token),
+        }
+    }
+}
