@@ -12,10 +12,10 @@ use Rattle.words.specs.LaidAt.{LaidAt}
 use Rattle.words.specs.Overlay.{overlay}
 use Rattle.words.specs.Word.{word, number_word, in_range}
 use Rattle.words.proofs.Overlay.{overlay-append}
-use Rattle.bitforms.specs.BitForm.{bit_rows_of, bit_count, form_constant, form_entries}
-use Rattle.bitforms.specs.Matrix.{Entry, entry_of, line_entries, entries_from, not_zero}
-use Rattle.bitforms.specs.FormWords.{form_words}
-use Rattle.bitforms.specs.FormAnswer.{row_fits, form_fits}
+use Rattle.bitforms.specs.BitForm.{bit_rows_of, bit_count}
+use Rattle.bitforms.specs.Matrix.{Entry, line_entries, entries_from, not_zero}
+use Rattle.bitforms.specs.FormAnswer.{row_fits, all_fit}
+use Rattle.bitforms.specs.Taken.{taken_entry, taken_constant, taken_entries, taken_words}
 use Rattle.bitlines.specs.Line.{entries_words}
 use Rattle.bitlines.proofs.Writing.{words_append}
 use Rattle.bitwriting.proofs.Putting.{line-words}
@@ -34,39 +34,47 @@ zeros-pass (x ∷ xs) = go (x.number ≟ +0) refl (zeros-pass xs)
     go true e h = h ∙ sym (rw (zero_in x.number e) refl)
     go false e h = ap (λ b. in_range x.number && b) h
 
-module _ (ws : List ℕ) where
+module _ (ws : List ℕ) (k c : ℤ) (a : ℕ → ℤ) where
   -- all entries in rising order
   abbrev pub entries_of : List Entry
-  entries_of = entries_from (entry_of (bit_rows_of ws)) 0 (bit_count ws)
+  entries_of = entries_from (taken_entry k a (bit_rows_of ws)) 0 (bit_count ws)
 
-  pub fits_by : {a b c : Bool} → all (row_fits (bit_count ws)) (bit_rows_of ws) ≡ a → in_range (form_constant ws) ≡ b → all (λ x. in_range x.number) entries_of ≡ c → form_fits ws ≡ (a && (b && c))
-  unfolding form_fits form_entries
-  fits_by e f g = ap₂ ◌&&◌ e (ap₂ ◌&&◌ f (zeros-pass entries_of ∙ g))
+  abbrev pub fit : Bool
+  fit = all_fit ws (taken_constant ws k c) (taken_entries ws k a)
 
-  pub words_are : form_words ws ≡ number_word Kind.number (form_constant ws) ∷ (entries_words entries_of ++ (word Kind.rows_end 0 ∷ []))
-  unfolding form_words form_entries entries_words
+  pub fits-found : {x y z : Bool} → all (row_fits (bit_count ws)) (bit_rows_of ws) ≡ x → in_range (taken_constant ws k c) ≡ y → all (λ x. in_range x.number) entries_of ≡ z → fit ≡ (x && (y && z))
+  fits-found e f g = ap₂ ◌&&◌ e (ap₂ ◌&&◌ f (zeros-pass entries_of ∙ g))
+
+  words_are : taken_words ws k c a ≡ number_word Kind.number (taken_constant ws k c) ∷ (entries_words entries_of ++ (word Kind.rows_end 0 ∷ []))
+  unfolding entries_words
   words_are = refl
 
-  pub words-length : length (form_words ws) ≡ 1 + length (entries_words entries_of) + 1
+  pub words-length : length (taken_words ws k c a) ≡ 1 + length (entries_words entries_of) + 1
   words-length = ap length words_are ∙ (let e = length-append (entries_words entries_of) (word Kind.rows_end 0 ∷ []) in omega arith)
 
   -- the constant, the entries, the end
-  pub parts-laid : (out a b c : List ℕ) (end : ℕ) → a ≡ overlay out 0 (number_word Kind.number (form_constant ws) ∷ []) →
-      LaidAt a 1 (entries_words entries_of) b end → c ≡ overlay b end (word Kind.rows_end 0 ∷ []) → c ≡ overlay out 0 (form_words ws)
-  parts-laid out a b c end e l f =
+  pub parts-laid : (out x y z : List ℕ) (end : ℕ) → x ≡ overlay out 0 (number_word Kind.number (taken_constant ws k c) ∷ []) →
+      LaidAt x 1 (entries_words entries_of) y end → z ≡ overlay y end (word Kind.rows_end 0 ∷ []) → z ≡ overlay out 0 (taken_words ws k c a)
+  parts-laid out x y z end e l f =
       f ∙ ap₂ (λ x n. overlay x n (word Kind.rows_end 0 ∷ [])) l.over l.ends
-      ∙ overlay-append a 1 (entries_words entries_of) (word Kind.rows_end 0 ∷ [])
+      ∙ overlay-append x 1 (entries_words entries_of) (word Kind.rows_end 0 ∷ [])
       ∙ ap (λ x. overlay x 1 (entries_words entries_of ++ (word Kind.rows_end 0 ∷ []))) e
-      ∙ overlay-append out 0 (number_word Kind.number (form_constant ws) ∷ []) (entries_words entries_of ++ (word Kind.rows_end 0 ∷ []))
+      ∙ overlay-append out 0 (number_word Kind.number (taken_constant ws k c) ∷ []) (entries_words entries_of ++ (word Kind.rows_end 0 ∷ []))
       ∙ ap (overlay out 0) (sym words_are)
 
   -- what a form that fits says of its rows and entries
-  pub fits-inside : form_fits ws ≡ true → (all (row_fits (bit_count ws)) (bit_rows_of ws) ≡ true) × (all (λ x. in_range x.number) entries_of ≡ true)
-  unfolding form_fits form_entries
+  pub fits-inside : fit ≡ true → (all (row_fits (bit_count ws)) (bit_rows_of ws) ≡ true) × (all (λ x. in_range x.number) entries_of ≡ true)
   fits-inside h =
       let b = both_true (all (row_fits (bit_count ws)) (bit_rows_of ws)) _ h in
-      let d = both_true (in_range (form_constant ws)) _ b.1 in
+      let d = both_true (in_range (taken_constant ws k c)) _ b.1 in
       (b.0, sym (zeros-pass entries_of) ∙ d.1)
+
+  -- what does not fit
+  pub row_unfit : all (row_fits (bit_count ws)) (bit_rows_of ws) ≡ false → fit ≡ false
+  row_unfit e = fits-found e refl refl
+
+  pub constant_unfit : all (row_fits (bit_count ws)) (bit_rows_of ws) ≡ true → in_range (taken_constant ws k c) ≡ false → fit ≡ false
+  constant_unfit e f = fits-found e f refl
 
 -- at most 3,072 words a line
 pub lines-few : (e : ℕ → ℕ → ℤ) (i m : ℕ) → m ≤ 1024 → length (entries_words (entries_from e i m)) ≤ 3072 * m
@@ -76,11 +84,3 @@ lines-few e i (suc m) h =
     let r = lines-few e (suc i) m (omega arith) in
     let w = line-words e i (suc m) in
     rw (words_append (line_entries (e i) i (suc m)) (entries_from e (suc i) m), length-append (entries_words (line_entries (e i) i (suc m))) (entries_words (entries_from e (suc i) m))) (omega arith)
-
--- ---- what does not fit
-
-pub row_unfit : (ws : List ℕ) → all (row_fits (bit_count ws)) (bit_rows_of ws) ≡ false → form_fits ws ≡ false
-row_unfit ws e = fits_by ws e refl refl
-
-pub constant_unfit : (ws : List ℕ) → all (row_fits (bit_count ws)) (bit_rows_of ws) ≡ true → in_range (form_constant ws) ≡ false → form_fits ws ≡ false
-constant_unfit ws e f = fits_by ws e f refl

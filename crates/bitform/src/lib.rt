@@ -10,16 +10,16 @@ ghost use Rattle.words.specs.Refusal.{accepted};
 ghost use Rattle.words.specs.Overlay.{overlay};
 ghost use Rattle.words.specs.Word.{in_range};
 ghost use Rattle.rowsystems.specs.Reading.{read_rows};
-ghost use Rattle.bitforms.specs.BitForm.{bit_rows_of, form_constant};
-ghost use Rattle.bitforms.specs.FormAnswer.{row_fits, form_fits, bit_form, bit_formed};
-ghost use Rattle.bitforms.specs.FormWords.{form_words};
+ghost use Rattle.bitforms.specs.BitForm.{bit_rows_of};
+ghost use Rattle.bitforms.specs.FormAnswer.{row_fits, bit_form, bit_formed};
 ghost use Rattle.bitfilling.specs.Added.{LineAndRow};
 ghost use Rattle.bitsharing.specs.FormShares.{FormShares};
-ghost use Rattle.bitform.specs.Answered.{Answered, BitsListed};
+ghost use Rattle.bitform.specs.Answered.{Answered, AnsweredBy, constant_by, fits_by, words_by, BitsListed};
 
 use bitchecks::check_rows;
 use bitreading::list_bits;
 use bittables::table::{BitSystem, BitTable, BitVariable, system_of};
+use bittaking::{Taken, take};
 use bitwriting::put_lines;
 use rowreading::read_rows;
 use words::domain::Domain;
@@ -48,14 +48,15 @@ fn write_form(
     system: &BitSystem,
     line: &mut [i64],
     row: &mut [i64],
+    taken: &Taken,
     n: usize,
     c: i64,
 ) -> Option<usize>
-    requires { BitsListed system.now n × LineAndRow n line.old row.old × (c ≡ form_constant system.now.words.now) × (form_fits system.now.words.now ≡ true) }
-    ensures { (result ≡ Some (length (form_words system.now.words.now))) × (out.new ≡ overlay out.old 0 (form_words system.now.words.now)) }
+    requires { BitsListed system.now n × LineAndRow n line.old row.old × (c ≡ constant_by system.now.words.now taken.now) × (fits_by system.now.words.now taken.now ≡ true) }
+    ensures { (result ≡ Some (length (words_by system.now.words.now taken.now))) × (out.new ≡ overlay out.old 0 (words_by system.now.words.now taken.now)) }
 {
     put_word(out, 0, Word::of_number(Kind::Number, c));
-    let end = put_lines(out, 1, n, line, row, system)?;
+    let end = put_lines(out, 1, n, line, row, system, taken)?;
     put_word(out, end, Word::new(Kind::RowsEnd, 0));
     Some(end + 1)
 }
@@ -66,14 +67,15 @@ fn form_lines(
     system: &BitSystem,
     line: &mut [i64],
     row: &mut [i64],
+    taken: &Taken,
     n: usize,
     c: i64,
 ) -> Result<usize, Refusal>
     requires bits_listed { BitsListed system.now n × LineAndRow n line.old row.old }
-    requires fitting { (all (row_fits n) (bit_rows_of system.now.words.now) ≡ true) × (c ≡ form_constant system.now.words.now) × (in_range c ≡ true) }
-    ensures { Answered system.now.words.now out.old out.new (written_of result) }
+    requires fitting { (all (row_fits n) (bit_rows_of system.now.words.now) ≡ true) × (c ≡ constant_by system.now.words.now taken.now) × (in_range c ≡ true) }
+    ensures { AnsweredBy system.now.words.now taken.now out.old out.new (written_of result) }
 {
-    let Some(end) = put_lines(&mut [], 1, n, line, row, system) else {
+    let Some(end) = put_lines(&mut [], 1, n, line, row, system, taken) else {
         return Err(TOO_LARGE);
     };
     if out.len() <= end {
@@ -82,27 +84,29 @@ fn form_lines(
             place: 0,
         });
     }
-    write_form(out, system, line, row, n, c).ok_or(TOO_LARGE)
+    write_form(out, system, line, row, taken, n, c).ok_or(TOO_LARGE)
 }
 
 // Of at most 1,024 bits: 24 for a row or the constant, or what comes after.
-fn form_checked(
+pub fn form_checked(
     out: &mut [u32],
     system: &BitSystem,
     line: &mut [i64],
     row: &mut [i64],
+    taken: &Taken,
     n: usize,
 ) -> Result<usize, Refusal>
     requires { BitsListed system.now n × LineAndRow n line.old row.old }
-    ensures { Answered system.now.words.now out.old out.new (written_of result) }
+    ensures { AnsweredBy system.now.words.now taken.now out.old out.new (written_of result) }
 {
-    let Some(c) = check_rows(system, row) else {
+    let Some(squares) = check_rows(system, row) else {
         return Err(TOO_LARGE);
     };
+    let c = take(taken.times, squares, taken.constant);
     if !in_range(c) {
         return Err(TOO_LARGE);
     }
-    form_lines(out, system, line, row, n, c)
+    form_lines(out, system, line, row, taken, n, c)
 }
 
 // Of accepted words: 23, or what comes after, with a row over bits and a line of the form to work with. The lists have the most elements: fixed memory.
@@ -127,7 +131,12 @@ fn form_accepted(ws: &[u32], out: &mut [u32]) -> Result<usize, Refusal>
         bits: &bits,
     };
     let system = system_of(ws, table, listed.start);
-    form_checked(out, &system, &mut line[..n], &mut row[..n], n)
+    let taken = Taken {
+        times: 1,
+        constant: 0,
+        added: &[],
+    };
+    form_checked(out, &system, &mut line[..n], &mut row[..n], &taken, n)
 }
 
 // Writes the form to the front of the output; a refusal changes nothing.

@@ -19,7 +19,7 @@ use Rattle.bitforms.proofs.Theorem.{form_of, same-solutions}
 use Rattle.bitforms.proofs.ReadBack.{reads-back}
 
 -- the output begins with the words
-begins : (out xs : List ℕ) → length xs ≤ length out → overlay out 0 xs ≡ xs ++ drop (length xs) (overlay out 0 xs)
+pub begins : (out xs : List ℕ) → length xs ≤ length out → overlay out 0 xs ≡ xs ++ drop (length xs) (overlay out 0 xs)
 begins out xs h = sym (take-append-drop (length xs) (overlay out 0 xs)) ∙ ap (λ l. l ++ drop (length xs) (overlay out 0 xs)) (front-over out xs h)
 
 module _ (ws out : List ℕ) (n : ℕ) (wrote : bit_form ws (length out) ≡ written n) where

@@ -1,5 +1,5 @@
 -- 02, wish 14: the faults, the answer, and what the lent output holds afterwards.
-use Rattle.std.specs.Prelude.{Bool, ◌&&◌, List, ℕ, ltb, eqb, pos, length}
+use Rattle.std.specs.Prelude.{Bool, ◌&&◌, List, ℕ, ltb, eqb, ℤ, pos, length}
 use Rattle.std.specs.Int.Signed.{le_z}
 use Rattle.integers.specs.Choice.{◌if◌else◌}
 use Rattle.integers.specs.Number.{abs_z}
@@ -31,12 +31,18 @@ row_fits n r =
 abbrev pub all_in_range : List Entry → Bool
 all_in_range xs = all (λ x. in_range x.number) xs
 
+-- the rows of a row system's words, and the constant and the entries of a form over its bits
+abbrev pub all_fit : List ℕ → ℤ → List Entry → Bool
+all_fit ws c xs = all (row_fits (bit_count ws)) (bit_rows_of ws) && (in_range c && all_in_range xs)
+
 unfoldable pub form_fits : List ℕ → Bool
-form_fits ws =
-    all (row_fits (bit_count ws)) (bit_rows_of ws) && (in_range (form_constant ws) && all_in_range (form_entries ws))
+form_fits ws = all_fit ws (form_constant ws) (form_entries ws)
+
+abbrev pub fits_or : Bool → Refusal
+fits_or fits = accepted if fits else Fault.form_too_large at_place 0
 
 unfoldable pub number_fault : List ℕ → Refusal
-number_fault ws = accepted if form_fits ws else Fault.form_too_large at_place 0
+number_fault ws = fits_or (form_fits ws)
 
 -- judge-rows' faults but 15; "both after 17, place 0, then 16 for a short output"
 unfoldable pub bit_form_fault : List ℕ → ℕ → Refusal

@@ -1,33 +1,52 @@
 -- Line after line: the entries left, tested and laid.
-use Rattle.std.proofs.Common.{◌≡◌, refl, sym, ap, ap₂, ◌∙◌, Some, Bool, true, false, ◌&&◌, List, [], ◌∷◌, ◌++◌, ℕ, zero, suc, ◌+◌, ◌*◌, ◌-◌, ◌<◌, ◌≤◌, arith, ℤ, length, get_or}
+use Rattle.std.proofs.Common.{◌≡◌, refl, sym, ap, ap₂, ◌∙◌, subst, eqb, Some, Bool, true, false, ◌&&◌, List, [], ◌∷◌, ◌++◌, ℕ, zero, suc, ◌+◌, ◌*◌, ◌-◌, ◌<◌, ◌≤◌, arith, ℤ, length, get_or}
 use mathlib.Core.List.{flat_map}
 use Rattle.integers.specs.Choice.{◌if◌else◌}
-use Rattle.integers.specs.Number.{◌≟◌, +0}
+use Rattle.integers.specs.Number.{◌⊕◌, ◌⊗◌, ◌≟◌, +0}
 use Rattle.integers.specs.Lists.{list_of, all}
 use Rattle.integers.proofs.Lists.{list_of-length}
-use Rattle.integers.proofs.Booleans.{and-false}
+use Rattle.integers.proofs.Booleans.{and-false, both_true}
 use Rattle.integers.proofs.Places.{all_append}
 use Rattle.words.specs.Word.{in_range}
 use Rattle.words.proofs.Rest.{Rest, all_left, lay-part, same_rest, none_left, laid-length}
 use Rattle.bitforms.specs.Matrix.{Entry, entry_of, entry_at, line_entries, entries_from, not_zero}
 use Rattle.bitforms.specs.FormAnswer.{all_in_range}
 use Rattle.bitforms.specs.FormWords.{entry_words}
+use Rattle.bitforms.specs.Taken.{taken_entry}
 use Rattle.bitforms.specs.BitRow.{BitRow}
 use Rattle.bitfilling.specs.Added.{LineAndRow}
 use Rattle.bitlines.specs.Line.{entries_words}
 use Rattle.bitlines.proofs.Writing.{words_append}
+use Rattle.bittaking.specs.Taking.{TakenAs, LineTaken}
 use Rattle.bitwriting.specs.Lined.{LineOf}
 use Rattle.bitwriting.specs.EntriesPut.{EntriesPut}
 
-same-list_of : {A : Type 0} (f g : ℕ → A) (m : ℕ) → ((d : ℕ) → d < m → f d ≡ g d) → list_of f m ≡ list_of g m
-unfolding list_of
-same-list_of f g zero h = refl
-same-list_of f g (suc m) h = ap₂ (λ x l. x ∷ l) (h 0 (omega arith)) (same-list_of (λ d. f (suc d)) (λ d. g (suc d)) m (λ d l. h (suc d) (omega arith)))
+-- entries that are tested alike, and where they pass are the same
+abbrev Alike : (ℕ → Entry) → (ℕ → Entry) → ℕ → Type 0
+Alike f g m = (d : ℕ) → d < m → (in_range (f d).number ≡ in_range (g d).number) × (in_range (f d).number ≡ true → f d ≡ g d)
 
--- a list that holds the line has its entries
-pub line-entries : (rs : List BitRow) (line : List ℤ) (i m : ℕ) → i + m ≡ length line → LineOf rs i line → line_entries (λ j. get_or line j +0) i m ≡ line_entries (entry_of rs i) i m
-unfolding line_entries
-line-entries rs line i m k h = same-list_of (λ d. entry_at i (i + d) (get_or line (i + d) +0)) (λ d. entry_at i (i + d) (entry_of rs i (i + d))) m (λ d l. ap (entry_at i (i + d)) (h (i + d) (omega arith) (omega arith)))
+all-alike : (f g : ℕ → Entry) (m : ℕ) → Alike f g m →
+    (all_in_range (list_of f m) ≡ all_in_range (list_of g m)) × (all_in_range (list_of f m) ≡ true → list_of f m ≡ list_of g m)
+unfolding list_of all
+all-alike f g zero h = (refl, λ e. refl)
+all-alike f g (suc m) h =
+    let a = h 0 (omega arith) in
+    let r = all-alike (λ d. f (suc d)) (λ d. g (suc d)) m (λ d l. h (suc d) (omega arith)) in (
+      ap₂ ◌&&◌ a.0 r.0,
+      λ e. let b = both_true (in_range (f 0).number) (all_in_range (list_of (λ d. f (suc d)) m)) e in ap₂ (λ x l. x ∷ l) (a.1 b.0) (r.1 b.1),
+    )
+
+-- a list that holds the line, taken, has its entries
+pub line-entries : (rs : List BitRow) (k : ℤ) (added line line' : List ℤ) (i m : ℕ) → i + m ≡ length line → LineOf rs i line → LineTaken k added i m line line' →
+    let f : ℕ → ℤ = λ j. get_or line' j +0 in
+    let g : ℕ → ℤ = taken_entry k (λ j. get_or added j +0) rs i in
+    (all_in_range (line_entries f i m) ≡ all_in_range (line_entries g i m)) × (all_in_range (line_entries f i m) ≡ true → line_entries f i m ≡ line_entries g i m)
+unfolding line_entries taken_entry
+line-entries rs k added line line' i m e h t =
+    all-alike (λ d. entry_at i (i + d) (get_or line' (i + d) +0)) (λ d. entry_at i (i + d) (k ⊗ entry_of rs i (i + d) ⊕ (get_or added i +0 if eqb i (i + d) else +0))) m
+    (λ d l.
+    let s = subst (λ x. TakenAs k x (get_or added i +0 if eqb i (i + d) else +0) (get_or line' (i + d) +0)) (h (i + d) (omega arith) (omega arith)) (t (i + d) (omega arith) (omega arith) (omega arith)) in
+    (s.tested, λ z. ap (entry_at i (i + d)) (s.same z)))
 
 -- the entries from bit i on are those of its line, then those from the next bit on
 from-line : (e : ℕ → ℕ → ℤ) (i m : ℕ) → entries_from e i (suc m) ≡ line_entries (e i) i (suc m) ++ entries_from e (suc i) m

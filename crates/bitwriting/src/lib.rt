@@ -18,13 +18,14 @@ ghost use Rattle.bitlines.specs.Dense.{peak};
 ghost use Rattle.bittables.specs.BitTables.{firsts, counts, row_by, BitCounts};
 ghost use Rattle.bittables.specs.Systems.{rows_of_system};
 ghost use Rattle.bitfilling.specs.Added.{LineAndRow, Added};
-ghost use Rattle.bitwriting.specs.Lined.{LineOf, Fitting, entry_of_system};
+ghost use Rattle.bitwriting.specs.Lined.{LineOf, Fitting, entry_taken};
 ghost use Rattle.bitwriting.specs.EntriesPut.{EntriesPut};
 
 use bitfilling::{add_row, clear, holds_bit};
 use bitlines::put_line;
 use bitrows::own_bits;
 use bittables::table::{BitSystem, BitTable};
+use bittaking::{Taken, take_line};
 use rowreading::rows::starts_row;
 use words::in_range;
 use words::list::at_or;
@@ -95,13 +96,15 @@ fn put_one(
     line: &mut [i64],
     row: &mut [i64],
     system: &BitSystem,
+    taken: &Taken,
     i: usize,
     m: usize,
 ) -> Option<usize>
     requires { Fitting system.now (i + m) × LineAndRow (i + m) line.old row.old × (at + 3 * m < Size.farthest) }
-    ensures { EntriesPut (line_entries (entry_of_system system.now i) i m) out.old at out.new result }
+    ensures { EntriesPut (line_entries (entry_taken taken.now system.now i) i m) out.old at out.new result }
 {
     fill_line(line, row, system, i, m);
+    take_line(line, taken, i, m);
     if !entries_fit(line, i, m) {
         return None;
     }
@@ -116,13 +119,14 @@ pub fn put_lines(
     line: &mut [i64],
     row: &mut [i64],
     system: &BitSystem,
+    taken: &Taken,
 ) -> Option<usize>
     requires { Fitting system.now n × LineAndRow n line.old row.old × (at ≤ 1) }
-    ensures { EntriesPut (entries_from (entry_of_system system.now) 0 n) out.old at out.new result }
+    ensures { EntriesPut (entries_from (entry_taken taken.now system.now) 0 n) out.old at out.new result }
 {
     let mut to = at;
     for i in 0..n {
-        to = put_one(out, to, line, row, system, i, n - i)?;
+        to = put_one(out, to, line, row, system, taken, i, n - i)?;
     }
     Some(to)
 }

@@ -34,6 +34,7 @@ fault-number e = elim e as (λ e. fault_number e ≡ 0 → ⊥) [
   | f.TooManyBits ↦ λ z. omega arith
   | f.FormTooLarge ↦ λ z. omega arith
   | f.NotABit ↦ λ z. omega arith
+  | f.NoSuchVariable ↦ λ z. omega arith
 ]
 
 numbered : (n : ℕ) → (n ≡ 0 → ⊥) → (p : ℕ) (after : Refusal) → fault_or n p after ≡ n at_place p

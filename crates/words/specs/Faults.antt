@@ -36,6 +36,7 @@ fault_number f.TooManyLists = Fault.too_many_lists
 fault_number f.TooManyBits = Fault.too_many_bits
 fault_number f.FormTooLarge = Fault.form_too_large
 fault_number f.NotABit = Fault.not_a_bit
+fault_number f.NoSuchVariable = Fault.no_such_variable
 
 -- of a check
 abbrev pub number_of : {A : Type 0} → Result A Fault → ℕ

@@ -30,6 +30,7 @@ pub enum Fault {
     TooManyBits = 23,
     FormTooLarge = 24,
     NotABit = 25,
+    NoSuchVariable = 26,
 }
 
 impl Fault {

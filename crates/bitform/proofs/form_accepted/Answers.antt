@@ -1,7 +1,8 @@
 -- The lists of the variables' bits are those of the row system.
 use Rattle.std.proofs.Common.{refl, arith, length-take-le}
+use Rattle.bitlines.specs.Dense.{peak}
 use Rattle.bittables.proofs.Bits.{firsts-none, counts-none}
-use Rattle.bitform.proofs.Answers.{too_many}
+use Rattle.bitform.proofs.Answers.{too_many, taken-once}
 use Rattle.bitform.proofs.form_accepted.Goals as goal
 
 pub list_bits-listed-requires-clause-no_domains : goal.list_bits-listed-requires-clause-no_domains
@@ -21,3 +22,12 @@ form_checked-requires c =
       record { read = rw s.0 c.requires; rows_are = rw (s.0, s.1, s.2, s.3) k.same_rows; count = rw s.0 k.same_count; few = few },
       record { line_size = length-take-le _ _ few; row_size = length-take-le _ _ few; few = few },
     )
+
+pub invariant_of-taken : goal.invariant_of-taken
+unfolding peak
+invariant_of-taken c = record { near = record { near_times = record { positive = record { lt = tt }; few = omega arith }; near_constant = omega arith; near_added = omega arith } }
+
+pub returns : goal.returns
+returns c =
+    taken-once c.args.ws.now c.args.out.now c.requires (omega (arith, c.list_bits-listed.ensures.same_count, c.if-n-gt-BITS.false)) (λ i. refl)
+    (rw c.system_of-system.ensures.0 at c.form_checked.ensures)

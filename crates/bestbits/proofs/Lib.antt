@@ -1,0 +1,3 @@
+-- Lemmas of its functions.
+mod Answers
+mod Distance

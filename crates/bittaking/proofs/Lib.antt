@@ -1,0 +1,3 @@
+-- Laws of its functions.
+pub mod Far
+pub mod Line
