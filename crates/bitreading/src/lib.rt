@@ -2,7 +2,7 @@
 // That `first` and a width are no sums that wrap stays a clause: no plainer in a type, since each caller's number is a sum or a part of its own.
 #![tactic(auto)]
 
-ghost use Rattle.std.specs.Prelude.{◌≡◌, ◌+◌, ◌*◌, ◌<◌, ◌≤◌, IfOk, pos, nat_abs, get_or, replicate};
+ghost use Rattle.std.specs.Prelude.{◌≡◌, ◌*◌, ◌<◌, ◌≤◌, pos, nat_abs, replicate};
 ghost use Rattle.integers.specs.Number.{+0};
 ghost use Rattle.integers.specs.Bounds.{◌to◌};
 ghost use Rattle.integers.specs.Terms.{sum};

@@ -2,7 +2,7 @@
 // k, e and a stay three numbers: no plainer as a struct, which would be made anew for each entry.
 #![tactic(auto)]
 
-ghost use Rattle.std.specs.Prelude.{◌≡◌, true, ◌+◌, ◌<◌, ◌≤◌, nat_abs, length};
+ghost use Rattle.std.specs.Prelude.{◌≡◌, true, ◌+◌, ◌<◌, ◌≤◌, length};
 ghost use Rattle.integers.specs.Number.{+1};
 ghost use Rattle.words.specs.Limit as Limit;
 ghost use Rattle.bittaking.specs.Taking.{NearTimes, NearAdded, TakenAs, NearTaken, LineTaken, TakenAt};

@@ -1,5 +1,5 @@
 -- What a constraint encodes, by its code; the record after its block, and how large the numbers in it are.
-use Rattle.std.proofs.Common.{◌≡◌, refl, sym, Bool, true, false, ◌&&◌, ◌||◌, List, [], ◌∷◌, ℕ, zero, suc, ◌<◌, arith, eqb, ne_eqb, length, get_or, set, length-set, get_or-set_same, get_or-set_other}
+use Rattle.std.proofs.Common.{◌≡◌, refl, sym, Bool, true, false, ◌&&◌, ◌||◌, List, [], ◌∷◌, ℕ, ◌<◌, arith, eqb, ne_eqb, length, get_or, set, length-set, get_or-set_same, get_or-set_other}
 use native.Mathlib.Decide.{ℕ_discrete, dec_lt}
 use lib.ListN.{length-replicate}
 use lib.Seq.{set_out}

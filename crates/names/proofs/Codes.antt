@@ -1,8 +1,8 @@
 -- Every number from 1 to that of the last name is a code.
-use Rattle.std.proofs.Common.{◌≡◌, sym, ◌∙◌, List, map, ℕ, suc, ◌+◌, ◌<◌, ◌≤◌, add-one, Result, Ok, Err}
+use Rattle.std.proofs.Common.{◌≡◌, List, map, ℕ, ◌+◌, ◌<◌, ◌≤◌, add-one, Result, Ok, Err}
 use Rattle.std.specs.Result.{result_ok}
 use Rattle.models.specs.Table.{last}
-use Rattle.models.specs.Codes.{code_number, Decodes}
+use Rattle.models.specs.Codes.{Decodes}
 use Rattle.models.specs.declared.code.Code.{Code}
 use Rattle.models.specs.declared.code.UnknownCode.{UnknownCode}
 use Rattle.models.proofs.AllCodes.{code_at, coded}

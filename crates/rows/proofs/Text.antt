@@ -3,7 +3,7 @@ use Rattle.std.proofs.Common.{◌≡◌, List, ℕ, ◌≤◌, length}
 use Rattle.rules.specs.Translate.{translate_fault_in}
 use Rattle.rules.specs.InRange.{translate_fault}
 use Rattle.rules.specs.Translation.{system_words}
-use Rattle.lines.proofs.Printed.{later-none, room_for}
+use Rattle.words.proofs.Written.{later-none, room_for}
 
 pub fits : (ws : List ℕ) (room : ℕ) → (translate_fault ws room).number ≡ 0 → length (system_words ws) ≤ room
 unfolding translate_fault_in

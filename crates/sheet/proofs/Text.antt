@@ -4,7 +4,7 @@ use Rattle.integers.specs.Choice.{◌if◌else◌}
 use Rattle.words.specs.Overlay.{overlay}
 use Rattle.words.proofs.Overlay.{length-overlay}
 use Rattle.sheets.specs.Sheet.{sheet_fault, sheet_page, sheet_text}
-use Rattle.lines.proofs.Printed.{later-none, room_for}
+use Rattle.words.proofs.Written.{later-none, room_for}
 
 pub fits : (ws : List ℕ) (room : ℕ) → (sheet_fault ws room).number ≡ 0 → length (sheet_text ws) ≤ room
 unfolding sheet_fault

@@ -1,5 +1,5 @@
 -- What the symbol table says stays right when a name is declared. For `enter` and `note`.
-use Rattle.std.proofs.Common.{◌≡◌, refl, sym, ap, ◌∙◌, Bool, true, false, List, [], ◌∷◌, ◌++◌, append-nil, ℕ, ◌+◌, ◌<◌, ◌≤◌, zero-add, arith, eqb, get_or-set_same, get_or-set_other, length, length-set, get_or, set, eqb-true, eq-eqb, ne_eqb}
+use Rattle.std.proofs.Common.{◌≡◌, refl, sym, ap, ◌∙◌, Bool, true, false, List, [], ◌∷◌, append-nil, ℕ, ◌+◌, ◌<◌, zero-add, arith, eqb, get_or-set_same, get_or-set_other, length, length-set, get_or, set, eqb-true, eq-eqb, ne_eqb}
 use borrow.Author.Tests.{eqb-false}
 use Rattle.integers.specs.Choice.{◌if◌else◌}
 use Rattle.integers.proofs.Tests.{false-true}
@@ -7,7 +7,7 @@ use Rattle.tokens.specs.Unread.{bytes_between}
 use Rattle.names.specs.Name.{same, look_up}
 use Rattle.names.proofs.Names.{same_self, look_append}
 use Rattle.symbols.specs.Entry.{named}
-use Rattle.symbols.specs.Tree.{IsTree, Vacant, Grows, name_at}
+use Rattle.symbols.specs.Tree.{Vacant, Grows, name_at}
 use Rattle.symbols.specs.Symbol.{declared_before, IsNew, Indexed, AddsName}
 use Rattle.symbols.specs.declared.tree.Tree.{Tree}
 use Rattle.symbols.specs.declared.Symbols.{Symbols}

@@ -1,10 +1,8 @@
 -- A tree with one name more. For `put`.
-use Rattle.std.proofs.Common.{◌≡◌, refl, sym, ap, ◌∙◌, ◌⊎◌, inl, inr, Bool, true, false, List, ℕ, ◌+◌, ◌-◌, ◌*◌, ◌<◌, ◌≤◌, arith, eqb, get_or-set_same, get_or-set_other, length, length-set, get_or, set, replicate, eqb-true}
+use Rattle.std.proofs.Common.{◌≡◌, refl, sym, ap, ◌∙◌, ◌⊎◌, inl, inr, Bool, true, false, List, ℕ, ◌+◌, ◌*◌, ◌<◌, ◌≤◌, arith, eqb, get_or-set_same, get_or-set_other, length, length-set, get_or, set, replicate, eqb-true}
 use lib.ListN.{length-replicate}
 use borrow.Author.Tests.{eqb-false}
 use Rattle.integers.proofs.Places.{get_or-replicate_same}
-use Rattle.tokens.specs.Unread.{bytes_between}
-use Rattle.tokens.specs.declared.Span.{Span}
 use Rattle.symbols.specs.Links.{hash, first_link, Leads, Keeps}
 use Rattle.symbols.specs.Entry.{place_in, length_in, named}
 use Rattle.symbols.specs.Tree.{IsTree, Vacant, Grows, name_at}

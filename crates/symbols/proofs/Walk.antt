@@ -1,5 +1,5 @@
 -- The walk of a name along its links. For `seat_of`.
-use Rattle.std.proofs.Common.{◌≡◌, refl, sym, ap, ◌∙◌, ◌⊎◌, inl, inr, Bool, true, false, List, [], ◌∷◌, ℕ, zero, suc, ◌+◌, ◌-◌, ◌*◌, ◌/◌, ◌%◌, ◌^◌, ◌<◌, ◌≤◌, arith, eqb, ne_eqb, ltb, length, get_or}
+use Rattle.std.proofs.Common.{◌≡◌, refl, sym, ◌∙◌, inl, inr, Bool, true, false, List, ℕ, zero, suc, ◌+◌, ◌-◌, ◌*◌, ◌/◌, ◌%◌, ◌^◌, ◌<◌, ◌≤◌, arith, eqb, ne_eqb, ltb, get_or}
 use borrow.Author.Tests.{eqb-false}
 use Rattle.std.proofs.lemmas.Slice.Eq.{bytes_eq-Decides}
 use Rattle.integers.specs.Choice.{◌if◌else◌}
@@ -7,7 +7,6 @@ use Rattle.integers.proofs.Tests.{false-true}
 use Rattle.names.specs.Name.{same}
 use Rattle.names.proofs.Names.{same_self}
 use Rattle.symbols.specs.Links.{hash, first_link, side, next_link, leads_in, Leads, Keeps}
-use Rattle.symbols.specs.Entry.{named}
 use Rattle.symbols.specs.Tree.{IsTree, Vacant, name_at}
 use Rattle.symbols.specs.declared.tree.Tree.{Tree}
 

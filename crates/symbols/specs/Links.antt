@@ -1,5 +1,5 @@
 -- The links that a name goes by in the tree of names. That a name is found rests on none of these numbers: only on the same name going by the same links.
-use Rattle.std.specs.Prelude.{List, [], ◌∷◌, fold, ◌≡◌, ◌⊎◌, ℕ, zero, suc, ◌+◌, ◌-◌, ◌*◌, ◌/◌, ◌%◌, ◌^◌, ◌<◌, ltb, get_or}
+use Rattle.std.specs.Prelude.{List, fold, ◌≡◌, ◌⊎◌, ℕ, zero, suc, ◌+◌, ◌-◌, ◌*◌, ◌/◌, ◌%◌, ◌^◌, ◌<◌, ltb, get_or}
 use Rattle.integers.specs.Choice.{◌if◌else◌}
 
 -- a hash and one byte more; the hash of a name

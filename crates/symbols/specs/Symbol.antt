@@ -1,5 +1,5 @@
 -- The symbol table of a text up to a place: what it says of the names declared before that place.
-use Rattle.std.specs.Prelude.{Bool, true, false, List, [], ◌∷◌, ◌++◌, ◌≡◌, ℕ, ◌+◌, ◌<◌, ◌≤◌, length, get_or}
+use Rattle.std.specs.Prelude.{Bool, true, false, List, [], ◌∷◌, ◌++◌, ◌≡◌, ℕ, ◌<◌, ◌≤◌, length, get_or}
 use Rattle.integers.specs.Choice.{◌if◌else◌}
 use Rattle.tokens.specs.Unread.{bytes_between, unread}
 use Rattle.names.specs.Name.{look_up, declared_from}

@@ -1,5 +1,5 @@
 -- The tree of some names of a text, and where a name stands in it.
-use Rattle.std.specs.Prelude.{List, ◌≡◌, ℕ, ◌+◌, ◌-◌, ◌*◌, ◌<◌, ◌≤◌, length, get_or}
+use Rattle.std.specs.Prelude.{List, ◌≡◌, ℕ, ◌+◌, ◌*◌, ◌<◌, ◌≤◌, length, get_or}
 use Rattle.tokens.specs.declared.Span.{Span}
 use Rattle.symbols.specs.Links.{hash, first_link, Leads, Keeps}
 use Rattle.symbols.specs.Entry.{place_in, length_in, named}

@@ -6,7 +6,7 @@ use Rattle.words.specs.Limit as Limit
 use Rattle.words.specs.Refusal.{◌at_place◌, accepted, room_fault}
 use Rattle.tokens.specs.Token.{tokens}
 use Rattle.texts.specs.Text.{words_fault, text_fault, tokens_words}
-use Rattle.lines.proofs.Printed.{later-none}
+use Rattle.words.proofs.Written.{later-none}
 
 limit_for : (room n : ℕ) → (words_fault room n).number ≡ 0 → n ≤ room
 unfolding words_fault room_fault

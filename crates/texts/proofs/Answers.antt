@@ -1,9 +1,9 @@
 -- What a text answers, from what reading it token by token gives. For `read_text`.
-use Rattle.std.proofs.Common.{◌≡◌, refl, sym, ap, ◌∙◌, List, ℕ, ◌<◌, ◌≤◌, length, take, ne_eqb, lt-ltb, le-ltb, Result, Ok, Err}
+use Rattle.std.proofs.Common.{◌≡◌, refl, sym, ap, ◌∙◌, List, ℕ, ◌<◌, ◌≤◌, length, take, ne_eqb, lt-ltb, le-ltb, Ok, Err}
 use Rattle.words.specs.Overlay.{overlay}
 use Rattle.words.proofs.Overlay.{front-over}
 use Rattle.words.specs.Answer.{refused, written, ◌else_answer◌}
-use Rattle.words.specs.Faults.{fault_number, written_of}
+use Rattle.words.specs.Faults.{fault_number}
 use Rattle.words.specs.Refusal.{◌at_place◌, ◌else_refuse◌, accepted, room_fault}
 use Rattle.words.specs.Refusals.{Refusal}
 use Rattle.words.specs.declared.fault.Fault.{Fault}

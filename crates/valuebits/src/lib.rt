@@ -17,7 +17,7 @@ ghost use Rattle.rowsystems.specs.JudgeRows.{judge_rows};
 ghost use Rattle.rowsystems.specs.OneWord.{row_of};
 ghost use Rattle.rowsystems.specs.Row.{product};
 ghost use Rattle.rowsystems.specs.RowSystem.{rows, variable_at, terms_in, constant_in};
-ghost use Rattle.bitforms.specs.Chosen.{left_of, chosen};
+ghost use Rattle.bitforms.specs.Chosen.{chosen};
 ghost use Rattle.bitforms.specs.ValueBits.{bits_of_value, bit_products, own_bits, rows_bits, variable_bits};
 ghost use Rattle.bitforms.specs.Weights.{weights};
 ghost use Rattle.bitlines.specs.Sizes as Size;

@@ -11,5 +11,6 @@ pub mod LaidThen
 pub mod Reading
 pub mod Judge
 pub mod Answers
+pub mod Written
 pub mod Faulty
 pub mod Steps

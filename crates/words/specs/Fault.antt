@@ -1,4 +1,4 @@
--- 01, Numbered faults, 18 to 24 of 02, 25 and 26 of 03: the numbers, each named once. 0 is no fault.
+-- The numbers of the faults, each named once. 0 is no fault.
 use Rattle.std.specs.Prelude.{ℕ}
 
 abbrev pub none : ℕ
@@ -100,10 +100,10 @@ too_many_bits = 23
 abbrev pub form_too_large : ℕ
 form_too_large = 24
 
--- 03, request 15: "a bit is neither 0 nor 1"
+-- a bit is neither 0 nor 1
 abbrev pub not_a_bit : ℕ
 not_a_bit = 25
 
--- 03, request 16: "there is no such variable, or no such direction"
+-- there is no such variable, or no such direction
 abbrev pub no_such_variable : ℕ
 no_such_variable = 26

@@ -1,5 +1,5 @@
 -- A comment, or one byte.
-use Rattle.std.proofs.Common.{rules, sym, ap, ◌∙◌, ℕ, ◌+◌, arith}
+use Rattle.std.proofs.Common.{rules, sym, ap, ◌∙◌, ℕ, ◌+◌}
 use Rattle.tokens.specs.Byte.{in_comment}
 use Rattle.tokens.proofs.Places.{blank_length, comment_length}
 use Rattle.tokens.proofs.gap_length.Goals as goal

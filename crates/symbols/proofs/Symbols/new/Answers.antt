@@ -1,4 +1,3 @@
-use Rattle.std.proofs.Common.{refl}
 use lib.ListN.{length-replicate}
 use Rattle.std.proofs.Common.{ℕ}
 use Rattle.symbols.proofs.Reached.{empty_index}

@@ -1,5 +1,5 @@
 -- The invariant: the table has the numbers of the names declared so far. The measure: the bytes left.
-use Rattle.std.proofs.Common.{◌-◌, ◌≤◌, ◌<◌, length}
+use Rattle.std.proofs.Common.{◌-◌, ◌<◌, length}
 use Rattle.symbols.proofs.Reached.{Tabled}
 use Rattle.symbols.proofs.Symbols.number_names.Given as goal
 

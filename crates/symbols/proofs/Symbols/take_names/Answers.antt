@@ -1,5 +1,5 @@
 -- No name has a number.
-use Rattle.std.proofs.Common.{ℕ, refl, arith}
+use Rattle.std.proofs.Common.{ℕ, refl}
 use lib.ListN.{length-replicate}
 use Rattle.integers.proofs.Places.{get_or-replicate_same}
 use Rattle.symbols.proofs.Symbols.take_names.Goals as goal

@@ -1,6 +1,6 @@
 -- Link by link.
 use Rattle.std.proofs.Common.{refl, sym, ap, ◌∙◌, ℕ, ◌+◌, ◌-◌, ◌*◌, ◌≡◌, arith}
-use Rattle.symbols.specs.Links.{hash, first_link, next_link, side}
+use Rattle.symbols.specs.Links.{first_link, next_link, side}
 use Rattle.symbols.proofs.Walk.{same-equal, begin, next, onward, ends, falls}
 use Rattle.symbols.proofs.tree.Tree.seat_of.Goals as goal
 
