@@ -34,7 +34,7 @@ some-length b xs = go (is_letter b) (starts_number b xs) (starts_dots b xs) (eqb
     go false false false false = omega arith
 
 -- what is left of the token before is passed
-later : (k p : ℕ) (xs : List ℕ) → tokens_from k p xs ≡ tokens_from 0 (p + k) (drop k xs)
+pub later : (k p : ℕ) (xs : List ℕ) → tokens_from k p xs ≡ tokens_from 0 (p + k) (drop k xs)
 unfolding tokens_from
 later zero p xs = ap (λ (q : ℕ). tokens_from 0 q xs) (sym (add-zero p))
 later (suc k) p [] = refl
