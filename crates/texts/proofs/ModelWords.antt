@@ -1,4 +1,4 @@
--- 02, wish 8: the words of a text without a fault are a model's: reading them finds no fault but those that a text leaves to check.
+-- The words of a text without a fault are a model's: reading them finds no fault but those that a text leaves to check.
 use Rattle.std.proofs.Common.{◌≡◌, refl, sym, ◌∙◌, Bool, true, false, ◌&&◌, ◌||◌, List, [], ◌∷◌, ◌++◌, ℕ, zero, suc, ◌+◌, ◌-◌, ◌≤◌, arith, eqb, ltb, length, get_or, eqb-true, ltb-true, ne_eqb, le-ltb, leb-true, ltb-false, take}
 use mathlib.Core.List.{flat_map}
 use Rattle.integers.specs.Choice.{◌if◌else◌}

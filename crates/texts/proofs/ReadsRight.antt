@@ -7,6 +7,7 @@ use Rattle.words.specs.Refusal.{◌at_place◌, accepted, fault_or, ◌else_refu
 use Rattle.words.specs.Refusals.{Refusal}
 use Rattle.words.proofs.Overlay.{front-over}
 use Rattle.tokens.specs.Token.{Token, tokens, end_of}
+use Rattle.tokens.proofs.Lexing.{lexes}
 use Rattle.names.specs.Name.{is_word, variable_of}
 use Rattle.grammar.specs.Value.{value_of}
 use Rattle.grammar.specs.Form.{Form, Missing, One, Many, argument_form}
@@ -136,7 +137,14 @@ module _ (bs out : List ℕ) (n : ℕ) (e : read_text bs (length out) ≡ writte
 
 -- THE LAW, of the call's answer and of what it wrote
 pub reads_right : (bs out : List ℕ) → ReadsRight bs (read_text bs (length out)) (text_read bs out)
-reads_right bs out = record { right = is-right bs (length out); wrong = is-wrong bs (length out); words = written-right bs out }
+reads_right bs out = record {
+  tokens = tokens bs;
+  lexed = (lexes bs (tokens bs)).1 refl;
+  no_others = λ ts. (lexes bs ts).0;
+  right = is-right bs (length out);
+  wrong = is-wrong bs (length out);
+  words = written-right bs out;
+}
 
 pub right_of : (bs before : List ℕ) {after : List ℕ} {answer : Answer} → answer ≡ read_text bs (length before) → after ≡ text_read bs before → ReadsRight bs answer after
 right_of bs before e f = rw (e, f) (reads_right bs before)

@@ -1,5 +1,5 @@
--- 02, wish 8: "write the model words, which check then reads"; what a text may leave to check: an upper bound below its lower one, too many variables or
--- constraints, a list too long, an exponent too large, a variable of the wrong type. So of the words that were written reading finds none of 1, 2, 3, 5, 8, 11 and 18.
+-- What the words of an accepted text may still break: an upper bound below its lower one, too many variables or constraints, a list too long or an exponent too
+-- large, a variable of the wrong type. So reading them as a model finds none of the faults 1, 2, 3, 5, 8, 11 and 18.
 use Rattle.std.specs.Prelude.{◌≡◌, Bool, true, List, [], ◌∷◌, ℕ, eqb, take}
 use Rattle.integers.specs.Lists.{any}
 use Rattle.words.specs.Fault as Fault
