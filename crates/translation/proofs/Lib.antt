@@ -3,3 +3,4 @@ pub mod Tail
 pub mod WriteWalk
 pub mod Over
 pub mod Refusals
+pub mod Front
