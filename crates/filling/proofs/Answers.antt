@@ -1,5 +1,5 @@
 -- The answers of fill of a model that passes the check, and what each leaves in the lent list.
-use Rattle.std.proofs.Common.{◌≡◌, sym, ap, ◌∙◌, false, List, ◌++◌, ℕ, ◌+◌, ◌<◌, ◌≤◌, ℤ, arith, length, length-append, eq-eqb, ne_eqb, lt-ltb, le-ltb}
+use Rattle.std.proofs.Common.{◌≡◌, sym, ap, ◌∙◌, false, List, ◌++◌, ℕ, ◌+◌, ◌<◌, ◌≤◌, ℤ, arith, length, length-append, take, eq-eqb, ne_eqb, lt-ltb, le-ltb}
 use Rattle.words.specs.Variables.{variables}
 use Rattle.words.specs.Overlay.{overlay}
 use Rattle.words.proofs.Overlay.{front-over}
@@ -25,14 +25,22 @@ Gives ws vs out answer out' = (answer ≡ fill ws vs (length out)) × ((out' ≡
 pub none-handed : (ws : List ℕ) {n p : ℕ} (out : List ℤ) → Satisfied ws (refused n p) out
 none-handed ws out m e = clash (cc)
 
+-- how many values and auxiliaries there are, which are the front of what was written
+handed-count : (ws : List ℕ) → Passes ws → (vs : List ℤ) → length vs ≡ length (variables ws) → length (vs ++ picks ws vs) ≡ length (variables ws) + length (auxiliaries ws)
+handed-count ws passes vs e = omega (arith, length-append vs (picks ws vs), e, fill-counts ws passes vs)
+
+pub handed-front : (ws : List ℕ) → Passes ws → (vs : List ℤ) → length vs ≡ length (variables ws) → (out : List ℤ) → length (variables ws) + length (auxiliaries ws) ≤ length out →
+    take (length (variables ws) + length (auxiliaries ws)) (overlay out 0 (vs ++ picks ws vs)) ≡ vs ++ picks ws vs
+handed-front ws passes vs e out l =
+    let n = handed-count ws passes vs e in
+    rw (← n) (front-over out (vs ++ picks ws vs) (omega (arith, n)))
+
 -- what was written satisfies the row system
 handed-over : (ws : List ℕ) → Passes ws → (vs : List ℤ) → SatisfiesModel ws vs → (out : List ℤ) → length (variables ws) + length (auxiliaries ws) ≤ length out →
     Satisfied ws (written (length (variables ws) + length (auxiliaries ws))) (overlay out 0 (vs ++ picks ws vs))
 handed-over ws passes vs s out l m e =
-    let n : length (vs ++ picks ws vs) ≡ length (variables ws) + length (auxiliaries ws) = omega (arith, length-append vs (picks ws vs), s.one_each, fill-counts ws passes vs) in
     let j : m ≡ length (variables ws) + length (auxiliaries ws) = cc in
-    let i : m ≡ length (vs ++ picks ws vs) = j ∙ sym n in
-    rw (i, front-over out (vs ++ picks ws vs) (omega (arith, n))) (fill-satisfies ws passes vs s)
+    rw (j, handed-front ws passes vs s.one_each out l) (fill-satisfies ws passes vs s)
 
 module _ (ws : List ℕ) (passes : Passes ws) (vs : List ℤ) (out : List ℤ) where
   pub wrong-count : (length vs ≡ length (variables ws) → ⊥) → Gives ws vs out (refused 15 0) out
@@ -71,5 +79,4 @@ module _ (ws : List ℕ) (passes : Passes ws) (vs : List ℤ) (out : List ℤ) w
 pub hands-over : (ws : List ℕ) (vs out : List ℤ) {answer : Answer} {out' : List ℤ} → Gives ws vs out answer out' → HandsOver ws vs answer out out'
 hands-over ws vs out g passes s room =
     let h = held ws passes vs out s.one_each room ((judge_model_says ws (passes-read ws passes) vs).1 s) in
-    let n : length (vs ++ picks ws vs) ≡ length (variables ws) + length (auxiliaries ws) = omega (arith, length-append vs (picks ws vs), s.one_each, fill-counts ws passes vs) in
-    (picks ws vs, fill_completes ws passes vs s, λ ys c. (only-fill ws passes vs ys c).1, g.0 ∙ sym h.0 ∙ ap written (sym n), g.1.0 ∙ sym h.1.0)
+    (picks ws vs, fill_completes ws passes vs s, λ ys c. (only-fill ws passes vs ys c).1, g.0 ∙ sym h.0 ∙ ap written (sym (handed-count ws passes vs s.one_each)), g.1.0 ∙ sym h.1.0)

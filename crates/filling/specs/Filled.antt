@@ -1,5 +1,5 @@
--- The answer, in 01's words, of what fill answers.
-use Rattle.std.specs.Prelude.{Result}
+-- The answer of what fill answers; and a fact of how many values it wrote, where it wrote any.
+use Rattle.std.specs.Prelude.{ℕ, Result, Ok, Err, ⊤}
 use Rattle.words.specs.Answer.{Answer, written, out_of_bounds, is_false}
 use Rattle.words.specs.Faults.{answer_of}
 use Rattle.words.specs.declared.fault.Refusal.{Refusal}
@@ -13,3 +13,9 @@ filling_of (False i) = is_false i
 
 abbrev pub handed : Result Filling Refusal → Answer
 handed = answer_of filling_of
+
+abbrev pub IfFilled : Result Filling Refusal → (ℕ → Type 0) → Type 0
+IfFilled (Ok (Values n)) P = P n
+IfFilled (Ok (OutOfBounds i)) P = ⊤
+IfFilled (Ok (False i)) P = ⊤
+IfFilled (Err e) P = ⊤

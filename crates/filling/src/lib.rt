@@ -1,14 +1,14 @@
 // Fill: the values of a model's variables and those of its row system's auxiliaries.
 #![tactic(auto)]
 
-ghost use Rattle.std.specs.Prelude.{◌≡◌, ◌++◌, ◌+◌, ◌<◌, length};
+ghost use Rattle.std.specs.Prelude.{◌≡◌, ◌++◌, ◌+◌, ◌<◌, ◌≤◌, length, take};
 ghost use Rattle.words.specs.Overlay.{overlay};
 ghost use Rattle.rules.specs.Translation.{auxiliaries, picks};
 ghost use Rattle.rules.specs.Fill.{fill as fill_answer, filled};
 ghost use Rattle.sharing.specs.SharedSolutions.{Passes, SatisfiesModel};
 ghost use Rattle.checking.specs.ReadModel.{Listed};
 ghost use Rattle.picking.specs.Output.{Puts};
-ghost use Rattle.filling.specs.Filled.{handed};
+ghost use Rattle.filling.specs.Filled.{handed, IfFilled};
 ghost use Rattle.filling.specs.PicksWritable.{PicksWritable};
 ghost use Rattle.filling.specs.Satisfied.{Satisfied};
 ghost use Rattle.filling.specs.HandsOver.{HandsOver};
@@ -82,6 +82,8 @@ fn fill_passed(
     requires { Listed read.now × Passes read.now.ws.now × (added ≡ length (auxiliaries read.now.ws.now)) }
     ensures answer { handed result ≡ fill_answer read.now.ws.now values.now (length out.old) }
     ensures output { out.new ≡ filled read.now.ws.now values.now out.old }
+    ensures room { IfFilled result (λ n. n ≤ length out.new) }
+    ensures front { IfFilled result (λ n. take n out.new ≡ values.now ++ picks read.now.ws.now values.now) }
     ensures satisfied { Satisfied read.now.ws.now (handed result) out.new }
 {
     let n = read.model.variables;
@@ -113,6 +115,8 @@ fn fill_passed(
 pub fn fill(ws: &[u32], values: &[i32], out: &mut [i32]) -> Result<Filling, Refusal>
     ensures answer { handed result ≡ fill_answer ws.now values.now (length out.old) }
     ensures output { out.new ≡ filled ws.now values.now out.old }
+    ensures room { IfFilled result (λ n. n ≤ length out.new) }
+    ensures front { IfFilled result (λ n. take n out.new ≡ values.now ++ picks ws.now values.now) }
     ensures satisfied { Satisfied ws.now (handed result) out.new }
     ensures completes { HandsOver ws.now values.now (handed result) out.old out.new }
 {

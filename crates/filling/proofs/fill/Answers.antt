@@ -10,7 +10,7 @@ pub returns-in_err-counts : goal.returns-in_err-counts
 returns-in_err-counts c =
     let p = err_from_is_err_and c.from_residual.result c.from_residual.ensures.1 in
     let h = stands c.args.ws.now c.args.values.now c.args.out.now (rw c.of-read.ensures.words at c.in_err-counts.ensures.answer) in
-    rw (p.1, p.2) (record { answer = h.0; output = h.1.0; satisfied = h.1.1; completes = hands-over c.args.ws.now c.args.values.now c.args.out.now h })
+    rw (p.1, p.2) (record { answer = h.0; output = h.1.0; room = tt; front = tt; satisfied = h.1.1; completes = hands-over c.args.ws.now c.args.values.now c.args.out.now h })
 
 pub fill_passed-requires : goal.fill_passed-requires
 fill_passed-requires c =
@@ -21,4 +21,4 @@ fill_passed-requires c =
 pub returns : goal.returns
 returns c =
     let f = rw (c.check_model.ensures.words ∙ c.of-read.ensures.words) at c.fill_passed.ensures in
-    record { answer = f.answer; output = f.output; satisfied = f.satisfied; completes = hands-over c.args.ws.now c.args.values.now c.args.out.now (f.answer, (f.output, f.satisfied)) }
+    record { answer = f.answer; output = f.output; room = f.room; front = f.front; satisfied = f.satisfied; completes = hands-over c.args.ws.now c.args.values.now c.args.out.now (f.answer, (f.output, f.satisfied)) }
