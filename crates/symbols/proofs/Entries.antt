@@ -7,15 +7,13 @@ use Rattle.tokens.specs.Unread.{bytes_between}
 use Rattle.names.specs.Name.{same, look_up}
 use Rattle.names.proofs.Names.{same_self, look_append}
 use Rattle.symbols.specs.Entry.{named}
-use Rattle.symbols.specs.Tree.{Vacant, Grows, name_at}
-use Rattle.symbols.specs.Symbol.{declared_before, IsNew, Indexed, AddsName}
-use Rattle.symbols.specs.declared.tree.Tree.{Tree}
-use Rattle.symbols.specs.declared.Symbols.{Symbols}
+use Rattle.symbols.specs.Tree.{Names, Vacant, Grows, name_at}
+use Rattle.symbols.specs.Symbol.{Table, declared_before, IsNew, Indexed, AddsName}
 use Rattle.symbols.proofs.Walk.{same-equal}
 
 -- ---- a table at one of two places with the same names before them is one at the other
 
-pub same_index : {bs : List ℕ} {p q : ℕ} {s : Symbols} → declared_before bs q ≡ declared_before bs p → Indexed bs p s → Indexed bs q s
+pub same_index : {bs : List ℕ} {p q : ℕ} {s : Table} → declared_before bs q ≡ declared_before bs p → Indexed bs p s → Indexed bs q s
 same_index {bs} {p} {q} {s} e x = record {
   tree = x.tree;
   size = x.size;
@@ -33,7 +31,7 @@ zero_or {A} n f g = go (eqb n 0) refl
 
 -- ---- what is found of a name
 
-module _ {bs : List ℕ} {p : ℕ} {s : Symbols} (i : Indexed bs p s) {x : List ℕ} where
+module _ {bs : List ℕ} {p : ℕ} {s : Table} (i : Indexed bs p s) {x : List ℕ} where
   pub found : {j : ℕ} → (j < s.tree.count) × (x ≡ name_at bs s.tree j) → look_up x 0 (declared_before bs p) ≡ get_or s.numbers j 0
   found {j} q = rw q.1 (i.right j q.0)
 
@@ -42,7 +40,7 @@ module _ {bs : List ℕ} {p : ℕ} {s : Symbols} (i : Indexed bs p s) {x : List 
 
 -- ---- the names after a token that follows no colon
 
-pub none_new : {bs : List ℕ} {place stop : ℕ} {s : Symbols} → AddsName bs place stop false → Indexed bs place s → Indexed bs stop s
+pub none_new : {bs : List ℕ} {place stop : ℕ} {s : Table} → AddsName bs place stop false → Indexed bs place s → Indexed bs stop s
 none_new {bs} {place} d = same_index (d.names ∙ append-nil (declared_before bs place))
 
 -- ---- one name more
@@ -82,16 +80,16 @@ module _ {bs : List ℕ} {place stop : ℕ} (d : AddsName bs place stop true) wh
       go z false q = later y z ∙ rw q (sym z)
 
   -- every name that is declared now was declared before or is this one
-  has_all : (t : Tree) {whole : Bool} → (whole ≡ true → (y : List ℕ) → (look_up y 0 before ≡ 0 → ⊥) → IsNew bs t y → ⊥) → (whole ≡ true → IsNew bs t name → ⊥)
+  has_all : (t : Names) {whole : Bool} → (whole ≡ true → (y : List ℕ) → (look_up y 0 before ≡ 0 → ⊥) → IsNew bs t y → ⊥) → (whole ≡ true → IsNew bs t name → ⊥)
       → whole ≡ true → (y : List ℕ) → (look_up y 0 (declared_before bs stop) ≡ 0 → ⊥) → IsNew bs t y → ⊥
   has_all t all here w y h n = zero_or (look_up y 0 before) (λ z. let e = new_name y z h in here w (rw e at n)) (λ z. all w y z n)
 
-  module _ {s : Symbols} (i : Indexed bs place s) where
+  module _ {s : Table} (i : Indexed bs place s) where
     -- the table has not the name, and is not whole
-    pub absent : {l : ℕ} {new : Symbols} → Vacant bs s.tree name l → new.tree ≡ s.tree → new.numbers ≡ s.numbers → new.whole ≡ false → Indexed bs stop new
+    pub absent : {l : ℕ} {new : Table} → Vacant bs s.tree name l → new.tree ≡ s.tree → new.numbers ≡ s.numbers → new.whole ≡ false → Indexed bs stop new
     absent {l} {new} n t m w = record {
       tree = rw t i.tree;
-      size = rw m i.size;
+      size = rw (t, m) i.size;
       right = rw (t, m) (λ j h. stays (name_at bs s.tree j) (λ z e. n.none j h (sym e)) ∙ i.right j h);
       all = λ x. false-true (sym w ∙ x);
     }
@@ -123,7 +121,7 @@ module _ {bs : List ℕ} {place stop : ℕ} (d : AddsName bs place stop true) wh
             rw (get_or-set_other s.numbers j k (length before + 1) 0 o) (stays (name_at bs s.tree k) (λ z' r. o (i.tree.distinct k j f h (r ∙ e))) ∙ i.right k f)
 
     -- it has not the name, and takes it
-    module _ (w : s.whole ≡ true) {l : ℕ} (n : Vacant bs s.tree name l) (r : s.tree.count < 8192) {t : Tree} (g : Grows bs s.tree t name) where
+    module _ (w : s.whole ≡ true) {l : ℕ} (n : Vacant bs s.tree name l) (r : s.tree.count < length s.tree.entries) {t : Names} (g : Grows bs s.tree t name) where
       undeclared : look_up name 0 before ≡ 0
       undeclared = zero_or (look_up name 0 before) (λ z. z) (λ z. absurd (i.all w name z n.none))
 
@@ -133,7 +131,7 @@ module _ {bs : List ℕ} {place stop : ℕ} (d : AddsName bs place stop true) wh
       pub taken_in : Indexed bs stop (record s { tree = t; numbers = set s.numbers s.tree.count (length before + 1) })
       taken_in = record {
         tree = g.tree;
-        size = length-set s.numbers s.tree.count (length before + 1) ∙ i.size;
+        size = length-set s.numbers s.tree.count (length before + 1) ∙ i.size ∙ sym g.room;
         right = λ k f. go k f (eqb k s.tree.count) refl;
         all = has_all t (λ w y h m. i.all w y h (λ k f q. m k (let c = g.count in omega (arith, f, c)) (q ∙ sym (same_name k f))))
             (λ w m. m s.tree.count (let c = g.count in omega (arith, c)) (sym g.last));

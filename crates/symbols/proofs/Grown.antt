@@ -1,26 +1,22 @@
 -- A tree with one name more. For `put`.
-use Rattle.std.proofs.Common.{◌≡◌, refl, sym, ap, ◌∙◌, ◌⊎◌, inl, inr, Bool, true, false, List, ℕ, ◌+◌, ◌*◌, ◌<◌, ◌≤◌, arith, eqb, get_or-set_same, get_or-set_other, length, length-set, get_or, set, replicate, eqb-true}
-use lib.ListN.{length-replicate}
+use Rattle.std.proofs.Common.{◌≡◌, refl, sym, ap, ◌∙◌, ◌⊎◌, inl, inr, Bool, true, false, List, ℕ, ◌+◌, ◌*◌, ◌<◌, ◌≤◌, arith, eqb, get_or-set_same, get_or-set_other, length, length-set, get_or, set, eqb-true}
 use borrow.Author.Tests.{eqb-false}
-use Rattle.integers.proofs.Places.{get_or-replicate_same}
 use Rattle.symbols.specs.Links.{hash, first_link, Leads, Keeps}
 use Rattle.symbols.specs.Entry.{place_in, length_in, named}
-use Rattle.symbols.specs.Tree.{IsTree, Vacant, Grows, name_at}
-use Rattle.symbols.specs.declared.tree.Tree.{Tree}
+use Rattle.symbols.specs.Tree.{Names, Roomy, IsTree, Vacant, Grows, name_at}
 use Rattle.symbols.proofs.Walk.{leads_kept}
 
 -- ---- no name
 
-pub no_names : (bs : List ℕ) → IsTree bs (record { count = 0; entries = replicate 8192 0; links = replicate 24576 0 })
-no_names bs = record {
-  room = length-replicate {A = ℕ} 8192 0;
-  size = length-replicate {A = ℕ} 24576 0;
-  few = omega arith;
-  fits = λ s. rw (get_or-replicate_same {A = ℕ} 24576 s 0) (omega arith);
-  later = λ s h. absurd (h (get_or-replicate_same {A = ℕ} 24576 s 0));
-  inside = λ i h. absurd (omega (arith, h));
-  distinct = λ i j h. absurd (omega (arith, h));
-  leads = λ i h. absurd (omega (arith, h));
+pub no_names : {t : Names} → Roomy t → t.count ≡ 0 → ((s : ℕ) → get_or t.links s 0 ≡ 0) → (bs : List ℕ) → IsTree bs t
+no_names r c z bs = record {
+  room = r;
+  few = omega (arith, c);
+  fits = λ s. rw (z s) (omega arith);
+  later = λ s h. absurd (h (z s));
+  inside = λ i h. absurd (omega (arith, c, h));
+  distinct = λ i j h. absurd (omega (arith, c, h));
+  leads = λ i h. absurd (omega (arith, c, h));
 }
 
 -- ---- a list with one word set has at each other place the word it had
@@ -34,15 +30,15 @@ set_cases l i e s h = go (eqb s i) refl
 
 -- ---- one name more
 
-module _ {bs : List ℕ} {t : Tree} (i : IsTree bs t) {x : List ℕ} {s : ℕ} (n : Vacant bs t x s) (r : t.count < 8192) (e : ℕ) (f : place_in e + length_in e ≤ length bs) (q : named bs e ≡ x) where
+module _ {bs : List ℕ} {t : Names} (i : IsTree bs t) {x : List ℕ} {s : ℕ} (n : Vacant bs t x s) (r : t.count < length t.entries) (e : ℕ) (f : place_in e + length_in e ≤ length bs) (q : named bs e ≡ x) where
   abbrev after : List ℕ
   after = set t.links s (t.count + 1)
 
-  abbrev new : Tree
+  abbrev new : Names
   new = record { count = t.count + 1; entries = set t.entries t.count e; links = after }
 
   low : s < length t.links
-  low = let a = n.inside in let b = i.size in omega (arith, a, b, r)
+  low = let a = n.inside in let b = i.room.size in omega (arith, a, b, r)
 
   here : get_or after s 0 ≡ t.count + 1
   here = get_or-set_same t.links s (t.count + 1) 0 low
@@ -54,7 +50,7 @@ module _ {bs : List ℕ} {t : Tree} (i : IsTree bs t) {x : List ℕ} {s : ℕ} (
   old_entry j h = get_or-set_other t.entries t.count j e 0 (λ o. omega (arith, h, o))
 
   new_entry : get_or (set t.entries t.count e) t.count 0 ≡ e
-  new_entry = let a = i.room in get_or-set_same t.entries t.count e 0 (omega (arith, a, r))
+  new_entry = get_or-set_same t.entries t.count e 0 r
 
   fits_here : (u : ℕ) → (get_or after u 0 ≡ get_or t.links u 0) ⊎ ((u ≡ s) × (get_or after u 0 ≡ t.count + 1)) → get_or after u 0 ≤ t.count + 1
   fits_here u (inl o) = let a = i.fits u in omega (arith, o, a)
@@ -97,12 +93,15 @@ module _ {bs : List ℕ} {t : Tree} (i : IsTree bs t) {x : List ℕ} {s : ℕ} (
   pub grown : Grows bs t new x
   grown = record {
     count = refl;
+    room = length-set t.entries t.count e;
     kept = old_entry;
     last = ap (named bs) new_entry ∙ q;
     tree = record {
-      room = length-set t.entries t.count e ∙ i.room;
-      size = length-set t.links s (t.count + 1) ∙ i.size;
-      few = omega (arith, r);
+      room = record {
+        few = rw (length-set t.entries t.count e) i.room.few;
+        size = rw (length-set t.links s (t.count + 1), length-set t.entries t.count e) i.room.size;
+      };
+      few = rw (length-set t.entries t.count e) (omega (arith, r));
       fits = λ u. fits_here u (set_cases t.links s (t.count + 1) u low);
       later = λ u h. later_here u h (set_cases t.links s (t.count + 1) u low);
       inside = λ j h. inside_here j (eqb j t.count) refl h;

@@ -10,8 +10,7 @@ use Rattle.tokens.specs.Sorts.{sort_number}
 use Rattle.names.specs.Name.{look_up, declared_from}
 use Rattle.symbols.proofs.Entries.{same_index}
 use Rattle.symbols.specs.Tree.{IsTree}
-use Rattle.symbols.specs.Symbol.{declared_before, AddsName, Indexed, Cleared}
-use Rattle.symbols.specs.declared.Symbols.{Symbols}
+use Rattle.symbols.specs.Symbol.{Table, declared_before, AddsName, Indexed, Cleared}
 
 -- no token from a place on stands before it
 none_before : (c : Bool) (p q left : ℕ) (l : List ℕ) → p ≤ q → declared_from c p (tokens_from left q l) ≡ []
@@ -94,7 +93,7 @@ pub nothing_declared : (bs : List ℕ) → declared_before bs 0 ≡ []
 unfolding declared_before
 nothing_declared bs = none_here false bs 0
 
-pub cleared_index : {bs : List ℕ} {s : Symbols} → Cleared bs s → Indexed bs 0 s
+pub cleared_index : {bs : List ℕ} {s : Table} → Cleared bs s → Indexed bs 0 s
 unfolding look_up
 cleared_index {bs} {s} c = record {
   tree = c.tree;
@@ -103,7 +102,7 @@ cleared_index {bs} {s} c = record {
   all = λ w. absurd (false-true (sym c.lost ∙ w));
 }
 
-pub empty_index : {s : Symbols} → ((bs : List ℕ) → IsTree bs s.tree) → s.tree.count ≡ 0 → length s.numbers ≡ 8192 → (bs : List ℕ) → Indexed bs 0 s
+pub empty_index : {s : Table} → ((bs : List ℕ) → IsTree bs s.tree) → s.tree.count ≡ 0 → length s.numbers ≡ length s.tree.entries → (bs : List ℕ) → Indexed bs 0 s
 unfolding look_up
 empty_index {s} t c l bs = record {
   tree = t bs;
@@ -113,11 +112,11 @@ empty_index {s} t c l bs = record {
 }
 
 -- The names declared up to a place, and the table that has them.
-pub record Tabled (bs : List ℕ) (i k : ℕ) (colon : Bool) (s : Symbols) : Type 0 where
+pub record Tabled (bs : List ℕ) (i k : ℕ) (colon : Bool) (s : Table) : Type 0 where
   pub reached : Reached bs i k colon
   pub index : Indexed bs i s
 
-module _ {bs : List ℕ} {i k : ℕ} {colon : Bool} {s : Symbols} (b : Tabled bs i k colon s) where
+module _ {bs : List ℕ} {i k : ℕ} {colon : Bool} {s : Table} (b : Tabled bs i k colon s) where
   module _ {t : Span} (m : Met bs i t) where
     pub index-here : Indexed bs t.place s
     index-here = same_index (at-token b.reached m) b.index
@@ -125,7 +124,7 @@ module _ {bs : List ℕ} {i k : ℕ} {colon : Bool} {s : Symbols} (b : Tabled bs
     pub count-here : length (declared_before bs t.place) ≡ k
     count-here = ap length (at-token b.reached m) ∙ b.reached.count
 
-    pub next-table : {new : Symbols} {n : ℕ} → n ≡ (k + 1 if colon else k) → Indexed bs t.stop new → Tabled bs t.stop n (eqb (sort_number t.sort) 58) new
+    pub next-table : {new : Table} {n : ℕ} → n ≡ (k + 1 if colon else k) → Indexed bs t.stop new → Tabled bs t.stop n (eqb (sort_number t.sort) 58) new
     next-table e x = record { reached = rw e (next b.reached m); index = x }
 
     -- at a place up to which no other token begins

@@ -7,8 +7,7 @@ use Rattle.integers.proofs.Tests.{false-true}
 use Rattle.names.specs.Name.{same}
 use Rattle.names.proofs.Names.{same_self}
 use Rattle.symbols.specs.Links.{hash, first_link, side, next_link, leads_in, Leads, Keeps}
-use Rattle.symbols.specs.Tree.{IsTree, Vacant, name_at}
-use Rattle.symbols.specs.declared.tree.Tree.{Tree}
+use Rattle.symbols.specs.Tree.{Names, IsTree, Vacant, name_at}
 
 -- ---- the same bytes are the same name
 
@@ -76,7 +75,7 @@ leads_nowhere links x d s w e z l = l.leads (λ n. nowhere_in n links x d s w e 
 -- ---- the walk
 
 -- A name has come to a link at a depth, which leads to the v-th name, counted from 1: where it is one of the tree's, it is led on to it from here.
-pub record Walked (bs : List ℕ) (t : Tree) (x : List ℕ) (d s v : ℕ) : Type 0 where
+pub record Walked (bs : List ℕ) (t : Names) (x : List ℕ) (d s v : ℕ) : Type 0 where
   pub here : get_or t.links s 0 ≡ v
   pub deep : (v ≡ 0 → ⊥) → d < v
   pub inside : s < 8192 + 2 * t.count
@@ -84,7 +83,7 @@ pub record Walked (bs : List ℕ) (t : Tree) (x : List ℕ) (d s v : ℕ) : Type
   pub on : (i : ℕ) → i < t.count → x ≡ name_at bs t i → Leads t.links x d s (i + 1)
   pub trail : (w : ℕ) (after : List ℕ) → Keeps t.links after → Leads after x d s w → Leads after x 0 (first_link (hash x)) w
 
-module _ {bs : List ℕ} {t : Tree} (i : IsTree bs t) (x : List ℕ) where
+module _ {bs : List ℕ} {t : Names} (i : IsTree bs t) (x : List ℕ) where
   pub begin : (s v : ℕ) → s ≡ first_link (hash x) → s < 8192 → v ≡ get_or t.links s 0 → Walked bs t x 0 s v
   begin s v e l h = record {
     here = sym h;
@@ -129,9 +128,9 @@ module _ {bs : List ℕ} {t : Tree} (i : IsTree bs t) (x : List ℕ) where
 
 -- ---- the measure of the walk
 
-pub falls : (v y : ℕ) → (v ≡ 0 → ⊥) → v ≤ 8192 → ((y ≡ 0 → ⊥) → v < y) → (0 if eqb y 0 else 8193 - y) < (0 if eqb v 0 else 8193 - v)
+pub falls : (v y : ℕ) → (v ≡ 0 → ⊥) → v ≤ 65535 → ((y ≡ 0 → ⊥) → v < y) → (0 if eqb y 0 else 65536 - y) < (0 if eqb v 0 else 65536 - v)
 falls v y z l n = rw (ne_eqb v 0 z) (go (eqb y 0) refl)
   where
-    go : (b : Bool) → eqb y 0 ≡ b → (0 if b else 8193 - y) < 8193 - v
+    go : (b : Bool) → eqb y 0 ≡ b → (0 if b else 65536 - y) < 65536 - v
     go true q = omega (arith, l)
     go false q = let m = n (eqb-false y 0 q) in omega (arith, l, m)

@@ -2,27 +2,28 @@
 // The text, the place and a name stay parameters, and what the table says of a text a clause: the table outlives the place, which moves on at each token.
 #![tactic(auto)]
 
-ghost use Rattle.std.specs.Prelude.{List, ℕ, true, ◌≡◌, ◌+◌, ◌<◌, ◌≤◌, length};
+ghost use Rattle.std.specs.Prelude.{List, ℕ, true, ◌≡◌, ◌+◌, ◌<◌, ◌≤◌, length, get_or, replicate};
 ghost use Rattle.integers.specs.Choice.{◌if◌else◌};
 ghost use Rattle.names.specs.Name.{look_up};
 ghost use Rattle.names.specs.Found.{found_number};
-ghost use Rattle.symbols.specs.Symbol.{declared_before, Indexed, Cleared, Enterable};
+ghost use Rattle.symbols.specs.Tree.{Roomy};
+ghost use Rattle.symbols.specs.Symbol.{table_of, declared_before, Sized, Indexed, Cleared, Enterable};
 
 pub mod tree;
 
 use names::variable_of;
 use tokens::sort::Sort;
 use tokens::{Span, next_token};
-use tree::{ROOM, Seat, Tree};
+use tree::{Seat, Tree};
 
-// The names declared up to a place of a text; a table of its own, since a map of the library takes memory from the heap.
-// A text with more names than the table has room for has more words than a model may have, but a fault of its own comes first: from there on the table has
-// the names that the text goes on with, as many as there is room for, and the text up to there is read again to find which of them are declared.
+// The names declared up to a place of a text, in lent lists: a map of the library takes memory from the heap.
+// Where a text has more names than there is room for, the table goes on with the names that the text goes on with, as many as there is room for, and the
+// text up to there is read again to find which of them are declared.
 #[derive(Drop)]
-pub struct Symbols {
-    pub tree: Tree,
+pub struct Symbols<'a> {
+    pub tree: Tree<'a>,
     // 1 more than the number of each name's variable, 0 where it is not declared
-    pub numbers: [usize; ROOM],
+    pub numbers: &'a mut [usize],
     // whether it has all names that are declared; else the text is walked for a name that it has not
     pub whole: bool,
     // the place up to which it has the names that the text goes on with
@@ -38,14 +39,32 @@ fn is_looked_up(before: Sort, sort: Sort) -> bool {
         )
 }
 
-impl Symbols {
-    // The table of no names.
-    pub fn new() -> Symbols
-        ensures { (bs : List ℕ) → Indexed bs 0 result }
+// Makes every number of a list 0.
+fn clear(list: &mut [usize])
+    ensures { list.new ≡ replicate (length list.old) 0 }
+{
+    list.fill(0);
+}
+
+impl<'a> Symbols<'a> {
+    // The table of no names, over lists with room for some and for their links, which lead nowhere.
+    pub fn over(
+        entries: &'a mut [u64],
+        links: &'a mut [u16],
+        numbers: &'a mut [usize],
+    ) -> Symbols<'a>
+        requires room { Roomy (record { count = 0; entries = entries.old; links = links.old }) }
+        requires size { length numbers.old ≡ length entries.old }
+        requires clear { (i : ℕ) → get_or links.old i 0 ≡ 0 }
+        ensures { (bs : List ℕ) → Indexed bs 0 (table_of result) }
     {
         Symbols {
-            tree: Tree::new(),
-            numbers: [0; ROOM],
+            tree: Tree {
+                count: 0,
+                entries,
+                links,
+            },
+            numbers,
             whole: true,
             until: usize::MAX,
         }
@@ -53,7 +72,7 @@ impl Symbols {
 
     // The number of the variable of a name, if it is declared before a place.
     pub fn variable(&self, text: &[u8], place: usize, name: &[u8]) -> Option<usize>
-        requires { Indexed text.now place self.now }
+        requires { Indexed text.now place (table_of self.now) }
         ensures { found_number result ≡ look_up name.now 0 (declared_before text.now place) }
     {
         match self.tree.seat_of(text, name) {
@@ -75,8 +94,8 @@ impl Symbols {
 
     // Enters the name that a token is as variable k, where the table has the name or room for it.
     fn enter(&mut self, text: &[u8], k: usize, token: Span)
-        requires { Enterable text.now token.place token.stop k true self.old }
-        ensures { Indexed text.now token.stop self.new }
+        requires { Enterable text.now token.place token.stop k true (table_of self.old) }
+        ensures { Indexed text.now token.stop (table_of self.new) }
     {
         match self.tree.seat_of(text, token.bytes(text)) {
             Seat::Taken(i) => {
@@ -103,9 +122,9 @@ impl Symbols {
     // Enters the name that a token is as variable k, if it follows a colon, and answers the next number. `colon` stays a parameter: that the
     // table is right after the token is promised of every token, and the loop over tokens has no case for it.
     fn note(&mut self, text: &[u8], k: usize, colon: bool, token: Span) -> usize
-        requires { Enterable text.now token.place token.stop k colon self.old }
+        requires { Enterable text.now token.place token.stop k colon (table_of self.old) }
         ensures next { result ≡ (k + 1 if colon else k) }
-        ensures index { Indexed text.now token.stop self.new }
+        ensures index { Indexed text.now token.stop (table_of self.new) }
     {
         if !colon {
             return k;
@@ -117,8 +136,8 @@ impl Symbols {
     // Takes the name that a token after one of a sort is, if it is looked up there; answers whether there was room.
     fn take_token(&mut self, text: &[u8], before: Sort, token: Span) -> bool
         requires stands { (token.place ≤ token.stop) × (token.stop ≤ length text.now) }
-        requires clear { Cleared text.now self.old }
-        ensures { Cleared text.now self.new }
+        requires clear { Cleared text.now (table_of self.old) }
+        ensures { Cleared text.now (table_of self.new) }
     {
         if !is_looked_up(before, token.sort) {
             return true;
@@ -130,14 +149,23 @@ impl Symbols {
         true
     }
 
+    // Forgets all names and numbers.
+    fn clear(&mut self)
+        requires { Sized (table_of self.old) }
+        ensures { (bs : List ℕ) → Cleared bs (table_of self.new) }
+    {
+        self.tree.clear();
+        clear(self.numbers);
+        self.whole = false;
+    }
+
     // Takes the names that the text goes on with in place of those that it has.
     fn take_names(&mut self, text: &[u8], at: usize)
-        requires { at ≤ length text.now }
-        ensures { Cleared text.now self.new }
+        requires inside { at ≤ length text.now }
+        requires size { Sized (table_of self.old) }
+        ensures { Cleared text.now (table_of self.new) }
     {
-        self.tree = Tree::new();
-        self.numbers = [0; ROOM];
-        self.whole = false;
+        self.clear();
         self.until = usize::MAX;
         let mut at = at;
         let mut before = Sort::Comma;
@@ -154,8 +182,8 @@ impl Symbols {
     // Numbers the names that are declared up to a place.
     fn number_names(&mut self, text: &[u8], place: usize)
         requires inside { (0 < place) × (place ≤ length text.now) }
-        requires clear { Cleared text.now self.old }
-        ensures { Indexed text.now place self.new }
+        requires clear { Cleared text.now (table_of self.old) }
+        ensures { Indexed text.now place (table_of self.new) }
     {
         let mut at = 0;
         let mut k = 0;
@@ -175,9 +203,9 @@ impl Symbols {
 
     // Enters a token as `note` does. Where the table has no more of the names that the text goes on with, it takes the next ones.
     pub fn declare(&mut self, text: &[u8], k: usize, colon: bool, token: Span) -> usize
-        requires { Enterable text.now token.place token.stop k colon self.old × (0 < token.stop) }
+        requires { Enterable text.now token.place token.stop k colon (table_of self.old) × (0 < token.stop) }
         ensures next { result ≡ (k + 1 if colon else k) }
-        ensures index { Indexed text.now token.stop self.new }
+        ensures index { Indexed text.now token.stop (table_of self.new) }
     {
         let next = self.note(text, k, colon, token);
         if token.stop < self.until {

@@ -2,23 +2,18 @@
 // by a bit of the hash, then of its own bytes. So it passes no more names than it and a hash have bits, whatever the names are.
 #![tactic(auto)]
 
-ghost use Rattle.std.specs.Prelude.{List, ℕ, true, ◌≡◌, ◌+◌, ◌<◌, ◌≤◌, length};
+ghost use Rattle.std.specs.Prelude.{List, ℕ, true, ◌≡◌, ◌+◌, ◌<◌, ◌≤◌, length, replicate};
 ghost use Rattle.names.specs.Name.{same};
 ghost use Rattle.tokens.specs.Unread.{bytes_between};
 ghost use Rattle.symbols.specs.Links.{mix, hash, first_link, side};
 ghost use Rattle.symbols.specs.Entry.{place_in, length_in, named};
-ghost use Rattle.symbols.specs.Tree.{IsTree, FindsSeat, Vacant, HasRoom, Grows};
+ghost use Rattle.symbols.specs.Tree.{names_of, Roomy, IsTree, FindsSeat, Vacant, HasRoom, Grows};
 
 use tokens::Span;
 use words::list::at_or;
 
-// the names that there is room for: one for each word of the longest model
-pub const ROOM: usize = 8192;
-
-// the first links, and these with two for each name
+// the first links
 const ROOTS: usize = 8192;
-
-const LINKS: usize = 24576;
 
 // a hash is below HASHES; MULTIPLIER is that over the golden ratio
 const HASHES: u64 = 4294967296;
@@ -31,13 +26,13 @@ const PLACES: usize = 288230376151711744;
 const LENGTHS: usize = 64;
 
 #[derive(Drop)]
-pub struct Tree {
+pub struct Tree<'a> {
     // how many names it has
     pub count: usize,
-    // the place and the length of each
-    pub entries: [u64; ROOM],
-    // 1 more than the number of the name that a link leads to, 0 where it leads nowhere
-    pub links: [u16; LINKS],
+    // the place and the length of each, in a lent list of as many as there is room for
+    pub entries: &'a mut [u64],
+    // of the first links and then of two for each name: 1 more than the number of the name that a link leads to, 0 where it leads nowhere
+    pub links: &'a mut [u16],
 }
 
 // Where a name stands: its number, or the link that leads nowhere and is to lead to it.
@@ -103,24 +98,29 @@ fn entry_of(place: usize, bytes: usize) -> u64
     (place * LENGTHS + bytes) as u64
 }
 
-impl Tree {
-    // The tree of no names.
-    pub fn new() -> Tree
-        ensures empty { result.count ≡ 0 }
-        ensures tree { (bs : List ℕ) → IsTree bs result }
+// Makes every number of a list 0.
+fn clear(list: &mut [u16])
+    ensures { list.new ≡ replicate (length list.old) 0 }
+{
+    list.fill(0);
+}
+
+impl<'a> Tree<'a> {
+    // Forgets all names.
+    pub fn clear(&mut self)
+        requires { Roomy (names_of self.old) }
+        ensures room { length self.new.entries.now ≡ length self.old.entries.now }
+        ensures tree { (bs : List ℕ) → IsTree bs (names_of self.new) }
     {
-        Tree {
-            count: 0,
-            entries: [0; ROOM],
-            links: [0; LINKS],
-        }
+        self.count = 0;
+        clear(self.links);
     }
 
     // Whether there is room for the name that a token is.
     pub fn has_room(&self, token: Span) -> bool
-        ensures { result ≡ true → HasRoom self.now token }
+        ensures { result ≡ true → HasRoom (names_of self.now) token }
     {
-        if ROOM <= self.count || PLACES <= token.place {
+        if self.entries.len() <= self.count || PLACES <= token.place {
             return false;
         }
         token.stop < token.place + LENGTHS
@@ -128,8 +128,8 @@ impl Tree {
 
     // Where a name stands. A `while`, since a link leads to a later name and the names before it are not counted.
     pub fn seat_of(&self, text: &[u8], name: &[u8]) -> Seat
-        requires { IsTree text.now self.now }
-        ensures { FindsSeat text.now self.now name.now result }
+        requires { IsTree text.now (names_of self.now) }
+        ensures { FindsSeat text.now (names_of self.now) name.now result }
     {
         let h = hash_of(name);
         let mut link = first_link(h);
@@ -149,10 +149,10 @@ impl Tree {
     // Puts the name that a token is where it stands.
     pub fn put(&mut self, text: &[u8], link: usize, token: Span)
         requires stands { (token.place ≤ token.stop) × (token.stop ≤ length text.now) }
-        requires tree { IsTree text.now self.old }
-        requires free { Vacant text.now self.old (bytes_between text.now token.place token.stop) link }
-        requires room { HasRoom self.old token }
-        ensures { Grows text.now self.old self.new (bytes_between text.now token.place token.stop) }
+        requires tree { IsTree text.now (names_of self.old) }
+        requires free { Vacant text.now (names_of self.old) (bytes_between text.now token.place token.stop) link }
+        requires room { HasRoom (names_of self.old) token }
+        ensures { Grows text.now (names_of self.old) (names_of self.new) (bytes_between text.now token.place token.stop) }
     {
         self.entries[self.count] = entry_of(token.place, token.stop - token.place);
         self.links[link] = self.count as u16 + 1;
@@ -162,9 +162,10 @@ impl Tree {
     // Puts the name that a token is, if it is none of its names.
     pub fn take_in(&mut self, text: &[u8], token: Span)
         requires stands { (token.place ≤ token.stop) × (token.stop ≤ length text.now) }
-        requires tree { IsTree text.now self.old }
-        requires room { HasRoom self.old token }
-        ensures { IsTree text.now self.new }
+        requires tree { IsTree text.now (names_of self.old) }
+        requires room { HasRoom (names_of self.old) token }
+        ensures room { length self.new.entries.now ≡ length self.old.entries.now }
+        ensures tree { IsTree text.now (names_of self.new) }
     {
         match self.seat_of(text, token.bytes(text)) {
             Seat::Taken(_) => {}

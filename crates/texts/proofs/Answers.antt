@@ -5,7 +5,6 @@ use Rattle.words.proofs.Overlay.{front-over}
 use Rattle.words.specs.Answer.{refused, written, ◌else_answer◌}
 use Rattle.words.specs.Faults.{fault_number}
 use Rattle.words.specs.Refusal.{◌at_place◌, ◌else_refuse◌, accepted, room_fault}
-use Rattle.words.specs.Refusals.{Refusal}
 use Rattle.words.specs.declared.fault.Fault.{Fault}
 use Rattle.words.specs.declared.fault.Refusal as error
 use Rattle.words.proofs.Faulty.{fault-number, fault-refuses, fault-answers}

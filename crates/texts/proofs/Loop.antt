@@ -45,11 +45,11 @@ module _ {bs before out : List ℕ} {i n : ℕ} {due : Due} (l : Left bs before 
 
     pub ends-well : accepted ≡ fault_or (step (tokens bs) due (end_of (length bs)) []).fault (length bs) accepted → ReadsTokens bs before (Ok n) out
     unfolding fault_from
-    ends-well e = record { fault = e ∙ end-fault; words = (end-count, end-words) }
+    ends-well e = record { fault = e ∙ end-fault; words = (end-count, end-words); few = omega (arith, l.fewer, l.inside) }
 
     pub ends-early : (x : error.Refusal) → fault_number x.fault at_place x.place ≡ fault_or (step (tokens bs) due (end_of (length bs)) []).fault (length bs) accepted → ReadsTokens bs before (Err x) out
     unfolding fault_from
-    ends-early x e = record { fault = e ∙ end-fault; words = tt }
+    ends-early x e = record { fault = e ∙ end-fault; words = tt; few = tt }
 
   -- a token stands here
   module _ {t : Span} (m : Met bs i t) where
@@ -65,6 +65,7 @@ module _ {bs before out : List ℕ} {i n : ℕ} {due : Due} (l : Left bs before 
     stop-reads e f p = record {
       fault = sym (sym l.faults ∙ rw (m.found, f, p) (fault-refuses e.fault t.place _));
       words = tt;
+      few = tt;
     }
 
     -- it has none, and writes a word or none

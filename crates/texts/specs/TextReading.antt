@@ -1,5 +1,5 @@
--- What reading token by token answers: the first fault, or how many words there are, and the list with the words over its front.
-use Rattle.std.specs.Prelude.{List, ◌≡◌, ℕ, ◌+◌, length, set, Option, MatchOption, Result, IfOk}
+-- What reading token by token answers: the first fault, or how many words there are, no more than bytes, and the list with the words over its front.
+use Rattle.std.specs.Prelude.{List, ◌≡◌, ℕ, ◌+◌, ◌≤◌, length, set, Option, MatchOption, Result, IfOk}
 use Rattle.words.specs.Overlay.{overlay}
 use Rattle.words.specs.Faults.{refusal_of}
 use Rattle.words.specs.declared.fault.Refusal as error
@@ -13,3 +13,4 @@ AddsWord word old n new next = MatchOption word ((next ≡ n) × (new ≡ old)) 
 pub record ReadsTokens (bs before : List ℕ) (r : Result ℕ error.Refusal) (out : List ℕ) : Type 0 where
   pub fault : refusal_of r ≡ tokens_fault (tokens bs) (length bs)
   pub words : IfOk r (λ n. (n ≡ length (tokens_words (tokens bs))) × (out ≡ overlay before 0 (tokens_words (tokens bs))))
+  pub few : IfOk r (λ n. n ≤ length bs)

@@ -7,7 +7,7 @@ use Rattle.texts.proofs.Loop.{begin, again, stands, stop-reads, ends-well, ends-
 use Rattle.texts.proofs.read_tokens.Goals as goal
 
 pub loop-t-init : goal.loop-t-init
-loop-t-init c = (begin c.args.text.now c.args.out.now, record { reached = Reached.begin c.args.text.now; index = c.new-symbols.ensures c.args.text.now })
+loop-t-init c = (begin c.args.text.now c.args.out.now, record { reached = Reached.begin c.args.text.now; index = c.requires })
 
 pub step_at-requires : goal.step_at-requires
 step_at-requires c = (stands c.in-Some.ensures, index-here c.loop-t.invariant.1 c.in-Some.ensures)

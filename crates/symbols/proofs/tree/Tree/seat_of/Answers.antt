@@ -23,7 +23,7 @@ pub loop-v-smaller : goal.loop-v-smaller
 loop-v-smaller c =
     let e : 8192 + 2 * (c.loop-v.v - 1) + c.side.result ≡ next_link c.args.name.now c.loop-v.depth c.loop-v.v =
     ap (λ (n : ℕ). 8192 + 2 * (c.loop-v.v - 1) + n) (c.side.ensures.0 ∙ ap (λ (h : ℕ). side h c.args.name.now c.loop-v.depth) c.hash_of-h.ensures) in
-    falls c.loop-v.v _ c.loop-v-test.true (omega (arith, c.loop-v.invariant.fits, c.requires.few)) (onward c.requires c.args.name.now c.loop-v.invariant c.loop-v-test.true _ _ e refl)
+    falls c.loop-v.v _ c.loop-v-test.true (omega (arith, c.loop-v.invariant.fits, c.requires.few, c.requires.room.few)) (onward c.requires c.args.name.now c.loop-v.invariant c.loop-v-test.true _ _ e refl)
 
 pub returns : goal.returns
 returns c = ends c.requires c.args.name.now c.loop-v.invariant c.loop-v-test.false

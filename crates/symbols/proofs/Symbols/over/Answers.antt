@@ -1,0 +1,8 @@
+-- No name, no link.
+use Rattle.std.proofs.Common.{refl}
+use Rattle.symbols.proofs.Grown.{no_names}
+use Rattle.symbols.proofs.Reached.{empty_index}
+use Rattle.symbols.proofs.Symbols.over.Goals as goal
+
+pub returns : goal.returns
+returns c = empty_index (no_names c.requires.room refl c.requires.clear) refl c.requires.size
