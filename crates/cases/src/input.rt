@@ -1,9 +1,14 @@
 // Reads cases from standard input.
+ghost use Rattle.std.specs.Prelude.{◌≡◌, ◌<◌, List, ℕ, length, IfOk, MatchOption};
+ghost use Rattle.std.specs.Io.KnownBytes.{Consumes, IsAtEnd};
+ghost use Rattle.cases.specs.HeadBytes.{number_at, head_of};
+
 use crate::lent::Element;
+use encoding::word_of_bytes;
 use inputs::read_full;
 use std::io;
 use std::io::Read;
-use words::list::put;
+use words::list::{at_or, put};
 
 // The bytes of a head.
 const HEAD: usize = 16;
@@ -24,19 +29,43 @@ fn next<R: Read>(input: &mut R) -> io::Result<u32> {
     Ok(u32::from_le_bytes(bytes))
 }
 
-// The head of the next case, where the input has all of it.
-pub fn next_head<R: Read>(input: &mut R) -> io::Result<Option<Head>> {
+// Number k of the bytes of a head.
+#[tactic(auto, unfolding(crate::specs::HeadBytes::number_at))]
+fn number_at(bytes: &[u8], k: usize) -> u32
+    requires { k < 4 }
+    ensures { result ≡ number_at bytes.now k }
+{
+    let at = 4 * k;
+    word_of_bytes(
+        at_or(bytes, at, 0),
+        at_or(bytes, at + 1, 0),
+        at_or(bytes, at + 2, 0),
+        at_or(bytes, at + 3, 0),
+    )
+}
+
+// The head that bytes write.
+#[tactic(auto, unfolding(crate::specs::HeadBytes::head_of))]
+fn head_of(bytes: &[u8]) -> Head
+    ensures { result ≡ head_of bytes.now }
+{
+    Head {
+        call: number_at(bytes, 0),
+        room: number_at(bytes, 1) as usize,
+        words: number_at(bytes, 2) as usize,
+        values: number_at(bytes, 3) as usize,
+    }
+}
+
+// The head of the next case: that of the next 16 bytes of the input. None where the input ends before them.
+pub fn next_head<R: Read>(input: &mut R) -> io::Result<Option<Head>>
+    ensures { IfOk result (λ found. MatchOption found (IsAtEnd (R.remaining input.new)) (λ head. (bytes : List ℕ) × (length bytes ≡ 16) × (head ≡ head_of bytes) × Consumes (R.remaining input.old) (R.remaining input.new) bytes)) }
+{
     let mut bytes = [0u8; HEAD];
     if read_full(input, &mut bytes)? < HEAD {
         return Ok(None);
     }
-    let mut numbers: &[u8] = &bytes;
-    Ok(Some(Head {
-        call: next(&mut numbers)?,
-        room: next(&mut numbers)? as usize,
-        words: next(&mut numbers)? as usize,
-        values: next(&mut numbers)? as usize,
-    }))
+    Ok(Some(head_of(&bytes)))
 }
 
 // Reads n elements to the front of a list; those that do not fit are dropped.

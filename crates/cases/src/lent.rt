@@ -1,6 +1,7 @@
 // The lists that are read, or lent to calls that write: their elements, their fronts, and whether what a call may not write still stands after it.
-ghost use Rattle.std.specs.Prelude.{◌≡◌, ◌≤◌, drop, length, min, take};
+ghost use Rattle.std.specs.Prelude.{◌≡◌, ◌≤◌, drop, length, min, take, negsuc};
 ghost use Rattle.std.specs.Fn.{FnOnceReturnsAtMut};
+ghost use Rattle.std.specs.List.{list_all};
 
 use std::fmt;
 
@@ -8,6 +9,8 @@ use std::fmt;
 pub trait Element: Copy + PartialEq {
     // What it holds before the call.
     const MARK: Self;
+
+    ghost MARK: { Self };
 
     // The element that a number of a case stands for.
     fn of_number(number: u32) -> Self;
@@ -19,6 +22,8 @@ pub trait Element: Copy + PartialEq {
 // A word: eight hexadecimal digits, a blank before them.
 impl Element for u32 {
     const MARK: u32 = 3735928559;
+
+    ghost MARK = { 3735928559 };
 
     fn of_number(number: u32) -> u32 {
         number
@@ -33,6 +38,8 @@ impl Element for u32 {
 impl Element for i32 {
     const MARK: i32 = -559038737;
 
+    ghost MARK = { negsuc 559038736 };
+
     fn of_number(number: u32) -> i32 {
         number.cast_signed()
     }
@@ -45,6 +52,8 @@ impl Element for i32 {
 // A byte: the lowest one of the number; two hexadecimal digits.
 impl Element for u8 {
     const MARK: u8 = 165;
+
+    ghost MARK = { 165 };
 
     fn of_number(number: u32) -> u8 {
         (number % 256) as u8
@@ -95,9 +104,19 @@ pub fn lend<T, A, F: FnOnce(&mut [T]) -> A>(list: &mut [T], n: usize, call: F) -
     call(&mut list[..k])
 }
 
-// Whether every element from a place on is as it was before the call.
-pub fn is_marked<T: Element>(list: &[T], from: usize) -> bool {
-    list.iter().skip(from).all(|&x| x == T::MARK)
+// Whether every element of a list is as it was before the call.
+fn all_marked<T: Element>(list: &[T]) -> bool
+    ensures { result ≡ list_all (λ x. T.eq x T.MARK) list.now }
+{
+    list.iter().all(|&x| x == T::MARK)
+}
+
+// Whether every element from a place on is.
+#[tactic(auto, using(std::proofs::lemmas::List::drop_min))]
+pub fn is_marked<T: Element>(list: &[T], from: usize) -> bool
+    ensures { result ≡ list_all (λ x. T.eq x T.MARK) (drop from list.now) }
+{
+    all_marked(&list[within(list, from)..])
 }
 
 // The place of the first element that is as it was before the call.

@@ -1,0 +1,12 @@
+-- A case begins with four numbers of 32 bits, the lowest byte first: the call, the room, how many words, how many values.
+use Rattle.std.specs.Prelude.{List, ℕ, ◌+◌, ◌*◌, get_or}
+use Rattle.encoding.specs.Bytes.{bytes_word}
+use Rattle.cases.specs.declared.input.Head.{Head}
+
+-- number k of the bytes of a head, counted from 0
+unfoldable pub number_at : List ℕ → ℕ → ℕ
+number_at bytes k = bytes_word (get_or bytes (4 * k) 0) (get_or bytes (4 * k + 1) 0) (get_or bytes (4 * k + 2) 0) (get_or bytes (4 * k + 3) 0)
+
+-- the head that 16 bytes write
+unfoldable pub head_of : List ℕ → Head
+head_of bytes = record { call = number_at bytes 0; room = number_at bytes 1; words = number_at bytes 2; values = number_at bytes 3 }

@@ -1,0 +1,2 @@
+-- What the contracts of the cases cite.
+pub mod HeadBytes
