@@ -12,13 +12,13 @@ alone, are seen:
     its minimum   up to 30 bits: clasp, a solver that minimises such forms exactly, finds 0 with a value list's bits fixed exactly when the values
                   satisfy the row system (the model); where it meets too many conflicts, what it found until then is no less
 
-Nothing is known here of slacks and products: all bits behind those of the variables are just bits. Where clasp is missing, Debian's package is
-installed if that can be done; if not, one line says so. All other forms are only read. No row system and few models may be refused. Exit status 1
+Nothing is known here of slacks and products: all bits behind those of the variables are just bits. Where clasp is missing, tests/packages.py says
+what becomes of it. All other forms are only read. No row system and few models may be refused. Exit status 1
 at the first difference."""
 import itertools, math, random, shutil, subprocess, sys
 
 sys.dont_write_bytecode = True
-import solver
+import packages, solver
 
 BITS = 10        # the call's number in suite
 ALL = 14         # so many bits are tried on all lists
@@ -260,8 +260,7 @@ def try_models(rng, number):
 
 def main():
     number, seed = [int(a) for a in sys.argv[1:]] + [200, 1][len(sys.argv) - 1:]
-    if not solver.installed('clasp', 'clasp'):
-        print('bits: clasp is not here, forms of more than 14 bits are only read')
+    packages.are_here('bits', 'clasp')
     for name, tried, few in ('row systems', try_rows, 0), ('models', try_models, number // 20):
         try:
             count = tried(random.Random(seed), number)

@@ -1,10 +1,13 @@
 #!/usr/bin/env python3
-"""Runs the command `pearrummy` as tests/command/runs.txt records it, in that folder, and compares what it prints and its exit status; where
-MiniZinc is installed also those of minizinc.txt.
+"""Runs the command `pearrummy` as tests/command/runs.txt records it, in that folder, and compares what it prints and its exit status; with
+MiniZinc also those of minizinc.txt (where it is missing, tests/packages.py says what becomes of it).
 
 A run is a line `$ pearrummy ..`, perhaps with `< FILE` or `> FILE` at its end, then what stands on standard output, what stands on standard error
 behind `! `, and `[STATUS]`. --write records what the command prints now. The command, target/pearrummy, is there already."""
-import difflib, os, shlex, shutil, subprocess, sys
+import difflib, os, shlex, subprocess, sys
+
+sys.dont_write_bytecode = True
+import packages
 
 TOP = os.path.dirname(os.path.dirname(os.path.abspath(__file__)))
 FOLDER = os.path.join(TOP, 'tests', 'command')
@@ -24,9 +27,7 @@ def output(line):
 
 
 failed = 0
-if not shutil.which('minizinc'):
-    print('command: MiniZinc is not here, minizinc.txt is left out')
-for name in ['runs.txt'] + ['minizinc.txt'] * bool(shutil.which('minizinc')):
+for name in ['runs.txt'] + ['minizinc.txt'] * packages.are_here('command', 'minizinc'):
     path = os.path.join(FOLDER, name)
     recorded = open(path, newline='\n').read()
     printed, count = '', 0

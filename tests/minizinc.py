@@ -10,7 +10,7 @@ Always, with the recorded FlatZinc of each model (NAME.fzn, by `minizinc -c --so
                   give a text or a fault of one line
     text, check   read each text, the damaged ones' too; check accepts it, or refuses it as expected.json says
 
-Where minizinc and fzn-gecode are here, or Debian's packages minizinc and flatzinc can be installed: each model is flattened anew, with the paths of
+With minizinc and fzn-gecode (where they are missing, tests/packages.py says what becomes of it): each model is flattened anew, with the paths of
 its items, every constraint of its text names a line of the model, and the solutions of its text, cut down to the names of the model, are those that
 Gecode has of the model by MiniZinc's own library, as many as expected.json says. fill and judge_rows take the first solutions. A library that has
 array_bool_or by `clause`, so that MiniZinc drops constraints, must be seen by its 10 solutions for 3. expected.json names the models of which Gecode is wrong, with the count by hand, and those whose text has more solutions than the
@@ -18,7 +18,7 @@ model, since MiniZinc's own decompositions leave variables free."""
 import concurrent.futures, glob, itertools, json, os, random, re, subprocess, sys, tempfile
 
 sys.dont_write_bytecode = True
-import solver
+import packages, solver
 
 HERE = os.path.join(solver.ROOT, 'tests', 'minizinc')
 SOLVER = os.path.join(solver.ROOT, 'minizinc', 'rows.msc')
@@ -367,13 +367,13 @@ def main():
         record(names)
         return 0
     expected = json.loads(read(os.path.join(HERE, 'expected.json')))
+    both = packages.are_here('minizinc', 'minizinc', 'fzn-gecode')
     try:
         if sorted(expected) != every:
             fail(f'models and expected.json differ in {sorted(set(expected) ^ set(every))}')
         recorded(names, expected)
         print(f'minizinc: {len(names)} recorded files, {len(FAULTS)} faults, {len(NAMES)} texts with names, {DAMAGED} damaged files of which {damaged(names)} give a text')
-        if not solver.installed('minizinc', 'minizinc') or not solver.installed('fzn-gecode', 'flatzinc'):
-            print('minizinc: MiniZinc or Gecode is not here, no model is flattened anew')
+        if not both:
             return 0
         chosen = [name for name in names if 'solutions' in expected[name]]
         with concurrent.futures.ThreadPoolExecutor(2) as pool:

@@ -11,11 +11,11 @@ Always, with the recorded FlatZinc of each model (NAME.fzn, by `minizinc -c --ke
     program       what is no FlatZinc at all is a fault of one line
     command       with a `minizinc` that prints recorded and damaged texts: the answers of ANSWERS, and of COMMENTS
 
-Where minizinc is here, or Debian's package can be installed: FAULTS and ANSWERS with MiniZinc itself. The command, target/pearrummy, is there already."""
+With minizinc (where it is missing, tests/packages.py says what becomes of it): FAULTS and ANSWERS with MiniZinc itself. The command, target/pearrummy, is there already."""
 import os, random, re, subprocess, sys, tempfile
 
 sys.dont_write_bytecode = True
-import minizinc, solver
+import minizinc, packages, solver
 from minizinc import fail, flattened, read
 
 PLACES = os.path.join(minizinc.HERE, 'places')
@@ -271,13 +271,13 @@ def main():
     if '--record' in sys.argv:
         record()
         return 0
+    is_here = packages.are_here('places', 'minizinc')
     try:
         recorded()
         paths()
         damaged()
         print(f'places: {len(TEXTS)} recorded texts, {len(FAULTS)} faults, {len(PATHS)} paths, {DAMAGED} damaged ones, {program()} runs of flatten.py, {command()} of the command')
-        if not solver.installed('minizinc', 'minizinc'):
-            print('places: MiniZinc is not here')
+        if not is_here:
             return 0
         with_minizinc()
         print(f'places: with MiniZinc {len(FAULTS) - len(STANDARD)} faults and {len(ANSWERS)} answers name the lines of their models')

@@ -15,9 +15,12 @@ items that Gecode reads, where Gecode only gets besides what it is to print and 
     judge_rows    what fill writes, and that with one value changed
     solutions     Gecode's solutions, in its order: the first variable changes slowest, values rise
 
-Where Gecode is missing, Debian's package `flatzinc` is installed if that can be done; if not, one line says so and nothing is compared.
+Where Gecode is missing, tests/packages.py says what becomes of it.
 Exit status 1 at the first difference, which is printed with the model's words and FlatZinc texts."""
-import collections, concurrent.futures, itertools, math, os, random, re, shutil, struct, subprocess, sys
+import collections, concurrent.futures, itertools, math, os, random, re, struct, subprocess, sys
+
+sys.dont_write_bytecode = True
+import packages
 
 ROOT = os.path.dirname(os.path.dirname(os.path.abspath(__file__)))
 SUITE = os.path.join(ROOT, 'crates', 'suite', 'out', 'suite')
@@ -558,24 +561,9 @@ def compare(job):
             sum(c.known for c in cases))
 
 
-def installed(program, package):
-    """Whether a program is here, after an attempt to install its Debian package if it is not."""
-    install = ['apt-get', '-qq', '-y', '--no-install-recommends', 'install', package]
-    for command in (install, ['apt-get', '-qq', 'update'], install):
-        if shutil.which(program) or not shutil.which('apt-get') or os.geteuid():
-            break
-        try:
-            subprocess.run(command + ['-o', 'Acquire::Retries=0', '-o', 'Acquire::http::Timeout=10'], stdin=subprocess.DEVNULL, capture_output=True,
-                           env=dict(os.environ, DEBIAN_FRONTEND='noninteractive'), timeout=120)
-        except subprocess.TimeoutExpired:
-            break
-    return shutil.which(program)
-
-
 def main():
     count, seed = [int(a) for a in sys.argv[1:]] + [400, 1][len(sys.argv) - 1:]
-    if not installed('fzn-gecode', 'flatzinc'):
-        print('solver: Gecode is not here, skipped')
+    if not packages.are_here('solver', 'fzn-gecode'):
         return 0
     if not os.path.exists(SUITE):
         print('solver: crates/suite/out/suite is not here: rt ci makes it, and rt run in its folder')

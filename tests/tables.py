@@ -5,10 +5,14 @@
     tests/tables.py --check   only say whether they are up to date
 
 believed: the files of specs/ that the contracts of the calls for C and their structs, of the programs rows, sheet, text and bits and of the digits cite, and those that
-these stand on, with their lines, all and without signatures. edits: the must-fail edits with the first line of each, `# what is wrong`.
+these stand on, with their lines, all and without signatures. clauses: every clause of the calls, of their forms for C and of the functions that lay out
+what the programs print, as tests/clauses.py reads them. edits: the must-fail edits with the first line of each, `# what is wrong`.
 Every `CRATE/EDIT`, `CRATE/specs/FILE` or `CRATE/specs` FILE with the names behind it, `CRATE::FUNCTION`, and any other file, crate or module that this
 page, README.md, docs/DECISIONS.md and docs/changes name must be there."""
 import functools, glob, os, re, sys
+
+sys.dont_write_bytecode = True
+import clauses
 
 TOP = os.path.dirname(os.path.dirname(os.path.abspath(__file__)))
 PAGE = os.path.join(TOP, 'docs', 'PROMISES.md')
@@ -77,6 +81,15 @@ def believed_table():
     yield f'| together | {total[0]:,} | {total[1]:,} |'
 
 
+def clauses_table():
+    yield '| Function | Clause | What it says |'
+    yield '|---|---|---|'
+    for crate, _, function in clauses.recorded_functions():
+        for kind, name, text in function.clauses:
+            said = text.replace('|', '\\|')
+            yield f'| `{crate}::{function.name}` | {kind} {name} | `{said}` |'.replace('  |', ' |')
+
+
 def edits_table():
     yield '| Crate | Edit | What is wrong |'
     yield '|---|---|---|'
@@ -120,7 +133,7 @@ def check_names(where, page):
 
 def main():
     old = new = open(PAGE).read()
-    for name, table in (('believed', believed_table), ('edits', edits_table)):
+    for name, table in (('believed', believed_table), ('clauses', clauses_table), ('edits', edits_table)):
         mark = re.compile(rf'(<!-- {name} -->\n).*?(<!-- end -->)', re.S)
         if not mark.search(new):
             sys.exit(f'{PAGE}: no place for the table {name}')
