@@ -1,8 +1,9 @@
 //! Calls the library and the twin on the same input and compares all that can be seen afterwards.
 
-use crate::answers::{Counts, Judgement, AUXILIARIES, FALSE, HOLDS, OUT_OF_BOUNDS, REFUSED};
+use crate::answers::{Counts, Judgement, Written, AUXILIARIES, FALSE, HOLDS, OUT_OF_BOUNDS, REFUSED};
 use crate::inputs::{self, Form, Input, Random};
 use crate::library::{self, Lent};
+use crate::names::Case;
 use crate::twin::{self, kind, payload, CODES, CONSTRAINT};
 use std::collections::BTreeMap;
 use std::fmt::{Debug, LowerHex};
@@ -179,7 +180,7 @@ impl<T: Pattern> Guarded<T> {
 pub struct Comparer {
     seed: u64,
     index: u64,
-    family: &'static str,
+    family: String,
     words: Guarded<u32>,
     bytes: Guarded<u8>,
     values: Guarded<i32>,
@@ -199,7 +200,7 @@ impl Comparer {
         Comparer {
             seed,
             index: 0,
-            family: "",
+            family: String::new(),
             words: Guarded::new(),
             bytes: Guarded::new(),
             values: Guarded::new(),
@@ -219,7 +220,7 @@ impl Comparer {
         let mut random = Random::new(self.seed, index);
         let input = inputs::input(&mut random);
         self.index = index;
-        self.family = input.family;
+        self.family = input.family.into();
         let null = index % 2 == 1;
         (self.words.null, self.bytes.null, self.values.null) = (null, null, null);
         (self.out_words[0].null, self.out_values[0].null, self.out_bytes[0].null) = (null, null, null);
@@ -433,21 +434,47 @@ impl Comparer {
         let model = twin::text_words(&text);
         let needed = model.as_ref().map_or(0, Vec::len);
         let room = random.pick(&[needed, needed, needed + 1, needed + 40, needed.saturating_sub(1), needed / 2, 0]);
-        let [ours, theirs] = &mut self.out_words;
-        ours.set_room(room);
-        theirs.set_room(room);
-        let library = library::text(self.bytes.lend(), ours.lend());
-        let twin = twin::text(&text, theirs.list_mut());
-        let unchanged = self.bytes.unchanged(&text);
-        if library != twin || ours.all != theirs.all || !unchanged {
-            let outputs = first_difference(&ours.all, &theirs.all);
-            let told = format!("library {library:?}\ntwin    {twin:?}\nbytes unchanged: {unchanged}{outputs}\ntext: {}", text.escape_ascii());
-            self.differ(Call::Text, words, &[], Some(room), told);
-        }
+        let twin = self.text_into(&text, room);
         self.count(Call::Text, twin.fault, u32::from(twin.fault == 0));
         if let Ok(model) = model {
             self.words.set(&model, 0);
             self.check(&model);
+        }
+    }
+
+    /// Text into a list of so many words; the text is lent.
+    fn text_into(&mut self, text: &[u8], room: usize) -> Written {
+        let [ours, theirs] = &mut self.out_words;
+        ours.set_room(room);
+        theirs.set_room(room);
+        let library = library::text(self.bytes.lend(), ours.lend());
+        let twin = twin::text(text, theirs.list_mut());
+        let unchanged = self.bytes.unchanged(text);
+        if library != twin || ours.all != theirs.all || !unchanged {
+            let outputs = first_difference(&ours.all, &theirs.all);
+            let told = format!("library {library:?}\ntwin    {twin:?}\nbytes unchanged: {unchanged}{outputs}\ntext: {}", text.escape_ascii());
+            self.differ(Call::Text, &[], &[], Some(room), told);
+        }
+        twin
+    }
+
+    /// A text of names into a list of the right length and, where it is accepted, into one that is too short.
+    pub fn names(&mut self, case: &Case) {
+        self.family.clone_from(&case.label);
+        self.bytes.set(&case.text, 0);
+        let needed = twin::text_words(&case.text).map_or(0, |model| model.len());
+        let answer = self.text_into(&case.text, needed);
+        if (answer.fault, answer.place) != (case.fault, case.place) {
+            self.differ(
+                Call::Text,
+                &[],
+                &[],
+                Some(needed),
+                format!("both sides {answer:?}\nmade as {} {}\ntext: {}", case.fault, case.place, case.text.escape_ascii()),
+            );
+        }
+        if answer.fault == 0 {
+            self.text_into(&case.text, needed - 1);
         }
     }
 
