@@ -6,7 +6,7 @@
 #include <time.h>
 #include <ucontext.h>
 
-enum { MODEL = 8192, ROWS = 262144, IN_ALL = 4096, LISTS = 65536, LISTED = 8, FORM = 524288, FEW_ROWS = 1024, ROUNDS = 9 };
+enum { MODEL = 8192, ROWS = 262144, IN_ALL = 4096, LISTS = 65536, LISTED = 8, FORM = 524288, FEW_ROWS = 1024, MIXED_VALUES = 3, MIXED_BITS = 37, ROUNDS = 9 };
 
 static uint32_t words[MODEL + 68], rows[ROWS]; /* a constraint that does not fit is put and taken back */
 static uint8_t bytes[4 * MODEL], page[81 * ROWS]; /* no row system prints more than a line for each of its words */
@@ -193,6 +193,16 @@ static void make_bits_rows(size_t total) {
     row_words = at;
 }
 
+/* A row system with a product and a row of each kind, true of zeros: 4 bits of each factor, 8 of the result, 16 of their products, 5 of the slack. */
+static void make_mixed_rows(void) {
+    static const uint32_t system[] = {0x10000000, 0x2000000F, 0x10000000, 0x2000000F, 0x80000000, 0x900000E1, 0xC0000000, 0x50000002, 0x50000000, 0x50000001,
+                                      0xA0000002, 0x50000000, 0x6FFFFFFF, 0x50000001, 0x6FFFFFFF, 0x60000000, 0xB0000001, 0x50000002, 0x60000001, 0x60000000, 0xF0000000};
+    memcpy(rows, system, sizeof system);
+    memset(filled, 0, MIXED_VALUES * sizeof *filled);
+    memset(page, 0, MIXED_BITS);
+    row_words = sizeof system / sizeof *system;
+}
+
 /* A text of 256 variables, one of them Boolean, and 256 constraints, sums of 13 and 14 terms in turn: 8,192 words. */
 static void make_text(void) {
     text_bytes = 0;
@@ -219,6 +229,10 @@ static int judge_rows(void) { return pearrummy_judge_rows(rows, row_words, fille
 static int sheet(void) { return pearrummy_sheet(rows, row_words, page, sizeof page).fault == 0; }
 
 static int bits(void) { return pearrummy_bits(rows, row_words, form, FORM).fault == 0; }
+static int bit_values(void) { return pearrummy_bit_values(rows, row_words, page, MIXED_BITS, filled, IN_ALL).fault == 0; }
+static int bit_energy(void) { return pearrummy_bit_energy(rows, row_words, page, MIXED_BITS).fault == 0; }
+static int value_bits(void) { return pearrummy_value_bits(rows, row_words, filled, MIXED_VALUES, page, MIXED_BITS).said == PEARRUMMY_HOLDS; }
+static int best_bits(void) { return pearrummy_best_bits(rows, row_words, 0, PEARRUMMY_LEAST, form, FORM).fault == 0; }
 static int text(void) { return pearrummy_text(page, text_bytes, words, MODEL).words == MODEL; }
 static int solutions(void) { return pearrummy_solutions(words, length, listed, room).solutions == LISTS; }
 
@@ -329,6 +343,11 @@ static void measure_stack(void) {
     printf("pearrummy_text %zu\n", stack_of(text) - none);
     make_bits_rows(FEW_ROWS);
     printf("pearrummy_bits %zu\n", stack_of(bits) - none);
+    make_mixed_rows();
+    printf("pearrummy_bit_values %zu\n", stack_of(bit_values) - none);
+    printf("pearrummy_bit_energy %zu\n", stack_of(bit_energy) - none);
+    printf("pearrummy_value_bits %zu\n", stack_of(value_bits) - none);
+    printf("pearrummy_best_bits %zu\n", stack_of(best_bits) - none);
     make_small(MODEL);
     room = LISTS * LISTED;
     printf("pearrummy_solutions %zu\n", stack_of(solutions) - none);

@@ -105,7 +105,7 @@ static void tell_token(const char *token, size_t length) {
 }
 
 static int refuse(uint32_t fault, size_t place) {
-    int placeless = fault == PEARRUMMY_TOO_MANY_WORDS || fault == PEARRUMMY_WRONG_VALUE_COUNT || fault == PEARRUMMY_OUTPUT_TOO_SHORT || fault >= PEARRUMMY_TOO_MANY_LISTS;
+    int placeless = fault == PEARRUMMY_TOO_MANY_WORDS || fault == PEARRUMMY_WRONG_VALUE_COUNT || fault == PEARRUMMY_OUTPUT_TOO_SHORT || (fault >= PEARRUMMY_TOO_MANY_LISTS && fault != PEARRUMMY_NOT_A_BIT);
     size_t byte = 0;
     int has_byte = byte_of(fault, place, &byte);
     struct position p = position_of(&in, byte);
@@ -126,7 +126,7 @@ static int refuse(uint32_t fault, size_t place) {
     fprintf(stderr, "pearrummy: %s: fault %" PRIu32, in.name, fault);
     if (in_model.file) fprintf(stderr, " at %s line %zu", in_model.file, in_model.line);
     else if (has_byte) fprintf(stderr, " at line %zu, column %zu%s", p.line, p.column, in.flattened ? " of its FlatZinc" : "");
-    else if (!placeless) fprintf(stderr, " at word %zu", place);
+    else if (!placeless) fprintf(stderr, " at %s %zu", fault == PEARRUMMY_NOT_A_BIT ? "bit" : "word", place);
     if (has_byte && p.length) tell_token(in.bytes + byte, p.length);
     if (has_byte && !p.length) fprintf(stderr, ", the end of the text");
     fprintf(stderr, ": %s\n", pearrummy_fault_text(fault));

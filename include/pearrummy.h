@@ -17,10 +17,10 @@ extern "C" {
 #endif
 
 /* The second number rises with every change of an answer: a builtin, a call, a row or a limit more. */
-#define PEARRUMMY_VERSION "1.14.3"
+#define PEARRUMMY_VERSION "1.15.0"
 #define PEARRUMMY_VERSION_MAJOR 1
-#define PEARRUMMY_VERSION_MINOR 14
-#define PEARRUMMY_VERSION_PATCH 3
+#define PEARRUMMY_VERSION_MINOR 15
+#define PEARRUMMY_VERSION_PATCH 0
 
 /* Limits; what passes one is refused. */
 #define PEARRUMMY_MODEL_WORDS 8192
@@ -32,15 +32,15 @@ extern "C" {
 #define PEARRUMMY_EXPONENT 27
 #define PEARRUMMY_TERMS 66
 #define PEARRUMMY_ENCODED_VALUES 64
-#define PEARRUMMY_VALUES 4096 /* variables and auxiliaries; so many values are always enough room for fill */
+#define PEARRUMMY_VALUES 4096 /* variables and auxiliaries; so many values are always enough room for fill and bit_values */
 #define PEARRUMMY_LOWEST (-134217727)
 #define PEARRUMMY_HIGHEST 134217727
 #define PEARRUMMY_NAME_BYTES 32
 #define PEARRUMMY_LISTED_VARIABLES 8
 #define PEARRUMMY_LISTED_LISTS 65536 /* 8 times as many values are always enough room for solutions */
-#define PEARRUMMY_BITS 1024
+#define PEARRUMMY_BITS 1024 /* so many bytes are always enough room for value_bits */
 #define PEARRUMMY_BIT_NUMBERS 16384
-#define PEARRUMMY_FORM_WORDS 1574402 /* so many are always enough room for bits */
+#define PEARRUMMY_FORM_WORDS 1574402 /* so many are always enough room for bits and best_bits */
 
 /* The faults; 0 is none. */
 enum pearrummy_fault {
@@ -68,13 +68,15 @@ enum pearrummy_fault {
     PEARRUMMY_OUTSIDE_RANGE = 21,
     PEARRUMMY_TOO_MANY_LISTS = 22,
     PEARRUMMY_TOO_MANY_BITS = 23,
-    PEARRUMMY_FORM_TOO_LARGE = 24
+    PEARRUMMY_FORM_TOO_LARGE = 24,
+    PEARRUMMY_NOT_A_BIT = 25,
+    PEARRUMMY_NO_SUCH_VARIABLE = 26
 };
 
 /* A fault in words, in English and ASCII; for a number that is no fault's, a text that says so. Never null. */
 const char *pearrummy_fault_text(uint32_t fault);
 
-/* What a judge or fill says. */
+/* What a judge, fill or value_bits says. */
 enum {
     PEARRUMMY_REFUSED = 0,       /* the words, the number of values or the lent list have a fault: its number in `fault`, its place in `at` */
     PEARRUMMY_HOLDS = 1,         /* the values keep every bound, and every constraint or row is true of them */
@@ -100,7 +102,7 @@ struct pearrummy_counts {
     size_t words;
 };
 
-/* What translate, text and bits answer: `fault` 0 and how many words they wrote, or a fault, its place, and 0 words. */
+/* What translate, text, bits and best_bits answer: `fault` 0 and how many words they wrote, or a fault, its place, and 0 words. */
 struct pearrummy_written {
     uint32_t fault;
     size_t place;
@@ -112,6 +114,26 @@ struct pearrummy_printed {
     uint32_t fault;
     size_t place;
     size_t bytes;
+};
+
+/* What bit_values answers: `fault` 0 and how many values it wrote, or a fault, its place, and 0 values. */
+struct pearrummy_values {
+    uint32_t fault;
+    size_t place;
+    size_t values;
+};
+
+/* What bit_energy answers: `fault` 0 and the energy, or a fault, its place, and 0. */
+struct pearrummy_energy {
+    uint32_t fault;
+    size_t place;
+    int64_t energy;
+};
+
+/* Which value of a variable best_bits takes for the best. */
+enum {
+    PEARRUMMY_LEAST = 0,
+    PEARRUMMY_GREATEST = 1
 };
 
 /* What reason says. */
@@ -203,6 +225,33 @@ struct pearrummy_judgement pearrummy_pair_fill(const uint32_t *words, size_t wor
  * bits is beyond 16,384 or an entry or the constant is outside the range, and 16; the last three have place 0. Words past the end keep their
  * values; a refusal changes nothing. Stack: 145 KiB. */
 struct pearrummy_written pearrummy_bits(const uint32_t *words, size_t words_count, uint32_t *out, size_t out_count);
+
+/* The way back from bits. Bits are lent as bytes, one a bit, 0 or 1, numbered as the form of bits numbers them, those of slacks and products too; the
+ * energy at bits is the sum of every row's square and of what its products of bits cost. Faults of the row words come first, 1 to 5, 9 to 11, 14, 17
+ * and 18, then 23 above 1,024 bits. */
+
+/* Writes the value of every variable and auxiliary that bits read as, its lower bound and the sum of its bits' weights, to the front of `out`. The
+ * values keep every bound, and where the energy is 0 they satisfy the row system. After 23 comes 15 where the number of bits is not that of the
+ * form, 25 where one is neither 0 nor 1, its place the first such bit, and 16. Values past the end keep theirs; a refusal changes nothing.
+ * Stack: 129 KiB. */
+struct pearrummy_values pearrummy_bit_values(const uint32_t *words, size_t words_count, const uint8_t *bits, size_t bits_count, int32_t *out, size_t out_count);
+
+/* The energy at bits: the value there of the form that bits writes, where it writes one; never below 0, and 0 only where what the bits read as
+ * satisfies the row system. After 23 come 15 and 25 as there, then 24 where the energy is 2^62 or more. Stack: 129 KiB. */
+struct pearrummy_energy pearrummy_bit_energy(const uint32_t *words, size_t words_count, const uint8_t *bits, size_t bits_count);
+
+/* Judges values of a row system's variables and auxiliaries as judge-rows does, 15 among its faults, and, where they hold, writes bits that read as
+ * them and whose energy is 0 to the front of `out`, a byte a bit, and puts into `at` how many there are; then 23 and 16. Bytes past the end keep
+ * their values; any other answer changes nothing. Stack: 129 KiB. */
+struct pearrummy_judgement pearrummy_value_bits(const uint32_t *words, size_t words_count, const int32_t *values, size_t values_count, uint8_t *out, size_t out_count);
+
+/* Writes the words of a form over the same bits, whose least bits read as a best solution, to the front of `out`: the form of bits taken M times,
+ * and how far a variable or auxiliary, `variable`, is from its best bound: above its lower bound where `direction` is PEARRUMMY_LEAST, below its
+ * upper one where it is PEARRUMMY_GREATEST. M is the variable's width and 1: the form is below M exactly at bits whose energy is 0, so that there is
+ * no solution where its least is M or more. After 23 comes 26 where there is no such variable, or the direction is another number, then 24 where a
+ * number of a row over bits is beyond 16,384 or an entry or the constant is outside the range, and 16; the last four have place 0. Words past the end
+ * keep their values; a refusal changes nothing. Stack: 153 KiB. */
+struct pearrummy_written pearrummy_best_bits(const uint32_t *words, size_t words_count, size_t variable, uint32_t direction, uint32_t *out, size_t out_count);
 
 #ifdef __cplusplus
 }

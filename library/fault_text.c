@@ -26,7 +26,9 @@ static const char *const texts[] = {
     "a number is outside -134,217,727 to 134,217,727",
     "more than 8 variables, or more than 65,536 value lists",
     "more than 1,024 bits are needed",
-    "a number of a row over bits is beyond 16,384, or one of the form outside the range",
+    "a number of a row over bits is beyond 16,384, or one of the form outside the range, or the energy is 2^62 or more",
+    "a bit is neither 0 nor 1",
+    "there is no such variable, or no such direction",
 };
 
 const char *pearrummy_fault_text(uint32_t fault) {

@@ -18,7 +18,7 @@ use Rattle.bestforms.specs.BestAnswer.{variable_fault, best_fits, best_number_fa
 use Rattle.bestbits.specs.Answered.{AnsweredBest}
 
 module _ (ws : List ℕ) (v : ℕ) (d : Direction) (out : List ℕ) where
-  refuses : (n p : ℕ) (after : Refusal) → (n ≡ 0 → ⊥) → best_bits_fault ws v d (length out) ≡ (n at_place p else_refuse after) → AnsweredBest ws v d out out (refused n p)
+  pub refuses : (n p : ℕ) (after : Refusal) → (n ≡ 0 → ⊥) → best_bits_fault ws v d (length out) ≡ (n at_place p else_refuse after) → AnsweredBest ws v d out out (refused n p)
   unfolding best_bits best_bitted ◌else_refuse◌
   refuses n p after f e = record { says = rw e (first-answers n p after _ f); holds = rw (e, ← some-fault n p after f, ne_eqb n 0 f) }
 

@@ -1,3 +1,4 @@
 -- Lemmas of its functions.
 mod Answers
 mod Distance
+mod Numbered

@@ -9,6 +9,7 @@ ghost use Rattle.rowsystems.specs.Reading.{read_rows};
 ghost use Rattle.bitlines.specs.Sizes as Size;
 ghost use Rattle.bestforms.specs.BestAnswer.{best_bits, best_bitted};
 ghost use Rattle.bestforms.specs.BestShares.{BestShares};
+ghost use Rattle.bestforms.specs.Numbered.{best_bits_by, best_bitted_by, NumberedShares};
 ghost use Rattle.bitfilling.specs.Added.{LineAndRow};
 ghost use Rattle.bitform.specs.Answered.{BitsListed};
 ghost use Rattle.bestbits.specs.Answered.{AnsweredBest, VariableListed, sign, start};
@@ -132,4 +133,25 @@ pub fn best_bits(
 {
     read_rows(ws)?;
     best_accepted(ws, variable, direction, out)
+}
+
+// The same with the direction as a number, as a host in C gives it: 0 the least, 1 the greatest. Of another number no row system has the variable, so that 26
+// is refused in its turn.
+pub fn best_bits_by(
+    ws: &[u32],
+    variable: usize,
+    direction: u32,
+    out: &mut [u32],
+) -> Result<usize, Refusal>
+    ensures answer { written_of result ≡ best_bits_by ws.now variable direction (length out.old) }
+    ensures output { out.new ≡ best_bitted_by ws.now variable direction out.old }
+    ensures shared { NumberedShares ws.now variable direction (written_of result) out.new }
+{
+    if direction == 0 {
+        return best_bits(ws, variable, Direction::Least, out);
+    }
+    if direction == 1 {
+        return best_bits(ws, variable, Direction::Greatest, out);
+    }
+    best_bits(ws, limit::IN_ALL, Direction::Least, out)
 }

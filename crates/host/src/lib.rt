@@ -23,14 +23,22 @@ ghost use Rattle.texts.specs.ModelWords.{ModelWords};
 ghost use Rattle.texts.specs.RightText.{ReadsRight};
 ghost use Rattle.bitforms.specs.FormAnswer.{bit_form, bit_formed};
 ghost use Rattle.bitsharing.specs.FormShares.{FormShares};
+ghost use Rattle.bitanswers.specs.ReadValues.{bit_values as bit_values_answer, bit_valued};
+ghost use Rattle.bitanswers.specs.BitEnergy.{AnswersForm, bit_energy as bit_energy_answer};
+ghost use Rattle.bitanswers.specs.BitsAnswer.{BitsRead, value_bits_answer, value_bits_written};
+ghost use Rattle.bitsharing.specs.ReadShares.{EnergyShares, ValuesShare};
+ghost use Rattle.bestforms.specs.Numbered.{best_bits_by as best_bits_answer, best_bitted_by, NumberedShares};
 ghost use Rattle.solutions.specs.Solutions.{solutions_answer, solutions_listed};
 ghost use Rattle.solutions.specs.AllSolutions.{AllSolutions};
 ghost use Rattle.reasons.specs.Reason.{reason as reason_answer};
 ghost use Rattle.reasons.specs.Behind.{TrueReason};
 ghost use Rattle.host.specs.Bytes.{check_bytes};
-ghost use Rattle.structs.specs.Structs.{counts_of, explanation_of, judgement_of, listed_of, printed_of, written_words_of};
+ghost use Rattle.structs.specs.Structs.{counts_of, energy_struct_of, explanation_of, judgement_of, listed_of, printed_of, written_values_of, written_words_of};
 
+use bestbits::best_bits_by;
+use bitenergy::bit_energy;
 use bitform::bit_form;
+use bitvalues::bit_values;
 use checking::check;
 use encoding::words_of_bytes;
 use filling::fill;
@@ -40,9 +48,13 @@ use reasoning::reason;
 use rowjudge::judge_rows;
 use sheets::sheet;
 use solutions::solutions;
-use structs::{Counts, Explanation, Judgement, Listed, PrintedBytes, WrittenWords, refusal_number};
+use structs::{
+    Counts, Energy, Explanation, Judgement, Listed, PrintedBytes, WrittenValues, WrittenWords,
+    refusal_number,
+};
 use texts::read_text;
 use translation::translate;
+use valuebits::value_bits;
 use words::fault::Fault;
 use words::limit;
 
@@ -226,4 +238,49 @@ pub extern "C" fn pearrummy_bits(words: &[u32], out: &mut [u32]) -> WrittenWords
     ensures shared { FormShares words.now (bit_form words.now (length out.old)) out.new }
 {
     WrittenWords::from(bit_form(words, out))
+}
+
+// Bit_values; the values that bits read as go to the front of the output.
+#[unsafe(no_mangle)]
+pub extern "C" fn pearrummy_bit_values(words: &[u32], bits: &[u8], out: &mut [i32]) -> WrittenValues
+    ensures answer { result ≡ written_values_of (bit_values_answer words.now bits.now (length out.old)) }
+    ensures output { out.new ≡ bit_valued words.now bits.now out.old }
+    ensures shared { ValuesShare words.now bits.now (bit_values_answer words.now bits.now (length out.old)) out.new }
+{
+    WrittenValues::from(bit_values(words, bits, out))
+}
+
+// Bit_energy; the energy at some bits.
+#[unsafe(no_mangle)]
+pub extern "C" fn pearrummy_bit_energy(words: &[u32], bits: &[u8]) -> Energy
+    ensures answer { result ≡ energy_struct_of (bit_energy_answer words.now bits.now) }
+    ensures form { AnswersForm words.now bits.now (bit_energy_answer words.now bits.now) }
+    ensures shared { EnergyShares words.now bits.now (bit_energy_answer words.now bits.now) }
+{
+    Energy::from(bit_energy(words, bits))
+}
+
+// Value_bits; where judge-rows says that the values hold, their bits go to the front of the output.
+#[unsafe(no_mangle)]
+pub extern "C" fn pearrummy_value_bits(words: &[u32], values: &[i32], out: &mut [u8]) -> Judgement
+    ensures answer { result ≡ judgement_of (value_bits_answer words.now values.now (length out.old)) }
+    ensures output { out.new ≡ value_bits_written words.now values.now out.old }
+    ensures read { BitsRead words.now values.now (value_bits_answer words.now values.now (length out.old)) out.new }
+{
+    Judgement::from(value_bits(words, values, out))
+}
+
+// Best_bits; the words of the form whose least bits are a best solution go to the front of the output. The direction is a number: 0 the least, 1 the greatest.
+#[unsafe(no_mangle)]
+pub extern "C" fn pearrummy_best_bits(
+    words: &[u32],
+    variable: usize,
+    direction: u32,
+    out: &mut [u32],
+) -> WrittenWords
+    ensures answer { result ≡ written_words_of (best_bits_answer words.now variable direction (length out.old)) }
+    ensures output { out.new ≡ best_bitted_by words.now variable direction out.old }
+    ensures shared { NumberedShares words.now variable direction (best_bits_answer words.now variable direction (length out.old)) out.new }
+{
+    WrittenWords::from(best_bits_by(words, variable, direction, out))
 }

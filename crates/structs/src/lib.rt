@@ -9,10 +9,11 @@ ghost use Rattle.checking.specs.Checked.{checked};
 
 use filling::Filling;
 use reasoning::answer::Reason;
+use valuebits::Encoded;
 use words::answer::Verdict;
 use words::fault::Refusal;
 
-// What a judge or fill answers a host, by what it said: 0 refused, with the fault and its place; 1 holds, in fill with how many values it wrote; 2 the variable out of bounds; 3 the false constraint or row.
+// What a judge, fill or value_bits answers a host, by what it said: 0 refused, with the fault and its place; 1 holds, in fill with how many values it wrote, in value_bits with how many bits; 2 the variable out of bounds; 3 the false constraint or row.
 #[repr(C)]
 #[derive(Clone, Copy, Debug, PartialEq, Eq)]
 pub struct Judgement {
@@ -34,7 +35,7 @@ pub struct Counts {
     pub words: usize,
 }
 
-// What translate, text or bits answers a host: how many words it wrote, or a fault and its place.
+// What translate, text, bits or best_bits answers a host: how many words it wrote, or a fault and its place.
 #[repr(C)]
 #[derive(Clone, Copy, Debug, PartialEq, Eq)]
 pub struct WrittenWords {
@@ -50,6 +51,24 @@ pub struct PrintedBytes {
     pub fault: u32,
     pub place: usize,
     pub bytes: usize,
+}
+
+// What bit_values answers a host: how many values it wrote, or a fault and its place.
+#[repr(C)]
+#[derive(Clone, Copy, Debug, PartialEq, Eq)]
+pub struct WrittenValues {
+    pub fault: u32,
+    pub place: usize,
+    pub values: usize,
+}
+
+// What bit_energy answers a host: the energy, or a fault and its place.
+#[repr(C)]
+#[derive(Clone, Copy, Debug, PartialEq, Eq)]
+pub struct Energy {
+    pub fault: u32,
+    pub place: usize,
+    pub energy: i64,
 }
 
 // What listing the solutions answers a host: how many there are, or a fault and its place.
@@ -134,6 +153,41 @@ impl From<Result<Filling, Refusal>> for Judgement {
                 at: i,
             },
             Ok(Filling::False(i)) => Judgement {
+                said: 3,
+                fault: 0,
+                at: i,
+            },
+        }
+    }
+}
+
+// The answer of value_bits for a host.
+impl From<Result<Encoded, Refusal>> for Judgement {
+    ghost use Rattle.std.specs.Prelude.{◌≡◌};
+    ghost use Rattle.valuebits.specs.Encoded.{encoded};
+    ghost use Rattle.structs.specs.Structs.{judgement_of};
+
+    ghost from_gives = { λ answer judgement. judgement ≡ judgement_of (encoded answer) };
+
+    #[tactic(auto, unfolding(crate::specs::Structs::judgement_of))]
+    fn from(answer: Result<Encoded, Refusal>) -> Judgement {
+        match answer {
+            Err(r) => Judgement {
+                said: 0,
+                fault: r.fault.number(),
+                at: r.place,
+            },
+            Ok(Encoded::Bits(n)) => Judgement {
+                said: 1,
+                fault: 0,
+                at: n,
+            },
+            Ok(Encoded::OutOfBounds(i)) => Judgement {
+                said: 2,
+                fault: 0,
+                at: i,
+            },
+            Ok(Encoded::False(i)) => Judgement {
                 said: 3,
                 fault: 0,
                 at: i,
@@ -235,7 +289,7 @@ pub fn refusal_number(answer: Result<checking::Counts, Refusal>) -> u32
     }
 }
 
-// The answer of translate, text and bits for a host.
+// The answer of translate, text, bits and best_bits for a host.
 impl From<Result<usize, Refusal>> for WrittenWords {
     ghost use Rattle.std.specs.Prelude.{◌≡◌};
     ghost use Rattle.words.specs.Faults.{written_of};
@@ -305,6 +359,56 @@ impl From<Result<usize, Refusal>> for Listed {
                 fault: r.fault.number(),
                 place: r.place,
                 solutions: 0,
+            },
+        }
+    }
+}
+
+// The answer of bit_values for a host.
+impl From<Result<usize, Refusal>> for WrittenValues {
+    ghost use Rattle.std.specs.Prelude.{◌≡◌};
+    ghost use Rattle.words.specs.Faults.{written_of};
+    ghost use Rattle.structs.specs.Structs.{written_values_of};
+
+    ghost from_gives = { λ answer written. written ≡ written_values_of (written_of answer) };
+
+    #[tactic(auto, unfolding(crate::specs::Structs::counted_answer, crate::specs::Structs::written_values_of))]
+    fn from(answer: Result<usize, Refusal>) -> WrittenValues {
+        match answer {
+            Ok(n) => WrittenValues {
+                fault: 0,
+                place: 0,
+                values: n,
+            },
+            Err(r) => WrittenValues {
+                fault: r.fault.number(),
+                place: r.place,
+                values: 0,
+            },
+        }
+    }
+}
+
+// The answer of bit_energy for a host.
+impl From<Result<i64, Refusal>> for Energy {
+    ghost use Rattle.std.specs.Prelude.{◌≡◌};
+    ghost use Rattle.bitanswers.specs.BitEnergy.{energy_of};
+    ghost use Rattle.structs.specs.Structs.{energy_struct_of};
+
+    ghost from_gives = { λ answer energy. energy ≡ energy_struct_of (energy_of answer) };
+
+    #[tactic(auto, unfolding(crate::specs::Structs::energy_struct_of))]
+    fn from(answer: Result<i64, Refusal>) -> Energy {
+        match answer {
+            Ok(e) => Energy {
+                fault: 0,
+                place: 0,
+                energy: e,
+            },
+            Err(r) => Energy {
+                fault: r.fault.number(),
+                place: r.place,
+                energy: 0,
             },
         }
     }
