@@ -2,3 +2,5 @@
 pub mod Ranges
 pub mod Answers
 pub mod Promise
+pub mod WrongOutputs
+pub mod Refuted

@@ -38,3 +38,6 @@ pub mod Ranges
 pub mod Opposites
 pub mod Before
 pub mod Saving
+pub mod OnWords
+pub mod WrongSystems
+pub mod Refuted

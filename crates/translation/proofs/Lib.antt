@@ -4,3 +4,4 @@ pub mod WriteWalk
 pub mod Over
 pub mod Refusals
 pub mod Front
+pub mod Refuted
