@@ -2,3 +2,4 @@
 pub mod Theorem
 pub mod Models
 pub mod Written
+pub mod Refuted

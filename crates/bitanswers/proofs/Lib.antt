@@ -4,3 +4,5 @@ pub mod ReadValues
 pub mod FormValue
 pub mod ValueBits
 pub mod Energy
+pub mod OnBits
+pub mod Refuted

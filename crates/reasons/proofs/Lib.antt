@@ -3,3 +3,4 @@ pub mod Judged
 pub mod Found
 pub mod Completed
 pub mod Reasons
+pub mod Refuted

@@ -3,3 +3,4 @@ pub mod Fitting
 pub mod ReadBack
 pub mod EightyColumns
 pub mod Answers
+pub mod Refuted

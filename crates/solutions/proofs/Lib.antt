@@ -9,3 +9,4 @@ pub mod Stepping
 pub mod Through
 pub mod Values
 pub mod All
+pub mod Refuted
