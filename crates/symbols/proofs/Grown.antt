@@ -1,8 +1,8 @@
 -- A tree with one name more. For `put`.
 use Rattle.std.proofs.Common.{◌≡◌, refl, sym, ap, ◌∙◌, ◌⊎◌, inl, inr, Bool, true, false, List, ℕ, ◌+◌, ◌*◌, ◌<◌, ◌≤◌, arith, eqb, get_or-set_same, get_or-set_other, length, length-set, get_or, set, eqb-true}
 use borrow.Author.Tests.{eqb-false}
-use Rattle.symbols.specs.Links.{hash, first_link, Leads, Keeps}
-use Rattle.symbols.specs.Entry.{place_in, length_in, named}
+use Rattle.symbols.specs.Links.{hash, tag, first_link, Leads, Keeps}
+use Rattle.symbols.specs.Entry.{place_in, tag_in, length_in, named}
 use Rattle.symbols.specs.Tree.{Names, Roomy, IsTree, Vacant, Grows, name_at}
 use Rattle.symbols.proofs.Walk.{leads_kept}
 
@@ -15,6 +15,7 @@ no_names r c z bs = record {
   fits = λ s. rw (z s) (omega arith);
   later = λ s h. absurd (h (z s));
   inside = λ i h. absurd (omega (arith, c, h));
+  tagged = λ i h. absurd (omega (arith, c, h));
   distinct = λ i j h. absurd (omega (arith, c, h));
   leads = λ i h. absurd (omega (arith, c, h));
 }
@@ -30,7 +31,7 @@ set_cases l i e s h = go (eqb s i) refl
 
 -- ---- one name more
 
-module _ {bs : List ℕ} {t : Names} (i : IsTree bs t) {x : List ℕ} {s : ℕ} (n : Vacant bs t x s) (r : t.count < length t.entries) (e : ℕ) (f : place_in e + length_in e ≤ length bs) (q : named bs e ≡ x) where
+module _ {bs : List ℕ} {t : Names} (i : IsTree bs t) {x : List ℕ} {s : ℕ} (n : Vacant bs t x s) (r : t.count < length t.entries) (e : ℕ) (f : place_in e + length_in e ≤ length bs) (q : named bs e ≡ x) (w : tag_in e ≡ tag (hash x)) where
   abbrev after : List ℕ
   after = set t.links s (t.count + 1)
 
@@ -63,6 +64,10 @@ module _ {bs : List ℕ} {t : Names} (i : IsTree bs t) {x : List ℕ} {s : ℕ} 
   inside_here : (j : ℕ) (b : Bool) → eqb j t.count ≡ b → j < t.count + 1 → place_in (get_or (set t.entries t.count e) j 0) + length_in (get_or (set t.entries t.count e) j 0) ≤ length bs
   inside_here j true o h = rw (eqb-true j t.count o, new_entry) f
   inside_here j false o h = let z = eqb-false j t.count o in let l : j < t.count = omega (arith, z, h) in rw (old_entry j l) (i.inside j l)
+
+  tagged_here : (j : ℕ) (b : Bool) → eqb j t.count ≡ b → j < t.count + 1 → tag_in (get_or (set t.entries t.count e) j 0) ≡ tag (hash (named bs (get_or (set t.entries t.count e) j 0)))
+  tagged_here j true o h = rw (eqb-true j t.count o, new_entry, q) w
+  tagged_here j false o h = let z = eqb-false j t.count o in let l : j < t.count = omega (arith, z, h) in rw (old_entry j l) (i.tagged j l)
 
   leads_here : (j : ℕ) (b : Bool) → eqb j t.count ≡ b → j < t.count + 1 → Leads after (named bs (get_or (set t.entries t.count e) j 0)) 0 (first_link (hash (named bs (get_or (set t.entries t.count e) j 0)))) (j + 1)
   leads_here j true o h = rw (eqb-true j t.count o, new_entry, q) (n.trail (t.count + 1) after keeps here)
@@ -105,6 +110,7 @@ module _ {bs : List ℕ} {t : Names} (i : IsTree bs t) {x : List ℕ} {s : ℕ} 
       fits = λ u. fits_here u (set_cases t.links s (t.count + 1) u low);
       later = λ u h. later_here u h (set_cases t.links s (t.count + 1) u low);
       inside = λ j h. inside_here j (eqb j t.count) refl h;
+      tagged = λ j h. tagged_here j (eqb j t.count) refl h;
       distinct = λ j k g h y. distinct_here j k (eqb j t.count) refl (eqb k t.count) refl g h y;
       leads = λ j h. leads_here j (eqb j t.count) refl h;
     };

@@ -10,7 +10,7 @@ use Rattle.tokens.specs.Sorts.{sort_number}
 use Rattle.names.specs.Name.{look_up, declared_from}
 use Rattle.symbols.proofs.Entries.{same_index}
 use Rattle.symbols.specs.Tree.{IsTree}
-use Rattle.symbols.specs.Symbol.{Table, declared_before, AddsName, Indexed, Cleared}
+use Rattle.symbols.specs.Symbol.{Table, declared_before, AddsName, Indexed, Cleared, Latest}
 
 -- no token from a place on stands before it
 none_before : (c : Bool) (p q left : ℕ) (l : List ℕ) → p ≤ q → declared_from c p (tokens_from left q l) ≡ []
@@ -67,6 +67,10 @@ module _ {bs : List ℕ} {i k : ℕ} {colon : Bool} (r : Reached bs i k colon) {
       r.on p (omega (arith, m.onward, h)) ∙ ap (λ (l : List (List ℕ)). declared_before bs i ++ l) (past p h) ∙ ap (λ (l : List (List ℕ)). l ++ (name ∷ declared_from (eqb (sort_number t.sort) 58) p (unread bs t.stop) if colon else declared_from (eqb (sort_number t.sort) 58) p (unread bs t.stop))) (sym at-token)
       ∙ one_more colon (declared_before bs t.place) (declared_from (eqb (sort_number t.sort) 58) p (unread bs t.stop)) name
 
+  -- no name is declared between the places
+  pub latest-here : {last : ℕ} → Latest bs i last → Latest bs t.place last
+  latest-here l = record { before = omega (arith, l.before, m.onward); same = at-token ∙ l.same }
+
   pub declares : AddsName bs t.place t.stop colon
   declares = record { names = all_past t.stop (m.longer) ∙ ap (λ (l : List (List ℕ)). (declared_before bs t.place ++ (name ∷ [] if colon else [])) ++ l) (none_here (eqb (sort_number t.sort) 58) bs t.stop) ∙ append-nil (declared_before bs t.place ++ (name ∷ [] if colon else [])) }
 
@@ -87,6 +91,10 @@ module _ {bs : List ℕ} {i k : ℕ} {colon : Bool} (r : Reached bs i k colon) {
     few = fewer colon;
     on = λ p h. all_past p (omega (arith, h, m.longer)) ∙ ap (λ (l : List (List ℕ)). l ++ declared_from (eqb (sort_number t.sort) 58) p (unread bs t.stop)) (sym declares.names);
   }
+
+pub latest-next : {bs : List ℕ} {place stop last new : ℕ} (colon : Bool) → place ≤ stop → AddsName bs place stop colon → Latest bs place last → new ≡ (stop if colon else last) → Latest bs stop new
+latest-next true h d l e = rw e (record { before = omega arith; same = refl })
+latest-next {place = place} false h d l e = rw e (record { before = omega (arith, h, l.before); same = d.names ∙ append-nil (declared_before _ place) ∙ l.same })
 
 -- a table whose names have no number, before the first token
 pub nothing_declared : (bs : List ℕ) → declared_before bs 0 ≡ []

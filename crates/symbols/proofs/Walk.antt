@@ -1,12 +1,12 @@
 -- The walk of a name along its links. For `seat_of`.
-use Rattle.std.proofs.Common.{◌≡◌, refl, sym, ◌∙◌, inl, inr, Bool, true, false, List, ℕ, zero, suc, ◌+◌, ◌-◌, ◌*◌, ◌/◌, ◌%◌, ◌^◌, ◌<◌, ◌≤◌, arith, eqb, ne_eqb, ltb, get_or}
+use Rattle.std.proofs.Common.{◌≡◌, refl, sym, ap, ◌∙◌, inl, inr, Bool, true, false, List, ℕ, zero, suc, ◌+◌, ◌-◌, ◌*◌, ◌/◌, ◌%◌, ◌^◌, ◌<◌, ◌≤◌, arith, eqb, ne_eqb, ltb, get_or}
 use borrow.Author.Tests.{eqb-false}
 use Rattle.std.proofs.lemmas.Slice.Eq.{bytes_eq-Decides}
 use Rattle.integers.specs.Choice.{◌if◌else◌}
 use Rattle.integers.proofs.Tests.{false-true}
 use Rattle.names.specs.Name.{same}
 use Rattle.names.proofs.Names.{same_self}
-use Rattle.symbols.specs.Links.{hash, first_link, side, next_link, leads_in, Leads, Keeps}
+use Rattle.symbols.specs.Links.{hash, tag, first_link, side, next_link, leads_in, Leads, Keeps}
 use Rattle.symbols.specs.Tree.{Names, IsTree, Vacant, name_at}
 
 -- ---- the same bytes are the same name
@@ -16,6 +16,14 @@ same-equal x y e = (bytes_eq-Decides x y).0 e
 
 pub same-differ : (x y : List ℕ) → same x y ≡ false → x ≡ y → ⊥
 same-differ x y q e = false-true (sym q ∙ (rw e (same_self y)))
+
+-- names whose hashes leave different tags differ
+pub other_tag : (x y : List ℕ) → (tag (hash x) ≡ tag (hash y) → ⊥) → same x y ≡ false
+other_tag x y n = go (same x y) refl
+  where
+    go : (b : Bool) → same x y ≡ b → b ≡ false
+    go true q = absurd (n (ap (λ (z : List ℕ). tag (hash z)) (same-equal x y q)))
+    go false q = refl
 
 -- ---- a side is one of two
 

@@ -13,6 +13,10 @@ hash x = fold mix 0 x * 2654435769 % 4294967296
 abbrev pub first_link : ℕ → ℕ
 first_link h = h / 2 ^ 19
 
+-- what the entry of a name keeps of its hash
+unfoldable pub tag : ℕ → ℕ
+tag h = h % 262144
+
 -- the side of a name at a depth: a bit of its hash, then of its bytes
 unfoldable pub side : ℕ → List ℕ → ℕ → ℕ
 side h x d = (h / 2 ^ (18 - d) % 2) if ltb d 19 else (get_or x ((d - 19) / 8) 0 / 2 ^ ((d - 19) % 8) % 2)

@@ -46,6 +46,11 @@ pub record Cleared (bs : List ℕ) (s : Table) : Type 0 where
 pub record AddsName (bs : List ℕ) (place stop : ℕ) (colon : Bool) : Type 0 where
   pub names : declared_before bs stop ≡ declared_before bs place ++ (bytes_between bs place stop ∷ [] if colon else [])
 
+-- no name is declared between two places
+pub record Latest (bs : List ℕ) (p last : ℕ) : Type 0 where
+  pub before : last ≤ p
+  pub same : declared_before bs p ≡ declared_before bs last
+
 -- what entering the name between two places as variable k wants
 abbrev pub Enterable : List ℕ → ℕ → ℕ → ℕ → Bool → Table → Type 0
 Enterable bs place stop k colon s =

@@ -1,8 +1,8 @@
 -- The tree of some names of a text, and where a name stands in it.
 use Rattle.std.specs.Prelude.{List, ◌≡◌, ℕ, ◌+◌, ◌*◌, ◌<◌, ◌≤◌, length, get_or}
 use Rattle.tokens.specs.declared.Span.{Span}
-use Rattle.symbols.specs.Links.{hash, first_link, Leads, Keeps}
-use Rattle.symbols.specs.Entry.{place_in, length_in, named}
+use Rattle.symbols.specs.Links.{hash, tag, first_link, Leads, Keeps}
+use Rattle.symbols.specs.Entry.{place_in, tag_in, length_in, named}
 use Rattle.symbols.specs.declared.tree.Tree.{Tree}
 use Rattle.symbols.specs.declared.tree.Seat.{Seat}
 use Rattle.symbols.specs.declared.tree.Seat.TheVariants.{Taken, Free}
@@ -25,13 +25,14 @@ pub record Roomy (t : Names) : Type 0 where
   pub few : length t.entries ≤ 65535
   pub size : length t.links ≡ 8192 + 2 * length t.entries
 
--- its names stand in the text and are all different, a link leads to one of them, and to a later one than that it comes from, and each is led to
+-- its names stand in the text, each by its hash, and are all different, a link leads to one of them, and to a later one than that it comes from, and each is led to
 pub record IsTree (bs : List ℕ) (t : Names) : Type 0 where
   pub room : Roomy t
   pub few : t.count ≤ length t.entries
   pub fits : (s : ℕ) → get_or t.links s 0 ≤ t.count
   pub later : (s : ℕ) → (get_or t.links s 0 ≡ 0 → ⊥) → s + 2 < 8192 + 2 * get_or t.links s 0
   pub inside : (i : ℕ) → i < t.count → place_in (get_or t.entries i 0) + length_in (get_or t.entries i 0) ≤ length bs
+  pub tagged : (i : ℕ) → i < t.count → tag_in (get_or t.entries i 0) ≡ tag (hash (name_at bs t i))
   pub distinct : (i j : ℕ) → i < t.count → j < t.count → name_at bs t i ≡ name_at bs t j → i ≡ j
   pub leads : (i : ℕ) → i < t.count → Leads t.links (name_at bs t i) 0 (first_link (hash (name_at bs t i))) (i + 1)
 
@@ -48,7 +49,7 @@ FindsSeat bs t x (Free s) = Vacant bs t x s
 
 -- there is room for a name
 abbrev pub HasRoom : Names → Span → Type 0
-HasRoom t s = (t.count < length t.entries) × (s.place < 288230376151711744) × (s.stop < s.place + 64)
+HasRoom t s = (t.count < length t.entries) × (s.place < 1099511627776) × (s.stop < s.place + 64)
 
 -- one name more
 pub record Grows (bs : List ℕ) (t new : Names) (x : List ℕ) : Type 0 where

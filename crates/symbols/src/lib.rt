@@ -7,7 +7,7 @@ ghost use Rattle.integers.specs.Choice.{◌if◌else◌};
 ghost use Rattle.names.specs.Name.{look_up};
 ghost use Rattle.names.specs.Found.{found_number};
 ghost use Rattle.symbols.specs.Tree.{Roomy};
-ghost use Rattle.symbols.specs.Symbol.{table_of, declared_before, Sized, Indexed, Cleared, Enterable};
+ghost use Rattle.symbols.specs.Symbol.{table_of, declared_before, Sized, Indexed, Cleared, Latest, Enterable};
 
 pub mod tree;
 
@@ -28,6 +28,8 @@ pub struct Symbols<'a> {
     pub whole: bool,
     // the place up to which it has the names that the text goes on with
     pub until: usize,
+    // the place after the last name that is declared
+    pub declared: usize,
 }
 
 // Whether a name is looked up that follows a token of a sort. What is not looked up here costs time alone.
@@ -37,6 +39,13 @@ fn is_looked_up(before: Sort, sort: Sort) -> bool {
             before,
             Sort::Colon | Sort::Opening | Sort::Comma | Sort::OpenList
         )
+}
+
+// The place after the last name that is declared, with a token that follows a colon or not.
+fn last_declared(last: usize, colon: bool, token: Span) -> usize
+    ensures { result ≡ (token.stop if colon else last) }
+{
+    if colon { token.stop } else { last }
 }
 
 // Makes every number of a list 0.
@@ -56,7 +65,8 @@ impl<'a> Symbols<'a> {
         requires room { Roomy (record { count = 0; entries = entries.old; links = links.old }) }
         requires size { length numbers.old ≡ length entries.old }
         requires clear { (i : ℕ) → get_or links.old i 0 ≡ 0 }
-        ensures { (bs : List ℕ) → Indexed bs 0 (table_of result) }
+        ensures index { (bs : List ℕ) → Indexed bs 0 (table_of result) }
+        ensures none { result.declared ≡ 0 }
     {
         Symbols {
             tree: Tree {
@@ -67,6 +77,7 @@ impl<'a> Symbols<'a> {
             numbers,
             whole: true,
             until: usize::MAX,
+            declared: 0,
         }
     }
 
@@ -181,10 +192,13 @@ impl<'a> Symbols<'a> {
 
     // Numbers the names that are declared up to a place.
     fn number_names(&mut self, text: &[u8], place: usize)
-        requires inside { (0 < place) × (place ≤ length text.now) }
+        requires inside { place ≤ length text.now }
         requires clear { Cleared text.now (table_of self.old) }
         ensures { Indexed text.now place (table_of self.new) }
     {
+        if place == 0 {
+            return;
+        }
         let mut at = 0;
         let mut k = 0;
         let mut after_colon = false;
@@ -201,18 +215,23 @@ impl<'a> Symbols<'a> {
         }
     }
 
-    // Enters a token as `note` does. Where the table has no more of the names that the text goes on with, it takes the next ones.
+    // Enters a token as `note` does. Where the table has no more of the names that the text goes on with, it takes the next ones; of those, the names declared
+    // up to here are numbered.
     pub fn declare(&mut self, text: &[u8], k: usize, colon: bool, token: Span) -> usize
-        requires { Enterable text.now token.place token.stop k colon (table_of self.old) × (0 < token.stop) }
+        requires { Enterable text.now token.place token.stop k colon (table_of self.old) × Latest text.now token.place self.old.declared }
         ensures next { result ≡ (k + 1 if colon else k) }
         ensures index { Indexed text.now token.stop (table_of self.new) }
+        ensures latest { Latest text.now token.stop self.new.declared }
     {
+        let declared = last_declared(self.declared, colon, token);
         let next = self.note(text, k, colon, token);
+        self.declared = declared;
         if token.stop < self.until {
             return next;
         }
         self.take_names(text, token.stop);
-        self.number_names(text, token.stop);
+        self.number_names(text, declared);
+        self.declared = declared;
         next
     }
 }

@@ -5,8 +5,8 @@
 ghost use Rattle.std.specs.Prelude.{List, ℕ, true, ◌≡◌, ◌+◌, ◌<◌, ◌≤◌, length, replicate};
 ghost use Rattle.names.specs.Name.{same};
 ghost use Rattle.tokens.specs.Unread.{bytes_between};
-ghost use Rattle.symbols.specs.Links.{mix, hash, first_link, side};
-ghost use Rattle.symbols.specs.Entry.{place_in, length_in, named};
+ghost use Rattle.symbols.specs.Links.{mix, hash, tag, first_link, side};
+ghost use Rattle.symbols.specs.Entry.{place_in, tag_in, length_in, named};
 ghost use Rattle.symbols.specs.Tree.{names_of, Roomy, IsTree, FindsSeat, Vacant, HasRoom, Grows};
 
 use tokens::Span;
@@ -20,10 +20,14 @@ const HASHES: u64 = 4294967296;
 
 const MULTIPLIER: u64 = 2654435769;
 
-// an entry has a place below PLACES and a length below LENGTHS
-const PLACES: usize = 288230376151711744;
+// an entry has a place below PLACES, of a hash a tag below TAGS, and a length below LENGTHS; UNIT is the entry of place 1
+const PLACES: usize = 1099511627776;
+
+const TAGS: usize = 262144;
 
 const LENGTHS: usize = 64;
+
+const UNIT: usize = 16777216;
 
 #[derive(Drop)]
 pub struct Tree<'a> {
@@ -78,24 +82,45 @@ fn side(name: &[u8], h: u32, depth: usize) -> usize
     (at_or(name, bit / 8, 0) >> (bit % 8)) as usize % 2
 }
 
-// Whether an entry has a name.
+// What the entry of a name has of its hash.
+#[tactic(auto, unfolding(crate::specs::Links::tag))]
+fn tag_of(h: u32) -> usize
+    ensures { (result ≡ tag h) × (result < 262144) }
+{
+    h as usize % TAGS
+}
+
+// The tag of an entry.
+#[tactic(auto, unfolding(crate::specs::Entry::tag_in))]
+fn tag_in(e: u64) -> usize
+    ensures { result ≡ tag_in e }
+{
+    e as usize / LENGTHS % TAGS
+}
+
+// Whether an entry has a name. The text is read where the tags agree.
 #[tactic(auto, unfolding(crate::specs::Entry::place_in, crate::specs::Entry::length_in))]
-fn is_named(text: &[u8], e: u64, name: &[u8]) -> bool
-    requires { place_in e + length_in e ≤ length text.now }
+fn is_named(text: &[u8], e: u64, name: &[u8], h: u32) -> bool
+    requires inside { place_in e + length_in e ≤ length text.now }
+    requires tagged { tag_in e ≡ tag (hash (named text.now e)) }
+    requires hashed { h ≡ hash name.now }
     ensures { result ≡ same name.now (named text.now e) }
 {
-    let from = e as usize / LENGTHS;
+    if tag_in(e) != tag_of(h) {
+        return false;
+    }
+    let from = e as usize / UNIT;
     let to = from + e as usize % LENGTHS;
     name == &text[from..to]
 }
 
 // The entry of a name.
-#[tactic(auto, unfolding(crate::specs::Entry::place_in, crate::specs::Entry::length_in))]
-fn entry_of(place: usize, bytes: usize) -> u64
-    requires { (place < 288230376151711744) × (bytes < 64) }
-    ensures { (place_in result ≡ place) × (length_in result ≡ bytes) }
+#[tactic(auto, unfolding(crate::specs::Entry::place_in, crate::specs::Entry::tag_in, crate::specs::Entry::length_in))]
+fn entry_of(place: usize, tag: usize, bytes: usize) -> u64
+    requires { (place < 1099511627776) × (tag < 262144) × (bytes < 64) }
+    ensures { (place_in result ≡ place) × (tag_in result ≡ tag) × (length_in result ≡ bytes) }
 {
-    (place * LENGTHS + bytes) as u64
+    (place * UNIT + tag * LENGTHS + bytes) as u64
 }
 
 // Makes every number of a list 0.
@@ -136,7 +161,7 @@ impl<'a> Tree<'a> {
         let mut depth = 0;
         let mut v = self.links[link] as usize;
         while v != 0 {
-            if is_named(text, self.entries[v - 1], name) {
+            if is_named(text, self.entries[v - 1], name, h) {
                 return Seat::Taken(v - 1);
             }
             link = ROOTS + 2 * (v - 1) + side(name, h, depth);
@@ -154,7 +179,8 @@ impl<'a> Tree<'a> {
         requires room { HasRoom (names_of self.old) token }
         ensures { Grows text.now (names_of self.old) (names_of self.new) (bytes_between text.now token.place token.stop) }
     {
-        self.entries[self.count] = entry_of(token.place, token.stop - token.place);
+        let tag = tag_of(hash_of(token.bytes(text)));
+        self.entries[self.count] = entry_of(token.place, tag, token.stop - token.place);
         self.links[link] = self.count as u16 + 1;
         self.count += 1;
     }

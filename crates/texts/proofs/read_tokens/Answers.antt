@@ -1,13 +1,13 @@
-use Rattle.std.proofs.Common.{◌≡◌, eqb, arith, rules}
+use Rattle.std.proofs.Common.{◌≡◌, refl, eqb, arith, rules}
 use Rattle.tokens.specs.Sorts.{sort_number}
 use Rattle.std.proofs.lemmas.Result.{err_from_is_err_and}
 use Rattle.symbols.proofs.Reached as Reached
-use Rattle.symbols.proofs.Reached.{index-here, index-end, count-here, declares, next-table}
+use Rattle.symbols.proofs.Reached.{index-here, index-end, count-here, declares, latest-here, next-table}
 use Rattle.texts.proofs.Loop.{begin, again, stands, stop-reads, ends-well, ends-early}
 use Rattle.texts.proofs.read_tokens.Goals as goal
 
 pub loop-t-init : goal.loop-t-init
-loop-t-init c = (begin c.args.text.now c.args.out.now, record { reached = Reached.begin c.args.text.now; index = c.requires })
+loop-t-init c = (begin c.args.text.now c.args.out.now, record { reached = Reached.begin c.args.text.now; index = c.requires.index }, rw c.requires.none (record { before = omega arith; same = refl }))
 
 pub step_at-requires : goal.step_at-requires
 step_at-requires c = (stands c.in-Some.ensures, index-here c.loop-t.invariant.1 c.in-Some.ensures)
@@ -27,7 +27,7 @@ declare-variables-requires c = (
     declares c.loop-t.invariant.1.reached c.in-Some.ensures,
     index-here c.loop-t.invariant.1 c.in-Some.ensures,
   ),
-  omega (arith, c.in-Some.ensures.longer),
+  latest-here c.loop-t.invariant.1.reached c.in-Some.ensures c.loop-t.invariant.2,
 )
 
 pub loop-t-preserved : goal.loop-t-preserved
@@ -35,6 +35,7 @@ loop-t-preserved c =
     let colon : c.eq-after_colon.result ≡ eqb (sort_number c.in-Some.t.sort) 58 = search rules in (
       again c.loop-t.invariant.0 c.in-Some.ensures c.in_ok-step.step c.in_ok-step.ensures c.append-n.ensures,
       rw colon (next-table c.loop-t.invariant.1 c.in-Some.ensures c.declare-variables.ensures.next c.declare-variables.ensures.index),
+      c.declare-variables.ensures.latest,
     )
 
 pub check_end-requires : goal.check_end-requires

@@ -44,7 +44,7 @@ pub whole_as_slice-read_tokens : goal.whole_as_slice-read_tokens
 whole_as_slice-read_tokens g c = omega (arith, c.requires.words.1)
 
 pub read_tokens-requires : goal.read_tokens-requires
-read_tokens-requires g c = c.over-symbols.ensures c.args.text.now
+read_tokens-requires g c = record { index = c.over-symbols.ensures.index c.args.text.now; none = c.over-symbols.ensures.none }
 
 pub shared_whole_as_front-lay : goal.shared_whole_as_front-lay
 shared_whole_as_front-lay g c = (omega (arith, c.in_ok-n.ensures.few, c.if-n-gt-MODEL_WORDS.false, c.requires.words.0), omega (arith, c.requires.words.1))

@@ -6,13 +6,13 @@ use Rattle.symbols.proofs.Reached.{begin, cleared_index, index-here, count-here,
 use Rattle.symbols.proofs.Symbols.number_names.Goals as goal
 
 pub loop-token-init : goal.loop-token-init
-loop-token-init c = (c.requires.inside.0, record { reached = begin c.args.text.now; index = cleared_index c.requires.clear })
+loop-token-init c = (omega (arith, c.if-place-eq0.false), record { reached = begin c.args.text.now; index = cleared_index c.requires.clear })
 
 pub note-k-requires : goal.note-k-requires
 note-k-requires c = (
   omega (arith, c.in-Some.ensures.longer),
   c.in-Some.ensures.inside,
-  omega (arith, c.loop-token.invariant.1.reached.few, c.loop-token.invariant.0, c.requires.inside.1),
+  omega (arith, c.loop-token.invariant.1.reached.few, c.loop-token.invariant.0, c.requires.inside),
   count-here c.loop-token.invariant.1 c.in-Some.ensures,
   declares c.loop-token.invariant.1.reached c.in-Some.ensures,
   index-here c.loop-token.invariant.1 c.in-Some.ensures,
@@ -33,3 +33,6 @@ loop-token-preserved c =
 
 pub returns : goal.returns
 returns c = index-end c.loop-token.invariant.1 c.args.place (omega (arith, c.loop-token.invariant.0)) c.in_default.ensures
+
+pub returns-then-place-eq0 : goal.returns-then-place-eq0
+returns-then-place-eq0 c = rw c.if-place-eq0.true (cleared_index c.requires.clear)

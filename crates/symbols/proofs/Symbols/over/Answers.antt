@@ -4,5 +4,5 @@ use Rattle.symbols.proofs.Grown.{no_names}
 use Rattle.symbols.proofs.Reached.{empty_index}
 use Rattle.symbols.proofs.Symbols.over.Goals as goal
 
-pub returns : goal.returns
-returns c = empty_index (no_names c.requires.room refl c.requires.clear) refl c.requires.size
+pub returns-clause-index : goal.returns-clause-index
+returns-clause-index c = empty_index (no_names c.requires.room refl c.requires.clear) refl c.requires.size

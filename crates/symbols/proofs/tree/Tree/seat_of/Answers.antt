@@ -1,5 +1,5 @@
 -- Link by link.
-use Rattle.std.proofs.Common.{refl, sym, ap, ◌∙◌, ℕ, ◌+◌, ◌-◌, ◌*◌, ◌≡◌, arith}
+use Rattle.std.proofs.Common.{refl, sym, ap, ◌∙◌, ℕ, ◌+◌, ◌-◌, ◌*◌, ◌<◌, ◌≡◌, arith}
 use Rattle.symbols.specs.Links.{first_link, next_link, side}
 use Rattle.symbols.proofs.Walk.{same-equal, begin, next, onward, ends, falls}
 use Rattle.symbols.proofs.tree.Tree.seat_of.Goals as goal
@@ -8,7 +8,9 @@ pub loop-v-init : goal.loop-v-init
 loop-v-init c = begin c.requires c.args.name.now _ _ (c.first_link-link.ensures.0 ∙ ap first_link c.hash_of-h.ensures) c.first_link-link.ensures.1 refl
 
 pub is_named-requires : goal.is_named-requires
-is_named-requires c = c.requires.inside (c.loop-v.v - 1) (omega (arith, c.loop-v.invariant.fits, c.loop-v-test.true))
+is_named-requires c =
+    let l : c.loop-v.v - 1 < c.args.self.now.count = omega (arith, c.loop-v.invariant.fits, c.loop-v-test.true) in
+    record { inside = c.requires.inside (c.loop-v.v - 1) l; tagged = c.requires.tagged (c.loop-v.v - 1) l; hashed = c.hash_of-h.ensures }
 
 pub returns-then-is_named : goal.returns-then-is_named
 returns-then-is_named c = (omega (arith, c.loop-v.invariant.fits, c.loop-v-test.true), same-equal _ _ (sym c.is_named.ensures ∙ c.if-is_named.true))
