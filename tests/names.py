@@ -4,7 +4,8 @@
     tests/names.py           writes the file
     tests/names.py --check   only say whether it is up to date
 
-The place of a fault is that of the mark @, which is taken out. Long texts of the same sort are made by tests/twin/names.rs."""
+The place of a fault is that of the mark @, which is taken out. Long texts of the same sort are made by tests/twin/names.rs. Some names share a hash: it must
+be the one of the library's symbol table."""
 import itertools, os, sys
 
 PATH = os.path.join(os.path.dirname(os.path.abspath(__file__)), 'vectors', 'names.txt')
@@ -12,6 +13,8 @@ LETTERS = 'abcdefghijklmnopqrstuvwxyzABCDEFGHIJKLMNOPQRSTUVWXYZ'
 BYTES = LETTERS + '0123456789_'
 LONGEST = 32
 MULTIPLIER = 2654435769
+LINKS = os.path.join(os.path.dirname(os.path.dirname(PATH)), '..', 'crates', 'symbols', 'specs', 'Links.antt')
+HASH = '(h * 257 + b) % 4294967296', 'fold mix 0 x * 2654435769 % 4294967296', 'h / 2 ^ 19'  # as the table's definitions have it
 
 
 def in_order():
@@ -42,13 +45,17 @@ def alike(key, count):
     return list(itertools.islice((name for name in in_order() if key(name) == 77), count))
 
 
+def of_one_hash(step):
+    """Five bytes; those of any step, from 0 to 4, have one hash, and names of them: they differ by multiples of 1, -4, 6, -4, 1, and 256 to the power 4 is 2 to the power 32."""
+    return ''.join(chr(ord(byte) + step * by) for byte, by in zip('auaua', (1, -4, 6, -4, 1)))
+
+
 def families():
     """Names that share something; the last one of each is never declared."""
     yield ['x' * (LONGEST - 1) + last for last in 'abA0_9']
     yield ['q', 'q0', 'q_', 'qq', 'qQ', 'qqq', 'q00']
     yield ['a' * length for length in (1, 2, 3, 30, 31, 32, 29)]
-    # five bytes that change by 1, -4, 6, -4, 1 keep the hash, since 256 to the power 4 is 2 to the power 32
-    yield [''.join(chr(ord(byte) + step * by) for byte, by in zip('auaua', (1, -4, 6, -4, 1))) for step in range(5)]
+    yield [of_one_hash(step) for step in range(5)]
     yield alike(link_of, 34)
     yield alike(slot_of, 34)
 
@@ -110,6 +117,9 @@ def vectors():
 
 
 def main():
+    if not all(part in open(LINKS).read() for part in HASH):
+        print('crates/symbols/specs/Links.antt has another hash than tests/names.py and tests/twin/names.rs')
+        return 1
     data = ''.join(vectors())
     if sys.argv[1:] != ['--check']:
         open(PATH, 'w').write(data)

@@ -9,9 +9,12 @@ type Name = Vec<u8>;
 const LETTERS: &[u8; 52] = b"abcdefghijklmnopqrstuvwxyzABCDEFGHIJKLMNOPQRSTUVWXYZ";
 const BYTES: &[u8; 63] = b"abcdefghijklmnopqrstuvwxyzABCDEFGHIJKLMNOPQRSTUVWXYZ0123456789_";
 
-/// The names that the library's symbol table has room for, and the most of a text here.
-const ROOM: usize = 8_192;
+/// One name more than a model can have, and the most of a text here. The library's symbol table has room for so many names, or for twice as many.
+const MANY: usize = 8_192;
 const MOST: usize = 20_000;
+
+/// The bytes of texts at which the library's symbol table becomes longer.
+const LONGER: [usize; 3] = [1_024, 16_384, 65_536];
 
 // ---------------------------------------------------------------------------------------------------------------------------------- names
 
@@ -110,7 +113,7 @@ fn one_slot(count: usize) -> Vec<Name> {
 
 /// Pairs of names that share all bits of that hash, and so those of the filter.
 fn one_filter(count: usize) -> Vec<Name> {
-    let mut hashes: Vec<(u32, usize)> = (0..32 * ROOM * count.min(20)).map(|k| (slot_hash(&in_order(k)), k)).collect();
+    let mut hashes: Vec<(u32, usize)> = (0..32 * MANY * count.min(20)).map(|k| (slot_hash(&in_order(k)), k)).collect();
     hashes.sort_unstable();
     let pairs = hashes.windows(2).filter(|pair| pair[0].0 == pair[1].0);
     pairs.flat_map(|pair| [in_order(pair[0].1), in_order(pair[1].1)]).take(count).collect()
@@ -306,10 +309,35 @@ fn lengths(each: &mut impl FnMut(Case)) {
     }
 }
 
+/// Declarations of texts that have so many bytes, or one more or less; the last name declared twice, or the first one and another one used.
+fn sizes(names: &[Name], each: &mut impl FnMut(Case)) {
+    for bytes in LONGER.into_iter().flat_map(|bytes| bytes - 1..=bytes + 1) {
+        for sort in 0..3 {
+            let mut writer = Writer::new();
+            let fit = names.iter().take_while(|name| {
+                let fits = writer.text.len() + 90 < bytes;
+                if fits {
+                    writer.declare(name, false, Nowhere);
+                }
+                fits
+            });
+            let count = fit.count();
+            match sort {
+                0 => (),
+                1 => writer.declare(&names[count - 1], true, Nowhere),
+                _ => writer.constraint(&[&names[0], &names[count]], Some(1), Nowhere),
+            }
+            let blanks = bytes - b"solve satisfy;".len() - writer.text.len();
+            writer.put(&vec![b' '; blanks]);
+            each(writer.case(format!("{count} names in {bytes} bytes"), Nowhere));
+        }
+    }
+}
+
 /// About as many names as the table has room for, or more, used in any order, and any faults.
 fn mixed(random: &mut Random, families: &[Family], each: &mut impl FnMut(Case)) {
     let Family { shared, names } = &families[random.below(MANY_FAMILIES)];
-    let count = random.pick(&[ROOM - 1, ROOM, ROOM + 1, 2 * ROOM, 2 * ROOM + 1, MOST]);
+    let count = random.pick(&[MANY - 1, MANY, MANY + 1, 2 * MANY, 2 * MANY + 1, MOST]);
     let which = random.below(count);
     let twice = random.one_in(3).then(|| (which, which + 1 + random.below(count - which)));
     let mut writer = declared(&names[..count], twice, Nowhere);
@@ -329,10 +357,11 @@ fn mixed(random: &mut Random, families: &[Family], each: &mut impl FnMut(Case)) 
 pub fn cases(seed: u64, each: &mut impl FnMut(Case)) {
     lengths(each);
     let families = families();
-    let points: Vec<usize> = [0, ROOM - 2, ROOM - 1, ROOM, 2 * ROOM - 1, 2 * ROOM].into();
+    sizes(&families[0].names, each);
+    let points: Vec<usize> = [0, MANY - 2, MANY - 1, MANY, 2 * MANY - 1, 2 * MANY].into();
     for (place, Family { shared, names }) in families.iter().enumerate() {
         let few: &[usize] = &[2, 20, 33, 34, 63, 100];
-        let many: &[usize] = &[ROOM - 2, ROOM - 1, ROOM, MOST];
+        let many: &[usize] = &[MANY - 2, MANY - 1, MANY, MOST];
         for &count in [few, many].into_iter().take(1 + usize::from(place < MANY_FAMILIES)).flatten().filter(|&&count| count < names.len()) {
             let last = count - 1;
             let points: Vec<usize> =
