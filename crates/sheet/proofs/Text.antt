@@ -1,14 +1,9 @@
--- A sheet that the call says it wrote has room; the page keeps its length.
-use Rattle.std.proofs.Common.{◌≡◌, refl, Bool, true, false, List, ℕ, ◌≤◌, eqb, length}
+-- The page keeps its length.
+use Rattle.std.proofs.Common.{◌≡◌, refl, Bool, true, false, List, ℕ, eqb, length}
 use Rattle.integers.specs.Choice.{◌if◌else◌}
 use Rattle.words.specs.Overlay.{overlay}
 use Rattle.words.proofs.Overlay.{length-overlay}
 use Rattle.sheets.specs.Sheet.{sheet_fault, sheet_page, sheet_text}
-use Rattle.words.proofs.Written.{later-none, room_for}
-
-pub fits : (ws : List ℕ) (room : ℕ) → (sheet_fault ws room).number ≡ 0 → length (sheet_text ws) ≤ room
-unfolding sheet_fault
-fits ws room e = room_for room (length (sheet_text ws)) (later-none _ _ e)
 
 pub same_length : (ws page : List ℕ) → length (sheet_page ws page) ≡ length page
 unfolding sheet_page

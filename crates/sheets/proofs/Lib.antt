@@ -4,3 +4,4 @@ pub mod ReadBack
 pub mod EightyColumns
 pub mod Answers
 pub mod Refuted
+pub mod Front

@@ -1,5 +1,4 @@
--- 02, wish 3: "80-column lines, each closed by a line feed", of the bytes that sheet wrote: where its answer is that it wrote n bytes, the first n of the
--- page are such lines.
+-- A sheet has lines of 80 columns, each ended by a line feed: where sheet answers that it wrote n bytes, the first n of the page are such lines.
 use Rattle.std.specs.Prelude.{◌≡◌, Bool, true, ◌&&◌, List, [], ◌∷◌, ◌++◌, ℕ, suc, ◌*◌, leb, length, take}
 use Rattle.integers.specs.Lists.{all}
 use Rattle.words.specs.Answer.{Answer, written}

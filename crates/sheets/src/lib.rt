@@ -2,7 +2,7 @@
 // A page that is too short, or words with a fault, are refused.
 #![tactic(auto)]
 
-ghost use Rattle.std.specs.Prelude.{◌≡◌, ◌≤◌, length};
+ghost use Rattle.std.specs.Prelude.{◌≡◌, ◌≤◌, length, take, IfOk};
 ghost use Rattle.words.specs.Faults.{written_of};
 ghost use Rattle.words.specs.LaidAt.{LaidAt};
 ghost use Rattle.words.specs.Limit as Limit;
@@ -47,6 +47,8 @@ fn put_sheet(ws: &[u32], bytes: &mut [u8]) -> usize
 pub fn sheet(ws: &[u32], page: &mut [u8]) -> Result<usize, Refusal>
     ensures answer { written_of result ≡ sheet_answer ws.now (length page.old) }
     ensures page { page.new ≡ sheet_page ws.now page.old }
+    ensures room { IfOk result (λ n. n ≤ length page.new) }
+    ensures front { IfOk result (λ n. take n page.new ≡ sheet_text ws.now) }
     ensures lines { EightyColumns (written_of result) page.new }
 {
     read_rows(ws)?;

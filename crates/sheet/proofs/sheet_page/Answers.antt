@@ -3,10 +3,11 @@ use Rattle.std.proofs.Common.{ap, ◌∙◌, ◌≤◌, arith, length}
 use Rattle.encoding.specs.Bytes.{bytes_words}
 use Rattle.encoding.proofs.Words.{quarter}
 use Rattle.sheets.specs.Sheet.{sheet, sheet_page}
+use Rattle.sheets.proofs.Front.{has_room}
 use Rattle.lines.specs.Lines.{program_words}
 use Rattle.lines.proofs.Printed.{front_too_long, front-refused, front-text, short-enough}
 use Rattle.sheet.specs.Text.{page_bytes, printed_sheet}
-use Rattle.sheet.proofs.Text.{fits, same_length}
+use Rattle.sheet.proofs.Text.{same_length}
 use Rattle.sheet.proofs.sheet_page.Goals.{Else-bytes-gt-WORDS}
 use Rattle.sheet.proofs.sheet_page.Goals as goal
 
@@ -34,7 +35,7 @@ unfolding printed_sheet sheet sheet_page
 returns-in-Ok c =
     let ws = bytes_words c.args.bytes.now in
     let call = rw (c.in-Ok.is, c.front_words-n.ensures.words, c.requires) at c.sheet.ensures in
-    let p = front-text (record { answer = call.answer; output = call.page; room = rw c.requires (fits ws page_bytes) }) (short-enough program_words (length ws) _ (few (goal.at.returns-in-Ok c).Else-bytes-gt-WORDS)) in
+    let p = front-text (record { answer = call.answer; output = call.page; room = rw c.requires (has_room ws page_bytes) }) (short-enough program_words (length ws) _ (few (goal.at.returns-in-Ok c).Else-bytes-gt-WORDS)) in
     record { text = p.0; count = p.1 }
 
 pub front_words-n-requires : goal.front_words-n-requires
