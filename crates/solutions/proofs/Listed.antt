@@ -1,6 +1,7 @@
 -- What the call says it listed: exactly the lists that satisfy the model, each once, in order.
-use Rattle.std.proofs.Common.{◌≡◌, refl, sym, ap, ◌∙◌, inl, inr, Bool, true, false, List, [], ◌∷◌, ℕ, zero, suc, ◌*◌, ◌≤◌, arith, ltb, eqb, ℤ, length, length-append, ltb-false}
+use Rattle.std.proofs.Common.{◌≡◌, refl, sym, ap, ◌∙◌, inl, inr, Bool, true, false, List, [], ◌∷◌, ℕ, zero, suc, ◌*◌, ◌≤◌, arith, ltb, eqb, ℤ, length, length-append, take, ltb-false, Result, Ok, Err}
 use mathlib.Core.List.{flatten}
+use Rattle.std.specs.Prelude.{IfOk}
 use Rattle.integers.specs.Choice.{◌if◌else◌}
 use Rattle.integers.proofs.Lists.{all-members}
 use Rattle.integers.proofs.Tests.{All, Member}
@@ -10,7 +11,9 @@ use Rattle.words.specs.Variables.{variables}
 use Rattle.words.specs.Refusal.{◌at_place◌, accepted, fault_or, ◌else_refuse◌, room_fault}
 use Rattle.words.specs.Answer.{Answer, written, refused_or, ◌else_answer◌}
 use Rattle.words.specs.Refusals.{Refusal}
-use Rattle.words.proofs.Overlay.{front-over}
+use Rattle.words.specs.Faults.{written_of}
+use Rattle.words.specs.declared.fault.Refusal as error
+use Rattle.words.proofs.Overlay.{front-over, length-overlay}
 use Rattle.rules.specs.Check.{check_fault}
 use Rattle.solutions.specs.Solutions.{solutions, lists_fault, solutions_fault, solutions_answer, solutions_listed}
 use Rattle.solutions.specs.AllSolutions.{OneOf, InOrder, Before, Lists, AllSolutions}
@@ -64,19 +67,33 @@ module _ (ws : List ℕ) (out : List ℤ) (n : ℕ) (e : solutions_answer ws (le
   size : length (flatten (solutions ws)) ≡ length (solutions ws) * length (variables ws)
   size = flat-size (length (variables ws)) (solutions ws) ((all-members (λ vs. length vs ≡ length (variables ws)) (solutions ws)).1 (λ vs m. ((complete ws vs).0 m).one_each))
 
-  -- THE LAW
-  pub lists_all : Lists ws n (solutions_listed ws out)
+  -- what was written fits, and is the front
+  listed-fits : n * length (variables ws) ≤ length (solutions_listed ws out)
   unfolding solutions_listed
-  lists_all =
+  listed-fits = let w = wrote in rw (w.1.1, w.0) (omega (arith, w.1.0, length-overlay out 0 (flatten (solutions ws))))
+
+  listed-front : take (n * length (variables ws)) (solutions_listed ws out) ≡ flatten (solutions ws)
+  unfolding solutions_listed
+  listed-front =
       let w = wrote in
       let k : n * length (variables ws) ≡ length (flatten (solutions ws)) = ap (λ (m : ℕ). m * length (variables ws)) w.0 ∙ sym size in
+      rw (w.1.1, k) (front-over out (flatten (solutions ws)) (omega (arith, size, w.1.0)))
+
+  -- THE LAW
+  pub lists_all : Lists ws n (solutions_listed ws out)
+  lists_all =
       record {
         lists = solutions ws;
-        counted = w.0;
-        written = rw (w.1.1, k) (front-over out (flatten (solutions ws)) (omega (arith, size, w.1.0)));
+        counted = wrote.0;
+        written = listed-front;
         exactly = λ vs. (λ m. (complete ws vs).0 (member-of vs (solutions ws) m), λ s. of-member vs (solutions ws) ((complete ws vs).1 s));
         in_order = ordered (solutions ws) (sorted-solutions ws);
       }
 
 pub all_of : (ws : List ℕ) (before : List ℤ) {after : List ℤ} {answer : Answer} → answer ≡ solutions_answer ws (length before) → after ≡ solutions_listed ws before → AllSolutions ws answer after
 all_of ws before e f n g = rw f (lists_all ws before n (sym e ∙ g))
+
+pub front_of : (ws : List ℕ) (before after : List ℤ) (r : Result ℕ error.Refusal) → written_of r ≡ solutions_answer ws (length before) → after ≡ solutions_listed ws before →
+    IfOk r (λ n. n * length (variables ws) ≤ length after) × IfOk r (λ n. take (n * length (variables ws)) after ≡ flatten (solutions ws))
+front_of ws before after (Ok n) e f = rw f (listed-fits ws before n (sym e), listed-front ws before n (sym e))
+front_of ws before after (Err r) e f = (tt, tt)

@@ -1,5 +1,5 @@
--- 02, wish 11, of the values that were written: where the answer is that n solutions are listed, the output begins with n lists, one after another: exactly the
--- lists that satisfy the model, each once, "the first variable changing slowest, values rising".
+-- Where the answer is that n solutions are listed, the output begins with n lists, one after another: exactly the lists that satisfy the model, each once, in
+-- rising order of the first variable's value, then of the second's, and so on.
 use Rattle.std.specs.Prelude.{◌≡◌, ◌⊎◌, ◌↔◌, ℕ, ◌*◌, ℤ, ◌<ℤ◌, length, take}
 use mathlib.Core.List.{List, [], ◌∷◌, flatten}
 use Rattle.words.specs.Answer.{Answer, written}

@@ -1,7 +1,7 @@
 // Every solution of a small model: the value lists within its bounds, one after another, each judged by the places of the model's constraints.
 #![tactic(auto)]
 
-ghost use Rattle.std.specs.Prelude.{◌≡◌, not, min, ◌*◌, ◌<◌, ltb, nat_abs, length, set};
+ghost use Rattle.std.specs.Prelude.{◌≡◌, not, min, ◌*◌, ◌<◌, ◌≤◌, ltb, nat_abs, length, set, take, IfOk};
 ghost use mathlib.Core.List.{flatten};
 ghost use Rattle.words.specs.Faults.{written_of};
 ghost use Rattle.words.specs.Overlay.{overlay};
@@ -13,7 +13,7 @@ ghost use Rattle.checking.specs.ReadModel.{Listed};
 ghost use Rattle.solutions.specs.Lists.{list_count};
 ghost use Rattle.solutions.specs.AllWithin.{lowest_list};
 ghost use Rattle.solutions.specs.Odometer.{is_last, next_list};
-ghost use Rattle.solutions.specs.Solutions.{every_true, solutions_answer, solutions_listed};
+ghost use Rattle.solutions.specs.Solutions.{every_true, solutions as solutions_of, solutions_answer, solutions_listed};
 ghost use Rattle.solutions.specs.AllSolutions.{AllSolutions};
 ghost use Rattle.solutions.specs.Walk.{count_cap, bounds_to, solutions_from, solutions_in, Walkable, ListsSized};
 
@@ -205,6 +205,8 @@ fn solutions_passed(read: &ReadModel, out: &mut [i32]) -> Result<usize, Refusal>
 pub fn solutions(ws: &[u32], out: &mut [i32]) -> Result<usize, Refusal>
     ensures answer { written_of result ≡ solutions_answer ws.now (length out.old) }
     ensures output { out.new ≡ solutions_listed ws.now out.old }
+    ensures room { IfOk result (λ n. n * length (variables ws.now) ≤ length out.new) }
+    ensures front { IfOk result (λ n. take (n * length (variables ws.now)) out.new ≡ flatten (solutions_of ws.now)) }
     ensures all { AllSolutions ws.now (written_of result) out.new }
 {
     let mut read = ReadModel::of(ws);

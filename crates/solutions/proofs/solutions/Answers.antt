@@ -3,14 +3,14 @@ use Rattle.std.proofs.Common.{◌∙◌}
 use Rattle.std.proofs.lemmas.Result.{err_from_is_err_and}
 use Rattle.checking.proofs.Answers.{counted}
 use Rattle.solutions.proofs.All.{stands}
-use Rattle.solutions.proofs.Listed.{all_of}
+use Rattle.solutions.proofs.Listed.{all_of, front_of}
 use Rattle.solutions.proofs.solutions.Goals as goal
 
 pub returns-in_err-check_model : goal.returns-in_err-check_model
 returns-in_err-check_model c =
     let p = err_from_is_err_and c.from_residual.result c.from_residual.ensures.1 in
     let h = stands c.args.ws.now c.args.out.now (rw c.of-read.ensures.words at c.in_err-check_model.ensures.answer) in
-    rw (p.1, p.2) (record { answer = h.0; output = h.1; all = all_of c.args.ws.now c.args.out.now h.0 h.1 })
+    rw (p.1, p.2) (record { answer = h.0; output = h.1; room = tt; front = tt; all = all_of c.args.ws.now c.args.out.now h.0 h.1 })
 
 pub solutions_passed-requires : goal.solutions_passed-requires
 solutions_passed-requires c =
@@ -21,4 +21,5 @@ solutions_passed-requires c =
 pub returns : goal.returns
 returns c =
     let f = rw (c.check_model.ensures.words ∙ c.of-read.ensures.words) at c.solutions_passed.ensures in
-    record { answer = f.answer; output = f.output; all = all_of c.args.ws.now c.args.out.now f.answer f.output }
+    let w = front_of c.args.ws.now c.args.out.now _ c.solutions_passed.result f.answer f.output in
+    record { answer = f.answer; output = f.output; room = w.0; front = w.1; all = all_of c.args.ws.now c.args.out.now f.answer f.output }
