@@ -1,5 +1,5 @@
--- 02, wish 12: "nothing that one writes, faulty or not, alters what the other gets, limits included, as long as the first candidate's words are none or begin
--- with kind 4, and hold no D0000000": two pairs that differ at most in what the other candidate wrote.
+-- Two pairs that differ at most in what the other candidate wrote. Whatever one candidate writes, with faults or without, changes nothing that the other gets, limits
+-- included, where the first candidate's words are none, or begin with a constraint's head and have no D0000000 among them.
 use Rattle.std.specs.Prelude.{◌≡◌, false, List, [], ◌∷◌, ◌++◌, ℕ}
 use Rattle.integers.specs.Lists.{any}
 use Rattle.words.specs.Word.{kind}
@@ -14,7 +14,7 @@ pub data FirstWords : List ℕ → Type 0 where
   none : FirstWords []
   begins : (w : ℕ) (F : List ℕ) → kind w ≡ Kind.constraint → any separates (w ∷ F) ≡ false → FirstWords (w ∷ F)
 
--- of the first candidate even whatever stands before D0000000
+-- what the second writes changes nothing for the first, whatever stands before D0000000
 pub data OtherWrote (candidate : ℕ) : List ℕ → List ℕ → Type 0 where
   the_second : candidate ≡ 1 → (ws S S' : List ℕ) → OtherWrote candidate (ws ++ (separator ∷ S)) (ws ++ (separator ∷ S'))
   the_first : (candidate ≡ 1 → ⊥) → (T F F' S : List ℕ) → Table T → FirstWords F → FirstWords F' →

@@ -1,4 +1,4 @@
--- 02, wish 12: "a faulty word in the table refuses both".
+-- A faulty word in the variable table refuses both candidates.
 use Rattle.std.specs.Prelude.{◌≡◌, List, ℕ, ltb, length}
 use Rattle.integers.specs.Choice.{◌if◌else◌}
 use Rattle.words.specs.Fault as Fault

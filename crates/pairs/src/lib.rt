@@ -2,13 +2,14 @@
 // The candidate stays a number: the calls for C take one and hand it on.
 #![tactic(auto)]
 
-ghost use Rattle.std.specs.Prelude.{◌≡◌, ◌≤◌, ◌<◌, Bool, List, ℕ, length};
+ghost use Rattle.std.specs.Prelude.{◌≡◌, ◌≤◌, ◌<◌, Bool, List, ◌++◌, ℕ, length, take, IfOk};
 ghost use Rattle.words.specs.Overlay.{overlay};
 ghost use Rattle.words.specs.Limit as Limit;
 ghost use Rattle.words.specs.Faults.{written_of, verdict_of};
+ghost use Rattle.rules.specs.Translation.{picks, system_words};
 ghost use Rattle.checking.specs.Checked.{checked};
 ghost use Rattle.translation.specs.Shares.{Shares};
-ghost use Rattle.filling.specs.Filled.{handed};
+ghost use Rattle.filling.specs.Filled.{handed, IfFilled};
 ghost use Rattle.filling.specs.Satisfied.{Satisfied};
 ghost use Rattle.pairs.specs.Pair.{before, separates, ends_table, first_model, second_model, model_of};
 ghost use Rattle.pairs.specs.Calls.{pair_check, pair_translate, pair_translated, pair_judge, pair_fill, pair_filled};
@@ -122,6 +123,8 @@ pub fn pair_check(ws: &[u32], candidate: u32) -> Result<Counts, Refusal>
 pub fn pair_translate(ws: &[u32], candidate: u32, out: &mut [u32]) -> Result<usize, Refusal>
     ensures answer { written_of result ≡ pair_translate candidate ws.now (length out.old) }
     ensures output { out.new ≡ pair_translated candidate ws.now out.old }
+    ensures room { IfOk result (λ n. n ≤ length out.new) }
+    ensures front { IfOk result (λ n. take n out.new ≡ system_words (model_of candidate ws.now)) }
     ensures shared { Shares (model_of candidate ws.now) (written_of result) out.new }
     ensures alone { (us : List ℕ) → OtherWrote candidate ws.now us → (written_of result ≡ pair_translate candidate us (length out.old)) × (out.new ≡ pair_translated candidate us out.old) }
     ensures faulty { RefusedByTable candidate ws.now (written_of result) }
@@ -151,6 +154,8 @@ pub fn pair_fill(
 ) -> Result<Filling, Refusal>
     ensures answer { handed result ≡ pair_fill candidate ws.now values.now (length out.old) }
     ensures output { out.new ≡ pair_filled candidate ws.now values.now out.old }
+    ensures room { IfFilled result (λ n. n ≤ length out.new) }
+    ensures front { IfFilled result (λ n. take n out.new ≡ values.now ++ picks (model_of candidate ws.now) values.now) }
     ensures satisfied { Satisfied (model_of candidate ws.now) (handed result) out.new }
     ensures completes { PairHandsOver candidate ws.now values.now (handed result) out.old out.new }
     ensures alone { (us : List ℕ) → OtherWrote candidate ws.now us → (handed result ≡ pair_fill candidate us values.now (length out.old)) × (out.new ≡ pair_filled candidate us values.now out.old) }

@@ -19,6 +19,8 @@ returns-in_err-words c =
     rw (p.1, p.2) (record {
       answer = a;
       output = s.1;
+      room = tt;
+      front = tt;
       alone = λ us o. (a ∙ same-fill o c.args.values.now (length c.args.out.now), s.1 ∙ same-filled o c.args.values.now c.args.out.now);
       faulty = λ some h. a ∙ Faulty.fill-refused c.args.candidate c.args.ws.now some h c.args.values.now (length c.args.out.now);
       satisfied = λ m e. clash (cc);
@@ -35,6 +37,8 @@ returns c =
     record {
       answer = a;
       output = b;
+      room = c.fill.ensures.room;
+      front = rw f at c.fill.ensures.front;
       alone = λ us o. (a ∙ same-fill o c.args.values.now (length c.args.out.now), b ∙ same-filled o c.args.values.now c.args.out.now);
       faulty = λ some h. a ∙ Faulty.fill-refused c.args.candidate c.args.ws.now some h c.args.values.now (length c.args.out.now);
       satisfied = λ n g. rw f at (c.fill.ensures.satisfied n g);

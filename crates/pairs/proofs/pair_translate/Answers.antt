@@ -19,6 +19,8 @@ returns-in_err-words c =
     rw (p.1, p.2) (record {
       answer = a;
       output = s.1;
+      room = tt;
+      front = tt;
       shared = λ m e. clash (cc);
       alone = λ us o. (a ∙ same-translate o (length c.args.out.now), s.1 ∙ same-translated o c.args.out.now);
       faulty = λ some h. a ∙ Faulty.translate-refused c.args.candidate c.args.ws.now some h (length c.args.out.now);
@@ -34,6 +36,8 @@ returns c =
     record {
       answer = a;
       output = b;
+      room = c.translate.ensures.room;
+      front = rw f at c.translate.ensures.front;
       shared = λ n g. rw f at (c.translate.ensures.shared n g);
       alone = λ us o. (a ∙ same-translate o (length c.args.out.now), b ∙ same-translated o c.args.out.now);
       faulty = λ some h. a ∙ Faulty.translate-refused c.args.candidate c.args.ws.now some h (length c.args.out.now);
