@@ -6,3 +6,4 @@ pub mod ValueBits
 pub mod Energy
 pub mod OnBits
 pub mod Refuted
+pub mod Front

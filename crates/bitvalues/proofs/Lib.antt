@@ -1,2 +1,3 @@
 pub mod Putting
 pub mod Answers
+pub mod Front

@@ -1,7 +1,7 @@
 // The values that bits read as.
 #![tactic(auto)]
 
-ghost use Rattle.std.specs.Prelude.{◌≡◌, ◌≤◌, length};
+ghost use Rattle.std.specs.Prelude.{◌≡◌, ◌≤◌, map, pos, length, take, IfOk};
 ghost use Rattle.integers.specs.Lists.{list_of};
 ghost use Rattle.words.specs.Faults.{written_of};
 ghost use Rattle.words.specs.Limit as Limit;
@@ -10,7 +10,7 @@ ghost use Rattle.words.specs.Refusal.{accepted};
 ghost use Rattle.rowsystems.specs.Reading.{read_rows};
 ghost use Rattle.bitforms.specs.OverBits.{evaluate};
 ghost use Rattle.bittables.specs.BitTables.{encoding_by, firsts};
-ghost use Rattle.bitanswers.specs.ReadValues.{bit_values, bit_valued};
+ghost use Rattle.bitanswers.specs.ReadValues.{bit_values, bit_valued, read_values};
 ghost use Rattle.bitsharing.specs.ReadShares.{ValuesShare};
 ghost use Rattle.bitreading.specs.BitsGiven.{bits_in};
 ghost use Rattle.bitvalues.specs.Answered.{Answered};
@@ -63,6 +63,8 @@ fn values_accepted(ws: &[u32], bytes: &[u8], out: &mut [i32]) -> Result<usize, R
 pub fn bit_values(ws: &[u32], bits: &[u8], out: &mut [i32]) -> Result<usize, Refusal>
     ensures answer { written_of result ≡ bit_values ws.now bits.now (length out.old) }
     ensures output { out.new ≡ bit_valued ws.now bits.now out.old }
+    ensures room { IfOk result (λ n. n ≤ length out.new) }
+    ensures front { IfOk result (λ n. take n out.new ≡ read_values ws.now (map pos bits.now)) }
     ensures shared { ValuesShare ws.now bits.now (written_of result) out.new }
 {
     read_rows(ws)?;

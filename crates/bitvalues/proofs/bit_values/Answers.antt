@@ -3,6 +3,7 @@ use Rattle.std.proofs.lemmas.Result.{err_from_is_err_and}
 use Rattle.words.proofs.Faulty.{fault-number}
 use Rattle.bitsharing.proofs.ReadShares.{values-shared}
 use Rattle.bitvalues.proofs.Answers.{stands}
+use Rattle.bitvalues.proofs.Front.{wrote}
 use Rattle.bitvalues.proofs.bit_values.Goals as goal
 
 pub returns-in_err-read_rows : goal.returns-in_err-read_rows
@@ -12,14 +13,19 @@ returns-in_err-read_rows c =
     record {
       answer = rw (p.1, p.2) a.says;
       output = a.holds;
+      room = rw p.1 tt;
+      front = rw p.1 tt;
       shared = rw (p.1, p.2) (values-shared c.args.ws.now c.args.bits.now c.args.out.now a.says a.holds);
     }
 
 pub returns : goal.returns
 returns c =
     let a = c.values_accepted.ensures in
+    let w = wrote c.args.ws.now c.args.bits.now c.args.out.now _ c.values_accepted.result a.says a.holds in
     record {
       answer = a.says;
       output = a.holds;
+      room = w.0;
+      front = w.1;
       shared = values-shared c.args.ws.now c.args.bits.now c.args.out.now a.says a.holds;
     }
