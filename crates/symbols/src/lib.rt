@@ -217,7 +217,7 @@ impl<'a> Symbols<'a> {
 
     // Enters a token as `note` does. Where the table has no more of the names that the text goes on with, it takes the next ones; of those, the names declared
     // up to here are numbered.
-    pub fn declare(&mut self, text: &[u8], k: usize, colon: bool, token: Span) -> usize
+    fn declare_or_take(&mut self, text: &[u8], k: usize, colon: bool, token: Span) -> usize
         requires { Enterable text.now token.place token.stop k colon (table_of self.old) × Latest text.now token.place self.old.declared }
         ensures next { result ≡ (k + 1 if colon else k) }
         ensures index { Indexed text.now token.stop (table_of self.new) }
@@ -233,5 +233,19 @@ impl<'a> Symbols<'a> {
         self.number_names(text, declared);
         self.declared = declared;
         next
+    }
+
+    // The same, inlined: most tokens follow no colon, and the table has the names that come next.
+    #[inline(always)]
+    pub fn declare(&mut self, text: &[u8], k: usize, colon: bool, token: Span) -> usize
+        requires { Enterable text.now token.place token.stop k colon (table_of self.old) × Latest text.now token.place self.old.declared }
+        ensures next { result ≡ (k + 1 if colon else k) }
+        ensures index { Indexed text.now token.stop (table_of self.new) }
+        ensures latest { Latest text.now token.stop self.new.declared }
+    {
+        if colon || self.until <= token.stop {
+            return self.declare_or_take(text, k, colon, token);
+        }
+        k
     }
 }
