@@ -1,7 +1,6 @@
 // Reads cases from standard input.
-ghost use Rattle.std.specs.Prelude.{◌≡◌, ◌<◌, List, ℕ, length, IfOk, MatchOption};
-ghost use Rattle.std.specs.Io.KnownBytes.{Consumes, IsAtEnd};
-ghost use Rattle.cases.specs.HeadBytes.{number_at, head_of};
+ghost use Rattle.std.specs.Prelude.{◌≡◌, ◌<◌, IfOk};
+ghost use Rattle.cases.specs.HeadBytes.{number_at, head_of, NextHead};
 
 use crate::lent::Element;
 use encoding::word_of_bytes;
@@ -59,7 +58,7 @@ fn head_of(bytes: &[u8]) -> Head
 
 // The head of the next case: that of the next 16 bytes of the input. None where the input ends before them.
 pub fn next_head<R: Read>(input: &mut R) -> io::Result<Option<Head>>
-    ensures { IfOk result (λ found. MatchOption found (IsAtEnd (R.remaining input.new)) (λ head. (bytes : List ℕ) × (length bytes ≡ 16) × (head ≡ head_of bytes) × Consumes (R.remaining input.old) (R.remaining input.new) bytes)) }
+    ensures { IfOk result (NextHead (R.remaining input.old) (R.remaining input.new)) }
 {
     let mut bytes = [0u8; HEAD];
     if read_full(input, &mut bytes)? < HEAD {
