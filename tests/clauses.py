@@ -71,7 +71,7 @@ def differences(old, new):
         head, found = '', []
         for line in text.splitlines():
             head = line.partition('(')[0] if line and line[0] not in ' #' else head
-            found.append((head, line))
+            found += [(head, line)] * bool(line.strip())
         return found
     here, there = placed(new), placed(old)
     for head, line in there:
