@@ -1,6 +1,6 @@
 #!/usr/bin/env python3
 """Writes the recorded cases of the program `suite`, crates/suite/stdin and stdout, from tests/vectors: every vector,
-the calls that write with other rooms, and a few cases at the limits.
+the calls that write with other rooms, a few cases at the limits, and two of what the program writes too far on purpose.
 
     tests/cases.py           write both files
     tests/cases.py --check   only say whether they are up to date
@@ -10,7 +10,7 @@ import glob, os, struct, sys
 
 HERE = os.path.dirname(os.path.abspath(__file__))
 SUITE = os.path.join(os.path.dirname(HERE), 'crates', 'suite')
-CALLS = {'check': 1, 'translate': 2, 'judge_model': 3, 'judge_rows': 4, 'fill': 5, 'sheet': 6, 'text': 7, 'reason': 8, 'solutions': 9, 'bits': 10,
+CALLS = {'too_far': 0, 'check': 1, 'translate': 2, 'judge_model': 3, 'judge_rows': 4, 'fill': 5, 'sheet': 6, 'text': 7, 'reason': 8, 'solutions': 9, 'bits': 10,
          'pair_check': 11, 'pair_translate': 12, 'pair_judge_model': 13, 'pair_fill': 14, 'bit_values': 15,
          'bit_energy': 16, 'value_bits': 17}
 MORE = 3  # how much longer than wanted a list is lent, so that what stands past the end is seen
@@ -153,7 +153,14 @@ def limits():
         yield 'pair_judge_model', model[:16] + [0xD0000000] + second[16:], [2] + [1] * 16, 0, answer
 
 
+def marked():
+    """No call: what suite itself writes further than it says, so that a line that ends in ` changed` is seen."""
+    yield 'too_far', [], [], 4, 'words' + ' 00000000' * 3 + ' changed'
+    yield 'too_far', [], [], 1, 'words changed'
+
+
 def cases():
+    yield from marked()
     yield from recorded()
     for case in recorded():
         yield from rooms(*case)

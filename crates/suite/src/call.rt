@@ -33,6 +33,8 @@ pub enum PairCall {
 
 #[derive(Clone, Copy, Debug, PartialEq, Eq)]
 pub enum Call {
+    // no call: the function of main that writes further than it says
+    TooFar,
     Model(ModelCall),
     Rows(RowsCall),
     Text,
@@ -48,6 +50,7 @@ impl TryFrom<u32> for Call {
 
     fn try_from(number: u32) -> Result<Call, UnknownCall> {
         match number {
+            0 => Ok(Call::TooFar),
             1 => Ok(Call::Model(ModelCall::Check)),
             2 => Ok(Call::Model(ModelCall::Translate)),
             3 => Ok(Call::Model(ModelCall::Judge)),

@@ -24,6 +24,7 @@ use std::io::{Read, Write};
 use texts::read_text;
 use translation::translate;
 use valuebits::value_bits;
+use words::fault::Refusal;
 
 mod answer;
 mod call;
@@ -191,9 +192,18 @@ fn answer_text<R: Read, W: Write>(input: &mut R, to: &mut W, head: Head) -> io::
     })
 }
 
+// No call: it is wrong on purpose, so that the mark " changed" is seen once. It fills all of the list and says that the last element is not written.
+fn write_too_far(out: &mut [u32]) -> Result<usize, Refusal> {
+    out.fill(0);
+    Ok(out.len().saturating_sub(1))
+}
+
 // Reads the rest of a case and answers it. A call that is not known has words and values as one on a pair has.
 fn answer_case<R: Read, W: Write>(input: &mut R, to: &mut W, head: Head) -> io::Result<()> {
     match Call::try_from(head.call) {
+        Ok(Call::TooFar) => print_lent(to, &mut [u32::MARK; VALUES], head.room, |out| {
+            write_too_far(out)
+        }),
         Ok(Call::Model(call)) => with_model(input, head, |words, values| {
             answer_model(to, call, words, values, head.room)
         }),
