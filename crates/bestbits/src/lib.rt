@@ -1,7 +1,7 @@
 // The form of the best solutions of a row system.
 #![tactic(auto)]
 
-ghost use Rattle.std.specs.Prelude.{◌≡◌, ◌≤◌, length, replicate};
+ghost use Rattle.std.specs.Prelude.{◌≡◌, ◌<◌, ◌≤◌, length, replicate};
 ghost use Rattle.integers.specs.Number.{+0};
 ghost use Rattle.words.specs.Faults.{written_of};
 ghost use Rattle.words.specs.Refusal.{accepted};
@@ -10,7 +10,7 @@ ghost use Rattle.bitlines.specs.Sizes as Size;
 ghost use Rattle.bestforms.specs.BestAnswer.{best_bits, best_bitted};
 ghost use Rattle.bestforms.specs.BestShares.{BestShares};
 ghost use Rattle.bestforms.specs.Numbered.{best_bits_by, best_bitted_by, NumberedShares};
-ghost use Rattle.bitfilling.specs.Added.{LineAndRow};
+ghost use Rattle.bitwriting.specs.Bands.{BandAndRow};
 ghost use Rattle.bitform.specs.Answered.{BitsListed};
 ghost use Rattle.bestbits.specs.Answered.{AnsweredBest, VariableListed, sign, start};
 
@@ -21,6 +21,7 @@ use bitrows::add_variable;
 use bittables::span_at;
 use bittables::table::{BitSystem, BitTable, BitVariable, system_of};
 use bittaking::Taken;
+use bitwriting::{BAND, lines_of};
 use rowreading::read_rows;
 use words::domain::Domain;
 use words::fault::{Fault, Refusal};
@@ -52,14 +53,16 @@ fn start_of(direction: Direction, width: usize) -> i64
 fn best_listed(
     out: &mut [u32],
     system: &BitSystem,
-    line: &mut [i64],
+    band: &mut [i64],
     row: &mut [i64],
     added: &mut [i64],
     variable: usize,
     direction: Direction,
     n: usize,
+    lines: usize,
 ) -> Result<usize, Refusal>
-    requires listed { BitsListed system.now n × LineAndRow n line.old row.old }
+    requires listed { BitsListed system.now n }
+    requires banded { BandAndRow n lines band.old row.old × (0 < n → 0 < lines) }
     requires none_added { added.old ≡ replicate n +0 }
     requires named { VariableListed system.now variable }
     ensures { AnsweredBest system.now.words.now variable direction out.old out.new (written_of result) }
@@ -71,7 +74,7 @@ fn best_listed(
         constant: start_of(direction, width),
         added,
     };
-    form_checked(out, system, line, row, &taken, n)
+    form_checked(out, system, band, row, &taken, n, lines)
 }
 
 // Of accepted words: 23, 26, or what comes after. The lists have the most elements: fixed memory.
@@ -101,22 +104,24 @@ fn best_accepted(
         });
     }
     let mut added = [0i64; limit::BITS];
-    let mut line = [0i64; limit::BITS];
+    let mut band = [0i64; BAND];
     let mut row = [0i64; limit::BITS];
     let table = BitTable {
         domains: &domains,
         bits: &bits,
     };
     let system = system_of(ws, table, listed.start);
+    let lines = lines_of(n);
     best_listed(
         out,
         &system,
-        &mut line[..n],
+        &mut band[..lines * n],
         &mut row[..n],
         &mut added[..n],
         variable,
         direction,
         n,
+        lines,
     )
 }
 

@@ -18,11 +18,25 @@ use Rattle.bitforms.specs.SumOver.{sum_over}
 use Rattle.bitforms.specs.Weights.{weights}
 use Rattle.bitforms.specs.OverBits.{OverBits, weighted_bits, scaled, over_bits, over}
 use Rattle.bitforms.specs.BitRow.{Pair, slack_weights, pairs_with, pairs_of, product_whole, bit_row}
-use Rattle.bitforms.specs.Matrix.{coefficient_of, square_entry, on_pair, pair_entry, row_entry}
+use Rattle.bitforms.specs.Matrix.{coefficient_of, square_with, square_entry, on_pair, pair_entry, row_entry}
 use Rattle.bitforms.proofs.Numbers.{with-length, pairs-all}
 use Rattle.bittables.specs.BitTables.{span_in, bits_of, row_over, BitCounts}
 use Rattle.bitrows.specs.Terms.{term_in}
 use Rattle.bitfilling.specs.Idle.{NotAmong, NoBitOf, Idle, IdleRow}
+
+-- a bit whose coefficient is 0 has no entries
+pub zero-with : (k : ℕ → ℤ) (c : ℤ) (i j : ℕ) → k i ≡ pos 0 → square_with k c i j ≡ pos 0
+zero-with k c i j h = rw h (go (eqb i j))
+  where
+    on : (c : ℤ) → pos 0 ⊗ pos 0 ⊕ +2 ⊗ c ⊗ pos 0 ≡ pos 0
+    on = simp linear (omega arith)
+
+    off : (x : ℤ) → +2 ⊗ pos 0 ⊗ x ≡ pos 0
+    off = simp linear (omega arith)
+
+    go : (t : Bool) → (pos 0 ⊗ pos 0 ⊕ +2 ⊗ c ⊗ pos 0 if t else +2 ⊗ pos 0 ⊗ k j) ≡ pos 0
+    go true = on c
+    go false = off (k j)
 
 module _ (i : ℕ) where
   abbrev Other : ℕ → Type 0
@@ -86,17 +100,7 @@ module _ (i : ℕ) where
 
   no-square : (s : OverBits) (j : ℕ) → All Still s.terms → square_entry s i j ≡ pos 0
   unfolding square_entry
-  no-square s j h = rw (still-coefficient s.terms h) (go (eqb i j))
-    where
-      on : (c : ℤ) → pos 0 ⊗ pos 0 ⊕ +2 ⊗ c ⊗ pos 0 ≡ pos 0
-      on = simp linear (omega arith)
-
-      off : (k : ℤ) → +2 ⊗ pos 0 ⊗ k ≡ pos 0
-      off = simp linear (omega arith)
-
-      go : (t : Bool) → (pos 0 ⊗ pos 0 ⊕ +2 ⊗ s.constant ⊗ pos 0 if t else +2 ⊗ pos 0 ⊗ coefficient_of s.terms j) ≡ pos 0
-      go true = on s.constant
-      go false = off (coefficient_of s.terms j)
+  no-square s j h = zero-with (coefficient_of s.terms) s.constant i j (still-coefficient s.terms h)
 
   -- ---- pairs of other bits, with other bits for their products
 

@@ -1,5 +1,5 @@
 -- What a row over bits adds to the line of bit i: its entries of bit i and the bits from i on.
-use Rattle.std.specs.Prelude.{◌≡◌, List, ℕ, ◌+◌, ◌*◌, ◌<◌, ◌≤◌, ℤ, length, get_or}
+use Rattle.std.specs.Prelude.{◌≡◌, List, ℕ, ◌+◌, ◌<◌, ◌≤◌, ℤ, length, get_or}
 use Rattle.integers.specs.Number.{◌⊕◌, +0}
 use Rattle.integers.specs.Terms.{Term}
 use Rattle.words.specs.Limit as Limit
@@ -7,7 +7,7 @@ use Rattle.rowsystems.specs.RowSystem.{variable_at}
 use Rattle.bitforms.specs.BitRow.{BitRow}
 use Rattle.bitforms.specs.Matrix.{row_entry}
 use Rattle.bitlines.specs.Sizes as Size
-use Rattle.bitlines.specs.Dense.{peak, Adds}
+use Rattle.bitlines.specs.Dense.{peak}
 use Rattle.bitlines.specs.Line.{square_terms}
 use Rattle.bitrows.specs.Terms.{pairs_terms}
 use Rattle.bitfilling.specs.Filled.{dense}
@@ -22,8 +22,10 @@ pub record LineAndRow (n : ℕ) (line row : List ℤ) : Type 0 where
 abbrev pub whole_terms : ℕ → BitRow → ℕ → ℕ → List (Term ℕ)
 whole_terms n r i m = square_terms (dense n r.whole.terms) r.whole.constant i m
 
-abbrev pub AddsSquare : ℕ → BitRow → ℕ → ℕ → List ℤ → List ℤ → Type 0
-AddsSquare n r i m line line' = Adds (whole_terms n r i m) (m * Size.largest_entry) line line'
+-- a list and a number are a row over bits and its constant
+pub record FilledBy (r : BitRow) (row : List ℤ) (c : ℤ) : Type 0 where
+  pub terms_are : row ≡ dense (length row) r.whole.terms
+  pub constant_is : c ≡ r.whole.constant
 
 -- what the products of bits of a product's two factors add
 unfoldable pub product_pairs : List ℕ → List ℕ → List ℕ → ℕ → ℕ → List (Term ℕ)

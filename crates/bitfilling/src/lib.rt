@@ -7,7 +7,7 @@
 // part take apart. Kinds are tested one by one, as the definition of a row (row_of) does: of a head of another kind the words are those of a product.
 #![tactic(auto)]
 
-ghost use Rattle.std.specs.Prelude.{◌≡◌, true, false, ◌+◌, ◌*◌, ◌<◌, ◌≤◌, length, replicate};
+ghost use Rattle.std.specs.Prelude.{◌≡◌, true, false, ℕ, ◌+◌, ◌*◌, ◌<◌, ◌≤◌, nat_abs, length, replicate};
 ghost use Rattle.integers.specs.Bounds.{bounds_in};
 ghost use Rattle.integers.specs.Number.{neg, +0};
 ghost use Rattle.words.specs.Limit as Limit;
@@ -17,19 +17,18 @@ ghost use Rattle.bitforms.specs.OverBits.{scaled};
 ghost use Rattle.bitforms.specs.FormAnswer.{row_fits};
 ghost use Rattle.bitlines.specs.Sizes as Size;
 ghost use Rattle.bitlines.specs.Dense.{add_terms, peak, Adds};
+ghost use Rattle.bitlines.specs.Line.{square_terms};
 ghost use Rattle.bittables.specs.BitTables.{firsts, counts, span_in, bits_of, row_over, row_by, BitCounts};
 ghost use Rattle.bitrows.specs.Terms.{term_in, cross};
 ghost use Rattle.bitfilling.specs.Filled.{dense, at_most_in, product_in};
-ghost use Rattle.bitfilling.specs.Added.{LineAndRow, AddsSquare, product_pairs, Added};
+ghost use Rattle.bitfilling.specs.Added.{LineAndRow, FilledBy, product_pairs, Added};
 ghost use Rattle.bitfilling.specs.Idle.{NotAmong, NoBitOf, Idle, IdleRow};
 
 use bitlines::{add_square, add_weights};
-use bitrows::{
-    add_pairs, add_products, add_terms, add_variable, row_constant, slack_of, sum_terms,
-};
+use bitrows::{add_pairs, add_products, add_terms, add_variable, slack_of, sum_terms};
 use bittables::table::{BitTable, BitVariable, bits_at, count_at};
 use bittables::{row_variable, signed_at, span_at};
-use integers::opposite;
+use integers::{equal, opposite};
 use words::domain::{Domain, domain_of};
 use words::kind::Kind;
 use words::word::Word;
@@ -111,37 +110,22 @@ fn add_product_pairs(line: &mut [i64], args: &[u32], table: &BitTable, first: us
     add_pairs(line, u, m, v, n, first, i)
 }
 
-// Adds to the line of bit i the entries of the square of the row or product with this head; the list is used for its row over bits.
-fn add_whole(
-    line: &mut [i64],
-    row: &mut [i64],
-    head: Word,
-    args: &[u32],
-    table: &BitTable,
-    first: usize,
-    i: usize,
-    m: usize,
-)
-    requires near { first < Size.farthest }
-    requires few { i + m ≤ Limit.bits }
-    requires small { peak line.old < Size.sums }
-    requires fits { row_fits (length row.old) (row_by table.now.domains.now (firsts table.now.bits.now) first head args.now) ≡ true }
-    ensures { AddsSquare (length row.old) (row_by table.now.domains.now (firsts table.now.bits.now) first head args.now) i m line.old line.new }
+// Adds to the line of bit i the entries of the square of a row over bits with the constant c; none where the row does not have the bit.
+fn add_whole(line: &mut [i64], row: &[i64], c: i64, i: usize, m: usize)
+    requires small { (peak row.now ≤ Limit.bit_numbers) × (nat_abs c ≤ Limit.bit_numbers) × (i + m ≤ Limit.bits) × (peak line.old < Size.sums) }
+    requires inside { (0 < m) × (i + m ≤ length line.old) × (i + m ≤ length row.now) }
+    ensures { Adds (square_terms row.now c i m) (m * Size.largest_entry) line.old line.new }
 {
-    fill_row(row, head, args, table, first);
-    add_square(
-        line,
-        row,
-        row_constant(head, args, |v| domain_of(table.domains, v).lower()),
-        i,
-        m,
-    );
+    if !equal(row[i], 0) {
+        add_square(line, row, c, i, m);
+    }
 }
 
-// Adds to the line of bit i what the row or product with this head adds; the list is used for its row over bits.
+// Adds to the line of bit i what the row or product with this head adds, by its row over bits and the constant of that.
 pub fn add_row(
     line: &mut [i64],
-    row: &mut [i64],
+    row: &[i64],
+    c: i64,
     head: Word,
     args: &[u32],
     table: &BitTable,
@@ -151,12 +135,13 @@ pub fn add_row(
 )
     requires counted { BitCounts table.now.domains.now (counts table.now.bits.now) }
     requires near { first < Size.farthest }
-    requires sized { LineAndRow (i + m) line.old row.old }
+    requires sized { LineAndRow (i + m) line.old row.now × (0 < m) }
     requires small { peak line.old < Size.sums }
     requires fits { row_fits (i + m) (row_by table.now.domains.now (firsts table.now.bits.now) first head args.now) ≡ true }
+    requires filled { FilledBy (row_by table.now.domains.now (firsts table.now.bits.now) first head args.now) row.now c }
     ensures { Added (row_by table.now.domains.now (firsts table.now.bits.now) first head args.now) i line.old line.new }
 {
-    add_whole(line, row, head, args, table, first, i, m);
+    add_whole(line, row, c, i, m);
     if head.is(Kind::AtMost) {
         return;
     }
@@ -166,61 +151,87 @@ pub fn add_row(
     add_product_pairs(line, args, table, first, i)
 }
 
-// Whether bit i is one of n bits from `first` on.
-// No range's `contains`: it would ask that first + n, which nothing bounds, be a usize.
-fn among(first: usize, n: usize, i: usize) -> bool
-    ensures { result ≡ false → NotAmong first n i }
+// Whether one of the h bits from i on may be one of n bits from `first` on.
+fn overlap(first: usize, n: usize, i: usize, h: usize) -> bool
+    ensures { result ≡ false → (q : ℕ) → q < h → NotAmong first n (i + q) }
 {
-    first <= i && i - first < n
+    if first <= i {
+        return i - first < n;
+    }
+    first - i < h
 }
 
-// Whether it is a bit of variable v.
-fn holds_variable(bits: &[BitVariable], v: usize, i: usize) -> bool
-    ensures { result ≡ false → NoBitOf (firsts bits.now) (counts bits.now) i v }
+// Whether it may be a bit of variable v.
+fn holds_variable(bits: &[BitVariable], v: usize, i: usize, h: usize) -> bool
+    ensures { result ≡ false → (q : ℕ) → q < h → NoBitOf (firsts bits.now) (counts bits.now) (i + q) v }
 {
     let b = bits_at(bits, v);
-    among(b.first, b.count, i)
+    overlap(b.first, b.count, i, h)
 }
 
-// Whether it is a bit of the variable of term k, with a coefficient that is not 0.
-fn holds_term(args: &[u32], k: usize, bits: &[BitVariable], i: usize) -> bool
+// Whether it may be a bit of the variable of term k, with a coefficient that is not 0.
+fn holds_term(args: &[u32], k: usize, bits: &[BitVariable], i: usize, h: usize) -> bool
     requires { k ≤ Limit.terms }
-    ensures { result ≡ false → Idle (NoBitOf (firsts bits.now) (counts bits.now) i) (term_in args.now k) }
+    ensures { result ≡ false → (q : ℕ) → q < h → Idle (NoBitOf (firsts bits.now) (counts bits.now) (i + q)) (term_in args.now k) }
 {
     if signed_at(args, 2 * k + 1) == 0 {
         return false;
     }
-    holds_variable(bits, row_variable(args, 2 * k), i)
+    holds_variable(bits, row_variable(args, 2 * k), i, h)
 }
 
 // Whether that is so of one of n terms.
-fn holds_terms(args: &[u32], n: usize, bits: &[BitVariable], i: usize) -> bool
+fn holds_terms(args: &[u32], n: usize, bits: &[BitVariable], i: usize, h: usize) -> bool
     requires { n ≤ Limit.terms }
-    ensures { result ≡ false → IdleRow (NoBitOf (firsts bits.now) (counts bits.now) i) (at_most_in args.now n) }
+    ensures { result ≡ false → (q : ℕ) → q < h → IdleRow (NoBitOf (firsts bits.now) (counts bits.now) (i + q)) (at_most_in args.now n) }
 {
     for k in 0..n {
-        if holds_term(args, k, bits, i) {
+        if holds_term(args, k, bits, i, h) {
             return true;
         }
     }
     false
 }
 
-// Whether it is a bit of a variable of a product.
-fn holds_product(args: &[u32], bits: &[BitVariable], i: usize) -> bool
-    ensures { result ≡ false → IdleRow (NoBitOf (firsts bits.now) (counts bits.now) i) (product_in args.now) }
+// Whether it may be a bit of a variable of a product.
+fn holds_product(args: &[u32], bits: &[BitVariable], i: usize, h: usize) -> bool
+    ensures { result ≡ false → (q : ℕ) → q < h → IdleRow (NoBitOf (firsts bits.now) (counts bits.now) (i + q)) (product_in args.now) }
 {
-    if holds_variable(bits, row_variable(args, 0), i) {
+    if holds_variable(bits, row_variable(args, 0), i, h) {
         return true;
     }
-    if holds_variable(bits, row_variable(args, 1), i) {
+    if holds_variable(bits, row_variable(args, 1), i, h) {
         return true;
     }
-    holds_variable(bits, row_variable(args, 2), i)
+    holds_variable(bits, row_variable(args, 2), i, h)
 }
 
-// Whether the row or product with this head, and `own` bits of its own from `first` on, may have entries in the line of bit i.
-pub fn holds_bit(
+// Whether the row or product with this head, and `own` bits of its own from `first` on, may have entries in the lines of the h bits from i on.
+pub fn holds_bits(
+    head: Word,
+    args: &[u32],
+    bits: &[BitVariable],
+    first: usize,
+    own: usize,
+    i: usize,
+    h: usize,
+) -> bool
+    ensures { result ≡ false → (q : ℕ) → q < h → NotAmong first own (i + q) × IdleRow (NoBitOf (firsts bits.now) (counts bits.now) (i + q)) (row_of head args.now) }
+{
+    if overlap(first, own, i, h) {
+        return true;
+    }
+    if head.is(Kind::AtMost) {
+        return holds_terms(args, sum_terms(head), bits, i, h);
+    }
+    if head.is(Kind::Equal) {
+        return holds_terms(args, sum_terms(head), bits, i, h);
+    }
+    holds_product(args, bits, i, h)
+}
+
+// Whether the row or product with this head may have entries in the line of bit i. Of a row its coefficient says it.
+pub fn holds_line(
     head: Word,
     args: &[u32],
     bits: &[BitVariable],
@@ -230,14 +241,11 @@ pub fn holds_bit(
 ) -> bool
     ensures { result ≡ false → NotAmong first own i × IdleRow (NoBitOf (firsts bits.now) (counts bits.now) i) (row_of head args.now) }
 {
-    if among(first, own, i) {
+    if head.is(Kind::AtMost) {
         return true;
     }
-    if head.is(Kind::AtMost) {
-        return holds_terms(args, sum_terms(head), bits, i);
-    }
     if head.is(Kind::Equal) {
-        return holds_terms(args, sum_terms(head), bits, i);
+        return true;
     }
-    holds_product(args, bits, i)
+    holds_bits(head, args, bits, first, own, i, 1)
 }

@@ -1,9 +1,9 @@
 // The quadratic form over bits of a row system.
-// A line and a row stay two lists: no plainer as a struct, which each call would lend again. BitsListed stays a clause: it names the system and n.
-// n stays a parameter beside them: the clauses name it as the number of bits, and that it is the length of both lists is what LineAndRow says.
+// A band and a row stay two lists: no plainer as a struct, which each call would lend again. BitsListed stays a clause: it names the system and n.
+// n stays a parameter beside them: the clauses name it as the number of bits, and that it is the length of the row is what BandAndRow says.
 #![tactic(auto)]
 
-ghost use Rattle.std.specs.Prelude.{◌≡◌, true, [], ◌∷◌, length, Some};
+ghost use Rattle.std.specs.Prelude.{◌≡◌, ◌⊎◌, true, [], ◌∷◌, ◌<◌, ◌≤◌, length, Some};
 ghost use Rattle.integers.specs.Lists.{all};
 ghost use Rattle.words.specs.Faults.{written_of};
 ghost use Rattle.words.specs.Refusal.{accepted};
@@ -12,7 +12,8 @@ ghost use Rattle.words.specs.Word.{in_range};
 ghost use Rattle.rowsystems.specs.Reading.{read_rows};
 ghost use Rattle.bitforms.specs.BitForm.{bit_rows_of};
 ghost use Rattle.bitforms.specs.FormAnswer.{row_fits, bit_form, bit_formed};
-ghost use Rattle.bitfilling.specs.Added.{LineAndRow};
+ghost use Rattle.bitwriting.specs.Bands.{BandAndRow, Held};
+ghost use Rattle.bitwriting.specs.Lined.{Fitting};
 ghost use Rattle.bitsharing.specs.FormShares.{FormShares};
 ghost use Rattle.bitform.specs.Answered.{Answered, AnsweredBy, constant_by, fits_by, words_by, BitsListed};
 
@@ -20,7 +21,7 @@ use bitchecks::check_rows;
 use bitreading::list_bits;
 use bittables::table::{BitSystem, BitTable, BitVariable, system_of};
 use bittaking::{Taken, take};
-use bitwriting::put_lines;
+use bitwriting::{BAND, lines_of, make_band, put_lines};
 use rowreading::read_rows;
 use words::domain::Domain;
 use words::fault::{Fault, Refusal};
@@ -46,36 +47,67 @@ fn put_word(out: &mut [u32], at: usize, word: Word)
 fn write_form(
     out: &mut [u32],
     system: &BitSystem,
-    line: &mut [i64],
+    band: &mut [i64],
     row: &mut [i64],
     taken: &Taken,
     n: usize,
+    lines: usize,
+    ready: usize,
     c: i64,
 ) -> Option<usize>
-    requires { BitsListed system.now n × LineAndRow n line.old row.old × (c ≡ constant_by system.now.words.now taken.now) × (fits_by system.now.words.now taken.now ≡ true) }
+    requires bits_listed { BitsListed system.now n }
+    requires banded { BandAndRow n lines band.old row.old × (0 < n → 0 < lines) × (ready ≤ n) × Held taken.now system.now n 0 ready band.old }
+    requires fitting { (c ≡ constant_by system.now.words.now taken.now) × (fits_by system.now.words.now taken.now ≡ true) }
     ensures { (result ≡ Some (length (words_by system.now.words.now taken.now))) × (out.new ≡ overlay out.old 0 (words_by system.now.words.now taken.now)) }
 {
     put_word(out, 0, Word::of_number(Kind::Number, c));
-    let end = put_lines(out, 1, n, line, row, system, taken)?;
+    let end = put_lines(out, 1, n, band, row, system, taken, lines, ready)?;
     put_word(out, end, Word::new(Kind::RowsEnd, 0));
     Some(end + 1)
 }
 
-// Of rows and a constant that fit: 24 for an entry, 16, or the words. The words are counted by writing to an empty list.
+// Makes a band hold the lines of all bits, where it has room for them; how many bits' lines stand in it.
+fn whole_band(
+    band: &mut [i64],
+    row: &mut [i64],
+    system: &BitSystem,
+    taken: &Taken,
+    n: usize,
+    lines: usize,
+) -> usize
+    requires fitting { Fitting system.now n }
+    requires banded { BandAndRow n lines band.old row.old × (0 < n → 0 < lines) }
+    ensures held { Held taken.now system.now n 0 result band.new }
+    ensures whole { (result ≡ n) ⊎ (result ≡ 0) }
+{
+    if n == 0 {
+        return 0;
+    }
+    if lines < n {
+        return 0;
+    }
+    make_band(band, row, system, taken, 0, lines)
+}
+
+// Of rows and a constant that fit: 24 for an entry, 16, or the words. The words are counted by writing to an empty list. The lines are made again to be
+// written only where the band has no room for all of them.
 fn form_lines(
     out: &mut [u32],
     system: &BitSystem,
-    line: &mut [i64],
+    band: &mut [i64],
     row: &mut [i64],
     taken: &Taken,
     n: usize,
+    lines: usize,
     c: i64,
 ) -> Result<usize, Refusal>
-    requires bits_listed { BitsListed system.now n × LineAndRow n line.old row.old }
+    requires bits_listed { BitsListed system.now n }
+    requires banded { BandAndRow n lines band.old row.old × (0 < n → 0 < lines) }
     requires fitting { (all (row_fits n) (bit_rows_of system.now.words.now) ≡ true) × (c ≡ constant_by system.now.words.now taken.now) × (in_range c ≡ true) }
     ensures { AnsweredBy system.now.words.now taken.now out.old out.new (written_of result) }
 {
-    let Some(end) = put_lines(&mut [], 1, n, line, row, system, taken) else {
+    let ready = whole_band(band, row, system, taken, n, lines);
+    let Some(end) = put_lines(&mut [], 1, n, band, row, system, taken, lines, ready) else {
         return Err(TOO_LARGE);
     };
     if out.len() <= end {
@@ -84,19 +116,21 @@ fn form_lines(
             place: 0,
         });
     }
-    write_form(out, system, line, row, taken, n, c).ok_or(TOO_LARGE)
+    write_form(out, system, band, row, taken, n, lines, ready, c).ok_or(TOO_LARGE)
 }
 
 // Of at most 1,024 bits: 24 for a row or the constant, or what comes after.
 pub fn form_checked(
     out: &mut [u32],
     system: &BitSystem,
-    line: &mut [i64],
+    band: &mut [i64],
     row: &mut [i64],
     taken: &Taken,
     n: usize,
+    lines: usize,
 ) -> Result<usize, Refusal>
-    requires { BitsListed system.now n × LineAndRow n line.old row.old }
+    requires bits_listed { BitsListed system.now n }
+    requires banded { BandAndRow n lines band.old row.old × (0 < n → 0 < lines) }
     ensures { AnsweredBy system.now.words.now taken.now out.old out.new (written_of result) }
 {
     let Some(squares) = check_rows(system, row) else {
@@ -106,10 +140,10 @@ pub fn form_checked(
     if !in_range(c) {
         return Err(TOO_LARGE);
     }
-    form_lines(out, system, line, row, taken, n, c)
+    form_lines(out, system, band, row, taken, n, lines, c)
 }
 
-// Of accepted words: 23, or what comes after, with a row over bits and a line of the form to work with. The lists have the most elements: fixed memory.
+// Of accepted words: 23, or what comes after, with a row over bits and a band of lines to work with. The lists have the most elements: fixed memory.
 fn form_accepted(ws: &[u32], out: &mut [u32]) -> Result<usize, Refusal>
     requires { read_rows ws.now ≡ accepted }
     ensures { Answered ws.now out.old out.new (written_of result) }
@@ -124,7 +158,7 @@ fn form_accepted(ws: &[u32], out: &mut [u32]) -> Result<usize, Refusal>
             place: 0,
         });
     }
-    let mut line = [0i64; limit::BITS];
+    let mut band = [0i64; BAND];
     let mut row = [0i64; limit::BITS];
     let table = BitTable {
         domains: &domains,
@@ -136,7 +170,16 @@ fn form_accepted(ws: &[u32], out: &mut [u32]) -> Result<usize, Refusal>
         constant: 0,
         added: &[],
     };
-    form_checked(out, &system, &mut line[..n], &mut row[..n], &taken, n)
+    let lines = lines_of(n);
+    form_checked(
+        out,
+        &system,
+        &mut band[..lines * n],
+        &mut row[..n],
+        &taken,
+        n,
+        lines,
+    )
 }
 
 // Writes the form to the front of the output; a refusal changes nothing.

@@ -13,7 +13,7 @@ ghost use Rattle.bitforms.specs.OverBits.{weighted_bits, scaled};
 ghost use Rattle.bitforms.specs.Matrix.{entry_at, line_entries};
 ghost use Rattle.bitlines.specs.Sizes as Size;
 ghost use Rattle.bitlines.specs.Dense.{bump, add_terms, peak, Adds};
-ghost use Rattle.bitlines.specs.Line.{square_at, square_terms, on_terms, pair_terms, pair_of, entries_words};
+ghost use Rattle.bitlines.specs.Line.{square_terms, on_terms, pair_terms, pair_of, entries_words};
 
 use integers::{plus, times};
 use words::kind::Kind;
@@ -58,32 +58,17 @@ fn on_diagonal(a: i64, c: i64) -> i64
     plus(times(a, a), times(times(2, c), a))
 }
 
-// 2×a×b
-fn off_diagonal(a: i64, b: i64) -> i64
-    requires { (nat_abs a ≤ Limit.bit_numbers) × (nat_abs b ≤ Limit.bit_numbers) }
-    ensures { result ≡ +2 ⊗ a ⊗ b }
-{
-    times(times(2, a), b)
-}
-
-// The entry of bits i ≤ j in the square of a row over bits with the constant c.
-pub fn square_at(row: &[i64], c: i64, i: usize, j: usize) -> i64
-    requires { (peak row.now ≤ Limit.bit_numbers) × (nat_abs c ≤ Limit.bit_numbers) }
-    ensures { result ≡ square_at row.now c i j }
-{
-    if i == j {
-        return on_diagonal(at_or(row, i, 0), c);
-    }
-    off_diagonal(at_or(row, i, 0), at_or(row, j, 0))
-}
-
 // Adds the entries of bit i and the m bits from i on in the square of a row over bits to a line.
 pub fn add_square(line: &mut [i64], row: &[i64], c: i64, i: usize, m: usize)
-    requires { (peak row.now ≤ Limit.bit_numbers) × (nat_abs c ≤ Limit.bit_numbers) × (i + m ≤ Limit.bits) × (peak line.old < 4 * Size.sums) }
+    requires small { (peak row.now ≤ Limit.bit_numbers) × (nat_abs c ≤ Limit.bit_numbers) × (i + m ≤ Limit.bits) × (peak line.old < 4 * Size.sums) }
+    requires inside { (0 < m) × (i + m ≤ length line.old) × (i + m ≤ length row.now) }
     ensures { Adds (square_terms row.now c i m) (m * Size.largest_entry) line.old line.new }
 {
-    for d in 0..m {
-        add_at(line, i + d, square_at(row, c, i, i + d));
+    let a = row[i];
+    add_at(line, i, on_diagonal(a, c));
+    let twice = times(2, a);
+    for d in 1..m {
+        line[i + d] = plus(line[i + d], times(twice, row[i + d]));
     }
 }
 

@@ -1,2 +1,3 @@
+pub mod Band
 pub mod Lining
 pub mod Putting

@@ -26,7 +26,7 @@ invariant_of-taken c =
 
 pub returns : goal.returns
 returns c =
-    let k = c.requires.listed.0 in
+    let k = c.requires.listed in
     let h = c.span_at-width.ensures.size in
     let w = c.span_at-width.ensures.value in
     best-taken c.args.system.now.words.now c.args.variable c.args.direction c.args.out.now k.read (omega (arith, k.count, k.few)) c.requires.named.named

@@ -4,8 +4,8 @@ use Rattle.bitfilling.proofs.holds_product.Goals as goal
 
 pub returns : goal.returns
 unfolding IdleRow
-returns c e = (
-  rw c.row_variable.ensures at (c.holds_variable.ensures c.if-holds_variable.false),
-  rw c.row_variable-2.ensures at (c.holds_variable-2.ensures c.if-holds_variable-2.false),
-  rw c.row_variable-3.ensures at (c.holds_variable-3.ensures e),
+returns c e q v = (
+  rw c.row_variable.ensures at (c.holds_variable.ensures c.if-holds_variable.false q v),
+  rw c.row_variable-2.ensures at (c.holds_variable-2.ensures c.if-holds_variable-2.false q v),
+  rw c.row_variable-3.ensures at (c.holds_variable-3.ensures e q v),
 )

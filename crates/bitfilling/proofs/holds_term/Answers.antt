@@ -3,4 +3,4 @@ use Rattle.std.proofs.Common.{inr}
 use Rattle.bitfilling.proofs.holds_term.Goals as goal
 
 pub returns : goal.returns
-returns c e = inr (rw c.row_variable.ensures at (c.holds_variable.ensures e))
+returns c e q v = inr (rw c.row_variable.ensures at (c.holds_variable.ensures e q v))

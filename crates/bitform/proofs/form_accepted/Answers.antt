@@ -1,5 +1,6 @@
 -- The lists of the variables' bits are those of the row system.
-use Rattle.std.proofs.Common.{refl, arith, length-take-le}
+use native.Mathlib.Nat.{le_of_eq}
+use Rattle.std.proofs.Common.{refl, sym, arith, length-take-le}
 use Rattle.bitlines.specs.Dense.{peak}
 use Rattle.bittables.proofs.Bits.{firsts-none, counts-none}
 use Rattle.bitform.proofs.Answers.{too_many, taken-once}
@@ -14,14 +15,16 @@ list_bits-listed-requires-clause-no_bits c = (firsts-none 4096, counts-none 4096
 pub returns-then-n-gt-BITS : goal.returns-then-n-gt-BITS
 returns-then-n-gt-BITS c = too_many c.args.ws.now c.args.out.now c.requires (omega (arith, c.list_bits-listed.ensures.same_count, c.if-n-gt-BITS.true))
 
-pub form_checked-requires : goal.form_checked-requires
-form_checked-requires c =
+pub form_checked-requires-clause-bits_listed : goal.form_checked-requires-clause-bits_listed
+form_checked-requires-clause-bits_listed c =
     let k = c.list_bits-listed.ensures in
+    let s = c.system_of-system.ensures in
+    record { read = rw s.0 c.requires; rows_are = rw (s.0, s.1, s.2, s.3) k.same_rows; count = rw s.0 k.same_count; few = c.if-n-gt-BITS.false }
+
+pub form_checked-requires-clause-banded : goal.form_checked-requires-clause-banded
+form_checked-requires-clause-banded c =
     let few = c.if-n-gt-BITS.false in
-    let s = c.system_of-system.ensures in (
-      record { read = rw s.0 c.requires; rows_are = rw (s.0, s.1, s.2, s.3) k.same_rows; count = rw s.0 k.same_count; few = few },
-      record { line_size = length-take-le _ _ few; row_size = length-take-le _ _ few; few = few },
-    )
+    (record { room = le_of_eq (sym (length-take-le _ _ c.lines_of-lines.ensures.room)); row_size = length-take-le _ _ few; few = few }, c.lines_of-lines.ensures.some)
 
 pub invariant_of-taken : goal.invariant_of-taken
 unfolding peak

@@ -13,7 +13,7 @@ use Rattle.bitform.proofs.form_checked.Goals as goal
 
 -- what is found of the rows of the row system itself
 found : (c : After-check_rows) → c.check_rows.result ≡ rows_checked (bit_count c.args.system.now.words.now) (bit_rows_of c.args.system.now.words.now)
-found c = rw (c.requires.0.rows_are, c.requires.1.row_size, c.requires.0.count) at c.check_rows.ensures
+found c = rw (c.requires.bits_listed.rows_are, c.requires.banded.0.row_size, c.requires.bits_listed.count) at c.check_rows.ensures
 
 pub returns-in_default : goal.returns-in_default
 returns-in_default c =
@@ -44,4 +44,4 @@ form_lines-requires-clause-fitting c =
     let t = rw (near-back c.args.taken.now.times k.near_times.few, b, a.1, near-back c.args.taken.now.constant (omega (arith, k.near_constant))) at c.take-c.ensures in
     let d = back c.take-c.result c.take-c.type_inv in
     let e = sym c.in_range.ensures ∙ c.if-not-in_range.false in
-    (rw c.requires.0.count a.0, d ∙ t.same (rw d at e), e)
+    (rw c.requires.bits_listed.count a.0, d ∙ t.same (rw d at e), e)
