@@ -3,3 +3,4 @@ pub mod Variables
 pub mod Products
 pub mod Rows
 pub mod Answers
+pub mod Front

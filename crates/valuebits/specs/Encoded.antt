@@ -1,5 +1,5 @@
--- The answer of each case of what the call says, and of what it hands over.
-use Rattle.std.specs.Prelude.{Result}
+-- The answer of each case of what the call says, and of what it hands over; and a fact of how many bits it wrote, where it wrote any.
+use Rattle.std.specs.Prelude.{ℕ, Result, Ok, Err, ⊤}
 use Rattle.words.specs.Answer.{Answer, written, out_of_bounds, is_false}
 use Rattle.words.specs.Faults.{answer_of}
 use Rattle.words.specs.declared.fault.Refusal as error
@@ -13,3 +13,9 @@ encoding_of (False i) = is_false i
 
 abbrev pub encoded : Result Encoded error.Refusal → Answer
 encoded = answer_of encoding_of
+
+abbrev pub IfEncoded : Result Encoded error.Refusal → (ℕ → Type 0) → Type 0
+IfEncoded (Ok (Bits n)) P = P n
+IfEncoded (Ok (OutOfBounds i)) P = ⊤
+IfEncoded (Ok (False i)) P = ⊤
+IfEncoded (Err e) P = ⊤

@@ -4,7 +4,7 @@
 // anew at each row. Kinds are tested one by one, as the definition of a row (row_of) does: of a head of another kind the words are those of a product.
 #![tactic(auto)]
 
-ghost use Rattle.std.specs.Prelude.{◌≡◌, map, ◌+◌, ◌*◌, ◌-◌, ◌<◌, ◌≤◌, leb, length, set};
+ghost use Rattle.std.specs.Prelude.{◌≡◌, map, ◌+◌, ◌*◌, ◌-◌, ◌<◌, ◌≤◌, leb, length, set, take};
 ghost use Rattle.integers.specs.Bounds.{bounds_in};
 ghost use Rattle.integers.specs.Choice.{◌if◌else◌};
 ghost use Rattle.integers.specs.Number.{◌⊕◌, ◌⊖◌, neg, count};
@@ -18,12 +18,12 @@ ghost use Rattle.rowsystems.specs.OneWord.{row_of};
 ghost use Rattle.rowsystems.specs.Row.{product};
 ghost use Rattle.rowsystems.specs.RowSystem.{rows, variable_at, terms_in, constant_in};
 ghost use Rattle.bitforms.specs.Chosen.{chosen};
-ghost use Rattle.bitforms.specs.ValueBits.{bits_of_value, bit_products, own_bits, rows_bits, variable_bits};
+ghost use Rattle.bitforms.specs.ValueBits.{bits_of_value, bit_products, own_bits, rows_bits, value_bits, variable_bits};
 ghost use Rattle.bitforms.specs.Weights.{weights};
 ghost use Rattle.bitlines.specs.Sizes as Size;
 ghost use Rattle.bitanswers.specs.BitsAnswer.{value_bits_answer, value_bits_written, BitsRead};
 ghost use Rattle.bitreading.specs.FineBits.{FineBits};
-ghost use Rattle.valuebits.specs.Encoded.{encoded};
+ghost use Rattle.valuebits.specs.Encoded.{encoded, IfEncoded};
 ghost use Rattle.valuebits.specs.Answered.{Answered};
 
 pub mod values;
@@ -273,6 +273,8 @@ fn bits_held(ws: &[u32], list: &[i32], out: &mut [u8]) -> Result<Encoded, Refusa
 pub fn value_bits(ws: &[u32], values: &[i32], out: &mut [u8]) -> Result<Encoded, Refusal>
     ensures answer { encoded result ≡ value_bits_answer ws.now values.now (length out.old) }
     ensures output { out.new ≡ value_bits_written ws.now values.now out.old }
+    ensures room { IfEncoded result (λ n. n ≤ length out.new) }
+    ensures front { IfEncoded result (λ n. take n out.new ≡ value_bits ws.now values.now) }
     ensures read { BitsRead ws.now values.now (encoded result) out.new }
 {
     match judge_rows(ws, values)? {
