@@ -1,3 +1,4 @@
 pub mod Answers
 pub mod Pieces
 pub mod Found
+pub mod Front

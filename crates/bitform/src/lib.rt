@@ -3,7 +3,7 @@
 // n stays a parameter beside them: the clauses name it as the number of bits, and that it is the length of the row is what BandAndRow says.
 #![tactic(auto)]
 
-ghost use Rattle.std.specs.Prelude.{◌≡◌, ◌⊎◌, true, [], ◌∷◌, ◌<◌, ◌≤◌, length, Some};
+ghost use Rattle.std.specs.Prelude.{◌≡◌, ◌⊎◌, true, [], ◌∷◌, ◌<◌, ◌≤◌, length, take, Some, IfOk};
 ghost use Rattle.integers.specs.Lists.{all};
 ghost use Rattle.words.specs.Faults.{written_of};
 ghost use Rattle.words.specs.Refusal.{accepted};
@@ -12,6 +12,7 @@ ghost use Rattle.words.specs.Word.{in_range};
 ghost use Rattle.rowsystems.specs.Reading.{read_rows};
 ghost use Rattle.bitforms.specs.BitForm.{bit_rows_of};
 ghost use Rattle.bitforms.specs.FormAnswer.{row_fits, bit_form, bit_formed};
+ghost use Rattle.bitforms.specs.FormWords.{form_words};
 ghost use Rattle.bitwriting.specs.Bands.{BandAndRow, Held};
 ghost use Rattle.bitwriting.specs.Lined.{Fitting};
 ghost use Rattle.bitsharing.specs.FormShares.{FormShares};
@@ -186,6 +187,8 @@ fn form_accepted(ws: &[u32], out: &mut [u32]) -> Result<usize, Refusal>
 pub fn bit_form(ws: &[u32], out: &mut [u32]) -> Result<usize, Refusal>
     ensures answer { written_of result ≡ bit_form ws.now (length out.old) }
     ensures output { out.new ≡ bit_formed ws.now out.old }
+    ensures room { IfOk result (λ n. n ≤ length out.new) }
+    ensures front { IfOk result (λ n. take n out.new ≡ form_words ws.now) }
     ensures shared { FormShares ws.now (written_of result) out.new }
 {
     read_rows(ws)?;

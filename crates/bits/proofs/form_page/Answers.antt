@@ -3,10 +3,10 @@ use Rattle.std.proofs.Common.{◌∙◌, ◌≤◌, arith, length}
 use Rattle.encoding.specs.Bytes.{bytes_words}
 use Rattle.encoding.proofs.Words.{quarter}
 use Rattle.bitforms.specs.FormAnswer.{bit_form, bit_formed}
+use Rattle.bitform.proofs.Front.{has_room}
 use Rattle.lines.specs.Lines.{program_words}
 use Rattle.lines.proofs.Printed.{front_too_long, answered, short-enough}
 use Rattle.bits.specs.Text.{form_text}
-use Rattle.bits.proofs.Text.{fits}
 use Rattle.bits.proofs.form_page.Goals.{Else-bytes-gt-WORDS}
 use Rattle.bits.proofs.form_page.Goals as goal
 
@@ -29,4 +29,4 @@ returns-clause-text c =
     let ws = bytes_words c.args.bytes.now in
     let form = rw c.front_words-n.ensures.words at c.bit_form-answer.ensures in
     c.put_answer.ensures.text
-    ∙ answered _ _ _ _ _ _ form.answer form.output (fits ws program_words) (short-enough program_words (length ws) _ (few (goal.at.returns-clause-text c).Else-bytes-gt-WORDS))
+    ∙ answered _ _ _ _ _ _ form.answer form.output (has_room ws program_words) (short-enough program_words (length ws) _ (few (goal.at.returns-clause-text c).Else-bytes-gt-WORDS))
