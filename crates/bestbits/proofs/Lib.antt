@@ -2,3 +2,4 @@
 mod Answers
 mod Distance
 mod Numbered
+pub mod Front

@@ -1,12 +1,13 @@
 // The form of the best solutions of a row system.
 #![tactic(auto)]
 
-ghost use Rattle.std.specs.Prelude.{◌≡◌, ◌<◌, ◌≤◌, length, replicate};
+ghost use Rattle.std.specs.Prelude.{◌≡◌, ◌<◌, ◌≤◌, length, take, replicate, IfOk};
 ghost use Rattle.integers.specs.Number.{+0};
 ghost use Rattle.words.specs.Faults.{written_of};
 ghost use Rattle.words.specs.Refusal.{accepted};
 ghost use Rattle.rowsystems.specs.Reading.{read_rows};
 ghost use Rattle.bitlines.specs.Sizes as Size;
+ghost use Rattle.bestforms.specs.BestForm.{best_words};
 ghost use Rattle.bestforms.specs.BestAnswer.{best_bits, best_bitted};
 ghost use Rattle.bestforms.specs.BestShares.{BestShares};
 ghost use Rattle.bestforms.specs.Numbered.{best_bits_by, best_bitted_by, NumberedShares};
@@ -134,6 +135,8 @@ pub fn best_bits(
 ) -> Result<usize, Refusal>
     ensures answer { written_of result ≡ best_bits ws.now variable direction (length out.old) }
     ensures output { out.new ≡ best_bitted ws.now variable direction out.old }
+    ensures room { IfOk result (λ n. n ≤ length out.new) }
+    ensures front { IfOk result (λ n. take n out.new ≡ best_words ws.now variable direction) }
     ensures shared { BestShares ws.now variable direction (written_of result) out.new }
 {
     read_rows(ws)?;
@@ -150,6 +153,7 @@ pub fn best_bits_by(
 ) -> Result<usize, Refusal>
     ensures answer { written_of result ≡ best_bits_by ws.now variable direction (length out.old) }
     ensures output { out.new ≡ best_bitted_by ws.now variable direction out.old }
+    ensures room { IfOk result (λ n. n ≤ length out.new) }
     ensures shared { NumberedShares ws.now variable direction (written_of result) out.new }
 {
     if direction == 0 {
