@@ -5,14 +5,14 @@ the calls that write with other rooms, a few cases at the limits, and two of wha
     tests/cases.py           write both files
     tests/cases.py --check   only say whether they are up to date
 
-stdin: one case after the other, all numbers 32 bits, lowest byte first: the call (CALLS), the room, the number of words, the number of values, the words, the values (signed); of a text each word is a byte. stdout: the answer of each case, a line each."""
+stdin: one case after the other, all numbers 32 bits, lowest byte first: the call (CALLS), the room, the number of words, the number of values, the words, the values (signed; of best_bits the variable's number and the direction); of a text each word is a byte. stdout: the answer of each case, a line each."""
 import glob, os, struct, sys
 
 HERE = os.path.dirname(os.path.abspath(__file__))
 SUITE = os.path.join(os.path.dirname(HERE), 'crates', 'suite')
 CALLS = {'too_far': 0, 'check': 1, 'translate': 2, 'judge_model': 3, 'judge_rows': 4, 'fill': 5, 'sheet': 6, 'text': 7, 'reason': 8, 'solutions': 9, 'bits': 10,
          'pair_check': 11, 'pair_translate': 12, 'pair_judge_model': 13, 'pair_fill': 14, 'bit_values': 15,
-         'bit_energy': 16, 'value_bits': 17}
+         'bit_energy': 16, 'value_bits': 17, 'best_bits': 18}
 MORE = 3  # how much longer than wanted a list is lent, so that what stands past the end is seen
 
 
@@ -171,7 +171,7 @@ def files():
     stdin, stdout = b'', ''
     for call, words, values, room, answer in cases():
         stdin += struct.pack('<4I', CALLS[call], room, len(words), len(values))
-        stdin += struct.pack('<%dI' % len(words), *words) + struct.pack('<%di' % len(values), *values)
+        stdin += struct.pack('<%dI' % len(words), *words) + struct.pack('<%dI' % len(values), *(v % 2 ** 32 for v in values))
         stdout += answer + '\n'
     return {'stdin': stdin, 'stdout': stdout.encode()}
 

@@ -17,9 +17,15 @@ pub enum RowsCall {
     Judge,
     Sheet,
     Bits,
-    BitValues,
-    BitEnergy,
-    ValueBits,
+}
+
+// A call on a row system and bits of its form: their values, their energy, the bits of values, the form of a best solution.
+#[derive(Clone, Copy, Debug, PartialEq, Eq)]
+pub enum BitsCall {
+    Values,
+    Energy,
+    OfValues,
+    Best,
 }
 
 // A call on a pair, for a candidate.
@@ -37,6 +43,7 @@ pub enum Call {
     TooFar,
     Model(ModelCall),
     Rows(RowsCall),
+    Bits(BitsCall),
     Text,
     Pair(PairCall),
 }
@@ -65,9 +72,10 @@ impl TryFrom<u32> for Call {
             12 => Ok(Call::Pair(PairCall::Translate)),
             13 => Ok(Call::Pair(PairCall::Judge)),
             14 => Ok(Call::Pair(PairCall::Fill)),
-            15 => Ok(Call::Rows(RowsCall::BitValues)),
-            16 => Ok(Call::Rows(RowsCall::BitEnergy)),
-            17 => Ok(Call::Rows(RowsCall::ValueBits)),
+            15 => Ok(Call::Bits(BitsCall::Values)),
+            16 => Ok(Call::Bits(BitsCall::Energy)),
+            17 => Ok(Call::Bits(BitsCall::OfValues)),
+            18 => Ok(Call::Bits(BitsCall::Best)),
             _ => Err(UnknownCall(number)),
         }
     }

@@ -5,10 +5,11 @@
 #![tactic(auto)]
 
 use answer::{Answer, BitValues, Wrote};
+use bestbits::best_bits_by;
 use bitenergy::bit_energy;
 use bitform::bit_form;
 use bitvalues::bit_values;
-use call::{Call, ModelCall, PairCall, RowsCall};
+use call::{BitsCall, Call, ModelCall, PairCall, RowsCall};
 use cases::input::{Head, next_head, read_front};
 use cases::lent::{Element, front, is_marked, lend};
 use checking::check;
@@ -157,14 +158,28 @@ fn answer_rows<R: Read, W: Write>(
         RowsCall::Bits => print_lent(to, &mut [u32::MARK; MODEL_WORDS], head.room, |out| {
             bit_form(rows, out)
         }),
-        RowsCall::BitValues => {
+    }
+}
+
+// Reads the words of a case on a row system and the bits of its form, then bits, values, or a variable's number and a direction, and answers it.
+fn answer_bits<R: Read, W: Write>(
+    input: &mut R,
+    to: &mut W,
+    call: BitsCall,
+    head: Head,
+) -> io::Result<()> {
+    let mut words = [0u32; ROW_WORDS];
+    read_front(input, &mut words, head.words)?;
+    let rows = front(&words, head.words);
+    match call {
+        BitsCall::Values => {
             let mut bits = [0u8; VALUES];
             read_front(input, &mut bits, head.values)?;
             print_lent(to, &mut [i32::MARK; VALUES], head.room, |out| {
                 BitValues(bit_values(rows, front(&bits, head.values), out))
             })
         }
-        RowsCall::BitEnergy => {
+        BitsCall::Energy => {
             let mut bits = [0u8; VALUES];
             read_front(input, &mut bits, head.values)?;
             print_answer(
@@ -172,11 +187,18 @@ fn answer_rows<R: Read, W: Write>(
                 Answer::from(bit_energy(rows, front(&bits, head.values))),
             )
         }
-        RowsCall::ValueBits => {
+        BitsCall::OfValues => {
             let mut values = [0i32; VALUES];
             read_front(input, &mut values, head.values)?;
             print_lent(to, &mut [u8::MARK; VALUES], head.room, |out| {
                 value_bits(rows, front(&values, head.values), out)
+            })
+        }
+        BitsCall::Best => {
+            let mut asked = [0u32; 2];
+            read_front(input, &mut asked, head.values)?;
+            print_lent(to, &mut [u32::MARK; MODEL_WORDS], head.room, |out| {
+                best_bits_by(rows, asked[0] as usize, asked[1], out)
             })
         }
     }
@@ -208,6 +230,7 @@ fn answer_case<R: Read, W: Write>(input: &mut R, to: &mut W, head: Head) -> io::
             answer_model(to, call, words, values, head.room)
         }),
         Ok(Call::Rows(call)) => answer_rows(input, to, call, head),
+        Ok(Call::Bits(call)) => answer_bits(input, to, call, head),
         Ok(Call::Text) => answer_text(input, to, head),
         Ok(Call::Pair(call)) => with_model(input, head, |words, values| {
             answer_pair(to, call, words, values, head.room)
