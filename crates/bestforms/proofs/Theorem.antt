@@ -33,6 +33,7 @@ use Rattle.bestforms.specs.declared.Direction.{Direction}
 use Rattle.bestforms.specs.declared.Direction.TheVariants.{Least, Greatest}
 use Rattle.bestforms.specs.BestForm.{distance, distance_over, factor_of, factor, objective, best_constant, best_entries, best_form}
 use Rattle.bestforms.specs.BestSolutions.{Solves, distance_in, Best, LeastBits, AtBits, BestSolutions}
+use Rattle.bestforms.proofs.Least.{least-bits}
 
 -- ---- the distance
 
@@ -93,7 +94,7 @@ no-energy m e r z = rw z (left m r)
 -- ---- the form
 
 module _ (ws : List ℕ) (v : ℕ) (d : Direction) where
-  -- "the form is M × the energy and the variable's distance from its best bound", at any bits
+  -- at any bits it is M × the energy and the variable's distance from its best bound
   pub taken-energy : (β : Valuation) → Bits β →
       form_at β (best_constant ws v d) (best_entries ws v d) ≡ pos (factor ws v) ⊗ energy β (bit_rows_of ws) ⊕ distance d (bounds_in (variables ws) v) (evaluate β (encoding ws v))
   unfolding best_constant best_entries objective taken_entry form_constant bit_count bit_rows_of encoding
@@ -186,6 +187,7 @@ module _ (ws : List ℕ) (v : ℕ) (d : Direction) where
     best-solutions = record {
       at_bits = at-bits;
       reached = reached;
+      some_least = least-bits ws (best_form ws v d);
       best = λ vs bs s l. some-best bs l (has-least vs bs s l);
       none = λ bs l m vs s. not_both _ _ _ m (nearest bs vs l s) (within-factor vs s.0).1;
       some = some-best;

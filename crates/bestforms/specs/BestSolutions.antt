@@ -1,4 +1,4 @@
--- 03, request 16: what a form says of the best solutions of a row system, stated. Whole numbers have no limit of size here.
+-- What a form says of the best solutions of a row system, stated; M is the width of the variable and 1. Whole numbers have no limit of size here.
 use Rattle.std.specs.Prelude.{◌≡◌, ◌↔◌, true, List, ℕ, ℤ, pos, ◌≤ℤ◌, ◌<ℤ◌, length}
 use Rattle.integers.specs.Number.{◌⊕◌, ◌⊗◌, +0}
 use Rattle.integers.specs.Lists.{all}
@@ -33,24 +33,25 @@ pub record LeastBits (ws : List ℕ) (form : List ℤ → ℤ) (bs : List ℤ) :
 
 -- of bits as many as the form has
 pub record AtBits (ws : List ℕ) (v : ℕ) (d : Direction) (form : List ℤ → ℤ) (bs : List ℤ) : Type 0 where
-  -- "the form is M × the energy and the variable's distance from its best bound"
+  -- M × the energy, and the variable's distance from its best bound
   pub value_there : form bs ≡ pos (factor ws v) ⊗ energy (value bs) (bit_rows_of ws) ⊕ distance_in ws v d (read_values ws bs)
-  -- "which lies from 0 to M−1"
+  -- that lies from 0 to M − 1
   pub distance_least : +0 ≤ℤ distance_in ws v d (read_values ws bs)
   pub distance_most : distance_in ws v d (read_values ws bs) <ℤ pos (factor ws v)
-  -- "So it is never below 0"
   pub never_below : +0 ≤ℤ form bs
-  -- "and below M exactly where the energy is 0"
+  -- the form is below M exactly where the energy is 0
   pub below_factor : (form bs <ℤ pos (factor ws v)) ↔ (energy (value bs) (bit_rows_of ws) ≡ +0)
-  -- "and the values of the bits satisfy the row system; and there it is that distance"
+  -- and there the values of the bits satisfy the row system, and the form is their distance
   pub solves : form bs <ℤ pos (factor ws v) → Solves ws (read_values ws bs) × (form bs ≡ distance_in ws v d (read_values ws bs))
 
 pub record BestSolutions (ws : List ℕ) (v : ℕ) (d : Direction) (form : List ℤ → ℤ) : Type 0 where
   pub at_bits : (bs : List ℤ) → AreBits ws bs → AtBits ws v d form bs
   -- values that solve the row system are what some bits read as at which the form is their distance
   pub reached : (vs : List ℤ) → Solves ws vs → (bs : List ℤ) × (AreBits ws bs × ReadAs ws (length (variables ws)) bs vs × (form bs ≡ distance_in ws v d vs))
-  -- "Where the row system has solutions, bits at which the form is least read as one of the best of them"
+  -- there are bits at which the form is least
+  pub some_least : (bs : List ℤ) × LeastBits ws form bs
+  -- where the row system has a solution, they read as a best one
   pub best : (vs bs : List ℤ) → Solves ws vs → LeastBits ws form bs → Best ws v d (read_values ws bs)
-  -- "where the least is M or more, it has none"; below M, it has
+  -- where the least is M or more there is no solution; where it is below M there is
   pub none : (bs : List ℤ) → LeastBits ws form bs → pos (factor ws v) ≤ℤ form bs → (vs : List ℤ) → ¬ Solves ws vs
   pub some : (bs : List ℤ) → LeastBits ws form bs → form bs <ℤ pos (factor ws v) → Best ws v d (read_values ws bs)
