@@ -1,4 +1,4 @@
--- 03, request 16: the faults, the answer, and what the lent output holds afterwards.
+-- The faults, the answer, and what the lent output holds afterwards.
 use Rattle.std.specs.Prelude.{Bool, List, ℕ, ltb, eqb, length}
 use Rattle.integers.specs.Choice.{◌if◌else◌}
 use Rattle.words.specs.Fault as Fault
@@ -12,24 +12,24 @@ use Rattle.bitforms.specs.FormAnswer.{size_fault, all_fit, fits_or}
 use Rattle.bestforms.specs.declared.Direction.{Direction}
 use Rattle.bestforms.specs.BestForm.{best_constant, best_entries, best_words}
 
--- "26, place 0, where the number names no variable"; a direction is always one of the two here
+-- 26: the number names no variable; a direction is always one of the two here
 unfoldable pub variable_fault : List ℕ → ℕ → Refusal
 variable_fault ws v = accepted if ltb v (length (variables ws)) else Fault.no_such_variable at_place 0
 
--- "24, place 0, where a row over bits has a coefficient or constant beyond plus or minus 16,384 as in wish 14, or where an entry or the constant of this
--- form is outside the range"
+-- 24: a row over bits has a coefficient or constant beyond plus or minus 16,384, as in the form that is taken, or an entry or the constant of this form is
+-- outside the range
 unfoldable pub best_fits : List ℕ → ℕ → Direction → Bool
 best_fits ws v d = all_fit ws (best_constant ws v d) (best_entries ws v d)
 
 unfoldable pub best_number_fault : List ℕ → ℕ → Direction → Refusal
 best_number_fault ws v d = fits_or (best_fits ws v d)
 
--- "judge-rows' but 15, then 23, then 26 .., then 24 .., then 16 for a short list"
+-- judge-rows' faults but 15, then 23, 26, 24, and 16 for a short list
 unfoldable pub best_bits_fault : List ℕ → ℕ → Direction → ℕ → Refusal
 best_bits_fault ws v d room =
     read_rows ws else_refuse (size_fault ws else_refuse (variable_fault ws v else_refuse (best_number_fault ws v d else_refuse room_fault room (length (best_words ws v d)))))
 
--- "The answer is the number of words; words past them stay."
+-- the answer is the number of words; words past them stay
 unfoldable pub best_bits : List ℕ → ℕ → Direction → ℕ → Answer
 best_bits ws v d room = best_bits_fault ws v d room else_answer written (length (best_words ws v d))
 

@@ -1,4 +1,4 @@
--- 03, request 16: "the form of wish 14 taken M times, and what the variable adds".
+-- The form of a row system taken M times, and the variable's distance from its best bound.
 use Rattle.std.specs.Prelude.{List, ℕ, ◌+◌, ℤ, pos}
 use Rattle.integers.specs.Number.{◌⊖◌, neg, count, +1}
 use Rattle.integers.specs.Bounds.{bounds_in}
@@ -14,7 +14,7 @@ use Rattle.bitforms.specs.ReadForm.{form_at}
 use Rattle.bestforms.specs.declared.Direction.{Direction}
 use Rattle.bestforms.specs.declared.Direction.TheVariants.{Least, Greatest}
 
--- "the variable's distance from its best bound": "for the least .. the variable's value less lo, for the greatest hi less its value"
+-- where the least value is the best, the value less the lower bound; where the greatest is, the upper bound less the value
 unfoldable pub distance : Direction → Bounds → ℤ → ℤ
 distance Least B x = x ⊖ B.lower
 distance Greatest B x = B.upper ⊖ x
@@ -24,7 +24,7 @@ unfoldable pub distance_over : Direction → Bounds → OverBits → OverBits
 distance_over Least B s = record { constant = s.constant ⊖ B.lower; terms = s.terms }
 distance_over Greatest B s = record { constant = B.upper ⊖ s.constant; terms = scaled (neg +1) s.terms }
 
--- "M is the variable's width and 1, hi−lo+1"
+-- M, the width and 1, above every distance
 unfoldable pub factor_of : Bounds → ℕ
 factor_of B = count (B.upper ⊖ B.lower) + 1
 
@@ -42,7 +42,7 @@ best_constant ws v d = taken_constant ws (pos (factor ws v)) (objective ws v d).
 unfoldable pub best_entries : List ℕ → ℕ → Direction → List Entry
 best_entries ws v d = taken_entries ws (pos (factor ws v)) (coefficient_of (objective ws v d).terms)
 
--- "in the words of wish 14"
+-- written as the words of every form are
 unfoldable pub best_words : List ℕ → ℕ → Direction → List ℕ
 best_words ws v d = words_of (best_constant ws v d) (best_entries ws v d)
 

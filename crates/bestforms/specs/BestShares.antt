@@ -1,4 +1,4 @@
--- 03, request 16: "So it is for the model behind it, with the variable one of the model's"; and all of it of the words that the call wrote.
+-- The same of the model behind the row system, where the variable is one of the model's; and all of it of the words that the call wrote.
 use Rattle.std.specs.Prelude.{◌≡◌, List, ℕ, ◌<◌, ℤ, pos, ◌≤ℤ◌, ◌<ℤ◌, length, take}
 use Rattle.words.specs.Answer.{Answer, written}
 use Rattle.words.specs.Variables.{variables}

@@ -1,5 +1,4 @@
--- 03, request 15, bit_energy: "the value at the bits of the sum of wish 14: every row's square and what its products of bits add": the answer, and what it
--- says.
+-- bit_energy, the value at bits of the sum of every row's square and what its products of bits add: the answer, and what it says.
 use Rattle.std.specs.Prelude.{◌≡◌, ◌↔◌, true, List, map, ℕ, zero, suc, Result, Ok, Err, ℤ, pos, ◌≤ℤ◌, length}
 use Rattle.std.specs.Int.Signed.{lt_z}
 use Rattle.integers.specs.Choice.{◌if◌else◌}
@@ -26,11 +25,11 @@ use Rattle.bitanswers.specs.ReadValues.{read_values}
 unfoldable pub energy_at : List ℕ → List ℕ → ℤ
 energy_at ws bs = energy (value (map pos bs)) (bit_rows_of ws)
 
--- "2^62"
+-- 2^62
 abbrev pub energy_limit : ℕ
 energy_limit = 4611686018427387904
 
--- "The faults of bit_values but 16 come first, then 24, place 0, where that value is 2^62 or more."
+-- the faults of bit_values but 16, then 24 where the energy is 2^62 or more
 unfoldable pub energy_fault : List ℕ → List ℕ → Refusal
 energy_fault ws bs =
     bits_fault ws bs else_refuse (accepted if lt_z (energy_at ws bs) (pos energy_limit) else Fault.form_too_large at_place 0)
@@ -52,7 +51,7 @@ abbrev pub energy_of : Result ℤ error.Refusal → EnergyAnswer
 energy_of (Ok e) = energy_is e
 energy_of (Err r) = refused (fault_number r.fault) r.place
 
--- "it is never below 0, and 0 only where the values of bit_values satisfy the row system"
+-- it is never below 0, and 0 only where the values of bit_values satisfy the row system
 pub record EnergySays (ws bs : List ℕ) (e : ℤ) : Type 0 where
   pub never_below : +0 ≤ℤ e
   pub satisfies : e ≡ +0 → all (satisfied (value (read_values ws (map pos bs)))) (rows ws) ≡ true
@@ -60,7 +59,7 @@ pub record EnergySays (ws bs : List ℕ) (e : ℤ) : Type 0 where
   pub exact : (vs : List ℤ) → InBounds ws vs →
       (all (satisfied (value vs)) (rows ws) ≡ true) ↔ ((cs : List ℕ) × (ReadAs ws (length (variables ws)) (map pos cs) vs × (bit_energy ws cs ≡ energy_is +0)))
 
--- "Where bits writes a form of the row system, it is that form's value at the bits": then no bits without a fault are refused
+-- where bits writes a form of the row system, the energy is that form's value at the bits: then no bits without a fault are refused
 abbrev pub AnswersForm : List ℕ → List ℕ → EnergyAnswer → Type 0
 AnswersForm ws bs answer =
     (out : List ℕ) (n : ℕ) → bit_form ws (length out) ≡ written n → (bits_fault ws bs).number ≡ Fault.none →

@@ -1,5 +1,5 @@
--- 03, request 15: "Bits are lent as bytes, one a bit, 0 or 1". Their faults, for a row system's words: "judge-rows' faults but 15 come first, then 23, then 15
--- where the number of bits is not that of the form, then 25 where a bit is neither 0 nor 1, place its number, the first of them".
+-- Bits are lent as bytes, one a bit, 0 or 1. Their faults, for a row system's words: judge-rows' faults but 15 come first, then 23, then 15 where the number of
+-- bits is not that of the form, then 25 where a bit is neither 0 nor 1, its place the number of the first such bit.
 use Rattle.std.specs.Prelude.{List, [], ◌∷◌, ℕ, ◌+◌, ltb, eqb, length}
 use Rattle.integers.specs.Choice.{◌if◌else◌}
 use Rattle.words.specs.Fault as Fault

@@ -1,4 +1,4 @@
--- 03, request 15, bit_values: the values that bits read as: the answer, what the lent list holds afterwards, and what the values say.
+-- bit_values, the values that bits read as: the answer, what the lent list holds afterwards, and what the values say.
 use Rattle.std.specs.Prelude.{◌≡◌, true, List, map, ℕ, eqb, ℤ, pos, length}
 use Rattle.integers.specs.Choice.{◌if◌else◌}
 use Rattle.integers.specs.Number.{+0}
@@ -18,21 +18,21 @@ use Rattle.bitforms.specs.BitForm.{encoding, bit_rows_of}
 use Rattle.bitanswers.specs.BitFaults.{bits_fault}
 use Rattle.bitforms.specs.SameSolutions.{AreBits, InBounds, ReadAs}
 
--- "the value of every variable and auxiliary that the bits read as, its lower bound and the sum of weight × bit"
+-- of every variable and auxiliary its lower bound and the sum of weight × bit
 unfoldable pub read_values : List ℕ → List ℤ → List ℤ
 read_values ws bs = list_of (λ v. evaluate (value bs) (encoding ws v)) (length (variables ws))
 
 unfoldable pub bit_values_fault : List ℕ → List ℕ → ℕ → Refusal
 bit_values_fault ws bs room = bits_fault ws bs else_refuse room_fault room (length (variables ws))
 
--- "the answer is how many; values past them stay"
+-- the answer is how many values there are; values past them stay
 unfoldable pub bit_values : List ℕ → List ℕ → ℕ → Answer
 bit_values ws bs room = bit_values_fault ws bs room else_answer written (length (variables ws))
 
 unfoldable pub bit_valued : List ℕ → List ℕ → List ℤ → List ℤ
 bit_valued ws bs out = overlay out 0 (read_values ws (map pos bs)) if eqb (bit_values_fault ws bs (length out)).number Fault.none else out
 
--- "The values always keep every bound, and where the form is 0 at the bits they satisfy the row system"
+-- the values keep every bound, and where the form is 0 at the bits they satisfy the row system
 pub record ReadsAs (ws bs : List ℕ) (vs : List ℤ) : Type 0 where
   pub are_bits : AreBits ws (map pos bs)
   pub in_bounds : InBounds ws vs

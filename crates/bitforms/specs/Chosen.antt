@@ -1,4 +1,4 @@
--- 03, request 15, value_bits: the bits of a number by weights, "each taken from the last weight to the first, where the weight is not above what is left".
+-- The bits of a number by weights, taken from the last weight to the first, each where it is not above what is left.
 use Rattle.std.specs.Prelude.{List, [], ◌∷◌, ℕ, ◌-◌, leb}
 use Rattle.integers.specs.Choice.{◌if◌else◌}
 

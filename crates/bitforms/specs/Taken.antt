@@ -1,5 +1,5 @@
--- 03, request 16: a form "taken M times", and what is added to it, as at the bits a sum over bits does: c to the constant, and to the entry of each bit
--- where it meets itself a number of its own. The form of wish 14 is the one taken once, to which nothing is added.
+-- The form of a row system taken k times, and a sum over bits that is added to it: c to the constant, and to the entry of each bit where it meets itself a
+-- number of its own. The form itself is the one taken once, to which nothing is added.
 use Rattle.std.specs.Prelude.{List, ℕ, eqb, ℤ, length}
 use Rattle.integers.specs.Choice.{◌if◌else◌}
 use Rattle.integers.specs.Number.{◌⊕◌, ◌⊗◌, +0}

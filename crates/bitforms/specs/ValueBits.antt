@@ -1,5 +1,5 @@
--- 03, request 15, value_bits: "Of a variable they are those of its value less its lower bound, of a row ≤ those of its slack, minus the row's sum, ..; of a
--- product, each the product of its two bits."
+-- The bits of values: of a variable those of its value less its lower bound, of a row ≤ those of its slack, minus the row's sum; of a product each is the
+-- product of its two bits.
 use mathlib.Core.List.{List, [], ◌++◌, map, flat_map, flatten}
 use Rattle.std.specs.Prelude.{ℕ, ◌*◌, ℤ, length}
 use Rattle.integers.specs.Number.{◌⊕◌, ◌⊖◌, neg, count}
@@ -18,7 +18,7 @@ use Rattle.bitforms.specs.BitRow.{slack_weights}
 unfoldable pub bits_of_value : Bounds → ℤ → List ℕ
 bits_of_value B x = chosen (weights_of B) (count (x ⊖ B.lower))
 
--- of a product, "each the product of its two bits", "first factor's bits outermost"
+-- of a product, the first factor's bits outermost
 unfoldable pub bit_products : List ℕ → List ℕ → List ℕ
 bit_products fs gs = flat_map (λ f. map (λ g. f * g) gs) fs
 

@@ -1,4 +1,4 @@
--- 03, request 15, of what is read of bits: where the answer is that n values were written, the values keep every bound, and satisfy the row system, and their
+-- Of what is read of bits: where the answer is that n values were written, the values keep every bound, and satisfy the row system, and their
 -- source values the model behind it, where the form is 0 at the bits; where it is an energy, that is never below 0, and 0 only where the values that the
 -- bits read as satisfy the row system and their source values the model behind it.
 use Rattle.std.specs.Prelude.{◌≡◌, List, map, ℕ, ℤ, pos, length, take}
