@@ -3,7 +3,7 @@
 
     tests/definitions.py [MOST]
 
-What `rt ci` has just proved is taken as it is; else the libraries are built first, where they are not up to date. A vector of more than MOST words (default 2,000) is left out, one of sheet with more than 24, one of text with more than 600 bytes, and one of bits with more than 60 words or a lent list of more than 100: a page of bytes, a long text and a form of many bits take long to compute. The last line says how many agree. Exit status 0 if all do."""
+What `rt ci` has just proved is taken as it is; else the libraries are built first, where they are not up to date. A vector of more than MOST words (default 2,000) is left out, one of sheet with more than 24, one of text with more than 600 bytes, and one of bits or best_bits with more than 60 words or a lent list of more than 100: a page of bytes, a long text and a form of many bits take long to compute. The last line says how many agree. Exit status 0 if all do."""
 import glob, os, re, subprocess, sys, tempfile, time
 
 sys.dont_write_bytecode = True
@@ -11,7 +11,7 @@ import kit
 
 HERE = os.path.dirname(os.path.abspath(__file__))
 ROOT = os.path.dirname(HERE)
-CRATES = ['integers', 'words', 'models', 'rowsystems', 'rules', 'decimals', 'sheetlines', 'sheets', 'sharing', 'reasons', 'solutions', 'pairs', 'tokens', 'names', 'grammar', 'texts', 'bitforms']
+CRATES = ['integers', 'words', 'models', 'rowsystems', 'rules', 'decimals', 'sheetlines', 'sheets', 'sharing', 'reasons', 'solutions', 'pairs', 'tokens', 'names', 'grammar', 'texts', 'bitforms', 'bitanswers', 'bitsharing', 'bestforms']
 MOST = next((int(word) for word in sys.argv[1:] if word.isdigit()), 2000)
 GROUP = 20  # cases of a declaration
 SHEET_MOST, TEXT_MOST = 24, 600
@@ -21,9 +21,15 @@ PARTS = {'firsts': CRATES[:5], 'seconds': CRATES}  # the crates of the vectors, 
 UNUSED, UNUSED_BYTE = 0x5A5A5A5A, 0x5A  # what a lent word or value, and a lent byte, holds before the call
 # the definition of what each call answers, and of what a lent list holds afterwards
 ANSWERS = {'check': 'check', 'translate': 'translate', 'judge_model': 'judge_model', 'judge_rows': 'judge_rows', 'fill': 'fill', 'sheet': 'sheet', 'text': 'read_text', 'reason': 'reason', 'solutions': 'solutions_answer', 'bits': 'bit_form',
-           'pair_check': 'pair_check', 'pair_translate': 'pair_translate', 'pair_judge_model': 'pair_judge', 'pair_fill': 'pair_fill'}
-LATER = {'translate': 'translated', 'fill': 'filled', 'sheet': 'sheet_page', 'text': 'text_read', 'solutions': 'solutions_listed', 'bits': 'bit_formed', 'pair_translate': 'pair_translated', 'pair_fill': 'pair_filled'}
-JUDGED = ('judge_model', 'judge_rows', 'fill', 'reason', 'pair_judge_model', 'pair_fill')  # the calls that take values
+           'pair_check': 'pair_check', 'pair_translate': 'pair_translate', 'pair_judge_model': 'pair_judge', 'pair_fill': 'pair_fill',
+           'bit_values': 'bit_values', 'bit_energy': 'bit_energy', 'value_bits': 'value_bits_answer', 'best_bits': 'best_bits_by'}
+LATER = {'translate': 'translated', 'fill': 'filled', 'sheet': 'sheet_page', 'text': 'text_read', 'solutions': 'solutions_listed', 'bits': 'bit_formed', 'pair_translate': 'pair_translated', 'pair_fill': 'pair_filled',
+         'bit_values': 'bit_valued', 'value_bits': 'value_bits_written', 'best_bits': 'best_bitted_by'}
+JUDGED = ('judge_model', 'judge_rows', 'fill', 'reason', 'pair_judge_model', 'pair_fill', 'value_bits')  # the calls that take values
+ON_BITS = ('bit_values', 'bit_energy')  # those that take bits, as bytes
+FORMS = ('bits', 'best_bits')  # those that write a form
+WORDS = ('sheet', 'text', 'value_bits', *FORMS)  # those whose lent list has no signed numbers, but for the translating ones
+BYTES = ('sheet', 'value_bits')  # those that are lent bytes
 
 
 def listed(items):
@@ -58,11 +64,17 @@ def reason_term(kind, rest):
     return {'none': 'none', 'bound': 'outside ' + ' '.join(rest)}[kind]
 
 
+def energy_term(kind, rest):
+    if kind == 'refused':
+        return f'energies.refused {rest[0]} {rest[1]}'
+    return f'energies.energy_is ({whole(int(rest[0]))})'
+
+
 def written(kind, rest):
     """What a call wrote and what it says of it."""
     if kind == 'words':
         return [int(w, 16) for w in rest], f'written {len(rest)}'
-    if kind == 'filled':
+    if kind in ('filled', 'values', 'bits'):
         return [int(v) for v in rest], f'written {len(rest)}'
     if kind == 'bytes':
         page = list(bytes.fromhex(''.join(rest)))
@@ -79,12 +91,16 @@ def statement(call, words, values, room, answer):
         given, values = f'{values[0]} {given}', values[1:]
     if call in JUDGED:
         given += ' ' + values_term(values)
+    if call in ON_BITS:
+        given += ' ' + words_term(values)
+    if call == 'best_bits':  # the variable's number and the direction
+        given = f'{given} {values[0]} {values[1]}'
     if call not in LATER:
-        said = reason_term(kind, rest) if call == 'reason' else answer_term(kind, rest)
+        said = {'reason': reason_term, 'bit_energy': energy_term}.get(call, answer_term)(kind, rest)
         return f'{ANSWERS[call]} {given} ≡ {said}'
     new, said = written(kind, rest)
-    term = words_term if call in ('sheet', 'text', 'bits') or call.endswith('translate') else values_term
-    before = [UNUSED_BYTE if call == 'sheet' else UNUSED] * room
+    term = words_term if call in WORDS or call.endswith('translate') else values_term
+    before = [UNUSED_BYTE if call in BYTES else UNUSED] * room
     return f'({ANSWERS[call]} {given} {room} ≡ {said}) × ({LATER[call]} {given} {term(before)} ≡ {term(new + before[len(new):])})'
 
 
@@ -92,7 +108,7 @@ def vectors():
     for path in sorted(glob.glob(os.path.join(HERE, 'vectors', '*.txt'))):
         for number, line in enumerate(open(path), 1):
             call, words, values, room, answer = (part.strip() for part in line.rstrip('\n').split('|'))
-            yield (f'{os.path.basename(path)}:{number}', call, [int(w, 16) for w in words.split()],
+            yield (f'{os.path.basename(path)}:{number}', call, [] if words == '-' else [int(w, 16) for w in words.split()],
                    [] if values == '-' else [int(v) for v in values.split()], 0 if room == '-' else int(room), answer.split())
 
 
@@ -123,7 +139,8 @@ def write_part(part, cases, size, scratch):
         'use Rattle.words.specs.Answer.{Answer, refused, counts, written, holds, out_of_bounds, is_false}',
         'use Rattle.rules.specs.Check.{check}', 'use Rattle.rules.specs.Translate.{translate, translated}',
         'use Rattle.rules.specs.Fill.{fill, filled}',
-        *(['use Rattle.reasons.specs.Reason.{Reason, refuse, outside, none, because}'] if 'reasons' in PARTS[part] else [])] + uses)
+        *(['use Rattle.reasons.specs.Reason.{Reason, refuse, outside, none, because}'] if 'reasons' in PARTS[part] else []),
+        *(['use Rattle.bitanswers.specs.BitEnergy as energies'] if 'bitanswers' in PARTS[part] else [])] + uses)
     os.makedirs(os.path.join(scratch, 'specs'))
     os.makedirs(os.path.join(scratch, 'src'))
     with open(os.path.join(scratch, 'src', 'lib.rt'), 'w') as f:
@@ -146,8 +163,8 @@ def groups(cases, size):
 
 def is_short(case):
     _, call, words, _, room, _ = case
-    most = {'sheet': SHEET_MOST, 'text': TEXT_MOST, 'bits': BITS_MOST}.get(call, MOST)
-    return len(words) <= min(MOST, most) and (call != 'bits' or room <= BITS_ROOM)
+    most = {'sheet': SHEET_MOST, 'text': TEXT_MOST, 'bits': BITS_MOST, 'best_bits': BITS_MOST}.get(call, MOST)
+    return len(words) <= min(MOST, most) and (call not in FORMS or room <= BITS_ROOM)
 
 
 def run(part, cases, size):
