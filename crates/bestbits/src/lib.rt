@@ -1,7 +1,7 @@
 // The form of the best solutions of a row system.
 #![tactic(auto)]
 
-ghost use Rattle.std.specs.Prelude.{◌≡◌, ◌<◌, ◌≤◌, length, take, replicate, IfOk};
+ghost use Rattle.std.specs.Prelude.{◌≡◌, ◌+◌, ◌<◌, ◌≤◌, pos, length, take, replicate, IfOk};
 ghost use Rattle.integers.specs.Number.{+0};
 ghost use Rattle.words.specs.Faults.{written_of};
 ghost use Rattle.words.specs.Refusal.{accepted};
@@ -50,6 +50,14 @@ fn start_of(direction: Direction, width: usize) -> i64
     }
 }
 
+// How often the form is taken: the width and 1, above every distance.
+fn times_of(width: usize) -> i64
+    requires { width ≤ Size.widest }
+    ensures { result ≡ pos (width + 1) }
+{
+    width as i64 + 1
+}
+
 // Of a variable of the row system: what comes after. The list that is added has a 0 for each bit before.
 fn best_listed(
     out: &mut [u32],
@@ -71,7 +79,7 @@ fn best_listed(
     add_variable(added, &system.table, variable, sign_of(direction));
     let width = span_at(system.table.domains, variable);
     let taken = Taken {
-        times: width as i64 + 1,
+        times: times_of(width),
         constant: start_of(direction, width),
         added,
     };

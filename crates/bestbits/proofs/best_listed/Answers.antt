@@ -4,7 +4,7 @@ use Rattle.integers.proofs.Fits.{back}
 use Rattle.bittables.specs.BitTables.{firsts}
 use Rattle.bitfilling.proofs.Filling.{zeros-peak}
 use Rattle.bestbits.proofs.Answers.{best-taken}
-use Rattle.bestbits.proofs.Distance.{sign-near, start-near, times-near, width-back, added-peak, factor-is, constant-is, added-is}
+use Rattle.bestbits.proofs.Distance.{sign-near, start-near, times-near, added-peak, factor-is, constant-is, added-is}
 use Rattle.bestbits.proofs.best_listed.Goals as goal
 
 pub add_variable-requires : goal.add_variable-requires
@@ -16,7 +16,7 @@ invariant_of-taken c =
     let h = c.span_at-width.ensures.size in
     record {
       near = record {
-        near_times = rw (width-back c.span_at-width.result h) (times-near c.span_at-width.result h);
+        near_times = rw (back c.times_of.result c.times_of.type_inv, c.times_of.ensures) (times-near c.span_at-width.result h);
         near_constant = rw (back c.start_of.result c.start_of.type_inv, c.start_of.ensures) (start-near c.args.direction c.span_at-width.result h);
         near_added =
             rw (c.add_variable.ensures.sum, back c.sign_of.result c.sign_of.type_inv, c.sign_of.ensures, c.requires.none_added)
@@ -30,7 +30,7 @@ returns c =
     let h = c.span_at-width.ensures.size in
     let w = c.span_at-width.ensures.value in
     best-taken c.args.system.now.words.now c.args.variable c.args.direction c.args.out.now k.read (omega (arith, k.count, k.few)) c.requires.named.named
-    (width-back c.span_at-width.result h ∙ rw w (factor-is c.args.system.now.words.now c.args.variable c.args.direction c.args.system.now.table.domains.now (firsts c.args.system.now.table.bits.now) c.requires.named.bounds_are c.requires.named.encoding_is))
+    (back c.times_of.result c.times_of.type_inv ∙ c.times_of.ensures ∙ rw w (factor-is c.args.system.now.words.now c.args.variable c.args.direction c.args.system.now.table.domains.now (firsts c.args.system.now.table.bits.now) c.requires.named.bounds_are c.requires.named.encoding_is))
     (back c.start_of.result c.start_of.type_inv ∙ c.start_of.ensures ∙ rw w (constant-is c.args.system.now.words.now c.args.variable c.args.direction c.args.system.now.table.domains.now (firsts c.args.system.now.table.bits.now) c.requires.named.bounds_are c.requires.named.encoding_is k.read c.requires.named.named))
     (λ i. rw (c.add_variable.ensures.sum, back c.sign_of.result c.sign_of.type_inv, c.sign_of.ensures, c.requires.none_added, k.count) (added-is c.args.system.now.words.now c.args.variable c.args.direction c.args.system.now.table.domains.now (firsts c.args.system.now.table.bits.now) c.requires.named.bounds_are c.requires.named.encoding_is i))
     c.form_checked.ensures
