@@ -1,5 +1,5 @@
--- 02, wish 14, at its edges, as a table of computed equations: a product of a variable with itself, width 0, a row that no values satisfy, a slack, a
--- last weight that is cut, 1,024 bits and 1,025, a coefficient of 16,384 and 16,385.
+-- The form at its edges, as a table of computed equations: a product of a variable with itself, width 0, a row that no values satisfy, a slack, a last weight
+-- that is cut, 1,024 bits and 1,025, a coefficient of 16,384 and 16,385, an entry of two bits outside the range, too many bits before a coefficient too large.
 use Rattle.std.proofs.Common.{◌≡◌, refl, List, [], ◌∷◌, ◌++◌, ℕ, zero, suc, ◌+◌, length, replicate}
 use mathlib.Core.List.{flat_map, map}
 use Rattle.integers.specs.Number.{◌⊕◌, ◌⊖◌, ◌⊗◌, neg, min_z, abs_z, ◌≟◌, count}
@@ -111,8 +111,16 @@ alike_rows = 0x30000000 ∷ 0xB0000002 ∷ 0x50000000 ∷ 0x60004001 ∷ 0x50000
 abbrev alike_form : List ℕ
 alike_form = 0x64000000 ∷ 0xF0000000 ∷ []
 
+-- Booleans u and v, 16,384×u+16,384×v−8,192=0: the entries of u and of v are 0, and that of u and v is 2×16,384², outside the range
+abbrev beside_rows : List ℕ
+beside_rows = 0x30000000 ∷ 0x30000000 ∷ 0xB0000002 ∷ 0x50000000 ∷ 0x60004000 ∷ 0x50000001 ∷ 0x60004000 ∷ 0x6FFFE000 ∷ 0xF0000000 ∷ []
+
+-- a bit too many, and a coefficient too large
+abbrev above_and_larger_rows : List ℕ
+above_and_larger_rows = wide 36 (0x10000000 ∷ 0x2000FFFF ∷ 0x30000000 ∷ 0xB0000001 ∷ 0x50000025 ∷ 0x60004001 ∷ 0x6FFFE000 ∷ 0xF0000000 ∷ [])
+
 -- ---- the table
 
-pub table : Writes squared_rows squared_form × Writes fixed_rows fixed_form × Writes never_rows never_form × Writes slack_rows slack_form × Writes cut_rows cut_form × Needs most_rows 1024 × Refuses above_rows 23 × Writes largest_rows largest_form × Refuses larger_rows 24 × Writes alike_rows alike_form
+pub table : Writes squared_rows squared_form × Writes fixed_rows fixed_form × Writes never_rows never_form × Writes slack_rows slack_form × Writes cut_rows cut_form × Needs most_rows 1024 × Refuses above_rows 23 × Writes largest_rows largest_form × Refuses larger_rows 24 × Writes alike_rows alike_form × Refuses beside_rows 24 × Refuses above_and_larger_rows 23
 unfolding flat_map map sum ◌⊕◌ ◌⊖◌ ◌⊗◌ neg min_z abs_z ◌≟◌ count list_of all within bounds_in kind payload signed too_low word complement number_word word_at starts_pair variables overlay ◌else_refuse◌ first_fault room_fault ◌else_answer◌ fault_lower fault_item fault_source fault_upper fault_variable fault_number_in not_above fault_result fault_due fault after_item after_due started after fault_end ended read_rows term_count variable_at number_at terms_in constant_in rows sum_over weights_from weights weighted_bits scaled over_bits over weights_of encodings bits_after least_term least slack_weights pairs_with pairs_of product_whole bit_row bit_rows bits_with square coefficient_of square_entry on_pair pair_entry entry_of line_entries entries_from not_zero encoding bit_rows_of bit_count form_constant form_entries entry_words form_words size_fault row_fits form_fits number_fault bit_form_fault bit_form bit_formed
-table = ((refl, refl), (refl, refl), (refl, refl), (refl, refl), (refl, refl), (refl, refl), λ room. refl, (refl, refl), λ room. refl, (refl, refl))
+table = ((refl, refl), (refl, refl), (refl, refl), (refl, refl), (refl, refl), (refl, refl), λ room. refl, (refl, refl), λ room. refl, (refl, refl), λ room. refl, λ room. refl)
