@@ -8,12 +8,11 @@ model can have, 8,191, it may be that many times the length for each 8,191 names
 instructions of the shorter one, for each time that it is longer, and no text takes more than BYTE instructions a byte, both times the names where these are
 more. The ratio alone would not tell a linear time from some hundred walks over the text, nor length times names from the square of the length.
 
-Where valgrind is missing, Debian's package is installed if that can be done; if not, one line says so and nothing is counted."""
+Where valgrind is missing, tests/packages.py says what becomes of it."""
 import itertools, os, re, subprocess, sys, tempfile
 
 sys.dont_write_bytecode = True
-import names
-import solver
+import names, packages
 
 TOP = os.path.dirname(os.path.dirname(os.path.abspath(__file__)))
 CALL = 'pearrummy_text'
@@ -121,8 +120,7 @@ def counts(library, texts):
 
 
 def main():
-    if not solver.installed('valgrind', 'valgrind'):
-        print('cost: valgrind is not here and cannot be installed; nothing is counted')
+    if not packages.are_here('cost', 'valgrind'):
         return 0
     library = os.path.abspath(sys.argv[1] if len(sys.argv) > 1 else os.path.join(TOP, 'target', 'libpearrummy.a'))
     texts = [shape(times * size) for shape, (size, _) in SHAPES.items() for times in (1, 2)]

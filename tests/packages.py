@@ -1,5 +1,5 @@
 #!/usr/bin/env python3
-"""The programs that the tests compare with, and Debian's packages of them.
+"""The programs that the tests compare or count with, and Debian's packages of them.
 
     tests/packages.py            has each, or installs it where that can be done, and fails with the names of the packages that are missing
     tests/packages.py --left-out says what is not compared, since a program is missing
@@ -11,7 +11,8 @@ import os, shutil, subprocess, sys
 PROGRAMS = {
     'fzn-gecode': ('flatzinc', 'the calls with a second solver (tests/solver.py), MiniZinc models with Gecode\'s solutions (tests/minizinc.py)'),
     'clasp': ('clasp', 'the forms of more than 14 bits (tests/bits.py)'),
-    'minizinc': ('minizinc', 'MiniZinc models flattened anew (tests/minizinc.py), their lines in errors (tests/places.py), the command on them (tests/command.py)')}
+    'minizinc': ('minizinc', 'MiniZinc models flattened anew (tests/minizinc.py), their lines in errors (tests/places.py), the command on them (tests/command.py)'),
+    'valgrind': ('valgrind', 'the instructions of the call text on texts made to be slow (tests/cost.py)')}
 VARIABLE = 'PEARRUMMY_WITHOUT_SOLVERS'
 
 
