@@ -9,7 +9,7 @@ pub const FALSE: u32 = 3;
 pub const BUILTIN: u32 = 3;
 pub const AUXILIARIES: u32 = 4;
 
-/// What a judge or fill says.
+/// What a judge, fill or value_bits says.
 #[repr(C)]
 #[derive(Clone, Copy, Debug, PartialEq, Eq)]
 pub struct Judgement {
@@ -31,7 +31,7 @@ pub struct Counts {
     pub words: usize,
 }
 
-/// What translate, text and bits answer.
+/// What translate, text, bits and best_bits answer.
 #[repr(C)]
 #[derive(Clone, Copy, Debug, PartialEq, Eq, Default)]
 pub struct Written {
@@ -67,6 +67,24 @@ pub struct Listed {
     pub fault: u32,
     pub place: usize,
     pub solutions: usize,
+}
+
+/// What bit_values answers.
+#[repr(C)]
+#[derive(Clone, Copy, Debug, PartialEq, Eq, Default)]
+pub struct Values {
+    pub fault: u32,
+    pub place: usize,
+    pub values: usize,
+}
+
+/// What bit_energy answers.
+#[repr(C)]
+#[derive(Clone, Copy, Debug, PartialEq, Eq, Default)]
+pub struct Energy {
+    pub fault: u32,
+    pub place: usize,
+    pub energy: i64,
 }
 
 /// A numbered fault and its place.
@@ -109,5 +127,17 @@ impl From<Refusal> for Reason {
 impl From<Refusal> for Listed {
     fn from(refusal: Refusal) -> Self {
         Listed { fault: refusal.fault, place: refusal.place, solutions: 0 }
+    }
+}
+
+impl From<Refusal> for Values {
+    fn from(refusal: Refusal) -> Self {
+        Values { fault: refusal.fault, place: refusal.place, values: 0 }
+    }
+}
+
+impl From<Refusal> for Energy {
+    fn from(refusal: Refusal) -> Self {
+        Energy { fault: refusal.fault, place: refusal.place, energy: 0 }
     }
 }

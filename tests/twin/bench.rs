@@ -1,6 +1,7 @@
 //! Measures the library and the twin on the same models in one run.
 
 use crate::answers::HOLDS;
+use crate::back;
 use crate::forms;
 use crate::inputs::{self, Random};
 use crate::library::{self, Lent};
@@ -202,6 +203,90 @@ fn declarations_line() -> String {
     format!("| text of {names} declarations, once | {size} | {ours:.2} | {theirs:.2} | {:.2} |", ours / theirs)
 }
 
+/// A row system with a form, values that satisfy it and their bits.
+struct Solved {
+    words: Vec<u32>,
+    values: Vec<i32>,
+    bits: Vec<u8>,
+}
+
+/// None where the row system has no form, or the values do not satisfy it.
+fn solved(words: Vec<u32>, values: Vec<i32>) -> Option<Solved> {
+    let mut bits = vec![0; back::bit_count(&words)?];
+    let holds = back::value_bits(&words, &values, &mut bits).said == HOLDS && twin::form_words(&words).is_ok();
+    holds.then_some(Solved { words, values, bits })
+}
+
+/// What translate writes for a model of 64 words, and what fill does.
+fn of_model(random: &mut Random) -> Option<Solved> {
+    let case = case(random, SIZES[0]);
+    let counts = twin::check(&case.model);
+    let (mut words, mut values) = (vec![0; counts.words], vec![0; counts.variables + counts.auxiliaries]);
+    twin::translate(&case.model, &mut words);
+    twin::fill(&case.model, &case.values, &mut values);
+    solved(words, values)
+}
+
+/// The longest row system of 1,024 bits, of which zeros are a solution.
+fn longest(random: &mut Random) -> Option<Solved> {
+    let words = forms::largest(random);
+    let values = vec![0; inputs::declared(&words).len()];
+    solved(words, values)
+}
+
+/// The lines of bits and of the way back over row systems of one sort, each measured a few times on both sides in turn: microseconds a call, and the
+/// library's nanoseconds a row word and a bit.
+fn form_lines(name: &str, count: usize, rounds: usize, build: fn(&mut Random) -> Option<Solved>) {
+    let mut random = Random::new(7, 0);
+    let systems: Vec<Solved> = std::iter::repeat_with(|| build(&mut random)).flatten().take(count).collect();
+    let total = |size: fn(&Solved) -> usize| systems.iter().map(size).sum::<usize>() as f64 / count as f64;
+    let (words, bits) = (total(|system| system.words.len()), total(|system| system.bits.len()));
+    let mut lent: Vec<Solved> = systems.iter().map(|it| Solved { words: it.words.clone(), values: it.values.clone(), bits: it.bits.clone() }).collect();
+    let line = |call: &str, library: &mut dyn FnMut(usize), twin: &mut dyn FnMut(usize)| {
+        let (mut ours, mut theirs) = (vec![], vec![]);
+        for _ in 0..rounds {
+            let start = now();
+            (0..count).for_each(&mut *library);
+            let middle = now();
+            (0..count).for_each(&mut *twin);
+            ours.push((middle - start) as f64 / 1_000.0 / count as f64);
+            theirs.push((now() - middle) as f64 / 1_000.0 / count as f64);
+        }
+        let (ours, theirs) = (median(ours), median(theirs));
+        let (a_word, a_bit) = (1_000.0 * ours / words, 1_000.0 * ours / bits);
+        println!("| {call}, {name} | {words:.0} | {bits:.0} | {ours:.2} | {theirs:.2} | {:.2} | {a_word:.2} | {a_bit:.1} |", ours / theirs);
+    };
+    let mut out = vec![0u32; 3 * twin::BITS * (twin::BITS + 1) / 2 + 2];
+    let mut other_out = out.clone();
+    let (mut values, mut bytes) = (vec![0i32; twin::ALL_VARIABLES], vec![0u8; twin::BITS]);
+    let (mut other_values, mut other_bytes) = (values.clone(), bytes.clone());
+    line(
+        "bits",
+        &mut |at| _ = black_box(library::bits(Lent::new(&mut lent[at].words), Lent::new(&mut out))),
+        &mut |at| _ = black_box(twin::bits(black_box(&systems[at].words), &mut other_out)),
+    );
+    line(
+        "best_bits",
+        &mut |at| _ = black_box(library::best_bits(Lent::new(&mut lent[at].words), 0, 0, Lent::new(&mut out))),
+        &mut |at| _ = black_box(back::best_bits(black_box(&systems[at].words), 0, 0, &mut other_out)),
+    );
+    line(
+        "bit_values",
+        &mut |at| _ = black_box(library::bit_values(Lent::new(&mut lent[at].words), Lent::new(&mut systems[at].bits.clone()), Lent::new(&mut values))),
+        &mut |at| _ = black_box(back::bit_values(black_box(&systems[at].words), &systems[at].bits.clone(), &mut other_values)),
+    );
+    line(
+        "bit_energy",
+        &mut |at| _ = black_box(library::bit_energy(Lent::new(&mut lent[at].words), Lent::new(&mut systems[at].bits.clone()))),
+        &mut |at| _ = black_box(back::bit_energy(black_box(&systems[at].words), &systems[at].bits.clone())),
+    );
+    line(
+        "value_bits",
+        &mut |at| _ = black_box(library::value_bits(Lent::new(&mut lent[at].words), Lent::new(&mut systems[at].values.clone()), Lent::new(&mut bytes))),
+        &mut |at| _ = black_box(back::value_bits(black_box(&systems[at].words), &systems[at].values.clone(), &mut other_bytes)),
+    );
+}
+
 /// The line of bits over row systems of one sort, each measured a few times on both sides in turn: microseconds a call.
 fn bits_line(name: &str, count: usize, rounds: usize, build: fn(&mut Random) -> Vec<u32>) -> String {
     let mut random = Random::new(7, 0);
@@ -242,4 +327,9 @@ pub fn run() {
     println!("{}", bits_line("bits, 1,024 of them, few rows", 10, 3, forms::of_all_bits));
     println!("{}", bits_line("bits, 1,024 of them, 1,954 rows of 66 terms", 1, 1, forms::largest));
     println!("{}", bits_line("bits, 1,008 of them, 1,955 rows of 66 terms with coefficient 0", 1, 1, forms::of_zeros));
+    println!();
+    println!("| Call | Row words | Bits | Library, µs a call | Twin, µs a call | Ratio | Library, ns a row word | and ns a bit |");
+    println!("|---|---|---|---|---|---|---|---|");
+    form_lines("models of 64 words", 200, 11, of_model);
+    form_lines("1,954 rows of 66 terms", 1, 3, longest);
 }

@@ -1,6 +1,7 @@
 //! Calls the library and the twin on the same input and compares all that can be seen afterwards.
 
 use crate::answers::{Counts, Judgement, Written, AUXILIARIES, FALSE, HOLDS, OUT_OF_BOUNDS, REFUSED};
+use crate::back;
 use crate::inputs::{self, Form, Input, Random};
 use crate::library::{self, Lent};
 use crate::names::Case;
@@ -26,9 +27,13 @@ pub enum Call {
     PairFill,
     Text,
     Bits,
+    BitValues,
+    BitEnergy,
+    ValueBits,
+    BestBits,
 }
 
-const CALLS: [Call; 15] = [
+const CALLS: [Call; 19] = [
     Call::CheckBytes,
     Call::Check,
     Call::Translate,
@@ -44,6 +49,10 @@ const CALLS: [Call; 15] = [
     Call::PairFill,
     Call::Text,
     Call::Bits,
+    Call::BitValues,
+    Call::BitEnergy,
+    Call::ValueBits,
+    Call::BestBits,
 ];
 
 impl Call {
@@ -64,6 +73,10 @@ impl Call {
             "pair-fill",
             "text",
             "bits",
+            "bit-values",
+            "bit-energy",
+            "value-bits",
+            "best-bits",
         ][self as usize]
     }
 
@@ -80,6 +93,10 @@ impl Call {
             Call::Sheet => matches!(fault, 1..=5 | 9..=11 | 14 | 16..=18),
             Call::Text => matches!(fault, 1 | 16 | 19..=21),
             Call::Bits => matches!(fault, 1..=5 | 9..=11 | 14 | 16..=18 | 23 | 24),
+            Call::BitValues => matches!(fault, 1..=5 | 9..=11 | 14..=18 | 23 | 25),
+            Call::BitEnergy => matches!(fault, 1..=5 | 9..=11 | 14 | 15 | 17 | 18 | 23..=25),
+            Call::ValueBits => matches!(fault, 1..=5 | 9..=11 | 14..=18 | 23),
+            Call::BestBits => matches!(fault, 1..=5 | 9..=11 | 14 | 16..=18 | 23 | 24 | 26),
         }
     }
 
@@ -87,7 +104,7 @@ impl Call {
     fn says(self, answer: u32) -> bool {
         match self {
             Call::Reason => true,
-            Call::JudgeModel | Call::JudgeRows | Call::Fill | Call::PairJudgeModel | Call::PairFill => answer <= FALSE,
+            Call::JudgeModel | Call::JudgeRows | Call::Fill | Call::PairJudgeModel | Call::PairFill | Call::ValueBits => answer <= FALSE,
             _ => answer <= HOLDS,
         }
     }
@@ -105,7 +122,7 @@ struct Guarded<T> {
 const GUARD: usize = 16;
 
 /// The highest number of a fault.
-const FAULTS: usize = 24;
+const FAULTS: usize = 26;
 
 /// The pattern of guard elements and of outputs before a call.
 trait Pattern: Copy + PartialEq + Debug {
@@ -356,7 +373,111 @@ impl Comparer {
         if words.len() < 5_000 || words.len() > twin::ROW_WORDS || random.one_in(4) {
             self.sheet(random, words);
             self.bits(random, words);
+            self.best_bits(random, words);
+            self.way_back(random, words, &lists);
         }
+    }
+
+    /// The way back: bits of values that satisfy the row system and bits near them, random ones, and some that no call takes. The words are lent.
+    fn way_back(&mut self, random: &mut Random, words: &[u32], lists: &[Vec<i32>]) {
+        let count = back::bit_count(words).unwrap_or(3);
+        let mut bit_lists: Vec<Vec<u8>> = (0..2).map(|_| (0..count).map(|_| random.below(2) as u8).collect()).collect();
+        bit_lists.push(vec![1; count]);
+        for values in lists {
+            if let Some(bits) = self.value_bits(random, words, values) {
+                let mut near = bits.clone();
+                near.iter_mut().for_each(|bit| *bit ^= u8::from(random.one_in(count)));
+                bit_lists.extend([bits, near]);
+            }
+        }
+        let mut other = bit_lists[random.below(bit_lists.len())].clone();
+        match random.below(3) {
+            0 => other.push(0),
+            1 => _ = other.pop(),
+            _ => other.iter_mut().for_each(|bit| *bit = if random.one_in(count) { random.pick(&[2, 3, 128, 255]) } else { *bit }),
+        }
+        bit_lists.push(other);
+        for bits in &bit_lists {
+            self.bit_values(random, words, bits);
+            self.bit_energy(words, bits);
+        }
+    }
+
+    /// Bit values into a list that is too short, of the right length or longer; the words are lent.
+    fn bit_values(&mut self, random: &mut Random, words: &[u32], bits: &[u8]) {
+        let needed = inputs::declared(words).len();
+        let room = random.pick(&[needed, needed, needed + 1, needed + 9, needed.saturating_sub(1), 0]);
+        self.bytes.set(bits, 0);
+        let [ours, theirs] = &mut self.out_values;
+        ours.set_room(room);
+        theirs.set_room(room);
+        let library = library::bit_values(self.words.lend(), self.bytes.lend(), ours.lend());
+        let twin = back::bit_values(words, bits, theirs.list_mut());
+        if library != twin || ours.all != theirs.all || !self.words.unchanged(words) || !self.bytes.unchanged(bits) {
+            let told = format!("library {library:?}\ntwin    {twin:?}\nbits {bits:?}") + &first_difference(&ours.all, &theirs.all);
+            self.differ(Call::BitValues, words, &[], Some(room), told);
+        }
+        self.count(Call::BitValues, twin.fault, u32::from(twin.fault == 0));
+    }
+
+    /// The words are lent.
+    fn bit_energy(&mut self, words: &[u32], bits: &[u8]) {
+        self.bytes.set(bits, 0);
+        let library = library::bit_energy(self.words.lend(), self.bytes.lend());
+        let twin = back::bit_energy(words, bits);
+        if library != twin || !self.words.unchanged(words) || !self.bytes.unchanged(bits) {
+            self.differ(Call::BitEnergy, words, &[], None, format!("library {library:?}\ntwin    {twin:?}\nbits {bits:?}"));
+        }
+        self.count(Call::BitEnergy, twin.fault, u32::from(twin.fault == 0));
+    }
+
+    /// Value bits into a list that is too short, of the right length or longer; the bits, where they were written: they read as the values, and their energy
+    /// is 0. The words are lent.
+    fn value_bits(&mut self, random: &mut Random, words: &[u32], values: &[i32]) -> Option<Vec<u8>> {
+        let needed = back::bit_count(words).unwrap_or(0);
+        let room = random.pick(&[needed, needed, needed + 1, needed + 9, needed.saturating_sub(1), needed / 2]);
+        self.values.set(values, 0);
+        let [ours, theirs] = &mut self.out_bytes;
+        ours.set_room(room);
+        theirs.set_room(room);
+        let library = library::value_bits(self.words.lend(), self.values.lend(), ours.lend());
+        let twin = back::value_bits(words, values, theirs.list_mut());
+        if library != twin || ours.all != theirs.all || !self.words.unchanged(words) || !self.values.unchanged(values) {
+            let outputs = first_difference(&ours.all, &theirs.all);
+            self.differ(Call::ValueBits, words, values, Some(room), self.told(&library, &twin, words, values) + &outputs);
+        }
+        self.count(Call::ValueBits, twin.fault, twin.said);
+        if twin.said != HOLDS {
+            return None;
+        }
+        let mut bits = self.out_bytes[0].list()[..twin.at].to_vec();
+        let mut read = vec![0; values.len()];
+        let said = library::bit_values(self.words.lend(), Lent::new(&mut bits), Lent::new(&mut read));
+        let energy = library::bit_energy(self.words.lend(), Lent::new(&mut bits));
+        if said.values != values.len() || read != values || (energy.fault, energy.energy) != (0, 0) {
+            self.differ(Call::ValueBits, words, values, None, format!("the bits {bits:?} read as {read:?}, {said:?}, {energy:?}"));
+        }
+        Some(bits)
+    }
+
+    /// The form of a best solution into a list that is too short, of the right length or longer; the words are lent.
+    fn best_bits(&mut self, random: &mut Random, words: &[u32]) {
+        let variables = inputs::declared(words).len();
+        let variable = if random.one_in(8) { random.pick(&[variables, variables + 1, usize::MAX]) } else { random.below(variables + 1) };
+        let direction = if random.one_in(8) { random.pick(&[2, 3, u32::MAX]) } else { random.below(2) as u32 };
+        let needed = back::best_form_words(words, variable, direction).map_or(0, |form| form.len());
+        let room = random.pick(&[needed, needed, needed + 1, needed + 40, needed.saturating_sub(1), needed / 2, 0]);
+        let [ours, theirs] = &mut self.out_words;
+        ours.set_room(room);
+        theirs.set_room(room);
+        let library = library::best_bits(self.words.lend(), variable, direction, ours.lend());
+        let twin = back::best_bits(words, variable, direction, theirs.list_mut());
+        if library != twin || ours.all != theirs.all || !self.words.unchanged(words) {
+            let told = format!("library {library:?}\ntwin    {twin:?}\nvariable {variable}, direction {direction}");
+            let outputs = first_difference(&ours.all, &theirs.all);
+            self.differ(Call::BestBits, words, &[], Some(room), told + &outputs);
+        }
+        self.count(Call::BestBits, twin.fault, u32::from(twin.fault == 0));
     }
 
     /// The calls for each candidate of a pair.

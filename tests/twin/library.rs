@@ -1,11 +1,11 @@
 //! The calls of include/pearrummy.h, linked from target/libpearrummy.a.
 
-use crate::answers::{Counts, Judgement, Listed, Printed, Reason, Written};
+use crate::answers::{Counts, Energy, Judgement, Listed, Printed, Reason, Values, Written};
 use std::marker::PhantomData;
 use std::ptr::null_mut;
 
 mod raw {
-    use super::{Counts, Judgement, Listed, Printed, Reason, Written};
+    use super::{Counts, Energy, Judgement, Listed, Printed, Reason, Values, Written};
 
     extern "C" {
         pub fn pearrummy_check_bytes(bytes: *const u8, bytes_count: usize) -> u32;
@@ -44,6 +44,31 @@ mod raw {
         ) -> Judgement;
         pub fn pearrummy_text(text: *const u8, text_count: usize, out: *mut u32, out_count: usize) -> Written;
         pub fn pearrummy_bits(words: *const u32, words_count: usize, out: *mut u32, out_count: usize) -> Written;
+        pub fn pearrummy_bit_values(
+            words: *const u32,
+            words_count: usize,
+            bits: *const u8,
+            bits_count: usize,
+            out: *mut i32,
+            out_count: usize,
+        ) -> Values;
+        pub fn pearrummy_bit_energy(words: *const u32, words_count: usize, bits: *const u8, bits_count: usize) -> Energy;
+        pub fn pearrummy_value_bits(
+            words: *const u32,
+            words_count: usize,
+            values: *const i32,
+            values_count: usize,
+            out: *mut u8,
+            out_count: usize,
+        ) -> Judgement;
+        pub fn pearrummy_best_bits(
+            words: *const u32,
+            words_count: usize,
+            variable: usize,
+            direction: u32,
+            out: *mut u32,
+            out_count: usize,
+        ) -> Written;
     }
 }
 
@@ -126,4 +151,20 @@ pub fn text(text: Lent<u8>, out: Lent<u32>) -> Written {
 
 pub fn bits(words: Lent<u32>, out: Lent<u32>) -> Written {
     unsafe { raw::pearrummy_bits(words.pointer, words.count, out.pointer, out.count) }
+}
+
+pub fn bit_values(words: Lent<u32>, bits: Lent<u8>, out: Lent<i32>) -> Values {
+    unsafe { raw::pearrummy_bit_values(words.pointer, words.count, bits.pointer, bits.count, out.pointer, out.count) }
+}
+
+pub fn bit_energy(words: Lent<u32>, bits: Lent<u8>) -> Energy {
+    unsafe { raw::pearrummy_bit_energy(words.pointer, words.count, bits.pointer, bits.count) }
+}
+
+pub fn value_bits(words: Lent<u32>, values: Lent<i32>, out: Lent<u8>) -> Judgement {
+    unsafe { raw::pearrummy_value_bits(words.pointer, words.count, values.pointer, values.count, out.pointer, out.count) }
+}
+
+pub fn best_bits(words: Lent<u32>, variable: usize, direction: u32, out: Lent<u32>) -> Written {
+    unsafe { raw::pearrummy_best_bits(words.pointer, words.count, variable, direction, out.pointer, out.count) }
 }

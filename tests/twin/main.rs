@@ -8,6 +8,7 @@
 //!     twin --bench             times of both
 
 mod answers;
+mod back;
 mod bench;
 mod compare;
 mod forms;

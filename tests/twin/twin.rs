@@ -1,5 +1,5 @@
 //! Documents 01 and 02 in plain Rust: check over words and over bytes, translate, judge-model, judge-rows, fill, sheet,
-//! reason, solutions, the calls for a pair, text, and bits.
+//! reason, solutions, the calls for a pair, text, and bits; the way back from bits is in back.rs.
 //!
 //! It is written from the documents alone and shares nothing with the proved code, so that the two can be compared. Nothing here panics: every
 //! index is tested by the reading that comes first, and numbers that may leave 32 bits are 64 bits wide (the largest is 33 × 2^54).
@@ -73,7 +73,7 @@ pub fn word(kind: u32, payload: i64) -> u32 {
     kind << 28 | (payload as u32 & 0x0FFF_FFFF)
 }
 
-fn refusal<T>(fault: u32, place: usize) -> Result<T, Refusal> {
+pub fn refusal<T>(fault: u32, place: usize) -> Result<T, Refusal> {
     Err(Refusal { fault, place })
 }
 
@@ -2078,16 +2078,16 @@ pub fn text(text: &[u8], out: &mut [u32]) -> Written {
 // ----------------------------------------------------------------------------------------------------------------------------------- bits
 
 /// A row or a product of a row system.
-enum Part {
+pub enum Part {
     Row { kind: u32, terms: Vec<(usize, i64)>, constant: i64 },
     Product { result: usize, first: usize, second: usize },
 }
 
 /// A row system as it was read.
 #[derive(Default)]
-struct RowSystem {
-    bounds: Vec<(i64, i64)>,
-    parts: Vec<Part>,
+pub struct RowSystem {
+    pub bounds: Vec<(i64, i64)>,
+    pub parts: Vec<Part>,
 }
 
 impl Sink for RowSystem {
@@ -2117,13 +2117,13 @@ impl Sink for RowSystem {
 }
 
 impl RowSystem {
-    fn width(&self, variable: usize) -> i64 {
+    pub fn width(&self, variable: usize) -> i64 {
         let (lower, upper) = self.bounds[variable];
         upper - lower
     }
 
     /// The largest slack of a row: 0 where it is an equation.
-    fn slack(&self, kind: u32, terms: &[(usize, i64)], constant: i64) -> i64 {
+    pub fn slack(&self, kind: u32, terms: &[(usize, i64)], constant: i64) -> i64 {
         let least = |&(variable, coefficient): &(usize, i64)| {
             let (lower, upper) = self.bounds[variable];
             (coefficient * lower).min(coefficient * upper)
@@ -2145,16 +2145,16 @@ impl RowSystem {
 }
 
 /// The weights of a width: 1, 2, 4 and so on, the last cut so that they sum to it.
-fn weights(width: i64) -> impl Iterator<Item = i64> + Clone {
+pub fn weights(width: i64) -> impl Iterator<Item = i64> + Clone {
     let sum_before = |place: u32| (1i64 << place) - 1;
     (0..62).take_while(move |&place| sum_before(place) < width).map(move |place| (1 << place).min(width - sum_before(place)))
 }
 
 /// A quadratic form over bits, its entries i≤j in a square.
-struct QuadraticForm {
-    bits: usize,
-    constant: i64,
-    entries: Vec<i64>,
+pub struct QuadraticForm {
+    pub bits: usize,
+    pub constant: i64,
+    pub entries: Vec<i64>,
 }
 
 impl QuadraticForm {
@@ -2180,7 +2180,7 @@ impl QuadraticForm {
     }
 
     /// The words of the form: fault 24 where a number is outside the range.
-    fn words(&self) -> Result<Vec<u32>, Refusal> {
+    pub fn words(&self) -> Result<Vec<u32>, Refusal> {
         let mut words = vec![word(NUMBER, self.constant)];
         if self.entries.iter().chain([&self.constant]).any(|number| !(LEAST..=LARGEST).contains(number)) {
             return refusal(24, 0);
@@ -2228,37 +2228,52 @@ impl RowOverBits {
     }
 }
 
-/// The words of the quadratic form of a row system (02, wish 14): judge-rows' faults but 15, then 23, then 24.
-pub fn form_words(words: &[u32]) -> Result<Vec<u32>, Refusal> {
+/// A row system and where the bits of its variables, rows and products begin.
+pub struct Layout {
+    pub system: RowSystem,
+    pub first_bits: Vec<usize>,
+    pub own_bits: Vec<usize>,
+    pub bits: usize,
+}
+
+/// The layout of a row system's bits: judge-rows' faults but 15, then 23.
+pub fn layout(words: &[u32]) -> Result<Layout, Refusal> {
     let mut system = RowSystem::default();
     read_rows(words, &mut system)?;
-    let mut bits = 0;
-    let mut first_bits = vec![];
+    let (mut first_bits, mut own_bits, mut bits) = (vec![], vec![], 0);
     for variable in 0..system.bounds.len() {
         first_bits.push(bits);
         bits += weights(system.width(variable)).count();
     }
-    let mut next = bits;
-    bits += system.parts.iter().map(|part| system.bits(part)).sum::<usize>();
+    for part in &system.parts {
+        own_bits.push(bits);
+        bits += system.bits(part);
+    }
     if bits > BITS {
         return refusal(23, 0);
     }
-    let mut form = QuadraticForm { bits, constant: 0, entries: vec![0; bits * bits] };
-    for part in &system.parts {
+    Ok(Layout { system, first_bits, own_bits, bits })
+}
+
+/// The form of a row system (02, wish 14), its entries and constant not yet tested: 24 where a number of a row over bits is too large.
+pub fn quadratic_form(layout: &Layout) -> Result<QuadraticForm, Refusal> {
+    let Layout { system, first_bits, own_bits, bits } = layout;
+    let mut form = QuadraticForm { bits: *bits, constant: 0, entries: vec![0; bits * bits] };
+    for (part, &own) in system.parts.iter().zip(own_bits) {
         let mut row = RowOverBits::default();
         match part {
             Part::Row { kind, terms, constant } => {
                 row.constant = *constant;
-                terms.iter().for_each(|&(variable, coefficient)| row.add_variable(&system, &first_bits, variable, coefficient));
-                row.add_bits(next, system.slack(*kind, terms, *constant), 1);
+                terms.iter().for_each(|&(variable, coefficient)| row.add_variable(system, first_bits, variable, coefficient));
+                row.add_bits(own, system.slack(*kind, terms, *constant), 1);
             }
             Part::Product { result, first, second } => {
                 let (first_lower, second_lower) = (system.bounds[*first].0, system.bounds[*second].0);
-                row.add_variable(&system, &first_bits, *result, 1);
+                row.add_variable(system, first_bits, *result, 1);
                 row.constant -= first_lower * second_lower;
                 row.add_bits(first_bits[*first], system.width(*first), -second_lower);
                 row.add_bits(first_bits[*second], system.width(*second), -first_lower);
-                let mut t = next;
+                let mut t = own;
                 for (u, one) in (first_bits[*first]..).zip(weights(system.width(*first))) {
                     for (v, other) in (first_bits[*second]..).zip(weights(system.width(*second))) {
                         row.terms.push((t, -one * other));
@@ -2272,10 +2287,14 @@ pub fn form_words(words: &[u32]) -> Result<Vec<u32>, Refusal> {
                 }
             }
         }
-        next += system.bits(part);
         form.add_square(&mut row)?;
     }
-    form.words()
+    Ok(form)
+}
+
+/// The words of the quadratic form of a row system (02, wish 14): judge-rows' faults but 15, then 23, then 24.
+pub fn form_words(words: &[u32]) -> Result<Vec<u32>, Refusal> {
+    quadratic_form(&layout(words)?)?.words()
 }
 
 /// Bits: writes the quadratic form of a row system to the front of the output.

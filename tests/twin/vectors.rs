@@ -1,6 +1,7 @@
 //! Recorded answers, tests/vectors: a line is CALL | words | values or - | room or - | answer. The words of text are bytes.
 
 use crate::answers::{Counts, Judgement, Written, AUXILIARIES, BUILTIN, FALSE, HOLDS, OUT_OF_BOUNDS};
+use crate::back;
 use crate::library::{self, Lent};
 use crate::twin;
 use std::collections::HashSet;
@@ -58,8 +59,59 @@ fn pair_answer(call: &str, words: &mut [u32], values: &mut [i32], room: usize, l
     }
 }
 
+/// The answer of a side to a call of the way back: the values of the record are bits, values, or a variable's number and a direction.
+fn back_answer(call: &str, words: &mut [u32], numbers: &[i64], room: usize, library: bool) -> String {
+    let mut bits: Vec<u8> = numbers.iter().map(|&bit| bit as u8).collect();
+    let mut values: Vec<i32> = numbers.iter().map(|&value| value as i32).collect();
+    match call {
+        "bit_values" => {
+            let mut out = vec![0; room];
+            let said = if library {
+                library::bit_values(Lent::new(words), Lent::new(&mut bits), Lent::new(&mut out))
+            } else {
+                back::bit_values(words, &bits, &mut out)
+            };
+            match said.fault {
+                0 => listed("values", &out[..said.values]),
+                fault => format!("refused {fault} {}", said.place),
+            }
+        }
+        "bit_energy" => {
+            let said = if library { library::bit_energy(Lent::new(words), Lent::new(&mut bits)) } else { back::bit_energy(words, &bits) };
+            match said.fault {
+                0 => format!("energy {}", said.energy),
+                fault => format!("refused {fault} {}", said.place),
+            }
+        }
+        "value_bits" => {
+            let mut out = vec![0; room];
+            let said = if library {
+                library::value_bits(Lent::new(words), Lent::new(&mut values), Lent::new(&mut out))
+            } else {
+                back::value_bits(words, &values, &mut out)
+            };
+            if said.said == HOLDS {
+                listed("bits", &out[..said.at])
+            } else {
+                judged(said)
+            }
+        }
+        _ => {
+            let &[variable, direction] = numbers else { return "no variable and direction".into() };
+            let (variable, direction, mut out) = (variable as usize, direction as u32, vec![0; room]);
+            let said = if library {
+                library::best_bits(Lent::new(words), variable, direction, Lent::new(&mut out))
+            } else {
+                back::best_bits(words, variable, direction, &mut out)
+            };
+            written(said, &out)
+        }
+    }
+}
+
 /// The answer of a side, in the form of the record. `library`: the library's, else the twin's.
-fn answer(call: &str, words: &mut [u32], values: &mut [i32], room: usize, library: bool) -> String {
+fn answer(call: &str, words: &mut [u32], numbers: &[i64], room: usize, library: bool) -> String {
+    let values: &mut [i32] = &mut numbers.iter().map(|&value| value as i32).collect::<Vec<_>>();
     match call {
         "check" => counted(if library { library::check(Lent::new(words)) } else { twin::check(words) }),
         "translate" => {
@@ -111,6 +163,7 @@ fn answer(call: &str, words: &mut [u32], values: &mut [i32], room: usize, librar
             let mut out = vec![0; room];
             written(if library { library::bits(Lent::new(words), Lent::new(&mut out)) } else { twin::bits(words, &mut out) }, &out)
         }
+        "bit_values" | "bit_energy" | "value_bits" | "best_bits" => back_answer(call, words, numbers, room, library),
         "pair_check" | "pair_translate" | "pair_judge_model" | "pair_fill" => pair_answer(call, words, values, room, library),
         _ => "an unknown call".into(),
     }
@@ -120,7 +173,7 @@ fn answer(call: &str, words: &mut [u32], values: &mut [i32], room: usize, librar
 struct Record<'a> {
     call: &'a str,
     words: Vec<u32>,
-    values: Vec<i32>,
+    numbers: Vec<i64>,
     room: usize,
     answer: &'a str,
 }
@@ -132,7 +185,7 @@ fn record(line: &str) -> Option<Record<'_>> {
     Some(Record {
         call,
         words: words.split_whitespace().filter_map(|word| u32::from_str_radix(word, 16).ok()).collect(),
-        values: values.split_whitespace().filter_map(|value| value.parse().ok()).collect(),
+        numbers: values.split_whitespace().filter_map(|value| value.parse().ok()).collect(),
         room: room.parse().unwrap_or(0),
         answer,
     })
@@ -170,7 +223,7 @@ pub fn run(files: &[String], both: bool) {
             exit(1)
         };
         for (side, library) in [("twin", false), ("library", true)].into_iter().take(1 + usize::from(both)) {
-            let answer = answer(record.call, &mut record.words, &mut record.values, record.room, library);
+            let answer = answer(record.call, &mut record.words, &record.numbers, record.room, library);
             if answer != record.answer {
                 println!("twin: {line}\n{side}: {answer}");
                 differences += 1;
