@@ -218,20 +218,19 @@ def archives(folder):
     return len(escapes)
 
 
-def solvers(folder):
-    """No solver, and no valgrind, is had where the PATH has none, nor a way to install one; each test that takes one fails, with the packages."""
+def missing(folder):
+    """No program is had where the PATH has none, nor a way to install one; each test that takes one fails, with the packages."""
     os.makedirs(os.path.join(folder, 'nothing'))
-    bare = {name: text for name, text in os.environ.items() if name != 'PEARRUMMY_WITHOUT_SOLVERS'} | {'PATH': os.path.join(folder, 'nothing')}
-    tests = {'packages': 'flatzinc clasp minizinc valgrind', 'solver': 'flatzinc', 'bits': 'clasp', 'minizinc': 'minizinc flatzinc', 'places': 'minizinc', 'command': 'minizinc',
-             'cost': 'valgrind'}
+    bare = {name: text for name, text in os.environ.items() if name != 'PEARRUMMY_WITHOUT_PACKAGES'} | {'PATH': os.path.join(folder, 'nothing')}
+    tests = {'packages': 'flatzinc clasp minizinc valgrind', 'solver': 'flatzinc', 'bits': 'clasp', 'minizinc': 'minizinc flatzinc', 'places': 'minizinc', 'command': 'minizinc', 'cost': 'valgrind'}
     for script, names in tests.items():
-        refuses('a solver is missing', f"not here: install Debian's {names}, or set PEARRUMMY_WITHOUT_SOLVERS=1", TOP, script, environment=bare)
-    told = bare | {'PEARRUMMY_WITHOUT_SOLVERS': '1'}
+        refuses('a program is missing', f"not here: install Debian's {names}, or set PEARRUMMY_WITHOUT_PACKAGES=1", TOP, script, environment=bare)
+    told = bare | {'PEARRUMMY_WITHOUT_PACKAGES': '1'}
     passes(TOP, 'packages', environment=told)
     text = passes(TOP, 'packages', '--left-out', environment=told)
     for package in ('flatzinc', 'clasp', 'minizinc', 'valgrind'):
         if f"of Debian's {package} is not here" not in text:
-            raise Passed(f'what is not compared without {package} is not said: {text}')
+            raise Passed(f'what is left out without {package} is not said: {text}')
     return len(tests) + 1
 
 
@@ -240,7 +239,7 @@ def main():
     with tempfile.TemporaryDirectory() as folder:
         copy(folder)
         try:
-            for part in (texts, logs, programs, archives, solvers):
+            for part in (texts, logs, programs, archives, missing):
                 count += part(folder)
         except Passed as passed:
             print(f'escapes: {passed}')

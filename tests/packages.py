@@ -2,18 +2,18 @@
 """The programs that the tests compare or count with, and Debian's packages of them.
 
     tests/packages.py            has each, or installs it where that can be done, and fails with the names of the packages that are missing
-    tests/packages.py --left-out says what is not compared, since a program is missing
+    tests/packages.py --left-out says what is left out, since a program is missing
 
-Where PEARRUMMY_WITHOUT_SOLVERS is 1, a missing program fails nothing: what would be compared with it is left out, and said to be."""
+Where PEARRUMMY_WITHOUT_PACKAGES is 1, a missing program fails nothing: what it is for is left out, and said to be."""
 import os, shutil, subprocess, sys
 
-# the package of a program, and what is compared with it
+# the package of a program, and what it is for
 PROGRAMS = {
-    'fzn-gecode': ('flatzinc', 'the calls with a second solver (tests/solver.py), MiniZinc models with Gecode\'s solutions (tests/minizinc.py)'),
+    'fzn-gecode': ('flatzinc', 'the calls against a second solver (tests/solver.py), MiniZinc models against it (tests/minizinc.py)'),
     'clasp': ('clasp', 'the forms of more than 14 bits (tests/bits.py)'),
     'minizinc': ('minizinc', 'MiniZinc models flattened anew (tests/minizinc.py), their lines in errors (tests/places.py), the command on them (tests/command.py)'),
-    'valgrind': ('valgrind', 'the instructions of the call text on texts made to be slow (tests/cost.py)')}
-VARIABLE = 'PEARRUMMY_WITHOUT_SOLVERS'
+    'valgrind': ('valgrind', 'the instructions that the call text takes (tests/cost.py)')}
+VARIABLE = 'PEARRUMMY_WITHOUT_PACKAGES'
 
 
 def may_go_on():
@@ -54,7 +54,7 @@ def main():
     if sys.argv[1:] == ['--left-out']:
         for program, (package, what) in PROGRAMS.items():
             if not shutil.which(program):
-                print(f'not compared, since {program} of Debian\'s {package} is not here: {what}')
+                print(f'left out, since {program} of Debian\'s {package} is not here: {what}')
         return
     if are_here('packages', *PROGRAMS):
         print(f'packages: {", ".join(PROGRAMS)} are here')
