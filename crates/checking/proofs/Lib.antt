@@ -1,6 +1,7 @@
--- Laws for proofs about check, and about what check's answer says.
+-- Laws for proofs about check, and about what its answer says; answers at the limits, computed.
 pub mod Costs
 pub mod Uses
 pub mod Kept
 pub mod CheckWalk
 pub mod Answers
+pub mod AtTheLimits
