@@ -82,6 +82,7 @@ impl<'a> Symbols<'a> {
     }
 
     // The number of the variable of a name, if it is declared before a place.
+    #[inline(always)]
     pub fn variable(&self, text: &[u8], place: usize, name: &[u8]) -> Option<usize>
         requires { Indexed text.now place (table_of self.now) }
         ensures { found_number result ≡ look_up name.now 0 (declared_before text.now place) }
@@ -215,8 +216,8 @@ impl<'a> Symbols<'a> {
         }
     }
 
-    // Enters a token as `note` does. Where the table has no more of the names that the text goes on with, it takes the next ones; of those, the names declared
-    // up to here are numbered.
+    // Enters a token as `note` does. Where the table has no more of the names that the text goes on with, it takes the next ones and numbers those that are
+    // declared up to here.
     fn declare_or_take(&mut self, text: &[u8], k: usize, colon: bool, token: Span) -> usize
         requires { Enterable text.now token.place token.stop k colon (table_of self.old) × Latest text.now token.place self.old.declared }
         ensures next { result ≡ (k + 1 if colon else k) }

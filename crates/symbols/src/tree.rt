@@ -48,6 +48,7 @@ pub enum Seat {
 
 // A hash and one byte more.
 #[tactic(auto, unfolding(crate::specs::Links::mix))]
+#[inline(always)]
 fn mixed(h: u32, b: u8) -> u32
     ensures { result ≡ mix h b }
 {
@@ -56,6 +57,7 @@ fn mixed(h: u32, b: u8) -> u32
 
 // The hash of a name.
 #[tactic(auto, unfolding(crate::specs::Links::hash))]
+#[inline(always)]
 fn hash_of(name: &[u8]) -> u32
     ensures { result ≡ hash name.now }
 {
@@ -64,6 +66,7 @@ fn hash_of(name: &[u8]) -> u32
 }
 
 // The first link of a hash.
+#[inline(always)]
 fn first_link(h: u32) -> usize
     ensures { (result ≡ first_link h) × (result < 8192) }
 {
@@ -72,6 +75,7 @@ fn first_link(h: u32) -> usize
 
 // The side of a name at a depth: a bit of its hash, then of its bytes.
 #[tactic(auto, unfolding(crate::specs::Links::side))]
+#[inline(always)]
 fn side(name: &[u8], h: u32, depth: usize) -> usize
     ensures { (result ≡ side h name.now depth) × (result < 2) }
 {
@@ -84,6 +88,7 @@ fn side(name: &[u8], h: u32, depth: usize) -> usize
 
 // What the entry of a name has of its hash.
 #[tactic(auto, unfolding(crate::specs::Links::tag))]
+#[inline(always)]
 fn tag_of(h: u32) -> usize
     ensures { (result ≡ tag h) × (result < 262144) }
 {
@@ -92,6 +97,7 @@ fn tag_of(h: u32) -> usize
 
 // The tag of an entry.
 #[tactic(auto, unfolding(crate::specs::Entry::tag_in))]
+#[inline(always)]
 fn tag_in(e: u64) -> usize
     ensures { result ≡ tag_in e }
 {
@@ -100,6 +106,7 @@ fn tag_in(e: u64) -> usize
 
 // Whether an entry has a name. The text is read where the tags agree.
 #[tactic(auto, unfolding(crate::specs::Entry::place_in, crate::specs::Entry::length_in))]
+#[inline(always)]
 fn is_named(text: &[u8], e: u64, name: &[u8], h: u32) -> bool
     requires inside { place_in e + length_in e ≤ length text.now }
     requires tagged { tag_in e ≡ tag (hash (named text.now e)) }
@@ -152,6 +159,7 @@ impl<'a> Tree<'a> {
     }
 
     // Where a name stands. A `while`, since a link leads to a later name and the names before it are not counted.
+    #[inline(always)]
     pub fn seat_of(&self, text: &[u8], name: &[u8]) -> Seat
         requires { IsTree text.now (names_of self.now) }
         ensures { FindsSeat text.now (names_of self.now) name.now result }
