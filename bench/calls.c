@@ -6,7 +6,7 @@
 #include <time.h>
 #include <ucontext.h>
 
-enum { MODEL = 8192, ROWS = 262144, IN_ALL = 4096, LISTS = 65536, LISTED = 8, FORM = 524288, FEW_ROWS = 1024, MIXED_VALUES = 3, MIXED_BITS = 37, ROUNDS = 9 };
+enum { MODEL = 8192, ROWS = 262144, IN_ALL = 4096, LISTS = 65536, LISTED = 8, FORM = 524288, FEW_ROWS = 1024, MIXED_VALUES = 3, MIXED_BITS = 37, LONG_TEXT = 65536, ROUNDS = 9 };
 
 static uint32_t words[MODEL + 68], rows[ROWS]; /* a constraint that does not fit is put and taken back */
 static uint8_t bytes[4 * MODEL], page[81 * ROWS]; /* no row system prints more than a line for each of its words */
@@ -340,6 +340,8 @@ static void measure_stack(void) {
     size_t none = stack_of(nothing);
     for (size_t k = 0; k < sizeof calls / sizeof *calls; k++) printf("%s %zu\n", calls[k].name, stack_of(calls[k].call) - none);
     make_text();
+    memset(page + text_bytes, ' ', LONG_TEXT); /* the longest texts take the longest lists */
+    text_bytes += LONG_TEXT;
     printf("pearrummy_text %zu\n", stack_of(text) - none);
     make_bits_rows(FEW_ROWS);
     printf("pearrummy_bits %zu\n", stack_of(bits) - none);
