@@ -189,7 +189,7 @@ struct pearrummy_printed pearrummy_sheet(const uint32_t *words, size_t words_cou
 /* Reads FlatZinc, items "var lo..hi: name;" or "var bool: name;", then items "constraint builtin(arguments);", then "solve satisfy;", and writes the
  * words of the model to the front of `out`, for check to read; 19 where the text breaks the grammar, 20 where a variable or builtin name is unknown
  * or a variable is declared twice, 21 where a number is outside the range, their place a byte of the text; then faults 1 and 16. Words past the end
- * keep their values; a refusal changes nothing. No model has more than 8,192 words, so that much room is always enough. Stack: 369 KiB. */
+ * keep their values; a refusal changes nothing. No model has more than 8,192 words, so that much room is always enough. Stack: 362 KiB. */
 struct pearrummy_written pearrummy_text(const uint8_t *text, size_t text_count, uint32_t *out, size_t out_count);
 
 /* Names the first row of a model's row system that values of its variables and auxiliaries fail, the constraint whose block holds it, and why;
