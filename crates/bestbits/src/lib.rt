@@ -11,18 +11,16 @@ ghost use Rattle.bestforms.specs.BestForm.{best_words};
 ghost use Rattle.bestforms.specs.BestAnswer.{best_bits, best_bitted};
 ghost use Rattle.bestforms.specs.BestShares.{BestShares};
 ghost use Rattle.bestforms.specs.Numbered.{best_bits_by, best_bitted_by, NumberedShares};
-ghost use Rattle.bitwriting.specs.Bands.{BandAndRow};
 ghost use Rattle.bitform.specs.Answered.{BitsListed};
 ghost use Rattle.bestbits.specs.Answered.{AnsweredBest, VariableListed, sign, start};
 
 use bestforms::Direction;
-use bitform::form_checked;
+use bitform::form_listed;
 use bitreading::list_bits;
 use bitrows::add_variable;
 use bittables::span_at;
 use bittables::table::{BitSystem, BitTable, BitVariable, system_of};
 use bittaking::Taken;
-use bitwriting::{BAND, lines_of};
 use rowreading::read_rows;
 use words::domain::Domain;
 use words::fault::{Fault, Refusal};
@@ -62,16 +60,12 @@ fn times_of(width: usize) -> i64
 fn best_listed(
     out: &mut [u32],
     system: &BitSystem,
-    band: &mut [i64],
-    row: &mut [i64],
     added: &mut [i64],
     variable: usize,
     direction: Direction,
     n: usize,
-    lines: usize,
 ) -> Result<usize, Refusal>
     requires listed { BitsListed system.now n }
-    requires banded { BandAndRow n lines band.old row.old × (0 < n → 0 < lines) }
     requires none_added { added.old ≡ replicate n +0 }
     requires named { VariableListed system.now variable }
     ensures { AnsweredBest system.now.words.now variable direction out.old out.new (written_of result) }
@@ -83,7 +77,7 @@ fn best_listed(
         constant: start_of(direction, width),
         added,
     };
-    form_checked(out, system, band, row, &taken, n, lines)
+    form_listed(out, system, &taken, n)
 }
 
 // Of accepted words: 23, 26, or what comes after. The lists have the most elements: fixed memory.
@@ -113,25 +107,12 @@ fn best_accepted(
         });
     }
     let mut added = [0i64; limit::BITS];
-    let mut band = [0i64; BAND];
-    let mut row = [0i64; limit::BITS];
     let table = BitTable {
         domains: &domains,
         bits: &bits,
     };
     let system = system_of(ws, table, listed.start);
-    let lines = lines_of(n);
-    best_listed(
-        out,
-        &system,
-        &mut band[..lines * n],
-        &mut row[..n],
-        &mut added[..n],
-        variable,
-        direction,
-        n,
-        lines,
-    )
+    best_listed(out, &system, &mut added[..n], variable, direction, n)
 }
 
 // Writes the form to the front of the output; a refusal changes nothing.

@@ -48,7 +48,7 @@ module _ (ws out : List ℕ) (k c : ℤ) (a : ℕ → ℤ) where
   unfolding room_fault ◌else_refuse◌ ◌else_answer◌
   writes f s = let r = le-ltb (length out) (length (taken_words ws k c a)) s in record { says = rw (f, r) refl; holds = rw (f, r) refl }
 
--- ---- the form of bits is taken once, and nothing is added
+-- ---- the form of the call bits is taken once, and nothing is added
 
 once : (e : ℤ) → +1 ⊗ e ⊕ +0 ≡ e
 once = simp linear (omega arith)

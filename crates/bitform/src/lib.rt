@@ -121,7 +121,7 @@ fn form_lines(
 }
 
 // Of at most 1,024 bits: 24 for a row or the constant, or what comes after.
-pub fn form_checked(
+fn form_checked(
     out: &mut [u32],
     system: &BitSystem,
     band: &mut [i64],
@@ -144,7 +144,65 @@ pub fn form_checked(
     form_lines(out, system, band, row, taken, n, lines, c)
 }
 
-// Of accepted words: 23, or what comes after, with a row over bits and a band of lines to work with. The lists have the most elements: fixed memory.
+// As many bits as have all their lines in a band of a few numbers.
+const FEW_BITS: usize = 64;
+
+// The same of few bits: a large band would take longer to be cleared than all the rest.
+fn form_of_few(
+    out: &mut [u32],
+    system: &BitSystem,
+    taken: &Taken,
+    n: usize,
+) -> Result<usize, Refusal>
+    requires { BitsListed system.now n × (n ≤ 64) }
+    ensures { AnsweredBy system.now.words.now taken.now out.old out.new (written_of result) }
+{
+    let mut band = [0i64; FEW_BITS * FEW_BITS];
+    let mut row = [0i64; FEW_BITS];
+    form_checked(out, system, &mut band[..n * n], &mut row[..n], taken, n, n)
+}
+
+// The same of up to 1,024 bits. The lists have the most elements: fixed memory.
+fn form_of_many(
+    out: &mut [u32],
+    system: &BitSystem,
+    taken: &Taken,
+    n: usize,
+) -> Result<usize, Refusal>
+    requires { BitsListed system.now n }
+    ensures { AnsweredBy system.now.words.now taken.now out.old out.new (written_of result) }
+{
+    let mut band = [0i64; BAND];
+    let mut row = [0i64; limit::BITS];
+    let lines = lines_of(n);
+    form_checked(
+        out,
+        system,
+        &mut band[..lines * n],
+        &mut row[..n],
+        taken,
+        n,
+        lines,
+    )
+}
+
+// The same, with a row over bits and a band of lines to work with.
+pub fn form_listed(
+    out: &mut [u32],
+    system: &BitSystem,
+    taken: &Taken,
+    n: usize,
+) -> Result<usize, Refusal>
+    requires { BitsListed system.now n }
+    ensures { AnsweredBy system.now.words.now taken.now out.old out.new (written_of result) }
+{
+    if n <= FEW_BITS {
+        return form_of_few(out, system, taken, n);
+    }
+    form_of_many(out, system, taken, n)
+}
+
+// Of accepted words: 23, or what comes after. The lists have the most elements: fixed memory.
 fn form_accepted(ws: &[u32], out: &mut [u32]) -> Result<usize, Refusal>
     requires { read_rows ws.now ≡ accepted }
     ensures { Answered ws.now out.old out.new (written_of result) }
@@ -159,8 +217,6 @@ fn form_accepted(ws: &[u32], out: &mut [u32]) -> Result<usize, Refusal>
             place: 0,
         });
     }
-    let mut band = [0i64; BAND];
-    let mut row = [0i64; limit::BITS];
     let table = BitTable {
         domains: &domains,
         bits: &bits,
@@ -171,16 +227,7 @@ fn form_accepted(ws: &[u32], out: &mut [u32]) -> Result<usize, Refusal>
         constant: 0,
         added: &[],
     };
-    let lines = lines_of(n);
-    form_checked(
-        out,
-        &system,
-        &mut band[..lines * n],
-        &mut row[..n],
-        &taken,
-        n,
-        lines,
-    )
+    form_listed(out, &system, &taken, n)
 }
 
 // Writes the form to the front of the output; a refusal changes nothing.

@@ -1,6 +1,5 @@
 -- The lists of the variables' bits are those of the row system.
-use native.Mathlib.Nat.{le_of_eq}
-use Rattle.std.proofs.Common.{sym, refl, ap, arith, length-take-le}
+use Rattle.std.proofs.Common.{refl, ap, arith}
 use Rattle.std.proofs.lemmas.List.{take-replicate}
 use Rattle.bittables.proofs.Bits.{firsts-none, counts-none}
 use Rattle.bestbits.proofs.Answers.{too_many, no_variable}
@@ -28,7 +27,6 @@ best_listed-requires c =
     let s = c.system_of-system.ensures in
     record {
       listed = record { read = rw s.0 c.requires; rows_are = rw (s.0, s.1, s.2, s.3) k.same_rows; count = rw s.0 k.same_count; few = few };
-      banded = (record { room = le_of_eq (sym (length-take-le _ _ c.lines_of-lines.ensures.room)); row_size = length-take-le _ _ few; few = few }, c.lines_of-lines.ensures.some);
       none_added = take-replicate _ 1024 _ few;
       named = record {
         named = rw s.0 (omega (arith, k.as_many, c.if-listed-variable.false));

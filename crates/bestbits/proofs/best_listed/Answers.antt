@@ -33,4 +33,4 @@ returns c =
     (back c.times_of.result c.times_of.type_inv ∙ c.times_of.ensures ∙ rw w (factor-is c.args.system.now.words.now c.args.variable c.args.direction c.args.system.now.table.domains.now (firsts c.args.system.now.table.bits.now) c.requires.named.bounds_are c.requires.named.encoding_is))
     (back c.start_of.result c.start_of.type_inv ∙ c.start_of.ensures ∙ rw w (constant-is c.args.system.now.words.now c.args.variable c.args.direction c.args.system.now.table.domains.now (firsts c.args.system.now.table.bits.now) c.requires.named.bounds_are c.requires.named.encoding_is k.read c.requires.named.named))
     (λ i. rw (c.add_variable.ensures.sum, back c.sign_of.result c.sign_of.type_inv, c.sign_of.ensures, c.requires.none_added, k.count) (added-is c.args.system.now.words.now c.args.variable c.args.direction c.args.system.now.table.domains.now (firsts c.args.system.now.table.bits.now) c.requires.named.bounds_are c.requires.named.encoding_is i))
-    c.form_checked.ensures
+    c.form_listed.ensures

@@ -1,6 +1,5 @@
 -- The lists of the variables' bits are those of the row system.
-use native.Mathlib.Nat.{le_of_eq}
-use Rattle.std.proofs.Common.{refl, sym, arith, length-take-le}
+use Rattle.std.proofs.Common.{refl, arith}
 use Rattle.bitlines.specs.Dense.{peak}
 use Rattle.bittables.proofs.Bits.{firsts-none, counts-none}
 use Rattle.bitform.proofs.Answers.{too_many, taken-once}
@@ -15,16 +14,11 @@ list_bits-listed-requires-clause-no_bits c = (firsts-none 4096, counts-none 4096
 pub returns-then-n-gt-BITS : goal.returns-then-n-gt-BITS
 returns-then-n-gt-BITS c = too_many c.args.ws.now c.args.out.now c.requires (omega (arith, c.list_bits-listed.ensures.same_count, c.if-n-gt-BITS.true))
 
-pub form_checked-requires-clause-bits_listed : goal.form_checked-requires-clause-bits_listed
-form_checked-requires-clause-bits_listed c =
+pub form_listed-requires : goal.form_listed-requires
+form_listed-requires c =
     let k = c.list_bits-listed.ensures in
     let s = c.system_of-system.ensures in
     record { read = rw s.0 c.requires; rows_are = rw (s.0, s.1, s.2, s.3) k.same_rows; count = rw s.0 k.same_count; few = c.if-n-gt-BITS.false }
-
-pub form_checked-requires-clause-banded : goal.form_checked-requires-clause-banded
-form_checked-requires-clause-banded c =
-    let few = c.if-n-gt-BITS.false in
-    (record { room = le_of_eq (sym (length-take-le _ _ c.lines_of-lines.ensures.room)); row_size = length-take-le _ _ few; few = few }, c.lines_of-lines.ensures.some)
 
 pub invariant_of-taken : goal.invariant_of-taken
 unfolding peak
@@ -33,4 +27,4 @@ invariant_of-taken c = record { near = record { near_times = record { positive =
 pub returns : goal.returns
 returns c =
     taken-once c.args.ws.now c.args.out.now c.requires (omega (arith, c.list_bits-listed.ensures.same_count, c.if-n-gt-BITS.false)) (λ i. refl)
-    (rw c.system_of-system.ensures.0 at c.form_checked.ensures)
+    (rw c.system_of-system.ensures.0 at c.form_listed.ensures)
