@@ -1,4 +1,4 @@
--- 02, wish 9: what a named row, constraint and reason say of a model and its row system, stated.
+-- What a row, a constraint and a reason that are named say of a model and its row system.
 use Rattle.std.specs.Prelude.{◌≡◌, Bool, true, false, not, ◌&&◌, ℕ, zero, suc, ◌+◌, ◌≤◌, ◌<◌, ltb, ℤ, length, take}
 use mathlib.Core.List.{List, [], ◌∷◌, ◌++◌, map, flat_map}
 use Rattle.integers.specs.Number.{◌≟◌}
@@ -42,22 +42,23 @@ abbrev pub wrong : List ℕ → List ℤ → ℕ → Bool
 wrong ws vs x = not (ltb x (length (variables ws))) && not (value vs x ≟ value (completed ws vs) x)
 
 pub record Behind (ws : List ℕ) (vs : List ℤ) (k j : ℕ) (true_of_sources : Bool) : Type 0 where
-  -- "the first failing row": row k of the row system, as judge-rows names it
+  -- the first row that fails: row k of the row system, as judge-rows names it
   pub row : Row ℕ
   pub numbered : At (rows (system_words ws)) k row
   pub fails : satisfied (value vs) row ≡ false
   pub named : judge_rows (system_words ws) vs ≡ is_false k
-  -- "the constraint whose block holds it"
+  -- the constraint in whose block that row is
   pub constraint : Constraint
   pub placed : At (constraints ws) j constraint
   pub from : rows_before ws j ≤ k
   pub before : k < rows_before ws (j + 1)
-  -- "that builtin is false of the source values, or true"
+  -- whether its builtin is true of the source values
   pub said : true_of_sources ≡ meaning (value (source_values ws vs)) (builtin constraint)
-  -- ".., and auxiliaries in the row are wrong"
+  -- where it is, some auxiliary of the row has a wrong value
   pub auxiliaries : true_of_sources ≡ true → any (wrong ws vs) (row_variables row) ≡ true
 
--- what an answer of reason says is so: "a value out of bounds judge-rows' answer", "No failing row gives "none"", and "the true one of two reasons"
+-- what an answer of reason says is so: a value out of bounds is the one that judge-rows names, "none" means that judge-rows says "holds", and a named row is one
+-- that fails for the reason that is given
 abbrev pub TrueReason : List ℕ → List ℤ → Reason → Type 0
 TrueReason ws vs (refuse n p) = Unit {0}
 TrueReason ws vs (outside i) = judge_rows (system_words ws) vs ≡ out_of_bounds i
