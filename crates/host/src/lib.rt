@@ -1,7 +1,8 @@
 // Calls for a host written in C: the calls over lists of words, values and bytes, and check over bytes.
 #![tactic(auto)]
 
-ghost use Rattle.std.specs.Prelude.{◌≡◌, List, ℕ, ◌≤◌, length};
+ghost use Rattle.std.specs.Prelude.{◌≡◌, List, ℕ, ◌*◌, ◌≤◌, length};
+ghost use Rattle.words.specs.Variables.{variables};
 ghost use Rattle.encoding.specs.Bytes.{bytes_words};
 ghost use Rattle.models.specs.JudgeModel.{judge_model};
 ghost use Rattle.rowsystems.specs.JudgeRows.{judge_rows};
@@ -99,6 +100,7 @@ pub extern "C" fn pearrummy_check(words: &[u32]) -> Counts
 pub extern "C" fn pearrummy_translate(words: &[u32], out: &mut [u32]) -> WrittenWords
     ensures answer { result ≡ written_words_of (translate_answer words.now (length out.old)) }
     ensures output { out.new ≡ translated words.now out.old }
+    ensures room { result.words ≤ length out.new }
     ensures shared { Shares words.now (translate_answer words.now (length out.old)) out.new }
 {
     WrittenWords::from(translate(words, out))
@@ -125,6 +127,7 @@ pub extern "C" fn pearrummy_judge_rows(words: &[u32], values: &[i32]) -> Judgeme
 pub extern "C" fn pearrummy_fill(words: &[u32], values: &[i32], out: &mut [i32]) -> Judgement
     ensures answer { result ≡ judgement_of (fill_answer words.now values.now (length out.old)) }
     ensures output { out.new ≡ filled words.now values.now out.old }
+    ensures room { result.said ≡ 1 → result.at ≤ length out.new }
     ensures satisfied { Satisfied words.now (fill_answer words.now values.now (length out.old)) out.new }
     ensures completes { let ws = words.now in let vs = values.now in let o = out.old in HandsOver ws vs (fill_answer ws vs (length o)) o out.new }
 {
@@ -136,6 +139,7 @@ pub extern "C" fn pearrummy_fill(words: &[u32], values: &[i32], out: &mut [i32])
 pub extern "C" fn pearrummy_sheet(words: &[u32], page: &mut [u8]) -> PrintedBytes
     ensures answer { result ≡ printed_of (sheet_answer words.now (length page.old)) }
     ensures page { page.new ≡ sheet_page words.now page.old }
+    ensures room { result.bytes ≤ length page.new }
     ensures lines { EightyColumns (sheet_answer words.now (length page.old)) page.new }
 {
     PrintedBytes::from(sheet(words, page))
@@ -146,6 +150,7 @@ pub extern "C" fn pearrummy_sheet(words: &[u32], page: &mut [u8]) -> PrintedByte
 pub extern "C" fn pearrummy_text(text: &[u8], out: &mut [u32]) -> WrittenWords
     ensures answer { result ≡ written_words_of (read_text text.now (length out.old)) }
     ensures output { out.new ≡ text_read text.now out.old }
+    ensures room { result.words ≤ length out.new }
     ensures words { ModelWords (read_text text.now (length out.old)) out.new }
     ensures right { ReadsRight text.now (read_text text.now (length out.old)) out.new }
 {
@@ -157,6 +162,7 @@ pub extern "C" fn pearrummy_text(text: &[u8], out: &mut [u32]) -> WrittenWords
 pub extern "C" fn pearrummy_solutions(words: &[u32], out: &mut [i32]) -> Listed
     ensures answer { result ≡ listed_of (solutions_answer words.now (length out.old)) }
     ensures output { out.new ≡ solutions_listed words.now out.old }
+    ensures room { result.solutions * length (variables words.now) ≤ length out.new }
     ensures all { AllSolutions words.now (solutions_answer words.now (length out.old)) out.new }
 {
     Listed::from(solutions(words, out))
@@ -182,6 +188,7 @@ pub extern "C" fn pearrummy_pair_translate(
 ) -> WrittenWords
     ensures answer { result ≡ written_words_of (pair_translate candidate words.now (length out.old)) }
     ensures output { out.new ≡ pair_translated candidate words.now out.old }
+    ensures room { result.words ≤ length out.new }
     ensures shared { Shares (model_of candidate words.now) (pair_translate candidate words.now (length out.old)) out.new }
     ensures alone { (us : List ℕ) → OtherWrote candidate words.now us → (result ≡ written_words_of (pair_translate candidate us (length out.old))) × (out.new ≡ pair_translated candidate us out.old) }
     ensures faulty { RefusedByTable candidate words.now (pair_translate candidate words.now (length out.old)) }
@@ -213,6 +220,7 @@ pub extern "C" fn pearrummy_pair_fill(
 ) -> Judgement
     ensures answer { result ≡ judgement_of (pair_fill candidate words.now values.now (length out.old)) }
     ensures output { out.new ≡ pair_filled candidate words.now values.now out.old }
+    ensures room { result.said ≡ 1 → result.at ≤ length out.new }
     ensures satisfied { let ws = words.now in Satisfied (model_of candidate ws) (pair_fill candidate ws values.now (length out.old)) out.new }
     ensures completes { let ws = words.now in let vs = values.now in let o = out.old in PairHandsOver candidate ws vs (pair_fill candidate ws vs (length o)) o out.new }
     ensures alone { (us : List ℕ) → OtherWrote candidate words.now us → (result ≡ judgement_of (pair_fill candidate us values.now (length out.old))) × (out.new ≡ pair_filled candidate us values.now out.old) }
@@ -235,6 +243,7 @@ pub extern "C" fn pearrummy_reason(words: &[u32], values: &[i32]) -> Explanation
 pub extern "C" fn pearrummy_bits(words: &[u32], out: &mut [u32]) -> WrittenWords
     ensures answer { result ≡ written_words_of (bit_form words.now (length out.old)) }
     ensures output { out.new ≡ bit_formed words.now out.old }
+    ensures room { result.words ≤ length out.new }
     ensures shared { FormShares words.now (bit_form words.now (length out.old)) out.new }
 {
     WrittenWords::from(bit_form(words, out))
@@ -245,6 +254,7 @@ pub extern "C" fn pearrummy_bits(words: &[u32], out: &mut [u32]) -> WrittenWords
 pub extern "C" fn pearrummy_bit_values(words: &[u32], bits: &[u8], out: &mut [i32]) -> WrittenValues
     ensures answer { result ≡ written_values_of (bit_values_answer words.now bits.now (length out.old)) }
     ensures output { out.new ≡ bit_valued words.now bits.now out.old }
+    ensures room { result.values ≤ length out.new }
     ensures shared { ValuesShare words.now bits.now (bit_values_answer words.now bits.now (length out.old)) out.new }
 {
     WrittenValues::from(bit_values(words, bits, out))
@@ -265,6 +275,7 @@ pub extern "C" fn pearrummy_bit_energy(words: &[u32], bits: &[u8]) -> Energy
 pub extern "C" fn pearrummy_value_bits(words: &[u32], values: &[i32], out: &mut [u8]) -> Judgement
     ensures answer { result ≡ judgement_of (value_bits_answer words.now values.now (length out.old)) }
     ensures output { out.new ≡ value_bits_written words.now values.now out.old }
+    ensures room { result.said ≡ 1 → result.at ≤ length out.new }
     ensures read { BitsRead words.now values.now (value_bits_answer words.now values.now (length out.old)) out.new }
 {
     Judgement::from(value_bits(words, values, out))
@@ -280,6 +291,7 @@ pub extern "C" fn pearrummy_best_bits(
 ) -> WrittenWords
     ensures answer { result ≡ written_words_of (best_bits_answer words.now variable direction (length out.old)) }
     ensures output { out.new ≡ best_bitted_by words.now variable direction out.old }
+    ensures room { result.words ≤ length out.new }
     ensures shared { NumberedShares words.now variable direction (best_bits_answer words.now variable direction (length out.old)) out.new }
 {
     WrittenWords::from(best_bits_by(words, variable, direction, out))
