@@ -7,7 +7,8 @@
 # make uninstall  takes them away again
 # make example    builds the examples in C with the proved library and runs them
 # make bench      measures the calls
-.PHONY: run test try library command install uninstall example bench
+# make worst      measures each call on the slowest input of it that was found
+.PHONY: run test try library command install uninstall example bench worst
 # a library that is half made is not taken for a new one
 .DELETE_ON_ERROR:
 
@@ -67,3 +68,7 @@ example:
 bench: library
 	$(CC) -O2 -Wall -Wextra -Werror -o target/calls bench/calls.c target/libpearrummy.a
 	target/calls
+
+worst: library
+	$(CC) $(CFLAGS) -D_GNU_SOURCE -o target/worst bench/worst.c target/libpearrummy.a
+	target/worst
