@@ -6,7 +6,8 @@
 
 believed: the files of specs/ that the contracts of the calls for C and their structs, of the programs rows, sheet, text and bits and of the digits cite, and those that
 these stand on, with their lines, all and without signatures. clauses: every clause of the calls, of their forms for C and of the functions that lay out
-what the programs print, as tests/clauses.py reads them. edits: the must-fail edits with the first line of each, `# what is wrong`.
+what the programs print, as tests/clauses.py reads them. edits: the must-fail edits, whether each is of code or of a
+definition alone, and the first line of each, `# what is wrong`.
 Every `CRATE/EDIT`, `CRATE/specs/FILE` or `CRATE/specs` FILE with the names behind it, `CRATE::FUNCTION`, and any other file, crate or module that this
 page, README.md, docs/DECISIONS.md and docs/changes name must be there."""
 import functools, glob, os, re, sys
@@ -90,15 +91,24 @@ def clauses_table():
             yield f'| `{crate}::{function.name}` | {kind} {name} | `{said}` |'.replace('  |', ' |')
 
 
+def of_code(path):
+    """An edit of a definition alone shows nothing of a contract."""
+    return any(line.startswith('file: src/') for line in open(path))
+
+
 def edits_table():
-    yield '| Crate | Edit | What is wrong |'
-    yield '|---|---|---|'
+    yield '| Crate | Edit | Of | What is wrong |'
+    yield '|---|---|---|---|'
+    total, of_codes = 0, 0
     for crate in crates():
-        for path in sorted(glob.glob(os.path.join(TOP, 'crates', crate, 'must-fail', '*.edit'))):
+        paths = sorted(glob.glob(os.path.join(TOP, 'crates', crate, 'must-fail', '*.edit')))
+        for path in paths:
             first = open(path).readline().rstrip('\n')
             if not first.startswith('# '):
                 sys.exit(f'{path}: its first line does not say what is wrong')
-            yield f'| `{crate}` | `{os.path.basename(path)[:-5]}` | {first[2:]} |'
+            yield f'| `{crate}` | `{os.path.basename(path)[:-5]}` | {"code" if of_code(path) else "definition"} | {first[2:]} |'
+        total, of_codes = total + len(paths), of_codes + sum(map(of_code, paths))
+    yield f'| together | {total} | {of_codes} of code, {total - of_codes} of a definition alone | |'
 
 
 def check_names(where, page):
