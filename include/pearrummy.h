@@ -223,7 +223,7 @@ struct pearrummy_judgement pearrummy_pair_fill(const uint32_t *words, size_t wor
 /* Writes the words of the quadratic form over bits of a row system to the front of `out`: the constant, then for each pair of bits whose entry is
  * not 0 both bits and the entry, then F0000000. Faults 1 to 5, 9 to 11, 14, 17 and 18, then 23 above 1,024 bits, 24 where a number of a row over
  * bits is beyond 16,384 or an entry or the constant is outside the range, and 16; the last three have place 0. Words past the end keep their
- * values; a refusal changes nothing. Stack: 145 KiB. */
+ * values; a refusal changes nothing. Stack: 377 KiB. */
 struct pearrummy_written pearrummy_bits(const uint32_t *words, size_t words_count, uint32_t *out, size_t out_count);
 
 /* The way back from bits. Bits are lent as bytes, one a bit, 0 or 1, numbered as the form of bits numbers them, those of slacks and products too; the
