@@ -345,11 +345,11 @@ static void measure_stack(void) {
     printf("pearrummy_text %zu\n", stack_of(text) - none);
     make_bits_rows(FEW_ROWS);
     printf("pearrummy_bits %zu\n", stack_of(bits) - none);
+    printf("pearrummy_best_bits %zu\n", stack_of(best_bits) - none); /* of more bits than a small band takes */
     make_mixed_rows();
     printf("pearrummy_bit_values %zu\n", stack_of(bit_values) - none);
     printf("pearrummy_bit_energy %zu\n", stack_of(bit_energy) - none);
     printf("pearrummy_value_bits %zu\n", stack_of(value_bits) - none);
-    printf("pearrummy_best_bits %zu\n", stack_of(best_bits) - none);
     make_small(MODEL);
     room = LISTS * LISTED;
     printf("pearrummy_solutions %zu\n", stack_of(solutions) - none);
