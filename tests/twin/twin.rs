@@ -2255,7 +2255,7 @@ pub fn layout(words: &[u32]) -> Result<Layout, Refusal> {
     Ok(Layout { system, first_bits, own_bits, bits })
 }
 
-/// The form of a row system (02, wish 14), its entries and constant not yet tested: 24 where a number of a row over bits is too large.
+/// The quadratic form of a row system, its entries and constant not yet tested: 24 where a number of a row over bits is too large.
 pub fn quadratic_form(layout: &Layout) -> Result<QuadraticForm, Refusal> {
     let Layout { system, first_bits, own_bits, bits } = layout;
     let mut form = QuadraticForm { bits: *bits, constant: 0, entries: vec![0; bits * bits] };
@@ -2292,7 +2292,7 @@ pub fn quadratic_form(layout: &Layout) -> Result<QuadraticForm, Refusal> {
     Ok(form)
 }
 
-/// The words of the quadratic form of a row system (02, wish 14): judge-rows' faults but 15, then 23, then 24.
+/// The words of the quadratic form of a row system: judge-rows' faults but 15, then 23, then 24.
 pub fn form_words(words: &[u32]) -> Result<Vec<u32>, Refusal> {
     quadratic_form(&layout(words)?)?.words()
 }
