@@ -94,7 +94,7 @@ pub fn judge_on(
     let mut at = start;
     let mut rows = k;
     let mut said = Verdict::Holds;
-    // no list or count to go over: the pass ends by what it reads, in the middle of a row's terms too (01 names this form)
+    // no list or count to go over: the pass ends by what it reads, in the middle of a row's terms too
     let found = 'items: loop {
         let head = Word::at(ws, at);
         if starts_variable(head) {
