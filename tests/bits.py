@@ -31,6 +31,7 @@ ALL = 14         # so many bits are tried on all lists
 MOST = 30        # so many by clasp, which takes too long over many larger ones
 FIXED = 4        # so many value lists of a larger form clasp is asked
 TRIED = 12       # so many lists of bits, and of values, of a form are sent on the way back
+LATE = 'late'    # a form that none minimised
 CONFLICTS = 200000  # so many conflicts clasp may meet over one of them: as many on a busy machine as on an idle one
 
 
@@ -382,13 +383,14 @@ def best_value(rng, model, variable, direction):
 
 
 def compare_best(system, variable, direction, best, answer):
-    """Compares a form of best_bits with Gecode's best value; the call that reads its least bits, none where it is not found."""
+    """Compares a form of best_bits with Gecode's best value; the call that reads its least bits, None where there is no solution, LATE where nothing is
+    compared, since none minimised it."""
     kind, *words = answer.split()
     if kind != 'words':
         raise solver.Difference(f'best_bits: {answer}')
     found = Form([int(w, 16) for w in words], system.bounds).least()
     if found is None:
-        return None
+        return LATE
     low, high = system.bounds[variable]
     if best is None:
         if found[0] < high - low + 1:
@@ -411,8 +413,8 @@ def try_best(rng, number):
             continue
         best = best_value(rng, model, *question)
         call = compare_best(system, *question, best, line)
-        counts[0 if call else 1 if best is None else 2] += 1
-        read += [(system, question, best, call)] if call else []
+        counts[2 if call is LATE else 0 if call else 1] += 1
+        read += [(system, question, best, call)] if call and call is not LATE else []
     for (system, question, best, _), line in zip(read, solver.answers([call for *_, call in read])):
         values = tuple(map(int, line.split()[1:]))
         if not satisfied(system.rows, values) or not system.true(values[:system.sources]) or values[question[0]] != best:
