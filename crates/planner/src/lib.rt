@@ -15,7 +15,7 @@ use words::limit;
 pub enum Plan {
     // how many words of the row system were written, and how many values, which satisfy it
     Rows { words: usize, values: usize },
-    // the values are no solution of the model
+    // fill says that the values do not hold
     NoSolution,
 }
 

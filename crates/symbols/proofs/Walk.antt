@@ -1,4 +1,4 @@
--- The walk of a name along its links. For `seat_of`.
+-- The walk of a name along its links. For `slot_of`.
 use Rattle.std.proofs.Common.{◌≡◌, refl, sym, ap, ◌∙◌, inl, inr, Bool, true, false, List, ℕ, zero, suc, ◌+◌, ◌-◌, ◌*◌, ◌/◌, ◌%◌, ◌^◌, ◌<◌, ◌≤◌, arith, eqb, ne_eqb, ltb, get_or}
 use borrow.Author.Tests.{eqb-false}
 use Rattle.std.proofs.lemmas.Slice.Eq.{bytes_eq-Decides}

@@ -4,8 +4,8 @@ use Rattle.tokens.specs.declared.Span.{Span}
 use Rattle.symbols.specs.Links.{hash, tag, first_link, Leads, Keeps}
 use Rattle.symbols.specs.Entry.{place_in, tag_in, length_in, named}
 use Rattle.symbols.specs.declared.tree.Tree.{Tree}
-use Rattle.symbols.specs.declared.tree.Seat.{Seat}
-use Rattle.symbols.specs.declared.tree.Seat.TheVariants.{Taken, Free}
+use Rattle.symbols.specs.declared.tree.Slot.{Slot}
+use Rattle.symbols.specs.declared.tree.Slot.TheVariants.{Taken, Free}
 
 -- how many names a tree has, the entry of each, and where each link leads
 pub record Names : Type 0 where
@@ -43,9 +43,9 @@ pub record Vacant (bs : List ℕ) (t : Names) (x : List ℕ) (s : ℕ) : Type 0 
   pub inside : s < 8192 + 2 * t.count
   pub trail : (w : ℕ) (after : List ℕ) → Keeps t.links after → get_or after s 0 ≡ w → Leads after x 0 (first_link (hash x)) w
 
-abbrev pub FindsSeat : List ℕ → Names → List ℕ → Seat → Type 0
-FindsSeat bs t x (Taken i) = (i < t.count) × (x ≡ name_at bs t i)
-FindsSeat bs t x (Free s) = Vacant bs t x s
+abbrev pub FindsSlot : List ℕ → Names → List ℕ → Slot → Type 0
+FindsSlot bs t x (Taken i) = (i < t.count) × (x ≡ name_at bs t i)
+FindsSlot bs t x (Free s) = Vacant bs t x s
 
 -- there is room for a name
 abbrev pub HasRoom : Names → Span → Type 0

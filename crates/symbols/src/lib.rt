@@ -14,7 +14,7 @@ pub mod tree;
 use names::variable_of;
 use tokens::sort::Sort;
 use tokens::{Span, next_token};
-use tree::{Seat, Tree};
+use tree::{Slot, Tree};
 
 // The names declared up to a place of a text, in lent lists: a map of the library takes memory from the heap.
 // Where a text has more names than there is room for, the table goes on with the names that the text goes on with, as many as there is room for, and the
@@ -87,15 +87,15 @@ impl<'a> Symbols<'a> {
         requires { Indexed text.now place (table_of self.now) }
         ensures { found_number result ≡ look_up name.now 0 (declared_before text.now place) }
     {
-        match self.tree.seat_of(text, name) {
-            Seat::Taken(i) => {
+        match self.tree.slot_of(text, name) {
+            Slot::Taken(i) => {
                 let number = self.numbers[i];
                 if number == 0 {
                     return None;
                 }
                 Some(number - 1)
             }
-            Seat::Free(_) => {
+            Slot::Free(_) => {
                 if self.whole {
                     return None;
                 }
@@ -109,14 +109,14 @@ impl<'a> Symbols<'a> {
         requires { Enterable text.now token.place token.stop k true (table_of self.old) }
         ensures { Indexed text.now token.stop (table_of self.new) }
     {
-        match self.tree.seat_of(text, token.bytes(text)) {
-            Seat::Taken(i) => {
+        match self.tree.slot_of(text, token.bytes(text)) {
+            Slot::Taken(i) => {
                 if self.numbers[i] != 0 {
                     return;
                 }
                 self.numbers[i] = k + 1;
             }
-            Seat::Free(link) => {
+            Slot::Free(link) => {
                 if !self.whole {
                     return;
                 }

@@ -7,7 +7,7 @@ ghost use Rattle.names.specs.Name.{same};
 ghost use Rattle.tokens.specs.Unread.{bytes_between};
 ghost use Rattle.symbols.specs.Links.{mix, hash, tag, first_link, side};
 ghost use Rattle.symbols.specs.Entry.{place_in, tag_in, length_in, named};
-ghost use Rattle.symbols.specs.Tree.{names_of, Roomy, IsTree, FindsSeat, Vacant, HasRoom, Grows};
+ghost use Rattle.symbols.specs.Tree.{names_of, Roomy, IsTree, FindsSlot, Vacant, HasRoom, Grows};
 
 use tokens::Span;
 use words::list::at_or;
@@ -41,7 +41,7 @@ pub struct Tree<'a> {
 
 // Where a name stands: its number, or the link that leads nowhere and is to lead to it.
 #[derive(Clone, Copy, Debug, PartialEq, Eq)]
-pub enum Seat {
+pub enum Slot {
     Taken(usize),
     Free(usize),
 }
@@ -160,9 +160,9 @@ impl<'a> Tree<'a> {
 
     // Where a name stands. A `while`, since a link leads to a later name and the names before it are not counted.
     #[inline(always)]
-    pub fn seat_of(&self, text: &[u8], name: &[u8]) -> Seat
+    pub fn slot_of(&self, text: &[u8], name: &[u8]) -> Slot
         requires { IsTree text.now (names_of self.now) }
-        ensures { FindsSeat text.now (names_of self.now) name.now result }
+        ensures { FindsSlot text.now (names_of self.now) name.now result }
     {
         let h = hash_of(name);
         let mut link = first_link(h);
@@ -170,13 +170,13 @@ impl<'a> Tree<'a> {
         let mut v = self.links[link] as usize;
         while v != 0 {
             if is_named(text, self.entries[v - 1], name, h) {
-                return Seat::Taken(v - 1);
+                return Slot::Taken(v - 1);
             }
             link = ROOTS + 2 * (v - 1) + side(name, h, depth);
             depth += 1;
             v = self.links[link] as usize;
         }
-        Seat::Free(link)
+        Slot::Free(link)
     }
 
     // Puts the name that a token is where it stands.
@@ -201,9 +201,9 @@ impl<'a> Tree<'a> {
         ensures room { length self.new.entries.now ≡ length self.old.entries.now }
         ensures tree { IsTree text.now (names_of self.new) }
     {
-        match self.seat_of(text, token.bytes(text)) {
-            Seat::Taken(_) => {}
-            Seat::Free(link) => self.put(text, link, token),
+        match self.slot_of(text, token.bytes(text)) {
+            Slot::Taken(_) => {}
+            Slot::Free(link) => self.put(text, link, token),
         }
     }
 }

@@ -1,5 +1,5 @@
 -- What the call says of right texts: 19, 20 or 21 exactly where a text is not right.
-use Rattle.std.proofs.Common.{◌≡◌, refl, ap, ◌⊎◌, inl, inr, Bool, true, false, List, [], ◌∷◌, ℕ, zero, suc, ◌-◌, ◌<◌, ◌≤◌, arith, eqb, ltb, length, take}
+use Rattle.std.proofs.Common.{◌≡◌, refl, sym, ap, ◌⊎◌, inl, inr, Bool, true, false, List, [], ◌∷◌, ℕ, zero, suc, ◌-◌, ◌<◌, ◌≤◌, arith, eqb, ltb, length, take}
 use Rattle.integers.specs.Choice.{◌if◌else◌}
 use Rattle.words.specs.Word.{in_range, word, number_word}
 use Rattle.words.specs.Answer.{Answer, written, refused_or, refusal_number, ◌else_answer◌}
@@ -129,11 +129,17 @@ module _ (bs : List ℕ) (room : ℕ) where
       go (inr h) = omega (arith, h.0, ap (λ (f : Refusal). f.number) (right-read bs ws r).0)
 
 module _ (bs out : List ℕ) (n : ℕ) (e : read_text bs (length out) ≡ written n) where
-  written-right : RightText (take n (text_read bs out)) (tokens bs)
+  front-read : take n (text_read bs out) ≡ tokens_words (tokens bs)
   unfolding text_read
-  written-right =
+  front-read =
       let w = wrote bs out n e in
-      rw (w.1.1.1.1, w.1.0, front-over out (tokens_words (tokens bs)) w.1.1.1.0) (right-text bs (none-found bs (length out) w.0))
+      rw (w.1.1.1.1, w.1.0) (front-over out (tokens_words (tokens bs)) w.1.1.1.0)
+
+  written-right : RightText (take n (text_read bs out)) (tokens bs)
+  written-right = rw front-read (right-text bs (none-found bs (length out) (wrote bs out n e).0))
+
+  right-written : (ws : List ℕ) → RightText ws (tokens bs) → ws ≡ take n (text_read bs out)
+  right-written ws r = rw front-read (sym (right-read bs ws r).1)
 
 -- THE LAW, of the call's answer and of what it wrote
 pub reads_right : (bs out : List ℕ) → ReadsRight bs (read_text bs (length out)) (text_read bs out)
@@ -144,6 +150,7 @@ reads_right bs out = record {
   right = is-right bs (length out);
   wrong = is-wrong bs (length out);
   words = written-right bs out;
+  no_other_words = right-written bs out;
 }
 
 pub right_of : (bs before : List ℕ) {after : List ℕ} {answer : Answer} → answer ≡ read_text bs (length before) → after ≡ text_read bs before → ReadsRight bs answer after

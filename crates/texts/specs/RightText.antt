@@ -101,5 +101,6 @@ pub record ReadsRight (text : List ℕ) (answer : Answer) (out : List ℕ) : Typ
   -- it is right exactly where it is not refused with 19, 20 or 21
   pub right : refusal_number answer < Fault.breaks_grammar → (ws : List ℕ) × RightText ws tokens
   pub wrong : Fault.breaks_grammar ≤ refusal_number answer → (ws : List ℕ) → RightText ws tokens → ⊥
-  -- and what is written are its words
+  -- and what are written are its words, and it has no others
   pub words : (n : ℕ) → answer ≡ written n → RightText (take n out) tokens
+  pub no_other_words : (n : ℕ) → answer ≡ written n → (ws : List ℕ) → RightText ws tokens → ws ≡ take n out

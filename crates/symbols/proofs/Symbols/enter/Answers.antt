@@ -1,4 +1,4 @@
--- The name has a seat, with a number or without, or takes one.
+-- The name has a slot, with a number or without, or takes one.
 use Rattle.std.proofs.Common.{refl, sym, ◌∙◌}
 use Rattle.symbols.proofs.Entries.{absent, declared, numbered, taken_in}
 use Rattle.symbols.proofs.Symbols.enter.Goals as goal

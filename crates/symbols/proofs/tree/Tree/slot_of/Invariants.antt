@@ -3,7 +3,7 @@ use Rattle.std.proofs.Common.{◌-◌, eqb}
 use Rattle.integers.specs.Choice.{◌if◌else◌}
 use Rattle.symbols.specs.Tree.{names_of}
 use Rattle.symbols.proofs.Walk.{Walked}
-use Rattle.symbols.proofs.tree.Tree.seat_of.Given as goal
+use Rattle.symbols.proofs.tree.Tree.slot_of.Given as goal
 
 abbrev pub invariant-loop-v : goal.invariant-loop-v
 invariant-loop-v l = Walked l.text (names_of l.self) l.name l.depth l.link l.v

@@ -2,7 +2,7 @@
 use Rattle.std.proofs.Common.{refl, sym, ap, ◌∙◌, ℕ, ◌+◌, ◌-◌, ◌*◌, ◌<◌, ◌≡◌, arith}
 use Rattle.symbols.specs.Links.{first_link, next_link, side}
 use Rattle.symbols.proofs.Walk.{same-equal, begin, next, onward, ends, falls}
-use Rattle.symbols.proofs.tree.Tree.seat_of.Goals as goal
+use Rattle.symbols.proofs.tree.Tree.slot_of.Goals as goal
 
 pub loop-v-init : goal.loop-v-init
 loop-v-init c = begin c.requires c.args.name.now _ _ (c.first_link-link.ensures.0 ∙ ap first_link c.hash_of-h.ensures) c.first_link-link.ensures.1 refl
