@@ -263,7 +263,7 @@ static uint8_t bit_list[PEARRUMMY_BITS];
 static int bit_values(void) { return pearrummy_bit_values(rows, row_words, bit_list, bit_count, filled, IN_ALL).fault == 0; }
 static int bit_energy(void) { return pearrummy_bit_energy(rows, row_words, bit_list, bit_count).fault == 0; }
 static int value_bits(void) { return pearrummy_value_bits(rows, row_words, filled, row_values, bit_list, PEARRUMMY_BITS).said == PEARRUMMY_HOLDS; }
-static int best_bits(void) { return pearrummy_best_bits(rows, row_words, 0, PEARRUMMY_LEAST, form, PEARRUMMY_FORM_WORDS).fault == 0; }
+static int best_bits(void) { return pearrummy_best_bits(rows, row_words, row_values - 1, PEARRUMMY_LEAST, form, PEARRUMMY_FORM_WORDS).fault == 0; }
 
 static size_t put_bounds(size_t at, int32_t lower, int32_t upper) {
     rows[at] = 0x10000000 | ((uint32_t)lower & 0xFFFFFFF);
@@ -274,11 +274,11 @@ static size_t put_bounds(size_t at, int32_t lower, int32_t upper) {
 static void make_bit_rows(size_t total, int sort) {
     static const size_t variables_of[] = {128, 36, 36, 3}, bits_of[] = {1024, 36 * 28, 0, 56};
     size_t at = 0, each = sort == PRODUCTS ? 4 : 134;
-    row_values = variables_of[sort];
+    row_values = variables_of[sort] + 1; /* the last one has one value, so that a best solution of it takes the form once */
     bit_count = bits_of[sort];
     for (size_t x = 0; x < row_values; x++) {
-        int32_t far = sort == CANCELLING || (sort == PRODUCTS && x > 0) ? PEARRUMMY_HIGHEST : 0;
-        at = put_bounds(at, -far, sort == CROSSING ? 255 : far);
+        int32_t far = x + 1 < row_values && (sort == CANCELLING || (sort == PRODUCTS && x > 0)) ? PEARRUMMY_HIGHEST : 0;
+        at = put_bounds(at, -far, sort == CROSSING && x + 1 < row_values ? 255 : far);
     }
     for (uint32_t r = 0; at + each + 1 <= total; r++) {
         if (sort == PRODUCTS) {
