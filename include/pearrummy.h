@@ -250,7 +250,7 @@ struct pearrummy_judgement pearrummy_value_bits(const uint32_t *words, size_t wo
  * upper one where it is PEARRUMMY_GREATEST. M is the variable's width and 1: the form is below M exactly at bits whose energy is 0, so that there is
  * no solution where its least is M or more. After 23 comes 26 where there is no such variable, or the direction is another number, then 24 where a
  * number of a row over bits is beyond 16,384 or an entry or the constant is outside the range, and 16; the last four have place 0. Words past the end
- * keep their values; a refusal changes nothing. Stack: 153 KiB. */
+ * keep their values; a refusal changes nothing. Stack: 385 KiB. */
 struct pearrummy_written pearrummy_best_bits(const uint32_t *words, size_t words_count, size_t variable, uint32_t direction, uint32_t *out, size_t out_count);
 
 #ifdef __cplusplus
