@@ -7,7 +7,7 @@
 believed: the files of specs/ that the contracts of the calls for C and their structs, of the programs rows, sheet, text and bits and of the digits cite, and those that
 these stand on, with their lines, all and without signatures. clauses: every clause of the calls, of their forms for C and of the functions that lay out
 what the programs print, as tests/clauses.py reads them. edits: the must-fail edits, whether each is of code or of a
-definition alone, and the first line of each, `# what is wrong`.
+definition alone, and the first line of each, `# what is wrong`; a crate that has a function has an edit of its code.
 Every `CRATE/EDIT`, `CRATE/specs/FILE` or `CRATE/specs` FILE with the names behind it, `CRATE::FUNCTION`, and any other file, crate or module that this
 page, README.md, docs/DECISIONS.md and docs/changes name must be there."""
 import functools, glob, os, re, sys
@@ -108,6 +108,9 @@ def edits_table():
                 sys.exit(f'{path}: its first line does not say what is wrong')
             yield f'| `{crate}` | `{os.path.basename(path)[:-5]}` | {"code" if of_code(path) else "definition"} | {first[2:]} |'
         total, of_codes = total + len(paths), of_codes + sum(map(of_code, paths))
+        functions = any(re.search(r'^[ \t]*(pub )?(extern "C" )?fn ', open(path).read(), re.M) for path in glob.glob(os.path.join(TOP, 'crates', crate, 'src', '*.rt')))
+        if functions and not any(map(of_code, paths)):
+            sys.exit(f'crates/{crate}: no must-fail edit is of its code')
     yield f'| together | {total} | {of_codes} of code, {total - of_codes} of a definition alone | |'
 
 

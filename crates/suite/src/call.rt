@@ -1,4 +1,6 @@
 // The calls, by what they are on, and the numbers that a case gives them.
+ghost use Rattle.std.specs.Prelude.{◌≡◌, IfOk};
+ghost use Rattle.suite.specs.CallNumber.{call_number};
 
 // A call on a model.
 #[derive(Clone, Copy, Debug, PartialEq, Eq)]
@@ -55,7 +57,9 @@ pub struct UnknownCall(pub u32);
 impl TryFrom<u32> for Call {
     type Error = UnknownCall;
 
-    fn try_from(number: u32) -> Result<Call, UnknownCall> {
+    fn try_from(number: u32) -> Result<Call, UnknownCall>
+        ensures number { IfOk result (λ call. call_number call ≡ number) }
+    {
         match number {
             0 => Ok(Call::TooFar),
             1 => Ok(Call::Model(ModelCall::Check)),

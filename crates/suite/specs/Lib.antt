@@ -1,0 +1,2 @@
+-- What the contracts cite: the number of each call.
+pub mod CallNumber
