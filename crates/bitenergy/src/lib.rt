@@ -4,7 +4,7 @@
 // asks only the first bits. Kinds are tested one by one, as the definition of a row (row_of) does: of a head of another kind the words are those of a product.
 #![tactic(auto)]
 
-ghost use Rattle.std.specs.Prelude.{◌≡◌, ◌+◌, ◌*◌, ◌<◌, ◌≤◌, min, pos, nat_abs};
+ghost use Rattle.std.specs.Prelude.{◌≡◌, ◌+◌, ◌*◌, ◌<◌, ◌≤◌, length, min, pos, nat_abs};
 ghost use Rattle.integers.specs.Number.{◌⊕◌, ◌⊖◌, ◌⊗◌, neg, count, +2};
 ghost use Rattle.integers.specs.Terms.{sum};
 ghost use Rattle.words.specs.Limit as Limit;
@@ -27,7 +27,7 @@ ghost use Rattle.bitenergy.specs.Pairs.{pairs_energy, grid_energy, grid_by};
 ghost use Rattle.bitenergy.specs.Reads.{row_at, factors_less, product_over, slacked_sum, value_of};
 
 use bitreading::bits::Bits;
-use bitreading::{check_bits, list_bits, read_variable, weigh};
+use bitreading::{SHORT, check_bits, list_bits, read_variable, weigh};
 use bitrows::{own_bits, slack_of, sum_terms, terms_sum};
 use bittables::table::{BitSystem, BitTable, BitVariable, bits_at, count_at, system_of};
 use bittables::{row_variable, span_at, weight_count};
@@ -37,7 +37,7 @@ use rowreading::rows::{starts_row, starts_sum};
 use words::domain::{Domain, domain_of};
 use words::fault::{Fault, Refusal};
 use words::kind::Kind;
-use words::limit;
+use words::limit::IN_ALL;
 use words::word::Word;
 
 // 2^62, from which on an energy is refused.
@@ -255,13 +255,15 @@ fn rows_energy(bits: &Bits, system: &BitSystem) -> usize
     total
 }
 
-// Of accepted words. The lists have the most elements: fixed memory.
-fn energy_accepted(ws: &[u32], bytes: &[u8]) -> Result<i64, Refusal>
-    requires { read_rows ws.now ≡ accepted }
+// Of accepted words, with lists of N elements: fixed memory.
+#[inline(never)]
+fn energy_within<const N: usize>(ws: &[u32], bytes: &[u8]) -> Result<i64, Refusal>
+    requires reads { read_rows ws.now ≡ accepted }
+    requires room { (min (length ws.now) Limit.in_all ≤ N) × (N ≤ Limit.in_all) }
     ensures { energy_of result ≡ bit_energy ws.now bytes.now }
 {
-    let mut domains = [Domain::new(0, 0); limit::IN_ALL];
-    let mut places = [BitVariable { first: 0, count: 0 }; limit::IN_ALL];
+    let mut domains = [Domain::new(0, 0); N];
+    let mut places = [BitVariable { first: 0, count: 0 }; N];
     let listed = list_bits(ws, &mut domains, &mut places);
     check_bits(bytes, listed.all)?;
     let bits = Bits { bytes };
@@ -278,6 +280,17 @@ fn energy_accepted(ws: &[u32], bytes: &[u8]) -> Result<i64, Refusal>
         });
     }
     Ok(total as i64)
+}
+
+// Of accepted words: short ones have short lists.
+fn energy_accepted(ws: &[u32], bytes: &[u8]) -> Result<i64, Refusal>
+    requires { read_rows ws.now ≡ accepted }
+    ensures { energy_of result ≡ bit_energy ws.now bytes.now }
+{
+    if ws.len() <= SHORT {
+        return energy_within::<SHORT>(ws, bytes);
+    }
+    energy_within::<IN_ALL>(ws, bytes)
 }
 
 // The energy at the bits.

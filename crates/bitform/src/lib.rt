@@ -3,9 +3,10 @@
 // n stays a parameter beside them: the clauses name it as the number of bits, and that it is the length of the row is what BandAndRow says.
 #![tactic(auto)]
 
-ghost use Rattle.std.specs.Prelude.{◌≡◌, ◌⊎◌, true, [], ◌∷◌, ◌<◌, ◌≤◌, length, take, Some, IfOk};
+ghost use Rattle.std.specs.Prelude.{◌≡◌, ◌⊎◌, true, [], ◌∷◌, ◌<◌, ◌≤◌, length, take, min, Some, IfOk};
 ghost use Rattle.integers.specs.Lists.{all};
 ghost use Rattle.words.specs.Faults.{written_of};
+ghost use Rattle.words.specs.Limit as Limit;
 ghost use Rattle.words.specs.Refusal.{accepted};
 ghost use Rattle.words.specs.Overlay.{overlay};
 ghost use Rattle.words.specs.Word.{in_range};
@@ -19,7 +20,7 @@ ghost use Rattle.bitsharing.specs.FormShares.{FormShares};
 ghost use Rattle.bitform.specs.Answered.{Answered, AnsweredBy, constant_by, fits_by, words_by, BitsListed};
 
 use bitchecks::check_rows;
-use bitreading::list_bits;
+use bitreading::{SHORT, list_bits};
 use bittables::table::{BitSystem, BitTable, BitVariable, system_of};
 use bittaking::{Taken, take};
 use bitwriting::{BAND, lines_of, make_band, put_lines};
@@ -27,6 +28,7 @@ use rowreading::read_rows;
 use words::domain::Domain;
 use words::fault::{Fault, Refusal};
 use words::kind::Kind;
+use words::limit::IN_ALL;
 use words::list::lay;
 use words::word::Word;
 use words::{in_range, limit};
@@ -202,13 +204,15 @@ pub fn form_listed(
     form_of_many(out, system, taken, n)
 }
 
-// Of accepted words: 23, or what comes after. The lists have the most elements: fixed memory.
-fn form_accepted(ws: &[u32], out: &mut [u32]) -> Result<usize, Refusal>
-    requires { read_rows ws.now ≡ accepted }
+// Of accepted words: 23, or what comes after. The lists have N elements: fixed memory.
+#[inline(never)]
+fn form_within<const N: usize>(ws: &[u32], out: &mut [u32]) -> Result<usize, Refusal>
+    requires reads { read_rows ws.now ≡ accepted }
+    requires room { (min (length ws.now) Limit.in_all ≤ N) × (N ≤ Limit.in_all) }
     ensures { Answered ws.now out.old out.new (written_of result) }
 {
-    let mut domains = [Domain::new(0, 0); limit::IN_ALL];
-    let mut bits = [BitVariable { first: 0, count: 0 }; limit::IN_ALL];
+    let mut domains = [Domain::new(0, 0); N];
+    let mut bits = [BitVariable { first: 0, count: 0 }; N];
     let listed = list_bits(ws, &mut domains, &mut bits);
     let n = listed.all;
     if limit::BITS < n {
@@ -228,6 +232,17 @@ fn form_accepted(ws: &[u32], out: &mut [u32]) -> Result<usize, Refusal>
         added: &[],
     };
     form_listed(out, &system, &taken, n)
+}
+
+// Of accepted words: short ones have short lists.
+fn form_accepted(ws: &[u32], out: &mut [u32]) -> Result<usize, Refusal>
+    requires { read_rows ws.now ≡ accepted }
+    ensures { Answered ws.now out.old out.new (written_of result) }
+{
+    if ws.len() <= SHORT {
+        return form_within::<SHORT>(ws, out);
+    }
+    form_within::<IN_ALL>(ws, out)
 }
 
 // Writes the form to the front of the output; a refusal changes nothing.

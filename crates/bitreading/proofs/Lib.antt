@@ -1,3 +1,4 @@
+pub mod Room
 pub mod Listed
 pub mod Weighing
 pub mod Variable

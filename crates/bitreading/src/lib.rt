@@ -2,7 +2,7 @@
 // That `first` and a width are no sums that wrap stays a clause: no plainer in a type, since each caller's number is a sum or a part of its own.
 #![tactic(auto)]
 
-ghost use Rattle.std.specs.Prelude.{◌≡◌, ◌*◌, ◌<◌, ◌≤◌, pos, nat_abs, replicate};
+ghost use Rattle.std.specs.Prelude.{◌≡◌, ◌*◌, ◌<◌, ◌≤◌, pos, nat_abs, length, min, replicate};
 ghost use Rattle.integers.specs.Number.{+0};
 ghost use Rattle.integers.specs.Bounds.{◌to◌};
 ghost use Rattle.integers.specs.Terms.{sum};
@@ -104,6 +104,9 @@ pub fn check_bits(bytes: &[u8], n: usize) -> Result<(), Refusal>
     check_bytes(bytes)
 }
 
+// The words of a short row system: lists of as many elements have room for its variables, and are sooner cleared than those for the most.
+pub const SHORT: usize = 1024;
+
 // How many variables there are, the number of the first bit that no variable has, and how many bits there are.
 #[derive(Clone, Copy, Debug, PartialEq, Eq)]
 pub struct BitNumbers {
@@ -112,11 +115,13 @@ pub struct BitNumbers {
     pub all: usize,
 }
 
-// Puts the bounds and the bits of the variables of accepted words to the front of two lists, which have none before.
+// Puts the bounds and the bits of the variables of accepted words to the front of two lists, which have none before and as many elements as there are
+// words, or the most variables.
 pub fn list_bits(ws: &[u32], domains: &mut [Domain], bits: &mut [BitVariable]) -> BitNumbers
     requires reads { read_rows ws.now ≡ accepted }
-    requires no_domains { domains.old ≡ replicate Limit.in_all (+0 to +0) }
-    requires no_bits { (firsts bits.old ≡ replicate Limit.in_all 0) × (counts bits.old ≡ replicate Limit.in_all 0) }
+    requires room { min (length ws.now) Limit.in_all ≤ length domains.old }
+    requires no_domains { domains.old ≡ replicate (length domains.old) (+0 to +0) }
+    requires no_bits { (firsts bits.old ≡ replicate (length domains.old) 0) × (counts bits.old ≡ replicate (length domains.old) 0) }
     ensures { BitsKept ws.now domains.new bits.new result.variables result.start result.all }
 {
     let variables = keep_bounds(ws, domains);

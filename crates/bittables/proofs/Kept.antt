@@ -54,55 +54,56 @@ pub record BitTables (Ds : List Bounds) (firsts counts : List ℕ) : Type 0 wher
   pub near_first : NearFirsts firsts
   pub counted : BitCounts Ds counts
 
--- ---- THE LAWS, of what `keep_bits` leaves in two lists of 4,096 zeros
+-- ---- THE LAWS, of what `keep_bits` leaves in two lists of zeros that have room
 
-abbrev pub firsts_kept : List ℕ → List ℕ
-firsts_kept ws = overlay (replicate 4096 0) 0 (firsts_from 0 (variables ws))
+abbrev pub firsts_kept : ℕ → List ℕ → List ℕ
+firsts_kept size ws = overlay (replicate size 0) 0 (firsts_from 0 (variables ws))
 
-abbrev pub counts_kept : List ℕ → List ℕ
-counts_kept ws = overlay (replicate 4096 0) 0 (map (λ B. length (weights_of B)) (variables ws))
+abbrev pub counts_kept : ℕ → List ℕ → List ℕ
+counts_kept size ws = overlay (replicate size 0) 0 (map (λ B. length (weights_of B)) (variables ws))
 
-abbrev pub domains_kept : List ℕ → List Bounds
-domains_kept ws = overlay (replicate 4096 (+0 to +0)) 0 (variables ws)
+abbrev pub domains_kept : ℕ → List ℕ → List Bounds
+domains_kept size ws = overlay (replicate size (+0 to +0)) 0 (variables ws)
 
-module _ (ws : List ℕ) (few : length (variables ws) ≤ 4096) where
-  same-bounds : bounds_in (domains_kept ws) ≡ bounds_in (variables ws)
-  same-bounds = kept-bounds ws 4096 few
+-- the variables have few bits
+pub kept-few : (ws : List ℕ) → length (variables ws) ≤ 4096 → bits_after 0 (variables ws) ≤ 253952
+kept-few ws few = rw (bounds-listed (variables ws)) at (bounded (length (variables ws)) few)
+  where
+    bounded : (n : ℕ) → n ≤ 4096 → bits_after 0 (list_of (bounds_in (variables ws)) n) ≤ 253952
+    bounded n l = omega (arith, few-after (variables ws) (bounds-near ws) n)
+
+module _ (size : ℕ) (ws : List ℕ) (few : length (variables ws) ≤ 4096) (room : length (variables ws) ≤ size) where
+  same-bounds : bounds_in (domains_kept size ws) ≡ bounds_in (variables ws)
+  same-bounds = kept-bounds ws size room
 
   -- the bounds of the list are the variables
-  pub kept-variables : list_of (bounds_in (domains_kept ws)) (length (variables ws)) ≡ variables ws
+  pub kept-variables : list_of (bounds_in (domains_kept size ws)) (length (variables ws)) ≡ variables ws
   kept-variables = ap (λ β. list_of β (length (variables ws))) same-bounds ∙ bounds-listed (variables ws)
 
-  pub kept-few : bits_after 0 (variables ws) ≤ 253952
-  kept-few = rw (bounds-listed (variables ws)) at (bounded (length (variables ws)) few)
-    where
-      bounded : (n : ℕ) → n ≤ 4096 → bits_after 0 (list_of (bounds_in (variables ws)) n) ≤ 253952
-      bounded n l = omega (arith, few-after (variables ws) (bounds-near ws) n)
+  first-kept : (v : ℕ) → get_or (firsts_kept size ws) v 0 ≡ get_or (firsts_from 0 (variables ws)) v 0
+  first-kept v = over_zeros 0 size (firsts_from 0 (variables ws)) (omega (arith, room, firsts_length 0 (variables ws))) v
 
-  first-kept : (v : ℕ) → get_or (firsts_kept ws) v 0 ≡ get_or (firsts_from 0 (variables ws)) v 0
-  first-kept v = over_zeros 0 4096 (firsts_from 0 (variables ws)) (omega (arith, firsts_length 0 (variables ws))) v
+  count-kept : (v : ℕ) → get_or (counts_kept size ws) v 0 ≡ bits_in (bounds_in (variables ws) v)
+  count-kept v = over_zeros 0 size (map bits_in (variables ws)) (omega (arith, room, length-map (variables ws) bits_in)) v ∙ counts-at (variables ws) v
 
-  count-kept : (v : ℕ) → get_or (counts_kept ws) v 0 ≡ bits_in (bounds_in (variables ws) v)
-  count-kept v = over_zeros 0 4096 (map bits_in (variables ws)) (omega (arith, length-map (variables ws) bits_in)) v ∙ counts-at (variables ws) v
+  weights-kept : (v : ℕ) → weights_of (bounds_in (variables ws) v) ≡ weights (span_in (domains_kept size ws) v)
+  weights-kept v = ap (λ β. weights_of (β v)) (sym same-bounds) ∙ weights-by (domains_kept size ws) v
 
-  weights-kept : (v : ℕ) → weights_of (bounds_in (variables ws) v) ≡ weights (span_in (domains_kept ws) v)
-  weights-kept v = ap (λ β. weights_of (β v)) (sym same-bounds) ∙ weights-by (domains_kept ws) v
-
-  pub kept_tables : BitTables (domains_kept ws) (firsts_kept ws) (counts_kept ws)
+  pub kept_tables : BitTables (domains_kept size ws) (firsts_kept size ws) (counts_kept size ws)
   kept_tables = record {
-    near_first = λ v. rw (first-kept v) (omega (arith, firsts_at 0 (variables ws) v, kept-few));
+    near_first = λ v. rw (first-kept v) (omega (arith, firsts_at 0 (variables ws) v, kept-few ws few));
     counted = λ v. count-kept v ∙ ap length (weights-kept v);
   }
 
-  pub kept-encoding : encoding_by (domains_kept ws) (firsts_kept ws) ≡ encoding ws
+  pub kept-encoding : encoding_by (domains_kept size ws) (firsts_kept size ws) ≡ encoding ws
   unfolding encoding bits_of
   kept-encoding = fun_ext (λ v. sym (encodings-at 0 (variables ws) v ∙ same v))
     where
       same : (v : ℕ) → ◌≡◌ {A = OverBits} (record { constant = (bounds_in (variables ws) v).lower; terms = weighted_bits (get_or (firsts_from 0 (variables ws)) v 0) (weights_of (bounds_in (variables ws) v)) })
-          (encoding_by (domains_kept ws) (firsts_kept ws) v)
-      same v = rw (weights-kept v, first-kept v) (ap (λ β. record { constant = (β v).lower; terms = weighted_bits (get_or (firsts_from 0 (variables ws)) v 0) (weights (span_in (domains_kept ws) v)) }) (sym same-bounds))
+          (encoding_by (domains_kept size ws) (firsts_kept size ws) v)
+      same v = rw (weights-kept v, first-kept v) (ap (λ β. record { constant = (β v).lower; terms = weighted_bits (get_or (firsts_from 0 (variables ws)) v 0) (weights (span_in (domains_kept size ws) v)) }) (sym same-bounds))
 
   -- and the rows over bits by them are the row system's
-  pub kept-rows : rows_by (domains_kept ws) (firsts_kept ws) (bits_after 0 (variables ws)) ws ≡ bit_rows_of ws
+  pub kept-rows : rows_by (domains_kept size ws) (firsts_kept size ws) (bits_after 0 (variables ws)) ws ≡ bit_rows_of ws
   unfolding bit_rows_of
   kept-rows = ap₂ (λ β E. bit_rows β E (bits_after 0 (variables ws)) (rows ws)) same-bounds kept-encoding

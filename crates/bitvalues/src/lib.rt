@@ -1,7 +1,7 @@
 // The values that bits read as.
 #![tactic(auto)]
 
-ghost use Rattle.std.specs.Prelude.{◌≡◌, ◌≤◌, map, pos, length, take, IfOk};
+ghost use Rattle.std.specs.Prelude.{◌≡◌, ◌≤◌, map, pos, length, take, min, IfOk};
 ghost use Rattle.integers.specs.Lists.{list_of};
 ghost use Rattle.words.specs.Faults.{written_of};
 ghost use Rattle.words.specs.Limit as Limit;
@@ -16,12 +16,12 @@ ghost use Rattle.bitreading.specs.BitsGiven.{bits_in};
 ghost use Rattle.bitvalues.specs.Answered.{Answered};
 
 use bitreading::bits::Bits;
-use bitreading::{check_bits, list_bits, read_variable};
+use bitreading::{SHORT, check_bits, list_bits, read_variable};
 use bittables::table::{BitTable, BitVariable};
 use rowreading::read_rows;
 use words::domain::Domain;
 use words::fault::{Fault, Refusal};
-use words::limit;
+use words::limit::IN_ALL;
 use words::list::put;
 
 // Puts the values that the bits of n variables read as to the front of a list.
@@ -34,13 +34,19 @@ fn put_values(out: &mut [i32], bits: &Bits, table: &BitTable, n: usize)
     }
 }
 
-// Of accepted words. The lists have the most elements: fixed memory.
-fn values_accepted(ws: &[u32], bytes: &[u8], out: &mut [i32]) -> Result<usize, Refusal>
-    requires { read_rows ws.now ≡ accepted }
+// Of accepted words, with lists of N elements: fixed memory.
+#[inline(never)]
+fn values_within<const N: usize>(
+    ws: &[u32],
+    bytes: &[u8],
+    out: &mut [i32],
+) -> Result<usize, Refusal>
+    requires reads { read_rows ws.now ≡ accepted }
+    requires room { (min (length ws.now) Limit.in_all ≤ N) × (N ≤ Limit.in_all) }
     ensures { Answered ws.now bytes.now out.old out.new (written_of result) }
 {
-    let mut domains = [Domain::new(0, 0); limit::IN_ALL];
-    let mut places = [BitVariable { first: 0, count: 0 }; limit::IN_ALL];
+    let mut domains = [Domain::new(0, 0); N];
+    let mut places = [BitVariable { first: 0, count: 0 }; N];
     let listed = list_bits(ws, &mut domains, &mut places);
     check_bits(bytes, listed.all)?;
     let n = listed.variables;
@@ -57,6 +63,17 @@ fn values_accepted(ws: &[u32], bytes: &[u8], out: &mut [i32]) -> Result<usize, R
     };
     put_values(out, &bits, &table, n);
     Ok(n)
+}
+
+// Of accepted words: short ones have short lists.
+fn values_accepted(ws: &[u32], bytes: &[u8], out: &mut [i32]) -> Result<usize, Refusal>
+    requires { read_rows ws.now ≡ accepted }
+    ensures { Answered ws.now bytes.now out.old out.new (written_of result) }
+{
+    if ws.len() <= SHORT {
+        return values_within::<SHORT>(ws, bytes, out);
+    }
+    values_within::<IN_ALL>(ws, bytes, out)
 }
 
 // Writes the values that the bits read as to the front of the output; a refusal changes nothing.
