@@ -1,12 +1,12 @@
 /* How many bytes of stack the calls take on the inputs that were found to go deepest, a line for each call and input: all builtins, with lists of 32 elements
- * and the exponent 27, those that choose by a variable over one that they share or each over its own; rows of 66 terms of nine digits and products; texts with
- * more names than a model can have. The program exits with 1 where an answer is not the one that is wanted. */
+ * and the exponent 27, those that choose by a variable over one that they share or each over its own; rows of 66 terms of nine digits and products; row systems
+ * of fewer and of more words than short lists are for; texts with more names than a model can have. The program exits with 1 where an answer is not the one that is wanted. */
 #include "models.h"
 #include <stdio.h>
 #include <stdlib.h>
 #include <ucontext.h>
 
-enum { ROWS = PEARRUMMY_ROW_WORDS, TEXT = 1 << 20, SMALL_ROWS = 10000 };
+enum { ROWS = PEARRUMMY_ROW_WORDS, TEXT = 1 << 20, SMALL_ROWS = 10000, MANY_ROWS = 5 };
 
 static uint32_t pair[MODEL + 101], rows[ROWS], form[PEARRUMMY_FORM_WORDS];
 static int32_t filled[PEARRUMMY_VALUES], listed[PEARRUMMY_LISTED_LISTS * PEARRUMMY_LISTED_VARIABLES];
@@ -103,15 +103,15 @@ static void measure_models(void) {
     }
 }
 
-/* Rows of both kinds with 66 terms, and products, over three variables from 0 to 3; all numbers of the rows are the number given. */
-static void make_rows(int32_t v) {
+/* Rows of both kinds with 66 terms, so many of each, and products, over three variables from 0 to 3; all numbers of the rows are the number given. */
+static void make_rows(int32_t v, int each) {
     size_t at = 0;
     while (at < 6) {
         rows[at++] = 0x10000000;
         rows[at++] = 0x20000003;
     }
-    for (int kind = 0xA; kind <= 0xB; kind++) {
-        rows[at++] = (uint32_t)kind << 28 | 66;
+    for (int row = 0; row < 2 * each; row++) {
+        rows[at++] = (row < each ? 0xA0000000 : 0xB0000000) | 66;
         for (int k = 0; k < 66; k++) {
             rows[at++] = 0x50000000 + k % 2;
             rows[at++] = 0x60000000 | (((uint32_t)(k % 4 < 2 ? v : -v)) & 0xFFFFFFF);
@@ -127,11 +127,13 @@ static void make_rows(int32_t v) {
 }
 
 static void measure_rows(void) {
-    for (int far = 0; far < 2; far++) {
-        make_rows(far ? PEARRUMMY_HIGHEST : 1);
+    make_rows(PEARRUMMY_HIGHEST, 1); /* no form is over such numbers */
+    measure("pearrummy_judge_rows", judge_rows);
+    measure("pearrummy_sheet", sheet);
+    for (int each = 1; each <= MANY_ROWS; each += MANY_ROWS - 1) {
+        make_rows(1, each);
         measure("pearrummy_judge_rows", judge_rows);
         measure("pearrummy_sheet", sheet);
-        if (far) continue; /* no form is over such numbers */
         measure("pearrummy_bits", bits);
         measure("pearrummy_value_bits", value_bits);
         measure("pearrummy_bit_values", bit_values);
