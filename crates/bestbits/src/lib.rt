@@ -1,10 +1,9 @@
 // The form of the best solutions of a row system.
 #![tactic(auto)]
 
-ghost use Rattle.std.specs.Prelude.{◌≡◌, ◌+◌, ◌<◌, ◌≤◌, pos, length, take, min, replicate, IfOk};
+ghost use Rattle.std.specs.Prelude.{◌≡◌, ◌+◌, ◌<◌, ◌≤◌, pos, length, take, replicate, IfOk};
 ghost use Rattle.integers.specs.Number.{+0};
 ghost use Rattle.words.specs.Faults.{written_of};
-ghost use Rattle.words.specs.Limit as Limit;
 ghost use Rattle.words.specs.Refusal.{accepted};
 ghost use Rattle.rowsystems.specs.Reading.{read_rows};
 ghost use Rattle.bitlines.specs.Sizes as Size;
@@ -17,7 +16,7 @@ ghost use Rattle.bestbits.specs.Answered.{AnsweredBest, VariableListed, sign, st
 
 use bestforms::Direction;
 use bitform::form_listed;
-use bitreading::{SHORT, list_bits};
+use bitreading::list_bits;
 use bitrows::add_variable;
 use bittables::span_at;
 use bittables::table::{BitSystem, BitTable, BitVariable, system_of};
@@ -26,7 +25,6 @@ use rowreading::read_rows;
 use words::domain::Domain;
 use words::fault::{Fault, Refusal};
 use words::limit;
-use words::limit::IN_ALL;
 
 // What a weight of a variable counts in its distance.
 #[tactic(auto, unfolding(integers::specs::Number::neg))]
@@ -82,20 +80,18 @@ fn best_listed(
     form_listed(out, system, &taken, n)
 }
 
-// Of accepted words: 23, 26, or what comes after. The lists have N elements: fixed memory.
-#[inline(never)]
-fn best_within<const N: usize>(
+// Of accepted words: 23, 26, or what comes after. The lists have the most elements: fixed memory.
+fn best_accepted(
     ws: &[u32],
     variable: usize,
     direction: Direction,
     out: &mut [u32],
 ) -> Result<usize, Refusal>
-    requires reads { read_rows ws.now ≡ accepted }
-    requires room { (min (length ws.now) Limit.in_all ≤ N) × (N ≤ Limit.in_all) }
+    requires { read_rows ws.now ≡ accepted }
     ensures { AnsweredBest ws.now variable direction out.old out.new (written_of result) }
 {
-    let mut domains = [Domain::new(0, 0); N];
-    let mut bits = [BitVariable { first: 0, count: 0 }; N];
+    let mut domains = [Domain::new(0, 0); limit::IN_ALL];
+    let mut bits = [BitVariable { first: 0, count: 0 }; limit::IN_ALL];
     let listed = list_bits(ws, &mut domains, &mut bits);
     let n = listed.all;
     if limit::BITS < n {
@@ -117,22 +113,6 @@ fn best_within<const N: usize>(
     };
     let system = system_of(ws, table, listed.start);
     best_listed(out, &system, &mut added[..n], variable, direction, n)
-}
-
-// Of accepted words: short ones have short lists.
-fn best_accepted(
-    ws: &[u32],
-    variable: usize,
-    direction: Direction,
-    out: &mut [u32],
-) -> Result<usize, Refusal>
-    requires { read_rows ws.now ≡ accepted }
-    ensures { AnsweredBest ws.now variable direction out.old out.new (written_of result) }
-{
-    if ws.len() <= SHORT {
-        return best_within::<SHORT>(ws, variable, direction, out);
-    }
-    best_within::<IN_ALL>(ws, variable, direction, out)
 }
 
 // Writes the form to the front of the output; a refusal changes nothing.

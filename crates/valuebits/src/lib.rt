@@ -4,7 +4,7 @@
 // anew at each row. Kinds are tested one by one, as the definition of a row (row_of) does: of a head of another kind the words are those of a product.
 #![tactic(auto)]
 
-ghost use Rattle.std.specs.Prelude.{◌≡◌, map, ◌+◌, ◌*◌, ◌-◌, ◌<◌, ◌≤◌, leb, length, min, set, take};
+ghost use Rattle.std.specs.Prelude.{◌≡◌, map, ◌+◌, ◌*◌, ◌-◌, ◌<◌, ◌≤◌, leb, length, set, take};
 ghost use Rattle.integers.specs.Bounds.{bounds_in};
 ghost use Rattle.integers.specs.Choice.{◌if◌else◌};
 ghost use Rattle.integers.specs.Number.{◌⊕◌, ◌⊖◌, neg, count};
@@ -30,7 +30,7 @@ pub mod values;
 
 use crate::values::Values;
 use arguments::count_of;
-use bitreading::{SHORT, list_bits};
+use bitreading::list_bits;
 use bitrows::{slack_of, sum_terms, terms_sum};
 use bittables::table::BitVariable;
 use bittables::{row_variable, span_at};
@@ -42,7 +42,6 @@ use words::domain::{Domain, domain_of};
 use words::fault::{Fault, Refusal};
 use words::kind::Kind;
 use words::limit;
-use words::limit::IN_ALL;
 use words::list::put;
 use words::word::Word;
 
@@ -244,15 +243,13 @@ fn put_rows(out: &mut [u8], start: usize, ws: &[u32], values: &Values, domains: 
     }
 }
 
-// Of values that satisfy the row system: 23, 16, or the bits. The lists have N elements: fixed memory.
-#[inline(never)]
-fn bits_within<const N: usize>(ws: &[u32], list: &[i32], out: &mut [u8]) -> Result<Encoded, Refusal>
-    requires holds { judge_rows ws.now list.now ≡ holds }
-    requires room { (min (length ws.now) Limit.in_all ≤ N) × (N ≤ Limit.in_all) }
+// Of values that satisfy the row system: 23, 16, or the bits. The lists have the most elements: fixed memory.
+fn bits_held(ws: &[u32], list: &[i32], out: &mut [u8]) -> Result<Encoded, Refusal>
+    requires { judge_rows ws.now list.now ≡ holds }
     ensures { Answered ws.now list.now out.old out.new (encoded result) }
 {
-    let mut domains = [Domain::new(0, 0); N];
-    let mut bits = [BitVariable { first: 0, count: 0 }; N];
+    let mut domains = [Domain::new(0, 0); limit::IN_ALL];
+    let mut bits = [BitVariable { first: 0, count: 0 }; limit::IN_ALL];
     let listed = list_bits(ws, &mut domains, &mut bits);
     if limit::BITS < listed.all {
         return Err(Refusal {
@@ -270,17 +267,6 @@ fn bits_within<const N: usize>(ws: &[u32], list: &[i32], out: &mut [u8]) -> Resu
     let start = put_variables(out, &values, &domains, listed.variables);
     put_rows(out, start, ws, &values, &domains);
     Ok(Encoded::Bits(listed.all))
-}
-
-// Of values that satisfy the row system: short words have short lists.
-fn bits_held(ws: &[u32], list: &[i32], out: &mut [u8]) -> Result<Encoded, Refusal>
-    requires { judge_rows ws.now list.now ≡ holds }
-    ensures { Answered ws.now list.now out.old out.new (encoded result) }
-{
-    if ws.len() <= SHORT {
-        return bits_within::<SHORT>(ws, list, out);
-    }
-    bits_within::<IN_ALL>(ws, list, out)
 }
 
 // Where judge-rows says "holds", the bits of the values go to the front of the output; else nothing changes.
