@@ -1,6 +1,7 @@
 /* How many bytes of stack the calls take on the inputs that were found to go deepest, a line for each call and input: all builtins, with lists of 32 elements
  * and the exponent 27, those that choose by a variable over one that they share or each over its own; rows of 66 terms of nine digits and products; row systems
- * of fewer and of more words than short lists are for; texts with more names than a model can have. The program exits with 1 where an answer is not the one that is wanted. */
+ * of fewer and of more words than short lists are for; texts with more names than a model can have. The program exits with 1 where an answer is not
+ * the one that is wanted. */
 #include "models.h"
 #include <stdio.h>
 #include <stdlib.h>
