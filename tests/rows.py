@@ -105,11 +105,10 @@ def recorded():
         for line in open(path):
             call, words, _, _, answer = (part.strip() for part in line.rstrip('\n').split('|'))
             kind, *rest = answer.split()
+            if (call, kind) not in (('translate', 'words'), ('check', 'refused')):
+                continue
             model = packed([int(w, 16) for w in words.split()])
-            if call == 'translate' and kind == 'words':
-                yield model, listing(int(w, 16) for w in rest)
-            if call == 'check' and kind == 'refused':
-                yield model, answer + '\n'
+            yield model, listing(int(w, 16) for w in rest) if kind == 'words' else answer + '\n'
 
 
 def runs():
