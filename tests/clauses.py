@@ -17,7 +17,7 @@ RECORD = os.path.join(contracts.TOP, 'tests', 'clauses.txt')
 CALLS = [('checking', 'check'), ('translation', 'translate'), ('modeljudge', 'judge_model'), ('rowjudge', 'judge_rows'), ('filling', 'fill'), ('sheets', 'sheet'),
          ('texts', 'read_text'), ('reasoning', 'reason'), ('solutions', 'solutions'), ('bitform', 'bit_form'), ('pairs', 'pair_check'),
          ('pairs', 'pair_translate'), ('pairs', 'pair_judge_model'), ('pairs', 'pair_fill'), ('bitvalues', 'bit_values'), ('bitenergy', 'bit_energy'),
-         ('valuebits', 'value_bits'), ('bestbits', 'best_bits')]
+         ('valuebits', 'value_bits'), ('bestbits', 'best_bits'), ('bestbits', 'best_bits_by')]
 PAGES = [('rows', 'rows_page'), ('sheet', 'sheet_page'), ('text', 'text_page'), ('bits', 'form_page')]
 HEAD = '''# The contracts of the calls, of their forms for C and of the functions that lay out what the programs print: each clause, and where the names in it come
 # from. tests/clauses.py compares them; after a change of a promise `python3 tests/clauses.py --write` writes them anew.
