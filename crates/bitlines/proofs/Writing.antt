@@ -1,5 +1,5 @@
 -- Entries written one after another.
-use Rattle.std.proofs.Common.{◌≡◌, refl, ap, ◌∙◌, Bool, true, false, List, [], ◌∷◌, ◌++◌, ℕ, ◌+◌, ◌*◌, ◌≤◌, ◌<◌, arith, ℤ, length, get_or}
+use Rattle.std.proofs.Common.{◌≡◌, refl, ap, ◌∙◌, Bool, true, false, List, [], ◌∷◌, ◌++◌, ℕ, suc, ◌+◌, ◌*◌, ◌≤◌, ◌<◌, arith, ℤ, length, set, get_or}
 use mathlib.Core.List.{flat_map}
 use Rattle.integers.specs.Choice.{◌if◌else◌}
 use Rattle.integers.specs.Number.{◌≟◌, +0}
@@ -71,6 +71,14 @@ writing_more {at} {i} {m} {next} {r} {d} {o} {p} {q} {line} l w e = record {
 }
 
 -- ---- one entry
+
+-- three words, put one by one
+pub laid-three : (out : List ℕ) (at x y z : ℕ) → set (set (set out at x) (at + 1) y) (at + 2) z ≡ overlay out at (x ∷ y ∷ z ∷ [])
+unfolding overlay
+laid-three out at x y z =
+    let e : suc at ≡ at + 1 = omega arith in
+    let f : suc (suc at) ≡ at + 2 = omega arith in
+    rw (f, e) refl
 
 pub laid-zero : {at : ℕ} {o : List ℕ} (i j : ℕ) (v : ℤ) → (v ≟ +0) ≡ true → LaidAt o at (entries_words (entry_at i j v ∷ [])) o at
 unfolding entries_words not_zero flat_map

@@ -17,7 +17,7 @@ ghost use Rattle.bitlines.specs.Line.{square_terms, on_terms, pair_terms, pair_o
 
 use integers::{plus, times};
 use words::kind::Kind;
-use words::list::{at_or, lay};
+use words::list::{at_or, put};
 use words::word::Word;
 
 // Adds k to a number of the list, if the place is one of its places.
@@ -101,12 +101,9 @@ pub fn put_entry(out: &mut [u32], at: usize, i: usize, j: usize, v: i64) -> usiz
     if v == 0 {
         return at;
     }
-    let words = [
-        Word::new(Kind::Variable, i).bits(),
-        Word::new(Kind::Variable, j).bits(),
-        Word::of_number(Kind::Number, v).bits(),
-    ];
-    lay(out, at, &words);
+    put(out, at, Word::new(Kind::Variable, i).bits());
+    put(out, at + 1, Word::new(Kind::Variable, j).bits());
+    put(out, at + 2, Word::of_number(Kind::Number, v).bits());
     at + 3
 }
 
