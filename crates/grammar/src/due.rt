@@ -7,7 +7,6 @@ ghost use Rattle.grammar.specs.Machine.{stage_number};
 
 use crate::form::Bracketed;
 use models::code::Code;
-use tokens::sort::Sort;
 use words::word::Word;
 
 // Which items may still come in a text.
@@ -71,19 +70,28 @@ pub enum Due {
     Argument(ArgumentPlace),
     // "," before an argument, or ")"
     Next(ArgumentPlace),
-    // inside the brackets before an argument, after a token of a sort
-    Inside {
-        place: ArgumentPlace,
-        bracketed: Bracketed,
-        before: Sort,
-    },
     // after "solve": "satisfy"
     Satisfy,
 }
 
-// What a token that fits gives: the word that it writes, and what is due next.
+// A list or set: what stands in its brackets, and the place of the argument after it, with the length of the list before it.
 #[derive(Clone, Copy, Debug, PartialEq, Eq)]
-pub struct Step {
-    pub word: Option<Word>,
-    pub next: Due,
+pub struct ListPlace {
+    pub bracketed: Bracketed,
+    pub next: ArgumentPlace,
+}
+
+// What a token that fits gives: the word that it writes, and what is due next; or it opens a list or set.
+#[derive(Clone, Copy, Debug, PartialEq, Eq)]
+pub enum Step {
+    Single { word: Option<Word>, next: Due },
+    Opens(ListPlace),
+}
+
+// What a token that fits inside brackets is: an element, by its word, a comma, the closing bracket.
+#[derive(Clone, Copy, Debug, PartialEq, Eq)]
+pub enum Inside {
+    Element(Word),
+    Comma,
+    Closing,
 }

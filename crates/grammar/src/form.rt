@@ -23,7 +23,7 @@ pub enum Bracketed {
 
 impl Bracketed {
     // The sort of its opening bracket.
-    pub(crate) fn opening(self) -> Sort
+    pub fn opening(self) -> Sort
         ensures { sort_number result ≡ opening_of self }
     {
         match self {
@@ -43,7 +43,7 @@ impl Bracketed {
     }
 
     // Whether it is the second of parallel lists.
-    pub(crate) fn is_second(self) -> bool
+    pub fn is_second(self) -> bool
         ensures { result ≡ is_second self }
     {
         self == Bracketed::Parallel

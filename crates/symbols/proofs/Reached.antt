@@ -10,7 +10,7 @@ use Rattle.tokens.specs.Sorts.{sort_number}
 use Rattle.names.specs.Name.{look_up, declared_from}
 use Rattle.symbols.proofs.Entries.{same_index}
 use Rattle.symbols.specs.Tree.{IsTree}
-use Rattle.symbols.specs.Symbol.{Table, declared_before, AddsName, Indexed, Cleared, Latest}
+use Rattle.symbols.specs.Symbol.{Table, declared_before, AddsName, Indexed, Cleared, Latest, Reached, Tabled}
 
 -- no token from a place on stands before it
 none_before : (c : Bool) (p q left : ℕ) (l : List ℕ) → p ≤ q → declared_from c p (tokens_from left q l) ≡ []
@@ -27,12 +27,6 @@ none_before c p q zero (b ∷ bs) h = go (is_gap b) (none_before c p (q + 1) (to
 none_here : (c : Bool) (bs : List ℕ) (p : ℕ) → declared_from c p (unread bs p) ≡ []
 unfolding unread
 none_here c bs p = none_before c p p 0 (drop p bs) (omega arith)
-
--- Before place i there are k declared names, and the names declared before a later place are these and those from i on, the first of which may stand after a colon.
-pub record Reached (bs : List ℕ) (i k : ℕ) (colon : Bool) : Type 0 where
-  pub count : length (declared_before bs i) ≡ k
-  pub few : k ≤ i
-  pub on : (p : ℕ) → i ≤ p → declared_before bs p ≡ declared_before bs i ++ declared_from colon p (unread bs i)
 
 pub begin : (bs : List ℕ) → Reached bs 0 0 false
 unfolding declared_before
@@ -119,10 +113,7 @@ empty_index {s} t c l bs = record {
   all = λ w x h. absurd (h (rw (nothing_declared bs)));
 }
 
--- The names declared up to a place, and the table that has them.
-pub record Tabled (bs : List ℕ) (i k : ℕ) (colon : Bool) (s : Table) : Type 0 where
-  pub reached : Reached bs i k colon
-  pub index : Indexed bs i s
+-- ---- the names declared up to a place, and the table that has them
 
 module _ {bs : List ℕ} {i k : ℕ} {colon : Bool} {s : Table} (b : Tabled bs i k colon s) where
   module _ {t : Span} (m : Met bs i t) where

@@ -60,3 +60,14 @@ Enterable bs place stop k colon s =
     × (length (declared_before bs place) ≡ k)
     × AddsName bs place stop colon
     × Indexed bs place s
+
+-- before place i there are k declared names, and the names declared before a later place are these and those from i on, the first of which may stand after a colon
+pub record Reached (bs : List ℕ) (i k : ℕ) (colon : Bool) : Type 0 where
+  pub count : length (declared_before bs i) ≡ k
+  pub few : k ≤ i
+  pub on : (p : ℕ) → i ≤ p → declared_before bs p ≡ declared_before bs i ++ declared_from colon p (unread bs i)
+
+-- and the table has them
+pub record Tabled (bs : List ℕ) (i k : ℕ) (colon : Bool) (s : Table) : Type 0 where
+  pub reached : Reached bs i k colon
+  pub index : Indexed bs i s

@@ -216,8 +216,22 @@ impl<'a> Symbols<'a> {
         }
     }
 
-    // Enters a token as `note` does. Where the table has no more of the names that the text goes on with, it takes the next ones and numbers those that are
-    // declared up to here.
+    // Takes the names that the text goes on with and numbers those that are declared up to here.
+    #[cold]
+    fn go_on(&mut self, text: &[u8], stop: usize)
+        requires inside { stop ≤ length text.now }
+        requires size { Sized (table_of self.old) }
+        requires latest { Latest text.now stop self.old.declared }
+        ensures index { Indexed text.now stop (table_of self.new) }
+        ensures latest { Latest text.now stop self.new.declared }
+    {
+        let declared = self.declared;
+        self.take_names(text, stop);
+        self.number_names(text, declared);
+        self.declared = declared;
+    }
+
+    // Enters a token as `note` does, and goes on where the table has no more of the names that the text goes on with.
     fn declare_or_take(&mut self, text: &[u8], k: usize, colon: bool, token: Span) -> usize
         requires { Enterable text.now token.place token.stop k colon (table_of self.old) × Latest text.now token.place self.old.declared }
         ensures next { result ≡ (k + 1 if colon else k) }
@@ -230,9 +244,7 @@ impl<'a> Symbols<'a> {
         if token.stop < self.until {
             return next;
         }
-        self.take_names(text, token.stop);
-        self.number_names(text, declared);
-        self.declared = declared;
+        self.go_on(text, token.stop);
         next
     }
 
@@ -248,5 +260,19 @@ impl<'a> Symbols<'a> {
             return self.declare_or_take(text, k, colon, token);
         }
         k
+    }
+
+    // The same of a token that follows no colon, and so declares no name.
+    #[inline(always)]
+    pub fn pass(&mut self, text: &[u8], token: Span)
+        requires inside { token.stop ≤ length text.now }
+        requires none { Latest text.now token.stop self.old.declared }
+        requires index { Indexed text.now token.stop (table_of self.old) }
+        ensures index { Indexed text.now token.stop (table_of self.new) }
+        ensures latest { Latest text.now token.stop self.new.declared }
+    {
+        if self.until <= token.stop {
+            self.go_on(text, token.stop);
+        }
     }
 }

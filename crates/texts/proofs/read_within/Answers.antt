@@ -1,11 +1,11 @@
 -- The words are read to a list that has room for those of any model; where the text is accepted they are laid over the lent one.
-use Rattle.std.proofs.Common.{ℕ, refl, length, arith}
+use Rattle.std.proofs.Common.{ℕ, ◌≤◌, refl, sym, ap, ◌∙◌, length, replicate, arith}
 use lib.ListN.{length-replicate}
 use Rattle.integers.proofs.Places.{get_or-replicate_same}
 use Rattle.std.proofs.lemmas.Result.{err_from_is_err_and}
 use Rattle.words.specs.declared.fault.Fault.TheVariants as f
 use Rattle.words.proofs.Written as Written
-use Rattle.texts.proofs.Answers.{says-refused, at-fault, too_many, too_short, fits, lays-words}
+use Rattle.texts.proofs.Answers.{says-refused, at-fault, too_many, too_short, fits, words-read, lays-words}
 use Rattle.texts.proofs.Front.{wrote}
 use Rattle.texts.proofs.ModelWords.{words_of}
 use Rattle.texts.proofs.ReadsRight.{right_of}
@@ -40,11 +40,13 @@ over-symbols-requires g c = record {
   clear = λ i. get_or-replicate_same {A = ℕ} g.row.LINKS i 0;
 }
 
-pub whole_as_slice-read_tokens : goal.whole_as_slice-read_tokens
-whole_as_slice-read_tokens g c = omega (arith, c.requires.words.1)
+pub whole_as_slice-written : goal.whole_as_slice-written
+whole_as_slice-written g c = omega (arith, c.requires.words.1)
 
 pub read_tokens-requires : goal.read_tokens-requires
-read_tokens-requires g c = record { index = c.over-symbols.ensures.index c.args.text.now; none = c.over-symbols.ensures.none }
+read_tokens-requires g c = record { index = c.over-symbols.ensures.index c.args.text.now; none = (c.over-symbols.ensures.none, refl) }
 
-pub shared_whole_as_front-lay : goal.shared_whole_as_front-lay
-shared_whole_as_front-lay g c = (omega (arith, c.in_ok-n.ensures.few, c.if-n-gt-MODEL_WORDS.false, c.requires.words.0), omega (arith, c.requires.words.1))
+pub slice_bounds-lay-end : goal.slice_bounds-lay-end
+slice_bounds-lay-end g c =
+    let h : c.in_ok-n.n ≤ length (replicate {A = ℕ} g.row.WORDS 0) = rw (length-replicate {A = ℕ} g.row.WORDS 0) (omega (arith, c.in_ok-n.ensures.few, c.if-n-gt-MODEL_WORDS.false, c.requires.words.0)) in
+    c.in_ok-n.ensures.words.0 ∙ sym (ap length (words-read c.in_ok-n.ensures h))

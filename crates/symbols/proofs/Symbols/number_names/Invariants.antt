@@ -1,7 +1,7 @@
 -- The invariant: the table has the numbers of the names declared so far. The measure: the bytes left.
 use Rattle.std.proofs.Common.{◌-◌, ◌<◌, length}
 use Rattle.symbols.specs.Symbol.{table_of}
-use Rattle.symbols.proofs.Reached.{Tabled}
+use Rattle.symbols.specs.Symbol.{Tabled}
 use Rattle.symbols.proofs.Symbols.number_names.Given as goal
 
 abbrev pub invariant-loop-token : goal.invariant-loop-token
