@@ -1,17 +1,23 @@
 -- The value that a variable's bits read as, by a table; a row or product over bits by it; sums of rows and products over bits at such values.
-use Rattle.std.specs.Prelude.{List, ℕ, ℤ}
+use Rattle.std.specs.Prelude.{◌≡◌, List, ℕ, ◌<◌, ◌≤◌, ℤ, nat_abs, length, get_or}
 use Rattle.integers.specs.Bounds.{bounds_in}
-use Rattle.integers.specs.Number.{◌⊕◌, ◌⊖◌, ◌⊗◌}
+use Rattle.integers.specs.Number.{◌⊕◌, ◌⊖◌, ◌⊗◌, +0}
 use Rattle.integers.specs.Terms.{Term, sum}
 use Rattle.bitforms.specs.OverBits.{OverBits, evaluate, weighted_bits}
 use Rattle.bitforms.specs.BitRow.{BitRow, slack_weights, pairs_of, product_whole}
 use Rattle.bittables.specs.BitTables.{firsts, bits_of, encoding_by, row_by}
 use Rattle.bittables.specs.declared.table.BitTable.{BitTable}
+use Rattle.bitrows.specs.Values.{largest_value}
 use Rattle.bitreading.specs.declared.bits.Bits.{Bits}
 use Rattle.bitreading.specs.BitsGiven.{bits_in}
 
 abbrev pub value_of : Bits → BitTable → ℕ → ℤ
 value_of b t v = evaluate (bits_in b.bytes.now) (encoding_by t.domains.now (firsts t.bits.now) v)
+
+-- a list has the values of the first variables
+pub record ValuesListed (b : Bits) (t : BitTable) (values : List ℤ) : Type 0 where
+  pub is : (v : ℕ) → v < length values → get_or values v +0 ≡ value_of b t v
+  pub near : (v : ℕ) → v < length values → nat_abs (get_or values v +0) ≤ largest_value
 
 -- of the one with a head
 abbrev pub row_at : BitTable → ℕ → ℕ → List ℕ → BitRow

@@ -24,7 +24,7 @@ ghost use Rattle.bitanswers.specs.BitEnergy.{energy_limit, energy_of, bit_energy
 ghost use Rattle.bitsharing.specs.ReadShares.{EnergyShares};
 ghost use Rattle.bitreading.specs.BitsGiven.{bits_in};
 ghost use Rattle.bitenergy.specs.Pairs.{pairs_energy, grid_energy, grid_by};
-ghost use Rattle.bitenergy.specs.Reads.{row_at, factors_less, product_over, slacked_sum, value_of};
+ghost use Rattle.bitenergy.specs.Reads.{row_at, factors_less, product_over, slacked_sum, value_of, ValuesListed};
 
 use bitreading::bits::Bits;
 use bitreading::{SHORT, check_bits, list_bits, read_variable, weigh};
@@ -38,6 +38,7 @@ use words::domain::{Domain, domain_of};
 use words::fault::{Fault, Refusal};
 use words::kind::Kind;
 use words::limit::IN_ALL;
+use words::list::at_or;
 use words::word::Word;
 
 // 2^62, from which on an energy is refused.
@@ -109,38 +110,71 @@ fn product_sum(bits: &Bits, args: &[u32], table: &BitTable, first: usize) -> i64
     )
 }
 
+// Makes a list the values that the bits of the first variables read as.
+fn keep_values(bits: &Bits, table: &BitTable, values: &mut [i64])
+    ensures { ValuesListed bits.now table.now values.new }
+{
+    for v in 0..values.len() {
+        values[v] = read_variable(bits, table, v);
+    }
+}
+
+// The value that the bits of variable v read as, from the list where it has it.
+fn value_at(bits: &Bits, table: &BitTable, values: &[i64], v: usize) -> i64
+    ensures { ValuesListed bits.now table.now values.now → (result ≡ value_of bits.now table.now v) × (nat_abs result ≤ largest_value) }
+{
+    if v < values.len() {
+        return at_or(values, v, 0);
+    }
+    read_variable(bits, table, v)
+}
+
 // The sum of a row's n terms and its constant, at the values that the bits read as.
-fn sum_at(bits: &Bits, args: &[u32], n: usize, table: &BitTable) -> i64
-    requires { n ≤ Limit.terms }
+fn sum_at(bits: &Bits, args: &[u32], n: usize, table: &BitTable, values: &[i64]) -> i64
+    requires { (n ≤ Limit.terms) × ValuesListed bits.now table.now values.now }
     ensures value { result ≡ sum (value_of bits.now table.now) (terms_in args.now n) ⊕ constant_in args.now n }
     ensures size { nat_abs result ≤ 4 * Size.sums }
 {
-    terms_sum(args, n, |v| read_variable(bits, table, v))
+    terms_sum(args, n, |v| value_at(bits, table, values, v))
 }
 
 // The sum over bits of a row ≤ with its slack, whose bits are numbered from `first` on.
-fn slacked_sum(bits: &Bits, args: &[u32], n: usize, table: &BitTable, first: usize) -> i64
-    requires { (first < Size.farthest) × (n ≤ Limit.terms) }
+fn slacked_sum(
+    bits: &Bits,
+    args: &[u32],
+    n: usize,
+    table: &BitTable,
+    values: &[i64],
+    first: usize,
+) -> i64
+    requires { (first < Size.farthest) × (n ≤ Limit.terms) × ValuesListed bits.now table.now values.now }
     ensures value { result ≡ slacked_sum bits.now table.now first (terms_in args.now n) (constant_in args.now n) }
     ensures size { nat_abs result ≤ 6 * Size.sums }
 {
     plus(
-        sum_at(bits, args, n, table),
+        sum_at(bits, args, n, table, values),
         weigh(bits, first, slack_of(args, n, table.domains)) as i64,
     )
 }
 
 // The sum over bits of the row or product with this head.
-fn row_sum(bits: &Bits, head: Word, args: &[u32], table: &BitTable, first: usize) -> i64
-    requires { first < Size.farthest }
+fn row_sum(
+    bits: &Bits,
+    head: Word,
+    args: &[u32],
+    table: &BitTable,
+    values: &[i64],
+    first: usize,
+) -> i64
+    requires { (first < Size.farthest) × ValuesListed bits.now table.now values.now }
     ensures value { result ≡ evaluate (bits_in bits.now.bytes.now) (row_at table.now first head args.now).whole }
     ensures size { nat_abs result ≤ 6 * Size.sums }
 {
     if head.is(Kind::AtMost) {
-        return slacked_sum(bits, args, sum_terms(head), table, first);
+        return slacked_sum(bits, args, sum_terms(head), table, values, first);
     }
     if head.is(Kind::Equal) {
-        return sum_at(bits, args, sum_terms(head), table);
+        return sum_at(bits, args, sum_terms(head), table, values);
     }
     product_sum(bits, args, table, first)
 }
@@ -224,11 +258,18 @@ fn add_capped(a: usize, b: usize) -> usize
 }
 
 // What the row or product with this head counts, 2^62 if it reaches that.
-fn row_energy(bits: &Bits, head: Word, args: &[u32], table: &BitTable, first: usize) -> usize
-    requires { BitCounts table.now.domains.now (counts table.now.bits.now) × (first < Size.farthest) }
+fn row_energy(
+    bits: &Bits,
+    head: Word,
+    args: &[u32],
+    table: &BitTable,
+    values: &[i64],
+    first: usize,
+) -> usize
+    requires { BitCounts table.now.domains.now (counts table.now.bits.now) × (first < Size.farthest) × ValuesListed bits.now table.now values.now }
     ensures { result ≡ min (count (row_energy (bits_in bits.now.bytes.now) (row_at table.now first head args.now))) energy_limit }
 {
-    let square = square_capped(row_sum(bits, head, args, table, first));
+    let square = square_capped(row_sum(bits, head, args, table, values, first));
     if starts_sum(head.bits()) {
         return square;
     }
@@ -237,7 +278,8 @@ fn row_energy(bits: &Bits, head: Word, args: &[u32], table: &BitTable, first: us
 
 // What all rows and products count, 2^62 if it reaches that.
 // Its walk over the rows is a `for` of its own: the bodies of the walks differ.
-fn rows_energy(bits: &Bits, system: &BitSystem) -> usize
+fn rows_energy(bits: &Bits, system: &BitSystem, values: &[i64]) -> usize
+    requires { ValuesListed bits.now system.now.table values.now }
     ensures { result ≡ min (count (energy (bits_in bits.now.bytes.now) (rows_of_system system.now))) energy_limit }
 {
     let ws = system.words;
@@ -247,7 +289,7 @@ fn rows_energy(bits: &Bits, system: &BitSystem) -> usize
     for (at, &head) in ws.iter().enumerate() {
         if starts_row(head) {
             let item = Word::from(head);
-            let one = row_energy(bits, item, &ws[at + 1..], table, first);
+            let one = row_energy(bits, item, &ws[at + 1..], table, values, first);
             total = add_capped(total, one);
             first += own_bits(item, &ws[at + 1..], table.domains, table.bits);
         }
@@ -272,7 +314,10 @@ fn energy_within<const N: usize>(ws: &[u32], bytes: &[u8]) -> Result<i64, Refusa
         bits: &places,
     };
     let system = system_of(ws, table, listed.start);
-    let total = rows_energy(&bits, &system);
+    let mut values = [0i64; N];
+    let known = listed.variables.min(N);
+    keep_values(&bits, &system.table, &mut values[..known]);
+    let total = rows_energy(&bits, &system, &values[..known]);
     if ENERGY_LIMIT <= total {
         return Err(Refusal {
             fault: Fault::FormTooLarge,

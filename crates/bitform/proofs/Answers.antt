@@ -1,9 +1,7 @@
 -- What each fault says of the call's answer, in their order; else the words are written.
-use Rattle.std.proofs.Common.{◌≡◌, refl, ap, ap₂, ◌∙◌, Bool, true, false, List, ℕ, ◌≤◌, ◌<◌, arith, eqb, ℤ, length, lt-ltb, le-ltb, ne_eqb}
-use mathlib.Core.Path.{fun_ext}
+use Rattle.std.proofs.Common.{◌≡◌, refl, ap, ap₂, ◌∙◌, true, false, List, ℕ, ◌≤◌, ◌<◌, arith, eqb, ℤ, length, lt-ltb, le-ltb, ne_eqb}
 use Rattle.integers.specs.Choice.{◌if◌else◌}
-use Rattle.integers.specs.Number.{◌⊕◌, ◌⊗◌, +0, +1}
-use Rattle.integers.proofs.Linear.{linear}
+use Rattle.integers.specs.Number.{+0, +1}
 use Rattle.words.specs.Overlay.{overlay}
 use Rattle.words.specs.Refusal.{◌at_place◌, accepted, ◌else_refuse◌, room_fault}
 use Rattle.words.specs.Answer.{Answer, refused, written, ◌else_answer◌}
@@ -11,14 +9,13 @@ use Rattle.words.specs.Refusals.{Refusal}
 use Rattle.words.proofs.Answers.{first-answers}
 use Rattle.words.proofs.Reading.{some-fault}
 use Rattle.rowsystems.specs.Reading.{read_rows}
-use Rattle.bitforms.specs.BitRow.{BitRow}
-use Rattle.bitforms.specs.Matrix.{Entry, entry_of, entries_from, not_zero}
+use Rattle.bitforms.specs.Matrix.{Entry, entries_from, not_zero}
 use Rattle.bitforms.specs.BitForm.{bit_rows_of, bit_count, form_constant, form_entries}
 use Rattle.bitforms.specs.FormWords.{words_of, form_words}
 use Rattle.bitforms.specs.FormAnswer.{size_fault, number_fault, all_fit, fits_or, form_fits, bit_form_fault, bit_form, bit_formed}
-use Rattle.bitforms.specs.Taken.{taken_entry, taken_words}
+use Rattle.bitforms.specs.Taken.{taken_words}
 use Rattle.bitform.specs.Answered.{Answered, AnsweredTaken}
-use Rattle.bitform.proofs.Pieces.{fit}
+use Rattle.bitform.proofs.Pieces.{fit, once, entry-once}
 
 module _ (ws out : List ℕ) where
   refuses : (n p : ℕ) (after : Refusal) → (n ≡ 0 → ⊥) → bit_form_fault ws (length out) ≡ (n at_place p else_refuse after) → Answered ws out out (refused n p)
@@ -49,17 +46,6 @@ module _ (ws out : List ℕ) (k c : ℤ) (a : ℕ → ℤ) where
   writes f s = let r = le-ltb (length out) (length (taken_words ws k c a)) s in record { says = rw (f, r) refl; holds = rw (f, r) refl }
 
 -- ---- the form of the call bits is taken once, and nothing is added
-
-once : (e : ℤ) → +1 ⊗ e ⊕ +0 ≡ e
-once = simp linear (omega arith)
-
-entry-once : (a : ℕ → ℤ) → ((i : ℕ) → a i ≡ +0) → (rs : List BitRow) → taken_entry +1 a rs ≡ entry_of rs
-unfolding taken_entry
-entry-once a h rs = fun_ext (λ i. fun_ext (λ j. ap (λ x. +1 ⊗ entry_of rs i j ⊕ x) (go i (eqb i j)) ∙ once (entry_of rs i j)))
-  where
-    go : (i : ℕ) (t : Bool) → (a i if t else +0) ≡ +0
-    go i true = h i
-    go i false = refl
 
 -- what is refused and written, by the constant and the entries
 abbrev fault_of : List ℕ → ℕ → ℤ → List Entry → Refusal

@@ -1,10 +1,14 @@
 -- Whether the form fits, test by test, and its words, part by part.
-use Rattle.std.proofs.Common.{◌≡◌, refl, sym, ap, ap₂, ◌∙◌, Bool, true, false, ◌&&◌, List, [], ◌∷◌, ◌++◌, ℕ, zero, suc, ◌+◌, ◌*◌, ◌≤◌, arith, ℤ, length, length-append}
+use Rattle.std.proofs.Common.{◌≡◌, refl, sym, ap, ap₂, ◌∙◌, Bool, true, false, ◌&&◌, List, [], ◌∷◌, ◌++◌, ℕ, zero, suc, ◌+◌, ◌*◌, ◌≤◌, ◌<◌, mul-add, arith, eqb, ℤ, pos, negsuc, nat_abs, length, length-append, get_or}
+use mathlib.Core.Path.{fun_ext}
 use mathlib.Core.List.{flat_map}
+use Rattle.std.proofs.Math.Nat.{suc-mul}
 use Rattle.integers.specs.Choice.{◌if◌else◌}
-use Rattle.integers.specs.Number.{◌≟◌, +0}
+use Rattle.integers.specs.Number.{◌≟◌, ◌⊕◌, ◌⊗◌, +0, +1}
+use Rattle.integers.proofs.Linear.{linear, arith_z}
 use Rattle.integers.specs.Bounds.{within}
-use Rattle.integers.specs.Lists.{all}
+use Rattle.integers.specs.Lists.{list_of, all}
+use Rattle.integers.proofs.Places.{all_append}
 use Rattle.integers.proofs.Tests.{says-equal}
 use Rattle.integers.proofs.Booleans.{both_true}
 use Rattle.words.specs.Kind as Kind
@@ -12,8 +16,11 @@ use Rattle.words.specs.LaidAt.{LaidAt}
 use Rattle.words.specs.Overlay.{overlay}
 use Rattle.words.specs.Word.{word, number_word, in_range}
 use Rattle.words.proofs.Overlay.{overlay-append}
+use Rattle.words.proofs.ReadBack.{says_range}
 use Rattle.bitforms.specs.BitForm.{bit_rows_of, bit_count}
-use Rattle.bitforms.specs.Matrix.{Entry, line_entries, entries_from, not_zero}
+use Rattle.bitforms.specs.BitRow.{BitRow}
+use Rattle.bitbounds.specs.Within.{EntriesWithin}
+use Rattle.bitforms.specs.Matrix.{Entry, entry_of, entry_at, line_entries, entries_from, not_zero}
 use Rattle.bitforms.specs.FormAnswer.{row_fits, all_fit}
 use Rattle.bitforms.specs.Taken.{taken_entry, taken_constant, taken_entries, taken_words}
 use Rattle.bitlines.specs.Line.{entries_words}
@@ -76,6 +83,19 @@ module _ (ws : List ℕ) (k c : ℤ) (a : ℕ → ℤ) where
   pub constant_unfit : all (row_fits (bit_count ws)) (bit_rows_of ws) ≡ true → in_range (taken_constant ws k c) ≡ false → fit ≡ false
   constant_unfit e f = fits-found e f refl
 
+-- ---- a form that is taken once, to which nothing is added
+
+pub once : (e : ℤ) → +1 ⊗ e ⊕ +0 ≡ e
+once = simp linear (omega arith)
+
+pub entry-once : (a : ℕ → ℤ) → ((i : ℕ) → a i ≡ +0) → (rs : List BitRow) → taken_entry +1 a rs ≡ entry_of rs
+unfolding taken_entry
+entry-once a h rs = fun_ext (λ i. fun_ext (λ j. ap (λ x. +1 ⊗ entry_of rs i j ⊕ x) (go i (eqb i j)) ∙ once (entry_of rs i j)))
+  where
+    go : (i : ℕ) (t : Bool) → (a i if t else +0) ≡ +0
+    go i true = h i
+    go i false = refl
+
 -- at most 3,072 words a line
 pub lines-few : (e : ℕ → ℕ → ℤ) (i m : ℕ) → m ≤ 1024 → length (entries_words (entries_from e i m)) ≤ 3072 * m
 unfolding entries_from entries_words not_zero flat_map
@@ -84,3 +104,44 @@ lines-few e i (suc m) h =
     let r = lines-few e (suc i) m (omega arith) in
     let w = line-words e i (suc m) in
     rw (words_append (line_entries (e i) i (suc m)) (entries_from e (suc i) m), length-append (entries_words (line_entries (e i) i (suc m))) (entries_words (entries_from e (suc i) m))) (omega arith)
+
+-- at most three words for each of m × (m + 1) / 2 entries
+pub lines-most : (e : ℕ → ℕ → ℤ) (i m : ℕ) → 2 * length (entries_words (entries_from e i m)) ≤ 3 * (m * (m + 1))
+unfolding entries_from entries_words not_zero flat_map
+lines-most e i zero = omega arith
+lines-most e i (suc m) =
+    let r = lines-most e (suc i) m in
+    let w = line-words e i (suc m) in
+    let a = suc-mul m (suc m + 1) in
+    let b : suc m + 1 ≡ m + 1 + 1 = omega arith in
+    let d = mul-add m (m + 1) 1 in
+    let f : suc m * (suc m + 1) ≡ m * (m + 1) + 2 * suc m = omega (arith, a, d, ap (λ k. m * k) b) in
+    rw (words_append (line_entries (e i) i (suc m)) (entries_from e (suc i) m), length-append (entries_words (line_entries (e i) i (suc m))) (entries_words (entries_from e (suc i) m)))
+    (omega (arith, r, w, f))
+
+-- a test that every number passes is passed by all entries
+all-pass : {A : Type 0} (t : A → Bool) (f : ℕ → A) (m : ℕ) → ((d : ℕ) → d < m → t (f d) ≡ true) → all t (list_of f m) ≡ true
+unfolding all list_of
+all-pass t f zero h = refl
+all-pass t f (suc m) h = rw (h 0 (omega arith)) (all-pass t (λ d. f (suc d)) m (λ d l. h (suc d) (omega arith)))
+
+pub entries-pass : (e : ℕ → ℕ → ℤ) (n i m : ℕ) → i + m ≤ n → ((a b : ℕ) → a < n → b < n → in_range (e a b) ≡ true) → all (λ x. in_range x.number) (entries_from e i m) ≡ true
+unfolding entries_from all line_entries
+entries-pass e n i zero l h = refl
+entries-pass e n i (suc m) l h =
+    all_append (λ x. in_range x.number) (line_entries (e i) i (suc m)) (entries_from e (suc i) m)
+    ∙ rw (all-pass (λ x. in_range x.number) (λ d. entry_at i (i + d) (e i (i + d))) (suc m) (λ d k. h i (i + d) (omega arith) (omega arith)), entries-pass e n (suc i) m (omega arith) h) refl
+
+pub near-in_range : (z : ℤ) → nat_abs z ≤ 134217727 → in_range z ≡ true
+near-in_range (pos n) h = (says_range (pos n)).1 (omega arith_z, omega (arith_z, h))
+near-in_range (negsuc n) h = (says_range (negsuc n)).1 (omega (arith_z, h), omega arith_z)
+
+none-there : (xs : List ℤ) (i : ℕ) → length xs ≡ 0 → get_or xs i +0 ≡ +0
+none-there [] i h = refl
+none-there (x ∷ xs) i h = absurd (omega (arith, h))
+
+-- of a form that is taken once, with nothing added, whose entries are near 0
+pub taken-pass : (rs : List BitRow) (k : ℤ) (added : List ℤ) (n b : ℕ) → length added ≡ 0 → k ≡ +1 → EntriesWithin n rs b → b ≤ 134217727 →
+    all (λ x. in_range x.number) (entries_from (taken_entry k (λ i. get_or added i +0) rs) 0 n) ≡ true
+taken-pass rs k added n b z e w l =
+    rw (e, entry-once (λ i. get_or added i +0) (λ i. none-there added i z) rs) (entries-pass (entry_of rs) n 0 n (omega arith) (λ i j u v. near-in_range (entry_of rs i j) (omega (arith, w i j u v, l))))

@@ -1,6 +1,6 @@
 -- What each part of the call owes: the call's answer, and what the output holds afterwards. Of a form that is taken k times, with c added to its constant and
 -- a number for each bit: the call bits takes it once and adds nothing.
-use Rattle.std.specs.Prelude.{◌≡◌, Bool, List, ℕ, ◌≤◌, eqb, ℤ, length}
+use Rattle.std.specs.Prelude.{◌≡◌, Bool, List, ℕ, ◌+◌, ◌*◌, ◌≤◌, eqb, ℤ, length}
 use Rattle.integers.specs.Choice.{◌if◌else◌}
 use Rattle.words.specs.Limit as Limit
 use Rattle.words.specs.Fault as Fault
@@ -44,3 +44,7 @@ pub record BitsListed (s : BitSystem) (n : ℕ) : Type 0 where
   pub rows_are : rows_of_system s ≡ bit_rows_of s.words.now
   pub count : n ≡ bit_count s.words.now
   pub few : n ≤ Limit.bits
+
+-- room for the words of every form of n bits: a constant, three words for each of n × (n + 1) / 2 entries, and the end
+abbrev pub RoomFor : ℕ → ℕ → Type 0
+RoomFor n room = 3 * (n * (n + 1)) + 4 ≤ 2 * room + 1

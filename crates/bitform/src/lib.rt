@@ -3,7 +3,7 @@
 // n stays a parameter beside them: the clauses name it as the number of bits, and that it is the length of the row is what BandAndRow says.
 #![tactic(auto)]
 
-ghost use Rattle.std.specs.Prelude.{◌≡◌, ◌⊎◌, true, [], ◌∷◌, ◌<◌, ◌≤◌, length, take, min, Some, IfOk};
+ghost use Rattle.std.specs.Prelude.{◌≡◌, ◌⊎◌, true, [], ◌∷◌, ◌*◌, ◌<◌, ◌≤◌, length, take, min, IfOk};
 ghost use Rattle.integers.specs.Lists.{all};
 ghost use Rattle.words.specs.Faults.{written_of};
 ghost use Rattle.words.specs.Limit as Limit;
@@ -12,18 +12,22 @@ ghost use Rattle.words.specs.Overlay.{overlay};
 ghost use Rattle.words.specs.Word.{in_range};
 ghost use Rattle.rowsystems.specs.Reading.{read_rows};
 ghost use Rattle.bitforms.specs.BitForm.{bit_rows_of};
-ghost use Rattle.bitforms.specs.FormAnswer.{row_fits, bit_form, bit_formed};
+ghost use Rattle.bitforms.specs.FormAnswer.{row_fits, all_in_range, bit_form, bit_formed};
+ghost use Rattle.bitforms.specs.Matrix.{entries_from};
+ghost use Rattle.bittables.specs.Systems.{rows_of_system};
 ghost use Rattle.bitforms.specs.FormWords.{form_words};
 ghost use Rattle.bitwriting.specs.Bands.{BandAndRow, Held};
-ghost use Rattle.bitwriting.specs.Lined.{Fitting};
+ghost use Rattle.bitwriting.specs.Lined.{Fitting, entry_taken};
 ghost use Rattle.bitsharing.specs.FormShares.{FormShares};
-ghost use Rattle.bitform.specs.Answered.{Answered, AnsweredBy, constant_by, fits_by, words_by, BitsListed};
+ghost use Rattle.bitform.specs.Answered.{Answered, AnsweredBy, constant_by, fits_by, words_by, BitsListed, RoomFor};
 
+use bitbounds::entries_bound;
 use bitchecks::check_rows;
 use bitreading::{SHORT, list_bits};
 use bittables::table::{BitSystem, BitTable, BitVariable, system_of};
 use bittaking::{Taken, take};
-use bitwriting::{BAND, lines_of, make_band, put_lines};
+use bitwriting::{BAND, count_lines, lines_of, make_band, write_lines};
+use integers::equal;
 use rowreading::read_rows;
 use words::domain::Domain;
 use words::fault::{Fault, Refusal};
@@ -45,8 +49,7 @@ fn put_word(out: &mut [u32], at: usize, word: Word)
     lay(out, at, &[word.bits()]);
 }
 
-// Writes the words of a form that fits; the number of words. It is always Some, as the clause says: put_lines, which runs again, answers an Option, and
-// nothing that a call for C reaches may have an `unwrap`.
+// Writes the words of a form that fits; the number of words.
 fn write_form(
     out: &mut [u32],
     system: &BitSystem,
@@ -57,16 +60,16 @@ fn write_form(
     lines: usize,
     ready: usize,
     c: i64,
-) -> Option<usize>
+) -> usize
     requires bits_listed { BitsListed system.now n }
     requires banded { BandAndRow n lines band.old row.old × (0 < n → 0 < lines) × (ready ≤ n) × Held taken.now system.now n 0 ready band.old }
     requires fitting { (c ≡ constant_by system.now.words.now taken.now) × (fits_by system.now.words.now taken.now ≡ true) }
-    ensures { (result ≡ Some (length (words_by system.now.words.now taken.now))) × (out.new ≡ overlay out.old 0 (words_by system.now.words.now taken.now)) }
+    ensures { (result ≡ length (words_by system.now.words.now taken.now)) × (out.new ≡ overlay out.old 0 (words_by system.now.words.now taken.now)) }
 {
     put_word(out, 0, Word::of_number(Kind::Number, c));
-    let end = put_lines(out, 1, n, band, row, system, taken, lines, ready)?;
+    let end = write_lines(out, 1, n, band, row, system, taken, lines, ready);
     put_word(out, end, Word::new(Kind::RowsEnd, 0));
-    Some(end + 1)
+    end + 1
 }
 
 // Makes a band hold the lines of all bits, where it has room for them; how many bits' lines stand in it.
@@ -92,7 +95,35 @@ fn whole_band(
     make_band(band, row, system, taken, 0, lines)
 }
 
-// Of rows and a constant that fit: 24 for an entry, 16, or the words. The words are counted by writing to an empty list. The lines are made again to be
+// Whether it is known beforehand, of rows that fit, that all entries are in the range and that their words have room: of a form whose lines the
+// band has no room for at once, that is taken once with nothing added.
+fn surely_fits(
+    room: usize,
+    system: &BitSystem,
+    row: &mut [i64],
+    taken: &Taken,
+    n: usize,
+    lines: usize,
+) -> bool
+    requires { (length row.old ≡ n) × (n ≤ Limit.bits) × (all (row_fits n) (rows_of_system system.now) ≡ true) }
+    ensures { result ≡ true → RoomFor n room × (all_in_range (entries_from (entry_taken taken.now system.now) 0 n) ≡ true) }
+{
+    if n <= lines {
+        return false;
+    }
+    if taken.added.len() != 0 {
+        return false;
+    }
+    if !equal(taken.times, 1) {
+        return false;
+    }
+    if room < (3 * (n * (n + 1)) + 4) / 2 {
+        return false;
+    }
+    entries_bound(system, row) <= limit::HIGHEST as usize
+}
+
+// Of rows and a constant that fit: 24 for an entry, 16, or the words. The lines are made again to be
 // written only where the band has no room for all of them.
 fn form_lines(
     out: &mut [u32],
@@ -110,7 +141,7 @@ fn form_lines(
     ensures { AnsweredBy system.now.words.now taken.now out.old out.new (written_of result) }
 {
     let ready = whole_band(band, row, system, taken, n, lines);
-    let Some(end) = put_lines(&mut [], 1, n, band, row, system, taken, lines, ready) else {
+    let Some(end) = count_lines(1, n, band, row, system, taken, lines, ready) else {
         return Err(TOO_LARGE);
     };
     if out.len() <= end {
@@ -119,10 +150,33 @@ fn form_lines(
             place: 0,
         });
     }
-    write_form(out, system, band, row, taken, n, lines, ready, c).ok_or(TOO_LARGE)
+    Ok(write_form(out, system, band, row, taken, n, lines, ready, c))
+}
+
+// The same, in one walk where it is known beforehand that all fits.
+fn write_or_count(
+    out: &mut [u32],
+    system: &BitSystem,
+    band: &mut [i64],
+    row: &mut [i64],
+    taken: &Taken,
+    n: usize,
+    lines: usize,
+    c: i64,
+) -> Result<usize, Refusal>
+    requires bits_listed { BitsListed system.now n }
+    requires banded { BandAndRow n lines band.old row.old × (0 < n → 0 < lines) }
+    requires fitting { (all (row_fits n) (bit_rows_of system.now.words.now) ≡ true) × (c ≡ constant_by system.now.words.now taken.now) × (in_range c ≡ true) }
+    ensures { AnsweredBy system.now.words.now taken.now out.old out.new (written_of result) }
+{
+    if surely_fits(out.len(), system, row, taken, n, lines) {
+        return Ok(write_form(out, system, band, row, taken, n, lines, 0, c));
+    }
+    form_lines(out, system, band, row, taken, n, lines, c)
 }
 
 // Of at most 1,024 bits: 24 for a row or the constant, or what comes after.
+#[inline(never)]
 fn form_checked(
     out: &mut [u32],
     system: &BitSystem,
@@ -143,28 +197,27 @@ fn form_checked(
     if !in_range(c) {
         return Err(TOO_LARGE);
     }
-    form_lines(out, system, band, row, taken, n, lines, c)
+    write_or_count(out, system, band, row, taken, n, lines, c)
 }
 
-// As many bits as have all their lines in a band of a few numbers.
-const FEW_BITS: usize = 64;
-
-// The same of few bits: a large band would take longer to be cleared than all the rest.
-fn form_of_few(
+// The same of at most N bits, with a band of N × N numbers: a larger one would take longer to be cleared than all the rest.
+#[inline(never)]
+fn form_of_few<const N: usize, const NUMBERS: usize>(
     out: &mut [u32],
     system: &BitSystem,
     taken: &Taken,
     n: usize,
 ) -> Result<usize, Refusal>
-    requires { BitsListed system.now n × (n ≤ 64) }
+    requires { BitsListed system.now n × (n ≤ N) × (N ≤ 160) × (N * N ≤ NUMBERS) × (NUMBERS ≤ 25600) }
     ensures { AnsweredBy system.now.words.now taken.now out.old out.new (written_of result) }
 {
-    let mut band = [0i64; FEW_BITS * FEW_BITS];
-    let mut row = [0i64; FEW_BITS];
+    let mut band = [0i64; NUMBERS];
+    let mut row = [0i64; N];
     form_checked(out, system, &mut band[..n * n], &mut row[..n], taken, n, n)
 }
 
 // The same of up to 1,024 bits. The lists have the most elements: fixed memory.
+#[inline(never)]
 fn form_of_many(
     out: &mut [u32],
     system: &BitSystem,
@@ -198,8 +251,35 @@ pub fn form_listed(
     requires { BitsListed system.now n }
     ensures { AnsweredBy system.now.words.now taken.now out.old out.new (written_of result) }
 {
-    if n <= FEW_BITS {
-        return form_of_few(out, system, taken, n);
+    if n <= 16 {
+        return form_of_few::<16, 256>(out, system, taken, n);
+    }
+    if n <= 32 {
+        return form_of_few::<32, 1024>(out, system, taken, n);
+    }
+    if n <= 48 {
+        return form_of_few::<48, 2304>(out, system, taken, n);
+    }
+    if n <= 64 {
+        return form_of_few::<64, 4096>(out, system, taken, n);
+    }
+    if n <= 80 {
+        return form_of_few::<80, 6400>(out, system, taken, n);
+    }
+    if n <= 96 {
+        return form_of_few::<96, 9216>(out, system, taken, n);
+    }
+    if n <= 112 {
+        return form_of_few::<112, 12544>(out, system, taken, n);
+    }
+    if n <= 128 {
+        return form_of_few::<128, 16384>(out, system, taken, n);
+    }
+    if n <= 144 {
+        return form_of_few::<144, 20736>(out, system, taken, n);
+    }
+    if n <= 160 {
+        return form_of_few::<160, 25600>(out, system, taken, n);
     }
     form_of_many(out, system, taken, n)
 }
@@ -239,6 +319,12 @@ fn form_accepted(ws: &[u32], out: &mut [u32]) -> Result<usize, Refusal>
     requires { read_rows ws.now ≡ accepted }
     ensures { Answered ws.now out.old out.new (written_of result) }
 {
+    if ws.len() <= 64 {
+        return form_within::<64>(ws, out);
+    }
+    if ws.len() <= 256 {
+        return form_within::<256>(ws, out);
+    }
     if ws.len() <= SHORT {
         return form_within::<SHORT>(ws, out);
     }

@@ -1,16 +1,17 @@
 -- Line after line: the entries left, tested and laid.
 use Rattle.std.specs.Option.{is_some}
 use Rattle.std.specs.Prelude.{IfSome}
-use Rattle.std.proofs.Common.{◌≡◌, refl, sym, ap, ap₂, ◌∙◌, subst, eqb, Option, None, Some, Bool, true, false, ◌&&◌, List, [], ◌∷◌, ◌++◌, ℕ, zero, suc, ◌+◌, ◌*◌, ◌-◌, ◌<◌, ◌≤◌, arith, ℤ, length, get_or}
+use Rattle.std.proofs.Common.{◌≡◌, refl, sym, ap, ap₂, ◌∙◌, subst, eqb, Option, None, Some, Bool, true, false, not, ◌&&◌, List, [], ◌∷◌, ◌++◌, ℕ, zero, suc, ◌+◌, ◌*◌, ◌-◌, ◌<◌, ◌≤◌, arith, ℤ, length, get_or}
 use mathlib.Core.List.{flat_map}
 use Rattle.integers.specs.Choice.{◌if◌else◌}
 use Rattle.integers.specs.Number.{◌⊕◌, ◌⊗◌, ◌≟◌, +0}
 use Rattle.integers.specs.Lists.{list_of, all}
 use Rattle.integers.proofs.Lists.{list_of-length}
 use Rattle.integers.proofs.Booleans.{and-false, both_true}
-use Rattle.integers.proofs.Places.{all_append}
+use Rattle.integers.proofs.Places.{all_append, all_more}
 use Rattle.words.specs.Limit as Limit
 use Rattle.words.specs.LaidAt.{LaidAt}
+use Rattle.words.specs.Overlay.{overlay}
 use Rattle.words.specs.Word.{in_range}
 use Rattle.words.proofs.Rest.{Rest, all_left, lay-part, same_rest, none_left, laid-length}
 use Rattle.bitforms.specs.Matrix.{Entry, entry_of, entry_at, line_entries, entries_from, not_zero}
@@ -19,7 +20,7 @@ use Rattle.bitforms.specs.FormWords.{entry_words}
 use Rattle.bitforms.specs.Taken.{taken_entry}
 use Rattle.bitforms.specs.BitRow.{BitRow}
 use Rattle.bitlines.specs.Line.{entries_words}
-use Rattle.bitlines.proofs.Writing.{words_append}
+use Rattle.bitlines.proofs.Writing.{words_append, Writing, writing-begun, writing_more, laid-zero, laid-entry}
 use Rattle.bittaking.specs.Taking.{TakenAs, LineTaken}
 use Rattle.bitwriting.specs.Bands.{TakenLine}
 use Rattle.bitwriting.specs.Lined.{LineOf}
@@ -146,3 +147,59 @@ pub putting-done : {e : ℕ → ℕ → ℤ} {n at : ℕ} {out₀ out : List ℕ
 putting-done {e} {n} {at} {out₀} {out} {to} {i} k h =
     let z : n - i ≡ 0 = omega arith in
     record { tested = sym (no-entries e i).0 ∙ rw z at k.fits; laid = none_left (same_rest (no-entries e i).1 (rw z at k.rest)) }
+
+-- where all entries are in the range, those of the line are, and their words are laid as those of the list that holds it
+pub line-in_range : {e : ℕ → ℕ → ℤ} {n at : ℕ} {out₀ out : List ℕ} {to i : ℕ} → Putting e n at out₀ out to i → i < n → all_in_range (entries_from e 0 n) ≡ true → all_in_range (line_entries (e i) i (n - i)) ≡ true
+line-in_range {e} {n} {i = i} k h f =
+    let x = line_entries (e i) i (n - i) in
+    let y = entries_from e (i + 1) (n - (i + 1)) in
+    (both_true (all_in_range x) (all_in_range y) (sym (ap all_in_range (line_first e i n h) ∙ all_append (λ x. in_range x.number) x y) ∙ k.fits ∙ f)).0
+
+pub line-put : (rs : List BitRow) (k : ℤ) (added line : List ℤ) (i m : ℕ) {at : ℕ} {out out' : List ℕ} {end : ℕ} → i + m ≡ length line → TakenLine rs k added i line →
+    all_in_range (line_entries (taken_entry k (λ j. get_or added j +0) rs i) i m) ≡ true → LaidAt out at (entries_words (line_entries (λ j. get_or line j +0) i m)) out' end →
+    EntriesPut (line_entries (taken_entry k (λ j. get_or added j +0) rs i) i m) out at out' (Some end)
+unfolding line_entries taken_entry
+line-put rs k added line i m {at} {out} {out'} {end} e h t l = record { tested = sym t; laid = subst (λ xs. LaidAt out at (entries_words xs) out' end) (both.1 (both.0 ∙ t)) l }
+  where
+    f : ℕ → Entry
+    f d = entry_at i (i + d) (get_or line (i + d) +0)
+
+    g : ℕ → Entry
+    g d = entry_at i (i + d) (k ⊗ entry_of rs i (i + d) ⊕ (get_or added i +0 if eqb i (i + d) else +0))
+
+    both : (all_in_range (list_of f m) ≡ all_in_range (list_of g m)) × (all_in_range (list_of f m) ≡ true → list_of f m ≡ list_of g m)
+    both = all-alike f g m (λ d l. let s = h (i + d) (omega arith) (omega arith) in (s.tested, λ z. ap (entry_at i (i + d)) (s.same z)))
+
+-- ---- entries that are counted: their words are laid over no list
+
+nothing-laid : (at x y z : ℕ) → [] ≡ overlay [] at (x ∷ y ∷ z ∷ [])
+unfolding overlay
+nothing-laid at x y z = refl
+
+pub record Counting (line : List ℤ) (i at to j : ℕ) (fit : Bool) : Type 0 where
+  pub place : i ≤ j
+  pub laid : Writing at i (length line - i) [] line [] to (j - i)
+  pub tested : fit ≡ all_in_range (line_entries (λ k. get_or line k +0) i (j - i))
+
+pub counting-begun : (line : List ℤ) (i at : ℕ) → Counting line i at at i true
+unfolding line_entries list_of all
+counting-begun line i at =
+    let z : i - i ≡ 0 = omega arith in
+    record { place = omega arith; laid = rw z (writing-begun at i (length line - i) [] line); tested = rw z refl }
+
+entry-counted : (i j at : ℕ) (v : ℤ) (t : Bool) → (v ≟ +0) ≡ t → LaidAt [] at (entries_words (entry_at i j v ∷ [])) [] (at + 3 * (1 if not t else 0))
+entry-counted i j at v true e = let z : at + 0 ≡ at = omega arith in rw z (laid-zero i j v e)
+entry-counted i j at v false e = laid-entry i j v e (nothing-laid at _ _ _)
+
+pub counting-more : {line : List ℤ} {i at to j : ℕ} {fit : Bool} (none inside : Bool) → Counting line i at to j fit → j < length line → (get_or line j +0 ≟ +0) ≡ none → inside ≡ in_range (get_or line j +0) →
+    Counting line i at (to + 3 * (1 if not none else 0)) (j + 1) (fit && inside)
+unfolding line_entries
+counting-more {line} {i} {at} {to} {j} {fit} none inside s h e r =
+    let p = s.place in
+    let d : (j - i) + 1 ≡ j + 1 - i = omega arith in
+    let w : i + (j - i) ≡ j = omega arith in
+    record {
+      place = omega arith;
+      laid = rw (← d) (writing_more (omega arith) s.laid (rw w (entry-counted i j to (get_or line j +0) none e)));
+      tested = rw (← d) (ap₂ ◌&&◌ s.tested (r ∙ ap (λ x. in_range (get_or line x +0)) (sym w)) ∙ sym (all_more (λ x. in_range x.number) (λ k. entry_at i (i + k) (get_or line (i + k) +0)) (j - i)));
+    }

@@ -2,3 +2,4 @@
 pub mod Lined
 pub mod Bands
 pub mod EntriesPut
+pub mod PairsAdded

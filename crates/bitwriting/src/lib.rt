@@ -3,37 +3,50 @@
 // A band and a row stay two lists: no plainer as a struct, which each call would lend again, and BandAndRow names n and h besides. i and h stay two
 // parameters: no plainer as a range, since the definitions count h lines from bit i on. n stays one where lines are put: the clauses name it as the number
 // of bits, and that it is the length of the row is what BandAndRow says.
-// In add_to_line the limits of `first` and of `peak` stay clauses: no plainer in a type, since each number is a sum or a part of its own. A head, the words
+// In add_pairs_to_line the limits of `first` and of `peak` stay clauses: no plainer in a type, since each number is a sum or a part of its own. A head, the words
 // after it, the table and the first bit stay parameters: no plainer as a struct, which the walk would make anew at each row and each part take apart.
 // Fitting stays a clause: no plainer in a type, since it names the system and the number of bits.
 // `out` and `at` stay two parameters: no plainer as a page, since the next place is all that a caller goes on with.
 #![tactic(auto)]
 
-ghost use Rattle.std.specs.Prelude.{◌≡◌, true, ℕ, ◌+◌, ◌-◌, ◌*◌, ◌<◌, ◌≤◌, length, get_or};
+ghost use Rattle.std.specs.Prelude.{◌≡◌, true, false, ◌&&◌, [], ℕ, ◌+◌, ◌-◌, ◌*◌, ◌<◌, ◌≤◌, nat_abs, length, get_or};
 ghost use Rattle.integers.specs.Number.{+0};
 ghost use Rattle.words.specs.Limit as Limit;
 ghost use Rattle.bitforms.specs.FormAnswer.{row_fits, all_in_range};
 ghost use Rattle.bitforms.specs.Matrix.{line_entries, entries_from};
 ghost use Rattle.bitlines.specs.Sizes as Size;
-ghost use Rattle.bitlines.specs.Dense.{peak};
+ghost use Rattle.bitlines.specs.Dense.{peak, Adds};
+ghost use Rattle.bitlines.specs.Line.{entries_words};
+ghost use Rattle.words.specs.LaidAt.{LaidAt};
 ghost use Rattle.bittables.specs.BitTables.{firsts, counts, row_by, BitCounts};
 ghost use Rattle.bittables.specs.Systems.{rows_of_system};
-ghost use Rattle.bitfilling.specs.Added.{LineAndRow, FilledBy, Added};
+ghost use Rattle.bitplaces.specs.Places.{PlacesFrom};
+ghost use Rattle.bitplaces.specs.SquareAdded.{SquareAdded};
+ghost use Rattle.bitfilling.specs.Filled.{dense, product_in};
+ghost use Rattle.bitfilling.specs.Added.{product_pairs, Added};
+ghost use Rattle.bitfilling.specs.Idle.{NotAmong, NoBitOf, IdleRow};
+ghost use Rattle.bitwriting.specs.PairsAdded.{PairsAdded};
+ghost use Rattle.rowsystems.specs.OneWord.{row_of};
 ghost use Rattle.bittaking.specs.Taking.{LineTaken};
 ghost use Rattle.bitwriting.specs.Bands.{line_at, BandAndRow, EachLine, Held};
 ghost use Rattle.bitwriting.specs.Lined.{LineOf, Fitting, entry_taken};
 ghost use Rattle.bitwriting.specs.EntriesPut.{EntriesPut};
 
-use bitfilling::{add_row, clear, fill_row, holds_bits, holds_line};
+use bitfilling::{clear, fill_row, holds_bits};
 use bitlines::put_line;
-use bitrows::{own_bits, row_constant};
-use bittables::table::{BitSystem, BitTable};
+use bitplaces::{add_square_at, keep_places};
+use bitrows::{add_pairs, own_bits, row_constant};
+use bittables::row_variable;
+use bittables::table::{BitSystem, BitTable, BitVariable, bits_at, count_at};
 use bittaking::{Taken, take_line};
+use integers::equal;
+use integers::test::one_if;
 use rowreading::rows::starts_row;
 use words::domain::domain_of;
-use words::in_range;
+use words::kind::Kind;
 use words::list::at_or;
 use words::word::Word;
+use words::{in_range, limit};
 
 // How many numbers a band has room for.
 pub const BAND: usize = 30720;
@@ -50,30 +63,80 @@ pub fn lines_of(n: usize) -> usize
     n.min(BAND / n)
 }
 
-// Adds to the line of bit i what the row or product with this head adds, by its row over bits and the constant of that.
-fn add_to_line(
+// Adds to the line of bit i what the products of bits of a product add.
+#[tactic(auto, unfolding(bitfilling::specs::Added::product_pairs))]
+fn add_product_pairs(line: &mut [i64], args: &[u32], table: &BitTable, first: usize, i: usize)
+    requires { BitCounts table.now.domains.now (counts table.now.bits.now) × (first < Size.farthest) × (peak line.old < 2 * Size.sums) }
+    ensures { Adds (product_pairs (firsts table.now.bits.now) (counts table.now.bits.now) args.now first i) (8 * Size.own_bits) line.old line.new }
+{
+    let f = row_variable(args, 1);
+    let g = row_variable(args, 2);
+    let m = count_at(table.domains, table.bits, f);
+    let n = count_at(table.domains, table.bits, g);
+    let u = bits_at(table.bits, f).first;
+    let v = bits_at(table.bits, g).first;
+    add_pairs(line, u, m, v, n, first, i)
+}
+
+// Whether bit i may be one of n bits from `first` on.
+fn is_among(first: usize, n: usize, i: usize) -> bool
+    ensures { result ≡ false → NotAmong first n i }
+{
+    if first <= i {
+        return i - first < n;
+    }
+    false
+}
+
+// Whether it may be a bit of variable v.
+fn is_bit_of(bits: &[BitVariable], v: usize, i: usize) -> bool
+    ensures { result ≡ false → NoBitOf (firsts bits.now) (counts bits.now) i v }
+{
+    let b = bits_at(bits, v);
+    is_among(b.first, b.count, i)
+}
+
+// Whether it may be a bit of a variable of a product, or one of its own.
+fn is_bit_of_product(args: &[u32], bits: &[BitVariable], first: usize, own: usize, i: usize) -> bool
+    ensures { result ≡ false → NotAmong first own i × IdleRow (NoBitOf (firsts bits.now) (counts bits.now) i) (product_in args.now) }
+{
+    if is_among(first, own, i) {
+        return true;
+    }
+    if is_bit_of(bits, row_variable(args, 1), i) {
+        return true;
+    }
+    if is_bit_of(bits, row_variable(args, 2), i) {
+        return true;
+    }
+    is_bit_of(bits, row_variable(args, 0), i)
+}
+
+// The same, where one of these bits may be bit i, or the row over bits has it.
+fn add_pairs_to_line(
     line: &mut [i64],
     row: &[i64],
-    c: i64,
     head: Word,
     args: &[u32],
     table: &BitTable,
     first: usize,
     own: usize,
     i: usize,
-    m: usize,
 )
     requires counted { BitCounts table.now.domains.now (counts table.now.bits.now) }
     requires near { first < Size.farthest }
-    requires sized { LineAndRow (i + m) line.old row.now × (0 < m) }
-    requires small { peak line.old < Size.sums }
-    requires fits { row_fits (i + m) (row_by table.now.domains.now (firsts table.now.bits.now) first head args.now) ≡ true }
-    requires filled { FilledBy (row_by table.now.domains.now (firsts table.now.bits.now) first head args.now) row.now c }
+    requires small { (peak line.old < 2 * Size.sums) × (peak row.now ≤ Limit.bit_numbers) × (i < length row.now) }
+    requires product { row_of head args.now ≡ product_in args.now }
+    requires filled { row.now ≡ dense (length row.now) (row_by table.now.domains.now (firsts table.now.bits.now) first head args.now).whole.terms }
     requires owned { own ≡ (row_by table.now.domains.now (firsts table.now.bits.now) first head args.now).own }
-    ensures { Added (row_by table.now.domains.now (firsts table.now.bits.now) first head args.now) i line.old line.new }
+    ensures { PairsAdded (row_by table.now.domains.now (firsts table.now.bits.now) first head args.now) i line.old line.new }
 {
-    if holds_line(head, args, table.bits, first, own, i) {
-        add_row(line, row, c, head, args, table, first, i, m);
+    if !equal(row[i], 0) {
+        add_product_pairs(line, args, table, first, i);
+        return;
+    }
+    if is_bit_of_product(args, table.bits, first, own, i) {
+        add_product_pairs(line, args, table, first, i);
     }
 }
 
@@ -82,6 +145,78 @@ fn constant_over(head: Word, args: &[u32], table: &BitTable) -> i64
     ensures { (first : ℕ) → result ≡ (row_by table.now.domains.now (firsts table.now.bits.now) first head args.now).whole.constant }
 {
     row_constant(head, args, |v| domain_of(table.domains, v).lower())
+}
+
+// Adds the square of a row over bits with the constant c to the h lines of a band from bit i on; its bits from i on are at the first k places of a list.
+fn add_at_places(
+    band: &mut [i64],
+    row: &[i64],
+    c: i64,
+    places: &[u16],
+    k: usize,
+    i: usize,
+    h: usize,
+)
+    requires sized { BandAndRow (length row.now) h band.old row.now × (i + h ≤ length row.now) }
+    requires small { (peak row.now ≤ Limit.bit_numbers) × (nat_abs c ≤ Limit.bit_numbers) × ((q : ℕ) → q < h → peak (line_at (length row.now) q band.old) < Size.sums) }
+    requires places { PlacesFrom row.now i places.now 0 k × (k ≤ length row.now) × (k ≤ length places.now) }
+    ensures { EachLine (λ q. SquareAdded row.now c (i + q)) (length row.now) h band.old band.new }
+{
+    let n = row.len();
+    for x in 0..k {
+        let p = places[x] as usize;
+        if p < i + h {
+            let q = p - i;
+            add_square_at(&mut band[q * n..q * n + n], row, c, p, places, x + 1, k);
+        }
+    }
+}
+
+// The same, with a list of its own.
+fn add_squares(band: &mut [i64], row: &[i64], c: i64, i: usize, h: usize)
+    requires sized { BandAndRow (length row.now) h band.old row.now × (i + h ≤ length row.now) }
+    requires small { (peak row.now ≤ Limit.bit_numbers) × (nat_abs c ≤ Limit.bit_numbers) × ((q : ℕ) → q < h → peak (line_at (length row.now) q band.old) < Size.sums) }
+    ensures { EachLine (λ q. SquareAdded row.now c (i + q)) (length row.now) h band.old band.new }
+{
+    let mut places = [0u16; limit::BITS];
+    let k = keep_places(row, i, &mut places);
+    add_at_places(band, row, c, &places, k, i, h);
+}
+
+// Adds to the h lines of a band from bit i on what the products of bits of a product add.
+fn add_pairs_to_lines(
+    band: &mut [i64],
+    row: &[i64],
+    head: Word,
+    args: &[u32],
+    table: &BitTable,
+    first: usize,
+    own: usize,
+    i: usize,
+    h: usize,
+)
+    requires counted { BitCounts table.now.domains.now (counts table.now.bits.now) }
+    requires near { first < Size.farthest }
+    requires sized { BandAndRow (length row.now) h band.old row.now × (i + h ≤ length row.now) }
+    requires small { (peak row.now ≤ Limit.bit_numbers) × ((q : ℕ) → q < h → peak (line_at (length row.now) q band.old) < 2 * Size.sums) }
+    requires product { row_of head args.now ≡ product_in args.now }
+    requires filled { row.now ≡ dense (length row.now) (row_by table.now.domains.now (firsts table.now.bits.now) first head args.now).whole.terms }
+    requires owned { own ≡ (row_by table.now.domains.now (firsts table.now.bits.now) first head args.now).own }
+    ensures { EachLine (λ q. PairsAdded (row_by table.now.domains.now (firsts table.now.bits.now) first head args.now) (i + q)) (length row.now) h band.old band.new }
+{
+    let n = row.len();
+    for q in 0..h {
+        add_pairs_to_line(
+            &mut band[q * n..q * n + n],
+            row,
+            head,
+            args,
+            table,
+            first,
+            own,
+            i + q,
+        );
+    }
 }
 
 // Adds to the h lines of a band from bit i on what the row or product with this head adds; the list is used for its row over bits.
@@ -106,21 +241,16 @@ fn add_to_lines(
 {
     fill_row(row, head, args, table, first);
     let c = constant_over(head, args, table);
-    let n = row.len();
-    for q in 0..h {
-        add_to_line(
-            &mut band[q * n..q * n + n],
-            row,
-            c,
-            head,
-            args,
-            table,
-            first,
-            own,
-            i + q,
-            n - (i + q),
-        );
+    if head.is(Kind::AtMost) {
+        add_squares(band, row, c, i, h);
+        return;
     }
+    if head.is(Kind::Equal) {
+        add_squares(band, row, c, i, h);
+        return;
+    }
+    add_squares(band, row, c, i, h);
+    add_pairs_to_lines(band, row, head, args, table, first, own, i, h)
 }
 
 // The same, where one of these bits may be a bit of it; the number of the next row's first bit.
@@ -200,29 +330,29 @@ pub fn make_band(
     i + h
 }
 
-// Whether the m entries from bit i on are in the range.
-// No plainer as a chain over the list, as bitchecks has one: the clause counts the entries of m places, 0 past the list's end.
-fn entries_fit(line: &[i64], i: usize, m: usize) -> bool
-    requires { i + m ≤ Limit.bits }
-    ensures { result ≡ all_in_range (line_entries (λ j. get_or line.now j +0) i m) }
+// Whether both of two tests hold: the second is made in any case, so that nothing branches on the first.
+fn both(a: bool, b: bool) -> bool
+    ensures { result ≡ (a && b) }
 {
-    for d in 0..m {
-        if !in_range(at_or(line, i + d, 0)) {
-            return false;
-        }
-    }
-    true
+    a && b
 }
 
-// Writes the m entries from bit i on from a place on, as far as they fit into the output; the place after them, none if one is outside the range.
-fn put_one(out: &mut [u32], at: usize, line: &[i64], i: usize, m: usize) -> Option<usize>
-    requires { (i + m ≤ Limit.bits) × (at + 3 * m < Size.farthest) }
-    ensures { EntriesPut (line_entries (λ j. get_or line.now j +0) i m) out.old at out.new result }
+// The place after the words that the entries of a line from bit i on would have from a place on; none if one is outside the range.
+fn count_one(at: usize, line: &[i64], i: usize) -> Option<usize>
+    requires { (i < length line.now) × (length line.now ≤ Limit.bits) × (at + 3072 < Size.farthest) }
+    ensures { EntriesPut (line_entries (λ j. get_or line.now j +0) i (length line.now - i)) [] at [] result }
 {
-    if !entries_fit(line, i, m) {
+    let mut to = at;
+    let mut fit = true;
+    for j in i..line.len() {
+        let v = at_or(line, j, 0);
+        to += 3 * one_if(!equal(v, 0));
+        fit = both(fit, in_range(v));
+    }
+    if !fit {
         return None;
     }
-    Some(put_line(out, at, line, i, m))
+    Some(to)
 }
 
 // The bits whose lines stand in a band: from one on and before another one.
@@ -257,10 +387,9 @@ fn with_line(
     Lines { start: i, end }
 }
 
-// Writes all lines from a place on, as far as they fit into the output; the place after them, none at an entry outside the range. The band has room for so
-// many lines, and those of the bits before `ready` stand in it.
-pub fn put_lines(
-    out: &mut [u32],
+// The place after the words of all lines from a place on; none at an entry outside the range. The band has room for so many lines, and those of the bits
+// before `ready` stand in it.
+pub fn count_lines(
     at: usize,
     n: usize,
     band: &mut [i64],
@@ -273,7 +402,7 @@ pub fn put_lines(
     requires fitting { Fitting system.now n }
     requires sized { BandAndRow n lines band.old row.old × (0 < n → 0 < lines) × (ready ≤ n) × (at ≤ 1) }
     requires held { Held taken.now system.now n 0 ready band.old }
-    ensures put { EntriesPut (entries_from (entry_taken taken.now system.now) 0 n) out.old at out.new result }
+    ensures put { EntriesPut (entries_from (entry_taken taken.now system.now) 0 n) [] at [] result }
     ensures whole { ready ≡ n → band.new ≡ band.old }
 {
     let mut to = at;
@@ -284,7 +413,38 @@ pub fn put_lines(
     for i in 0..n {
         held = with_line(band, row, system, taken, i, lines, held);
         let q = i - held.start;
-        to = put_one(out, to, &band[q * n..q * n + n], i, n - i)?;
+        to = count_one(to, &band[q * n..q * n + n], i)?;
     }
     Some(to)
+}
+
+// Writes all lines from a place on, as far as they fit into the output; the place after them. All entries are in the range.
+pub fn write_lines(
+    out: &mut [u32],
+    at: usize,
+    n: usize,
+    band: &mut [i64],
+    row: &mut [i64],
+    system: &BitSystem,
+    taken: &Taken,
+    lines: usize,
+    ready: usize,
+) -> usize
+    requires fitting { Fitting system.now n }
+    requires sized { BandAndRow n lines band.old row.old × (0 < n → 0 < lines) × (ready ≤ n) × (at ≤ 1) }
+    requires held { Held taken.now system.now n 0 ready band.old }
+    requires in_range { all_in_range (entries_from (entry_taken taken.now system.now) 0 n) ≡ true }
+    ensures { LaidAt out.old at (entries_words (entries_from (entry_taken taken.now system.now) 0 n)) out.new result }
+{
+    let mut to = at;
+    let mut held = Lines {
+        start: 0,
+        end: ready,
+    };
+    for i in 0..n {
+        held = with_line(band, row, system, taken, i, lines, held);
+        let q = i - held.start;
+        to = put_line(out, to, &band[q * n..q * n + n], i, n - i);
+    }
+    to
 }

@@ -35,10 +35,10 @@ returns-then-not-in_range c =
     too_large c.args.system.now.words.now c.args.out.now c.args.taken.now.times c.args.taken.now.constant (added_of c.args.taken.now)
     (constant_unfit c.args.system.now.words.now c.args.taken.now.times c.args.taken.now.constant (added_of c.args.taken.now) a.0 (sym t.tested ∙ rw (back c.take-c.result c.take-c.type_inv) at (sym c.in_range.ensures ∙ c.if-not-in_range.true)))
 
-pub form_lines-requires-clause-fitting : goal.form_lines-requires-clause-fitting
+pub write_or_count-requires-clause-fitting : goal.write_or_count-requires-clause-fitting
 unfolding form_constant
-form_lines-requires-clause-fitting c =
-    let a = all_some _ _ (rw c.in-Some.is at (found (goal.at.form_lines-requires-clause-fitting c).After-check_rows)) in
+write_or_count-requires-clause-fitting c =
+    let a = all_some _ _ (rw c.in-Some.is at (found (goal.at.write_or_count-requires-clause-fitting c).After-check_rows)) in
     let b = back c.in-Some.squares (search rules) in
     let k = c.args.taken.now.near in
     let t = rw (near-back c.args.taken.now.times k.near_times.few, b, a.1, near-back c.args.taken.now.constant (omega (arith, k.near_constant))) at c.take-c.ensures in

@@ -1,5 +1,5 @@
 -- Line after line, each from the band.
-use Rattle.std.proofs.Common.{◌≡◌, refl, sym, ◌∙◌, ◌+◌, ◌-◌, arith}
+use Rattle.std.proofs.Common.{◌≡◌, refl, sym, [], ◌∙◌, ◌+◌, ◌-◌, arith}
 use Rattle.bitforms.specs.Matrix.{line_entries}
 use Rattle.bittables.specs.Systems.{rows_of_system}
 use Rattle.bitwriting.specs.Bands.{line_at}
@@ -7,8 +7,8 @@ use Rattle.bitwriting.specs.Lined.{entry_taken}
 use Rattle.bitwriting.specs.EntriesPut.{EntriesPut}
 use Rattle.bitwriting.proofs.Band.{lent, line-length}
 use Rattle.bitwriting.proofs.Putting.{putting-begun, putting-more, putting-fails, putting-done, entries-taken}
-use Rattle.bitwriting.proofs.put_lines.Goals.{After-with_line-held, After-put_one}
-use Rattle.bitwriting.proofs.put_lines.Goals as goal
+use Rattle.bitwriting.proofs.count_lines.Goals.{After-with_line-held, After-count_one}
+use Rattle.bitwriting.proofs.count_lines.Goals as goal
 
 pub loop-i-init : goal.loop-i-init
 loop-i-init c =
@@ -32,8 +32,8 @@ with_line-held-requires-clause-held c =
     rw n (c.loop-i.invariant.1, c.loop-i.invariant.2, c.loop-i.invariant.3)
 
 -- the line's entries are put
-put : (c : After-put_one) →
-    EntriesPut (line_entries (entry_taken c.args.taken.now c.args.system.now c.loop-i.i) c.loop-i.i (c.args.n - c.loop-i.i)) c.loop-i.out c.loop-i.to c.put_one.new.out c.put_one.result
+put : (c : After-count_one) →
+    EntriesPut (line_entries (entry_taken c.args.taken.now c.args.system.now c.loop-i.i) c.loop-i.i (c.args.n - c.loop-i.i)) [] c.loop-i.to [] c.count_one.result
 put c =
     let n = c.args.n in
     let r = c.loop-i.auto.row ∙ c.requires.sized.0.row_size in
@@ -45,7 +45,7 @@ put c =
     let l = line-length n q b (h.room q (omega (arith, e, w))) in
     entries-taken (rows_of_system c.args.system.now) c.args.taken.now.times c.args.taken.now.added.now (line_at n q b) c.loop-i.i (n - c.loop-i.i) (omega (arith, l, c.loop-i-test.true))
     (rw e at (h.lines q (omega (arith, e, w))))
-    (rw (lent n q b) at c.put_one.ensures)
+    (rw (lent n q b, l) at c.count_one.ensures)
 
 -- a band that holds all lines stays
 kept : (c : After-with_line-held) → c.args.ready ≡ c.args.n → (c.with_line-held.result.end ≡ c.args.n) × (c.with_line-held.new.band ≡ c.args.band.now)
@@ -56,7 +56,7 @@ kept c e =
 
 pub returns-in_err-to : goal.returns-in_err-to
 returns-in_err-to c =
-    let p = rw c.in_err-to.was at (put (goal.at.returns-in_err-to c).After-put_one) in
+    let p = rw c.in_err-to.was at (put (goal.at.returns-in_err-to c).After-count_one) in
     record {
       put = rw c.from_residual.ensures (record { tested = putting-fails c.loop-i.invariant.0 c.loop-i-test.true (sym p.tested); laid = tt });
       whole = λ e. (kept (goal.at.returns-in_err-to c).After-with_line-held e).1;
@@ -66,7 +66,7 @@ pub loop-i-preserved : goal.loop-i-preserved
 loop-i-preserved c =
     let r = c.loop-i.auto.row ∙ c.requires.sized.0.row_size in
     let w = rw r at c.with_line-held.ensures.here in (
-      putting-more c.loop-i.invariant.0 c.loop-i-test.true (rw c.in_ok-to.was at (put (goal.at.loop-i-preserved c).After-put_one)),
+      putting-more c.loop-i.invariant.0 c.loop-i-test.true (rw c.in_ok-to.was at (put (goal.at.loop-i-preserved c).After-count_one)),
       rw r at c.with_line-held.ensures.held,
       omega (arith, w),
       omega (arith, w),

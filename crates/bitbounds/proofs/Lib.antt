@@ -1,0 +1,2 @@
+-- Laws of bounds on entries.
+pub mod Bounds

@@ -1,0 +1,3 @@
+-- Laws of the loops over places.
+pub mod Keeping
+pub mod Placed
