@@ -1,0 +1,12 @@
+pub mod Renamed
+pub mod Constants
+pub mod Maps
+pub mod Flat
+pub mod TableLaws
+pub mod Building
+pub mod BuiltLaws
+pub mod Declared
+pub mod TypedLaws
+pub mod Alls
+pub mod ShortLaws
+pub mod Numbering

@@ -1,0 +1,5 @@
+pub mod Scopes
+pub mod Ranges
+pub mod Fitting
+pub mod Counts
+pub mod Steps

@@ -1,0 +1,7 @@
+-- what is put so far prints
+use Rattle.std.proofs.Common.{◌≤◌}
+use Rattle.std.specs.Prelude.{All}
+use Rattle.flatplaces.proofs.shown.printed.Given as goal
+
+abbrev pub invariant-loop-byte : goal.invariant-loop-byte
+invariant-loop-byte l = All (λ b. 32 ≤ b) l.out.items

@@ -1,0 +1,13 @@
+pub mod Splitting
+pub mod Cutting
+pub mod CuttingBooleans
+pub mod CuttingBest
+pub mod Split
+pub mod Enough
+pub mod Pieces
+pub mod Added
+pub mod Sizes
+pub mod Going
+pub mod Called
+pub mod Finished
+pub mod Along

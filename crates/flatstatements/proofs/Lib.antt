@@ -1,0 +1,5 @@
+-- Lemmas.
+pub mod Lists
+pub mod Items
+pub mod Noted
+pub mod Printed

@@ -1,0 +1,3 @@
+-- Laws of names and labels.
+pub mod Keys
+pub mod Labels

@@ -1,0 +1,4 @@
+-- Lemmas.
+pub mod Runs
+pub mod Statements
+pub mod Lexing

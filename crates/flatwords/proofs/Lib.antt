@@ -1,0 +1,4 @@
+pub mod ReadWords
+pub mod Walks
+pub mod CallWords
+pub mod Fitting

@@ -1,0 +1,4 @@
+pub mod SystemWords
+pub mod CallWords
+pub mod Fits
+pub mod CallFits
