@@ -346,6 +346,8 @@ static void measure_stack(void) {
     make_bits_rows(FEW_ROWS);
     printf("pearrummy_bits %zu\n", stack_of(bits) - none);
     printf("pearrummy_best_bits %zu\n", stack_of(best_bits) - none); /* of more bits than a small band takes */
+    make_bits_rows(2 * FEW_ROWS);
+    printf("pearrummy_bits %zu\n", stack_of(bits) - none); /* and of more words than short lists are for */
     make_mixed_rows();
     printf("pearrummy_bit_values %zu\n", stack_of(bit_values) - none);
     printf("pearrummy_bit_energy %zu\n", stack_of(bit_energy) - none);

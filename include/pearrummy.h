@@ -17,10 +17,10 @@ extern "C" {
 #endif
 
 /* The second number rises with every change of an answer: a builtin, a call, a row or a limit more. */
-#define PEARRUMMY_VERSION "1.15.0"
+#define PEARRUMMY_VERSION "1.15.1"
 #define PEARRUMMY_VERSION_MAJOR 1
 #define PEARRUMMY_VERSION_MINOR 15
-#define PEARRUMMY_VERSION_PATCH 0
+#define PEARRUMMY_VERSION_PATCH 1
 
 /* Limits; what passes one is refused. */
 #define PEARRUMMY_MODEL_WORDS 8192
@@ -223,7 +223,7 @@ struct pearrummy_judgement pearrummy_pair_fill(const uint32_t *words, size_t wor
 /* Writes the words of the quadratic form over bits of a row system to the front of `out`: the constant, then for each pair of bits whose entry is
  * not 0 both bits and the entry, then F0000000. Faults 1 to 5, 9 to 11, 14, 17 and 18, then 23 above 1,024 bits, 24 where a number of a row over
  * bits is beyond 16,384 or an entry or the constant is outside the range, and 16; the last three have place 0. Words past the end keep their
- * values; a refusal changes nothing. Stack: 377 KiB. */
+ * values; a refusal changes nothing. Stack: 380 KiB. */
 struct pearrummy_written pearrummy_bits(const uint32_t *words, size_t words_count, uint32_t *out, size_t out_count);
 
 /* The way back from bits. Bits are lent as bytes, one a bit, 0 or 1, numbered as the form of bits numbers them, those of slacks and products too; the
@@ -237,7 +237,7 @@ struct pearrummy_written pearrummy_bits(const uint32_t *words, size_t words_coun
 struct pearrummy_values pearrummy_bit_values(const uint32_t *words, size_t words_count, const uint8_t *bits, size_t bits_count, int32_t *out, size_t out_count);
 
 /* The energy at bits: the value there of the form that bits writes, where it writes one; never below 0, and 0 only where what the bits read as
- * satisfies the row system. After 23 come 15 and 25 as there, then 24 where the energy is 2^62 or more. Stack: 129 KiB. */
+ * satisfies the row system. After 23 come 15 and 25 as there, then 24 where the energy is 2^62 or more. Stack: 161 KiB. */
 struct pearrummy_energy pearrummy_bit_energy(const uint32_t *words, size_t words_count, const uint8_t *bits, size_t bits_count);
 
 /* Judges values of a row system's variables and auxiliaries as judge-rows does, 15 among its faults, and, where they hold, writes bits that read as
@@ -250,7 +250,7 @@ struct pearrummy_judgement pearrummy_value_bits(const uint32_t *words, size_t wo
  * upper one where it is PEARRUMMY_GREATEST. M is the variable's width and 1: the form is below M exactly at bits whose energy is 0, so that there is
  * no solution where its least is M or more. After 23 comes 26 where there is no such variable, or the direction is another number, then 24 where a
  * number of a row over bits is beyond 16,384 or an entry or the constant is outside the range, and 16; the last four have place 0. Words past the end
- * keep their values; a refusal changes nothing. Stack: 385 KiB. */
+ * keep their values; a refusal changes nothing. Stack: 388 KiB. */
 struct pearrummy_written pearrummy_best_bits(const uint32_t *words, size_t words_count, size_t variable, uint32_t direction, uint32_t *out, size_t out_count);
 
 #ifdef __cplusplus

@@ -1,6 +1,6 @@
 #!/usr/bin/env python3
 """Fails where a file of crates/ imports a name that it does not use. A name with `◌` counts as used where each of its parts stands alone; what code takes
-of std with a capital letter may be a trait, which its methods alone use, and is not looked at."""
+of std with a capital letter may be a trait, which its methods alone use, and is not looked at, nor is what a `*` brings."""
 import glob, os, re, sys
 
 TOP = os.path.dirname(os.path.dirname(os.path.abspath(__file__)))
@@ -23,7 +23,7 @@ def unused(path):
         else:
             brought = [alias[4:] if alias else re.split(r'\.|::', place)[-1]]
         may_be_traits = path.endswith('.rt') and not ghost and place.startswith('std::')
-        yield from (name for name in brought if not (may_be_traits and name[:1].isupper()) and not used(name, words))
+        yield from (name for name in brought if name != '*' and not (may_be_traits and name[:1].isupper()) and not used(name, words))
 
 
 found = files = 0

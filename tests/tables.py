@@ -108,8 +108,9 @@ def edits_table():
                 sys.exit(f'{path}: its first line does not say what is wrong')
             yield f'| `{crate}` | `{os.path.basename(path)[:-5]}` | {"code" if of_code(path) else "definition"} | {first[2:]} |'
         total, of_codes = total + len(paths), of_codes + sum(map(of_code, paths))
-        functions = any(re.search(r'^[ \t]*(pub )?(extern "C" )?fn ', open(path).read(), re.M) for path in glob.glob(os.path.join(TOP, 'crates', crate, 'src', '*.rt')))
-        if functions and not any(map(of_code, paths)):
+        source = ''.join(open(path).read() for path in glob.glob(os.path.join(TOP, 'crates', crate, 'src', '*.rt')))
+        # A crate without a contract, as that of the command line, has nothing that could refuse an edit.
+        if re.search(r'^[ \t]*(pub )?(extern "C" )?fn ', source, re.M) and re.search(r'^[ \t]*ensures', source, re.M) and not any(map(of_code, paths)):
             sys.exit(f'crates/{crate}: no must-fail edit is of its code')
     yield f'| together | {total} | {of_codes} of code, {total - of_codes} of a definition alone | |'
 

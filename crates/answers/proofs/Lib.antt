@@ -1,0 +1,2 @@
+-- Laws of what the command prints.
+pub mod Listed

@@ -1,0 +1,2 @@
+-- What the contracts cite: reading words in hexadecimal.
+pub mod Reading

@@ -1,0 +1,3 @@
+-- Laws of positions, names and places of words.
+pub mod OneByte
+pub mod NamesOf

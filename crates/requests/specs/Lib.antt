@@ -1,0 +1,3 @@
+-- What the contracts cite: what the commands take, and which options go together.
+pub mod Taken
+pub mod Together
