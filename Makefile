@@ -20,7 +20,7 @@ ROOT = $(DESTDIR)$(PREFIX)
 VERSION = $(shell sed -n 's/^.define PEARRUMMY_VERSION "\(.*\)"/\1/p' include/pearrummy.h)
 # what the library is made of: it is proved and built again only where one of these is newer
 SOURCES = crates.txt include/pearrummy.h library/fault_text.c $(shell find crates -name out -prune -o '(' -name '*.rt' -o -name '*.antt' ')' -print)
-INSTALLED = include/pearrummy.h lib/libpearrummy.a lib/pkgconfig/pearrummy.pc bin/pearrummy share/man/man1/pearrummy.1 share/doc/pearrummy/FORMAT.md
+INSTALLED = include/pearrummy.h lib/libpearrummy.a lib/pkgconfig/pearrummy.pc bin/pearrummy share/man/man1/pearrummy.1 share/doc/pearrummy/FORMAT.md share/doc/pearrummy/RULES.md
 
 run:
 	mkdir -p target
@@ -54,7 +54,7 @@ install: command
 	install -D -m 755 minizinc/flatten.py "$(ROOT)/share/pearrummy/minizinc/flatten.py"
 	install -D -m 644 -t "$(ROOT)/share/pearrummy/minizinc/mznlib" minizinc/mznlib/*.mzn
 	install -D -m 644 command/pearrummy.1 "$(ROOT)/share/man/man1/pearrummy.1"
-	install -D -m 644 docs/FORMAT.md "$(ROOT)/share/doc/pearrummy/FORMAT.md"
+	install -D -m 644 -t "$(ROOT)/share/doc/pearrummy" docs/FORMAT.md docs/RULES.md
 	sed -e 's|@PREFIX@|$(PREFIX)|' -e 's|@VERSION@|$(VERSION)|' library/pearrummy.pc.in > target/pearrummy.pc
 	install -D -m 644 target/pearrummy.pc "$(ROOT)/lib/pkgconfig/pearrummy.pc"
 

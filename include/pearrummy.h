@@ -5,7 +5,7 @@
  * pointer, uses the heap or has a state, so that calls may run side by side; none reads or writes outside what it was lent. A list that a call writes
  * to holds its answer in front, and its rest keeps its values; a refusal changes nothing. Any words, bytes, values and numbers of these may be lent.
  *
- * The words, the codes, the faults and the limits are explained in FORMAT.md. `Stack` is what a call takes of it, measured and rounded up. */
+ * The words, the codes, the faults and the limits are explained in RULES.md. `Stack` is what a call takes of it, measured and rounded up. */
 #ifndef PEARRUMMY_H
 #define PEARRUMMY_H
 

@@ -1,4 +1,4 @@
-/* The faults in words, as docs/FORMAT.md has them. */
+/* The faults in words, as docs/RULES.md has them. */
 #include "../include/pearrummy.h"
 
 static const char *const texts[] = {

@@ -1,5 +1,5 @@
 #!/usr/bin/env python3
-"""Compares the tables of docs/FORMAT.md, the header and the fault texts with the definitions: codes, names and sorts of arguments, fault numbers,
+"""Compares the tables of docs/RULES.md, the header and the fault texts with the definitions: codes, names and sorts of arguments, fault numbers,
 limits. It exits with 1 where one differs."""
 import os, re, sys
 
@@ -35,12 +35,12 @@ def plain(text):
     return text.replace('−', '-')
 
 
-page = read('docs/FORMAT.md')
+page = read('docs/RULES.md')
 header = read('include/pearrummy.h')
 
 # Codes: name and sorts, from the one table of codes.
 table = re.findall(r'^    takes (?:"(\w+)" )?\(([^)]*)\) B\.(\w+) ∷$', read('crates/models/specs/Table.antt'), re.M)
-codes = rows_after(page, '### Codes')
+codes = rows_after(page, '## 4.1 Codes')
 compare('number of codes', len(codes), len(table))
 for k, ((name, sorts, builtin), cells) in enumerate(zip(table, codes), 1):
     compare(f'code {k}: name in the table of codes', name or builtin, builtin)
@@ -54,7 +54,7 @@ compare("the command's builtins", re.findall(r'"(\w+)"', in_command), [row[2] fo
 
 # Faults: number and name of the definitions, the enum of the header, the texts of page and library.
 faults = numbers_in('crates/words/specs/Fault.antt')
-listed = rows_after(page, '## Faults')
+listed = rows_after(page, '# 11 Faults')
 texts = re.findall(r'^    "(.*)",$', read('library/fault_text.c'), re.M)
 enum = re.search(r'enum pearrummy_fault \{(.*?)\};', header, re.S).group(1)
 in_header = [(name, int(number)) for name, number in re.findall(r'PEARRUMMY_(\w+) = (\d+)', enum)]
@@ -66,7 +66,7 @@ compare('texts of the library', texts, ['no fault'] + [plain(cells[1]) for cells
 
 # Limits: the definitions, the page, the header.
 limits = numbers_in('crates/words/specs/Limit.antt')
-in_page = {cells[0]: plain(cells[1]).replace(',', '') for cells in rows_after(page, '## Limits')}
+in_page = {cells[0]: plain(cells[1]).replace(',', '') for cells in rows_after(page, '# 12 Limits')}
 macros = {name: int(number) for name, number in re.findall(r'define PEARRUMMY_(\w+) \(?(-?\d+)\)?', header)}
 for name, line, macro in [
         ('model_words', 'words of a model', 'MODEL_WORDS'),

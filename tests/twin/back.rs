@@ -1,4 +1,4 @@
-//! The way back from bits and the form of a best solution, in plain Rust, as docs/FORMAT.md says them.
+//! The way back from bits and the form of a best solution, in plain Rust, as docs/RULES.md says them.
 //!
 //! The energy is worked out row by row from the values, and not from the form's entries, so that the two can be compared.
 
