@@ -115,7 +115,7 @@ def long_text(words):
 
 
 def limits():
-    """Cases at the limits of length; their answers follow from documents 01 and 02 at sight."""
+    """Cases at the limits of length; their answers follow from docs/RULES.md at sight."""
     yield 'judge_model', long_model(8192), [1] * 16, 0, 'holds'
     yield 'judge_model', long_model(8192), [1] * 15 + [2], 0, 'bound 15'
     yield 'judge_model', long_model(8193), [1] * 16, 0, 'refused 1 0'

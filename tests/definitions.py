@@ -16,8 +16,8 @@ MOST = next((int(word) for word in sys.argv[1:] if word.isdigit()), 2000)
 GROUP = 20  # cases of a declaration
 SHEET_MOST, TEXT_MOST = 24, 600
 BITS_MOST, BITS_ROOM = 60, 100
-FIRST_CALLS = ('check', 'translate', 'judge_model', 'judge_rows', 'fill')  # the calls of 01, whose definitions stand in the first five crates
-PARTS = {'firsts': CRATES[:5], 'seconds': CRATES}  # the crates of the vectors, of the calls of 01 and of the others, with those of their definitions
+FIRST_CALLS = ('check', 'translate', 'judge_model', 'judge_rows', 'fill')  # the calls whose definitions stand in the first five crates
+PARTS = {'firsts': CRATES[:5], 'seconds': CRATES}  # the crates of the vectors, of these calls and of the others, with those of their definitions
 UNUSED, UNUSED_BYTE = 0x5A5A5A5A, 0x5A  # what a lent word or value, and a lent byte, holds before the call
 # the definition of what each call answers, and of what a lent list holds afterwards
 ANSWERS = {'check': 'check', 'translate': 'translate', 'judge_model': 'judge_model', 'judge_rows': 'judge_rows', 'fill': 'fill', 'sheet': 'sheet', 'text': 'read_text', 'reason': 'reason', 'solutions': 'solutions_answer', 'bits': 'bit_form',

@@ -35,7 +35,7 @@ def system(bounds, items):
 
 
 class Form:
-    """The form of a row system, by wish 14 of the change requests."""
+    """The form of a row system, by docs/RULES.md, 9."""
 
     def __init__(self, bounds, items):
         self.bits, self.entries = 0, collections.Counter()
@@ -90,7 +90,7 @@ class Form:
 
 def accepted():
     """Row systems without a fault: bounds, items."""
-    yield [(0, 3), (0, 2), (0, 1)], [(AT_MOST, [(1, 0), (-1, 1), (-4, 2)], 1), (AT_MOST, [(1, 1), (-1, 0), (3, 2)], -2)]  # Table T's T3
+    yield [(0, 3), (0, 2), (0, 1)], [(AT_MOST, [(1, 0), (-1, 1), (-4, 2)], 1), (AT_MOST, [(1, 1), (-1, 0), (3, 2)], -2)]  # T3 of docs/RULES.md, 13
     yield [], []
     yield [(7, 7)], []
     yield [], [(EQUAL, [], 5), (AT_MOST, [], 5), (AT_MOST, [], -5)]

@@ -1,5 +1,5 @@
 #!/usr/bin/env python3
-"""Runs the program rows on the bytes of models and compares what it prints: Table T's T3, a refusal of each kind that it can meet,
+"""Runs the program rows on the bytes of models and compares what it prints: T3 of docs/RULES.md, 13, a refusal of each kind that it can meet,
 the limits, and every vector that tells all that it must print. The last line says how many runs agree. Exit status 1 at the first difference."""
 import glob, os, struct, subprocess, sys
 
@@ -37,7 +37,7 @@ def listing(words):
     return ''.join('%08X\n' % w for w in words)
 
 
-# T3, and what document 01 has as its listing.
+# T3 of docs/RULES.md, 13, and its listing.
 T3 = integer(0, 3) + integer(0, 2) + [head(4), variable(0), variable(1), END]
 T3_ROWS = [int(w, 16) for w in (
     '10000000 20000003 10000000 20000002 80000000 90000001 A0000003 50000000 60000001 50000001 6FFFFFFF 50000002 6FFFFFFC 60000001 '

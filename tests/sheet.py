@@ -26,7 +26,7 @@ def product(result, first, second):
 
 
 def printed(rows):
-    """The sheet, by wish 3 of the change requests: rows (sign, terms, constant)."""
+    """The sheet, by docs/RULES.md, 7.5: rows (sign, terms, constant)."""
     lines = []
     for k, (sign, terms, constant) in enumerate(rows):
         cells = ['%10d v%-11d' % term for term in terms]

@@ -80,7 +80,7 @@ impl Call {
         ][self as usize]
     }
 
-    /// The faults that the call meets (01, below the numbered faults; 02, 18 "in all five calls").
+    /// The faults that the call meets (docs/RULES.md, 7).
     fn meets(self, fault: usize) -> bool {
         match self {
             Call::CheckBytes | Call::Check | Call::PairCheck => matches!(fault, 1..=14 | 18),

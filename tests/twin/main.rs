@@ -1,4 +1,4 @@
-//! Compares the static library with an independent implementation of documents 01 and 02, the twin, and measures both.
+//! Compares the static library with an independent implementation of the rules of docs/RULES.md, the twin, and measures both.
 //!
 //!     twin [COUNT [SEED]]      COUNT inputs of a seed
 //!     twin --one SEED INDEX    one input, as a reported difference names it

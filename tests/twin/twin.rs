@@ -1,4 +1,4 @@
-//! Documents 01 and 02 in plain Rust: check over words and over bytes, translate, judge-model, judge-rows, fill, sheet,
+//! The rules of docs/RULES.md in plain Rust: check over words and over bytes, translate, judge-model, judge-rows, fill, sheet,
 //! reason, solutions, the calls for a pair, text, and bits; the way back from bits is in back.rs.
 //!
 //! It is written from the documents alone and shares nothing with the proved code, so that the two can be compared. Nothing here panics: every
@@ -8,7 +8,7 @@ use crate::answers::{Counts, Judgement, Listed, Printed, Reason, Refusal, Writte
 use std::collections::HashMap;
 use std::ops::Range;
 
-// The limits (01, Numbered faults; 02, wishes 8, 10, 11, 13 and 14).
+// The limits (docs/RULES.md, 12).
 pub const MODEL_WORDS: usize = 8_192;
 pub const ROW_WORDS: usize = 262_144;
 pub const MODEL_VARIABLES: usize = 256;
@@ -25,7 +25,7 @@ pub const BITS: usize = 1_024;
 /// The largest coefficient or constant of a row over bits.
 pub const LARGEST_OVER_BITS: i64 = 16_384;
 
-// The kinds (01, Words).
+// The kinds (docs/RULES.md, 2.1 and 3.1).
 pub const LOWER: u32 = 0x1;
 pub const UPPER: u32 = 0x2;
 pub const BOOLEAN: u32 = 0x3;
@@ -39,10 +39,10 @@ pub const AT_MOST: u32 = 0xA;
 pub const EQUAL: u32 = 0xB;
 pub const PRODUCT: u32 = 0xC;
 pub const ROWS_END: u32 = 0xF;
-/// The word between the candidates of a pair (02, wish 12).
+/// The word between the candidates of a pair (7.9).
 pub const BETWEEN: u32 = 0xD000_0000;
 
-/// "The range" (02, wish 2).
+/// The range (1.2).
 pub const LEAST: i64 = -134_217_727;
 pub const LARGEST: i64 = 134_217_727;
 /// The payload of the lowest 28-bit number, which has no opposite.
@@ -165,7 +165,7 @@ enum Argument {
 /// The last code.
 pub const CODES: usize = 39;
 
-/// The arguments of the codes (01, Rules of the 28 codes, and the sentence on types below them; 02, wishes 1, 6 and 13).
+/// The arguments of the codes (2.3, 4.1).
 const SHAPES: [&[Argument]; CODES] = {
     use Argument::{Boolean as B, Booleans as LB, Exponent as E, Integer as I, Integers as LI, Number as N, Numbers as LN, Parallel as P};
     [
@@ -211,7 +211,7 @@ const SHAPES: [&[Argument]; CODES] = {
     ]
 };
 
-/// The names of the codes (01, Rules of the 28 codes; 02, wishes 1, 6 and 13).
+/// The names of the codes (4.1).
 pub const NAMES: [&str; CODES] = [
     "int_eq",
     "int_le",
@@ -286,7 +286,7 @@ impl Constraint<'_> {
         self.terms().map(|(a, b)| a * i64::from(values[b])).sum::<i64>() - self.constant
     }
 
-    /// L and U (000, 3.1.12): the least and largest of Σ as×bs − c over the bounds, each term taken by itself.
+    /// L and U (5.2): the least and largest of Σ as×bs − c over the bounds, each term taken by itself.
     fn least_and_largest(&self, variables: &[Variable]) -> (i64, i64) {
         let mut least = -self.constant;
         let mut largest = -self.constant;
@@ -472,7 +472,7 @@ fn arguments(words: &[u32], head: usize) -> (Constraint<'_>, usize) {
 
 // --------------------------------------------------------------------------------------------------------------------------------- meaning
 
-/// Whether a builtin is true of values inside the bounds (000, section 3; for code 23 wish 5 of 02, for codes 24 to 26 the sentences of 01).
+/// Whether a builtin is true of values inside the bounds (4.1, 4.2).
 fn is_true(constraint: &Constraint, values: &[i32]) -> bool {
     let [a, b, c] = constraint.single.map(|variable| values.get(variable).map_or(0, |&value| i64::from(value)));
     let value = |word: &u32| i64::from(values[number(*word)]);
@@ -572,7 +572,7 @@ trait Sink {
     }
 }
 
-/// The variables that 24, 25, 27 and 28 encode by bits (02, wish 7).
+/// The variables that 24, 25, 27 and 28 encode by bits (6.1).
 struct Encodings {
     /// In how many constraints each variable is i of 24, 25 or x of 27, 28.
     uses: [u16; MODEL_VARIABLES],
@@ -665,7 +665,7 @@ impl<'a> Choice<'a> {
     }
 }
 
-/// The block of codes 24, 25, 27 and 28 (02, wish 7); `n` is the number of its first auxiliary.
+/// The block of codes 24, 25, 27 and 28 (6.2); `n` is the number of its first auxiliary.
 fn choice_block(constraint: &Constraint, variables: &[Variable], n: usize, encodings: &mut Encodings, sink: &mut impl Sink) {
     let [x, result, _] = constraint.single;
     let choice = Choice::new(constraint, variables, encodings);
@@ -710,7 +710,7 @@ fn choice_block(constraint: &Constraint, variables: &[Variable], n: usize, encod
     }
 }
 
-/// The block of a constraint (01, Rules of the 28 codes; 02, wishes 1, 5, 6, 7, 10 and 13); `n` is the number of its first auxiliary.
+/// The block of a constraint (5, 6); `n` is the number of its first auxiliary.
 fn block(constraint: &Constraint, variables: &[Variable], n: usize, encodings: &mut Encodings, sink: &mut impl Sink) {
     let [a, b, c] = constraint.single;
     let bound = |variable: usize, upper: bool| variables.get(variable).map_or(0, |v| i64::from(if upper { v.upper } else { v.lower }));
@@ -967,12 +967,12 @@ fn reified_not_zero_rows(least: i64, largest: i64, x: usize, r: usize, sink: &mu
     sign_row(x, bit, largest, sink);
 }
 
-/// x+(U+1)×b−U≤0: b is 1 only for a negative x, U being the largest x (02, wish 10).
+/// x+(U+1)×b−U≤0: b is 1 only for a negative x, U being the largest x (5.6, 5.8).
 fn sign_row(x: usize, bit: usize, largest: i64, sink: &mut impl Sink) {
     sink.whole_row(AT_MOST, [(x, 1), (bit, largest + 1)], -largest);
 }
 
-/// below−above+K×(sum of bits)+1−K≤0: one of the bits is 1 only where the two differ, so that of equal elements the first is taken (02, wish 10).
+/// below−above+K×(sum of bits)+1−K≤0: one of the bits is 1 only where the two differ, so that of equal elements the first is taken (5.7, 5.13).
 fn first_row((below, above): (usize, usize), k: i64, bits: Range<usize>, sink: &mut impl Sink) {
     sink.row(AT_MOST, 2 + bits.len());
     sink.term(below, 1);
@@ -1018,7 +1018,7 @@ fn division(n: usize, d: usize, q: usize, bounds: [(i64, i64); 3], first: usize,
     }
 }
 
-/// The k-th power of x by halving (000, 3.1.25), k being 1 at least: the half power squared and, for an odd k, x times that. Gives the factors of each
+/// The k-th power of x by halving (5.16), k being 1 at least: the half power squared and, for an odd k, x times that. Gives the factors of each
 /// product, in order, to `product`, which answers the result.
 fn power<T: Copy>(x: T, k: i64, product: &mut impl FnMut(T, T) -> T) -> T {
     if k <= 1 {
@@ -1061,7 +1061,7 @@ fn chosen_value_rows(z: usize, list: &[u32], bits: impl Iterator<Item = usize>, 
     sink.constant(0);
 }
 
-/// The elements whose index, from 1, is inside the bounds, and the first such index (01, code 24).
+/// The elements whose index, from 1, is inside the bounds, and the first such index (5.12).
 fn inside(list: &[u32], lower: i64, upper: i64) -> (i64, &[u32]) {
     let start = lower.max(1);
     let last = upper.min(list.len() as i64);
@@ -1394,7 +1394,7 @@ impl Auxiliaries<'_> {
     }
 }
 
-/// The auxiliaries of a constraint that is true of the values (01, Five calls; 02, wishes 1, 5, 6, 7 and 13); `sources` is their number.
+/// The auxiliaries of a constraint that is true of the values (7.4); `sources` is their number.
 fn fill_block(constraint: &Constraint, variables: &[Variable], values: &[i32], sources: usize, encodings: &mut Encodings, out: &mut Auxiliaries) {
     let [a, b, c] = constraint.single.map(|variable| values.get(variable).map_or(0, |&value| i64::from(value)));
     match constraint.code {
@@ -1606,7 +1606,7 @@ pub fn judge_rows(words: &[u32], values: &[i32]) -> Judgement {
 
 // ---------------------------------------------------------------------------------------------------------------------------------- sheet
 
-/// The lines of a printed row system (02, wish 3).
+/// The lines of a printed row system (7.5).
 #[derive(Default)]
 struct Page {
     text: String,
@@ -1681,7 +1681,7 @@ pub fn sheet(words: &[u32], page: &mut [u8]) -> Printed {
 
 // --------------------------------------------------------------------------------------------------------------------------------- reason
 
-/// Reason: the first row that fails of values inside all bounds, the constraint whose block holds it, and whether its builtin is false (02, wish 9).
+/// Reason: the first row that fails of values inside all bounds, the constraint whose block holds it, and whether its builtin is false (7.6).
 pub fn reason(words: &[u32], values: &[i32]) -> Reason {
     try_reason(words, values).unwrap_or_else(Reason::from)
 }
@@ -1717,7 +1717,7 @@ fn try_reason(words: &[u32], values: &[i32]) -> Result<Reason, Refusal> {
 
 // ------------------------------------------------------------------------------------------------------------------------------ solutions
 
-/// The solutions of a model, one after another in rising order (02, wish 11), and their number; or the model's fault.
+/// The solutions of a model, one after another in rising order (7.7), and their number; or the model's fault.
 pub fn all_solutions(words: &[u32]) -> Result<(Vec<i32>, usize), Refusal> {
     let mut variables = Variables::new();
     let mut constraints = vec![];
@@ -1760,7 +1760,7 @@ pub fn solutions(words: &[u32], out: &mut [i32]) -> Listed {
 
 // ----------------------------------------------------------------------------------------------------------------------------------- pair
 
-/// The model of a pair's first or second candidate (02, wish 12): fault 2 where no word stands between them.
+/// The model of a pair's first or second candidate (7.9): fault 2 where no word stands between them.
 pub fn candidate(words: &[u32], candidate: u32) -> Result<Vec<u32>, Refusal> {
     let Some(between) = words.iter().position(|&word| word == BETWEEN) else { return refusal(2, words.len()) };
     let ends_table = |&word: &u32| matches!(kind(word), CONSTRAINT | MODEL_END) || word == BETWEEN;
@@ -1787,7 +1787,7 @@ pub fn pair_fill(words: &[u32], number: u32, values: &[i32], out: &mut [i32]) ->
 
 // ----------------------------------------------------------------------------------------------------------------------------------- text
 
-/// A token of a FlatZinc text (02, wish 8).
+/// A token of a FlatZinc text (8.1).
 #[derive(Clone, Copy, PartialEq)]
 enum Token<'a> {
     Name(&'a [u8]),
