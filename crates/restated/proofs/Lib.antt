@@ -1,0 +1,6 @@
+-- Laws that the documents name and that no proof of the calls needs any more: a file for each crate that they are of.
+pub mod Encoding
+pub mod ModelReading
+pub mod Pairs
+pub mod Symbols
+pub mod Texts
