@@ -1,5 +1,5 @@
 -- Line after line: the entries left, tested and laid, with the line and the row over bits that they are made from.
-use Rattle.std.proofs.Common.{◌≡◌, ◌∙◌, Bool, true, false, List, ℕ, ◌+◌, ◌*◌, ◌-◌, ◌<◌, ◌≤◌, ℤ, length, Some}
+use Rattle.std.proofs.Common.{◌≡◌, ◌∙◌, false, List, ℕ, ◌+◌, ◌*◌, ◌-◌, ◌<◌, ◌≤◌, ℤ, length, Some}
 use Rattle.words.proofs.Rest.{Rest}
 use Rattle.bitforms.specs.Matrix.{line_entries, entries_from}
 use Rattle.bitforms.specs.FormAnswer.{all_in_range}
