@@ -71,6 +71,19 @@ impl<'a> Writer<'a> {
         }
     }
 
+    // c × each of n variables, each given by its place. Where the list has no room left and c is in the range, they are counted with no loop, which `terms` takes to test each coefficient.
+    pub fn multiples<V: Fn(usize) -> usize>(&mut self, c: i64, n: usize, variable: V)
+        requires few { n ≤ Limit.terms }
+        requires variables { (k : ℕ) → k < n → V.pre variable k }
+        ensures { (v : ℕ → ℕ) → Gives n (V.post variable) v → Writes self.old self.new (many (λ k. term c (v k) ∷ []) n) }
+    {
+        if self.out.len() <= self.laid.words && in_range(c) {
+            self.count(2 * n, 0, 0, true);
+            return;
+        }
+        self.terms(n, |_| c, variable);
+    }
+
     // c × each of n consecutive variables from v on. Where there is room for all of them, their words are put with no further test: by `terms` alone, translate of 8,192 words takes some 5 in 100 longer.
     pub fn same(&mut self, c: i64, v: usize, n: usize)
         requires { (n ≤ Limit.terms) × (v < 1000000000000) }
@@ -84,7 +97,7 @@ impl<'a> Writer<'a> {
             self.count(2 * n, 0, 0, true);
             return;
         }
-        self.terms(n, |_| c, |k| v + k);
+        self.multiples(c, n, |k| v + k);
     }
 
     // The terms of the parallel lists whose length word is at place i.
@@ -107,14 +120,18 @@ impl<'a> Writer<'a> {
         ensures { Writes self.old self.new (many (each_at args.now c (i + 1)) (size args.now i)) }
     {
         let variables = i + 1;
-        self.terms(size_at(args, i), |_| c, |k| var_at(args, variables + k));
+        self.multiples(c, size_at(args, i), |k| var_at(args, variables + k));
     }
 
-    // Consecutive numbers × consecutive variables, n of them. No call today: `choiceblocks::rows::label_row` puts such terms within one row. It states a promise of before.
+    // Consecutive numbers × consecutive variables, n of them. Numbers between two of the range are in the range: where the list has no room left, the first one and the one after the last are tested alone.
     pub fn labels(&mut self, from: i64, v: usize, n: usize)
         requires { (n ≤ Limit.terms) × (v < 1000000000000) × (nat_abs from < 1000000000000) }
         ensures { Writes self.old self.new (many (label_at from v) n) }
     {
+        if self.out.len() <= self.laid.words && in_range(from) && in_range(plus(from, n as i64)) {
+            self.count(2 * n, 0, 0, true);
+            return;
+        }
         self.terms(n, |k| plus(from, k as i64), |k| v + k);
     }
 
@@ -168,11 +185,15 @@ impl<'a> Writer<'a> {
         }
     }
 
-    // The bounds of n bits.
+    // The bounds of n bits. Where the list has no room left, they are counted, and none is tested.
     pub fn bits(&mut self, n: usize)
         requires { n ≤ Limit.terms }
         ensures { Writes self.old self.new (many bit_at n) }
     {
+        if self.out.len() <= self.laid.words {
+            self.count(2 * n, n, 0, true);
+            return;
+        }
         self.bounds(n, |_| 0, |_| 1);
     }
 

@@ -1,6 +1,10 @@
-use Rattle.std.proofs.Common.{◌≡◌, ◌+◌, ◌%◌, arith}
+use Rattle.std.proofs.Common.{◌≡◌, sym, ◌+◌, ◌%◌, arith}
 use Rattle.words.proofs.Rest.{one-laid, all_laid}
+use Rattle.laying.proofs.Counts.{overlay-past}
 use Rattle.laying.proofs.put_words.Goals as goal
+
+pub returns-then-out-at : goal.returns-then-out-at
+returns-then-out-at c = λ h. sym (overlay-past c.args.out.now c.args.at c.args.words.now c.if-out-at.true)
 
 pub loop-k-preserved : goal.loop-k-preserved
 loop-k-preserved c = λ h.

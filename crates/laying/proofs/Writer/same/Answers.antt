@@ -11,4 +11,4 @@ returns-then-n-self c =
     (rw c.count.ensures.same (rw (to_z-of_z c.ranges.c) at c.put_same.ensures)) (rw c.count.ensures.same refl)
 
 pub returns : goal.returns
-returns c = c.terms.ensures (λ k. c.args.c) (λ k. c.args.v + k) (λ k r h p. search rules) (λ k r h p. search rules)
+returns c = rw (to_z-of_z c.ranges.c) at (c.multiples.ensures (λ k. c.args.v + k) (λ k r h p. search rules))
