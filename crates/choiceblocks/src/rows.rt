@@ -1,11 +1,11 @@
 // The rows over one-hot bits, and the bounds that go before them.
 // How large n, base, v and `from` may be stays in clauses: each is one number, so large that no sum over it wraps, and no struct has two of them in all functions.
 ghost use Rattle.std.specs.Prelude.{◌≡◌, [], ◌∷◌, ℕ, ℤ, ◌+◌, ◌-◌, ◌<◌, ◌≤◌, nat_abs, get_or};
-ghost use Rattle.integers.specs.Number.{◌⊖◌, count, +0, +1};
+ghost use Rattle.integers.specs.Number.{◌⊖◌, count, +0, +1, -1};
 ghost use Rattle.integers.specs.declared.Bounds.{Bounds};
 ghost use Rattle.integers.specs.Bounds.{bounds_in};
 ghost use Rattle.words.specs.Limit as Limit;
-ghost use Rattle.laying.specs.Part.{term};
+ghost use Rattle.laying.specs.Part.{term, constant};
 ghost use Rattle.laying.specs.Lists.{many, same_at, label_at};
 ghost use Rattle.laying.specs.Gives.{Gives};
 ghost use Rattle.laying.specs.Writes.{Writes};
@@ -13,7 +13,7 @@ ghost use Rattle.choiceblocks.specs.Rows.{zero_at, number_term_at, value_at, mem
 
 use arguments::{count_of, num_at, var_at};
 use extremes::{gap_plus, zero_lower, zero_upper};
-use integers::{minus, plus};
+use integers::minus;
 use laying::Writer;
 use words::domain::{Domain, domain_of};
 use words::kind::Kind;
@@ -41,7 +41,15 @@ pub fn zeros<L: Fn(usize) -> i64, U: Fn(usize) -> i64>(
     );
 }
 
-// Σ − x = 0 over n terms, each given by its place: its coefficient and its variable.
+// The last words of a row: − x = 0.
+fn row_end(writer: &mut Writer, x: usize)
+    ensures { Writes writer.old writer.new (term -1 x ∷ constant +0 ∷ []) }
+{
+    writer.term(-1, x);
+    writer.constant(0);
+}
+
+// Σ − x = 0 over n terms, each given by its place: its coefficient and its variable. Rows of equal coefficients and of labels, below, take methods of the writer that test no list of numbers where there is no room.
 pub fn sum_row<C: Fn(usize) -> i64, V: Fn(usize) -> usize>(
     writer: &mut Writer,
     n: usize,
@@ -56,8 +64,7 @@ pub fn sum_row<C: Fn(usize) -> i64, V: Fn(usize) -> usize>(
 {
     writer.head(Kind::Equal, n + 1);
     writer.terms(n, coefficient, variable);
-    writer.term(-1, x);
-    writer.constant(0);
+    row_end(writer, x);
 }
 
 // Σb − 1 = 0 over n consecutive variables.
@@ -75,7 +82,9 @@ pub fn one_row(writer: &mut Writer, v: usize, n: usize, m: usize)
     requires { (n ≤ Limit.terms) × (v < 1000000000) }
     ensures { Writes writer.old writer.new (sum_row (same_at +1 v) n m) }
 {
-    sum_row(writer, n, |_| 1, |k| v + k, m);
+    writer.head(Kind::Equal, n + 1);
+    writer.same(1, v, n);
+    row_end(writer, m);
 }
 
 // Σj×b − x = 0 over n consecutive labels from `from` on.
@@ -83,7 +92,9 @@ fn label_row(writer: &mut Writer, from: i64, v: usize, n: usize, x: usize)
     requires { (n ≤ Limit.terms) × (v < 1000000000) × (nat_abs from < 1000000000) }
     ensures { Writes writer.old writer.new (sum_row (label_at from v) n x) }
 {
-    sum_row(writer, n, |k| plus(from, k as i64), |k| v + k, x);
+    writer.head(Kind::Equal, n + 1);
+    writer.labels(from, v, n);
+    row_end(writer, x);
 }
 
 // Σa×b − c = 0 over n numbers, from place base on.
@@ -115,7 +126,9 @@ pub fn member_row(writer: &mut Writer, vs: &[i64], from: i64, v: usize, n: usize
     requires { (n ≤ Limit.terms) × (v < 1000000000) × (nat_abs from < 1000000000) × ((k : ℕ) → nat_abs (get_or vs.now k +0) < 1000000000) }
     ensures { Writes writer.old writer.new (sum_row (member_at vs.now from v) n r) }
 {
-    sum_row(writer, n, |_| 1, |k| labelled(v, at_or(vs, k, 0), from), r);
+    writer.head(Kind::Equal, n + 1);
+    writer.multiples(1, n, |k| labelled(v, at_or(vs, k, 0), from));
+    row_end(writer, r);
 }
 
 // One of n consecutive bits is 1; their labels rise from `from` on, and x is the label of that bit.

@@ -1,6 +1,8 @@
-use Rattle.std.proofs.Common.{rules, ◌+◌, pos}
-use Rattle.integers.specs.Number.{◌⊕◌}
+use Rattle.std.proofs.Common.{to_z-of_z}
+use Rattle.laying.proofs.Written.{wrote-then}
+use Rattle.choiceblocks.specs.Rows.{sum_row}
 use Rattle.choiceblocks.proofs.rows.label_row.Goals as goal
 
 pub returns : goal.returns
-returns c = c.sum_row.ensures (λ k. c.args.from ⊕ pos k) (λ k. c.args.v + k) (λ k r h p. search rules) (λ k r h p. search rules)
+unfolding sum_row
+returns c = wrote-then c.head.ensures (wrote-then (rw (to_z-of_z c.ranges.from) at c.labels.ensures) c.row_end.ensures)
