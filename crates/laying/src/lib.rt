@@ -47,7 +47,7 @@ pub fn none_yet() -> Laid
     }
 }
 
-// Puts a few words over a list from a place on, those that fit. Where there is no room, that is seen once and not at each word. They are put one by one: over `words::list::lay`, which copies them, translate takes up to 1.6 times as long.
+// Puts a few words over a list from a place on, those that fit. Where there is no room, that is seen once and not at each word. They are put one by one: where the part that fits is copied as one, translate takes up to 1.6 times as long.
 fn put_words(out: &mut [u32], at: usize, words: &[u32])
     ensures { at + length words.now < 18446744073709551616 → out.new ≡ overlay out.old at words.now }
 {

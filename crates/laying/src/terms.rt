@@ -47,6 +47,7 @@ fn put_same(out: &mut [u32], at: usize, c: i64, v: usize, n: usize)
 }
 
 // `terms`, `bounds`, `products` and `order` stay four: one function of them would take what is put for a place as a closure that changes the writer, with the clauses of that part, and be no plainer than a loop of one line. Where there is no room, counting at once is faster (docs/BENCHMARKS.md, what was mended).
+// Where there is room, a loop and a row have a writer of their own over the same list and hand back what was laid: by the lent one, the list and the four counts are read again from memory after each word, and translate takes up to 1.7 times as long.
 impl<'a> Writer<'a> {
     // n terms, each given by its place: its coefficient and its variable. Where the list has no room left, they are counted.
     // That n is at most the terms of a row stays a clause, here and below: it is the length of a list, a width or a difference of such, counted anew by each caller. How large v, base and i may be stays in clauses too: each is one number, so large that no sum over it wraps.
@@ -66,9 +67,14 @@ impl<'a> Writer<'a> {
             self.count(2 * n, 0, 0, fit);
             return;
         }
+        let mut writer = Writer {
+            out: &mut *self.out,
+            laid: self.laid,
+        };
         for k in 0..n {
-            self.term(coefficient(k), variable(k));
+            writer.term(coefficient(k), variable(k));
         }
+        self.laid = writer.laid;
     }
 
     // c × each of n variables, each given by its place. Where the list has no room left and c is in the range, they are counted with no loop, which `terms` takes to test each coefficient.
@@ -148,11 +154,16 @@ impl<'a> Writer<'a> {
             self.count(2 + 2 * terms.len(), 0, 1, fit);
             return;
         }
-        self.head(kind, terms.len());
+        let mut writer = Writer {
+            out: &mut *self.out,
+            laid: self.laid,
+        };
+        writer.head(kind, terms.len());
         for term in terms {
-            self.term(term.number(), term.variable);
+            writer.term(term.number(), term.variable);
         }
-        self.constant(c);
+        writer.constant(c);
+        self.laid = writer.laid;
     }
 
     // For the sign bit b of x, which is at most u: x + (u+1)×b − u ≤ 0.
@@ -180,9 +191,14 @@ impl<'a> Writer<'a> {
             self.count(2 * n, n, 0, lowers & uppers);
             return;
         }
+        let mut writer = Writer {
+            out: &mut *self.out,
+            laid: self.laid,
+        };
         for k in 0..n {
-            self.bound(lower(k), upper(k));
+            writer.bound(lower(k), upper(k));
         }
+        self.laid = writer.laid;
     }
 
     // The bounds of n bits. Where the list has no room left, they are counted, and none is tested.
@@ -206,9 +222,14 @@ impl<'a> Writer<'a> {
             self.count(4 * n, 0, n, true);
             return;
         }
+        let mut writer = Writer {
+            out: &mut *self.out,
+            laid: self.laid,
+        };
         for k in 0..n {
-            self.times(z + k, var_at(args, base + k), b + k);
+            writer.times(z + k, var_at(args, base + k), b + k);
         }
+        self.laid = writer.laid;
     }
 
     // n rows x − m ≤ 0, x the variables from place base on; m − x ≤ 0, where it is not `up`. Where the list has no room left, they are counted.
@@ -221,9 +242,13 @@ impl<'a> Writer<'a> {
             self.count(6 * n, 0, n, true);
             return;
         }
+        let mut writer = Writer {
+            out: &mut *self.out,
+            laid: self.laid,
+        };
         for k in 0..n {
             let x = var_at(args, base + k);
-            self.row(
+            writer.row(
                 Kind::AtMost,
                 &[
                     Term::new(1, first_if(up, x, m)),
@@ -232,6 +257,7 @@ impl<'a> Writer<'a> {
                 0,
             );
         }
+        self.laid = writer.laid;
     }
 }
 

@@ -1,7 +1,7 @@
-use Rattle.std.proofs.Common.{arith}
+use Rattle.std.proofs.Common.{◌≡◌, refl, arith, rules}
 use Rattle.integers.proofs.Fits.{back}
 use Rattle.laying.proofs.Counts.{sized-bounds}
-use Rattle.laying.proofs.Written.{wrote-counted, writing-none, writing-more, writing-done}
+use Rattle.laying.proofs.Written.{wrote-counted, writing-none, writing-more}
 use Rattle.laying.proofs.Writer.bounds.Goals as goal
 
 pub returns-then-self : goal.returns-then-self
@@ -14,4 +14,7 @@ pub loop-k-preserved : goal.loop-k-preserved
 loop-k-preserved g c = λ l u p q. writing-more (c.loop-k.invariant l u p q) (rw (back c.lower.result c.lower.type_inv, back c.upper.result c.upper.type_inv, p c.loop-k.k _ c.loop-k-test.true c.lower.ensures, q c.loop-k.k _ c.loop-k-test.true c.upper.ensures) at c.bound.ensures)
 
 pub returns : goal.returns
-returns g c = λ l u p q. writing-done (omega (arith, c.loop-k-test.false)) (c.loop-k.invariant l u p q)
+returns g c = λ l u p q.
+    let all : c.loop-k.k ≡ c.args.n = omega (arith, c.loop-k-test.false) in
+    let went = rw all at (c.loop-k.invariant l u p q).went in
+    record { parts = λ h. let parts = went.parts h in search (rules, parts, went.list); list = refl }

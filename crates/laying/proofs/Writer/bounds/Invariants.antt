@@ -7,4 +7,4 @@ use Rattle.laying.proofs.Writer.bounds.Given as goal
 abbrev pub invariant-loop-k : goal.invariant-loop-k
 invariant-loop-k g l =
     ((c : ℕ → ℤ) (v : ℕ → ℤ) → ((k : ℕ) (r : ℤ) → k < l.n → goal.L-post g l.lower k r → r ≡ c k) → ((k : ℕ) (r : ℤ) → k < l.n → goal.U-post g l.upper k r → r ≡ v k) →
-    Writing (λ k. bound (c k) (v k) ∷ []) l.initial.self l.self l.k)
+    Writing (λ k. bound (c k) (v k) ∷ []) l.initial.writer l.writer l.k)

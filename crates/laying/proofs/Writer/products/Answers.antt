@@ -1,6 +1,6 @@
-use Rattle.std.proofs.Common.{arith}
+use Rattle.std.proofs.Common.{◌≡◌, refl, arith, rules}
 use Rattle.laying.proofs.Counts.{sized-times}
-use Rattle.laying.proofs.Written.{wrote-many, writing-none, writing-more, writing-done}
+use Rattle.laying.proofs.Written.{wrote-many, writing-none, writing-more}
 use Rattle.laying.proofs.Writer.products.Goals as goal
 
 pub returns-then-self : goal.returns-then-self
@@ -13,4 +13,7 @@ pub loop-k-preserved : goal.loop-k-preserved
 loop-k-preserved c = writing-more c.loop-k.invariant (simp c.var_at.ensures at c.times.ensures)
 
 pub returns : goal.returns
-returns c = writing-done (omega (arith, c.loop-k-test.false)) c.loop-k.invariant
+returns c =
+    let all : c.loop-k.k ≡ c.args.n = omega (arith, c.loop-k-test.false) in
+    let went = rw all at c.loop-k.invariant.went in
+    record { parts = λ h. let parts = went.parts h in search (rules, parts, went.list); list = refl }

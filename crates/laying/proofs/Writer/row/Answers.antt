@@ -1,8 +1,8 @@
-use Rattle.std.proofs.Common.{◌≡◌, rules, arith, length, to_z-of_z}
+use Rattle.std.proofs.Common.{◌≡◌, refl, rules, arith, length, to_z-of_z}
 use Rattle.integers.proofs.Fits.{back}
 use Rattle.laying.specs.Lists.{row_parts_of}
 use Rattle.laying.proofs.Counts.{coefficient-at, sized_row}
-use Rattle.laying.proofs.Written.{wrote-then, wrote-counted, writing-none, writing-more, writing-done}
+use Rattle.laying.proofs.Written.{wrote-then, wrote-counted, writing-none, writing-more}
 use Rattle.laying.proofs.Writer.row.Goals as goal
 
 pub returns-then-self : goal.returns-then-self
@@ -20,4 +20,5 @@ pub returns : goal.returns
 unfolding row_parts_of
 returns c =
     let all : c.loop-term.term-index ≡ length c.args.terms.now = omega (arith, c.loop-term-test.false, c.loop-term.auto.term-index-end) in
-    wrote-then c.head.ensures (wrote-then (writing-done all c.loop-term.invariant) (rw (to_z-of_z c.ranges.c) at c.constant.ensures))
+    let went = wrote-then c.head.ensures (wrote-then (rw all at c.loop-term.invariant.went) (rw (to_z-of_z c.ranges.c) at c.constant.ensures)) in
+    record { parts = λ h. let parts = went.parts h in search (rules, parts, went.list); list = refl }

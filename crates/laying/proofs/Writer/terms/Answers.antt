@@ -1,7 +1,7 @@
-use Rattle.std.proofs.Common.{arith}
+use Rattle.std.proofs.Common.{◌≡◌, refl, arith, rules}
 use Rattle.integers.proofs.Fits.{back}
 use Rattle.laying.proofs.Counts.{sized-any, sized-listed}
-use Rattle.laying.proofs.Written.{wrote-counted, writing-none, writing-more, writing-done}
+use Rattle.laying.proofs.Written.{wrote-counted, writing-none, writing-more}
 use Rattle.laying.proofs.Writer.terms.Goals as goal
 
 pub returns-then-self : goal.returns-then-self
@@ -14,4 +14,7 @@ pub loop-k-preserved : goal.loop-k-preserved
 loop-k-preserved g c = λ n v p q. writing-more (c.loop-k.invariant n v p q) (rw (back c.coefficient.result c.coefficient.type_inv, p c.loop-k.k _ c.loop-k-test.true c.coefficient.ensures, q c.loop-k.k _ c.loop-k-test.true c.variable.ensures) at c.term.ensures)
 
 pub returns : goal.returns
-returns g c = λ n v p q. writing-done (omega (arith, c.loop-k-test.false)) (c.loop-k.invariant n v p q)
+returns g c = λ n v p q.
+    let all : c.loop-k.k ≡ c.args.n = omega (arith, c.loop-k-test.false) in
+    let went = rw all at (c.loop-k.invariant n v p q).went in
+    record { parts = λ h. let parts = went.parts h in search (rules, parts, went.list); list = refl }
