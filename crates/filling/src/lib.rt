@@ -72,7 +72,8 @@ fn write_filled(read: &ReadModel, values: &[i32], out: &mut [i32])
     write_picks(read, values, &mut output);
 }
 
-// Of a model that passes the check, with this number of auxiliaries.
+// Of a model that passes the check, with this number of auxiliaries. It is not taken in where it is called: the record of `write_picks` would be on the stack while the model is checked.
+#[inline(never)]
 fn fill_passed(
     read: &ReadModel,
     values: &[i32],
