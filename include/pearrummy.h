@@ -179,7 +179,7 @@ struct pearrummy_judgement pearrummy_judge_model(const uint32_t *words, size_t w
 struct pearrummy_judgement pearrummy_judge_rows(const uint32_t *words, size_t words_count, const int32_t *values, size_t values_count);
 
 /* Judges values of a model's variables and, where they hold, writes them and the auxiliaries to the front of `out` and puts into `at` how many
- * there are; faults 1 to 16 and 18. Values past the end keep theirs; any other answer changes nothing. Stack: 18 KiB. */
+ * there are; faults 1 to 16 and 18. Values past the end keep theirs; any other answer changes nothing. Stack: 16 KiB. */
 struct pearrummy_judgement pearrummy_fill(const uint32_t *words, size_t words_count, const int32_t *values, size_t values_count, int32_t *out, size_t out_count);
 
 /* Prints a row system to the front of `page`, in lines of 80 columns and a line feed; faults 1 to 5, 9 to 11, 14 and 16 to 18. Bytes past the end
@@ -217,7 +217,7 @@ struct pearrummy_written pearrummy_pair_translate(const uint32_t *words, size_t 
 struct pearrummy_judgement pearrummy_pair_judge_model(const uint32_t *words, size_t words_count, uint32_t candidate, const int32_t *values, size_t values_count);
 
 /* Judges values of the variables of a candidate's model and, where they hold, writes them and the auxiliaries to the front of `out`.
- * Stack: 51 KiB. */
+ * Stack: 48 KiB. */
 struct pearrummy_judgement pearrummy_pair_fill(const uint32_t *words, size_t words_count, uint32_t candidate, const int32_t *values, size_t values_count, int32_t *out, size_t out_count);
 
 /* Writes the words of the quadratic form over bits of a row system to the front of `out`: the constant, then for each pair of bits whose entry is
