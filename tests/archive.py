@@ -4,13 +4,13 @@
     tests/archive.py [LIBRARY [PROVED]]    default target/libpearrummy.a and crates/host/out/libhost.a
 
 The library has host.o, byte for byte that of the archive that the kit makes of the proved crate, and fault_text.o. host.o defines the calls that the header
-declares and no other global name, and takes memcpy, memmove and memset alone from outside, so that no call has a heap. fault_text.o defines
+declares and no other global name, and takes memcpy and memset alone from outside, so that no call has a heap. fault_text.o defines
 pearrummy_fault_text alone and takes nothing. No object has code that runs before a call. Exit status 1 where something is not so."""
 import os, re, subprocess, sys, tempfile
 
 TOP = os.path.dirname(os.path.dirname(os.path.abspath(__file__)))
 LIBRARY, PROVED = (sys.argv[1:] + [os.path.join(TOP, *path) for path in (('target', 'libpearrummy.a'), ('crates', 'host', 'out', 'libhost.a'))][len(sys.argv) - 1:])
-MEMORY = {'memcpy', 'memmove', 'memset'}
+MEMORY = {'memcpy', 'memset'}
 BEFORE = re.compile(r'\.(init|fini|preinit|ctors|dtors)(_array)?\b|\.init\b|\.fini\b')
 
 

@@ -74,6 +74,7 @@ WRAPPER = '#include "pearrummy.h"\nstruct pearrummy_counts proved_check(const ui
           '    struct pearrummy_counts it = proved_check(words, words_count);\n    it.rows++;\n    return it;\n}\n'
 BEFORE = 'static volatile int begun;\n__attribute__((constructor)) static void begin(void) { begun = 1; }\n'
 HEAP = '#include <stdlib.h>\n__attribute__((used)) static void *some(void) { return malloc(8); }\n'
+MOVE = '#include <string.h>\n__attribute__((used)) static void some(char *to, const char *from, size_t n) { memmove(to, from, n); }\n'
 
 
 class Passed(Exception):
@@ -197,22 +198,25 @@ def archives(folder):
     run(folder, 'ar', 'x', os.path.join(TOP, 'crates', 'host', 'out', 'libhost.a'))
     run(folder, 'ar', 'x', os.path.join(TOP, 'target', 'libpearrummy.a'), 'fault_text.o')
     run(folder, 'objcopy', '--redefine-sym', 'pearrummy_check=proved_check', 'host.o', 'other.o')
-    wrapper, before, heap = object_of(folder, 'wrapper', WRAPPER), object_of(folder, 'before', BEFORE), object_of(folder, 'heap', HEAP)
+    wrapper, before = object_of(folder, 'wrapper', WRAPPER), object_of(folder, 'before', BEFORE)
+    heap, move = object_of(folder, 'heap', HEAP), object_of(folder, 'move', MOVE)
     run(folder, 'ld', '-r', '-o', 'wrapped.o', 'fault_text.o', wrapper)
     run(folder, 'ld', '-r', '-o', 'beginning.o', 'fault_text.o', before)
     run(folder, 'ld', '-r', '-o', 'heaped.o', 'host.o', heap)
+    run(folder, 'ld', '-r', '-o', 'moving.o', 'host.o', move)
     texts_of_faults = ('fault_text.o', 'fault_text.o')
     proved = library(folder, 'proved', 'host.o')
     passes(folder, 'archive', library(folder, 'right', 'host.o', texts_of_faults), proved)
     wrapped = library(folder, 'third', 'other.o', texts_of_faults, (wrapper, 'wrapper.o'))
     inside = library(folder, 'inside', 'other.o', ('wrapped.o', 'fault_text.o'))
-    heaped = library(folder, 'heaped', 'heaped.o', texts_of_faults)
+    heaped, moving = library(folder, 'heaped', 'heaped.o', texts_of_faults), library(folder, 'moving', 'moving.o', texts_of_faults)
     escapes = [
         ('a wrapper in C stands for a call', wrapped, proved, 'the library has host.o, fault_text.o, wrapper.o, and not host.o and fault_text.o alone'),
         ('the object is not the proved one', wrapped, proved, 'host.o of the library is not the object that was proved'),
         ('a wrapper in C is hidden in the fault texts', inside, proved, 'fault_text.o defines pearrummy_check, which it may not'),
         ('code runs before a call', library(folder, 'begun', 'host.o', ('beginning.o', 'fault_text.o')), proved, 'fault_text.o has the section .init_array: code that runs before a call'),
-        ('a call takes memory of the heap', heaped, library(folder, 'heap_proved', 'heaped.o'), 'host.o takes malloc, which it may not')]
+        ('a call takes memory of the heap', heaped, library(folder, 'heap_proved', 'heaped.o'), 'host.o takes malloc, which it may not'),
+        ('a call copies by memmove', moving, library(folder, 'move_proved', 'moving.o'), 'host.o takes memmove, which it may not')]
     for what, archive, of, sentence in escapes:
         refuses(what, sentence, folder, 'archive', archive, of)
     return len(escapes)

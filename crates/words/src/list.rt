@@ -21,16 +21,11 @@ pub fn at_or<T: Copy>(list: &[T], at: usize, none: T) -> T
 }
 
 // Lays a list over another one from a place on; what does not fit is left out.
+// It goes element by element: a copy of the whole part would have the calls for C need memmove from outside.
 pub fn lay<T: Copy>(out: &mut [T], at: usize, list: &[T])
     ensures { out.new ≡ overlay out.old at list.now }
 {
-    if out.len() <= at {
-        return;
-    }
-    let room = out.len() - at;
-    if list.len() <= room {
-        out[at..at + list.len()].copy_from_slice(list);
-    } else {
-        out[at..].copy_from_slice(&list[..room]);
+    for (k, &x) in list.iter().enumerate() {
+        put(out, at.saturating_add(k), x);
     }
 }
