@@ -6,7 +6,7 @@ every clause, and where each name in one comes from.
     tests/clauses.py --write   writes the file anew
 
 A clause that is dropped, replaced or added changes that file in the same commit. No call and no public function of crates/host may have a `requires`, a
-page function none but those of the file. Exit status 1 where something differs."""
+page function none but those of the file. No clause of another function is longer than 200 characters. Exit status 1 where something differs."""
 import os, re, sys
 
 sys.dont_write_bytecode = True
@@ -19,6 +19,7 @@ CALLS = [('checking', 'check'), ('translation', 'translate'), ('modeljudge', 'ju
          ('pairs', 'pair_translate'), ('pairs', 'pair_judge_model'), ('pairs', 'pair_fill'), ('bitvalues', 'bit_values'), ('bitenergy', 'bit_energy'),
          ('valuebits', 'value_bits'), ('bestbits', 'best_bits'), ('bestbits', 'best_bits_by')]
 PAGES = [('rows', 'rows_page'), ('sheet', 'sheet_page'), ('text', 'text_page'), ('bits', 'form_page')]
+LONGEST = 200  # characters of a clause that is no call's
 HEAD = '''# The contracts of the calls, of their forms for C and of the functions that lay out what the programs print: each clause, and where the names in it come
 # from. tests/clauses.py compares them; after a change of a promise `python3 tests/clauses.py --write` writes them anew.
 '''
@@ -65,6 +66,16 @@ def demanding():
             yield f'{crate}::{it.name} has no `ensures`'
 
 
+def too_long():
+    """Clauses of other functions that no reader takes in at once."""
+    recorded = [(crate, it.name) for crate, _, it in recorded_functions()]
+    for crate in sorted(os.listdir(os.path.join(contracts.TOP, 'crates'))):
+        for _, it in contracts.of_crate(crate):
+            for kind, _, text in it.clauses:
+                if len(text) > LONGEST and (crate, it.name) not in recorded:
+                    yield f'{crate}::{it.name} has {"an" if kind == "ensures" else "a"} `{kind}` of {len(text)} characters: name its parts'
+
+
 def differences(old, new):
     """The lines that only one has, with their functions."""
     def placed(text):
@@ -83,7 +94,7 @@ def differences(old, new):
 
 
 def main():
-    wrong = list(demanding())
+    wrong = list(demanding()) + list(too_long())
     new = record()
     if '--write' in sys.argv[1:]:
         open(RECORD, 'w').write(new)

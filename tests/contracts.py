@@ -15,6 +15,16 @@ def end_of(text, at):
     raise ValueError(f'a bracket is not closed: {text[at:at + 60]}')
 
 
+def parameters_at(text, at):
+    """The place of the bracket before a function's parameters, from behind its name on: type parameters stand between, as `<F: Fn(usize) -> u32>`."""
+    depth = 0
+    for k in range(at, len(text)):
+        if text[k] == '(' and not depth:
+            return k
+        depth += (text[k] in '<([{') - (text[k] in '>)]}' and text[k - 1:k + 1] != '->')
+    raise ValueError(f'a function has no parameters: {text[at:at + 60]}')
+
+
 def plain(text):
     """A text on one line, without a comma behind the last of several."""
     return re.sub(r',(?= ?\))', '', re.sub(r'\s+', ' ', text).strip()).replace('( ', '(').replace(' )', ')')
@@ -36,9 +46,10 @@ class Function:
 def functions(path):
     """The functions of a file, in its order."""
     text = re.sub(r'//.*', '', open(path).read())
-    for found in re.finditer(r'^([^\n=;]*?)\bfn (\w+)(<[^(\n]*>)?(?=\()', text, re.M):
-        at = end_of(text, found.end())
-        parameters, clauses, result, last = plain(text[found.end():at]), [], None, at
+    for found in re.finditer(r'^([^\n=;]*?)\bfn (\w+)(?=[<(])', text, re.M):
+        begin = parameters_at(text, found.end())
+        at = end_of(text, begin)
+        parameters, clauses, result, last = plain(text[begin:at]), [], None, at
         while True:
             step = re.compile(r'\b(requires|ensures)\*?\s*(\w+)?\s*(?=\{)|\[|[{;]').search(text, at)
             if result is None:
@@ -55,7 +66,8 @@ def functions(path):
 
 def of_crate(crate):
     """The functions of a crate by their names, and the name of each one's file."""
-    return [(os.path.basename(path), it) for path in sorted(glob.glob(os.path.join(TOP, 'crates', crate, 'src', '*.rt'))) for it in functions(path)]
+    source = os.path.join(TOP, 'crates', crate, 'src')
+    return [(os.path.relpath(path, source), it) for path in sorted(glob.glob(os.path.join(source, '**', '*.rt'), recursive=True)) for it in functions(path)]
 
 
 IMPORT = re.compile(r'^[ \t]*(?:pub )?(?:ghost )?use ([^\s{;]+?)(?:\.\{([^}]*)\}|\s+as\s+([^\s;]+))?;?[ \t]*$', re.M)

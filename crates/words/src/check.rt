@@ -1,15 +1,12 @@
 // Tests of a word that stand in a model as in a row system, and the step over a word that was tested.
 #![tactic(auto, unfolding(crate::specs::Check::fault_number_in, crate::specs::Check::step_over))]
 
-ghost use Rattle.std.specs.Prelude.{◌≡◌, ◌≢◌, not, eqb, ◌≤◌};
-ghost use Rattle.std.specs.Int.Signed.{lt_z};
-ghost use Rattle.integers.specs.Choice.{◌if◌else◌};
-ghost use Rattle.words.specs.Check.{fault_number_in, step_of, step_over};
+ghost use Rattle.std.specs.Prelude.{◌≡◌, ◌≢◌, eqb, ◌≤◌};
+ghost use Rattle.words.specs.Check.{fault_number_in, fault_upper_of, step_of, step_over};
 ghost use Rattle.words.specs.Fault as Numbered;
 ghost use Rattle.words.specs.Faults.{fault_number, number_of};
 ghost use Rattle.words.specs.Kinds.{kind_number};
 ghost use Rattle.words.specs.Limit as Limit;
-ghost use Rattle.words.specs.Word.{kind, signed, too_low};
 
 use crate::fault::{Fault, Refusal};
 use crate::kind::Kind;
@@ -46,7 +43,7 @@ pub fn check_number(w: Word) -> Result<(), Fault>
 
 // The fault of an upper bound of a kind, after the word of its lower one.
 pub fn check_upper(k: Kind, lower: Word, w: Word) -> Result<(), Fault>
-    ensures { number_of result ≡ (Numbered.wrong_kind if not (eqb (kind w) (kind_number k)) else Numbered.lowest_number if too_low Limit.range w else Numbered.upper_below_lower if lt_z (signed w) (signed lower) else Numbered.none) }
+    ensures { number_of result ≡ fault_upper_of (kind_number k) lower w }
 {
     if !w.is(k) {
         return Err(Fault::WrongKind);
