@@ -15,7 +15,7 @@ use Rattle.words.specs.Overlay.{overlay}
 use Rattle.words.proofs.Overlay.{overlay-append}
 use Rattle.words.proofs.ReadBack.{says_range}
 use Rattle.laying.specs.Part.{Part, bound, head, term, constant, times, part_words, part_numbers, part_auxiliaries, part_rows, words_in, numbers_in, auxiliaries_in, rows_in}
-use Rattle.laying.specs.Lists.{many, term_of, term_at, row_parts_of, same_at, bit_at, label_at}
+use Rattle.laying.specs.Lists.{many, term_of, term_at, row_parts_of, same_at, bit_at, label_at, order_at}
 use Rattle.laying.specs.Appends.{some_outside, Appends, CountsMore}
 use Rattle.laying.specs.declared.Laid.{Laid}
 use Rattle.laying.specs.declared.term.Term.{Term}
@@ -175,6 +175,29 @@ same_more o at c v k =
     let n : length ws ≡ 2 * k = (sized-each f 2 0 0 k (λ j. sized-fitting c (v + j))).words in
     let one : suc (at + 2 * k) ≡ at + 2 * k + 1 = omega arith in
     rw (← one, ← n) (overlay-append o at ws (words_in (f k))) ∙ ap (overlay o at) (sym (words_append (many f k) (f k)) ∙ ap words_in (sym (many_more f k)))
+
+-- a row of two variables, the coefficients 1 and −1
+pub pair_put : (o : List ℕ) (at x y : ℕ) →
+    set (set (set (set (set (set o at (word Kind.at_most 2)) (at + 1) (word Kind.variable x)) (at + 2) (number_word Kind.number +1)) (at + 3) (word Kind.variable y)) (at + 4) (number_word Kind.number -1)) (at + 5) (number_word Kind.number +0)
+    ≡ overlay o at (words_in (row_parts_of Kind.at_most (term_of +1 x ∷ term_of -1 y ∷ []) +0))
+unfolding overlay words_in flat_map part_words row_parts_of many
+pair_put o at x y =
+    let one : suc at ≡ at + 1 = omega arith in
+    let two : suc (suc at) ≡ at + 2 = omega arith in
+    let three : suc (suc (suc at)) ≡ at + 3 = omega arith in
+    let four : suc (suc (suc (suc at))) ≡ at + 4 = omega arith in
+    let five : suc (suc (suc (suc (suc at)))) ≡ at + 5 = omega arith in
+    rw (← one, ← two, ← three, ← four, ← five) refl
+
+-- one more such row
+pub order_more : (o : List ℕ) (at : ℕ) (args : List ℕ) (base m : ℕ) (up : Bool) (k : ℕ) →
+    overlay (overlay o at (words_in (many (order_at args base m up) k))) (at + 6 * k) (words_in (order_at args base m up k))
+    ≡ overlay o at (words_in (many (order_at args base m up) (k + 1)))
+order_more o at args base m up k =
+    let f = order_at args base m up in
+    let ws = words_in (many f k) in
+    let n : length ws ≡ 6 * k = (sized-many f 6 0 1 k (λ j h. sized-pair _ _ _)).words in
+    rw (← n) (overlay-append o at ws (words_in (f k))) ∙ ap (overlay o at) (sym (words_append (many f k) (f k)) ∙ ap words_in (sym (many_more f k)))
 
 -- ---- no room
 

@@ -1,7 +1,7 @@
 // Rows, and the parts that a writer puts for each place of a list.
 ghost use Rattle.std.specs.Prelude.{◌≡◌, [], ◌∷◌, ℕ, ℤ, ◌+◌, ◌*◌, ◌<◌, ◌≤◌, nat_abs, length};
 ghost use Rattle.integers.specs.Choice.{◌if◌else◌};
-ghost use Rattle.integers.specs.Number.{◌⊕◌, neg, +1};
+ghost use Rattle.integers.specs.Number.{◌⊕◌, neg, +0, +1, -1};
 ghost use Rattle.integers.specs.Lists.{all, list_of};
 ghost use Rattle.words.specs.Kind.{at_most};
 ghost use Rattle.words.specs.Kinds.{kind_number};
@@ -43,6 +43,30 @@ fn put_same(out: &mut [u32], at: usize, c: i64, v: usize, n: usize)
     for k in 0..n {
         out[at + 2 * k] = Word::new(Kind::Variable, v + k).bits();
         out[at + 2 * k + 1] = number;
+    }
+}
+
+// The six words of the row x − y ≤ 0, from a place on from which they fit.
+fn put_pair(out: &mut [u32], at: usize, x: usize, y: usize)
+    requires { at + 6 ≤ length out.old }
+    ensures { out.new ≡ overlay out.old at (words_in (row_parts_of at_most (term_of +1 x ∷ term_of -1 y ∷ []) +0)) }
+{
+    out[at] = Word::new(Kind::AtMost, 2).bits();
+    out[at + 1] = Word::new(Kind::Variable, x).bits();
+    out[at + 2] = Word::of_number(Kind::Number, 1).bits();
+    out[at + 3] = Word::new(Kind::Variable, y).bits();
+    out[at + 4] = Word::of_number(Kind::Number, -1).bits();
+    out[at + 5] = Word::of_number(Kind::Number, 0).bits();
+}
+
+// The words of the n rows that `order` writes, from a place on from which all of them fit.
+fn put_order(out: &mut [u32], at: usize, args: &[u32], base: usize, m: usize, n: usize, up: bool)
+    requires { (at + 6 * n ≤ length out.old) × (n ≤ Limit.terms) × (base < 1000000000000) }
+    ensures { out.new ≡ overlay out.old at (words_in (many (order_at args.now base m up) n)) }
+{
+    for k in 0..n {
+        let x = var_at(args, base + k);
+        put_pair(out, at + 6 * k, first_if(up, x, m), first_if(up, m, x));
     }
 }
 
@@ -232,13 +256,18 @@ impl<'a> Writer<'a> {
         self.laid = writer.laid;
     }
 
-    // n rows x − m ≤ 0, x the variables from place base on; m − x ≤ 0, where it is not `up`. Where the list has no room left, they are counted.
+    // n rows x − m ≤ 0, x the variables from place base on; m − x ≤ 0, where it is not `up`. Where the list has no room left, they are counted; where there is room for all of them, their words are put with no further test.
     // The flag stays: by two closures for the lesser and the larger variable, as `choiceblocks::rows::first_only` takes, `array_bool_and`, which has no flag, would carry their facts too, and be no plainer.
     pub fn order(&mut self, args: &[u32], base: usize, m: usize, n: usize, up: bool)
         requires { (n ≤ Limit.terms) × (base < 1000000000000) }
         ensures { Writes self.old self.new (many (order_at args.now base m up) n) }
     {
         if self.out.len() <= self.laid.words {
+            self.count(6 * n, 0, n, true);
+            return;
+        }
+        if 6 * n <= self.out.len() - self.laid.words {
+            put_order(self.out, self.laid.words, args, base, m, n, up);
             self.count(6 * n, 0, n, true);
             return;
         }
