@@ -6,7 +6,8 @@ every clause, and where each name in one comes from.
     tests/clauses.py --write   writes the file anew
 
 A clause that is dropped, replaced or added changes that file in the same commit. No call and no public function of crates/host may have a `requires`, a
-page function none but those of the file. No clause of another function is longer than 200 characters. Exit status 1 where something differs."""
+page function none but those of the file. No clause of another function is longer than 200 characters, and each clause of a file is read. Exit status 1
+where something of this is not so."""
 import os, re, sys
 
 sys.dont_write_bytecode = True
@@ -66,10 +67,22 @@ def demanding():
             yield f'{crate}::{it.name} has no `ensures`'
 
 
+def crates():
+    return sorted(os.listdir(os.path.join(contracts.TOP, 'crates')))
+
+
+def passed_over():
+    """Files with clauses that are read as no function's."""
+    for crate in crates():
+        for file, written, read in contracts.read_of(crate):
+            if written != read:
+                yield f'{crate}/src/{file} has {written} clauses, and {read} are read'
+
+
 def too_long():
     """Clauses of other functions that no reader takes in at once."""
     recorded = [(crate, it.name) for crate, _, it in recorded_functions()]
-    for crate in sorted(os.listdir(os.path.join(contracts.TOP, 'crates'))):
+    for crate in crates():
         for _, it in contracts.of_crate(crate):
             for kind, _, text in it.clauses:
                 if len(text) > LONGEST and (crate, it.name) not in recorded:
@@ -94,7 +107,7 @@ def differences(old, new):
 
 
 def main():
-    wrong = list(demanding()) + list(too_long())
+    wrong = [*demanding(), *passed_over(), *too_long()]
     new = record()
     if '--write' in sys.argv[1:]:
         open(RECORD, 'w').write(new)

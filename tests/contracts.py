@@ -43,9 +43,13 @@ class Function:
         return f'{self.name}{self.parameters}' + (f' -> {self.result}' if self.result else '')
 
 
+def without_comments(path):
+    return re.sub(r'//.*', '', open(path).read())
+
+
 def functions(path):
     """The functions of a file, in its order."""
-    text = re.sub(r'//.*', '', open(path).read())
+    text = without_comments(path)
     for found in re.finditer(r'^([^\n=;]*?)\bfn (\w+)(?=[<(])', text, re.M):
         begin = parameters_at(text, found.end())
         at = end_of(text, begin)
@@ -64,10 +68,20 @@ def functions(path):
         yield Function(found.group(2), found.group(1).strip(), parameters, result or '', clauses)
 
 
-def of_crate(crate):
-    """The functions of a crate by their names, and the name of each one's file."""
+def files_of(crate):
+    """The files of a crate: the path below src/, and the whole one."""
     source = os.path.join(TOP, 'crates', crate, 'src')
-    return [(os.path.relpath(path, source), it) for path in sorted(glob.glob(os.path.join(source, '**', '*.rt'), recursive=True)) for it in functions(path)]
+    return [(os.path.relpath(path, source), path) for path in sorted(glob.glob(os.path.join(source, '**', '*.rt'), recursive=True))]
+
+
+def of_crate(crate):
+    """The functions of a crate, each with its file."""
+    return [(file, it) for file, path in files_of(crate) for it in functions(path)]
+
+
+def read_of(crate):
+    """For each file of a crate, how many clauses it has and how many of them `functions` reads."""
+    return [(file, len(re.findall(r'\b(?:requires|ensures)\b', without_comments(path))), sum(len(it.clauses) for it in functions(path))) for file, path in files_of(crate)]
 
 
 IMPORT = re.compile(r'^[ \t]*(?:pub )?(?:ghost )?use ([^\s{;]+?)(?:\.\{([^}]*)\}|\s+as\s+([^\s;]+))?;?[ \t]*$', re.M)

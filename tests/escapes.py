@@ -34,6 +34,7 @@ TEXTS = [
     ('clauses', 'a clause of an inner function says the same three times',
      [('crates/tokens/src/lib.rt', r'(fn run_of<.*?ensures value \{ )([^\n]*)( \}\n)', r'\1(\2) × (\2) × \2\3')],
      'tokens::run_of has an `ensures` of 286 characters: name its parts'),
+    ('clauses', 'a function is written so that it is not read', [('crates/words/src/list.rt', r'pub fn lay<', 'pub fn  lay<')], 'words/src/list.rt has 3 clauses, and 2 are read'),
     ('structs', 'two fields of a struct are exchanged', [(STRUCTS, r'(pub struct Counts \{.*?)(    pub auxiliaries: usize,\n)(    pub rows: usize,\n)', r'\1\3\2')],
      'the fields of Counts are '),
     ('structs', 'a field of a struct is narrower', [(STRUCTS, r'(pub struct Judgement \{.*?pub at: )usize', r'\1u32')], 'the fields of Judgement are '),
